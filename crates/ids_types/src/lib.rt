@@ -1,0 +1,18 @@
+//! The values that all crates share: security events, their context, entries, and the history of turns.
+//!
+//! Layer 1, values. Stands on nothing; every other crate of the project stands on it.
+//! Contracts see an entry as plain data, with its context as a list of bytes, and a `History` as the
+//! list of its turns beside the room that it has left.
+#![tactic(auto)]
+
+mod entry;
+mod memory;
+mod mode;
+mod names;
+mod numbers;
+
+pub use entry::{Act, Carried, Entry, TurnHead};
+pub use memory::NoMemory;
+pub use mode::Mode;
+pub use names::{EventIndex, Stamp, Ticket};
+pub use numbers::Numbers;

@@ -1,0 +1,46 @@
+ghost use Rattle.std.specs.Prelude.{◌≡◌, ℕ, ◌<◌, ◌≤◌, List, length, take, slice_get};
+
+use std::marker::Model;
+
+/// A list of at most four numbers, kept in place: one for each class of context buffers.
+#[derive(Debug, Drop)]
+pub struct Numbers {
+    values: [u64; 4],
+    len: usize,
+}
+
+impl Model for Numbers {
+    ghost Value = { List ℕ };
+
+    ghost view = { λ n. take n.len n.values };
+
+    ghost invariant = { λ n. n.len ≤ 4 };
+}
+
+impl Numbers {
+    /// Holds these values, and takes no memory.
+    pub fn make(values: &[u64]) -> Numbers
+        requires { length values.now ≤ 4 }
+        ensures { result ≡ values.now }
+    {
+        let mut kept = [0; 4];
+        kept[..values.len()].copy_from_slice(values);
+        Numbers {
+            values: kept,
+            len: values.len(),
+        }
+    }
+
+    pub fn len(&self) -> usize
+        ensures { result ≡ length self.now }
+    {
+        self.len
+    }
+
+    /// The number at this place, `None` exactly past the end.
+    pub fn get(&self, i: usize) -> Option<u64>
+        ensures { result ≡ slice_get self.now i }
+    {
+        self.values[..self.len].get(i).copied()
+    }
+}
