@@ -27,7 +27,10 @@ pub enum Act<B> {
     /// A change of the state that the block state filter asks.
     State(u8),
     /// A setting of an event's reporting mode.
-    SetMode { event: EventIndex, mode: Mode },
+    SetMode {
+        event: EventIndex,
+        mode: Mode,
+    },
 }
 
 /// An accepted report or control, with its caller and the number of the caller's call, from 0.

@@ -6,13 +6,21 @@
 #![tactic(auto)]
 
 mod entry;
+mod event;
+mod history;
 mod memory;
 mod mode;
 mod names;
 mod numbers;
+mod parcel;
+mod placing;
+mod span;
 
 pub use entry::{Act, Carried, Entry, TurnHead};
+pub use event::Qualified;
+pub use history::History;
 pub use memory::NoMemory;
 pub use mode::Mode;
 pub use names::{EventIndex, Stamp, Ticket};
 pub use numbers::Numbers;
+pub use parcel::{Parcel, Plain};

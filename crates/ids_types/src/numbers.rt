@@ -37,6 +37,16 @@ impl Numbers {
         self.len
     }
 
+    /// The same list once more.
+    pub fn again(&self) -> Numbers
+        ensures { result ≡ self.now }
+    {
+        Numbers {
+            values: self.values,
+            len: self.len,
+        }
+    }
+
     /// The number at this place, `None` exactly past the end.
     pub fn get(&self, i: usize) -> Option<u64>
         ensures { result ≡ slice_get self.now i }

@@ -1,0 +1,19 @@
+-- What contracts see of a `History`, and what holds of its fields.
+use Rattle.std.specs.Prelude.{ℕ, ◌+◌, ◌≤◌, length, map, All, vec_len, vec_capacity}
+use Rattle.std.specs.List.{AllByRecursion}
+use Rattle.ids_types.specs.declared.history.History.TheInside.{Inside}
+use Rattle.ids_types.specs.Turns.{Turns}
+use Rattle.ids_types.specs.Spans.{turn_of, EntryWithin, RowWithin, LastRowEnds}
+
+-- the turns of the rows, and the room that is kept for more
+abbrev pub turns_of : Inside → Turns
+turns_of h = record { turns = map (turn_of h.entries.items h.bytes.items) h.rows.items; room = record { turns = h.turns_left; entries = h.entries_left; bytes = h.bytes_left } }
+
+-- rows and spans lie within what is there, and there is memory for the room left
+pub record IsSound (h : Inside) : Type 0 where
+  pub rows : AllByRecursion (RowWithin (length h.entries.items)) h.rows.items
+  pub entries : AllByRecursion (EntryWithin (length h.bytes.items)) h.entries.items
+  pub last : LastRowEnds h.rows.items (length h.entries.items)
+  pub turns_room : vec_len h.rows + h.turns_left ≤ vec_capacity h.rows
+  pub entries_room : vec_len h.entries + h.entries_left ≤ vec_capacity h.entries
+  pub bytes_room : vec_len h.bytes + h.bytes_left ≤ vec_capacity h.bytes

@@ -1,0 +1,53 @@
+-- The history as contracts see it: its turns, each with its head and its entries.
+use Rattle.std.specs.Prelude.{ℕ, ◌+◌, ◌-◌, ◌≤◌, List, [], ◌∷◌, ◌++◌, length, slice_index_or}
+use Rattle.ids_types.specs.declared.entry.Act.TheVariants.{State}
+use Rattle.ids_types.specs.declared.entry.Entry.{Entry}
+use Rattle.ids_types.specs.declared.entry.TurnHead.{TurnHead}
+
+-- a turn of the main function, with the context of its entries as bytes
+pub record Turn : Type 0 where
+  pub head : TurnHead
+  pub entries : List (Entry (List ℕ))
+
+-- how much more a history can take without memory
+pub record Room : Type 0 where
+  pub turns : ℕ
+  pub entries : ℕ
+  pub bytes : ℕ
+
+-- the turns of a history, and the room that it has left
+pub record Turns : Type 0 where
+  pub turns : List Turn
+  pub room : Room
+
+-- a turn that has begun
+abbrev pub begun : TurnHead → Turn
+begun head = record { head = head; entries = [] }
+
+-- the turn with one entry more
+abbrev pub extended : Turn → Entry (List ℕ) → Turn
+extended turn entry = record { head = turn.head; entries = turn.entries ++ entry ∷ [] }
+
+-- the turns, the last of them with one entry more
+abbrev pub with_entry : List Turn → Entry (List ℕ) → List Turn
+with_entry [] entry = []
+with_entry (turn ∷ []) entry = extended turn entry ∷ []
+with_entry (turn ∷ next ∷ turns) entry = turn ∷ with_entry (next ∷ turns) entry
+
+-- turn k, from 0
+abbrev pub turn_at : List Turn → ℕ → Turn
+turn_at turns k = slice_index_or turns k (begun (record { tick = 0; lost_events = 0; lost_contexts = 0; limited = 0 }))
+
+-- entry i of a turn, from 0
+abbrev pub entry_at : Turn → ℕ → Entry (List ℕ)
+entry_at turn i = slice_index_or turn.entries i (record { caller = 0; call = 0; act = State 0 })
+
+-- there is room for so much more
+pub record HasRoom (room : Room) (t e b : ℕ) : Type 0 where
+  pub turns : t ≤ room.turns
+  pub entries : e ≤ room.entries
+  pub bytes : b ≤ room.bytes
+
+-- what is left of the room after so much of it was taken
+abbrev pub room_after : Room → ℕ → ℕ → ℕ → Room
+room_after room turns entries bytes = record { turns = room.turns - turns; entries = room.entries - entries; bytes = room.bytes - bytes }

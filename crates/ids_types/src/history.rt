@@ -1,0 +1,119 @@
+ghost use Rattle.std.specs.Prelude.{◌≡◌, ◌<◌, ◌≤◌, [], ◌∷◌, ◌++◌, length, IfOk};
+ghost use Rattle.ids_types.specs.Turns.{begun, with_entry, turn_at, entry_at, HasRoom, room_after};
+ghost use Rattle.ids_types.specs.Plain.{plain_entry, kept_bytes};
+
+use crate::entry::{Entry, TurnHead};
+use crate::memory::NoMemory;
+use crate::parcel::Plain;
+use crate::placing::{kept, lent, placed};
+use crate::span::{Row, Span};
+use std::alloc::Global;
+use std::marker::Model;
+
+/// The turns of a run, each with its entries, and how many more there is room for.
+///
+/// All memory is taken when it is made, so that `begin` and `add` take none.
+#[derive(Debug, Drop)]
+pub struct History {
+    rows: Vec<Row>,
+    entries: Vec<Entry<Span>>,
+    bytes: Vec<u8>,
+    turns_left: u64,
+    entries_left: u64,
+    bytes_left: u64,
+}
+
+impl Model for History {
+    ghost use Rattle.ids_types.specs.Turns.{Turns};
+
+    ghost Value = { Turns };
+
+    ghost use Rattle.ids_types.specs.HistoryView.{turns_of, IsSound};
+
+    ghost view = { turns_of };
+
+    ghost invariant = { IsSound };
+}
+
+impl History {
+    /// An empty history with room for so many turns, entries and bytes of context.
+    pub fn make(alloc: Global, turns: u64, entries: u64, bytes: u64) -> Result<History, NoMemory>
+        ensures turns { IfOk result (λ h. h.turns ≡ []) }
+        ensures room { IfOk result (λ h. h.room ≡ record { turns = turns; entries = entries; bytes = bytes }) }
+    {
+        Ok(History {
+            rows: Vec::with_capacity(alloc, turns as usize)?,
+            entries: Vec::with_capacity(alloc, entries as usize)?,
+            bytes: Vec::with_capacity(alloc, bytes as usize)?,
+            turns_left: turns,
+            entries_left: entries,
+            bytes_left: bytes,
+        })
+    }
+
+    /// Begins a turn, which has no entries yet.
+    pub fn begin(&mut self, head: &TurnHead)
+        requires { 1 ≤ self.old.room.turns }
+        ensures turns { self.new.turns ≡ self.old.turns ++ begun head.now ∷ [] }
+        ensures room { self.new.room ≡ room_after self.old.room 1 0 0 }
+    {
+        let place = self.entries.len();
+        self.rows.push_reserved(Row {
+            head: *head,
+            start: place,
+            end: place,
+        });
+        self.turns_left -= 1;
+    }
+
+    /// Adds an entry to the last turn.
+    pub fn add(&mut self, entry: &Entry<Plain<'_>>)
+        requires begun { 0 < length self.old.turns }
+        requires room { HasRoom self.old.room 0 1 (length (kept_bytes (plain_entry entry.now))) }
+        ensures turns { self.new.turns ≡ with_entry self.old.turns (plain_entry entry.now) }
+        ensures room { self.new.room ≡ room_after self.old.room 0 1 (length (kept_bytes (plain_entry entry.now))) }
+    {
+        let bytes = kept(entry);
+        let entry = placed(entry, self.bytes.len());
+        self.bytes.extend_from_slice(bytes).unwrap();
+        self.bytes_left -= bytes.len() as u64;
+        self.entries.push_reserved(entry);
+        self.entries_left -= 1;
+        let last = self.rows.len() - 1;
+        self.rows[last].end += 1;
+    }
+
+    /// How many turns there are.
+    pub fn turns(&self) -> u64
+        ensures { result ≡ length self.now.turns }
+    {
+        self.rows.len() as u64
+    }
+
+    /// What a turn began with. Turns count from 0.
+    pub fn head(&self, turn: u64) -> TurnHead
+        requires { turn < length self.now.turns }
+        ensures { result ≡ (turn_at self.now.turns turn).head }
+    {
+        self.rows[turn as usize].head
+    }
+
+    /// How many entries a turn has.
+    pub fn entries(&self, turn: u64) -> u64
+        requires { turn < length self.now.turns }
+        ensures { result ≡ length (turn_at self.now.turns turn).entries }
+    {
+        let row = &self.rows[turn as usize];
+        (row.end - row.start) as u64
+    }
+
+    /// Entry `i` of a turn, from 0, with its context lent.
+    pub fn entry(&self, turn: u64, i: u64) -> Entry<Plain<'_>>
+        requires turn { turn < length self.now.turns }
+        requires entry { i < length (turn_at self.now.turns turn).entries }
+        ensures { plain_entry result ≡ entry_at (turn_at self.now.turns turn) i }
+    {
+        let row = &self.rows[turn as usize];
+        lent(&self.entries[row.start + i as usize], &self.bytes)
+    }
+}
