@@ -2,7 +2,7 @@
 use Rattle.std.proofs.Common.{◌≡◌, ℕ, zero, suc, ◌+◌, ◌-◌, ◌<◌, ◌≤◌, List, [], ◌∷◌, ◌++◌, length, map, take, drop, set, get_or, refl, sym, ap, ap₂, subst, ◌∙◌, arith, length-drop, length-append}
 use Rattle.std.specs.Prelude.{slice_range}
 use Rattle.std.specs.List.{AllByRecursion}
-use Rattle.std.proofs.lemmas.List.{drop-append-le, take-append-le, take_all, take-map, map-append, drop-map, drop_at}
+use Rattle.std.proofs.lemmas.List.{drop-append-le, take-append-le, take_all, take-map, map-append, drop-map, drop_at, length-map, length-take-le}
 use Rattle.ids_types.specs.declared.entry.Carried.{Carried}
 use Rattle.ids_types.specs.declared.entry.Carried.TheVariants.{Absent, Kept, Missing}
 use Rattle.ids_types.specs.declared.entry.Act.{Act}
@@ -13,8 +13,8 @@ use Rattle.ids_types.specs.declared.span.Row.{Row}
 use Rattle.ids_types.specs.declared.span.Span.{Span}
 use Rattle.ids_types.specs.Carries.{carried_by, act_by, entry_by}
 use Rattle.ids_types.specs.Plain.{plain_carried, plain_entry, carried_bytes, act_bytes, kept_bytes}
-use Rattle.ids_types.specs.Spans.{bytes_at, span_from, turn_of, CarriedWithin, ActWithin, EntryWithin, RowWithin, LastRowEnds}
-use Rattle.ids_types.specs.Turns.{Turn, extended, with_entry}
+use Rattle.ids_types.specs.Spans.{bytes_at, span_from, turn_of, rows_len, CarriedWithin, ActWithin, EntryWithin, RowWithin, LastRowEnds}
+use Rattle.ids_types.specs.Turns.{Turn, extended, with_entry, entries_of}
 
 -- a range within a list is the same in a longer list
 pub range_of_front : {A : Type 0} (xs ys : List A) (i j : ℕ) → i ≤ j → j ≤ length xs → slice_range (xs ++ ys) i j ≡ slice_range xs i j
@@ -154,3 +154,24 @@ module _ (entries : List (Entry Span)) (bytes : List ℕ) (entry : Entry Plain) 
   turns_extended (r ∷ s ∷ rows) zero row count in_range is at_end = absurd (omega arith)
   turns_extended (r ∷ s ∷ rows) (suc last) row count in_range is at_end =
       ap₂ ◌∷◌ (turn_same r in_range.0) (turns_extended (s ∷ rows) last row (omega arith) in_range.1 is at_end)
+
+-- ---- how many entries there are
+
+-- the turns of rows have as many entries as the rows
+pub length-entries_of : (entries : List (Entry Span)) (bytes : List ℕ) (rows : List Row) → AllByRecursion (RowWithin (length entries)) rows → length (entries_of (map (turn_of entries bytes) rows)) ≡ rows_len rows
+length-entries_of entries bytes [] in_range = refl
+length-entries_of entries bytes (row ∷ rows) in_range =
+    let own = map (entry_by (bytes_at bytes)) (slice_range entries row.start row.end) in
+    let own_len : length own ≡ row.end - row.start = length-map (slice_range entries row.start row.end) (entry_by (bytes_at bytes)) ∙ length-take-le (row.end - row.start) (drop row.start entries) (omega (arith, in_range.0.0, in_range.0.1, length-drop row.start entries)) in
+    length-append own (entries_of (map (turn_of entries bytes) rows)) ∙ ap₂ ◌+◌ own_len (length-entries_of entries bytes rows in_range.1)
+
+-- a row that is one longer makes the sum one more
+pub rows_len-set : (rows : List Row) (i : ℕ) (row : Row) → i < length rows → row.start ≤ row.end → row ≡ get_or rows i row
+    → rows_len (set rows i (record { head = row.head; start = row.start; end = row.end + 1 })) ≡ rows_len rows + 1
+rows_len-set [] i row lt ordered is = absurd (omega arith)
+rows_len-set (r ∷ rows) zero row lt ordered is = omega (arith, ap (λ (x : Row). x.end - x.start) is)
+rows_len-set (r ∷ rows) (suc i) row lt ordered is = omega (arith, rows_len-set rows i row (omega arith) ordered is)
+
+pub rows_len_push : (rows : List Row) (row : Row) → row.start ≡ row.end → rows_len (rows ++ row ∷ []) ≡ rows_len rows
+rows_len_push [] row empty = omega arith
+rows_len_push (r ∷ rows) row empty = omega (arith, rows_len_push rows row empty)

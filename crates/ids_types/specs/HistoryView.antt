@@ -1,9 +1,9 @@
 -- What contracts see of a `History`, and what holds of its fields.
-use Rattle.std.specs.Prelude.{ℕ, ◌+◌, ◌≤◌, length, map, All, vec_len, vec_capacity}
+use Rattle.std.specs.Prelude.{◌≡◌, ℕ, ◌+◌, ◌≤◌, length, map, vec_len, vec_capacity}
 use Rattle.std.specs.List.{AllByRecursion}
 use Rattle.ids_types.specs.declared.history.History.TheInside.{Inside}
 use Rattle.ids_types.specs.Turns.{Turns}
-use Rattle.ids_types.specs.Spans.{turn_of, EntryWithin, RowWithin, LastRowEnds}
+use Rattle.ids_types.specs.Spans.{turn_of, rows_len, EntryWithin, RowWithin, LastRowEnds}
 
 -- the turns of the rows, and the room that is kept for more
 abbrev pub turns_of : Inside → Turns
@@ -13,6 +13,7 @@ turns_of h = record { turns = map (turn_of h.entries.items h.bytes.items) h.rows
 pub record IsSound (h : Inside) : Type 0 where
   pub rows : AllByRecursion (RowWithin (length h.entries.items)) h.rows.items
   pub entries : AllByRecursion (EntryWithin (length h.bytes.items)) h.entries.items
+  pub all : rows_len h.rows.items ≡ length h.entries.items
   pub last : LastRowEnds h.rows.items (length h.entries.items)
   pub turns_room : vec_len h.rows + h.turns_left ≤ vec_capacity h.rows
   pub entries_room : vec_len h.entries + h.entries_left ≤ vec_capacity h.entries

@@ -1,5 +1,5 @@
 -- How a history lies in memory: rows of turns over one list of entries, and their bytes in one list.
-use Rattle.std.specs.Prelude.{◌≡◌, ℕ, ◌+◌, ◌-◌, ◌<◌, ◌≤◌, List, length, map, slice_range, slice_index_or, All}
+use Rattle.std.specs.Prelude.{◌≡◌, ℕ, ◌+◌, ◌-◌, ◌<◌, ◌≤◌, List, [], ◌∷◌, length, map, slice_range, slice_index_or, All}
 use Rattle.ids_types.specs.declared.entry.Carried.{Carried}
 use Rattle.ids_types.specs.declared.entry.Carried.TheVariants.{Absent, Kept, Missing}
 use Rattle.ids_types.specs.declared.entry.Act.{Act}
@@ -42,6 +42,11 @@ EntryWithin n e = ActWithin n e.act
 -- the row's entries are among so many
 abbrev pub RowWithin : ℕ → Row → Type 0
 RowWithin n row = (row.start ≤ row.end) × (row.end ≤ n)
+
+-- how many entries rows have
+abbrev pub rows_len : List Row → ℕ
+rows_len [] = 0
+rows_len (row ∷ rows) = (row.end - row.start) + rows_len rows
 
 -- the last row goes up to the last entry
 abbrev pub LastRowEnds : List Row → ℕ → Type 0

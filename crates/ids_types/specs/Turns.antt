@@ -1,5 +1,6 @@
 -- The history as contracts see it: its turns, each with its head and its entries.
-use Rattle.std.specs.Prelude.{ℕ, ◌+◌, ◌-◌, ◌≤◌, List, [], ◌∷◌, ◌++◌, length, slice_index_or}
+use Rattle.std.specs.Prelude.{ℕ, ◌+◌, ◌-◌, ◌≤◌, max, List, [], ◌∷◌, ◌++◌, length, slice_index_or}
+use Rattle.std.specs.List.{flat_map}
 use Rattle.ids_types.specs.declared.entry.Act.TheVariants.{State}
 use Rattle.ids_types.specs.declared.entry.Entry.{Entry}
 use Rattle.ids_types.specs.declared.entry.TurnHead.{TurnHead}
@@ -42,6 +43,10 @@ turn_at turns k = slice_index_or turns k (begun (record { tick = 0; lost_events 
 abbrev pub entry_at : Turn → ℕ → Entry (List ℕ)
 entry_at turn i = slice_index_or turn.entries i (record { caller = 0; call = 0; act = State 0 })
 
+-- the entries of turns, one after another
+abbrev pub entries_of : List Turn → List (Entry (List ℕ))
+entries_of turns = flat_map (λ turn. turn.entries) turns
+
 -- there is room for so much more
 pub record HasRoom (room : Room) (t e b : ℕ) : Type 0 where
   pub turns : t ≤ room.turns
@@ -51,3 +56,7 @@ pub record HasRoom (room : Room) (t e b : ℕ) : Type 0 where
 -- what is left of the room after so much of it was taken
 abbrev pub room_after : Room → ℕ → ℕ → ℕ → Room
 room_after room turns entries bytes = record { turns = room.turns - turns; entries = room.entries - entries; bytes = room.bytes - bytes }
+
+-- the room, and at least so much
+abbrev pub wider_room : Room → ℕ → ℕ → ℕ → Room
+wider_room room turns entries bytes = record { turns = max turns room.turns; entries = max entries room.entries; bytes = max bytes room.bytes }

@@ -1,11 +1,11 @@
-ghost use Rattle.std.specs.Prelude.{◌≡◌, ◌<◌, ◌≤◌, [], ◌∷◌, ◌++◌, length, IfOk};
-ghost use Rattle.ids_types.specs.Turns.{begun, with_entry, turn_at, entry_at, HasRoom, room_after};
+ghost use Rattle.std.specs.Prelude.{◌≡◌, ◌<◌, ◌≤◌, [], ◌∷◌, ◌++◌, length, IfOk, OnOk, OnErr};
+ghost use Rattle.ids_types.specs.Turns.{begun, with_entry, turn_at, entry_at, entries_of, HasRoom, room_after, wider_room};
 ghost use Rattle.ids_types.specs.Plain.{plain_entry, kept_bytes};
 
 use crate::entry::{Entry, TurnHead};
 use crate::memory::NoMemory;
 use crate::parcel::Plain;
-use crate::placing::{kept, lent, placed};
+use crate::placing::{lent, placed};
 use crate::span::{Row, Span};
 use std::alloc::Global;
 use std::marker::Model;
@@ -51,6 +51,24 @@ impl History {
         })
     }
 
+    /// Makes room for so many turns, entries and bytes more, unless there is more room already.
+    pub fn reserve(&mut self, turns: u64, entries: u64, bytes: u64) -> Result<(), NoMemory>
+        ensures turns { self.new.turns ≡ self.old.turns }
+        ensures room { OnOk result (self.new.room ≡ wider_room self.old.room turns entries bytes) }
+        ensures err { OnErr result (self.new.room ≡ self.old.room) }
+    {
+        let turns = turns.max(self.turns_left);
+        let entries = entries.max(self.entries_left);
+        let bytes = bytes.max(self.bytes_left);
+        self.rows.try_reserve(turns as usize)?;
+        self.entries.try_reserve(entries as usize)?;
+        self.bytes.try_reserve(bytes as usize)?;
+        self.turns_left = turns;
+        self.entries_left = entries;
+        self.bytes_left = bytes;
+        Ok(())
+    }
+
     /// Begins a turn, which has no entries yet.
     pub fn begin(&mut self, head: &TurnHead)
         requires { 1 ≤ self.old.room.turns }
@@ -73,7 +91,7 @@ impl History {
         ensures turns { self.new.turns ≡ with_entry self.old.turns (plain_entry entry.now) }
         ensures room { self.new.room ≡ room_after self.old.room 0 1 (length (kept_bytes (plain_entry entry.now))) }
     {
-        let bytes = kept(entry);
+        let bytes = entry.kept_bytes();
         let entry = placed(entry, self.bytes.len());
         self.bytes.extend_from_slice(bytes).unwrap();
         self.bytes_left -= bytes.len() as u64;
@@ -88,6 +106,14 @@ impl History {
         ensures { result ≡ length self.now.turns }
     {
         self.rows.len() as u64
+    }
+
+    /// How many entries all turns have.
+    pub fn total_entries(&self) -> u64
+        ensures { result ≡ length (entries_of self.now.turns) }
+    {
+        let _rows = &self.rows;
+        self.entries.len() as u64
     }
 
     /// What a turn began with. Turns count from 0.

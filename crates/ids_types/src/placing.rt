@@ -9,16 +9,18 @@ use crate::entry::{Act, Carried, Entry};
 use crate::parcel::Plain;
 use crate::span::Span;
 
-/// The bytes of context that an entry keeps, none where it keeps no context.
-pub(crate) fn kept<'a>(entry: &Entry<Plain<'a>>) -> &'a [u8]
-    ensures { result.now ≡ kept_bytes (plain_entry entry.now) }
-{
-    match &entry.act {
-        Act::Report { context, .. } => match context {
-            Carried::Kept { parcel, .. } => parcel.0,
-            Carried::Absent | Carried::Missing(_) => &[],
-        },
-        Act::State(_) | Act::SetMode { .. } => &[],
+impl<'a> Entry<Plain<'a>> {
+    /// The bytes of context that the entry keeps, none where it keeps no context.
+    pub fn kept_bytes(&self) -> &'a [u8]
+        ensures { result.now ≡ kept_bytes (plain_entry self.now) }
+    {
+        match &self.act {
+            Act::Report { context, .. } => match context {
+                Carried::Kept { parcel, .. } => parcel.0,
+                Carried::Absent | Carried::Missing(_) => &[],
+            },
+            Act::State(_) | Act::SetMode { .. } => &[],
+        }
     }
 }
 

@@ -8,7 +8,7 @@ use Rattle.ids_types.specs.Carries.{entry_by}
 use Rattle.ids_types.specs.Plain.{plain_entry, kept_bytes}
 use Rattle.ids_types.specs.Spans.{span_from, turn_of, EntryWithin, RowWithin}
 use Rattle.ids_types.specs.Turns.{Turns, with_entry}
-use Rattle.ids_types.proofs.HistoryLemmas.{turns_extended, AllByRecursion-set, AllByRecursion-push, AllByRecursion-weaker, EntryWithin-more, EntryWithin-placed}
+use Rattle.ids_types.proofs.HistoryLemmas.{turns_extended, rows_len-set, AllByRecursion-set, AllByRecursion-push, AllByRecursion-weaker, EntryWithin-more, EntryWithin-placed}
 use Rattle.ids_types.proofs.history.History.add.Goals as goal
 
 pub invariant_of-self : goal.invariant_of-self
@@ -29,6 +29,7 @@ invariant_of-self c =
     record {
       rows = rw more_entries (AllByRecursion-set _ h.rows.items _ _ (AllByRecursion-weaker (RowWithin (length h.entries.items)) (RowWithin (length h.entries.items + 1)) (λ r in_range. (in_range.0, omega arith)) h.rows.items c.self.invariant.rows) (omega arith, omega arith));
       entries = rw (more_bytes, entries_is) (AllByRecursion-push _ h.entries.items _ (AllByRecursion-weaker (EntryWithin (length h.bytes.items)) (EntryWithin (length h.bytes.items + length own)) (λ e in_range. EntryWithin-more _ _ (omega arith) e in_range) h.entries.items c.self.invariant.entries) (EntryWithin-placed (length h.bytes.items) entry));
+      all = rw more_entries (rows_len-set h.rows.items (c.len-last.result - 1) row last row_in.0 c.index_mut.ensures.value ∙ ap (λ (n : ℕ). n + 1) c.self.invariant.all);
       last = λ d some.
           let place : length h.rows.items - 1 ≡ c.len-last.result - 1 = omega arith in
           rw (length-set, place, more_entries) (rw get_or-set_same (ap (λ (n : ℕ). n + 1) at_end));

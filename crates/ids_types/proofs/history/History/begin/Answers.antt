@@ -1,0 +1,17 @@
+use Rattle.std.proofs.Common.{refl, ◌∙◌, rules, arith}
+use Rattle.std.proofs.lemmas.Grind.{common_steps}
+use Rattle.ids_types.proofs.HistoryLemmas.{AllByRecursion-push, rows_len_push}
+use Rattle.ids_types.proofs.history.History.begin.Goals as goal
+
+pub invariant_of-self : goal.invariant_of-self
+invariant_of-self c =
+    let h = c.self.inside in
+    record {
+      rows = search (rules, AllByRecursion-push);
+      entries = search rules;
+      all = rw c.push_reserved.ensures.items (rows_len_push h.rows.items _ refl ∙ c.self.invariant.all);
+      last = λ d some. grind (arith, common_steps);
+      turns_room = search rules;
+      entries_room = search rules;
+      bytes_room = search rules;
+    }
