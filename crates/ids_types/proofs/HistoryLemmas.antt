@@ -13,7 +13,7 @@ use Rattle.ids_types.specs.declared.span.Row.{Row}
 use Rattle.ids_types.specs.declared.span.Span.{Span}
 use Rattle.ids_types.specs.Carries.{carried_by, act_by, entry_by}
 use Rattle.ids_types.specs.Plain.{plain_carried, plain_entry, carried_bytes, act_bytes, kept_bytes}
-use Rattle.ids_types.specs.Spans.{bytes_at, span_from, turn_of, rows_len, CarriedWithin, ActWithin, EntryWithin, RowWithin, LastRowEnds}
+use Rattle.ids_types.specs.Spans.{bytes_at, span_from, turn_of, rows_len, CarriedWithin, ActWithin, EntryWithin, RowWithin}
 use Rattle.ids_types.specs.Turns.{Turn, extended, with_entry, entries_of}
 
 -- a range within a list is the same in a longer list

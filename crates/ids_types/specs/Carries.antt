@@ -1,5 +1,4 @@
 -- What an entry says, apart from the holder that its context bytes lie in.
-use Rattle.std.specs.Prelude.{ℕ, List}
 use Rattle.ids_types.specs.declared.entry.Carried.{Carried}
 use Rattle.ids_types.specs.declared.entry.Carried.TheVariants.{Absent, Kept, Missing}
 use Rattle.ids_types.specs.declared.entry.Act.{Act}

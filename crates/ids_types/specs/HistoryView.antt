@@ -1,5 +1,5 @@
 -- What contracts see of a `History`, and what holds of its fields.
-use Rattle.std.specs.Prelude.{◌≡◌, ℕ, ◌+◌, ◌≤◌, length, map, vec_len, vec_capacity}
+use Rattle.std.specs.Prelude.{◌≡◌, ◌+◌, ◌≤◌, length, map, vec_len, vec_capacity}
 use Rattle.std.specs.List.{AllByRecursion}
 use Rattle.ids_types.specs.declared.history.History.TheInside.{Inside}
 use Rattle.ids_types.specs.Turns.{Turns}

@@ -1,5 +1,5 @@
 -- How a history lies in memory: rows of turns over one list of entries, and their bytes in one list.
-use Rattle.std.specs.Prelude.{◌≡◌, ℕ, ◌+◌, ◌-◌, ◌<◌, ◌≤◌, List, [], ◌∷◌, length, map, slice_range, slice_index_or, All}
+use Rattle.std.specs.Prelude.{◌≡◌, ℕ, ◌+◌, ◌-◌, ◌<◌, ◌≤◌, List, [], ◌∷◌, length, map, slice_range, slice_index_or}
 use Rattle.ids_types.specs.declared.entry.Carried.{Carried}
 use Rattle.ids_types.specs.declared.entry.Carried.TheVariants.{Absent, Kept, Missing}
 use Rattle.ids_types.specs.declared.entry.Act.{Act}

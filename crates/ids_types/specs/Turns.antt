@@ -1,5 +1,5 @@
 -- The history as contracts see it: its turns, each with its head and its entries.
-use Rattle.std.specs.Prelude.{ℕ, ◌+◌, ◌-◌, ◌≤◌, max, List, [], ◌∷◌, ◌++◌, length, slice_index_or}
+use Rattle.std.specs.Prelude.{ℕ, ◌-◌, ◌≤◌, max, List, [], ◌∷◌, ◌++◌, slice_index_or}
 use Rattle.std.specs.List.{flat_map}
 use Rattle.ids_types.specs.declared.entry.Act.TheVariants.{State}
 use Rattle.ids_types.specs.declared.entry.Entry.{Entry}

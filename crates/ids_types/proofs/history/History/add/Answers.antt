@@ -1,9 +1,7 @@
-use Rattle.std.proofs.Common.{◌≡◌, ℕ, suc, ◌+◌, ◌-◌, ◌<◌, ◌≤◌, List, [], ◌∷◌, ◌++◌, length, get_or, sym, ap, subst, ◌∙◌, arith, rules, vec_len, length-set, length-append, get_or-set_same}
+use Rattle.std.proofs.Common.{◌≡◌, ℕ, suc, ◌+◌, ◌-◌, ◌<◌, [], ◌∷◌, ◌++◌, length, sym, ap, subst, ◌∙◌, arith, rules, vec_len, length-set, length-append, get_or-set_same}
 use Rattle.std.proofs.lemmas.List.{length-map}
 use Rattle.std.proofs.lemmas.List.Elements.{All-from_recursion}
-use Rattle.ids_types.specs.declared.entry.Entry.{Entry}
 use Rattle.ids_types.specs.declared.span.Row.{Row}
-use Rattle.ids_types.specs.declared.span.Span.{Span}
 use Rattle.ids_types.specs.Carries.{entry_by}
 use Rattle.ids_types.specs.Plain.{plain_entry, kept_bytes}
 use Rattle.ids_types.specs.Spans.{span_from, turn_of, EntryWithin, RowWithin}

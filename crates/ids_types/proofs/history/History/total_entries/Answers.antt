@@ -1,4 +1,4 @@
-use Rattle.std.proofs.Common.{◌≡◌, length, sym, ap, ◌∙◌, rules, vec_len}
+use Rattle.std.proofs.Common.{◌≡◌, length, sym, ap, ◌∙◌, rules}
 use Rattle.ids_types.specs.Turns.{Turns, entries_of}
 use Rattle.ids_types.proofs.HistoryLemmas.{length-entries_of}
 use Rattle.ids_types.proofs.history.History.total_entries.Goals as goal

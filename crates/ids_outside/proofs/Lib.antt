@@ -1,0 +1,4 @@
+pub mod FaultsLemmas
+pub mod FilesLemmas
+pub mod MemoryFilesLemmas
+pub mod StreamsLemmas

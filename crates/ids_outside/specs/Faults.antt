@@ -1,0 +1,55 @@
+-- Faults of shelves and sinks: how many there were, which came last, and which answers count one.
+use Rattle.std.specs.Prelude.{◌≡◌, ℕ, ◌+◌, ◌-◌, ◌^◌, ◌≤◌, min, List, Option, None, Some, Result, Ok, Err}
+use Rattle.ids_outside.specs.declared.faults.FaultKind.{FaultKind}
+use Rattle.ids_outside.specs.declared.faults.FaultKind.TheVariants.{Read}
+use Rattle.ids_outside.specs.declared.faults.ReadFault.{ReadFault}
+use Rattle.ids_outside.specs.declared.faults.ReadFault.TheVariants as read
+use Rattle.ids_outside.specs.declared.faults.WriteFault.{WriteFault}
+use Rattle.ids_outside.specs.declared.faults.WriteFault.TheVariants as write
+
+-- one more, in a count of 64 bits that stays at its greatest value
+abbrev pub counted : ℕ → ℕ
+counted n = min (n + 1) (2 ^ 64 - 1)
+
+-- a count of faults rose, or stays at its greatest value
+abbrev pub Rose : ℕ → ℕ → Type 0
+Rose before now = counted before ≤ now
+
+-- a fault of a shelf: the call that failed, and the name that it was given
+pub record Fault : Type 0 where
+  pub kind : FaultKind
+  pub name : List ℕ
+
+-- the faults that a shelf has met
+pub record Faults : Type 0 where
+  pub count : ℕ
+  pub last : Option Fault
+
+-- the faults of a shelf that no call has failed at
+abbrev pub no_faults : Faults
+no_faults = record { count = 0; last = None }
+
+-- a fault was counted, and it is the last one
+pub record CountsFault (old new : Faults) (kind : FaultKind) (name : List ℕ) : Type 0 where
+  pub rose : Rose old.count new.count
+  pub last : new.last ≡ Some (record { kind = kind; name = name })
+
+-- a read counts a fault exactly where it answers that it failed
+abbrev pub ReadCause : {T : Type 0} → Faults → Faults → List ℕ → Result T ReadFault → Type 0
+ReadCause old new name (Ok _) = new ≡ old
+ReadCause old new name (Err read.Failed) = CountsFault old new Read name
+ReadCause old new name (Err read.TooLong) = new ≡ old
+ReadCause old new name (Err read.NoMemory) = new ≡ old
+
+-- a write of this kind counts a fault exactly where it answers that it failed
+abbrev pub WriteCause : {T : Type 0} → FaultKind → Faults → Faults → List ℕ → Result T WriteFault
+    → Type 0
+WriteCause kind old new name (Ok _) = new ≡ old
+WriteCause kind old new name (Err write.Failed) = CountsFault old new kind name
+WriteCause kind old new name (Err write.NoMemory) = new ≡ old
+
+-- a put counts a fault exactly where it answers that it failed
+abbrev pub PutCause : {T : Type 0} → ℕ → ℕ → Result T WriteFault → Type 0
+PutCause before now (Ok _) = now ≡ before
+PutCause before now (Err write.Failed) = Rose before now
+PutCause before now (Err write.NoMemory) = now ≡ before

@@ -1,0 +1,11 @@
+pub mod Faults
+pub mod Files
+pub mod HostFaults
+pub mod HostShelf
+pub mod HostSink
+pub mod MemoryFiles
+pub mod MemoryShelf
+pub mod MemorySink
+pub mod Script
+pub mod Sinks
+pub mod Streams

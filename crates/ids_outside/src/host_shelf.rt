@@ -1,0 +1,159 @@
+ghost use Rattle.std.specs.Prelude.{◌≡◌, ℕ, List, None, Some, IfOk, OnOk, OnErr, Ok, IfSome, option_map, string_bytes, length, ◌≤◌, false};
+ghost use Rattle.ids_outside.specs.Faults.{no_faults, WriteCause};
+ghost use Rattle.ids_outside.specs.declared.faults.FaultKind.TheVariants.{Create, Append};
+
+use crate::fault_log::FaultLog;
+use crate::faults::{FaultKind, ReadFault, WriteFault};
+use crate::shelf::Shelf;
+use crate::streams::{read_up_to, write_whole};
+use std::alloc::Global;
+use std::fs::{File, OpenOptions};
+use std::rt::Files;
+
+/// A file that is open to be written to.
+#[derive(Drop)]
+struct OpenFile<F> {
+    name: String,
+    file: F,
+}
+
+/// The host's files, by path. It tells nothing of what they hold.
+///
+/// The file that was created or appended to last stays open until another one is, or a write to it
+/// fails. So appends to one file open it once. An interrupted call of the host is a failure.
+#[derive(Drop)]
+pub struct HostShelf<R: Files> {
+    rt: R,
+    alloc: Global,
+    current: Option<OpenFile<R::File>>,
+    faults: FaultLog,
+}
+
+impl<R: Files + Drop> HostShelf<R> {
+    ghost use Rattle.ids_outside.specs.HostShelf.{host_shelf_faults};
+
+    /// Reaches the files by this runtime, and keeps the names of files in memory of `alloc`.
+    pub fn new(rt: R, alloc: Global) -> HostShelf<R>
+        ensures { host_shelf_faults result ≡ no_faults }
+    {
+        HostShelf {
+            rt,
+            alloc,
+            current: None,
+            faults: FaultLog::new(),
+        }
+    }
+
+    /// How many calls have failed, up to 2^64 - 1.
+    pub fn fault_count(&self) -> u64
+        ensures { result ≡ (host_shelf_faults self.now).count }
+    {
+        self.faults.count()
+    }
+
+    /// Which call failed last, and the name that it was given.
+    pub fn last_fault(&self) -> Option<(FaultKind, &str)>
+        ensures { option_map (λ p. record { kind = p.0; name = p.1.now }) result
+            ≡ (host_shelf_faults self.now).last }
+    {
+        self.faults.last()
+    }
+
+    /// Opens a file, and counts a fault of this kind where the host fails. Copies the name first.
+    fn open_file(
+        &mut self,
+        kind: FaultKind,
+        name: &str,
+        how: &OpenOptions,
+    ) -> Result<OpenFile<R::File>, WriteFault>
+        ensures named { IfOk result (λ opened. string_bytes opened.name ≡ name.now) }
+        ensures cause { WriteCause kind (host_shelf_faults self.old)
+            (host_shelf_faults self.new) name.now result }
+        ensures same { self.new.current ≡ self.old.current }
+    {
+        let copy = String::from_str(self.alloc, name)?;
+        match how.open(&self.rt, name).map_err(WriteFault::from) {
+            Ok(file) => Ok(OpenFile { name: copy, file }),
+            Err(WriteFault::NoMemory) => Err(WriteFault::NoMemory),
+            Err(WriteFault::Failed) => {
+                self.faults.note(kind, copy);
+                Err(WriteFault::Failed)
+            }
+        }
+    }
+
+    /// Takes out the file that is open, if it has this name; else closes it, and opens the file of
+    /// this name to append to it.
+    fn take_current(&mut self, name: &str) -> Result<OpenFile<R::File>, WriteFault>
+        ensures named { IfOk result (λ opened. string_bytes opened.name ≡ name.now) }
+        ensures same { IfSome self.old.current (λ opened.
+            string_bytes opened.name ≡ name.now → result ≡ Ok opened) }
+        ensures cause { WriteCause Append (host_shelf_faults self.old)
+            (host_shelf_faults self.new) name.now result }
+    {
+        if let Some(current) = self.current.take() {
+            if current.name.as_str() == name {
+                return Ok(current);
+            }
+        }
+        let mut how = OpenOptions::new();
+        how.append(true).create(true);
+        self.open_file(FaultKind::Append, name, &how)
+    }
+}
+
+/// Opens the file of this name and reads the whole of it.
+fn read_file<R: Files>(rt: &R, alloc: Global, name: &str, limit: u64) -> Result<Vec<u8>, ReadFault>
+    ensures { IfOk result (λ bytes. length bytes.items ≤ limit) }
+{
+    let mut file = File::open(rt, name)?;
+    read_up_to(&mut file, alloc, limit)
+}
+
+impl<R: Files + Drop> Shelf for HostShelf<R> {
+    ghost use Rattle.ids_outside.specs.HostShelf.{host_shelf_faults, open_name};
+
+    ghost tells = { λ _. false };
+
+    ghost contents = { λ _ _. None };
+
+    ghost faults = { host_shelf_faults };
+
+    fn read(&mut self, alloc: Global, name: &str, limit: u64) -> Result<Vec<u8>, ReadFault> {
+        let copy = String::from_str(alloc, name)?;
+        let result = read_file(&self.rt, alloc, name, limit);
+        if let Err(ReadFault::Failed) = result {
+            self.faults.note(FaultKind::Read, copy);
+        }
+        result
+    }
+
+    fn create(&mut self, name: &str) -> Result<(), WriteFault>
+        ensures cause { WriteCause Create (host_shelf_faults self.old)
+            (host_shelf_faults self.new) name.now result }
+        ensures open { OnOk result (open_name self.new ≡ Some name.now) }
+        ensures closed { OnErr result (open_name self.new ≡ None) }
+    {
+        self.current = None;
+        let mut how = OpenOptions::new();
+        how.write(true).create(true).truncate(true);
+        let created = self.open_file(FaultKind::Create, name, &how)?;
+        self.current = Some(created);
+        Ok(())
+    }
+
+    fn append(&mut self, name: &str, piece: &[u8]) -> Result<(), WriteFault>
+        ensures cause { WriteCause Append (host_shelf_faults self.old)
+            (host_shelf_faults self.new) name.now result }
+        ensures open { OnOk result (open_name self.new ≡ Some name.now) }
+    {
+        let mut current = self.take_current(name)?;
+        let result = write_whole(&mut current.file, piece);
+        if let Err(WriteFault::Failed) = result {
+            self.faults.note(FaultKind::Append, current.name);
+        } else {
+            self.current = Some(current);
+        }
+        result
+    }
+}

@@ -1,0 +1,178 @@
+ghost use Rattle.std.specs.Prelude.{◌≡◌, ◌≤◌, ◌++◌, [], ℕ, List, length, string_bytes, option_map, IfOk, OnOk, OnErr, IsTrue, true};
+ghost use Rattle.ids_outside.specs.Faults.{no_faults};
+ghost use Rattle.ids_outside.specs.Files.{bytes_at, Changes, SameFiles};
+ghost use Rattle.ids_outside.specs.MemoryFiles.{given_files, names_differ, files_in};
+
+use crate::fault_log::FaultLog;
+use crate::faults::{FaultKind, ReadFault, WriteFault};
+use crate::script::Script;
+use crate::shelf::Shelf;
+use ids_types::NoMemory;
+use std::alloc::{AllocError, Global};
+use std::collections::BTreeMap;
+
+/// A shelf that keeps its files in memory, for tests. The calls whose numbers are listed fail.
+#[derive(Debug, Drop)]
+pub struct MemoryShelf {
+    alloc: Global,
+    files: BTreeMap<String, Vec<u8>>,
+    script: Script,
+    faults: FaultLog,
+}
+
+impl MemoryShelf {
+    ghost use Rattle.ids_outside.specs.MemoryShelf.{shelf_files, shelf_faults, shelf_plan};
+
+    /// A shelf of these files, no two of one name. Its calls of `read`, `create` and `append` are
+    /// numbered from 0, and those in `fails` fail.
+    pub fn make(
+        alloc: Global,
+        files: Vec<(String, Vec<u8>)>,
+        fails: Vec<u64>,
+    ) -> Result<MemoryShelf, NoMemory>
+        requires { IsTrue (names_differ files.items) }
+        ensures files { IfOk result (λ shelf.
+            SameFiles (given_files files.items) (shelf_files shelf)) }
+        ensures plan { IfOk result (λ shelf.
+            shelf_plan shelf ≡ record { fails = fails.items; calls = 0 }) }
+        ensures faults { IfOk result (λ shelf. shelf_faults shelf ≡ no_faults) }
+    {
+        let mut kept = BTreeMap::new(alloc);
+        for (name, bytes) in files {
+            keep(&mut kept, name, bytes)?;
+        }
+        Ok(MemoryShelf {
+            alloc,
+            files: kept,
+            script: Script::new(fails),
+            faults: FaultLog::new(),
+        })
+    }
+
+    /// The bytes of the file of this name, `None` exactly where it is not there. Counts as no call.
+    pub fn contents(&self, name: &str) -> Option<&[u8]>
+        ensures { option_map (λ bytes. bytes.now) result ≡ shelf_files self.now name.now }
+    {
+        self.files.get(name).map(|bytes| bytes.as_slice())
+    }
+
+    /// How many calls have failed, up to 2^64 - 1.
+    pub fn fault_count(&self) -> u64
+        ensures { result ≡ (shelf_faults self.now).count }
+    {
+        self.faults.count()
+    }
+
+    /// Which call failed last, and the name that it was given.
+    pub fn last_fault(&self) -> Option<(FaultKind, &str)>
+        ensures { option_map (λ p. record { kind = p.0; name = p.1.now }) result
+            ≡ (shelf_faults self.now).last }
+    {
+        self.faults.last()
+    }
+}
+
+/// Keeps these bytes as the file of this name.
+fn keep(
+    files: &mut BTreeMap<String, Vec<u8>>,
+    name: String,
+    bytes: Vec<u8>,
+) -> Result<(), AllocError>
+    ensures ok { OnOk result (Changes (files_in files.old) (files_in files.new)
+        (string_bytes name) (Some bytes.items)) }
+    ensures err { OnErr result (SameFiles (files_in files.old) (files_in files.new)) }
+{
+    files.insert(name, bytes)?;
+    Ok(())
+}
+
+/// Adds the piece to the file of this name, under `key`, a copy of the name, where it is not there.
+fn add_piece(
+    alloc: Global,
+    files: &mut BTreeMap<String, Vec<u8>>,
+    name: &str,
+    key: String,
+    piece: &[u8],
+) -> Result<(), AllocError>
+    requires { string_bytes key ≡ name.now }
+    ensures ok { OnOk result (Changes (files_in files.old) (files_in files.new) name.now
+        (Some (bytes_at (files_in files.old) name.now ++ piece.now))) }
+    ensures err { OnErr result (SameFiles (files_in files.old) (files_in files.new)) }
+{
+    if let Some(bytes) = files.get_mut(name) {
+        return bytes.extend_from_slice(piece);
+    }
+    keep(files, key, piece.to_vec(alloc)?)
+}
+
+impl Shelf for MemoryShelf {
+    ghost use Rattle.ids_outside.specs.Faults.{ReadCause, WriteCause};
+    ghost use Rattle.ids_outside.specs.Files.{ReadGives, CreateMakes, AppendMakes};
+    ghost use Rattle.ids_outside.specs.Script.{CountsCall, ReadFollows, WriteFollows};
+    ghost use Rattle.ids_outside.specs.MemoryShelf.{shelf_files, shelf_faults, shelf_plan};
+    ghost use Rattle.ids_outside.specs.declared.faults.FaultKind.TheVariants.{Create, Append};
+
+    ghost tells = { λ _. true };
+
+    ghost contents = { shelf_files };
+
+    ghost faults = { shelf_faults };
+
+    /// A read that is not listed fails only where the name is not there.
+    fn read(&mut self, alloc: Global, name: &str, limit: u64) -> Result<Vec<u8>, ReadFault>
+        ensures same { SameFiles (shelf_files self.old) (shelf_files self.new) }
+        ensures gives { ReadGives (shelf_files self.old) name.now limit result }
+        ensures within { IfOk result (λ bytes. length bytes.items ≤ limit) }
+        ensures cause { ReadCause (shelf_faults self.old) (shelf_faults self.new) name.now result }
+        ensures follows { ReadFollows (shelf_plan self.old) (shelf_files self.old name.now) result }
+        ensures counts { CountsCall (shelf_plan self.old) (shelf_plan self.new) }
+    {
+        let is_to_fail = self.script.next_fails();
+        let copy = String::from_str(alloc, name)?;
+        if !is_to_fail && let Some(bytes) = self.files.get(name) {
+            if bytes.len() as u64 > limit {
+                return Err(ReadFault::TooLong);
+            }
+            return Ok(bytes.as_slice().to_vec(alloc)?);
+        }
+        self.faults.note(FaultKind::Read, copy);
+        Err(ReadFault::Failed)
+    }
+
+    /// A creation that fails changes no file.
+    fn create(&mut self, name: &str) -> Result<(), WriteFault>
+        ensures makes { CreateMakes (shelf_files self.old) (shelf_files self.new) name.now result }
+        ensures cause { WriteCause Create (shelf_faults self.old)
+            (shelf_faults self.new) name.now result }
+        ensures err { OnErr result (SameFiles (shelf_files self.old) (shelf_files self.new)) }
+        ensures follows { WriteFollows (shelf_plan self.old) result }
+        ensures counts { CountsCall (shelf_plan self.old) (shelf_plan self.new) }
+    {
+        let is_to_fail = self.script.next_fails();
+        let copy = String::from_str(self.alloc, name)?;
+        if is_to_fail {
+            self.faults.note(FaultKind::Create, copy);
+            return Err(WriteFault::Failed);
+        }
+        Ok(keep(&mut self.files, copy, Vec::new(self.alloc))?)
+    }
+
+    /// An append that fails changes no file.
+    fn append(&mut self, name: &str, piece: &[u8]) -> Result<(), WriteFault>
+        ensures makes { AppendMakes (shelf_files self.old)
+            (shelf_files self.new) name.now piece.now result }
+        ensures cause { WriteCause Append (shelf_faults self.old)
+            (shelf_faults self.new) name.now result }
+        ensures err { OnErr result (SameFiles (shelf_files self.old) (shelf_files self.new)) }
+        ensures follows { WriteFollows (shelf_plan self.old) result }
+        ensures counts { CountsCall (shelf_plan self.old) (shelf_plan self.new) }
+    {
+        let is_to_fail = self.script.next_fails();
+        let copy = String::from_str(self.alloc, name)?;
+        if is_to_fail {
+            self.faults.note(FaultKind::Append, copy);
+            return Err(WriteFault::Failed);
+        }
+        Ok(add_piece(self.alloc, &mut self.files, name, copy, piece)?)
+    }
+}

@@ -1,0 +1,77 @@
+ghost use Rattle.std.specs.Prelude.{◌≡◌, ◌∷◌, [], ℕ, List, IfOk, OnErr, true};
+
+use crate::count::one_more;
+use crate::faults::WriteFault;
+use crate::script::Script;
+use crate::sink::Sink;
+use ids_types::NoMemory;
+use std::alloc::Global;
+
+/// A sink that keeps what it takes in memory, for tests. The puts whose numbers are listed fail.
+#[derive(Debug, Drop)]
+pub struct MemorySink {
+    taken: Vec<u8>,
+    script: Script,
+    faults: u64,
+}
+
+impl MemorySink {
+    ghost use Rattle.ids_outside.specs.MemorySink.{sink_taken, sink_faults, sink_plan};
+
+    /// A sink that has taken nothing. Its puts are numbered from 0, and those in `fails` fail.
+    pub fn make(alloc: Global, fails: Vec<u64>) -> Result<MemorySink, NoMemory>
+        ensures empty { IfOk result (λ sink. sink_taken sink ≡ []) }
+        ensures plan { IfOk result (λ sink.
+            sink_plan sink ≡ record { fails = fails.items; calls = 0 }) }
+        ensures faults { IfOk result (λ sink. sink_faults sink ≡ 0) }
+    {
+        Ok(MemorySink {
+            taken: Vec::new(alloc),
+            script: Script::new(fails),
+            faults: 0,
+        })
+    }
+
+    /// The bytes that it has taken so far.
+    pub fn taken(&self) -> &[u8]
+        ensures { result.now ≡ sink_taken self.now }
+    {
+        self.taken.as_slice()
+    }
+
+    /// How many puts have failed, up to 2^64 - 1.
+    pub fn fault_count(&self) -> u64
+        ensures { result ≡ sink_faults self.now }
+    {
+        self.faults
+    }
+}
+
+impl Sink for MemorySink {
+    ghost use Rattle.ids_outside.specs.Faults.{PutCause};
+    ghost use Rattle.ids_outside.specs.Script.{CountsCall, WriteFollows};
+    ghost use Rattle.ids_outside.specs.Sinks.{PutTakes};
+    ghost use Rattle.ids_outside.specs.MemorySink.{sink_taken, sink_faults, sink_plan};
+
+    ghost tells = { λ _. true };
+
+    ghost taken = { sink_taken };
+
+    ghost faults = { sink_faults };
+
+    /// A put that fails takes nothing.
+    fn put(&mut self, piece: &[u8]) -> Result<(), WriteFault>
+        ensures takes { PutTakes (sink_taken self.old) (sink_taken self.new) piece.now result }
+        ensures cause { PutCause (sink_faults self.old) (sink_faults self.new) result }
+        ensures err { OnErr result (sink_taken self.new ≡ sink_taken self.old) }
+        ensures follows { WriteFollows (sink_plan self.old) result }
+        ensures counts { CountsCall (sink_plan self.old) (sink_plan self.new) }
+    {
+        if self.script.next_fails() {
+            self.faults = one_more(self.faults);
+            return Err(WriteFault::Failed);
+        }
+        self.taken.extend_from_slice(piece)?;
+        Ok(())
+    }
+}

@@ -1,0 +1,132 @@
+use crate::{
+    FaultKind, HostShelf, HostSink, MemoryShelf, MemorySink, ReadFault, Shelf, Sink, WriteFault,
+};
+use std::alloc::Global;
+use std::fs;
+use std::test::Fail;
+
+/// A shelf with two files, whose calls of these numbers fail.
+fn two_files(alloc: Global, fails: &[u64]) -> Result<MemoryShelf, Fail> {
+    let mut files = Vec::new(alloc);
+    files.push((
+        String::from_str(alloc, "journal")?,
+        Vec::from_slice(alloc, b"abc")?,
+    ))?;
+    files.push((
+        String::from_str(alloc, "config")?,
+        Vec::from_slice(alloc, b"{}")?,
+    ))?;
+    Ok(MemoryShelf::make(alloc, files, Vec::from_slice(alloc, fails)?)?)
+}
+
+#[test]
+fn reads_up_to_the_limit(rt: HostRuntime) -> Result<(), Fail> {
+    let alloc = rt.alloc();
+    let mut shelf = two_files(alloc, &[])?;
+    assert_eq!(rt;
+        shelf.read(alloc, "journal", 3)?.as_slice(),
+        b"abc".as_slice()
+    );
+    assert_eq!(rt; shelf.read(alloc, "journal", 2), Err(ReadFault::TooLong));
+    assert_eq!(rt; shelf.fault_count(), 0);
+    Ok(())
+}
+
+#[test]
+fn a_missing_name_is_a_fault_of_reads_alone(rt: HostRuntime) -> Result<(), Fail> {
+    let alloc = rt.alloc();
+    let mut shelf = two_files(alloc, &[])?;
+    assert_eq!(rt; shelf.read(alloc, "messages", 9), Err(ReadFault::Failed));
+    assert_eq!(rt; shelf.fault_count(), 1);
+    assert!(rt; shelf.last_fault() == Some((FaultKind::Read, "messages")));
+    shelf.append("messages", b"xy")?;
+    assert_eq!(rt;
+        shelf.read(alloc, "messages", 9)?.as_slice(),
+        b"xy".as_slice()
+    );
+    assert_eq!(rt; shelf.fault_count(), 1);
+    Ok(())
+}
+
+/// Creates, appends twice, and reads the file, whatever fails; gives what is there at the end.
+fn write_and_read(alloc: Global, shelf: &mut MemoryShelf) -> Option<&[u8]> {
+    let _ = shelf.create("journal");
+    let _ = shelf.append("journal", b"one");
+    let _ = shelf.append("journal", b"two");
+    let _ = shelf.read(alloc, "journal", 6);
+    shelf.contents("journal")
+}
+
+#[test]
+fn the_listed_call_of_a_shelf_fails(rt: HostRuntime) -> Result<(), Fail> {
+    let alloc = rt.alloc();
+    for (number, left, kind) in [
+        (0, b"abconetwo".as_slice(), FaultKind::Create),
+        (1, b"two".as_slice(), FaultKind::Append),
+        (2, b"one".as_slice(), FaultKind::Append),
+        (3, b"onetwo".as_slice(), FaultKind::Read),
+    ] {
+        let mut shelf = two_files(alloc, &[number, 9])?;
+        assert!(rt;
+            write_and_read(alloc, &mut shelf) == Some(left),
+            "call {number} fails"
+        );
+        assert_eq!(rt; shelf.fault_count(), 1, "call {number} fails");
+        assert!(rt;
+            shelf.last_fault() == Some((kind, "journal")),
+            "call {number} fails"
+        );
+    }
+    Ok(())
+}
+
+#[test]
+fn the_listed_put_of_a_sink_fails(rt: HostRuntime) -> Result<(), Fail> {
+    let alloc = rt.alloc();
+    for (fails, taken, count) in [
+        ([3, 9], b"abc".as_slice(), 0),
+        ([0, 9], b"bc".as_slice(), 1),
+        ([1, 2], b"a".as_slice(), 2),
+    ] {
+        let mut sink = MemorySink::make(alloc, Vec::from_slice(alloc, &fails)?)?;
+        for piece in [b"a", b"b", b"c"] {
+            let _ = sink.put(piece);
+        }
+        assert_eq!(rt; sink.taken(), taken);
+        assert_eq!(rt; sink.fault_count(), count);
+    }
+    Ok(())
+}
+
+#[test]
+fn keeps_a_file_on_the_host(rt: HostRuntime) -> Result<(), Fail> {
+    let alloc = rt.alloc();
+    let path = "ids_outside_keeps_a_file";
+    let long = [7; 5000];
+    let mut shelf = HostShelf::new(rt, alloc);
+    shelf.create(path)?;
+    shelf.append(path, &long)?;
+    shelf.append(path, b"end")?;
+    let bytes = shelf.read(alloc, path, 5003)?;
+    assert_eq!(rt; bytes.len(), 5003);
+    assert_eq!(rt; &bytes[4999..], b"\x07end".as_slice());
+    assert_eq!(rt; shelf.read(alloc, path, 5002), Err(ReadFault::TooLong));
+    shelf.create(path)?;
+    assert_eq!(rt; shelf.read(alloc, path, 0)?.len(), 0);
+    assert_eq!(rt; shelf.fault_count(), 0);
+    fs::remove_file(&rt, path)?;
+    assert_eq!(rt; shelf.read(alloc, path, 9), Err(ReadFault::Failed));
+    assert_eq!(rt; shelf.create("no/such/folder"), Err(WriteFault::Failed));
+    assert!(rt; shelf.last_fault() == Some((FaultKind::Create, "no/such/folder")));
+    assert_eq!(rt; shelf.fault_count(), 2);
+    Ok(())
+}
+
+#[test]
+fn puts_on_standard_output(rt: HostRuntime) -> Result<(), Fail> {
+    let mut sink = HostSink::new(rt);
+    sink.put(b"")?;
+    sink.put(b"\n")?;
+    assert_eq!(rt; sink.fault_count(), 0);
+    Ok(())
+}
