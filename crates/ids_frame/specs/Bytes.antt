@@ -1,0 +1,6 @@
+-- Bytes as numbers.
+use Rattle.std.specs.Prelude.{ℕ, ◌<◌, List, All}
+
+-- each number is that of a byte
+abbrev pub AreBytes : List ℕ → Type 0
+AreBytes numbers = All (λ b. b < 256) numbers
