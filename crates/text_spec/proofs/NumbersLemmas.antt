@@ -1,0 +1,154 @@
+-- Numbers: the reading of a word against the text of a number.
+use Rattle.std.proofs.Common.{◌≡◌, ℕ, zero, suc, ◌+◌, ◌-◌, ◌*◌, ◌^◌, ◌<◌, ◌≤◌, ◌==◌, min, not, true, false, ◌||◌, inl, inr, List, [], ◌∷◌, length, take, get_or, refl, sym, ap, ◌∙◌, arith, rules}
+use Rattle.std.specs.Prelude.{Option, Some, None, option_map, option_and_then, bytes_eq, decimal, nat_le}
+use Rattle.std.specs.Char.{is_ascii_digit}
+use Rattle.std.specs.Int.{IsInRange}
+use Rattle.std.specs.List.{list_all}
+use Rattle.std.specs.Str.Parse.{digits_value}
+use Rattle.std.proofs.lemmas.Bool.{le-leb, false_from_ne_true, and_parts, and_from, or_cases, cases_eq, cond-true, cond-false, cases_Bool, leb-true, eqb-true, eq-eqb, ne_eqb}
+use Rattle.std.proofs.lemmas.Fmt.{digits_decimal, digits_value-decimal, decimal-digits_value, first_decimal, decimal_nonempty, decimal_digit}
+use Rattle.std.proofs.lemmas.Int.Digits.{digits_value_more}
+use Rattle.std.proofs.lemmas.Option.{same_Some, none-some, cond_some, option_and_then_some}
+use Rattle.std.proofs.lemmas.Slice.Eq.{bytes_eq-Decides}
+use Rattle.std.proofs.lemmas.Str.{digit_value_digit}
+use Rattle.std.proofs.lemmas.Str.Parse.{IsNumeralModel, numerals_by_value}
+use Rattle.text_spec.specs.Numbers.{is_number, number_in, number_upto, at_most, capped, greatest_told}
+use Rattle.text_spec.specs.Words.{Free, absent}
+use Rattle.text_spec.proofs.WordsLemmas.{free_from_test}
+
+-- a word of digits
+abbrev pub Digits : List ℕ → Type 0
+Digits ds = list_all is_ascii_digit ds ≡ true
+
+-- a byte that passes is a digit
+in_range : (c : ℕ) → is_ascii_digit c ≡ true → IsInRange 48 57 c
+in_range c h =
+    let parts = and_parts _ _ h in
+    let low = leb-true 48 c parts.0 in
+    let high = leb-true c 57 parts.1 in
+    search (rules, low, high)
+
+-- the words of digits, and their values, in the words of std
+pub own_digits : IsNumeralModel Digits (digits_value 10)
+own_digits = numerals_by_value Digits (search rules)
+
+-- each byte of a word of digits is one
+pub digit_at : (ds : List ℕ) (i : ℕ) → Digits ds → i < length ds → IsInRange 48 57 (get_or ds i 0)
+digit_at [] i all inside = absurd (omega arith)
+digit_at (c ∷ cs) zero all inside = in_range c (and_parts _ _ all).0
+digit_at (c ∷ cs) (suc i) all inside = digit_at cs i (and_parts _ _ all).1 (omega arith)
+
+-- one more digit
+pub capped_more : (ds : List ℕ) (i v : ℕ) → Digits ds → i < length ds
+    → v ≡ capped (digits_value 10 (take i ds))
+    → min (min (v * 10) greatest_told + (get_or ds i 0 - 48)) greatest_told ≡ capped (digits_value 10 (take (i + 1) ds))
+capped_more ds i v all inside was =
+    let more = digits_value_more 10 ds i inside in
+    let digit = digit_value_digit (get_or ds i 0) (digit_at ds i all inside) in
+    omega (arith, more, digit, was)
+
+-- a word is a number where it is digits, and nothing follows a zero that stands first
+pub is_number-from : (ds : List ℕ) → Digits ds → 0 < length ds → (get_or ds 0 0 ≡ 48
+    → length ds ≡ 1) → is_number ds ≡ true
+is_number-from [] all some first = absurd (omega arith)
+is_number-from (c ∷ cs) all some first = elim (cases_eq c 48) [
+  | inl zero_first ↦
+      let alone : length cs ≡ 0 = omega (arith, first zero_first) in
+      and_from _ _ all (grind (arith, eq-eqb, alone))
+  | inr other ↦ and_from _ _ all (grind (arith, ne_eqb c 48 other))
+]
+
+-- what a word that is a number has
+pub record IsNumber (ds : List ℕ) : Type 0 where
+  pub digits : Digits ds
+  pub some : 0 < length ds
+  pub first : get_or ds 0 0 ≡ 48 → length ds ≡ 1
+
+-- a word that is a number has it
+pub number_parts : (ds : List ℕ) → is_number ds ≡ true → IsNumber ds
+number_parts (c ∷ cs) h =
+    let parts = and_parts (list_all is_ascii_digit (c ∷ cs)) (not (c == 48) || length cs == 0) h in
+    record {
+      digits = parts.0;
+      some = omega arith;
+      first = λ e. elim (or_cases (not (c == 48)) (length cs == 0) parts.1) [
+        | inl other ↦ absurd (grind (arith, other, eq-eqb c 48 e))
+        | inr alone ↦ let none = eqb-true (length cs) 0 alone in omega arith
+      ];
+    }
+number_parts [] h = cc h
+
+-- the text of a number is read as it
+pub number_in-decimal : (n : ℕ) → n < 2 ^ 64 → number_in (decimal n) ≡ Some n
+number_in-decimal n small =
+    let first : get_or (decimal n) 0 0 ≡ 48 → length (decimal n) ≡ 1 = λ e. elim (cases_eq n 0) [
+      | inl none ↦ rw (none, decimal_digit 0 (omega arith)) refl
+      | inr some ↦ absurd (omega (arith, first_decimal n (omega arith) small))
+    ] in
+    let is = is_number-from (decimal n) (digits_decimal own_digits n small) (decimal_nonempty n small) first in
+    cond-true _ _ _ is ∙ ap Some (digits_value-decimal own_digits n small)
+
+-- a word that is read as a number is the number's text
+pub decimal-number_in : (word : List ℕ) (n : ℕ) → number_in word ≡ Some n → n < 2 ^ 64
+    → word ≡ decimal n
+decimal-number_in word n read small = elim (cases_Bool (is_number word)) [
+  | inl is ↦
+      let parts = number_parts word is in
+      let value : digits_value 10 word ≡ n = cc (sym (cond-true _ (Some (digits_value 10 word)) None is) ∙ read) in
+      let bound : digits_value 10 word < 2 ^ 64 = omega arith in
+      sym (decimal-digits_value own_digits word parts.digits parts.some parts.first bound) ∙ ap decimal value
+  | inr none ↦ cc (sym (cond-false _ (Some (digits_value 10 word)) None none) ∙ read)
+]
+
+-- the text of a number is free of each byte that is no digit
+pub decimal-free : (c n : ℕ) → is_ascii_digit c ≡ false → n < 2 ^ 64 → Free c (decimal n)
+decimal-free c n out small =
+    free_from_test is_ascii_digit c (decimal n) out (digits_decimal own_digits n small)
+
+-- the text of a number is not the word for no value
+pub decimal-present : (n : ℕ) → n < 2 ^ 64 → bytes_eq (decimal n) absent ≡ false
+decimal-present n small = false_from_ne_true (bytes_eq (decimal n) absent) (λ same.
+    let e = (bytes_eq-Decides (decimal n) absent).0 same in
+    let free = rw e at (decimal-free 45 n refl small) in
+    cc free.0)
+
+-- ---- numbers as they are told
+
+-- the text of a number is told as it
+pub told-decimal : (n : ℕ) → n < 2 ^ 64 → option_map capped (number_in (decimal n)) ≡ Some n
+told-decimal n small =
+    let same : capped n ≡ n = omega arith in
+    ap (option_map capped) (number_in-decimal n small) ∙ ap Some same
+
+-- the number that a word writes, from how it is told
+uncapped : (read : Option ℕ) (n : ℕ) → option_map capped read ≡ Some n → n < greatest_told
+    → read ≡ Some n
+uncapped None n told small = absurd (none-some n told)
+uncapped (Some k) n told small =
+    let cap : capped k ≡ n = same_Some (capped k) n told in
+    ap Some (omega arith)
+
+-- a word that is told as a number below the greatest is the number's text
+pub decimal-told : (word : List ℕ) (n : ℕ) → option_map capped (number_in word) ≡ Some n
+    → n < greatest_told
+    → word ≡ decimal n
+decimal-told word n told small =
+    decimal-number_in word n (uncapped (number_in word) n told small) (omega arith)
+
+-- the text of a number up to this is read as it
+pub number_upto-decimal : (most n : ℕ) → n ≤ most → n < 2 ^ 64
+    → number_upto most (decimal n) ≡ Some n
+number_upto-decimal most n within small =
+    ap (option_and_then (at_most most)) (number_in-decimal n small)
+    ∙ cond-true _ (Some n) None (le-leb n most within)
+
+-- a word that is read as a number up to this is the number's text
+pub decimal-number_upto : (most : ℕ) (word : List ℕ) (n : ℕ) → number_upto most word ≡ Some n
+    → n < 2 ^ 64
+    → (word ≡ decimal n) × (n ≤ most)
+decimal-number_upto most word n read small =
+    option_and_then_some (at_most most) (number_in word) n read (λ k is kept.
+    let parts = cond_some (nat_le k most) k n kept in
+    let bound = leb-true k most parts.0 in
+    let same = parts.1 in
+    (decimal-number_in word n (is ∙ ap Some same) small, omega arith))

@@ -1,0 +1,29 @@
+-- The first piece of a text that is cut at a separator.
+use Rattle.std.proofs.Common.{◌≡◌, ℕ, ◌+◌, Bool, List, [], ◌∷◌, length, take, drop, Some, None, sym, ap, ◌∙◌, arith, inl, inr}
+use Rattle.std.specs.Prelude.{nat_lt, position}
+use Rattle.std.specs.List.{slice_split, position_or_len}
+use Rattle.std.proofs.lemmas.Bool.{cases_Bool, cond-true, ltb-true, ltb-false}
+use Rattle.std.proofs.lemmas.Option.{none-some, cond_some}
+use Rattle.std.proofs.lemmas.List.Splits.{slice_split_first, slice_split_none}
+use Rattle.std.proofs.lemmas.List.Sums.{fails_before_first}
+
+-- the first piece ends at the first separator
+pub cut_some : (p : ℕ → Bool) (text : List ℕ) (end : ℕ) → position p text ≡ Some end
+    → slice_split p text ≡ take end text ∷ slice_split p (drop (end + 1) text)
+cut_some p text end found =
+    let at = position_or_len p text in
+    let parts = cond_some (nat_lt at (length text)) at end found in
+    slice_split_first p text 0 (ltb-true at (length text) parts.0)
+    ∙ ap (λ k. take k text ∷ slice_split p (drop (k + 1) text)) parts.1
+
+-- a text without the separator is its only piece
+pub cut_none : (p : ℕ → Bool) (text : List ℕ) → position p text ≡ None
+    → slice_split p text ≡ text ∷ []
+cut_none p text found =
+    let at = position_or_len p text in
+    elim (cases_Bool (nat_lt at (length text))) [
+      | inl inside ↦ absurd (none-some at (sym found ∙ cond-true _ (Some at) None inside))
+      | inr past ↦
+          let far = ltb-false at (length text) past in
+          slice_split_none p text (λ k d below. fails_before_first p text k d (omega arith))
+    ]

@@ -1,0 +1,12 @@
+use Rattle.std.proofs.Common.{sym, ◌∙◌, ◌+◌}
+use Rattle.std.proofs.lemmas.List.{take_rest}
+use Rattle.text_spec.proofs.PiecesLemmas.{cut_none, cut_some}
+use Rattle.text_spec.proofs.pieces.cut.Goals as goal
+
+pub returns-in-None : goal.returns-in-None
+returns-in-None c = cut_none _ c.args.text.now (sym c.place_of.ensures ∙ c.in-None.is)
+
+pub returns-in-Some : goal.returns-in-Some
+returns-in-Some c =
+    let found = cut_some _ c.args.text.now c.in-Some.i (sym c.place_of.ensures ∙ c.in-Some.is) in
+    rw (take_rest c.args.text.now (c.in-Some.i + 1)) found

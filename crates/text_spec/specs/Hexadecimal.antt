@@ -1,0 +1,24 @@
+-- Bytes of a text, in lower-case hexadecimal: two digits each. The text of bytes is `encode_lower` of
+-- the crate hex.
+-- Source: the text formats of this project.
+use Rattle.std.specs.Prelude.{ℕ, ◌||◌, nat_le, Bool, List, length, Option, Some, None, option_and_then, if◌then◌else◌}
+use Rattle.std.specs.Int.{is_in_range}
+use Rattle.std.specs.List.{list_all}
+use Rattle.std.specs.Result.{result_ok}
+use Rattle.hex.specs.Hex.{decode_of}
+
+-- whether this character is a digit of lower-case hexadecimal: `0` to `9` or `a` to `f`
+abbrev pub is_lower_digit : ℕ → Bool
+is_lower_digit c = is_in_range 48 57 c || is_in_range 97 102 c
+
+-- the bytes that a word writes in lower-case hexadecimal
+abbrev pub hex_in : List ℕ → Option (List ℕ)
+hex_in word = if list_all is_lower_digit word then result_ok (decode_of word) else None
+
+-- these bytes, where they fit the room
+abbrev pub fitting : ℕ → List ℕ → Option (List ℕ)
+fitting room bytes = if nat_le (length bytes) room then Some bytes else None
+
+-- the bytes that a word writes in lower-case hexadecimal, where they fit the room
+abbrev pub hex_upto : ℕ → List ℕ → Option (List ℕ)
+hex_upto room word = option_and_then (fitting room) (hex_in word)

@@ -1,0 +1,23 @@
+-- The optional timestamp of a text: `-`, or 16 lower-case hexadecimal digits, the high ones first.
+-- Source: the text formats of this project.
+use Rattle.std.specs.Prelude.{ℕ, ◌==◌, List, length, bytes_eq, Option, Some, None, option_and_then, if◌then◌else◌}
+use Rattle.std.specs.Int.{w64, to_be_bytes, from_be_bytes}
+use Rattle.hex.specs.Hex.{encode_lower}
+use Rattle.ids_types.specs.declared.names.Stamp.{Stamp}
+use Rattle.text_spec.specs.Hexadecimal.{hex_in}
+use Rattle.text_spec.specs.Words.{absent}
+
+-- the text of an optional timestamp
+abbrev pub stamp_text : Option Stamp → List ℕ
+stamp_text None = absent
+stamp_text (Some stamp) = encode_lower (to_be_bytes w64 stamp.0)
+
+-- the timestamp of eight bytes, the high ones first
+abbrev pub stamp_of_bytes : List ℕ → Option (Option Stamp)
+stamp_of_bytes bytes =
+    if length bytes == 8 then Some (Some (record { 0 = from_be_bytes w64 bytes })) else None
+
+-- the optional timestamp that a word writes
+abbrev pub stamp_in : List ℕ → Option (Option Stamp)
+stamp_in word =
+    if bytes_eq word absent then Some None else option_and_then stamp_of_bytes (hex_in word)

@@ -1,0 +1,68 @@
+ghost use Rattle.std.specs.Prelude.{◌≡◌, ℕ, ◌<◌, List, length, take, drop, option_map, IfSome, IfNone, IsTrue, ◌++◌, ◌*◌, OnOk, OnErr, ◌+◌, vec_len, vec_capacity};
+ghost use Rattle.std.specs.List.{list_all};
+ghost use Rattle.hex.specs.Hex.{IsBytes, encode_lower};
+ghost use Rattle.text_spec.specs.Hexadecimal.{hex_in, hex_upto, is_lower_digit as writes_digit};
+
+use ids_types::NoMemory;
+
+/// Decodes a word of lower-case hexadecimal into the front of `room`, and returns how many bytes.
+///
+/// `None` where the word is no such text, or its bytes do not fit the room. An empty word has no
+/// bytes.
+pub fn hex_into(word: &[u8], room: &mut [u8]) -> Option<usize>
+    ensures count { result ≡ option_map length (hex_upto (length room.old) word.now) }
+    ensures bytes { IfSome result (λ n. hex_in word.now ≡ Some (take n room.new)) }
+    ensures rest { IfSome result (λ n. drop n room.new ≡ drop n room.old) }
+    ensures none { IfNone result (room.new ≡ room.old) }
+{
+    if !are_lower_digits(word) {
+        return None;
+    }
+    let count = word.len() / 2;
+    if room.len() < count {
+        return None;
+    }
+    hex::decode_to_slice(word, &mut room[..count]).ok()?;
+    Some(count)
+}
+
+/// Appends the text of the bytes.
+pub fn push_hex(out: &mut Vec<u8>, bytes: &[u8]) -> Result<(), NoMemory>
+    ensures ok { OnOk result (out.new.items ≡ out.old.items ++ encode_lower bytes.now) }
+    ensures err { OnErr result (out.new.items ≡ out.old.items) }
+    ensures full { let text = encode_lower bytes.now in
+        OnErr result (vec_capacity out.old < vec_len out.old + length text) }
+{
+    let digits = 2 * bytes.len();
+    out.reserve(digits)?;
+    let start = out.len();
+    out.resize(start + digits, 0)?;
+    write_hex(&mut out[start..], bytes);
+    Ok(())
+}
+
+/// Writes the text of the bytes over the room, which is as long.
+fn write_hex(room: &mut [u8], bytes: &[u8])
+    requires { length room.old ≡ 2 * length bytes.now }
+    ensures { room.new ≡ encode_lower bytes.now }
+{
+    hex::encode_to_slice(bytes, room).unwrap();
+}
+
+fn are_lower_digits(word: &[u8]) -> bool
+    ensures { result ≡ list_all writes_digit word.now }
+{
+    word.iter().all(is_lower_digit)
+}
+
+fn is_lower_digit(byte: &u8) -> bool
+    ensures { result ≡ writes_digit byte.now }
+{
+    matches!(byte, b'0'..=b'9' | b'a'..=b'f')
+}
+
+/// Bytes have one text, which is read as them.
+pub fn one_text_for_bytes()
+    ensures read { (bytes : List ℕ) → IsBytes bytes → hex_in (encode_lower bytes) ≡ Some bytes }
+    ensures only { (word bytes : List ℕ) → hex_in word ≡ Some bytes → encode_lower bytes ≡ word }
+{}

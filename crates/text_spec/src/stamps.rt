@@ -1,0 +1,43 @@
+ghost use Rattle.std.specs.Prelude.{◌≡◌, ℕ, ◌<◌, ◌^◌, List, Option, ◌++◌, OnOk, OnErr, ◌+◌, length, vec_len, vec_capacity};
+ghost use Rattle.text_spec.specs.Stamps.{stamp_in, stamp_text};
+ghost use Rattle.ids_types.specs.declared.names.Stamp.{Stamp};
+
+use crate::hexadecimal::{hex_into, push_hex};
+use ids_types::{NoMemory, Stamp};
+
+/// The optional timestamp that the word writes, `None` where it is no text of one.
+pub fn stamp(word: &[u8]) -> Option<Option<Stamp>>
+    ensures { result ≡ stamp_in word.now }
+{
+    if let [b'-'] = word {
+        return Some(None);
+    }
+    let mut bytes = [0; 8];
+    match hex_into(word, &mut bytes)? {
+        8 => Some(Some(Stamp(u64::from_be_bytes(bytes)))),
+        _ => None,
+    }
+}
+
+/// Appends the text of the optional timestamp.
+pub fn push_stamp(out: &mut Vec<u8>, stamp: Option<Stamp>) -> Result<(), NoMemory>
+    ensures ok { OnOk result (out.new.items ≡ out.old.items ++ stamp_text stamp) }
+    ensures err { OnErr result (out.new.items ≡ out.old.items) }
+    ensures full { let text = stamp_text stamp in
+        OnErr result (vec_capacity out.old < vec_len out.old + length text) }
+{
+    match stamp {
+        None => Ok(out.push(b'-')?),
+        Some(stamp) => push_hex(out, &stamp.0.to_be_bytes()),
+    }
+}
+
+/// An optional timestamp has one text, which is read as it.
+pub fn one_text_for_a_stamp()
+    ensures absent { stamp_in (stamp_text None) ≡ Some None }
+    ensures read { (n : ℕ) → n < 2 ^ 64 →
+        let stamp : Option Stamp = Some (record { 0 = n }) in
+        stamp_in (stamp_text stamp) ≡ Some stamp }
+    ensures only { (word : List ℕ) (stamp : Option Stamp) → stamp_in word ≡ Some stamp →
+        stamp_text stamp ≡ word }
+{}

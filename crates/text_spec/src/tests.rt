@@ -1,0 +1,109 @@
+use crate::{
+    Pieces, hex_into, lines, number, number_upto, push_hex, push_number, push_stamp, stamp,
+};
+use ids_types::Stamp;
+use std::test::Fail;
+
+#[test]
+fn reads_numbers(rt: HostRuntime) {
+    let rows: [(&[u8], Option<u64>); 10] = [
+        (b"0", Some(0)),
+        (b"907", Some(907)),
+        (b"18446744073709551615", Some(u64::MAX)),
+        (b"18446744073709551616", Some(u64::MAX)),
+        (b"100000000000000000000000000000", Some(u64::MAX)),
+        (b"07", None),
+        (b"-0", None),
+        (b"+1", None),
+        (b"", None),
+        (b"1a", None),
+    ];
+    for (word, want) in rows {
+        assert_eq!(rt; number(word), want);
+    }
+    assert_eq!(rt; number_upto(b"255", 255), Some(255));
+    assert_eq!(rt; number_upto(b"256", 255), None);
+}
+
+#[test]
+fn splits_lines_and_words(rt: HostRuntime) -> Result<(), Fail> {
+    let alloc = rt.alloc();
+    let rows: [(&[u8], Option<usize>); 5] = [
+        (b"", Some(0)),
+        (b"\n", Some(1)),
+        (b"T 5 0\nL 1 2\n", Some(2)),
+        (b"T 5 0\nL 1 2", None),
+        (b"T", None),
+    ];
+    for (text, want) in rows {
+        assert_eq!(rt; lines(alloc, text)?.map(|lines| lines.len()), want);
+    }
+    let rows: [(&[u8], usize); 4] = [(b"", 1), (b"T 5 0", 3), (b"T  5", 3), (b" T ", 3)];
+    for (line, want) in rows {
+        assert_eq!(rt; count(Pieces::of(line, b' ')), want);
+    }
+    Ok(())
+}
+
+#[test]
+fn decodes_hexadecimal(rt: HostRuntime) {
+    let rows: [(&[u8], Option<&[u8]>); 7] = [
+        (b"", Some(b"")),
+        (b"a1", Some(&[0xa1])),
+        (b"00ff", Some(&[0x00, 0xff])),
+        (b"A1", None),
+        (b"a", None),
+        (b"0g", None),
+        (b"010203", None),
+    ];
+    for (word, want) in rows {
+        let mut room = [7; 2];
+        let count = hex_into(word, &mut room);
+        assert_eq!(rt; count.map(|count| &room[..count]), want);
+    }
+}
+
+#[test]
+fn reads_timestamps(rt: HostRuntime) {
+    let rows: [(&[u8], Option<Option<Stamp>>); 6] = [
+        (b"-", Some(None)),
+        (
+            b"0123456789abcdef",
+            Some(Some(Stamp(0x0123_4567_89ab_cdef))),
+        ),
+        (b"123456789abcdef", None),
+        (b"00123456789abcdef", None),
+        (b"0123456789ABCDEF", None),
+        (b"", None),
+    ];
+    for (word, want) in rows {
+        assert_eq!(rt; stamp(word), want);
+    }
+}
+
+#[test]
+fn prints_fields(rt: HostRuntime) -> Result<(), Fail> {
+    let mut line = Vec::new(rt.alloc());
+    push_number(&mut line, 907)?;
+    line.push(b' ')?;
+    push_hex(&mut line, &[0x0a, 0xf1])?;
+    line.push(b' ')?;
+    push_stamp(&mut line, None)?;
+    line.push(b' ')?;
+    push_stamp(&mut line, Some(Stamp(1)))?;
+    assert_eq!(rt; line.as_slice(), b"907 0af1 - 0000000000000001".as_slice());
+    Ok(())
+}
+
+fn count(pieces: Pieces<'_>) -> usize {
+    let mut count = 0usize;
+    let mut rest = pieces;
+    for _ in 0..9 {
+        let Some((_, next)) = rest.first() else {
+            return count;
+        };
+        rest = next;
+        count = count.saturating_add(1);
+    }
+    count
+}
