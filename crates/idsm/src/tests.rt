@@ -1,0 +1,270 @@
+use ids_outside::{MemoryShelf, MemorySink};
+use idsm_run::{
+    BAD_CONFIG, BAD_JOURNAL, BAD_WORDS, CANNOT_READ, CANNOT_WRITE, DONE, TOO_LONG, run_plain,
+};
+use std::alloc::{AllocError, Global};
+use std::test::Fail;
+
+/// One event, with id 42 and sensor 3, of instance 18.
+const CONFIG: &str = "{\"form\":1,\"instance\":18,\"events\":[{\"id\":42,\"sensor\":3}]}";
+
+/// One report with two bytes of context.
+const ONE_REPORT: &str = "T 5 0 0 0\nR 0 0 0 1 - 0:0:a1b2\n";
+
+/// A turn for each of three reports.
+const THREE_TURNS: &str =
+    "T 1 0 0 0\nR 0 0 0 1 - -\nT 2 0 0 0\nR 0 1 0 1 - -\nT 3 0 0 0\nR 0 2 0 1 - -\n";
+
+/// The message of the report with context, by the layout of the fields.
+const MESSAGE: [u8; 11] = [
+    0x11, 0x04, 0x83, 0x00, 0x2a, 0x00, 0x01, 0x00, 0x02, 0xa1, 0xb2,
+];
+
+/// The message of a report without context, three times.
+const THREE_MESSAGES: [u8; 24] = [
+    0x10, 0x04, 0x83, 0x00, 0x2a, 0x00, 0x01, 0x00, 0x10, 0x04, 0x83, 0x00, 0x2a, 0x00, 0x01, 0x00,
+    0x10, 0x04, 0x83, 0x00, 0x2a, 0x00, 0x01, 0x00,
+];
+
+/// How a run ended: its status, and what it left.
+#[derive(Drop)]
+struct Ended {
+    status: u8,
+    shelf: MemoryShelf,
+    out: MemorySink,
+}
+
+/// Runs the words over the files `c` and `j`; the calls of these numbers fail.
+fn run(
+    alloc: Global,
+    words: &[&str],
+    config: &[u8],
+    journal: &[u8],
+    shelf_fails: &[u64],
+    put_fails: &[u64],
+) -> Result<Ended, Fail> {
+    let files = vec![in alloc;
+        (String::from_str(alloc, "c")?, config.to_vec(alloc)?),
+        (String::from_str(alloc, "j")?, journal.to_vec(alloc)?),
+    ]?;
+    let mut shelf = MemoryShelf::make(alloc, files, shelf_fails.to_vec(alloc)?)?;
+    let mut out = MemorySink::make(alloc, put_fails.to_vec(alloc)?)?;
+    let words = strings(alloc, words)?;
+    let status = run_plain(alloc, &words, &mut shelf, &mut out);
+    Ok(Ended { status, shelf, out })
+}
+
+fn strings(alloc: Global, words: &[&str]) -> Result<Vec<String>, AllocError> {
+    let mut strings = Vec::new(alloc);
+    for word in words {
+        strings.push(String::from_str(alloc, word)?)?;
+    }
+    Ok(strings)
+}
+
+/// The words that fold `c` and `j`.
+const FOLD: [&str; 5] = ["fold", "c", "j", "m", "r"];
+
+#[test]
+fn folds_the_first_message(rt: HostRuntime) -> Result<(), Fail> {
+    let journal = ONE_REPORT.as_bytes();
+    let ended = run(rt.alloc(), &FOLD, CONFIG.as_bytes(), journal, &[], &[])?;
+    assert_eq!(rt; ended.status, DONE);
+    assert_eq!(rt; ended.shelf.contents("m"), Some(MESSAGE.as_slice()));
+    assert_eq!(rt; ended.shelf.contents("r"), Some([].as_slice()));
+    let text = b"turns 1 entries 1 messages 1 records 0\n".as_slice();
+    assert_eq!(rt; ended.out.taken(), text);
+    Ok(())
+}
+
+#[test]
+fn an_empty_journal_sends_nothing(rt: HostRuntime) -> Result<(), Fail> {
+    let ended = run(rt.alloc(), &FOLD, CONFIG.as_bytes(), b"", &[], &[])?;
+    assert_eq!(rt; ended.status, DONE);
+    assert_eq!(rt; ended.shelf.contents("m"), Some([].as_slice()));
+    assert_eq!(rt; ended.shelf.contents("r"), Some([].as_slice()));
+    let text = b"turns 0 entries 0 messages 0 records 0\n".as_slice();
+    assert_eq!(rt; ended.out.taken(), text);
+    Ok(())
+}
+
+#[test]
+fn tells_the_usage(rt: HostRuntime) -> Result<(), Fail> {
+    let usage = b"usage: idsm fold CONFIG JOURNAL MESSAGES MEMORY\n".as_slice();
+    let rows: [&[&str]; 7] = [
+        &[],
+        &["fold"],
+        &["fold", "a", "b", "c", "c"],
+        &["fold", "a", "b", "", "c"],
+        &["fold", "a", "b", "c", "d", "e"],
+        &["Fold", "a", "b", "c", "d"],
+        &["--help"],
+    ];
+    for words in rows {
+        let ended = run(rt.alloc(), words, CONFIG.as_bytes(), b"", &[], &[])?;
+        assert_eq!(rt; ended.status, BAD_WORDS);
+        assert_eq!(rt; ended.out.taken(), usage);
+        assert_eq!(rt; ended.shelf.contents("c"), Some(CONFIG.as_bytes()));
+    }
+    Ok(())
+}
+
+#[test]
+fn refuses_inputs_in_their_order(rt: HostRuntime) -> Result<(), Fail> {
+    let good = CONFIG.as_bytes();
+    let bad = b"{\"form\":2}".as_slice();
+    let rows: [(&[&str], &[u8], &[u8], u8, &[u8]); 6] = [
+        (
+            &["fold", "x", "j", "m", "r"],
+            good,
+            b"",
+            CANNOT_READ,
+            b"cannot read x\n",
+        ),
+        (
+            &["fold", "c", "x", "m", "r"],
+            good,
+            b"",
+            CANNOT_READ,
+            b"cannot read x\n",
+        ),
+        (
+            &["fold", "c", "x", "m", "r"],
+            bad,
+            b"",
+            BAD_CONFIG,
+            b"bad config\n",
+        ),
+        (&FOLD, bad, b"?", BAD_CONFIG, b"bad config\n"),
+        (&FOLD, good, b"?", BAD_JOURNAL, b"bad journal\n"),
+        (&FOLD, good, b"T 5 0 0 0", BAD_JOURNAL, b"bad journal\n"),
+    ];
+    for (words, config, journal, status, text) in rows {
+        let ended = run(rt.alloc(), words, config, journal, &[], &[])?;
+        assert_eq!(rt; ended.status, status);
+        assert_eq!(rt; ended.out.taken(), text);
+        assert_eq!(rt; ended.shelf.contents("m"), None);
+    }
+    Ok(())
+}
+
+#[test]
+fn a_long_configuration_is_refused(rt: HostRuntime) -> Result<(), Fail> {
+    let alloc = rt.alloc();
+    for (len, status) in [(1_048_577, TOO_LONG), (1_048_576, BAD_CONFIG)] {
+        let config = vec![in alloc; b' '; len]?;
+        let ended = run(alloc, &FOLD, &config, b"", &[], &[])?;
+        assert_eq!(rt; ended.status, status);
+    }
+    Ok(())
+}
+
+#[test]
+fn reads_no_journal_but_that_of_a_history(rt: HostRuntime) -> Result<(), Fail> {
+    let rows: [(&str, u8); 24] = [
+        ("T 4611686018427387904 35184372088832 0 0\n", DONE),
+        ("T 4611686018427387905 0 0 0\n", BAD_JOURNAL),
+        ("T 0 35184372088833 0 0\n", BAD_JOURNAL),
+        ("T 0 0 0 1\n", BAD_JOURNAL),
+        ("T 05 0 0 0\n", BAD_JOURNAL),
+        ("T  5 0 0 0\n", BAD_JOURNAL),
+        ("T 5 0 0 0 \n", BAD_JOURNAL),
+        ("T 5 0 0 0\r\n", BAD_JOURNAL),
+        ("\n", BAD_JOURNAL),
+        ("T 5 0 0 0\nT 4 0 0 0\n", BAD_JOURNAL),
+        ("T 5 0 0 0\nT 5 0 0 0\n", DONE),
+        ("R 0 0 0 1 - -\n", BAD_JOURNAL),
+        (
+            "T 5 0 0 0\nR 31 1099511627775 0 65535 - 3:70368744177664:ff\n",
+            DONE,
+        ),
+        ("T 5 0 0 0\nR 32 0 0 1 - -\n", BAD_JOURNAL),
+        ("T 5 0 0 0\nR 0 1099511627776 0 1 - -\n", BAD_JOURNAL),
+        ("T 5 0 0 0\nR 0 0 1 1 - -\n", BAD_JOURNAL),
+        ("T 5 0 0 0\nR 0 0 0 0 - -\n", BAD_JOURNAL),
+        ("T 5 0 0 0\nR 0 0 0 1 - 4:0:ff\n", BAD_JOURNAL),
+        ("T 5 0 0 0\nR 0 0 0 1 - 0:0:FF\n", BAD_JOURNAL),
+        ("T 5 0 0 0\nR 0 0 0 1 - 0:0:f\n", BAD_JOURNAL),
+        ("T 5 0 0 0\nR 0 0 0 1 - 0:0:\n", BAD_JOURNAL),
+        ("T 5 0 0 0\nR 0 1 0 1 - -\nR 0 1 0 1 - -\n", BAD_JOURNAL),
+        (
+            "T 5 0 0 0\nR 0 1 0 1 - -\nR 1 0 0 1 - -\nR 0 2 0 1 - -\n",
+            DONE,
+        ),
+        (
+            "T 5 0 0 0\nR 0 1 0 1 - -\nT 6 0 0 0\nR 0 0 0 1 - -\n",
+            BAD_JOURNAL,
+        ),
+    ];
+    for (journal, status) in rows {
+        let config = CONFIG.as_bytes();
+        let ended = run(rt.alloc(), &FOLD, config, journal.as_bytes(), &[], &[])?;
+        assert_eq!(rt; ended.status, status, "{journal}");
+    }
+    Ok(())
+}
+
+/// What a run leaves whose calls of these numbers fail: the messages of three turns and the memory.
+#[derive(Drop)]
+struct Rest {
+    shelf_fails: &'static [u64],
+    put_fails: &'static [u64],
+    status: u8,
+    messages: Option<usize>,
+    memory: Option<usize>,
+}
+
+#[test]
+fn each_failing_call_leaves_a_first_part(rt: HostRuntime) -> Result<(), Fail> {
+    // The calls of the shelf: two reads, the messages' creation, three appends, the memory's creation.
+    let rows = [
+        leaves(&[0], &[], CANNOT_READ, None, None),
+        leaves(&[1], &[], CANNOT_READ, None, None),
+        leaves(&[2], &[], CANNOT_WRITE, None, None),
+        leaves(&[3], &[], CANNOT_WRITE, Some(0), None),
+        leaves(&[4], &[], CANNOT_WRITE, Some(8), None),
+        leaves(&[5], &[], CANNOT_WRITE, Some(16), None),
+        leaves(&[6], &[], CANNOT_WRITE, Some(24), None),
+        leaves(&[7], &[0], CANNOT_WRITE, Some(24), Some(0)),
+        leaves(&[7], &[1], DONE, Some(24), Some(0)),
+    ];
+    for row in rows {
+        let config = CONFIG.as_bytes();
+        let journal = THREE_TURNS.as_bytes();
+        let ended = run(
+            rt.alloc(),
+            &FOLD,
+            config,
+            journal,
+            row.shelf_fails,
+            row.put_fails,
+        )?;
+        assert_eq!(rt; ended.status, row.status);
+        let messages = ended.shelf.contents("m");
+        assert_eq!(rt; messages.map(|bytes| bytes.len()), row.messages);
+        if let Some(bytes) = messages {
+            assert!(rt; THREE_MESSAGES.starts_with(bytes));
+        }
+        assert_eq!(rt;
+            ended.shelf.contents("r").map(|bytes| bytes.len()),
+            row.memory
+        );
+    }
+    Ok(())
+}
+
+fn leaves(
+    shelf_fails: &'static [u64],
+    put_fails: &'static [u64],
+    status: u8,
+    messages: Option<usize>,
+    memory: Option<usize>,
+) -> Rest {
+    Rest {
+        shelf_fails,
+        put_fails,
+        status,
+        messages,
+        memory,
+    }
+}

@@ -1,0 +1,14 @@
+pub mod CommandLemmas
+pub mod ConfigLemmas
+pub mod FitsLemmas
+pub mod FormLaws
+pub mod FreeLemmas
+pub mod InputsLemmas
+pub mod JournalLaws
+pub mod OrderLemmas
+pub mod ReadingLemmas
+pub mod RunCauses
+pub mod RunObliges
+pub mod SendingLemmas
+pub mod TurnsLemmas
+pub mod WritingLemmas

@@ -1,0 +1,178 @@
+-- Why a run ended as it did, from how its command ended.
+use Rattle.std.proofs.Common.{◌≡◌, ◌≢◌, ◌⊎◌, ℕ, List, arith, inl, inr, refl, sym, ◌∙◌, Option, Some, None}
+use Rattle.std.specs.Prelude.{codes}
+use Rattle.std.proofs.lemmas.Grind.{common_steps}
+use Rattle.std.proofs.lemmas.List.{append-nil}
+use Rattle.idsm_run.specs.declared.status.TheConstants.{DONE, BAD_WORDS, CANNOT_WRITE}
+use Rattle.idsm_run.specs.declared.stop.Stop.{Stop}
+use Rattle.idsm_run.specs.declared.stop.Stop.TheVariants.{CannotRead, TooLong, BadConfig, BadJournal, CannotWrite, NoMemory}
+use Rattle.idsm_run.specs.Command.{FoldFiles, Command, command_of, fold}
+use Rattle.idsm_run.specs.Fold.{FoldStops}
+use Rattle.idsm_run.specs.Run.{Shelved, Ran, FoldDone, Misused, OfCommand, HasText, FailedPut, FailedOutput, Adds, Causes}
+use Rattle.idsm_run.specs.Saying.{Heard, Says, StopSays, TellsStop, usage}
+
+module _ (words : List (List ℕ)) (status : ℕ) (old new : Shelved) (before after : Heard) where
+  -- a put that failed is the only cause of its status where another status was wanted
+  put_failed : (text : List ℕ) (wanted : ℕ) → Says text wanted status before after → wanted ≢ CANNOT_WRITE
+      → ((command_of words ≡ None) × (text ≡ usage)) ⊎ OfCommand words (λ c. HasText c old new text)
+      → status ≡ CANNOT_WRITE → FailedPut words old new before after
+  put_failed text wanted (inl said) other of_run is = absurd (other (sym said.status_is ∙ is))
+  put_failed text wanted (inr (inl failed)) other of_run is =
+      record { text = text; of_run = of_run; taken = failed.taken; faults = failed.faults }
+  put_failed text wanted (inr (inr none)) other of_run is = absurd (omega (arith, none.status_is, is))
+
+  -- the cause is that the words are no command, or that the usage was not put
+  misuse_has_cause : command_of words ≡ None → Misused status old new before after
+      → Causes words status old new before after
+  misuse_has_cause is misused = record {
+    misused = grind (arith, common_steps);
+    read = grind arith;
+    long = grind arith;
+    config = grind arith;
+    journal = grind arith;
+    write = λ status_is. inr (put_failed usage BAD_WORDS misused.says (λ e. omega arith) (inl (is, refl)) status_is);
+    memory = grind (arith, common_steps, append-nil);
+    known = grind arith;
+    no_fault = grind arith;
+    all_put = grind arith;
+  }
+
+  -- a `fold` that was done has a cause only where its line was not put
+  done_has_cause : (names : FoldFiles) → command_of words ≡ Some (fold names)
+      → FoldDone names status old new before after → Causes words status old new before after
+  done_has_cause names is done = record {
+    misused = grind arith;
+    read = grind arith;
+    long = grind arith;
+    config = grind arith;
+    journal = grind arith;
+    write = λ status_is. inr (put_failed done.said DONE done.says (λ e. omega arith)
+        (inr (fold names, is, inl done.folded)) status_is);
+    memory = grind (arith, common_steps, append-nil);
+    known = grind arith;
+    no_fault = grind arith;
+    all_put = grind arith;
+  }
+
+  -- the text of a stop is the run's
+  stop_text : (names : FoldFiles) (reason : Stop) (text : List ℕ) (wanted : ℕ)
+      → command_of words ≡ Some (fold names)
+      → FoldStops old.tells old.files old.faults new.faults names reason → StopSays reason text wanted
+      → OfCommand words (λ c. HasText c old new text)
+  stop_text names reason text wanted is stops says =
+      (fold names, is, inr (reason, wanted, stops, says))
+
+  -- a fault of writing, and how its text was put
+  write_not_said : (names : FoldFiles) → command_of words ≡ Some (fold names)
+      → FoldStops old.tells old.files old.faults new.faults names CannotWrite
+      → TellsStop CannotWrite status before after → status ≡ CANNOT_WRITE
+      → (OfCommand words (λ c. FailedOutput c old.faults new.faults)
+      × Adds (codes "cannot write\n") before after) ⊎ FailedPut words old new before after
+  write_not_said names is stops tells status_is = elim tells.says [
+    | inl said ↦ inl ((fold names, is, stops), grind (arith, common_steps))
+    | inr (inl failed) ↦ inr (record {
+      text = tells.text;
+      of_run = inr (stop_text names CannotWrite tells.text tells.wanted is stops tells.names);
+      taken = failed.taken;
+      faults = failed.faults;
+    })
+    | inr (inr none) ↦ absurd (omega (arith, none.status_is, status_is))
+  ]
+
+  -- a `fold` that stopped has the cause of its stop, or that of a text that was not put
+  stop_has_cause : (names : FoldFiles) (reason : Stop) → command_of words ≡ Some (fold names)
+      → FoldStops old.tells old.files old.faults new.faults names reason
+      → TellsStop reason status before after
+      → Causes words status old new before after
+  stop_has_cause names (CannotRead name) is stops tells = record {
+    misused = grind arith;
+    read = λ status_is. (name.now, (fold names, is, stops), grind (arith, common_steps));
+    long = grind arith;
+    config = grind arith;
+    journal = grind arith;
+    write = λ status_is. inr (put_failed tells.text tells.wanted tells.says (grind arith)
+        (inr (stop_text names (CannotRead name) tells.text tells.wanted is stops tells.names)) status_is);
+    memory = grind (arith, common_steps, append-nil);
+    known = grind arith;
+    no_fault = grind arith;
+    all_put = grind arith;
+  }
+  stop_has_cause names (TooLong name) is stops tells = record {
+    misused = grind arith;
+    read = grind arith;
+    long = λ status_is. (name.now, (fold names, is, stops.1), grind (arith, common_steps));
+    config = grind arith;
+    journal = grind arith;
+    write = λ status_is. inr (put_failed tells.text tells.wanted tells.says (grind arith)
+        (inr (stop_text names (TooLong name) tells.text tells.wanted is stops tells.names)) status_is);
+    memory = grind (arith, common_steps, append-nil);
+    known = grind arith;
+    no_fault = grind arith;
+    all_put = grind arith;
+  }
+  stop_has_cause names BadConfig is stops tells = record {
+    misused = grind arith;
+    read = grind arith;
+    long = grind arith;
+    config = λ status_is. ((fold names, is, stops.1), grind (arith, common_steps));
+    journal = grind arith;
+    write = λ status_is. inr (put_failed tells.text tells.wanted tells.says (grind arith)
+        (inr (stop_text names BadConfig tells.text tells.wanted is stops tells.names)) status_is);
+    memory = grind (arith, common_steps, append-nil);
+    known = grind arith;
+    no_fault = grind arith;
+    all_put = grind arith;
+  }
+  stop_has_cause names BadJournal is stops tells = record {
+    misused = grind arith;
+    read = grind arith;
+    long = grind arith;
+    config = grind arith;
+    journal = λ status_is. ((fold names, is, stops.1), grind (arith, common_steps));
+    write = λ status_is. inr (put_failed tells.text tells.wanted tells.says (grind arith)
+        (inr (stop_text names BadJournal tells.text tells.wanted is stops tells.names)) status_is);
+    memory = grind (arith, common_steps, append-nil);
+    known = grind arith;
+    no_fault = grind arith;
+    all_put = grind arith;
+  }
+  stop_has_cause names CannotWrite is stops tells = record {
+    misused = grind arith;
+    read = grind arith;
+    long = grind arith;
+    config = grind arith;
+    journal = grind arith;
+    write = λ status_is. write_not_said names is stops tells status_is;
+    memory = grind (arith, common_steps, append-nil);
+    known = grind arith;
+    no_fault = grind arith;
+    all_put = grind arith;
+  }
+  stop_has_cause names NoMemory is stops tells = record {
+    misused = grind arith;
+    read = grind arith;
+    long = grind arith;
+    config = grind arith;
+    journal = grind arith;
+    write = λ status_is. inr (put_failed tells.text tells.wanted tells.says (grind arith)
+        (inr (stop_text names NoMemory tells.text tells.wanted is stops tells.names)) status_is);
+    memory = grind (arith, common_steps, append-nil);
+    known = grind arith;
+    no_fault = grind arith;
+    all_put = grind arith;
+  }
+
+  -- by cases on what command the words give
+  ran_has_cause : (option : Option Command) → command_of words ≡ option
+      → Ran option status old new before after → Causes words status old new before after
+  ran_has_cause None is misused = misuse_has_cause is misused
+  ran_has_cause (Some (fold names)) is (inl done) = done_has_cause names is done
+  ran_has_cause (Some (fold names)) is (inr stopped) =
+      stop_has_cause names stopped.reason is stopped.stops stopped.tells
+
+-- each status of a run comes with its cause
+pub run_causes : (words : List (List ℕ)) (status : ℕ) (old new : Shelved) (before after : Heard)
+    → Ran (command_of words) status old new before after
+    → Causes words status old new before after
+run_causes words status old new before after ran =
+    ran_has_cause words status old new before after (command_of words) refl ran

@@ -1,0 +1,56 @@
+-- The commands of the program, as its words give them.
+-- Source: docs/COMMANDS.md.
+use Rattle.std.specs.Prelude.{◌≡◌, ◌≢◌, ℕ, ◌&&◌, ◌==◌, not, bytes_eq, Bool, true, List, [], ◌∷◌, length, Option, Some, None, codes, if◌then◌else◌}
+use Rattle.std.specs.List.{list_any}
+use Rattle.ids_outside.specs.Files.{Files}
+
+-- the files that `fold` names: two that it reads, and two that it writes
+pub record FoldFiles : Type 0 where
+  pub config : List ℕ
+  pub journal : List ℕ
+  pub messages : List ℕ
+  pub memory : List ℕ
+
+-- what a run is asked to do
+pub data Command : Type 0 where
+  fold : FoldFiles → Command
+
+-- a word that may be a name: it is not empty
+abbrev pub is_name : List ℕ → Bool
+is_name word = not (length word == 0)
+
+-- the words are names of different files
+abbrev pub are_names : List (List ℕ) → Bool
+are_names [] = true
+are_names (name ∷ names) = is_name name && not (list_any (bytes_eq name) names) && are_names names
+
+-- the command of the words behind `fold`
+abbrev pub fold_of : List (List ℕ) → Option Command
+fold_of (config ∷ journal ∷ messages ∷ memory ∷ []) =
+    if are_names (config ∷ journal ∷ messages ∷ memory ∷ []) then
+    Some (fold (record {
+      config = config;
+      journal = journal;
+      messages = messages;
+      memory = memory;
+    }))
+    else None
+fold_of names = None
+
+-- the command of the words behind the program's name, none where they are not in form
+abbrev pub command_of : List (List ℕ) → Option Command
+command_of [] = None
+command_of (word ∷ names) = if bytes_eq word (codes "fold") then fold_of names else None
+
+-- the files that the command writes, in the order in which it writes them
+abbrev pub written_by : Command → List (List ℕ)
+written_by (fold files) = files.messages ∷ files.memory ∷ []
+
+-- the name is none of these
+abbrev pub IsNoneOf : List (List ℕ) → List ℕ → Type 0
+IsNoneOf [] name = Unit {0}
+IsNoneOf (other ∷ names) name = (name ≢ other) × IsNoneOf names name
+
+-- no file has changed but those of these names
+abbrev pub SameBut : List (List ℕ) → Files → Files → Type 0
+SameBut names old new = (name : List ℕ) → IsNoneOf names name → new name ≡ old name

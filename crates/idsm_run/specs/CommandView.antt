@@ -1,0 +1,18 @@
+-- A command as the program holds it, with its names lent from the words.
+use Rattle.idsm_run.specs.declared.command.FoldNames.{FoldNames}
+use Rattle.idsm_run.specs.declared.command.Request.{Request}
+use Rattle.idsm_run.specs.declared.command.Request.TheVariants.{Fold}
+use Rattle.idsm_run.specs.Command.{FoldFiles, Command, fold}
+
+-- the names as bytes
+abbrev pub files_of : FoldNames → FoldFiles
+files_of names = record {
+  config = names.config.now;
+  journal = names.journal.now;
+  messages = names.messages.now;
+  memory = names.memory.now;
+}
+
+-- the command that is asked for
+abbrev pub asked : Request → Command
+asked (Fold names) = fold (files_of names)

@@ -1,0 +1,85 @@
+-- What the input files of `fold` hold, and why they may not serve.
+use Rattle.std.specs.Prelude.{◌≡◌, ◌⊎◌, ℕ, List, length, Bool, IsTrue}
+use Rattle.ids_types.specs.Turns.{Turn}
+use Rattle.ids_outside.specs.Faults.{Faults, CountsFault}
+use Rattle.ids_outside.specs.Files.{Files, Holds, IsTooLong}
+use Rattle.ids_outside.specs.declared.faults.FaultKind.TheVariants.{Read}
+use Rattle.idsm_run.specs.declared.limits.TheConstants.{MAX_CONFIG_BYTES, MAX_JOURNAL_BYTES}
+use Rattle.idsm_run.specs.declared.stop.Stop.{Stop}
+use Rattle.idsm_run.specs.declared.stop.Stop.TheVariants.{CannotRead, TooLong, BadConfig, BadJournal, CannotWrite, NoMemory}
+use Rattle.idsm_run.specs.Config.{Configuration, ConfigOf}
+use Rattle.idsm_run.specs.PlainJournal.{IsJournal}
+use Rattle.idsm_run.specs.Command.{FoldFiles}
+
+-- the file of this name is the text of this configuration
+pub record HasConfig (files : Files) (name : List ℕ) (config : Configuration) : Type 0 where
+  pub bytes : List ℕ
+  pub held : Holds files name MAX_CONFIG_BYTES bytes
+  pub is_config : ConfigOf bytes config
+
+-- the file of this name is the journal of these turns, under this configuration
+pub record HasJournal (files : Files) (name : List ℕ) (config : Configuration) (turns : List Turn)
+    : Type 0 where
+  pub bytes : List ℕ
+  pub held : Holds files name MAX_JOURNAL_BYTES bytes
+  pub is_journal : IsJournal (length config.events) bytes turns
+
+-- the input files of `fold` give this configuration and these turns
+pub record HasInputs (files : Files) (names : FoldFiles) (config : Configuration) (turns : List Turn)
+    : Type 0 where
+  pub config_file : HasConfig files names.config config
+  pub journal_file : HasJournal files names.journal config turns
+
+-- the configuration's file holds bytes that are no configuration
+pub record NoConfig (files : Files) (names : FoldFiles) : Type 0 where
+  pub bytes : List ℕ
+  pub held : Holds files names.config MAX_CONFIG_BYTES bytes
+  pub none : (config : Configuration) → ConfigOf bytes config → ⊥
+
+-- the journal's file holds bytes that are no journal under the configuration
+pub record NoJournal (files : Files) (names : FoldFiles) : Type 0 where
+  pub config : Configuration
+  pub config_file : HasConfig files names.config config
+  pub bytes : List ℕ
+  pub held : Holds files names.journal MAX_JOURNAL_BYTES bytes
+  pub none : (turns : List Turn) → IsJournal (length config.events) bytes turns → ⊥
+
+-- the journal's file is too long, behind a configuration that serves
+pub record LongJournal (files : Files) (names : FoldFiles) : Type 0 where
+  pub config : Configuration
+  pub config_file : HasConfig files names.config config
+  pub long : IsTooLong files names.journal MAX_JOURNAL_BYTES
+
+-- the first file that is too long, where no other refusal comes before it
+abbrev pub IsFirstTooLong : Files → FoldFiles → List ℕ → Type 0
+IsFirstTooLong files names name =
+    ((name ≡ names.config) × IsTooLong files names.config MAX_CONFIG_BYTES)
+    ⊎ ((name ≡ names.journal) × LongJournal files names)
+
+-- a read of an input file failed, and was the last fault
+pub record FailedRead (old new : Faults) (names : FoldFiles) (name : List ℕ) : Type 0 where
+  pub input : (name ≡ names.config) ⊎ (name ≡ names.journal)
+  pub fault : CountsFault old new Read name
+
+-- why no inputs were read; what files hold is said where they are told
+abbrev pub InputStops : Bool → Files → Faults → Faults → FoldFiles → Stop → Type 0
+InputStops tells files old new names (CannotRead name) = FailedRead old new names name.now
+InputStops tells files old new names (TooLong name) =
+    (new ≡ old) × (IsTrue tells → IsFirstTooLong files names name.now)
+InputStops tells files old new names BadConfig =
+    (new ≡ old) × (IsTrue tells → NoConfig files names)
+InputStops tells files old new names BadJournal =
+    (new ≡ old) × (IsTrue tells → NoJournal files names)
+InputStops tells files old new names CannotWrite = ⊥
+InputStops tells files old new names NoMemory = new ≡ old
+
+-- why a file was not read
+abbrev pub ReadStops : Bool → Files → Faults → Faults → List ℕ → ℕ → Stop → Type 0
+ReadStops tells files old new name limit (CannotRead other) =
+    (other.now ≡ name) × CountsFault old new Read name
+ReadStops tells files old new name limit (TooLong other) =
+    (other.now ≡ name) × (new ≡ old) × (IsTrue tells → IsTooLong files name limit)
+ReadStops tells files old new name limit BadConfig = ⊥
+ReadStops tells files old new name limit BadJournal = ⊥
+ReadStops tells files old new name limit CannotWrite = ⊥
+ReadStops tells files old new name limit NoMemory = new ≡ old

@@ -1,0 +1,12 @@
+pub mod Command
+pub mod CommandView
+pub mod Config
+pub mod ConfigView
+pub mod Fold
+pub mod Inputs
+pub mod JournalReading
+pub mod PlainJournal
+pub mod Run
+pub mod Saying
+pub mod Sending
+pub mod Writing

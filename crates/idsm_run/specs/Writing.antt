@@ -1,0 +1,57 @@
+-- Files that a command writes, one after another, and what stands where it had to stop.
+use Rattle.std.specs.Prelude.{◌≡◌, ◌⊎◌, ℕ, ◌≤◌, List, [], ◌∷◌, take, Some}
+use Rattle.ids_outside.specs.Faults.{Faults, CountsFault}
+use Rattle.ids_outside.specs.Files.{Files}
+use Rattle.ids_outside.specs.declared.faults.FaultKind.TheVariants.{Create, Append}
+use Rattle.idsm_run.specs.declared.stop.Stop.{Stop}
+use Rattle.idsm_run.specs.declared.stop.Stop.TheVariants.{CannotRead, TooLong, BadConfig, BadJournal, CannotWrite, NoMemory}
+
+-- a file that is to be written, whole
+pub record Output : Type 0 where
+  pub name : List ℕ
+  pub bytes : List ℕ
+
+-- each file is there, whole
+abbrev pub AreWritten : List Output → Files → Type 0
+AreWritten [] new = Unit {0}
+AreWritten (output ∷ outputs) new = (new output.name ≡ Some output.bytes) × AreWritten outputs new
+
+-- each file is as it was
+abbrev pub AreUntouched : List Output → Files → Files → Type 0
+AreUntouched [] old new = Unit {0}
+AreUntouched (output ∷ outputs) old new =
+    (new output.name ≡ old output.name) × AreUntouched outputs old new
+
+-- the file holds a first part of its bytes, maybe none or all of them
+pub record HoldsPart (new : Files) (output : Output) : Type 0 where
+  pub count : ℕ
+  pub part : new output.name ≡ Some (take count output.bytes)
+
+-- the file is as it was, or holds a first part of its bytes
+abbrev pub StandsInPart : Files → Files → Output → Type 0
+StandsInPart old new output = (new output.name ≡ old output.name) ⊎ HoldsPart new output
+
+-- up to some file all are whole; that file stands in part, and those after it are untouched
+abbrev pub StandUpTo : List Output → Files → Files → Type 0
+StandUpTo [] old new = Unit {0}
+StandUpTo (output ∷ outputs) old new =
+    (StandsInPart old new output × AreUntouched outputs old new)
+    ⊎ ((new output.name ≡ Some output.bytes) × StandUpTo outputs old new)
+
+-- a creation or an append of the file of this name failed, and was the last fault
+abbrev pub FailedWrite : Faults → Faults → List ℕ → Type 0
+FailedWrite old new name = CountsFault old new Create name ⊎ CountsFault old new Append name
+
+-- why a file was not written whole
+abbrev pub WriteStops : Faults → Faults → List ℕ → Stop → Type 0
+WriteStops old new name (CannotRead other) = ⊥
+WriteStops old new name (TooLong other) = ⊥
+WriteStops old new name BadConfig = ⊥
+WriteStops old new name BadJournal = ⊥
+WriteStops old new name CannotWrite = FailedWrite old new name
+WriteStops old new name NoMemory = new ≡ old
+
+-- the places at which so many bytes are cut into pieces: they do not fall, and the last is the end
+abbrev pub Cuts : ℕ → List ℕ → ℕ → Type 0
+Cuts start [] end = start ≡ end
+Cuts start (cut ∷ cuts) end = (start ≤ cut) × (cut ≤ end) × Cuts cut cuts end

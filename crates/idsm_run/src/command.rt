@@ -1,0 +1,75 @@
+//! The words behind the program's name.
+
+ghost use Rattle.std.specs.Prelude.{◌≡◌, ◌&&◌, not, List, map, option_map, string_bytes, bytes_eq, IsTrue};
+ghost use Rattle.std.specs.List.{list_any};
+ghost use Rattle.idsm_run.specs.Command.{command_of, fold_of, is_name, are_names};
+ghost use Rattle.idsm_run.specs.CommandView.{asked};
+
+/// The files of the command `fold`. The names are not empty and differ.
+#[derive(Clone, Copy, Debug)]
+pub(crate) struct FoldNames<'a> {
+    pub(crate) config: &'a str,
+    pub(crate) journal: &'a str,
+    pub(crate) messages: &'a str,
+    pub(crate) memory: &'a str,
+}
+
+/// What a run is asked to do.
+#[derive(Clone, Copy, Debug)]
+pub(crate) enum Request<'a> {
+    Fold(FoldNames<'a>),
+}
+
+/// The command that the words ask for, `None` where they are not in form.
+pub(crate) fn parse(words: &[String]) -> Option<Request<'_>>
+    ensures { option_map asked result ≡ command_of (map string_bytes words.now) }
+{
+    let (word, names) = words.split_first()?;
+    if word.as_str() != "fold" {
+        return None;
+    }
+    parse_fold(names)
+}
+
+fn parse_fold(words: &[String]) -> Option<Request<'_>>
+    ensures { option_map asked result ≡ fold_of (map string_bytes words.now) }
+{
+    let [config, journal, messages, memory] = words else {
+        return None;
+    };
+    if !names_differ(words) {
+        return None;
+    }
+    Some(Request::Fold(FoldNames {
+        config: config.as_str(),
+        journal: journal.as_str(),
+        messages: messages.as_str(),
+        memory: memory.as_str(),
+    }))
+}
+
+/// No word is empty, and no two are the same.
+fn names_differ(words: &[String]) -> bool
+    ensures { result ≡ are_names (map string_bytes words.now) }
+{
+    for (i, word) in words.iter().enumerate() {
+        if !may_precede(word.as_str(), &words[i + 1..]) {
+            return false;
+        }
+    }
+    true
+}
+
+/// The word is not empty, and none of these.
+fn may_precede(word: &str, names: &[String]) -> bool
+    ensures { result ≡ (is_name word.now
+        && not (list_any (λ other. bytes_eq word.now (string_bytes other)) names.now)) }
+{
+    !word.is_empty() && !is_among(word, names)
+}
+
+fn is_among(name: &str, names: &[String]) -> bool
+    ensures { result ≡ list_any (λ other. bytes_eq name.now (string_bytes other)) names.now }
+{
+    names.iter().any(|other| name == other.as_str())
+}

@@ -1,0 +1,74 @@
+//! The input files of the command `fold`.
+
+ghost use Rattle.std.specs.Prelude.{◌≡◌, ◌≤◌, length, IsTrue, IfOk, OnOk, IfErr};
+ghost use Rattle.ids_outside.specs.Files.{SameFiles, Holds};
+ghost use Rattle.idsm_run.specs.PlainJournal.{Fits};
+ghost use Rattle.idsm_run.specs.CommandView.{files_of};
+ghost use Rattle.idsm_run.specs.Inputs.{HasInputs, InputStops, ReadStops};
+
+use crate::command::FoldNames;
+use crate::config::Config;
+use crate::journal;
+use crate::limits::{MAX_CONFIG_BYTES, MAX_JOURNAL_BYTES};
+use crate::stop::Stop;
+use ids_outside::{ReadFault, Shelf};
+use ids_types::History;
+use std::alloc::Global;
+
+/// A configuration, and a history of its events.
+#[derive(Debug, Drop)]
+pub(crate) struct Inputs {
+    pub(crate) config: Config,
+    pub(crate) history: History,
+}
+
+/// Reads the configuration and then the journal; each is judged before the next is read.
+pub(crate) fn read_inputs<'a, H: Shelf>(
+    alloc: Global,
+    names: FoldNames<'a>,
+    shelf: &mut H,
+) -> Result<Inputs, Stop<'a>>
+    ensures tells { H.tells shelf.new ≡ H.tells shelf.old }
+    ensures same { IsTrue (H.tells shelf.old) →
+        SameFiles (H.contents shelf.old) (H.contents shelf.new) }
+    ensures found { IsTrue (H.tells shelf.old) → IfOk result (λ i.
+        HasInputs (H.contents shelf.old) (files_of names.entry) i.config i.history.turns) }
+    ensures fits { IfOk result (λ i. Fits (length i.config.events) i.history.turns) }
+    ensures faults { OnOk result (H.faults shelf.new ≡ H.faults shelf.old) }
+    ensures stop { IfErr result (InputStops (H.tells shelf.old) (H.contents shelf.old)
+        (H.faults shelf.old) (H.faults shelf.new) (files_of names.entry)) }
+{
+    let text = read_file(alloc, names.config, MAX_CONFIG_BYTES, shelf)?;
+    let Some(config) = Config::read(alloc, &text)? else {
+        return Err(Stop::BadConfig);
+    };
+    let text = read_file(alloc, names.journal, MAX_JOURNAL_BYTES, shelf)?;
+    let Some(history) = journal::read(alloc, &text, config.events() as u16)? else {
+        return Err(Stop::BadJournal);
+    };
+    Ok(Inputs { config, history })
+}
+
+/// The bytes of a file, where it has at most so many.
+fn read_file<'a, H: Shelf>(
+    alloc: Global,
+    name: &'a str,
+    limit: u64,
+    shelf: &mut H,
+) -> Result<Vec<u8>, Stop<'a>>
+    ensures tells { H.tells shelf.new ≡ H.tells shelf.old }
+    ensures same { IsTrue (H.tells shelf.old) →
+        SameFiles (H.contents shelf.old) (H.contents shelf.new) }
+    ensures found { IsTrue (H.tells shelf.old) →
+        IfOk result (λ bytes. Holds (H.contents shelf.old) name.now limit bytes.items) }
+    ensures faults { OnOk result (H.faults shelf.new ≡ H.faults shelf.old) }
+    ensures stop { IfErr result (ReadStops (H.tells shelf.old) (H.contents shelf.old)
+        (H.faults shelf.old) (H.faults shelf.new) name.now limit) }
+{
+    match shelf.read(alloc, name, limit) {
+        Ok(bytes) => Ok(bytes),
+        Err(ReadFault::Failed) => Err(Stop::CannotRead(name)),
+        Err(ReadFault::TooLong) => Err(Stop::TooLong(name)),
+        Err(ReadFault::NoMemory) => Err(Stop::NoMemory),
+    }
+}

@@ -1,0 +1,5 @@
+/// The most bytes of a configuration file.
+pub const MAX_CONFIG_BYTES: u64 = 1_048_576;
+
+/// The most bytes of a journal file.
+pub const MAX_JOURNAL_BYTES: u64 = 16_777_216;

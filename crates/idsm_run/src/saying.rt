@@ -1,0 +1,69 @@
+//! The one text that a run puts to its sink.
+
+ghost use Rattle.std.specs.Prelude.{◌≡◌, IfOk, MatchResult, string_bytes, codes};
+ghost use Rattle.idsm_run.specs.Saying.{heard, Says, TellsStop, named_text, no_memory_text};
+
+use crate::status::{BAD_CONFIG, BAD_JOURNAL, CANNOT_READ, CANNOT_WRITE, NO_MEMORY, TOO_LONG};
+use crate::stop::Stop;
+use ids_outside::{Sink, WriteFault};
+use std::alloc::{AllocError, Global};
+
+/// Puts the text, and returns the status: the one that goes with it, or that of the put's own fault.
+pub(crate) fn say<K: Sink>(text: &str, status: u8, out: &mut K) -> u8
+    ensures tells { K.tells out.new ≡ K.tells out.old }
+    ensures says { Says text.now status result
+        (heard (K.tells out.old) (K.taken out.old) (K.faults out.old))
+        (heard (K.tells out.new) (K.taken out.new) (K.faults out.new)) }
+{
+    match out.put(text.as_bytes()) {
+        Ok(()) => status,
+        Err(WriteFault::Failed) => CANNOT_WRITE,
+        Err(WriteFault::NoMemory) => NO_MEMORY,
+    }
+}
+
+/// Tells why a command stopped, and returns the status.
+pub(crate) fn tell<K: Sink>(alloc: Global, stop: Stop<'_>, out: &mut K) -> u8
+    ensures tells { K.tells out.new ≡ K.tells out.old }
+    ensures says { TellsStop stop.entry result
+        (heard (K.tells out.old) (K.taken out.old) (K.faults out.old))
+        (heard (K.tells out.new) (K.taken out.new) (K.faults out.new)) }
+{
+    match stop {
+        Stop::CannotRead(name) => tell_name(cannot_read_text(alloc, name), CANNOT_READ, out),
+        Stop::TooLong(name) => tell_name(too_long_text(alloc, name), TOO_LONG, out),
+        Stop::BadConfig => say("bad config\n", BAD_CONFIG, out),
+        Stop::BadJournal => say("bad journal\n", BAD_JOURNAL, out),
+        Stop::CannotWrite => say("cannot write\n", CANNOT_WRITE, out),
+        Stop::NoMemory => say("no memory\n", NO_MEMORY, out),
+    }
+}
+
+/// Puts a text that wanted memory, or tells that there was none.
+fn tell_name<K: Sink>(text: Result<String, AllocError>, status: u8, out: &mut K) -> u8
+    ensures tells { K.tells out.new ≡ K.tells out.old }
+    ensures says { MatchResult text
+        (λ t. Says (string_bytes t) status result
+        (heard (K.tells out.old) (K.taken out.old) (K.faults out.old))
+        (heard (K.tells out.new) (K.taken out.new) (K.faults out.new)))
+        (λ _. Says no_memory_text NO_MEMORY result
+        (heard (K.tells out.old) (K.taken out.old) (K.faults out.old))
+        (heard (K.tells out.new) (K.taken out.new) (K.faults out.new))) }
+{
+    match text {
+        Ok(text) => say(text.as_str(), status, out),
+        Err(_) => say("no memory\n", NO_MEMORY, out),
+    }
+}
+
+fn cannot_read_text(alloc: Global, name: &str) -> Result<String, AllocError>
+    ensures { IfOk result (λ text. string_bytes text ≡ named_text (codes "cannot read ") name.now) }
+{
+    format!(in alloc; "cannot read {name}\n")
+}
+
+fn too_long_text(alloc: Global, name: &str) -> Result<String, AllocError>
+    ensures { IfOk result (λ text. string_bytes text ≡ named_text (codes "too long ") name.now) }
+{
+    format!(in alloc; "too long {name}\n")
+}

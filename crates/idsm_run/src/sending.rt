@@ -1,0 +1,145 @@
+//! The messages of a history: one for each report.
+ghost use Rattle.std.specs.Prelude.{◌≡◌, ◌+◌, ◌≤◌, ◌<◌, ◌++◌, length, IfOk, OnOk, vec_len, option_map};
+ghost use Rattle.std.specs.List.{AllByRecursion};
+ghost use Rattle.ids_types.specs.Plain.{plain_entry, plain_carried};
+ghost use Rattle.ids_types.specs.Turns.{turn_at};
+ghost use Rattle.ids_frame.specs.Spelling.{spelling};
+ghost use Rattle.idsm_run.specs.PlainJournal.{TurnFits, EntryFits, ReportFits, ContextFits};
+ghost use Rattle.idsm_run.specs.Sending.{message_of, context_sent, entry_messages, turn_messages, messages_of, ends_of, entry_count, turn_count, count_of};
+
+use crate::config::Config;
+use arrayvec::ArrayVec;
+use ids_frame::{Context, MAX_BYTES, Message, encode};
+use ids_types::{Act, Carried, Entry, EventIndex, History, NoMemory, Plain, Stamp};
+use std::alloc::Global;
+
+/// What a history sends: its messages one after another, how many bytes there are after each turn,
+/// and how many messages.
+#[derive(Debug, Drop)]
+pub(crate) struct Sent {
+    pub(crate) bytes: Vec<u8>,
+    pub(crate) ends: Vec<usize>,
+    pub(crate) messages: u64,
+}
+
+/// The messages of a history of reports of configured events.
+pub(crate) fn messages_of_history(
+    alloc: Global,
+    config: &Config,
+    history: &History,
+) -> Result<Sent, NoMemory>
+    requires { AllByRecursion (TurnFits (length config.now.events)) history.now.turns }
+    ensures bytes { IfOk result
+        (λ sent. sent.bytes.items ≡ messages_of config.now history.now.turns) }
+    ensures ends { IfOk result (λ sent. sent.ends.items ≡ ends_of config.now history.now.turns) }
+    ensures messages { IfOk result (λ sent. sent.messages ≡ count_of history.now.turns) }
+{
+    let mut bytes = Vec::new(alloc);
+    let mut ends = Vec::with_capacity(alloc, history.turns() as usize)?;
+    let mut messages = 0;
+    for turn in 0..history.turns() {
+        messages += push_turn(config, history, turn, &mut bytes)?;
+        ends.push(bytes.len())?;
+    }
+    Ok(Sent {
+        bytes,
+        ends,
+        messages,
+    })
+}
+
+/// Appends the messages of a turn, and returns how many they are.
+fn push_turn(
+    config: &Config,
+    history: &History,
+    turn: u64,
+    out: &mut Vec<u8>,
+) -> Result<u64, NoMemory>
+    requires turn { turn < length history.now.turns }
+    requires fits { TurnFits (length config.now.events) (turn_at history.now.turns turn) }
+    ensures bytes { OnOk result (out.new.items
+        ≡ out.old.items ++ turn_messages config.now (turn_at history.now.turns turn)) }
+    ensures count { IfOk result (λ n. n ≡ turn_count (turn_at history.now.turns turn)) }
+    ensures grows { IfOk result (λ n. vec_len out.old + n ≤ vec_len out.new) }
+{
+    let mut count = 0;
+    for i in 0..history.entries(turn) {
+        count += push_entry(config, &history.entry(turn, i), out)?;
+    }
+    Ok(count)
+}
+
+/// Appends the message of an entry, and returns how many it is: 1 for a report, 0 for a control.
+fn push_entry(config: &Config, entry: &Entry<Plain<'_>>, out: &mut Vec<u8>) -> Result<u64, NoMemory>
+    requires { EntryFits (length config.now.events) (plain_entry entry.now) }
+    ensures bytes { OnOk result
+        (out.new.items ≡ out.old.items ++ entry_messages config.now (plain_entry entry.now)) }
+    ensures count { IfOk result (λ n. n ≡ entry_count (plain_entry entry.now)) }
+    ensures grows { IfOk result (λ n. vec_len out.old + n ≤ vec_len out.new) }
+{
+    match &entry.act {
+        Act::Report {
+            event,
+            count,
+            stamp,
+            context,
+        } => {
+            push_message(&message(config, *event, *count, *stamp, context), out)?;
+            Ok(1)
+        }
+        Act::State(_) | Act::SetMode { .. } => Ok(0),
+    }
+}
+
+/// The message of a report.
+#[tactic(auto, using(crate::proofs::SendingLemmas::message_is_short))]
+fn message<'a>(
+    config: &Config,
+    event: EventIndex,
+    count: u16,
+    stamp: Option<Stamp>,
+    context: &Carried<Plain<'a>>,
+) -> Message<'a>
+    requires event { event.0 < length config.now.events }
+    requires context { ContextFits (plain_carried context.now) }
+    ensures parts { result ≡ message_of config.now event.0 count stamp (plain_carried context.now) }
+    ensures short { length (spelling result) ≤ MAX_BYTES }
+{
+    let source = config.source(event.0 as u64);
+    let context = context_of(context);
+    Message::make(
+        config.instance(),
+        source.sensor,
+        source.id,
+        count,
+        0,
+        stamp,
+        context,
+        None,
+    )
+    .unwrap()
+}
+
+/// The context that a message takes along.
+fn context_of<'a>(context: &Carried<Plain<'a>>) -> Option<Context<'a>>
+    requires { ContextFits (plain_carried context.now) }
+    ensures { result ≡ context_sent (plain_carried context.now) }
+{
+    match context {
+        Carried::Kept { parcel, .. } => Some(Context::of(parcel.0)),
+        Carried::Absent | Carried::Missing(_) => None,
+    }
+}
+
+/// Appends a message's spelling.
+#[tactic(auto, using(crate::proofs::SendingLemmas::spelling_has_bytes))]
+fn push_message(message: &Message<'_>, out: &mut Vec<u8>) -> Result<(), NoMemory>
+    requires { length (spelling message.now) ≤ MAX_BYTES }
+    ensures bytes { OnOk result (out.new.items ≡ out.old.items ++ spelling message.now) }
+    ensures grows { OnOk result (vec_len out.old + 1 ≤ vec_len out.new) }
+{
+    let mut spelled = ArrayVec::<u8, MAX_BYTES>::new();
+    encode(message, &mut spelled).unwrap();
+    out.extend_from_slice(&spelled)?;
+    Ok(())
+}

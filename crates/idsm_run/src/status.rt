@@ -1,0 +1,25 @@
+//! The statuses with which a run ends.
+
+/// The command was done.
+pub const DONE: u8 = 0;
+
+/// The words are not in form.
+pub const BAD_WORDS: u8 = 2;
+
+/// A file was not read.
+pub const CANNOT_READ: u8 = 3;
+
+/// A file has more bytes than its kind may have.
+pub const TOO_LONG: u8 = 4;
+
+/// The configuration's bytes are no configuration.
+pub const BAD_CONFIG: u8 = 5;
+
+/// The journal's bytes are no journal.
+pub const BAD_JOURNAL: u8 = 6;
+
+/// A file was not written, or a text was not put.
+pub const CANNOT_WRITE: u8 = 7;
+
+/// Memory was refused.
+pub const NO_MEMORY: u8 = 8;
