@@ -1,1 +1,9 @@
+pub mod DecodingLemmas
+pub mod FieldLemmas
+pub mod FirstByteLemmas
+pub mod JoinedPartLemmas
+pub mod MessagesLemmas
+pub mod NumberLemmas
+pub mod PartLemmas
+pub mod ReadingLemmas
 pub mod SpellingLemmas

@@ -1,21 +1,35 @@
-//! Messages as bytes: what the manager sends, and the one spelling that each message has.
+//! Messages as bytes: what the manager sends, the one spelling that each message has, and how it
+//! is read back.
 //!
-//! Layer 6, messages and memory. Stands on `ids_types`; the chain makes messages, and `encode`
-//! writes them. The layout is this project's own, "IDS message profile 1", after the event message
-//! of the AUTOSAR PRS Intrusion Detection System; `specs/Spelling.antt` states it.
-//! Contracts see a message as its parts, and a context as its form and bytes.
-//! No clause says what a call costs: `encode` and the accessors take no memory, and `encode` copies
-//! the context once.
+//! Layer 6, messages and memory. Stands on `ids_types`. The chain makes messages and `encode`
+//! writes them; `decode` reads the message at the front of bytes, and `Messages` those of a whole
+//! file. The layout is this project's own, "IDS message profile 1", after the event message of the
+//! AUTOSAR PRS Intrusion Detection System; `specs/Spelling.antt` states it, by the value.
+//! `specs/Reading.antt` goes by the bytes, and serves the proofs alone. Contracts see a message as
+//! its parts, a context as its form and bytes, and `Messages` as the list of those to be taken.
+//!
+//! No clause says what a call costs, or where a message's context and signature lie. No call takes
+//! memory. `encode` copies the context once, `decode` looks at each byte at most once, and
+//! `Messages::read` goes over the bytes before each message is read again as it is taken.
 #![tactic(auto)]
 
 mod context;
+mod decoding;
+mod fault;
 mod measuring;
 mod message;
+mod messages;
+mod reading;
 mod writing;
 
 pub use context::{Context, Form};
+pub use decoding::{decode, one_message};
+pub use fault::{BadMessage, FrameFault};
 pub use message::Message;
+pub use messages::Messages;
 pub use writing::{MAX_BYTES, TooLong, encode};
 
+#[cfg(test)]
+mod decoding_tests;
 #[cfg(test)]
 mod tests;

@@ -1,3 +1,4 @@
+pub mod DecodedText
 pub mod Hexadecimal
 pub mod JournalText
 pub mod Maybe

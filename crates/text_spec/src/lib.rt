@@ -1,18 +1,20 @@
 //! The fields of the project's texts: lines, words, numbers, lower-case hexadecimal and timestamps.
 //!
-//! Layer 9, texts. Over `ids_types` and the kit's `hex` and `itoa`; the journal, the trace and the
-//! text of the memory are read and printed by it.
+//! Layer 9, texts. Over `ids_types`, `ids_frame` and the kit's `hex` and `itoa`; the journal, decoded
+//! messages, the trace and the text of the memory are read or printed by it.
 //! Contracts see a word by its bytes. `specs/` gives each field its text and its reading, and the
 //! functions with an empty body say that the two are inverse to one another.
 //! No clause says that memory suffices: an answer `NoMemory` is always true.
 #![tactic(auto)]
 
+mod decoded;
 mod hexadecimal;
 mod numbers;
 mod pieces;
 mod splits;
 mod stamps;
 
+pub use decoded::push_message;
 pub use hexadecimal::{hex_into, one_text_for_bytes, push_hex};
 pub use numbers::{number, number_upto, one_text_for_a_number, push_number};
 pub use pieces::Pieces;

@@ -1,0 +1,128 @@
+-- Reading a message from left to right: each part from the front of bytes, with the bytes that are
+-- left, or the first fault.
+-- Source: the layout of specs/Spelling.antt.
+use Rattle.std.specs.Prelude.{◌≡◌, ℕ, zero, suc, ◌-◌, ◌/◌, ◌%◌, ◌^◌, ◌==◌, ◌&&◌, nat_le, nat_lt, Bool, true, false, List, [], ◌∷◌, length, take, drop, Option, Some, None, Result, Ok, Err, if◌then◌else◌}
+use Rattle.std.specs.Option.{option_map_or}
+use Rattle.std.specs.Result.{result_ok}
+use Rattle.std.specs.Int.{Width, w16, w32, w64, byte_len, from_be_bytes}
+use Rattle.ids_types.specs.declared.names.Stamp.{Stamp}
+use Rattle.ids_frame.specs.declared.context.Form.{Form}
+use Rattle.ids_frame.specs.declared.context.Form.TheVariants as forms
+use Rattle.ids_frame.specs.declared.fault.FrameFault.{FrameFault}
+use Rattle.ids_frame.specs.declared.fault.FrameFault.TheVariants.{Short, UnknownVersion, UnknownPart}
+use Rattle.ids_frame.specs.Context.{ContextPart}
+use Rattle.ids_frame.specs.Message.{MessageParts, last_version}
+
+-- a part and the bytes behind it, or why it is not there
+abbrev pub Read : Type 0 → Type 0
+Read A = Result (A × List ℕ) FrameFault
+
+infixl 10 ◌>>=◌
+-- the second step, where the first had no fault
+abbrev pub ◌>>=◌ : {A B : Type 0} → Result A FrameFault → (A → Result B FrameFault)
+    → Result B FrameFault
+(Ok x) >>= f = f x
+(Err e) >>= f = Err e
+
+-- what a function returned, seen by `view`, is what was read
+abbrev pub Gives : {X A : Type 0} → (X → A × List ℕ) → Result X FrameFault → Read A → Type 0
+Gives view (Ok x) read = read ≡ Ok (view x)
+Gives view (Err e) read = read ≡ Err e
+
+-- so many bytes
+abbrev pub bytes_at : ℕ → List ℕ → Read (List ℕ)
+bytes_at count bytes =
+    if nat_lt (length bytes) count then Err Short else Ok (take count bytes, drop count bytes)
+
+-- one byte
+abbrev pub byte_at : List ℕ → Read ℕ
+byte_at [] = Err Short
+byte_at (byte ∷ bytes) = Ok (byte, bytes)
+
+-- a number, its high byte first
+abbrev pub number_at : Width → List ℕ → Read ℕ
+number_at w bytes = do
+  front ← bytes_at (byte_len w) bytes
+  Ok (from_be_bytes w front.0, front.1)
+
+-- whether there is a layout of this version
+abbrev pub has_layout : ℕ → Bool
+has_layout version = nat_le 1 version && nat_le version last_version
+
+-- whether a message's first byte has this bit of the header
+abbrev pub has : ℕ → ℕ → Bool
+has bit first = first / bit % 2 == 1
+
+-- a message's first byte
+unfoldable pub first_at : List ℕ → Read ℕ
+first_at [] = Err Short
+first_at (first ∷ bytes) =
+    if has_layout (first / 16)
+    then (if has 8 first then Err UnknownPart else Ok (first, bytes))
+    else Err UnknownVersion
+
+-- a part that is there or not
+abbrev pub optional : {A : Type 0} → Bool → (List ℕ → Read A) → List ℕ → Read (Option A)
+optional false read bytes = Ok (None, bytes)
+optional true read bytes = do
+  part ← read bytes
+  Ok (Some part.0, part.1)
+
+-- a timestamp
+unfoldable pub stamp_at : List ℕ → Read Stamp
+stamp_at bytes = do
+  number ← number_at w64 bytes
+  Ok (record { 0 = number.0 }, number.1)
+
+-- a context's form and how many bytes it has
+unfoldable pub length_at : List ℕ → Read (Form × ℕ)
+length_at [] = Err Short
+length_at (first ∷ bytes) =
+    if nat_lt first 128
+    then Ok ((forms.Short, first), bytes)
+    else (number_at w32 (first ∷ bytes) >>= λ size. Ok ((forms.Long, size.0 - 2 ^ 31), size.1))
+
+-- a context
+unfoldable pub context_at : List ℕ → Read ContextPart
+context_at bytes = do
+  size ← length_at bytes
+  held ← bytes_at size.0.1 size.1
+  Ok (record { form = size.0.0; bytes = held.0 }, held.1)
+
+-- a signature
+unfoldable pub signature_at : List ℕ → Read (List ℕ)
+signature_at bytes = do
+  size ← number_at w16 bytes
+  bytes_at size.0 size.1
+
+-- a message
+unfoldable pub message_at : List ℕ → Read MessageParts
+message_at bytes = do
+  first ← first_at bytes
+  place ← number_at w16 first.1
+  event ← number_at w16 place.1
+  count ← number_at w16 event.1
+  reserved ← byte_at count.1
+  stamp ← optional (has 2 first.0) stamp_at reserved.1
+  context ← optional (has 1 first.0) context_at stamp.1
+  signature ← optional (has 4 first.0) signature_at context.1
+  Ok (
+    record {
+      version = first.0 / 16;
+      instance = place.0 / 64;
+      sensor = place.0 % 64;
+      event = event.0;
+      count = count.0;
+      reserved = reserved.0;
+      stamp = stamp.0;
+      context = context.0;
+      signature = signature.0;
+    },
+    signature.1,
+  )
+
+-- the messages that stand one behind the other, up to so many
+unfoldable pub messages_in : ℕ → List ℕ → List MessageParts
+messages_in zero bytes = []
+messages_in (suc most) bytes =
+    option_map_or (λ x. x.0 ∷ messages_in most x.1) (result_ok (message_at bytes)) []

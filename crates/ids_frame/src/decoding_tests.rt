@@ -1,0 +1,126 @@
+use super::*;
+use arrayvec::ArrayVec;
+use ids_types::Stamp;
+use std::test::*;
+
+/// Event 42 of sensor 3 in instance 18, counted once, with the context a1 b2.
+const FIRST: [u8; 11] = *b"\x11\x04\x83\x00\x2a\x00\x01\x00\x02\xa1\xb2";
+
+/// The same event with a timestamp.
+const STAMPED: [u8; 16] = *b"\x12\x04\x83\x00\x2a\x00\x01\x00\x80\x00\x00\x01\x00\x00\x0a\x00";
+
+fn fault_of(bytes: &[u8]) -> Option<FrameFault> {
+    decode(bytes).err()
+}
+
+/// Whether `encode` gives the bytes that were read, where a message was.
+fn is_faithful(bytes: &[u8]) -> bool {
+    let Ok((message, size)) = decode(bytes) else {
+        return true;
+    };
+    let mut out = ArrayVec::new();
+    let written = encode(&message, &mut out).is_ok();
+    written && out.len() == size && bytes.starts_with(out.as_slice())
+}
+
+#[test]
+fn the_parts_of_a_message_are_read(rt: HostRuntime) -> Result<(), Fail> {
+    let (message, size) = decode(&FIRST).ok().ok_or("a message")?;
+    assert_eq!(rt; size, 11);
+    assert_eq!(rt; message.version(), 1);
+    assert_eq!(rt; (message.instance(), message.sensor()), (18, 3));
+    assert_eq!(rt; (message.event(), message.count()), (42, 1));
+    assert_eq!(rt; message.reserved(), 0);
+    assert_eq!(rt; message.stamp(), None);
+    assert!(rt; message.signature().is_none());
+    let context = message.context().ok_or("a context")?;
+    assert_eq!(rt; context.form(), Form::Short);
+    assert_eq!(rt; context.bytes(), b"\xa1\xb2".as_slice());
+
+    let last = b"\x10\xff\xff\x00\x01\x00\x01\x00";
+    let (message, size) = decode(last).ok().ok_or("a message")?;
+    assert_eq!(rt; size, 8);
+    assert_eq!(rt; (message.instance(), message.sensor()), (1023, 63));
+    assert_eq!(rt; (message.event(), message.count()), (1, 1));
+    assert!(rt; message.context().is_none());
+
+    let (message, _) = decode(&STAMPED).ok().ok_or("a message")?;
+    assert_eq!(rt; message.stamp(), Some(Stamp(0x8000_0001_0000_0a00)));
+    Ok(())
+}
+
+#[test]
+fn a_long_form_of_two_bytes_stays_long(rt: HostRuntime) -> Result<(), Fail> {
+    let bytes = b"\x11\x04\x83\x00\x2a\x00\x01\x00\x80\x00\x00\x02\xa1\xb2";
+    let (message, size) = decode(bytes).ok().ok_or("a message")?;
+    assert_eq!(rt; size, 14);
+    let context = message.context().ok_or("a context")?;
+    assert_eq!(rt; context.form(), Form::Long);
+    assert_eq!(rt; context.bytes(), b"\xa1\xb2".as_slice());
+    assert!(rt; is_faithful(bytes));
+    Ok(())
+}
+
+#[test]
+fn each_fault_has_its_bytes(rt: HostRuntime) {
+    for count in 0..11 {
+        assert_eq!(rt; fault_of(&FIRST[..count]), Some(FrameFault::Short));
+    }
+    assert_eq!(rt; fault_of(b"\x21"), Some(FrameFault::UnknownVersion));
+    assert_eq!(rt; fault_of(b"\x29"), Some(FrameFault::UnknownVersion));
+    assert_eq!(rt; fault_of(b"\x01"), Some(FrameFault::UnknownVersion));
+    assert_eq!(rt; fault_of(b"\x19"), Some(FrameFault::UnknownPart));
+}
+
+#[test]
+fn what_is_read_is_spelled_so(rt: HostRuntime) {
+    assert!(rt; decode(&STAMPED).is_ok());
+    for place in 0..16 {
+        for byte in 0..=255 {
+            let mut bytes = STAMPED;
+            bytes[place] = byte;
+            assert!(rt; is_faithful(&bytes));
+        }
+        assert!(rt; is_faithful(&STAMPED[..place]));
+    }
+}
+
+#[test]
+fn messages_are_taken_one_behind_the_other(rt: HostRuntime) -> Result<(), Fail> {
+    let mut bytes = [0; 27];
+    bytes[..11].copy_from_slice(&FIRST);
+    bytes[11..].copy_from_slice(&STAMPED);
+    let mut messages = Messages::read(&bytes).ok().ok_or("two messages")?;
+    let first = messages.pop_front().ok_or("the first")?;
+    assert!(rt; first.context().is_some());
+    let second = messages.pop_front().ok_or("the second")?;
+    assert_eq!(rt; second.stamp(), Some(Stamp(0x8000_0001_0000_0a00)));
+    assert!(rt; messages.pop_front().is_none());
+
+    let mut none = Messages::read(b"").ok().ok_or("no messages")?;
+    assert!(rt; none.pop_front().is_none());
+    Ok(())
+}
+
+#[test]
+fn the_first_bad_message_has_its_place(rt: HostRuntime) {
+    let bad = Messages::read(b"\x11\x04\x83\x00\x2a\x00\x01\x00\x02\xa1\xb2\x11").err();
+    let fault = FrameFault::Short;
+    assert_eq!(rt; bad, Some(BadMessage { at: 11, fault }));
+
+    let bad = Messages::read(b"\x11\x04\x83\x00\x2a\x00\x01\x00\x02\xa1\xb2\x00\x21").err();
+    let fault = FrameFault::UnknownVersion;
+    assert_eq!(rt; bad, Some(BadMessage { at: 11, fault }));
+}
+
+#[test]
+fn faults_have_texts(rt: HostRuntime) -> Result<(), Fail> {
+    let fault = FrameFault::UnknownPart;
+    let bad = BadMessage { at: 11, fault };
+    let text = format!(in rt.alloc(); "{}", bad)?;
+    assert_eq!(rt;
+        text.as_str(),
+        "at byte 11: the message has an unknown part"
+    );
+    Ok(())
+}

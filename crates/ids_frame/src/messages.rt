@@ -1,0 +1,77 @@
+//! Many messages, one behind the other.
+ghost use Rattle.std.specs.Prelude.{◌≡◌, ◌∷◌, [], List, IsOk, IfOk, IfErr, OnOk, IsErrOf, IfSome, IfNone};
+ghost use Rattle.ids_frame.specs.Message.{MessageParts, FitsMessage};
+ghost use Rattle.ids_frame.specs.Messages.{IsJoined, HasMessages, Breaks};
+
+use crate::decoding::message_of;
+use crate::fault::BadMessage;
+use crate::message::Message;
+use std::marker::Model;
+
+/// Messages that stand one behind the other in bytes, and are still to be taken. Each is read where
+/// it lies, as it is taken; no memory is needed.
+#[derive(Debug, Drop)]
+pub struct Messages<'a> {
+    bytes: &'a [u8],
+}
+
+impl<'a> Model for Messages<'a> {
+    ghost use Rattle.std.specs.Prelude.{List, length};
+    ghost use Rattle.ids_frame.specs.Message.{MessageParts};
+    ghost use Rattle.ids_frame.specs.Messages.{HasMessages};
+    ghost use Rattle.ids_frame.specs.Reading.{messages_in};
+
+    ghost Value = { List MessageParts };
+
+    ghost view = { λ m. messages_in (length m.bytes.now) m.bytes.now };
+
+    ghost invariant = { λ m. HasMessages m.bytes.now };
+}
+
+impl<'a> Messages<'a> {
+    /// The messages of these bytes, where the bytes are messages and nothing else. No bytes are no
+    /// messages. Otherwise the answer is the place and the fault of the first that cannot be read.
+    pub fn read(bytes: &'a [u8]) -> Result<Messages<'a>, BadMessage>
+        ensures found { IfOk result (IsJoined bytes.now) }
+        ensures only { (messages : List MessageParts) → IsJoined bytes.now messages
+            → IsOk result × IfOk result (λ m. m ≡ messages) }
+        ensures place { IfErr result (Breaks bytes.now) }
+        ensures place_only { (bad : BadMessage) → Breaks bytes.now bad → IsErrOf result bad }
+    {
+        check_all(bytes)?;
+        Ok(Messages { bytes })
+    }
+
+    /// Takes the first message out.
+    pub fn pop_front(&mut self) -> Option<Message<'a>>
+        ensures some { IfSome result (λ m. self.old ≡ m ∷ self.new) }
+        ensures none { IfNone result (self.old ≡ []) }
+        ensures same { IfNone result (self.new ≡ self.old) }
+        ensures fits { IfSome result FitsMessage }
+    {
+        match message_of(self.bytes) {
+            Ok((message, rest)) => {
+                self.bytes = rest;
+                Some(message)
+            }
+            Err(_) => None,
+        }
+    }
+}
+
+fn check_all(bytes: &[u8]) -> Result<(), BadMessage>
+    ensures ok { OnOk result (HasMessages bytes.now) }
+    ensures place { IfErr result (Breaks bytes.now) }
+{
+    let mut rest = bytes;
+    while !rest.is_empty() {
+        match message_of(rest) {
+            Ok((_, behind)) => rest = behind,
+            Err(fault) => {
+                let at = bytes.len() - rest.len();
+                return Err(BadMessage { at, fault });
+            }
+        }
+    }
+    Ok(())
+}

@@ -1,0 +1,40 @@
+-- Decoded messages, a line for each.
+-- Source: the text formats of this project (docs/FORMATS.md).
+use Rattle.std.specs.Prelude.{ℕ, List, [], ◌∷◌, ◌++◌, map, codes, decimal, Option, Some, None}
+use Rattle.hex.specs.Hex.{encode_lower}
+use Rattle.ids_frame.specs.declared.context.Form.{Form}
+use Rattle.ids_frame.specs.declared.context.Form.TheVariants.{Short, Long}
+use Rattle.ids_frame.specs.Context.{ContextPart}
+use Rattle.ids_frame.specs.Message.{MessageParts}
+use Rattle.text_spec.specs.Words.{absent, line_of, text_of}
+use Rattle.text_spec.specs.Stamps.{stamp_text}
+
+-- what stands before a context's bytes: `s:` for the short form, `l:` for the long one
+abbrev pub form_mark : Form → List ℕ
+form_mark Short = codes "s:"
+form_mark Long = codes "l:"
+
+-- the word of a context: `-`, or its form and its bytes in hexadecimal
+abbrev pub shown_context : Option ContextPart → List ℕ
+shown_context None = absent
+shown_context (Some context) = form_mark context.form ++ encode_lower context.bytes
+
+-- the word of a signature: `-`, or `=` and its bytes in hexadecimal
+abbrev pub shown_signature : Option (List ℕ) → List ℕ
+shown_signature None = absent
+shown_signature (Some bytes) = codes "=" ++ encode_lower bytes
+
+-- the words of the line `M INSTANCE SENSOR EVENT COUNT RESERVED STAMP CONTEXT SIGNATURE`
+abbrev pub message_words : MessageParts → List (List ℕ)
+message_words m =
+    codes "M" ∷ decimal m.instance ∷ decimal m.sensor ∷ decimal m.event ∷ decimal m.count
+    ∷ decimal m.reserved ∷ stamp_text m.stamp ∷ shown_context m.context
+    ∷ shown_signature m.signature ∷ []
+
+-- the line of a message, without its line feed
+abbrev pub message_line : MessageParts → List ℕ
+message_line m = line_of (message_words m)
+
+-- the lines of messages
+abbrev pub decoded_text : List MessageParts → List ℕ
+decoded_text messages = text_of (map message_line messages)
