@@ -1,6 +1,7 @@
 use ids_outside::{MemoryShelf, MemorySink};
 use idsm_run::{
-    BAD_CONFIG, BAD_JOURNAL, BAD_WORDS, CANNOT_READ, CANNOT_WRITE, DONE, TOO_LONG, run_plain,
+    BAD_CONFIG, BAD_JOURNAL, BAD_MESSAGE, BAD_WORDS, CANNOT_READ, CANNOT_WRITE, DONE, TOO_LONG,
+    run_plain,
 };
 use std::alloc::{AllocError, Global};
 use std::test::Fail;
@@ -90,14 +91,18 @@ fn an_empty_journal_sends_nothing(rt: HostRuntime) -> Result<(), Fail> {
 
 #[test]
 fn tells_the_usage(rt: HostRuntime) -> Result<(), Fail> {
-    let usage = b"usage: idsm fold CONFIG JOURNAL MESSAGES MEMORY\n".as_slice();
-    let rows: [&[&str]; 7] = [
+    let usage =
+        b"usage: idsm fold CONFIG JOURNAL MESSAGES MEMORY\n       idsm decode MESSAGES\n".as_slice();
+    let rows: [&[&str]; 10] = [
         &[],
         &["fold"],
         &["fold", "a", "b", "c", "c"],
         &["fold", "a", "b", "", "c"],
         &["fold", "a", "b", "c", "d", "e"],
         &["Fold", "a", "b", "c", "d"],
+        &["decode"],
+        &["decode", ""],
+        &["decode", "c", "j"],
         &["--help"],
     ];
     for words in rows {
@@ -267,4 +272,77 @@ fn leaves(
         messages,
         memory,
     }
+}
+
+#[test]
+fn decodes_messages(rt: HostRuntime) -> Result<(), Fail> {
+    let rows: [(&[u8], u8, &[u8]); 11] = [
+        (&MESSAGE, DONE, b"M 18 3 42 1 0 - s:a1b2 -\n"),
+        (b"", DONE, b""),
+        (
+            b"\x10\xff\xff\x00\x01\x00\x01\x00",
+            DONE,
+            b"M 1023 63 1 1 0 - - -\n",
+        ),
+        (
+            b"\x11\x04\x83\x00\x2a\x00\x01\x00\x80\x00\x00\x02\xa1\xb2",
+            DONE,
+            b"M 18 3 42 1 0 - l:a1b2 -\n",
+        ),
+        (
+            b"\x16\x04\x83\x00\x2a\x00\x02\x07\x00\x00\x00\x00\x00\x00\x01\x0a\x00\x02\xbe\xef",
+            DONE,
+            b"M 18 3 42 2 7 000000000000010a - =beef\n",
+        ),
+        (
+            &THREE_MESSAGES,
+            DONE,
+            b"M 18 3 42 1 0 - - -\nM 18 3 42 1 0 - - -\nM 18 3 42 1 0 - - -\n",
+        ),
+        (&MESSAGE[..10], BAD_MESSAGE, b"bad message at 0: short\n"),
+        (
+            b"\x11\x04\x83\x00\x2a\x00\x01\x00\x02\xa1\xb2\x11",
+            BAD_MESSAGE,
+            b"bad message at 11: short\n",
+        ),
+        (
+            b"\x11\x04\x83\x00\x2a\x00\x01\x00\x02\xa1\xb2\x21\x00",
+            BAD_MESSAGE,
+            b"bad message at 11: version\n",
+        ),
+        (
+            b"\x11\x04\x83\x00\x2a\x00\x01\x00\x02\xa1\xb2\x19",
+            BAD_MESSAGE,
+            b"bad message at 11: part\n",
+        ),
+        (
+            CONFIG.as_bytes(),
+            BAD_MESSAGE,
+            b"bad message at 0: version\n",
+        ),
+    ];
+    for (file, status, text) in rows {
+        let ended = run(rt.alloc(), &["decode", "c"], file, b"", &[], &[])?;
+        assert_eq!(rt; ended.status, status);
+        assert_eq!(rt; ended.out.taken(), text);
+        assert!(rt; ended.shelf.contents("c") == Some(file));
+    }
+    Ok(())
+}
+
+#[test]
+fn decode_tells_its_faults(rt: HostRuntime) -> Result<(), Fail> {
+    let rows: [(&str, &[u64], &[u64], u8, &[u8]); 4] = [
+        ("x", &[], &[], CANNOT_READ, b"cannot read x\n"),
+        ("c", &[0], &[], CANNOT_READ, b"cannot read c\n"),
+        ("c", &[], &[0], CANNOT_WRITE, b""),
+        ("c", &[1], &[1], DONE, b"M 18 3 42 1 0 - s:a1b2 -\n"),
+    ];
+    for (name, shelf_fails, put_fails, status, text) in rows {
+        let words = ["decode", name];
+        let ended = run(rt.alloc(), &words, &MESSAGE, b"", shelf_fails, put_fails)?;
+        assert_eq!(rt; ended.status, status);
+        assert_eq!(rt; ended.out.taken(), text);
+    }
+    Ok(())
 }

@@ -11,12 +11,12 @@ use Rattle.idsm_run.proofs.ConfigLemmas.{one_configuration}
 -- ---- one file
 
 -- a file holds one sequence of bytes
-holds_one : (files : Files) (name : List ℕ) (limit : ℕ) (one other : List ℕ)
+pub holds_one : (files : Files) (name : List ℕ) (limit : ℕ) (one other : List ℕ)
     → Holds files name limit one → Holds files name limit other → one ≡ other
 holds_one files name limit one other first second = cc
 
 -- a file within its limit is not too long
-not_too_long : (files : Files) (name : List ℕ) (limit : ℕ) (bytes : List ℕ)
+pub not_too_long : (files : Files) (name : List ℕ) (limit : ℕ) (bytes : List ℕ)
     → Holds files name limit bytes → IsTooLong files name limit → ⊥
 not_too_long files name limit bytes held long =
     let longer = rw held.there at long in

@@ -9,6 +9,9 @@ pub mod OrderLemmas
 pub mod ReadingLemmas
 pub mod RunCauses
 pub mod RunObliges
+pub mod RunStands
 pub mod SendingLemmas
+pub mod Stops
 pub mod TurnsLemmas
+pub mod Verdicts
 pub mod WritingLemmas

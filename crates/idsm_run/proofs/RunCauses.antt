@@ -5,10 +5,9 @@ use Rattle.std.proofs.lemmas.Grind.{common_steps}
 use Rattle.std.proofs.lemmas.List.{append-nil}
 use Rattle.idsm_run.specs.declared.status.TheConstants.{DONE, BAD_WORDS, CANNOT_WRITE}
 use Rattle.idsm_run.specs.declared.stop.Stop.{Stop}
-use Rattle.idsm_run.specs.declared.stop.Stop.TheVariants.{CannotRead, TooLong, BadConfig, BadJournal, CannotWrite, NoMemory}
-use Rattle.idsm_run.specs.Command.{FoldFiles, Command, command_of, fold}
-use Rattle.idsm_run.specs.Fold.{FoldStops}
-use Rattle.idsm_run.specs.Run.{Shelved, Ran, FoldDone, Misused, OfCommand, HasText, FailedPut, FailedOutput, Adds, Causes}
+use Rattle.idsm_run.specs.declared.stop.Stop.TheVariants.{CannotRead, TooLong, BadConfig, BadJournal, CannotWrite, NoMemory, BadMessage}
+use Rattle.idsm_run.specs.Command.{Command, command_of}
+use Rattle.idsm_run.specs.Run.{Shelved, Ran, Done, StopsFor, Misused, OfCommand, HasText, FailedPut, FailedOutput, Adds, Causes}
 use Rattle.idsm_run.specs.Saying.{Heard, Says, StopSays, TellsStop, usage}
 
 module _ (words : List (List ℕ)) (status : ℕ) (old new : Shelved) (before after : Heard) where
@@ -30,6 +29,7 @@ module _ (words : List (List ℕ)) (status : ℕ) (old new : Shelved) (before af
     long = grind arith;
     config = grind arith;
     journal = grind arith;
+    message = grind arith;
     write = λ status_is. inr (put_failed usage BAD_WORDS misused.says (λ e. omega arith) (inl (is, refl)) status_is);
     memory = grind (arith, common_steps, append-nil);
     known = grind arith;
@@ -37,17 +37,18 @@ module _ (words : List (List ℕ)) (status : ℕ) (old new : Shelved) (before af
     all_put = grind arith;
   }
 
-  -- a `fold` that was done has a cause only where its line was not put
-  done_has_cause : (names : FoldFiles) → command_of words ≡ Some (fold names)
-      → FoldDone names status old new before after → Causes words status old new before after
-  done_has_cause names is done = record {
+  -- a command that was done has a cause only where its text was not put
+  done_has_cause : (command : Command) → command_of words ≡ Some command
+      → Done command status old new before after → Causes words status old new before after
+  done_has_cause command is done = record {
     misused = grind arith;
     read = grind arith;
     long = grind arith;
     config = grind arith;
     journal = grind arith;
+    message = grind arith;
     write = λ status_is. inr (put_failed done.said DONE done.says (λ e. omega arith)
-        (inr (fold names, is, inl done.folded)) status_is);
+        (inr (command, is, inl done.did)) status_is);
     memory = grind (arith, common_steps, append-nil);
     known = grind arith;
     no_fault = grind arith;
@@ -55,107 +56,125 @@ module _ (words : List (List ℕ)) (status : ℕ) (old new : Shelved) (before af
   }
 
   -- the text of a stop is the run's
-  stop_text : (names : FoldFiles) (reason : Stop) (text : List ℕ) (wanted : ℕ)
-      → command_of words ≡ Some (fold names)
-      → FoldStops old.tells old.files old.faults new.faults names reason → StopSays reason text wanted
+  stop_text : (command : Command) (reason : Stop) (text : List ℕ) (wanted : ℕ)
+      → command_of words ≡ Some command
+      → StopsFor reason command old new → StopSays reason text wanted
       → OfCommand words (λ c. HasText c old new text)
-  stop_text names reason text wanted is stops says =
-      (fold names, is, inr (reason, wanted, stops, says))
+  stop_text command reason text wanted is stops says = (command, is, inr (reason, wanted, stops, says))
 
   -- a fault of writing, and how its text was put
-  write_not_said : (names : FoldFiles) → command_of words ≡ Some (fold names)
-      → FoldStops old.tells old.files old.faults new.faults names CannotWrite
+  write_not_said : (command : Command) → command_of words ≡ Some command
+      → FailedOutput command old.faults new.faults
       → TellsStop CannotWrite status before after → status ≡ CANNOT_WRITE
       → (OfCommand words (λ c. FailedOutput c old.faults new.faults)
       × Adds (codes "cannot write\n") before after) ⊎ FailedPut words old new before after
-  write_not_said names is stops tells status_is = elim tells.says [
-    | inl said ↦ inl ((fold names, is, stops), grind (arith, common_steps))
+  write_not_said command is stops tells status_is = elim tells.says [
+    | inl said ↦ inl ((command, is, stops), grind (arith, common_steps))
     | inr (inl failed) ↦ inr (record {
       text = tells.text;
-      of_run = inr (stop_text names CannotWrite tells.text tells.wanted is stops tells.names);
+      of_run = inr (stop_text command CannotWrite tells.text tells.wanted is stops tells.names);
       taken = failed.taken;
       faults = failed.faults;
     })
     | inr (inr none) ↦ absurd (omega (arith, none.status_is, status_is))
   ]
 
-  -- a `fold` that stopped has the cause of its stop, or that of a text that was not put
-  stop_has_cause : (names : FoldFiles) (reason : Stop) → command_of words ≡ Some (fold names)
-      → FoldStops old.tells old.files old.faults new.faults names reason
-      → TellsStop reason status before after
+  -- a command that stopped has the cause of its stop, or that of a text that was not put
+  stop_has_cause : (command : Command) (reason : Stop) → command_of words ≡ Some command
+      → StopsFor reason command old new → TellsStop reason status before after
       → Causes words status old new before after
-  stop_has_cause names (CannotRead name) is stops tells = record {
+  stop_has_cause command (CannotRead name) is stops tells = record {
     misused = grind arith;
-    read = λ status_is. (name.now, (fold names, is, stops), grind (arith, common_steps));
+    read = λ status_is. (name.now, (command, is, stops), grind (arith, common_steps));
     long = grind arith;
     config = grind arith;
     journal = grind arith;
+    message = grind arith;
     write = λ status_is. inr (put_failed tells.text tells.wanted tells.says (grind arith)
-        (inr (stop_text names (CannotRead name) tells.text tells.wanted is stops tells.names)) status_is);
+        (inr (stop_text command (CannotRead name) tells.text tells.wanted is stops tells.names)) status_is);
     memory = grind (arith, common_steps, append-nil);
     known = grind arith;
     no_fault = grind arith;
     all_put = grind arith;
   }
-  stop_has_cause names (TooLong name) is stops tells = record {
+  stop_has_cause command (TooLong name) is stops tells = record {
     misused = grind arith;
     read = grind arith;
-    long = λ status_is. (name.now, (fold names, is, stops.1), grind (arith, common_steps));
+    long = λ status_is. (name.now, (command, is, stops.1), grind (arith, common_steps));
     config = grind arith;
     journal = grind arith;
+    message = grind arith;
     write = λ status_is. inr (put_failed tells.text tells.wanted tells.says (grind arith)
-        (inr (stop_text names (TooLong name) tells.text tells.wanted is stops tells.names)) status_is);
+        (inr (stop_text command (TooLong name) tells.text tells.wanted is stops tells.names)) status_is);
     memory = grind (arith, common_steps, append-nil);
     known = grind arith;
     no_fault = grind arith;
     all_put = grind arith;
   }
-  stop_has_cause names BadConfig is stops tells = record {
+  stop_has_cause command BadConfig is stops tells = record {
     misused = grind arith;
     read = grind arith;
     long = grind arith;
-    config = λ status_is. ((fold names, is, stops.1), grind (arith, common_steps));
+    config = λ status_is. ((command, is, stops.1), grind (arith, common_steps));
     journal = grind arith;
+    message = grind arith;
     write = λ status_is. inr (put_failed tells.text tells.wanted tells.says (grind arith)
-        (inr (stop_text names BadConfig tells.text tells.wanted is stops tells.names)) status_is);
+        (inr (stop_text command BadConfig tells.text tells.wanted is stops tells.names)) status_is);
     memory = grind (arith, common_steps, append-nil);
     known = grind arith;
     no_fault = grind arith;
     all_put = grind arith;
   }
-  stop_has_cause names BadJournal is stops tells = record {
+  stop_has_cause command BadJournal is stops tells = record {
     misused = grind arith;
     read = grind arith;
     long = grind arith;
     config = grind arith;
-    journal = λ status_is. ((fold names, is, stops.1), grind (arith, common_steps));
+    journal = λ status_is. ((command, is, stops.1), grind (arith, common_steps));
+    message = grind arith;
     write = λ status_is. inr (put_failed tells.text tells.wanted tells.says (grind arith)
-        (inr (stop_text names BadJournal tells.text tells.wanted is stops tells.names)) status_is);
+        (inr (stop_text command BadJournal tells.text tells.wanted is stops tells.names)) status_is);
     memory = grind (arith, common_steps, append-nil);
     known = grind arith;
     no_fault = grind arith;
     all_put = grind arith;
   }
-  stop_has_cause names CannotWrite is stops tells = record {
+  stop_has_cause command CannotWrite is stops tells = record {
     misused = grind arith;
     read = grind arith;
     long = grind arith;
     config = grind arith;
     journal = grind arith;
-    write = λ status_is. write_not_said names is stops tells status_is;
+    message = grind arith;
+    write = λ status_is. write_not_said command is stops tells status_is;
     memory = grind (arith, common_steps, append-nil);
     known = grind arith;
     no_fault = grind arith;
     all_put = grind arith;
   }
-  stop_has_cause names NoMemory is stops tells = record {
+  stop_has_cause command NoMemory is stops tells = record {
     misused = grind arith;
     read = grind arith;
     long = grind arith;
     config = grind arith;
     journal = grind arith;
+    message = grind arith;
     write = λ status_is. inr (put_failed tells.text tells.wanted tells.says (grind arith)
-        (inr (stop_text names NoMemory tells.text tells.wanted is stops tells.names)) status_is);
+        (inr (stop_text command NoMemory tells.text tells.wanted is stops tells.names)) status_is);
+    memory = grind (arith, common_steps, append-nil);
+    known = grind arith;
+    no_fault = grind arith;
+    all_put = grind arith;
+  }
+  stop_has_cause command (BadMessage bad) is stops tells = record {
+    misused = grind arith;
+    read = grind arith;
+    long = grind arith;
+    config = grind arith;
+    journal = grind arith;
+    message = λ status_is. (bad, (command, is, stops.1), grind (arith, common_steps));
+    write = λ status_is. inr (put_failed tells.text tells.wanted tells.says (grind arith)
+        (inr (stop_text command (BadMessage bad) tells.text tells.wanted is stops tells.names)) status_is);
     memory = grind (arith, common_steps, append-nil);
     known = grind arith;
     no_fault = grind arith;
@@ -166,9 +185,9 @@ module _ (words : List (List ℕ)) (status : ℕ) (old new : Shelved) (before af
   ran_has_cause : (option : Option Command) → command_of words ≡ option
       → Ran option status old new before after → Causes words status old new before after
   ran_has_cause None is misused = misuse_has_cause is misused
-  ran_has_cause (Some (fold names)) is (inl done) = done_has_cause names is done
-  ran_has_cause (Some (fold names)) is (inr stopped) =
-      stop_has_cause names stopped.reason is stopped.stops stopped.tells
+  ran_has_cause (Some command) is (inl done) = done_has_cause command is done
+  ran_has_cause (Some command) is (inr stopped) =
+      stop_has_cause command stopped.reason is stopped.stops stopped.tells
 
 -- each status of a run comes with its cause
 pub run_causes : (words : List (List ℕ)) (status : ℕ) (old new : Shelved) (before after : Heard)

@@ -1,17 +1,13 @@
 -- How a run may end, from what its files hold.
-use Rattle.std.proofs.Common.{◌≡◌, ◌⊎◌, ℕ, List, arith, inl, inr, refl, subst, IsTrue, Option, Some, None}
+use Rattle.std.proofs.Common.{◌≡◌, ℕ, List, arith, inl, inr, refl, subst, IsTrue, Option, Some, None}
 use Rattle.std.proofs.lemmas.Grind.{common_steps}
-use Rattle.ids_outside.specs.Faults.{Rose}
-use Rattle.ids_outside.specs.Files.{Files}
-use Rattle.idsm_run.specs.declared.status.TheConstants.{DONE, TOO_LONG, BAD_CONFIG, BAD_JOURNAL, NO_MEMORY}
+use Rattle.ids_outside.specs.Faults.{Faults, Rose}
 use Rattle.idsm_run.specs.declared.stop.Stop.{Stop}
-use Rattle.idsm_run.specs.declared.stop.Stop.TheVariants.{CannotRead, TooLong, BadConfig, BadJournal, CannotWrite, NoMemory}
-use Rattle.idsm_run.specs.Command.{FoldFiles, Command, command_of, fold}
-use Rattle.idsm_run.specs.Inputs.{NoConfig, NoJournal, IsFirstTooLong}
-use Rattle.idsm_run.specs.Fold.{FoldStops}
-use Rattle.idsm_run.specs.Run.{Shelved, Ran, FoldDone, FoldStopped, Misused, OfCommand, HasGoodInputs, Answers, NoFault, Obliges}
+use Rattle.idsm_run.specs.declared.stop.Stop.TheVariants.{CannotRead, TooLong, BadConfig, BadJournal, CannotWrite, NoMemory, BadMessage}
+use Rattle.idsm_run.specs.Command.{Command, command_of, fold, decode}
+use Rattle.idsm_run.specs.Run.{Shelved, Ran, Done, Stopped, StopsFor, Misused, OfCommand, FailedInput, FailedOutput, Answers, NoFault, Obliges}
 use Rattle.idsm_run.specs.Saying.{Heard, TellsStop}
-use Rattle.idsm_run.proofs.InputsLemmas.{inputs_exclude_long, inputs_exclude_no_config, inputs_exclude_no_journal, long_excludes_no_config, long_excludes_no_journal, no_config_excludes_no_journal}
+use Rattle.idsm_run.proofs.Verdicts.{Verdict, good, long, config, journal, message, status_of, Deserves, did_with_good, one_verdict}
 
 -- what holds of the command of the words holds of this one, where the words give it
 of_command : (words : List (List ℕ)) (command : Command) (P : Command → Type 0)
@@ -20,69 +16,50 @@ of_command words command P is (other, other_is, holds) =
     let same : other ≡ command = cc in
     subst P same holds
 
--- ---- a `fold` that stopped, with no fault of its shelf
+-- ---- faults raise the shelf's count
 
--- the four ways in which it may: one of three refusals of its inputs, or for want of memory
-data SteadyStop (names : FoldFiles) (files : Files) (status : ℕ) (before after : Heard)
+input_rose : (command : Command) (old new : Faults) (name : List ℕ)
+    → FailedInput command old new name → Rose old.count new.count
+input_rose (fold names) old new name failed = failed.fault.rose
+input_rose (decode file) old new name failed = failed.1.rose
+
+output_rose : (command : Command) (old new : Faults)
+    → FailedOutput command old new → Rose old.count new.count
+output_rose (fold names) old new failed = grind (arith, common_steps)
+output_rose (decode file) old new failed = absurd failed
+
+-- ---- a command that stopped, with no fault of its shelf
+
+-- it was refused as its files deserve, or stopped for want of memory
+data SteadyStop (command : Command) (old : Shelved) (status : ℕ) (before after : Heard)
     : Type 0 where
-  too_long : (name : List ℕ) → IsFirstTooLong files names name
-      → Answers TOO_LONG status before after → SteadyStop names files status before after
-  bad_config : NoConfig files names
-      → Answers BAD_CONFIG status before after → SteadyStop names files status before after
-  bad_journal : NoJournal files names
-      → Answers BAD_JOURNAL status before after → SteadyStop names files status before after
-  no_memory : TellsStop NoMemory status before after → SteadyStop names files status before after
+  refused : (verdict : Verdict) → Deserves verdict command old
+      → Answers (status_of verdict) status before after → SteadyStop command old status before after
+  no_memory : TellsStop NoMemory status before after → SteadyStop command old status before after
 
-module _ (names : FoldFiles) (status : ℕ) (old new : Shelved) (before after : Heard) where
-  -- each stop is one of these ways, or a fault
-  steady_stop : (reason : Stop) → IsTrue old.tells → NoFault old new
-      → FoldStops old.tells old.files old.faults new.faults names reason
-      → TellsStop reason status before after → SteadyStop names old.files status before after
-  steady_stop (CannotRead name) told steady stops tells = absurd (steady stops.fault.rose)
-  steady_stop (TooLong name) told steady stops tells =
-      too_long name.now (stops.1 told) (grind (arith, common_steps))
-  steady_stop BadConfig told steady stops tells =
-      bad_config (stops.1 told) (grind (arith, common_steps))
-  steady_stop BadJournal told steady stops tells =
-      bad_journal (stops.1 told) (grind (arith, common_steps))
-  steady_stop CannotWrite told steady stops tells = absurd (grind (arith, common_steps))
-  steady_stop NoMemory told steady stops tells = no_memory tells
+module _ (command : Command) (status : ℕ) (old new : Shelved) (before after : Heard) where
+  -- each stop is one of these, or a fault
+  steady_stop : (reason : Stop) → NoFault old new → StopsFor reason command old new
+      → TellsStop reason status before after → SteadyStop command old status before after
+  steady_stop (CannotRead name) steady stops tells =
+      absurd (steady (input_rose command old.faults new.faults name.now stops))
+  steady_stop (TooLong name) steady stops tells =
+      refused long (name.now, stops.1) (grind (arith, common_steps))
+  steady_stop BadConfig steady stops tells = refused config stops.1 (grind (arith, common_steps))
+  steady_stop BadJournal steady stops tells = refused journal stops.1 (grind (arith, common_steps))
+  steady_stop CannotWrite steady stops tells =
+      absurd (steady (output_rose command old.faults new.faults stops))
+  steady_stop NoMemory steady stops tells = no_memory tells
+  steady_stop (BadMessage bad) steady stops tells =
+      refused message (bad, stops.1) (grind (arith, common_steps))
 
-module _ (names : FoldFiles) (files : Files) (status : ℕ) (before after : Heard) where
-  -- a file that is too long is refused for that
-  long_ends : (name : List ℕ) → IsFirstTooLong files names name
-      → SteadyStop names files status before after → Answers TOO_LONG status before after
-  long_ends name long (too_long _ _ answers) = answers
-  long_ends name long (bad_config none _) = absurd (long_excludes_no_config _ _ _ long none)
-  long_ends name long (bad_journal none _) = absurd (long_excludes_no_journal _ _ _ long none)
-  long_ends name long (no_memory tells) = grind (arith, common_steps)
-
-  -- bytes that are no configuration are refused for that
-  config_ends : NoConfig files names
-      → SteadyStop names files status before after → Answers BAD_CONFIG status before after
-  config_ends none (too_long _ long _) = absurd (long_excludes_no_config _ _ _ long none)
-  config_ends none (bad_config _ answers) = answers
-  config_ends none (bad_journal journal _) = absurd (no_config_excludes_no_journal _ _ none journal)
-  config_ends none (no_memory tells) = grind (arith, common_steps)
-
-  -- bytes that are no journal are refused for that
-  journal_ends : NoJournal files names
-      → SteadyStop names files status before after → Answers BAD_JOURNAL status before after
-  journal_ends none (too_long _ long _) = absurd (long_excludes_no_journal _ _ _ long none)
-  journal_ends none (bad_config config _) = absurd (no_config_excludes_no_journal _ _ config none)
-  journal_ends none (bad_journal _ answers) = answers
-  journal_ends none (no_memory tells) = grind (arith, common_steps)
-
-  -- inputs that serve are not refused
-  good_ends : (Rose before.faults after.faults → ⊥) → HasGoodInputs (fold names) files
-      → SteadyStop names files status before after → (status ≡ DONE) ⊎ (status ≡ NO_MEMORY)
-  good_ends steady (config, turns, has) (too_long _ long _) =
-      absurd (inputs_exclude_long _ _ _ _ _ has long)
-  good_ends steady (config, turns, has) (bad_config none _) =
-      absurd (inputs_exclude_no_config _ _ _ _ has none)
-  good_ends steady (config, turns, has) (bad_journal none _) =
-      absurd (inputs_exclude_no_journal _ _ _ _ has none)
-  good_ends steady good (no_memory tells) = grind (arith, common_steps)
+  -- it ends as its files deserve
+  ends_so : IsTrue old.tells → (verdict : Verdict) → Deserves verdict command old
+      → SteadyStop command old status before after → Answers (status_of verdict) status before after
+  ends_so told verdict deserved (refused other holds answers) =
+      subst (λ v. Answers (status_of v) status before after)
+      (one_verdict old told command other verdict holds deserved) answers
+  ends_so told verdict deserved (no_memory tells) = grind (arith, common_steps)
 
 -- ---- a run
 
@@ -92,53 +69,52 @@ module _ (words : List (List ℕ)) (status : ℕ) (old new : Shelved) (before af
       → Obliges words status old new before after
   misuse_obliges is misused = grind (arith, common_steps)
 
-  -- a `fold` that was done had inputs that serve
-  done_obliges : (names : FoldFiles) → command_of words ≡ Some (fold names)
-      → FoldDone names status old new before after → Obliges words status old new before after
-  done_obliges names is done = record {
+  -- a command that was done had files that serve
+  done_obliges : (command : Command) → command_of words ≡ Some command
+      → Done command status old new before after → Obliges words status old new before after
+  done_obliges command is done = record {
     misused = λ none. absurd cc;
-    long = λ told _ name cause.
-        let has = done.folded told in
-        absurd (inputs_exclude_long _ _ _ _ name has.inputs (of_command words _ _ is cause));
-    config = λ told _ cause.
-        let has = done.folded told in
-        absurd (inputs_exclude_no_config _ _ _ _ has.inputs (of_command words _ _ is cause));
-    journal = λ told _ cause.
-        let has = done.folded told in
-        absurd (inputs_exclude_no_journal _ _ _ _ has.inputs (of_command words _ _ is cause));
+    long = λ told _ name cause. absurd (other told long (name, of_command words _ _ is cause) (λ same. absurd cc));
+    config = λ told _ cause. absurd (other told config (of_command words _ _ is cause) (λ same. absurd cc));
+    journal = λ told _ cause. absurd (other told journal (of_command words _ _ is cause) (λ same. absurd cc));
+    message = λ told _ bad cause. absurd (other told message (bad, of_command words _ _ is cause) (λ same. absurd cc));
     complete = grind (arith, common_steps);
   }
+    where
+      other : IsTrue old.tells → (verdict : Verdict) → Deserves verdict command old
+          → (good ≡ verdict → ⊥) → ⊥
+      other told verdict deserved differs =
+          differs (one_verdict old told command good verdict
+          (did_with_good command old.files new.files done.said (done.did told)) deserved)
 
-  -- a `fold` that stopped did so in the way to which its files oblige it
-  stop_obliges : (names : FoldFiles) → command_of words ≡ Some (fold names)
-      → FoldStopped names status old new before after → Obliges words status old new before after
-  stop_obliges names is stopped = record {
+  -- a command that stopped did so as its files deserve
+  stop_obliges : (command : Command) → command_of words ≡ Some command
+      → Stopped command status old new before after → Obliges words status old new before after
+  stop_obliges command is stopped = record {
     misused = λ none. absurd cc;
-    long = λ told steady name cause.
-        long_ends names old.files status before after name (of_command words _ _ is cause)
-        (way told steady);
-    config = λ told steady cause.
-        config_ends names old.files status before after (of_command words _ _ is cause)
-        (way told steady);
-    journal = λ told steady cause.
-        journal_ends names old.files status before after (of_command words _ _ is cause)
-        (way told steady);
+    long = λ told steady name cause. ends told steady long (name, of_command words _ _ is cause);
+    config = λ told steady cause. ends told steady config (of_command words _ _ is cause);
+    journal = λ told steady cause. ends told steady journal (of_command words _ _ is cause);
+    message = λ told steady bad cause.
+        ends told steady message (bad, of_command words _ _ is cause);
     complete = λ told steady put cause.
-        good_ends names old.files status before after put (of_command words _ _ is cause)
-        (way told steady);
+        let answers = ends told steady good (of_command words _ _ is cause) in
+        grind (arith, common_steps);
   }
     where
-      way : IsTrue old.tells → NoFault old new → SteadyStop names old.files status before after
-      way told steady =
-          steady_stop names status old new before after stopped.reason told steady stopped.stops
-          stopped.tells
+      ends : IsTrue old.tells → NoFault old new → (verdict : Verdict) → Deserves verdict command old
+          → Answers (status_of verdict) status before after
+      ends told steady verdict deserved =
+          ends_so command status old new before after told verdict deserved
+          (steady_stop command status old new before after stopped.reason steady stopped.stops
+          stopped.tells)
 
   -- by cases on what command the words give
   ran_obliges : (option : Option Command) → command_of words ≡ option
       → Ran option status old new before after → Obliges words status old new before after
   ran_obliges None is misused = misuse_obliges is misused
-  ran_obliges (Some (fold names)) is (inl done) = done_obliges names is done
-  ran_obliges (Some (fold names)) is (inr stopped) = stop_obliges names is stopped
+  ran_obliges (Some command) is (inl done) = done_obliges command is done
+  ran_obliges (Some command) is (inr stopped) = stop_obliges command is stopped
 
 -- a run ends as its words and its files oblige it to
 pub run_obliges : (words : List (List ℕ)) (status : ℕ) (old new : Shelved) (before after : Heard)

@@ -6,13 +6,14 @@ use Rattle.ids_types.specs.Turns.{Turn}
 use Rattle.ids_outside.specs.Faults.{Faults}
 use Rattle.ids_outside.specs.Files.{Files, SameFiles, Changes, AddsAtMost, bytes_at}
 use Rattle.idsm_run.specs.declared.stop.Stop.{Stop}
-use Rattle.idsm_run.specs.declared.stop.Stop.TheVariants.{CannotRead, TooLong, BadConfig, BadJournal, CannotWrite, NoMemory}
+use Rattle.idsm_run.specs.declared.stop.Stop.TheVariants.{CannotRead, TooLong, BadConfig, BadJournal, CannotWrite, NoMemory, BadMessage}
 use Rattle.idsm_run.specs.Config.{Configuration}
 use Rattle.idsm_run.specs.Sending.{turn_messages, messages_of, ends_from, ends_of}
-use Rattle.idsm_run.specs.Command.{FoldFiles}
+use Rattle.idsm_run.specs.Command.{FoldFiles, fold}
 use Rattle.idsm_run.specs.Inputs.{HasInputs}
 use Rattle.idsm_run.specs.Writing.{Output, AreUntouched, HoldsPart, StandsInPart, StandUpTo, Cuts}
-use Rattle.idsm_run.specs.Fold.{fold_outputs, WrittenUpTo, FoldStands, OutputStops}
+use Rattle.idsm_run.specs.Fold.{fold_outputs, WrittenUpTo, OutputStops}
+use Rattle.idsm_run.specs.Run.{StandsFor}
 
 take-nil : (n : ℕ) → take {A = ℕ} n [] ≡ []
 take-nil zero = refl
@@ -89,10 +90,11 @@ outputs_stand names config turns bytes old middle new inputs is same stands = re
 }
 
 -- where the outputs stopped, what stands is so
-pub fold_stands : (names : FoldFiles) (old new : Files) (before now : Faults) (stop : Stop) → OutputStops before now names stop → WrittenUpTo names old new → FoldStands names old new stop
+pub fold_stands : (names : FoldFiles) (old new : Files) (before now : Faults) (stop : Stop) → OutputStops before now names stop → WrittenUpTo names old new → StandsFor stop (fold names) old new
 fold_stands names old new before now (CannotRead name) stops written = absurd stops
 fold_stands names old new before now (TooLong name) stops written = absurd stops
 fold_stands names old new before now BadConfig stops written = absurd stops
 fold_stands names old new before now BadJournal stops written = absurd stops
-fold_stands names old new before now CannotWrite stops written = written
+fold_stands names old new before now CannotWrite stops written = inr written
+fold_stands names old new before now (BadMessage bad) stops written = absurd stops
 fold_stands names old new before now NoMemory stops written = inr written

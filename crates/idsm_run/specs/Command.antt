@@ -14,6 +14,7 @@ pub record FoldFiles : Type 0 where
 -- what a run is asked to do
 pub data Command : Type 0 where
   fold : FoldFiles → Command
+  decode : List ℕ → Command
 
 -- a word that may be a name: it is not empty
 abbrev pub is_name : List ℕ → Bool
@@ -37,14 +38,23 @@ fold_of (config ∷ journal ∷ messages ∷ memory ∷ []) =
     else None
 fold_of names = None
 
+-- the command of the words behind `decode`: the name of a file of messages
+abbrev pub decode_of : List (List ℕ) → Option Command
+decode_of (messages ∷ []) = if is_name messages then Some (decode messages) else None
+decode_of names = None
+
 -- the command of the words behind the program's name, none where they are not in form
 abbrev pub command_of : List (List ℕ) → Option Command
 command_of [] = None
-command_of (word ∷ names) = if bytes_eq word (codes "fold") then fold_of names else None
+command_of (word ∷ names) =
+    if bytes_eq word (codes "fold") then fold_of names
+    else if bytes_eq word (codes "decode") then decode_of names
+    else None
 
 -- the files that the command writes, in the order in which it writes them
 abbrev pub written_by : Command → List (List ℕ)
 written_by (fold files) = files.messages ∷ files.memory ∷ []
+written_by (decode messages) = []
 
 -- the name is none of these
 abbrev pub IsNoneOf : List (List ℕ) → List ℕ → Type 0

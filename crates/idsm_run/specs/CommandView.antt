@@ -1,8 +1,8 @@
 -- A command as the program holds it, with its names lent from the words.
 use Rattle.idsm_run.specs.declared.command.FoldNames.{FoldNames}
 use Rattle.idsm_run.specs.declared.command.Request.{Request}
-use Rattle.idsm_run.specs.declared.command.Request.TheVariants.{Fold}
-use Rattle.idsm_run.specs.Command.{FoldFiles, Command, fold}
+use Rattle.idsm_run.specs.declared.command.Request.TheVariants.{Fold, Decode}
+use Rattle.idsm_run.specs.Command.{FoldFiles, Command, fold, decode}
 
 -- the names as bytes
 abbrev pub files_of : FoldNames → FoldFiles
@@ -16,3 +16,4 @@ files_of names = record {
 -- the command that is asked for
 abbrev pub asked : Request → Command
 asked (Fold names) = fold (files_of names)
+asked (Decode messages) = decode messages.now

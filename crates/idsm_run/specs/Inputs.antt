@@ -6,7 +6,7 @@ use Rattle.ids_outside.specs.Files.{Files, Holds, IsTooLong}
 use Rattle.ids_outside.specs.declared.faults.FaultKind.TheVariants.{Read}
 use Rattle.idsm_run.specs.declared.limits.TheConstants.{MAX_CONFIG_BYTES, MAX_JOURNAL_BYTES}
 use Rattle.idsm_run.specs.declared.stop.Stop.{Stop}
-use Rattle.idsm_run.specs.declared.stop.Stop.TheVariants.{CannotRead, TooLong, BadConfig, BadJournal, CannotWrite, NoMemory}
+use Rattle.idsm_run.specs.declared.stop.Stop.TheVariants.{CannotRead, TooLong, BadConfig, BadJournal, NoMemory}
 use Rattle.idsm_run.specs.Config.{Configuration, ConfigOf}
 use Rattle.idsm_run.specs.PlainJournal.{IsJournal}
 use Rattle.idsm_run.specs.Command.{FoldFiles}
@@ -70,8 +70,8 @@ InputStops tells files old new names BadConfig =
     (new ≡ old) × (IsTrue tells → NoConfig files names)
 InputStops tells files old new names BadJournal =
     (new ≡ old) × (IsTrue tells → NoJournal files names)
-InputStops tells files old new names CannotWrite = ⊥
 InputStops tells files old new names NoMemory = new ≡ old
+InputStops tells files old new names other = ⊥
 
 -- why a file was not read
 abbrev pub ReadStops : Bool → Files → Faults → Faults → List ℕ → ℕ → Stop → Type 0
@@ -79,7 +79,5 @@ ReadStops tells files old new name limit (CannotRead other) =
     (other.now ≡ name) × CountsFault old new Read name
 ReadStops tells files old new name limit (TooLong other) =
     (other.now ≡ name) × (new ≡ old) × (IsTrue tells → IsTooLong files name limit)
-ReadStops tells files old new name limit BadConfig = ⊥
-ReadStops tells files old new name limit BadJournal = ⊥
-ReadStops tells files old new name limit CannotWrite = ⊥
 ReadStops tells files old new name limit NoMemory = new ≡ old
+ReadStops tells files old new name limit stop = ⊥

@@ -2,9 +2,11 @@ pub mod Command
 pub mod CommandView
 pub mod Config
 pub mod ConfigView
+pub mod Decode
 pub mod Fold
 pub mod Inputs
 pub mod JournalReading
+pub mod Messages
 pub mod PlainJournal
 pub mod Run
 pub mod Saying

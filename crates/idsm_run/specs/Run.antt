@@ -2,16 +2,23 @@
 -- Source: docs/COMMANDS.md.
 use Rattle.std.specs.Prelude.{◌≡◌, ◌≢◌, ◌⊎◌, ℕ, ◌≤◌, List, [], ◌++◌, Bool, IsTrue, Option, Some, None, IfSome, codes}
 use Rattle.ids_types.specs.Turns.{Turn}
-use Rattle.ids_outside.specs.Faults.{Faults, Rose}
-use Rattle.ids_outside.specs.Files.{Files, SameFiles}
+use Rattle.ids_frame.specs.declared.fault.BadMessage.{BadMessage}
+use Rattle.ids_frame.specs.Message.{MessageParts}
+use Rattle.ids_outside.specs.Faults.{Faults, Rose, CountsFault}
+use Rattle.ids_outside.specs.Files.{Files, SameFiles, IsTooLong}
+use Rattle.ids_outside.specs.declared.faults.FaultKind.TheVariants.{Read}
+use Rattle.idsm_run.specs.declared.limits.TheConstants.{MAX_MESSAGES_BYTES}
 use Rattle.ids_outside.specs.Sinks.{TakesPart}
-use Rattle.idsm_run.specs.declared.status.TheConstants.{DONE, BAD_WORDS, CANNOT_READ, TOO_LONG, BAD_CONFIG, BAD_JOURNAL, CANNOT_WRITE, NO_MEMORY}
+use Rattle.idsm_run.specs.declared.status.TheConstants.{DONE, BAD_WORDS, CANNOT_READ, TOO_LONG, BAD_CONFIG, BAD_JOURNAL, CANNOT_WRITE, NO_MEMORY, BAD_MESSAGE}
 use Rattle.idsm_run.specs.declared.stop.Stop.{Stop}
+use Rattle.idsm_run.specs.declared.stop.Stop.TheVariants.{CannotRead, TooLong, BadConfig, BadJournal, CannotWrite, NoMemory, BadMessage as bad_message}
 use Rattle.idsm_run.specs.Config.{Configuration}
-use Rattle.idsm_run.specs.Command.{Command, fold, FoldFiles, command_of, written_by}
+use Rattle.idsm_run.specs.Command.{Command, fold, decode, command_of, written_by}
 use Rattle.idsm_run.specs.Inputs.{HasInputs, NoConfig, NoJournal, IsFirstTooLong, FailedRead}
 use Rattle.idsm_run.specs.Writing.{FailedWrite}
-use Rattle.idsm_run.specs.Fold.{Folded, WrittenUpTo, FoldStands, FoldStops}
+use Rattle.idsm_run.specs.Fold.{Folded, WrittenUpTo}
+use Rattle.idsm_run.specs.Messages.{HoldsMessages, HoldsBadMessage, bad_message_text}
+use Rattle.idsm_run.specs.Decode.{Decoded}
 use Rattle.idsm_run.specs.Saying.{Heard, Says, StopSays, TellsStop, usage, no_memory_text, named_text}
 
 -- what a shelf shows at a moment: whether it tells its contents, the contents, and its faults
@@ -24,22 +31,95 @@ pub record Shelved : Type 0 where
 abbrev pub shelved : Bool → Files → Faults → Shelved
 shelved tells files faults = record { tells = tells; files = files; faults = faults }
 
+-- ---- what each command does, and what may stop it
+
+-- the command did its work on these files, and this is its text
+abbrev pub Did : Command → Files → Files → List ℕ → Type 0
+Did (fold names) old new said = Folded names old new said
+Did (decode file) old new said = Decoded file old new said
+
+-- a read of this input file failed, and was the last fault
+abbrev pub FailedInput : Command → Faults → Faults → List ℕ → Type 0
+FailedInput (fold names) old new name = FailedRead old new names name
+FailedInput (decode file) old new name = (name ≡ file) × CountsFault old new Read file
+
+-- this input file is too long, and no refusal comes before it, where files are told
+abbrev pub HasLongInput : Command → Shelved → List ℕ → Type 0
+HasLongInput (fold names) old name = IsTrue old.tells → IsFirstTooLong old.files names name
+HasLongInput (decode file) old name =
+    (name ≡ file) × (IsTrue old.tells → IsTooLong old.files file MAX_MESSAGES_BYTES)
+
+-- the configuration's file holds no configuration, where files are told
+abbrev pub HasBadConfig : Command → Shelved → Type 0
+HasBadConfig (fold names) old = IsTrue old.tells → NoConfig old.files names
+HasBadConfig (decode file) old = ⊥
+
+-- the journal's file holds no journal, behind a configuration that serves, where files are told
+abbrev pub HasBadJournal : Command → Shelved → Type 0
+HasBadJournal (fold names) old = IsTrue old.tells → NoJournal old.files names
+HasBadJournal (decode file) old = ⊥
+
+-- the file of messages holds more than messages: at this place none begins, where files are told
+abbrev pub HasBadMessage : Command → Shelved → BadMessage → Type 0
+HasBadMessage (fold names) old bad = ⊥
+HasBadMessage (decode file) old bad = IsTrue old.tells → HoldsBadMessage old.files file bad
+
+-- the input files serve
+abbrev pub HasGoodInputs : Command → Files → Type 0
+HasGoodInputs (fold names) files =
+    (config : Configuration) × (turns : List Turn) × HasInputs files names config turns
+HasGoodInputs (decode file) files =
+    (messages : List MessageParts) × HoldsMessages files file messages
+
+-- a creation or an append of a file that the command writes failed, and was the last fault
+abbrev pub FailedOutput : Command → Faults → Faults → Type 0
+FailedOutput (fold names) old new =
+    FailedWrite old new names.messages ⊎ FailedWrite old new names.memory
+FailedOutput (decode file) old new = ⊥
+
+-- all files are as they were, or those that the command writes were written up to some place
+abbrev pub StandsSomewhere : Command → Files → Files → Type 0
+StandsSomewhere (fold names) old new = SameFiles old new ⊎ WrittenUpTo names old new
+StandsSomewhere (decode file) old new = SameFiles old new
+
 -- ---- the run of a command
 
--- `fold` was done, and its line was put or not
-pub record FoldDone (names : FoldFiles) (status : ℕ) (old new : Shelved) (before after : Heard)
+-- why the command stopped
+abbrev pub StopsFor : Stop → Command → Shelved → Shelved → Type 0
+StopsFor (CannotRead name) command old new = FailedInput command old.faults new.faults name.now
+StopsFor (TooLong name) command old new =
+    (new.faults ≡ old.faults) × HasLongInput command old name.now
+StopsFor BadConfig command old new = (new.faults ≡ old.faults) × HasBadConfig command old
+StopsFor BadJournal command old new = (new.faults ≡ old.faults) × HasBadJournal command old
+StopsFor CannotWrite command old new = FailedOutput command old.faults new.faults
+StopsFor NoMemory command old new = new.faults ≡ old.faults
+StopsFor (bad_message bad) command old new =
+    (new.faults ≡ old.faults) × HasBadMessage command old bad
+
+-- what stands where the command stopped
+abbrev pub StandsFor : Stop → Command → Files → Files → Type 0
+StandsFor (CannotRead name) command old new = SameFiles old new
+StandsFor (TooLong name) command old new = SameFiles old new
+StandsFor BadConfig command old new = SameFiles old new
+StandsFor BadJournal command old new = SameFiles old new
+StandsFor CannotWrite command old new = StandsSomewhere command old new
+StandsFor NoMemory command old new = StandsSomewhere command old new
+StandsFor (bad_message bad) command old new = SameFiles old new
+
+-- the command was done, and its text was put or not
+pub record Done (command : Command) (status : ℕ) (old new : Shelved) (before after : Heard)
     : Type 0 where
   pub said : List ℕ
-  pub folded : IsTrue old.tells → Folded names old.files new.files said
+  pub did : IsTrue old.tells → Did command old.files new.files said
   pub faults : new.faults ≡ old.faults
   pub says : Says said DONE status before after
 
--- `fold` stopped, and told why or not
-pub record FoldStopped (names : FoldFiles) (status : ℕ) (old new : Shelved) (before after : Heard)
+-- the command stopped, and told why or not
+pub record Stopped (command : Command) (status : ℕ) (old new : Shelved) (before after : Heard)
     : Type 0 where
   pub reason : Stop
-  pub stops : FoldStops old.tells old.files old.faults new.faults names reason
-  pub stands : IsTrue old.tells → FoldStands names old.files new.files reason
+  pub stops : StopsFor reason command old new
+  pub stands : IsTrue old.tells → StandsFor reason command old.files new.files
   pub tells : TellsStop reason status before after
 
 -- the words are no command: the usage was put or not, and the shelf was not touched
@@ -50,8 +130,8 @@ pub record Misused (status : ℕ) (old new : Shelved) (before after : Heard) : T
 
 -- what a run of this command does
 abbrev pub RanCommand : Command → ℕ → Shelved → Shelved → Heard → Heard → Type 0
-RanCommand (fold names) status old new before after =
-    FoldDone names status old new before after ⊎ FoldStopped names status old new before after
+RanCommand command status old new before after =
+    Done command status old new before after ⊎ Stopped command status old new before after
 
 -- what a run does, where the words give this command or none
 abbrev pub Ran : Option Command → ℕ → Shelved → Shelved → Heard → Heard → Type 0
@@ -63,10 +143,6 @@ Ran (Some command) status old new before after = RanCommand command status old n
 -- the words give a command of which this holds
 abbrev pub OfCommand : List (List ℕ) → (Command → Type 0) → Type 0
 OfCommand words P = (command : Command) × (command_of words ≡ Some command) × P command
-
--- the command did its work on these files, and this is its text
-abbrev pub Did : Command → Files → Files → List ℕ → Type 0
-Did (fold names) old new said = Folded names old new said
 
 -- the run did its command's work and said so
 pub record Does (words : List (List ℕ)) (old new : Shelved) (before after : Heard) : Type 0 where
@@ -80,44 +156,12 @@ pub record Does (words : List (List ℕ)) (old new : Shelved) (before after : He
 
 -- the statuses that come before anything is written
 abbrev pub IsRefusal : ℕ → Type 0
-IsRefusal status = (BAD_WORDS ≤ status) × (status ≤ BAD_JOURNAL)
+IsRefusal status = ((BAD_WORDS ≤ status) × (status ≤ BAD_JOURNAL)) ⊎ (status ≡ BAD_MESSAGE)
 
 -- the files that the words let change
 abbrev pub written_of : Option Command → List (List ℕ)
 written_of None = []
 written_of (Some command) = written_by command
-
--- ---- why a run ended so
-
--- a read of this input file failed, and was the last fault
-abbrev pub FailedInput : Command → Faults → Faults → List ℕ → Type 0
-FailedInput (fold names) old new name = FailedRead old new names name
-
--- this input file is too long, and no refusal comes before it
-abbrev pub HasLongInput : Command → Files → List ℕ → Type 0
-HasLongInput (fold names) files name = IsFirstTooLong files names name
-
--- the configuration's file holds no configuration
-abbrev pub HasBadConfig : Command → Files → Type 0
-HasBadConfig (fold names) files = NoConfig files names
-
--- the journal's file holds no journal, behind a configuration that serves
-abbrev pub HasBadJournal : Command → Files → Type 0
-HasBadJournal (fold names) files = NoJournal files names
-
--- the input files serve
-abbrev pub HasGoodInputs : Command → Files → Type 0
-HasGoodInputs (fold names) files =
-    (config : Configuration) × (turns : List Turn) × HasInputs files names config turns
-
--- a creation or an append of a file that the command writes failed, and was the last fault
-abbrev pub FailedOutput : Command → Faults → Faults → Type 0
-FailedOutput (fold names) old new =
-    FailedWrite old new names.messages ⊎ FailedWrite old new names.memory
-
--- all files are as they were, or those that the command writes were written up to some place
-abbrev pub StandsSomewhere : Command → Files → Files → Type 0
-StandsSomewhere (fold names) old new = SameFiles old new ⊎ WrittenUpTo names old new
 
 -- what stands where a run ended with a fault of writing or of memory
 abbrev pub StandsWhereStopped : List (List ℕ) → Files → Files → Type 0
@@ -130,10 +174,9 @@ Adds text before after = IsTrue before.tells → after.taken ≡ before.taken ++
 
 -- this is the text of what the command did, or of why it stopped
 abbrev pub HasText : Command → Shelved → Shelved → List ℕ → Type 0
-HasText (fold names) old new text =
-    (IsTrue old.tells → Folded names old.files new.files text)
-    ⊎ ((reason : Stop) × (wanted : ℕ) × FoldStops old.tells old.files old.faults new.faults names reason
-    × StopSays reason text wanted)
+HasText command old new text =
+    (IsTrue old.tells → Did command old.files new.files text)
+    ⊎ ((reason : Stop) × (wanted : ℕ) × StopsFor reason command old new × StopSays reason text wanted)
 
 -- the put of the run's text failed: the sink took a first part of it, where it tells
 pub record FailedPut (words : List (List ℕ)) (old new : Shelved) (before after : Heard)
@@ -151,20 +194,23 @@ pub record Causes (words : List (List ℕ)) (status : ℕ) (old new : Shelved) (
       × OfCommand words (λ c. FailedInput c old.faults new.faults name)
       × Adds (named_text (codes "cannot read ") name) before after
   pub long : status ≡ TOO_LONG → (name : List ℕ)
-      × OfCommand words (λ c. IsTrue old.tells → HasLongInput c old.files name)
+      × OfCommand words (λ c. HasLongInput c old name)
       × Adds (named_text (codes "too long ") name) before after
   pub config : status ≡ BAD_CONFIG
-      → OfCommand words (λ c. IsTrue old.tells → HasBadConfig c old.files)
+      → OfCommand words (λ c. HasBadConfig c old)
       × Adds (codes "bad config\n") before after
   pub journal : status ≡ BAD_JOURNAL
-      → OfCommand words (λ c. IsTrue old.tells → HasBadJournal c old.files)
+      → OfCommand words (λ c. HasBadJournal c old)
       × Adds (codes "bad journal\n") before after
+  pub message : status ≡ BAD_MESSAGE → (bad : BadMessage)
+      × OfCommand words (λ c. HasBadMessage c old bad)
+      × Adds (bad_message_text bad) before after
   pub write : status ≡ CANNOT_WRITE →
       (OfCommand words (λ c. FailedOutput c old.faults new.faults)
       × Adds (codes "cannot write\n") before after)
       ⊎ FailedPut words old new before after
   pub memory : status ≡ NO_MEMORY → Adds no_memory_text before after ⊎ Adds [] before after
-  pub known : (status ≤ NO_MEMORY) × (status ≢ 1)
+  pub known : (status ≤ BAD_MESSAGE) × (status ≢ 1) × (status ≢ 9)
   pub no_fault : IsRefusal status → status ≢ CANNOT_READ → new.faults ≡ old.faults
   pub all_put : IsRefusal status → after.faults ≡ before.faults
 
@@ -183,13 +229,16 @@ pub record Obliges (words : List (List ℕ)) (status : ℕ) (old new : Shelved) 
     : Type 0 where
   pub misused : command_of words ≡ None → Answers BAD_WORDS status before after
   pub long : IsTrue old.tells → NoFault old new → (name : List ℕ)
-      → OfCommand words (λ c. HasLongInput c old.files name)
+      → OfCommand words (λ c. HasLongInput c old name)
       → Answers TOO_LONG status before after
   pub config : IsTrue old.tells → NoFault old new
-      → OfCommand words (λ c. HasBadConfig c old.files)
+      → OfCommand words (λ c. HasBadConfig c old)
       → Answers BAD_CONFIG status before after
   pub journal : IsTrue old.tells → NoFault old new
-      → OfCommand words (λ c. HasBadJournal c old.files)
+      → OfCommand words (λ c. HasBadJournal c old)
       → Answers BAD_JOURNAL status before after
+  pub message : IsTrue old.tells → NoFault old new → (bad : BadMessage)
+      → OfCommand words (λ c. HasBadMessage c old bad)
+      → Answers BAD_MESSAGE status before after
   pub complete : IsTrue old.tells → NoFault old new → (Rose before.faults after.faults → ⊥)
       → OfCommand words (λ c. HasGoodInputs c old.files) → (status ≡ DONE) ⊎ (status ≡ NO_MEMORY)

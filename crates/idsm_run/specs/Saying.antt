@@ -3,9 +3,10 @@
 use Rattle.std.specs.Prelude.{◌≡◌, ◌⊎◌, ℕ, List, ◌++◌, Bool, IsTrue, codes}
 use Rattle.ids_outside.specs.Faults.{Rose}
 use Rattle.ids_outside.specs.Sinks.{TakesPart}
-use Rattle.idsm_run.specs.declared.status.TheConstants.{CANNOT_READ, TOO_LONG, BAD_CONFIG, BAD_JOURNAL, CANNOT_WRITE, NO_MEMORY}
+use Rattle.idsm_run.specs.declared.status.TheConstants.{CANNOT_READ, TOO_LONG, BAD_CONFIG, BAD_JOURNAL, CANNOT_WRITE, NO_MEMORY, BAD_MESSAGE}
 use Rattle.idsm_run.specs.declared.stop.Stop.{Stop}
 use Rattle.idsm_run.specs.declared.stop.Stop.TheVariants as stop
+use Rattle.idsm_run.specs.Messages.{bad_message_text}
 
 -- what a sink shows at a moment: whether it tells what it took, what it took, and its faults
 pub record Heard : Type 0 where
@@ -43,7 +44,8 @@ Says text wanted status old new =
 
 -- the usage, with the commands that are built
 abbrev pub usage : List ℕ
-usage = codes "usage: idsm fold CONFIG JOURNAL MESSAGES MEMORY\n"
+usage =
+    codes "usage: idsm fold CONFIG JOURNAL MESSAGES MEMORY\n" ++ codes "       idsm decode MESSAGES\n"
 
 abbrev pub no_memory_text : List ℕ
 no_memory_text = codes "no memory\n"
@@ -67,6 +69,8 @@ StopSays stop.BadConfig text status = (text ≡ codes "bad config\n") × (status
 StopSays stop.BadJournal text status = (text ≡ codes "bad journal\n") × (status ≡ BAD_JOURNAL)
 StopSays stop.CannotWrite text status = (text ≡ codes "cannot write\n") × (status ≡ CANNOT_WRITE)
 StopSays stop.NoMemory text status = (text ≡ no_memory_text) × (status ≡ NO_MEMORY)
+StopSays (stop.BadMessage bad) text status =
+    TextOrNoMemory (bad_message_text bad) BAD_MESSAGE text status
 
 -- a stop was told, and how that ended
 pub record TellsStop (reason : Stop) (status : ℕ) (old new : Heard) : Type 0 where

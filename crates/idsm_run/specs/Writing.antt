@@ -4,7 +4,7 @@ use Rattle.ids_outside.specs.Faults.{Faults, CountsFault}
 use Rattle.ids_outside.specs.Files.{Files}
 use Rattle.ids_outside.specs.declared.faults.FaultKind.TheVariants.{Create, Append}
 use Rattle.idsm_run.specs.declared.stop.Stop.{Stop}
-use Rattle.idsm_run.specs.declared.stop.Stop.TheVariants.{CannotRead, TooLong, BadConfig, BadJournal, CannotWrite, NoMemory}
+use Rattle.idsm_run.specs.declared.stop.Stop.TheVariants.{CannotRead, TooLong, BadConfig, BadJournal, CannotWrite, NoMemory, BadMessage}
 
 -- a file that is to be written, whole
 pub record Output : Type 0 where
@@ -50,6 +50,7 @@ WriteStops old new name BadConfig = ⊥
 WriteStops old new name BadJournal = ⊥
 WriteStops old new name CannotWrite = FailedWrite old new name
 WriteStops old new name NoMemory = new ≡ old
+WriteStops old new name (BadMessage bad) = ⊥
 
 -- the places at which so many bytes are cut into pieces: they do not fall, and the last is the end
 abbrev pub Cuts : ℕ → List ℕ → ℕ → Type 0

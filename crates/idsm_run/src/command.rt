@@ -2,7 +2,7 @@
 
 ghost use Rattle.std.specs.Prelude.{◌≡◌, ◌&&◌, not, List, map, option_map, string_bytes, bytes_eq, IsTrue};
 ghost use Rattle.std.specs.List.{list_any};
-ghost use Rattle.idsm_run.specs.Command.{command_of, fold_of, is_name, are_names};
+ghost use Rattle.idsm_run.specs.Command.{command_of, fold_of, decode_of, is_name, are_names};
 ghost use Rattle.idsm_run.specs.CommandView.{asked};
 
 /// The files of the command `fold`. The names are not empty and differ.
@@ -18,6 +18,8 @@ pub(crate) struct FoldNames<'a> {
 #[derive(Clone, Copy, Debug)]
 pub(crate) enum Request<'a> {
     Fold(FoldNames<'a>),
+    /// Prints the messages of a file.
+    Decode(&'a str),
 }
 
 /// The command that the words ask for, `None` where they are not in form.
@@ -25,10 +27,23 @@ pub(crate) fn parse(words: &[String]) -> Option<Request<'_>>
     ensures { option_map asked result ≡ command_of (map string_bytes words.now) }
 {
     let (word, names) = words.split_first()?;
-    if word.as_str() != "fold" {
+    match word.as_str() {
+        "fold" => parse_fold(names),
+        "decode" => parse_decode(names),
+        _ => None,
+    }
+}
+
+fn parse_decode(words: &[String]) -> Option<Request<'_>>
+    ensures { option_map asked result ≡ decode_of (map string_bytes words.now) }
+{
+    let [messages] = words else {
+        return None;
+    };
+    if messages.is_empty() {
         return None;
     }
-    parse_fold(names)
+    Some(Request::Decode(messages.as_str()))
 }
 
 fn parse_fold(words: &[String]) -> Option<Request<'_>>

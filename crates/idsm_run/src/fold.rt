@@ -4,8 +4,9 @@ ghost use Rattle.std.specs.Prelude.{◌≡◌, ◌≢◌, length, IsTrue, IfOk, 
 ghost use Rattle.idsm_run.specs.Sending.{count_of};
 ghost use Rattle.idsm_run.specs.Command.{SameBut, written_by, fold as fold_command};
 ghost use Rattle.idsm_run.specs.CommandView.{files_of};
-ghost use Rattle.idsm_run.specs.Fold.{fold_text as text_of, fold_line as line_of, fold_outputs, Folded, FoldStands, FoldStops, OutputStops};
+ghost use Rattle.idsm_run.specs.Fold.{fold_text as text_of, fold_line as line_of, fold_outputs, Folded, OutputStops};
 ghost use Rattle.idsm_run.specs.Writing.{AreWritten, StandUpTo, Cuts};
+ghost use Rattle.idsm_run.specs.Run.{shelved, StopsFor, StandsFor};
 
 use crate::command::FoldNames;
 use crate::inputs::read_inputs;
@@ -31,11 +32,12 @@ pub(crate) fn fold<'a, H: Shelf>(
     ensures others { IsTrue (H.tells shelf.old) →
         SameBut (written_by (fold_command (files_of names.entry)))
         (H.contents shelf.old) (H.contents shelf.new) }
-    ensures stands { IsTrue (H.tells shelf.old) → IfErr result
-        (FoldStands (files_of names.entry) (H.contents shelf.old) (H.contents shelf.new)) }
+    ensures stands { IsTrue (H.tells shelf.old) → IfErr result (λ stop. StandsFor stop
+        (fold_command (files_of names.entry)) (H.contents shelf.old) (H.contents shelf.new)) }
     ensures faults { OnOk result (H.faults shelf.new ≡ H.faults shelf.old) }
-    ensures stop { IfErr result (FoldStops (H.tells shelf.old) (H.contents shelf.old)
-        (H.faults shelf.old) (H.faults shelf.new) (files_of names.entry)) }
+    ensures stop { IfErr result (λ stop. StopsFor stop (fold_command (files_of names.entry))
+        (shelved (H.tells shelf.old) (H.contents shelf.old) (H.faults shelf.old))
+        (shelved (H.tells shelf.new) (H.contents shelf.new) (H.faults shelf.new))) }
 {
     let inputs = read_inputs(alloc, names, shelf)?;
     let sent = messages_of_history(alloc, &inputs.config, &inputs.history)?;

@@ -50,7 +50,7 @@ pub(crate) fn read_inputs<'a, H: Shelf>(
 }
 
 /// The bytes of a file, where it has at most so many.
-fn read_file<'a, H: Shelf>(
+pub(crate) fn read_file<'a, H: Shelf>(
     alloc: Global,
     name: &'a str,
     limit: u64,

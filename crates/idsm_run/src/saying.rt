@@ -1,21 +1,28 @@
 //! The one text that a run puts to its sink.
 
 ghost use Rattle.std.specs.Prelude.{◌≡◌, IfOk, MatchResult, string_bytes, codes};
+ghost use Rattle.idsm_run.specs.Messages.{bad_message_text};
 ghost use Rattle.idsm_run.specs.Saying.{heard, Says, TellsStop, named_text, no_memory_text};
 
-use crate::status::{BAD_CONFIG, BAD_JOURNAL, CANNOT_READ, CANNOT_WRITE, NO_MEMORY, TOO_LONG};
+use crate::status::{
+    BAD_CONFIG, BAD_JOURNAL, BAD_MESSAGE, CANNOT_READ, CANNOT_WRITE, NO_MEMORY, TOO_LONG,
+};
 use crate::stop::Stop;
+use ids_frame::{BadMessage, FrameFault};
 use ids_outside::{Sink, WriteFault};
 use std::alloc::{AllocError, Global};
 
-/// Puts the text, and returns the status: the one that goes with it, or that of the put's own fault.
-pub(crate) fn say<K: Sink>(text: &str, status: u8, out: &mut K) -> u8
+/// Puts the text, where it has bytes, and returns the status: the one that goes with it, or that of the put's own fault.
+pub(crate) fn say<K: Sink>(text: &[u8], status: u8, out: &mut K) -> u8
     ensures tells { K.tells out.new ≡ K.tells out.old }
     ensures says { Says text.now status result
         (heard (K.tells out.old) (K.taken out.old) (K.faults out.old))
         (heard (K.tells out.new) (K.taken out.new) (K.faults out.new)) }
 {
-    match out.put(text.as_bytes()) {
+    if text.is_empty() {
+        return status;
+    }
+    match out.put(text) {
         Ok(()) => status,
         Err(WriteFault::Failed) => CANNOT_WRITE,
         Err(WriteFault::NoMemory) => NO_MEMORY,
@@ -32,10 +39,11 @@ pub(crate) fn tell<K: Sink>(alloc: Global, stop: Stop<'_>, out: &mut K) -> u8
     match stop {
         Stop::CannotRead(name) => tell_name(cannot_read_text(alloc, name), CANNOT_READ, out),
         Stop::TooLong(name) => tell_name(too_long_text(alloc, name), TOO_LONG, out),
-        Stop::BadConfig => say("bad config\n", BAD_CONFIG, out),
-        Stop::BadJournal => say("bad journal\n", BAD_JOURNAL, out),
-        Stop::CannotWrite => say("cannot write\n", CANNOT_WRITE, out),
-        Stop::NoMemory => say("no memory\n", NO_MEMORY, out),
+        Stop::BadConfig => say(b"bad config\n", BAD_CONFIG, out),
+        Stop::BadJournal => say(b"bad journal\n", BAD_JOURNAL, out),
+        Stop::CannotWrite => say(b"cannot write\n", CANNOT_WRITE, out),
+        Stop::BadMessage(bad) => tell_name(bad_message_line(alloc, bad), BAD_MESSAGE, out),
+        Stop::NoMemory => say(b"no memory\n", NO_MEMORY, out),
     }
 }
 
@@ -51,8 +59,8 @@ fn tell_name<K: Sink>(text: Result<String, AllocError>, status: u8, out: &mut K)
         (heard (K.tells out.new) (K.taken out.new) (K.faults out.new))) }
 {
     match text {
-        Ok(text) => say(text.as_str(), status, out),
-        Err(_) => say("no memory\n", NO_MEMORY, out),
+        Ok(text) => say(text.as_bytes(), status, out),
+        Err(_) => say(b"no memory\n", NO_MEMORY, out),
     }
 }
 
@@ -66,4 +74,15 @@ fn too_long_text(alloc: Global, name: &str) -> Result<String, AllocError>
     ensures { IfOk result (λ text. string_bytes text ≡ named_text (codes "too long ") name.now) }
 {
     format!(in alloc; "too long {name}\n")
+}
+
+fn bad_message_line(alloc: Global, bad: BadMessage) -> Result<String, AllocError>
+    ensures { IfOk result (λ text. string_bytes text ≡ bad_message_text bad) }
+{
+    let at = bad.at;
+    match bad.fault {
+        FrameFault::Short => format!(in alloc; "bad message at {at}: short\n"),
+        FrameFault::UnknownVersion => format!(in alloc; "bad message at {at}: version\n"),
+        FrameFault::UnknownPart => format!(in alloc; "bad message at {at}: part\n"),
+    }
 }

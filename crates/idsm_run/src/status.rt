@@ -23,3 +23,6 @@ pub const CANNOT_WRITE: u8 = 7;
 
 /// Memory was refused.
 pub const NO_MEMORY: u8 = 8;
+
+/// The bytes of a file of messages are no list of messages.
+pub const BAD_MESSAGE: u8 = 10;

@@ -1,6 +1,7 @@
 ghost use Rattle.std.specs.Prelude.{◌≡◌};
 ghost use Rattle.idsm_run.specs.declared.stop.Stop.TheVariants.{NoMemory as no_memory};
 
+use ids_frame::BadMessage;
 use ids_types::NoMemory;
 use std::alloc::AllocError;
 
@@ -15,6 +16,8 @@ pub(crate) enum Stop<'a> {
     BadJournal,
     CannotWrite,
     NoMemory,
+    /// No message begins at this place of the file of messages.
+    BadMessage(BadMessage),
 }
 
 impl From<NoMemory> for Stop<'_> {

@@ -1,0 +1,10 @@
+use Rattle.std.proofs.Common.{◌≡◌, ◌++◌, length}
+use Rattle.text_spec.specs.DecodedText.{decoded_text}
+use Rattle.idsm_run.proofs.decode.lines_of.Given as goal
+
+-- the lines so far and those of the messages that are left are the lines of all
+abbrev pub invariant-loop-message : goal.invariant-loop-message
+invariant-loop-message l = l.lines.items ++ decoded_text l.rest ≡ decoded_text l.fn.messages
+
+abbrev pub decreases-loop-message : goal.decreases-loop-message
+decreases-loop-message l = length l.rest
