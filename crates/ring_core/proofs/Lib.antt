@@ -1,0 +1,15 @@
+pub mod Bounds
+pub mod Claims
+pub mod Finishes
+pub mod Keeps
+pub mod Lives
+pub mod Looks
+pub mod Losses
+pub mod Nexts
+pub mod Opens
+pub mod RingLaws
+pub mod Runs
+pub mod SeatLemmas
+pub mod Sizes
+pub mod Turns
+pub mod WordLemmas

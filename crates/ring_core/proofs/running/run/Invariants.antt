@@ -1,0 +1,8 @@
+use Rattle.std.proofs.Common.{take}
+use Rattle.ring_core.specs.Machine.{opening}
+use Rattle.ring_core.proofs.Runs.{IsReached}
+use Rattle.ring_core.proofs.running.run.Given as goal
+
+-- the ring is what the steps so far lead to
+abbrev pub invariant-loop-at : goal.invariant-loop-at
+invariant-loop-at l = IsReached (opening l.n l.seats) (take l.at l.steps) l.ring

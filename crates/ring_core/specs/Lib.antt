@@ -1,0 +1,5 @@
+pub mod Machine
+pub mod Runs
+pub mod Sound
+pub mod StateView
+pub mod Words

@@ -1,0 +1,26 @@
+ghost use Rattle.std.specs.Prelude.{◌≡◌, ◌≤◌, IfOk};
+ghost use Rattle.ring_core.specs.Machine.{HasSizes, opening};
+ghost use Rattle.ring_core.specs.Runs.{RunAnswers};
+ghost use Rattle.ring_core.specs.Sound.{IsRing};
+
+use crate::fault::RunFault;
+use crate::state::RingState;
+use crate::step::Step;
+use std::alloc::Global;
+
+/// Makes the steps in turn, from a ring whose positions are all free.
+pub fn run(alloc: Global, n: u16, seats: u8, steps: &[Step]) -> Result<RingState, RunFault>
+    requires positions { (1 ≤ n) × (n ≤ 1024) }
+    requires seats { (1 ≤ seats) × (seats ≤ 32) }
+    ensures answer { RunAnswers (opening n seats) steps.now result }
+    ensures sizes { IfOk result (HasSizes n seats) }
+    ensures sound { IfOk result IsRing }
+{
+    let mut ring = RingState::make(alloc, n, seats)?;
+    for (at, step) in steps.iter().enumerate() {
+        if ring.step(step).is_err() {
+            return Err(RunFault::NotPossible { at });
+        }
+    }
+    Ok(ring)
+}

@@ -1,0 +1,127 @@
+ghost use Rattle.std.specs.Prelude.{◌≤◌};
+
+use super::Step::{Claim, Finish, Look, Mark, Offer, Read, See, Split, Sweep};
+use super::*;
+use std::alloc::Global;
+use std::test::*;
+
+/// What a ring shows after some steps: its packed word, the numbers of that word, and how much
+/// its keeper offered and reaped.
+#[derive(Clone, Copy, Debug, PartialEq)]
+struct Shown {
+    number: u64,
+    word: PermitWord,
+    offered: u64,
+    reaped: u64,
+}
+
+/// Steps of a ring of one position, and what it shows after them.
+#[derive(Drop)]
+struct Row<'a> {
+    seats: u8,
+    steps: &'a [Step],
+    shown: Shown,
+}
+
+const fn numbers(
+    number: u64,
+    claimed: u64,
+    free: u16,
+    over: u16,
+    offered: u64,
+    reaped: u64,
+) -> Shown {
+    Shown {
+        number,
+        word: PermitWord {
+            claimed,
+            free,
+            over,
+        },
+        offered,
+        reaped,
+    }
+}
+
+#[tactic(auto, using(crate::proofs::RingLaws::word_packs))]
+fn shown_after(alloc: Global, seats: u8, steps: &[Step]) -> Result<Shown, RunFault>
+    requires { (1 ≤ seats) × (seats ≤ 32) }
+{
+    let ring = run(alloc, 1, seats, steps)?;
+    let word = ring.word();
+    Ok(Shown {
+        number: word.pack(seats),
+        word,
+        offered: ring.offered(),
+        reaped: ring.reaped(),
+    })
+}
+
+// Worked by hand: one seat in turn with the keeper, whose first offer has an old word; then two
+// seats, of which the second claims in vain.
+#[test]
+fn steps_lead_to_states(rt: HostRuntime) {
+    let rows = [
+        Row {
+            seats: 1,
+            steps: &[Look(0), Claim(0), Finish(0), See],
+            shown: numbers(65537, 1, 0, 0, 1, 1),
+        },
+        Row {
+            seats: 1,
+            steps: &[Look(0), Claim(0), Finish(0), See, Offer(1)],
+            shown: numbers(65537, 1, 0, 0, 1, 1),
+        },
+        Row {
+            seats: 1,
+            steps: &[Look(0), Claim(0), Finish(0), See, Offer(1), Offer(1)],
+            shown: numbers(65538, 1, 1, 0, 2, 1),
+        },
+        Row {
+            seats: 2,
+            steps: &[Split, Look(0), Look(1), Claim(0), Claim(1)],
+            shown: numbers(131073, 1, 0, 1, 1, 0),
+        },
+        Row {
+            seats: 2,
+            steps: &[
+                Split,
+                Look(0),
+                Look(1),
+                Claim(0),
+                Claim(1),
+                Finish(0),
+                See,
+                Read,
+                Offer(1),
+            ],
+            shown: numbers(65539, 1, 1, 0, 2, 1),
+        },
+    ];
+    for row in &rows {
+        assert!(rt; 1 <= row.seats && row.seats <= 32);
+        assert_eq!(rt;
+            shown_after(rt.alloc(), row.seats, row.steps),
+            Ok(row.shown)
+        );
+    }
+}
+
+#[test]
+fn the_first_step_that_is_not_possible_is_told(rt: HostRuntime) {
+    let fault = run(rt.alloc(), 1, 1, &[Look(0), Claim(0), Look(0), See]).err();
+    assert_eq!(rt; fault, Some(RunFault::NotPossible { at: 2 }));
+}
+
+#[test]
+fn a_sweep_counts_the_marks(rt: HostRuntime) -> Result<(), RunFault> {
+    let ring = run(
+        rt.alloc(),
+        1,
+        1,
+        &[Mark(0, 0), Mark(0, 0), Mark(0, 1), Sweep(0)],
+    )?;
+    assert_eq!(rt; (ring.loss(0), ring.swept(0)), (0, 2));
+    assert_eq!(rt; (ring.loss(1), ring.swept(1)), (1, 0));
+    Ok(())
+}
