@@ -5,9 +5,11 @@
 //! list of its turns beside the room that it has left.
 #![tactic(auto)]
 
+mod class_spec;
 mod entry;
 mod event;
 mod history;
+mod internal;
 mod memory;
 mod mode;
 mod names;
@@ -16,9 +18,11 @@ mod parcel;
 mod placing;
 mod span;
 
+pub use class_spec::ClassSpec;
 pub use entry::{Act, Carried, Entry, TurnHead};
 pub use event::Qualified;
 pub use history::History;
+pub use internal::Internal;
 pub use memory::NoMemory;
 pub use mode::Mode;
 pub use names::{EventIndex, Stamp, Ticket};

@@ -1,0 +1,97 @@
+ghost use Rattle.std.specs.Prelude.{◌≡◌, ◌<◌, Ok, OnOk, IfSome, option_map};
+ghost use Rattle.ids_config.specs.Parts.{is_sensor, internal_of, index_of as index_name};
+ghost use Rattle.ids_config.specs.Valid.{IsFirstForm, IsValid};
+ghost use Rattle.ids_config.specs.Values.{parts_value, checked};
+
+use crate::events::check_events;
+use crate::fault::{ConfigFault, ConfigPlace};
+use crate::layout::{check_classes, check_internal, check_limit, check_numbers};
+use crate::parts::ConfigParts;
+use crate::steps::at;
+use ids_types::{EventIndex, Internal};
+use std::marker::Model;
+
+/// A valid configuration.
+#[derive(Debug, Drop)]
+pub struct Config {
+    parts: ConfigParts,
+}
+
+impl Model for Config {
+    ghost use Rattle.ids_config.specs.Parts.{Parts};
+
+    ghost Value = { Parts };
+
+    ghost use Rattle.ids_config.specs.ConfigView.{held_parts, IsChecked};
+
+    ghost view = { held_parts };
+
+    ghost invariant = { IsChecked };
+}
+
+impl Config {
+    /// The configuration of these parts, or the first fault of value, 9 to 24. Takes no memory.
+    pub fn check(parts: ConfigParts) -> Result<Config, ConfigFault>
+        ensures { result ≡ checked parts }
+    {
+        check_parts(&parts)?;
+        Ok(Config { parts })
+    }
+
+    /// The parts, which have no fault.
+    pub fn parts(&self) -> &ConfigParts
+        ensures value { result.now ≡ self.now }
+        ensures faultless { parts_value self.now ≡ Ok tt }
+        ensures valid { IsValid self.now }
+        ensures form { IsFirstForm self.now }
+    {
+        &self.parts
+    }
+
+    /// Whether the event is one that sensors report: it is there, and is none of the internal ones.
+    pub fn is_sensor(&self, event: EventIndex) -> bool
+        ensures { result ≡ is_sensor self.now event.0 }
+    {
+        let index = event.0 as u64;
+        let parts = &self.parts;
+        index < parts.events.len() as u64
+            && parts.lost_events != Some(index)
+            && parts.lost_contexts != Some(index)
+            && parts.limited != Some(index)
+    }
+
+    /// The events that the manager itself reports.
+    pub fn internal(&self) -> Internal
+        ensures { result ≡ internal_of self.now }
+    {
+        let parts = self.parts();
+        Internal {
+            lost_events: index_of(parts.lost_events),
+            lost_contexts: index_of(parts.lost_contexts),
+            limited: index_of(parts.limited),
+        }
+    }
+}
+
+#[tactic(auto, unfolding(crate::specs::Values::parts_value))]
+fn check_parts(parts: &ConfigParts) -> Result<(), ConfigFault>
+    ensures value { result ≡ parts_value parts.now }
+    ensures form { OnOk result (IsFirstForm parts.now) }
+{
+    at(ConfigPlace::Top, check_numbers(parts))?;
+    check_classes(&parts.classes)?;
+    at(ConfigPlace::Top, check_limit(parts.rate))?;
+    at(ConfigPlace::Top, check_limit(parts.traffic))?;
+    check_events(&parts.events)?;
+    at(ConfigPlace::Top, check_internal(parts))
+}
+
+fn index_of(index: Option<u64>) -> Option<EventIndex>
+    requires { IfSome index (λ k. k < 65536) }
+    ensures { result ≡ option_map index_name index }
+{
+    match index {
+        Some(index) => Some(EventIndex(index as u16)),
+        None => None,
+    }
+}

@@ -1,0 +1,78 @@
+//! The faults of value in events.
+
+ghost use Rattle.std.specs.Prelude.{◌≡◌, ◌≤◌, OnOk};
+ghost use Rattle.std.specs.List.{AllByRecursion};
+ghost use Rattle.ids_config.specs.Valid.{IsPlainEvent};
+ghost use Rattle.ids_config.specs.Values.{event_value, events_value, each_event, block_value, aggregate_value, rises as rise};
+
+use crate::fault::{ConfigFault, ConfigPlace};
+use crate::layout::{check_interval, check_window, in_range};
+use crate::limits::{
+    MAX_BLOCK_STATES, MAX_EVENTS, MAX_ID, MAX_NTH, MAX_SENSOR, MAX_STATE, MAX_THRESHOLD,
+};
+use crate::parts::{Aggregate, EventParts};
+use crate::steps::{asks, at, capped};
+
+pub(crate) fn check_events(events: &[EventParts]) -> Result<(), ConfigFault>
+    ensures value { result ≡ events_value events.now }
+    ensures form { OnOk result (AllByRecursion IsPlainEvent events.now) }
+{
+    at(
+        ConfigPlace::Top,
+        asks(19, !events.is_empty() && events.len() <= MAX_EVENTS),
+    )?;
+    check_each_event(events)
+}
+
+fn check_each_event(events: &[EventParts]) -> Result<(), ConfigFault>
+    ensures value { result ≡ each_event 0 events.now }
+    ensures form { OnOk result (AllByRecursion IsPlainEvent events.now) }
+{
+    for (index, event) in events.iter().enumerate() {
+        at(ConfigPlace::Event(capped(index)), check_event(event))?;
+    }
+    Ok(())
+}
+
+#[tactic(auto, unfolding(crate::specs::Values::event_value))]
+fn check_event(event: &EventParts) -> Result<(), u8>
+    ensures value { result ≡ event_value event.now }
+    ensures form { IsPlainEvent event.now }
+{
+    in_range(20, 0, MAX_ID, event.id)?;
+    in_range(21, 0, MAX_SENSOR, event.sensor)?;
+    check_block(&event.block)?;
+    in_range(23, 1, MAX_NTH, event.nth)?;
+    check_aggregate(event.aggregate)?;
+    check_window(23, 1, MAX_THRESHOLD, event.threshold)
+}
+
+/// Blocking states.
+fn check_block(block: &[u64]) -> Result<(), u8>
+    ensures { result ≡ block_value block.now }
+{
+    asks(22, block.len() <= MAX_BLOCK_STATES && rises(block))
+}
+
+/// The states rise strictly and are in range.
+fn rises(block: &[u64]) -> bool
+    ensures { result ≡ rise 0 block.now }
+{
+    let mut least = 0;
+    for &state in block {
+        if state < least || state > MAX_STATE {
+            return false;
+        }
+        least = state + 1;
+    }
+    true
+}
+
+fn check_aggregate(aggregate: Option<Aggregate>) -> Result<(), u8>
+    ensures { result ≡ aggregate_value aggregate }
+{
+    match aggregate {
+        Some(aggregate) => check_interval(23, aggregate.interval),
+        None => Ok(()),
+    }
+}
