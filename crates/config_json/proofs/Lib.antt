@@ -1,0 +1,4 @@
+mod PrintedParts
+mod PrintedShape
+mod PrintedText
+mod ShapeLemmas

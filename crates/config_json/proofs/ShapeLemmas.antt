@@ -1,0 +1,52 @@
+-- The members of an object as its reader meets them: keys, and rows of a constant.
+use Rattle.std.proofs.Common.{◌≡◌, ℕ, List, [], ◌∷◌, map, Bool, Some, bytes_eq, string_bytes, refl, sym}
+use Rattle.std.specs.List.{list_any, list_all}
+use Rattle.std.specs.Map.{keys_of}
+use Rattle.serde_json.proofs.Views.{Entry}
+use Rattle.serde_json.specs.Data.{Data}
+use Rattle.serde_json.specs.Find.{as_object}
+use Rattle.serde_json.specs.View.{view, items_view, members_view}
+use Rattle.serde_json.specs.declared.value.Value.{Value}
+use Rattle.config_json.specs.declared.tables.MemberRow.{MemberRow}
+use Rattle.config_json.specs.Kinds.{elements, is_whole}
+use Rattle.config_json.specs.Rows.{row_of, is_among, members_shape}
+use Rattle.config_json.specs.Shape.{names_of, is_named, is_there, is_of_kind, object_shape}
+use Rattle.config_json.specs.Tables.{Row}
+
+-- all trees of a list are whole numbers
+pub all_elements : (values : List Value)
+    → list_all is_whole (elements (items_view values)) ≡ list_all (λ v. is_whole (view v)) values
+all_elements [] = refl
+all_elements (v ∷ values) = rw (all_elements values) refl
+
+-- a condition on all rows
+all_rows : (P : Row → Bool) (rows : List MemberRow)
+    → list_all P (map row_of rows) ≡ list_all (λ row. P (row_of row)) rows
+all_rows P [] = refl
+all_rows P (row ∷ rows) = rw (all_rows P rows) refl
+
+-- a name among the rows
+any_row : (key : List ℕ) (rows : List MemberRow)
+    → is_named (map row_of rows) key ≡ list_any (λ row. bytes_eq key row.name.now) rows
+any_row key [] = refl
+any_row key (row ∷ rows) = rw (any_row key rows) refl
+
+-- the names of members are the keys of the map
+named_members : (rows : List MemberRow) (entries : List Entry)
+    → list_all (is_named (map row_of rows)) (names_of (members_view entries))
+    ≡ list_all (is_among rows) (keys_of entries)
+named_members rows [] = refl
+named_members rows (entry ∷ entries) =
+    rw (any_row (string_bytes entry.0) rows, named_members rows entries) refl
+
+-- the search of an object that has these members
+pub object_members : (rows : List MemberRow) (tree : Data) (entries : List Entry)
+    → Some (members_view entries) ≡ as_object tree
+    → object_shape (map row_of rows) tree ≡ members_shape rows tree (keys_of entries)
+object_members rows tree entries e =
+    rw (
+      sym e,
+      named_members rows entries,
+      all_rows (is_there tree) rows,
+      all_rows (is_of_kind tree) rows,
+    ) refl

@@ -1,0 +1,10 @@
+use Rattle.std.proofs.Common.{◌≡◌, ◌++◌, map, drop}
+use Rattle.serde_json.specs.View.{view}
+use Rattle.config_json.specs.Printed.{whole}
+use Rattle.config_json.proofs.printing.tree_of_block.Given as goal
+
+-- the trees of the rest, behind those that were made, are the trees of all
+abbrev pub invariant-loop-state : goal.invariant-loop-state
+invariant-loop-state l =
+    map view l.trees.items ++ map whole (drop l.state-index l.block)
+    ≡ map whole l.block

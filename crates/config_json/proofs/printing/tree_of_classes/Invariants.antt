@@ -1,0 +1,11 @@
+use Rattle.std.proofs.Common.{◌≡◌, ◌++◌, map, drop}
+use Rattle.serde_json.specs.View.{view}
+use Rattle.ids_config.specs.Classes.{class_of}
+use Rattle.config_json.specs.Printed.{class_tree}
+use Rattle.config_json.proofs.printing.tree_of_classes.Given as goal
+
+-- the trees of the rest, behind those that were made, are the trees of all
+abbrev pub invariant-loop-class : goal.invariant-loop-class
+invariant-loop-class l =
+    map view l.trees.items ++ map class_tree (map class_of (drop l.class-index l.classes))
+    ≡ map class_tree (map class_of l.classes)

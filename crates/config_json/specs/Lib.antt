@@ -1,0 +1,8 @@
+pub mod Answers
+pub mod Configured
+pub mod Kinds
+pub mod Members
+pub mod Printed
+pub mod Rows
+pub mod Shape
+pub mod Tables

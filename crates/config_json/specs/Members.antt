@@ -1,0 +1,125 @@
+-- The parts that a tree has: each member's value, or its default where it is absent.
+-- Source: the configuration format of this project (docs/CONFIGURATION.md).
+use Rattle.std.specs.Prelude.{ℕ, List, map, Bool, true, false, Option, Some, None, option_map, option_and_then, unwrap_or, is_some, bytes_eq, codes, if◌then◌else◌}
+use Rattle.serde_json.specs.Data.{Data, no_items}
+use Rattle.serde_json.specs.Find.{get, as_bool, as_str, as_array, as_object}
+use Rattle.ids_types.specs.declared.class_spec.ClassSpec.{ClassSpec}
+use Rattle.ids_types.specs.declared.mode.Mode.{Mode}
+use Rattle.ids_types.specs.declared.mode.Mode.TheVariants as modes
+use Rattle.ids_config.specs.declared.parts.Aggregate.{Aggregate}
+use Rattle.ids_config.specs.declared.parts.Window.{Window}
+use Rattle.ids_config.specs.Parts.{Event, Parts, first_profile, first_version}
+use Rattle.config_json.specs.Kinds.{whole_in, elements}
+
+-- ---- members by name
+
+-- the whole number of this name
+abbrev pub whole_at : List ℕ → Data → Option ℕ
+whole_at name tree = option_and_then whole_in (get name tree)
+
+-- the whole number of this name, or this one
+abbrev pub whole_or : ℕ → List ℕ → Data → ℕ
+whole_or default name tree = unwrap_or (whole_at name tree) default
+
+-- the truth value of this name, or this one
+abbrev pub truth_or : Bool → List ℕ → Data → Bool
+truth_or default name tree = unwrap_or (option_and_then as_bool (get name tree)) default
+
+-- the text of this name
+abbrev pub text_at : List ℕ → Data → Option (List ℕ)
+text_at name tree = option_and_then as_str (get name tree)
+
+-- the trees of the list of this name, none where it is absent
+abbrev pub list_at : List ℕ → Data → List Data
+list_at name tree = elements (unwrap_or (option_and_then as_array (get name tree)) no_items)
+
+-- the tree, where it is an object
+abbrev pub if_object : Data → Option Data
+if_object tree = if is_some (as_object tree) then Some tree else None
+
+-- the object of this name, none where it is null or absent
+abbrev pub object_at : List ℕ → Data → Option Data
+object_at name tree = option_and_then if_object (get name tree)
+
+-- ---- texts that are names
+
+-- the reporting mode of this name
+abbrev pub mode_named : List ℕ → Option Mode
+mode_named name =
+    if bytes_eq name (codes "OFF") then Some modes.Off
+    else if bytes_eq name (codes "BRIEF") then Some modes.Brief
+    else if bytes_eq name (codes "DETAILED") then Some modes.Detailed
+    else if bytes_eq name (codes "BRIEF_BYPASSING_FILTERS") then Some modes.BriefBypassing
+    else if bytes_eq name (codes "DETAILED_BYPASSING_FILTERS") then Some modes.DetailedBypassing
+    else None
+
+-- the choice of a context of this name: whether the last one is kept
+abbrev pub last_named : List ℕ → Option Bool
+last_named name =
+    if bytes_eq name (codes "FIRST") then Some false
+    else if bytes_eq name (codes "LAST") then Some true
+    else None
+
+-- ---- parts
+
+-- the window of an object, whose number has this name
+abbrev pub window_in : List ℕ → Data → Window
+window_in name tree = record {
+  interval = whole_or 0 (codes "interval") tree;
+  number = whole_or 0 name tree;
+}
+
+-- the aggregation of an object
+abbrev pub aggregate_in : Data → Aggregate
+aggregate_in tree = record {
+  interval = whole_or 0 (codes "interval") tree;
+  last = unwrap_or (option_and_then last_named (text_at (codes "context") tree)) false;
+}
+
+-- the class of an object
+abbrev pub class_in : Data → ClassSpec
+class_in tree = record {
+  size = whole_or 0 (codes "size") tree;
+  number = whole_or 0 (codes "number") tree;
+}
+
+-- the state that a tree is
+abbrev pub state_in : Data → ℕ
+state_in tree = unwrap_or (whole_in tree) 0
+
+-- the event of an object
+unfoldable pub event_in : Data → Event
+event_in tree = record {
+  id = whole_or 0 (codes "id") tree;
+  sensor = whole_or 0 (codes "sensor") tree;
+  version = first_version;
+  mode = unwrap_or (option_and_then mode_named (text_at (codes "mode") tree)) modes.Detailed;
+  send = truth_or true (codes "send") tree;
+  store = truth_or false (codes "store") tree;
+  block = map state_in (list_at (codes "block") tree);
+  nth = whole_or 1 (codes "nth") tree;
+  aggregate = option_map aggregate_in (object_at (codes "aggregate") tree);
+  threshold = option_map (window_in (codes "count")) (object_at (codes "threshold") tree);
+}
+
+-- the index that the object of internal events has by this name
+abbrev pub internal_at : List ℕ → Data → Option ℕ
+internal_at name tree = option_and_then (whole_at name) (object_at (codes "internal") tree)
+
+-- the configuration of an object
+unfoldable pub parts_in : Data → Parts
+parts_in tree = record {
+  profile = first_profile;
+  instance = whole_or 0 (codes "instance") tree;
+  callers = whole_or 1 (codes "callers") tree;
+  ring = whole_or 64 (codes "ring") tree;
+  memory = whole_or 0 (codes "memory") tree;
+  state = whole_or 0 (codes "state") tree;
+  classes = map class_in (list_at (codes "classes") tree);
+  rate = option_map (window_in (codes "events")) (object_at (codes "rate") tree);
+  traffic = option_map (window_in (codes "bytes")) (object_at (codes "traffic") tree);
+  events = map event_in (list_at (codes "events") tree);
+  lost_events = internal_at (codes "lost_events") tree;
+  lost_contexts = internal_at (codes "lost_contexts") tree;
+  limited = internal_at (codes "limited") tree;
+}

@@ -1,0 +1,104 @@
+-- The search for faults of shape, in the order of the walk. The first fault found is the answer.
+-- Source: the configuration format of this project (docs/CONFIGURATION.md).
+use Rattle.std.specs.Prelude.{ℕ, List, [], ◌∷◌, Bool, true, false, not, ◌||◌, ◌==◌, Option, option_map, unwrap_or, is_some, bytes_eq, codes, Result, Ok, ⊤}
+use Rattle.std.specs.List.{list_any, list_all}
+use Rattle.serde_json.specs.Data.{Data, Members, no_members, member}
+use Rattle.serde_json.specs.Find.{get, as_object}
+use Rattle.ids_config.specs.declared.fault.ConfigFault.{ConfigFault}
+use Rattle.ids_config.specs.declared.fault.ConfigPlace.TheVariants as places
+use Rattle.ids_config.specs.Steps.{◌>>◌, asks, at, each, capped}
+use Rattle.config_json.specs.Kinds.{has_kind}
+use Rattle.config_json.specs.Members.{whole_at, text_at, list_at, object_at, mode_named, last_named}
+use Rattle.config_json.specs.Tables.{Row, top_table, class_table, rate_table, traffic_table, event_table, aggregate_table, threshold_table, internal_table}
+
+-- ---- one object
+
+-- the names of members
+abbrev pub names_of : Members → List (List ℕ)
+names_of no_members = []
+names_of (member name tree members) = name ∷ names_of members
+
+-- the table has a row of this name
+abbrev pub is_named : List Row → List ℕ → Bool
+is_named rows name = list_any (λ row. bytes_eq name row.name) rows
+
+-- each member of the object has a row
+abbrev pub are_named : List Row → Data → Bool
+are_named rows tree = unwrap_or
+    (option_map (λ members. list_all (is_named rows) (names_of members)) (as_object tree)) true
+
+-- the object has the row's member, where it has to
+abbrev pub is_there : Data → Row → Bool
+is_there tree row = not row.required || is_some (get row.name tree)
+
+-- the row's member is of its kind, where it is there
+abbrev pub is_of_kind : Data → Row → Bool
+is_of_kind tree row = unwrap_or (option_map (has_kind row.kind) (get row.name tree)) true
+
+-- an object with the members of the table
+abbrev pub object_shape : List Row → Data → Result ⊤ ℕ
+object_shape rows tree =
+    asks 2 (is_some (as_object tree))
+    >> asks 3 (are_named rows tree)
+    >> asks 4 (list_all (is_there tree) rows)
+    >> asks 5 (list_all (is_of_kind tree) rows)
+
+-- the object of this name, where there is one
+abbrev pub part_shape : (Data → Result ⊤ ℕ) → List ℕ → Data → Result ⊤ ℕ
+part_shape shape name tree = unwrap_or (option_map shape (object_at name tree)) (Ok tt)
+
+-- the text of this name is one that names something, where it is there
+abbrev pub is_known : {A : Type 0} → (List ℕ → Option A) → List ℕ → Data → Bool
+is_known named name tree =
+    unwrap_or (option_map (λ text. is_some (named text)) (text_at name tree)) true
+
+-- ---- all objects
+
+-- a class
+abbrev pub class_shape : Data → Result ⊤ ℕ
+class_shape tree = object_shape class_table tree
+
+-- classes from this index on
+abbrev pub each_class : ℕ → List Data → Result ⊤ ConfigFault
+each_class index trees = each (λ i tree. at (places.Class (capped i)) (class_shape tree)) index trees
+
+-- all classes
+abbrev pub classes_shape : List Data → Result ⊤ ConfigFault
+classes_shape trees = each_class 0 trees
+
+-- an aggregation
+abbrev pub aggregate_shape : Data → Result ⊤ ℕ
+aggregate_shape tree =
+    object_shape aggregate_table tree >> asks 8 (is_known last_named (codes "context") tree)
+
+-- an event with the members of the table
+unfoldable pub event_shape : List Row → Data → Result ⊤ ℕ
+event_shape rows tree =
+    object_shape rows tree
+    >> asks 7 (is_known mode_named (codes "mode") tree)
+    >> part_shape aggregate_shape (codes "aggregate") tree
+    >> part_shape (object_shape threshold_table) (codes "threshold") tree
+
+-- events with the members of the table, from this index on
+abbrev pub each_event : List Row → ℕ → List Data → Result ⊤ ConfigFault
+each_event rows index trees =
+    each (λ i tree. at (places.Event (capped i)) (event_shape rows tree)) index trees
+
+-- all events
+abbrev pub events_shape : List Row → List Data → Result ⊤ ConfigFault
+events_shape rows trees = each_event rows 0 trees
+
+-- the form is the first
+abbrev pub is_first_form : Data → Bool
+is_first_form tree = unwrap_or (option_map (λ form. form == 1) (whole_at (codes "form") tree)) false
+
+-- the whole configuration
+unfoldable pub config_shape : Data → Result ⊤ ConfigFault
+config_shape tree =
+    at places.Top (object_shape top_table tree)
+    >> at places.Top (asks 6 (is_first_form tree))
+    >> classes_shape (list_at (codes "classes") tree)
+    >> at places.Top (part_shape (object_shape rate_table) (codes "rate") tree)
+    >> at places.Top (part_shape (object_shape traffic_table) (codes "traffic") tree)
+    >> events_shape event_table (list_at (codes "events") tree)
+    >> at places.Top (part_shape (object_shape internal_table) (codes "internal") tree)

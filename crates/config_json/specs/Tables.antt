@@ -1,0 +1,77 @@
+-- The members of each object, in the order in which they are walked.
+-- Source: the configuration format of this project (docs/CONFIGURATION.md).
+use Rattle.std.specs.Prelude.{ℕ, List, [], ◌∷◌, Bool, true, false, codes}
+use Rattle.config_json.specs.declared.kind.Kind.{Kind}
+use Rattle.config_json.specs.declared.kind.Kind.TheVariants as kinds
+
+-- a member that an object may have
+pub record Row : Type 0 where
+  pub name : List ℕ
+  pub kind : Kind
+  pub required : Bool
+
+-- a member that has to be there
+abbrev pub must : List ℕ → Kind → Row
+must name kind = record { name = name; kind = kind; required = true }
+
+-- a member that may be left out
+abbrev pub may : List ℕ → Kind → Row
+may name kind = record { name = name; kind = kind; required = false }
+
+-- the whole configuration
+abbrev pub top_table : List Row
+top_table =
+    must (codes "form") kinds.Whole
+    ∷ must (codes "instance") kinds.Whole
+    ∷ may (codes "callers") kinds.Whole
+    ∷ may (codes "ring") kinds.Whole
+    ∷ may (codes "memory") kinds.Whole
+    ∷ may (codes "state") kinds.Whole
+    ∷ may (codes "classes") kinds.List
+    ∷ may (codes "rate") kinds.ObjectOrNull
+    ∷ may (codes "traffic") kinds.ObjectOrNull
+    ∷ must (codes "events") kinds.List
+    ∷ may (codes "internal") kinds.Object
+    ∷ []
+
+-- a class
+abbrev pub class_table : List Row
+class_table = must (codes "size") kinds.Whole ∷ must (codes "number") kinds.Whole ∷ []
+
+-- a rate
+abbrev pub rate_table : List Row
+rate_table = must (codes "interval") kinds.Whole ∷ must (codes "events") kinds.Whole ∷ []
+
+-- a limit of traffic
+abbrev pub traffic_table : List Row
+traffic_table = must (codes "interval") kinds.Whole ∷ must (codes "bytes") kinds.Whole ∷ []
+
+-- an event
+abbrev pub event_table : List Row
+event_table =
+    must (codes "id") kinds.Whole
+    ∷ must (codes "sensor") kinds.Whole
+    ∷ may (codes "mode") kinds.Text
+    ∷ may (codes "send") kinds.Truth
+    ∷ may (codes "store") kinds.Truth
+    ∷ may (codes "block") kinds.Wholes
+    ∷ may (codes "nth") kinds.Whole
+    ∷ may (codes "aggregate") kinds.ObjectOrNull
+    ∷ may (codes "threshold") kinds.ObjectOrNull
+    ∷ []
+
+-- an aggregation
+abbrev pub aggregate_table : List Row
+aggregate_table = must (codes "interval") kinds.Whole ∷ must (codes "context") kinds.Text ∷ []
+
+-- a threshold
+abbrev pub threshold_table : List Row
+threshold_table = must (codes "interval") kinds.Whole ∷ must (codes "count") kinds.Whole ∷ []
+
+-- the internal events
+abbrev pub internal_table : List Row
+internal_table =
+    may (codes "lost_events") kinds.WholeOrNull
+    ∷ may (codes "lost_contexts") kinds.WholeOrNull
+    ∷ may (codes "limited") kinds.WholeOrNull
+    ∷ []

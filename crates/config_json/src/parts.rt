@@ -1,0 +1,130 @@
+//! The parts of a configuration, each member's value or its default.
+
+ghost use Rattle.std.specs.Prelude.{◌≡◌, map, IfOk};
+ghost use Rattle.serde_json.specs.View.{view, items_view};
+ghost use Rattle.ids_config.specs.Classes.{class_of};
+ghost use Rattle.config_json.specs.Kinds.{elements};
+ghost use Rattle.config_json.specs.Members.{whole_or as whole_unless, truth_or as truth_unless, window_in, aggregate_in, class_in, state_in, event_in, internal_at, parts_in};
+
+use crate::members::{find_list, find_object, find_text, find_whole, last_of, mode_of};
+use ids_config::{Aggregate, ConfigParts, EventParts, Window};
+use ids_types::Mode;
+use serde_json::Value;
+use std::alloc::{AllocError, Global};
+
+/// The parts of a whole configuration.
+#[tactic(auto, unfolding(crate::specs::Members::parts_in))]
+pub(crate) fn read_parts(alloc: Global, value: &Value) -> Result<ConfigParts, AllocError>
+    ensures { IfOk result (λ parts. parts ≡ parts_in (view value.now)) }
+{
+    Ok(ConfigParts {
+        instance: whole_or(0, value, "instance"),
+        callers: whole_or(1, value, "callers"),
+        ring: whole_or(64, value, "ring"),
+        memory: whole_or(0, value, "memory"),
+        state: whole_or(0, value, "state"),
+        classes: read_classes(alloc, find_list(value, "classes"))?,
+        rate: find_object(value, "rate").map(|rate| read_window(rate, "events")),
+        traffic: find_object(value, "traffic").map(|traffic| read_window(traffic, "bytes")),
+        events: read_events(alloc, find_list(value, "events"))?,
+        lost_events: find_internal(value, "lost_events"),
+        lost_contexts: find_internal(value, "lost_contexts"),
+        limited: find_internal(value, "limited"),
+    })
+}
+
+fn read_classes(alloc: Global, values: &[Value]) -> Result<Vec<(u64, u64)>, AllocError>
+    ensures { IfOk result (λ classes.
+        map class_of classes.items ≡ map class_in (elements (items_view values.now))) }
+{
+    let mut classes = Vec::with_capacity(alloc, values.len())?;
+    for value in values {
+        classes.push((whole_or(0, value, "size"), whole_or(0, value, "number")))?;
+    }
+    Ok(classes)
+}
+
+fn read_events(alloc: Global, values: &[Value]) -> Result<Vec<EventParts>, AllocError>
+    ensures { IfOk result (λ events.
+        events.items ≡ map event_in (elements (items_view values.now))) }
+{
+    let mut events = Vec::with_capacity(alloc, values.len())?;
+    for value in values {
+        events.push(read_event(alloc, value)?)?;
+    }
+    Ok(events)
+}
+
+#[tactic(auto, unfolding(crate::specs::Members::event_in))]
+fn read_event(alloc: Global, value: &Value) -> Result<EventParts, AllocError>
+    ensures { IfOk result (λ event. event ≡ event_in (view value.now)) }
+{
+    Ok(EventParts {
+        id: whole_or(0, value, "id"),
+        sensor: whole_or(0, value, "sensor"),
+        mode: find_text(value, "mode")
+            .and_then(mode_of)
+            .unwrap_or(Mode::Detailed),
+        send: truth_or(true, value, "send"),
+        store: truth_or(false, value, "store"),
+        block: read_block(alloc, find_list(value, "block"))?,
+        nth: whole_or(1, value, "nth"),
+        aggregate: find_object(value, "aggregate").map(read_aggregate),
+        threshold: find_object(value, "threshold").map(|threshold| read_window(threshold, "count")),
+    })
+}
+
+/// Blocking states.
+fn read_block(alloc: Global, values: &[Value]) -> Result<Vec<u64>, AllocError>
+    ensures { IfOk result (λ states.
+        states.items ≡ map state_in (elements (items_view values.now))) }
+{
+    let mut states = Vec::with_capacity(alloc, values.len())?;
+    for value in values {
+        states.push(value.as_u64().unwrap_or(0))?;
+    }
+    Ok(states)
+}
+
+fn read_aggregate(value: &Value) -> Aggregate
+    ensures { result ≡ aggregate_in (view value.now) }
+{
+    Aggregate {
+        interval: whole_or(0, value, "interval"),
+        last: find_text(value, "context")
+            .and_then(last_of)
+            .unwrap_or(false),
+    }
+}
+
+/// A window whose number has this name.
+fn read_window(value: &Value, name: &str) -> Window
+    ensures { result ≡ window_in name.now (view value.now) }
+{
+    Window {
+        interval: whole_or(0, value, "interval"),
+        number: whole_or(0, value, name),
+    }
+}
+
+/// The index that the object of internal events has by this name.
+fn find_internal(value: &Value, name: &str) -> Option<u64>
+    ensures { result ≡ internal_at name.now (view value.now) }
+{
+    let internal = find_object(value, "internal")?;
+    find_whole(internal, name)
+}
+
+/// The whole number of this name, or the default.
+fn whole_or(default: u64, value: &Value, name: &str) -> u64
+    ensures { result ≡ whole_unless default name.now (view value.now) }
+{
+    find_whole(value, name).unwrap_or(default)
+}
+
+/// The truth value of this name, or the default.
+fn truth_or(default: bool, value: &Value, name: &str) -> bool
+    ensures { result ≡ truth_unless default name.now (view value.now) }
+{
+    value.get(name).and_then(Value::as_bool).unwrap_or(default)
+}

@@ -1,0 +1,37 @@
+ghost use Rattle.std.specs.Prelude.{◌≡◌, IfErr};
+ghost use Rattle.serde_json.specs.View.{view};
+ghost use Rattle.config_json.specs.Answers.{Reads, HasNone, Tells};
+ghost use Rattle.config_json.specs.Configured.{config_in};
+
+use crate::fault::JsonFault;
+use crate::parts::read_parts;
+use crate::shape::check_shape;
+use ids_config::{Config, ConfigFault, ConfigPlace};
+use serde_json::Value;
+use std::alloc::Global;
+
+/// The configuration that the bytes are the text of, or the first fault.
+pub fn read(alloc: Global, bytes: &[u8]) -> Result<Config, JsonFault>
+    ensures reads { Reads bytes.now result }
+    ensures only { IfErr result (HasNone bytes.now) }
+{
+    match Value::from_slice(alloc, bytes) {
+        Ok(value) => read_tree(alloc, &value),
+        Err(error) if error.is_memory() => Err(JsonFault::NoMemory),
+        Err(_) => Err(JsonFault::Config(ConfigFault {
+            number: 1,
+            place: ConfigPlace::Top,
+        })),
+    }
+}
+
+fn read_tree(alloc: Global, value: &Value) -> Result<Config, JsonFault>
+    ensures { Tells (config_in (view value.now)) result }
+{
+    check_shape(value)?;
+    let parts = read_parts(alloc, value)?;
+    match Config::check(parts) {
+        Ok(config) => Ok(config),
+        Err(fault) => Err(JsonFault::Config(fault)),
+    }
+}

@@ -1,0 +1,173 @@
+//! The search for faults of shape: the members of each object, their kinds and their names.
+
+ghost use Rattle.std.specs.Prelude.{◌≡◌, map, bytes_eq, codes};
+ghost use Rattle.std.specs.List.{list_any, list_all};
+ghost use Rattle.std.specs.BTreeMap.{keys};
+ghost use Rattle.serde_json.specs.View.{view, items_view};
+ghost use Rattle.config_json.specs.Kinds.{elements};
+ghost use Rattle.config_json.specs.Members.{mode_named, last_named};
+ghost use Rattle.config_json.specs.Rows.{row_of, is_among as among, members_shape};
+ghost use Rattle.config_json.specs.Shape.{object_shape, part_shape, class_shape, classes_shape, aggregate_shape, event_shape, events_shape, config_shape, is_there as there, is_of_kind as of_kind, is_known as known, is_first_form as first_form};
+
+use crate::kind::has_kind;
+use crate::members::{find_list, find_object, find_text, find_whole, last_of, mode_of};
+use crate::tables::{AGGREGATE, CLASS, EVENT, INTERNAL, MemberRow, RATE, THRESHOLD, TOP, TRAFFIC};
+use ids_config::{ConfigFault, ConfigPlace, asks, at, capped};
+use serde_json::{Map, Value};
+
+/// The first fault of shape of a whole configuration.
+#[tactic(auto, unfolding(crate::specs::Shape::config_shape))]
+pub(crate) fn check_shape(value: &Value) -> Result<(), ConfigFault>
+    ensures { result ≡ config_shape (view value.now) }
+{
+    at(ConfigPlace::Top, check_object(value, &TOP))?;
+    at(ConfigPlace::Top, asks(6, is_first_form(value)))?;
+    check_classes(find_list(value, "classes"))?;
+    at(ConfigPlace::Top, check_part(value, "rate", &RATE))?;
+    at(ConfigPlace::Top, check_part(value, "traffic", &TRAFFIC))?;
+    check_events(find_list(value, "events"), &EVENT)?;
+    at(ConfigPlace::Top, check_part(value, "internal", &INTERNAL))
+}
+
+fn is_first_form(value: &Value) -> bool
+    ensures { result ≡ first_form (view value.now) }
+{
+    match find_whole(value, "form") {
+        Some(form) => form == 1,
+        None => false,
+    }
+}
+
+fn check_classes(values: &[Value]) -> Result<(), ConfigFault>
+    ensures { result ≡ classes_shape (elements (items_view values.now)) }
+{
+    for (index, value) in values.iter().enumerate() {
+        at(ConfigPlace::Class(capped(index)), check_class(value))?;
+    }
+    Ok(())
+}
+
+fn check_class(value: &Value) -> Result<(), u8>
+    ensures { result ≡ class_shape (view value.now) }
+{
+    check_object(value, &CLASS)
+}
+
+/// All events, each with the members of the table.
+fn check_events(values: &[Value], rows: &[MemberRow]) -> Result<(), ConfigFault>
+    ensures { result ≡ events_shape (map row_of rows.now) (elements (items_view values.now)) }
+{
+    for (index, value) in values.iter().enumerate() {
+        at(ConfigPlace::Event(capped(index)), check_event(value, rows))?;
+    }
+    Ok(())
+}
+
+#[tactic(auto, unfolding(crate::specs::Shape::event_shape))]
+fn check_event(value: &Value, rows: &[MemberRow]) -> Result<(), u8>
+    ensures { result ≡ event_shape (map row_of rows.now) (view value.now) }
+{
+    check_object(value, rows)?;
+    asks(7, has_known_mode(value))?;
+    check_aggregate(value)?;
+    check_part(value, "threshold", &THRESHOLD)
+}
+
+/// The aggregation of an event, where there is one.
+fn check_aggregate(event: &Value) -> Result<(), u8>
+    ensures { result ≡ part_shape aggregate_shape (codes "aggregate") (view event.now) }
+{
+    let Some(value) = find_object(event, "aggregate") else {
+        return Ok(());
+    };
+    check_object(value, &AGGREGATE)?;
+    asks(8, has_known_context(value))
+}
+
+fn has_known_mode(event: &Value) -> bool
+    ensures { result ≡ known mode_named (codes "mode") (view event.now) }
+{
+    match find_text(event, "mode") {
+        Some(name) => mode_of(name).is_some(),
+        None => true,
+    }
+}
+
+fn has_known_context(aggregate: &Value) -> bool
+    ensures { result ≡ known last_named (codes "context") (view aggregate.now) }
+{
+    match find_text(aggregate, "context") {
+        Some(name) => last_of(name).is_some(),
+        None => true,
+    }
+}
+
+/// The object of this name, where there is one, with the members of the table.
+fn check_part(value: &Value, name: &str, rows: &[MemberRow]) -> Result<(), u8>
+    ensures { result ≡ part_shape (object_shape (map row_of rows.now)) name.now (view value.now) }
+{
+    match find_object(value, name) {
+        Some(part) => check_object(part, rows),
+        None => Ok(()),
+    }
+}
+
+/// An object with the members of the table.
+fn check_object(value: &Value, rows: &[MemberRow]) -> Result<(), u8>
+    ensures { result ≡ object_shape (map row_of rows.now) (view value.now) }
+{
+    match value.as_object() {
+        Some(members) => check_members(value, members, rows),
+        None => Err(2),
+    }
+}
+
+fn check_members(value: &Value, members: &Map<String, Value>, rows: &[MemberRow]) -> Result<(), u8>
+    ensures { result ≡ members_shape rows.now (view value.now) (keys members.now) }
+{
+    asks(3, are_named(members, rows))?;
+    asks(4, are_there(value, rows))?;
+    asks(5, are_of_kind(value, rows))
+}
+
+fn are_named(members: &Map<String, Value>, rows: &[MemberRow]) -> bool
+    ensures { result ≡ list_all (among rows.now) (keys members.now) }
+{
+    members.keys().all(|key| is_among(key, rows))
+}
+
+fn are_there(value: &Value, rows: &[MemberRow]) -> bool
+    ensures { result ≡ list_all (λ row. there (view value.now) (row_of row)) rows.now }
+{
+    rows.iter().all(|row| is_there(value, row))
+}
+
+fn are_of_kind(value: &Value, rows: &[MemberRow]) -> bool
+    ensures { result ≡ list_all (λ row. of_kind (view value.now) (row_of row)) rows.now }
+{
+    rows.iter().all(|row| is_of_kind(value, row))
+}
+
+/// A row has the key as its name.
+fn is_among(key: &str, rows: &[MemberRow]) -> bool
+    ensures { result ≡ list_any (λ row. bytes_eq key.now row.name.now) rows.now }
+{
+    rows.iter().any(|row| key == row.name)
+}
+
+/// The object has the row's member, where it has to.
+fn is_there(value: &Value, row: &MemberRow) -> bool
+    ensures { result ≡ there (view value.now) (row_of row.now) }
+{
+    !row.required || value.get(row.name).is_some()
+}
+
+/// The row's member is of its kind, where it is there.
+fn is_of_kind(value: &Value, row: &MemberRow) -> bool
+    ensures { result ≡ of_kind (view value.now) (row_of row.now) }
+{
+    match value.get(row.name) {
+        Some(member) => has_kind(row.kind, member),
+        None => true,
+    }
+}
