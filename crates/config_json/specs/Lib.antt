@@ -3,6 +3,7 @@ pub mod Configured
 pub mod Kinds
 pub mod Members
 pub mod Printed
+pub mod Puts
 pub mod Rows
 pub mod Shape
 pub mod Tables

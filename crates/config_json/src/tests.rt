@@ -3,6 +3,7 @@ mod cases;
 use crate::{JsonFault, print, read};
 use cases::{EVENT_MEMBERS, EVENTS, TOP_MEMBERS, WHOLE};
 use ids_config::{ConfigFault, ConfigPlace};
+use ids_types::{EventIndex, Internal};
 use std::alloc::{AllocError, Global};
 use std::test::Fail;
 
@@ -154,5 +155,22 @@ fn prints_compact_json_in_the_order_of_names(rt: HostRuntime) -> Result<(), Fail
     assert_eq!(rt; printed(rt.alloc(), BASE)?.as_str(), BASE_PRINTED);
     assert_eq!(rt; printed(rt.alloc(), FULL)?.as_str(), FULL_PRINTED);
     assert_eq!(rt; printed(rt.alloc(), FULL_PRINTED)?.as_str(), FULL_PRINTED);
+    Ok(())
+}
+
+#[test]
+fn tells_sensors_from_internal_events(rt: HostRuntime) -> Result<(), Fail> {
+    let base = read(rt.alloc(), BASE.as_bytes())?;
+    assert!(rt; base.is_sensor(EventIndex(0)) && !base.is_sensor(EventIndex(1)));
+    assert_eq!(rt; base.internal().limited, None);
+
+    let full = read(rt.alloc(), FULL.as_bytes())?;
+    assert!(rt; !full.is_sensor(EventIndex(0)) && !full.is_sensor(EventIndex(2)));
+    let internal = Internal {
+        lost_events: Some(EventIndex(2)),
+        lost_contexts: Some(EventIndex(1)),
+        limited: Some(EventIndex(0)),
+    };
+    assert_eq!(rt; full.internal(), internal);
     Ok(())
 }

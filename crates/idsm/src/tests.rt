@@ -1,7 +1,7 @@
 use ids_outside::{MemoryShelf, MemorySink};
 use idsm_run::{
-    BAD_CONFIG, BAD_JOURNAL, BAD_MESSAGE, BAD_WORDS, CANNOT_READ, CANNOT_WRITE, DONE, TOO_LONG,
-    run_plain,
+    BAD_CONFIG, BAD_JOURNAL, BAD_MESSAGE, BAD_WORDS, CANNOT_READ, CANNOT_WRITE, DONE, NOT_BUILT,
+    TOO_LONG, run_plain,
 };
 use std::alloc::{AllocError, Global};
 use std::test::Fail;
@@ -138,9 +138,9 @@ fn refuses_inputs_in_their_order(rt: HostRuntime) -> Result<(), Fail> {
             bad,
             b"",
             BAD_CONFIG,
-            b"bad config\n",
+            b"bad config 4 at top\n",
         ),
-        (&FOLD, bad, b"?", BAD_CONFIG, b"bad config\n"),
+        (&FOLD, bad, b"?", BAD_CONFIG, b"bad config 4 at top\n"),
         (&FOLD, good, b"?", BAD_JOURNAL, b"bad journal\n"),
         (&FOLD, good, b"T 5 0 0 0", BAD_JOURNAL, b"bad journal\n"),
     ];
@@ -150,6 +150,94 @@ fn refuses_inputs_in_their_order(rt: HostRuntime) -> Result<(), Fail> {
         assert_eq!(rt; ended.out.taken(), text);
         assert_eq!(rt; ended.shelf.contents("m"), None);
     }
+    Ok(())
+}
+
+/// Configurations that are none, each with the text that tells its fault.
+const BAD_CONFIGS: &str = r#"bad config 2 at top | []
+bad config 4 at top | {"form":1}
+bad config 3 at event 0 | {"form":1,"instance":18,"events":[{"id":42,"sensor":3,"x":1}]}
+bad config 9 at top | {"form":1,"instance":1024,"events":[{"id":42,"sensor":3}]}
+bad config 20 at event 1 | {"form":1,"instance":18,"events":[{"id":42,"sensor":3},{"id":65536,"sensor":3}]}
+bad config 15 at class 0 | {"form":1,"instance":18,"classes":[{"size":0,"number":1}],"events":[{"id":42,"sensor":3}]}"#;
+
+#[test]
+fn tells_the_first_fault_of_a_configuration(rt: HostRuntime) -> Result<(), Fail> {
+    for line in BAD_CONFIGS.lines() {
+        let Some((told, config)) = line.split_once(" | ") else {
+            continue;
+        };
+        let ended = run(rt.alloc(), &FOLD, config.as_bytes(), b"?", &[], &[])?;
+        assert_eq!(rt; ended.status, BAD_CONFIG);
+        assert!(rt;
+            ended.out.taken().strip_suffix(b"\n") == Some(told.as_bytes()),
+            "{line}"
+        );
+        assert_eq!(rt; ended.shelf.contents("m"), None);
+    }
+    Ok(())
+}
+
+/// Members of the top object, of which the chain can mean none yet.
+const UNBUILT_AT_TOP: &str = r#""rate":{"interval":1,"events":1}
+"traffic":{"interval":1,"bytes":1}
+"internal":{"lost_events":0}
+"internal":{"lost_contexts":0}
+"internal":{"limited":0}
+"memory":1"#;
+
+/// Members of an event, of which the chain can mean none yet.
+const UNBUILT_AT_EVENT: &str = r#""mode":"OFF"
+"mode":"BRIEF"
+"mode":"BRIEF_BYPASSING_FILTERS"
+"mode":"DETAILED_BYPASSING_FILTERS"
+"send":false
+"store":true
+"block":[0]
+"nth":2
+"aggregate":{"interval":1,"context":"FIRST"}
+"threshold":{"interval":1,"count":1}"#;
+
+/// Whether a run of this configuration is refused as not built, with no look at a journal.
+fn is_not_built(alloc: Global, config: &str) -> Result<bool, Fail> {
+    let words = ["fold", "c", "no journal", "m", "r"];
+    let ended = run(alloc, &words, config.as_bytes(), b"", &[], &[])?;
+    let refused = ended.status == NOT_BUILT && ended.shelf.contents("m").is_none();
+    Ok(refused && ended.out.taken() == b"not built\n".as_slice())
+}
+
+#[test]
+fn what_is_not_built_is_refused_before_the_journal(rt: HostRuntime) -> Result<(), Fail> {
+    let alloc = rt.alloc();
+    for members in UNBUILT_AT_TOP.lines() {
+        let config = format!(in alloc;
+            "{{\"form\":1,\"instance\":18,{members},\"events\":[{{\"id\":42,\"sensor\":3}}]}}"
+        )?;
+        assert!(rt; is_not_built(alloc, &config)?, "{members}");
+    }
+    for members in UNBUILT_AT_EVENT.lines() {
+        let config = format!(in alloc;
+            "{{\"form\":1,\"instance\":18,\"events\":[{{\"id\":1,\"sensor\":1}},{{\"id\":42,\"sensor\":3,{members}}}]}}"
+        )?;
+        assert!(rt; is_not_built(alloc, &config)?, "{members}");
+    }
+    Ok(())
+}
+
+/// A configuration that says more than it has to, but nothing that the chain cannot mean.
+const ALL_BUILT: &str = concat!(
+    r#"{"form":1,"instance":18,"callers":32,"ring":1024,"memory":0,"state":7,"#,
+    r#""classes":[{"size":8,"number":2}],"rate":null,"traffic":null,"internal":{"limited":null},"#,
+    r#""events":[{"id":42,"sensor":3,"mode":"DETAILED","send":true,"store":false,"block":[],"#,
+    r#""nth":1,"aggregate":null,"threshold":null}]}"#
+);
+
+#[test]
+fn folds_with_all_members_written(rt: HostRuntime) -> Result<(), Fail> {
+    let (config, journal) = (ALL_BUILT.as_bytes(), ONE_REPORT.as_bytes());
+    let ended = run(rt.alloc(), &FOLD, config, journal, &[], &[])?;
+    assert_eq!(rt; ended.status, DONE);
+    assert!(rt; ended.shelf.contents("m") == Some(MESSAGE.as_slice()));
     Ok(())
 }
 

@@ -1,5 +1,4 @@
 pub mod CommandLemmas
-pub mod ConfigLemmas
 pub mod FitsLemmas
 pub mod FormLaws
 pub mod FreeLemmas

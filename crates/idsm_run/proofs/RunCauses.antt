@@ -5,7 +5,7 @@ use Rattle.std.proofs.lemmas.Grind.{common_steps}
 use Rattle.std.proofs.lemmas.List.{append-nil}
 use Rattle.idsm_run.specs.declared.status.TheConstants.{DONE, BAD_WORDS, CANNOT_WRITE}
 use Rattle.idsm_run.specs.declared.stop.Stop.{Stop}
-use Rattle.idsm_run.specs.declared.stop.Stop.TheVariants.{CannotRead, TooLong, BadConfig, BadJournal, CannotWrite, NoMemory, BadMessage}
+use Rattle.idsm_run.specs.declared.stop.Stop.TheVariants.{CannotRead, TooLong, BadConfig, NotBuilt, BadJournal, CannotWrite, NoMemory, BadMessage}
 use Rattle.idsm_run.specs.Command.{Command, command_of}
 use Rattle.idsm_run.specs.Run.{Shelved, Ran, Done, StopsFor, Misused, OfCommand, HasText, FailedPut, FailedOutput, Adds, Causes}
 use Rattle.idsm_run.specs.Saying.{Heard, Says, StopSays, TellsStop, usage}
@@ -28,6 +28,7 @@ module _ (words : List (List ℕ)) (status : ℕ) (old new : Shelved) (before af
     read = grind arith;
     long = grind arith;
     config = grind arith;
+    unbuilt = grind arith;
     journal = grind arith;
     message = grind arith;
     write = λ status_is. inr (put_failed usage BAD_WORDS misused.says (λ e. omega arith) (inl (is, refl)) status_is);
@@ -45,6 +46,7 @@ module _ (words : List (List ℕ)) (status : ℕ) (old new : Shelved) (before af
     read = grind arith;
     long = grind arith;
     config = grind arith;
+    unbuilt = grind arith;
     journal = grind arith;
     message = grind arith;
     write = λ status_is. inr (put_failed done.said DONE done.says (λ e. omega arith)
@@ -88,6 +90,7 @@ module _ (words : List (List ℕ)) (status : ℕ) (old new : Shelved) (before af
     read = λ status_is. (name.now, (command, is, stops), grind (arith, common_steps));
     long = grind arith;
     config = grind arith;
+    unbuilt = grind arith;
     journal = grind arith;
     message = grind arith;
     write = λ status_is. inr (put_failed tells.text tells.wanted tells.says (grind arith)
@@ -102,6 +105,7 @@ module _ (words : List (List ℕ)) (status : ℕ) (old new : Shelved) (before af
     read = grind arith;
     long = λ status_is. (name.now, (command, is, stops.1), grind (arith, common_steps));
     config = grind arith;
+    unbuilt = grind arith;
     journal = grind arith;
     message = grind arith;
     write = λ status_is. inr (put_failed tells.text tells.wanted tells.says (grind arith)
@@ -111,15 +115,31 @@ module _ (words : List (List ℕ)) (status : ℕ) (old new : Shelved) (before af
     no_fault = grind arith;
     all_put = grind arith;
   }
-  stop_has_cause command BadConfig is stops tells = record {
+  stop_has_cause command (BadConfig fault) is stops tells = record {
     misused = grind arith;
     read = grind arith;
     long = grind arith;
-    config = λ status_is. ((command, is, stops.1), grind (arith, common_steps));
+    config = λ status_is. (fault, (command, is, stops.1), grind (arith, common_steps));
+    unbuilt = grind arith;
     journal = grind arith;
     message = grind arith;
     write = λ status_is. inr (put_failed tells.text tells.wanted tells.says (grind arith)
-        (inr (stop_text command BadConfig tells.text tells.wanted is stops tells.names)) status_is);
+        (inr (stop_text command (BadConfig fault) tells.text tells.wanted is stops tells.names)) status_is);
+    memory = grind (arith, common_steps, append-nil);
+    known = grind arith;
+    no_fault = grind arith;
+    all_put = grind arith;
+  }
+  stop_has_cause command NotBuilt is stops tells = record {
+    misused = grind arith;
+    read = grind arith;
+    long = grind arith;
+    config = grind arith;
+    unbuilt = λ status_is. ((command, is, stops.1), grind (arith, common_steps));
+    journal = grind arith;
+    message = grind arith;
+    write = λ status_is. inr (put_failed tells.text tells.wanted tells.says (grind arith)
+        (inr (stop_text command NotBuilt tells.text tells.wanted is stops tells.names)) status_is);
     memory = grind (arith, common_steps, append-nil);
     known = grind arith;
     no_fault = grind arith;
@@ -130,6 +150,7 @@ module _ (words : List (List ℕ)) (status : ℕ) (old new : Shelved) (before af
     read = grind arith;
     long = grind arith;
     config = grind arith;
+    unbuilt = grind arith;
     journal = λ status_is. ((command, is, stops.1), grind (arith, common_steps));
     message = grind arith;
     write = λ status_is. inr (put_failed tells.text tells.wanted tells.says (grind arith)
@@ -144,6 +165,7 @@ module _ (words : List (List ℕ)) (status : ℕ) (old new : Shelved) (before af
     read = grind arith;
     long = grind arith;
     config = grind arith;
+    unbuilt = grind arith;
     journal = grind arith;
     message = grind arith;
     write = λ status_is. write_not_said command is stops tells status_is;
@@ -157,6 +179,7 @@ module _ (words : List (List ℕ)) (status : ℕ) (old new : Shelved) (before af
     read = grind arith;
     long = grind arith;
     config = grind arith;
+    unbuilt = grind arith;
     journal = grind arith;
     message = grind arith;
     write = λ status_is. inr (put_failed tells.text tells.wanted tells.says (grind arith)
@@ -171,6 +194,7 @@ module _ (words : List (List ℕ)) (status : ℕ) (old new : Shelved) (before af
     read = grind arith;
     long = grind arith;
     config = grind arith;
+    unbuilt = grind arith;
     journal = grind arith;
     message = λ status_is. (bad, (command, is, stops.1), grind (arith, common_steps));
     write = λ status_is. inr (put_failed tells.text tells.wanted tells.says (grind arith)

@@ -3,11 +3,11 @@ use Rattle.std.proofs.Common.{◌≡◌, ℕ, List, arith, inl, inr, refl, subst
 use Rattle.std.proofs.lemmas.Grind.{common_steps}
 use Rattle.ids_outside.specs.Faults.{Faults, Rose}
 use Rattle.idsm_run.specs.declared.stop.Stop.{Stop}
-use Rattle.idsm_run.specs.declared.stop.Stop.TheVariants.{CannotRead, TooLong, BadConfig, BadJournal, CannotWrite, NoMemory, BadMessage}
+use Rattle.idsm_run.specs.declared.stop.Stop.TheVariants.{CannotRead, TooLong, BadConfig, NotBuilt, BadJournal, CannotWrite, NoMemory, BadMessage}
 use Rattle.idsm_run.specs.Command.{Command, command_of, fold, decode}
 use Rattle.idsm_run.specs.Run.{Shelved, Ran, Done, Stopped, StopsFor, Misused, OfCommand, FailedInput, FailedOutput, Answers, NoFault, Obliges}
 use Rattle.idsm_run.specs.Saying.{Heard, TellsStop}
-use Rattle.idsm_run.proofs.Verdicts.{Verdict, good, long, config, journal, message, status_of, Deserves, did_with_good, one_verdict}
+use Rattle.idsm_run.proofs.Verdicts.{Verdict, good, long, config, unbuilt, journal, message, status_of, Deserves, did_with_good, one_verdict}
 
 -- what holds of the command of the words holds of this one, where the words give it
 of_command : (words : List (List ℕ)) (command : Command) (P : Command → Type 0)
@@ -45,7 +45,9 @@ module _ (command : Command) (status : ℕ) (old new : Shelved) (before after : 
       absurd (steady (input_rose command old.faults new.faults name.now stops))
   steady_stop (TooLong name) steady stops tells =
       refused long (name.now, stops.1) (grind (arith, common_steps))
-  steady_stop BadConfig steady stops tells = refused config stops.1 (grind (arith, common_steps))
+  steady_stop (BadConfig fault) steady stops tells =
+      refused config (fault, stops.1) (grind (arith, common_steps))
+  steady_stop NotBuilt steady stops tells = refused unbuilt stops.1 (grind (arith, common_steps))
   steady_stop BadJournal steady stops tells = refused journal stops.1 (grind (arith, common_steps))
   steady_stop CannotWrite steady stops tells =
       absurd (steady (output_rose command old.faults new.faults stops))
@@ -75,7 +77,8 @@ module _ (words : List (List ℕ)) (status : ℕ) (old new : Shelved) (before af
   done_obliges command is done = record {
     misused = λ none. absurd cc;
     long = λ told _ name cause. absurd (other told long (name, of_command words _ _ is cause) (λ same. absurd cc));
-    config = λ told _ cause. absurd (other told config (of_command words _ _ is cause) (λ same. absurd cc));
+    config = λ told _ fault cause. absurd (other told config (fault, of_command words _ _ is cause) (λ same. absurd cc));
+    unbuilt = λ told _ cause. absurd (other told unbuilt (of_command words _ _ is cause) (λ same. absurd cc));
     journal = λ told _ cause. absurd (other told journal (of_command words _ _ is cause) (λ same. absurd cc));
     message = λ told _ bad cause. absurd (other told message (bad, of_command words _ _ is cause) (λ same. absurd cc));
     complete = grind (arith, common_steps);
@@ -93,7 +96,9 @@ module _ (words : List (List ℕ)) (status : ℕ) (old new : Shelved) (before af
   stop_obliges command is stopped = record {
     misused = λ none. absurd cc;
     long = λ told steady name cause. ends told steady long (name, of_command words _ _ is cause);
-    config = λ told steady cause. ends told steady config (of_command words _ _ is cause);
+    config = λ told steady fault cause.
+        ends told steady config (fault, of_command words _ _ is cause);
+    unbuilt = λ told steady cause. ends told steady unbuilt (of_command words _ _ is cause);
     journal = λ told steady cause. ends told steady journal (of_command words _ _ is cause);
     message = λ told steady bad cause.
         ends told steady message (bad, of_command words _ _ is cause);

@@ -4,7 +4,7 @@ use Rattle.std.specs.Prelude.{IfSome}
 use Rattle.std.proofs.lemmas.Grind.{common_steps}
 use Rattle.ids_outside.specs.Files.{Files, SameFiles}
 use Rattle.idsm_run.specs.declared.stop.Stop.{Stop}
-use Rattle.idsm_run.specs.declared.stop.Stop.TheVariants.{CannotRead, TooLong, BadConfig, BadJournal, CannotWrite, NoMemory, BadMessage}
+use Rattle.idsm_run.specs.declared.stop.Stop.TheVariants.{CannotRead, TooLong, BadConfig, NotBuilt, BadJournal, CannotWrite, NoMemory, BadMessage}
 use Rattle.idsm_run.specs.Command.{Command, command_of, fold, decode}
 use Rattle.idsm_run.specs.Run.{Shelved, Ran, Did, StandsFor, StandsSomewhere, IsRefusal, StandsWhereStopped}
 use Rattle.idsm_run.specs.Saying.{Heard, TellsStop}
@@ -30,7 +30,8 @@ stop_stands : (command : Command) (old new : Files) (reason : Stop) → StandsFo
     → StandsSomewhere command old new
 stop_stands command old new (CannotRead name) stands = same_stands command old new stands
 stop_stands command old new (TooLong name) stands = same_stands command old new stands
-stop_stands command old new BadConfig stands = same_stands command old new stands
+stop_stands command old new (BadConfig fault) stands = same_stands command old new stands
+stop_stands command old new NotBuilt stands = same_stands command old new stands
 stop_stands command old new BadJournal stands = same_stands command old new stands
 stop_stands command old new CannotWrite stands = stands
 stop_stands command old new NoMemory stands = stands
@@ -50,7 +51,8 @@ module _ (words : List (List ℕ)) (status : ℕ) (old new : Shelved) (before af
       → TellsStop reason status before after → IsRefusal status → SameFiles old.files new.files
   stop_refuses command (CannotRead name) stands tells refused = stands
   stop_refuses command (TooLong name) stands tells refused = stands
-  stop_refuses command BadConfig stands tells refused = stands
+  stop_refuses command (BadConfig fault) stands tells refused = stands
+  stop_refuses command NotBuilt stands tells refused = stands
   stop_refuses command BadJournal stands tells refused = stands
   stop_refuses command CannotWrite stands tells refused = absurd (grind (arith, common_steps))
   stop_refuses command NoMemory stands tells refused = absurd (grind (arith, common_steps))

@@ -8,7 +8,7 @@ use Rattle.ids_types.specs.declared.names.Stamp.{Stamp}
 use Rattle.ids_frame.specs.Message.{MessageParts}
 use Rattle.ids_frame.specs.Spelling.{spelling}
 use Rattle.ids_frame.proofs.SpellingLemmas.{unsigned_spelling_is_short}
-use Rattle.idsm_run.specs.Config.{Configuration}
+use Rattle.ids_config.specs.Parts.{Parts}
 use Rattle.idsm_run.specs.PlainJournal.{ContextFits}
 use Rattle.idsm_run.specs.Sending.{context_sent, message_of, turn_messages, messages_of, ends_from, ends_of}
 
@@ -20,7 +20,7 @@ context_is_short (Kept class claim bytes) fits = fits.few
 context_is_short (Missing numbers) fits = tt
 
 -- a report's message has at most 1,044 bytes
-pub message_is_short : (config : Configuration) (k count : ℕ) (stamp : Option Stamp)
+pub message_is_short : (config : Parts) (k count : ℕ) (stamp : Option Stamp)
     (context : Carried (List ℕ)) → ContextFits context
     → length (spelling (message_of config k count stamp context)) ≤ 1044
 message_is_short config k count stamp context fits =
@@ -28,7 +28,7 @@ message_is_short config k count stamp context fits =
     (context_is_short context fits)
 
 -- one turn more has one end more
-ends_from-append : (start : ℕ) (config : Configuration) (turns : List Turn) (turn : Turn)
+ends_from-append : (start : ℕ) (config : Parts) (turns : List Turn) (turn : Turn)
     → ends_from start config (turns ++ turn ∷ [])
     ≡ ends_from start config turns
     ++ (start + length (messages_of config (turns ++ turn ∷ []))) ∷ []
@@ -39,7 +39,7 @@ ends_from-append start config (first ∷ turns) turn =
     (ap (λ n. end ∷ (ends_from end config turns ++ n ∷ [])) (omega arith))
 
 -- the ends of one turn more
-pub ends_of_more : (config : Configuration) (turns : List Turn) (i : ℕ) → i < length turns
+pub ends_of_more : (config : Parts) (turns : List Turn) (i : ℕ) → i < length turns
     → ends_of config (take (i + 1) turns)
     ≡ ends_of config (take i turns) ++ length (messages_of config (take (i + 1) turns)) ∷ []
 ends_of_more config turns i within =

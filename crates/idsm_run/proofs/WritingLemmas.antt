@@ -6,8 +6,8 @@ use Rattle.ids_types.specs.Turns.{Turn}
 use Rattle.ids_outside.specs.Faults.{Faults}
 use Rattle.ids_outside.specs.Files.{Files, SameFiles, Changes, AddsAtMost, bytes_at}
 use Rattle.idsm_run.specs.declared.stop.Stop.{Stop}
-use Rattle.idsm_run.specs.declared.stop.Stop.TheVariants.{CannotRead, TooLong, BadConfig, BadJournal, CannotWrite, NoMemory, BadMessage}
-use Rattle.idsm_run.specs.Config.{Configuration}
+use Rattle.idsm_run.specs.declared.stop.Stop.TheVariants.{CannotRead, TooLong, BadConfig, NotBuilt, BadJournal, CannotWrite, NoMemory, BadMessage}
+use Rattle.ids_config.specs.Parts.{Parts}
 use Rattle.idsm_run.specs.Sending.{turn_messages, messages_of, ends_from, ends_of}
 use Rattle.idsm_run.specs.Command.{FoldFiles, fold}
 use Rattle.idsm_run.specs.Inputs.{HasInputs}
@@ -49,7 +49,7 @@ part_is_held old new name bytes start n before adds =
     ]
 
 -- the cuts after each turn's messages are cuts of all messages
-cuts_of_messages : (start : ℕ) (config : Configuration) (turns : List Turn) → Cuts start (ends_from start config turns) (start + length (messages_of config turns))
+cuts_of_messages : (start : ℕ) (config : Parts) (turns : List Turn) → Cuts start (ends_from start config turns) (start + length (messages_of config turns))
 cuts_of_messages start config [] = omega arith
 cuts_of_messages start config (turn ∷ turns) =
     let own = turn_messages config turn in
@@ -57,7 +57,7 @@ cuts_of_messages start config (turn ∷ turns) =
     let both : start + length (messages_of config (turn ∷ turns)) ≡ end + length (messages_of config turns) = omega (arith, length-append own (messages_of config turns)) in
     (omega arith, omega (arith, both), subst (Cuts end (ends_from end config turns)) (sym both) (cuts_of_messages end config turns))
 
-pub all_cuts : (config : Configuration) (turns : List Turn) → Cuts 0 (ends_of config turns) (length (messages_of config turns))
+pub all_cuts : (config : Parts) (turns : List Turn) → Cuts 0 (ends_of config turns) (length (messages_of config turns))
 all_cuts config turns =
     let whole : 0 + length (messages_of config turns) ≡ length (messages_of config turns) = omega arith in
     subst (Cuts 0 (ends_of config turns)) whole (cuts_of_messages 0 config turns)
@@ -80,7 +80,7 @@ StandUpTo-before (output ∷ outputs) old middle new same stands = elim stands [
     untouched (first ∷ rest) all = (all.0 ∙ same first.name, untouched rest all.1)
 
 -- outputs that were written up to a place are those of the inputs
-pub outputs_stand : (names : FoldFiles) (config : Configuration) (turns : List Turn) (bytes : List ℕ) (old middle new : Files) → HasInputs old names config turns → bytes ≡ messages_of config turns → SameFiles old middle
+pub outputs_stand : (names : FoldFiles) (config : Parts) (turns : List Turn) (bytes : List ℕ) (old middle new : Files) → HasInputs old names config turns → bytes ≡ messages_of config turns → SameFiles old middle
     → StandUpTo (fold_outputs names bytes) middle new → WrittenUpTo names old new
 outputs_stand names config turns bytes old middle new inputs is same stands = record {
   config = config;
@@ -93,7 +93,8 @@ outputs_stand names config turns bytes old middle new inputs is same stands = re
 pub fold_stands : (names : FoldFiles) (old new : Files) (before now : Faults) (stop : Stop) → OutputStops before now names stop → WrittenUpTo names old new → StandsFor stop (fold names) old new
 fold_stands names old new before now (CannotRead name) stops written = absurd stops
 fold_stands names old new before now (TooLong name) stops written = absurd stops
-fold_stands names old new before now BadConfig stops written = absurd stops
+fold_stands names old new before now (BadConfig fault) stops written = absurd stops
+fold_stands names old new before now NotBuilt stops written = absurd stops
 fold_stands names old new before now BadJournal stops written = absurd stops
 fold_stands names old new before now CannotWrite stops written = inr written
 fold_stands names old new before now (BadMessage bad) stops written = absurd stops

@@ -5,7 +5,7 @@ use Rattle.ids_outside.specs.Faults.{Faults}
 use Rattle.ids_outside.specs.Files.{Files}
 use Rattle.idsm_run.specs.declared.stop.Stop.{Stop}
 use Rattle.idsm_run.specs.declared.stop.Stop.TheVariants.{CannotWrite, NoMemory}
-use Rattle.idsm_run.specs.Config.{Configuration}
+use Rattle.ids_config.specs.Parts.{Parts}
 use Rattle.idsm_run.specs.Sending.{messages_of, count_of}
 use Rattle.idsm_run.specs.Command.{FoldFiles}
 use Rattle.idsm_run.specs.Inputs.{HasInputs}
@@ -31,7 +31,7 @@ fold_outputs names messages =
 
 -- `fold` is done: its inputs gave a configuration and turns, and their outputs are written
 pub record Folded (names : FoldFiles) (old new : Files) (said : List ℕ) : Type 0 where
-  pub config : Configuration
+  pub config : Parts
   pub turns : List Turn
   pub inputs : HasInputs old names config turns
   pub outputs : AreWritten (fold_outputs names (messages_of config turns)) new
@@ -39,7 +39,7 @@ pub record Folded (names : FoldFiles) (old new : Files) (said : List ℕ) : Type
 
 -- the outputs of these inputs were written up to some place
 pub record WrittenUpTo (names : FoldFiles) (old new : Files) : Type 0 where
-  pub config : Configuration
+  pub config : Parts
   pub turns : List Turn
   pub inputs : HasInputs old names config turns
   pub place : StandUpTo (fold_outputs names (messages_of config turns)) old new

@@ -1,53 +1,67 @@
 -- What the input files of `fold` hold, and why they may not serve.
-use Rattle.std.specs.Prelude.{◌≡◌, ◌⊎◌, ℕ, List, length, Bool, IsTrue}
+use Rattle.std.specs.Prelude.{◌≡◌, ◌⊎◌, ℕ, List, length, Bool, true, false, IsTrue, ⊤}
 use Rattle.ids_types.specs.Turns.{Turn}
 use Rattle.ids_outside.specs.Faults.{Faults, CountsFault}
 use Rattle.ids_outside.specs.Files.{Files, Holds, IsTooLong}
 use Rattle.ids_outside.specs.declared.faults.FaultKind.TheVariants.{Read}
 use Rattle.idsm_run.specs.declared.limits.TheConstants.{MAX_CONFIG_BYTES, MAX_JOURNAL_BYTES}
 use Rattle.idsm_run.specs.declared.stop.Stop.{Stop}
-use Rattle.idsm_run.specs.declared.stop.Stop.TheVariants.{CannotRead, TooLong, BadConfig, BadJournal, NoMemory}
-use Rattle.idsm_run.specs.Config.{Configuration, ConfigOf}
+use Rattle.idsm_run.specs.declared.stop.Stop.TheVariants.{CannotRead, TooLong, BadConfig, BadJournal, NoMemory, NotBuilt}
+use Rattle.ids_config.specs.declared.fault.ConfigFault.{ConfigFault}
+use Rattle.ids_config.specs.Parts.{Parts}
+use Rattle.config_json.specs.Configured.{ConfigOf, FaultOf}
+use Rattle.idsm_run.specs.Built.{is_built}
 use Rattle.idsm_run.specs.PlainJournal.{IsJournal}
 use Rattle.idsm_run.specs.Command.{FoldFiles}
 
 -- the file of this name is the text of this configuration
-pub record HasConfig (files : Files) (name : List ℕ) (config : Configuration) : Type 0 where
+pub record HasConfig (files : Files) (name : List ℕ) (config : Parts) : Type 0 where
   pub bytes : List ℕ
   pub held : Holds files name MAX_CONFIG_BYTES bytes
   pub is_config : ConfigOf bytes config
 
+-- the file of this name is the text of this configuration, and the chain can mean it
+pub record HasBuiltConfig (files : Files) (name : List ℕ) (config : Parts) : Type 0 where
+  pub file : HasConfig files name config
+  pub built : is_built config ≡ true
+
 -- the file of this name is the journal of these turns, under this configuration
-pub record HasJournal (files : Files) (name : List ℕ) (config : Configuration) (turns : List Turn)
+pub record HasJournal (files : Files) (name : List ℕ) (config : Parts) (turns : List Turn)
     : Type 0 where
   pub bytes : List ℕ
   pub held : Holds files name MAX_JOURNAL_BYTES bytes
   pub is_journal : IsJournal (length config.events) bytes turns
 
 -- the input files of `fold` give this configuration and these turns
-pub record HasInputs (files : Files) (names : FoldFiles) (config : Configuration) (turns : List Turn)
+pub record HasInputs (files : Files) (names : FoldFiles) (config : Parts) (turns : List Turn)
     : Type 0 where
-  pub config_file : HasConfig files names.config config
+  pub config_file : HasBuiltConfig files names.config config
   pub journal_file : HasJournal files names.journal config turns
 
--- the configuration's file holds bytes that are no configuration
-pub record NoConfig (files : Files) (names : FoldFiles) : Type 0 where
+-- the configuration's file holds bytes that are no configuration, and have this fault first
+pub record NoConfig (files : Files) (names : FoldFiles) (fault : ConfigFault) : Type 0 where
   pub bytes : List ℕ
   pub held : Holds files names.config MAX_CONFIG_BYTES bytes
-  pub none : (config : Configuration) → ConfigOf bytes config → ⊥
+  pub fault_is : FaultOf bytes fault
+
+-- the configuration's file holds a configuration that the chain cannot mean yet
+pub record UnbuiltConfig (files : Files) (names : FoldFiles) : Type 0 where
+  pub config : Parts
+  pub file : HasConfig files names.config config
+  pub unbuilt : is_built config ≡ false
 
 -- the journal's file holds bytes that are no journal under the configuration
 pub record NoJournal (files : Files) (names : FoldFiles) : Type 0 where
-  pub config : Configuration
-  pub config_file : HasConfig files names.config config
+  pub config : Parts
+  pub config_file : HasBuiltConfig files names.config config
   pub bytes : List ℕ
   pub held : Holds files names.journal MAX_JOURNAL_BYTES bytes
   pub none : (turns : List Turn) → IsJournal (length config.events) bytes turns → ⊥
 
 -- the journal's file is too long, behind a configuration that serves
 pub record LongJournal (files : Files) (names : FoldFiles) : Type 0 where
-  pub config : Configuration
-  pub config_file : HasConfig files names.config config
+  pub config : Parts
+  pub config_file : HasBuiltConfig files names.config config
   pub long : IsTooLong files names.journal MAX_JOURNAL_BYTES
 
 -- the first file that is too long, where no other refusal comes before it
@@ -66,12 +80,21 @@ abbrev pub InputStops : Bool → Files → Faults → Faults → FoldFiles → S
 InputStops tells files old new names (CannotRead name) = FailedRead old new names name.now
 InputStops tells files old new names (TooLong name) =
     (new ≡ old) × (IsTrue tells → IsFirstTooLong files names name.now)
-InputStops tells files old new names BadConfig =
-    (new ≡ old) × (IsTrue tells → NoConfig files names)
+InputStops tells files old new names (BadConfig fault) =
+    (new ≡ old) × (IsTrue tells → NoConfig files names fault)
+InputStops tells files old new names NotBuilt =
+    (new ≡ old) × (IsTrue tells → UnbuiltConfig files names)
 InputStops tells files old new names BadJournal =
     (new ≡ old) × (IsTrue tells → NoJournal files names)
 InputStops tells files old new names NoMemory = new ≡ old
 InputStops tells files old new names other = ⊥
+
+-- why the bytes give no configuration that the chain can mean
+abbrev pub ConfigStops : List ℕ → Stop → Type 0
+ConfigStops bytes (BadConfig fault) = FaultOf bytes fault
+ConfigStops bytes NotBuilt = (config : Parts) × ConfigOf bytes config × (is_built config ≡ false)
+ConfigStops bytes NoMemory = ⊤
+ConfigStops bytes other = ⊥
 
 -- why a file was not read
 abbrev pub ReadStops : Bool → Files → Faults → Faults → List ℕ → ℕ → Stop → Type 0

@@ -1,7 +1,7 @@
+pub mod Built
 pub mod Command
 pub mod CommandView
-pub mod Config
-pub mod ConfigView
+pub mod ConfigTexts
 pub mod Decode
 pub mod Fold
 pub mod Inputs

@@ -9,12 +9,14 @@ use Rattle.ids_outside.specs.Files.{Files, SameFiles, IsTooLong}
 use Rattle.ids_outside.specs.declared.faults.FaultKind.TheVariants.{Read}
 use Rattle.idsm_run.specs.declared.limits.TheConstants.{MAX_MESSAGES_BYTES}
 use Rattle.ids_outside.specs.Sinks.{TakesPart}
-use Rattle.idsm_run.specs.declared.status.TheConstants.{DONE, BAD_WORDS, CANNOT_READ, TOO_LONG, BAD_CONFIG, BAD_JOURNAL, CANNOT_WRITE, NO_MEMORY, BAD_MESSAGE}
+use Rattle.idsm_run.specs.declared.status.TheConstants.{DONE, BAD_WORDS, CANNOT_READ, TOO_LONG, BAD_CONFIG, BAD_JOURNAL, CANNOT_WRITE, NO_MEMORY, BAD_MESSAGE, NOT_BUILT}
 use Rattle.idsm_run.specs.declared.stop.Stop.{Stop}
-use Rattle.idsm_run.specs.declared.stop.Stop.TheVariants.{CannotRead, TooLong, BadConfig, BadJournal, CannotWrite, NoMemory, BadMessage as bad_message}
-use Rattle.idsm_run.specs.Config.{Configuration}
+use Rattle.idsm_run.specs.declared.stop.Stop.TheVariants.{CannotRead, TooLong, BadConfig, NotBuilt, BadJournal, CannotWrite, NoMemory, BadMessage as bad_message}
+use Rattle.ids_config.specs.declared.fault.ConfigFault.{ConfigFault}
+use Rattle.ids_config.specs.Parts.{Parts}
+use Rattle.idsm_run.specs.ConfigTexts.{bad_config_text}
 use Rattle.idsm_run.specs.Command.{Command, fold, decode, command_of, written_by}
-use Rattle.idsm_run.specs.Inputs.{HasInputs, NoConfig, NoJournal, IsFirstTooLong, FailedRead}
+use Rattle.idsm_run.specs.Inputs.{HasInputs, NoConfig, UnbuiltConfig, NoJournal, IsFirstTooLong, FailedRead}
 use Rattle.idsm_run.specs.Writing.{FailedWrite}
 use Rattle.idsm_run.specs.Fold.{Folded, WrittenUpTo}
 use Rattle.idsm_run.specs.Messages.{HoldsMessages, HoldsBadMessage, bad_message_text}
@@ -49,10 +51,15 @@ HasLongInput (fold names) old name = IsTrue old.tells → IsFirstTooLong old.fil
 HasLongInput (decode file) old name =
     (name ≡ file) × (IsTrue old.tells → IsTooLong old.files file MAX_MESSAGES_BYTES)
 
--- the configuration's file holds no configuration, where files are told
-abbrev pub HasBadConfig : Command → Shelved → Type 0
-HasBadConfig (fold names) old = IsTrue old.tells → NoConfig old.files names
-HasBadConfig (decode file) old = ⊥
+-- the configuration's file holds no configuration, and this is the fault, where files are told
+abbrev pub HasBadConfig : Command → Shelved → ConfigFault → Type 0
+HasBadConfig (fold names) old fault = IsTrue old.tells → NoConfig old.files names fault
+HasBadConfig (decode file) old fault = ⊥
+
+-- the configuration's file holds one that the chain cannot mean yet, where files are told
+abbrev pub HasUnbuiltConfig : Command → Shelved → Type 0
+HasUnbuiltConfig (fold names) old = IsTrue old.tells → UnbuiltConfig old.files names
+HasUnbuiltConfig (decode file) old = ⊥
 
 -- the journal's file holds no journal, behind a configuration that serves, where files are told
 abbrev pub HasBadJournal : Command → Shelved → Type 0
@@ -67,7 +74,7 @@ HasBadMessage (decode file) old bad = IsTrue old.tells → HoldsBadMessage old.f
 -- the input files serve
 abbrev pub HasGoodInputs : Command → Files → Type 0
 HasGoodInputs (fold names) files =
-    (config : Configuration) × (turns : List Turn) × HasInputs files names config turns
+    (config : Parts) × (turns : List Turn) × HasInputs files names config turns
 HasGoodInputs (decode file) files =
     (messages : List MessageParts) × HoldsMessages files file messages
 
@@ -89,7 +96,9 @@ abbrev pub StopsFor : Stop → Command → Shelved → Shelved → Type 0
 StopsFor (CannotRead name) command old new = FailedInput command old.faults new.faults name.now
 StopsFor (TooLong name) command old new =
     (new.faults ≡ old.faults) × HasLongInput command old name.now
-StopsFor BadConfig command old new = (new.faults ≡ old.faults) × HasBadConfig command old
+StopsFor (BadConfig fault) command old new =
+    (new.faults ≡ old.faults) × HasBadConfig command old fault
+StopsFor NotBuilt command old new = (new.faults ≡ old.faults) × HasUnbuiltConfig command old
 StopsFor BadJournal command old new = (new.faults ≡ old.faults) × HasBadJournal command old
 StopsFor CannotWrite command old new = FailedOutput command old.faults new.faults
 StopsFor NoMemory command old new = new.faults ≡ old.faults
@@ -100,7 +109,8 @@ StopsFor (bad_message bad) command old new =
 abbrev pub StandsFor : Stop → Command → Files → Files → Type 0
 StandsFor (CannotRead name) command old new = SameFiles old new
 StandsFor (TooLong name) command old new = SameFiles old new
-StandsFor BadConfig command old new = SameFiles old new
+StandsFor (BadConfig fault) command old new = SameFiles old new
+StandsFor NotBuilt command old new = SameFiles old new
 StandsFor BadJournal command old new = SameFiles old new
 StandsFor CannotWrite command old new = StandsSomewhere command old new
 StandsFor NoMemory command old new = StandsSomewhere command old new
@@ -156,7 +166,8 @@ pub record Does (words : List (List ℕ)) (old new : Shelved) (before after : He
 
 -- the statuses that come before anything is written
 abbrev pub IsRefusal : ℕ → Type 0
-IsRefusal status = ((BAD_WORDS ≤ status) × (status ≤ BAD_JOURNAL)) ⊎ (status ≡ BAD_MESSAGE)
+IsRefusal status =
+    ((BAD_WORDS ≤ status) × (status ≤ BAD_JOURNAL)) ⊎ ((status ≡ BAD_MESSAGE) ⊎ (status ≡ NOT_BUILT))
 
 -- the files that the words let change
 abbrev pub written_of : Option Command → List (List ℕ)
@@ -196,9 +207,12 @@ pub record Causes (words : List (List ℕ)) (status : ℕ) (old new : Shelved) (
   pub long : status ≡ TOO_LONG → (name : List ℕ)
       × OfCommand words (λ c. HasLongInput c old name)
       × Adds (named_text (codes "too long ") name) before after
-  pub config : status ≡ BAD_CONFIG
-      → OfCommand words (λ c. HasBadConfig c old)
-      × Adds (codes "bad config\n") before after
+  pub config : status ≡ BAD_CONFIG → (fault : ConfigFault)
+      × OfCommand words (λ c. HasBadConfig c old fault)
+      × Adds (bad_config_text fault) before after
+  pub unbuilt : status ≡ NOT_BUILT
+      → OfCommand words (λ c. HasUnbuiltConfig c old)
+      × Adds (codes "not built\n") before after
   pub journal : status ≡ BAD_JOURNAL
       → OfCommand words (λ c. HasBadJournal c old)
       × Adds (codes "bad journal\n") before after
@@ -210,7 +224,7 @@ pub record Causes (words : List (List ℕ)) (status : ℕ) (old new : Shelved) (
       × Adds (codes "cannot write\n") before after)
       ⊎ FailedPut words old new before after
   pub memory : status ≡ NO_MEMORY → Adds no_memory_text before after ⊎ Adds [] before after
-  pub known : (status ≤ BAD_MESSAGE) × (status ≢ 1) × (status ≢ 9)
+  pub known : (status ≤ NOT_BUILT) × (status ≢ 1) × (status ≢ 9) × (status ≢ 11)
   pub no_fault : IsRefusal status → status ≢ CANNOT_READ → new.faults ≡ old.faults
   pub all_put : IsRefusal status → after.faults ≡ before.faults
 
@@ -231,9 +245,12 @@ pub record Obliges (words : List (List ℕ)) (status : ℕ) (old new : Shelved) 
   pub long : IsTrue old.tells → NoFault old new → (name : List ℕ)
       → OfCommand words (λ c. HasLongInput c old name)
       → Answers TOO_LONG status before after
-  pub config : IsTrue old.tells → NoFault old new
-      → OfCommand words (λ c. HasBadConfig c old)
+  pub config : IsTrue old.tells → NoFault old new → (fault : ConfigFault)
+      → OfCommand words (λ c. HasBadConfig c old fault)
       → Answers BAD_CONFIG status before after
+  pub unbuilt : IsTrue old.tells → NoFault old new
+      → OfCommand words (λ c. HasUnbuiltConfig c old)
+      → Answers NOT_BUILT status before after
   pub journal : IsTrue old.tells → NoFault old new
       → OfCommand words (λ c. HasBadJournal c old)
       → Answers BAD_JOURNAL status before after

@@ -3,9 +3,10 @@
 use Rattle.std.specs.Prelude.{◌≡◌, ◌⊎◌, ℕ, List, ◌++◌, Bool, IsTrue, codes}
 use Rattle.ids_outside.specs.Faults.{Rose}
 use Rattle.ids_outside.specs.Sinks.{TakesPart}
-use Rattle.idsm_run.specs.declared.status.TheConstants.{CANNOT_READ, TOO_LONG, BAD_CONFIG, BAD_JOURNAL, CANNOT_WRITE, NO_MEMORY, BAD_MESSAGE}
+use Rattle.idsm_run.specs.declared.status.TheConstants.{CANNOT_READ, TOO_LONG, BAD_CONFIG, BAD_JOURNAL, CANNOT_WRITE, NO_MEMORY, BAD_MESSAGE, NOT_BUILT}
 use Rattle.idsm_run.specs.declared.stop.Stop.{Stop}
 use Rattle.idsm_run.specs.declared.stop.Stop.TheVariants as stop
+use Rattle.idsm_run.specs.ConfigTexts.{bad_config_text}
 use Rattle.idsm_run.specs.Messages.{bad_message_text}
 
 -- what a sink shows at a moment: whether it tells what it took, what it took, and its faults
@@ -59,13 +60,15 @@ abbrev pub TextOrNoMemory : List ℕ → ℕ → List ℕ → ℕ → Type 0
 TextOrNoMemory named number text status =
     ((text ≡ named) × (status ≡ number)) ⊎ ((text ≡ no_memory_text) × (status ≡ NO_MEMORY))
 
--- the text and the status of a stop; a text that names a file wants memory
+-- the text and the status of a stop; a text that names a file or a place wants memory
 abbrev pub StopSays : Stop → List ℕ → ℕ → Type 0
 StopSays (stop.CannotRead name) text status =
     TextOrNoMemory (named_text (codes "cannot read ") name.now) CANNOT_READ text status
 StopSays (stop.TooLong name) text status =
     TextOrNoMemory (named_text (codes "too long ") name.now) TOO_LONG text status
-StopSays stop.BadConfig text status = (text ≡ codes "bad config\n") × (status ≡ BAD_CONFIG)
+StopSays (stop.BadConfig fault) text status =
+    TextOrNoMemory (bad_config_text fault) BAD_CONFIG text status
+StopSays stop.NotBuilt text status = (text ≡ codes "not built\n") × (status ≡ NOT_BUILT)
 StopSays stop.BadJournal text status = (text ≡ codes "bad journal\n") × (status ≡ BAD_JOURNAL)
 StopSays stop.CannotWrite text status = (text ≡ codes "cannot write\n") × (status ≡ CANNOT_WRITE)
 StopSays stop.NoMemory text status = (text ≡ no_memory_text) × (status ≡ NO_MEMORY)

@@ -13,7 +13,7 @@ use Rattle.ids_types.specs.Turns.{Turn}
 use Rattle.ids_frame.specs.Context.{ContextPart, context_of}
 use Rattle.ids_frame.specs.Message.{MessageParts}
 use Rattle.ids_frame.specs.Spelling.{spelling}
-use Rattle.idsm_run.specs.Config.{Configuration, source_at}
+use Rattle.ids_config.specs.Parts.{Parts, event_at}
 
 -- the context that a message takes along: the one that was kept
 abbrev pub context_sent : Carried (List ℕ) → Option ContextPart
@@ -22,12 +22,12 @@ context_sent (Kept class claim bytes) = Some (context_of bytes)
 context_sent (Missing numbers) = None
 
 -- the message of a report of event k of the configuration
-abbrev pub message_of : Configuration → ℕ → ℕ → Option Stamp → Carried (List ℕ) → MessageParts
+abbrev pub message_of : Parts → ℕ → ℕ → Option Stamp → Carried (List ℕ) → MessageParts
 message_of config k count stamp context = record {
   version = 1;
   instance = config.instance;
-  sensor = (source_at config k).sensor;
-  event = (source_at config k).id;
+  sensor = (event_at config k).sensor;
+  event = (event_at config k).id;
   count = count;
   reserved = 0;
   stamp = stamp;
@@ -36,33 +36,33 @@ message_of config k count stamp context = record {
 }
 
 -- the bytes that an act sends: a report's message, and nothing for a control
-abbrev pub act_messages : Configuration → Act (List ℕ) → List ℕ
+abbrev pub act_messages : Parts → Act (List ℕ) → List ℕ
 act_messages config (Report event count stamp context) =
     spelling (message_of config event.0 count stamp context)
 act_messages config (State state) = []
 act_messages config (SetMode event mode) = []
 
 -- the bytes that an entry sends
-abbrev pub entry_messages : Configuration → Entry (List ℕ) → List ℕ
+abbrev pub entry_messages : Parts → Entry (List ℕ) → List ℕ
 entry_messages config entry = act_messages config entry.act
 
 -- the bytes that a turn sends, those of its entries one after another
-abbrev pub turn_messages : Configuration → Turn → List ℕ
+abbrev pub turn_messages : Parts → Turn → List ℕ
 turn_messages config turn = flat_map (entry_messages config) turn.entries
 
 -- the bytes that all turns send
-abbrev pub messages_of : Configuration → List Turn → List ℕ
+abbrev pub messages_of : Parts → List Turn → List ℕ
 messages_of config turns = flat_map (turn_messages config) turns
 
 -- how many bytes have been sent after each turn, where so many had been sent before them
-abbrev pub ends_from : ℕ → Configuration → List Turn → List ℕ
+abbrev pub ends_from : ℕ → Parts → List Turn → List ℕ
 ends_from start config [] = []
 ends_from start config (turn ∷ turns) =
     let end = start + length (turn_messages config turn) in
     end ∷ ends_from end config turns
 
 -- how many bytes have been sent after each turn
-abbrev pub ends_of : Configuration → List Turn → List ℕ
+abbrev pub ends_of : Parts → List Turn → List ℕ
 ends_of config turns = ends_from 0 config turns
 
 -- how many messages an act sends: one for a report, and none for a control

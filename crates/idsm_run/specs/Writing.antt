@@ -4,7 +4,7 @@ use Rattle.ids_outside.specs.Faults.{Faults, CountsFault}
 use Rattle.ids_outside.specs.Files.{Files}
 use Rattle.ids_outside.specs.declared.faults.FaultKind.TheVariants.{Create, Append}
 use Rattle.idsm_run.specs.declared.stop.Stop.{Stop}
-use Rattle.idsm_run.specs.declared.stop.Stop.TheVariants.{CannotRead, TooLong, BadConfig, BadJournal, CannotWrite, NoMemory, BadMessage}
+use Rattle.idsm_run.specs.declared.stop.Stop.TheVariants.{CannotRead, TooLong, BadConfig, NotBuilt, BadJournal, CannotWrite, NoMemory, BadMessage}
 
 -- a file that is to be written, whole
 pub record Output : Type 0 where
@@ -46,7 +46,8 @@ FailedWrite old new name = CountsFault old new Create name ⊎ CountsFault old n
 abbrev pub WriteStops : Faults → Faults → List ℕ → Stop → Type 0
 WriteStops old new name (CannotRead other) = ⊥
 WriteStops old new name (TooLong other) = ⊥
-WriteStops old new name BadConfig = ⊥
+WriteStops old new name (BadConfig fault) = ⊥
+WriteStops old new name NotBuilt = ⊥
 WriteStops old new name BadJournal = ⊥
 WriteStops old new name CannotWrite = FailedWrite old new name
 WriteStops old new name NoMemory = new ≡ old

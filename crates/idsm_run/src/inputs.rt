@@ -1,16 +1,20 @@
 //! The input files of the command `fold`.
 
-ghost use Rattle.std.specs.Prelude.{◌≡◌, ◌≤◌, length, IsTrue, IfOk, OnOk, IfErr};
+ghost use Rattle.std.specs.Prelude.{◌≡◌, ◌≤◌, length, true, IsTrue, IfOk, OnOk, IfErr};
 ghost use Rattle.ids_outside.specs.Files.{SameFiles, Holds};
 ghost use Rattle.idsm_run.specs.PlainJournal.{Fits};
 ghost use Rattle.idsm_run.specs.CommandView.{files_of};
-ghost use Rattle.idsm_run.specs.Inputs.{HasInputs, InputStops, ReadStops};
+ghost use Rattle.config_json.specs.Configured.{ConfigOf};
+ghost use Rattle.idsm_run.specs.Built.{is_built as built};
+ghost use Rattle.idsm_run.specs.Inputs.{HasInputs, InputStops, ConfigStops, ReadStops};
 
+use crate::built::is_built;
 use crate::command::FoldNames;
-use crate::config::Config;
 use crate::journal;
 use crate::limits::{MAX_CONFIG_BYTES, MAX_JOURNAL_BYTES};
 use crate::stop::Stop;
+use config_json::JsonFault;
+use ids_config::Config;
 use ids_outside::{ReadFault, Shelf};
 use ids_types::History;
 use std::alloc::Global;
@@ -39,14 +43,34 @@ pub(crate) fn read_inputs<'a, H: Shelf>(
         (H.faults shelf.old) (H.faults shelf.new) (files_of names.entry)) }
 {
     let text = read_file(alloc, names.config, MAX_CONFIG_BYTES, shelf)?;
-    let Some(config) = Config::read(alloc, &text)? else {
-        return Err(Stop::BadConfig);
-    };
+    let config = judge_config(alloc, &text)?;
     let text = read_file(alloc, names.journal, MAX_JOURNAL_BYTES, shelf)?;
-    let Some(history) = journal::read(alloc, &text, config.events() as u16)? else {
+    let Some(history) = journal::read(alloc, &text, count_events(&config))? else {
         return Err(Stop::BadJournal);
     };
     Ok(Inputs { config, history })
+}
+
+/// The configuration that the bytes are the text of, where it is one that the chain can mean.
+fn judge_config<'a>(alloc: Global, text: &[u8]) -> Result<Config, Stop<'a>>
+    ensures config { IfOk result (λ config. ConfigOf text.now config) }
+    ensures built { IfOk result (λ config. built config ≡ true) }
+    ensures stop { IfErr result (ConfigStops text.now) }
+{
+    match config_json::read(alloc, text) {
+        Ok(config) if is_built(config.parts()) => Ok(config),
+        Ok(_) => Err(Stop::NotBuilt),
+        Err(JsonFault::Config(fault)) => Err(Stop::BadConfig(fault)),
+        Err(JsonFault::NoMemory) => Err(Stop::NoMemory),
+    }
+}
+
+/// How many events there are, 1 to 256.
+fn count_events(config: &Config) -> u16
+    ensures value { result ≡ length config.now.events }
+    ensures some { 1 ≤ result }
+{
+    config.parts().events.len() as u16
 }
 
 /// The bytes of a file, where it has at most so many.

@@ -1,16 +1,16 @@
 //! The runs of the program: a command from its words over files and output, to its status.
 //!
-//! Layer 10, runs. Over `text_spec`, `ids_frame` and `ids_outside`; the program `idsm` calls it with
-//! the host's files. For now the commands are `fold`, for configurations of events alone and for
-//! journals of reports alone, and `decode`; the readers and the chain that sends every report are
-//! private.
+//! Layer 10, runs. Over `text_spec`, `config_json`, `ids_frame` and `ids_outside`; the program `idsm` calls it with
+//! the host's files. For now the commands are `fold`, for configurations under which every report is
+//! sent as it is and for journals of reports alone, and `decode`; the journal's reader and the chain
+//! that sends every report are private.
 //! Contracts see a shelf by what it tells: `specs/Run.antt` says what a run does, by cases on its
 //! command, and `run_plain` promises it. That memory suffices is not promised: `NO_MEMORY` is the one
 //! status without a cause.
 #![tactic(auto)]
 
+mod built;
 mod command;
-mod config;
 mod decode;
 mod fold;
 mod form;
@@ -28,5 +28,5 @@ mod stop;
 pub use run::run_plain;
 pub use status::{
     BAD_CONFIG, BAD_JOURNAL, BAD_MESSAGE, BAD_WORDS, CANNOT_READ, CANNOT_WRITE, DONE, NO_MEMORY,
-    TOO_LONG,
+    NOT_BUILT, TOO_LONG,
 };

@@ -1,13 +1,15 @@
 //! The one text that a run puts to its sink.
 
 ghost use Rattle.std.specs.Prelude.{◌≡◌, IfOk, MatchResult, string_bytes, codes};
+ghost use Rattle.idsm_run.specs.ConfigTexts.{bad_config_text};
 ghost use Rattle.idsm_run.specs.Messages.{bad_message_text};
 ghost use Rattle.idsm_run.specs.Saying.{heard, Says, TellsStop, named_text, no_memory_text};
 
 use crate::status::{
-    BAD_CONFIG, BAD_JOURNAL, BAD_MESSAGE, CANNOT_READ, CANNOT_WRITE, NO_MEMORY, TOO_LONG,
+    BAD_CONFIG, BAD_JOURNAL, BAD_MESSAGE, CANNOT_READ, CANNOT_WRITE, NO_MEMORY, NOT_BUILT, TOO_LONG,
 };
 use crate::stop::Stop;
+use ids_config::{ConfigFault, ConfigPlace};
 use ids_frame::{BadMessage, FrameFault};
 use ids_outside::{Sink, WriteFault};
 use std::alloc::{AllocError, Global};
@@ -39,7 +41,8 @@ pub(crate) fn tell<K: Sink>(alloc: Global, stop: Stop<'_>, out: &mut K) -> u8
     match stop {
         Stop::CannotRead(name) => tell_name(cannot_read_text(alloc, name), CANNOT_READ, out),
         Stop::TooLong(name) => tell_name(too_long_text(alloc, name), TOO_LONG, out),
-        Stop::BadConfig => say(b"bad config\n", BAD_CONFIG, out),
+        Stop::BadConfig(fault) => tell_name(bad_config_line(alloc, fault), BAD_CONFIG, out),
+        Stop::NotBuilt => say(b"not built\n", NOT_BUILT, out),
         Stop::BadJournal => say(b"bad journal\n", BAD_JOURNAL, out),
         Stop::CannotWrite => say(b"cannot write\n", CANNOT_WRITE, out),
         Stop::BadMessage(bad) => tell_name(bad_message_line(alloc, bad), BAD_MESSAGE, out),
@@ -74,6 +77,17 @@ fn too_long_text(alloc: Global, name: &str) -> Result<String, AllocError>
     ensures { IfOk result (λ text. string_bytes text ≡ named_text (codes "too long ") name.now) }
 {
     format!(in alloc; "too long {name}\n")
+}
+
+fn bad_config_line(alloc: Global, fault: ConfigFault) -> Result<String, AllocError>
+    ensures { IfOk result (λ text. string_bytes text ≡ bad_config_text fault) }
+{
+    let number = fault.number;
+    match fault.place {
+        ConfigPlace::Top => format!(in alloc; "bad config {number} at top\n"),
+        ConfigPlace::Class(index) => format!(in alloc; "bad config {number} at class {index}\n"),
+        ConfigPlace::Event(index) => format!(in alloc; "bad config {number} at event {index}\n"),
+    }
 }
 
 fn bad_message_line(alloc: Global, bad: BadMessage) -> Result<String, AllocError>

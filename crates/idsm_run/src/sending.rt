@@ -3,12 +3,13 @@ ghost use Rattle.std.specs.Prelude.{◌≡◌, ◌+◌, ◌≤◌, ◌<◌, ◌+
 ghost use Rattle.std.specs.List.{AllByRecursion};
 ghost use Rattle.ids_types.specs.Plain.{plain_entry, plain_carried};
 ghost use Rattle.ids_types.specs.Turns.{turn_at};
+ghost use Rattle.ids_config.specs.Parts.{event_at};
 ghost use Rattle.ids_frame.specs.Spelling.{spelling};
 ghost use Rattle.idsm_run.specs.PlainJournal.{TurnFits, EntryFits, ReportFits, ContextFits};
 ghost use Rattle.idsm_run.specs.Sending.{message_of, context_sent, entry_messages, turn_messages, messages_of, ends_of, entry_count, turn_count, count_of};
 
-use crate::config::Config;
 use arrayvec::ArrayVec;
+use ids_config::Config;
 use ids_frame::{Context, MAX_BYTES, Message, encode};
 use ids_types::{Act, Carried, Entry, EventIndex, History, NoMemory, Plain, Stamp};
 use std::alloc::Global;
@@ -105,10 +106,10 @@ fn message<'a>(
     ensures parts { result ≡ message_of config.now event.0 count stamp (plain_carried context.now) }
     ensures short { length (spelling result) ≤ MAX_BYTES }
 {
-    let source = config.source(event.0 as u64);
+    let source = source_of(config, event);
     let context = context_of(context);
     Message::make(
-        config.instance(),
+        source.instance,
         source.sensor,
         source.id,
         count,
@@ -118,6 +119,34 @@ fn message<'a>(
         None,
     )
     .unwrap()
+}
+
+/// What a message tells of its source.
+#[derive(Clone, Copy, Debug)]
+struct Source {
+    /// 0 to 1,023.
+    instance: u16,
+    /// 0 to 63.
+    sensor: u8,
+    id: u16,
+}
+
+/// The source of the messages of an event.
+fn source_of(config: &Config, event: EventIndex) -> Source
+    requires { event.0 < length config.now.events }
+    ensures instance { result.instance ≡ config.now.instance }
+    ensures ten_bits { result.instance ≤ 1023 }
+    ensures sensor { result.sensor ≡ (event_at config.now event.0).sensor }
+    ensures six_bits { result.sensor ≤ 63 }
+    ensures id { result.id ≡ (event_at config.now event.0).id }
+{
+    let parts = config.parts();
+    let event = &parts.events[event.0 as usize];
+    Source {
+        instance: parts.instance as u16,
+        sensor: event.sensor as u8,
+        id: event.id as u16,
+    }
 }
 
 /// The context that a message takes along.

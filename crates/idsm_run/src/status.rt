@@ -26,3 +26,6 @@ pub const NO_MEMORY: u8 = 8;
 
 /// The bytes of a file of messages are no list of messages.
 pub const BAD_MESSAGE: u8 = 10;
+
+/// The configuration uses what is not built yet.
+pub const NOT_BUILT: u8 = 12;

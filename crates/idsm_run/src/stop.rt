@@ -1,6 +1,7 @@
 ghost use Rattle.std.specs.Prelude.{◌≡◌};
 ghost use Rattle.idsm_run.specs.declared.stop.Stop.TheVariants.{NoMemory as no_memory};
 
+use ids_config::ConfigFault;
 use ids_frame::BadMessage;
 use ids_types::NoMemory;
 use std::alloc::AllocError;
@@ -12,7 +13,10 @@ pub(crate) enum Stop<'a> {
     CannotRead(&'a str),
     /// The file of this name has more bytes than its kind may have.
     TooLong(&'a str),
-    BadConfig,
+    /// The configuration has this fault.
+    BadConfig(ConfigFault),
+    /// The configuration uses what the chain cannot mean yet.
+    NotBuilt,
     BadJournal,
     CannotWrite,
     NoMemory,

@@ -1,0 +1,31 @@
+-- The text that docs/FORMATS.md shows, so that a wrong rule in the definitions does not check.
+use Rattle.std.proofs.Common.{◌≡◌, [], ◌∷◌, None, refl}
+use Rattle.std.specs.Prelude.{codes}
+use Rattle.std.specs.Fmt.{digits}
+use Rattle.serde_json.proofs.OnLiterals.{serde_json_on_literals}
+use Rattle.ids_config.specs.Parts.{Parts, first_profile, plain_event}
+use Rattle.config_json.specs.Printed.{config_text, config_tree, event_tree}
+
+-- one event, with id 42 and sensor 3, of instance 18, and all else by default
+abbrev base : Parts
+base = record {
+  profile = first_profile;
+  instance = 18;
+  callers = 1;
+  ring = 64;
+  memory = 0;
+  state = 0;
+  classes = [];
+  rate = None;
+  traffic = None;
+  events = plain_event 42 3 ∷ [];
+  lost_events = None;
+  lost_contexts = None;
+  limited = None;
+}
+
+-- its text
+base_text : config_text base
+    ≡ codes "{\"callers\":1,\"classes\":[],\"events\":[{\"aggregate\":null,\"block\":[],\"id\":42,\"mode\":\"DETAILED\",\"nth\":1,\"send\":true,\"sensor\":3,\"store\":false,\"threshold\":null}],\"form\":1,\"instance\":18,\"internal\":{\"limited\":null,\"lost_contexts\":null,\"lost_events\":null},\"memory\":0,\"rate\":null,\"ring\":64,\"state\":0,\"traffic\":null}"
+unfolding serde_json_on_literals digits config_tree event_tree
+base_text = refl

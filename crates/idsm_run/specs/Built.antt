@@ -1,0 +1,31 @@
+-- The configurations that the chain of this release can mean: it sends every report as it is.
+use Rattle.std.specs.Prelude.{Bool, true, false, not, ◌&&◌, ◌==◌, length, is_none}
+use Rattle.std.specs.List.{list_all}
+use Rattle.ids_types.specs.declared.mode.Mode.{Mode}
+use Rattle.ids_types.specs.declared.mode.Mode.TheVariants.{Off, Brief, Detailed, BriefBypassing, DetailedBypassing}
+use Rattle.ids_config.specs.Parts.{Event, Parts}
+
+-- the mode lets a report through the filters with its context
+abbrev pub is_detailed : Mode → Bool
+is_detailed Off = false
+is_detailed Brief = false
+is_detailed Detailed = true
+is_detailed BriefBypassing = false
+is_detailed DetailedBypassing = false
+
+-- every report of the event is sent as it is, and not stored
+abbrev pub is_sent_as_is : Event → Bool
+is_sent_as_is event =
+    is_detailed event.mode && event.send && not event.store && length event.block == 0
+    && event.nth == 1 && is_none event.aggregate && is_none event.threshold
+
+-- the manager has no events of its own
+abbrev pub has_no_internal : Parts → Bool
+has_no_internal config =
+    is_none config.lost_events && is_none config.lost_contexts && is_none config.limited
+
+-- every report is sent as it is, nothing is stored or held back, and the manager reports nothing
+abbrev pub is_built : Parts → Bool
+is_built config =
+    is_none config.rate && is_none config.traffic && has_no_internal config && config.memory == 0
+    && list_all is_sent_as_is config.events
