@@ -1,0 +1,387 @@
+-- What the rule says of a ring: of its tickets, its logs, its slots and its words.
+use Rattle.std.proofs.Common.{◌≡◌, ℕ, zero, suc, ◌+◌, ◌%◌, ◌<◌, ◌≤◌, ◌⊎◌, Bool, true, false, cond, eqb, is_some, List, [], ◌∷◌, length, Option, Some, None, refl, sym, ◌∙◌, ap, ap₂, subst, inl, inr, mod-eq_of_lt, eq-eqb, eqb-true, arith}
+use Rattle.std.proofs.lemmas.Bool.{cases_eq, cases_lt, cases_order}
+use Rattle.std.proofs.lemmas.Option.{none-some, same_Some}
+use native.Mathlib.Nat.{add-mod_right}
+use mathlib.Core.Option.{some, none, some-injective, some-ne-none}
+use lib.ListN.{get_elem?}
+use Rattle.atomic_table.specs.Table.{State}
+use Rattle.ring_core.specs.declared.seat.SeatView.{SeatView}
+use Rattle.ring_core.specs.Machine.{new_seat, seat_at}
+use Rattle.ring_core.specs.Sound.{Holds}
+use Rattle.ring_core.proofs.SeatLemmas.{live_is_made, none_held}
+use Rattle.permit_ring.specs.declared.memo.Key.{Key}
+use Rattle.permit_ring.specs.declared.memo.KeeperMemo.{KeeperMemo}
+use Rattle.permit_ring.specs.declared.memo.Outcome.{Outcome}
+use Rattle.permit_ring.specs.declared.memo.Outcome.TheVariants.{Lost, Got}
+use Rattle.permit_ring.specs.declared.memo.SeatMemo.{SeatMemo}
+use Rattle.permit_ring.specs.declared.memo.Slot.{Slot}
+use Rattle.permit_ring.specs.declared.memo.Slot.TheVariants.{Offered, Finished}
+use Rattle.permit_ring.specs.declared.memo.View.{View}
+use Rattle.permit_ring.specs.declared.memo.View.TheVariants.{Sits, Keeps}
+use Rattle.permit_ring.specs.Logs.{start_of, end_of, RisesFrom, end_from, got_of, taken_by}
+use Rattle.permit_ring.specs.Places.{ShowsRing, SitsThere, CameBack, IsMemoThere, IsHeldOnce, IsLoggedOnce, HasOnePlace, IsNotedAs, IsInOrder, IsAdmittedSlot, IsOneSeats}
+use Rattle.permit_ring.specs.Rule.{IsSeatMemo, IsSomewhere, Runs}
+use Rattle.permit_ring.proofs.States.{one_memo, ring_of, keeper_port, at_own_port, is_live, knows_it, not_ended}
+use Rattle.permit_ring.proofs.ListLemmas.{at_length, there}
+
+-- each place of a turn is that of a ticket in it
+in_turn : (n from p : ℕ) → p < n → (t : ℕ) × (from ≤ t) × (t < from + n) × (t % n ≡ p)
+in_turn n zero p below = (p, omega arith, omega (arith, below), mod-eq_of_lt below)
+in_turn n (suc from) p below =
+    let q = in_turn n from p below in
+    let low = q.1 in
+    let high = q.2 in
+    elim (cases_eq from q.0) [
+      | inl here ↦ (from + n, omega (arith, below), omega arith, add-mod_right from n ∙ ap (λ (t : ℕ). t % n) here ∙ q.3)
+      | inr later ↦ (q.0, omega (arith, low, later), omega (arith, high), q.3)
+    ]
+
+-- a list with or without one more element in front
+behind : {A : Type 0} (b : Bool) (x a : A) (l : List A) (k : ℕ) → get_elem? l k ≡ some a → (j : ℕ) × (get_elem? (cond b (x ∷ l) l) j ≡ some a)
+behind true x a l k e = (suc k, e)
+behind false x a l k e = (k, e)
+
+first_or_behind : {A : Type 0} (b : Bool) (x a : A) (l : List A) (k : ℕ) → get_elem? (cond b (x ∷ l) l) k ≡ some a → ((b ≡ true) × (x ≡ a)) ⊎ ((j : ℕ) × (get_elem? l j ≡ some a))
+first_or_behind true x a l zero e = inl (refl, some-injective x a e)
+first_or_behind true x a l (suc k) e = inr (k, e)
+first_or_behind false x a l k e = inr (k, e)
+
+module _ {N : Type 0} where
+  -- a call that got a ticket is among those that did
+  got_in : (log : List (Outcome N)) (j t : ℕ) (x : N) → get_elem? log j ≡ some (Got t x) → (k : ℕ) × (get_elem? (got_of log) k ≡ some (t, x))
+  got_in [] j t x e = absurd (some-ne-none (Got t x) (sym e))
+  got_in (Lost g ∷ log) zero t x e = let no = some-injective (Lost g) (Got t x) e in absurd cc
+  got_in (Lost g ∷ log) (suc j) t x e = got_in log j t x e
+  got_in (Got u y ∷ log) zero t x e =
+      let same = some-injective (Got u y) (Got t x) e in
+      let ticket : u ≡ t = cc in
+      let note : y ≡ x = cc in
+      (0, λ k. some (ticket k, note k))
+  got_in (Got u y ∷ log) (suc j) t x e = let rest = got_in log j t x e in (suc rest.0, rest.1)
+
+  -- and stands in the log
+  got_from : (log : List (Outcome N)) (k t : ℕ) (x : N) → get_elem? (got_of log) k ≡ some (t, x) → (j : ℕ) × (get_elem? log j ≡ some (Got t x))
+  got_from [] k t x e = absurd (some-ne-none (t, x) (sym e))
+  got_from (Lost g ∷ log) k t x e = let rest = got_from log k t x e in (suc rest.0, rest.1)
+  got_from (Got u y ∷ log) zero t x e = (0, ap (λ (p : ℕ × N). some (Got p.0 p.1)) (some-injective (u, y) (t, x) e))
+  got_from (Got u y ∷ log) (suc k) t x e = let rest = got_from log k t x e in (suc rest.0, rest.1)
+
+  -- a ticket that the seat finished is among those that it took
+  taken_in : (i from : ℕ) (fates : List (Option (ℕ × N))) (u t : ℕ) (x : N) → t ≡ from + u → get_elem? fates u ≡ some (Some (i, x)) → (k : ℕ) × (get_elem? (taken_by i from fates) k ≡ some (t, x))
+  taken_in i from [] u t x is e = absurd (some-ne-none (Some (i, x)) (sym e))
+  taken_in i from (None ∷ fates) zero t x is e = absurd (none-some (i, x) (some-injective None (Some (i, x)) e))
+  taken_in i from (None ∷ fates) (suc u) t x is e = taken_in i (suc from) fates u t x (omega (arith, is)) e
+  taken_in i from (Some y ∷ fates) zero t x is e =
+      let same = same_Some y (i, x) (some-injective (Some y) (Some (i, x)) e) in
+      let own : i ≡ y.0 = sym (ap (λ (p : ℕ × N). p.0) same) in
+      let here : from ≡ t = omega (arith, is) in
+      (0, ap (λ (b : Bool). get_elem? (cond b ((from, y.1) ∷ taken_by i (suc from) fates) (taken_by i (suc from) fates)) 0) (eq-eqb i y.0 own) ∙ (λ k. some (here k, (same k).1)))
+  taken_in i from (Some y ∷ fates) (suc u) t x is e =
+      let rest = taken_in i (suc from) fates u t x (omega (arith, is)) e in
+      behind (eqb i y.0) (from, y.1) (t, x) (taken_by i (suc from) fates) rest.0 rest.1
+
+  -- and what it took it finished
+  taken_from : (i from : ℕ) (fates : List (Option (ℕ × N))) (k t : ℕ) (x : N) → get_elem? (taken_by i from fates) k ≡ some (t, x) → (u : ℕ) × (t ≡ from + u) × (get_elem? fates u ≡ some (Some (i, x)))
+  taken_from i from [] k t x e = absurd (some-ne-none (t, x) (sym e))
+  taken_from i from (None ∷ fates) k t x e = let rest = taken_from i (suc from) fates k t x e in let is = rest.1 in (suc rest.0, omega (arith, is), rest.2)
+  taken_from i from (Some y ∷ fates) k t x e = elim (first_or_behind (eqb i y.0) (from, y.1) (t, x) (taken_by i (suc from) fates) k e) [
+    | inl here ↦
+        let own : y.0 ≡ i = sym (eqb-true i y.0 here.0) in
+        let its_ticket : from ≡ t = ap (λ (p : ℕ × N). p.0) here.1 in
+        let its_note : y.1 ≡ x = ap (λ (p : ℕ × N). p.1) here.1 in
+        (0, omega (arith, its_ticket), λ k. some (Some (own k, its_note k)))
+    | inr later ↦ let rest = taken_from i (suc from) fates later.0 t x later.1 in let is = rest.1 in (suc rest.0, omega (arith, is), rest.2)
+  ]
+
+  -- no call ends before it starts
+  start_end : (r : Outcome N) → start_of r ≤ end_of r
+  start_end (Lost g) = omega arith
+  start_end (Got t x) = omega arith
+
+  -- no call stands below where its log begins
+  above_low : (low : ℕ) (log : List (Outcome N)) (l : ℕ) (b : Outcome N) → RisesFrom low log → get_elem? log l ≡ some b → low ≤ start_of b
+  above_low low [] l b rises e = absurd (some-ne-none b (sym e))
+  above_low low (r ∷ log) zero b rises e = subst (λ (o : Outcome N). low ≤ start_of o) (some-injective r b e) rises.0
+  above_low low (r ∷ log) (suc l) b rises e =
+      let first = rises.0 in
+      let own = start_end r in
+      let rest = above_low (end_of r) log l b rises.1 e in
+      omega (arith, first, own, rest)
+
+  -- nor before the end of one before it
+  rises_apart : (low : ℕ) (log : List (Outcome N)) (j l : ℕ) (a b : Outcome N) → RisesFrom low log → j < l → get_elem? log j ≡ some a → get_elem? log l ≡ some b → end_of a ≤ start_of b
+  rises_apart low [] j l a b rises less ea eb = absurd (some-ne-none b (sym eb))
+  rises_apart low (r ∷ log) j zero a b rises less ea eb = absurd (omega (arith, less))
+  rises_apart low (r ∷ log) zero (suc l) a b rises less ea eb = subst (λ (o : Outcome N). end_of o ≤ start_of b) (some-injective r a ea) (above_low (end_of r) log l b rises.1 eb)
+  rises_apart low (r ∷ log) (suc j) (suc l) a b rises less ea eb = rises_apart (end_of r) log j l a b rises.1 (omega (arith, less)) ea eb
+
+  -- the end of the last is above where the log begins
+  low_to_end : (low : ℕ) (log : List (Outcome N)) → RisesFrom low log → low ≤ end_from low log
+  low_to_end low [] rises = omega arith
+  low_to_end low (r ∷ log) rises =
+      let first = rises.0 in
+      let own = start_end r in
+      let rest = low_to_end (end_of r) log rises.1 in
+      omega (arith, first, own, rest)
+
+  -- and above that of each
+  within_end : (low : ℕ) (log : List (Outcome N)) (j : ℕ) (a : Outcome N) → RisesFrom low log → get_elem? log j ≡ some a → end_of a ≤ end_from low log
+  within_end low [] j a rises e = absurd (some-ne-none a (sym e))
+  within_end low (r ∷ log) zero a rises e = subst (λ (o : Outcome N). end_of o ≤ end_from (end_of r) log) (some-injective r a e) (low_to_end (end_of r) log rises.1)
+  within_end low (r ∷ log) (suc j) a rises e = within_end (end_of r) log j a rises.1 e
+
+-- two elements at one place are one
+one_element : {A : Type 0} (l : List A) (i : ℕ) (a b : A) → get_elem? l i ≡ some a → get_elem? l i ≡ some b → a ≡ b
+one_element l i a b ea eb = some-injective a b (sym ea ∙ eb)
+
+-- a seat that holds a ticket is one that was made
+made_if_holds : (made : ℕ) (seats : List SeatView) (i t : ℕ) → (made ≡ length seats) ⊎ ((made ≡ 0) × (seats ≡ new_seat ∷ [])) → i < length seats → Holds (seat_at seats i) t → i < made
+made_if_holds made seats i t (inl all) less h = omega (arith, all, less)
+made_if_holds made seats i t (inr first) less h =
+    let one : length seats ≡ 1 = ap length first.1 in
+    let at_zero : i ≡ 0 = omega (arith, one, less) in
+    none_held (seat_at seats i).held t (ap (λ (v : SeatView). v.held) (ap₂ seat_at first.1 at_zero)) h
+
+module _ {O D T N : Type 0} (note : D → N) (Ao : T → O → Type 0) (An : T → N → Type 0) (key : Key T) (s : State (Slot O D) (View T N)) (r : Runs note Ao An key s) where
+  abbrev Known : SeatMemo N → Type 0
+  Known memo = IsSeatMemo r.machine r.moves r.fates r.keeper.fronts r.keeper.made memo
+
+  -- the keeper has the memo
+  back_there : (memo : SeatMemo N) → CameBack s.views memo → get_elem? r.keeper.back memo.number ≡ some (Some memo)
+  back_there memo c = ap (λ (k : KeeperMemo N). get_elem? k.back memo.number) (sym (keeper_port note Ao An key s r c.port c.its_key c.keeper c.there).1) ∙ c.back_at
+
+  -- who came back is not live, and knows what it knew
+  ended_known : (memo : SeatMemo N) → CameBack s.views memo → (memo.view.live ≡ false) × Known memo
+  ended_known memo c = let p = r.each_seat memo.number (Some memo) (back_there memo c) in (p.1, p.2)
+
+  -- what a seat that was made knows
+  pub memo_known : (memo : SeatMemo N) → IsMemoThere s.views memo → Known memo
+  memo_known memo (inl sits) = knows_it note Ao An key s r sits.port sits.its_key memo sits.there
+  memo_known memo (inr back) = (ended_known memo back).1
+
+  -- a number has one memo
+  one_each : (a b : SeatMemo N) → IsMemoThere s.views a → IsMemoThere s.views b → a.number ≡ b.number → a ≡ b
+  one_each a b (inl x) (inl y) e =
+      let one_port : y.port ≡ x.port = sym (at_own_port note Ao An key s r y.port y.its_key b y.there) ∙ ap r.owner (sym e) ∙ at_own_port note Ao An key s r x.port x.its_key a x.there in
+      one_memo x.its_key y.its_key a b (one_element s.views x.port (Sits x.its_key a) (Sits y.its_key b) x.there (ap (get_elem? s.views) (sym one_port) ∙ y.there))
+  one_each a b (inl x) (inr y) e = let was = ended_known b y in not_ended note Ao An key s r x.port x.its_key a x.there b was.0 (sym e) was.1
+  one_each a b (inr x) (inl y) e = let was = ended_known a x in not_ended note Ao An key s r y.port y.its_key b y.there a was.0 e was.1
+  one_each a b (inr x) (inr y) e = same_Some a b (one_element r.keeper.back a.number (Some a) (Some b) (back_there a x) (ap (get_elem? r.keeper.back) e ∙ back_there b y))
+
+  -- the memo of a seat by its number, and whether it is live
+  memo_from : (i : ℕ) (back : Option (SeatMemo N)) → get_elem? r.keeper.back i ≡ some back → IsSomewhere key r.machine r.moves r.fates r.keeper s.views r.owner i back → (memo : SeatMemo N) × (memo.number ≡ i) × (SitsThere s.views memo ⊎ ((memo.view.live ≡ false) × CameBack s.views memo))
+  memo_from i None e p = (p.0, p.1, inl (record { port = r.owner i; its_key = key; there = p.2 }))
+  memo_from i (Some memo) e p = (memo, p.0, inr (p.1, record { port = 0; its_key = key; keeper = r.keeper; there = r.keeper_there; back_at = ap (get_elem? r.keeper.back) p.0 ∙ e }))
+
+  -- each seat that was made has a memo
+  memo_of : (i : ℕ) → i < r.keeper.made → (memo : SeatMemo N) × (memo.number ≡ i) × (SitsThere s.views memo ⊎ ((memo.view.live ≡ false) × CameBack s.views memo))
+  memo_of i less =
+      let all = r.knows.back_is in
+      let back = there r.keeper.back i (omega (arith, less, all)) in
+      memo_from i back.0 back.1 (r.each_seat i back.0 back.1)
+
+  there_of : (memo : SeatMemo N) → SitsThere s.views memo ⊎ ((memo.view.live ≡ false) × CameBack s.views memo) → IsMemoThere s.views memo
+  there_of memo (inl sits) = inl sits
+  there_of memo (inr back) = inr back.1
+
+  -- each number is that of one seat
+  pub each_number_is_one_seats : (i : ℕ) → i < r.keeper.made → IsOneSeats s.views i
+  each_number_is_one_seats i less =
+      let one = memo_of i less in
+      let is = there_of one.0 one.2 in
+      record { memo = one.0; is_there = is; number_is = one.1; no_other = λ other there e. one_each other one.0 there is (e ∙ sym one.1) }
+
+  -- a ticket in a log was finished by its seat
+  fate_of : (memo : SeatMemo N) (j t : ℕ) (x : N) → IsMemoThere s.views memo → get_elem? memo.log j ≡ some (Got t x) → get_elem? r.fates t ≡ some (Some (memo.number, x))
+  fate_of memo j t x is e =
+      let got = got_in memo.log j t x e in
+      let took = taken_from memo.number 0 r.fates got.0 t x (ap (λ (l : List (ℕ × N)). get_elem? l got.0) (sym (memo_known memo is).got) ∙ got.1) in
+      let is_there = took.1 in
+      let here : t ≡ took.0 = omega (arith, is_there) in
+      ap (get_elem? r.fates) here ∙ took.2
+
+  -- and one that a seat finished is in its log
+  log_of : (memo : SeatMemo N) (t : ℕ) (x : N) → IsMemoThere s.views memo → get_elem? r.fates t ≡ some (Some (memo.number, x)) → (j : ℕ) × (get_elem? memo.log j ≡ some (Got t x))
+  log_of memo t x is e =
+      let took = taken_in memo.number 0 r.fates t t x (omega arith) e in
+      got_from memo.log took.0 t x (ap (λ (l : List (ℕ × N)). get_elem? l took.0) (memo_known memo is).got ∙ took.1)
+
+  -- with an admitted note
+  pub logged_is_admitted : (memo : SeatMemo N) (j t : ℕ) (x : N) → IsMemoThere s.views memo → get_elem? memo.log j ≡ some (Got t x) → An key.terms x
+  logged_is_admitted memo j t x is e = (r.are_fates.finished t memo.number x (fate_of memo j t x is e)).1
+
+  -- and so is each note of the keeper
+  pub noted_is_admitted : (t : ℕ) (x : N) → get_elem? r.keeper.notes t ≡ some x → An key.terms x
+  noted_is_admitted t x e = let fate = r.knows.noted t x e in (r.are_fates.finished t fate.0 x fate.1).1
+
+  -- nothing became yet of a held ticket
+  open_of : (memo : SeatMemo N) (t : ℕ) → IsMemoThere s.views memo → Holds memo.view t → get_elem? r.fates t ≡ some None
+  open_of memo t is h = r.are_fates.held_is_open memo.number t (sym (ap (λ (v : SeatView). v.held) (memo_known memo is).shows) ∙ h)
+
+  -- a ticket is not both held and finished
+  not_both : {A : Type 0} (t : ℕ) (y : ℕ × N) → get_elem? r.fates t ≡ some None → get_elem? r.fates t ≡ some (Some y) → A
+  not_both t y undone done = absurd (none-some y (one_element r.fates t None (Some y) undone done))
+
+  -- a ticket in a log was claimed, and no seat holds it
+  pub logged_is_done : (memo : SeatMemo N) (j t : ℕ) (x : N) → IsMemoThere s.views memo → get_elem? memo.log j ≡ some (Got t x) → (t < r.machine.word.claimed) × ((other : SeatMemo N) → IsMemoThere s.views other → ¬ Holds other.view t)
+  logged_is_done memo j t x is e =
+      let done = fate_of memo j t x is e in
+      let less = at_length r.fates t (Some (memo.number, x)) done in
+      let all = r.are_fates.each_claimed in
+      (omega (arith, less, all), λ other there h. not_both t (memo.number, x) (open_of other t there h) done)
+
+  -- in one log a ticket stands at one place
+  one_place : (memo : SeatMemo N) (j l t : ℕ) (x y : N) → IsMemoThere s.views memo → get_elem? memo.log j ≡ some (Got t x) → get_elem? memo.log l ≡ some (Got t y) → j ≡ l
+  one_place memo j l t x y is ex ey = elim (cases_order j l) [
+    | inl same ↦ same
+    | inr (inl less) ↦ let no : t + 1 ≤ t = rises_apart 0 memo.log j l (Got t x) (Got t y) (memo_known memo is).ordered.rises less ex ey in absurd (omega (arith, no))
+    | inr (inr more) ↦ let no : t + 1 ≤ t = rises_apart 0 memo.log l j (Got t y) (Got t x) (memo_known memo is).ordered.rises more ey ex in absurd (omega (arith, no))
+  ]
+
+  -- two places of one ticket in logs are one
+  one_entry : (a b : SeatMemo N) (j l t : ℕ) (x y : N) → IsMemoThere s.views a → IsMemoThere s.views b → get_elem? a.log j ≡ some (Got t x) → get_elem? b.log l ≡ some (Got t y) → (a ≡ b) × (j ≡ l) × (x ≡ y)
+  one_entry a b j l t x y is_a is_b ea eb =
+      let fate = same_Some (a.number, x) (b.number, y) (one_element r.fates t (Some (a.number, x)) (Some (b.number, y)) (fate_of a j t x is_a ea) (fate_of b l t y is_b eb)) in
+      let one : a ≡ b = one_each a b is_a is_b (ap (λ (p : ℕ × N). p.0) fate) in
+      (one, one_place a j l t x y is_a ea (ap (λ (memo : SeatMemo N). get_elem? memo.log l) one ∙ eb), ap (λ (p : ℕ × N). p.1) fate)
+
+  -- a seat that holds a ticket is live
+  holder_lives : (i t : ℕ) → Holds (seat_at r.machine.seats i) t → (seat_at r.machine.seats i).live ≡ true
+  holder_lives i t h = ((ring_of note Ao An key s r).seats.each i).holder_is_live (ap is_some h)
+
+  -- and was made
+  holder_made : (i t : ℕ) → Holds (seat_at r.machine.seats i) t → i < r.keeper.made
+  holder_made i t h = made_if_holds r.keeper.made r.machine.seats i t r.knows.made_is (live_is_made r.machine.seats i (holder_lives i t h)) h
+
+  -- a seat holds in the machine what its memo says
+  machine_holds : (memo : SeatMemo N) (t : ℕ) → IsMemoThere s.views memo → Holds memo.view t → Holds (seat_at r.machine.seats memo.number) t
+  machine_holds memo t is h = sym (ap (λ (v : SeatView). v.held) (memo_known memo is).shows) ∙ h
+
+  -- so it sits at a port
+  holder_sits : (memo : SeatMemo N) (t : ℕ) → IsMemoThere s.views memo → Holds memo.view t → SitsThere s.views memo
+  holder_sits memo t (inl sits) h = sits
+  holder_sits memo t (inr back) h =
+      let was = ended_known memo back in
+      let c : false ≡ true = sym was.0 ∙ ap (λ (v : SeatView). v.live) was.1.shows ∙ holder_lives memo.number t (machine_holds memo t (inr back) h) in
+      absurd cc
+
+  -- a held ticket was claimed, and is not reaped
+  pub held_is_claimed : (memo : SeatMemo N) (t : ℕ) → IsMemoThere s.views memo → Holds memo.view t → (r.machine.reaped ≤ t) × (t < r.machine.word.claimed)
+  held_is_claimed memo t is h = ((ring_of note Ao An key s r).seats.each memo.number).held_is_out t (machine_holds memo t is h)
+
+  -- two seats that hold one ticket are one
+  one_holder : (a b : SeatMemo N) (t : ℕ) → IsMemoThere s.views a → IsMemoThere s.views b → Holds a.view t → Holds b.view t → a ≡ b
+  one_holder a b t is_a is_b ha hb = one_each a b is_a is_b ((ring_of note Ao An key s r).seats.apart a.number b.number t (machine_holds a t is_a ha) (machine_holds b t is_b hb))
+
+  -- a ticket that a seat holds has this place alone
+  held_by : (memo : SeatMemo N) (t : ℕ) → IsMemoThere s.views memo → Holds memo.view t → IsHeldOnce s.views t
+  held_by memo t is h = let sits = holder_sits memo t is h in record {
+    holder = memo;
+    sits = sits;
+    is_live = is_live note Ao An key s r sits.port sits.its_key memo sits.there;
+    holds = h;
+    no_other = λ other there_too h_too. one_holder other memo t there_too is h_too h;
+    in_no_log = λ other j x there_too e. not_both t (other.number, x) (open_of memo t is h) (fate_of other j t x there_too e);
+  }
+
+  -- a ticket of which nothing became is held
+  held_once : (t : ℕ) → get_elem? r.fates t ≡ some None → IsHeldOnce s.views t
+  held_once t undone =
+      let held = r.are_fates.open_is_held t undone in
+      let memo = memo_of held.0 (holder_made held.0 t held.1) in
+      let is = there_of memo.0 memo.2 in
+      held_by memo.0 t is (ap (λ (v : SeatView). v.held) ((memo_known memo.0 is).shows ∙ ap (seat_at r.machine.seats) memo.1) ∙ held.1)
+
+  -- any other is in a log
+  noted_as : (t : ℕ) (y : ℕ × N) → get_elem? r.fates t ≡ some (Some y) → IsNotedAs s.views t y.1
+  noted_as t y done =
+      let memo = memo_of y.0 (r.are_fates.finished t y.0 y.1 done).0 in
+      let is = there_of memo.0 memo.2 in
+      let entry = log_of memo.0 t y.1 is (done ∙ ap (λ (i : ℕ). some (Some (i, y.1))) (sym memo.1)) in
+      record { taker = memo.0; is_there = is; place = entry.0; stands = entry.1 }
+
+  -- in one log alone, there once
+  logged_once : (t : ℕ) (y : ℕ × N) → get_elem? r.fates t ≡ some (Some y) → IsLoggedOnce s.views t
+  logged_once t y done = let noted = noted_as t y done in record {
+    taker = noted.taker;
+    is_there = noted.is_there;
+    place = noted.place;
+    its_note = y.1;
+    stands = noted.stands;
+    no_other = λ other j x there_too e. one_entry other noted.taker j noted.place t x y.1 there_too noted.is_there e noted.stands;
+    held_by_none = (logged_is_done noted.taker noted.place t y.1 noted.is_there noted.stands).1;
+  }
+
+  -- a ticket has one place, whatever became of it
+  place_from : (t : ℕ) (fate : Option (ℕ × N)) → get_elem? r.fates t ≡ some fate → HasOnePlace s.views t
+  place_from t None e = inl (held_once t e)
+  place_from t (Some y) e = inr (logged_once t y e)
+
+  -- each claimed ticket has one place: a seat holds it, or a log has it
+  pub each_ticket_has_one_place : (t : ℕ) → t < r.machine.word.claimed → HasOnePlace s.views t
+  each_ticket_has_one_place t less =
+      let all = r.are_fates.each_claimed in
+      let fate = there r.fates t (omega (arith, less, all)) in
+      place_from t fate.0 fate.1
+
+  -- the keeper's note of a ticket is that of its log
+  pub note_of_a_ticket : (port t : ℕ) (its : Key T) (k : KeeperMemo N) (x : N) → get_elem? s.views port ≡ some (Keeps its k) → get_elem? k.notes t ≡ some x → IsNotedAs s.views t x
+  note_of_a_ticket port t its k x at e =
+      let one = (keeper_port note Ao An key s r port its k at).1 in
+      let fate = r.knows.noted t x (ap (λ (h : KeeperMemo N). get_elem? h.notes t) (sym one) ∙ e) in
+      noted_as t (fate.0, x) fate.1
+
+  -- the calls of a log are in order
+  pub records_rise : (memo : SeatMemo N) → IsMemoThere s.views memo → IsInOrder r.machine.word.claimed memo.log
+  records_rise memo is = record {
+    rises = λ j l a b less ea eb. rises_apart 0 memo.log j l a b (memo_known memo is).ordered.rises less ea eb;
+    lost_within = λ j g e.
+        let below = within_end 0 memo.log j (Lost g) (memo_known memo is).ordered.rises e in
+        let claimed = (memo_known memo is).below_claims in
+        omega (arith, below, claimed);
+  }
+
+  abbrev Admitted : Slot O D → Type 0
+  Admitted = IsAdmittedSlot note Ao An key.terms
+
+  -- a slot that is out has no value at home
+  not_out : (p : ℕ) (x : Slot O D) → get_elem? s.homes p ≡ some (some x) → get_elem? s.homes p ≡ some none → Admitted x
+  not_out p x at out = absurd (some-ne-none x (one_element s.homes p (some x) none at out))
+
+  -- a slot has one value
+  value_is : (p : ℕ) (x y : Slot O D) → get_elem? s.homes p ≡ some (some x) → get_elem? s.homes p ≡ some (some y) → Admitted y → Admitted x
+  value_is p x y at is = subst Admitted (sym (some-injective x y (one_element s.homes p (some x) (some y) at is)))
+
+  -- the value at home of a claimed ticket
+  claimed_value : (t : ℕ) (x : Slot O D) (fate : Option (ℕ × N)) → r.machine.reaped ≤ t → get_elem? r.fates t ≡ some fate → get_elem? s.homes (t % key.positions) ≡ some (some x) → Admitted x
+  claimed_value t x None from e at = not_out (t % key.positions) x at (r.are_slots.held_out t from e)
+  claimed_value t x (Some y) from e at =
+      let home = r.are_slots.finished_home t y.0 y.1 from e in
+      value_is (t % key.positions) x (Finished home.0) at home.2 (subst (An key.terms) (sym home.1) (r.are_fates.finished t y.0 y.1 e).1)
+
+  -- and of one that is not claimed yet
+  later_value : (t : ℕ) (x : Slot O D) → r.machine.word.claimed ≤ t → t < r.machine.reaped + key.positions → get_elem? s.homes (t % key.positions) ≡ some (some x) → Admitted x
+  later_value t x past within at = elim (cases_lt t r.machine.offered) [
+    | inl offered ↦ let home = r.are_slots.offered_home t past offered in value_is (t % key.positions) x (Offered home.0) at home.2 home.1
+    | inr vacant ↦ not_out (t % key.positions) x at (r.are_slots.vacant_out t vacant within)
+  ]
+
+  -- the value at home of any ticket of the turn
+  ticket_value : (t : ℕ) (x : Slot O D) → r.machine.reaped ≤ t → t < r.machine.reaped + key.positions → get_elem? s.homes (t % key.positions) ≡ some (some x) → Admitted x
+  ticket_value t x from within at = elim (cases_lt t r.machine.word.claimed) [
+    | inl claimed ↦ let all = r.are_fates.each_claimed in let fate = there r.fates t (omega (arith, claimed, all)) in claimed_value t x fate.0 from fate.1 at
+    | inr past ↦ later_value t x past within at
+  ]
+
+  -- each value at home is admitted
+  pub values_at_home_are_admitted : (p : ℕ) (x : Slot O D) → get_elem? s.homes p ≡ some (some x) → IsAdmittedSlot note Ao An key.terms x
+  values_at_home_are_admitted p x at =
+      let below = at_length s.homes p (some x) at in
+      let long = r.are_slots.a_slot_each in
+      let ticket = in_turn key.positions r.machine.reaped p (omega (arith, below, long)) in
+      ticket_value ticket.0 x ticket.1 ticket.2 (ap (get_elem? s.homes) ticket.3 ∙ at)
+
+  -- the words show the machine
+  pub words_show_the_machine : ShowsRing key s.words r.moves r.machine
+  words_show_the_machine = record { reached = r.reached; words_are = r.words_are; is_ring = ring_of note Ao An key s r }

@@ -1,0 +1,172 @@
+-- What stays of the rule where one view changes.
+use Rattle.std.proofs.Common.{◌≡◌, ◌≢◌, ℕ, ◌≤◌, Bool, true, false, List, set, Option, Some, None, refl, sym, ◌∙◌, ap, subst, inl, inr, arith}
+use Rattle.std.proofs.lemmas.Bool.{cases_eq}
+use mathlib.Core.Option.{some, some-injective, some-ne-none}
+use mathlib.Core.Option as maybe
+use lib.ListN.{get_elem?}
+use Rattle.atomic_table.proofs.Lists.{at_set, set_here, set_else}
+use Rattle.atomic_table.specs.Table.{State}
+use Rattle.ring_core.specs.declared.seat.SeatView.{SeatView}
+use Rattle.ring_core.specs.Machine.{Machine, opening, seat_at}
+use Rattle.ring_core.specs.Sound.{IsRing}
+use Rattle.ring_core.proofs.Opens.{opens}
+use Rattle.permit_ring.specs.declared.memo.Key.{Key}
+use Rattle.permit_ring.specs.declared.memo.KeeperMemo.{KeeperMemo}
+use Rattle.permit_ring.specs.declared.memo.Move.{Move}
+use Rattle.permit_ring.specs.declared.memo.SeatMemo.{SeatMemo}
+use Rattle.permit_ring.specs.declared.memo.Slot.{Slot}
+use Rattle.permit_ring.specs.declared.memo.View.{View}
+use Rattle.permit_ring.specs.declared.memo.View.TheVariants.{Sits, Keeps, Spent}
+use Rattle.permit_ring.specs.Logs.{taken_by}
+use Rattle.permit_ring.specs.Moves.{Leads, by_seat}
+use Rattle.permit_ring.specs.Rule.{words_of, StandsIn, AreFates, AreSlots, IsSeatMemo, IsKeeperMemo, Plays, IsSomewhere, Runs}
+use Rattle.permit_ring.proofs.ListLemmas.{at_length}
+use Rattle.permit_ring.proofs.MoveLemmas.{led_ring}
+
+module _ {T N : Type 0} where
+  sits : View T N → Bool
+  sits (Sits key memo) = true
+  sits (Keeps key k) = false
+  sits Spent = false
+
+  memo_or : SeatMemo N → View T N → SeatMemo N
+  memo_or d (Sits key memo) = memo
+  memo_or d (Keeps key k) = d
+  memo_or d Spent = d
+
+  keeper_or : KeeperMemo N → View T N → KeeperMemo N
+  keeper_or d (Sits key memo) = d
+  keeper_or d (Keeps key k) = k
+  keeper_or d Spent = d
+
+  -- one view has one memo
+  pub one_memo : (key its : Key T) (memo other : SeatMemo N) → Sits key memo ≡ Sits its other → memo ≡ other
+  one_memo key its memo other e = unfold memo_or in ap (memo_or memo) e
+
+  pub one_keeper : (key its : Key T) (k other : KeeperMemo N) → Keeps key k ≡ Keeps its other → k ≡ other
+  one_keeper key its k other e = unfold keeper_or in ap (keeper_or k) e
+
+  pub no_seat_keeps : {A : Type 0} (key its : Key T) (memo : SeatMemo N) (k : KeeperMemo N) → Sits key memo ≡ Keeps its k → A
+  no_seat_keeps key its memo k e = let c : true ≡ false = (unfold sits in ap sits e) in absurd cc
+
+module _ {N : Type 0} (m now : Machine) (moves then : List Move) (fates later : List (Option (ℕ × N))) (fronts further : List ℕ) (made more : ℕ) where
+  -- a seat that a step leaves alone still knows what it knew
+  pub seat_stays : (memo : SeatMemo N) → IsSeatMemo m moves fates fronts made memo → seat_at now.seats memo.number ≡ seat_at m.seats memo.number → by_seat memo.number then ≡ by_seat memo.number moves → taken_by memo.number 0 later ≡ taken_by memo.number 0 fates → m.word.claimed ≤ now.word.claimed
+      → ((g : ℕ) → StandsIn fronts g → StandsIn further g) → made ≤ more → IsSeatMemo now then later further more memo
+  seat_stays memo k seat moved took claimed wider grown = record {
+    is_made = let is = k.is_made in omega (arith, is, grown);
+    shows = k.shows ∙ sym seat;
+    moved = k.moved ∙ sym moved;
+    ordered = k.ordered;
+    below_claims = let is = k.below_claims in omega (arith, is, claimed);
+    got = k.got ∙ sym took;
+    lost_at_front = λ j g e. wider g (k.lost_at_front j g e);
+  }
+
+module _ {O D T N : Type 0} (note : D → N) (Ao : T → O → Type 0) (An : T → N → Type 0) (key : Key T) (s : State (Slot O D) (View T N)) (r : Runs note Ao An key s) where
+  -- the machine is a ring
+  pub ring_of : IsRing r.machine
+  ring_of = led_ring (opening key.positions key.limit) r.machine r.moves (opens key.positions key.limit r.sizes.some_position r.sizes.most_positions r.sizes.some_seat r.sizes.most_seats) r.reached
+
+  -- the keeper sits at the first port
+  pub keeper_port : (id : ℕ) (its : Key T) (k : KeeperMemo N) → get_elem? s.views id ≡ some (Keeps its k) → (id ≡ 0) × (k ≡ r.keeper)
+  keeper_port id its k at =
+      let first : id ≡ 0 = r.each_view id (Keeps its k) at in
+      (first, one_keeper its key k r.keeper (some-injective (Keeps its k) (Keeps key r.keeper) (sym (ap (get_elem? s.views) (sym first) ∙ at) ∙ r.keeper_there)))
+
+  module _ (id : ℕ) (its : Key T) (memo : SeatMemo N) (at : get_elem? s.views id ≡ some (Sits its memo)) where
+    -- a seat sits elsewhere
+    pub not_first : id ≢ 0
+    not_first e = no_seat_keeps its key memo r.keeper (some-injective (Sits its memo) (Keeps key r.keeper) (sym at ∙ ap (get_elem? s.views) e ∙ r.keeper_there))
+
+    -- with the ring's key, live, and at its own port
+    pub its_key : its ≡ key
+    its_key = (r.each_view id (Sits its memo) at).0
+
+    pub at_own_port : r.owner memo.number ≡ id
+    at_own_port = (r.each_view id (Sits its memo) at).1
+
+    pub is_live : memo.view.live ≡ true
+    is_live = (r.each_view id (Sits its memo) at).2
+
+    pub knows_it : IsSeatMemo r.machine r.moves r.fates r.keeper.fronts r.keeper.made memo
+    knows_it = (r.each_view id (Sits its memo) at).3
+
+    -- and is none that came back
+    pub not_ended : {A : Type 0} (other : SeatMemo N) → other.view.live ≡ false → other.number ≡ memo.number → IsSeatMemo r.machine r.moves r.fates r.keeper.fronts r.keeper.made other → A
+    not_ended other off e k = let c : true ≡ false = sym is_live ∙ ap (λ (v : SeatView). v.live) (knows_it.shows ∙ ap (seat_at r.machine.seats) (sym e) ∙ sym k.shows) ∙ off in absurd cc
+
+  -- the machine, its moves and the fates go on
+  module _ (now : Machine) (then : List Move) (later : List (Option (ℕ × N))) (words : List ℕ) (homes : List (maybe.Option (Slot O D))) (led : Leads (opening key.positions key.limit) then now) (told : words ≡ words_of now) (slots : AreSlots note (Ao key.terms) key.positions now later homes) where
+    -- and one seat knows more
+    pub seat_changes : (id : ℕ) (memo new : SeatMemo N) → get_elem? s.views id ≡ some (Sits key memo) → new.number ≡ memo.number → new.view.live ≡ true → AreFates now (An key.terms) r.keeper.made later → IsKeeperMemo key.positions now then later r.keeper
+        → IsSeatMemo now then later r.keeper.fronts r.keeper.made new
+        → ((other : SeatMemo N) → other.number ≢ memo.number → IsSeatMemo r.machine r.moves r.fates r.keeper.fronts r.keeper.made other → IsSeatMemo now then later r.keeper.fronts r.keeper.made other)
+        → Runs note Ao An key record { words = words; homes = homes; views = set s.views id (Sits key new) }
+    seat_changes id memo new at same live fates keeps mine others = record {
+      sizes = r.sizes;
+      machine = now;
+      moves = then;
+      reached = led;
+      words_are = told;
+      fates = later;
+      keeper = r.keeper;
+      are_fates = fates;
+      are_slots = slots;
+      keeper_there = set_else s.views id 0 (Sits key new) (λ e. not_first id key memo at (sym e)) ∙ r.keeper_there;
+      knows = keeps;
+      owner = r.owner;
+      each_view = λ port v e. elim (at_set s.views id port (Sits key new) v e) [
+        | inl here ↦ subst (Plays key now then later r.keeper (set s.views id (Sits key new)) r.owner port) here.1 (refl, ap r.owner same ∙ at_own_port id key memo at ∙ sym here.0, live, mine)
+        | inr there ↦ still port v there.0 (r.each_view port v there.1)
+      ];
+      each_seat = λ i back e. somewhere i back (r.each_seat i back e);
+    }
+      where
+        still : (port : ℕ) (v : View T N) → port ≢ id → Plays key r.machine r.moves r.fates r.keeper s.views r.owner port v → Plays key now then later r.keeper (set s.views id (Sits key new)) r.owner port v
+        still port (Sits its other) away p = (p.0, p.1, p.2, others other (λ e. away (sym p.1 ∙ ap r.owner e ∙ at_own_port id key memo at)) p.3)
+        still port (Keeps its k) away p = p
+        still port Spent away p = tt
+
+        somewhere : (i : ℕ) (back : Option (SeatMemo N)) → IsSomewhere key r.machine r.moves r.fates r.keeper s.views r.owner i back → IsSomewhere key now then later r.keeper (set s.views id (Sits key new)) r.owner i back
+        somewhere i None p = elim (cases_eq (r.owner i) id) [
+          | inl here ↦
+              let one : memo ≡ p.0 = one_memo key key memo p.0 (some-injective (Sits key memo) (Sits key p.0) (sym at ∙ ap (get_elem? s.views) (sym here) ∙ p.2)) in
+              let long = at_length s.views id (Sits key memo) at in
+              (new, same ∙ ap (λ (k : SeatMemo N). k.number) one ∙ p.1, ap (get_elem? (set s.views id (Sits key new))) here ∙ set_here s.views id (Sits key new) long)
+          | inr away ↦ (p.0, p.1, set_else s.views id (r.owner i) (Sits key new) away ∙ p.2)
+        ]
+        somewhere i (Some ended) p = (p.0, p.1, others ended (λ e. not_ended id key memo at ended p.1 e p.2) p.2)
+
+    -- or the keeper knows more, and made no seat
+    pub keeper_changes : (k : KeeperMemo N) → AreFates now (An key.terms) k.made later → IsKeeperMemo key.positions now then later k → k.back ≡ r.keeper.back
+        → ((other : SeatMemo N) → IsSeatMemo r.machine r.moves r.fates r.keeper.fronts r.keeper.made other → IsSeatMemo now then later k.fronts k.made other)
+        → Runs note Ao An key record { words = words; homes = homes; views = set s.views 0 (Keeps key k) }
+    keeper_changes k fates keeps back others = record {
+      sizes = r.sizes;
+      machine = now;
+      moves = then;
+      reached = led;
+      words_are = told;
+      fates = later;
+      keeper = k;
+      are_fates = fates;
+      are_slots = slots;
+      keeper_there = set_here s.views 0 (Keeps key k) (at_length s.views 0 (Keeps key r.keeper) r.keeper_there);
+      knows = keeps;
+      owner = r.owner;
+      each_view = λ port v e. elim (at_set s.views 0 port (Keeps key k) v e) [
+        | inl here ↦ subst (Plays key now then later k (set s.views 0 (Keeps key k)) r.owner port) here.1 here.0
+        | inr there ↦ still port v (r.each_view port v there.1)
+      ];
+      each_seat = λ i was e. somewhere i was (r.each_seat i was (ap (λ (b : List (Option (SeatMemo N))). get_elem? b i) (sym back) ∙ e));
+    }
+      where
+        still : (port : ℕ) (v : View T N) → Plays key r.machine r.moves r.fates r.keeper s.views r.owner port v → Plays key now then later k (set s.views 0 (Keeps key k)) r.owner port v
+        still port (Sits its other) p = (p.0, p.1, p.2, others other p.3)
+        still port (Keeps its other) p = p
+        still port Spent p = tt
+
+        somewhere : (i : ℕ) (was : Option (SeatMemo N)) → IsSomewhere key r.machine r.moves r.fates r.keeper s.views r.owner i was → IsSomewhere key now then later k (set s.views 0 (Keeps key k)) r.owner i was
+        somewhere i None p = (p.0, p.1, set_else s.views 0 (r.owner i) (Keeps key k) (not_first (r.owner i) key p.0 p.2) ∙ p.2)
+        somewhere i (Some ended) p = (p.0, p.1, others ended p.2)

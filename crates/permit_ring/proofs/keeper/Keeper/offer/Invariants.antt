@@ -1,0 +1,17 @@
+use Rattle.std.proofs.Common.{◌≡◌, ◌+◌, ◌≤◌, List, length}
+use Rattle.ring_core.specs.declared.word.PermitWord.{PermitWord}
+use Rattle.ring_core.specs.Words.{field_of}
+use Rattle.permit_ring.proofs.Keepers.{missed_all}
+use Rattle.permit_ring.specs.Seats.{IsKeeperOf, keeper_memo}
+use Rattle.permit_ring.proofs.keeper.Keeper.offer.Given as goal
+
+abbrev pub invariant-loop-tries : goal.invariant-loop-tries
+invariant-loop-tries g l =
+    IsKeeperOf g.F.Freight.admits_offered l.ring l.self
+    × (l.self.filled ≡ l.initial.self.filled)
+    × (l.self.vacant ≡ l.initial.self.vacant)
+    × ((missed : List PermitWord) × (l.tries ≡ length missed + 1) × (keeper_memo l.self ≡ missed_all l.ring.limit l.initial.self.filled missed (keeper_memo l.initial.self)))
+    × (l.tries + field_of l.ring.limit (keeper_memo l.self).seen ≤ l.ring.positions + l.ring.limit + 1)
+
+abbrev pub decreases-loop-tries : goal.decreases-loop-tries
+decreases-loop-tries g l = field_of l.ring.limit (keeper_memo l.self).seen

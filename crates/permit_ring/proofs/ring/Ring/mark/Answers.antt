@@ -1,0 +1,12 @@
+use Rattle.std.proofs.Common.{rules, arith}
+use Rattle.permit_ring.proofs.Ready.{mark_ready}
+use Rattle.permit_ring.proofs.ring.Ring.mark.Goals as goal
+
+pub fetch_add-requires : goal.fetch_add-requires
+fetch_add-requires g c =
+    let f = g.F.Freight in
+    let mine = c.requires.mine in (
+      mine.at_table,
+      search rules,
+      mark_ready f.note f.admits_offered f.admits_note _ _ _ _ mine.sits _ c.args.kind (omega arith) c.requires.kind c.requires.few,
+    )

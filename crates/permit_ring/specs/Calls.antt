@@ -1,0 +1,80 @@
+-- What the calls of seats and of the keeper do, as equations on what they know.
+use Rattle.std.specs.Prelude.{◌≡◌, ◌≢◌, ℕ, ◌+◌, ◌<◌, ◌⊎◌, false, List, [], ◌∷◌, ◌++◌, map, length, Option, Some, None, Result, Ok, Err}
+use Rattle.ids_types.specs.declared.names.Ticket.{Ticket}
+use Rattle.ring_core.specs.declared.seat.SeatView.{SeatView}
+use Rattle.ring_core.specs.declared.step.Step.TheVariants.{Look, Claim, Offer}
+use Rattle.ring_core.specs.declared.word.PermitWord.{PermitWord}
+use Rattle.ring_core.specs.Machine.{offered_to}
+use Rattle.ring_core.specs.Words.{packed}
+use Rattle.permit_ring.specs.declared.answer.Look.{Look as Shown}
+use Rattle.permit_ring.specs.declared.answer.Unready.{Unready}
+use Rattle.permit_ring.specs.declared.memo.KeeperMemo.{KeeperMemo}
+use Rattle.permit_ring.specs.declared.memo.Move.{Move}
+use Rattle.permit_ring.specs.declared.memo.Outcome.TheVariants.{Lost}
+use Rattle.permit_ring.specs.declared.memo.SeatMemo.{SeatMemo}
+use Rattle.permit_ring.specs.Moves.{move}
+use Rattle.permit_ring.specs.Steps.{waits, reaps}
+
+-- the seat with one call more, which got this ticket
+abbrev pub with_ticket : ℕ → SeatView → SeatView
+with_ticket t view = record view { calls = view.calls + 1; armed = false; held = Some (record { 0 = t }) }
+
+-- the seat with one call more
+abbrev pub with_call : SeatView → SeatView
+with_call view = record view { calls = view.calls + 1 }
+
+-- the look and the claim of a call, with the words that they found
+abbrev pub look_and_claim : ℕ → ℕ → PermitWord → PermitWord → List Move
+look_and_claim limit i first second = move (Look i) (packed limit first) ∷ move (Claim i) (packed limit second) ∷ []
+
+module _ {N : Type 0} where
+  -- a claim that got a ticket: its look and its claim found a position free, and the claim's word had so many claims
+  abbrev pub GotTicket : ℕ → SeatMemo N → ℕ → SeatMemo N → Type 0
+  GotTicket limit old t new = (first : PermitWord) × (second : PermitWord) × (0 < first.free) × (0 < second.free) × (second.claimed ≡ t)
+      × (new ≡ record old { view = with_ticket t old.view; moves = old.moves ++ look_and_claim limit old.number first second })
+
+  -- a call that was lost at its look, which found none free
+  abbrev pub LostLook : ℕ → SeatMemo N → ℕ → SeatMemo N → Type 0
+  LostLook limit old g new = (word : PermitWord) × (word.free ≡ 0) × (word.claimed ≡ g)
+      × (new ≡ record old { view = with_call old.view; log = old.log ++ Lost g ∷ []; moves = old.moves ++ move (Look old.number) (packed limit word) ∷ [] })
+
+  -- and one that was lost at its claim, after a look that found a position free
+  abbrev pub LostClaim : ℕ → SeatMemo N → ℕ → SeatMemo N → Type 0
+  LostClaim limit old g new = (first : PermitWord) × (second : PermitWord) × (0 < first.free) × (second.free ≡ 0) × (second.claimed ≡ g)
+      × (new ≡ record old { view = with_call old.view; log = old.log ++ Lost g ∷ []; moves = old.moves ++ look_and_claim limit old.number first second })
+
+  -- a claim got a ticket, or was lost, and answers the word that showed it
+  abbrev pub ClaimTells : ℕ → SeatMemo N → Result Ticket Shown → SeatMemo N → Type 0
+  ClaimTells limit old (Ok ticket) new = GotTicket limit old ticket.0 new
+  ClaimTells limit old (Err look) new = (look.free ≡ 0) × (LostLook limit old look.claimed new ⊎ LostClaim limit old look.claimed new)
+
+-- the ticket that a call got
+abbrev pub ticket_got : Result Ticket Shown → Option Ticket
+ticket_got (Ok ticket) = Some ticket
+ticket_got (Err look) = None
+
+module _ {D N : Type 0} (note : D → N) where
+  -- a reap adds the next ticket's note, or tells that it is not finished and changes nothing else
+  abbrev pub ReapTells : KeeperMemo N → Result D Unready → KeeperMemo N → Type 0
+  ReapTells old (Ok value) new = new ≡ reaps (length old.notes + 1) (note value) old
+  ReapTells old (Err unready) new = (unready.mark ≢ length old.notes + 1) × (new ≡ waits unready.mark old)
+
+-- a reap that succeeded makes one position more vacant
+abbrev pub vacant_after : {D : Type 0} → ℕ → Result D Unready → ℕ
+vacant_after vacant (Ok value) = vacant + 1
+vacant_after vacant (Err unready) = vacant
+
+-- a try to offer so many positions, with the word that it found
+abbrev pub tried : ℕ → ℕ → PermitWord → Move
+tried limit count word = move (Offer count) (packed limit word)
+
+-- an offer of some positions: tries that each missed, and found another word than the keeper's, and one that found the keeper's and left it with these positions free
+abbrev pub OfferTells : {N : Type 0} → ℕ → ℕ → KeeperMemo N → ℕ → KeeperMemo N → Type 0
+OfferTells limit count old tries new = (missed : List PermitWord) × (word : PermitWord) × (tries ≡ length missed + 1)
+    × (new ≡ record old {
+      fronts = old.fronts ++ (old.offered + count) ∷ [];
+      offered = old.offered + count;
+      offers = old.offers + tries;
+      seen = offered_to word count;
+      moves = old.moves ++ map (tried limit count) (missed ++ word ∷ []);
+    })

@@ -1,0 +1,11 @@
+pub mod Calls
+pub mod Closing
+pub mod Hands
+pub mod Logs
+pub mod Making
+pub mod Moves
+pub mod Places
+pub mod Plays
+pub mod Rule
+pub mod Seats
+pub mod Steps

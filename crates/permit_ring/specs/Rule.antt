@@ -1,0 +1,136 @@
+-- The rule of a running ring: what holds of its words, its slots and all views between any two steps.
+use Rattle.std.specs.Prelude.{◌≡◌, ℕ, ◌+◌, ◌%◌, ◌<◌, ◌≤◌, ◌⊎◌, true, false, List, [], ◌∷◌, ◌++◌, length, sum, Option, Some, None}
+use mathlib.Core.Option.{some, none}
+use mathlib.Core.Option as maybe
+use lib.ListN.{get_elem?}
+use Rattle.atomic_table.specs.Table.{State}
+use Rattle.ring_core.specs.Machine.{Machine, opening, new_seat, seat_at}
+use Rattle.ring_core.specs.Sound.{Holds}
+use Rattle.ring_core.specs.Words.{packed}
+use Rattle.permit_ring.specs.declared.memo.Key.{Key}
+use Rattle.permit_ring.specs.declared.memo.KeeperMemo.{KeeperMemo}
+use Rattle.permit_ring.specs.declared.memo.Move.{Move}
+use Rattle.permit_ring.specs.declared.memo.Outcome.TheVariants.{Lost}
+use Rattle.permit_ring.specs.declared.memo.SeatMemo.{SeatMemo}
+use Rattle.permit_ring.specs.declared.memo.Slot.{Slot}
+use Rattle.permit_ring.specs.declared.memo.Slot.TheVariants.{Offered, Finished}
+use Rattle.permit_ring.specs.declared.memo.View.{View}
+use Rattle.permit_ring.specs.declared.memo.View.TheVariants.{Sits, Keeps, Spent}
+use Rattle.permit_ring.specs.Logs.{IsOrdered, end_from, got_of, taken_by}
+use Rattle.permit_ring.specs.Moves.{Leads, by_seat, by_keeper}
+use Rattle.permit_ring.specs.Steps.{first_memo}
+
+-- the sizes that a ring may have
+pub record IsKey {T : Type 0} (key : Key T) : Type 0 where
+  pub some_position : 1 ≤ key.positions
+  pub most_positions : key.positions ≤ 1024
+  pub some_seat : 1 ≤ key.limit
+  pub most_seats : key.limit ≤ 32
+
+-- the keeper's view when the ring is made
+abbrev pub first_view : {T N : Type 0} → Key T → View T N
+first_view key = Keeps key (first_memo key.positions)
+
+-- the words of a ring in this state: the permit word, both loss words, and the mark of each position
+abbrev pub words_of : Machine → List ℕ
+words_of m = packed m.limit m.word ∷ m.loss0.value ∷ m.loss1.value ∷ m.marks
+
+-- the number stands in the list
+abbrev pub StandsIn : List ℕ → ℕ → Type 0
+StandsIn xs x = (place : ℕ) × (get_elem? xs place ≡ some x)
+
+module _ {N : Type 0} where
+  -- what became of the tickets that were claimed
+  pub record AreFates (m : Machine) (Admits : N → Type 0) (made : ℕ) (fates : List (Option (ℕ × N))) : Type 0 where
+    -- each claimed ticket has one
+    pub each_claimed : length fates ≡ m.word.claimed
+    -- a ticket is held just where nothing became of it yet
+    pub held_is_open : (i t : ℕ) → Holds (seat_at m.seats i) t → get_elem? fates t ≡ some None
+    pub open_is_held : (t : ℕ) → get_elem? fates t ≡ some None → (i : ℕ) × Holds (seat_at m.seats i) t
+    -- else it was finished by a seat, with an admitted note
+    pub finished : (t i : ℕ) (x : N) → get_elem? fates t ≡ some (Some (i, x)) → (i < made) × Admits x
+
+  -- what a seat knows
+  pub record IsSeatMemo (m : Machine) (moves : List Move) (fates : List (Option (ℕ × N))) (fronts : List ℕ) (made : ℕ) (memo : SeatMemo N) : Type 0 where
+    pub is_made : memo.number < made
+    -- itself
+    pub shows : memo.view ≡ seat_at m.seats memo.number
+    -- its moves
+    pub moved : memo.moves ≡ by_seat memo.number moves
+    -- its calls, in order
+    pub ordered : IsOrdered memo
+    pub below_claims : end_from 0 memo.log ≤ m.word.claimed
+    -- the tickets that it got, all of them
+    pub got : got_of memo.log ≡ taken_by memo.number 0 fates
+    -- a call is lost only where all that was offered is claimed
+    pub lost_at_front : (j g : ℕ) → get_elem? memo.log j ≡ some (Lost g) → StandsIn fronts g
+
+  -- what the keeper knows
+  pub record IsKeeperMemo (n : ℕ) (m : Machine) (moves : List Move) (fates : List (Option (ℕ × N))) (k : KeeperMemo N) : Type 0 where
+    pub moved : k.moves ≡ by_keeper moves
+    -- the t-th note is that of ticket t
+    pub noted : (t : ℕ) (x : N) → get_elem? k.notes t ≡ some x → (i : ℕ) × (get_elem? fates t ≡ some (Some (i, x)))
+    pub reaped_is : m.reaped ≡ length k.notes
+    pub offered_is : m.offered ≡ k.offered
+    pub first_front : get_elem? k.fronts 0 ≡ some n
+    pub last_front : (earlier : List ℕ) × (k.fronts ≡ earlier ++ k.offered ∷ [])
+    pub seen_is : m.seen ≡ k.seen
+    pub swept0_is : m.loss0.swept ≡ sum k.swept0
+    pub swept1_is : m.loss1.swept ≡ sum k.swept1
+    -- seat 0 is there before it is made
+    pub made_is : (k.made ≡ length m.seats) ⊎ ((k.made ≡ 0) × (m.seats ≡ new_seat ∷ []))
+    pub back_is : length k.back ≡ k.made
+    -- a seat that is not made yet has made no move
+    pub unmade_rest : (i : ℕ) → k.made ≤ i → by_seat i moves ≡ []
+
+module _ {O D N : Type 0} (note : D → N) (Admits : O → Type 0) where
+  -- what the slots hold, from the next ticket to be reaped on for one turn
+  pub record AreSlots (n : ℕ) (m : Machine) (fates : List (Option (ℕ × N))) (homes : List (maybe.Option (Slot O D))) : Type 0 where
+    pub a_slot_each : length homes ≡ n
+    -- of a finished ticket, its value
+    pub finished_home : (t i : ℕ) (x : N) → m.reaped ≤ t → get_elem? fates t ≡ some (Some (i, x)) → (d : D) × (note d ≡ x) × (get_elem? homes (t % n) ≡ some (some (Finished d)))
+    -- of a held one, nothing, for its seat has it
+    pub held_out : (t : ℕ) → m.reaped ≤ t → get_elem? fates t ≡ some None → get_elem? homes (t % n) ≡ some none
+    -- of one that may be claimed, what was offered
+    pub offered_home : (t : ℕ) → m.word.claimed ≤ t → t < m.offered → (y : O) × Admits y × (get_elem? homes (t % n) ≡ some (some (Offered y)))
+    -- of one that is not offered yet, nothing, for the keeper has it
+    pub vacant_out : (t : ℕ) → m.offered ≤ t → t < m.reaped + n → get_elem? homes (t % n) ≡ some none
+
+module _ {T N : Type 0} (key : Key T) (m : Machine) (moves : List Move) (fates : List (Option (ℕ × N))) (k : KeeperMemo N) (views : List (View T N)) (owner : ℕ → ℕ) where
+  -- the view at a port: there is one keeper, and each number belongs to one seat
+  abbrev pub Plays : ℕ → View T N → Type 0
+  Plays port (Sits its memo) = (its ≡ key) × (owner memo.number ≡ port) × (memo.view.live ≡ true) × IsSeatMemo m moves fates k.fronts k.made memo
+  Plays port (Keeps its other) = port ≡ 0
+  Plays port Spent = Unit {0}
+
+  -- a seat that was made sits at its port, or came back
+  abbrev pub IsSomewhere : ℕ → Option (SeatMemo N) → Type 0
+  IsSomewhere i None = (memo : SeatMemo N) × (memo.number ≡ i) × (get_elem? views (owner i) ≡ some (Sits key memo))
+  IsSomewhere i (Some memo) = (memo.number ≡ i) × (memo.view.live ≡ false) × IsSeatMemo m moves fates k.fronts k.made memo
+
+module _ {O D T N : Type 0} (note : D → N) (admits_offered : T → O → Type 0) (admits_note : T → N → Type 0) where
+  -- there is a state of the ring machine, reached by moves, of which the words, the slots and all views tell
+  pub record Runs (key : Key T) (s : State (Slot O D) (View T N)) : Type 0 where
+    pub sizes : IsKey key
+    pub machine : Machine
+    pub moves : List Move
+    pub reached : Leads (opening key.positions key.limit) moves machine
+    pub words_are : s.words ≡ words_of machine
+    -- what became of each ticket
+    pub fates : List (Option (ℕ × N))
+    pub keeper : KeeperMemo N
+    pub are_fates : AreFates machine (admits_note key.terms) keeper.made fates
+    pub are_slots : AreSlots note (admits_offered key.terms) key.positions machine fates s.homes
+    -- the keeper's view, and what it knows
+    pub keeper_there : get_elem? s.views 0 ≡ some (Keeps key keeper)
+    pub knows : IsKeeperMemo key.positions machine moves fates keeper
+    -- the port of each seat, and each view
+    pub owner : ℕ → ℕ
+    pub each_view : (port : ℕ) (v : View T N) → get_elem? s.views port ≡ some v → Plays key machine moves fates keeper s.views owner port v
+    pub each_seat : (i : ℕ) (back : Option (SeatMemo N)) → get_elem? keeper.back i ≡ some back → IsSomewhere key machine moves fates keeper s.views owner i back
+
+  -- a ring between any two steps
+  pub record RunningRing : Type 0 where
+    pub key : Key T
+    pub table : State (Slot O D) (View T N)
+    pub rule : Runs key table

@@ -1,0 +1,176 @@
+//! The one who takes what was finished and offers positions again.
+ghost use Rattle.std.specs.Prelude.{◌≡◌, ◌≢◌, ℕ, ◌+◌, ◌-◌, ◌%◌, ◌^◌, ◌<◌, ◌≤◌, IsTrue, IsFalse, None, length, sum, IfOk, IfErr};
+ghost use Rattle.ring_core.specs.Machine.{all_free as all_free_word};
+ghost use Rattle.ring_core.specs.Words.{field_of};
+ghost use Rattle.permit_ring.specs.Calls.{ReapTells, OfferTells, vacant_after};
+ghost use Rattle.permit_ring.specs.Closing.{AreAllBack, IsSettled, AreAllSwept, swept_of};
+ghost use Rattle.permit_ring.specs.Steps.{offers_all, misses, sweeps, welcomes};
+
+use crate::answer::Unready;
+use crate::freight::Freight;
+use crate::plays::Offers;
+use crate::ring::{PERMITS, Place, Ring, all_free};
+use crate::seat::Seat;
+use ring_core::PermitWord;
+
+/// The one who takes what was finished, in the order of its tickets, and offers positions again.
+///
+/// A reaped position is vacant until it is refilled, and free for claims again from the next offer
+/// on. Contracts see what the keeper remembers as a `KeeperMemo`, by `keeper_memo`.
+#[derive(Drop)]
+pub struct Keeper<F: Freight> {
+    place: Place<F>,
+    reaped: u64,
+    seen: PermitWord,
+    filled: u16,
+    vacant: u16,
+    // The positions of the next ticket, and of the first reaped one that is not filled.
+    next: u16,
+    vacancy: u16,
+}
+
+impl<F: Freight> Keeper<F> {
+    ghost use Rattle.permit_ring.specs.Seats.{IsKeeperOf, IsSeatOf, keeper_memo, seat_memo, seat_ticket, vacant_of, filled_of, ring_positions, ring_seats, ring_terms};
+
+    // The keeper of a ring whose positions are all free.
+    pub(crate) fn of(place: Place<F>, positions: u16) -> Keeper<F>
+        ensures { result ≡ record { place = place; reaped = 0; seen = all_free_word positions; filled = 0; vacant = 0; next = 0; vacancy = 0 } }
+    {
+        Keeper {
+            place,
+            reaped: 0,
+            seen: all_free(positions),
+            filled: 0,
+            vacant: 0,
+            next: 0,
+            vacancy: 0,
+        }
+    }
+
+    /// How many reaped positions are not filled again.
+    pub fn vacant(&self) -> u16
+        ensures { result ≡ vacant_of self.now }
+    {
+        self.vacant
+    }
+
+    /// Takes the value of the next ticket. `Err` comes exactly where the mark that was read at this
+    /// call's step is not that ticket's, and then nothing is taken.
+    pub fn reap(&mut self, ring: &Ring<F>) -> Result<F::Finished, Unready>
+        requires mine { IsKeeperOf F.admits_offered ring.now self.old }
+        ensures mine { IsKeeperOf F.admits_offered ring.now self.new }
+        ensures told { ReapTells F.note (keeper_memo self.old) result (keeper_memo self.new) }
+        ensures admitted { IfOk result (λ value. F.admits_note (ring_terms ring.now) (F.note value)) }
+        ensures counts { (vacant_of self.new ≡ vacant_after (vacant_of self.old) result) × (filled_of self.new ≡ filled_of self.old) }
+        ensures settled { IfErr result (λ _. AreAllBack (keeper_memo self.old) → IsSettled (keeper_memo self.new)) }
+    {
+        match ring.reap(&mut self.place, self.next, self.reaped) {
+            Ok(value) => {
+                self.reaped += 1;
+                self.vacant += 1;
+                self.next = ring.after(self.next);
+                Ok(value)
+            }
+            Err(mark) => Err(Unready { mark }),
+        }
+    }
+
+    /// Puts a value into the first reaped position that is not filled.
+    pub fn refill(&mut self, ring: &Ring<F>, value: F::Offered)
+        requires mine { IsKeeperOf F.admits_offered ring.now self.old }
+        requires vacant { 0 < vacant_of self.old }
+        requires admitted { F.admits_offered (ring_terms ring.now) value }
+        ensures mine { IsKeeperOf F.admits_offered ring.now self.new }
+        ensures told { keeper_memo self.new ≡ keeper_memo self.old }
+        ensures counts { (vacant_of self.new + 1 ≡ vacant_of self.old) × (filled_of self.new ≡ filled_of self.old + 1) }
+    {
+        ring.refill(
+            &mut self.place,
+            self.vacancy,
+            self.filled,
+            self.vacant,
+            value,
+        );
+        self.filled += 1;
+        self.vacant -= 1;
+        self.vacancy = ring.after(self.vacancy);
+    }
+
+    /// Makes all refilled positions free in one step, and answers how many steps it tried: 0 where
+    /// none was refilled, and else the last one succeeded. Each other one found that a seat had
+    /// claimed since the word that the keeper knew.
+    pub fn offer(&mut self, ring: &Ring<F>) -> u16
+        requires mine { IsKeeperOf F.admits_offered ring.now self.old }
+        ensures mine { IsKeeperOf F.admits_offered ring.now self.new }
+        ensures none { filled_of self.old ≡ 0 → (result ≡ 0) × (keeper_memo self.new ≡ keeper_memo self.old) }
+        ensures told { 0 < filled_of self.old → OfferTells (ring_seats ring.now) (filled_of self.old) (keeper_memo self.old) result (keeper_memo self.new) }
+        ensures bound { result ≤ ring_positions ring.now + ring_seats ring.now + 1 }
+        ensures counts { (vacant_of self.new ≡ vacant_of self.old) × (filled_of self.new ≡ 0) }
+    {
+        if self.filled == 0 {
+            return 0;
+        }
+        let mut tries = 1;
+        while !self.try_offer(ring) {
+            tries += 1;
+        }
+        tries
+    }
+
+    // One try to offer what was refilled: whether the permit word was the one that the keeper knew.
+    // Else it knows the word that was found.
+    fn try_offer(&mut self, ring: &Ring<F>) -> bool
+        requires mine { IsKeeperOf F.admits_offered ring.now self.old }
+        requires some { 0 < filled_of self.old }
+        ensures mine { IsKeeperOf F.admits_offered ring.now self.new }
+        ensures hit { IsTrue result → (keeper_memo self.new ≡ offers_all (ring_seats ring.now) (filled_of self.old) (keeper_memo self.old)) × (filled_of self.new ≡ 0) }
+        ensures missed { IsFalse result → (keeper_memo self.new ≡ misses (ring_seats ring.now) (filled_of self.old) (keeper_memo self.new).seen (keeper_memo self.old)) × (filled_of self.new ≡ filled_of self.old)
+            × (field_of (ring_seats ring.now) (keeper_memo self.new).seen < field_of (ring_seats ring.now) (keeper_memo self.old).seen) }
+        ensures vacant { vacant_of self.new ≡ vacant_of self.old }
+    {
+        let offered = PermitWord {
+            claimed: self.seen.claimed,
+            free: self.seen.free + self.filled,
+            over: 0,
+        };
+        let old = self.seen.pack(ring.limit);
+        let new = offered.pack(ring.limit);
+        let found = ring
+            .table
+            .shared
+            .compare_exchange::<Offers>(&mut self.place, PERMITS, old, new);
+        if found != old {
+            self.seen = PermitWord::unpack(found, ring.limit);
+            return false;
+        }
+        self.seen = offered;
+        self.filled = 0;
+        true
+    }
+
+    /// Sweeps a loss word, 0 for lost events and 1 for lost contexts, and answers what it had.
+    pub fn sweep(&mut self, ring: &Ring<F>, kind: u8) -> u64
+        requires mine { IsKeeperOf F.admits_offered ring.now self.old }
+        requires kind { kind < 2 }
+        ensures mine { IsKeeperOf F.admits_offered ring.now self.new }
+        ensures told { keeper_memo self.new ≡ sweeps kind result (keeper_memo self.old) }
+        ensures counts { (vacant_of self.new ≡ vacant_of self.old) × (filled_of self.new ≡ filled_of self.old) }
+        ensures bound { sum (swept_of kind (keeper_memo self.new)) ≤ 2 ^ 45 }
+        ensures swept { AreAllBack (keeper_memo self.old) → AreAllSwept kind (keeper_memo self.new) }
+    {
+        ring.sweep(&mut self.place, kind)
+    }
+
+    /// Takes a seat back, which makes no more calls. Once all seats are back, `reap` answers `Ok`
+    /// exactly while fewer tickets were reaped than claimed.
+    pub fn welcome(&mut self, ring: &Ring<F>, seat: Seat<F>)
+        requires mine { IsKeeperOf F.admits_offered ring.now self.old }
+        requires seat { IsSeatOf F.admits_offered ring.now seat }
+        requires idle { seat_ticket seat ≡ None }
+        ensures mine { IsKeeperOf F.admits_offered ring.now self.new }
+        ensures told { keeper_memo self.new ≡ welcomes (seat_memo seat) (keeper_memo self.old) }
+        ensures counts { (vacant_of self.new ≡ vacant_of self.old) × (filled_of self.new ≡ filled_of self.old) }
+    {
+        ring.join(&mut self.place, seat.into_place());
+    }
+}

@@ -1,0 +1,72 @@
+//! What the rule of a running ring says between any two steps, as the contracts of functions that
+//! do nothing.
+ghost use Rattle.std.specs.Prelude.{◌≡◌, ℕ, ◌<◌, ◌≤◌};
+ghost use mathlib.Core.Option.{some};
+ghost use lib.ListN.{get_elem?};
+ghost use Rattle.permit_ring.specs.declared.memo.SeatMemo.{SeatMemo};
+ghost use Rattle.permit_ring.specs.declared.memo.Slot.{Slot};
+ghost use Rattle.permit_ring.specs.Places.{HasOnePlace, IsOneSeats, IsMemoThere, IsInOrder, IsNotedAs, IsAdmittedSlot, ShowsRing};
+ghost use Rattle.permit_ring.specs.Logs.{IsOrdered};
+ghost use Rattle.permit_ring.specs.Rule.{RunningRing, StandsIn};
+ghost use Rattle.permit_ring.specs.declared.memo.Outcome.TheVariants.{Lost, Got};
+
+use crate::freight::Freight;
+
+/// The words of a ring are those of a state of the ring machine, which the moves of its seats and
+/// its keeper led to from the opening state, and for which all holds that holds of every ring.
+pub fn words_show_the_machine<F: Freight>()
+    ghost r: { RunningRing F.note F.admits_offered F.admits_note }
+    ensures { ShowsRing r.key r.table.words r.rule.moves r.rule.machine }
+{}
+
+/// Each ticket that was claimed is held by one live seat, or stands in one log, there once.
+pub fn each_ticket_has_one_place<F: Freight>(ticket: u64)
+    ghost r: { RunningRing F.note F.admits_offered F.admits_note }
+    ensures { ticket < r.rule.machine.word.claimed → HasOnePlace r.table.views ticket }
+{}
+
+/// The t-th note of the keeper is that of ticket t in its log.
+pub fn each_note_is_its_tickets<F: Freight>(ticket: u64)
+    ghost r: { RunningRing F.note F.admits_offered F.admits_note }
+    ensures { (x : F.Note) → get_elem? r.rule.keeper.notes ticket ≡ some x → IsNotedAs r.table.views ticket x }
+{}
+
+/// In each log no call stands before the end of one that was decided before it: tickets rise, lost
+/// numbers don't fall, and a lost number is above each ticket before it and not above one after it.
+pub fn logs_are_in_order<F: Freight>()
+    ghost r: { RunningRing F.note F.admits_offered F.admits_note }
+    ensures { (memo : SeatMemo F.Note) → IsMemoThere r.table.views memo → IsInOrder r.rule.machine.word.claimed memo.log }
+{}
+
+/// Each value in a slot that nobody has in hand is admitted under the ring's terms.
+pub fn values_at_home_are_admitted<F: Freight>(position: u16)
+    ghost r: { RunningRing F.note F.admits_offered F.admits_note }
+    ensures { (x : Slot F.Offered F.Finished) → get_elem? r.table.homes position ≡ some (some x) → IsAdmittedSlot F.note F.admits_offered F.admits_note r.key.terms x }
+{}
+
+/// A seat's calls are those of its log, and one more while it claims or holds a ticket, which is
+/// above all tickets of the log and not below its lost numbers.
+pub fn calls_are_decided_or_open<F: Freight>()
+    ghost r: { RunningRing F.note F.admits_offered F.admits_note }
+    ensures { (memo : SeatMemo F.Note) → IsMemoThere r.table.views memo → IsOrdered memo }
+{}
+
+/// A call was lost only where all positions that had been offered were claimed: its number is one
+/// of the keeper's fronts.
+pub fn each_loss_is_at_a_front<F: Freight>()
+    ghost r: { RunningRing F.note F.admits_offered F.admits_note }
+    ensures { (memo : SeatMemo F.Note) → IsMemoThere r.table.views memo → (j g : ℕ) → get_elem? memo.log j ≡ some (Lost g) → StandsIn r.rule.keeper.fronts g }
+{}
+
+/// Each seat that was made has one memo: where it sits, or with which it came back.
+pub fn each_number_is_one_seats<F: Freight>(seat: u8)
+    ghost r: { RunningRing F.note F.admits_offered F.admits_note }
+    ensures { seat < r.rule.keeper.made → IsOneSeats r.table.views seat }
+{}
+
+/// Each note of a log, and each of the keeper, is admitted under the ring's terms.
+pub fn notes_are_admitted<F: Freight>()
+    ghost r: { RunningRing F.note F.admits_offered F.admits_note }
+    ensures logs { (memo : SeatMemo F.Note) → IsMemoThere r.table.views memo → (j t : ℕ) (x : F.Note) → get_elem? memo.log j ≡ some (Got t x) → F.admits_note r.key.terms x }
+    ensures keeper { (t : ℕ) (x : F.Note) → get_elem? r.rule.keeper.notes t ≡ some x → F.admits_note r.key.terms x }
+{}

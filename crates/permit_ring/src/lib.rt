@@ -1,0 +1,37 @@
+//! A ring of positions that many seats claim and one keeper offers again, over atomic words and
+//! without a lock: each call ends after a bounded number of its own steps, whatever the others do.
+//!
+//! Layer 2, shared rings. Stands on `ring_core`, whose machine its steps are, and on the kit's
+//! `atomic_table`. What a slot carries is a [`Freight`]. The rule of a running ring (`Runs`) says
+//! that words, slots and all views are those of a state of the machine that the moves of its seats
+//! and its keeper led to; each call's contract is an equation on what its seat or the keeper
+//! remembers, and the laws say what holds between any two steps, whoever makes them.
+#![tactic(auto)]
+
+mod answer;
+mod freight;
+mod keeper;
+mod laws;
+mod making;
+mod memo;
+mod plays;
+mod ring;
+mod seat;
+mod sharing;
+
+pub use answer::{Look, Unready};
+pub use freight::{Freight, Running};
+pub use keeper::Keeper;
+pub use laws::{
+    calls_are_decided_or_open, each_loss_is_at_a_front, each_note_is_its_tickets,
+    each_number_is_one_seats, each_ticket_has_one_place, logs_are_in_order, notes_are_admitted,
+    values_at_home_are_admitted, words_show_the_machine,
+};
+pub use making::{Made, make};
+pub use memo::{KeeperMemo, Key, Move, Outcome, SeatMemo, Slot, View};
+pub use ring::Ring;
+pub use seat::Seat;
+pub use sharing::parts_may_be_shared;
+
+#[cfg(test)]
+mod tests;

@@ -1,0 +1,77 @@
+//! What each atomic step tells its seat or the keeper. These types are for the proofs alone.
+ghost use Rattle.permit_ring.specs.Plays.{saw_word, claimed_word, finished_value, marked_loss, saw_mark, tried_offer, swept_loss, split_left, split_right, join_both, join_spent};
+
+use crate::freight::Freight;
+use crate::memo::{Slot, View};
+use atomic_table::{Join, Play, Split};
+use std::marker::PhantomData;
+
+/// A seat's look at the permit word.
+pub struct SeesWord;
+
+impl<O, D, T, N> Play<Slot<O, D>, View<T, N>> for SeesWord {
+    ghost then = { saw_word };
+}
+
+/// A seat's claim.
+pub struct Claims<F> {
+    freight: PhantomData<F>,
+}
+
+impl<F: Freight> Play<Slot<F::Offered, F::Finished>, View<F::Terms, F::Note>> for Claims<F> {
+    ghost then = { claimed_word F.admits_offered };
+}
+
+/// A seat's finish.
+pub struct Finishes<F> {
+    freight: PhantomData<F>,
+}
+
+impl<F: Freight> Play<Slot<F::Offered, F::Finished>, View<F::Terms, F::Note>> for Finishes<F> {
+    ghost then = { finished_value F.note };
+}
+
+/// A seat's mark of a loss.
+pub struct MarksLoss;
+
+impl<O, D, T, N> Play<Slot<O, D>, View<T, N>> for MarksLoss {
+    ghost then = { marked_loss };
+}
+
+/// The keeper's look at the mark of the next ticket.
+pub struct SeesMark<F> {
+    freight: PhantomData<F>,
+}
+
+impl<F: Freight> Play<Slot<F::Offered, F::Finished>, View<F::Terms, F::Note>> for SeesMark<F> {
+    ghost then = { saw_mark F.note F.admits_note };
+}
+
+/// The keeper's try to offer what it filled.
+pub struct Offers;
+
+impl<O, D, T, N> Play<Slot<O, D>, View<T, N>> for Offers {
+    ghost then = { tried_offer };
+}
+
+/// The keeper's sweep of a loss word.
+pub struct Sweeps;
+
+impl<O, D, T, N> Play<Slot<O, D>, View<T, N>> for Sweeps {
+    ghost then = { swept_loss };
+}
+
+/// How the keeper makes a seat, and takes one back.
+pub struct Lives;
+
+impl<T, N> Split<View<T, N>> for Lives {
+    ghost left = { split_left };
+
+    ghost right = { split_right };
+}
+
+impl<T, N> Join<View<T, N>> for Lives {
+    ghost both = { join_both };
+
+    ghost spent = { join_spent };
+}

@@ -1,0 +1,142 @@
+//! One who claims positions of a ring.
+ghost use Rattle.std.specs.Prelude.{◌≡◌, ◌+◌, ◌<◌, ◌^◌, false, None, Some, is_none, [], ◌∷◌, ℕ};
+ghost use Rattle.ring_core.specs.Machine.{marks_of};
+ghost use Rattle.permit_ring.specs.Calls.{ClaimTells, ticket_got};
+ghost use Rattle.permit_ring.specs.Logs.{IsOrdered};
+ghost use Rattle.permit_ring.specs.Steps.{finishes, adds_mark};
+
+use crate::answer::Look;
+use crate::freight::Freight;
+use crate::ring::{Place, Ring};
+use ids_types::Ticket;
+use ring_core::PermitWord;
+
+/// One who claims positions of a ring, one at a time, from any thread.
+///
+/// Idle, it may claim; with a ticket, it must finish before it claims again. Contracts see what the
+/// seat remembers as a `SeatMemo`, by `seat_memo`: its calls, each lost or with its ticket and note.
+#[derive(Drop)]
+pub struct Seat<F: Freight> {
+    place: Place<F>,
+    number: u8,
+    calls: u64,
+    held: Option<Ticket>,
+}
+
+impl Look {
+    fn of(word: &PermitWord) -> Look
+        ensures { (result.claimed ≡ word.now.claimed) × (result.free ≡ word.now.free) }
+    {
+        Look {
+            claimed: word.claimed,
+            free: word.free,
+        }
+    }
+}
+
+impl<F: Freight> Seat<F> {
+    ghost use Rattle.permit_ring.specs.Seats.{IsSeatOf, seat_memo, seat_number, seat_calls, seat_ticket, ring_seats, ring_terms};
+
+    /// The seat's number, from 0.
+    pub fn number(&self) -> u8
+        ensures { result ≡ seat_number self.now }
+    {
+        self.number
+    }
+
+    /// How many calls of `claim` the seat has made.
+    pub fn calls(&self) -> u64
+        ensures { result ≡ seat_calls self.now }
+    {
+        self.calls
+    }
+
+    /// The ticket that the seat holds; `None` exactly where the seat is idle.
+    pub fn held(&self) -> Option<Ticket>
+        ensures { result ≡ seat_ticket self.now }
+    {
+        self.held
+    }
+
+    /// Whether the seat holds no ticket.
+    pub fn is_idle(&self) -> bool
+        ensures { result ≡ is_none (seat_ticket self.now) }
+    {
+        self.held.is_none()
+    }
+
+    /// Claims a position. `Err` comes only where the word that was read at a step of this call
+    /// had none free, and is that word's look.
+    pub fn claim(&mut self, ring: &Ring<F>) -> Result<Ticket, Look>
+        requires mine { IsSeatOf F.admits_offered ring.now self.old }
+        requires idle { seat_ticket self.old ≡ None }
+        requires few { seat_calls self.old < 2 ^ 40 }
+        ensures mine { IsSeatOf F.admits_offered ring.now self.new }
+        ensures told { ClaimTells (ring_seats ring.now) (seat_memo self.old) result (seat_memo self.new) }
+        ensures ordered { IsOrdered (seat_memo self.new) }
+        ensures held { seat_ticket self.new ≡ ticket_got result }
+        ensures counted { (seat_calls self.new ≡ seat_calls self.old + 1) × (seat_number self.new ≡ seat_number self.old) }
+    {
+        self.calls += 1;
+        let seen = ring.look(&mut self.place);
+        if seen.free == 0 {
+            return Err(Look::of(&seen));
+        }
+        let word = ring.claim(&mut self.place);
+        if word.free == 0 {
+            return Err(Look::of(&word));
+        }
+        let ticket = Ticket(word.claimed);
+        self.held = Some(ticket);
+        Ok(ticket)
+    }
+
+    /// Puts the value into the slot of the held ticket and marks it finished, and gives what was
+    /// offered there.
+    pub fn finish(&mut self, ring: &Ring<F>, value: F::Finished) -> F::Offered
+        requires mine { IsSeatOf F.admits_offered ring.now self.old }
+        requires busy { is_none (seat_ticket self.old) ≡ false }
+        requires admitted { F.admits_note (ring_terms ring.now) (F.note value) }
+        ensures mine { IsSeatOf F.admits_offered ring.now self.new }
+        ensures told { seat_memo self.new ≡ finishes (F.note value) (seat_memo self.old) }
+        ensures ordered { IsOrdered (seat_memo self.new) }
+        ensures held { seat_ticket self.new ≡ None }
+        ensures same { (seat_calls self.new ≡ seat_calls self.old) × (seat_number self.new ≡ seat_number self.old) }
+        ensures admitted { F.admits_offered (ring_terms ring.now) result }
+    {
+        let ticket = self.held.unwrap();
+        self.held = None;
+        ring.finish(&mut self.place, ticket, value)
+    }
+
+    /// Adds one to a loss word: kind 0 for lost events, 1 for lost contexts.
+    pub fn mark(&mut self, ring: &Ring<F>, kind: u8)
+        requires mine { IsSeatOf F.admits_offered ring.now self.old }
+        requires kind { kind < 2 }
+        requires few { marks_of (seat_memo self.old).view kind < 2 ^ 40 }
+        ensures mine { IsSeatOf F.admits_offered ring.now self.new }
+        ensures told { (found : ℕ) × (seat_memo self.new ≡ adds_mark kind found (seat_memo self.old)) }
+        ensures ordered { IsOrdered (seat_memo self.new) }
+        ensures held { seat_ticket self.new ≡ seat_ticket self.old }
+        ensures same { (seat_calls self.new ≡ seat_calls self.old) × (seat_number self.new ≡ seat_number self.old) }
+    {
+        ring.mark(&mut self.place, kind);
+    }
+
+    pub(crate) fn of(place: Place<F>, number: u8) -> Seat<F>
+        ensures { result ≡ record { place = place; number = number; calls = 0; held = None } }
+    {
+        Seat {
+            place,
+            number,
+            calls: 0,
+            held: None,
+        }
+    }
+
+    pub(crate) fn into_place(self) -> Place<F>
+        ensures { result ≡ self.place }
+    {
+        self.place
+    }
+}
