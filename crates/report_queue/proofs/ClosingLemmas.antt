@@ -1,0 +1,117 @@
+-- What was taken once all callers are back, from what the ring's keeper knows.
+use Rattle.std.proofs.Common.{◌≡◌, ℕ, zero, suc, ◌+◌, ◌<◌, ◌≤◌, ◌==◌, if◌then◌else◌, Bool, true, false, is_some, List, [], ◌∷◌, map, length, Option, Some, None, refl, sym, ap, ap₂, ◌∙◌, subst, true≢false, arith, eq-eqb}
+use Rattle.std.proofs.lemmas.List.{length-map}
+use Rattle.std.proofs.lemmas.Option.{none-some}
+use mathlib.Core.Option.{some, some-injective, some-ne-none}
+use lib.ListN.{get_elem?}
+use Rattle.permit_ring.specs.declared.memo.KeeperMemo.{KeeperMemo}
+use Rattle.permit_ring.specs.declared.memo.Outcome.{Outcome}
+use Rattle.permit_ring.specs.declared.memo.Outcome.TheVariants.{Lost, Got}
+use Rattle.permit_ring.specs.declared.memo.SeatMemo.{SeatMemo}
+use Rattle.permit_ring.specs.Closing.{AreAllBack, IsSettled}
+use Rattle.permit_ring.specs.Logs.{end_from, got_of, taken_by}
+use Rattle.permit_ring.specs.Steps.{waits}
+use Rattle.report_queue.specs.declared.cargo.Item.{Item}
+use Rattle.report_queue.specs.Closing as queue
+use Rattle.report_queue.specs.Closing.{IsAllTaken, IsWholeCaller, items_of}
+use Rattle.report_queue.specs.Views.{CallerView, NamesItsCalls, back_in, caller_in, taker_in}
+use Rattle.report_queue.proofs.TakerLemmas.{NameTheirs, all_back, one_some}
+
+-- below its length a list has an element
+there : {A : Type 0} (l : List A) (i : ℕ) → i < length l → (a : A) × (get_elem? l i ≡ some a)
+there [] i h = absurd (omega arith)
+there (x ∷ xs) zero h = (x, refl)
+there (x ∷ xs) (suc i) h = there xs i (omega arith)
+
+-- an element of a mapped list is that of the list, mapped
+pub at_map_back : {A B : Type 0} (f : A → B) (l : List A) (i : ℕ) (b : B) → get_elem? (map f l) i ≡ some b → (a : A) × (get_elem? l i ≡ some a) × (f a ≡ b)
+at_map_back f [] i b e = absurd (some-ne-none b (sym e))
+at_map_back f (x ∷ l) zero b e = (x, refl, some-injective (f x) b e)
+at_map_back f (x ∷ l) (suc i) b e = at_map_back f l i b e
+
+-- an element is still there with one more in front, or none
+later : {A : Type 0} (b : Bool) (l : List A) (x a : A) → (m : ℕ) × (get_elem? l m ≡ some a) → (m : ℕ) × (get_elem? (if b then x ∷ l else l) m ≡ some a)
+later true l x a at = (suc at.0, at.1)
+later false l x a at = at
+
+module _ {N : Type 0} where
+  -- a ticket that a log got stands in it
+  got_stands : (log : List (Outcome N)) (m t : ℕ) (x : N) → get_elem? (got_of log) m ≡ some (t, x) → (j : ℕ) × (get_elem? log j ≡ some (Got t x))
+  got_stands [] m t x e = absurd (some-ne-none (t, x) (sym e))
+  got_stands (Lost g ∷ log) m t x e = let rest = got_stands log m t x e in (suc rest.0, rest.1)
+  got_stands (Got u y ∷ log) zero t x e = let same = some-injective (u, y) (t, x) e in (zero, ap (λ (p : ℕ × N). some (Got p.0 p.1)) same)
+  got_stands (Got u y ∷ log) (suc m) t x e = let rest = got_stands log m t x e in (suc rest.0, rest.1)
+
+  -- a ticket of seat i is among its tickets
+  is_its_own : (i f t : ℕ) (x : N) (taken : List (ℕ × N)) → get_elem? taken t ≡ some (i, x) → (m : ℕ) × (get_elem? (taken_by i f (map Some taken)) m ≡ some (f + t, x))
+  is_its_own i f t x [] e = absurd (some-ne-none (i, x) (sym e))
+  is_its_own i f zero x (p ∷ taken) e =
+      let same = some-injective p (i, x) e in
+      let is : (i == p.0) ≡ true = ap (λ (k : ℕ). i == k) (ap (λ (q : ℕ × N). q.0) same) ∙ eq-eqb i i refl in
+      let Stands : Bool → Type 0 = λ b. (m : ℕ) × (get_elem? (if b then (f, p.1) ∷ taken_by i (suc f) (map Some taken) else taken_by i (suc f) (map Some taken)) m ≡ some (f + 0, x)) in
+      subst Stands (sym is) (0, ap₂ (λ (u : ℕ) (y : N). some (u, y)) (let none : f ≡ f + 0 = omega arith in none) (ap (λ (q : ℕ × N). q.1) same))
+  is_its_own i f (suc t) x (p ∷ taken) e =
+      let rest = is_its_own i (suc f) t x taken e in
+      let at = rest.1 ∙ ap (λ (u : ℕ). some (u, x)) (let next : suc f + t ≡ f + suc t = omega arith in next) in
+      later (i == p.0) (taken_by i (suc f) (map Some taken)) (f, p.1) (f + suc t, x) (rest.0, at)
+
+module _ {N : Type 0} where
+  -- tickets whose seats are the callers of their items
+  same_items : (i f : ℕ) (taken : List (ℕ × Item N)) → ((t : ℕ) (p : ℕ × Item N) → get_elem? taken t ≡ some p → p.0 ≡ p.1.caller) → taken_by i f (map Some taken) ≡ items_of i f (map (λ (x : ℕ × Item N). x.1) taken)
+  same_items i f [] same = refl
+  same_items i f (p ∷ taken) same =
+      let rest = same_items i (suc f) taken (λ t q e. same (suc t) q e) in
+      ap₂ (λ (k : ℕ) (l : List (ℕ × Item N)). if i == k then (f, p.1) ∷ l else l) (same 0 p refl) rest
+
+  module _ (k : KeeperMemo (Item N)) (made : k.made ≡ length k.back) (names : NameTheirs k.back) (all : AreAllBack k) (s : IsSettled k) where
+    -- the seat that came back with a ticket's item named itself in it
+    owner_back : (t i : ℕ) (x : Item N) (back : Option (SeatMemo (Item N))) → get_elem? s.taken t ≡ some (i, x) → get_elem? k.back i ≡ some back → is_some back ≡ true → i ≡ x.caller
+    owner_back t i x None e at is = absurd (true≢false (sym is))
+    owner_back t i x (Some memo) e at is =
+        let whole = s.logs_are i memo at in
+        let own = is_its_own i 0 t x s.taken e in
+        let got = got_stands memo.log own.0 t x (ap (λ (l : List (ℕ × Item N)). get_elem? l own.0) whole.got ∙ own.1 ∙ ap (λ (u : ℕ). some (u, x)) (let none : 0 + t ≡ t = omega arith in none)) in
+        sym ((names i memo at got.0 t x got.1).0 ∙ whole.number_is)
+
+    owner : (t : ℕ) (p : ℕ × Item N) → get_elem? s.taken t ≡ some p → p.0 ≡ p.1.caller
+    owner t p e =
+        let at = there k.back p.0 (subst (λ (n : ℕ). p.0 < n) made (s.seats_are t p.0 p.1 e)) in
+        owner_back t p.0 p.1 at.0 e at.1 (all p.0 at.0 at.1)
+
+    whole_caller : (i : ℕ) (memo : SeatMemo (Item N)) → get_elem? k.back i ≡ some (Some memo) → IsWholeCaller k.fronts k.notes i (caller_in memo)
+    whole_caller i memo at =
+        let whole = s.logs_are i memo at in
+        let items = s.notes_are in
+        record {
+          number_is = whole.number_is;
+          calls_are = whole.calls_are;
+          names = subst (λ (n : ℕ). NamesItsCalls n memo.log) whole.number_is (names i memo at);
+          rises = whole.rises;
+          within = subst (λ (n : ℕ). end_from 0 memo.log ≤ n) (sym (ap length items ∙ length-map s.taken (λ (x : ℕ × Item N). x.1))) whole.within;
+          accepted = whole.got ∙ same_items i 0 s.taken owner ∙ sym (ap (items_of i 0) items);
+          lost_at_front = whole.lost_at_front;
+        }
+
+    whole_back : (i : ℕ) (caller : CallerView N) (back : Option (SeatMemo (Item N))) → get_elem? k.back i ≡ some back → back_in back ≡ Some caller → IsWholeCaller k.fronts k.notes i caller
+    whole_back i caller None at e = absurd (none-some caller e)
+    whole_back i caller (Some memo) at e = subst (IsWholeCaller k.fronts k.notes i) (one_some (caller_in memo) caller e) (whole_caller i memo at)
+
+    of_caller : (t : ℕ) (item : Item N) → get_elem? k.notes t ≡ some item → item.caller < length k.back
+    of_caller t item e =
+        let found = at_map_back (λ (x : ℕ × Item N). x.1) s.taken t item (sym (ap (λ (l : List (Item N)). get_elem? l t) s.notes_are) ∙ e) in
+        let p = found.0 in
+        let is = owner t p found.1 ∙ ap (λ (x : Item N). x.caller) found.2 in
+        subst (λ (n : ℕ). item.caller < n) made (subst (λ (c : ℕ). c < k.made) is (s.seats_are t p.0 p.1 found.1))
+
+    pub all_taken : IsAllTaken (taker_in k)
+    all_taken = record {
+      of_callers = λ t item e. subst (λ (n : ℕ). item.caller < n) (sym (length-map k.back back_in)) (of_caller t item e);
+      whole = λ i caller e. let found = at_map_back back_in k.back i (Some caller) e in whole_back i caller found.0 found.1 found.2;
+    }
+
+-- a take in vain once all callers are back
+pub taken_by_then : {N : Type 0} (k new : KeeperMemo (Item N)) (mark : ℕ) → new ≡ waits mark k → k.made ≡ length k.back → NameTheirs k.back → queue.AreAllBack (taker_in k) → (AreAllBack k → IsSettled new) → IsAllTaken (taker_in new)
+taken_by_then k new mark told made names all settled =
+    let back = ap (λ m. m.back) told in
+    let were = all_back k all in
+    all_taken new (ap (λ m. m.made) told ∙ made ∙ sym (ap length back)) (subst NameTheirs (sym back) names) (subst AreAllBack (sym told) were) (settled were)

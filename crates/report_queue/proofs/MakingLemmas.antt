@@ -1,0 +1,111 @@
+-- A queue that has just been made, from its ring.
+use Rattle.std.proofs.Common.{◌≡◌, ℕ, zero, suc, ◌+◌, ◌<◌, ◌≤◌, ◌^◌, List, [], ◌∷◌, ◌++◌, map, length, replicate, Option, Some, None, refl, sym, ap, ◌∙◌, subst, arith, All, slice_index_or}
+use Rattle.std.proofs.lemmas.List.{get_or_default, length-map, length-replicate, replicate_more}
+use Rattle.std.proofs.lemmas.Option.{none-some}
+use mathlib.Core.Option.{some, some-injective, some-ne-none}
+use lib.ListN.{get_elem?}
+use Rattle.atomic_table.proofs.Lists.{at_index}
+use Rattle.permit_ring.specs.declared.memo.KeeperMemo.{KeeperMemo}
+use Rattle.permit_ring.specs.declared.memo.Outcome.TheVariants.{Got}
+use Rattle.permit_ring.specs.declared.memo.SeatMemo.{SeatMemo}
+use Rattle.permit_ring.specs.declared.seat.Seat.{Seat}
+use Rattle.permit_ring.specs.Logs.{IsOrdered}
+use Rattle.permit_ring.specs.Making as ring
+use Rattle.permit_ring.specs.Seats.{seat_number}
+use Rattle.permit_ring.specs.Steps.{new_memo}
+use Rattle.permit_ring.proofs.ListLemmas.{at_length}
+use Rattle.report_queue.specs.declared.cargo.Item.{Item}
+use Rattle.report_queue.specs.declared.cargo.Items.{Items}
+use Rattle.report_queue.specs.declared.seat.Queue.{Queue}
+use Rattle.report_queue.specs.declared.seat.QueueSeat.{QueueSeat}
+use Rattle.report_queue.specs.declared.taker.Taker.{Taker}
+use Rattle.report_queue.specs.Items.{admits_all}
+use Rattle.report_queue.specs.Making.{IsNewQueue, IsUnused, as_callers, new_caller, new_taker}
+use Rattle.report_queue.specs.Parts.{caller_number}
+use Rattle.report_queue.specs.Views.{CallerView, TakerView, back_in, caller_in, taker_in}
+use Rattle.report_queue.proofs.ClosingLemmas.{at_map_back}
+
+map-replicate : {A B : Type 0} (f : A → B) (n : ℕ) (a : A) → map f (replicate n a) ≡ replicate n (f a)
+map-replicate f zero a = refl
+map-replicate f (suc n) a = ap (λ l. f a ∷ l) (map-replicate f n a)
+
+-- a list of nothing has nothing
+none_there : {A C : Type 0} (n i : ℕ) (a : A) → get_elem? (replicate n None) i ≡ some (Some a) → C
+none_there zero i a e = absurd (some-ne-none (Some a) (sym e))
+none_there (suc n) zero a e = absurd (none-some a (some-injective None (Some a) e))
+none_there (suc n) (suc i) a e = none_there n i a e
+
+-- what the ring's keeper knows once so many seats are made
+record IsMade {N : Type 0} (n seats : ℕ) (k : KeeperMemo (Item N)) : Type 0 where
+  pub shows : taker_in k ≡ new_taker n seats
+  pub back_is : k.back ≡ replicate seats None
+  pub made_is : k.made ≡ seats
+
+module _ {N : Type 0} where
+  all_made : (n seats : ℕ) → IsMade {N = N} n seats (ring.made_memo n seats)
+  all_made n zero = record { shows = refl; back_is = refl; made_is = refl }
+  all_made n (suc seats) =
+      let was : IsMade {N = N} n seats (ring.made_memo n seats) = all_made n seats in
+      let one : seats + 1 ≡ suc seats = omega arith in
+      let back = ap (λ (l : List (Option (SeatMemo (Item N)))). l ++ None ∷ []) was.back_is ∙ replicate_more seats None ∙ ap (λ (m : ℕ). replicate m None) one in
+      record {
+        shows = ap (λ (v : TakerView N). record v { back = map back_in ((ring.made_memo n seats).back ++ None ∷ []) }) was.shows
+            ∙ ap (λ (l : List (Option (CallerView N))). record (new_taker n seats) { back = l }) (ap (map back_in) back ∙ map-replicate back_in (suc seats) None);
+        back_is = back;
+        made_is = ap (λ (m : ℕ). m + 1) was.made_is ∙ one;
+      }
+
+  new_ordered : (i : ℕ) → IsOrdered (new_memo {N = Item N} i)
+  new_ordered i = record { decided = omega arith; rises = tt; below_ticket = λ t holds. omega arith }
+
+module _ {P L T N : Type 0} (queue : Queue P L T N) where
+  new_caller_is : (i : ℕ) (seat : Seat (Items P) (Unit {0}) (Item L) T (Item N)) → i < 32 → ring.IsNewSeat admits_all queue.ring i seat → IsUnused queue record { seat = seat } × (seat_number seat ≡ i)
+  new_caller_is i seat within is =
+      let none = is.no_calls in (
+        record {
+          is_caller = record {
+            is_seat = is.is_seat;
+            below_32 = subst (λ (m : ℕ). m < 32) (sym is.number_is) within;
+            calls_within = subst (λ (m : ℕ). m ≤ 2 ^ 40) (sym none) (omega arith);
+            number_is = is.is_seat.number_is;
+            calls_are = is.is_seat.calls_are;
+            in_order = subst IsOrdered (sym is.knows) (new_ordered i);
+            names = λ j t item e. absurd (some-ne-none (Got t item) (sym (sym (ap (λ (m : SeatMemo (Item N)). get_elem? m.log j) is.knows) ∙ e)));
+          };
+          shows = ap caller_in is.knows ∙ ap new_caller (sym is.number_is);
+          no_calls = none;
+          is_idle = is.is_idle;
+        },
+        is.number_is,
+      )
+
+  -- a new ring with a keeper and callers is a new queue
+  pub new_queue_is : (n seats : ℕ) (terms : T) (taker : Taker P L T N) (ring_seats : List (Seat (Items P) (Unit {0}) (Item L) T (Item N))) (callers : List (QueueSeat P L T N)) → seats ≤ 32 → ring.IsNewRing admits_all n seats terms queue.ring taker.keeper ring_seats → callers ≡ as_callers ring_seats → IsNewQueue n seats terms queue taker callers
+  new_queue_is n seats terms taker ring_seats callers within is are =
+      let made : IsMade {N = N} n seats (ring.made_memo n seats) = all_made n seats in
+      let back = ap (λ (k : KeeperMemo (Item N)). k.back) is.knows ∙ made.back_is in
+      let count = is.seats_are.all_made in
+      record {
+        positions_are = is.positions_are;
+        seats_may_be = is.seats_may_be;
+        terms_are = is.terms_are;
+        is_taker = record {
+          is_keeper = is.is_keeper;
+          none_vacant = is.none_vacant;
+          made_are = ap (λ (k : KeeperMemo (Item N)). k.made) is.knows ∙ made.made_is ∙ sym (ap length back ∙ length-replicate seats None);
+          names = λ i memo e. none_there seats i memo (ap (λ (l : List (Option (SeatMemo (Item N)))). get_elem? l i) (sym back) ∙ e);
+        };
+        shows = ap taker_in is.knows ∙ made.shows;
+        none_to_give_back = is.none_filled;
+        all_made = ap length are ∙ length-map ring_seats (λ seat. record { seat = seat }) ∙ count;
+        each = λ i seat e.
+            let found = at_map_back (λ (s : Seat (Items P) (Unit {0}) (Item L) T (Item N)). record { seat = s }) ring_seats i seat (ap (λ (l : List (QueueSeat P L T N)). get_elem? l i) (sym are) ∙ e) in
+            let low = at_length ring_seats i found.0 found.1 in
+            subst (λ (c : QueueSeat P L T N). IsUnused queue c × (caller_number c ≡ i)) found.2 (new_caller_is i found.0 (omega (arith, low, count, within)) (is.seats_are.each i found.0 found.1));
+      }
+
+  -- each caller of a new queue is unused
+  pub all_unused : (n seats : ℕ) (terms : T) (taker : Taker P L T N) (callers : List (QueueSeat P L T N)) → IsNewQueue n seats terms queue taker callers → All (IsUnused queue) callers
+  all_unused n seats terms taker callers is i d low =
+      let seat : QueueSeat P L T N = slice_index_or callers i d in
+      (is.each i seat (at_index callers i seat low (get_or_default callers i d seat low))).0

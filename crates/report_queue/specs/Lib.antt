@@ -1,0 +1,6 @@
+pub mod Calls
+pub mod Closing
+pub mod Items
+pub mod Making
+pub mod Parts
+pub mod Views

@@ -1,0 +1,102 @@
+//! The queue that is shared, and one who puts items into it.
+ghost use Rattle.std.specs.Prelude.{◌≡◌, ◌<◌, ◌^◌, false, None, Some, is_none, IfErr};
+ghost use Rattle.report_queue.specs.Calls.{ClaimTells, ticket_got, calls_once, puts, marks_event, marks_context};
+
+use crate::cargo::{Cargo, Item, Items};
+use ids_types::Ticket;
+use permit_ring::{Look, Ring, Seat};
+
+/// A queue, which its callers and its taker share.
+#[derive(Drop)]
+pub struct Queue<P: Cargo> {
+    pub(crate) ring: Ring<Items<P>>,
+}
+
+/// One who puts items into a queue: a caller, by its number.
+#[derive(Drop)]
+pub struct QueueSeat<P: Cargo> {
+    pub(crate) seat: Seat<Items<P>>,
+}
+
+impl<P: Cargo> QueueSeat<P> {
+    ghost use Rattle.report_queue.specs.Parts.{IsCallerOf, caller_memo, caller_number, caller_view, calls_of, item_of, queue_seats, queue_terms, ticket_of};
+
+    /// The caller's number, from 0.
+    pub fn caller(&self) -> u8
+        ensures { result ≡ caller_number self.now }
+    {
+        self.seat.number()
+    }
+
+    /// How many calls of `claim` the caller has made.
+    pub fn calls(&self) -> u64
+        ensures { result ≡ calls_of self.now }
+    {
+        self.seat.calls()
+    }
+
+    /// Whether the caller holds no ticket.
+    pub fn is_idle(&self) -> bool
+        ensures { result ≡ is_none (ticket_of self.now) }
+    {
+        self.seat.is_idle()
+    }
+
+    /// Claims a position. `Err` comes only where the word that was read at a step of this call
+    /// had none free, and is that word's look.
+    pub fn claim(&mut self, queue: &Queue<P>) -> Result<Ticket, Look>
+        requires mine { IsCallerOf queue.now self.old }
+        requires idle { ticket_of self.old ≡ None }
+        requires few { calls_of self.old < 2 ^ 40 }
+        ensures mine { IsCallerOf queue.now self.new }
+        ensures told { caller_view self.new ≡ calls_once result (caller_view self.old) }
+        ensures held { ticket_of self.new ≡ ticket_got result }
+        ensures none_free { IfErr result (λ look. look.free ≡ 0) }
+        ensures steps { ClaimTells (queue_seats queue.now) (caller_memo self.old) result (caller_memo self.new) }
+    {
+        self.seat.claim(&queue.ring)
+    }
+
+    /// Puts an item under the held ticket: it names this caller and this call, the one that got the
+    /// ticket.
+    pub fn fill(&mut self, queue: &Queue<P>, payload: P::Load) -> Ticket
+        requires mine { IsCallerOf queue.now self.old }
+        requires busy { is_none (ticket_of self.old) ≡ false }
+        requires admitted { P.admits_note (queue_terms queue.now) (P.note payload) }
+        ensures mine { IsCallerOf queue.now self.new }
+        ensures ticket { ticket_of self.old ≡ Some result }
+        ensures told { caller_view self.new ≡ puts result.0 (item_of self.old (P.note payload)) (caller_view self.old) }
+        ensures held { ticket_of self.new ≡ None }
+    {
+        let ticket = self.seat.held().unwrap();
+        let item = Item {
+            caller: self.seat.number(),
+            call: self.seat.calls() - 1,
+            payload,
+        };
+        self.seat.finish(&queue.ring, item);
+        ticket
+    }
+
+    /// Marks one lost event.
+    pub fn mark_lost_event(&mut self, queue: &Queue<P>)
+        requires mine { IsCallerOf queue.now self.old }
+        requires few { (caller_view self.old).lost_events < 2 ^ 40 }
+        ensures mine { IsCallerOf queue.now self.new }
+        ensures told { caller_view self.new ≡ marks_event (caller_view self.old) }
+        ensures held { ticket_of self.new ≡ ticket_of self.old }
+    {
+        self.seat.mark(&queue.ring, 0);
+    }
+
+    /// Marks one lost context.
+    pub fn mark_lost_context(&mut self, queue: &Queue<P>)
+        requires mine { IsCallerOf queue.now self.old }
+        requires few { (caller_view self.old).lost_contexts < 2 ^ 40 }
+        ensures mine { IsCallerOf queue.now self.new }
+        ensures told { caller_view self.new ≡ marks_context (caller_view self.old) }
+        ensures held { ticket_of self.new ≡ ticket_of self.old }
+    {
+        self.seat.mark(&queue.ring, 1);
+    }
+}
