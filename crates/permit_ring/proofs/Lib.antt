@@ -14,6 +14,7 @@ pub mod MoveLemmas
 pub mod NewRings
 pub mod Offers
 pub mod Openings
+pub mod WordReads
 pub mod Ready
 pub mod Refills
 pub mod RuleLaws

@@ -12,13 +12,14 @@ use Rattle.permit_ring.specs.declared.memo.Slot.TheVariants.{Finished}
 use Rattle.permit_ring.specs.declared.memo.View.{View}
 use Rattle.permit_ring.specs.declared.memo.View.TheVariants.{Sits, Keeps}
 use Rattle.permit_ring.specs.Hands.{hand_from, filled_then, AllAdmitted}
-use Rattle.permit_ring.specs.Plays.{Known, IsWord, seat_in, keeper_in, saw_word, claimed_word, finished_value, marked_loss, saw_mark, tried_offer, swept_loss}
+use Rattle.permit_ring.specs.Plays.{Known, IsWord, seat_in, keeper_in, saw_word, claimed_word, finished_value, marked_loss, saw_mark, read_word, tried_offer, swept_loss}
 use Rattle.permit_ring.specs.Rule.{Runs}
 use Rattle.permit_ring.proofs.Claims.{claims_allowed}
 use Rattle.permit_ring.proofs.Finishes.{finishes_allowed}
 use Rattle.permit_ring.proofs.Looks.{looks_allowed}
 use Rattle.permit_ring.proofs.Marks.{marks_allowed}
 use Rattle.permit_ring.proofs.Offers.{offers_allowed}
+use Rattle.permit_ring.proofs.WordReads.{reads_allowed}
 use Rattle.permit_ring.proofs.Sees.{sees_allowed}
 use Rattle.permit_ring.proofs.Sweeps.{sweeps_allowed}
 
@@ -48,6 +49,9 @@ finish_ready_with {O = O} {D = D} {T = T} {N = N} note Ao An key slots id old me
 module _ {O D T N : Type 0} (note : D → N) (Ao : T → O → Type 0) (An : T → N → Type 0) (key : Key T) (slots id : ℕ) (me : Known O D T N) (keeps : me.0 ≡ Keeps key (keeper_in me.0)) where
   pub see_ready : (word : ℕ) → slots ≡ key.positions → word ≡ length (keeper_in me.0).notes % key.positions + 3 → Allows (Runs note Ao An key) slots id me word (λ n. n) (saw_mark note An (step slots word 0 0 none) me)
   see_ready word same is = subst (λ (v : View T N). Allows (Runs note Ao An key) slots id (v, me.1) word (λ n. n) (saw_mark note An (step slots word 0 0 none) (v, me.1))) (sym keeps) (sees_allowed note Ao An key slots id word (keeper_in me.0) me.1 same is)
+
+  pub read_ready : Allows (Runs note Ao An key) slots id me 0 (λ n. n) (read_word (step slots 0 0 0 none) me)
+  read_ready = subst (λ (v : View T N). Allows (Runs note Ao An key) slots id (v, me.1) 0 (λ n. n) (read_word (step slots 0 0 0 none) (v, me.1))) (sym keeps) (reads_allowed note Ao An key slots id (keeper_in me.0) me.1)
 
   pub offer_ready : (old new vacant : ℕ) (ys : List O) → slots ≡ key.positions → AllAdmitted (Ao key.terms) ys → 1 ≤ length ys → me.1 ≡ hand_from key.positions (keeper_in me.0).offered (filled_then ys vacant) → (keeper_in me.0).offered + length ys + vacant ≡ length (keeper_in me.0).notes + key.positions
       → IsWord key.positions key.limit (keeper_in me.0).seen → old ≡ packed key.limit (keeper_in me.0).seen → new ≡ packed key.limit (offered_to (keeper_in me.0).seen (length ys)) → Allows (Runs note Ao An key) slots id me 0 (λ n. either (eqb n old) new n) (tried_offer (step slots 0 old new none) me)

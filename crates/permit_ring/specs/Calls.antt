@@ -13,7 +13,7 @@ use Rattle.permit_ring.specs.declared.memo.Move.{Move}
 use Rattle.permit_ring.specs.declared.memo.Outcome.TheVariants.{Lost}
 use Rattle.permit_ring.specs.declared.memo.SeatMemo.{SeatMemo}
 use Rattle.permit_ring.specs.Moves.{move}
-use Rattle.permit_ring.specs.Steps.{waits, reaps}
+use Rattle.permit_ring.specs.Steps.{waits, reaps, reads}
 
 -- the seat with one call more, which got this ticket
 abbrev pub with_ticket : ℕ → SeatView → SeatView
@@ -68,9 +68,9 @@ vacant_after vacant (Err unready) = vacant
 abbrev pub tried : ℕ → ℕ → PermitWord → Move
 tried limit count word = move (Offer count) (packed limit word)
 
--- an offer of some positions: tries that each missed, and found another word than the keeper's, and one that found the keeper's and left it with these positions free
-abbrev pub OfferTells : {N : Type 0} → ℕ → ℕ → KeeperMemo N → ℕ → KeeperMemo N → Type 0
-OfferTells limit count old tries new = (missed : List PermitWord) × (word : PermitWord) × (tries ≡ length missed + 1)
+-- tries to offer some positions: some that each missed, and found another word than the keeper's, and one that found the keeper's and left it with these positions free
+abbrev pub TriesTell : {N : Type 0} → ℕ → ℕ → KeeperMemo N → ℕ → KeeperMemo N → Type 0
+TriesTell limit count old tries new = (missed : List PermitWord) × (word : PermitWord) × (tries ≡ length missed + 1)
     × (new ≡ record old {
       fronts = old.fronts ++ (old.offered + count) ∷ [];
       offered = old.offered + count;
@@ -78,3 +78,7 @@ OfferTells limit count old tries new = (missed : List PermitWord) × (word : Per
       seen = offered_to word count;
       moves = old.moves ++ map (tried limit count) (missed ++ word ∷ []);
     })
+
+-- an offer of some positions: a look at the permit word, and then the tries
+abbrev pub OfferTells : {N : Type 0} → ℕ → ℕ → KeeperMemo N → ℕ → KeeperMemo N → Type 0
+OfferTells limit count old tries new = (first : PermitWord) × TriesTell limit count (reads limit first old) tries new

@@ -12,7 +12,7 @@ use Rattle.permit_ring.specs.declared.memo.View.{View}
 use Rattle.permit_ring.specs.declared.memo.View.TheVariants.{Sits, Keeps, Spent}
 use Rattle.permit_ring.specs.Closing.{AreAllBack, IsSettled, AreAllSwept, swept_of}
 use Rattle.permit_ring.specs.Logs.{IsOrdered}
-use Rattle.permit_ring.specs.Steps.{new_memo, first_memo, looks, claims, finishes, adds_mark, waits, reaps, offers_all, misses, sweeps, makes, welcomes}
+use Rattle.permit_ring.specs.Steps.{new_memo, first_memo, looks, claims, finishes, adds_mark, waits, reaps, reads, offers_all, misses, sweeps, makes, welcomes}
 
 -- a word of a ring with n positions, which can be told from its number
 pub record IsWord (n limit : ℕ) (word : PermitWord) : Type 0 where
@@ -112,6 +112,13 @@ module _ {O D T N : Type 0} where
   abbrev pub swept_loss : Step (Slot O D) → Known O D T N → ℕ → Known O D T N → Type 0
   swept_loss st me n now = (now ≡ (on_keeper (sweeps (st.word - 1) n) me.0, me.1)) × (sum (swept_of (st.word - 1) (keeper_in now.0)) ≤ 2 ^ 45)
       × (AreAllBack (keeper_in me.0) → AreAllSwept (st.word - 1) (keeper_in now.0))
+
+  -- the keeper's look at the permit word
+  abbrev pub read_word : Step (Slot O D) → Known O D T N → ℕ → Known O D T N → Type 0
+  read_word st me n now =
+      IsReadable (limit_in me.0) n
+      × (now ≡ (on_keeper (reads (limit_in me.0) (unpacked (limit_in me.0) n)) me.0, me.1))
+      × IsWord (positions_in me.0) (limit_in me.0) (unpacked (limit_in me.0) n)
 
   -- a try to offer what is ready
   abbrev pub tried_offer : Step (Slot O D) → Known O D T N → ℕ → Known O D T N → Type 0

@@ -2,7 +2,7 @@
 use Rattle.std.specs.Prelude.{ℕ, ◌+◌, false, nat_lt, ◌==◌, if◌then◌else◌, List, [], ◌∷◌, ◌++◌, slice_set, Option, Some, None, zero, suc}
 use Rattle.ring_core.specs.declared.seat.Ticket0.{Ticket0}
 use Rattle.ring_core.specs.declared.step.Step.{Step}
-use Rattle.ring_core.specs.declared.step.Step.TheVariants.{Look, Claim, Finish, See, Offer, Mark, Sweep, Split, Join}
+use Rattle.ring_core.specs.declared.step.Step.TheVariants.{Look, Claim, Finish, See, Read, Offer, Mark, Sweep, Split, Join}
 use Rattle.ring_core.specs.declared.word.PermitWord.{PermitWord}
 use Rattle.ring_core.specs.Machine.{new_seat, looked, served, marked, offered_to, all_free}
 use Rattle.ring_core.specs.Words.{packed}
@@ -58,6 +58,10 @@ module _ {N : Type 0} where
   -- after a look at the next mark, where a value of the note was
   abbrev pub reaps : ℕ → N → KeeperMemo N → KeeperMemo N
   reaps mark x k = record k { notes = k.notes ++ x ∷ []; marks = k.marks ++ mark ∷ []; moves = and_move k.moves See mark }
+
+  -- after a look at the permit word
+  abbrev pub reads : ℕ → PermitWord → KeeperMemo N → KeeperMemo N
+  reads limit word k = record k { seen = word; moves = and_move k.moves Read (packed limit word) }
 
   -- after an offer of so many positions that found the keeper's word
   abbrev pub offers_all : ℕ → ℕ → KeeperMemo N → KeeperMemo N

@@ -2,13 +2,13 @@
 ghost use Rattle.std.specs.Prelude.{◌≡◌, ◌≢◌, ℕ, ◌+◌, ◌-◌, ◌%◌, ◌^◌, ◌<◌, ◌≤◌, IsTrue, IsFalse, None, length, sum, IfOk, IfErr};
 ghost use Rattle.ring_core.specs.Machine.{all_free as all_free_word};
 ghost use Rattle.ring_core.specs.Words.{field_of};
-ghost use Rattle.permit_ring.specs.Calls.{ReapTells, OfferTells, vacant_after};
+ghost use Rattle.permit_ring.specs.Calls.{ReapTells, TriesTell, OfferTells, vacant_after};
 ghost use Rattle.permit_ring.specs.Closing.{AreAllBack, IsSettled, AreAllSwept, swept_of};
-ghost use Rattle.permit_ring.specs.Steps.{offers_all, misses, sweeps, welcomes};
+ghost use Rattle.permit_ring.specs.Steps.{reads, offers_all, misses, sweeps, welcomes};
 
 use crate::answer::Unready;
 use crate::freight::Freight;
-use crate::plays::Offers;
+use crate::plays::{Offers, ReadsWord};
 use crate::ring::{PERMITS, Place, Ring, all_free};
 use crate::seat::Seat;
 use ring_core::PermitWord;
@@ -97,8 +97,8 @@ impl<F: Freight> Keeper<F> {
     }
 
     /// Makes all refilled positions free in one step, and answers how many steps it tried: 0 where
-    /// none was refilled, and else the last one succeeded. Each other one found that a seat had
-    /// claimed since the word that the keeper knew.
+    /// none was refilled, and else the last one succeeded. Before the first it looks at the permit
+    /// word; each other one found that a seat had claimed since the word that the keeper knew.
     pub fn offer(&mut self, ring: &Ring<F>) -> u16
         requires mine { IsKeeperOf F.admits_offered ring.now self.old }
         ensures mine { IsKeeperOf F.admits_offered ring.now self.new }
@@ -110,6 +110,33 @@ impl<F: Freight> Keeper<F> {
         if self.filled == 0 {
             return 0;
         }
+        self.look(ring);
+        self.free_filled(ring)
+    }
+
+    // Looks at the permit word, which the keeper knows from then on.
+    fn look(&mut self, ring: &Ring<F>)
+        requires mine { IsKeeperOf F.admits_offered ring.now self.old }
+        ensures mine { IsKeeperOf F.admits_offered ring.now self.new }
+        ensures told { (word : PermitWord) × (keeper_memo self.new ≡ reads (ring_seats ring.now) word (keeper_memo self.old)) }
+        ensures counts { (vacant_of self.new ≡ vacant_of self.old) × (filled_of self.new ≡ filled_of self.old) }
+    {
+        let number = ring
+            .table
+            .shared
+            .load::<ReadsWord>(&mut self.place, PERMITS);
+        self.seen = PermitWord::unpack(number, ring.limit);
+    }
+
+    // Tries to offer what was refilled until it succeeds, and answers how often it tried.
+    fn free_filled(&mut self, ring: &Ring<F>) -> u16
+        requires mine { IsKeeperOf F.admits_offered ring.now self.old }
+        requires some { 0 < filled_of self.old }
+        ensures mine { IsKeeperOf F.admits_offered ring.now self.new }
+        ensures told { TriesTell (ring_seats ring.now) (filled_of self.old) (keeper_memo self.old) result (keeper_memo self.new) }
+        ensures bound { result ≤ ring_positions ring.now + ring_seats ring.now + 1 }
+        ensures counts { (vacant_of self.new ≡ vacant_of self.old) × (filled_of self.new ≡ 0) }
+    {
         let mut tries = 1;
         while !self.try_offer(ring) {
             tries += 1;

@@ -1,5 +1,5 @@
 //! What each atomic step tells its seat or the keeper. These types are for the proofs alone.
-ghost use Rattle.permit_ring.specs.Plays.{saw_word, claimed_word, finished_value, marked_loss, saw_mark, tried_offer, swept_loss, split_left, split_right, join_both, join_spent};
+ghost use Rattle.permit_ring.specs.Plays.{saw_word, claimed_word, finished_value, marked_loss, saw_mark, read_word, tried_offer, swept_loss, split_left, split_right, join_both, join_spent};
 
 use crate::freight::Freight;
 use crate::memo::{Slot, View};
@@ -45,6 +45,13 @@ pub struct SeesMark<F> {
 
 impl<F: Freight> Play<Slot<F::Offered, F::Finished>, View<F::Terms, F::Note>> for SeesMark<F> {
     ghost then = { saw_mark F.note F.admits_note };
+}
+
+/// The keeper's look at the permit word.
+pub struct ReadsWord;
+
+impl<O, D, T, N> Play<Slot<O, D>, View<T, N>> for ReadsWord {
+    ghost then = { read_word };
 }
 
 /// The keeper's try to offer what it filled.

@@ -60,7 +60,7 @@ fn numbers_go_round_a_ring_of_one_position(rt: HostRuntime) -> Result<(), NoMemo
     for number in 0..1000u64 {
         assert_eq!(rt;
             go_round(&ring, &mut keeper, &mut seat, 3 * number),
-            Some((Ticket(number), 3 * number, 2))
+            Some((Ticket(number), 3 * number, 1))
         );
     }
     Ok(())

@@ -71,12 +71,12 @@ module _ {N : Type 0} where
   -- an offer shows all positions given back
   pub offer_shown : (limit count bound tries : ℕ) (k new : KeeperMemo (Item N)) → tries ≤ bound → OfferTells limit count k tries new → GivesBack bound count (taker_in k) (taker_in new)
   offer_shown limit count bound tries k new within tells =
-      let many = tells.2 in
-      (tries, omega (arith, many), within, ap taker_in tells.3)
+      let many = tells.1.2 in
+      (tries, omega (arith, many), within, ap taker_in tells.1.3)
 
   -- an offer takes no caller back
   pub offer_keeps : (limit count tries : ℕ) (k new : KeeperMemo (Item N)) → OfferTells limit count k tries new → (new.back ≡ k.back) × (new.made ≡ k.made)
-  offer_keeps limit count tries k new tells = (ap (λ m. m.back) tells.3, ap (λ m. m.made) tells.3)
+  offer_keeps limit count tries k new tells = (ap (λ m. m.back) tells.1.3, ap (λ m. m.made) tells.1.3)
 
   -- a caller that came back is shown
   pub welcome_shown : (k : KeeperMemo (Item N)) (memo : SeatMemo (Item N)) → taker_in (step.welcomes memo k) ≡ welcomes (caller_in memo) (taker_in k)

@@ -3,7 +3,7 @@ use Rattle.std.proofs.lemmas.List.{length_push}
 use Rattle.permit_ring.specs.Plays.{keeper_in}
 use Rattle.permit_ring.specs.Steps.{misses, offers_all}
 use Rattle.permit_ring.proofs.Keepers.{last_word, missed-more, offer_ends}
-use Rattle.permit_ring.proofs.keeper.Keeper.offer.Goals as goal
+use Rattle.permit_ring.proofs.keeper.Keeper.free_filled.Goals as goal
 
 pub loop-tries-preserved : goal.loop-tries-preserved
 loop-tries-preserved g c =
@@ -28,7 +28,7 @@ loop-tries-preserved g c =
     )
 
 pub returns-clause-told : goal.returns-clause-told
-returns-clause-told g c = λ some_filled.
+returns-clause-told g c =
     let is = c.loop-tries.invariant in
     let hit = c.try_offer.ensures.hit c.loop-tries-test.false in
     let limit : ℕ = c.args.ring.now.limit in

@@ -3,7 +3,7 @@ use Rattle.ring_core.specs.declared.word.PermitWord.{PermitWord}
 use Rattle.ring_core.specs.Words.{field_of}
 use Rattle.permit_ring.proofs.Keepers.{missed_all}
 use Rattle.permit_ring.specs.Seats.{IsKeeperOf, keeper_memo}
-use Rattle.permit_ring.proofs.keeper.Keeper.offer.Given as goal
+use Rattle.permit_ring.proofs.keeper.Keeper.free_filled.Given as goal
 
 abbrev pub invariant-loop-tries : goal.invariant-loop-tries
 invariant-loop-tries g l =

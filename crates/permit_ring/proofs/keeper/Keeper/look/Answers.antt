@@ -1,0 +1,12 @@
+use Rattle.std.proofs.Common.{rules}
+use Rattle.permit_ring.proofs.Ready.{read_ready}
+use Rattle.permit_ring.proofs.keeper.Keeper.look.Goals as goal
+
+pub load-number-requires : goal.load-number-requires
+load-number-requires g c =
+    let f = g.F.Freight in
+    let keeping = c.requires.mine.keeping in (
+      keeping.at_table,
+      search rules,
+      read_ready f.note f.admits_offered f.admits_note _ _ _ _ keeping.keeps,
+    )
