@@ -1,20 +1,22 @@
 -- A history's fields after an entry was added: what was there reads as before, and the last turn has the entry.
-use Rattle.std.proofs.Common.{◌≡◌, ℕ, zero, suc, ◌+◌, ◌-◌, ◌<◌, ◌≤◌, List, [], ◌∷◌, ◌++◌, length, map, take, drop, set, get_or, refl, sym, ap, ap₂, subst, ◌∙◌, arith, length-drop, length-append}
+use Rattle.std.proofs.Common.{◌≡◌, ℕ, zero, suc, ◌+◌, ◌-◌, ◌<◌, ◌≤◌, List, [], ◌∷◌, ◌++◌, length, map, take, drop, set, get_or, refl, sym, ap, ap₂, subst, ◌∙◌, arith, length-drop, length-append, append_assoc}
 use Rattle.std.specs.Prelude.{slice_range}
-use Rattle.std.specs.List.{AllByRecursion}
-use Rattle.std.proofs.lemmas.List.{drop-append-le, take-append-le, take_all, take-map, map-append, drop-map, drop_at, length-map, length-take-le}
+use Rattle.std.specs.List.{AllByRecursion, flat_map}
+use Rattle.std.proofs.lemmas.Grind.{flat_map-append}
+use Rattle.std.proofs.lemmas.List.{append-nil, drop-append-le, take-append-le, take_all, take-map, map-append, drop-map, drop_at, length-map, length-take-le}
 use Rattle.ids_types.specs.declared.entry.Carried.{Carried}
 use Rattle.ids_types.specs.declared.entry.Carried.TheVariants.{Absent, Kept, Missing}
 use Rattle.ids_types.specs.declared.entry.Act.{Act}
 use Rattle.ids_types.specs.declared.entry.Act.TheVariants.{Report, State, SetMode}
 use Rattle.ids_types.specs.declared.entry.Entry.{Entry}
+use Rattle.ids_types.specs.declared.entry.TurnHead.{TurnHead}
 use Rattle.ids_types.specs.declared.parcel.Plain.{Plain}
 use Rattle.ids_types.specs.declared.span.Row.{Row}
 use Rattle.ids_types.specs.declared.span.Span.{Span}
 use Rattle.ids_types.specs.Carries.{carried_by, act_by, entry_by}
 use Rattle.ids_types.specs.Plain.{plain_carried, plain_entry, carried_bytes, act_bytes, kept_bytes}
 use Rattle.ids_types.specs.Spans.{bytes_at, span_from, turn_of, rows_len, CarriedWithin, ActWithin, EntryWithin, RowWithin}
-use Rattle.ids_types.specs.Turns.{Turn, extended, with_entry, entries_of}
+use Rattle.ids_types.specs.Turns.{Turn, Turns, begun, extended, emptied, with_entry, entries_of, context_bytes}
 
 -- a range within a list is the same in a longer list
 pub range_of_front : {A : Type 0} (xs ys : List A) (i j : ℕ) → i ≤ j → j ≤ length xs → slice_range (xs ++ ys) i j ≡ slice_range xs i j
@@ -175,3 +177,34 @@ rows_len-set (r ∷ rows) (suc i) row lt ordered is = omega (arith, rows_len-set
 pub rows_len_push : (rows : List Row) (row : Row) → row.start ≡ row.end → rows_len (rows ++ row ∷ []) ≡ rows_len rows
 rows_len_push [] row empty = omega arith
 rows_len_push (r ∷ rows) row empty = omega (arith, rows_len_push rows row empty)
+
+-- ---- the bytes that all entries keep
+
+-- the bytes of turns with one entry more
+pub context_bytes-with_entry : (turns : List Turn) (entry : Entry (List ℕ)) → 0 < length turns → context_bytes (with_entry turns entry) ≡ context_bytes turns ++ kept_bytes entry
+context_bytes-with_entry [] entry some = absurd (omega arith)
+context_bytes-with_entry (turn ∷ []) entry some =
+    ap (flat_map kept_bytes) (append-nil (turn.entries ++ entry ∷ [])) ∙ flat_map-append kept_bytes turn.entries (entry ∷ [])
+    ∙ ap₂ ◌++◌ (ap (flat_map kept_bytes) (sym (append-nil turn.entries))) (append-nil (kept_bytes entry))
+context_bytes-with_entry (turn ∷ next ∷ turns) entry some =
+    flat_map-append kept_bytes turn.entries (entries_of (with_entry (next ∷ turns) entry))
+    ∙ ap (λ bytes. flat_map kept_bytes turn.entries ++ bytes) (context_bytes-with_entry (next ∷ turns) entry (omega arith))
+    ∙ sym (append_assoc (flat_map kept_bytes turn.entries) (context_bytes (next ∷ turns)) (kept_bytes entry))
+    ∙ ap (λ bytes. bytes ++ kept_bytes entry) (sym (flat_map-append kept_bytes turn.entries (entries_of (next ∷ turns))))
+
+-- the turn of a row without entries has begun
+pub turns_begun : (entries : List (Entry Span)) (bytes : List ℕ) (rows : List Row) (head : TurnHead) (place : ℕ)
+    → map (turn_of entries bytes) (rows ++ record { head = head; start = place; end = place } ∷ []) ≡ map (turn_of entries bytes) rows ++ begun head ∷ []
+turns_begun entries bytes rows head place =
+    let none : place - place ≡ 0 = omega arith in
+    map-append (turn_of entries bytes) rows (record { head = head; start = place; end = place } ∷ [])
+    ∙ ap (λ k. map (turn_of entries bytes) rows ++ record { head = head; entries = map (entry_by (bytes_at bytes)) (take k (drop place entries)) } ∷ []) none
+
+-- a turn that has begun keeps no bytes
+pub context_bytes-begun : (turns : List Turn) (head : TurnHead) → context_bytes (turns ++ begun head ∷ []) ≡ context_bytes turns
+context_bytes-begun turns head = ap (flat_map kept_bytes) (flat_map-append (λ (t : Turn). t.entries) turns (begun head ∷ []) ∙ append-nil (entries_of turns))
+
+-- no turns, and all that was held given back as room
+pub cleared : (old : Turns) (turns : List Turn) (t e b : ℕ) → turns ≡ [] → t ≡ length old.turns → e ≡ length (entries_of old.turns) → b ≡ length (context_bytes old.turns)
+    → record { turns = turns; room = record { turns = old.room.turns + t; entries = old.room.entries + e; bytes = old.room.bytes + b } } ≡ emptied old
+cleared old turns t e b none rows entries bytes = rw (none, rows, entries, bytes) refl

@@ -2,7 +2,7 @@
 use Rattle.std.specs.Prelude.{◌≡◌, ◌+◌, ◌≤◌, length, map, vec_len, vec_capacity}
 use Rattle.std.specs.List.{AllByRecursion}
 use Rattle.ids_types.specs.declared.history.History.TheInside.{Inside}
-use Rattle.ids_types.specs.Turns.{Turns}
+use Rattle.ids_types.specs.Turns.{Turns, context_bytes}
 use Rattle.ids_types.specs.Spans.{turn_of, rows_len, EntryWithin, RowWithin, LastRowEnds}
 
 -- the turns of the rows, and the room that is kept for more
@@ -15,6 +15,7 @@ pub record IsSound (h : Inside) : Type 0 where
   pub entries : AllByRecursion (EntryWithin (length h.bytes.items)) h.entries.items
   pub all : rows_len h.rows.items ≡ length h.entries.items
   pub last : LastRowEnds h.rows.items (length h.entries.items)
+  pub kept : context_bytes (map (turn_of h.entries.items h.bytes.items) h.rows.items) ≡ h.bytes.items
   pub turns_room : vec_len h.rows + h.turns_left ≤ vec_capacity h.rows
   pub entries_room : vec_len h.entries + h.entries_left ≤ vec_capacity h.entries
   pub bytes_room : vec_len h.bytes + h.bytes_left ≤ vec_capacity h.bytes

@@ -1,9 +1,10 @@
 -- The history as contracts see it: its turns, each with its head and its entries.
-use Rattle.std.specs.Prelude.{ℕ, ◌-◌, ◌≤◌, max, List, [], ◌∷◌, ◌++◌, slice_index_or}
+use Rattle.std.specs.Prelude.{ℕ, ◌+◌, ◌-◌, ◌≤◌, max, List, [], ◌∷◌, ◌++◌, length, slice_index_or}
 use Rattle.std.specs.List.{flat_map}
 use Rattle.ids_types.specs.declared.entry.Act.TheVariants.{State}
 use Rattle.ids_types.specs.declared.entry.Entry.{Entry}
 use Rattle.ids_types.specs.declared.entry.TurnHead.{TurnHead}
+use Rattle.ids_types.specs.Plain.{kept_bytes}
 
 -- a turn of the main function, with the context of its entries as bytes
 pub record Turn : Type 0 where
@@ -47,6 +48,10 @@ entry_at turn i = slice_index_or turn.entries i (record { caller = 0; call = 0; 
 abbrev pub entries_of : List Turn → List (Entry (List ℕ))
 entries_of turns = flat_map (λ turn. turn.entries) turns
 
+-- the bytes of context that the entries of turns keep, one after another
+abbrev pub context_bytes : List Turn → List ℕ
+context_bytes turns = flat_map kept_bytes (entries_of turns)
+
 -- there is room for so much more
 pub record HasRoom (room : Room) (t e b : ℕ) : Type 0 where
   pub turns : t ≤ room.turns
@@ -60,3 +65,14 @@ room_after room turns entries bytes = record { turns = room.turns - turns; entri
 -- the room, and at least so much
 abbrev pub wider_room : Room → ℕ → ℕ → ℕ → Room
 wider_room room turns entries bytes = record { turns = max turns room.turns; entries = max entries room.entries; bytes = max bytes room.bytes }
+
+-- what is emptied has no turns, and room for as much as it could hold
+abbrev pub emptied : Turns → Turns
+emptied history = record {
+  turns = [];
+  room = record {
+    turns = history.room.turns + length history.turns;
+    entries = history.room.entries + length (entries_of history.turns);
+    bytes = history.room.bytes + length (context_bytes history.turns);
+  };
+}

@@ -1,12 +1,12 @@
-use Rattle.std.proofs.Common.{◌≡◌, ℕ, suc, ◌+◌, ◌-◌, ◌<◌, [], ◌∷◌, ◌++◌, length, sym, ap, subst, ◌∙◌, arith, rules, vec_len, length-set, length-append, get_or-set_same}
+use Rattle.std.proofs.Common.{◌≡◌, ℕ, List, suc, ◌+◌, ◌-◌, ◌<◌, [], ◌∷◌, ◌++◌, length, map, sym, ap, subst, ◌∙◌, arith, rules, vec_len, length-set, length-append, get_or-set_same}
 use Rattle.std.proofs.lemmas.List.{length-map}
 use Rattle.std.proofs.lemmas.List.Elements.{All-from_recursion}
 use Rattle.ids_types.specs.declared.span.Row.{Row}
 use Rattle.ids_types.specs.Carries.{entry_by}
 use Rattle.ids_types.specs.Plain.{plain_entry, kept_bytes}
 use Rattle.ids_types.specs.Spans.{span_from, turn_of, EntryWithin, RowWithin}
-use Rattle.ids_types.specs.Turns.{Turns, with_entry}
-use Rattle.ids_types.proofs.HistoryLemmas.{turns_extended, rows_len-set, AllByRecursion-set, AllByRecursion-push, AllByRecursion-weaker, EntryWithin-more, EntryWithin-placed}
+use Rattle.ids_types.specs.Turns.{Turns, with_entry, context_bytes}
+use Rattle.ids_types.proofs.HistoryLemmas.{turns_extended, context_bytes-with_entry, rows_len-set, AllByRecursion-set, AllByRecursion-push, AllByRecursion-weaker, EntryWithin-more, EntryWithin-placed}
 use Rattle.ids_types.proofs.history.History.add.Goals as goal
 
 pub invariant_of-self : goal.invariant_of-self
@@ -19,6 +19,8 @@ invariant_of-self c =
     let some_turn : 0 < length h.rows.items = omega (arith, c.requires.begun, ap (λ (t : Turns). length t.turns) c.self.view_is, length-map h.rows.items (turn_of h.entries.items h.bytes.items)) in
     let rows_len : vec_len h.rows ≡ length h.rows.items = search rules in
     let last : c.len-last.result - 1 < length h.rows.items = omega arith in
+    let count : suc (c.len-last.result - 1) ≡ length h.rows.items = omega arith in
+    let some_turns : 0 < length (map (turn_of h.entries.items h.bytes.items) h.rows.items) = omega (arith, length-map h.rows.items (turn_of h.entries.items h.bytes.items)) in
     let row = c.index_mut.result.now in
     let at_end : row.end ≡ length h.entries.items = ap (λ (r : Row). r.end) (rw (c.len-last.ensures, rows_len) at c.index_mut.ensures.value) ∙ c.self.invariant.last row some_turn in
     let row_in : RowWithin (length h.entries.items) row = subst (RowWithin (length h.entries.items)) (sym c.index_mut.ensures.value) (All-from_recursion (RowWithin (length h.entries.items)) h.rows.items c.self.invariant.rows (c.len-last.result - 1) row last) in
@@ -31,6 +33,10 @@ invariant_of-self c =
       last = λ d some.
           let place : length h.rows.items - 1 ≡ c.len-last.result - 1 = omega arith in
           rw (length-set, place, more_entries) (rw get_or-set_same (ap (λ (n : ℕ). n + 1) at_end));
+      kept = rw (entries_is, bytes_is)
+          (ap context_bytes (turns_extended h.entries.items h.bytes.items entry c.self.invariant.entries h.rows.items (c.len-last.result - 1) row count c.self.invariant.rows c.index_mut.ensures.value at_end)
+          ∙ context_bytes-with_entry (map (turn_of h.entries.items h.bytes.items) h.rows.items) (plain_entry entry) some_turns
+          ∙ ap (λ (bytes : List ℕ). bytes ++ own) c.self.invariant.kept);
       turns_room = search rules;
       entries_room = search rules;
       bytes_room = search rules;
