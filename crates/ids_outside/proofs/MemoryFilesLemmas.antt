@@ -1,18 +1,18 @@
 -- How the files of a map change with the map, and how given files are found.
-use Rattle.std.proofs.Common.{◌≡◌, ◌++◌, ◌∷◌, [], ℕ, Bool, true, false, List, Some, not, ◌&&◌, Result, Ok, Err, OnOk, OnErr, is_ok, String, Vec, string_bytes, option_map, refl, sym, ap, ◌∙◌, arith, if◌then◌else◌}
+use Rattle.std.proofs.Common.{◌≡◌, ◌++◌, ◌∷◌, [], ℕ, Bool, true, false, List, Some, Result, Ok, Err, OnOk, OnErr, is_ok, String, Vec, string_bytes, option_map, refl, sym, ap, ◌∙◌, arith, if◌then◌else◌}
 use Rattle.std.specs.BTreeMap.{BTreeMap, UpdatesBy, get_by_text}
 use Rattle.std.specs.Cmp.Lexicographic.{slice_cmp}
 use Rattle.std.specs.Ordering.{nat_cmp}
-use Rattle.std.specs.List.{list_any}
 use Rattle.std.specs.String.{string_cmp}
 use Rattle.std.specs.declared.alloc.Global.{Global}
 use Rattle.std.proofs.lemmas.Bool.{true≢false}
+use Rattle.std.proofs.lemmas.List.{reverse-append}
 use Rattle.std.proofs.lemmas.Grind.{common_steps}
 use Rattle.std.proofs.lemmas.Map.Text.{btree_map_updates_text}
 use Rattle.std.proofs.lemmas.Slice.Eq.{bytes_eq-Decides}
 use Rattle.ids_outside.proofs.FilesLemmas.{bytes_eq-differ, same_from_changes}
 use Rattle.ids_outside.specs.Files.{Files, SameFiles, Changes, bytes_at}
-use Rattle.ids_outside.specs.MemoryFiles.{Given, has_name, names_differ, given_files, files_in}
+use Rattle.ids_outside.specs.MemoryFiles.{Given, has_name, given_files, files_in}
 
 -- the map of a shelf in memory
 abbrev pub Kept : Type 0
@@ -55,51 +55,23 @@ same_from_growth (Err _) name piece old new before after there updates grown =
     same_from_changes (files_in old) (files_in new) name
     (rw (there, ← grown) (changes_from_updates name old new after updates))
 
--- a file is not among those that no file of its name is among
-pub has_name-other : (name : List ℕ) (before : List Given) (file : Given) (after : List Given)
-    → list_any (has_name name) (before ++ file ∷ after) ≡ false → has_name name file ≡ false
-has_name-other name [] file after none = grind (arith, common_steps)
-has_name-other name (first ∷ before) file after none =
-    grind (arith, common_steps, has_name-other name before file after)
-
--- what an `and` behind a `not` tells of its parts
-parts_of_and : (x y : Bool) → (not x && y) ≡ true → (x ≡ false) × (y ≡ true)
-parts_of_and true y both = absurd (true≢false (sym both))
-parts_of_and false y both = (refl, both)
-
 -- what stands at a name where this file is behind others
 abbrev found_behind : List Given → Given → Files
 found_behind before file name =
     if has_name name file then Some file.1.items else given_files before name
 
--- a file behind others of another name is found at its own name, and nowhere else
-pub given_files-snoc : (before : List Given) (file : Given) (after : List Given)
-    → names_differ (before ++ file ∷ after) ≡ true → (name : List ℕ)
+-- a file behind others is found at its own name, and nowhere else
+pub given_files-snoc : (before : List Given) (file : Given) (name : List ℕ)
     → given_files (before ++ file ∷ []) name ≡ found_behind before file name
-given_files-snoc [] file after differ name = grind (arith, common_steps)
-given_files-snoc (first ∷ before) file after differ name =
-    let name_of_first = string_bytes first.0 in
-    let rest = before ++ file ∷ after in
-    let parts = parts_of_and (list_any (has_name name_of_first) rest) (names_differ rest) differ in
-    let own = has_name-other name_of_first before file after parts.0 in
-    let tail = given_files-snoc before file after parts.1 name in
-    let P : Bool → Type 0 = λ same. has_name name first ≡ same
-    → given_files (first ∷ (before ++ file ∷ [])) name ≡ found_behind (first ∷ before) file name in
-    let cases : (same : Bool) → P same = elim [
-      | true ↦ λ same.
-          let is_first = (bytes_eq-Decides name name_of_first).0 same in
-          let apart : has_name name file ≡ false = rw is_first own in
-          rw (same, apart) refl
-      | false ↦ λ other. rw other tail
-    ] in
-    cases (has_name name first) refl
+given_files-snoc before file name =
+    rw (reverse-append before (file ∷ [])) (grind (arith, common_steps))
 
 -- where the files before were those given, one more is given and found
-pub given_files-step : (before : List Given) (file : Given) (after : List Given) (old new : Files)
-    → names_differ (before ++ file ∷ after) ≡ true → SameFiles (given_files before) old
+pub given_files-step : (before : List Given) (file : Given) (old new : Files)
+    → SameFiles (given_files before) old
     → Changes old new (string_bytes file.0) (Some file.1.items)
     → SameFiles (given_files (before ++ file ∷ [])) new
-given_files-step before file after old new differ same changes name =
+given_files-step before file old new same changes name =
     let test = bytes_eq-Decides name (string_bytes file.0) in
     let P : Bool → Type 0 = λ found. has_name name file ≡ found
     → new name ≡ (if found then Some file.1.items else given_files before name) in
@@ -108,4 +80,4 @@ given_files-step before file after old new differ same changes name =
       | false ↦ λ found.
           changes.others name (λ is_file. true≢false (sym (test.1 is_file) ∙ found)) ∙ same name
     ] in
-    cases (has_name name file) refl ∙ sym (given_files-snoc before file after differ name)
+    cases (has_name name file) refl ∙ sym (given_files-snoc before file name)

@@ -27,6 +27,10 @@ pub record Changes (old new : Files) (name : List ℕ) (now : Option (List ℕ))
 abbrev pub bytes_at : Files → List ℕ → List ℕ
 bytes_at files name = unwrap_or (files name) []
 
+-- the same files, and an empty one at each name that has none
+abbrev pub empty_elsewhere : Files → Files
+empty_elsewhere files name = Some (bytes_at files name)
+
 -- the file of this name is there, and longer than the limit
 abbrev pub IsTooLong : Files → List ℕ → ℕ → Type 0
 IsTooLong files name limit = IsSomeAnd (files name) (λ bytes. limit < length bytes)

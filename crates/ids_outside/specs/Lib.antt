@@ -8,4 +8,5 @@ pub mod MemoryShelf
 pub mod MemorySink
 pub mod Script
 pub mod Sinks
+pub mod SteadyShelf
 pub mod Streams

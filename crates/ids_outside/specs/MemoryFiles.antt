@@ -1,5 +1,5 @@
 -- Files that a test gives to a shelf in memory, and how that shelf keeps them.
-use Rattle.std.specs.Prelude.{◌&&◌, ℕ, Bool, true, not, List, [], ◌∷◌, option_map, find, String, Vec, string_bytes}
+use Rattle.std.specs.Prelude.{◌&&◌, ℕ, Bool, true, not, List, [], ◌∷◌, reverse, option_map, find, String, Vec, string_bytes}
 use Rattle.std.specs.List.{list_any}
 use Rattle.std.specs.Str.{bytes_eq}
 use Rattle.std.specs.BTreeMap.{BTreeMap, get_by_text}
@@ -20,9 +20,9 @@ names_differ [] = true
 names_differ (file ∷ rest) =
     not (list_any (has_name (string_bytes file.0)) rest) && names_differ rest
 
--- the given files, by name
+-- the given files, by name; of those of one name the last one stays
 abbrev pub given_files : List Given → Files
-given_files given name = option_map (λ file. file.1.items) (find (has_name name) given)
+given_files given name = option_map (λ file. file.1.items) (find (has_name name) (reverse given))
 
 -- the files that the map keeps, by name
 abbrev pub files_in : BTreeMap (String Global) (Vec ℕ Global) → Files

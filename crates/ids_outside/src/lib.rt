@@ -4,8 +4,9 @@
 //! Layer 1, values. Stands on `ids_types`; the runs of the program stand on it, and are generic
 //! over both traits. Contracts see a shelf's files as bytes by name where it tells them, and its
 //! faults as a count and the last one. `MemoryShelf` and `MemorySink` tell what they hold, and fail
-//! at the calls that a test lists. `HostShelf` and `HostSink` work over the host: no clause says
-//! which bytes the host gives or takes, when it fails, nor that memory suffices.
+//! at the calls that a test lists. `SteadyShelf` tells what it holds and never fails. `HostShelf`
+//! and `HostSink` work over the host: no clause says which bytes the host gives or takes, when it
+//! fails, nor that memory suffices.
 #![tactic(auto)]
 
 mod count;
@@ -13,11 +14,13 @@ mod fault_log;
 mod faults;
 mod host_shelf;
 mod host_sink;
+mod memory_files;
 mod memory_shelf;
 mod memory_sink;
 mod script;
 mod shelf;
 mod sink;
+mod steady_shelf;
 mod streams;
 #[cfg(test)]
 mod tests;
@@ -29,3 +32,4 @@ pub use memory_shelf::MemoryShelf;
 pub use memory_sink::MemorySink;
 pub use shelf::Shelf;
 pub use sink::Sink;
+pub use steady_shelf::SteadyShelf;

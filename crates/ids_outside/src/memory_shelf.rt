@@ -1,14 +1,15 @@
-ghost use Rattle.std.specs.Prelude.{◌≡◌, ◌≤◌, ◌++◌, [], ℕ, List, length, string_bytes, option_map, IfOk, OnOk, OnErr, IsTrue, true};
+ghost use Rattle.std.specs.Prelude.{◌≡◌, ◌≤◌, ℕ, List, length, option_map, IfOk, OnErr, IsTrue, true};
 ghost use Rattle.ids_outside.specs.Faults.{no_faults};
-ghost use Rattle.ids_outside.specs.Files.{bytes_at, Changes, SameFiles};
-ghost use Rattle.ids_outside.specs.MemoryFiles.{given_files, names_differ, files_in};
+ghost use Rattle.ids_outside.specs.Files.{SameFiles};
+ghost use Rattle.ids_outside.specs.MemoryFiles.{given_files, names_differ};
 
 use crate::fault_log::FaultLog;
 use crate::faults::{FaultKind, ReadFault, WriteFault};
+use crate::memory_files::{add_piece, keep, keep_all};
 use crate::script::Script;
 use crate::shelf::Shelf;
 use ids_types::NoMemory;
-use std::alloc::{AllocError, Global};
+use std::alloc::Global;
 use std::collections::BTreeMap;
 
 /// A shelf that keeps its files in memory, for tests. The calls whose numbers are listed fail.
@@ -37,13 +38,9 @@ impl MemoryShelf {
             shelf_plan shelf ≡ record { fails = fails.items; calls = 0 }) }
         ensures faults { IfOk result (λ shelf. shelf_faults shelf ≡ no_faults) }
     {
-        let mut kept = BTreeMap::new(alloc);
-        for (name, bytes) in files {
-            keep(&mut kept, name, bytes)?;
-        }
         Ok(MemoryShelf {
             alloc,
-            files: kept,
+            files: keep_all(alloc, files)?,
             script: Script::new(fails),
             faults: FaultLog::new(),
         })
@@ -70,39 +67,6 @@ impl MemoryShelf {
     {
         self.faults.last()
     }
-}
-
-/// Keeps these bytes as the file of this name.
-fn keep(
-    files: &mut BTreeMap<String, Vec<u8>>,
-    name: String,
-    bytes: Vec<u8>,
-) -> Result<(), AllocError>
-    ensures ok { OnOk result (Changes (files_in files.old) (files_in files.new)
-        (string_bytes name) (Some bytes.items)) }
-    ensures err { OnErr result (SameFiles (files_in files.old) (files_in files.new)) }
-{
-    files.insert(name, bytes)?;
-    Ok(())
-}
-
-/// Adds the piece to the file of this name, under `key`, a copy of the name, where it is not there.
-fn add_piece(
-    alloc: Global,
-    files: &mut BTreeMap<String, Vec<u8>>,
-    name: &str,
-    key: String,
-    piece: &[u8],
-) -> Result<(), AllocError>
-    requires { string_bytes key ≡ name.now }
-    ensures ok { OnOk result (Changes (files_in files.old) (files_in files.new) name.now
-        (Some (bytes_at (files_in files.old) name.now ++ piece.now))) }
-    ensures err { OnErr result (SameFiles (files_in files.old) (files_in files.new)) }
-{
-    if let Some(bytes) = files.get_mut(name) {
-        return bytes.extend_from_slice(piece);
-    }
-    keep(files, key, piece.to_vec(alloc)?)
 }
 
 impl Shelf for MemoryShelf {

@@ -1,5 +1,6 @@
 use crate::{
-    FaultKind, HostShelf, HostSink, MemoryShelf, MemorySink, ReadFault, Shelf, Sink, WriteFault,
+    FaultKind, HostShelf, HostSink, MemoryShelf, MemorySink, ReadFault, Shelf, Sink, SteadyShelf,
+    WriteFault,
 };
 use std::alloc::Global;
 use std::fs;
@@ -77,6 +78,34 @@ fn the_listed_call_of_a_shelf_fails(rt: HostRuntime) -> Result<(), Fail> {
             "call {number} fails"
         );
     }
+    Ok(())
+}
+
+#[test]
+fn a_steady_shelf_reads_every_name(rt: HostRuntime) -> Result<(), Fail> {
+    let alloc = rt.alloc();
+    let files = vec![in alloc;
+        (
+            String::from_str(alloc, "journal")?,
+            Vec::from_slice(alloc, b"old")?
+        ),
+        (
+            String::from_str(alloc, "journal")?,
+            Vec::from_slice(alloc, b"abc")?
+        ),
+    ]?;
+    let mut shelf = SteadyShelf::make(alloc, files)?;
+    assert_eq!(rt; shelf.contents("journal"), Some(b"abc".as_slice()));
+    assert_eq!(rt; shelf.read(alloc, "journal", 2), Err(ReadFault::TooLong));
+    assert_eq!(rt; shelf.read(alloc, "absent", 0)?.len(), 0);
+    assert_eq!(rt; shelf.contents("absent"), None);
+    shelf.create("made")?;
+    assert_eq!(rt; shelf.contents("made"), Some([].as_slice()));
+    shelf.append("absent", b"xy")?;
+    shelf.append("absent", b"z")?;
+    assert_eq!(rt; shelf.contents("absent"), Some(b"xyz".as_slice()));
+    shelf.create("journal")?;
+    assert_eq!(rt; shelf.read(alloc, "journal", 3)?.len(), 0);
     Ok(())
 }
 

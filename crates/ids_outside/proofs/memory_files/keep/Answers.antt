@@ -1,6 +1,6 @@
 use Rattle.std.proofs.Common.{string_bytes}
 use Rattle.ids_outside.proofs.MemoryFilesLemmas.{changes_from_updates}
-use Rattle.ids_outside.proofs.memory_shelf.keep.Goals as goal
+use Rattle.ids_outside.proofs.memory_files.keep.Goals as goal
 
 -- the map was updated at the name
 pub returns-clause-ok : goal.returns-clause-ok

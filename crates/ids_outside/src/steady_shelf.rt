@@ -1,0 +1,84 @@
+ghost use Rattle.std.specs.Prelude.{◌≡◌, ◌≢◌, ◌≤◌, ℕ, List, length, option_map, IfOk, Err, true};
+ghost use Rattle.ids_outside.specs.Faults.{no_faults};
+ghost use Rattle.ids_outside.specs.Files.{SameFiles, empty_elsewhere};
+ghost use Rattle.ids_outside.specs.MemoryFiles.{given_files};
+
+use crate::faults::{ReadFault, WriteFault};
+use crate::memory_files::{add_piece, keep, keep_all};
+use crate::shelf::Shelf;
+use ids_types::NoMemory;
+use std::alloc::Global;
+use std::collections::BTreeMap;
+
+/// A shelf that keeps its files in memory and never fails. To a reader every name is there: one
+/// that has no file is empty.
+#[derive(Debug, Drop)]
+pub struct SteadyShelf {
+    alloc: Global,
+    files: BTreeMap<String, Vec<u8>>,
+}
+
+impl SteadyShelf {
+    ghost use Rattle.ids_outside.specs.SteadyShelf.{steady_files};
+
+    /// A shelf of these files. Of those of one name the last one stays.
+    pub fn make(alloc: Global, files: Vec<(String, Vec<u8>)>) -> Result<SteadyShelf, NoMemory>
+        ensures { IfOk result (λ shelf. SameFiles (given_files files.items) (steady_files shelf)) }
+    {
+        Ok(SteadyShelf {
+            alloc,
+            files: keep_all(alloc, files)?,
+        })
+    }
+
+    /// The bytes of the file of this name, `None` exactly where there is no such file.
+    pub fn contents(&self, name: &str) -> Option<&[u8]>
+        ensures { option_map (λ bytes. bytes.now) result ≡ steady_files self.now name.now }
+    {
+        self.files.get(name).map(|bytes| bytes.as_slice())
+    }
+}
+
+impl Shelf for SteadyShelf {
+    ghost use Rattle.ids_outside.specs.Files.{ReadGives, CreateMakes, AppendMakes};
+    ghost use Rattle.ids_outside.specs.SteadyShelf.{steady_files};
+    ghost use Rattle.ids_outside.specs.declared.faults.ReadFault.TheVariants as read;
+    ghost use Rattle.ids_outside.specs.declared.faults.WriteFault.TheVariants as write;
+
+    ghost tells = { λ _. true };
+
+    ghost contents = { λ shelf. empty_elsewhere (steady_files shelf) };
+
+    ghost faults = { λ _. no_faults };
+
+    /// A name that is not there reads as empty, and stays absent.
+    fn read(&mut self, alloc: Global, name: &str, limit: u64) -> Result<Vec<u8>, ReadFault>
+        ensures same { SameFiles (steady_files self.old) (steady_files self.new) }
+        ensures gives { ReadGives (empty_elsewhere (steady_files self.old)) name.now limit result }
+        ensures within { IfOk result (λ bytes. length bytes.items ≤ limit) }
+        ensures steady { result ≢ Err read.Failed }
+    {
+        let bytes = self.contents(name).unwrap_or(&[]);
+        if bytes.len() as u64 > limit {
+            return Err(ReadFault::TooLong);
+        }
+        Ok(bytes.to_vec(alloc)?)
+    }
+
+    fn create(&mut self, name: &str) -> Result<(), WriteFault>
+        ensures makes { CreateMakes (steady_files self.old) (steady_files self.new) name.now result }
+        ensures steady { result ≢ Err write.Failed }
+    {
+        let copy = String::from_str(self.alloc, name)?;
+        Ok(keep(&mut self.files, copy, Vec::new(self.alloc))?)
+    }
+
+    fn append(&mut self, name: &str, piece: &[u8]) -> Result<(), WriteFault>
+        ensures makes { AppendMakes (steady_files self.old)
+            (steady_files self.new) name.now piece.now result }
+        ensures steady { result ≢ Err write.Failed }
+    {
+        let copy = String::from_str(self.alloc, name)?;
+        Ok(add_piece(self.alloc, &mut self.files, name, copy, piece)?)
+    }
+}
