@@ -1,4 +1,4 @@
-use ids_outside::{MemoryShelf, MemorySink};
+use ids_outside::{MemoryShelf, MemorySink, SteadyShelf};
 use idsm_run::{
     BAD_CONFIG, BAD_JOURNAL, BAD_MESSAGE, BAD_WORDS, CANNOT_READ, CANNOT_WRITE, DONE, NOT_BUILT,
     TOO_LONG, run_plain,
@@ -86,6 +86,29 @@ fn an_empty_journal_sends_nothing(rt: HostRuntime) -> Result<(), Fail> {
     assert!(rt; ended.shelf.contents("r") == Some([].as_slice()));
     let text = b"turns 0 entries 0 messages 0 records 0\n".as_slice();
     assert_eq!(rt; ended.out.taken(), text);
+    Ok(())
+}
+
+#[test]
+fn a_journal_that_is_not_there_reads_as_empty_on_a_steady_shelf(
+    rt: HostRuntime,
+) -> Result<(), Fail> {
+    let alloc = rt.alloc();
+    let files = vec![in alloc;
+        (
+            String::from_str(alloc, "c")?,
+            CONFIG.as_bytes().to_vec(alloc)?
+        ),
+    ]?;
+    let mut shelf = SteadyShelf::make(alloc, files)?;
+    let mut out = MemorySink::make(alloc, Vec::new(alloc))?;
+    let words = strings(alloc, &FOLD)?;
+    assert_eq!(rt; run_plain(alloc, &words, &mut shelf, &mut out), DONE);
+    assert_eq!(rt; shelf.contents("m"), Some([].as_slice()));
+    assert_eq!(rt; shelf.contents("r"), Some([].as_slice()));
+    assert_eq!(rt; shelf.contents("j"), None);
+    let text = b"turns 0 entries 0 messages 0 records 0\n".as_slice();
+    assert_eq!(rt; out.taken(), text);
     Ok(())
 }
 
