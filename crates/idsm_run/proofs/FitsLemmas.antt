@@ -10,8 +10,8 @@ use Rattle.ids_types.specs.declared.entry.Entry.{Entry}
 use Rattle.ids_types.specs.declared.entry.TurnHead.{TurnHead}
 use Rattle.ids_types.specs.Turns.{Turn, begun, with_entry, turn_at, entries_of}
 use Rattle.text_spec.specs.Words.{line_of}
-use Rattle.text_spec.specs.JournalText.{head_words, entry_words, turn_lines, journal_lines}
-use Rattle.idsm_run.specs.PlainJournal.{Ordered, ticks_of, calls_of, HeadFits, EntryFits, TurnFits, Fits}
+use Rattle.text_spec.specs.JournalText.{head_words, entry_words}
+use Rattle.idsm_run.specs.PlainJournal.{Ordered, ticks_of, calls_of, HeadFits, EntryFits, TurnFits, Fits, turn_lines, journal_lines}
 use Rattle.idsm_run.specs.JournalReading.{least_tick, least_call}
 use Rattle.idsm_run.proofs.FreeLemmas.{all_append}
 use Rattle.idsm_run.proofs.OrderLemmas.{all_at_most, all_below, greatest_at_most, above_all_at_most, Ordered-push, Ordered-before}

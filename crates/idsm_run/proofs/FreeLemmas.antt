@@ -15,8 +15,8 @@ use Rattle.text_spec.specs.Hexadecimal.{is_lower_digit}
 use Rattle.text_spec.specs.Words.{Free, absent, space, line_feed, line_of}
 use Rattle.text_spec.proofs.HexadecimalLemmas.{encode_lower-free}
 use Rattle.text_spec.proofs.NumbersLemmas.{decimal-free}
-use Rattle.text_spec.specs.JournalText.{colon, context_word, head_words, act_words, entry_words, turn_lines, journal_lines}
-use Rattle.idsm_run.specs.PlainJournal.{HeadFits, ContextFits, ActFits, EntryFits, TurnFits}
+use Rattle.text_spec.specs.JournalText.{colon, context_word, head_words, act_words, entry_words}
+use Rattle.idsm_run.specs.PlainJournal.{HeadFits, ContextFits, ActFits, EntryFits, TurnFits, turn_lines, journal_lines}
 use Rattle.idsm_run.proofs.FormLaws.{bytes_from_all}
 
 -- what all of two lists have, all of both together have

@@ -13,8 +13,8 @@ use Rattle.ids_types.specs.Turns.{Turn, begun, with_entry, turn_at}
 use Rattle.text_spec.specs.Words.{words_of, line_of, lines_of, text_of, space}
 use Rattle.text_spec.proofs.WordsLemmas.{words_of-line_of, line_of-words_of, lines_of-text_of, text_of-lines_of}
 use Rattle.text_spec.specs.Maybe.{◌>>=◌}
-use Rattle.text_spec.specs.JournalText.{head_words, act_words, entry_words, journal_lines, journal_text}
-use Rattle.idsm_run.specs.PlainJournal.{HeadFits, EntryFits, TurnFits, Fits, IsJournal}
+use Rattle.text_spec.specs.JournalText.{head_words, act_words, entry_words}
+use Rattle.idsm_run.specs.PlainJournal.{HeadFits, EntryFits, TurnFits, Fits, IsJournal, journal_lines, journal_text}
 use Rattle.idsm_run.specs.JournalReading.{head_in, report_in, decoded, least_tick, least_call, begin_turn, may_add, add_entry, add_report, after_line, after_lines, turns_in}
 use Rattle.idsm_run.proofs.FitsLemmas.{fits_none, fits_begun, fits_with_entry, journal_lines-begun, journal_lines-with_entry, entry_line, turn_of, turn_follows, call_follows}
 use Rattle.idsm_run.proofs.FormLaws.{head_takes, head_again, behind_T, report_takes, report_again, behind_R}

@@ -1,7 +1,7 @@
 -- Which histories the journals of this release tell: reports alone, with neither a timestamp nor a
 -- missing context, and with nothing held back by a limit.
 use Rattle.std.specs.Prelude.{◌≡◌, ℕ, ◌^◌, ◌<◌, ◌≤◌, ◌==◌, List, [], ◌∷◌, length, map, filter, None, Option}
-use Rattle.std.specs.List.{AllByRecursion}
+use Rattle.std.specs.List.{AllByRecursion, flat_map}
 use Rattle.ids_types.specs.declared.entry.Carried.{Carried}
 use Rattle.ids_types.specs.declared.entry.Carried.TheVariants.{Absent, Kept, Missing}
 use Rattle.ids_types.specs.declared.entry.Act.{Act}
@@ -11,7 +11,8 @@ use Rattle.ids_types.specs.declared.entry.TurnHead.{TurnHead}
 use Rattle.ids_types.specs.declared.names.EventIndex.{EventIndex}
 use Rattle.ids_types.specs.declared.names.Stamp.{Stamp}
 use Rattle.ids_types.specs.Turns.{Turn, entries_of}
-use Rattle.text_spec.specs.JournalText.{journal_text}
+use Rattle.text_spec.specs.JournalText.{head_words, entry_words}
+use Rattle.text_spec.specs.Words.{line_of, text_of}
 
 -- each number may follow each that stands before it
 abbrev pub Ordered : (ℕ → ℕ → Type 0) → List ℕ → Type 0
@@ -79,6 +80,18 @@ pub record Fits (events : ℕ) (turns : List Turn) : Type 0 where
   pub each : AllByRecursion (TurnFits events) turns
   pub ticks : Ordered (λ x y. x ≤ y) (ticks_of turns)
   pub calls : (caller : ℕ) → Ordered (λ x y. x < y) (calls_of caller (entries_of turns))
+
+-- a turn's lines: its head's, then its entries'
+abbrev pub turn_lines : Turn → List (List ℕ)
+turn_lines turn = line_of (head_words turn.head) ∷ map (λ e. line_of (entry_words e)) turn.entries
+
+-- the lines of all turns
+abbrev pub journal_lines : List Turn → List (List ℕ)
+journal_lines turns = flat_map turn_lines turns
+
+-- the journal of these turns, which lost nothing
+abbrev pub journal_text : List Turn → List ℕ
+journal_text turns = text_of (journal_lines turns)
 
 -- these bytes are the journal of these turns
 pub record IsJournal (events : ℕ) (bytes : List ℕ) (turns : List Turn) : Type 0 where

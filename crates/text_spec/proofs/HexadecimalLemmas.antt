@@ -180,7 +180,7 @@ hex_digit c is =
     ]
 
 -- digits of lower case are digits of either case
-hex_digits : (word : List ℕ) → list_all is_lower_digit word ≡ true
+pub hex_digits : (word : List ℕ) → list_all is_lower_digit word ≡ true
     → list_all is_hex_digit word ≡ true
 hex_digits [] all = refl
 hex_digits (c ∷ word) all =

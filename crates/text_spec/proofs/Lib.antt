@@ -1,6 +1,12 @@
 pub mod FrontLemmas
 pub mod HexadecimalLemmas
+pub mod JournalFacts
+pub mod JournalForms
+pub mod JournalFree
+pub mod JournalLaws
+pub mod ModesLemmas
 pub mod NumbersLemmas
 pub mod PiecesLemmas
+pub mod SomeHexLemmas
 pub mod StampsLemmas
 pub mod WordsLemmas

@@ -1,6 +1,6 @@
 -- Timestamps: the reading of a word against the text of an optional timestamp.
-use Rattle.std.proofs.Common.{◌≡◌, ℕ, zero, suc, ◌^◌, ◌<◌, ◌==◌, false, inl, inr, List, length, refl, sym, ap, ◌∙◌, arith}
-use Rattle.std.specs.Prelude.{Option, Some, None, bytes_eq, option_and_then}
+use Rattle.std.proofs.Common.{◌≡◌, ℕ, zero, suc, ◌^◌, ◌<◌, ◌==◌, false, inl, inr, List, length, refl, sym, ap, subst, ◌∙◌, arith}
+use Rattle.std.specs.Prelude.{Option, Some, None, IfSome, bytes_eq, option_and_then}
 use Rattle.std.specs.Int.{w64, to_be_bytes, from_be_bytes, bytes_high_first, byte_at}
 use Rattle.std.proofs.lemmas.Bool.{cases_Bool, cond-true, cond-false, eqb-true, false_from_ne_true}
 use Rattle.std.proofs.lemmas.Nat.{from_be_bytes-to_be_bytes_8, be_bytes_8}
@@ -72,3 +72,19 @@ pub stamp_text-free : (c : ℕ) (stamp : Option Stamp) → is_lower_digit c ≡ 
 stamp_text-free c None out other = (other, tt)
 stamp_text-free c (Some stamp) out other =
     encode_lower-free c (to_be_bytes w64 stamp.0) out (IsBytes-stamp stamp.0)
+
+-- the timestamp of eight bytes is a number of 64 bits
+stamp_of_bytes-lt : (bytes : List ℕ) (stamp : Option Stamp) → IsBytes bytes → stamp_of_bytes bytes ≡ Some stamp → IfSome stamp (λ s. s.0 < 2 ^ 64)
+stamp_of_bytes-lt bytes stamp all read =
+    let parts = cond_some (length bytes == 8) (Some (record { 0 = from_be_bytes w64 bytes })) stamp read in
+    let small : from_be_bytes w64 bytes < 2 ^ 64 = omega (arith, all 0, all 1, all 2, all 3, all 4, all 5, all 6, all 7) in
+    subst (λ (s : Option Stamp). IfSome s (λ n. n.0 < 2 ^ 64)) parts.1 small
+
+-- a timestamp that was read is a number of 64 bits
+pub stamp_in-lt : (word : List ℕ) (stamp : Option Stamp) → stamp_in word ≡ Some stamp → IfSome stamp (λ s. s.0 < 2 ^ 64)
+stamp_in-lt word stamp read = elim (cases_Bool (bytes_eq word absent)) [
+  | inl same ↦ subst (λ (s : Option Stamp). IfSome s (λ n. n.0 < 2 ^ 64)) (same_Some None stamp (sym (cond-true _ (Some None) _ same) ∙ read)) tt
+  | inr other ↦
+      option_and_then_some stamp_of_bytes (hex_in word) stamp (sym (cond-false _ (Some None) _ other) ∙ read)
+      (λ bytes is made. stamp_of_bytes-lt bytes stamp (bytes_in-hex word bytes is).0 made)
+]

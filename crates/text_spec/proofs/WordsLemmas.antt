@@ -9,7 +9,7 @@ use Rattle.std.proofs.lemmas.Bool.{and_parts, eq-eqb, ne_eqb, both_ways}
 use Rattle.std.proofs.lemmas.List.Elements.{All-from_recursion}
 use Rattle.std.proofs.lemmas.List.Splits.{slice_split_none, slice_split_at, join_with_byte-slice_split}
 use Rattle.std.proofs.lemmas.Option.{same_Some, none-some}
-use Rattle.text_spec.specs.Words.{Free, space, line_feed, words_of, line_of, text_of, lines_of, ended}
+use Rattle.text_spec.specs.Words.{Free, space, line_feed, words_of, line_of, text_of, lines_of, ended, but_last, last_piece, ended_lines, open_line}
 
 -- bytes that pass a test are free of a byte that does not
 pub free_from_test : (p : ℕ → Bool) (c : ℕ) (bytes : List ℕ) → p c ≡ false
@@ -82,7 +82,7 @@ cons_from_length [] some = absurd (omega arith)
 cons_from_length (b ∷ bytes) some = (b, bytes, refl)
 
 -- the pieces of a text of lines: the lines, and an empty one
-split_text : (lines : List (List ℕ)) → AllByRecursion (Free line_feed) lines
+pub split_text : (lines : List (List ℕ)) → AllByRecursion (Free line_feed) lines
     → slice_split (λ b. b == line_feed) (text_of lines) ≡ lines ++ [] ∷ []
 split_text [] free = refl
 split_text (line ∷ lines) free =
@@ -143,7 +143,7 @@ ended_some (line ∷ next ∷ pieces) lines h =
     ap (λ ps. line ∷ ps) (ended_some (next ∷ pieces) from.0 from.1) ∙ ap (λ ls. ls ++ [] ∷ []) from.2
 
 -- lines and an empty piece, joined by line feeds
-join_ended : (lines : List (List ℕ)) → join_with_byte line_feed (lines ++ [] ∷ []) ≡ text_of lines
+pub join_ended : (lines : List (List ℕ)) → join_with_byte line_feed (lines ++ [] ∷ []) ≡ text_of lines
 join_ended [] = refl
 join_ended (line ∷ []) = refl
 join_ended (line ∷ next ∷ lines) = ap (λ text. line ++ line_feed ∷ text) (join_ended (next ∷ lines))
@@ -166,3 +166,28 @@ pub free_lines : (text : List ℕ) (lines : List (List ℕ)) → lines_of text �
 free_lines text lines read =
     let pieces = ended_some (slice_split (λ b. b == line_feed) text) lines read in
     all_in_front (Free line_feed) lines ([] ∷ []) (rw pieces at (free_pieces line_feed text))
+
+-- ---- the last piece
+
+-- pieces are those before the last one, and the last one
+pub but_last-last : (pieces : List (List ℕ)) → pieces ≢ [] → but_last pieces ++ last_piece pieces ∷ [] ≡ pieces
+but_last-last [] some = absurd (some refl)
+but_last-last (piece ∷ []) some = refl
+but_last-last (piece ∷ next ∷ pieces) some = ap (λ (ps : List (List ℕ)). piece ∷ ps) (but_last-last (next ∷ pieces) (λ e. cc e))
+
+pub but_last-push : (pieces : List (List ℕ)) (piece : List ℕ) → but_last (pieces ++ piece ∷ []) ≡ pieces
+but_last-push [] piece = refl
+but_last-push (p ∷ []) piece = refl
+but_last-push (p ∷ q ∷ pieces) piece = ap (λ (ps : List (List ℕ)). p ∷ ps) (but_last-push (q ∷ pieces) piece)
+
+pub last_piece-push : (pieces : List (List ℕ)) (piece : List ℕ) → last_piece (pieces ++ piece ∷ []) ≡ piece
+last_piece-push [] piece = refl
+last_piece-push (p ∷ []) piece = refl
+last_piece-push (p ∷ q ∷ pieces) piece = last_piece-push (q ∷ pieces) piece
+
+-- the pieces of a text before the last one are the lines that were ended, and the last one is what is left
+pub ended_of : (text : List ℕ) (pieces rest : List (Bor (List ℕ))) (end : Bor (List ℕ)) → map (λ p. p.now) pieces ≡ slice_split (λ b. b == line_feed) text → pieces ≡ rest ++ end ∷ []
+    → (map (λ p. p.now) rest ≡ ended_lines text) × (end.now ≡ open_line text)
+ended_of text pieces rest end all off =
+    let are : slice_split (λ b. b == line_feed) text ≡ map (λ p. p.now) rest ++ end.now ∷ [] = sym all ∙ ap (map (λ p. p.now)) off ∙ map-append (λ p. p.now) rest (end ∷ []) in
+    (sym (ap but_last are ∙ but_last-push (map (λ p. p.now) rest) end.now), sym (ap last_piece are ∙ last_piece-push (map (λ p. p.now) rest) end.now))

@@ -1,11 +1,12 @@
 -- Bytes of a text, in lower-case hexadecimal: two digits each. The text of bytes is `encode_lower` of
 -- the crate hex.
 -- Source: the text formats of this project.
-use Rattle.std.specs.Prelude.{ℕ, ◌||◌, nat_le, Bool, List, length, Option, Some, None, option_and_then, if◌then◌else◌}
+use Rattle.std.specs.Prelude.{ℕ, ◌||◌, nat_le, Bool, List, [], ◌∷◌, length, Option, Some, None, option_and_then, unwrap_or, if◌then◌else◌}
 use Rattle.std.specs.Int.{is_in_range}
 use Rattle.std.specs.List.{list_all}
 use Rattle.std.specs.Result.{result_ok}
 use Rattle.hex.specs.Hex.{decode_of}
+use Rattle.text_spec.specs.Maybe.{◌>>=◌}
 
 -- whether this character is a digit of lower-case hexadecimal: `0` to `9` or `a` to `f`
 abbrev pub is_lower_digit : ℕ → Bool
@@ -22,3 +23,16 @@ fitting room bytes = if nat_le (length bytes) room then Some bytes else None
 -- the bytes that a word writes in lower-case hexadecimal, where they fit the room
 abbrev pub hex_upto : ℕ → List ℕ → Option (List ℕ)
 hex_upto room word = option_and_then (fitting room) (hex_in word)
+
+-- a byte or more
+abbrev pub some_bytes : List ℕ → Option (List ℕ)
+some_bytes [] = None
+some_bytes (byte ∷ bytes) = Some (byte ∷ bytes)
+
+-- the bytes of a word of two hexadecimal digits or more
+abbrev pub some_hex : List ℕ → Option (List ℕ)
+some_hex word = hex_in word >>= some_bytes
+
+-- the bytes of a word of digits, none where it has no bytes
+abbrev pub bytes_of : List ℕ → List ℕ
+bytes_of word = unwrap_or (hex_in word) []

@@ -1,6 +1,6 @@
--- The journal: the text of a history, a line for each turn and for each of its entries.
+-- The journal: the text of a history and its losses, a line for each turn, each entry and each loss.
 -- Source: the text formats of this project (docs/FORMATS.md).
-use Rattle.std.specs.Prelude.{ℕ, List, [], ◌∷◌, map, codes, decimal}
+use Rattle.std.specs.Prelude.{ℕ, List, [], ◌∷◌, ◌++◌, map, codes, decimal}
 use Rattle.std.specs.List.{flat_map, join_with_byte}
 use Rattle.hex.specs.Hex.{encode_lower}
 use Rattle.ids_types.specs.declared.entry.Carried.{Carried}
@@ -9,11 +9,24 @@ use Rattle.ids_types.specs.declared.entry.Act.{Act}
 use Rattle.ids_types.specs.declared.entry.Act.TheVariants.{Report, State, SetMode}
 use Rattle.ids_types.specs.declared.entry.Entry.{Entry}
 use Rattle.ids_types.specs.declared.entry.TurnHead.{TurnHead}
-use Rattle.ids_types.specs.declared.mode.Mode.{Mode}
-use Rattle.ids_types.specs.declared.mode.Mode.TheVariants.{Off, Brief, Detailed, BriefBypassing, DetailedBypassing}
+use Rattle.ids_types.specs.declared.loss.Loss.{Loss}
 use Rattle.ids_types.specs.Turns.{Turn}
+use Rattle.text_spec.specs.Modes.{mode_name}
 use Rattle.text_spec.specs.Words.{absent, line_of, text_of}
 use Rattle.text_spec.specs.Stamps.{stamp_text}
+
+-- what a journal tells: the turns, and the reports that found no event buffer
+pub record Told : Type 0 where
+  pub turns : List Turn
+  pub losses : List Loss
+
+-- what a line tells: that a turn begins, an entry of that turn, or a loss
+pub data Line : Type 0 where
+  begins : TurnHead → Line
+  enters : Entry (List ℕ) → Line
+  loses : Loss → Line
+
+-- ---- the words of a line
 
 -- the characters `:`, `.` and `!`
 abbrev pub colon : ℕ
@@ -24,14 +37,6 @@ point = 46
 
 abbrev pub mark : ℕ
 mark = 33
-
--- the name of a mode
-abbrev pub mode_name : Mode → List ℕ
-mode_name Off = codes "OFF"
-mode_name Brief = codes "BRIEF"
-mode_name Detailed = codes "DETAILED"
-mode_name BriefBypassing = codes "BRIEF_BYPASSING_FILTERS"
-mode_name DetailedBypassing = codes "DETAILED_BYPASSING_FILTERS"
 
 -- the word of a context: `-`, `CLASS:CLAIM:HEX`, or `!` and the numbers that were claimed
 abbrev pub context_word : Carried (List ℕ) → List ℕ
@@ -53,14 +58,34 @@ act_words caller call (SetMode event mode) = codes "C" ∷ decimal caller ∷ de
 abbrev pub entry_words : Entry (List ℕ) → List (List ℕ)
 entry_words entry = act_words entry.caller entry.call entry.act
 
--- a turn's lines: its head's, then its entries'
-abbrev pub turn_lines : Turn → List (List ℕ)
-turn_lines turn = line_of (head_words turn.head) ∷ map (λ e. line_of (entry_words e)) turn.entries
+-- the words of the line `L CALLER CALL GIVEN`
+abbrev pub loss_words : Loss → List (List ℕ)
+loss_words loss = codes "L" ∷ decimal loss.caller ∷ decimal loss.call ∷ decimal loss.given ∷ []
 
--- the lines of all turns
-abbrev pub journal_lines : List Turn → List (List ℕ)
-journal_lines turns = flat_map turn_lines turns
+-- the words of what a line tells
+abbrev pub words_for : Line → List (List ℕ)
+words_for (begins head) = head_words head
+words_for (enters entry) = entry_words entry
+words_for (loses loss) = loss_words loss
 
--- the journal of these turns, which lost nothing
-abbrev pub journal_text : List Turn → List ℕ
-journal_text turns = text_of (journal_lines turns)
+-- the line that tells this, without its line feed
+abbrev pub line_for : Line → List ℕ
+line_for line = line_of (words_for line)
+
+-- ---- the lines of a journal
+
+-- a turn: it begins, then its entries
+abbrev pub turn_told : Turn → List Line
+turn_told turn = begins turn.head ∷ map enters turn.entries
+
+-- what the lines tell, one after another: the turns, then the losses
+abbrev pub lines_told : Told → List Line
+lines_told told = flat_map turn_told told.turns ++ map loses told.losses
+
+-- the lines of a journal
+abbrev pub journal_lines : Told → List (List ℕ)
+journal_lines told = map line_for (lines_told told)
+
+-- the journal of these turns and losses
+abbrev pub journal_text : Told → List ℕ
+journal_text told = text_of (journal_lines told)

@@ -1,7 +1,12 @@
 pub mod DecodedText
+pub mod HexTextView
 pub mod Hexadecimal
+pub mod JournalFaults
+pub mod JournalForm
+pub mod JournalReading
 pub mod JournalText
 pub mod Maybe
+pub mod Modes
 pub mod Numbers
 pub mod Pieces
 pub mod Stamps

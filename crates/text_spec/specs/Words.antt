@@ -42,3 +42,23 @@ ended (line ∷ next ∷ pieces) = option_map (λ lines. line ∷ lines) (ended 
 -- the lines of a text, where a line feed ends each of them
 abbrev pub lines_of : List ℕ → Option (List (List ℕ))
 lines_of text = ended (slice_split (λ b. b == line_feed) text)
+
+-- all pieces but the last one
+abbrev pub but_last : List (List ℕ) → List (List ℕ)
+but_last [] = []
+but_last (piece ∷ []) = []
+but_last (piece ∷ next ∷ pieces) = piece ∷ but_last (next ∷ pieces)
+
+-- the last piece
+abbrev pub last_piece : List (List ℕ) → List ℕ
+last_piece [] = []
+last_piece (piece ∷ []) = piece
+last_piece (piece ∷ next ∷ pieces) = last_piece (next ∷ pieces)
+
+-- the lines that a line feed ends
+abbrev pub ended_lines : List ℕ → List (List ℕ)
+ended_lines text = but_last (slice_split (λ b. b == line_feed) text)
+
+-- what stands behind the last line feed
+abbrev pub open_line : List ℕ → List ℕ
+open_line text = last_piece (slice_split (λ b. b == line_feed) text)

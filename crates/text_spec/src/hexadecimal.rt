@@ -49,7 +49,7 @@ fn write_hex(room: &mut [u8], bytes: &[u8])
     hex::encode_to_slice(bytes, room).unwrap();
 }
 
-fn are_lower_digits(word: &[u8]) -> bool
+pub(crate) fn are_lower_digits(word: &[u8]) -> bool
     ensures { result ≡ list_all writes_digit word.now }
 {
     word.iter().all(is_lower_digit)

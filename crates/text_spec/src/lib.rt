@@ -8,17 +8,23 @@
 #![tactic(auto)]
 
 mod decoded;
+mod hex_text;
 mod hexadecimal;
+mod journal;
+mod modes;
 mod numbers;
 mod pieces;
 mod splits;
 mod stamps;
 
 pub use decoded::push_message;
+pub use hex_text::HexText;
 pub use hexadecimal::{hex_into, one_text_for_bytes, push_hex};
+pub use journal::one_journal_for_a_text;
+pub use modes::{mode, one_name_for_a_mode, push_mode};
 pub use numbers::{number, number_upto, one_text_for_a_number, push_number};
 pub use pieces::Pieces;
-pub use splits::{lines, one_line_for_words, one_text_for_lines};
+pub use splits::{ended_lines, lines, one_line_for_words, one_text_for_lines};
 pub use stamps::{one_text_for_a_stamp, push_stamp, stamp};
 
 #[cfg(test)]

@@ -1,9 +1,11 @@
 ghost use Rattle.std.specs.Prelude.{◌≡◌, ◌==◌, ℕ, ◌<◌, ◌≤◌, ◌-◌, List, ◌∷◌, option_map, IfSome, position};
 ghost use Rattle.std.specs.List.{slice_split};
 ghost use Rattle.text_spec.specs.Maybe.{first_of, ended as ended_of};
-ghost use Rattle.text_spec.specs.Pieces.{pieces_left, number_first, above_zero, absent_first};
+ghost use Rattle.text_spec.specs.Pieces.{pieces_left, number_first, told_first, stamp_first, above_zero, absent_first};
 
-use crate::numbers::number_upto;
+use crate::numbers::{number, number_upto};
+use crate::stamps::stamp;
+use ids_types::Stamp;
 use std::marker::Model;
 
 /// The pieces of a text between separators that are still to be read: the words of a line, or the
@@ -49,6 +51,25 @@ impl<'a> Pieces<'a> {
         let (word, rest) = self.first()?;
         let number = number_upto(word, most)?;
         Some((number, rest))
+    }
+
+    /// The number at the front, of any length, and the pieces behind it. `number` says how a number
+    /// is told that is too great.
+    pub fn any_number(self) -> Option<(u64, Pieces<'a>)>
+        ensures { result ≡ told_first self.entry }
+    {
+        let (word, rest) = self.first()?;
+        let told = number(word)?;
+        Some((told, rest))
+    }
+
+    /// The optional timestamp at the front, and the pieces behind it.
+    pub fn stamp(self) -> Option<(Option<Stamp>, Pieces<'a>)>
+        ensures { result ≡ stamp_first self.entry }
+    {
+        let (word, rest) = self.first()?;
+        let stamp = stamp(word)?;
+        Some((stamp, rest))
     }
 
     /// The value, where no piece is left.

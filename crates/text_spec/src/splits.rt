@@ -1,6 +1,6 @@
-ghost use Rattle.std.specs.Prelude.{◌≡◌, ◌==◌, ℕ, List, [], ◌≢◌, length, map, option_map, IfOk};
+ghost use Rattle.std.specs.Prelude.{◌≡◌, ◌==◌, ℕ, List, [], ◌≢◌, ◌+◌, ◌<◌, ◌^◌, length, vec_len, map, option_map, IfOk};
 ghost use Rattle.std.specs.List.{AllByRecursion, slice_split};
-ghost use Rattle.text_spec.specs.Words.{Free, space, line_feed, words_of, line_of, lines_of, text_of};
+ghost use Rattle.text_spec.specs.Words.{Free, space, line_feed, words_of, line_of, lines_of, text_of, ended_lines as lines_ended, open_line as line_open};
 
 use ids_types::NoMemory;
 use std::alloc::{AllocError, Global};
@@ -17,6 +17,19 @@ pub fn lines<'a>(alloc: Global, text: &'a [u8]) -> Result<Option<Vec<&'a [u8]>>,
         Ok(Some(lines))
     } else {
         Ok(None)
+    }
+}
+
+/// The lines of a text that a line feed ends, and what stands behind the last line feed.
+pub fn ended_lines<'a>(alloc: Global, text: &'a [u8]) -> Result<(Vec<&'a [u8]>, &'a [u8]), NoMemory>
+    ensures lines { IfOk result (λ x. map (λ l. l.now) x.0.items ≡ lines_ended text.now) }
+    ensures rest { IfOk result (λ x. x.1.now ≡ line_open text.now) }
+    ensures count { IfOk result (λ x. vec_len x.0 + 1 < 2 ^ 64) }
+{
+    let mut lines = pieces(alloc, text, b'\n')?;
+    match lines.pop() {
+        Some(rest) => Ok((lines, rest)),
+        None => Ok((lines, &[])),
     }
 }
 

@@ -1,0 +1,148 @@
+-- The faults of a journal's line, 2 to 7, behind what the lines before it tell. Fault 1 is a line that
+-- has no form.
+-- Source: the text formats of this project (docs/FORMATS.md).
+use Rattle.std.specs.Prelude.{ℕ, suc, ◌+◌, ◌-◌, ◌*◌, ◌^◌, ◌==◌, ◌&&◌, not, nat_lt, nat_le, max, filter, Bool, true, List, [], ◌∷◌, ◌++◌, length, map, Result, ⊤}
+use Rattle.std.specs.List.{list_all, list_any}
+use Rattle.ids_config.specs.Parts.{Parts, is_sensor}
+use Rattle.ids_config.specs.Steps.{◌>>◌, asks}
+use Rattle.ids_types.specs.declared.entry.Carried.{Carried}
+use Rattle.ids_types.specs.declared.entry.Carried.TheVariants.{Absent, Kept, Missing}
+use Rattle.ids_types.specs.declared.entry.Act.{Act}
+use Rattle.ids_types.specs.declared.entry.Act.TheVariants.{Report, State, SetMode}
+use Rattle.ids_types.specs.declared.entry.Entry.{Entry}
+use Rattle.ids_types.specs.declared.entry.TurnHead.{TurnHead}
+use Rattle.ids_types.specs.declared.loss.Loss.{Loss}
+use Rattle.ids_types.specs.Turns.{Turn, begun, with_entry, turn_at, entries_of}
+use Rattle.text_spec.specs.JournalText.{Told, Line, begins, enters, loses}
+
+-- ---- fault 3: ranges
+
+-- the number of a claim, of something given back, or of a loss of contexts
+abbrev pub is_claim : ℕ → Bool
+is_claim n = nat_le n (2 ^ 46)
+
+-- how many reports were lost or held back
+abbrev pub is_count_lost : ℕ → Bool
+is_count_lost n = nat_le n (2 ^ 45)
+
+-- a caller, and the number of its call
+abbrev pub is_call : ℕ → ℕ → Bool
+is_call caller call = nat_le caller 31 && nat_lt call (2 ^ 40)
+
+-- a kept context has 1 to 1,024 bytes, of one of four classes
+abbrev pub is_kept : ℕ → ℕ → List ℕ → Bool
+is_kept class claim bytes = nat_le class 3 && is_claim claim && nat_le 1 (length bytes) && nat_le (length bytes) 1024
+
+-- the numbers of a context
+abbrev pub is_context : Carried (List ℕ) → Bool
+is_context Absent = true
+is_context (Kept class claim bytes) = is_kept class claim bytes
+is_context (Missing numbers) = list_all is_claim numbers
+
+-- the numbers of an act, but for the event
+abbrev pub is_act : Act (List ℕ) → Bool
+is_act (Report event count stamp context) = nat_le 1 count && nat_le count 65535 && is_context context
+is_act (State state) = nat_le state 255
+is_act (SetMode event mode) = true
+
+-- the numbers of a turn's head
+abbrev pub is_head : TurnHead → Bool
+is_head head = nat_le head.tick (2 ^ 62) && is_count_lost head.lost_events && is_count_lost head.lost_contexts && is_count_lost head.limited
+
+-- ---- fault 4: events
+
+-- a report is of an event that sensors report, and the mode that is set is of an event that is there
+abbrev pub has_event : Parts → Act (List ℕ) → Bool
+has_event config (Report event count stamp context) = is_sensor config event.0
+has_event config (State state) = true
+has_event config (SetMode event mode) = nat_lt event.0 (length config.events)
+
+-- ---- faults 5 to 7: order and number
+
+-- the greatest of numbers, 0 where there are none
+abbrev pub greatest : List ℕ → ℕ
+greatest [] = 0
+greatest (x ∷ xs) = max x (greatest xs)
+
+-- the least number above all of these
+abbrev pub above_all : List ℕ → ℕ
+above_all [] = 0
+above_all (x ∷ xs) = max (suc x) (above_all xs)
+
+-- the ticks of turns
+abbrev pub ticks_of : List Turn → List ℕ
+ticks_of turns = map (λ t. t.head.tick) turns
+
+-- the numbers of a caller's calls among entries
+abbrev pub calls_of : ℕ → List (Entry (List ℕ)) → List ℕ
+calls_of caller entries = map (λ e. e.call) (filter (λ e. e.caller == caller) entries)
+
+-- the least tick that may follow
+abbrev pub least_tick : List Turn → ℕ
+least_tick turns = greatest (ticks_of turns)
+
+-- the least call of the caller that may follow
+abbrev pub least_call : List Turn → ℕ → ℕ
+least_call turns caller = above_all (calls_of caller (entries_of turns))
+
+-- how many entries the last turn has
+abbrev pub last_entries : List Turn → ℕ
+last_entries turns = length (turn_at turns (length turns - 1)).entries
+
+-- a pair of caller and call as one number, in the order by caller and then by call
+abbrev pub pair_of : ℕ → ℕ → ℕ
+pair_of caller call = caller * 2 ^ 40 + call
+
+-- the pairs of entries, and of losses
+abbrev pub entry_pairs : List Turn → List ℕ
+entry_pairs turns = map (λ e. pair_of e.caller e.call) (entries_of turns)
+
+abbrev pub loss_pairs : List Loss → List ℕ
+loss_pairs losses = map (λ l. pair_of l.caller l.call) losses
+
+-- the least pair of a loss that may follow
+abbrev pub least_pair : List Loss → ℕ
+least_pair losses = above_all (loss_pairs losses)
+
+-- ---- the first fault of a line
+
+-- the first fault of a line that begins a turn
+abbrev pub head_fault : Told → TurnHead → Result ⊤ ℕ
+head_fault told head =
+    asks 2 (length told.losses == 0)
+    >> asks 3 (is_head head)
+    >> asks 5 (nat_le (least_tick told.turns) head.tick)
+
+-- the first fault of a line that tells an entry
+abbrev pub entry_fault : Parts → Told → Entry (List ℕ) → Result ⊤ ℕ
+entry_fault config told entry =
+    asks 2 (nat_lt 0 (length told.turns) && length told.losses == 0)
+    >> asks 3 (is_call entry.caller entry.call && is_act entry.act)
+    >> asks 4 (has_event config entry.act)
+    >> asks 6 (nat_le (least_call told.turns entry.caller) entry.call)
+    >> asks 7 (nat_lt (last_entries told.turns) 1024)
+
+-- the first fault of a line that tells a loss
+abbrev pub loss_fault : Told → Loss → Result ⊤ ℕ
+loss_fault told loss =
+    asks 3 (is_call loss.caller loss.call && is_claim loss.given)
+    >> asks 6 (nat_le (least_pair told.losses) (pair_of loss.caller loss.call)
+    && not (list_any (λ p. p == pair_of loss.caller loss.call) (entry_pairs told.turns)))
+
+-- the first fault of a line that has a form
+abbrev pub fault_of : Parts → Told → Line → Result ⊤ ℕ
+fault_of config told (begins head) = head_fault told head
+fault_of config told (enters entry) = entry_fault config told entry
+fault_of config told (loses loss) = loss_fault told loss
+
+-- ---- what a line adds
+
+-- what is told with one line more
+abbrev pub with_line : Told → Line → Told
+with_line told (begins head) = record { turns = told.turns ++ begun head ∷ []; losses = told.losses }
+with_line told (enters entry) = record { turns = with_entry told.turns entry; losses = told.losses }
+with_line told (loses loss) = record { turns = told.turns; losses = told.losses ++ loss ∷ [] }
+
+-- nothing is told yet
+abbrev pub nothing : Told
+nothing = record { turns = []; losses = [] }

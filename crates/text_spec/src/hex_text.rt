@@ -1,0 +1,59 @@
+ghost use Rattle.std.specs.Prelude.{◌≡◌, ◌≤◌, length, take};
+ghost use Rattle.text_spec.specs.Hexadecimal.{some_hex};
+
+use crate::hexadecimal::{are_lower_digits, hex_into};
+use std::marker::Model;
+
+/// A byte or more as a word of lower-case hexadecimal, not decoded yet: the word is lent, however long
+/// it is.
+#[derive(Debug, Drop)]
+pub struct HexText<'a> {
+    digits: &'a [u8],
+}
+
+impl<'a> Model for HexText<'a> {
+    ghost use Rattle.std.specs.Prelude.{ℕ, List};
+
+    ghost Value = { List ℕ };
+
+    ghost use Rattle.text_spec.specs.HexTextView.{lent_bytes, IsText};
+
+    ghost view = { lent_bytes };
+
+    ghost invariant = { IsText };
+}
+
+impl<'a> HexText<'a> {
+    /// The bytes that the word writes, `None` where it is no text of a byte or more.
+    pub fn of(word: &'a [u8]) -> Option<HexText<'a>>
+        ensures { result ≡ some_hex word.now }
+    {
+        if word.is_empty() {
+            return None;
+        }
+        if word.len() % 2 == 1 {
+            return None;
+        }
+        if !are_lower_digits(word) {
+            return None;
+        }
+        Some(HexText { digits: word })
+    }
+
+    /// How many bytes there are.
+    pub fn len(&self) -> usize
+        ensures { result ≡ length self.now }
+    {
+        self.digits.len() / 2
+    }
+
+    /// Decodes the bytes into the front of `room`, and returns how many they are.
+    pub fn decode(&self, room: &mut [u8]) -> usize
+        requires { length self.now ≤ length room.old }
+        ensures count { result ≡ length self.now }
+        ensures bytes { take result room.new ≡ self.now }
+        ensures same { length room.new ≡ length room.old }
+    {
+        hex_into(self.digits, room).unwrap()
+    }
+}

@@ -1,0 +1,47 @@
+ghost use Rattle.std.specs.Prelude.{◌≡◌, ℕ, List, Some, bytes_eq, ◌++◌, OnOk};
+ghost use Rattle.text_spec.specs.Modes.{mode_name as name_of, mode_named as named};
+ghost use Rattle.ids_types.specs.declared.mode.Mode.{Mode};
+
+use ids_types::{Mode, NoMemory};
+
+/// The mode of this name, `None` where it is no name of one.
+pub fn mode(word: &[u8]) -> Option<Mode>
+    ensures { result ≡ named word.now }
+{
+    if word == b"OFF".as_slice() {
+        return Some(Mode::Off);
+    }
+    if word == b"BRIEF".as_slice() {
+        return Some(Mode::Brief);
+    }
+    if word == b"DETAILED".as_slice() {
+        return Some(Mode::Detailed);
+    }
+    if word == b"BRIEF_BYPASSING_FILTERS".as_slice() {
+        return Some(Mode::BriefBypassing);
+    }
+    if word == b"DETAILED_BYPASSING_FILTERS".as_slice() {
+        return Some(Mode::DetailedBypassing);
+    }
+    None
+}
+
+/// Appends the name of the mode.
+pub fn push_mode(out: &mut Vec<u8>, mode: Mode) -> Result<(), NoMemory>
+    ensures { OnOk result (out.new.items ≡ out.old.items ++ name_of mode) }
+{
+    let name: &[u8] = match mode {
+        Mode::Off => b"OFF",
+        Mode::Brief => b"BRIEF",
+        Mode::Detailed => b"DETAILED",
+        Mode::BriefBypassing => b"BRIEF_BYPASSING_FILTERS",
+        Mode::DetailedBypassing => b"DETAILED_BYPASSING_FILTERS",
+    };
+    Ok(out.extend_from_slice(name)?)
+}
+
+/// A mode has one name, which is read as it.
+pub fn one_name_for_a_mode()
+    ensures read { (mode : Mode) → named (name_of mode) ≡ Some mode }
+    ensures only { (word : List ℕ) (mode : Mode) → named word ≡ Some mode → name_of mode ≡ word }
+{}
