@@ -117,7 +117,7 @@ context_facts (Kept class claim bytes) is =
 context_facts (Missing numbers) is = (small_claims numbers is, tt)
 
 -- an event that sensors report is there
-sensor_is_there : (config : Parts) (k : ℕ) → is_sensor config k ≡ true → k < length config.events
+pub sensor_is_there : (config : Parts) (k : ℕ) → is_sensor config k ≡ true → k < length config.events
 sensor_is_there config k is =
     let third = and_parts (nat_lt k (length config.events) && not (is_given config.lost_events k) && not (is_given config.lost_contexts k)) (not (is_given config.limited k)) is in
     let second = and_parts (nat_lt k (length config.events) && not (is_given config.lost_events k)) (not (is_given config.lost_contexts k)) third.0 in

@@ -1,0 +1,5 @@
+pub mod FormLemmas
+pub mod OrderLemmas
+pub mod Passing
+pub mod ReadingLemmas
+pub mod TurnsLemmas

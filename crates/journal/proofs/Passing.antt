@@ -1,0 +1,63 @@
+-- What holds of a line that was checked.
+use Rattle.std.proofs.Common.{◌≡◌, ℕ, ◌^◌, ◌<◌, ◌≤◌, ◌==◌, ◌&&◌, Bool, true, false, List, length, refl, arith}
+use Rattle.std.specs.Prelude.{Ok, not, nat_le, nat_lt}
+use Rattle.std.specs.List.{list_any}
+use Rattle.std.proofs.lemmas.Bool.{and_parts, leb-true, ltb-true}
+use Rattle.ids_config.specs.Parts.{Parts}
+use Rattle.ids_config.specs.Steps.{asks}
+use Rattle.ids_types.specs.declared.entry.Carried.{Carried}
+use Rattle.ids_types.specs.declared.entry.Carried.TheVariants.{Absent, Kept, Missing}
+use Rattle.ids_types.specs.declared.entry.Act.{Act}
+use Rattle.ids_types.specs.declared.entry.Act.TheVariants.{Report, State, SetMode}
+use Rattle.ids_types.specs.declared.entry.Entry.{Entry}
+use Rattle.ids_types.specs.declared.loss.Loss.{Loss}
+use Rattle.text_spec.specs.JournalFaults.{is_claim, is_call, is_context, is_act, has_event, least_pair, pair_of, entry_pairs, entry_fault, loss_fault}
+use Rattle.text_spec.specs.JournalText.{Told}
+use Rattle.text_spec.proofs.JournalFacts.{asked, entry_passes, sensor_is_there}
+use Rattle.journal.specs.Typed.{IsTypedContext, IsTypedAct, IsTyped}
+
+-- a caller and a call in their ranges
+pub call_in : (caller call : ℕ) → is_call caller call ≡ true → (caller ≤ 31) × (call < 2 ^ 40)
+call_in caller call is =
+    let parts = and_parts (nat_le caller 31) (nat_lt call (2 ^ 40)) is in
+    (leb-true caller 31 parts.0, ltb-true call (2 ^ 40) parts.1)
+
+typed_context : (context : Carried (List ℕ)) → is_context context ≡ true → IsTypedContext context
+typed_context Absent is = tt
+typed_context (Kept class claim bytes) is =
+    let last = and_parts (nat_le class 3 && is_claim claim && nat_le 1 (length bytes)) (nat_le (length bytes) 1024) is in
+    let third = and_parts (nat_le class 3 && is_claim claim) (nat_le 1 (length bytes)) last.0 in
+    let first = and_parts (nat_le class 3) (is_claim claim) third.0 in
+    let most = leb-true class 3 first.0 in
+    omega arith
+typed_context (Missing numbers) is = tt
+
+typed_act : (config : Parts) (act : Act (List ℕ)) → length config.events ≤ 256 → is_act act ≡ true → has_event config act ≡ true → IsTypedAct act
+typed_act config (Report event count stamp context) few is known =
+    let last = and_parts (nat_le 1 count && nat_le count 65535) (is_context context) is in
+    let numbers = and_parts (nat_le 1 count) (nat_le count 65535) last.0 in
+    let most = leb-true count 65535 numbers.1 in
+    let there = sensor_is_there config event.0 known in
+    (omega arith, omega arith, typed_context context last.1)
+typed_act config (State state) few is known = let most = leb-true state 255 is in omega arith
+typed_act config (SetMode event mode) few is known = let there = ltb-true event.0 (length config.events) known in omega arith
+
+-- the numbers of an entry without a fault fit their types
+pub entry_typed : (config : Parts) (told : Told) (entry : Entry (List ℕ)) → length config.events ≤ 256 → entry_fault config told entry ≡ Ok tt → IsTyped entry
+entry_typed config told entry few none =
+    let passes = entry_passes config told entry none in
+    let call = call_in entry.caller entry.call passes.call in
+    record { caller_fits = omega (arith, call.0); act_fits = typed_act config entry.act few passes.act passes.event }
+
+-- the last step of a search
+asked_alone : (n : ℕ) (holds : Bool) → asks n holds ≡ Ok tt → holds ≡ true
+asked_alone n true none = refl
+asked_alone n false none = cc none
+
+-- the pair of a loss without a fault may follow
+pub loss_follows : (told : Told) (loss : Loss) → loss_fault told loss ≡ Ok tt → least_pair told.losses ≤ pair_of loss.caller loss.call
+loss_follows told loss none =
+    let free = nat_le (least_pair told.losses) (pair_of loss.caller loss.call) && not (list_any (λ p. p == pair_of loss.caller loss.call) (entry_pairs told.turns)) in
+    let first = asked 3 (is_call loss.caller loss.call && is_claim loss.given) (asks 6 free) tt none in
+    let second = asked_alone 6 free first.1 in
+    leb-true _ _ (and_parts (nat_le (least_pair told.losses) (pair_of loss.caller loss.call)) (not (list_any (λ p. p == pair_of loss.caller loss.call) (entry_pairs told.turns))) second).0

@@ -1,0 +1,9 @@
+use Rattle.journal.specs.Answers.{told}
+use Rattle.journal.proofs.ReadingLemmas.{found, only}
+use Rattle.journal.proofs.reading.read.Goals as goal
+
+pub returns-clause-found : goal.returns-clause-found
+returns-clause-found c = found (λ j. told j.history.turns j.losses.items) c.args.config.now c.args.text.now c.read_lines.result c.parts-parts.ensures.valid.count.most c.read_lines.ensures
+
+pub returns-clause-only : goal.returns-clause-only
+returns-clause-only c = only (λ j. told j.history.turns j.losses.items) c.args.config.now c.args.text.now c.read_lines.result c.parts-parts.ensures.valid.count.most c.read_lines.ensures

@@ -1,0 +1,22 @@
+-- Numbers that fit the types of an entry's fields.
+use Rattle.std.specs.Prelude.{ℕ, ◌<◌, ◌^◌, List, ⊤}
+use Rattle.ids_types.specs.declared.entry.Carried.{Carried}
+use Rattle.ids_types.specs.declared.entry.Carried.TheVariants.{Absent, Kept, Missing}
+use Rattle.ids_types.specs.declared.entry.Act.{Act}
+use Rattle.ids_types.specs.declared.entry.Act.TheVariants.{Report, State, SetMode}
+use Rattle.ids_types.specs.declared.entry.Entry.{Entry}
+
+abbrev pub IsTypedContext : Carried (List ℕ) → Type 0
+IsTypedContext Absent = ⊤
+IsTypedContext (Kept class claim bytes) = class < 2 ^ 8
+IsTypedContext (Missing numbers) = ⊤
+
+abbrev pub IsTypedAct : Act (List ℕ) → Type 0
+IsTypedAct (Report event count stamp context) = (event.0 < 2 ^ 16) × (count < 2 ^ 16) × IsTypedContext context
+IsTypedAct (State state) = state < 2 ^ 8
+IsTypedAct (SetMode event mode) = event.0 < 2 ^ 16
+
+-- the numbers of the entry fit their types
+pub record IsTyped (entry : Entry (List ℕ)) : Type 0 where
+  pub caller_fits : entry.caller < 2 ^ 8
+  pub act_fits : IsTypedAct entry.act

@@ -1,0 +1,133 @@
+//! The ranges of a journal's numbers.
+
+ghost use Rattle.std.specs.Prelude.{◌≡◌, ◌<◌, ◌≤◌, ◌^◌, List, ℕ, length, slice_index};
+ghost use Rattle.std.specs.List.{list_all};
+ghost use Rattle.text_spec.specs.JournalFaults.{is_claim as claim_is, is_count_lost as lost_is, is_call as call_is, is_context as context_is, is_act as act_is, is_head as head_is, has_event as event_is};
+ghost use Rattle.ids_config.specs.Parts.{is_sensor as sensor_is};
+ghost use Rattle.journal.specs.RawLines.{context_told, act_told};
+
+use crate::line::{RawAct, RawContext};
+use ids_config::Config;
+use ids_types::{EventIndex, Numbers, TurnHead};
+
+/// The greatest tick.
+const MAX_TICK: u64 = 1 << 62;
+
+/// The greatest number of reports that a turn tells as lost or held back.
+const MAX_LOST: u64 = 1 << 45;
+
+/// The greatest number of a claim, and of what was given back.
+const MAX_CLAIM: u64 = 1 << 46;
+
+/// The number of a caller's call is below this.
+pub(crate) const CALLS: u64 = 1 << 40;
+
+/// The greatest caller.
+const MAX_CALLER: u64 = 31;
+
+/// The greatest class.
+const MAX_CLASS: u64 = 3;
+
+/// The most bytes of a context.
+pub(crate) const MAX_BYTES: usize = 1024;
+
+pub(crate) fn is_claim(n: u64) -> bool
+    ensures { result ≡ claim_is n }
+{
+    n <= MAX_CLAIM
+}
+
+fn is_lost(n: u64) -> bool
+    ensures { result ≡ lost_is n }
+{
+    n <= MAX_LOST
+}
+
+/// A caller, and the number of its call.
+pub(crate) fn is_call(caller: u64, call: u64) -> bool
+    ensures { result ≡ call_is caller call }
+{
+    caller <= MAX_CALLER && call < CALLS
+}
+
+/// The numbers of a turn's head.
+pub(crate) fn is_head(head: &TurnHead) -> bool
+    ensures { result ≡ head_is head.now }
+{
+    head.tick <= MAX_TICK
+        && is_lost(head.lost_events)
+        && is_lost(head.lost_contexts)
+        && is_lost(head.limited)
+}
+
+/// The numbers of an act, but for its event.
+pub(crate) fn is_act(act: &RawAct<'_>) -> bool
+    ensures { result ≡ act_is (act_told act.now) }
+{
+    match act {
+        RawAct::Report { count, context, .. } => {
+            1 <= *count && *count <= 65535 && is_context(context)
+        }
+        RawAct::State(state) => *state <= 255,
+        RawAct::SetMode { .. } => true,
+    }
+}
+
+fn is_context(context: &RawContext<'_>) -> bool
+    ensures { result ≡ context_is (context_told context.now) }
+{
+    match context {
+        RawContext::Absent => true,
+        RawContext::Kept {
+            class,
+            claim,
+            bytes,
+        } => {
+            let len = bytes.len();
+            *class <= MAX_CLASS && is_claim(*claim) && 1 <= len && len <= MAX_BYTES
+        }
+        RawContext::Missing(numbers) => are_claims(numbers),
+    }
+}
+
+fn are_claims(numbers: &Numbers) -> bool
+    ensures { result ≡ list_all claim_is numbers.now }
+{
+    for i in 0..numbers.len() {
+        if !is_claim_at(numbers, i) {
+            return false;
+        }
+    }
+    true
+}
+
+fn is_claim_at(numbers: &Numbers, i: usize) -> bool
+    requires { i < length numbers.now }
+    ensures { result ≡ claim_is (slice_index numbers.now i) }
+{
+    match numbers.get(i) {
+        Some(n) => is_claim(n),
+        None => false,
+    }
+}
+
+/// A report's event is one that sensors report, and the event of a mode is there.
+pub(crate) fn has_event(config: &Config, act: &RawAct<'_>) -> bool
+    ensures known { result ≡ event_is config.now (act_told act.now) }
+    ensures few { length config.now.events ≤ 256 }
+{
+    let events = config.parts().events.len() as u64;
+    match act {
+        RawAct::Report { event, .. } => is_sensor(config, events, *event),
+        RawAct::State(_) => true,
+        RawAct::SetMode { event, .. } => *event < events,
+    }
+}
+
+fn is_sensor(config: &Config, events: u64, event: u64) -> bool
+    requires number { events ≡ length config.now.events }
+    requires few { events ≤ 256 }
+    ensures { result ≡ sensor_is config.now event }
+{
+    event < events && config.is_sensor(EventIndex(event as u16))
+}
