@@ -1,12 +1,12 @@
 -- The lines of a text, one after another, and what a reading of them says.
-use Rattle.std.proofs.Common.{◌≡◌, ℕ, suc, ◌+◌, ◌<◌, ◌≤◌, List, [], ◌∷◌, length, map, drop, get_or, refl, sym, ap, ◌∙◌, arith, drop-cons, add-one}
+use Rattle.std.proofs.Common.{◌≡◌, ℕ, suc, ◌+◌, ◌<◌, ◌≤◌, List, [], ◌∷◌, length, map, drop, get_or, refl, sym, ap, subst, ◌∙◌, arith, drop-cons, add-one}
 use Rattle.std.specs.Prelude.{Result, Ok, Err, IfOk, IfErr}
 use denote.Ref.{Bor}
 use Rattle.std.proofs.lemmas.List.{drop_all}
 use Rattle.ids_config.specs.Parts.{Parts}
 use Rattle.text_spec.specs.JournalReading.{BadLine, IsJournal, at_line, after_line, after_lines, journal_in, ◌>>=◌}
 use Rattle.text_spec.specs.JournalText.{Told}
-use Rattle.text_spec.proofs.JournalLaws.{told_is_journal, bad_is_none}
+use Rattle.text_spec.proofs.JournalLaws.{told_is_journal, journal_is_told, bad_is_none}
 use Rattle.journal.specs.declared.fault.JournalFault.{JournalFault}
 use Rattle.journal.specs.declared.fault.JournalFault.TheVariants as faults
 use Rattle.journal.specs.declared.fault.LineFault.{LineFault}
@@ -60,6 +60,11 @@ pub found : {X : Type 0} (view : X → Told) (config : Parts) (text : List ℕ) 
     → Reads view (journal_in config text) read → IfOk read (λ x. IsJournal config text (view x))
 found view config text (Ok x) few reads = told_is_journal config text (view x) (omega arith) reads
 found view config text (Err fault) few reads = tt
+
+-- a journal that fits is read from its text
+pub again : {X : Type 0} (view : X → Told) (config : Parts) (text : List ℕ) (read : Result X JournalFault) → length config.events ≤ 256
+    → Reads view (journal_in config text) read → (t : Told) → IsJournal config text t → Reads view (Ok t) read
+again view config text read few reads t journal = subst (λ (r : Result Told BadLine). Reads view r read) (journal_is_told config text t (omega arith) journal) reads
 
 none_at : (config : Parts) (text : List ℕ) (fault : JournalFault) → length config.events ≤ 256 → Fails (journal_in config text) fault → HasNone config text fault
 none_at config text (faults.Line line number) few fails = λ told journal. bad_is_none config text (record { line = line; fault = number }) (omega arith) fails told journal

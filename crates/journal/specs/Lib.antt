@@ -1,3 +1,4 @@
 pub mod Answers
+pub mod Printing
 pub mod RawLines
 pub mod Typed

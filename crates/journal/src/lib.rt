@@ -11,10 +11,15 @@
 mod fault;
 mod form;
 mod line;
+mod printing;
 mod ranges;
 mod reader;
 mod reading;
 mod taking;
 
 pub use fault::JournalFault;
+pub use printing::print;
 pub use reading::{Journal, read};
+
+#[cfg(test)]
+mod tests;

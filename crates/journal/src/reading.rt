@@ -1,6 +1,7 @@
-ghost use Rattle.std.specs.Prelude.{◌≡◌, ◌<◌, ◌+◌, ◌^◌, [], map, length, vec_len, IfOk, IfErr};
+ghost use Rattle.std.specs.Prelude.{◌≡◌, ◌<◌, ◌+◌, ◌^◌, [], map, length, vec_len, Ok, IfOk, IfErr};
 ghost use Rattle.ids_config.specs.Parts.{Parts};
 ghost use Rattle.text_spec.specs.JournalReading.{IsJournal, journal_in, after_lines, all_ended};
+ghost use Rattle.text_spec.specs.JournalText.{Told};
 ghost use Rattle.journal.specs.Answers.{told, fault_at, IsFirstBad, HasNone, Reads};
 
 use crate::fault::{JournalFault, LineFault};
@@ -24,6 +25,9 @@ pub struct Journal {
 pub fn read(alloc: Global, text: &[u8], config: &Config) -> Result<Journal, JournalFault>
     // What is read is the journal of which this is the text, each byte of it.
     ensures found { IfOk result (λ j. IsJournal config.now text.now (told j.history.turns j.losses.items)) }
+    // The text of a journal that fits is read as it, unless memory runs out.
+    ensures again { (t : Told) → IsJournal config.now text.now t →
+        Reads (λ j. told j.history.turns j.losses.items) (Ok t) result }
     // A fault is told only where the text is no journal.
     ensures only { IfErr result (HasNone config.now text.now) }
     // It is the first bad line, and that line's first fault.

@@ -6,7 +6,7 @@ ghost use Rattle.text_spec.specs.Stamps.{stamp_text};
 ghost use Rattle.text_spec.specs.DecodedText.{message_line, shown_context, shown_signature};
 
 use crate::hexadecimal::push_hex;
-use crate::numbers::push_number;
+use crate::numbers::push_field;
 use crate::stamps::push_stamp;
 use ids_frame::{Context, Form, Message};
 use ids_types::NoMemory;
@@ -53,14 +53,6 @@ fn push_parts(out: &mut Vec<u8>, message: &Message<'_>) -> Result<(), NoMemory>
     push_stamp(out, message.stamp())?;
     push_context(out, message.context())?;
     push_signature(out, message.signature())
-}
-
-/// Appends a space and a number.
-fn push_field(out: &mut Vec<u8>, number: u64) -> Result<(), NoMemory>
-    ensures { OnOk result (out.new.items ≡ out.old.items ++ (space ∷ decimal number)) }
-{
-    out.push(b' ')?;
-    push_number(out, number)
 }
 
 /// Appends a space and the word of a context.

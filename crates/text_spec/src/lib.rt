@@ -22,7 +22,7 @@ pub use hex_text::HexText;
 pub use hexadecimal::{hex_into, one_text_for_bytes, push_hex};
 pub use journal::one_journal_for_a_text;
 pub use modes::{mode, one_name_for_a_mode, push_mode};
-pub use numbers::{number, number_upto, one_text_for_a_number, push_number};
+pub use numbers::{number, number_upto, one_text_for_a_number, push_field, push_number};
 pub use pieces::Pieces;
 pub use splits::{ended_lines, lines, one_line_for_words, one_text_for_lines};
 pub use stamps::{one_text_for_a_stamp, push_stamp, stamp};

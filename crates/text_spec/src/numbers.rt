@@ -1,7 +1,8 @@
-ghost use Rattle.std.specs.Prelude.{◌≡◌, ℕ, ◌<◌, ◌^◌, List, option_map, decimal, IsTrue, ◌++◌, OnOk, OnErr, ◌+◌, length, vec_len, vec_capacity};
+ghost use Rattle.std.specs.Prelude.{◌≡◌, ℕ, ◌<◌, ◌^◌, List, option_map, decimal, IsTrue, ◌++◌, ◌∷◌, OnOk, OnErr, ◌+◌, length, vec_len, vec_capacity};
 ghost use Rattle.std.specs.Char.{is_ascii_digit};
 ghost use Rattle.std.specs.List.{list_all};
 ghost use Rattle.std.specs.Str.Parse.{digits_value};
+ghost use Rattle.text_spec.specs.Words.{space};
 ghost use Rattle.text_spec.specs.Numbers.{capped, is_number as writes_number, number_in, number_upto as number_within};
 
 use ids_types::NoMemory;
@@ -37,6 +38,14 @@ pub fn push_number(out: &mut Vec<u8>, number: u64) -> Result<(), NoMemory>
 {
     let mut digits = Buffer::new();
     Ok(out.extend_from_slice(digits.format(number).as_bytes())?)
+}
+
+/// Appends a space and a number.
+pub fn push_field(out: &mut Vec<u8>, number: u64) -> Result<(), NoMemory>
+    ensures { OnOk result (out.new.items ≡ out.old.items ++ (space ∷ decimal number)) }
+{
+    out.push(b' ')?;
+    push_number(out, number)
 }
 
 fn is_number(word: &[u8]) -> bool

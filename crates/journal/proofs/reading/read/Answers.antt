@@ -1,5 +1,5 @@
 use Rattle.journal.specs.Answers.{told}
-use Rattle.journal.proofs.ReadingLemmas.{found, only}
+use Rattle.journal.proofs.ReadingLemmas.{found, again, only}
 use Rattle.journal.proofs.reading.read.Goals as goal
 
 pub returns-clause-found : goal.returns-clause-found
@@ -7,3 +7,6 @@ returns-clause-found c = found (λ j. told j.history.turns j.losses.items) c.arg
 
 pub returns-clause-only : goal.returns-clause-only
 returns-clause-only c = only (λ j. told j.history.turns j.losses.items) c.args.config.now c.args.text.now c.read_lines.result c.parts-parts.ensures.valid.count.most c.read_lines.ensures
+
+pub returns-clause-again : goal.returns-clause-again
+returns-clause-again c = again (λ j. told j.history.turns j.losses.items) c.args.config.now c.args.text.now c.read_lines.result c.parts-parts.ensures.valid.count.most c.read_lines.ensures

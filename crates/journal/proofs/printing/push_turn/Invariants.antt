@@ -1,0 +1,9 @@
+use Rattle.std.proofs.Common.{◌≡◌, ◌++◌, take, map}
+use Rattle.ids_types.specs.Turns.{turn_at}
+use Rattle.text_spec.specs.JournalText.{enters}
+use Rattle.journal.specs.Printing.{lines_text}
+use Rattle.journal.proofs.printing.push_turn.Given as goal
+
+-- the first entries have been printed
+abbrev pub invariant-loop-i : goal.invariant-loop-i
+invariant-loop-i l = l.out.items ≡ l.initial.out.items ++ lines_text (map enters (take l.i (turn_at l.history.turns l.turn).entries))

@@ -1,0 +1,16 @@
+-- The text of some lines.
+use Rattle.std.specs.Prelude.{ℕ, ◌==◌, List, [], ◌∷◌, ◌++◌, map, decimal, if◌then◌else◌}
+use Rattle.text_spec.specs.JournalText.{Line, line_for, point}
+use Rattle.text_spec.specs.Words.{line_feed, line_of, text_of}
+
+-- a line of these words, with its line feed
+abbrev pub ended_line : List (List ℕ) → List ℕ
+ended_line words = line_of words ++ line_feed ∷ []
+
+-- the text of lines
+abbrev pub lines_text : List Line → List ℕ
+lines_text lines = text_of (map line_for lines)
+
+-- number i of some, behind a point unless it is the first
+abbrev pub pointed : ℕ → ℕ → List ℕ
+pointed i number = if i == 0 then decimal number else point ∷ decimal number

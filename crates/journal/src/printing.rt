@@ -1,0 +1,185 @@
+//! The text of a journal.
+
+ghost use Rattle.std.specs.Prelude.{◌≡◌, ◌<◌, ◌++◌, ◌∷◌, [], map, length, decimal, codes, IfOk, OnOk};
+ghost use Rattle.std.specs.List.{flat_map, join_with_byte};
+ghost use Rattle.ids_types.specs.Plain.{plain_carried, plain_entry};
+ghost use Rattle.ids_types.specs.Turns.{turn_at};
+ghost use Rattle.ids_types.specs.declared.entry.Act.TheVariants.{Report, State, SetMode};
+ghost use Rattle.text_spec.specs.JournalText.{enters, point, context_word, head_words, entry_words, loss_words, act_words, turn_told, line_for, journal_text};
+ghost use Rattle.text_spec.specs.JournalReading.{Fits, IsJournal};
+ghost use Rattle.ids_config.specs.Parts.{Parts};
+ghost use Rattle.text_spec.specs.Stamps.{stamp_text};
+ghost use Rattle.text_spec.specs.Words.{space, line_feed, line_of};
+ghost use Rattle.journal.specs.Answers.{told};
+ghost use Rattle.journal.specs.Printing.{ended_line, lines_text, pointed};
+
+use ids_types::{
+    Act, Carried, Entry, EventIndex, History, Loss, NoMemory, Numbers, Plain, Stamp, TurnHead,
+};
+use std::alloc::Global;
+use text_spec::{push_field, push_hex, push_mode, push_number, push_stamp};
+
+/// The text of a history and its losses, which are printed as they are given.
+pub fn print(alloc: Global, history: &History, losses: &[Loss]) -> Result<Vec<u8>, NoMemory>
+    ensures text { IfOk result
+        (λ text. text.items ≡ journal_text (told history.now.turns losses.now)) }
+    // Where they fit a configuration, this is their journal under it.
+    ensures journal { IfOk result (λ text. (config : Parts) →
+        Fits config (told history.now.turns losses.now) →
+        IsJournal config text.items (told history.now.turns losses.now)) }
+{
+    print_lines(alloc, history, losses)
+}
+
+fn print_lines(alloc: Global, history: &History, losses: &[Loss]) -> Result<Vec<u8>, NoMemory>
+    ensures { IfOk result (λ text. text.items ≡ journal_text (told history.now.turns losses.now)) }
+{
+    let mut text = Vec::new(alloc);
+    for turn in 0..history.turns() {
+        push_turn(&mut text, history, turn)?;
+    }
+    for loss in losses {
+        push_loss(&mut text, loss)?;
+    }
+    Ok(text)
+}
+
+/// Appends the lines of a turn.
+fn push_turn(out: &mut Vec<u8>, history: &History, turn: u64) -> Result<(), NoMemory>
+    requires { turn < length history.now.turns }
+    ensures { OnOk result (out.new.items ≡
+        out.old.items ++ lines_text (turn_told (turn_at history.now.turns turn))) }
+{
+    push_head(out, &history.head(turn))?;
+    for i in 0..history.entries(turn) {
+        push_entry(out, &history.entry(turn, i))?;
+    }
+    Ok(())
+}
+
+/// Appends `T TICK LOST_EVENTS LOST_CONTEXTS LIMITED` as a line.
+fn push_head(out: &mut Vec<u8>, head: &TurnHead) -> Result<(), NoMemory>
+    ensures { OnOk result (out.new.items ≡ out.old.items ++ ended_line (head_words head.now)) }
+{
+    out.push(b'T')?;
+    push_field(out, head.tick)?;
+    push_field(out, head.lost_events)?;
+    push_field(out, head.lost_contexts)?;
+    push_field(out, head.limited)?;
+    Ok(out.push(b'\n')?)
+}
+
+/// Appends `L CALLER CALL GIVEN` as a line.
+fn push_loss(out: &mut Vec<u8>, loss: &Loss) -> Result<(), NoMemory>
+    ensures { OnOk result (out.new.items ≡ out.old.items ++ ended_line (loss_words loss.now)) }
+{
+    push_call(out, b'L', loss.caller, loss.call)?;
+    push_field(out, loss.given)?;
+    Ok(out.push(b'\n')?)
+}
+
+/// Appends an entry as a line.
+fn push_entry(out: &mut Vec<u8>, entry: &Entry<Plain<'_>>) -> Result<(), NoMemory>
+    ensures { OnOk result (out.new.items ≡
+        out.old.items ++ ended_line (entry_words (plain_entry entry.now))) }
+{
+    match &entry.act {
+        Act::Report {
+            event,
+            count,
+            stamp,
+            context,
+        } => {
+            push_call(out, b'R', entry.caller, entry.call)?;
+            push_report(out, *event, *count, *stamp, context)?;
+        }
+        Act::State(state) => {
+            push_call(out, b'C', entry.caller, entry.call)?;
+            out.extend_from_slice(b" S")?;
+            push_field(out, u64::from(*state))?;
+        }
+        Act::SetMode { event, mode } => {
+            push_call(out, b'C', entry.caller, entry.call)?;
+            out.extend_from_slice(b" M")?;
+            push_field(out, u64::from(event.0))?;
+            out.push(b' ')?;
+            push_mode(out, *mode)?;
+        }
+    }
+    Ok(out.push(b'\n')?)
+}
+
+/// Appends a line's letter, the caller and its call.
+fn push_call(out: &mut Vec<u8>, letter: u8, caller: u8, call: u64) -> Result<(), NoMemory>
+    ensures { OnOk result (out.new.items ≡
+        out.old.items ++ (letter ∷ ((space ∷ decimal caller) ++ (space ∷ decimal call)))) }
+{
+    out.push(letter)?;
+    push_field(out, u64::from(caller))?;
+    push_field(out, call)
+}
+
+/// Appends ` EVENT COUNT STAMP CONTEXT`.
+fn push_report(
+    out: &mut Vec<u8>,
+    event: EventIndex,
+    count: u16,
+    stamp: Option<Stamp>,
+    context: &Carried<Plain<'_>>,
+) -> Result<(), NoMemory>
+    ensures { OnOk result (out.new.items ≡ out.old.items ++ ((space ∷ decimal event.0)
+        ++ ((space ∷ decimal count) ++ ((space ∷ stamp_text stamp)
+        ++ (space ∷ context_word (plain_carried context.now)))))) }
+{
+    push_field(out, u64::from(event.0))?;
+    push_field(out, u64::from(count))?;
+    out.push(b' ')?;
+    push_stamp(out, stamp)?;
+    out.push(b' ')?;
+    push_context(out, context)
+}
+
+/// Appends the word of a context.
+fn push_context(out: &mut Vec<u8>, context: &Carried<Plain<'_>>) -> Result<(), NoMemory>
+    ensures { OnOk result (out.new.items ≡ out.old.items ++ context_word (plain_carried context.now)) }
+{
+    match context {
+        Carried::Absent => Ok(out.push(b'-')?),
+        Carried::Kept {
+            class,
+            claim,
+            parcel,
+        } => {
+            push_number(out, u64::from(*class))?;
+            out.push(b':')?;
+            push_number(out, *claim)?;
+            out.push(b':')?;
+            push_hex(out, parcel.0)
+        }
+        Carried::Missing(numbers) => {
+            out.push(b'!')?;
+            push_claims(out, numbers)
+        }
+    }
+}
+
+/// Appends numbers with points between them.
+fn push_claims(out: &mut Vec<u8>, numbers: &Numbers) -> Result<(), NoMemory>
+    ensures { OnOk result (out.new.items ≡
+        out.old.items ++ join_with_byte point (map decimal numbers.now)) }
+{
+    for i in 0..numbers.len() {
+        push_claim(out, i, numbers.get(i).unwrap())?;
+    }
+    Ok(())
+}
+
+/// Appends a number, behind a point unless it is the first.
+fn push_claim(out: &mut Vec<u8>, i: usize, number: u64) -> Result<(), NoMemory>
+    ensures { OnOk result (out.new.items ≡ out.old.items ++ pointed i number) }
+{
+    if i > 0 {
+        out.push(b'.')?;
+    }
+    push_number(out, number)
+}
