@@ -16,7 +16,7 @@ use Rattle.ids_types.specs.Turns.{Turn, begun, with_entry}
 use Rattle.text_spec.specs.JournalFaults.{fault_of, with_line, nothing}
 use Rattle.text_spec.specs.JournalForm.{told_by}
 use Rattle.text_spec.specs.JournalReading.{AreFaultless, IsHeld, IsJournal, BadLine, at_line, told_with, after_line, after_lines, all_ended, journal_in, ◌>>=◌}
-use Rattle.text_spec.specs.JournalText.{Told, Line, begins, enters, loses, act_words, words_for, line_for, turn_told, lines_told}
+use Rattle.text_spec.specs.JournalText.{Told, Line, begins, enters, loses, act_words, words_for, line_for, turn_of, turn_told, lines_told}
 use Rattle.text_spec.specs.Words.{Free, space, line_feed, words_of, line_of, text_of, but_last, last_piece, ended_lines, open_line}
 use Rattle.text_spec.proofs.JournalFacts.{asked, line_facts, line_grows}
 use Rattle.text_spec.proofs.JournalForms.{line_takes, line_again}
@@ -122,22 +122,18 @@ told_is_journal config text told few read =
 -- ---- what lines add up to
 
 -- what is told with lines more
-unfoldable with_lines : Told → List Line → Told
+unfoldable pub with_lines : Told → List Line → Told
 with_lines told [] = told
 with_lines told (line ∷ lines) = with_lines (with_line told line) lines
 
-with_lines-append : (told : Told) (xs ys : List Line) → with_lines told (xs ++ ys) ≡ with_lines (with_lines told xs) ys
+pub with_lines-append : (told : Told) (xs ys : List Line) → with_lines told (xs ++ ys) ≡ with_lines (with_lines told xs) ys
 unfolding with_lines
 with_lines-append told [] ys = refl
 with_lines-append told (line ∷ xs) ys = with_lines-append (with_line told line) xs ys
 
 -- turns without losses
-abbrev only_turns : List Turn → Told
+abbrev pub only_turns : List Turn → Told
 only_turns turns = record { turns = turns; losses = [] }
-
--- a turn with these entries
-abbrev turn_of : TurnHead → List (Entry (List ℕ)) → Turn
-turn_of head entries = record { head = head; entries = entries }
 
 -- the last of the turns takes the entry
 with_entry-last : (done : List Turn) (head : TurnHead) (first : List (Entry (List ℕ))) (entry : Entry (List ℕ)) → with_entry (done ++ turn_of head first ∷ []) entry ≡ done ++ turn_of head (first ++ entry ∷ []) ∷ []
@@ -145,7 +141,7 @@ with_entry-last [] head first entry = refl
 with_entry-last (turn ∷ []) head first entry = refl
 with_entry-last (turn ∷ next ∷ done) head first entry = ap (λ (ts : List Turn). turn ∷ ts) (with_entry-last (next ∷ done) head first entry)
 
-with_entries : (done : List Turn) (head : TurnHead) (first rest : List (Entry (List ℕ))) → with_lines (only_turns (done ++ turn_of head first ∷ [])) (map enters rest) ≡ only_turns (done ++ turn_of head (first ++ rest) ∷ [])
+pub with_entries : (done : List Turn) (head : TurnHead) (first rest : List (Entry (List ℕ))) → with_lines (only_turns (done ++ turn_of head first ∷ [])) (map enters rest) ≡ only_turns (done ++ turn_of head (first ++ rest) ∷ [])
 unfolding with_lines
 with_entries done head first [] = ap (λ (es : List (Entry (List ℕ))). only_turns (done ++ turn_of head es ∷ [])) (sym (append-nil first))
 with_entries done head first (entry ∷ rest) =
@@ -153,7 +149,7 @@ with_entries done head first (entry ∷ rest) =
     ∙ with_entries done head (first ++ entry ∷ []) rest
     ∙ ap (λ (es : List (Entry (List ℕ))). only_turns (done ++ turn_of head es ∷ [])) (append_assoc first (entry ∷ []) rest)
 
-with_turns : (done turns : List Turn) → with_lines (only_turns done) (flat_map turn_told turns) ≡ only_turns (done ++ turns)
+pub with_turns : (done turns : List Turn) → with_lines (only_turns done) (flat_map turn_told turns) ≡ only_turns (done ++ turns)
 unfolding with_lines
 with_turns done [] = ap only_turns (sym (append-nil done))
 with_turns done (turn ∷ turns) =

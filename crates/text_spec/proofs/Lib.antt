@@ -1,6 +1,7 @@
 pub mod FrontLemmas
 pub mod HexadecimalLemmas
 pub mod JournalFacts
+pub mod JournalFits
 pub mod JournalForms
 pub mod JournalFree
 pub mod JournalLaws

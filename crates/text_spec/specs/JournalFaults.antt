@@ -57,6 +57,12 @@ has_event config (Report event count stamp context) = is_sensor config event.0
 has_event config (State state) = true
 has_event config (SetMode event mode) = nat_lt event.0 (length config.events)
 
+-- the numbers of a line are in their ranges, and its event may stand there
+abbrev pub is_in_ranges : Parts → Line → Bool
+is_in_ranges config (begins head) = is_head head
+is_in_ranges config (enters entry) = is_call entry.caller entry.call && is_act entry.act && has_event config entry.act
+is_in_ranges config (loses loss) = is_call loss.caller loss.call && is_claim loss.given
+
 -- ---- faults 5 to 7: order and number
 
 -- the greatest of numbers, 0 where there are none

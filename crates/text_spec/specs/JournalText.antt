@@ -74,6 +74,10 @@ line_for line = line_of (words_for line)
 
 -- ---- the lines of a journal
 
+-- a turn of this head and these entries
+abbrev pub turn_of : TurnHead → List (Entry (List ℕ)) → Turn
+turn_of head entries = record { head = head; entries = entries }
+
 -- a turn: it begins, then its entries
 abbrev pub turn_told : Turn → List Line
 turn_told turn = begins turn.head ∷ map enters turn.entries

@@ -1,7 +1,8 @@
 use crate::{
-    Pieces, hex_into, lines, number, number_upto, push_hex, push_number, push_stamp, stamp,
+    HexText, Pieces, hex_into, lines, mode, number, number_upto, push_hex, push_mode, push_number,
+    push_stamp, stamp,
 };
-use ids_types::Stamp;
+use ids_types::{Mode, Stamp};
 use std::test::Fail;
 
 #[test]
@@ -61,6 +62,38 @@ fn decodes_hexadecimal(rt: HostRuntime) {
         let count = hex_into(word, &mut room);
         assert_eq!(rt; count.map(|count| &room[..count]), want);
     }
+}
+
+#[test]
+fn lends_hexadecimal_text(rt: HostRuntime) {
+    let rows: [(&[u8], Option<usize>); 6] = [
+        (b"", None),
+        (b"a", None),
+        (b"a1", Some(1)),
+        (b"a1f", None),
+        (b"A1", None),
+        (b"a1f0", Some(2)),
+    ];
+    for (word, want) in rows {
+        assert_eq!(rt; HexText::of(word).map(|text| text.len()), want);
+    }
+}
+
+#[test]
+fn reads_and_prints_names_of_modes(rt: HostRuntime) -> Result<(), Fail> {
+    for name in [
+        b"OFF".as_slice(),
+        b"BRIEF",
+        b"DETAILED",
+        b"BRIEF_BYPASSING_FILTERS",
+        b"DETAILED_BYPASSING_FILTERS",
+    ] {
+        let mut out = Vec::new(rt.alloc());
+        push_mode(&mut out, mode(name).unwrap_or(Mode::Off))?;
+        assert_eq!(rt; out.as_slice(), name);
+    }
+    assert_eq!(rt; mode(b"off"), None);
+    Ok(())
 }
 
 #[test]
