@@ -23,17 +23,21 @@ context_told contexts.Absent = Absent
 context_told (contexts.Kept class claim bytes) = Kept class claim bytes
 context_told (contexts.Missing numbers) = Missing numbers
 
+-- the act, with its context's bytes
 abbrev pub act_told : RawAct → Act (List ℕ)
 act_told (acts.Report event count stamp context) = Report (index event) count stamp (context_told context)
 act_told (acts.State state) = State state
 act_told (acts.SetMode event mode) = SetMode (index event) mode
 
+-- the entry, with its context's bytes
 abbrev pub entry_told : RawEntry → Entry (List ℕ)
 entry_told entry = entry_of entry.caller entry.call (act_told entry.act)
 
+-- the loss
 abbrev pub loss_told : RawLoss → Loss
 loss_told loss = record { caller = loss.caller; call = loss.call; given = loss.given }
 
+-- the line, with its context's bytes
 abbrev pub line_told : RawLine → Line
 line_told (lines.Turn head) = begins head
 line_told (lines.Entry entry) = enters (entry_told entry)

@@ -6,11 +6,13 @@ use Rattle.ids_types.specs.declared.entry.Act.{Act}
 use Rattle.ids_types.specs.declared.entry.Act.TheVariants.{Report, State, SetMode}
 use Rattle.ids_types.specs.declared.entry.Entry.{Entry}
 
+-- a class of 8 bits
 abbrev pub IsTypedContext : Carried (List ℕ) → Type 0
 IsTypedContext Absent = ⊤
 IsTypedContext (Kept class claim bytes) = class < 2 ^ 8
 IsTypedContext (Missing numbers) = ⊤
 
+-- an event and a count of 16 bits, a state of 8
 abbrev pub IsTypedAct : Act (List ℕ) → Type 0
 IsTypedAct (Report event count stamp context) = (event.0 < 2 ^ 16) × (count < 2 ^ 16) × IsTypedContext context
 IsTypedAct (State state) = state < 2 ^ 8

@@ -167,3 +167,20 @@ fn faults_2_to_7_are_told_with_their_line(rt: HostRuntime) -> Result<(), Fail> {
     }
     Ok(())
 }
+
+#[test]
+fn a_cut_journal_is_read_exactly_behind_a_line_feed(rt: HostRuntime) -> Result<(), Fail> {
+    let text = concat!(
+        "T 5 0 1 0\nR 0 0 0 1 - 0:0:a1a2a3a4\nR 0 1 0 1 - 1:0:a1a2a3a4\n",
+        "R 0 2 0 1 - !1.1\nT 5 0 0 0\n"
+    )
+    .as_bytes();
+    let config = config_named(rt.alloc(), "plain")?;
+    for i in 0..text.len() {
+        let front = &text[..i];
+        let whole = front.is_empty() || front.ends_with(b"\n");
+        assert_eq!(rt; read(rt.alloc(), front, &config).is_ok(), whole);
+    }
+    assert_eq!(rt; answer(rt.alloc(), &config, text)?.as_str(), "ok");
+    Ok(())
+}

@@ -31,6 +31,7 @@ IsContext (Missing numbers) = length numbers ≤ 4
 abbrev pub IsStamp : Option Stamp → Type 0
 IsStamp stamp = IfSome stamp (λ s. s.0 < 2 ^ 64)
 
+-- the timestamp and the context of a report can be held
 abbrev pub IsAct : Act (List ℕ) → Type 0
 IsAct (Report event count stamp context) = IsStamp stamp × IsContext context
 IsAct (State state) = ⊤
