@@ -164,8 +164,14 @@ fn refuses_inputs_in_their_order(rt: HostRuntime) -> Result<(), Fail> {
             b"bad config 4 at top\n",
         ),
         (&FOLD, bad, b"?", BAD_CONFIG, b"bad config 4 at top\n"),
-        (&FOLD, good, b"?", BAD_JOURNAL, b"bad journal\n"),
-        (&FOLD, good, b"T 5 0 0 0", BAD_JOURNAL, b"bad journal\n"),
+        (&FOLD, good, b"?", BAD_JOURNAL, b"bad journal line 1: 1\n"),
+        (
+            &FOLD,
+            good,
+            b"T 5 0 0 0",
+            BAD_JOURNAL,
+            b"bad journal line 1: 1\n",
+        ),
     ];
     for (words, config, journal, status, text) in rows {
         let ended = run(rt.alloc(), words, config, journal, &[], &[])?;
@@ -317,6 +323,62 @@ fn reads_no_journal_but_that_of_a_history(rt: HostRuntime) -> Result<(), Fail> {
         let ended = run(rt.alloc(), &FOLD, config, journal.as_bytes(), &[], &[])?;
         assert_eq!(rt; ended.status, status, "{journal}");
     }
+    Ok(())
+}
+
+/// Journals that `fold` refuses, with `/` for a line feed, each behind the text that tells why.
+const REFUSED_JOURNALS: &str = "bad journal line 2: 1 | T 5 0 0 0/R 0 0 0 1 - 0:0:A1B2/
+bad journal line 3: 2 | T 5 0 0 0/L 0 0 0/R 0 1 0 1 - -/
+bad journal line 2: 3 | T 5 0 0 0/R 0 0 0 65536 - -/
+bad journal line 2: 4 | T 5 0 0 0/R 0 0 1 1 - -/
+bad journal line 2: 5 | T 5 0 0 0/T 4 0 0 0/
+bad journal line 4: 6 | T 5 0 0 0/R 0 0 0 1 - -/T 6 0 0 0/C 0 0 S 1/
+bad journal line 1: 8 | T 5 0 0 3/
+bad journal line 4: 8 | T 5 0 0 0/R 0 0 0 1 - -/R 0 1 0 1 - -/T 6 0 0 1/T 7 0 0 2/
+bad journal line 3: 1 | T 5 0 0 3/R 0 0 0 1 - -/x/
+bad journal line 3: 8 | T 5 0 0 0/C 0 0 S 1/T 6 0 0 1/
+not built | T 5 0 0 0/C 0 0 S 1/
+not built | T 5 0 0 0/R 0 0 0 1 - -/T 6 0 0 0/C 0 1 M 0 OFF/";
+
+#[test]
+fn tells_the_first_bad_line_of_a_journal(rt: HostRuntime) -> Result<(), Fail> {
+    let alloc = rt.alloc();
+    for line in REFUSED_JOURNALS.lines() {
+        let Some((told, journal)) = line.split_once(" | ") else {
+            continue;
+        };
+        let mut text = Vec::new(alloc);
+        for &byte in journal.as_bytes() {
+            text.push(if byte == b'/' { b'\n' } else { byte })?;
+        }
+        let ended = run(alloc, &FOLD, CONFIG.as_bytes(), &text, &[], &[])?;
+        assert!(rt;
+            ended.out.taken().strip_suffix(b"\n") == Some(told.as_bytes()),
+            "{line}"
+        );
+        assert_eq!(rt; ended.shelf.contents("m"), None);
+    }
+    Ok(())
+}
+
+/// A report with a timestamp, one whose context is missing, and a loss.
+const ALL_REPORTS: &str =
+    "T 5 1 1 0\nR 0 0 0 1 8000000100000a00 -\nR 0 1 0 2 - !1.1\nT 5 0 0 0\nL 0 2 0\n";
+
+/// Their messages, by the layout of the fields.
+const ALL_MESSAGES: [u8; 24] = [
+    0x12, 0x04, 0x83, 0x00, 0x2a, 0x00, 0x01, 0x00, 0x80, 0x00, 0x00, 0x01, 0x00, 0x00, 0x0a, 0x00,
+    0x10, 0x04, 0x83, 0x00, 0x2a, 0x00, 0x02, 0x00,
+];
+
+#[test]
+fn sends_a_timestamp_and_no_missing_context(rt: HostRuntime) -> Result<(), Fail> {
+    let journal = ALL_REPORTS.as_bytes();
+    let ended = run(rt.alloc(), &FOLD, CONFIG.as_bytes(), journal, &[], &[])?;
+    assert_eq!(rt; ended.status, DONE);
+    assert!(rt; ended.shelf.contents("m") == Some(ALL_MESSAGES.as_slice()));
+    let text = b"turns 2 entries 2 messages 2 records 0\n".as_slice();
+    assert_eq!(rt; ended.out.taken(), text);
     Ok(())
 }
 

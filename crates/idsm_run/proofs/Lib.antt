@@ -1,16 +1,10 @@
 pub mod CommandLemmas
-pub mod FitsLemmas
-pub mod FormLaws
-pub mod FreeLemmas
 pub mod InputsLemmas
-pub mod JournalLaws
-pub mod OrderLemmas
-pub mod ReadingLemmas
+pub mod JournalLemmas
 pub mod RunCauses
 pub mod RunObliges
 pub mod RunStands
 pub mod SendingLemmas
 pub mod Stops
-pub mod TurnsLemmas
 pub mod Verdicts
 pub mod WritingLemmas

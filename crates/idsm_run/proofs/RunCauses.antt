@@ -7,6 +7,7 @@ use Rattle.idsm_run.specs.declared.status.TheConstants.{DONE, BAD_WORDS, CANNOT_
 use Rattle.idsm_run.specs.declared.stop.Stop.{Stop}
 use Rattle.idsm_run.specs.declared.stop.Stop.TheVariants.{CannotRead, TooLong, BadConfig, NotBuilt, BadJournal, CannotWrite, NoMemory, BadMessage}
 use Rattle.idsm_run.specs.Command.{Command, command_of}
+use Rattle.idsm_run.specs.FoldedJournal.{bad_line}
 use Rattle.idsm_run.specs.Run.{Shelved, Ran, Done, StopsFor, Misused, OfCommand, HasText, FailedPut, FailedOutput, Adds, Causes}
 use Rattle.idsm_run.specs.Saying.{Heard, Says, StopSays, TellsStop, usage}
 
@@ -145,16 +146,16 @@ module _ (words : List (List ℕ)) (status : ℕ) (old new : Shelved) (before af
     no_fault = grind arith;
     all_put = grind arith;
   }
-  stop_has_cause command BadJournal is stops tells = record {
+  stop_has_cause command (BadJournal line fault) is stops tells = record {
     misused = grind arith;
     read = grind arith;
     long = grind arith;
     config = grind arith;
     unbuilt = grind arith;
-    journal = λ status_is. ((command, is, stops.1), grind (arith, common_steps));
+    journal = λ status_is. (bad_line line fault, (command, is, stops.1), grind (arith, common_steps));
     message = grind arith;
     write = λ status_is. inr (put_failed tells.text tells.wanted tells.says (grind arith)
-        (inr (stop_text command BadJournal tells.text tells.wanted is stops tells.names)) status_is);
+        (inr (stop_text command (BadJournal line fault) tells.text tells.wanted is stops tells.names)) status_is);
     memory = grind (arith, common_steps, append-nil);
     known = grind arith;
     no_fault = grind arith;

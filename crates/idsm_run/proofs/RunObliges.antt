@@ -5,6 +5,7 @@ use Rattle.ids_outside.specs.Faults.{Faults, Rose}
 use Rattle.idsm_run.specs.declared.stop.Stop.{Stop}
 use Rattle.idsm_run.specs.declared.stop.Stop.TheVariants.{CannotRead, TooLong, BadConfig, NotBuilt, BadJournal, CannotWrite, NoMemory, BadMessage}
 use Rattle.idsm_run.specs.Command.{Command, command_of, fold, decode}
+use Rattle.idsm_run.specs.FoldedJournal.{bad_line}
 use Rattle.idsm_run.specs.Run.{Shelved, Ran, Done, Stopped, StopsFor, Misused, OfCommand, FailedInput, FailedOutput, Answers, NoFault, Obliges}
 use Rattle.idsm_run.specs.Saying.{Heard, TellsStop}
 use Rattle.idsm_run.proofs.Verdicts.{Verdict, good, long, config, unbuilt, journal, message, status_of, Deserves, did_with_good, one_verdict}
@@ -48,7 +49,8 @@ module _ (command : Command) (status : ℕ) (old new : Shelved) (before after : 
   steady_stop (BadConfig fault) steady stops tells =
       refused config (fault, stops.1) (grind (arith, common_steps))
   steady_stop NotBuilt steady stops tells = refused unbuilt stops.1 (grind (arith, common_steps))
-  steady_stop BadJournal steady stops tells = refused journal stops.1 (grind (arith, common_steps))
+  steady_stop (BadJournal line fault) steady stops tells =
+      refused journal (bad_line line fault, stops.1) (grind (arith, common_steps))
   steady_stop CannotWrite steady stops tells =
       absurd (steady (output_rose command old.faults new.faults stops))
   steady_stop NoMemory steady stops tells = no_memory tells
@@ -79,7 +81,7 @@ module _ (words : List (List ℕ)) (status : ℕ) (old new : Shelved) (before af
     long = λ told _ name cause. absurd (other told long (name, of_command words _ _ is cause) (λ same. absurd cc));
     config = λ told _ fault cause. absurd (other told config (fault, of_command words _ _ is cause) (λ same. absurd cc));
     unbuilt = λ told _ cause. absurd (other told unbuilt (of_command words _ _ is cause) (λ same. absurd cc));
-    journal = λ told _ cause. absurd (other told journal (of_command words _ _ is cause) (λ same. absurd cc));
+    journal = λ told _ bad cause. absurd (other told journal (bad, of_command words _ _ is cause) (λ same. absurd cc));
     message = λ told _ bad cause. absurd (other told message (bad, of_command words _ _ is cause) (λ same. absurd cc));
     complete = grind (arith, common_steps);
   }
@@ -99,7 +101,8 @@ module _ (words : List (List ℕ)) (status : ℕ) (old new : Shelved) (before af
     config = λ told steady fault cause.
         ends told steady config (fault, of_command words _ _ is cause);
     unbuilt = λ told steady cause. ends told steady unbuilt (of_command words _ _ is cause);
-    journal = λ told steady cause. ends told steady journal (of_command words _ _ is cause);
+    journal = λ told steady bad cause.
+        ends told steady journal (bad, of_command words _ _ is cause);
     message = λ told steady bad cause.
         ends told steady message (bad, of_command words _ _ is cause);
     complete = λ told steady put cause.

@@ -32,7 +32,7 @@ stop_stands command old new (CannotRead name) stands = same_stands command old n
 stop_stands command old new (TooLong name) stands = same_stands command old new stands
 stop_stands command old new (BadConfig fault) stands = same_stands command old new stands
 stop_stands command old new NotBuilt stands = same_stands command old new stands
-stop_stands command old new BadJournal stands = same_stands command old new stands
+stop_stands command old new (BadJournal line fault) stands = same_stands command old new stands
 stop_stands command old new CannotWrite stands = stands
 stop_stands command old new NoMemory stands = stands
 stop_stands command old new (BadMessage bad) stands = same_stands command old new stands
@@ -53,7 +53,7 @@ module _ (words : List (List ℕ)) (status : ℕ) (old new : Shelved) (before af
   stop_refuses command (TooLong name) stands tells refused = stands
   stop_refuses command (BadConfig fault) stands tells refused = stands
   stop_refuses command NotBuilt stands tells refused = stands
-  stop_refuses command BadJournal stands tells refused = stands
+  stop_refuses command (BadJournal line fault) stands tells refused = stands
   stop_refuses command CannotWrite stands tells refused = absurd (grind (arith, common_steps))
   stop_refuses command NoMemory stands tells refused = absurd (grind (arith, common_steps))
   stop_refuses command (BadMessage bad) stands tells refused = stands

@@ -9,19 +9,18 @@ use Rattle.ids_frame.specs.Message.{MessageParts}
 use Rattle.ids_frame.specs.Spelling.{spelling}
 use Rattle.ids_frame.proofs.SpellingLemmas.{unsigned_spelling_is_short}
 use Rattle.ids_config.specs.Parts.{Parts}
-use Rattle.idsm_run.specs.PlainJournal.{ContextFits}
-use Rattle.idsm_run.specs.Sending.{context_sent, message_of, turn_messages, messages_of, ends_from, ends_of}
+use Rattle.idsm_run.specs.Sending.{IsShort, context_sent, message_of, turn_messages, messages_of, ends_from, ends_of}
 
 -- a context that fits has at most 1,024 bytes
-context_is_short : (context : Carried (List ℕ)) → ContextFits context
+context_is_short : (context : Carried (List ℕ)) → IsShort context
     → IfSome (context_sent context) (λ c. length c.bytes ≤ 1024)
 context_is_short Absent fits = tt
-context_is_short (Kept class claim bytes) fits = fits.few
+context_is_short (Kept class claim bytes) fits = fits
 context_is_short (Missing numbers) fits = tt
 
 -- a report's message has at most 1,044 bytes
 pub message_is_short : (config : Parts) (k count : ℕ) (stamp : Option Stamp)
-    (context : Carried (List ℕ)) → ContextFits context
+    (context : Carried (List ℕ)) → IsShort context
     → length (spelling (message_of config k count stamp context)) ≤ 1044
 message_is_short config k count stamp context fits =
     unsigned_spelling_is_short (message_of config k count stamp context) refl

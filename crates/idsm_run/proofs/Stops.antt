@@ -16,7 +16,7 @@ module _ (old new : Shelved) where
   input_stops names (TooLong name) stops = stops
   input_stops names (BadConfig fault) stops = stops
   input_stops names NotBuilt stops = stops
-  input_stops names BadJournal stops = stops
+  input_stops names (BadJournal line fault) stops = stops
   input_stops names CannotWrite stops = absurd stops
   input_stops names NoMemory stops = stops
   input_stops names (BadMessage bad) stops = absurd stops
@@ -27,7 +27,7 @@ module _ (old new : Shelved) where
   output_stops names (TooLong name) stops = absurd stops
   output_stops names (BadConfig fault) stops = absurd stops
   output_stops names NotBuilt stops = absurd stops
-  output_stops names BadJournal stops = absurd stops
+  output_stops names (BadJournal line fault) stops = absurd stops
   output_stops names CannotWrite stops = stops
   output_stops names NoMemory stops = stops
   output_stops names (BadMessage bad) stops = absurd stops
@@ -39,7 +39,7 @@ module _ (old new : Shelved) where
   read_stops name (TooLong other) stops = (stops.1, (stops.0, stops.2))
   read_stops name (BadConfig fault) stops = absurd stops
   read_stops name NotBuilt stops = absurd stops
-  read_stops name BadJournal stops = absurd stops
+  read_stops name (BadJournal line fault) stops = absurd stops
   read_stops name CannotWrite stops = absurd stops
   read_stops name NoMemory stops = stops
   read_stops name (BadMessage bad) stops = absurd stops

@@ -6,11 +6,12 @@ use Rattle.ids_frame.specs.Message.{MessageParts}
 use Rattle.ids_frame.specs.Messages.{Breaks}
 use Rattle.ids_frame.proofs.MessagesLemmas.{no_break}
 use Rattle.ids_outside.specs.Files.{Files}
+use Rattle.text_spec.specs.JournalReading.{BadLine}
 use Rattle.idsm_run.specs.declared.limits.TheConstants.{MAX_MESSAGES_BYTES}
 use Rattle.idsm_run.specs.declared.status.TheConstants.{DONE, TOO_LONG, BAD_CONFIG, NOT_BUILT, BAD_JOURNAL, BAD_MESSAGE}
 use Rattle.idsm_run.specs.Command.{FoldFiles, Command, fold, decode}
 use Rattle.idsm_run.specs.Messages.{HoldsMessages, HoldsBadMessage}
-use Rattle.idsm_run.specs.Run.{Shelved, Did, HasGoodInputs, HasLongInput, HasBadConfig, HasUnbuiltConfig, HasBadJournal, HasBadMessage}
+use Rattle.idsm_run.specs.Run.{Shelved, Did, HasGoodInputs, HasLongInput, HasBadConfig, HasUnbuilt, HasBadJournal, HasBadMessage}
 use Rattle.idsm_run.proofs.InputsLemmas.{holds_one, not_too_long, inputs_exclude_long, inputs_exclude_no_config, inputs_exclude_unbuilt, inputs_exclude_no_journal, long_excludes_no_config, long_excludes_unbuilt, long_excludes_no_journal, no_config_excludes_unbuilt, no_config_excludes_no_journal, unbuilt_excludes_no_journal}
 
 pub data Verdict : Type 0 where
@@ -35,8 +36,8 @@ abbrev pub Deserves : Verdict → Command → Shelved → Type 0
 Deserves good command old = HasGoodInputs command old.files
 Deserves long command old = (name : List ℕ) × HasLongInput command old name
 Deserves config command old = (fault : ConfigFault) × HasBadConfig command old fault
-Deserves unbuilt command old = HasUnbuiltConfig command old
-Deserves journal command old = HasBadJournal command old
+Deserves unbuilt command old = HasUnbuilt command old
+Deserves journal command old = (bad : BadLine) × HasBadJournal command old bad
 Deserves message command old = (bad : BadMessage) × HasBadMessage command old bad
 
 -- what a command did it did with files that serve
@@ -52,28 +53,28 @@ module _ (old : Shelved) (told : IsTrue old.tells) where
   fold_verdict names good long a b = absurd (inputs_exclude_long _ _ _ _ _ a.2 (b.1 told))
   fold_verdict names good config a b = absurd (inputs_exclude_no_config _ _ _ _ _ a.2 (b.1 told))
   fold_verdict names good unbuilt a b = absurd (inputs_exclude_unbuilt _ _ _ _ a.2 (b told))
-  fold_verdict names good journal a b = absurd (inputs_exclude_no_journal _ _ _ _ a.2 (b told))
+  fold_verdict names good journal a b = absurd (inputs_exclude_no_journal _ _ _ _ _ a.2 (b.1 told))
   fold_verdict names long good a b = absurd (inputs_exclude_long _ _ _ _ _ b.2 (a.1 told))
   fold_verdict names long long a b = refl
   fold_verdict names long config a b = absurd (long_excludes_no_config _ _ _ _ (a.1 told) (b.1 told))
   fold_verdict names long unbuilt a b = absurd (long_excludes_unbuilt _ _ _ (a.1 told) (b told))
-  fold_verdict names long journal a b = absurd (long_excludes_no_journal _ _ _ (a.1 told) (b told))
+  fold_verdict names long journal a b = absurd (long_excludes_no_journal _ _ _ _ (a.1 told) (b.1 told))
   fold_verdict names config good a b = absurd (inputs_exclude_no_config _ _ _ _ _ b.2 (a.1 told))
   fold_verdict names config long a b = absurd (long_excludes_no_config _ _ _ _ (b.1 told) (a.1 told))
   fold_verdict names config config a b = refl
   fold_verdict names config unbuilt a b = absurd (no_config_excludes_unbuilt _ _ _ (a.1 told) (b told))
   fold_verdict names config journal a b =
-      absurd (no_config_excludes_no_journal _ _ _ (a.1 told) (b told))
+      absurd (no_config_excludes_no_journal _ _ _ _ (a.1 told) (b.1 told))
   fold_verdict names unbuilt good a b = absurd (inputs_exclude_unbuilt _ _ _ _ b.2 (a told))
   fold_verdict names unbuilt long a b = absurd (long_excludes_unbuilt _ _ _ (b.1 told) (a told))
   fold_verdict names unbuilt config a b = absurd (no_config_excludes_unbuilt _ _ _ (b.1 told) (a told))
   fold_verdict names unbuilt unbuilt a b = refl
-  fold_verdict names unbuilt journal a b = absurd (unbuilt_excludes_no_journal _ _ (a told) (b told))
-  fold_verdict names journal good a b = absurd (inputs_exclude_no_journal _ _ _ _ b.2 (a told))
-  fold_verdict names journal long a b = absurd (long_excludes_no_journal _ _ _ (b.1 told) (a told))
+  fold_verdict names unbuilt journal a b = absurd (unbuilt_excludes_no_journal _ _ _ (a told) (b.1 told))
+  fold_verdict names journal good a b = absurd (inputs_exclude_no_journal _ _ _ _ _ b.2 (a.1 told))
+  fold_verdict names journal long a b = absurd (long_excludes_no_journal _ _ _ _ (b.1 told) (a.1 told))
   fold_verdict names journal config a b =
-      absurd (no_config_excludes_no_journal _ _ _ (b.1 told) (a told))
-  fold_verdict names journal unbuilt a b = absurd (unbuilt_excludes_no_journal _ _ (b told) (a told))
+      absurd (no_config_excludes_no_journal _ _ _ _ (b.1 told) (a.1 told))
+  fold_verdict names journal unbuilt a b = absurd (unbuilt_excludes_no_journal _ _ _ (b told) (a.1 told))
   fold_verdict names journal journal a b = refl
   fold_verdict names message other a b = absurd a.1
   fold_verdict names one message a b = absurd b.1
@@ -97,10 +98,10 @@ module _ (old : Shelved) (told : IsTrue old.tells) where
   decode_verdict file message message a b = refl
   decode_verdict file config other a b = absurd a.1
   decode_verdict file unbuilt other a b = absurd a
-  decode_verdict file journal other a b = absurd a
+  decode_verdict file journal other a b = absurd a.1
   decode_verdict file one config a b = absurd b.1
   decode_verdict file one unbuilt a b = absurd b
-  decode_verdict file one journal a b = absurd b
+  decode_verdict file one journal a b = absurd b.1
 
   -- files deserve one verdict
   pub one_verdict : (command : Command) (one other : Verdict)

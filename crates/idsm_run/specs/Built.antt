@@ -1,6 +1,10 @@
--- The configurations that the chain of this release can mean: it sends every report as it is.
-use Rattle.std.specs.Prelude.{Bool, true, false, not, ◌&&◌, ◌==◌, length, is_none}
-use Rattle.std.specs.List.{list_all}
+-- What the chain of this release can mean: it sends every report as it is, and knows no controls.
+use Rattle.std.specs.Prelude.{Bool, true, false, not, ◌&&◌, ◌==◌, ℕ, List, length, is_none}
+use Rattle.std.specs.List.{list_all, list_any}
+use Rattle.ids_types.specs.declared.entry.Act.{Act}
+use Rattle.ids_types.specs.declared.entry.Act.TheVariants.{Report, State, SetMode}
+use Rattle.ids_types.specs.declared.entry.Entry.{Entry}
+use Rattle.ids_types.specs.Turns.{Turn}
 use Rattle.ids_types.specs.declared.mode.Mode.{Mode}
 use Rattle.ids_types.specs.declared.mode.Mode.TheVariants.{Off, Brief, Detailed, BriefBypassing, DetailedBypassing}
 use Rattle.ids_config.specs.Parts.{Event, Parts}
@@ -29,3 +33,16 @@ abbrev pub is_built : Parts → Bool
 is_built config =
     is_none config.rate && is_none config.traffic && has_no_internal config && config.memory == 0
     && list_all is_sent_as_is config.events
+
+-- the act is a control
+abbrev pub is_control_act : Act (List ℕ) → Bool
+is_control_act (Report event count stamp context) = false
+is_control_act (State state) = true
+is_control_act (SetMode event mode) = true
+
+abbrev pub is_control : Entry (List ℕ) → Bool
+is_control entry = is_control_act entry.act
+
+-- some turn has a control
+abbrev pub has_control : List Turn → Bool
+has_control turns = list_any (λ turn. list_any is_control turn.entries) turns

@@ -1,5 +1,5 @@
 -- What the input files of `fold` hold, and why they may not serve.
-use Rattle.std.specs.Prelude.{◌≡◌, ◌⊎◌, ℕ, List, length, Bool, true, false, IsTrue, ⊤}
+use Rattle.std.specs.Prelude.{◌≡◌, ◌⊎◌, ℕ, List, Bool, true, false, IsTrue, Err, ⊤}
 use Rattle.ids_types.specs.Turns.{Turn}
 use Rattle.ids_outside.specs.Faults.{Faults, CountsFault}
 use Rattle.ids_outside.specs.Files.{Files, Holds, IsTooLong}
@@ -10,8 +10,9 @@ use Rattle.idsm_run.specs.declared.stop.Stop.TheVariants.{CannotRead, TooLong, B
 use Rattle.ids_config.specs.declared.fault.ConfigFault.{ConfigFault}
 use Rattle.ids_config.specs.Parts.{Parts}
 use Rattle.config_json.specs.Configured.{ConfigOf, FaultOf}
-use Rattle.idsm_run.specs.Built.{is_built}
-use Rattle.idsm_run.specs.PlainJournal.{IsJournal}
+use Rattle.text_spec.specs.JournalReading.{BadLine}
+use Rattle.idsm_run.specs.Built.{is_built, has_control}
+use Rattle.idsm_run.specs.FoldedJournal.{Tells, folded_in, bad_line}
 use Rattle.idsm_run.specs.Command.{FoldFiles}
 
 -- the file of this name is the text of this configuration
@@ -30,13 +31,14 @@ pub record HasJournal (files : Files) (name : List ℕ) (config : Parts) (turns 
     : Type 0 where
   pub bytes : List ℕ
   pub held : Holds files name MAX_JOURNAL_BYTES bytes
-  pub is_journal : IsJournal (length config.events) bytes turns
+  pub tells : Tells config bytes turns
 
--- the input files of `fold` give this configuration and these turns
+-- the input files of `fold` give this configuration and these turns, which tell reports alone
 pub record HasInputs (files : Files) (names : FoldFiles) (config : Parts) (turns : List Turn)
     : Type 0 where
   pub config_file : HasBuiltConfig files names.config config
   pub journal_file : HasJournal files names.journal config turns
+  pub reports : has_control turns ≡ false
 
 -- the configuration's file holds bytes that are no configuration, and have this fault first
 pub record NoConfig (files : Files) (names : FoldFiles) (fault : ConfigFault) : Type 0 where
@@ -50,13 +52,27 @@ pub record UnbuiltConfig (files : Files) (names : FoldFiles) : Type 0 where
   pub file : HasConfig files names.config config
   pub unbuilt : is_built config ≡ false
 
--- the journal's file holds bytes that are no journal under the configuration
-pub record NoJournal (files : Files) (names : FoldFiles) : Type 0 where
+-- the journal's file holds a journal that the chain cannot mean yet: it tells a control
+pub record UnbuiltJournal (files : Files) (names : FoldFiles) : Type 0 where
+  pub config : Parts
+  pub config_file : HasBuiltConfig files names.config config
+  pub turns : List Turn
+  pub journal_file : HasJournal files names.journal config turns
+  pub control : has_control turns ≡ true
+
+-- the chain cannot mean the configuration yet, or the journal behind it
+abbrev pub Unbuilt : Files → FoldFiles → Type 0
+Unbuilt files names = UnbuiltConfig files names ⊎ UnbuiltJournal files names
+
+-- the journal's file holds bytes that are no journal under the configuration, and this is the first
+-- bad line with its first fault
+pub record NoJournal (files : Files) (names : FoldFiles) (bad : BadLine) : Type 0 where
   pub config : Parts
   pub config_file : HasBuiltConfig files names.config config
   pub bytes : List ℕ
   pub held : Holds files names.journal MAX_JOURNAL_BYTES bytes
-  pub none : (turns : List Turn) → IsJournal (length config.events) bytes turns → ⊥
+  pub none : (turns : List Turn) → Tells config bytes turns → ⊥
+  pub first : folded_in config bytes ≡ Err bad
 
 -- the journal's file is too long, behind a configuration that serves
 pub record LongJournal (files : Files) (names : FoldFiles) : Type 0 where
@@ -83,9 +99,9 @@ InputStops tells files old new names (TooLong name) =
 InputStops tells files old new names (BadConfig fault) =
     (new ≡ old) × (IsTrue tells → NoConfig files names fault)
 InputStops tells files old new names NotBuilt =
-    (new ≡ old) × (IsTrue tells → UnbuiltConfig files names)
-InputStops tells files old new names BadJournal =
-    (new ≡ old) × (IsTrue tells → NoJournal files names)
+    (new ≡ old) × (IsTrue tells → Unbuilt files names)
+InputStops tells files old new names (BadJournal line fault) =
+    (new ≡ old) × (IsTrue tells → NoJournal files names (bad_line line fault))
 InputStops tells files old new names NoMemory = new ≡ old
 InputStops tells files old new names other = ⊥
 
@@ -95,6 +111,16 @@ ConfigStops bytes (BadConfig fault) = FaultOf bytes fault
 ConfigStops bytes NotBuilt = (config : Parts) × ConfigOf bytes config × (is_built config ≡ false)
 ConfigStops bytes NoMemory = ⊤
 ConfigStops bytes other = ⊥
+
+-- why the bytes give no journal that the chain can mean
+abbrev pub JournalStops : Parts → List ℕ → Stop → Type 0
+JournalStops config bytes (BadJournal line fault) =
+    ((turns : List Turn) → Tells config bytes turns → ⊥)
+    × (folded_in config bytes ≡ Err (bad_line line fault))
+JournalStops config bytes NotBuilt =
+    (turns : List Turn) × Tells config bytes turns × (has_control turns ≡ true)
+JournalStops config bytes NoMemory = ⊤
+JournalStops config bytes other = ⊥
 
 -- why a file was not read
 abbrev pub ReadStops : Bool → Files → Faults → Faults → List ℕ → ℕ → Stop → Type 0

@@ -4,10 +4,10 @@ pub mod CommandView
 pub mod ConfigTexts
 pub mod Decode
 pub mod Fold
+pub mod FoldedJournal
 pub mod Inputs
-pub mod JournalReading
+pub mod JournalTexts
 pub mod Messages
-pub mod PlainJournal
 pub mod Run
 pub mod Saying
 pub mod Sending

@@ -16,7 +16,10 @@ use Rattle.ids_config.specs.declared.fault.ConfigFault.{ConfigFault}
 use Rattle.ids_config.specs.Parts.{Parts}
 use Rattle.idsm_run.specs.ConfigTexts.{bad_config_text}
 use Rattle.idsm_run.specs.Command.{Command, fold, decode, command_of, written_by}
-use Rattle.idsm_run.specs.Inputs.{HasInputs, NoConfig, UnbuiltConfig, NoJournal, IsFirstTooLong, FailedRead}
+use Rattle.text_spec.specs.JournalReading.{BadLine}
+use Rattle.idsm_run.specs.FoldedJournal.{bad_line}
+use Rattle.idsm_run.specs.JournalTexts.{bad_journal_text}
+use Rattle.idsm_run.specs.Inputs.{HasInputs, NoConfig, Unbuilt, NoJournal, IsFirstTooLong, FailedRead}
 use Rattle.idsm_run.specs.Writing.{FailedWrite}
 use Rattle.idsm_run.specs.Fold.{Folded, WrittenUpTo}
 use Rattle.idsm_run.specs.Messages.{HoldsMessages, HoldsBadMessage, bad_message_text}
@@ -56,15 +59,16 @@ abbrev pub HasBadConfig : Command → Shelved → ConfigFault → Type 0
 HasBadConfig (fold names) old fault = IsTrue old.tells → NoConfig old.files names fault
 HasBadConfig (decode file) old fault = ⊥
 
--- the configuration's file holds one that the chain cannot mean yet, where files are told
-abbrev pub HasUnbuiltConfig : Command → Shelved → Type 0
-HasUnbuiltConfig (fold names) old = IsTrue old.tells → UnbuiltConfig old.files names
-HasUnbuiltConfig (decode file) old = ⊥
+-- the chain cannot mean yet what the input files hold, where files are told
+abbrev pub HasUnbuilt : Command → Shelved → Type 0
+HasUnbuilt (fold names) old = IsTrue old.tells → Unbuilt old.files names
+HasUnbuilt (decode file) old = ⊥
 
--- the journal's file holds no journal, behind a configuration that serves, where files are told
-abbrev pub HasBadJournal : Command → Shelved → Type 0
-HasBadJournal (fold names) old = IsTrue old.tells → NoJournal old.files names
-HasBadJournal (decode file) old = ⊥
+-- the journal's file holds no journal, behind a configuration that serves, and this is its first bad
+-- line, where files are told
+abbrev pub HasBadJournal : Command → Shelved → BadLine → Type 0
+HasBadJournal (fold names) old bad = IsTrue old.tells → NoJournal old.files names bad
+HasBadJournal (decode file) old bad = ⊥
 
 -- the file of messages holds more than messages: at this place none begins, where files are told
 abbrev pub HasBadMessage : Command → Shelved → BadMessage → Type 0
@@ -98,8 +102,9 @@ StopsFor (TooLong name) command old new =
     (new.faults ≡ old.faults) × HasLongInput command old name.now
 StopsFor (BadConfig fault) command old new =
     (new.faults ≡ old.faults) × HasBadConfig command old fault
-StopsFor NotBuilt command old new = (new.faults ≡ old.faults) × HasUnbuiltConfig command old
-StopsFor BadJournal command old new = (new.faults ≡ old.faults) × HasBadJournal command old
+StopsFor NotBuilt command old new = (new.faults ≡ old.faults) × HasUnbuilt command old
+StopsFor (BadJournal line fault) command old new =
+    (new.faults ≡ old.faults) × HasBadJournal command old (bad_line line fault)
 StopsFor CannotWrite command old new = FailedOutput command old.faults new.faults
 StopsFor NoMemory command old new = new.faults ≡ old.faults
 StopsFor (bad_message bad) command old new =
@@ -111,7 +116,7 @@ StandsFor (CannotRead name) command old new = SameFiles old new
 StandsFor (TooLong name) command old new = SameFiles old new
 StandsFor (BadConfig fault) command old new = SameFiles old new
 StandsFor NotBuilt command old new = SameFiles old new
-StandsFor BadJournal command old new = SameFiles old new
+StandsFor (BadJournal line fault) command old new = SameFiles old new
 StandsFor CannotWrite command old new = StandsSomewhere command old new
 StandsFor NoMemory command old new = StandsSomewhere command old new
 StandsFor (bad_message bad) command old new = SameFiles old new
@@ -211,11 +216,11 @@ pub record Causes (words : List (List ℕ)) (status : ℕ) (old new : Shelved) (
       × OfCommand words (λ c. HasBadConfig c old fault)
       × Adds (bad_config_text fault) before after
   pub unbuilt : status ≡ NOT_BUILT
-      → OfCommand words (λ c. HasUnbuiltConfig c old)
+      → OfCommand words (λ c. HasUnbuilt c old)
       × Adds (codes "not built\n") before after
-  pub journal : status ≡ BAD_JOURNAL
-      → OfCommand words (λ c. HasBadJournal c old)
-      × Adds (codes "bad journal\n") before after
+  pub journal : status ≡ BAD_JOURNAL → (bad : BadLine)
+      × OfCommand words (λ c. HasBadJournal c old bad)
+      × Adds (bad_journal_text bad) before after
   pub message : status ≡ BAD_MESSAGE → (bad : BadMessage)
       × OfCommand words (λ c. HasBadMessage c old bad)
       × Adds (bad_message_text bad) before after
@@ -249,10 +254,10 @@ pub record Obliges (words : List (List ℕ)) (status : ℕ) (old new : Shelved) 
       → OfCommand words (λ c. HasBadConfig c old fault)
       → Answers BAD_CONFIG status before after
   pub unbuilt : IsTrue old.tells → NoFault old new
-      → OfCommand words (λ c. HasUnbuiltConfig c old)
+      → OfCommand words (λ c. HasUnbuilt c old)
       → Answers NOT_BUILT status before after
-  pub journal : IsTrue old.tells → NoFault old new
-      → OfCommand words (λ c. HasBadJournal c old)
+  pub journal : IsTrue old.tells → NoFault old new → (bad : BadLine)
+      → OfCommand words (λ c. HasBadJournal c old bad)
       → Answers BAD_JOURNAL status before after
   pub message : IsTrue old.tells → NoFault old new → (bad : BadMessage)
       → OfCommand words (λ c. HasBadMessage c old bad)

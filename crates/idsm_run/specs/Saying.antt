@@ -7,6 +7,8 @@ use Rattle.idsm_run.specs.declared.status.TheConstants.{CANNOT_READ, TOO_LONG, B
 use Rattle.idsm_run.specs.declared.stop.Stop.{Stop}
 use Rattle.idsm_run.specs.declared.stop.Stop.TheVariants as stop
 use Rattle.idsm_run.specs.ConfigTexts.{bad_config_text}
+use Rattle.idsm_run.specs.FoldedJournal.{bad_line}
+use Rattle.idsm_run.specs.JournalTexts.{bad_journal_text}
 use Rattle.idsm_run.specs.Messages.{bad_message_text}
 
 -- what a sink shows at a moment: whether it tells what it took, what it took, and its faults
@@ -69,7 +71,8 @@ StopSays (stop.TooLong name) text status =
 StopSays (stop.BadConfig fault) text status =
     TextOrNoMemory (bad_config_text fault) BAD_CONFIG text status
 StopSays stop.NotBuilt text status = (text ≡ codes "not built\n") × (status ≡ NOT_BUILT)
-StopSays stop.BadJournal text status = (text ≡ codes "bad journal\n") × (status ≡ BAD_JOURNAL)
+StopSays (stop.BadJournal line fault) text status =
+    TextOrNoMemory (bad_journal_text (bad_line line fault)) BAD_JOURNAL text status
 StopSays stop.CannotWrite text status = (text ≡ codes "cannot write\n") × (status ≡ CANNOT_WRITE)
 StopSays stop.NoMemory text status = (text ≡ no_memory_text) × (status ≡ NO_MEMORY)
 StopSays (stop.BadMessage bad) text status =

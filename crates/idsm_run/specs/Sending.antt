@@ -1,8 +1,8 @@
 -- The messages that the manager sends: one for each report, in the order of the reports.
 -- After the event message of the AUTOSAR PRS Intrusion Detection System; that every report is sent
 -- as it is, is this release's own.
-use Rattle.std.specs.Prelude.{ℕ, ◌+◌, List, [], ◌∷◌, length, sum_by, Option, Some, None}
-use Rattle.std.specs.List.{flat_map}
+use Rattle.std.specs.Prelude.{ℕ, ◌+◌, ◌<◌, ◌≤◌, List, [], ◌∷◌, length, sum_by, Option, Some, None, ⊤}
+use Rattle.std.specs.List.{flat_map, AllByRecursion}
 use Rattle.ids_types.specs.declared.entry.Carried.{Carried}
 use Rattle.ids_types.specs.declared.entry.Carried.TheVariants.{Absent, Kept, Missing}
 use Rattle.ids_types.specs.declared.entry.Act.{Act}
@@ -20,6 +20,22 @@ abbrev pub context_sent : Carried (List ℕ) → Option ContextPart
 context_sent Absent = None
 context_sent (Kept class claim bytes) = Some (context_of bytes)
 context_sent (Missing numbers) = None
+
+-- a context has at most 1,024 bytes
+abbrev pub IsShort : Carried (List ℕ) → Type 0
+IsShort Absent = ⊤
+IsShort (Kept class claim bytes) = length bytes ≤ 1024
+IsShort (Missing numbers) = ⊤
+
+-- a report can be sent where its event is one of so many and its context is short
+abbrev pub CanSend : ℕ → Act (List ℕ) → Type 0
+CanSend events (Report event count stamp context) = (event.0 < events) × IsShort context
+CanSend events (State state) = ⊤
+CanSend events (SetMode event mode) = ⊤
+
+-- the reports of a turn can be sent
+abbrev pub CanSendTurn : ℕ → Turn → Type 0
+CanSendTurn events turn = AllByRecursion (λ entry. CanSend events entry.act) turn.entries
 
 -- the message of a report of event k of the configuration
 abbrev pub message_of : Parts → ℕ → ℕ → Option Stamp → Carried (List ℕ) → MessageParts

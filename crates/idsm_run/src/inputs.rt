@@ -1,16 +1,17 @@
 //! The input files of the command `fold`.
 
-ghost use Rattle.std.specs.Prelude.{◌≡◌, ◌≤◌, length, true, IsTrue, IfOk, OnOk, IfErr};
+ghost use Rattle.std.specs.Prelude.{◌≡◌, length, true, IsTrue, IfOk, OnOk, IfErr};
+ghost use Rattle.std.specs.List.{AllByRecursion};
 ghost use Rattle.ids_outside.specs.Files.{SameFiles, Holds};
-ghost use Rattle.idsm_run.specs.PlainJournal.{Fits};
 ghost use Rattle.idsm_run.specs.CommandView.{files_of};
 ghost use Rattle.config_json.specs.Configured.{ConfigOf};
 ghost use Rattle.idsm_run.specs.Built.{is_built as built};
 ghost use Rattle.idsm_run.specs.Inputs.{HasInputs, InputStops, ConfigStops, ReadStops};
+ghost use Rattle.idsm_run.specs.Sending.{CanSendTurn};
 
 use crate::built::is_built;
 use crate::command::FoldNames;
-use crate::journal;
+use crate::journals::judge_journal;
 use crate::limits::{MAX_CONFIG_BYTES, MAX_JOURNAL_BYTES};
 use crate::stop::Stop;
 use config_json::JsonFault;
@@ -37,7 +38,8 @@ pub(crate) fn read_inputs<'a, H: Shelf>(
         SameFiles (H.contents shelf.old) (H.contents shelf.new) }
     ensures found { IsTrue (H.tells shelf.old) → IfOk result (λ i.
         HasInputs (H.contents shelf.old) (files_of names.entry) i.config i.history.turns) }
-    ensures fits { IfOk result (λ i. Fits (length i.config.events) i.history.turns) }
+    ensures fits { IfOk result (λ i.
+        AllByRecursion (CanSendTurn (length i.config.events)) i.history.turns) }
     ensures faults { OnOk result (H.faults shelf.new ≡ H.faults shelf.old) }
     ensures stop { IfErr result (InputStops (H.tells shelf.old) (H.contents shelf.old)
         (H.faults shelf.old) (H.faults shelf.new) (files_of names.entry)) }
@@ -45,9 +47,7 @@ pub(crate) fn read_inputs<'a, H: Shelf>(
     let text = read_file(alloc, names.config, MAX_CONFIG_BYTES, shelf)?;
     let config = judge_config(alloc, &text)?;
     let text = read_file(alloc, names.journal, MAX_JOURNAL_BYTES, shelf)?;
-    let Some(history) = journal::read(alloc, &text, count_events(&config))? else {
-        return Err(Stop::BadJournal);
-    };
+    let history = judge_journal(alloc, &text, &config)?;
     Ok(Inputs { config, history })
 }
 
@@ -63,14 +63,6 @@ fn judge_config<'a>(alloc: Global, text: &[u8]) -> Result<Config, Stop<'a>>
         Err(JsonFault::Config(fault)) => Err(Stop::BadConfig(fault)),
         Err(JsonFault::NoMemory) => Err(Stop::NoMemory),
     }
-}
-
-/// How many events there are, 1 to 256.
-fn count_events(config: &Config) -> u16
-    ensures value { result ≡ length config.now.events }
-    ensures some { 1 ≤ result }
-{
-    config.parts().events.len() as u16
 }
 
 /// The bytes of a file, where it has at most so many.

@@ -1,9 +1,9 @@
 //! The runs of the program: a command from its words over files and output, to its status.
 //!
-//! Layer 10, runs. Over `text_spec`, `config_json`, `ids_frame` and `ids_outside`; the program `idsm` calls it with
-//! the host's files. For now the commands are `fold`, for configurations under which every report is
-//! sent as it is and for journals of reports alone, and `decode`; the journal's reader and the chain
-//! that sends every report are private.
+//! Layer 10, runs. Over `journal`, `text_spec`, `config_json`, `ids_frame` and `ids_outside`; the
+//! program `idsm` calls it with the host's files. For now the commands are `fold`, for configurations
+//! under which every report is sent as it is and for journals that tell no control, and `decode`; the
+//! chain that sends every report is private.
 //! Contracts see a shelf by what it tells: `specs/Run.antt` says what a run does, by cases on its
 //! command, and `run_plain` promises it. That memory suffices is not promised: `NO_MEMORY` is the one
 //! status without a cause.
@@ -13,12 +13,10 @@ mod built;
 mod command;
 mod decode;
 mod fold;
-mod form;
 mod inputs;
-mod journal;
+mod journals;
 mod limits;
 mod outputs;
-mod reader;
 mod run;
 mod saying;
 mod sending;

@@ -2,6 +2,8 @@
 
 ghost use Rattle.std.specs.Prelude.{◌≡◌, IfOk, MatchResult, string_bytes, codes};
 ghost use Rattle.idsm_run.specs.ConfigTexts.{bad_config_text};
+ghost use Rattle.idsm_run.specs.FoldedJournal.{bad_line};
+ghost use Rattle.idsm_run.specs.JournalTexts.{bad_journal_text};
 ghost use Rattle.idsm_run.specs.Messages.{bad_message_text};
 ghost use Rattle.idsm_run.specs.Saying.{heard, Says, TellsStop, named_text, no_memory_text};
 
@@ -43,7 +45,9 @@ pub(crate) fn tell<K: Sink>(alloc: Global, stop: Stop<'_>, out: &mut K) -> u8
         Stop::TooLong(name) => tell_name(too_long_text(alloc, name), TOO_LONG, out),
         Stop::BadConfig(fault) => tell_name(bad_config_line(alloc, fault), BAD_CONFIG, out),
         Stop::NotBuilt => say(b"not built\n", NOT_BUILT, out),
-        Stop::BadJournal => say(b"bad journal\n", BAD_JOURNAL, out),
+        Stop::BadJournal { line, number } => {
+            tell_name(bad_journal_line(alloc, line, number), BAD_JOURNAL, out)
+        }
         Stop::CannotWrite => say(b"cannot write\n", CANNOT_WRITE, out),
         Stop::BadMessage(bad) => tell_name(bad_message_line(alloc, bad), BAD_MESSAGE, out),
         Stop::NoMemory => say(b"no memory\n", NO_MEMORY, out),
@@ -88,6 +92,12 @@ fn bad_config_line(alloc: Global, fault: ConfigFault) -> Result<String, AllocErr
         ConfigPlace::Class(index) => format!(in alloc; "bad config {number} at class {index}\n"),
         ConfigPlace::Event(index) => format!(in alloc; "bad config {number} at event {index}\n"),
     }
+}
+
+fn bad_journal_line(alloc: Global, line: u64, number: u8) -> Result<String, AllocError>
+    ensures { IfOk result (λ text. string_bytes text ≡ bad_journal_text (bad_line line number)) }
+{
+    format!(in alloc; "bad journal line {line}: {number}\n")
 }
 
 fn bad_message_line(alloc: Global, bad: BadMessage) -> Result<String, AllocError>

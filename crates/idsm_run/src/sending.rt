@@ -5,8 +5,7 @@ ghost use Rattle.ids_types.specs.Plain.{plain_entry, plain_carried};
 ghost use Rattle.ids_types.specs.Turns.{turn_at};
 ghost use Rattle.ids_config.specs.Parts.{event_at};
 ghost use Rattle.ids_frame.specs.Spelling.{spelling};
-ghost use Rattle.idsm_run.specs.PlainJournal.{TurnFits, EntryFits, ReportFits, ContextFits};
-ghost use Rattle.idsm_run.specs.Sending.{message_of, context_sent, entry_messages, turn_messages, messages_of, ends_of, entry_count, turn_count, count_of};
+ghost use Rattle.idsm_run.specs.Sending.{IsShort, CanSend, CanSendTurn, message_of, context_sent, entry_messages, turn_messages, messages_of, ends_of, entry_count, turn_count, count_of};
 
 use arrayvec::ArrayVec;
 use ids_config::Config;
@@ -29,7 +28,7 @@ pub(crate) fn messages_of_history(
     config: &Config,
     history: &History,
 ) -> Result<Sent, NoMemory>
-    requires { AllByRecursion (TurnFits (length config.now.events)) history.now.turns }
+    requires { AllByRecursion (CanSendTurn (length config.now.events)) history.now.turns }
     ensures bytes { IfOk result
         (λ sent. sent.bytes.items ≡ messages_of config.now history.now.turns) }
     ensures ends { IfOk result (λ sent. sent.ends.items ≡ ends_of config.now history.now.turns) }
@@ -57,7 +56,7 @@ fn push_turn(
     out: &mut Vec<u8>,
 ) -> Result<u64, NoMemory>
     requires turn { turn < length history.now.turns }
-    requires fits { TurnFits (length config.now.events) (turn_at history.now.turns turn) }
+    requires fits { CanSendTurn (length config.now.events) (turn_at history.now.turns turn) }
     ensures bytes { OnOk result (out.new.items
         ≡ out.old.items ++ turn_messages config.now (turn_at history.now.turns turn)) }
     ensures count { IfOk result (λ n. n ≡ turn_count (turn_at history.now.turns turn)) }
@@ -72,7 +71,7 @@ fn push_turn(
 
 /// Appends the message of an entry, and returns how many it is: 1 for a report, 0 for a control.
 fn push_entry(config: &Config, entry: &Entry<Plain<'_>>, out: &mut Vec<u8>) -> Result<u64, NoMemory>
-    requires { EntryFits (length config.now.events) (plain_entry entry.now) }
+    requires { CanSend (length config.now.events) (plain_entry entry.now).act }
     ensures bytes { OnOk result
         (out.new.items ≡ out.old.items ++ entry_messages config.now (plain_entry entry.now)) }
     ensures count { IfOk result (λ n. n ≡ entry_count (plain_entry entry.now)) }
@@ -102,7 +101,7 @@ fn message<'a>(
     context: &Carried<Plain<'a>>,
 ) -> Message<'a>
     requires event { event.0 < length config.now.events }
-    requires context { ContextFits (plain_carried context.now) }
+    requires context { IsShort (plain_carried context.now) }
     ensures parts { result ≡ message_of config.now event.0 count stamp (plain_carried context.now) }
     ensures short { length (spelling result) ≤ MAX_BYTES }
 {
@@ -151,7 +150,7 @@ fn source_of(config: &Config, event: EventIndex) -> Source
 
 /// The context that a message takes along.
 fn context_of<'a>(context: &Carried<Plain<'a>>) -> Option<Context<'a>>
-    requires { ContextFits (plain_carried context.now) }
+    requires { IsShort (plain_carried context.now) }
     ensures { result ≡ context_sent (plain_carried context.now) }
 {
     match context {

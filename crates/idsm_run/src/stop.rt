@@ -15,9 +15,10 @@ pub(crate) enum Stop<'a> {
     TooLong(&'a str),
     /// The configuration has this fault.
     BadConfig(ConfigFault),
-    /// The configuration uses what the chain cannot mean yet.
+    /// The configuration or the journal uses what the chain cannot mean yet.
     NotBuilt,
-    BadJournal,
+    /// The first bad line of the journal, from 1, and its first fault.
+    BadJournal { line: u64, number: u8 },
     CannotWrite,
     NoMemory,
     /// No message begins at this place of the file of messages.
