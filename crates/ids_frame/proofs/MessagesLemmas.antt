@@ -1,85 +1,258 @@
--- Bytes are the spellings of at most one list of messages, and stop to be so at one place.
+-- What a file holds is its one list of messages, or the one place where they stop.
 use Rattle.std.proofs.Common.{◌≡◌, ℕ, zero, suc, ◌-◌, ◌<◌, ◌≤◌, List, [], ◌∷◌, ◌++◌, length, Ok, Err, refl, sym, ap, subst, ◌∙◌, append_assoc, arith}
+use Rattle.std.specs.Prelude.{IsOk, IfOk, IfErr, IsErrOf}
 use Rattle.std.proofs.lemmas.List.{append-nil, length-append}
-use Rattle.std.proofs.lemmas.Grind.{flat_map-append}
 use Rattle.ids_frame.specs.declared.fault.FrameFault.{FrameFault}
 use Rattle.ids_frame.specs.declared.fault.FrameFault.TheVariants.{Short, UnknownVersion, UnknownPart}
 use Rattle.ids_frame.specs.declared.fault.BadMessage.{BadMessage}
 use Rattle.ids_frame.specs.Message.{MessageParts, FitsMessage}
 use Rattle.ids_frame.specs.Spelling.{stamp_part, context_part, signature_part, spelling}
-use Rattle.ids_frame.specs.Reading.{first_at, message_at, messages_in}
-use Rattle.ids_frame.specs.Decoding.{IsCut}
-use Rattle.ids_frame.specs.Messages.{joined, AreMessages, IsJoined, HasMessages, CauseOf, Breaks}
-use Rattle.ids_frame.proofs.DecodingLemmas.{one_message_lem, short_if_cut, cut_if_short, strange_version, strange_part}
-use Rattle.ids_frame.proofs.PartLemmas.{IsBytes, ok_is, not_both, err_is}
+use Rattle.ids_frame.specs.Reading.{Read, first_at, message_at}
+use Rattle.ids_frame.specs.Messages.{joined, AreMessages, IsJoined, HasMessages, CauseOf, Breaks, Held, held_in, messages_read}
+use Rattle.ids_frame.specs.MessagesView.{messages_of}
+use Rattle.ids_frame.proofs.DecodingLemmas.{short_if_cut, cut_if_short, strange_version, strange_part}
+use Rattle.ids_frame.proofs.PartLemmas.{IsBytes, ok_is, not_both}
 use Rattle.ids_frame.proofs.FirstByteLemmas.{version_at, part_at}
 use Rattle.ids_frame.proofs.ReadingLemmas.{message_is_part, first_stops}
 
--- ---- one way to take messages until there is none
+-- ---- what stands before some bytes
 
--- the bytes begin with no message
-abbrev Stuck : List ℕ → Type 0
-Stuck bytes = (m : MessageParts) (rest : List ℕ) → FitsMessage m → bytes ≡ spelling m ++ rest → ⊥
+-- some messages, and then these bytes
+pub record Behind (bytes rest : List ℕ) : Type 0 where
+  pub front : List MessageParts
+  pub fit : AreMessages front
+  pub whole : bytes ≡ joined front ++ rest
 
--- where there is a fault no message stands
-stuck_if_fault : (bytes : List ℕ) (d : FrameFault) → message_at bytes ≡ Err d → Stuck bytes
-stuck_if_fault bytes d e m rest fits whole =
-    not_both (m, rest) d (sym (message_is_part.again m rest fits) ∙ ap message_at (sym whole) ∙ e)
+-- before all bytes there is no message
+pub behind_none : (bytes : List ℕ) → Behind bytes bytes
+behind_none bytes = record { front = []; fit = tt; whole = refl }
 
--- no message stands at the end
-stuck_at_end : Stuck []
-stuck_at_end m rest fits whole = absurd (omega (arith, ap (λ (l : List ℕ). length l) whole))
+-- one message more
+pub behind_more : (bytes rest tail : List ℕ) (m : MessageParts) → FitsMessage m → bytes ≡ spelling m ++ rest → Behind rest tail → Behind bytes tail
+behind_more bytes rest tail m fits whole behind = record {
+  front = m ∷ behind.front;
+  fit = (fits, behind.fit);
+  whole = whole ∙ ap (λ (l : List ℕ). spelling m ++ l) behind.whole ∙ sym (append_assoc (spelling m) (joined behind.front) tail);
+}
 
--- two ways to take messages until there is none are one
-one_way : (xs ys : List MessageParts) (a b : List ℕ) → AreMessages xs → AreMessages ys → Stuck a → Stuck b
-    → joined xs ++ a ≡ joined ys ++ b → (xs ≡ ys) × (a ≡ b)
-one_way [] [] a b fit fit' stuck stuck' same = (refl, same)
-one_way [] (y ∷ ys) a b fit fit' stuck stuck' same =
-    absurd (stuck y (joined ys ++ b) fit'.0 (same ∙ append_assoc (spelling y) (joined ys) b))
-one_way (x ∷ xs) [] a b fit fit' stuck stuck' same =
-    absurd (stuck' x (joined xs ++ a) fit.0 (sym same ∙ append_assoc (spelling x) (joined xs) a))
-one_way (x ∷ xs) (y ∷ ys) a b fit fit' stuck stuck' same =
-    let regrouped : spelling x ++ (joined xs ++ a) ≡ spelling y ++ (joined ys ++ b) =
-    sym (append_assoc (spelling x) (joined xs) a) ∙ same ∙ append_assoc (spelling y) (joined ys) b in
-    let first = one_message_lem x y (joined xs ++ a) (joined ys ++ b) fit.0 fit'.0 regrouped in
-    let others = one_way xs ys a b fit.1 fit'.1 stuck stuck' first.1 in
-    (ap (λ (z : MessageParts). z ∷ xs) first.0 ∙ ap (λ (zs : List MessageParts). y ∷ zs) others.0, others.1)
+-- what stands behind bytes are bytes
+IsBytes-back : (xs ys : List ℕ) → IsBytes (xs ++ ys) → IsBytes ys
+IsBytes-back [] ys h i = h i
+IsBytes-back (x ∷ xs) ys h i = IsBytes-back xs ys (λ j. h (suc j)) i
 
--- ---- the messages of bytes
+-- the same behind messages
+pub behind_bytes : (bytes rest : List ℕ) → Behind bytes rest → IsBytes bytes → IsBytes rest
+behind_bytes bytes rest behind fits = IsBytes-back (joined behind.front) rest (subst IsBytes behind.whole fits)
 
 -- the end is too short
 end_is_short : message_at [] ≡ Err Short
 unfolding message_at first_at
 end_is_short = refl
 
--- bytes that are the spellings of messages hold these messages
-pub messages_of : (messages : List MessageParts) (most : ℕ) (bytes : List ℕ) → AreMessages messages → bytes ≡ joined messages
-    → length bytes ≤ most → messages_in most bytes ≡ messages
-unfolding messages_in
-messages_of [] zero bytes fit whole le = refl
-messages_of [] (suc most) bytes fit whole le = rw (whole, end_is_short) refl
-messages_of (m ∷ messages) zero bytes fit whole le =
-    absurd (omega (arith, le, ap (λ (l : List ℕ). length l) whole))
-messages_of (m ∷ messages) (suc most) bytes fit whole le =
-    let read : message_at bytes ≡ Ok (m, joined messages) = ap message_at whole ∙ message_is_part.again m (joined messages) fit.0 in
+-- fewer bytes stand behind a message
+pub fewer_behind : (bytes : List ℕ) (m : MessageParts) (rest : List ℕ) → IsBytes bytes → message_at bytes ≡ Ok (m, rest) → length rest < length bytes
+fewer_behind bytes m rest fits read =
+    let size = ap (λ (l : List ℕ). length l) (message_is_part.takes bytes m rest fits read).0.parts in
+    omega (arith, size, length-append (stamp_part m.stamp ++ context_part m.context ++ signature_part m.signature) rest)
+
+-- ---- the end of the messages
+
+-- nothing is left, or what begins with no message
+abbrev pub IsEnd : List ℕ → Type 0
+IsEnd [] = Unit {0}
+IsEnd (next ∷ rest) = (fault : FrameFault) × (message_at (next ∷ rest) ≡ Err fault)
+
+-- what a file of this size holds where its messages end so
+abbrev pub end_held : (size : ℕ) (front : List MessageParts) (tail : List ℕ) → IsEnd tail → Held
+end_held size front [] end = Ok front
+end_held size front (next ∷ rest) end = Err (record { at = size - length (next ∷ rest); fault = end.0 })
+
+-- a message at the front is read, with what stands behind it
+front_read : (m : MessageParts) (front : List MessageParts) (tail : List ℕ) → FitsMessage m
+    → message_at (joined (m ∷ front) ++ tail) ≡ Ok (m, joined front ++ tail)
+front_read m front tail fits =
+    ap message_at (append_assoc (spelling m) (joined front) tail) ∙ message_is_part.again m (joined front ++ tail) fits
+
+-- and fewer bytes are left behind it
+fewer_left : (m : MessageParts) (front : List MessageParts) (tail : List ℕ) (most : ℕ)
+    → length (joined (m ∷ front) ++ tail) ≤ suc most → length (joined front ++ tail) ≤ most
+fewer_left m front tail most le =
+    let size = ap (λ (l : List ℕ). length l) (append_assoc (spelling m) (joined front) tail) in
+    omega (arith, le, size, length-append (spelling m) (joined front ++ tail))
+
+-- messages and their end are what the bytes hold
+held_at_end : (size most : ℕ) (front : List MessageParts) (tail : List ℕ) (end : IsEnd tail) → AreMessages front
+    → length (joined front ++ tail) ≤ most → held_in size most (joined front ++ tail) ≡ end_held size front tail end
+unfolding held_in
+held_at_end size zero [] [] end fit le = refl
+held_at_end size (suc most) [] [] end fit le = refl
+held_at_end size zero [] (next ∷ rest) end fit le = absurd (omega arith)
+held_at_end size (suc most) [] (next ∷ rest) end fit le = rw end.1 refl
+held_at_end size zero (m ∷ front) tail end fit le = absurd (omega arith)
+held_at_end size (suc most) (m ∷ front) [] end fit le =
+    rw (front_read m front [] fit.0, held_at_end size most front [] end fit.1 (fewer_left m front [] most le)) refl
+held_at_end size (suc most) (m ∷ front) (next ∷ rest) end fit le =
+    let tail = next ∷ rest in
+    rw (front_read m front tail fit.0, held_at_end size most front tail end fit.1 (fewer_left m front tail most le)) refl
+
+-- bytes with the end of their messages
+pub record Ends (bytes : List ℕ) : Type 0 where
+  pub tail : List ℕ
+  pub behind : Behind bytes tail
+  pub end : IsEnd tail
+
+-- what bytes hold is told by their end
+read_ends : (bytes : List ℕ) (e : Ends bytes) → messages_read bytes ≡ end_held (length bytes) e.behind.front e.tail e.end
+unfolding messages_read
+read_ends bytes e =
+    let size = length bytes in
+    let few : length (joined e.behind.front ++ e.tail) ≤ size = omega (arith, ap (λ (l : List ℕ). length l) e.behind.whole) in
+    ap (λ (l : List ℕ). held_in size size l) e.behind.whole ∙ held_at_end size size e.behind.front e.tail e.end e.behind.fit few
+
+-- by what is read at the front, where the bytes behind it have an end
+ends_by : (next : ℕ) (rest : List ℕ) (read : Read MessageParts) → IsBytes (next ∷ rest) → message_at (next ∷ rest) ≡ read
+    → ((behind : List ℕ) → IsBytes behind → length behind < suc (length rest) → Ends behind) → Ends (next ∷ rest)
+ends_by next rest (Ok x) fits e others =
+    let t = message_is_part.takes (next ∷ rest) x.0 x.1 fits e in
+    let more = others x.1 t.0.rest_fits (fewer_behind (next ∷ rest) x.0 x.1 fits e) in
+    record { tail = more.tail; behind = behind_more (next ∷ rest) x.1 more.tail x.0 t.1 t.0.parts more.behind; end = more.end }
+ends_by next rest (Err d) fits e others =
+    record { tail = next ∷ rest; behind = behind_none (next ∷ rest); end = (d, e) }
+
+-- all bytes have one
+ends : (most : ℕ) (bytes : List ℕ) → IsBytes bytes → length bytes ≤ most → Ends bytes
+ends most [] fits le = record { tail = []; behind = behind_none []; end = tt }
+ends zero (next ∷ rest) fits le = absurd (omega arith)
+ends (suc most) (next ∷ rest) fits le =
+    ends_by next rest (message_at (next ∷ rest)) fits refl (λ behind fits' lt. ends most behind fits' (omega arith))
+
+-- ---- what a file holds, and its spellings
+
+-- messages that are joined are held
+pub joined_read : (bytes : List ℕ) (messages : List MessageParts) → IsJoined bytes messages → messages_read bytes ≡ Ok messages
+joined_read bytes messages joins =
+    read_ends bytes (
+    record {
+      tail = [];
+      behind = record { front = messages; fit = joins.fit; whole = joins.whole ∙ sym (append-nil (joined messages)) };
+      end = tt;
+    }
+    )
+
+-- by the end of the bytes
+ok_at_end : (bytes : List ℕ) (front : List MessageParts) (tail : List ℕ) (end : IsEnd tail) (messages : List MessageParts) → AreMessages front → bytes ≡ joined front ++ tail
+    → end_held (length bytes) front tail end ≡ Ok messages → IsJoined bytes messages
+ok_at_end bytes front [] end messages fit whole e =
+    let same : front ≡ messages = cc in
+    subst (IsJoined bytes) same (record { fit = fit; whole = whole ∙ append-nil (joined front) })
+ok_at_end bytes front (next ∷ rest) end messages fit whole e = absurd cc
+
+-- messages that are held are joined
+pub read_joined : (bytes : List ℕ) (messages : List MessageParts) → IsBytes bytes → messages_read bytes ≡ Ok messages → IsJoined bytes messages
+read_joined bytes messages fits e =
+    let n = ends (length bytes) bytes fits (omega arith) in
+    ok_at_end bytes n.behind.front n.tail n.end messages n.behind.fit n.behind.whole (sym (read_ends bytes n) ∙ e)
+
+-- a fault behind messages is the one that is held
+pub stop_read : (bytes rest : List ℕ) (d : FrameFault) (at : ℕ) → Behind bytes rest → (length rest ≡ 0 → ⊥) → at ≡ length bytes - length rest
+    → message_at rest ≡ Err d → messages_read bytes ≡ Err (record { at = at; fault = d })
+stop_read bytes [] d at behind some place e = absurd (some refl)
+stop_read bytes (next ∷ rest) d at behind some place e =
+    rw place (read_ends bytes (record { tail = next ∷ rest; behind = behind; end = (d, e) }))
+
+-- a cause has its fault
+cause_stops : (d : FrameFault) (bytes : List ℕ) → IsBytes bytes → CauseOf d bytes → message_at bytes ≡ Err d
+cause_stops Short bytes fits cause = short_if_cut bytes fits cause (message_at bytes) refl
+cause_stops UnknownVersion bytes fits cause = first_stops bytes UnknownVersion (version_at bytes cause)
+cause_stops UnknownPart bytes fits cause = first_stops bytes UnknownPart (part_at bytes cause)
+
+-- each fault has its cause
+cause_of : (bytes : List ℕ) (d : FrameFault) → IsBytes bytes → message_at bytes ≡ Err d → CauseOf d bytes
+cause_of bytes Short fits e = cut_if_short bytes fits e
+cause_of bytes UnknownVersion fits e = strange_version bytes e
+cause_of bytes UnknownPart fits e = strange_part bytes e
+
+-- the place where messages stop is the one that is held
+pub breaks_read : (bytes : List ℕ) (bad : BadMessage) → IsBytes bytes → Breaks bytes bad → messages_read bytes ≡ Err bad
+breaks_read bytes bad fits breaks =
+    let tail = breaks.next ∷ breaks.rest in
+    let behind : Behind bytes tail = record { front = breaks.front; fit = breaks.fit; whole = breaks.whole } in
+    let size = ap (λ (l : List ℕ). length l) breaks.whole in
+    let place : bad.at ≡ length bytes - length tail = omega (arith, breaks.place, size, length-append (joined breaks.front) tail) in
+    let some : length tail ≡ 0 → ⊥ = λ none. omega (arith, none) in
+    stop_read bytes tail bad.fault bad.at behind some place (cause_stops bad.fault tail (behind_bytes bytes tail behind fits) breaks.cause)
+
+-- by the end of the bytes
+stop_at_end : (bytes : List ℕ) (front : List MessageParts) (tail : List ℕ) (end : IsEnd tail) (bad : BadMessage) → IsBytes tail → AreMessages front → bytes ≡ joined front ++ tail
+    → end_held (length bytes) front tail end ≡ Err bad → Breaks bytes bad
+stop_at_end bytes front [] end bad fits fit whole e = absurd cc
+stop_at_end bytes front (next ∷ rest) end bad fits fit whole e =
+    let tail = next ∷ rest in
+    let held : BadMessage = record { at = length bytes - length tail; fault = end.0 } in
+    let same : held ≡ bad = cc in
     let size = ap (λ (l : List ℕ). length l) whole in
-    rw (read, messages_of messages most (joined messages) fit.1 refl (omega (arith, le, size, length-append (spelling m) (joined messages)))) refl
+    subst (Breaks bytes) same (
+    record {
+      front = front;
+      fit = fit;
+      next = next;
+      rest = rest;
+      whole = whole;
+      place = omega (arith, size, length-append (joined front) tail);
+      cause = cause_of tail end.0 fits end.1;
+    }
+    )
 
--- what a `Messages` over these bytes is seen as
-abbrev value : List ℕ → List MessageParts
-value bytes = messages_in (length bytes) bytes
+-- the fault that is held is the place where messages stop
+pub read_breaks : (bytes : List ℕ) (bad : BadMessage) → IsBytes bytes → messages_read bytes ≡ Err bad → Breaks bytes bad
+read_breaks bytes bad fits e =
+    let n = ends (length bytes) bytes fits (omega arith) in
+    stop_at_end bytes n.behind.front n.tail n.end bad (behind_bytes bytes n.tail n.behind fits) n.behind.fit n.behind.whole (sym (read_ends bytes n) ∙ e)
 
--- and are seen as them
-pub value_is : (bytes : List ℕ) (messages : List MessageParts) → IsJoined bytes messages → value bytes ≡ messages
-value_is bytes messages joins = messages_of messages (length bytes) bytes joins.fit joins.whole (omega arith)
+-- ---- what was read
 
--- what is seen is what the bytes spell
-pub value_joins : (bytes : List ℕ) → HasMessages bytes → IsJoined bytes (value bytes)
-value_joins bytes has = rw (value_is bytes has.0 has.1) has.1
+-- the messages are those that the bytes are joined of
+pub found_of : (bytes : List ℕ) (result : Held) → IsBytes bytes → result ≡ messages_read bytes → IfOk result (IsJoined bytes)
+found_of bytes (Ok messages) fits e = read_joined bytes messages fits (sym e)
+found_of bytes (Err bad) fits e = tt
+
+-- there are no others
+pub only_of : (bytes : List ℕ) (result : Held) → result ≡ messages_read bytes → (messages : List MessageParts) → IsJoined bytes messages
+    → IsOk result × IfOk result (λ m. m ≡ messages)
+only_of bytes result e messages joins = rw (e, joined_read bytes messages joins) (refl, refl)
+
+-- the fault is where the messages stop
+pub place_of : (bytes : List ℕ) (result : Held) → IsBytes bytes → result ≡ messages_read bytes → IfErr result (Breaks bytes)
+place_of bytes (Ok messages) fits e = tt
+place_of bytes (Err bad) fits e = read_breaks bytes bad fits (sym e)
+
+-- there is no other place
+pub place_only_of : (bytes : List ℕ) (result : Held) → IsBytes bytes → result ≡ messages_read bytes → (bad : BadMessage) → Breaks bytes bad → IsErrOf result bad
+place_only_of bytes result fits e bad breaks = rw (e, breaks_read bytes bad fits breaks) refl
+
+-- no more is left than there is
+pub left_is_less : (bytes rest : List ℕ) → Behind bytes rest → length rest ≤ length bytes
+left_is_less bytes rest behind =
+    omega (arith, ap (λ (l : List ℕ). length l) behind.whole, length-append (joined behind.front) rest)
+
+-- where nothing is left all are messages
+pub all_read : (bytes rest : List ℕ) → Behind bytes rest → length rest ≡ 0 → HasMessages bytes
+all_read bytes [] behind none = (behind.front, record { fit = behind.fit; whole = behind.whole ∙ append-nil (joined behind.front) })
+all_read bytes (next ∷ rest) behind none = absurd (omega (arith, none))
+
+-- ---- taking messages out
+
+-- bytes of messages hold what they are seen as
+pub held_is : (bytes : List ℕ) → HasMessages bytes → Ok (messages_of bytes) ≡ messages_read bytes
+held_is bytes has = rw (joined_read bytes has.0 has.1) refl
+
+-- the messages of bytes that hold some
+pub value_is : (bytes : List ℕ) (messages : List MessageParts) → IsJoined bytes messages → messages_of bytes ≡ messages
+value_is bytes messages joins = rw (joined_read bytes messages joins) refl
 
 -- the first message and the others
 pub record Pops (bytes : List ℕ) (m : MessageParts) (rest : List ℕ) : Type 0 where
-  pub first : value bytes ≡ m ∷ value rest
+  pub first : messages_of bytes ≡ m ∷ messages_of rest
   pub fits : FitsMessage m
   pub others : HasMessages rest
 
@@ -87,9 +260,8 @@ pub record Pops (bytes : List ℕ) (m : MessageParts) (rest : List ℕ) : Type 0
 pops_of : (messages : List MessageParts) (bytes : List ℕ) (m : MessageParts) (rest : List ℕ) → IsJoined bytes messages → message_at bytes ≡ Ok (m, rest) → Pops bytes m rest
 pops_of [] bytes m rest joins read = not_both (m, rest) Short (sym read ∙ ap message_at joins.whole ∙ end_is_short)
 pops_of (x ∷ xs) bytes m rest joins read =
-    let whole : Pops bytes x (joined xs) =
     let others : IsJoined (joined xs) xs = record { fit = joins.fit.1; whole = refl } in
-    record {
+    let whole : Pops bytes x (joined xs) = record {
       first = value_is bytes (x ∷ xs) joins ∙ ap (λ (zs : List MessageParts). x ∷ zs) (sym (value_is (joined xs) xs others));
       fits = joins.fit.0;
       others = (xs, others);
@@ -104,139 +276,8 @@ pub pops : (bytes : List ℕ) (m : MessageParts) (rest : List ℕ) → HasMessag
 pops bytes m rest has read = pops_of has.0 bytes m rest has.1 read
 
 -- where no message is read there is none
-none_in : (most : ℕ) (bytes : List ℕ) (d : FrameFault) → message_at bytes ≡ Err d → messages_in most bytes ≡ []
-unfolding messages_in
-none_in zero bytes d e = refl
-none_in (suc most) bytes d e = rw e refl
-
--- the same of what is seen
-pub none_left : (bytes : List ℕ) (d : FrameFault) → message_at bytes ≡ Err d → value bytes ≡ []
-none_left bytes d e = none_in (length bytes) bytes d e
-
--- ---- checking all messages
-
--- some messages stand before the rest
-pub record HasRead (bytes rest : List ℕ) : Type 0 where
-  pub front : List MessageParts
-  pub fit : AreMessages front
-  pub whole : bytes ≡ joined front ++ rest
-
--- what stands behind bytes are bytes
-IsBytes-back : (xs ys : List ℕ) → IsBytes (xs ++ ys) → IsBytes ys
-IsBytes-back [] ys h i = h i
-IsBytes-back (x ∷ xs) ys h i = IsBytes-back xs ys (λ j. h (suc j)) i
-
--- what is left are bytes
-pub left_fits : (bytes rest : List ℕ) → HasRead bytes rest → IsBytes bytes → IsBytes rest
-left_fits bytes rest read fits = IsBytes-back (joined read.front) rest (subst IsBytes read.whole fits)
-
--- at first nothing is read
-pub nothing_read : (bytes : List ℕ) → HasRead bytes bytes
-nothing_read bytes = record { front = []; fit = tt; whole = refl }
-
--- one more message is a message
-all_of_one_more : (messages : List MessageParts) (m : MessageParts) → AreMessages messages → FitsMessage m → AreMessages (messages ++ m ∷ [])
-all_of_one_more [] m fit fits = (fits, tt)
-all_of_one_more (x ∷ xs) m fit fits = (fit.0, all_of_one_more xs m fit.1 fits)
-
--- one more message adds its spelling
-joined_one_more : (messages : List MessageParts) (m : MessageParts) → joined (messages ++ m ∷ []) ≡ joined messages ++ spelling m
-joined_one_more messages m =
-    flat_map-append spelling messages (m ∷ []) ∙ ap (λ (l : List ℕ). joined messages ++ l) (append-nil (spelling m))
-
--- a message more stands before what is left
-pub one_more_read : (bytes rest : List ℕ) (m : MessageParts) (behind : List ℕ) → IsBytes rest → HasRead bytes rest → message_at rest ≡ Ok (m, behind) → HasRead bytes behind
-one_more_read bytes rest m behind fits read next =
-    let t = message_is_part.takes rest m behind fits next in
-    record {
-      front = read.front ++ m ∷ [];
-      fit = all_of_one_more read.front m read.fit t.1;
-      whole = read.whole ∙ ap (λ (l : List ℕ). joined read.front ++ l) t.0.parts
-          ∙ sym (append_assoc (joined read.front) (spelling m) behind)
-          ∙ ap (λ (l : List ℕ). l ++ behind) (sym (joined_one_more read.front m));
-    }
-
--- fewer bytes stand behind a message
-pub fewer_behind : (bytes : List ℕ) (m : MessageParts) (rest : List ℕ) → IsBytes bytes → message_at bytes ≡ Ok (m, rest) → length rest < length bytes
-fewer_behind bytes m rest fits read =
-    let size = ap (λ (l : List ℕ). length l) (message_is_part.takes bytes m rest fits read).0.parts in
-    omega (arith, size, length-append (stamp_part m.stamp ++ context_part m.context ++ signature_part m.signature) rest)
-
--- where nothing is left all are messages
-pub all_read : (bytes rest : List ℕ) → HasRead bytes rest → length rest ≡ 0 → HasMessages bytes
-all_read bytes [] read none = (read.front, record { fit = read.fit; whole = read.whole ∙ append-nil (joined read.front) })
-all_read bytes (next ∷ rest) read none = absurd (omega (arith, none))
-
--- each fault has its cause
-cause_of : (bytes : List ℕ) (d : FrameFault) → IsBytes bytes → message_at bytes ≡ Err d → CauseOf d bytes
-cause_of bytes Short fits e = cut_if_short bytes fits e
-cause_of bytes UnknownVersion fits e = strange_version bytes e
-cause_of bytes UnknownPart fits e = strange_part bytes e
-
--- a fault is the place where the messages stop
-pub breaks_of : (bytes rest : List ℕ) (d : FrameFault) (at : ℕ) → HasRead bytes rest → IsBytes rest → (length rest ≡ 0 → ⊥) → at ≡ length bytes - length rest
-    → message_at rest ≡ Err d → Breaks bytes (record { at = at; fault = d })
-breaks_of bytes [] d at read fits some place e = absurd (some refl)
-breaks_of bytes (next ∷ rest) d at read fits some place e =
-    let size = ap (λ (l : List ℕ). length l) read.whole in
-    record {
-      front = read.front;
-      fit = read.fit;
-      next = next;
-      rest = rest;
-      whole = read.whole;
-      place = omega (arith, place, size, length-append (joined read.front) (next ∷ rest));
-      cause = cause_of (next ∷ rest) d fits e;
-    }
-
--- ---- one place where bytes stop to be messages
-
--- a cause has its fault
-cause_stops : (d : FrameFault) (bytes : List ℕ) → IsBytes bytes → CauseOf d bytes → message_at bytes ≡ Err d
-cause_stops Short bytes fits cause = short_if_cut bytes fits cause (message_at bytes) refl
-cause_stops UnknownVersion bytes fits cause = first_stops bytes UnknownVersion (version_at bytes cause)
-cause_stops UnknownPart bytes fits cause = first_stops bytes UnknownPart (part_at bytes cause)
-
--- the bytes at the place of a break have its fault
-break_stops : (bytes : List ℕ) (bad : BadMessage) → IsBytes bytes → (breaks : Breaks bytes bad) → message_at (breaks.next ∷ breaks.rest) ≡ Err bad.fault
-break_stops bytes bad fits breaks =
-    let tail = breaks.next ∷ breaks.rest in
-    cause_stops bad.fault tail (IsBytes-back (joined breaks.front) tail (subst IsBytes breaks.whole fits)) breaks.cause
-
--- there is one such place
-pub breaks_once : (bytes : List ℕ) (a b : BadMessage) → IsBytes bytes → Breaks bytes a → Breaks bytes b → a ≡ b
-breaks_once bytes a b fits p q =
-    let stop_a = break_stops bytes a fits p in
-    let stop_b = break_stops bytes b fits q in
-    let way = one_way p.front q.front (p.next ∷ p.rest) (q.next ∷ q.rest) p.fit q.fit (stuck_if_fault _ a.fault stop_a) (stuck_if_fault _ b.fault stop_b) (sym p.whole ∙ q.whole) in
-    let place : a.at ≡ b.at = p.place ∙ ap (λ (ms : List MessageParts). length (joined ms)) way.0 ∙ sym q.place in
-    let fault : a.fault ≡ b.fault = err_is b.fault a.fault (sym stop_b ∙ ap message_at (sym way.1) ∙ stop_a) in
-    let moved : BadMessage = record { at = b.at; fault = a.fault } in
-    let first : a ≡ moved = ap (λ (n : ℕ). record { at = n; fault = a.fault }) place in
-    let second : moved ≡ b = ap (λ (f : FrameFault). record { at = b.at; fault = f }) fault in
-    first ∙ second
-
--- there is none where all are messages
--- a part of a message does not begin with a message
-cut_sticks : (bytes : List ℕ) → IsCut bytes → Stuck bytes
-cut_sticks bytes cut m rest fits whole =
-    let longer : spelling m ++ (rest ++ cut.next ∷ cut.more) ≡ spelling cut.message ++ [] =
-    sym (append_assoc (spelling m) rest (cut.next ∷ cut.more)) ∙ ap (λ (l : List ℕ). l ++ cut.next ∷ cut.more) (sym whole)
-    ∙ cut.whole ∙ sym (append-nil (spelling cut.message)) in
-    let both = one_message_lem m cut.message (rest ++ cut.next ∷ cut.more) [] fits cut.fits longer in
-    absurd (omega (arith, ap (λ (l : List ℕ). length l) both.1, length-append rest (cut.next ∷ cut.more)))
-
--- bytes that cannot begin with a message, for a cause, begin with none
-cause_sticks : (d : FrameFault) (bytes : List ℕ) → CauseOf d bytes → Stuck bytes
-cause_sticks Short bytes cause = cut_sticks bytes cause
-cause_sticks UnknownVersion bytes cause =
-    stuck_if_fault bytes UnknownVersion (first_stops bytes UnknownVersion (version_at bytes cause))
-cause_sticks UnknownPart bytes cause =
-    stuck_if_fault bytes UnknownPart (first_stops bytes UnknownPart (part_at bytes cause))
-
-pub no_break : (bytes : List ℕ) (bad : BadMessage) → HasMessages bytes → Breaks bytes bad → ⊥
-no_break bytes bad has breaks =
-    let tail = breaks.next ∷ breaks.rest in
-    let same : joined has.0 ++ [] ≡ joined breaks.front ++ tail = append-nil (joined has.0) ∙ sym has.1.whole ∙ breaks.whole in
-    let way = one_way has.0 breaks.front [] tail has.1.fit breaks.fit stuck_at_end (cause_sticks bad.fault tail breaks.cause) same in
-    absurd (omega (arith, ap (λ (l : List ℕ). length l) way.1))
+pub none_left : (bytes : List ℕ) (d : FrameFault) → message_at bytes ≡ Err d → messages_of bytes ≡ []
+none_left [] d e = value_is [] [] (record { fit = tt; whole = refl })
+none_left (next ∷ rest) d e =
+    let bytes = next ∷ rest in
+    rw (read_ends bytes (record { tail = bytes; behind = behind_none bytes; end = (d, e) })) refl

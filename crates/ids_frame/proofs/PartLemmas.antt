@@ -67,12 +67,6 @@ pub bind_err : {A B : Type 0} (r : Result A FrameFault) (f : A → Result B Fram
 bind_err (Ok x) f d e = inr (x, refl, e)
 bind_err (Err c) f d e = inl cc
 
--- steps that go on alike are alike
-bind_same : {A B : Type 0} (r : Result A FrameFault) (f g : A → Result B FrameFault)
-    → ((x : A) → f x ≡ g x) → (r >>= f) ≡ (r >>= g)
-bind_same (Ok x) f g h = h x
-bind_same (Err d) f g h = refl
-
 -- the way that a test took
 pub chosen : {A : Type 0} (b : Bool) (x y z : A) → cond b x y ≡ z
     → ((b ≡ true) × (x ≡ z)) ⊎ ((b ≡ false) × (y ≡ z))

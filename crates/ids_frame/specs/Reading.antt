@@ -1,9 +1,7 @@
 -- Reading a message from left to right: each part from the front of bytes, with the bytes that are
 -- left, or the first fault.
 -- Source: the layout of specs/Spelling.antt.
-use Rattle.std.specs.Prelude.{◌≡◌, ℕ, zero, suc, ◌-◌, ◌/◌, ◌%◌, ◌^◌, ◌==◌, ◌&&◌, nat_le, nat_lt, Bool, true, false, List, [], ◌∷◌, length, take, drop, Option, Some, None, Result, Ok, Err, if◌then◌else◌}
-use Rattle.std.specs.Option.{option_map_or}
-use Rattle.std.specs.Result.{result_ok}
+use Rattle.std.specs.Prelude.{◌≡◌, ℕ, ◌-◌, ◌/◌, ◌%◌, ◌^◌, ◌==◌, ◌&&◌, nat_le, nat_lt, Bool, true, false, List, [], ◌∷◌, length, take, drop, Option, Some, None, Result, Ok, Err, if◌then◌else◌}
 use Rattle.std.specs.Int.{Width, w16, w32, w64, byte_len, from_be_bytes}
 use Rattle.ids_types.specs.declared.names.Stamp.{Stamp}
 use Rattle.ids_frame.specs.declared.context.Form.{Form}
@@ -120,9 +118,3 @@ message_at bytes = do
     },
     signature.1,
   )
-
--- the messages that stand one behind the other, up to so many
-unfoldable pub messages_in : ℕ → List ℕ → List MessageParts
-messages_in zero bytes = []
-messages_in (suc most) bytes =
-    option_map_or (λ x. x.0 ∷ messages_in most x.1) (result_ok (message_at bytes)) []

@@ -26,7 +26,7 @@ pub use context::{Context, Form};
 pub use decoding::{decode, one_message};
 pub use fault::{BadMessage, FrameFault};
 pub use message::Message;
-pub use messages::Messages;
+pub use messages::{Messages, what_a_file_holds};
 pub use writing::{MAX_BYTES, TooLong, encode};
 
 #[cfg(test)]

@@ -1,7 +1,8 @@
 //! Many messages, one behind the other.
-ghost use Rattle.std.specs.Prelude.{◌≡◌, ◌∷◌, [], List, IsOk, IfOk, IfErr, OnOk, IsErrOf, IfSome, IfNone};
+ghost use Rattle.std.specs.Prelude.{◌≡◌, ℕ, ◌∷◌, [], List, IsOk, IfOk, IfErr, IsErrOf, IfSome, IfNone, ◌↔◌};
+ghost use Rattle.ids_frame.specs.Bytes.{AreBytes};
 ghost use Rattle.ids_frame.specs.Message.{MessageParts, FitsMessage};
-ghost use Rattle.ids_frame.specs.Messages.{IsJoined, HasMessages, Breaks};
+ghost use Rattle.ids_frame.specs.Messages.{IsJoined, Breaks, messages_read};
 
 use crate::decoding::message_of;
 use crate::fault::BadMessage;
@@ -16,14 +17,14 @@ pub struct Messages<'a> {
 }
 
 impl<'a> Model for Messages<'a> {
-    ghost use Rattle.std.specs.Prelude.{List, length};
+    ghost use Rattle.std.specs.Prelude.{List};
     ghost use Rattle.ids_frame.specs.Message.{MessageParts};
     ghost use Rattle.ids_frame.specs.Messages.{HasMessages};
-    ghost use Rattle.ids_frame.specs.Reading.{messages_in};
+    ghost use Rattle.ids_frame.specs.MessagesView.{messages_of};
 
     ghost Value = { List MessageParts };
 
-    ghost view = { λ m. messages_in (length m.bytes.now) m.bytes.now };
+    ghost view = { λ m. messages_of m.bytes.now };
 
     ghost invariant = { λ m. HasMessages m.bytes.now };
 }
@@ -32,14 +33,14 @@ impl<'a> Messages<'a> {
     /// The messages of these bytes, where the bytes are messages and nothing else. No bytes are no
     /// messages. Otherwise the answer is the place and the fault of the first that cannot be read.
     pub fn read(bytes: &'a [u8]) -> Result<Messages<'a>, BadMessage>
+        ensures value { result ≡ messages_read bytes.now }
         ensures found { IfOk result (IsJoined bytes.now) }
         ensures only { (messages : List MessageParts) → IsJoined bytes.now messages
             → IsOk result × IfOk result (λ m. m ≡ messages) }
         ensures place { IfErr result (Breaks bytes.now) }
         ensures place_only { (bad : BadMessage) → Breaks bytes.now bad → IsErrOf result bad }
     {
-        check_all(bytes)?;
-        Ok(Messages { bytes })
+        checked(bytes)
     }
 
     /// Takes the first message out.
@@ -59,9 +60,8 @@ impl<'a> Messages<'a> {
     }
 }
 
-fn check_all(bytes: &[u8]) -> Result<(), BadMessage>
-    ensures ok { OnOk result (HasMessages bytes.now) }
-    ensures place { IfErr result (Breaks bytes.now) }
+fn checked(bytes: &[u8]) -> Result<Messages<'_>, BadMessage>
+    ensures { result ≡ messages_read bytes.now }
 {
     let mut rest = bytes;
     while !rest.is_empty() {
@@ -73,5 +73,14 @@ fn check_all(bytes: &[u8]) -> Result<(), BadMessage>
             }
         }
     }
-    Ok(())
+    Ok(Messages { bytes })
 }
+
+/// A file holds messages exactly where it is their spellings one behind the other, and a fault
+/// exactly where the messages stop at it.
+pub fn what_a_file_holds()
+    ensures messages { (bytes : List ℕ) (messages : List MessageParts) → AreBytes bytes →
+        (messages_read bytes ≡ Ok messages) ↔ IsJoined bytes messages }
+    ensures fault { (bytes : List ℕ) (bad : BadMessage) → AreBytes bytes →
+        (messages_read bytes ≡ Err bad) ↔ Breaks bytes bad }
+{}
