@@ -1,6 +1,6 @@
-pub mod ConfiguredLaws
 mod PrintedParts
 mod PrintedShape
 mod PrintedText
 mod ShapeLemmas
+pub mod TreeLemmas
 mod WorkedTexts

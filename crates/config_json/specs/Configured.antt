@@ -1,6 +1,7 @@
 -- Which configuration bytes have, or which fault.
 -- Source: the configuration format of this project (docs/CONFIGURATION.md).
-use Rattle.std.specs.Prelude.{◌≡◌, ◌⊎◌, ℕ, List, Result, Ok, Err, Some, IsUtf8}
+use Rattle.std.specs.Prelude.{ℕ, List, Option, Some, None, Result, Ok, Err, if◌then◌else◌}
+use Rattle.std.specs.Str.{is_utf8}
 use Rattle.serde_json.specs.Data.{Data}
 use Rattle.serde_json.specs.Read.{read}
 use Rattle.ids_config.specs.declared.fault.ConfigFault.{ConfigFault}
@@ -15,32 +16,19 @@ use Rattle.config_json.specs.Shape.{config_shape}
 abbrev pub config_in : Data → Result Parts ConfigFault
 config_in tree = config_shape tree >> checked (parts_in tree)
 
--- the bytes are the JSON text of this tree
-pub record IsTree (bytes : List ℕ) (tree : Data) : Type 0 where
-  pub text : IsUtf8 bytes
-  pub reads : read bytes ≡ Some tree
-
--- the bytes are the text of this configuration
-pub record ConfigOf (bytes : List ℕ) (config : Parts) : Type 0 where
-  pub tree : Data
-  pub is_tree : IsTree bytes tree
-  pub reads : config_in tree ≡ Ok config
+-- the tree that bytes are the JSON text of, none where they are no such text
+abbrev pub tree_of : List ℕ → Option Data
+tree_of bytes = if is_utf8 bytes then read bytes else None
 
 -- the fault of bytes that are no JSON text
 abbrev pub no_tree : ConfigFault
 no_tree = record { number = 1; place = places.Top }
 
--- the bytes are no JSON text, and this is their fault
-pub record HasNoTree (bytes : List ℕ) (fault : ConfigFault) : Type 0 where
-  pub none : (tree : Data) → IsTree bytes tree → ⊥
-  pub is : fault ≡ no_tree
+-- the configuration of the tree, where there is one
+abbrev pub config_of : Option Data → Result Parts ConfigFault
+config_of None = Err no_tree
+config_of (Some tree) = config_in tree
 
--- the bytes are the text of a tree that has this fault first
-pub record HasFault (bytes : List ℕ) (fault : ConfigFault) : Type 0 where
-  pub tree : Data
-  pub is_tree : IsTree bytes tree
-  pub reads : config_in tree ≡ Err fault
-
--- this is the first fault of the bytes
-abbrev pub FaultOf : List ℕ → ConfigFault → Type 0
-FaultOf bytes fault = HasNoTree bytes fault ⊎ HasFault bytes fault
+-- the configuration that bytes are the text of, or their first fault
+abbrev pub configuration : List ℕ → Result Parts ConfigFault
+configuration bytes = config_of (tree_of bytes)

@@ -3,7 +3,7 @@
 ghost use Rattle.std.specs.Prelude.{◌≡◌, map, IfOk, OnOk, codes, string_bytes};
 ghost use Rattle.serde_json.specs.View.{view, members_view};
 ghost use Rattle.ids_config.specs.Classes.{class_of};
-ghost use Rattle.config_json.specs.Configured.{ConfigOf};
+ghost use Rattle.config_json.specs.Configured.{configuration};
 ghost use Rattle.config_json.specs.Printed.{whole, optional, list_tree, mode_name as name_of_mode, class_tree, window_tree, aggregate_tree, event_tree, internal_tree, config_tree, config_text};
 ghost use Rattle.config_json.specs.Puts.{with_numbers, with_parts, with_values, with_filters};
 
@@ -15,7 +15,7 @@ use std::alloc::{AllocError, Global};
 /// The text of a configuration, which `read` reads back as the same.
 pub fn print(alloc: Global, config: &Config) -> Result<String, NoMemory>
     ensures text { IfOk result (λ text. string_bytes text ≡ config_text config.now) }
-    ensures reads_back { IfOk result (λ text. ConfigOf (string_bytes text) config.now) }
+    ensures reads_back { IfOk result (λ text. configuration (string_bytes text) ≡ Ok config.now) }
 {
     let value = tree_of(alloc, config.parts())?;
     Ok(value.to_string(alloc)?)

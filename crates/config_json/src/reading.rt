@@ -1,7 +1,6 @@
-ghost use Rattle.std.specs.Prelude.{◌≡◌, IfErr};
 ghost use Rattle.serde_json.specs.View.{view};
-ghost use Rattle.config_json.specs.Answers.{Reads, HasNone, Tells};
-ghost use Rattle.config_json.specs.Configured.{config_in};
+ghost use Rattle.config_json.specs.Answers.{Tells};
+ghost use Rattle.config_json.specs.Configured.{config_in, configuration};
 
 use crate::fault::JsonFault;
 use crate::parts::read_parts;
@@ -12,8 +11,7 @@ use std::alloc::Global;
 
 /// The configuration that the bytes are the text of, or the first fault.
 pub fn read(alloc: Global, bytes: &[u8]) -> Result<Config, JsonFault>
-    ensures reads { Reads bytes.now result }
-    ensures only { IfErr result (HasNone bytes.now) }
+    ensures { Tells (configuration bytes.now) result }
 {
     match Value::from_slice(alloc, bytes) {
         Ok(value) => read_tree(alloc, &value),

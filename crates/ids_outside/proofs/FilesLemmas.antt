@@ -1,36 +1,9 @@
--- What files keep at a creation or an append, whatever it answers, and over several calls.
-use Rattle.std.proofs.Common.{Bool, true, false, refl, sym, subst, ◌≡◌, ◌≢◌, ℕ, List, Result, Ok, Err, ◌∙◌}
+-- Names that differ, and changes that change nothing.
+use Rattle.std.proofs.Common.{Bool, true, false, refl, sym, subst, ◌≡◌, ◌≢◌, ℕ, List, ◌∙◌}
 use Rattle.std.specs.Str.{bytes_eq}
 use Rattle.std.proofs.lemmas.Bool.{false_from_ne_true, true≢false}
 use Rattle.std.proofs.lemmas.Slice.Eq.{bytes_eq-Decides}
-use Rattle.ids_outside.specs.Files.{Files, SameFiles, SameOthers, Changes, CreateMakes, AppendMakes}
-use Rattle.ids_outside.specs.declared.faults.WriteFault.{WriteFault}
-use Rattle.ids_outside.specs.declared.faults.WriteFault.TheVariants as write
-
--- files that stay twice have stayed
-pub SameFiles-trans : (first second third : Files)
-    → SameFiles first second → SameFiles second third → SameFiles first third
-SameFiles-trans first second third before now name = now name ∙ before name
-
--- the other files stay twice
-pub SameOthers-trans : (first second third : Files) (name : List ℕ)
-    → SameOthers first second name → SameOthers second third name → SameOthers first third name
-SameOthers-trans first second third name before now other differ =
-    now other differ ∙ before other differ
-
--- a creation changes no other file
-pub SameOthers-create : {T : Type 0} (r : Result T WriteFault) (old new : Files) (name : List ℕ)
-    → CreateMakes old new name r → SameOthers old new name
-SameOthers-create (Ok _) old new name makes = makes.others
-SameOthers-create (Err write.Failed) old new name makes = makes.others
-SameOthers-create (Err write.NoMemory) old new name makes = λ other _. makes other
-
--- an append changes no other file
-pub SameOthers-append : {T : Type 0} (r : Result T WriteFault) (old new : Files)
-    (name piece : List ℕ) → AppendMakes old new name piece r → SameOthers old new name
-SameOthers-append (Ok _) old new name piece makes = makes.others
-SameOthers-append (Err write.Failed) old new name piece makes = makes.others
-SameOthers-append (Err write.NoMemory) old new name piece makes = λ other _. makes other
+use Rattle.ids_outside.specs.Files.{Files, SameFiles, Changes}
 
 -- names that differ are told apart
 pub bytes_eq-differ : (name other : List ℕ) → other ≢ name → bytes_eq name other ≡ false

@@ -1,4 +1,3 @@
-pub mod FaultsLemmas
 pub mod FilesLemmas
 pub mod MemoryFilesLemmas
 pub mod StreamsLemmas

@@ -1,4 +1,5 @@
--- Faults of shelves and sinks: how many there were, which came last, and which answers count one.
+-- Faults of shelves and sinks: how many there were, which came last, and which answers count one; and
+-- how often memory was refused to a call.
 use Rattle.std.specs.Prelude.{◌≡◌, ℕ, ◌+◌, ◌-◌, ◌^◌, ◌≤◌, min, List, Option, None, Some, Result, Ok, Err}
 use Rattle.ids_outside.specs.declared.faults.FaultKind.{FaultKind}
 use Rattle.ids_outside.specs.declared.faults.FaultKind.TheVariants.{Read}
@@ -11,7 +12,7 @@ use Rattle.ids_outside.specs.declared.faults.WriteFault.TheVariants as write
 abbrev pub counted : ℕ → ℕ
 counted n = min (n + 1) (2 ^ 64 - 1)
 
--- a count of faults rose, or stays at its greatest value
+-- a count rose, or stays at its greatest value
 abbrev pub Rose : ℕ → ℕ → Type 0
 Rose before now = counted before ≤ now
 
@@ -20,36 +21,38 @@ pub record Fault : Type 0 where
   pub kind : FaultKind
   pub name : List ℕ
 
--- the faults that a shelf has met
+-- the faults that a shelf has met, and how often memory was refused to a call of it
 pub record Faults : Type 0 where
   pub count : ℕ
   pub last : Option Fault
+  pub refused : ℕ
 
--- the faults of a shelf that no call has failed at
+-- the faults of a shelf whose calls have all been served
 abbrev pub no_faults : Faults
-no_faults = record { count = 0; last = None }
+no_faults = record { count = 0; last = None; refused = 0 }
 
 -- a fault was counted, and it is the last one
 pub record CountsFault (old new : Faults) (kind : FaultKind) (name : List ℕ) : Type 0 where
   pub rose : Rose old.count new.count
   pub last : new.last ≡ Some (record { kind = kind; name = name })
+  pub refused : new.refused ≡ old.refused
 
--- a read counts a fault exactly where it answers that it failed
+-- memory was refused to a call, and no fault was counted
+pub record WantsMemory (old new : Faults) : Type 0 where
+  pub rose : Rose old.refused new.refused
+  pub count : new.count ≡ old.count
+  pub last : new.last ≡ old.last
+
+-- a read counts a fault exactly where it answers that it failed, and memory refused to it as such
 abbrev pub ReadCause : {T : Type 0} → Faults → Faults → List ℕ → Result T ReadFault → Type 0
 ReadCause old new name (Ok _) = new ≡ old
 ReadCause old new name (Err read.Failed) = CountsFault old new Read name
 ReadCause old new name (Err read.TooLong) = new ≡ old
-ReadCause old new name (Err read.NoMemory) = new ≡ old
+ReadCause old new name (Err read.NoMemory) = WantsMemory old new
 
--- a write of this kind counts a fault exactly where it answers that it failed
+-- so does a write of this kind
 abbrev pub WriteCause : {T : Type 0} → FaultKind → Faults → Faults → List ℕ → Result T WriteFault
     → Type 0
 WriteCause kind old new name (Ok _) = new ≡ old
 WriteCause kind old new name (Err write.Failed) = CountsFault old new kind name
-WriteCause kind old new name (Err write.NoMemory) = new ≡ old
-
--- a put counts a fault exactly where it answers that it failed
-abbrev pub PutCause : {T : Type 0} → ℕ → ℕ → Result T WriteFault → Type 0
-PutCause before now (Ok _) = now ≡ before
-PutCause before now (Err write.Failed) = Rose before now
-PutCause before now (Err write.NoMemory) = now ≡ before
+WriteCause kind old new name (Err write.NoMemory) = WantsMemory old new

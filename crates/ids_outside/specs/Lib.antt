@@ -7,6 +7,7 @@ pub mod MemoryFiles
 pub mod MemoryShelf
 pub mod MemorySink
 pub mod Script
+pub mod Shelved
 pub mod Sinks
 pub mod SteadyShelf
 pub mod Streams

@@ -1,8 +1,9 @@
-ghost use Rattle.std.specs.Prelude.{◌≡◌, ℕ, option_map, string_bytes};
-ghost use Rattle.ids_outside.specs.Faults.{Fault, Faults, no_faults, counted, CountsFault};
+ghost use Rattle.std.specs.Prelude.{◌≡◌, ℕ, option_map, string_bytes, OnOk, OnErr};
+ghost use Rattle.ids_outside.specs.Faults.{Fault, Faults, no_faults, counted, CountsFault, WantsMemory};
 
 use crate::count::one_more;
 use crate::faults::FaultKind;
+use std::alloc::AllocError;
 use std::marker::Model;
 
 /// The call that failed last, and the name that it was given.
@@ -18,17 +19,18 @@ impl Model for LastFault {
     ghost view = { λ f. record { kind = f.kind; name = string_bytes f.name } };
 }
 
-/// The faults of a shelf: how many there were, and the last one.
+/// The faults of a shelf: how many there were, and the last one; and how often memory was refused.
 #[derive(Debug, Drop)]
 pub(crate) struct FaultLog {
     count: u64,
     last: Option<LastFault>,
+    refused: u64,
 }
 
 impl Model for FaultLog {
     ghost Value = { Faults };
 
-    ghost view = { λ log. record { count = log.count; last = log.last } };
+    ghost view = { λ log. record { count = log.count; last = log.last; refused = log.refused } };
 }
 
 impl FaultLog {
@@ -38,6 +40,7 @@ impl FaultLog {
         FaultLog {
             count: 0,
             last: None,
+            refused: 0,
         }
     }
 
@@ -63,5 +66,26 @@ impl FaultLog {
     {
         self.count = one_more(self.count);
         self.last = Some(LastFault { kind, name });
+    }
+    /// Counts a refusal of memory, up to the greatest value.
+    pub(crate) fn refuse(&mut self)
+        ensures { WantsMemory self.old self.new }
+    {
+        self.refused = one_more(self.refused);
+    }
+
+    /// Hands on what the allocator answered, and counts a refusal.
+    pub(crate) fn served<T: Drop>(
+        &mut self,
+        answer: Result<T, AllocError>,
+    ) -> Result<T, AllocError>
+        ensures same { result ≡ answer }
+        ensures ok { OnOk result (self.new ≡ self.old) }
+        ensures err { OnErr result (WantsMemory self.old self.new) }
+    {
+        if answer.is_err() {
+            self.refuse();
+        }
+        answer
     }
 }

@@ -1,4 +1,4 @@
-ghost use Rattle.std.specs.Prelude.{◌≡◌, ℕ, List, None, Some, IfOk, OnOk, OnErr, Ok, IfSome, option_map, string_bytes, length, ◌≤◌, false};
+ghost use Rattle.std.specs.Prelude.{◌≡◌, ℕ, List, None, Some, IfOk, OnOk, OnErr, Ok, IfSome, option_map, string_bytes, length, ◌≤◌};
 ghost use Rattle.ids_outside.specs.Faults.{no_faults, WriteCause};
 ghost use Rattle.ids_outside.specs.declared.faults.FaultKind.TheVariants.{Create, Append};
 
@@ -71,10 +71,13 @@ impl<R: Files + Drop> HostShelf<R> {
             (host_shelf_faults self.new) name.now result }
         ensures same { self.new.current ≡ self.old.current }
     {
-        let copy = String::from_str(self.alloc, name)?;
+        let copy = self.faults.served(String::from_str(self.alloc, name))?;
         match how.open(&self.rt, name).map_err(WriteFault::from) {
             Ok(file) => Ok(OpenFile { name: copy, file }),
-            Err(WriteFault::NoMemory) => Err(WriteFault::NoMemory),
+            Err(WriteFault::NoMemory) => {
+                self.faults.refuse();
+                Err(WriteFault::NoMemory)
+            }
             Err(WriteFault::Failed) => {
                 self.faults.note(kind, copy);
                 Err(WriteFault::Failed)
@@ -112,18 +115,17 @@ fn read_file<R: Files>(rt: &R, alloc: Global, name: &str, limit: u64) -> Result<
 
 impl<R: Files + Drop> Shelf for HostShelf<R> {
     ghost use Rattle.ids_outside.specs.HostShelf.{host_shelf_faults, open_name};
+    ghost use Rattle.ids_outside.specs.Shelved.{silent};
 
-    ghost tells = { λ _. false };
-
-    ghost contents = { λ _ _. None };
-
-    ghost faults = { host_shelf_faults };
+    ghost shows = { λ shelf. silent (host_shelf_faults shelf) };
 
     fn read(&mut self, alloc: Global, name: &str, limit: u64) -> Result<Vec<u8>, ReadFault> {
-        let copy = String::from_str(alloc, name)?;
+        let copy = self.faults.served(String::from_str(alloc, name))?;
         let result = read_file(&self.rt, alloc, name, limit);
-        if let Err(ReadFault::Failed) = result {
-            self.faults.note(FaultKind::Read, copy);
+        match result {
+            Err(ReadFault::Failed) => self.faults.note(FaultKind::Read, copy),
+            Err(ReadFault::NoMemory) => self.faults.refuse(),
+            Ok(_) | Err(ReadFault::TooLong) => {}
         }
         result
     }
@@ -149,11 +151,15 @@ impl<R: Files + Drop> Shelf for HostShelf<R> {
     {
         let mut current = self.take_current(name)?;
         let result = write_whole(&mut current.file, piece);
-        if let Err(WriteFault::Failed) = result {
-            self.faults.note(FaultKind::Append, current.name);
-        } else {
-            self.current = Some(current);
+        match result {
+            Err(WriteFault::Failed) => {
+                self.faults.note(FaultKind::Append, current.name);
+                return result;
+            }
+            Err(WriteFault::NoMemory) => self.faults.refuse(),
+            Ok(()) => {}
         }
+        self.current = Some(current);
         result
     }
 }

@@ -1,7 +1,8 @@
-ghost use Rattle.std.specs.Prelude.{◌≡◌, [], ℕ, List, false};
+ghost use Rattle.std.specs.Prelude.{◌≡◌};
+ghost use Rattle.ids_outside.specs.Sinks.{no_misses};
 
-use crate::count::one_more;
 use crate::faults::WriteFault;
+use crate::missed::Missed;
 use crate::sink::Sink;
 use crate::streams::write_whole;
 use std::io;
@@ -10,40 +11,42 @@ use std::io;
 #[derive(Drop)]
 pub struct HostSink<R> {
     rt: R,
-    faults: u64,
+    missed: Missed,
 }
 
 impl<R: Print + Drop> HostSink<R> {
-    ghost use Rattle.ids_outside.specs.HostSink.{host_sink_faults};
+    ghost use Rattle.ids_outside.specs.HostSink.{host_sink_misses};
 
     /// Writes by this runtime.
     pub fn new(rt: R) -> HostSink<R>
-        ensures { host_sink_faults result ≡ 0 }
+        ensures { host_sink_misses result ≡ no_misses }
     {
-        HostSink { rt, faults: 0 }
+        HostSink {
+            rt,
+            missed: Missed::new(),
+        }
     }
 
     /// How many puts have failed, up to 2^64 - 1.
     pub fn fault_count(&self) -> u64
-        ensures { result ≡ host_sink_faults self.now }
+        ensures { result ≡ (host_sink_misses self.now).failed }
     {
-        self.faults
+        self.missed.failed()
     }
 }
 
 impl<R: Print + Drop> Sink for HostSink<R> {
-    ghost use Rattle.ids_outside.specs.HostSink.{host_sink_faults};
+    ghost use Rattle.ids_outside.specs.HostSink.{host_sink_misses};
+    ghost use Rattle.ids_outside.specs.Sinks.{deaf};
 
-    ghost tells = { λ _. false };
-
-    ghost taken = { λ _. [] };
-
-    ghost faults = { host_sink_faults };
+    ghost hears = { λ sink. deaf (host_sink_misses sink) };
 
     fn put(&mut self, piece: &[u8]) -> Result<(), WriteFault> {
         let result = write_whole(&mut io::writer(&self.rt), piece);
-        if let Err(WriteFault::Failed) = result {
-            self.faults = one_more(self.faults);
+        match result {
+            Err(WriteFault::Failed) => self.missed.fail(),
+            Err(WriteFault::NoMemory) => self.missed.refuse(),
+            Ok(()) => {}
         }
         result
     }

@@ -17,6 +17,7 @@ mod host_sink;
 mod memory_files;
 mod memory_shelf;
 mod memory_sink;
+mod missed;
 mod script;
 mod shelf;
 mod sink;

@@ -1,4 +1,4 @@
-ghost use Rattle.std.specs.Prelude.{◌≡◌, ◌≤◌, ℕ, List, length, option_map, IfOk, OnErr, IsTrue, true};
+ghost use Rattle.std.specs.Prelude.{◌≡◌, ◌≤◌, ℕ, List, length, option_map, IfOk, OnErr, IsTrue};
 ghost use Rattle.ids_outside.specs.Faults.{no_faults};
 ghost use Rattle.ids_outside.specs.Files.{SameFiles};
 ghost use Rattle.ids_outside.specs.MemoryFiles.{given_files, names_differ};
@@ -74,13 +74,10 @@ impl Shelf for MemoryShelf {
     ghost use Rattle.ids_outside.specs.Files.{ReadGives, CreateMakes, AppendMakes};
     ghost use Rattle.ids_outside.specs.Script.{CountsCall, ReadFollows, WriteFollows};
     ghost use Rattle.ids_outside.specs.MemoryShelf.{shelf_files, shelf_faults, shelf_plan};
+    ghost use Rattle.ids_outside.specs.Shelved.{telling};
     ghost use Rattle.ids_outside.specs.declared.faults.FaultKind.TheVariants.{Create, Append};
 
-    ghost tells = { λ _. true };
-
-    ghost contents = { shelf_files };
-
-    ghost faults = { shelf_faults };
+    ghost shows = { λ shelf. telling (shelf_files shelf) (shelf_faults shelf) };
 
     /// A read that is not listed fails only where the name is not there.
     fn read(&mut self, alloc: Global, name: &str, limit: u64) -> Result<Vec<u8>, ReadFault>
@@ -92,12 +89,12 @@ impl Shelf for MemoryShelf {
         ensures counts { CountsCall (shelf_plan self.old) (shelf_plan self.new) }
     {
         let is_to_fail = self.script.next_fails();
-        let copy = String::from_str(alloc, name)?;
+        let copy = self.faults.served(String::from_str(alloc, name))?;
         if !is_to_fail && let Some(bytes) = self.files.get(name) {
             if bytes.len() as u64 > limit {
                 return Err(ReadFault::TooLong);
             }
-            return Ok(bytes.as_slice().to_vec(alloc)?);
+            return Ok(self.faults.served(bytes.as_slice().to_vec(alloc))?);
         }
         self.faults.note(FaultKind::Read, copy);
         Err(ReadFault::Failed)
@@ -113,12 +110,13 @@ impl Shelf for MemoryShelf {
         ensures counts { CountsCall (shelf_plan self.old) (shelf_plan self.new) }
     {
         let is_to_fail = self.script.next_fails();
-        let copy = String::from_str(self.alloc, name)?;
+        let copy = self.faults.served(String::from_str(self.alloc, name))?;
         if is_to_fail {
             self.faults.note(FaultKind::Create, copy);
             return Err(WriteFault::Failed);
         }
-        Ok(keep(&mut self.files, copy, Vec::new(self.alloc))?)
+        let kept = keep(&mut self.files, copy, Vec::new(self.alloc));
+        Ok(self.faults.served(kept)?)
     }
 
     /// An append that fails changes no file.
@@ -132,11 +130,12 @@ impl Shelf for MemoryShelf {
         ensures counts { CountsCall (shelf_plan self.old) (shelf_plan self.new) }
     {
         let is_to_fail = self.script.next_fails();
-        let copy = String::from_str(self.alloc, name)?;
+        let copy = self.faults.served(String::from_str(self.alloc, name))?;
         if is_to_fail {
             self.faults.note(FaultKind::Append, copy);
             return Err(WriteFault::Failed);
         }
-        Ok(add_piece(self.alloc, &mut self.files, name, copy, piece)?)
+        let added = add_piece(self.alloc, &mut self.files, name, copy, piece);
+        Ok(self.faults.served(added)?)
     }
 }

@@ -1,7 +1,8 @@
-ghost use Rattle.std.specs.Prelude.{◌≡◌, ◌∷◌, [], ℕ, List, IfOk, OnErr, true};
+ghost use Rattle.std.specs.Prelude.{◌≡◌, ◌∷◌, [], ℕ, List, IfOk, OnErr};
+ghost use Rattle.ids_outside.specs.Sinks.{no_misses};
 
-use crate::count::one_more;
 use crate::faults::WriteFault;
+use crate::missed::Missed;
 use crate::script::Script;
 use crate::sink::Sink;
 use ids_types::NoMemory;
@@ -12,23 +13,23 @@ use std::alloc::Global;
 pub struct MemorySink {
     taken: Vec<u8>,
     script: Script,
-    faults: u64,
+    missed: Missed,
 }
 
 impl MemorySink {
-    ghost use Rattle.ids_outside.specs.MemorySink.{sink_taken, sink_faults, sink_plan};
+    ghost use Rattle.ids_outside.specs.MemorySink.{sink_taken, sink_misses, sink_plan};
 
     /// A sink that has taken nothing. Its puts are numbered from 0, and those in `fails` fail.
     pub fn make(alloc: Global, fails: Vec<u64>) -> Result<MemorySink, NoMemory>
         ensures empty { IfOk result (λ sink. sink_taken sink ≡ []) }
         ensures plan { IfOk result (λ sink.
             sink_plan sink ≡ record { fails = fails.items; calls = 0 }) }
-        ensures faults { IfOk result (λ sink. sink_faults sink ≡ 0) }
+        ensures faults { IfOk result (λ sink. sink_misses sink ≡ no_misses) }
     {
         Ok(MemorySink {
             taken: Vec::new(alloc),
             script: Script::new(fails),
-            faults: 0,
+            missed: Missed::new(),
         })
     }
 
@@ -41,37 +42,35 @@ impl MemorySink {
 
     /// How many puts have failed, up to 2^64 - 1.
     pub fn fault_count(&self) -> u64
-        ensures { result ≡ sink_faults self.now }
+        ensures { result ≡ (sink_misses self.now).failed }
     {
-        self.faults
+        self.missed.failed()
     }
 }
 
 impl Sink for MemorySink {
-    ghost use Rattle.ids_outside.specs.Faults.{PutCause};
     ghost use Rattle.ids_outside.specs.Script.{CountsCall, WriteFollows};
-    ghost use Rattle.ids_outside.specs.Sinks.{PutTakes};
-    ghost use Rattle.ids_outside.specs.MemorySink.{sink_taken, sink_faults, sink_plan};
+    ghost use Rattle.ids_outside.specs.Sinks.{PutTakes, PutCause, hearing};
+    ghost use Rattle.ids_outside.specs.MemorySink.{sink_taken, sink_misses, sink_plan};
 
-    ghost tells = { λ _. true };
-
-    ghost taken = { sink_taken };
-
-    ghost faults = { sink_faults };
+    ghost hears = { λ sink. hearing (sink_taken sink) (sink_misses sink) };
 
     /// A put that fails takes nothing.
     fn put(&mut self, piece: &[u8]) -> Result<(), WriteFault>
         ensures takes { PutTakes (sink_taken self.old) (sink_taken self.new) piece.now result }
-        ensures cause { PutCause (sink_faults self.old) (sink_faults self.new) result }
+        ensures cause { PutCause (sink_misses self.old) (sink_misses self.new) result }
         ensures err { OnErr result (sink_taken self.new ≡ sink_taken self.old) }
         ensures follows { WriteFollows (sink_plan self.old) result }
         ensures counts { CountsCall (sink_plan self.old) (sink_plan self.new) }
     {
         if self.script.next_fails() {
-            self.faults = one_more(self.faults);
+            self.missed.fail();
             return Err(WriteFault::Failed);
         }
-        self.taken.extend_from_slice(piece)?;
+        if self.taken.extend_from_slice(piece).is_err() {
+            self.missed.refuse();
+            return Err(WriteFault::NoMemory);
+        }
         Ok(())
     }
 }

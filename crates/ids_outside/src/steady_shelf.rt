@@ -1,8 +1,8 @@
-ghost use Rattle.std.specs.Prelude.{◌≡◌, ◌≢◌, ◌≤◌, ℕ, List, length, option_map, IfOk, Err, true};
-ghost use Rattle.ids_outside.specs.Faults.{no_faults};
+ghost use Rattle.std.specs.Prelude.{◌≡◌, ◌≢◌, ◌≤◌, ℕ, List, length, option_map, IfOk, Err};
 ghost use Rattle.ids_outside.specs.Files.{SameFiles, empty_elsewhere};
 ghost use Rattle.ids_outside.specs.MemoryFiles.{given_files};
 
+use crate::fault_log::FaultLog;
 use crate::faults::{ReadFault, WriteFault};
 use crate::memory_files::{add_piece, keep, keep_all};
 use crate::shelf::Shelf;
@@ -16,6 +16,7 @@ use std::collections::BTreeMap;
 pub struct SteadyShelf {
     alloc: Global,
     files: BTreeMap<String, Vec<u8>>,
+    faults: FaultLog,
 }
 
 impl SteadyShelf {
@@ -28,6 +29,7 @@ impl SteadyShelf {
         Ok(SteadyShelf {
             alloc,
             files: keep_all(alloc, files)?,
+            faults: FaultLog::new(),
         })
     }
 
@@ -40,16 +42,15 @@ impl SteadyShelf {
 }
 
 impl Shelf for SteadyShelf {
+    ghost use Rattle.ids_outside.specs.Faults.{ReadCause, WriteCause};
     ghost use Rattle.ids_outside.specs.Files.{ReadGives, CreateMakes, AppendMakes};
-    ghost use Rattle.ids_outside.specs.SteadyShelf.{steady_files};
+    ghost use Rattle.ids_outside.specs.Shelved.{telling};
+    ghost use Rattle.ids_outside.specs.SteadyShelf.{steady_files, steady_faults};
+    ghost use Rattle.ids_outside.specs.declared.faults.FaultKind.TheVariants.{Create, Append};
     ghost use Rattle.ids_outside.specs.declared.faults.ReadFault.TheVariants as read;
     ghost use Rattle.ids_outside.specs.declared.faults.WriteFault.TheVariants as write;
 
-    ghost tells = { λ _. true };
-
-    ghost contents = { λ shelf. empty_elsewhere (steady_files shelf) };
-
-    ghost faults = { λ _. no_faults };
+    ghost shows = { λ shelf. telling (empty_elsewhere (steady_files shelf)) (steady_faults shelf) };
 
     /// A name that is not there reads as empty, and stays absent.
     fn read(&mut self, alloc: Global, name: &str, limit: u64) -> Result<Vec<u8>, ReadFault>
@@ -57,28 +58,36 @@ impl Shelf for SteadyShelf {
         ensures gives { ReadGives (empty_elsewhere (steady_files self.old)) name.now limit result }
         ensures within { IfOk result (λ bytes. length bytes.items ≤ limit) }
         ensures steady { result ≢ Err read.Failed }
+        ensures cause { ReadCause (steady_faults self.old) (steady_faults self.new) name.now result }
     {
         let bytes = self.contents(name).unwrap_or(&[]);
         if bytes.len() as u64 > limit {
             return Err(ReadFault::TooLong);
         }
-        Ok(bytes.to_vec(alloc)?)
+        let copy = bytes.to_vec(alloc);
+        Ok(self.faults.served(copy)?)
     }
 
     fn create(&mut self, name: &str) -> Result<(), WriteFault>
         ensures makes { CreateMakes (steady_files self.old) (steady_files self.new) name.now result }
         ensures steady { result ≢ Err write.Failed }
+        ensures cause { WriteCause Create (steady_faults self.old)
+            (steady_faults self.new) name.now result }
     {
-        let copy = String::from_str(self.alloc, name)?;
-        Ok(keep(&mut self.files, copy, Vec::new(self.alloc))?)
+        let copy = self.faults.served(String::from_str(self.alloc, name))?;
+        let kept = keep(&mut self.files, copy, Vec::new(self.alloc));
+        Ok(self.faults.served(kept)?)
     }
 
     fn append(&mut self, name: &str, piece: &[u8]) -> Result<(), WriteFault>
         ensures makes { AppendMakes (steady_files self.old)
             (steady_files self.new) name.now piece.now result }
         ensures steady { result ≢ Err write.Failed }
+        ensures cause { WriteCause Append (steady_faults self.old)
+            (steady_faults self.new) name.now result }
     {
-        let copy = String::from_str(self.alloc, name)?;
-        Ok(add_piece(self.alloc, &mut self.files, name, copy, piece)?)
+        let copy = self.faults.served(String::from_str(self.alloc, name))?;
+        let added = add_piece(self.alloc, &mut self.files, name, copy, piece);
+        Ok(self.faults.served(added)?)
     }
 }

@@ -1,10 +1,9 @@
 pub mod CommandLemmas
-pub mod InputsLemmas
+pub mod ExitLemmas
+pub mod FoldLemmas
 pub mod JournalLemmas
-pub mod RunCauses
-pub mod RunObliges
-pub mod RunStands
+pub mod JudgeLemmas
+pub mod RunLemmas
+pub mod SayingLemmas
 pub mod SendingLemmas
-pub mod Stops
-pub mod Verdicts
 pub mod WritingLemmas

@@ -1,19 +1,14 @@
 -- A file that is written piece by piece.
-use Rattle.std.proofs.Common.{◌≡◌, ℕ, zero, suc, ◌+◌, ◌-◌, ◌≤◌, List, [], ◌∷◌, ◌++◌, length, take, drop, Option, Some, refl, sym, ap, subst, ◌∙◌, arith, inl, inr, length-append}
-use Rattle.std.specs.Prelude.{unwrap_or}
+use Rattle.std.proofs.Common.{◌≡◌, ℕ, zero, suc, ◌+◌, ◌-◌, ◌≤◌, List, [], ◌∷◌, ◌++◌, length, take, drop, Option, Some, Ok, Err, refl, sym, ap, subst, ◌∙◌, arith, inl, inr, length-append}
+use Rattle.std.specs.Prelude.{unwrap_or, Result, OnOk, OnErr}
 use Rattle.std.proofs.lemmas.List.{take-take, length-take}
 use Rattle.ids_types.specs.Turns.{Turn}
-use Rattle.ids_outside.specs.Faults.{Faults}
-use Rattle.ids_outside.specs.Files.{Files, SameFiles, Changes, AddsAtMost, bytes_at}
-use Rattle.idsm_run.specs.declared.stop.Stop.{Stop}
-use Rattle.idsm_run.specs.declared.stop.Stop.TheVariants.{CannotRead, TooLong, BadConfig, NotBuilt, BadJournal, CannotWrite, NoMemory, BadMessage}
+use Rattle.ids_outside.specs.Files.{Files, SameFiles, Changes, AddsAtMost, AppendMakes, bytes_at}
+use Rattle.ids_outside.specs.declared.faults.WriteFault.{WriteFault}
+use Rattle.ids_outside.specs.declared.faults.WriteFault.TheVariants as write
 use Rattle.ids_config.specs.Parts.{Parts}
 use Rattle.idsm_run.specs.Sending.{turn_messages, messages_of, ends_from, ends_of}
-use Rattle.idsm_run.specs.Command.{FoldFiles, fold}
-use Rattle.idsm_run.specs.Inputs.{HasInputs}
 use Rattle.idsm_run.specs.Writing.{Output, AreUntouched, HoldsPart, StandsInPart, StandUpTo, Cuts}
-use Rattle.idsm_run.specs.Fold.{fold_outputs, WrittenUpTo, OutputStops}
-use Rattle.idsm_run.specs.Run.{StandsFor}
 
 take-nil : (n : ℕ) → take {A = ℕ} n [] ≡ []
 take-nil zero = refl
@@ -48,6 +43,24 @@ part_is_held old new name bytes start n before adds =
       }
     ]
 
+-- what an append of the next piece leaves, by its answer
+pub piece_is_added : {T : Type 0} (old new : Files) (name bytes : List ℕ) (start end : ℕ) (answer : Result T WriteFault)
+    → start ≤ end → old name ≡ Some (take start bytes)
+    → AppendMakes old new name (take (end - start) (drop start bytes)) answer
+    → OnOk answer (new name ≡ Some (take end bytes))
+piece_is_added old new name bytes start end (Ok _) ordered before makes =
+    up_to_the_end old new name bytes start end ordered before makes
+piece_is_added old new name bytes start end (Err fault) ordered before makes = tt
+
+pub part_is_added : {T : Type 0} (old new : Files) (name bytes : List ℕ) (start n : ℕ) (answer : Result T WriteFault)
+    → old name ≡ Some (take start bytes) → AppendMakes old new name (take n (drop start bytes)) answer
+    → OnErr answer (HoldsPart new (record { name = name; bytes = bytes }))
+part_is_added old new name bytes start n (Ok _) before makes = tt
+part_is_added old new name bytes start n (Err write.Failed) before makes =
+    part_is_held old new name bytes start n before makes
+part_is_added old new name bytes start n (Err write.NoMemory) before makes =
+    record { count = start; part = makes name ∙ before }
+
 -- the cuts after each turn's messages are cuts of all messages
 cuts_of_messages : (start : ℕ) (config : Parts) (turns : List Turn) → Cuts start (ends_from start config turns) (start + length (messages_of config turns))
 cuts_of_messages start config [] = omega arith
@@ -64,7 +77,7 @@ all_cuts config turns =
 
 -- ---- what stands where `fold` stopped
 
-StandUpTo-before : (outputs : List Output) (old middle new : Files) → SameFiles old middle → StandUpTo outputs middle new → StandUpTo outputs old new
+pub StandUpTo-before : (outputs : List Output) (old middle new : Files) → SameFiles old middle → StandUpTo outputs middle new → StandUpTo outputs old new
 StandUpTo-before [] old middle new same stands = tt
 StandUpTo-before (output ∷ outputs) old middle new same stands = elim stands [
   | inl here ↦ inl (part here.0, untouched outputs here.1)
@@ -78,24 +91,3 @@ StandUpTo-before (output ∷ outputs) old middle new same stands = elim stands [
     untouched : (rest : List Output) → AreUntouched rest middle new → AreUntouched rest old new
     untouched [] all = tt
     untouched (first ∷ rest) all = (all.0 ∙ same first.name, untouched rest all.1)
-
--- outputs that were written up to a place are those of the inputs
-pub outputs_stand : (names : FoldFiles) (config : Parts) (turns : List Turn) (bytes : List ℕ) (old middle new : Files) → HasInputs old names config turns → bytes ≡ messages_of config turns → SameFiles old middle
-    → StandUpTo (fold_outputs names bytes) middle new → WrittenUpTo names old new
-outputs_stand names config turns bytes old middle new inputs is same stands = record {
-  config = config;
-  turns = turns;
-  inputs = inputs;
-  place = subst (λ (b : List ℕ). StandUpTo (fold_outputs names b) old new) is (StandUpTo-before (fold_outputs names bytes) old middle new same stands);
-}
-
--- where the outputs stopped, what stands is so
-pub fold_stands : (names : FoldFiles) (old new : Files) (before now : Faults) (stop : Stop) → OutputStops before now names stop → WrittenUpTo names old new → StandsFor stop (fold names) old new
-fold_stands names old new before now (CannotRead name) stops written = absurd stops
-fold_stands names old new before now (TooLong name) stops written = absurd stops
-fold_stands names old new before now (BadConfig fault) stops written = absurd stops
-fold_stands names old new before now NotBuilt stops written = absurd stops
-fold_stands names old new before now (BadJournal line fault) stops written = absurd stops
-fold_stands names old new before now CannotWrite stops written = inr written
-fold_stands names old new before now (BadMessage bad) stops written = absurd stops
-fold_stands names old new before now NoMemory stops written = inr written

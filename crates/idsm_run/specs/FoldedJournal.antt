@@ -1,12 +1,10 @@
 -- Which journals `fold` folds: what they say of held-back events has to be the chain's own number.
 -- The chain of this release holds nothing back.
-use Rattle.std.specs.Prelude.{◌≡◌, ℕ, ◌+◌, ◌==◌, List, [], ◌∷◌, length, Option, Some, None, Result, Ok, Err, if◌then◌else◌}
+use Rattle.std.specs.Prelude.{ℕ, ◌+◌, ◌==◌, List, [], ◌∷◌, length, Option, Some, None, Result, Ok, Err, if◌then◌else◌}
 use Rattle.ids_config.specs.Parts.{Parts}
-use Rattle.ids_types.specs.declared.loss.Loss.{Loss}
 use Rattle.ids_types.specs.Turns.{Turn}
 use Rattle.text_spec.specs.JournalText.{Told}
-use Rattle.text_spec.specs.JournalReading.{BadLine, IsJournal, journal_in, ◌>>=◌}
-use Rattle.journal.specs.Answers.{told}
+use Rattle.text_spec.specs.JournalReading.{BadLine, journal_in, ◌>>=◌}
 
 -- the line of the first turn that says that events were held back, where the first turn's line has
 -- this number
@@ -28,10 +26,3 @@ unless_held_back told (Some line) = Err (bad_line line 8)
 abbrev pub folded_in : Parts → List ℕ → Result Told BadLine
 folded_in config text =
     journal_in config text >>= λ told. unless_held_back told (held_back_line 1 told.turns)
-
--- the text is the journal of these turns and of some losses, and no turn says that events were held
--- back
-pub record Tells (config : Parts) (text : List ℕ) (turns : List Turn) : Type 0 where
-  pub losses : List Loss
-  pub is_journal : IsJournal config text (told turns losses)
-  pub none_held_back : held_back_line 1 turns ≡ None

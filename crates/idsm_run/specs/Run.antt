@@ -1,147 +1,133 @@
--- What a run does, by cases on its command; and for each status that it ends with, the cause.
+-- What a run does, by cases on its command: it did its command's work, or stopped, each with its status
+-- and its text.
 -- Source: docs/COMMANDS.md.
-use Rattle.std.specs.Prelude.{◌≡◌, ◌≢◌, ◌⊎◌, ℕ, ◌≤◌, List, [], ◌++◌, Bool, IsTrue, Option, Some, None, IfSome, codes}
-use Rattle.ids_types.specs.Turns.{Turn}
-use Rattle.ids_frame.specs.declared.fault.BadMessage.{BadMessage}
-use Rattle.ids_frame.specs.Message.{MessageParts}
+use Rattle.std.specs.Prelude.{◌≡◌, ◌⊎◌, ℕ, List, [], ◌∷◌, Bool, IsTrue, Option, Some, None, Ok, Err, Contains}
 use Rattle.ids_outside.specs.Faults.{Faults, Rose, CountsFault}
-use Rattle.ids_outside.specs.Files.{Files, SameFiles, IsTooLong}
+use Rattle.ids_outside.specs.Files.{Files, SameFiles}
+use Rattle.ids_outside.specs.Shelved.{Shelved}
+use Rattle.ids_outside.specs.Sinks.{Heard}
 use Rattle.ids_outside.specs.declared.faults.FaultKind.TheVariants.{Read}
-use Rattle.idsm_run.specs.declared.limits.TheConstants.{MAX_MESSAGES_BYTES}
-use Rattle.ids_outside.specs.Sinks.{TakesPart}
-use Rattle.idsm_run.specs.declared.status.TheConstants.{DONE, BAD_WORDS, CANNOT_READ, TOO_LONG, BAD_CONFIG, BAD_JOURNAL, CANNOT_WRITE, NO_MEMORY, BAD_MESSAGE, NOT_BUILT}
+use Rattle.ids_outside.specs.declared.faults.WriteFault.{WriteFault}
+use Rattle.ids_outside.specs.declared.faults.WriteFault.TheVariants.{Failed}
+use Rattle.idsm_run.specs.declared.stop.Refusal.{Refusal}
+use Rattle.idsm_run.specs.declared.stop.Refusal.TheVariants.{CannotRead, TooLong, BadConfig, NotBuilt, BadJournal, BadMessages}
+use Rattle.idsm_run.specs.declared.stop.InputStop.{InputStop}
+use Rattle.idsm_run.specs.declared.stop.InputStop.TheVariants as input_stops
 use Rattle.idsm_run.specs.declared.stop.Stop.{Stop}
-use Rattle.idsm_run.specs.declared.stop.Stop.TheVariants.{CannotRead, TooLong, BadConfig, NotBuilt, BadJournal, CannotWrite, NoMemory, BadMessage as bad_message}
-use Rattle.ids_config.specs.declared.fault.ConfigFault.{ConfigFault}
-use Rattle.ids_config.specs.Parts.{Parts}
-use Rattle.idsm_run.specs.ConfigTexts.{bad_config_text}
-use Rattle.idsm_run.specs.Command.{Command, fold, decode, command_of, written_by}
-use Rattle.text_spec.specs.JournalReading.{BadLine}
-use Rattle.idsm_run.specs.FoldedJournal.{bad_line}
-use Rattle.idsm_run.specs.JournalTexts.{bad_journal_text}
-use Rattle.idsm_run.specs.Inputs.{HasInputs, NoConfig, Unbuilt, NoJournal, IsFirstTooLong, FailedRead}
-use Rattle.idsm_run.specs.Writing.{FailedWrite}
-use Rattle.idsm_run.specs.Fold.{Folded, WrittenUpTo}
-use Rattle.idsm_run.specs.Messages.{HoldsMessages, HoldsBadMessage, bad_message_text}
-use Rattle.idsm_run.specs.Decode.{Decoded}
-use Rattle.idsm_run.specs.Saying.{Heard, Says, StopSays, TellsStop, usage, no_memory_text, named_text}
+use Rattle.idsm_run.specs.declared.stop.Stop.TheVariants as stops
+use Rattle.idsm_run.specs.Command.{Command, Input, config_file, journal_file, messages_file, read_by, written_by}
+use Rattle.idsm_run.specs.Judge.{Work, judge, without}
+use Rattle.idsm_run.specs.Saying.{Puts}
+use Rattle.idsm_run.specs.Texts.{usage, stop_text, stop_status}
+use Rattle.idsm_run.specs.Writing.{AreWritten, StandUpTo, WriteFails}
 
--- what a shelf shows at a moment: whether it tells its contents, the contents, and its faults
-pub record Shelved : Type 0 where
-  pub tells : Bool
-  pub files : Files
-  pub faults : Faults
+-- ---- refusals
 
--- what a shelf shows, by its three meanings
-abbrev pub shelved : Bool → Files → Faults → Shelved
-shelved tells files faults = record { tells = tells; files = files; faults = faults }
+-- the files that a refusal was found in: one that was not read is missing
+abbrev pub seen : Refusal (List ℕ) → Files → Files
+seen (CannotRead name) files = without name files
+seen other files = files
 
--- ---- what each command does, and what may stop it
+-- a read of that file failed, as the last fault; for any other refusal there was none
+abbrev pub RefusedBehind : Refusal (List ℕ) → Faults → Faults → Type 0
+RefusedBehind (CannotRead name) old new = CountsFault old new Read name
+RefusedBehind other old new = new ≡ old
 
--- the command did its work on these files, and this is its text
-abbrev pub Did : Command → Files → Files → List ℕ → Type 0
-Did (fold names) old new said = Folded names old new said
-Did (decode file) old new said = Decoded file old new said
+-- the name of an input file
+abbrev pub name_of : Input → List ℕ
+name_of (config_file name) = name
+name_of (journal_file name) = name
+name_of (messages_file name) = name
 
--- a read of this input file failed, and was the last fault
-abbrev pub FailedInput : Command → Faults → Faults → List ℕ → Type 0
-FailedInput (fold names) old new name = FailedRead old new names name
-FailedInput (decode file) old new name = (name ≡ file) × CountsFault old new Read file
+-- an input file may be refused so, whatever it holds
+abbrev pub MayRefuse : Input → Refusal (List ℕ) → Type 0
+MayRefuse input (CannotRead name) = name ≡ name_of input
+MayRefuse input (TooLong name) = name ≡ name_of input
+MayRefuse (config_file name) (BadConfig fault) = Unit {0}
+MayRefuse (config_file name) NotBuilt = Unit {0}
+MayRefuse (journal_file name) NotBuilt = Unit {0}
+MayRefuse (journal_file name) (BadJournal line number) = Unit {0}
+MayRefuse (messages_file name) (BadMessages bad) = Unit {0}
+MayRefuse other refusal = ⊥
 
--- this input file is too long, and no refusal comes before it, where files are told
-abbrev pub HasLongInput : Command → Shelved → List ℕ → Type 0
-HasLongInput (fold names) old name = IsTrue old.tells → IsFirstTooLong old.files names name
-HasLongInput (decode file) old name =
-    (name ≡ file) × (IsTrue old.tells → IsTooLong old.files file MAX_MESSAGES_BYTES)
+-- one of these input files may be refused so
+abbrev pub OneMayRefuse : List Input → Refusal (List ℕ) → Type 0
+OneMayRefuse [] refusal = ⊥
+OneMayRefuse (input ∷ inputs) refusal = MayRefuse input refusal ⊎ OneMayRefuse inputs refusal
 
--- the configuration's file holds no configuration, and this is the fault, where files are told
-abbrev pub HasBadConfig : Command → Shelved → ConfigFault → Type 0
-HasBadConfig (fold names) old fault = IsTrue old.tells → NoConfig old.files names fault
-HasBadConfig (decode file) old fault = ⊥
+-- the input files were refused: where they are told, as they deserve
+pub record WasRefused (command : Command) (refusal : Refusal (List ℕ)) (old new : Shelved)
+    : Type 0 where
+  pub may : OneMayRefuse (read_by command) refusal
+  pub judged : IsTrue old.tells → judge command (seen refusal old.files) ≡ Err refusal
+  pub behind : RefusedBehind refusal old.faults new.faults
+  pub same : IsTrue old.tells → SameFiles old.files new.files
 
--- the chain cannot mean yet what the input files hold, where files are told
-abbrev pub HasUnbuilt : Command → Shelved → Type 0
-HasUnbuilt (fold names) old = IsTrue old.tells → Unbuilt old.files names
-HasUnbuilt (decode file) old = ⊥
+-- ---- what is written
 
--- the journal's file holds no journal, behind a configuration that serves, and this is its first bad
--- line, where files are told
-abbrev pub HasBadJournal : Command → Shelved → BadLine → Type 0
-HasBadJournal (fold names) old bad = IsTrue old.tells → NoJournal old.files names bad
-HasBadJournal (decode file) old bad = ⊥
+-- the files hold what the work of their old contents asks for
+pub record AllWritten (command : Command) (old new : Files) (said : List ℕ) : Type 0 where
+  pub work : Work
+  pub judged : judge command old ≡ Ok work
+  pub written : AreWritten work.outputs new
+  pub text : said ≡ work.said
 
--- the file of messages holds more than messages: at this place none begins, where files are told
-abbrev pub HasBadMessage : Command → Shelved → BadMessage → Type 0
-HasBadMessage (fold names) old bad = ⊥
-HasBadMessage (decode file) old bad = IsTrue old.tells → HoldsBadMessage old.files file bad
+-- the work of their old contents was written up to some place
+pub record PartWritten (command : Command) (old new : Files) : Type 0 where
+  pub work : Work
+  pub judged : judge command old ≡ Ok work
+  pub place : StandUpTo work.outputs old new
 
--- the input files serve
-abbrev pub HasGoodInputs : Command → Files → Type 0
-HasGoodInputs (fold names) files =
-    (config : Parts) × (turns : List Turn) × HasInputs files names config turns
-HasGoodInputs (decode file) files =
-    (messages : List MessageParts) × HoldsMessages files file messages
+-- the command did its work, with this text
+pub record WasDone (command : Command) (said : List ℕ) (old new : Shelved) : Type 0 where
+  pub written : IsTrue old.tells → AllWritten command old.files new.files said
+  pub no_fault : new.faults ≡ old.faults
 
--- a creation or an append of a file that the command writes failed, and was the last fault
-abbrev pub FailedOutput : Command → Faults → Faults → Type 0
-FailedOutput (fold names) old new =
-    FailedWrite old new names.messages ⊎ FailedWrite old new names.memory
-FailedOutput (decode file) old new = ⊥
+-- the write of a file that the command writes failed
+pub record OneFails (command : Command) (old new : Faults) (fault : WriteFault) : Type 0 where
+  pub name : List ℕ
+  pub is_output : Contains (written_by command) name
+  pub fails : WriteFails old new name fault
 
--- all files are as they were, or those that the command writes were written up to some place
-abbrev pub StandsSomewhere : Command → Files → Files → Type 0
-StandsSomewhere (fold names) old new = SameFiles old new ⊎ WrittenUpTo names old new
-StandsSomewhere (decode file) old new = SameFiles old new
+-- a creation or an append of a file that the command writes failed, as the last fault
+pub record WasNotWritten (command : Command) (old new : Shelved) : Type 0 where
+  pub fails : OneFails command old.faults new.faults Failed
+  pub part : IsTrue old.tells → PartWritten command old.files new.files
 
--- ---- the run of a command
+-- memory was wanted: before the first file was made, or by a call of the shelf
+abbrev pub WantedMemory : Command → Shelved → Shelved → Type 0
+WantedMemory command old new =
+    (IsTrue old.tells → SameFiles old.files new.files)
+    ⊎ (Rose old.faults.refused new.faults.refused
+    × (IsTrue old.tells → PartWritten command old.files new.files))
 
--- why the command stopped
-abbrev pub StopsFor : Stop → Command → Shelved → Shelved → Type 0
-StopsFor (CannotRead name) command old new = FailedInput command old.faults new.faults name.now
-StopsFor (TooLong name) command old new =
-    (new.faults ≡ old.faults) × HasLongInput command old name.now
-StopsFor (BadConfig fault) command old new =
-    (new.faults ≡ old.faults) × HasBadConfig command old fault
-StopsFor NotBuilt command old new = (new.faults ≡ old.faults) × HasUnbuilt command old
-StopsFor (BadJournal line fault) command old new =
-    (new.faults ≡ old.faults) × HasBadJournal command old (bad_line line fault)
-StopsFor CannotWrite command old new = FailedOutput command old.faults new.faults
-StopsFor NoMemory command old new = new.faults ≡ old.faults
-StopsFor (bad_message bad) command old new =
-    (new.faults ≡ old.faults) × HasBadMessage command old bad
+-- ---- the run
 
--- what stands where the command stopped
-abbrev pub StandsFor : Stop → Command → Files → Files → Type 0
-StandsFor (CannotRead name) command old new = SameFiles old new
-StandsFor (TooLong name) command old new = SameFiles old new
-StandsFor (BadConfig fault) command old new = SameFiles old new
-StandsFor NotBuilt command old new = SameFiles old new
-StandsFor (BadJournal line fault) command old new = SameFiles old new
-StandsFor CannotWrite command old new = StandsSomewhere command old new
-StandsFor NoMemory command old new = StandsSomewhere command old new
-StandsFor (bad_message bad) command old new = SameFiles old new
+-- why a command stopped, and what stands then
+abbrev pub StopsFor : Command → Stop (List ℕ) → Shelved → Shelved → Type 0
+StopsFor command (stops.Refused refusal) old new = WasRefused command refusal old new
+StopsFor command stops.CannotWrite old new = WasNotWritten command old new
+StopsFor command stops.NoMemory old new = WantedMemory command old new
 
 -- the command was done, and its text was put or not
 pub record Done (command : Command) (status : ℕ) (old new : Shelved) (before after : Heard)
     : Type 0 where
   pub said : List ℕ
-  pub did : IsTrue old.tells → Did command old.files new.files said
-  pub faults : new.faults ≡ old.faults
-  pub says : Says said DONE status before after
+  pub done : WasDone command said old new
+  pub puts : Puts said 0 status before after
 
--- the command stopped, and told why or not
+-- the command stopped, and the text that tells why was put or not
 pub record Stopped (command : Command) (status : ℕ) (old new : Shelved) (before after : Heard)
     : Type 0 where
-  pub reason : Stop
-  pub stops : StopsFor reason command old new
-  pub stands : IsTrue old.tells → StandsFor reason command old.files new.files
-  pub tells : TellsStop reason status before after
+  pub reason : Stop (List ℕ)
+  pub stops : StopsFor command reason old new
+  pub puts : Puts (stop_text reason) (stop_status reason) status before after
 
 -- the words are no command: the usage was put or not, and the shelf was not touched
 pub record Misused (status : ℕ) (old new : Shelved) (before after : Heard) : Type 0 where
   pub files : SameFiles old.files new.files
-  pub faults : new.faults ≡ old.faults
-  pub says : Says usage BAD_WORDS status before after
+  pub no_fault : new.faults ≡ old.faults
+  pub puts : Puts usage 2 status before after
 
 -- what a run of this command does
 abbrev pub RanCommand : Command → ℕ → Shelved → Shelved → Heard → Heard → Type 0
@@ -153,114 +139,7 @@ abbrev pub Ran : Option Command → ℕ → Shelved → Shelved → Heard → He
 Ran None status old new before after = Misused status old new before after
 Ran (Some command) status old new before after = RanCommand command status old new before after
 
--- ---- what each status says
-
--- the words give a command of which this holds
-abbrev pub OfCommand : List (List ℕ) → (Command → Type 0) → Type 0
-OfCommand words P = (command : Command) × (command_of words ≡ Some command) × P command
-
--- the run did its command's work and said so
-pub record Does (words : List (List ℕ)) (old new : Shelved) (before after : Heard) : Type 0 where
-  pub command : Command
-  pub in_form : command_of words ≡ Some command
-  pub said : List ℕ
-  pub did : IsTrue old.tells → Did command old.files new.files said
-  pub taken : IsTrue before.tells → after.taken ≡ before.taken ++ said
-  pub no_fault : new.faults ≡ old.faults
-  pub no_put_failed : after.faults ≡ before.faults
-
--- the statuses that come before anything is written
-abbrev pub IsRefusal : ℕ → Type 0
-IsRefusal status =
-    ((BAD_WORDS ≤ status) × (status ≤ BAD_JOURNAL)) ⊎ ((status ≡ BAD_MESSAGE) ⊎ (status ≡ NOT_BUILT))
-
 -- the files that the words let change
 abbrev pub written_of : Option Command → List (List ℕ)
 written_of None = []
 written_of (Some command) = written_by command
-
--- what stands where a run ended with a fault of writing or of memory
-abbrev pub StandsWhereStopped : List (List ℕ) → Files → Files → Type 0
-StandsWhereStopped words old new =
-    IfSome (command_of words) (λ command. StandsSomewhere command old new)
-
--- the sink took this text, where it tells
-abbrev pub Adds : List ℕ → Heard → Heard → Type 0
-Adds text before after = IsTrue before.tells → after.taken ≡ before.taken ++ text
-
--- this is the text of what the command did, or of why it stopped
-abbrev pub HasText : Command → Shelved → Shelved → List ℕ → Type 0
-HasText command old new text =
-    (IsTrue old.tells → Did command old.files new.files text)
-    ⊎ ((reason : Stop) × (wanted : ℕ) × StopsFor reason command old new × StopSays reason text wanted)
-
--- the put of the run's text failed: the sink took a first part of it, where it tells
-pub record FailedPut (words : List (List ℕ)) (old new : Shelved) (before after : Heard)
-    : Type 0 where
-  pub text : List ℕ
-  pub of_run : ((command_of words ≡ None) × (text ≡ usage)) ⊎ OfCommand words (λ c. HasText c old new text)
-  pub taken : IsTrue before.tells → TakesPart before.taken after.taken text
-  pub faults : Rose before.faults after.faults
-
--- each status but 0 comes only with its cause, and with its text
-pub record Causes (words : List (List ℕ)) (status : ℕ) (old new : Shelved) (before after : Heard)
-    : Type 0 where
-  pub misused : status ≡ BAD_WORDS → (command_of words ≡ None) × Adds usage before after
-  pub read : status ≡ CANNOT_READ → (name : List ℕ)
-      × OfCommand words (λ c. FailedInput c old.faults new.faults name)
-      × Adds (named_text (codes "cannot read ") name) before after
-  pub long : status ≡ TOO_LONG → (name : List ℕ)
-      × OfCommand words (λ c. HasLongInput c old name)
-      × Adds (named_text (codes "too long ") name) before after
-  pub config : status ≡ BAD_CONFIG → (fault : ConfigFault)
-      × OfCommand words (λ c. HasBadConfig c old fault)
-      × Adds (bad_config_text fault) before after
-  pub unbuilt : status ≡ NOT_BUILT
-      → OfCommand words (λ c. HasUnbuilt c old)
-      × Adds (codes "not built\n") before after
-  pub journal : status ≡ BAD_JOURNAL → (bad : BadLine)
-      × OfCommand words (λ c. HasBadJournal c old bad)
-      × Adds (bad_journal_text bad) before after
-  pub message : status ≡ BAD_MESSAGE → (bad : BadMessage)
-      × OfCommand words (λ c. HasBadMessage c old bad)
-      × Adds (bad_message_text bad) before after
-  pub write : status ≡ CANNOT_WRITE →
-      (OfCommand words (λ c. FailedOutput c old.faults new.faults)
-      × Adds (codes "cannot write\n") before after)
-      ⊎ FailedPut words old new before after
-  pub memory : status ≡ NO_MEMORY → Adds no_memory_text before after ⊎ Adds [] before after
-  pub known : (status ≤ NOT_BUILT) × (status ≢ 1) × (status ≢ 9) × (status ≢ 11)
-  pub no_fault : IsRefusal status → status ≢ CANNOT_READ → new.faults ≡ old.faults
-  pub all_put : IsRefusal status → after.faults ≡ before.faults
-
--- this status, or the one free answer, or a put that failed
-abbrev pub Answers : ℕ → ℕ → Heard → Heard → Type 0
-Answers wanted status before after =
-    (status ≡ wanted)
-    ⊎ ((status ≡ NO_MEMORY) ⊎ ((status ≡ CANNOT_WRITE) × Rose before.faults after.faults))
-
--- no call of the shelf failed
-abbrev pub NoFault : Shelved → Shelved → Type 0
-NoFault old new = Rose old.faults.count new.faults.count → ⊥
-
--- where the cause of a refusal is there the run ends with it, and where all is well it is done
-pub record Obliges (words : List (List ℕ)) (status : ℕ) (old new : Shelved) (before after : Heard)
-    : Type 0 where
-  pub misused : command_of words ≡ None → Answers BAD_WORDS status before after
-  pub long : IsTrue old.tells → NoFault old new → (name : List ℕ)
-      → OfCommand words (λ c. HasLongInput c old name)
-      → Answers TOO_LONG status before after
-  pub config : IsTrue old.tells → NoFault old new → (fault : ConfigFault)
-      → OfCommand words (λ c. HasBadConfig c old fault)
-      → Answers BAD_CONFIG status before after
-  pub unbuilt : IsTrue old.tells → NoFault old new
-      → OfCommand words (λ c. HasUnbuilt c old)
-      → Answers NOT_BUILT status before after
-  pub journal : IsTrue old.tells → NoFault old new → (bad : BadLine)
-      → OfCommand words (λ c. HasBadJournal c old bad)
-      → Answers BAD_JOURNAL status before after
-  pub message : IsTrue old.tells → NoFault old new → (bad : BadMessage)
-      → OfCommand words (λ c. HasBadMessage c old bad)
-      → Answers BAD_MESSAGE status before after
-  pub complete : IsTrue old.tells → NoFault old new → (Rose before.faults after.faults → ⊥)
-      → OfCommand words (λ c. HasGoodInputs c old.files) → (status ≡ DONE) ⊎ (status ≡ NO_MEMORY)

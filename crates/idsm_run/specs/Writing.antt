@@ -1,10 +1,10 @@
 -- Files that a command writes, one after another, and what stands where it had to stop.
 use Rattle.std.specs.Prelude.{◌≡◌, ◌⊎◌, ℕ, ◌≤◌, List, [], ◌∷◌, take, Some}
-use Rattle.ids_outside.specs.Faults.{Faults, CountsFault}
+use Rattle.ids_outside.specs.Faults.{Faults, CountsFault, WantsMemory}
 use Rattle.ids_outside.specs.Files.{Files}
 use Rattle.ids_outside.specs.declared.faults.FaultKind.TheVariants.{Create, Append}
-use Rattle.idsm_run.specs.declared.stop.Stop.{Stop}
-use Rattle.idsm_run.specs.declared.stop.Stop.TheVariants.{CannotRead, TooLong, BadConfig, NotBuilt, BadJournal, CannotWrite, NoMemory, BadMessage}
+use Rattle.ids_outside.specs.declared.faults.WriteFault.{WriteFault}
+use Rattle.ids_outside.specs.declared.faults.WriteFault.TheVariants as write
 
 -- a file that is to be written, whole
 pub record Output : Type 0 where
@@ -38,20 +38,10 @@ StandUpTo (output ∷ outputs) old new =
     (StandsInPart old new output × AreUntouched outputs old new)
     ⊎ ((new output.name ≡ Some output.bytes) × StandUpTo outputs old new)
 
--- a creation or an append of the file of this name failed, and was the last fault
-abbrev pub FailedWrite : Faults → Faults → List ℕ → Type 0
-FailedWrite old new name = CountsFault old new Create name ⊎ CountsFault old new Append name
-
--- why a file was not written whole
-abbrev pub WriteStops : Faults → Faults → List ℕ → Stop → Type 0
-WriteStops old new name (CannotRead other) = ⊥
-WriteStops old new name (TooLong other) = ⊥
-WriteStops old new name (BadConfig fault) = ⊥
-WriteStops old new name NotBuilt = ⊥
-WriteStops old new name (BadJournal line fault) = ⊥
-WriteStops old new name CannotWrite = FailedWrite old new name
-WriteStops old new name NoMemory = new ≡ old
-WriteStops old new name (BadMessage bad) = ⊥
+-- a creation or an append of a file failed, and was the last fault; or memory was refused to one
+abbrev pub WriteFails : Faults → Faults → List ℕ → WriteFault → Type 0
+WriteFails old new name write.Failed = CountsFault old new Create name ⊎ CountsFault old new Append name
+WriteFails old new name write.NoMemory = WantsMemory old new
 
 -- the places at which so many bytes are cut into pieces: they do not fall, and the last is the end
 abbrev pub Cuts : ℕ → List ℕ → ℕ → Type 0

@@ -1,15 +1,15 @@
 //! The command `decode`: the messages of a file, a line for each.
 
-ghost use Rattle.std.specs.Prelude.{◌≡◌, IsTrue, IfOk, OnOk, IfErr};
+ghost use Rattle.std.specs.Prelude.{◌≡◌, IsTrue, IfOk, IfErr};
 ghost use Rattle.ids_outside.specs.Files.{SameFiles};
 ghost use Rattle.text_spec.specs.DecodedText.{decoded_text};
 ghost use Rattle.idsm_run.specs.Command.{decode as decode_command};
-ghost use Rattle.idsm_run.specs.Decode.{Decoded};
-ghost use Rattle.idsm_run.specs.Run.{shelved, StopsFor};
+ghost use Rattle.idsm_run.specs.Run.{WasDone, StopsFor};
+ghost use Rattle.idsm_run.specs.Stages.{plain_stop};
 
 use crate::inputs::read_file;
 use crate::limits::MAX_MESSAGES_BYTES;
-use crate::stop::Stop;
+use crate::stop::{Refusal, Stop};
 use ids_frame::Messages;
 use ids_outside::Shelf;
 use ids_types::NoMemory;
@@ -21,21 +21,18 @@ pub(crate) fn decode_file<'a, H: Shelf>(
     alloc: Global,
     name: &'a str,
     shelf: &mut H,
-) -> Result<Vec<u8>, Stop<'a>>
-    ensures tells { H.tells shelf.new ≡ H.tells shelf.old }
-    ensures same { IsTrue (H.tells shelf.old) →
-        SameFiles (H.contents shelf.old) (H.contents shelf.new) }
-    ensures done { IsTrue (H.tells shelf.old) → IfOk result (λ lines.
-        Decoded name.now (H.contents shelf.old) (H.contents shelf.new) lines.items) }
-    ensures faults { OnOk result (H.faults shelf.new ≡ H.faults shelf.old) }
-    ensures stop { IfErr result (λ stop. StopsFor stop (decode_command name.now)
-        (shelved (H.tells shelf.old) (H.contents shelf.old) (H.faults shelf.old))
-        (shelved (H.tells shelf.new) (H.contents shelf.new) (H.faults shelf.new))) }
+) -> Result<Vec<u8>, Stop<&'a str>>
+    ensures same { IsTrue (H.shows shelf.old).tells →
+        SameFiles (H.shows shelf.old).files (H.shows shelf.new).files }
+    ensures done { IfOk result (λ lines.
+        WasDone (decode_command name.now) lines.items (H.shows shelf.old) (H.shows shelf.new)) }
+    ensures stops { IfErr result (λ stop. StopsFor (decode_command name.now) (plain_stop stop)
+        (H.shows shelf.old) (H.shows shelf.new)) }
 {
     let bytes = read_file(alloc, name, MAX_MESSAGES_BYTES, shelf)?;
     match Messages::read(&bytes) {
         Ok(messages) => Ok(lines_of(alloc, messages)?),
-        Err(bad) => Err(Stop::BadMessage(bad)),
+        Err(bad) => Err(Stop::Refused(Refusal::BadMessages(bad))),
     }
 }
 

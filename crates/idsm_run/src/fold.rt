@@ -4,16 +4,17 @@ ghost use Rattle.std.specs.Prelude.{◌≡◌, ◌≢◌, length, IsTrue, IfOk, 
 ghost use Rattle.idsm_run.specs.Sending.{count_of};
 ghost use Rattle.idsm_run.specs.Command.{SameBut, written_by, fold as fold_command};
 ghost use Rattle.idsm_run.specs.CommandView.{files_of};
-ghost use Rattle.idsm_run.specs.Fold.{fold_text as text_of, fold_line as line_of, fold_outputs, Folded, OutputStops};
+ghost use Rattle.idsm_run.specs.Fold.{fold_text as text_of, fold_line as line_of, fold_outputs};
+ghost use Rattle.idsm_run.specs.Run.{WasDone, StopsFor, OneFails};
+ghost use Rattle.idsm_run.specs.Stages.{plain_stop};
 ghost use Rattle.idsm_run.specs.Writing.{AreWritten, StandUpTo, Cuts};
-ghost use Rattle.idsm_run.specs.Run.{shelved, StopsFor, StandsFor};
 
 use crate::command::FoldNames;
 use crate::inputs::read_inputs;
 use crate::outputs::write_file;
 use crate::sending::{Sent, messages_of_history};
 use crate::stop::Stop;
-use ids_outside::Shelf;
+use ids_outside::{Shelf, WriteFault};
 use ids_types::History;
 use std::alloc::{AllocError, Global};
 
@@ -23,29 +24,22 @@ pub(crate) fn fold<'a, H: Shelf>(
     alloc: Global,
     names: FoldNames<'a>,
     shelf: &mut H,
-) -> Result<String, Stop<'a>>
-    requires { names.messages.now ≢ names.memory.now }
-    ensures tells { H.tells shelf.new ≡ H.tells shelf.old }
-    ensures done { IsTrue (H.tells shelf.old) → IfOk result (λ text.
-        Folded (files_of names.entry) (H.contents shelf.old) (H.contents shelf.new)
-        (string_bytes text)) }
-    ensures others { IsTrue (H.tells shelf.old) →
+) -> Result<String, Stop<&'a str>>
+    requires inputs { names.config.now ≢ names.journal.now }
+    requires outputs { names.messages.now ≢ names.memory.now }
+    ensures others { IsTrue (H.shows shelf.old).tells →
         SameBut (written_by (fold_command (files_of names.entry)))
-        (H.contents shelf.old) (H.contents shelf.new) }
-    ensures stands { IsTrue (H.tells shelf.old) → IfErr result (λ stop. StandsFor stop
-        (fold_command (files_of names.entry)) (H.contents shelf.old) (H.contents shelf.new)) }
-    ensures faults { OnOk result (H.faults shelf.new ≡ H.faults shelf.old) }
-    ensures stop { IfErr result (λ stop. StopsFor stop (fold_command (files_of names.entry))
-        (shelved (H.tells shelf.old) (H.contents shelf.old) (H.faults shelf.old))
-        (shelved (H.tells shelf.new) (H.contents shelf.new) (H.faults shelf.new))) }
+        (H.shows shelf.old).files (H.shows shelf.new).files }
+    ensures done { IfOk result (λ text. WasDone (fold_command (files_of names.entry))
+        (string_bytes text) (H.shows shelf.old) (H.shows shelf.new)) }
+    ensures stops { IfErr result (λ stop. StopsFor (fold_command (files_of names.entry))
+        (plain_stop stop) (H.shows shelf.old) (H.shows shelf.new)) }
 {
     let inputs = read_inputs(alloc, names, shelf)?;
     let sent = messages_of_history(alloc, &inputs.config, &inputs.history)?;
     let text = fold_text(alloc, &inputs.history, sent.messages)?;
-    match write_outputs(names, &sent, shelf) {
-        Ok(()) => Ok(text),
-        Err(stop) => Err(stop),
-    }
+    write_outputs(names, &sent, shelf)?;
+    Ok(text)
 }
 
 /// Writes the messages of each turn that has some by one append, and an empty event memory.
@@ -53,21 +47,22 @@ fn write_outputs<H: Shelf>(
     names: FoldNames<'_>,
     sent: &Sent,
     shelf: &mut H,
-) -> Result<(), Stop<'static>>
+) -> Result<(), WriteFault>
     requires differ { names.messages.now ≢ names.memory.now }
     requires cuts { Cuts 0 sent.now.ends.items (length sent.now.bytes.items) }
-    ensures tells { H.tells shelf.new ≡ H.tells shelf.old }
-    ensures ok { IsTrue (H.tells shelf.old) → OnOk result
-        (AreWritten (fold_outputs (files_of names.entry) sent.now.bytes.items) (H.contents shelf.new)) }
-    ensures others { IsTrue (H.tells shelf.old) →
+    ensures tells { (H.shows shelf.new).tells ≡ (H.shows shelf.old).tells }
+    ensures ok { IsTrue (H.shows shelf.old).tells → OnOk result
+        (AreWritten (fold_outputs (files_of names.entry) sent.now.bytes.items)
+        (H.shows shelf.new).files) }
+    ensures others { IsTrue (H.shows shelf.old).tells →
         SameBut (written_by (fold_command (files_of names.entry)))
-        (H.contents shelf.old) (H.contents shelf.new) }
-    ensures stands { IsTrue (H.tells shelf.old) → OnErr result
+        (H.shows shelf.old).files (H.shows shelf.new).files }
+    ensures part { IsTrue (H.shows shelf.old).tells → OnErr result
         (StandUpTo (fold_outputs (files_of names.entry) sent.now.bytes.items)
-        (H.contents shelf.old) (H.contents shelf.new)) }
-    ensures faults { OnOk result (H.faults shelf.new ≡ H.faults shelf.old) }
-    ensures stop { IfErr result
-        (OutputStops (H.faults shelf.old) (H.faults shelf.new) (files_of names.entry)) }
+        (H.shows shelf.old).files (H.shows shelf.new).files) }
+    ensures no_fault { OnOk result ((H.shows shelf.new).faults ≡ (H.shows shelf.old).faults) }
+    ensures fails { IfErr result (OneFails (fold_command (files_of names.entry))
+        (H.shows shelf.old).faults (H.shows shelf.new).faults) }
 {
     write_file(names.messages, &sent.bytes, &sent.ends, shelf)?;
     write_file(names.memory, &[], &[], shelf)

@@ -1,19 +1,20 @@
 //! The input files of the command `fold`.
 
-ghost use Rattle.std.specs.Prelude.{◌≡◌, length, true, IsTrue, IfOk, OnOk, IfErr};
+ghost use Rattle.std.specs.Prelude.{◌≡◌, ◌≢◌, length, Ok, IsTrue, IfOk, OnOk, IfErr};
 ghost use Rattle.std.specs.List.{AllByRecursion};
-ghost use Rattle.ids_outside.specs.Files.{SameFiles, Holds};
+ghost use Rattle.config_json.specs.Configured.{configuration};
+ghost use Rattle.ids_outside.specs.Files.{SameFiles};
+ghost use Rattle.idsm_run.specs.Command.{fold};
 ghost use Rattle.idsm_run.specs.CommandView.{files_of};
-ghost use Rattle.config_json.specs.Configured.{ConfigOf};
-ghost use Rattle.idsm_run.specs.Built.{is_built as built};
-ghost use Rattle.idsm_run.specs.Inputs.{HasInputs, InputStops, ConfigStops, ReadStops};
+ghost use Rattle.idsm_run.specs.Judge.{file_of, config_judged, folding_in, folding};
 ghost use Rattle.idsm_run.specs.Sending.{CanSendTurn};
+ghost use Rattle.idsm_run.specs.Stages.{Judges, ReadStops, InputsStop};
 
 use crate::built::is_built;
 use crate::command::FoldNames;
 use crate::journals::judge_journal;
 use crate::limits::{MAX_CONFIG_BYTES, MAX_JOURNAL_BYTES};
-use crate::stop::Stop;
+use crate::stop::{InputStop, Refusal};
 use config_json::JsonFault;
 use ids_config::Config;
 use ids_outside::{ReadFault, Shelf};
@@ -32,17 +33,19 @@ pub(crate) fn read_inputs<'a, H: Shelf>(
     alloc: Global,
     names: FoldNames<'a>,
     shelf: &mut H,
-) -> Result<Inputs, Stop<'a>>
-    ensures tells { H.tells shelf.new ≡ H.tells shelf.old }
-    ensures same { IsTrue (H.tells shelf.old) →
-        SameFiles (H.contents shelf.old) (H.contents shelf.new) }
-    ensures found { IsTrue (H.tells shelf.old) → IfOk result (λ i.
-        HasInputs (H.contents shelf.old) (files_of names.entry) i.config i.history.turns) }
+) -> Result<Inputs, InputStop<&'a str>>
+    requires { names.config.now ≢ names.journal.now }
+    ensures tells { (H.shows shelf.new).tells ≡ (H.shows shelf.old).tells }
+    ensures same { IsTrue (H.shows shelf.old).tells →
+        SameFiles (H.shows shelf.old).files (H.shows shelf.new).files }
+    ensures found { IsTrue (H.shows shelf.old).tells → IfOk result (λ i.
+        folding_in (files_of names.entry) (H.shows shelf.old).files
+        ≡ Ok (folding i.config i.history.turns)) }
     ensures fits { IfOk result (λ i.
         AllByRecursion (CanSendTurn (length i.config.events)) i.history.turns) }
-    ensures faults { OnOk result (H.faults shelf.new ≡ H.faults shelf.old) }
-    ensures stop { IfErr result (InputStops (H.tells shelf.old) (H.contents shelf.old)
-        (H.faults shelf.old) (H.faults shelf.new) (files_of names.entry)) }
+    ensures no_fault { OnOk result ((H.shows shelf.new).faults ≡ (H.shows shelf.old).faults) }
+    ensures stops { IfErr result (InputsStop (fold (files_of names.entry))
+        (H.shows shelf.old) (H.shows shelf.new)) }
 {
     let text = read_file(alloc, names.config, MAX_CONFIG_BYTES, shelf)?;
     let config = judge_config(alloc, &text)?;
@@ -52,16 +55,14 @@ pub(crate) fn read_inputs<'a, H: Shelf>(
 }
 
 /// The configuration that the bytes are the text of, where it is one that the chain can mean.
-fn judge_config<'a>(alloc: Global, text: &[u8]) -> Result<Config, Stop<'a>>
-    ensures config { IfOk result (λ config. ConfigOf text.now config) }
-    ensures built { IfOk result (λ config. built config ≡ true) }
-    ensures stop { IfErr result (ConfigStops text.now) }
+fn judge_config<'a>(alloc: Global, text: &[u8]) -> Result<Config, InputStop<&'a str>>
+    ensures { Judges (λ c. c) (config_judged (configuration text.now)) result }
 {
     match config_json::read(alloc, text) {
         Ok(config) if is_built(config.parts()) => Ok(config),
-        Ok(_) => Err(Stop::NotBuilt),
-        Err(JsonFault::Config(fault)) => Err(Stop::BadConfig(fault)),
-        Err(JsonFault::NoMemory) => Err(Stop::NoMemory),
+        Ok(_) => Err(InputStop::Refused(Refusal::NotBuilt)),
+        Err(JsonFault::Config(fault)) => Err(InputStop::Refused(Refusal::BadConfig(fault))),
+        Err(JsonFault::NoMemory) => Err(InputStop::NoMemory),
     }
 }
 
@@ -71,20 +72,20 @@ pub(crate) fn read_file<'a, H: Shelf>(
     name: &'a str,
     limit: u64,
     shelf: &mut H,
-) -> Result<Vec<u8>, Stop<'a>>
-    ensures tells { H.tells shelf.new ≡ H.tells shelf.old }
-    ensures same { IsTrue (H.tells shelf.old) →
-        SameFiles (H.contents shelf.old) (H.contents shelf.new) }
-    ensures found { IsTrue (H.tells shelf.old) →
-        IfOk result (λ bytes. Holds (H.contents shelf.old) name.now limit bytes.items) }
-    ensures faults { OnOk result (H.faults shelf.new ≡ H.faults shelf.old) }
-    ensures stop { IfErr result (ReadStops (H.tells shelf.old) (H.contents shelf.old)
-        (H.faults shelf.old) (H.faults shelf.new) name.now limit) }
+) -> Result<Vec<u8>, InputStop<&'a str>>
+    ensures tells { (H.shows shelf.new).tells ≡ (H.shows shelf.old).tells }
+    ensures same { IsTrue (H.shows shelf.old).tells →
+        SameFiles (H.shows shelf.old).files (H.shows shelf.new).files }
+    ensures found { IsTrue (H.shows shelf.old).tells → IfOk result (λ bytes.
+        file_of limit name.now (H.shows shelf.old).files ≡ Ok bytes.items) }
+    ensures no_fault { OnOk result ((H.shows shelf.new).faults ≡ (H.shows shelf.old).faults) }
+    ensures stops { IfErr result
+        (ReadStops limit name.now (H.shows shelf.old) (H.shows shelf.new)) }
 {
     match shelf.read(alloc, name, limit) {
         Ok(bytes) => Ok(bytes),
-        Err(ReadFault::Failed) => Err(Stop::CannotRead(name)),
-        Err(ReadFault::TooLong) => Err(Stop::TooLong(name)),
-        Err(ReadFault::NoMemory) => Err(Stop::NoMemory),
+        Err(ReadFault::Failed) => Err(InputStop::Refused(Refusal::CannotRead(name))),
+        Err(ReadFault::TooLong) => Err(InputStop::Refused(Refusal::TooLong(name))),
+        Err(ReadFault::NoMemory) => Err(InputStop::NoMemory),
     }
 }

@@ -1,19 +1,22 @@
 //! The journals that the chain of this release can mean: nothing is held back, and no entry is a
 //! control.
 
-ghost use Rattle.std.specs.Prelude.{◌≡◌, ◌<◌, ◌+◌, ◌^◌, length, false, IfOk, IfErr};
-ghost use Rattle.std.specs.List.{list_any};
+ghost use Rattle.std.specs.Prelude.{◌≡◌, ◌<◌, ◌+◌, ◌^◌, length, IfOk};
+ghost use Rattle.std.specs.List.{list_any, AllByRecursion};
 ghost use Rattle.ids_types.specs.Plain.{plain_entry};
 ghost use Rattle.ids_types.specs.Turns.{turn_at, entries_of};
 ghost use Rattle.idsm_run.specs.Built.{has_control as some_control, is_control as control};
-ghost use Rattle.idsm_run.specs.FoldedJournal.{Tells, held_back_line as line_held_back};
-ghost use Rattle.idsm_run.specs.Inputs.{JournalStops};
+ghost use Rattle.idsm_run.specs.FoldedJournal.{folded_in, held_back_line as line_held_back};
+ghost use Rattle.idsm_run.specs.Judge.{journal_judged};
+ghost use Rattle.idsm_run.specs.Sending.{CanSendTurn};
+ghost use Rattle.idsm_run.specs.Stages.{Judges};
 
-use crate::stop::Stop;
+use crate::stop::{InputStop, Refusal};
 use ids_config::Config;
 use ids_types::{Act, Entry, History, Plain};
 use journal::{JournalFault, read};
 use std::alloc::Global;
+use text_spec::what_a_fitting_journal_keeps;
 
 /// The fault of a turn whose number of held-back events is not the chain's.
 const HELD_BACK: u8 = 8;
@@ -23,26 +26,27 @@ pub(crate) fn judge_journal<'a>(
     alloc: Global,
     text: &[u8],
     config: &Config,
-) -> Result<History, Stop<'a>>
-    ensures tells { IfOk result (λ h. Tells config.now text.now h.turns) }
-    ensures reports { IfOk result (λ h. some_control h.turns ≡ false) }
-    ensures stop { IfErr result (JournalStops config.now text.now) }
+) -> Result<History, InputStop<&'a str>>
+    ensures judges { Judges (λ h. h.turns) (journal_judged (folded_in config.now text.now)) result }
+    ensures fits { IfOk result (λ h. AllByRecursion (CanSendTurn (length config.now.events)) h.turns) }
 {
-    // A configuration's events are few.
-    let _parts = config.parts();
+    // A journal that fits has its numbers in their ranges.
+    what_a_fitting_journal_keeps();
     let history = match read(alloc, text, config) {
         Ok(journal) => journal.history,
-        Err(JournalFault::Line { line, number }) => return Err(Stop::BadJournal { line, number }),
-        Err(JournalFault::NoMemory) => return Err(Stop::NoMemory),
+        Err(JournalFault::Line { line, number }) => {
+            return Err(InputStop::Refused(Refusal::BadJournal { line, number }));
+        }
+        Err(JournalFault::NoMemory) => return Err(InputStop::NoMemory),
     };
     if let Some(line) = held_back_line(&history) {
-        return Err(Stop::BadJournal {
+        return Err(InputStop::Refused(Refusal::BadJournal {
             line,
             number: HELD_BACK,
-        });
+        }));
     }
     if has_control(&history) {
-        return Err(Stop::NotBuilt);
+        return Err(InputStop::Refused(Refusal::NotBuilt));
     }
     Ok(history)
 }

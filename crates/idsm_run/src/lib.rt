@@ -4,9 +4,9 @@
 //! program `idsm` calls it with the host's files. For now the commands are `fold`, for configurations
 //! under which every report is sent as it is and for journals that tell no control, and `decode`; the
 //! chain that sends every report is private.
-//! Contracts see a shelf by what it tells: `specs/Run.antt` says what a run does, by cases on its
-//! command, and `run_plain` promises it. That memory suffices is not promised: `NO_MEMORY` is the one
-//! status without a cause.
+//! Contracts see a shelf by what it tells: `specs/Judge.antt` says what the input files of a command
+//! deserve, `specs/Run.antt` how a run ends, and `run_plain` promises it. That memory suffices is not
+//! promised: `NO_MEMORY` is the one status without a cause.
 #![tactic(auto)]
 
 mod built;
@@ -23,7 +23,7 @@ mod sending;
 mod status;
 mod stop;
 
-pub use run::run_plain;
+pub use run::{files_decide_the_answer, run_plain};
 pub use status::{
     BAD_CONFIG, BAD_JOURNAL, BAD_MESSAGE, BAD_WORDS, CANNOT_READ, CANNOT_WRITE, DONE, NO_MEMORY,
     NOT_BUILT, TOO_LONG,

@@ -1,11 +1,9 @@
 //! Files that are written piece by piece.
 
 ghost use Rattle.std.specs.Prelude.{◌≡◌, ◌≤◌, ◌++◌, List, ℕ, length, IsTrue, OnOk, OnErr, IfErr, Some, [], take};
-ghost use Rattle.ids_outside.specs.Faults.{CountsFault};
-ghost use Rattle.ids_outside.specs.Files.{SameFiles, SameOthers, Changes, AddsAtMost, ClearsAtMost, bytes_at};
-ghost use Rattle.idsm_run.specs.Writing.{StandsInPart, HoldsPart, WriteStops, Cuts};
+ghost use Rattle.ids_outside.specs.Files.{SameOthers, Changes};
+ghost use Rattle.idsm_run.specs.Writing.{StandsInPart, HoldsPart, WriteFails, Cuts};
 
-use crate::stop::Stop;
 use ids_outside::{Shelf, WriteFault};
 
 /// Makes the file of this name and appends the bytes, by one append for each piece that is not empty.
@@ -15,54 +13,22 @@ pub(crate) fn write_file<H: Shelf>(
     bytes: &[u8],
     ends: &[usize],
     shelf: &mut H,
-) -> Result<(), Stop<'static>>
+) -> Result<(), WriteFault>
     requires { Cuts 0 ends.now (length bytes.now) }
-    ensures tells { H.tells shelf.new ≡ H.tells shelf.old }
-    ensures ok { IsTrue (H.tells shelf.old) →
-        OnOk result (Changes (H.contents shelf.old) (H.contents shelf.new) name.now (Some bytes.now)) }
-    ensures others { IsTrue (H.tells shelf.old) →
-        SameOthers (H.contents shelf.old) (H.contents shelf.new) name.now }
-    ensures part { IsTrue (H.tells shelf.old) → OnErr result
-        (StandsInPart (H.contents shelf.old) (H.contents shelf.new)
+    ensures tells { (H.shows shelf.new).tells ≡ (H.shows shelf.old).tells }
+    ensures ok { IsTrue (H.shows shelf.old).tells → OnOk result
+        (Changes (H.shows shelf.old).files (H.shows shelf.new).files name.now (Some bytes.now)) }
+    ensures others { IsTrue (H.shows shelf.old).tells →
+        SameOthers (H.shows shelf.old).files (H.shows shelf.new).files name.now }
+    ensures part { IsTrue (H.shows shelf.old).tells → OnErr result
+        (StandsInPart (H.shows shelf.old).files (H.shows shelf.new).files
         (record { name = name.now; bytes = bytes.now })) }
-    ensures faults { OnOk result (H.faults shelf.new ≡ H.faults shelf.old) }
-    ensures stop { IfErr result (WriteStops (H.faults shelf.old) (H.faults shelf.new) name.now) }
+    ensures no_fault { OnOk result ((H.shows shelf.new).faults ≡ (H.shows shelf.old).faults) }
+    ensures fails { IfErr result
+        (WriteFails (H.shows shelf.old).faults (H.shows shelf.new).faults name.now) }
 {
-    create(name, shelf)?;
+    shelf.create(name)?;
     append_pieces(name, bytes, ends, shelf)
-}
-
-fn create<H: Shelf>(name: &str, shelf: &mut H) -> Result<(), Stop<'static>>
-    ensures tells { H.tells shelf.new ≡ H.tells shelf.old }
-    ensures ok { IsTrue (H.tells shelf.old) →
-        OnOk result (Changes (H.contents shelf.old) (H.contents shelf.new) name.now (Some [])) }
-    ensures err { IsTrue (H.tells shelf.old) →
-        OnErr result (ClearsAtMost (H.contents shelf.old) (H.contents shelf.new) name.now) }
-    ensures faults { OnOk result (H.faults shelf.new ≡ H.faults shelf.old) }
-    ensures stop { IfErr result (WriteStops (H.faults shelf.old) (H.faults shelf.new) name.now) }
-{
-    match shelf.create(name) {
-        Ok(()) => Ok(()),
-        Err(WriteFault::Failed) => Err(Stop::CannotWrite),
-        Err(WriteFault::NoMemory) => Err(Stop::NoMemory),
-    }
-}
-
-fn append<H: Shelf>(name: &str, piece: &[u8], shelf: &mut H) -> Result<(), Stop<'static>>
-    ensures tells { H.tells shelf.new ≡ H.tells shelf.old }
-    ensures ok { IsTrue (H.tells shelf.old) → OnOk result
-        (Changes (H.contents shelf.old) (H.contents shelf.new) name.now
-        (Some (bytes_at (H.contents shelf.old) name.now ++ piece.now))) }
-    ensures err { IsTrue (H.tells shelf.old) →
-        OnErr result (AddsAtMost (H.contents shelf.old) (H.contents shelf.new) name.now piece.now) }
-    ensures faults { OnOk result (H.faults shelf.new ≡ H.faults shelf.old) }
-    ensures stop { IfErr result (WriteStops (H.faults shelf.old) (H.faults shelf.new) name.now) }
-{
-    match shelf.append(name, piece) {
-        Ok(()) => Ok(()),
-        Err(WriteFault::Failed) => Err(Stop::CannotWrite),
-        Err(WriteFault::NoMemory) => Err(Stop::NoMemory),
-    }
 }
 
 /// Appends the pieces to a file that is there and empty.
@@ -71,18 +37,20 @@ fn append_pieces<H: Shelf>(
     bytes: &[u8],
     ends: &[usize],
     shelf: &mut H,
-) -> Result<(), Stop<'static>>
+) -> Result<(), WriteFault>
     requires cuts { Cuts 0 ends.now (length bytes.now) }
-    ensures tells { H.tells shelf.new ≡ H.tells shelf.old }
-    ensures ok { IsTrue (H.tells shelf.old) → H.contents shelf.old name.now ≡ Some [] →
-        OnOk result (H.contents shelf.new name.now ≡ Some bytes.now) }
-    ensures part { IsTrue (H.tells shelf.old) → H.contents shelf.old name.now ≡ Some [] →
-        OnErr result (HoldsPart (H.contents shelf.new)
-        (record { name = name.now; bytes = bytes.now })) }
-    ensures others { IsTrue (H.tells shelf.old) →
-        SameOthers (H.contents shelf.old) (H.contents shelf.new) name.now }
-    ensures faults { OnOk result (H.faults shelf.new ≡ H.faults shelf.old) }
-    ensures stop { IfErr result (WriteStops (H.faults shelf.old) (H.faults shelf.new) name.now) }
+    ensures tells { (H.shows shelf.new).tells ≡ (H.shows shelf.old).tells }
+    ensures ok { IsTrue (H.shows shelf.old).tells →
+        (H.shows shelf.old).files name.now ≡ Some [] →
+        OnOk result ((H.shows shelf.new).files name.now ≡ Some bytes.now) }
+    ensures part { IsTrue (H.shows shelf.old).tells →
+        (H.shows shelf.old).files name.now ≡ Some [] → OnErr result
+        (HoldsPart (H.shows shelf.new).files (record { name = name.now; bytes = bytes.now })) }
+    ensures others { IsTrue (H.shows shelf.old).tells →
+        SameOthers (H.shows shelf.old).files (H.shows shelf.new).files name.now }
+    ensures no_fault { OnOk result ((H.shows shelf.new).faults ≡ (H.shows shelf.old).faults) }
+    ensures fails { IfErr result
+        (WriteFails (H.shows shelf.old).faults (H.shows shelf.new).faults name.now) }
 {
     let mut start = 0;
     for &end in ends {
@@ -99,24 +67,24 @@ fn append_piece<H: Shelf>(
     start: usize,
     end: usize,
     shelf: &mut H,
-) -> Result<(), Stop<'static>>
+) -> Result<(), WriteFault>
     requires ordered { start ≤ end }
     requires within { end ≤ length bytes.now }
-    ensures tells { H.tells shelf.new ≡ H.tells shelf.old }
-    ensures ok { IsTrue (H.tells shelf.old) →
-        H.contents shelf.old name.now ≡ Some (take start bytes.now) →
-        OnOk result (H.contents shelf.new name.now ≡ Some (take end bytes.now)) }
-    ensures part { IsTrue (H.tells shelf.old) →
-        H.contents shelf.old name.now ≡ Some (take start bytes.now) →
-        OnErr result (HoldsPart (H.contents shelf.new)
-        (record { name = name.now; bytes = bytes.now })) }
-    ensures others { IsTrue (H.tells shelf.old) →
-        SameOthers (H.contents shelf.old) (H.contents shelf.new) name.now }
-    ensures faults { OnOk result (H.faults shelf.new ≡ H.faults shelf.old) }
-    ensures stop { IfErr result (WriteStops (H.faults shelf.old) (H.faults shelf.new) name.now) }
+    ensures tells { (H.shows shelf.new).tells ≡ (H.shows shelf.old).tells }
+    ensures ok { IsTrue (H.shows shelf.old).tells →
+        (H.shows shelf.old).files name.now ≡ Some (take start bytes.now) →
+        OnOk result ((H.shows shelf.new).files name.now ≡ Some (take end bytes.now)) }
+    ensures part { IsTrue (H.shows shelf.old).tells →
+        (H.shows shelf.old).files name.now ≡ Some (take start bytes.now) → OnErr result
+        (HoldsPart (H.shows shelf.new).files (record { name = name.now; bytes = bytes.now })) }
+    ensures others { IsTrue (H.shows shelf.old).tells →
+        SameOthers (H.shows shelf.old).files (H.shows shelf.new).files name.now }
+    ensures no_fault { OnOk result ((H.shows shelf.new).faults ≡ (H.shows shelf.old).faults) }
+    ensures fails { IfErr result
+        (WriteFails (H.shows shelf.old).faults (H.shows shelf.new).faults name.now) }
 {
     if start == end {
         return Ok(());
     }
-    append(name, &bytes[start..end], shelf)
+    shelf.append(name, &bytes[start..end])
 }

@@ -1,10 +1,14 @@
-ghost use Rattle.std.specs.Prelude.{◌≡◌, ◌≢◌, ◌≤◌, IsTrue, map, string_bytes};
+ghost use Rattle.std.specs.Prelude.{◌≡◌, ◌≢◌, ℕ, List, Ok, Err, IsTrue, map, string_bytes};
 ghost use Rattle.ids_outside.specs.Files.{SameFiles};
-ghost use Rattle.idsm_run.specs.Command.{command_of, written_by, SameBut, fold as fold_command, decode as decode_command};
+ghost use Rattle.ids_outside.specs.Shelved.{Shelved};
+ghost use Rattle.ids_outside.specs.Sinks.{Heard};
+ghost use Rattle.idsm_run.specs.declared.stop.Refusal.{Refusal};
+ghost use Rattle.idsm_run.specs.Command.{Command, command_of, written_by, SameBut, fold as fold_command, decode as decode_command};
 ghost use Rattle.idsm_run.specs.CommandView.{files_of};
-ghost use Rattle.idsm_run.specs.declared.status.TheConstants.{CANNOT_WRITE};
-ghost use Rattle.idsm_run.specs.Saying.{heard};
-ghost use Rattle.idsm_run.specs.Run.{shelved, Ran, RanCommand, Does, IsRefusal, StandsWhereStopped, Causes, Obliges, written_of};
+ghost use Rattle.idsm_run.specs.Deserts.{EndsWith, EndsOrFails};
+ghost use Rattle.idsm_run.specs.Judge.{Work, judge};
+ghost use Rattle.idsm_run.specs.Run.{Ran, RanCommand, written_of};
+ghost use Rattle.idsm_run.specs.Texts.{refusal_status};
 
 use crate::command::{FoldNames, Request, parse};
 use crate::decode::decode_file;
@@ -29,47 +33,14 @@ pub fn run_plain<H: Shelf, K: Sink>(
     shelf: &mut H,
     out: &mut K,
 ) -> u8
-    // What is done under status 0.
-    ensures done { result ≡ DONE → Does (map string_bytes words.now)
-        (shelved (H.tells shelf.old) (H.contents shelf.old) (H.faults shelf.old))
-        (shelved (H.tells shelf.new) (H.contents shelf.new) (H.faults shelf.new))
-        (heard (K.tells out.old) (K.taken out.old) (K.faults out.old))
-        (heard (K.tells out.new) (K.taken out.new) (K.faults out.new)) }
-
-    // What stands in the files, whatever the status.
-    ensures others { IsTrue (H.tells shelf.old) → SameBut
-        (written_of (command_of (map string_bytes words.now)))
-        (H.contents shelf.old) (H.contents shelf.new) }
-    ensures refused { IsTrue (H.tells shelf.old) → IsRefusal result →
-        SameFiles (H.contents shelf.old) (H.contents shelf.new) }
-    ensures stands { IsTrue (H.tells shelf.old) → CANNOT_WRITE ≤ result →
-        StandsWhereStopped (map string_bytes words.now) (H.contents shelf.old) (H.contents shelf.new) }
-
-    // Why the run ended so, and what was put; and that it may not end otherwise.
-    ensures causes { Causes (map string_bytes words.now) result
-        (shelved (H.tells shelf.old) (H.contents shelf.old) (H.faults shelf.old))
-        (shelved (H.tells shelf.new) (H.contents shelf.new) (H.faults shelf.new))
-        (heard (K.tells out.old) (K.taken out.old) (K.faults out.old))
-        (heard (K.tells out.new) (K.taken out.new) (K.faults out.new)) }
-    ensures obliges { Obliges (map string_bytes words.now) result
-        (shelved (H.tells shelf.old) (H.contents shelf.old) (H.faults shelf.old))
-        (shelved (H.tells shelf.new) (H.contents shelf.new) (H.faults shelf.new))
-        (heard (K.tells out.old) (K.taken out.old) (K.faults out.old))
-        (heard (K.tells out.new) (K.taken out.new) (K.faults out.new)) }
-{
-    run(alloc, words, shelf, out)
-}
-
-/// Runs the command that the words give, or tells the usage.
-fn run<H: Shelf, K: Sink>(alloc: Global, words: &[String], shelf: &mut H, out: &mut K) -> u8
+    // What the run did or why it stopped, with its status, its text, and what stands in the files.
     ensures ran { Ran (command_of (map string_bytes words.now)) result
-        (shelved (H.tells shelf.old) (H.contents shelf.old) (H.faults shelf.old))
-        (shelved (H.tells shelf.new) (H.contents shelf.new) (H.faults shelf.new))
-        (heard (K.tells out.old) (K.taken out.old) (K.faults out.old))
-        (heard (K.tells out.new) (K.taken out.new) (K.faults out.new)) }
-    ensures others { IsTrue (H.tells shelf.old) → SameBut
+        (H.shows shelf.old) (H.shows shelf.new) (K.hears out.old) (K.hears out.new) }
+
+    // Whatever the status, no file changes but those that the command writes.
+    ensures others { IsTrue (H.shows shelf.old).tells → SameBut
         (written_of (command_of (map string_bytes words.now)))
-        (H.contents shelf.old) (H.contents shelf.new) }
+        (H.shows shelf.old).files (H.shows shelf.new).files }
 {
     match parse(words) {
         None => say(USAGE, BAD_WORDS, out),
@@ -84,15 +55,13 @@ fn run_fold<H: Shelf, K: Sink>(
     shelf: &mut H,
     out: &mut K,
 ) -> u8
-    requires { names.messages.now ≢ names.memory.now }
+    requires inputs { names.config.now ≢ names.journal.now }
+    requires outputs { names.messages.now ≢ names.memory.now }
     ensures ran { RanCommand (fold_command (files_of names.entry)) result
-        (shelved (H.tells shelf.old) (H.contents shelf.old) (H.faults shelf.old))
-        (shelved (H.tells shelf.new) (H.contents shelf.new) (H.faults shelf.new))
-        (heard (K.tells out.old) (K.taken out.old) (K.faults out.old))
-        (heard (K.tells out.new) (K.taken out.new) (K.faults out.new)) }
-    ensures others { IsTrue (H.tells shelf.old) → SameBut
+        (H.shows shelf.old) (H.shows shelf.new) (K.hears out.old) (K.hears out.new) }
+    ensures others { IsTrue (H.shows shelf.old).tells → SameBut
         (written_by (fold_command (files_of names.entry)))
-        (H.contents shelf.old) (H.contents shelf.new) }
+        (H.shows shelf.old).files (H.shows shelf.new).files }
 {
     match fold(alloc, names, shelf) {
         Ok(text) => say(text.as_bytes(), DONE, out),
@@ -102,15 +71,26 @@ fn run_fold<H: Shelf, K: Sink>(
 
 fn run_decode<H: Shelf, K: Sink>(alloc: Global, name: &str, shelf: &mut H, out: &mut K) -> u8
     ensures ran { RanCommand (decode_command name.now) result
-        (shelved (H.tells shelf.old) (H.contents shelf.old) (H.faults shelf.old))
-        (shelved (H.tells shelf.new) (H.contents shelf.new) (H.faults shelf.new))
-        (heard (K.tells out.old) (K.taken out.old) (K.faults out.old))
-        (heard (K.tells out.new) (K.taken out.new) (K.faults out.new)) }
-    ensures same { IsTrue (H.tells shelf.old) →
-        SameFiles (H.contents shelf.old) (H.contents shelf.new) }
+        (H.shows shelf.old) (H.shows shelf.new) (K.hears out.old) (K.hears out.new) }
+    ensures same { IsTrue (H.shows shelf.old).tells →
+        SameFiles (H.shows shelf.old).files (H.shows shelf.new).files }
 {
     match decode_file(alloc, name, shelf) {
         Ok(lines) => say(&lines, DONE, out),
         Err(stop) => tell(alloc, stop, out),
     }
 }
+
+/// What the input files deserve decides how a run over a shelf that tells them ends: with the status of
+/// their refusal, or with 0. Only want of memory, the put of the text, a write, or an earlier read that
+/// failed can end it otherwise.
+pub fn files_decide_the_answer()
+    ensures refused { (command : Command) (status : ℕ) (old new : Shelved) (before after : Heard)
+        (refusal : Refusal (List ℕ)) → RanCommand command status old new before after →
+        IsTrue old.tells → judge command old.files ≡ Err refusal →
+        EndsWith (refusal_status refusal) command status old new before after }
+    ensures served { (command : Command) (status : ℕ) (old new : Shelved) (before after : Heard)
+        (work : Work) → RanCommand command status old new before after →
+        IsTrue old.tells → judge command old.files ≡ Ok work →
+        EndsOrFails 0 command status old new before after }
+{}

@@ -1,27 +1,23 @@
 //! The one text that a run puts to its sink.
 
 ghost use Rattle.std.specs.Prelude.{◌≡◌, IfOk, MatchResult, string_bytes, codes};
-ghost use Rattle.idsm_run.specs.ConfigTexts.{bad_config_text};
-ghost use Rattle.idsm_run.specs.FoldedJournal.{bad_line};
-ghost use Rattle.idsm_run.specs.JournalTexts.{bad_journal_text};
-ghost use Rattle.idsm_run.specs.Messages.{bad_message_text};
-ghost use Rattle.idsm_run.specs.Saying.{heard, Says, TellsStop, named_text, no_memory_text};
+ghost use Rattle.idsm_run.specs.Saying.{Puts, TellsStop, TellsRefusal};
+ghost use Rattle.idsm_run.specs.Stages.{plain_refusal, plain_stop};
+ghost use Rattle.idsm_run.specs.Texts.{named_text, bad_config_text, bad_journal_text, bad_message_text, no_memory_text};
 
 use crate::status::{
     BAD_CONFIG, BAD_JOURNAL, BAD_MESSAGE, CANNOT_READ, CANNOT_WRITE, NO_MEMORY, NOT_BUILT, TOO_LONG,
 };
-use crate::stop::Stop;
+use crate::stop::{Refusal, Stop};
 use ids_config::{ConfigFault, ConfigPlace};
 use ids_frame::{BadMessage, FrameFault};
 use ids_outside::{Sink, WriteFault};
 use std::alloc::{AllocError, Global};
 
-/// Puts the text, where it has bytes, and returns the status: the one that goes with it, or that of the put's own fault.
+/// Puts the text, where it has bytes, and returns the status: the one that goes with it, or that of
+/// the put's own fault.
 pub(crate) fn say<K: Sink>(text: &[u8], status: u8, out: &mut K) -> u8
-    ensures tells { K.tells out.new ≡ K.tells out.old }
-    ensures says { Says text.now status result
-        (heard (K.tells out.old) (K.taken out.old) (K.faults out.old))
-        (heard (K.tells out.new) (K.taken out.new) (K.faults out.new)) }
+    ensures { Puts text.now status result (K.hears out.old) (K.hears out.new) }
 {
     if text.is_empty() {
         return status;
@@ -34,39 +30,40 @@ pub(crate) fn say<K: Sink>(text: &[u8], status: u8, out: &mut K) -> u8
 }
 
 /// Tells why a command stopped, and returns the status.
-pub(crate) fn tell<K: Sink>(alloc: Global, stop: Stop<'_>, out: &mut K) -> u8
-    ensures tells { K.tells out.new ≡ K.tells out.old }
-    ensures says { TellsStop stop.entry result
-        (heard (K.tells out.old) (K.taken out.old) (K.faults out.old))
-        (heard (K.tells out.new) (K.taken out.new) (K.faults out.new)) }
+pub(crate) fn tell<K: Sink>(alloc: Global, stop: Stop<&str>, out: &mut K) -> u8
+    ensures { TellsStop (plain_stop stop.entry) result (K.hears out.old) (K.hears out.new) }
 {
     match stop {
-        Stop::CannotRead(name) => tell_name(cannot_read_text(alloc, name), CANNOT_READ, out),
-        Stop::TooLong(name) => tell_name(too_long_text(alloc, name), TOO_LONG, out),
-        Stop::BadConfig(fault) => tell_name(bad_config_line(alloc, fault), BAD_CONFIG, out),
-        Stop::NotBuilt => say(b"not built\n", NOT_BUILT, out),
-        Stop::BadJournal { line, number } => {
-            tell_name(bad_journal_line(alloc, line, number), BAD_JOURNAL, out)
-        }
+        Stop::Refused(refusal) => tell_refusal(alloc, refusal, out),
         Stop::CannotWrite => say(b"cannot write\n", CANNOT_WRITE, out),
-        Stop::BadMessage(bad) => tell_name(bad_message_line(alloc, bad), BAD_MESSAGE, out),
         Stop::NoMemory => say(b"no memory\n", NO_MEMORY, out),
     }
 }
 
-/// Puts a text that wanted memory, or tells that there was none.
-fn tell_name<K: Sink>(text: Result<String, AllocError>, status: u8, out: &mut K) -> u8
-    ensures tells { K.tells out.new ≡ K.tells out.old }
-    ensures says { MatchResult text
-        (λ t. Says (string_bytes t) status result
-        (heard (K.tells out.old) (K.taken out.old) (K.faults out.old))
-        (heard (K.tells out.new) (K.taken out.new) (K.faults out.new)))
-        (λ _. Says no_memory_text NO_MEMORY result
-        (heard (K.tells out.old) (K.taken out.old) (K.faults out.old))
-        (heard (K.tells out.new) (K.taken out.new) (K.faults out.new))) }
+/// Tells why the input files do not serve.
+fn tell_refusal<K: Sink>(alloc: Global, refusal: Refusal<&str>, out: &mut K) -> u8
+    ensures { TellsRefusal (plain_refusal refusal.entry) result (K.hears out.old) (K.hears out.new) }
 {
-    match text {
-        Ok(text) => say(text.as_bytes(), status, out),
+    match refusal {
+        Refusal::CannotRead(name) => say_line(cannot_read_text(alloc, name), CANNOT_READ, out),
+        Refusal::TooLong(name) => say_line(too_long_text(alloc, name), TOO_LONG, out),
+        Refusal::BadConfig(fault) => say_line(bad_config_line(alloc, fault), BAD_CONFIG, out),
+        Refusal::NotBuilt => say(b"not built\n", NOT_BUILT, out),
+        Refusal::BadJournal { line, number } => {
+            say_line(bad_journal_line(alloc, line, number), BAD_JOURNAL, out)
+        }
+        Refusal::BadMessages(bad) => say_line(bad_message_line(alloc, bad), BAD_MESSAGE, out),
+    }
+}
+
+/// Puts a line that wanted memory, or tells that there was none.
+fn say_line<K: Sink>(line: Result<String, AllocError>, status: u8, out: &mut K) -> u8
+    ensures { MatchResult line
+        (λ t. Puts (string_bytes t) status result (K.hears out.old) (K.hears out.new))
+        (λ _. Puts no_memory_text 8 result (K.hears out.old) (K.hears out.new)) }
+{
+    match line {
+        Ok(line) => say(line.as_bytes(), status, out),
         Err(_) => say(b"no memory\n", NO_MEMORY, out),
     }
 }
@@ -95,7 +92,7 @@ fn bad_config_line(alloc: Global, fault: ConfigFault) -> Result<String, AllocErr
 }
 
 fn bad_journal_line(alloc: Global, line: u64, number: u8) -> Result<String, AllocError>
-    ensures { IfOk result (λ text. string_bytes text ≡ bad_journal_text (bad_line line number)) }
+    ensures { IfOk result (λ text. string_bytes text ≡ bad_journal_text line number) }
 {
     format!(in alloc; "bad journal line {line}: {number}\n")
 }

@@ -1,40 +1,81 @@
+//! Why a command ended before its work was done. `N` is what holds the names of files.
+
 ghost use Rattle.std.specs.Prelude.{◌≡◌};
-ghost use Rattle.idsm_run.specs.declared.stop.Stop.TheVariants.{NoMemory as no_memory};
+ghost use Rattle.ids_outside.specs.declared.faults.WriteFault.{WriteFault as write_fault};
+ghost use Rattle.idsm_run.specs.StopView.{stop_of_input, stop_of_write};
+ghost use Rattle.idsm_run.specs.declared.stop.InputStop.TheVariants as input_stops;
+ghost use Rattle.idsm_run.specs.declared.stop.Stop.TheVariants as stops;
 
 use ids_config::ConfigFault;
 use ids_frame::BadMessage;
+use ids_outside::WriteFault;
 use ids_types::NoMemory;
 use std::alloc::AllocError;
 
-/// Why a command ended before its work was done.
+/// Why the input files do not serve.
 #[derive(Clone, Copy, Debug)]
-pub(crate) enum Stop<'a> {
+pub(crate) enum Refusal<N> {
     /// The file of this name was not read.
-    CannotRead(&'a str),
+    CannotRead(N),
     /// The file of this name has more bytes than its kind may have.
-    TooLong(&'a str),
+    TooLong(N),
     /// The configuration has this fault.
     BadConfig(ConfigFault),
     /// The configuration or the journal uses what the chain cannot mean yet.
     NotBuilt,
     /// The first bad line of the journal, from 1, and its first fault.
     BadJournal { line: u64, number: u8 },
-    CannotWrite,
-    NoMemory,
     /// No message begins at this place of the file of messages.
-    BadMessage(BadMessage),
+    BadMessages(BadMessage),
 }
 
-impl From<NoMemory> for Stop<'_> {
-    ghost from_gives = { λ _ stop. stop ≡ no_memory };
+/// Why the inputs were not had.
+#[derive(Clone, Copy, Debug)]
+pub(crate) enum InputStop<N> {
+    Refused(Refusal<N>),
+    NoMemory,
+}
+
+/// Why a command stopped.
+#[derive(Clone, Copy, Debug)]
+pub(crate) enum Stop<N> {
+    Refused(Refusal<N>),
+    CannotWrite,
+    NoMemory,
+}
+
+impl<N> From<InputStop<N>> for Stop<N> {
+    ghost from_gives = { λ stop answer. answer ≡ stop_of_input stop };
+
+    fn from(stop: InputStop<N>) -> Self {
+        match stop {
+            InputStop::Refused(refusal) => Stop::Refused(refusal),
+            InputStop::NoMemory => Stop::NoMemory,
+        }
+    }
+}
+
+impl<N> From<WriteFault> for Stop<N> {
+    ghost from_gives = { λ fault answer. answer ≡ stop_of_write fault };
+
+    fn from(fault: WriteFault) -> Self {
+        match fault {
+            WriteFault::Failed => Stop::CannotWrite,
+            WriteFault::NoMemory => Stop::NoMemory,
+        }
+    }
+}
+
+impl<N> From<NoMemory> for Stop<N> {
+    ghost from_gives = { λ _ answer. answer ≡ stops.NoMemory };
 
     fn from(_: NoMemory) -> Self {
         Stop::NoMemory
     }
 }
 
-impl From<AllocError> for Stop<'_> {
-    ghost from_gives = { λ _ stop. stop ≡ no_memory };
+impl<N> From<AllocError> for Stop<N> {
+    ghost from_gives = { λ _ answer. answer ≡ stops.NoMemory };
 
     fn from(_: AllocError) -> Self {
         Stop::NoMemory

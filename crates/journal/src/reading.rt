@@ -32,6 +32,8 @@ pub fn read(alloc: Global, text: &[u8], config: &Config) -> Result<Journal, Jour
     ensures only { IfErr result (HasNone config.now text.now) }
     // It is the first bad line, and that line's first fault.
     ensures first { IfErr result (IsFirstBad config.now text.now) }
+    // The answer is what the text's lines tell one after another.
+    ensures exact { Reads (λ j. told j.history.turns j.losses.items) (journal_in config.now text.now) result }
 {
     // A configuration's events are few.
     let _parts = config.parts();

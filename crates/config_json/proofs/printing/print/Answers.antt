@@ -1,10 +1,11 @@
-use Rattle.std.proofs.Common.{◌≡◌, refl, sym, rules}
+use Rattle.std.proofs.Common.{◌≡◌, ◌∙◌, refl, sym, rules, string_bytes}
 use Rattle.std.proofs.lemmas.Str.{IsUtf8-string_bytes}
 use Rattle.serde_json.specs.View.{view}
 use Rattle.config_json.specs.Printed.{config_tree}
 use Rattle.config_json.proofs.PrintedParts.{parts_back}
 use Rattle.config_json.proofs.PrintedShape.{config_fits}
 use Rattle.config_json.proofs.PrintedText.{config_depth, config_float}
+use Rattle.config_json.proofs.TreeLemmas.{text_of_tree}
 use Rattle.config_json.proofs.printing.print.Goals as goal
 
 pub returns-clause-text : goal.returns-clause-text
@@ -15,16 +16,11 @@ returns-clause-text c =
 pub returns-clause-reads_back : goal.returns-clause-reads_back
 returns-clause-reads_back c =
     let same : view c.in_ok-value.value ≡ config_tree c.args.config.now = search rules in
-    record {
-      tree = config_tree c.args.config.now;
-      is_tree = record {
-        text = IsUtf8-string_bytes c.in_ok-to_string.field-0;
-        reads = rw (sym same) (c.in_ok-to_string.ensures.reads_back
-            (rw same (config_depth c.args.config.now)));
-      };
-      reads = rw (
-        config_fits c.args.config.now,
-        parts_back c.args.config.now c.parts.ensures.form,
-        c.parts.ensures.faultless,
-      ) refl;
-    }
+    let reads = c.in_ok-to_string.ensures.reads_back (rw same (config_depth c.args.config.now)) in
+    text_of_tree (string_bytes c.in_ok-to_string.field-0) (config_tree c.args.config.now)
+    (IsUtf8-string_bytes c.in_ok-to_string.field-0) (rw (sym same) reads)
+    ∙ rw (
+      config_fits c.args.config.now,
+      parts_back c.args.config.now c.parts.ensures.form,
+      c.parts.ensures.faultless,
+    ) refl

@@ -1,13 +1,27 @@
-use Rattle.std.proofs.Common.{IsTrue, rules}
-use Rattle.idsm_run.proofs.WritingLemmas.{all_cuts, outputs_stand, fold_stands}
+use Rattle.std.proofs.Common.{rules}
+use Rattle.idsm_run.specs.CommandView.{files_of}
+use Rattle.idsm_run.specs.StopView.{stop_of_write}
+use Rattle.idsm_run.proofs.ExitLemmas.{left_by}
+use Rattle.idsm_run.proofs.FoldLemmas.{folded, fold_stopped}
+use Rattle.idsm_run.proofs.WritingLemmas.{all_cuts}
 use Rattle.idsm_run.proofs.fold.fold.Goals as goal
 
 pub write_outputs-requires-clause-cuts : goal.write_outputs-requires-clause-cuts
 write_outputs-requires-clause-cuts g c =
     rw (c.in_ok-sent.ensures.ends, c.in_ok-sent.ensures.bytes) (all_cuts c.in_ok-inputs.inputs.config c.in_ok-inputs.inputs.history.turns)
 
-pub returns-clause-stands : goal.returns-clause-stands
-returns-clause-stands g c tells =
-    let told : IsTrue (g.H.Shelf.tells c.read_inputs.new.shelf) = search rules in
-    fold_stands _ _ _ _ _ c.in-Err.stop c.in-Err.ensures.stop
-    (outputs_stand _ c.in_ok-inputs.inputs.config c.in_ok-inputs.inputs.history.turns c.in_ok-sent.sent.bytes.items _ _ _ (c.in_ok-inputs.ensures.found tells) c.in_ok-sent.ensures.bytes (c.read_inputs.ensures.same tells) (c.in-Err.ensures.stands told))
+pub returns-in_err-write_outputs-clause-stops : goal.returns-in_err-write_outputs-clause-stops
+returns-in_err-write_outputs-clause-stops g c =
+    left_by _ (stop_of_write c.in_err-write_outputs.field-0.0) _ c.from_residual-in_err-write_outputs.ensures.1
+    (fold_stopped (files_of c.args.names) c.in_ok-inputs.inputs.config c.in_ok-inputs.inputs.history.turns
+    c.in_ok-sent.sent.bytes.items (g.H.Shelf.shows c.args.shelf.now) (g.H.Shelf.shows c.read_inputs.new.shelf) _
+    c.in_ok-inputs.ensures.found c.read_inputs.ensures.tells c.in_ok-sent.ensures.bytes
+    c.in_err-write_outputs.field-0.0 c.read_inputs.ensures.same c.in_ok-inputs.ensures.no_fault
+    c.in_err-write_outputs.ensures.part c.in_err-write_outputs.ensures.fails)
+
+pub returns-clause-done : goal.returns-clause-done
+returns-clause-done g c =
+    folded (files_of c.args.names) c.in_ok-inputs.inputs.config c.in_ok-inputs.inputs.history.turns _
+    (g.H.Shelf.shows c.args.shelf.now) (g.H.Shelf.shows c.read_inputs.new.shelf) _
+    c.in_ok-inputs.ensures.found c.read_inputs.ensures.tells c.in_ok-sent.ensures.bytes
+    _ c.in_ok-text.ensures c.in_ok-write_outputs.ensures.ok (search rules)

@@ -7,8 +7,10 @@ use Rattle.idsm_run.proofs.outputs.append_pieces.Given as goal
 abbrev pub invariant-loop-end : goal.invariant-loop-end
 invariant-loop-end g l = record {
   cuts : Cuts l.start (drop l.end-index l.ends) (length l.bytes);
-  tells : g.H.Shelf.tells l.shelf ≡ g.H.Shelf.tells l.fn.shelf;
-  held : IsTrue (g.H.Shelf.tells l.fn.shelf) → g.H.Shelf.contents l.fn.shelf l.name ≡ Some [] → g.H.Shelf.contents l.shelf l.name ≡ Some (take l.start l.bytes);
-  others : IsTrue (g.H.Shelf.tells l.fn.shelf) → SameOthers (g.H.Shelf.contents l.fn.shelf) (g.H.Shelf.contents l.shelf) l.name;
-  faults : g.H.Shelf.faults l.shelf ≡ g.H.Shelf.faults l.fn.shelf;
+  tells : (g.H.Shelf.shows l.shelf).tells ≡ (g.H.Shelf.shows l.fn.shelf).tells;
+  held : IsTrue (g.H.Shelf.shows l.fn.shelf).tells → (g.H.Shelf.shows l.fn.shelf).files l.name ≡ Some []
+      → (g.H.Shelf.shows l.shelf).files l.name ≡ Some (take l.start l.bytes);
+  others : IsTrue (g.H.Shelf.shows l.fn.shelf).tells
+      → SameOthers (g.H.Shelf.shows l.fn.shelf).files (g.H.Shelf.shows l.shelf).files l.name;
+  faults : (g.H.Shelf.shows l.shelf).faults ≡ (g.H.Shelf.shows l.fn.shelf).faults;
 }

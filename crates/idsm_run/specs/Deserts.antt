@@ -1,0 +1,30 @@
+-- What the input files deserve decides the answer of a run.
+use Rattle.std.specs.Prelude.{◌≡◌, ◌⊎◌, ℕ, List, Err}
+use Rattle.ids_outside.specs.Faults.{CountsFault}
+use Rattle.ids_outside.specs.Shelved.{Shelved}
+use Rattle.ids_outside.specs.Sinks.{Heard, MissesOne}
+use Rattle.ids_outside.specs.declared.faults.FaultKind.TheVariants.{Read}
+use Rattle.ids_outside.specs.declared.faults.WriteFault.TheVariants.{Failed}
+use Rattle.idsm_run.specs.declared.stop.Refusal.TheVariants.{CannotRead}
+use Rattle.idsm_run.specs.Command.{Command}
+use Rattle.idsm_run.specs.Judge.{judge, without}
+use Rattle.idsm_run.specs.Run.{OneFails}
+
+-- a read failed, and all that is read before it served
+pub record FailedBefore (command : Command) (old new : Shelved) : Type 0 where
+  pub name : List ℕ
+  pub fault : CountsFault old.faults new.faults Read name
+  pub first : judge command (without name old.files) ≡ Err (CannotRead name)
+
+-- a run ended with this status, or for want of memory, or at the put of its text, or at an earlier read
+abbrev pub EndsWith : ℕ → Command → ℕ → Shelved → Shelved → Heard → Heard → Type 0
+EndsWith wanted command status old new before after =
+    (status ≡ wanted)
+    ⊎ ((status ≡ 8)
+    ⊎ (((status ≡ 7) × MissesOne before.misses after.misses) ⊎ FailedBefore command old new))
+
+-- or where a file was written
+abbrev pub EndsOrFails : ℕ → Command → ℕ → Shelved → Shelved → Heard → Heard → Type 0
+EndsOrFails wanted command status old new before after =
+    EndsWith wanted command status old new before after
+    ⊎ ((status ≡ 7) × OneFails command old.faults new.faults Failed)

@@ -1,0 +1,87 @@
+-- The statuses and the texts of a run that did not do its work.
+-- Source: docs/COMMANDS.md.
+use Rattle.std.specs.Prelude.{ℕ, ◌++◌, List, codes, decimal}
+use Rattle.ids_config.specs.declared.fault.ConfigFault.{ConfigFault}
+use Rattle.ids_config.specs.declared.fault.ConfigPlace.{ConfigPlace}
+use Rattle.ids_config.specs.declared.fault.ConfigPlace.TheVariants.{Top, Class, Event}
+use Rattle.ids_frame.specs.declared.fault.BadMessage.{BadMessage}
+use Rattle.ids_frame.specs.declared.fault.FrameFault.{FrameFault}
+use Rattle.ids_frame.specs.declared.fault.FrameFault.TheVariants.{Short, UnknownVersion, UnknownPart}
+use Rattle.idsm_run.specs.declared.stop.Refusal.{Refusal}
+use Rattle.idsm_run.specs.declared.stop.Refusal.TheVariants.{CannotRead, TooLong, BadConfig, NotBuilt, BadJournal, BadMessages}
+use Rattle.idsm_run.specs.declared.stop.Stop.{Stop}
+use Rattle.idsm_run.specs.declared.stop.Stop.TheVariants as stops
+
+-- the usage, with the commands that are built
+abbrev pub usage : List ℕ
+usage =
+    codes "usage: idsm fold CONFIG JOURNAL MESSAGES MEMORY\n" ++ codes "       idsm decode MESSAGES\n"
+
+-- ---- the texts of refusals
+
+-- the line that names a file
+abbrev pub named_text : List ℕ → List ℕ → List ℕ
+named_text what name = what ++ (name ++ codes "\n")
+
+-- the words for a place of the configuration
+abbrev pub place_text : ConfigPlace → List ℕ
+place_text Top = codes "top"
+place_text (Class index) = codes "class " ++ decimal index
+place_text (Event index) = codes "event " ++ decimal index
+
+-- the line `bad config N at PLACE`
+abbrev pub bad_config_text : ConfigFault → List ℕ
+bad_config_text fault =
+    codes "bad config " ++ (decimal fault.number
+    ++ (codes " at " ++ (place_text fault.place ++ codes "\n")))
+
+-- the line `bad journal line L: N`
+abbrev pub bad_journal_text : ℕ → ℕ → List ℕ
+bad_journal_text line number =
+    codes "bad journal line " ++ (decimal line ++ (codes ": " ++ (decimal number ++ codes "\n")))
+
+-- the word for a fault of a message
+abbrev pub fault_word : FrameFault → List ℕ
+fault_word Short = codes "short"
+fault_word UnknownVersion = codes "version"
+fault_word UnknownPart = codes "part"
+
+-- the line `bad message at K: REASON`
+abbrev pub bad_message_text : BadMessage → List ℕ
+bad_message_text bad =
+    codes "bad message at " ++ (decimal bad.at ++ (codes ": " ++ (fault_word bad.fault ++ codes "\n")))
+
+-- the text of a refusal
+abbrev pub refusal_text : Refusal (List ℕ) → List ℕ
+refusal_text (CannotRead name) = named_text (codes "cannot read ") name
+refusal_text (TooLong name) = named_text (codes "too long ") name
+refusal_text (BadConfig fault) = bad_config_text fault
+refusal_text NotBuilt = codes "not built\n"
+refusal_text (BadJournal line number) = bad_journal_text line number
+refusal_text (BadMessages bad) = bad_message_text bad
+
+-- the status of a refusal
+abbrev pub refusal_status : Refusal (List ℕ) → ℕ
+refusal_status (CannotRead name) = 3
+refusal_status (TooLong name) = 4
+refusal_status (BadConfig fault) = 5
+refusal_status NotBuilt = 12
+refusal_status (BadJournal line number) = 6
+refusal_status (BadMessages bad) = 10
+
+-- ---- the texts of stops
+
+abbrev pub no_memory_text : List ℕ
+no_memory_text = codes "no memory\n"
+
+-- the text of a stop
+abbrev pub stop_text : Stop (List ℕ) → List ℕ
+stop_text (stops.Refused refusal) = refusal_text refusal
+stop_text stops.CannotWrite = codes "cannot write\n"
+stop_text stops.NoMemory = no_memory_text
+
+-- the status of a stop
+abbrev pub stop_status : Stop (List ℕ) → ℕ
+stop_status (stops.Refused refusal) = refusal_status refusal
+stop_status stops.CannotWrite = 7
+stop_status stops.NoMemory = 8
