@@ -1,21 +1,23 @@
 -- A history's fields after an entry was added: what was there reads as before, and the last turn has the entry.
-use Rattle.std.proofs.Common.{◌≡◌, ℕ, zero, suc, ◌+◌, ◌-◌, ◌<◌, ◌≤◌, List, [], ◌∷◌, ◌++◌, length, map, take, drop, set, get_or, refl, sym, ap, ap₂, subst, ◌∙◌, arith, length-drop, length-append, append_assoc}
-use Rattle.std.specs.Prelude.{slice_range}
+use Rattle.std.proofs.Common.{◌≡◌, ℕ, zero, suc, ◌+◌, ◌-◌, ◌<◌, ◌≤◌, Bool, true, false, List, [], ◌∷◌, ◌++◌, length, map, take, drop, set, get_or, Option, Some, None, refl, sym, ap, ap₂, subst, ◌∙◌, arith, length-drop, length-append, append_assoc}
+use Rattle.std.specs.Prelude.{slice_range, IsTrue, is_some}
 use Rattle.std.specs.List.{AllByRecursion, flat_map}
 use Rattle.std.proofs.lemmas.Grind.{flat_map-append}
-use Rattle.std.proofs.lemmas.List.{append-nil, drop-append-le, take-append-le, take_all, take-map, map-append, drop-map, drop_at, length-map, length-take-le}
+use Rattle.std.proofs.lemmas.List.{append-nil, drop-append-le, take-append-le, take_all, map-append, drop_at, length-map, length-take-le, get_or_append_left, get_or-append-add}
 use Rattle.ids_types.specs.declared.entry.Carried.{Carried}
 use Rattle.ids_types.specs.declared.entry.Carried.TheVariants.{Absent, Kept, Missing}
 use Rattle.ids_types.specs.declared.entry.Act.{Act}
 use Rattle.ids_types.specs.declared.entry.Act.TheVariants.{Report, State, SetMode}
 use Rattle.ids_types.specs.declared.entry.Entry.{Entry}
 use Rattle.ids_types.specs.declared.entry.TurnHead.{TurnHead}
-use Rattle.ids_types.specs.declared.parcel.Plain.{Plain}
-use Rattle.ids_types.specs.declared.span.Row.{Row}
-use Rattle.ids_types.specs.declared.span.Span.{Span}
-use Rattle.ids_types.specs.Carries.{carried_by, act_by, entry_by}
-use Rattle.ids_types.specs.Plain.{plain_carried, plain_entry, carried_bytes, act_bytes, kept_bytes}
-use Rattle.ids_types.specs.Spans.{bytes_at, span_from, turn_of, rows_len, CarriedWithin, ActWithin, EntryWithin, RowWithin}
+use Rattle.ids_types.specs.declared.names.EventIndex.{EventIndex}
+use Rattle.ids_types.specs.declared.names.Stamp.{Stamp}
+use Rattle.ids_types.specs.declared.rows.EntryRow.{EntryRow}
+use Rattle.ids_types.specs.declared.rows.RowKind.{RowKind}
+use Rattle.ids_types.specs.declared.rows.RowKind.TheVariants.{Bare, Holding, Lacking, StateTo, ModeTo}
+use Rattle.ids_types.specs.declared.rows.TurnRow.{TurnRow}
+use Rattle.ids_types.specs.Plain.{carried_bytes, act_bytes, kept_bytes}
+use Rattle.ids_types.specs.Rows.{stamp_before, context_of, act_of, entry_of, turn_of, stamp_numbers, context_numbers, kind_of, act_numbers, own_numbers, row_by, row_of, KindWithin, EntryWithin, RowWithin, rows_len}
 use Rattle.ids_types.specs.Turns.{Turn, Turns, begun, extended, emptied, with_entry, entries_of, context_bytes}
 
 -- a range within a list is the same in a longer list
@@ -44,114 +46,199 @@ pub AllByRecursion-weaker : {A : Type 0} (P Q : A → Type 0) → ((x : A) → P
 AllByRecursion-weaker P Q weaker [] all = tt
 AllByRecursion-weaker P Q weaker (x ∷ xs) all = (weaker x all.0, AllByRecursion-weaker P Q weaker xs all.1)
 
+-- what holds of each element holds of each of the first, and of those behind them
+pub AllByRecursion-take : {A : Type 0} (P : A → Type 0) (n : ℕ) (xs : List A) → AllByRecursion P xs → AllByRecursion P (take n xs)
+AllByRecursion-take P zero xs all = tt
+AllByRecursion-take P (suc n) [] all = tt
+AllByRecursion-take P (suc n) (x ∷ xs) all = (all.0, AllByRecursion-take P n xs all.1)
+
+pub AllByRecursion-drop : {A : Type 0} (P : A → Type 0) (n : ℕ) (xs : List A) → AllByRecursion P xs → AllByRecursion P (drop n xs)
+AllByRecursion-drop P zero xs all = all
+AllByRecursion-drop P (suc n) [] all = tt
+AllByRecursion-drop P (suc n) (x ∷ xs) all = AllByRecursion-drop P n xs all.1
+
 -- ---- one entry
 
-carried_within : (n m : ℕ) → n ≤ m → (c : Carried Span) → CarriedWithin n c → CarriedWithin m c
-carried_within n m le Absent within = tt
-carried_within n m le (Kept class claim span) within = (within.0, omega arith)
-carried_within n m le (Missing numbers) within = tt
+-- a number is the same in a longer list
+index_same : (numbers more : List ℕ) (i : ℕ) → i < length numbers → get_or (numbers ++ more) i 0 ≡ get_or numbers i 0
+index_same numbers more i lt = get_or_append_left numbers more 0 i lt
 
-act_within : (n m : ℕ) → n ≤ m → (a : Act Span) → ActWithin n a → ActWithin m a
-act_within n m le (Report event count stamp context) within = carried_within n m le context within
-act_within n m le (State state) within = tt
-act_within n m le (SetMode event mode) within = tt
+-- a stamp is the same before a longer list's place
+stamp_same : (numbers more : List ℕ) (stamped : Bool) (place : ℕ) → (IsTrue stamped → 1 ≤ place) → place ≤ length numbers
+    → stamp_before (numbers ++ more) stamped place ≡ stamp_before numbers stamped place
+stamp_same numbers more false place some there = refl
+stamp_same numbers more true place some there =
+    let before : place - 1 < length numbers = omega (arith, some refl, there) in
+    rw (index_same numbers more (place - 1) before) refl
 
--- an entry within so many bytes is within more
-pub EntryWithin-more : (n m : ℕ) → n ≤ m → (e : Entry Span) → EntryWithin n e → EntryWithin m e
-EntryWithin-more n m le e within = act_within n m le e.act within
+-- and so is a context
+context_same : (numbers more bytes own : List ℕ) (place : ℕ) (kind : RowKind) → KindWithin numbers (length bytes) place kind
+    → context_of (numbers ++ more) (bytes ++ own) place kind ≡ context_of numbers bytes place kind
+context_same numbers more bytes own place Bare within = refl
+context_same numbers more bytes own place (Holding class) within =
+    let start_place : place + 1 < length numbers = omega (arith, within.0) in
+    let end_place : place + 1 + 1 < length numbers = omega (arith, within.0) in
+    let two : place + 1 + 1 ≡ place + 2 = omega arith in
+    let ordered : get_or numbers (place + 1) 0 ≤ get_or numbers (place + 1 + 1) 0 = rw two within.1 in
+    let inside : get_or numbers (place + 1 + 1) 0 ≤ length bytes = rw two within.2 in
+    rw (index_same numbers more place (omega (arith, within.0)), index_same numbers more (place + 1) start_place, index_same numbers more (place + 1 + 1) end_place)
+    (ap (λ (b : List ℕ). Kept class (get_or numbers place 0) b) (range_of_front bytes own (get_or numbers (place + 1) 0) (get_or numbers (place + 1 + 1) 0) ordered inside))
+context_same numbers more bytes own place (Lacking count) within =
+    ap (λ (ns : List ℕ). Missing ns) (range_of_front numbers more place (place + count) (omega arith) within.1)
+context_same numbers more bytes own place (StateTo state) within = refl
+context_same numbers more bytes own place (ModeTo mode) within = refl
 
-carried_placed : (start : ℕ) (c : Carried Plain) → CarriedWithin (start + length (carried_bytes (plain_carried c))) (carried_by (span_from start) c)
-carried_placed start Absent = tt
-carried_placed start (Kept class claim parcel) = (omega arith, omega arith)
-carried_placed start (Missing numbers) = tt
+-- reports of one stamp and one context are one
+report_same : (event : EventIndex) (count : ℕ) (s t : Option Stamp) (c d : Carried (List ℕ)) → s ≡ t → c ≡ d
+    → Report event count s c ≡ Report event count t d
+report_same event count s t c d stamps contexts = cc
 
-act_placed : (start : ℕ) (a : Act Plain) → ActWithin (start + length (act_bytes (act_by (λ p. p.0.now) a))) (act_by (span_from start) a)
-act_placed start (Report event count stamp context) = carried_placed start context
-act_placed start (State state) = tt
-act_placed start (SetMode event mode) = tt
+-- what a row tells stays where numbers and bytes are added
+act_same : (numbers more bytes own : List ℕ) (row : EntryRow) (kind : RowKind) → row.place ≤ length numbers → (IsTrue row.stamped → 1 ≤ row.place)
+    → KindWithin numbers (length bytes) row.place kind → act_of (numbers ++ more) (bytes ++ own) row kind ≡ act_of numbers bytes row kind
+act_same numbers more bytes own row Bare there some within =
+    report_same _ _ _ _ _ _ (stamp_same numbers more row.stamped row.place some there) refl
+act_same numbers more bytes own row (Holding class) there some within =
+    report_same _ _ _ _ _ _ (stamp_same numbers more row.stamped row.place some there) (context_same numbers more bytes own row.place (Holding class) within)
+act_same numbers more bytes own row (Lacking count) there some within =
+    report_same _ _ _ _ _ _ (stamp_same numbers more row.stamped row.place some there) (context_same numbers more bytes own row.place (Lacking count) within)
+act_same numbers more bytes own row (StateTo state) there some within = refl
+act_same numbers more bytes own row (ModeTo mode) there some within = refl
 
--- an entry that is placed at the end of the bytes is within them and its own
-pub EntryWithin-placed : (start : ℕ) (e : Entry Plain) → EntryWithin (start + length (kept_bytes (plain_entry e))) (entry_by (span_from start) e)
-EntryWithin-placed start e = act_placed start e.act
+-- the same of an entry
+entry_same : (numbers more bytes own : List ℕ) (row : EntryRow) → EntryWithin numbers (length bytes) row
+    → entry_of (numbers ++ more) (bytes ++ own) row ≡ entry_of numbers bytes row
+entry_same numbers more bytes own row within =
+    ap (λ (a : Act (List ℕ)). record { caller = row.caller; call = row.call; act = a }) (act_same numbers more bytes own row row.kind within.there within.stamp within.kind)
 
-carried_same : (bytes more : List ℕ) (c : Carried Span) → CarriedWithin (length bytes) c → carried_by (bytes_at (bytes ++ more)) c ≡ carried_by (bytes_at bytes) c
-carried_same bytes more Absent within = refl
-carried_same bytes more (Kept class claim span) within = ap (Kept class claim) (range_of_front bytes more span.start span.end within.0 within.1)
-carried_same bytes more (Missing numbers) within = refl
+-- what a kind points to is there in longer lists
+kind_more : (numbers more : List ℕ) (n m place : ℕ) (kind : RowKind) → n ≤ m → KindWithin numbers n place kind → KindWithin (numbers ++ more) m place kind
+kind_more numbers more n m place Bare le within = tt
+kind_more numbers more n m place (Holding class) le within =
+    let start = index_same numbers more (place + 1) (omega (arith, within.0)) in
+    let end = index_same numbers more (place + 2) (omega (arith, within.0)) in
+    rw (start, end) (omega (arith, within.0, length-append numbers more), within.1, omega (arith, within.2))
+kind_more numbers more n m place (Lacking count) le within = (within.0, omega (arith, within.1, length-append numbers more))
+kind_more numbers more n m place (StateTo state) le within = tt
+kind_more numbers more n m place (ModeTo mode) le within = tt
 
-act_same : (bytes more : List ℕ) (a : Act Span) → ActWithin (length bytes) a → act_by (bytes_at (bytes ++ more)) a ≡ act_by (bytes_at bytes) a
-act_same bytes more (Report event count stamp context) within = ap (Report event count stamp) (carried_same bytes more context within)
-act_same bytes more (State state) within = refl
-act_same bytes more (SetMode event mode) within = refl
+-- the same of a row
+pub EntryWithin-more : (numbers more : List ℕ) (n m : ℕ) → n ≤ m → (row : EntryRow) → EntryWithin numbers n row → EntryWithin (numbers ++ more) m row
+EntryWithin-more numbers more n m le row within = record {
+  there = omega (arith, within.there, length-append numbers more);
+  stamp = within.stamp;
+  kind = kind_more numbers more n m row.place row.kind le within.kind;
+}
 
-entry_same : (bytes more : List ℕ) (e : Entry Span) → EntryWithin (length bytes) e → entry_by (bytes_at (bytes ++ more)) e ≡ entry_by (bytes_at bytes) e
-entry_same bytes more e within = ap (λ (a : Act (List ℕ)). record { caller = e.caller; call = e.call; act = a }) (act_same bytes more e.act within)
-
--- the bytes that were put at the end are those of their span
+-- the bytes that were put at the end are those of their range
 range_of_end : (bytes own : List ℕ) → slice_range (bytes ++ own) (length bytes) (length bytes + length own) ≡ own
 range_of_end bytes own =
     let n : length bytes + length own - length bytes ≡ length own = omega arith in
     rw (n, drop_at bytes own (length bytes) refl) (take_all (length own) own (omega arith))
 
-carried_back : (bytes : List ℕ) (c : Carried Plain) → carried_by (bytes_at (bytes ++ carried_bytes (plain_carried c))) (carried_by (span_from (length bytes)) c) ≡ plain_carried c
-carried_back bytes Absent = refl
-carried_back bytes (Kept class claim parcel) = ap (Kept class claim) (range_of_end bytes parcel.0.now)
-carried_back bytes (Missing numbers) = refl
+-- the numbers that were put at the end are found there
+index_own : (front own : List ℕ) (k place : ℕ) → place ≡ length front + k → get_or (front ++ own) place 0 ≡ get_or own k 0
+index_own front own k place is = rw is (get_or-append-add front own k 0)
 
-act_back : (bytes : List ℕ) (a : Act Plain) → act_by (bytes_at (bytes ++ act_bytes (act_by (λ p. p.0.now) a))) (act_by (span_from (length bytes)) a) ≡ act_by (λ p. p.0.now) a
-act_back bytes (Report event count stamp context) = ap (Report event count stamp) (carried_back bytes context)
-act_back bytes (State state) = refl
-act_back bytes (SetMode event mode) = refl
+-- a stamp that was put is read back
+stamp_back : (numbers : List ℕ) (stamp : Option Stamp) (more : List ℕ)
+    → stamp_before (numbers ++ (stamp_numbers stamp ++ more)) (is_some stamp) (length numbers + length (stamp_numbers stamp)) ≡ stamp
+stamp_back numbers None more = refl
+stamp_back numbers (Some stamp) more =
+    let place : length numbers + 1 - 1 ≡ length numbers + 0 = omega arith in
+    rw (index_own numbers (stamp.0 ∷ more) 0 (length numbers + 1 - 1) place) refl
 
--- an entry that was placed is read back
-entry_back : (bytes : List ℕ) (e : Entry Plain) → entry_by (bytes_at (bytes ++ kept_bytes (plain_entry e))) (entry_by (span_from (length bytes)) e) ≡ plain_entry e
-entry_back bytes e = ap (λ (a : Act (List ℕ)). record { caller = e.caller; call = e.call; act = a }) (act_back bytes e.act)
+-- a context that was put is read back
+context_back : (front bytes : List ℕ) (place : ℕ) (c : Carried (List ℕ)) → place ≡ length front
+    → context_of (front ++ context_numbers (length bytes) c) (bytes ++ carried_bytes c) place (kind_of c) ≡ c
+context_back front bytes place Absent is = refl
+context_back front bytes place (Kept class claim own) is =
+    let tail = claim ∷ length bytes ∷ (length bytes + length own) ∷ [] in
+    rw (index_own front tail 0 place (omega (arith, is)), index_own front tail 1 (place + 1) (omega (arith, is)), index_own front tail 2 (place + 1 + 1) (omega (arith, is)))
+    (ap (λ (b : List ℕ). Kept class claim b) (range_of_end bytes own))
+context_back front bytes place (Missing own) is = rw is (ap (λ (ns : List ℕ). Missing ns) (range_of_end front own))
+
+-- the same behind a stamp
+context_behind : (numbers bytes : List ℕ) (stamp : Option Stamp) (c : Carried (List ℕ))
+    → let place = length numbers + length (stamp_numbers stamp) in
+    context_of (numbers ++ (stamp_numbers stamp ++ context_numbers (length bytes) c)) (bytes ++ carried_bytes c) place (kind_of c) ≡ c
+context_behind numbers bytes stamp c =
+    let place = length numbers + length (stamp_numbers stamp) in
+    rw (← append_assoc numbers (stamp_numbers stamp) (context_numbers (length bytes) c))
+    (context_back (numbers ++ stamp_numbers stamp) bytes place c (sym (length-append numbers (stamp_numbers stamp))))
+
+-- an entry that was put is read back, by its act
+act_back : (numbers bytes : List ℕ) (caller call : ℕ) (act : Act (List ℕ))
+    → entry_of (numbers ++ act_numbers (length bytes) act) (bytes ++ act_bytes act) (row_by (length numbers) caller call act)
+    ≡ record { caller = caller; call = call; act = act }
+act_back numbers bytes caller call (Report event count stamp Absent) =
+    ap (λ (a : Act (List ℕ)). record { caller = caller; call = call; act = a })
+    (report_same event count _ _ _ _ (stamp_back numbers stamp []) refl)
+act_back numbers bytes caller call (Report event count stamp (Kept class claim own)) =
+    ap (λ (a : Act (List ℕ)). record { caller = caller; call = call; act = a })
+    (report_same event count _ _ _ _ (stamp_back numbers stamp (context_numbers (length bytes) (Kept class claim own))) (context_behind numbers bytes stamp (Kept class claim own)))
+act_back numbers bytes caller call (Report event count stamp (Missing own)) =
+    ap (λ (a : Act (List ℕ)). record { caller = caller; call = call; act = a })
+    (report_same event count _ _ _ _ (stamp_back numbers stamp own) (context_behind numbers bytes stamp (Missing own)))
+act_back numbers bytes caller call (State state) = refl
+act_back numbers bytes caller call (SetMode event mode) = refl
+
+-- an entry that was put is read back
+entry_back : (numbers bytes : List ℕ) (e : Entry (List ℕ))
+    → entry_of (numbers ++ own_numbers (length bytes) e) (bytes ++ kept_bytes e) (row_of (length numbers) e) ≡ e
+entry_back numbers bytes e = act_back numbers bytes e.caller e.call e.act
 
 -- ---- all turns
 
-module _ (entries : List (Entry Span)) (bytes : List ℕ) (entry : Entry Plain) (within : AllByRecursion (EntryWithin (length bytes)) entries) where
-  abbrev own : List ℕ
-  own = kept_bytes (plain_entry entry)
+module _ (numbers bytes : List ℕ) (entries : List EntryRow) (entry : Entry (List ℕ)) (within : AllByRecursion (EntryWithin numbers (length bytes)) entries) where
+  -- the numbers, the bytes and the rows with the entry
+  abbrev numbers' : List ℕ
+  numbers' = numbers ++ own_numbers (length bytes) entry
 
-  abbrev placed : Entry Span
-  placed = entry_by (span_from (length bytes)) entry
+  abbrev bytes' : List ℕ
+  bytes' = bytes ++ kept_bytes entry
 
-  -- the old entries read as before among the longer bytes
-  entries_same : map (entry_by (bytes_at (bytes ++ own))) entries ≡ map (entry_by (bytes_at bytes)) entries
-  entries_same = map_same _ _ (EntryWithin (length bytes)) (λ e h. entry_same bytes own e h) entries within
+  abbrev entries' : List EntryRow
+  entries' = entries ++ row_of (length numbers) entry ∷ []
 
-  slice_same : (i j : ℕ) → map (entry_by (bytes_at (bytes ++ own))) (slice_range entries i j) ≡ map (entry_by (bytes_at bytes)) (slice_range entries i j)
+  -- the entries of old rows, before and after
+  abbrev old : List EntryRow → List (Entry (List ℕ))
+  old rows = map (entry_of numbers bytes) rows
+
+  abbrev new : List EntryRow → List (Entry (List ℕ))
+  new rows = map (entry_of numbers' bytes') rows
+
+  slice_same : (i j : ℕ) → new (slice_range entries i j) ≡ old (slice_range entries i j)
   slice_same i j =
-      let f = entry_by (bytes_at (bytes ++ own)) in
-      let g = entry_by (bytes_at bytes) in
-      sym (take-map f (j - i) (drop i entries)) ∙ ap (take (j - i)) (sym (drop-map f i entries) ∙ ap (drop i) entries_same ∙ drop-map g i entries) ∙ take-map g (j - i) (drop i entries)
+      map_same _ _ (EntryWithin numbers (length bytes)) (λ row h. entry_same numbers (own_numbers (length bytes) entry) bytes (kept_bytes entry) row h)
+      (slice_range entries i j) (AllByRecursion-take _ (j - i) (drop i entries) (AllByRecursion-drop _ i entries within))
 
   -- a turn reads as before
-  turn_same : (row : Row) → RowWithin (length entries) row → turn_of (entries ++ placed ∷ []) (bytes ++ own) row ≡ turn_of entries bytes row
+  turn_same : (row : TurnRow) → RowWithin (length entries) row → turn_of numbers' bytes' entries' row ≡ turn_of numbers bytes entries row
   turn_same row in_range =
       ap (λ (es : List (Entry (List ℕ))). record { head = row.head; entries = es })
-      (ap (map (entry_by (bytes_at (bytes ++ own)))) (range_of_front entries (placed ∷ []) row.start row.end in_range.0 in_range.1) ∙ slice_same row.start row.end)
+      (ap new (range_of_front entries (row_of (length numbers) entry ∷ []) row.start row.end in_range.0 in_range.1) ∙ slice_same row.start row.end)
 
   -- the last turn has the entry
-  turn_extended : (row : Row) → RowWithin (length entries) row → row.end ≡ length entries
-      → turn_of (entries ++ placed ∷ []) (bytes ++ own) (record { head = row.head; start = row.start; end = row.end + 1 }) ≡ extended (turn_of entries bytes row) (plain_entry entry)
+  turn_extended : (row : TurnRow) → RowWithin (length entries) row → row.end ≡ length entries
+      → turn_of numbers' bytes' entries' (record { head = row.head; start = row.start; end = row.end + 1 }) ≡ extended (turn_of numbers bytes entries row) entry
   turn_extended row in_range at_end =
+      let one = row_of (length numbers) entry ∷ [] in
       let starts : row.start ≤ length entries = omega arith in
       let rest : slice_range entries row.start row.end ≡ drop row.start entries = take_all _ (drop row.start entries) (omega (arith, length-drop row.start entries)) in
-      let long : length (drop row.start entries ++ placed ∷ []) ≤ row.end + 1 - row.start = omega (arith, length-append (drop row.start entries) (placed ∷ []), length-drop row.start entries) in
-      let whole : slice_range (entries ++ placed ∷ []) row.start (row.end + 1) ≡ slice_range entries row.start row.end ++ placed ∷ [] =
-      ap (take (row.end + 1 - row.start)) (drop-append-le row.start entries (placed ∷ []) starts) ∙ take_all _ _ long ∙ ap (λ (es : List (Entry Span)). es ++ placed ∷ []) (sym rest) in
+      let long : length (drop row.start entries ++ one) ≤ row.end + 1 - row.start = omega (arith, length-append (drop row.start entries) one, length-drop row.start entries) in
+      let whole : slice_range entries' row.start (row.end + 1) ≡ slice_range entries row.start row.end ++ one =
+      ap (take (row.end + 1 - row.start)) (drop-append-le row.start entries one starts) ∙ take_all _ _ long ∙ ap (λ (es : List EntryRow). es ++ one) (sym rest) in
       ap (λ (es : List (Entry (List ℕ))). record { head = row.head; entries = es })
-      (ap (map (entry_by (bytes_at (bytes ++ own)))) whole
-      ∙ map-append (entry_by (bytes_at (bytes ++ own))) (slice_range entries row.start row.end) (placed ∷ [])
-      ∙ ap₂ ◌++◌ (slice_same row.start row.end) (ap (λ (e : Entry (List ℕ)). e ∷ []) (entry_back bytes entry)))
+      (ap new whole ∙ map-append (entry_of numbers' bytes') (slice_range entries row.start row.end) one
+      ∙ ap₂ ◌++◌ (slice_same row.start row.end) (ap (λ (e : Entry (List ℕ)). e ∷ []) (entry_back numbers bytes entry)))
 
   -- all turns: only the last one has changed
-  pub turns_extended : (rows : List Row) (last : ℕ) (row : Row) → suc last ≡ length rows → AllByRecursion (RowWithin (length entries)) rows → row ≡ get_or rows last row → row.end ≡ length entries
-      → map (turn_of (entries ++ placed ∷ []) (bytes ++ own)) (set rows last (record { head = row.head; start = row.start; end = row.end + 1 })) ≡ with_entry (map (turn_of entries bytes) rows) (plain_entry entry)
+  pub turns_extended : (rows : List TurnRow) (last : ℕ) (row : TurnRow) → suc last ≡ length rows → AllByRecursion (RowWithin (length entries)) rows → row ≡ get_or rows last row → row.end ≡ length entries
+      → map (turn_of numbers' bytes' entries') (set rows last (record { head = row.head; start = row.start; end = row.end + 1 })) ≡ with_entry (map (turn_of numbers bytes entries) rows) entry
   turns_extended [] last row count in_range is at_end = absurd (omega arith)
   turns_extended (r ∷ []) zero row count in_range is at_end =
-      ap (λ (t : Turn). t ∷ []) (turn_extended row (subst (RowWithin (length entries)) (sym is) in_range.0) at_end ∙ ap (λ (x : Row). extended (turn_of entries bytes x) (plain_entry entry)) is)
+      ap (λ (t : Turn). t ∷ []) (turn_extended row (subst (RowWithin (length entries)) (sym is) in_range.0) at_end ∙ ap (λ (x : TurnRow). extended (turn_of numbers bytes entries x) entry) is)
   turns_extended (r ∷ []) (suc last) row count in_range is at_end = absurd (omega arith)
   turns_extended (r ∷ s ∷ rows) zero row count in_range is at_end = absurd (omega arith)
   turns_extended (r ∷ s ∷ rows) (suc last) row count in_range is at_end =
@@ -160,21 +247,21 @@ module _ (entries : List (Entry Span)) (bytes : List ℕ) (entry : Entry Plain) 
 -- ---- how many entries there are
 
 -- the turns of rows have as many entries as the rows
-pub length-entries_of : (entries : List (Entry Span)) (bytes : List ℕ) (rows : List Row) → AllByRecursion (RowWithin (length entries)) rows → length (entries_of (map (turn_of entries bytes) rows)) ≡ rows_len rows
-length-entries_of entries bytes [] in_range = refl
-length-entries_of entries bytes (row ∷ rows) in_range =
-    let own = map (entry_by (bytes_at bytes)) (slice_range entries row.start row.end) in
-    let own_len : length own ≡ row.end - row.start = length-map (slice_range entries row.start row.end) (entry_by (bytes_at bytes)) ∙ length-take-le (row.end - row.start) (drop row.start entries) (omega (arith, in_range.0.0, in_range.0.1, length-drop row.start entries)) in
-    length-append own (entries_of (map (turn_of entries bytes) rows)) ∙ ap₂ ◌+◌ own_len (length-entries_of entries bytes rows in_range.1)
+pub length-entries_of : (numbers bytes : List ℕ) (entries : List EntryRow) (rows : List TurnRow) → AllByRecursion (RowWithin (length entries)) rows → length (entries_of (map (turn_of numbers bytes entries) rows)) ≡ rows_len rows
+length-entries_of numbers bytes entries [] in_range = refl
+length-entries_of numbers bytes entries (row ∷ rows) in_range =
+    let own = map (entry_of numbers bytes) (slice_range entries row.start row.end) in
+    let own_len : length own ≡ row.end - row.start = length-map (slice_range entries row.start row.end) (entry_of numbers bytes) ∙ length-take-le (row.end - row.start) (drop row.start entries) (omega (arith, in_range.0.0, in_range.0.1, length-drop row.start entries)) in
+    length-append own (entries_of (map (turn_of numbers bytes entries) rows)) ∙ ap₂ ◌+◌ own_len (length-entries_of numbers bytes entries rows in_range.1)
 
 -- a row that is one longer makes the sum one more
-pub rows_len-set : (rows : List Row) (i : ℕ) (row : Row) → i < length rows → row.start ≤ row.end → row ≡ get_or rows i row
+pub rows_len-set : (rows : List TurnRow) (i : ℕ) (row : TurnRow) → i < length rows → row.start ≤ row.end → row ≡ get_or rows i row
     → rows_len (set rows i (record { head = row.head; start = row.start; end = row.end + 1 })) ≡ rows_len rows + 1
 rows_len-set [] i row lt ordered is = absurd (omega arith)
-rows_len-set (r ∷ rows) zero row lt ordered is = omega (arith, ap (λ (x : Row). x.end - x.start) is)
+rows_len-set (r ∷ rows) zero row lt ordered is = omega (arith, ap (λ (x : TurnRow). x.end - x.start) is)
 rows_len-set (r ∷ rows) (suc i) row lt ordered is = omega (arith, rows_len-set rows i row (omega arith) ordered is)
 
-pub rows_len_push : (rows : List Row) (row : Row) → row.start ≡ row.end → rows_len (rows ++ row ∷ []) ≡ rows_len rows
+pub rows_len_push : (rows : List TurnRow) (row : TurnRow) → row.start ≡ row.end → rows_len (rows ++ row ∷ []) ≡ rows_len rows
 rows_len_push [] row empty = omega arith
 rows_len_push (r ∷ rows) row empty = omega (arith, rows_len_push rows row empty)
 
@@ -193,12 +280,12 @@ context_bytes-with_entry (turn ∷ next ∷ turns) entry some =
     ∙ ap (λ bytes. bytes ++ kept_bytes entry) (sym (flat_map-append kept_bytes turn.entries (entries_of (next ∷ turns))))
 
 -- the turn of a row without entries has begun
-pub turns_begun : (entries : List (Entry Span)) (bytes : List ℕ) (rows : List Row) (head : TurnHead) (place : ℕ)
-    → map (turn_of entries bytes) (rows ++ record { head = head; start = place; end = place } ∷ []) ≡ map (turn_of entries bytes) rows ++ begun head ∷ []
-turns_begun entries bytes rows head place =
+pub turns_begun : (numbers bytes : List ℕ) (entries : List EntryRow) (rows : List TurnRow) (head : TurnHead) (place : ℕ)
+    → map (turn_of numbers bytes entries) (rows ++ record { head = head; start = place; end = place } ∷ []) ≡ map (turn_of numbers bytes entries) rows ++ begun head ∷ []
+turns_begun numbers bytes entries rows head place =
     let none : place - place ≡ 0 = omega arith in
-    map-append (turn_of entries bytes) rows (record { head = head; start = place; end = place } ∷ [])
-    ∙ ap (λ k. map (turn_of entries bytes) rows ++ record { head = head; entries = map (entry_by (bytes_at bytes)) (take k (drop place entries)) } ∷ []) none
+    map-append (turn_of numbers bytes entries) rows (record { head = head; start = place; end = place } ∷ [])
+    ∙ ap (λ k. map (turn_of numbers bytes entries) rows ++ record { head = head; entries = map (entry_of numbers bytes) (take k (drop place entries)) } ∷ []) none
 
 -- a turn that has begun keeps no bytes
 pub context_bytes-begun : (turns : List Turn) (head : TurnHead) → context_bytes (turns ++ begun head ∷ []) ≡ context_bytes turns

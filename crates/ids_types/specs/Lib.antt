@@ -1,5 +1,7 @@
 pub mod Carries
+pub mod EntryWalkView
 pub mod HistoryView
 pub mod Plain
-pub mod Spans
+pub mod Rows
 pub mod Turns
+pub mod WalkView

@@ -5,18 +5,23 @@ ghost use Rattle.ids_types.specs.Plain.{plain_entry, kept_bytes};
 use crate::entry::{Entry, TurnHead};
 use crate::memory::NoMemory;
 use crate::parcel::Plain;
-use crate::placing::{lent, placed};
-use crate::span::{Row, Span};
+use crate::placing::{lent, row_of};
+use crate::rows::{EntryRow, TurnRow};
+use crate::walk::Walk;
 use std::alloc::Global;
 use std::marker::Model;
+
+/// How many numbers an entry has beside its row at most: a stamp, and four of a context.
+const MOST_NUMBERS: u64 = 5;
 
 /// The turns of a run, each with its entries, and how many more there is room for.
 ///
 /// All memory is taken when it is made, so that `begin` and `add` take none.
 #[derive(Debug, Drop)]
 pub struct History {
-    rows: Vec<Row>,
-    entries: Vec<Entry<Span>>,
+    rows: Vec<TurnRow>,
+    entries: Vec<EntryRow>,
+    numbers: Vec<u64>,
     bytes: Vec<u8>,
     turns_left: u64,
     entries_left: u64,
@@ -41,9 +46,11 @@ impl History {
         ensures turns { IfOk result (λ h. h.turns ≡ []) }
         ensures room { IfOk result (λ h. h.room ≡ record { turns = turns; entries = entries; bytes = bytes }) }
     {
+        let numbers = entries.checked_mul(MOST_NUMBERS).ok_or(NoMemory)?;
         Ok(History {
             rows: Vec::with_capacity(alloc, turns as usize)?,
             entries: Vec::with_capacity(alloc, entries as usize)?,
+            numbers: Vec::with_capacity(alloc, numbers as usize)?,
             bytes: Vec::with_capacity(alloc, bytes as usize)?,
             turns_left: turns,
             entries_left: entries,
@@ -60,8 +67,13 @@ impl History {
         let turns = turns.max(self.turns_left);
         let entries = entries.max(self.entries_left);
         let bytes = bytes.max(self.bytes_left);
+        let all = (self.entries.len() as u64)
+            .checked_add(entries)
+            .ok_or(NoMemory)?;
+        let numbers = all.checked_mul(MOST_NUMBERS).ok_or(NoMemory)? as usize - self.numbers.len();
         self.rows.try_reserve(turns as usize)?;
         self.entries.try_reserve(entries as usize)?;
+        self.numbers.try_reserve(numbers)?;
         self.bytes.try_reserve(bytes as usize)?;
         self.turns_left = turns;
         self.entries_left = entries;
@@ -76,7 +88,7 @@ impl History {
         ensures room { self.new.room ≡ room_after self.old.room 1 0 0 }
     {
         let place = self.entries.len();
-        self.rows.push_reserved(Row {
+        self.rows.push_reserved(TurnRow {
             head: *head,
             start: place,
             end: place,
@@ -92,10 +104,10 @@ impl History {
         ensures room { self.new.room ≡ room_after self.old.room 0 1 (length (kept_bytes (plain_entry entry.now))) }
     {
         let bytes = entry.kept_bytes();
-        let entry = placed(entry, self.bytes.len());
+        let row = row_of(entry, self.bytes.len(), &mut self.numbers);
         self.bytes.extend_from_slice(bytes).unwrap();
         self.bytes_left -= bytes.len() as u64;
-        self.entries.push_reserved(entry);
+        self.entries.push_reserved(row);
         self.entries_left -= 1;
         let last = self.rows.len() - 1;
         self.rows[last].end += 1;
@@ -110,6 +122,7 @@ impl History {
         self.bytes_left += self.bytes.len() as u64;
         self.rows.clear();
         self.entries.clear();
+        self.numbers.clear();
         self.bytes.clear();
     }
 
@@ -161,6 +174,22 @@ impl History {
         ensures { plain_entry result ≡ entry_at (turn_at self.now.turns turn) i }
     {
         let row = &self.rows[turn as usize];
-        lent(&self.entries[row.start + i as usize], &self.bytes)
+        lent(
+            &self.entries[row.start + i as usize],
+            &self.numbers,
+            &self.bytes,
+        )
+    }
+
+    /// All turns, to go over once: cheaper than asking for each by its place.
+    pub fn walk(&self) -> Walk<'_>
+        ensures { result ≡ self.now.turns }
+    {
+        Walk {
+            rows: &self.rows,
+            entries: &self.entries,
+            numbers: &self.numbers,
+            bytes: &self.bytes,
+        }
     }
 }

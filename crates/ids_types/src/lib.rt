@@ -17,7 +17,8 @@ mod names;
 mod numbers;
 mod parcel;
 mod placing;
-mod span;
+mod rows;
+mod walk;
 
 pub use class_spec::ClassSpec;
 pub use entry::{Act, Carried, Entry, TurnHead};
@@ -30,3 +31,4 @@ pub use mode::Mode;
 pub use names::{EventIndex, Stamp, Ticket};
 pub use numbers::Numbers;
 pub use parcel::{Parcel, Plain};
+pub use walk::{EntryWalk, Walk};

@@ -1,4 +1,5 @@
-/// A report that found no event buffer: its caller, and the number of the caller's call, from 0.
+/// A report or a control that found no event buffer: its caller, and the number of the caller's call,
+/// from 0.
 #[derive(Clone, Copy, Debug, PartialEq, Eq)]
 pub struct Loss {
     pub caller: u8,

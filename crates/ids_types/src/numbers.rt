@@ -37,6 +37,13 @@ impl Numbers {
         self.len
     }
 
+    pub fn as_slice(&self) -> &[u64]
+        ensures value { result.now ≡ self.now }
+        ensures few { length result.now ≤ 4 }
+    {
+        &self.values[..self.len]
+    }
+
     /// The same list once more.
     pub fn again(&self) -> Numbers
         ensures { result ≡ self.now }

@@ -1,13 +1,16 @@
 //! Entries on their way into a history's memory and out of it.
 
-ghost use Rattle.std.specs.Prelude.{◌≡◌, ◌+◌, ◌<◌, ◌^◌, length};
-ghost use Rattle.ids_types.specs.Carries.{carried_by, entry_by};
+ghost use Rattle.std.specs.Prelude.{◌≡◌, ◌+◌, ◌<◌, ◌≤◌, ◌^◌, ◌++◌, length, is_some, IsTrue, slice_index, vec_len, vec_capacity};
+ghost use Rattle.ids_types.specs.declared.entry.Act.TheVariants.{Report};
+ghost use Rattle.ids_types.specs.Carries.{act_by};
 ghost use Rattle.ids_types.specs.Plain.{plain_carried, plain_entry, carried_bytes, kept_bytes};
-ghost use Rattle.ids_types.specs.Spans.{bytes_at, span_from, CarriedWithin, EntryWithin};
+ghost use Rattle.ids_types.specs.Rows.{stamp_before, stamp_numbers, context_numbers, own_numbers, kind_of, row_of as row_for, entry_of, KindWithin, EntryWithin, bytes_at};
 
 use crate::entry::{Act, Carried, Entry};
+use crate::names::{EventIndex, Stamp};
+use crate::numbers::Numbers;
 use crate::parcel::Plain;
-use crate::span::Span;
+use crate::rows::{EntryRow, RowKind};
 
 impl<'a> Entry<Plain<'a>> {
     /// The bytes of context that the entry keeps, none where it keeps no context.
@@ -24,103 +27,180 @@ impl<'a> Entry<Plain<'a>> {
     }
 }
 
-fn placed_context(context: &Carried<Plain<'_>>, start: usize) -> Carried<Span>
-    requires { start + length (carried_bytes (plain_carried context.now)) < 2 ^ 64 }
-    ensures { result ≡ carried_by (span_from start) context.now }
+/// Adds the number of a stamp, and tells whether there was one.
+fn put_stamp(numbers: &mut Vec<u64>, stamp: Option<Stamp>) -> bool
+    requires { vec_len numbers.old + 1 ≤ vec_capacity numbers.old }
+    ensures numbers { numbers.new.items ≡ numbers.old.items ++ stamp_numbers stamp }
+    ensures few { vec_len numbers.new ≤ vec_len numbers.old + 1 }
+    ensures capacity { vec_capacity numbers.old ≤ vec_capacity numbers.new }
+    ensures some { result ≡ is_some stamp }
+{
+    match stamp {
+        Some(stamp) => {
+            numbers.push_reserved(stamp.0);
+            true
+        }
+        None => false,
+    }
+}
+
+/// Adds the numbers of a context whose bytes lie from `start` on, and tells its kind.
+fn put_context(numbers: &mut Vec<u64>, context: &Carried<Plain<'_>>, start: usize) -> RowKind
+    requires room { vec_len numbers.old + 4 ≤ vec_capacity numbers.old }
+    requires end { start + length (carried_bytes (plain_carried context.now)) < 2 ^ 64 }
+    ensures numbers { numbers.new.items ≡
+        numbers.old.items ++ context_numbers start (plain_carried context.now) }
+    ensures few { vec_len numbers.new ≤ vec_len numbers.old + 4 }
+    ensures capacity { vec_capacity numbers.old ≤ vec_capacity numbers.new }
+    ensures kind { result ≡ kind_of (plain_carried context.now) }
+    ensures within { KindWithin numbers.new.items
+        (start + length (carried_bytes (plain_carried context.now))) (length numbers.old.items) result }
 {
     match context {
-        Carried::Absent => Carried::Absent,
+        Carried::Absent => RowKind::Bare,
         Carried::Kept {
             class,
             claim,
             parcel,
-        } => Carried::Kept {
-            class: *class,
-            claim: *claim,
-            parcel: Span {
-                start,
-                end: start + parcel.0.len(),
-            },
-        },
-        Carried::Missing(numbers) => Carried::Missing(numbers.again()),
+        } => {
+            numbers.push_reserved(*claim);
+            numbers.push_reserved(start as u64);
+            numbers.push_reserved((start + parcel.0.len()) as u64);
+            RowKind::Holding(*class)
+        }
+        Carried::Missing(asked) => {
+            let asked = asked.as_slice();
+            numbers.extend_from_slice(asked).unwrap();
+            RowKind::Lacking(asked.len() as u8)
+        }
     }
 }
 
-/// The entry with the place of its bytes, which lie from `start` on.
-pub(crate) fn placed(entry: &Entry<Plain<'_>>, start: usize) -> Entry<Span>
-    requires { start + length (kept_bytes (plain_entry entry.now)) < 2 ^ 64 }
-    ensures { result ≡ entry_by (span_from start) entry.now }
+/// The row of an entry whose context bytes lie from `start` on. Its numbers are added to `numbers`.
+pub(crate) fn row_of(entry: &Entry<Plain<'_>>, start: usize, numbers: &mut Vec<u64>) -> EntryRow
+    requires room { vec_len numbers.old + 5 ≤ vec_capacity numbers.old }
+    requires end { start + length (kept_bytes (plain_entry entry.now)) < 2 ^ 64 }
+    ensures numbers { numbers.new.items ≡
+        numbers.old.items ++ own_numbers start (plain_entry entry.now) }
+    ensures few { vec_len numbers.new ≤ vec_len numbers.old + 5 }
+    ensures capacity { vec_capacity numbers.old ≤ vec_capacity numbers.new }
+    ensures row { result ≡ row_for (length numbers.old.items) (plain_entry entry.now) }
+    ensures within { EntryWithin numbers.new.items
+        (start + length (kept_bytes (plain_entry entry.now))) result }
 {
-    let act = match &entry.act {
+    let Entry { caller, call, act } = entry;
+    match act {
         Act::Report {
             event,
             count,
             stamp,
             context,
-        } => Act::Report {
-            event: *event,
-            count: *count,
-            stamp: *stamp,
-            context: placed_context(context, start),
+        } => {
+            let stamped = put_stamp(numbers, *stamp);
+            let place = numbers.len();
+            let kind = put_context(numbers, context, start);
+            EntryRow {
+                call: *call,
+                place,
+                event: event.0,
+                count: *count,
+                caller: *caller,
+                stamped,
+                kind,
+            }
+        }
+        Act::State(state) => EntryRow {
+            call: *call,
+            place: numbers.len(),
+            event: 0,
+            count: 0,
+            caller: *caller,
+            stamped: false,
+            kind: RowKind::StateTo(*state),
         },
-        Act::State(state) => Act::State(*state),
-        Act::SetMode { event, mode } => Act::SetMode {
-            event: *event,
-            mode: *mode,
+        Act::SetMode { event, mode } => EntryRow {
+            call: *call,
+            place: numbers.len(),
+            event: event.0,
+            count: 0,
+            caller: *caller,
+            stamped: false,
+            kind: RowKind::ModeTo(*mode),
         },
-    };
-    Entry {
-        caller: entry.caller,
-        call: entry.call,
-        act,
     }
 }
 
-fn lent_context<'a>(context: &Carried<Span>, bytes: &'a [u8]) -> Carried<Plain<'a>>
-    requires { CarriedWithin (length bytes.now) context.now }
-    ensures { plain_carried result ≡ carried_by (bytes_at bytes.now) context.now }
+fn stamp_of(row: &EntryRow, numbers: &[u64]) -> Option<Stamp>
+    requires there { row.now.place ≤ length numbers.now }
+    requires stamp { IsTrue row.now.stamped → 1 ≤ row.now.place }
+    ensures { result ≡ stamp_before numbers.now row.now.stamped row.now.place }
 {
-    match context {
-        Carried::Absent => Carried::Absent,
-        Carried::Kept {
-            class,
-            claim,
-            parcel,
-        } => Carried::Kept {
-            class: *class,
-            claim: *claim,
-            parcel: Plain(&bytes[parcel.start..parcel.end]),
-        },
-        Carried::Missing(numbers) => Carried::Missing(numbers.again()),
+    if row.stamped {
+        Some(Stamp(numbers[row.place - 1]))
+    } else {
+        None
     }
 }
 
-/// The entry with its bytes, lent from all of a history's.
-pub(crate) fn lent<'a>(entry: &Entry<Span>, bytes: &'a [u8]) -> Entry<Plain<'a>>
-    requires { EntryWithin (length bytes.now) entry.now }
-    ensures { plain_entry result ≡ entry_by (bytes_at bytes.now) entry.now }
+/// The report of a row, with this context.
+fn report_of<'a>(row: &EntryRow, numbers: &[u64], context: Carried<Plain<'a>>) -> Act<Plain<'a>>
+    requires there { row.now.place ≤ length numbers.now }
+    requires stamp { IsTrue row.now.stamped → 1 ≤ row.now.place }
+    ensures { act_by (λ p. p.0.now) result ≡ Report (record { 0 = row.now.event }) row.now.count
+        (stamp_before numbers.now row.now.stamped row.now.place) (plain_carried context.entry) }
 {
-    let act = match &entry.act {
-        Act::Report {
-            event,
-            count,
-            stamp,
-            context,
-        } => Act::Report {
-            event: *event,
-            count: *count,
-            stamp: *stamp,
-            context: lent_context(context, bytes),
-        },
-        Act::State(state) => Act::State(*state),
-        Act::SetMode { event, mode } => Act::SetMode {
-            event: *event,
-            mode: *mode,
+    Act::Report {
+        event: EventIndex(row.event),
+        count: row.count,
+        stamp: stamp_of(row, numbers),
+        context,
+    }
+}
+
+/// The bytes between the ends that stand at a place of the numbers.
+fn bytes_of<'a>(numbers: &[u64], bytes: &'a [u8], place: usize) -> &'a [u8]
+    requires there { place + 2 ≤ length numbers.now }
+    requires ordered { slice_index numbers.now place ≤ slice_index numbers.now (place + 1) }
+    requires within { slice_index numbers.now (place + 1) ≤ length bytes.now }
+    ensures { result.now ≡ bytes_at numbers.now bytes.now place }
+{
+    let (start, end) = (numbers[place], numbers[place + 1]);
+    &bytes[start as usize..end as usize]
+}
+
+/// The entry of a row, with its bytes lent from all of a history's.
+pub(crate) fn lent<'a>(row: &EntryRow, numbers: &[u64], bytes: &'a [u8]) -> Entry<Plain<'a>>
+    requires { EntryWithin numbers.now (length bytes.now) row.now }
+    ensures { plain_entry result ≡ entry_of numbers.now bytes.now row.now }
+{
+    let act = match row.kind {
+        RowKind::Bare => report_of(row, numbers, Carried::Absent),
+        RowKind::Holding(class) => {
+            let claim = numbers[row.place];
+            let parcel = Plain(bytes_of(numbers, bytes, row.place + 1));
+            report_of(
+                row,
+                numbers,
+                Carried::Kept {
+                    class,
+                    claim,
+                    parcel,
+                },
+            )
+        }
+        RowKind::Lacking(count) => {
+            let asked = Numbers::make(&numbers[row.place..row.place + count as usize]);
+            report_of(row, numbers, Carried::Missing(asked))
+        }
+        RowKind::StateTo(state) => Act::State(state),
+        RowKind::ModeTo(mode) => Act::SetMode {
+            event: EventIndex(row.event),
+            mode,
         },
     };
     Entry {
-        caller: entry.caller,
-        call: entry.call,
+        caller: row.caller,
+        call: row.call,
         act,
     }
 }

@@ -1,7 +1,7 @@
 use Rattle.std.proofs.Common.{◌≡◌, [], length, map, refl, sym, ap, ◌∙◌, rules}
 use Rattle.std.proofs.lemmas.List.{length-map}
 use Rattle.ids_types.specs.HistoryView.{turns_of}
-use Rattle.ids_types.specs.Spans.{turn_of}
+use Rattle.ids_types.specs.Rows.{turn_of}
 use Rattle.ids_types.specs.Turns.{emptied}
 use Rattle.ids_types.proofs.HistoryLemmas.{cleared, length-entries_of}
 use Rattle.ids_types.proofs.history.History.clear.Goals as goal
@@ -12,8 +12,8 @@ returns c =
     let rows : c.len.result ≡ length h.rows.items = search rules in
     let entries : c.len-2.result ≡ length h.entries.items = search rules in
     let bytes : c.len-3.result ≡ length h.bytes.items = search rules in
-    let none : map (turn_of c.clear-2.new.self.items c.clear-3.new.self.items) c.clear.new.self.items ≡ [] = rw c.clear.ensures.items refl in
-    cleared (turns_of h) _ _ _ _ none (rows ∙ sym (length-map h.rows.items (turn_of h.entries.items h.bytes.items)))
-    (entries ∙ sym c.self.invariant.all ∙ sym (length-entries_of h.entries.items h.bytes.items h.rows.items c.self.invariant.rows))
+    let none : map (turn_of c.clear-3.new.self.items c.clear-4.new.self.items c.clear-2.new.self.items) c.clear.new.self.items ≡ [] = rw c.clear.ensures.items refl in
+    cleared (turns_of h) _ _ _ _ none (rows ∙ sym (length-map h.rows.items (turn_of h.numbers.items h.bytes.items h.entries.items)))
+    (entries ∙ sym c.self.invariant.all ∙ sym (length-entries_of h.numbers.items h.bytes.items h.entries.items h.rows.items c.self.invariant.rows))
     (bytes ∙ ap length (sym c.self.invariant.kept))
     ∙ ap emptied c.self.view_is

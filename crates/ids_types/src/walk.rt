@@ -1,0 +1,102 @@
+//! Going over a history once, from its first turn to its last.
+
+ghost use Rattle.std.specs.Prelude.{◌≡◌, [], ◌∷◌, length, IfSome, IfNone};
+ghost use Rattle.ids_types.specs.Plain.{plain_entry};
+
+use crate::entry::{Entry, TurnHead};
+use crate::parcel::Plain;
+use crate::placing::lent;
+use crate::rows::{EntryRow, TurnRow};
+use std::marker::Model;
+
+/// The turns of a history that are left to go over.
+#[derive(Debug, Drop)]
+pub struct Walk<'a> {
+    pub(crate) rows: &'a [TurnRow],
+    pub(crate) entries: &'a [EntryRow],
+    pub(crate) numbers: &'a [u64],
+    pub(crate) bytes: &'a [u8],
+}
+
+impl<'a> Model for Walk<'a> {
+    ghost use Rattle.std.specs.Prelude.{List};
+    ghost use Rattle.ids_types.specs.Turns.{Turn};
+
+    ghost Value = { List Turn };
+
+    ghost use Rattle.ids_types.specs.WalkView.{turns_left, IsWalk};
+
+    ghost view = { turns_left };
+
+    ghost invariant = { IsWalk };
+}
+
+impl<'a> Walk<'a> {
+    /// Takes the first turn: what it began with, and its entries to go over.
+    pub fn pop_front(&mut self) -> Option<(TurnHead, EntryWalk<'a>)>
+        ensures some { IfSome result (λ turn.
+            self.old ≡ record { head = turn.0; entries = turn.1 } ∷ self.new) }
+        ensures none { IfNone result (self.old ≡ []) }
+        ensures same { IfNone result (self.new ≡ self.old) }
+    {
+        match self.rows {
+            [] => None,
+            [row, rest @ ..] => {
+                let entries = &self.entries[row.start..row.end];
+                self.rows = rest;
+                let walk = EntryWalk {
+                    rows: entries,
+                    numbers: self.numbers,
+                    bytes: self.bytes,
+                };
+                Some((row.head, walk))
+            }
+        }
+    }
+}
+
+/// The entries of a turn that are left to go over.
+#[derive(Debug, Drop)]
+pub struct EntryWalk<'a> {
+    rows: &'a [EntryRow],
+    numbers: &'a [u64],
+    bytes: &'a [u8],
+}
+
+impl<'a> Model for EntryWalk<'a> {
+    ghost use Rattle.std.specs.Prelude.{ℕ, List};
+    ghost use Rattle.ids_types.specs.declared.entry.Entry.{Entry};
+
+    ghost Value = { List (Entry (List ℕ)) };
+
+    ghost use Rattle.ids_types.specs.EntryWalkView.{entries_left, IsEntryWalk};
+
+    ghost view = { entries_left };
+
+    ghost invariant = { IsEntryWalk };
+}
+
+impl<'a> EntryWalk<'a> {
+    /// How many entries are left.
+    pub fn len(&self) -> usize
+        ensures { result ≡ length self.now }
+    {
+        let _bytes = self.bytes;
+        self.rows.len()
+    }
+
+    /// Takes the first entry, with its context lent.
+    pub fn pop_front(&mut self) -> Option<Entry<Plain<'a>>>
+        ensures some { IfSome result (λ entry. self.old ≡ plain_entry entry ∷ self.new) }
+        ensures none { IfNone result (self.old ≡ []) }
+        ensures same { IfNone result (self.new ≡ self.old) }
+    {
+        match self.rows {
+            [] => None,
+            [row, rest @ ..] => {
+                self.rows = rest;
+                Some(lent(row, self.numbers, self.bytes))
+            }
+        }
+    }
+}
