@@ -1,0 +1,132 @@
+//! The atomic operations of a queue's calls alone, on words that lie as those of its ring do.
+ghost use Rattle.std.specs.Prelude.{◌≡◌, ◌+◌, ◌<◌, ◌≤◌, length, IfOk};
+
+use crate::work::{Caller, PUTS, TAKES, Taker};
+use std::alloc::{AllocError, Global};
+use std::sync::atomic::{AtomicU64, Ordering};
+
+/// The place of the word that counts claims and free positions.
+const PERMITS: usize = 0;
+
+/// The place of the first mark. Between the two lie two words that nothing uses here.
+const MARKS: usize = 3;
+
+/// What a claim adds to the word of claims: one claim more, and one free position less.
+const ONE_CLAIM: u64 = 65535;
+
+/// How often giving back tries at most.
+const TRIES: u64 = 4096;
+
+/// A word of claims and free positions, two words unused, and a mark for each of 1,024 positions.
+#[derive(Drop)]
+pub struct Words {
+    words: Vec<AtomicU64>,
+    ghost sized: { length words.items ≡ 1027 },
+}
+
+impl Words {
+    /// The words of a ring whose positions are all free.
+    pub fn new(alloc: Global) -> Result<Words, AllocError> {
+        let mut words = Vec::with_capacity(alloc, 1027)?;
+        words.push(AtomicU64::new(1024))?;
+        for place in 1..1027u64 {
+            words.push(AtomicU64::new(0))?;
+        }
+        Ok(Words { words })
+    }
+
+    fn permits(&self) -> &AtomicU64 {
+        &self.words[PERMITS]
+    }
+
+    fn mark_of(&self, ticket: u64) -> &AtomicU64 {
+        &self.words[MARKS + (ticket % 1024) as usize]
+    }
+}
+
+/// One who makes the operations of claims with their fills.
+#[derive(Drop)]
+pub struct BareCaller<'w> {
+    words: &'w Words,
+}
+
+impl<'w> BareCaller<'w> {
+    pub fn new(words: &'w Words) -> BareCaller<'w> {
+        BareCaller { words }
+    }
+}
+
+impl Caller for BareCaller<'_> {
+    ghost is_ready = { λ _. Unit {0} };
+
+    fn put_batch(&mut self) -> u64 {
+        let mut count: u64 = 0;
+        for _ in 0..PUTS {
+            if put(self.words) {
+                count = count.wrapping_add(1);
+            }
+        }
+        count
+    }
+}
+
+// What a claim with its fill does: it looks, adds its claim, and marks the position of its ticket.
+fn put(words: &Words) -> bool {
+    let permits = words.permits();
+    if permits.load(Ordering::SeqCst) % 65536 == 0 {
+        return false;
+    }
+    let ticket = permits.fetch_add(ONE_CLAIM, Ordering::SeqCst) / 65536;
+    let mark = words.mark_of(ticket);
+    mark.store(ticket + 1, Ordering::SeqCst);
+    true
+}
+
+/// One who makes the operations of takes and of giving back.
+#[derive(Drop)]
+pub struct BareTaker<'w> {
+    words: &'w Words,
+    next: u64,
+}
+
+impl<'w> BareTaker<'w> {
+    pub fn new(words: &'w Words) -> BareTaker<'w> {
+        BareTaker { words, next: 0 }
+    }
+}
+
+impl Taker for BareTaker<'_> {
+    ghost is_ready = { λ _. Unit {0} };
+
+    fn take_batch(&mut self) -> u64 {
+        let mut count: u64 = 0;
+        for _ in 0..TAKES {
+            let mark = self.words.mark_of(self.next);
+            let after = self.next.wrapping_add(1);
+            if mark.load(Ordering::SeqCst) != after {
+                break;
+            }
+            self.next = after;
+            count = count.wrapping_add(1);
+        }
+        give_back(self.words, count);
+        count
+    }
+}
+
+// What giving back does: it looks, and adds the positions by a compare-exchange that it tries again
+// where the word was changed in between.
+fn give_back(words: &Words, count: u64) {
+    if count == 0 {
+        return;
+    }
+    let permits = words.permits();
+    let mut seen = permits.load(Ordering::SeqCst);
+    for _ in 0..TRIES {
+        let more = seen.wrapping_add(count);
+        match permits.compare_exchange(seen, more, Ordering::SeqCst, Ordering::SeqCst) {
+            Ok(_) => break,
+            Err(found) => seen = found,
+        }
+    }
+}

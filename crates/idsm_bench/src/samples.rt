@@ -1,0 +1,49 @@
+//! How long batches took.
+
+use std::alloc::{AllocError, Global};
+
+/// The nanoseconds of each batch that was whole, and how many items all batches had.
+#[derive(Drop)]
+pub struct Samples {
+    nanos: Vec<u64>,
+    items: u64,
+}
+
+impl Samples {
+    pub fn new(alloc: Global) -> Samples {
+        Samples {
+            nanos: Vec::new(alloc),
+            items: 0,
+        }
+    }
+
+    /// How many items there were.
+    pub fn items(&self) -> u64 {
+        self.items
+    }
+
+    /// Adds a batch of so many items. Only one as large as it was to be counts for its time.
+    pub fn add(&mut self, nanos: u64, items: u64, whole: u64) -> Result<(), AllocError> {
+        self.items = self.items.wrapping_add(items);
+        if items == whole {
+            self.nanos.push(nanos)?;
+        }
+        Ok(())
+    }
+
+    /// Adds the batches of another.
+    pub fn join(&mut self, other: &Samples) -> Result<(), AllocError> {
+        self.items = self.items.wrapping_add(other.items);
+        self.nanos.extend_from_slice(other.nanos.as_slice())
+    }
+
+    /// The time of the fastest batch, and of the middle one by their order: 0 where there is none.
+    pub fn fastest_and_middle(&mut self) -> (u64, u64) {
+        self.nanos.sort_unstable();
+        let middle = self.nanos.len() / 2;
+        match (self.nanos.first(), self.nanos.get(middle)) {
+            (Some(fastest), Some(middle)) => (*fastest, *middle),
+            _ => (0, 0),
+        }
+    }
+}
