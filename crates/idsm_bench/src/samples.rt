@@ -1,29 +1,31 @@
 //! How long batches took.
+ghost use Rattle.std.specs.Prelude.{◌≡◌, ◌≢◌, ◌+◌, ◌%◌, ◌^◌, ◌≤◌, [], ◌∷◌, ◌++◌, All, OnOk};
 
 use std::alloc::{AllocError, Global};
 
 /// The nanoseconds of each batch that was whole, and how many items all batches had.
 #[derive(Drop)]
 pub struct Samples {
-    nanos: Vec<u64>,
-    items: u64,
+    pub nanos: Vec<u64>,
+    pub items: u64,
 }
 
 impl Samples {
-    pub fn new(alloc: Global) -> Samples {
+    pub fn new(alloc: Global) -> Samples
+        ensures { (result.nanos.items ≡ []) × (result.items ≡ 0) }
+    {
         Samples {
             nanos: Vec::new(alloc),
             items: 0,
         }
     }
 
-    /// How many items there were.
-    pub fn items(&self) -> u64 {
-        self.items
-    }
-
     /// Adds a batch of so many items. Only one as large as it was to be counts for its time.
-    pub fn add(&mut self, nanos: u64, items: u64, whole: u64) -> Result<(), AllocError> {
+    pub fn add(&mut self, nanos: u64, items: u64, whole: u64) -> Result<(), AllocError>
+        ensures items { self.new.items ≡ (self.old.items + items) % 2 ^ 64 }
+        ensures whole { items ≡ whole → OnOk result (self.new.nanos.items ≡ self.old.nanos.items ++ nanos ∷ []) }
+        ensures part { items ≢ whole → self.new.nanos.items ≡ self.old.nanos.items }
+    {
         self.items = self.items.wrapping_add(items);
         if items == whole {
             self.nanos.push(nanos)?;
@@ -32,13 +34,19 @@ impl Samples {
     }
 
     /// Adds the batches of another.
-    pub fn join(&mut self, other: &Samples) -> Result<(), AllocError> {
+    pub fn join(&mut self, other: &Samples) -> Result<(), AllocError>
+        ensures items { self.new.items ≡ (self.old.items + other.now.items) % 2 ^ 64 }
+        ensures nanos { OnOk result (self.new.nanos.items ≡ self.old.nanos.items ++ other.now.nanos.items) }
+    {
         self.items = self.items.wrapping_add(other.items);
         self.nanos.extend_from_slice(other.nanos.as_slice())
     }
 
     /// The time of the fastest batch, and of the middle one by their order: 0 where there is none.
-    pub fn fastest_and_middle(&mut self) -> (u64, u64) {
+    pub fn fastest_and_middle(&mut self) -> (u64, u64)
+        ensures fastest { All (λ nanos. result.0 ≤ nanos) self.new.nanos.items }
+        ensures items { self.new.items ≡ self.old.items }
+    {
         self.nanos.sort_unstable();
         let middle = self.nanos.len() / 2;
         match (self.nanos.first(), self.nanos.get(middle)) {

@@ -16,8 +16,8 @@ pub struct Pair {
 
 /// Prints a line with how many items of a queue were put and how many taken.
 pub fn print_counts<R: Print>(rt: &R, title: &str, pair: &Pair) -> io::Result<()> {
-    let put = pair.queued.puts.items();
-    let taken = pair.queued.takes.items();
+    let put = pair.queued.puts.items;
+    let taken = pair.queued.takes.items;
     println!(rt; "{title}: {put} put, {taken} taken")
 }
 
