@@ -16,8 +16,6 @@ mod printing;
 mod reading;
 mod shape;
 mod tables;
-#[cfg(test)]
-mod tests;
 
 pub use fault::JsonFault;
 pub use printing::print;

@@ -28,8 +28,3 @@ pub use fault::{BadMessage, FrameFault};
 pub use message::Message;
 pub use messages::{Messages, what_a_file_holds};
 pub use writing::{MAX_BYTES, TooLong, encode};
-
-#[cfg(test)]
-mod decoding_tests;
-#[cfg(test)]
-mod tests;

@@ -20,6 +20,3 @@ mod taking;
 pub use fault::JournalFault;
 pub use printing::print;
 pub use reading::{Journal, read};
-
-#[cfg(test)]
-mod tests;

@@ -32,6 +32,3 @@ pub use memo::{KeeperMemo, Key, Move, Outcome, SeatMemo, Slot, View};
 pub use ring::Ring;
 pub use seat::Seat;
 pub use sharing::parts_may_be_shared;
-
-#[cfg(test)]
-mod tests;

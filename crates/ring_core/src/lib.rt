@@ -28,6 +28,3 @@ pub use seat::{SeatView, Ticket0};
 pub use state::RingState;
 pub use step::{NotPossible, Step};
 pub use word::PermitWord;
-
-#[cfg(test)]
-mod tests;

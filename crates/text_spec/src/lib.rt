@@ -26,6 +26,3 @@ pub use numbers::{number, number_upto, one_text_for_a_number, push_field, push_n
 pub use pieces::Pieces;
 pub use splits::{ended_lines, lines, one_line_for_words, one_text_for_lines};
 pub use stamps::{one_text_for_a_stamp, push_stamp, stamp};
-
-#[cfg(test)]
-mod tests;

@@ -1,10 +1,8 @@
 ghost use Rattle.std.specs.Prelude.{◌≡◌, ◌+◌, ◌<◌, ◌^◌, ⊤, None};
 ghost use Rattle.permit_ring.specs.Seats.{IsKeeperOf, IsSeatOf, seat_calls, seat_ticket};
 
-use super::*;
 use ids_types::{NoMemory, Ticket};
-use std::alloc::Global;
-use std::test::*;
+use permit_ring::{Freight, Keeper, Made, Ring, Seat, make};
 
 /// A ring of numbers, each of which is its own note. What is offered is room alone.
 struct Numbers;

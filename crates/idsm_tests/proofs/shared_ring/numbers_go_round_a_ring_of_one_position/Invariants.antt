@@ -1,7 +1,7 @@
 use Rattle.std.proofs.Common.{◌≡◌, None}
 use Rattle.std.specs.Prelude.{⊤}
 use Rattle.permit_ring.specs.Seats.{IsKeeperOf, IsSeatOf, seat_calls, seat_ticket}
-use Rattle.permit_ring.proofs.tests.numbers_go_round_a_ring_of_one_position.Given as goal
+use Rattle.idsm_tests.proofs.shared_ring.numbers_go_round_a_ring_of_one_position.Given as goal
 
 abbrev pub invariant-loop-number : goal.invariant-loop-number
 invariant-loop-number g l =

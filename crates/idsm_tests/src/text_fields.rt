@@ -1,9 +1,11 @@
-use crate::{
+//! The fields of a line: what is read of a word, and what is printed.
+
+use ids_types::{Mode, Stamp};
+use std::test::Fail;
+use text_spec::{
     HexText, Pieces, hex_into, lines, mode, number, number_upto, push_hex, push_mode, push_number,
     push_stamp, stamp,
 };
-use ids_types::{Mode, Stamp};
-use std::test::Fail;
 
 #[test]
 fn reads_numbers(rt: HostRuntime) {

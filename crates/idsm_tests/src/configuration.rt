@@ -1,7 +1,9 @@
+//! Configurations: what is read of a text, and what is printed.
+
 mod cases;
 
-use crate::{JsonFault, print, read};
 use cases::{EVENT_MEMBERS, EVENTS, TOP_MEMBERS, WHOLE};
+use config_json::{JsonFault, print, read};
 use ids_config::{ConfigFault, ConfigPlace};
 use ids_types::{EventIndex, Internal};
 use std::alloc::{AllocError, Global};

@@ -2,7 +2,7 @@ use Rattle.std.proofs.Common.{refl, ap, ◌∙◌, ◌++◌, length}
 use Rattle.std.specs.Option.{option_to_list}
 use lib.ListN.{get_elem?}
 use Rattle.atomic_table.proofs.Lists.{at_last}
-use Rattle.permit_ring.proofs.tests.numbers_go_round_a_ring_of_one_position.Goals as goal
+use Rattle.idsm_tests.proofs.shared_ring.numbers_go_round_a_ring_of_one_position.Goals as goal
 
 pub loop-number-init : goal.loop-number-init
 loop-number-init g c =

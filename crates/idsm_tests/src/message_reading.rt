@@ -1,7 +1,9 @@
-use super::*;
+//! Messages: what is read of bytes, and the fault of those that are none.
+
 use arrayvec::ArrayVec;
+use ids_frame::{BadMessage, Form, FrameFault, Messages, decode, encode};
 use ids_types::Stamp;
-use std::test::*;
+use std::test::Fail;
 
 /// Event 42 of sensor 3 in instance 18, counted once, with the context a1 b2.
 const FIRST: [u8; 11] = *b"\x11\x04\x83\x00\x2a\x00\x01\x00\x02\xa1\xb2";

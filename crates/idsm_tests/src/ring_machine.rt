@@ -1,9 +1,8 @@
 ghost use Rattle.std.specs.Prelude.{◌≤◌};
 
-use super::Step::{Claim, Finish, Look, Mark, Offer, Read, See, Split, Sweep};
-use super::*;
+use ring_core::Step::{Claim, Finish, Look, Mark, Offer, Read, See, Split, Sweep};
+use ring_core::{PermitWord, RunFault, Step, run};
 use std::alloc::Global;
-use std::test::*;
 
 /// What a ring shows after some steps: its packed word, the numbers of that word, and how much
 /// its keeper offered and reaped.
@@ -43,7 +42,7 @@ const fn numbers(
     }
 }
 
-#[tactic(auto, using(crate::proofs::RingLaws::word_packs))]
+#[tactic(auto, using(ring_core::proofs::RingLaws::word_packs))]
 fn shown_after(alloc: Global, seats: u8, steps: &[Step]) -> Result<Shown, RunFault>
     requires { (1 ≤ seats) × (seats ≤ 32) }
 {

@@ -1,7 +1,9 @@
-use super::*;
+//! Messages: the bytes of each, byte for byte.
+
 use arrayvec::ArrayVec;
+use ids_frame::{Context, Form, Message, TooLong, encode};
 use ids_types::Stamp;
-use std::test::*;
+use std::test::Fail;
 
 const STAMP: Stamp = Stamp(0x8000_0001_0000_0a00);
 

@@ -1,11 +1,13 @@
+//! Journals: what is read of a text, or its first bad line, and what is printed.
+
 mod cases;
 
-use crate::{Journal, JournalFault, print, read};
 use cases::{
     BAD_EVENT, BYTES, CALL_BACK, FULL_TURN, LEGAL, NO_FORM, OUT_OF_PLACE, OUT_OF_RANGE, TICK_BACK,
 };
 use ids_config::{Config, ConfigParts, EventParts};
 use ids_types::Mode;
+use journal::{Journal, JournalFault, print, read};
 use std::alloc::{AllocError, Global};
 use std::test::Fail;
 use text_spec::push_number;
