@@ -1,2 +1,2 @@
-mod StepLemmas
+pub mod StepLemmas
 mod ValidLemmas

@@ -18,6 +18,12 @@ pub asks_ok : (number : ℕ) (holds : Bool) → asks number holds ≡ Ok tt → 
 asks_ok number true e = refl
 asks_ok number false e = grind arith
 
+-- the condition holds, and the searches behind it found no fault
+pub asked : {A : Type 0} (number : ℕ) (holds : Bool) (next : Result A ℕ) (x : A)
+    → asks number holds >> next ≡ Ok x → (holds ≡ true) × (next ≡ Ok x)
+asked number holds next x e =
+    let parts = both_ok (asks number holds) next x e in (asks_ok number holds parts.0, parts.1)
+
 -- there is no fault within the place
 pub at_ok : (place : ConfigPlace) (found : Result ⊤ ℕ) → at place found ≡ Ok tt → found ≡ Ok tt
 at_ok place (Ok done) e = refl

@@ -3,7 +3,7 @@
 use ids_types::{Mode, Stamp};
 use std::test::Fail;
 use text_spec::{
-    HexText, Pieces, hex_into, lines, mode, number, number_upto, push_hex, push_mode, push_number,
+    HexText, Pieces, hex_into, mode, number, number_upto, push_hex, push_mode, push_number,
     push_stamp, stamp,
 };
 
@@ -29,23 +29,11 @@ fn reads_numbers(rt: HostRuntime) {
 }
 
 #[test]
-fn splits_lines_and_words(rt: HostRuntime) -> Result<(), Fail> {
-    let alloc = rt.alloc();
-    let rows: [(&[u8], Option<usize>); 5] = [
-        (b"", Some(0)),
-        (b"\n", Some(1)),
-        (b"T 5 0\nL 1 2\n", Some(2)),
-        (b"T 5 0\nL 1 2", None),
-        (b"T", None),
-    ];
-    for (text, want) in rows {
-        assert_eq!(rt; lines(alloc, text)?.map(|lines| lines.len()), want);
-    }
+fn splits_words(rt: HostRuntime) {
     let rows: [(&[u8], usize); 4] = [(b"", 1), (b"T 5 0", 3), (b"T  5", 3), (b" T ", 3)];
     for (line, want) in rows {
         assert_eq!(rt; count(Pieces::of(line, b' ')), want);
     }
-    Ok(())
 }
 
 #[test]

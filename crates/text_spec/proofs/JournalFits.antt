@@ -1,111 +1,150 @@
 -- What turns and losses that fit a configuration keep.
-use Rattle.std.proofs.Common.{◌≡◌, ℕ, suc, ◌-◌, ◌<◌, ◌≤◌, true, List, [], ◌∷◌, ◌++◌, length, length-append, map, refl, sym, ap, subst, ◌∙◌, append_assoc, arith}
+use Rattle.std.proofs.Common.{◌≡◌, ◌≢◌, ℕ, ◌+◌, ◌<◌, ◌≤◌, ◌==◌, ◌||◌, Bool, true, false, inl, inr, List, [], ◌∷◌, ◌++◌, length, map, set, get_or, length-set, get_or-set_same, get_or-set_other, refl, sym, ap, subst, ◌∙◌, append_assoc, arith}
 use Rattle.std.specs.Prelude.{Ok}
-use Rattle.std.specs.List.{AllByRecursion, flat_map}
-use Rattle.std.proofs.lemmas.Bool.{and_from}
-use Rattle.std.proofs.lemmas.Grind.{flat_map-append}
-use Rattle.std.proofs.lemmas.List.{map-append}
+use Rattle.std.specs.List.{AllByRecursion, flat_map, list_any}
+use Rattle.std.proofs.lemmas.Bool.{and_from, both_ways, cases_eq, eq-eqb}
+use Rattle.std.proofs.lemmas.List.{append-nil, length-append}
+use Rattle.std.proofs.lemmas.List.Folds.{list_any-append}
 use Rattle.ids_config.specs.Parts.{Parts}
 use Rattle.ids_types.specs.declared.entry.Entry.{Entry}
-use Rattle.ids_types.specs.declared.entry.TurnHead.{TurnHead}
-use Rattle.ids_types.specs.Turns.{Turn, turn_at}
-use Rattle.text_spec.specs.JournalFaults.{is_in_ranges, least_tick, least_call, last_entries, fault_of, with_line, nothing}
-use Rattle.text_spec.specs.JournalReading.{AreFaultless, Fits}
-use Rattle.text_spec.specs.JournalText.{Told, Line, begins, enters, loses, turn_of, turn_told, lines_told}
-use Rattle.text_spec.proofs.JournalFacts.{head_passes, entry_passes, loss_passes}
-use Rattle.text_spec.proofs.JournalLaws.{with_lines, with_lines-append, only_turns, with_entries, with_turns}
+use Rattle.ids_types.specs.Turns.{Turn, begun, with_entry, entries_of}
+use Rattle.text_spec.specs.JournalFaults.{Past, is_in_ranges, fault_of, next, start, has_pair, pair_of}
+use Rattle.text_spec.specs.JournalReading.{AreFaultless, Fits, Follows}
+use Rattle.text_spec.specs.JournalText.{Told, Line, begins, enters, loses, turn_told, lines_told}
+use Rattle.text_spec.proofs.JournalFacts.{head_passes, entry_passes, loss_passes, flat_map-push}
 
 -- ---- ranges
 
--- a line without a fault is in its ranges
-in_ranges_of : (config : Parts) (told : Told) (line : Line) → fault_of config told line ≡ Ok tt → is_in_ranges config line ≡ true
-in_ranges_of config told (begins head) none = (head_passes told head none).numbers
-in_ranges_of config told (enters entry) none =
-    let passes = entry_passes config told entry none in
+in_ranges_of : (config : Parts) (past : Past) (line : Line) → fault_of config past line ≡ Ok tt → is_in_ranges config line ≡ true
+in_ranges_of config past (begins head) none = (head_passes past head none).numbers
+in_ranges_of config past (enters entry) none =
+    let passes = entry_passes config past entry none in
     and_from _ _ (and_from _ _ passes.call passes.act) passes.event
-in_ranges_of config told (loses loss) none =
-    let passes = loss_passes told loss none in
-    and_from _ _ passes.0 passes.1
+in_ranges_of config past (loses loss) none =
+    let passes = loss_passes past loss none in
+    and_from _ _ passes.call passes.given
 
-all_in_ranges : (config : Parts) (told : Told) (lines : List Line) → AreFaultless config told lines → AllByRecursion (λ line. is_in_ranges config line ≡ true) lines
-all_in_ranges config told [] none = tt
-all_in_ranges config told (line ∷ lines) none = (in_ranges_of config told line none.0, all_in_ranges config (with_line told line) lines none.1)
+all_in_ranges : (config : Parts) (past : Past) (lines : List Line) → AreFaultless config past lines → AllByRecursion (λ line. is_in_ranges config line ≡ true) lines
+all_in_ranges config past [] none = tt
+all_in_ranges config past (line ∷ lines) none = (in_ranges_of config past line none.0, all_in_ranges config (next past line) lines none.1)
 
 pub fits_in_ranges : (config : Parts) (told : Told) → Fits config told → AllByRecursion (λ line. is_in_ranges config line ≡ true) (lines_told told)
-fits_in_ranges config told fits = all_in_ranges config nothing (lines_told told) fits.faultless
+fits_in_ranges config told fits = all_in_ranges config start (lines_told told) fits.faultless
 
 -- ---- order
 
--- a line of some without a fault has none behind those before it
-faultless_at : (config : Parts) (told : Told) (before : List Line) (line : Line) (behind : List Line) → AreFaultless config told (before ++ line ∷ behind) → fault_of config (with_lines told before) line ≡ Ok tt
-unfolding with_lines
-faultless_at config told [] line behind none = none.0
-faultless_at config told (first ∷ before) line behind none = faultless_at config (with_line told first) before line behind none.1
+entries_of-with_entry : (turns : List Turn) (entry : Entry (List ℕ)) → 0 < length turns → entries_of (with_entry turns entry) ≡ entries_of turns ++ entry ∷ []
+entries_of-with_entry [] entry some = absurd (omega arith)
+entries_of-with_entry (turn ∷ []) entry some = append-nil (turn.entries ++ entry ∷ []) ∙ ap (λ (es : List (Entry (List ℕ))). es ++ entry ∷ []) (sym (append-nil turn.entries))
+entries_of-with_entry (turn ∷ another ∷ turns) entry some =
+    ap (λ (es : List (Entry (List ℕ))). turn.entries ++ es) (entries_of-with_entry (another ∷ turns) entry (omega arith))
+    ∙ sym (append_assoc turn.entries (entries_of (another ∷ turns)) (entry ∷ []))
 
--- the lines of turns, and of one of them
-turn_at_lines : (done rest : List Turn) (turn : Turn) → flat_map turn_told (done ++ turn ∷ rest) ≡ flat_map turn_told done ++ begins turn.head ∷ (map enters turn.entries ++ flat_map turn_told rest)
-turn_at_lines done rest turn = flat_map-append turn_told done (turn ∷ rest)
+-- the test of a pair
+abbrev is_pair : ℕ → Entry (List ℕ) → Bool
+is_pair pair e = pair_of e.caller e.call == pair
 
--- a turn of those that fit begins behind those before it
-pub turn_follows : (config : Parts) (told : Told) (done rest : List Turn) (turn : Turn) → Fits config told → told.turns ≡ done ++ turn ∷ rest → least_tick done ≤ turn.head.tick
-turn_follows config told done rest turn fits are =
-    let behind = (map enters turn.entries ++ flat_map turn_told rest) ++ map loses told.losses in
-    let lines : lines_told told ≡ flat_map turn_told done ++ begins turn.head ∷ behind =
-    ap (λ (ts : List Turn). flat_map turn_told ts ++ map loses told.losses) are
-    ∙ ap (λ (ls : List Line). ls ++ map loses told.losses) (turn_at_lines done rest turn)
-    ∙ append_assoc (flat_map turn_told done) (begins turn.head ∷ (map enters turn.entries ++ flat_map turn_told rest)) (map loses told.losses) in
-    let none = faultless_at config nothing (flat_map turn_told done) (begins turn.head) behind (subst (AreFaultless config nothing) lines fits.faultless) in
-    let here : fault_of config (only_turns done) (begins turn.head) ≡ Ok tt = subst (λ (t : Told). fault_of config t (begins turn.head) ≡ Ok tt) (with_turns [] done) none in
-    (head_passes (only_turns done) turn.head here).follows
+-- what the lines so far keep of one of them
+abbrev Keeps : Past → Line → Type 0
+Keeps past (begins head) = head.tick ≤ past.tick
+Keeps past (enters entry) = (entry.caller < length past.calls) × (entry.call < get_or past.calls entry.caller 0) × (has_pair past.told.turns (pair_of entry.caller entry.call) ≡ true)
+Keeps past (loses loss) = (pair_of loss.caller loss.call < past.pair) × (0 < length past.told.losses)
 
--- what is told before an entry of a turn
-before_entry : (done : List Turn) (head : TurnHead) (first : List (Entry (List ℕ))) → with_lines nothing (flat_map turn_told done ++ begins head ∷ map enters first) ≡ only_turns (done ++ turn_of head first ∷ [])
-unfolding with_lines
-before_entry done head first =
-    with_lines-append nothing (flat_map turn_told done) (begins head ∷ map enters first)
-    ∙ ap (λ (t : Told). with_lines t (begins head ∷ map enters first)) (with_turns [] done)
-    ∙ with_entries done head [] first
+-- the pairs of entries with one more
+has_pair-more : (turns : List Turn) (entry : Entry (List ℕ)) (pair : ℕ) → 0 < length turns → has_pair (with_entry turns entry) pair ≡ (has_pair turns pair || (is_pair pair entry || false))
+has_pair-more turns entry pair some = ap (list_any (is_pair pair)) (entries_of-with_entry turns entry some) ∙ list_any-append (is_pair pair) (entries_of turns) (entry ∷ [])
 
--- an entry of turns that fit has no fault behind what stands before it
-entry_has_none : (config : Parts) (told : Told) (done later : List Turn) (head : TurnHead) (first rest : List (Entry (List ℕ))) (entry : Entry (List ℕ))
-    → Fits config told → told.turns ≡ done ++ turn_of head (first ++ entry ∷ rest) ∷ later
-    → fault_of config (only_turns (done ++ turn_of head first ∷ [])) (enters entry) ≡ Ok tt
-entry_has_none config told done later head first rest entry fits are =
-    let before = flat_map turn_told done ++ begins head ∷ map enters first in
-    let behind = (map enters rest ++ flat_map turn_told later) ++ map loses told.losses in
-    let entries : map enters (first ++ entry ∷ rest) ++ flat_map turn_told later ≡ map enters first ++ enters entry ∷ (map enters rest ++ flat_map turn_told later) =
-    ap (λ (ls : List Line). ls ++ flat_map turn_told later) (map-append enters first (entry ∷ rest)) ∙ append_assoc (map enters first) (enters entry ∷ map enters rest) (flat_map turn_told later) in
-    let lines : lines_told told ≡ before ++ enters entry ∷ behind =
-    ap (λ (ts : List Turn). flat_map turn_told ts ++ map loses told.losses) are
-    ∙ ap (λ (ls : List Line). ls ++ map loses told.losses) (turn_at_lines done later (turn_of head (first ++ entry ∷ rest)))
-    ∙ ap (λ (ls : List Line). (flat_map turn_told done ++ begins head ∷ ls) ++ map loses told.losses) entries
-    ∙ ap (λ (ls : List Line). ls ++ map loses told.losses) (sym (append_assoc (flat_map turn_told done) (begins head ∷ map enters first) (enters entry ∷ (map enters rest ++ flat_map turn_told later))))
-    ∙ append_assoc before (enters entry ∷ (map enters rest ++ flat_map turn_told later)) (map loses told.losses) in
-    let none = faultless_at config nothing before (enters entry) behind (subst (AreFaultless config nothing) lines fits.faultless) in
-    subst (λ (t : Told). fault_of config t (enters entry) ≡ Ok tt) (before_entry done head first) none
+-- a line that was taken is kept
+kept_now : (config : Parts) (past : Past) (line : Line) → length past.calls ≡ 32 → fault_of config past line ≡ Ok tt → Keeps (next past line) line
+kept_now config past (begins head) calls none = omega arith
+kept_now config past (enters entry) calls none =
+    let passes = entry_passes config past entry none in
+    let within : entry.caller < length past.calls = omega (arith, calls, passes.caller) in
+    (
+      rw length-set within,
+      rw (get_or-set_same past.calls entry.caller (entry.call + 1) 0 within) (omega arith),
+      has_pair-more past.told.turns entry (pair_of entry.caller entry.call) passes.some ∙ grind (arith, eq-eqb (pair_of entry.caller entry.call) (pair_of entry.caller entry.call) refl),
+    )
+kept_now config past (loses loss) calls none = (omega arith, rw length-append (omega arith))
 
--- its call is above its caller's calls before it
-pub call_follows : (config : Parts) (told : Told) (done later : List Turn) (head : TurnHead) (first rest : List (Entry (List ℕ))) (entry : Entry (List ℕ))
-    → Fits config told → told.turns ≡ done ++ turn_of head (first ++ entry ∷ rest) ∷ later
-    → least_call (done ++ turn_of head first ∷ []) entry.caller ≤ entry.call
-call_follows config told done later head first rest entry fits are =
-    (entry_passes config (only_turns (done ++ turn_of head first ∷ [])) entry (entry_has_none config told done later head first rest entry fits are)).rises
+-- what is kept stays kept
+kept_on : (config : Parts) (past : Past) (first line : Line) → Keeps past first → fault_of config past line ≡ Ok tt → Keeps (next past line) first
+kept_on config past (begins one) (begins head) keeps none = let follows = (head_passes past head none).follows in omega arith
+kept_on config past (begins one) (enters entry) keeps none = keeps
+kept_on config past (begins one) (loses loss) keeps none = keeps
+kept_on config past (enters one) (begins head) keeps none =
+    let same = flat_map-push (λ (t : Turn). t.entries) past.told.turns (begun head) ∙ append-nil (entries_of past.told.turns) in
+    (keeps.0, keeps.1, ap (list_any (is_pair (pair_of one.caller one.call))) same ∙ keeps.2)
+kept_on config past (enters one) (enters entry) keeps none =
+    let passes = entry_passes config past entry none in
+    (
+      rw length-set keeps.0,
+      elim (cases_eq one.caller entry.caller) [
+        | inl own ↦
+            let within : entry.caller < length past.calls = subst (λ c. c < length past.calls) own keeps.0 in
+            let before : one.call < get_or past.calls entry.caller 0 = subst (λ c. one.call < get_or past.calls c 0) own keeps.1 in
+            rw (own, get_or-set_same past.calls entry.caller (entry.call + 1) 0 within) (omega (arith, before, passes.rises))
+        | inr other ↦ rw (get_or-set_other past.calls entry.caller one.caller (entry.call + 1) 0 other) keeps.1
+      ],
+      has_pair-more past.told.turns entry (pair_of one.caller one.call) passes.some ∙ grind (arith, keeps.2),
+    )
+kept_on config past (enters one) (loses loss) keeps none = keeps
+kept_on config past (loses one) (begins head) keeps none = keeps
+kept_on config past (loses one) (enters entry) keeps none = keeps
+kept_on config past (loses one) (loses loss) keeps none = let rises = (loss_passes past loss none).rises in (omega (arith, keeps.0, rises), rw length-append (omega arith))
 
--- the last of turns
-last_at : (done : List Turn) (turn : Turn) → turn_at (done ++ turn ∷ []) (length (done ++ turn ∷ []) - 1) ≡ turn
-last_at [] turn = refl
-last_at (first ∷ done) turn =
-    let e : length (first ∷ (done ++ turn ∷ [])) - 1 ≡ suc (length (done ++ turn ∷ []) - 1) = omega (arith, length-append done (turn ∷ [])) in
-    subst (λ k. turn_at (first ∷ (done ++ turn ∷ [])) k ≡ turn) (sym e) (last_at done turn)
+-- a line follows each that is kept
+kept_follows : (config : Parts) (past : Past) (first line : Line) → Keeps past first → fault_of config past line ≡ Ok tt → Follows first line
+kept_follows config past (begins one) (begins head) keeps none = let follows = (head_passes past head none).follows in omega arith
+kept_follows config past (begins one) (enters entry) keeps none = tt
+kept_follows config past (begins one) (loses loss) keeps none = tt
+kept_follows config past (enters one) (begins head) keeps none = tt
+kept_follows config past (enters one) (enters entry) keeps none =
+    λ own. let before : one.call < get_or past.calls entry.caller 0 = subst (λ c. one.call < get_or past.calls c 0) own keeps.1 in
+    omega (arith, before, (entry_passes config past entry none).rises)
+kept_follows config past (enters one) (loses loss) keeps none =
+    λ same. both_ways (has_pair past.told.turns (pair_of loss.caller loss.call)) (loss_passes past loss none).no_entry (ap (has_pair past.told.turns) (sym same) ∙ keeps.2)
+kept_follows config past (loses one) (begins head) keeps none = absurd (omega (arith, keeps.1, ap length (head_passes past head none).no_losses))
+kept_follows config past (loses one) (enters entry) keeps none = absurd (omega (arith, keeps.1, ap length (entry_passes config past entry none).no_losses))
+kept_follows config past (loses one) (loses loss) keeps none = let rises = (loss_passes past loss none).rises in omega (arith, keeps.0, rises)
 
--- the last of the turns has these entries
-last_entries-push : (done : List Turn) (turn : Turn) → last_entries (done ++ turn ∷ []) ≡ length turn.entries
-last_entries-push done turn = ap (λ (t : Turn). length t.entries) (last_at done turn)
+-- each line follows one that is kept
+later_follows : (config : Parts) (past : Past) (first : Line) (middle : List Line) (last : Line) (behind : List Line) → Keeps past first → AreFaultless config past (middle ++ last ∷ behind) → Follows first last
+later_follows config past first [] last behind keeps none = kept_follows config past first last keeps none.0
+later_follows config past first (line ∷ middle) last behind keeps none = later_follows config (next past line) first middle last behind (kept_on config past first line keeps none.0) none.1
 
--- fewer than 1,024 entries of its turn stand before it
-pub entry_is_few : (config : Parts) (told : Told) (done later : List Turn) (head : TurnHead) (first rest : List (Entry (List ℕ))) (entry : Entry (List ℕ))
-    → Fits config told → told.turns ≡ done ++ turn_of head (first ++ entry ∷ rest) ∷ later
-    → length first < 1024
-entry_is_few config told done later head first rest entry fits are =
-    let few = (entry_passes config (only_turns (done ++ turn_of head first ∷ [])) entry (entry_has_none config told done later head first rest entry fits are)).few in
-    omega (arith, few, last_entries-push done (turn_of head first))
+-- there are 32 callers
+calls_stay : (past : Past) (line : Line) → length past.calls ≡ 32 → length (next past line).calls ≡ 32
+calls_stay past (begins head) calls = calls
+calls_stay past (enters entry) calls = length-set past.calls entry.caller (entry.call + 1) ∙ calls
+calls_stay past (loses loss) calls = calls
+
+in_order : (config : Parts) (past : Past) (before : List Line) (first : Line) (middle : List Line) (last : Line) (behind : List Line) → length past.calls ≡ 32
+    → AreFaultless config past (before ++ first ∷ (middle ++ last ∷ behind)) → Follows first last
+in_order config past [] first middle last behind calls none = later_follows config (next past first) first middle last behind (kept_now config past first calls none.0) none.1
+in_order config past (line ∷ before) first middle last behind calls none = in_order config (next past line) before first middle last behind (calls_stay past line calls) none.1
+
+-- of two lines of what fits the later follows the earlier
+pub fits_in_order : (config : Parts) (told : Told) (before middle behind : List Line) (first last : Line) → Fits config told → lines_told told ≡ before ++ first ∷ (middle ++ last ∷ behind) → Follows first last
+fits_in_order config told before middle behind first last fits are = in_order config start before first middle last behind refl (subst (AreFaultless config start) are fits.faultless)
+
+-- ---- number
+
+-- entries without a fault are few, and the lines behind them have none
+few_more : (config : Parts) (past : Past) (entries : List (Entry (List ℕ))) (rest : List Line) → past.entries ≤ 1024 → AreFaultless config past (map enters entries ++ rest)
+    → (past.entries + length entries ≤ 1024) × (later : Past) × AreFaultless config later rest
+few_more config past [] rest few none = (omega arith, past, none)
+few_more config past (entry ∷ entries) rest few none =
+    let here = (entry_passes config past entry none.0).few in
+    let more = few_more config (next past (enters entry)) entries rest (omega arith) none.1 in
+    (omega (arith, more.0), more.1, more.2)
+
+turns_few : (config : Parts) (past : Past) (turns : List Turn) (rest : List Line) → AreFaultless config past (flat_map turn_told turns ++ rest) → AllByRecursion (λ turn. length turn.entries ≤ 1024) turns
+turns_few config past [] rest none = tt
+turns_few config past (turn ∷ turns) rest none =
+    let lines : (map enters turn.entries ++ flat_map turn_told turns) ++ rest ≡ map enters turn.entries ++ (flat_map turn_told turns ++ rest) = append_assoc (map enters turn.entries) (flat_map turn_told turns) rest in
+    let more = few_more config (next past (begins turn.head)) turn.entries (flat_map turn_told turns ++ rest) (omega arith) (subst (AreFaultless config (next past (begins turn.head))) lines none.1) in
+    (omega (arith, more.0), turns_few config more.1 turns rest more.2)
+
+pub fits_few : (config : Parts) (told : Told) → Fits config told → AllByRecursion (λ turn. length turn.entries ≤ 1024) told.turns
+fits_few config told fits = turns_few config start told.turns (map loses told.losses) fits.faultless

@@ -1,27 +1,30 @@
 -- All lines of a journal: what a text tells is a journal, and each journal is told by its own text.
-use Rattle.std.proofs.Common.{◌≡◌, ◌≢◌, ℕ, suc, ◌==◌, List, [], ◌∷◌, ◌++◌, length, map, refl, sym, ap, subst, ◌∙◌, append_assoc, arith}
+use Rattle.std.proofs.Common.{◌≡◌, ◌≢◌, ℕ, suc, ◌<◌, ◌==◌, List, [], ◌∷◌, ◌++◌, length, map, refl, sym, ap, subst, ◌∙◌, append_assoc, arith}
 use Rattle.std.specs.Prelude.{Option, Some, None, Result, Ok, Err, ⊤}
-use Rattle.std.specs.List.{AllByRecursion, flat_map, slice_split, join_with_byte}
+use Rattle.std.specs.List.{AllByRecursion, flat_map, join_with_byte}
 use Rattle.std.proofs.lemmas.Bool.{eqb-true}
 use Rattle.std.proofs.lemmas.List.{append-nil, nil_from_length}
 use Rattle.std.proofs.lemmas.List.Splits.{join_with_byte-slice_split, length-slice_split}
 use Rattle.ids_config.specs.Parts.{Parts}
 use Rattle.ids_config.specs.Steps.{◌>>◌, asks}
-use Rattle.ids_types.specs.declared.entry.Act.{Act}
-use Rattle.ids_types.specs.declared.entry.Act.TheVariants.{Report, State, SetMode}
+use Rattle.ids_config.proofs.StepLemmas.{both_ok, asked}
 use Rattle.ids_types.specs.declared.entry.Entry.{Entry}
 use Rattle.ids_types.specs.declared.entry.TurnHead.{TurnHead}
 use Rattle.ids_types.specs.declared.loss.Loss.{Loss}
 use Rattle.ids_types.specs.Turns.{Turn, begun, with_entry}
-use Rattle.text_spec.specs.JournalFaults.{fault_of, with_line, nothing}
+use Rattle.text_spec.specs.Fields.{a_number}
+use Rattle.text_spec.specs.JournalFaults.{Past, fault_of, next, nothing, start, with_line}
 use Rattle.text_spec.specs.JournalForm.{told_by}
-use Rattle.text_spec.specs.JournalReading.{AreFaultless, IsHeld, IsJournal, BadLine, at_line, told_with, after_line, after_lines, all_ended, journal_in, ◌>>=◌}
-use Rattle.text_spec.specs.JournalText.{Told, Line, begins, enters, loses, act_words, words_for, line_for, turn_of, turn_told, lines_told}
-use Rattle.text_spec.specs.Words.{Free, space, line_feed, words_of, line_of, text_of, but_last, last_piece, ended_lines, open_line}
-use Rattle.text_spec.proofs.JournalFacts.{asked, line_facts, line_grows}
-use Rattle.text_spec.proofs.JournalForms.{line_takes, line_again}
-use Rattle.text_spec.proofs.JournalFree.{Small, words_for-free, line_for-free, space_separates}
-use Rattle.text_spec.proofs.WordsLemmas.{words_of-line_of, line_of-words_of, split_text, join_ended, but_last-last, but_last-push, last_piece-push}
+use Rattle.text_spec.specs.JournalReading.{AreFaultless, IsHeld, IsJournal, BadLine, at_line, past_with, after_line, after_pieces, journal_in, ◌>>=◌}
+use Rattle.text_spec.specs.JournalText.{Told, Line, begins, enters, loses, line_for, turn_told, lines_told}
+use Rattle.text_spec.specs.Words.{Free, line_feed, pieces_of, words_of, line_of, text_of}
+use Rattle.text_spec.proofs.JournalFacts.{line_exact, line_grows}
+use Rattle.text_spec.proofs.JournalForms.{line_takes, line_again, line_words, line_for-free}
+use Rattle.text_spec.proofs.WordsLemmas.{line_of-words_of, split_text, join_ended}
+
+-- few events, so that the index of each is told as it is
+abbrev pub FewEvents : Parts → Type 0
+FewEvents config = a_number.Exact (length config.events)
 
 -- ---- steps that found no fault
 
@@ -36,104 +39,114 @@ at_line_ok : {A : Type 0} (n : ℕ) (r : Result A ℕ) (x : A) → at_line n r �
 at_line_ok n (Ok y) x h = cc h
 at_line_ok n (Err fault) x h = cc h
 
-unit_ok : {A : Type 0} (r : Result ⊤ ℕ) (next : Result A ℕ) (x : A) → (r >> next) ≡ Ok x → (r ≡ Ok tt) × (next ≡ Ok x)
-unit_ok (Ok u) next x h = (refl, h)
-unit_ok (Err fault) next x h = cc h
-
 -- ---- from the text to what it tells
 
--- a line that was read, behind what was told
-record OneMore (config : Parts) (told now : Told) (text : List ℕ) : Type 0 where
+-- a line that was read, behind the lines before it
+record OneMore (config : Parts) (past now : Past) (text : List ℕ) : Type 0 where
   line : Line
-  none : fault_of config told line ≡ Ok tt
-  added : with_line told line ≡ now
+  none : fault_of config past line ≡ Ok tt
+  is : next past line ≡ now
   held : IsHeld line
   is_text : line_for line ≡ text
 
--- a line without a fault is the text of what it tells
-told_with_ok : (config : Parts) (told now : Told) (read : Option Line) → told_with config told read ≡ Ok now → (line : Line) × (read ≡ Some line) × (fault_of config told line ≡ Ok tt) × (with_line told line ≡ now)
-told_with_ok config told now None h = cc h
-told_with_ok config told now (Some line) h =
-    let parts = unit_ok (fault_of config told line) (Ok (with_line told line)) now h in
+past_with_ok : (config : Parts) (past now : Past) (read : Option Line) → past_with config past read ≡ Ok now → (line : Line) × (read ≡ Some line) × (fault_of config past line ≡ Ok tt) × (next past line ≡ now)
+past_with_ok config past now None h = cc h
+past_with_ok config past now (Some line) h =
+    let parts = both_ok (fault_of config past line) (Ok (next past line)) now h in
     (line, refl, parts.0, cc parts.1)
 
-one_more : (config : Parts) (told now : Told) (text : List ℕ) → Small (length config.events) → after_line config told text ≡ Ok now → OneMore config told now text
-one_more config told now text few read =
-    let step = told_with_ok config told now (told_by (words_of text)) read in
-    let takes = line_takes (words_of text) step.0 step.1 (line_facts config told step.0 few step.2).0 in
-    record { line = step.0; none = step.2; added = step.3; held = takes.1; is_text = ap line_of (sym takes.0) ∙ line_of-words_of text }
+one_more : (config : Parts) (past now : Past) (text : List ℕ) → FewEvents config → after_line config past text ≡ Ok now → OneMore config past now text
+one_more config past now text few read =
+    let step = past_with_ok config past now (told_by (words_of text)) read in
+    let tells = line_takes (words_of text) step.0 step.1 in
+    record { line = step.0; none = step.2; is = step.3; held = tells.held; is_text = ap line_of (sym (tells.are (line_exact config past step.0 few step.2))) ∙ line_of-words_of text }
 
--- lines that were read, behind what was told
-record AllMore (config : Parts) (told now : Told) (texts : List (List ℕ)) : Type 0 where
+-- lines that were read, behind the lines before them
+record AllMore (config : Parts) (past now : Past) (pieces : List (List ℕ)) : Type 0 where
   lines : List Line
-  none : AreFaultless config told lines
+  none : AreFaultless config past lines
   held : AllByRecursion IsHeld lines
-  are_told : lines_told now ≡ lines_told told ++ lines
-  are_texts : map line_for lines ≡ texts
+  are_told : lines_told now.told ≡ lines_told past.told ++ lines
+  are_pieces : map line_for lines ++ [] ∷ [] ≡ pieces
 
-all_more : (config : Parts) (n : ℕ) (told now : Told) (texts : List (List ℕ)) → Small (length config.events) → after_lines config n told texts ≡ Ok now → AllMore config told now texts
-unfolding after_lines
-all_more config n told now [] few read =
-    let same : told ≡ now = cc read in
-    record { lines = []; none = tt; held = tt; are_told = ap lines_told (sym same) ∙ sym (append-nil (lines_told told)); are_texts = refl }
-all_more config n told now (text ∷ texts) few read =
-    let step = bind_ok (at_line n (after_line config told text)) (λ next. after_lines config (suc n) next texts) now read in
-    let one = one_more config told step.0 text few (at_line_ok n (after_line config told text) step.0 step.1) in
-    let more = all_more config (suc n) step.0 now texts few step.2 in
+all_more : (config : Parts) (n : ℕ) (past now : Past) (piece : List ℕ) (pieces : List (List ℕ)) → FewEvents config → after_pieces config n past (piece ∷ pieces) ≡ Ok now → AllMore config past now (piece ∷ pieces)
+unfolding after_pieces
+all_more config n past now piece [] few read =
+    let end = asked 1 (length piece == 0) (Ok past) now (at_line_ok n (asks 1 (length piece == 0) >> Ok past) now read) in
+    let same : past ≡ now = cc end.1 in
+    record {
+      lines = [];
+      none = tt;
+      held = tt;
+      are_told = ap (λ (p : Past). lines_told p.told) (sym same) ∙ sym (append-nil (lines_told past.told));
+      are_pieces = ap (λ p. p ∷ []) (sym (nil_from_length piece (eqb-true (length piece) 0 end.0)));
+    }
+all_more config n past now piece (another ∷ pieces) few read =
+    let step = bind_ok (at_line n (after_line config past piece)) (λ then. after_pieces config (suc n) then (another ∷ pieces)) now read in
+    let one = one_more config past step.0 piece few (at_line_ok n (after_line config past piece) step.0 step.1) in
+    let more = all_more config (suc n) step.0 now another pieces few step.2 in
     record {
       lines = one.line ∷ more.lines;
-      none = (one.none, subst (λ (t : Told). AreFaultless config t more.lines) (sym one.added) more.none);
+      none = (one.none, subst (λ (p : Past). AreFaultless config p more.lines) (sym one.is) more.none);
       held = (one.held, more.held);
       are_told =
           more.are_told
-          ∙ ap (λ (ls : List Line). ls ++ more.lines) (ap lines_told (sym one.added) ∙ line_grows config told one.line one.none)
-          ∙ append_assoc (lines_told told) (one.line ∷ []) more.lines;
-      are_texts = ap (λ (t : List ℕ). t ∷ map line_for more.lines) one.is_text ∙ ap (λ (ts : List (List ℕ)). text ∷ ts) more.are_texts;
+          ∙ ap (λ (ls : List Line). ls ++ more.lines) (ap (λ (p : Past). lines_told p.told) (sym one.is) ∙ line_grows config past one.line one.none)
+          ∙ append_assoc (lines_told past.told) (one.line ∷ []) more.lines;
+      are_pieces = ap (λ (t : List ℕ). t ∷ (map line_for more.lines ++ [] ∷ [])) one.is_text ∙ ap (λ (ts : List (List ℕ)). piece ∷ ts) more.are_pieces;
     }
 
--- ---- the lines of a text
-
--- a text has a piece at least
-some_piece : (c : ℕ) (text : List ℕ) → slice_split (λ b. b == c) text ≢ []
-some_piece c text none = absurd (omega (arith, ap length none, length-slice_split (λ b. b == c) text))
-
--- a text of which each line was ended is the text of its lines
-text_of-ended_lines : (text : List ℕ) → open_line text ≡ [] → text_of (ended_lines text) ≡ text
-text_of-ended_lines text none =
-    let pieces = slice_split (λ b. b == line_feed) text in
-    sym (join_ended (ended_lines text))
-    ∙ ap (join_with_byte line_feed) (ap (λ (l : List ℕ). ended_lines text ++ l ∷ []) (sym none) ∙ but_last-last pieces (some_piece line_feed text))
-    ∙ join_with_byte-slice_split line_feed text
+-- pieces of a text that was read; there is one at least
+text_read : (config : Parts) (now : Past) (pieces : List (List ℕ)) → 0 < length pieces → FewEvents config → after_pieces config 1 start pieces ≡ Ok now → AllMore config start now pieces
+text_read config now [] some few read = absurd (omega arith)
+text_read config now (piece ∷ pieces) some few read = all_more config 1 start now piece pieces few read
 
 -- what a text tells is a journal, and the text is its own
-pub told_is_journal : (config : Parts) (text : List ℕ) (told : Told) → Small (length config.events) → journal_in config text ≡ Ok told → IsJournal config text told
+pub told_is_journal : (config : Parts) (text : List ℕ) (told : Told) → FewEvents config → journal_in config text ≡ Ok told → IsJournal config text told
 told_is_journal config text told few read =
-    let step = bind_ok (after_lines config 1 nothing (ended_lines text)) (all_ended (open_line text) (suc (length (ended_lines text)))) told read in
-    let end = asked 1 (length (open_line text) == 0) (Ok step.0) told (at_line_ok (suc (length (ended_lines text))) (asks 1 (length (open_line text) == 0) >> Ok step.0) told step.2) in
-    let none : open_line text ≡ [] = nil_from_length (open_line text) (eqb-true (length (open_line text)) 0 end.0) in
-    let same : step.0 ≡ told = cc end.1 in
-    let all = all_more config 1 nothing step.0 (ended_lines text) few step.1 in
-    subst (IsJournal config text) same
-    (record {
-      fits = record { held = subst (AllByRecursion IsHeld) (sym all.are_told) all.held; faultless = subst (AreFaultless config nothing) (sym all.are_told) all.none };
-      is_text = sym (ap text_of (ap (map line_for) all.are_told ∙ all.are_texts) ∙ text_of-ended_lines text none);
+    let pieces = pieces_of line_feed text in
+    let step = bind_ok (after_pieces config 1 start pieces) (λ past. Ok past.told) told read in
+    let same : step.0.told ≡ told = cc step.2 in
+    let some : 0 < length pieces = omega (arith, length-slice_split (λ b. b == line_feed) text) in
+    let all = text_read config step.0 pieces some few step.1 in
+    let texts = map line_for all.lines in
+    subst (IsJournal config text) same (record {
+      fits = record { held = subst (AllByRecursion IsHeld) (sym all.are_told) all.held; faultless = subst (AreFaultless config start) (sym all.are_told) all.none };
+      is_text =
+          sym (join_with_byte-slice_split line_feed text)
+          ∙ ap (join_with_byte line_feed) (sym all.are_pieces)
+          ∙ join_ended texts
+          ∙ ap (λ (ls : List Line). text_of (map line_for ls)) (sym all.are_told);
     })
 
 -- ---- what lines add up to
 
+-- the lines so far with some more
+unfoldable pub after_all : Past → List Line → Past
+after_all past [] = past
+after_all past (line ∷ lines) = after_all (next past line) lines
+
+pub after_all-append : (past : Past) (xs ys : List Line) → after_all past (xs ++ ys) ≡ after_all (after_all past xs) ys
+unfolding after_all
+after_all-append past [] ys = refl
+after_all-append past (line ∷ xs) ys = after_all-append (next past line) xs ys
+
 -- what is told with lines more
-unfoldable pub with_lines : Told → List Line → Told
+unfoldable with_lines : Told → List Line → Told
 with_lines told [] = told
 with_lines told (line ∷ lines) = with_lines (with_line told line) lines
 
-pub with_lines-append : (told : Told) (xs ys : List Line) → with_lines told (xs ++ ys) ≡ with_lines (with_lines told xs) ys
+with_lines-append : (told : Told) (xs ys : List Line) → with_lines told (xs ++ ys) ≡ with_lines (with_lines told xs) ys
 unfolding with_lines
 with_lines-append told [] ys = refl
 with_lines-append told (line ∷ xs) ys = with_lines-append (with_line told line) xs ys
 
 -- turns without losses
-abbrev pub only_turns : List Turn → Told
+abbrev only_turns : List Turn → Told
 only_turns turns = record { turns = turns; losses = [] }
+
+abbrev turn_of : TurnHead → List (Entry (List ℕ)) → Turn
+turn_of head entries = record { head = head; entries = entries }
 
 -- the last of the turns takes the entry
 with_entry-last : (done : List Turn) (head : TurnHead) (first : List (Entry (List ℕ))) (entry : Entry (List ℕ)) → with_entry (done ++ turn_of head first ∷ []) entry ≡ done ++ turn_of head (first ++ entry ∷ []) ∷ []
@@ -141,7 +154,7 @@ with_entry-last [] head first entry = refl
 with_entry-last (turn ∷ []) head first entry = refl
 with_entry-last (turn ∷ next ∷ done) head first entry = ap (λ (ts : List Turn). turn ∷ ts) (with_entry-last (next ∷ done) head first entry)
 
-pub with_entries : (done : List Turn) (head : TurnHead) (first rest : List (Entry (List ℕ))) → with_lines (only_turns (done ++ turn_of head first ∷ [])) (map enters rest) ≡ only_turns (done ++ turn_of head (first ++ rest) ∷ [])
+with_entries : (done : List Turn) (head : TurnHead) (first rest : List (Entry (List ℕ))) → with_lines (only_turns (done ++ turn_of head first ∷ [])) (map enters rest) ≡ only_turns (done ++ turn_of head (first ++ rest) ∷ [])
 unfolding with_lines
 with_entries done head first [] = ap (λ (es : List (Entry (List ℕ))). only_turns (done ++ turn_of head es ∷ [])) (sym (append-nil first))
 with_entries done head first (entry ∷ rest) =
@@ -149,7 +162,7 @@ with_entries done head first (entry ∷ rest) =
     ∙ with_entries done head (first ++ entry ∷ []) rest
     ∙ ap (λ (es : List (Entry (List ℕ))). only_turns (done ++ turn_of head es ∷ [])) (append_assoc first (entry ∷ []) rest)
 
-pub with_turns : (done turns : List Turn) → with_lines (only_turns done) (flat_map turn_told turns) ≡ only_turns (done ++ turns)
+with_turns : (done turns : List Turn) → with_lines (only_turns done) (flat_map turn_told turns) ≡ only_turns (done ++ turns)
 unfolding with_lines
 with_turns done [] = ap only_turns (sym (append-nil done))
 with_turns done (turn ∷ turns) =
@@ -171,62 +184,60 @@ with_lines_told told =
     ∙ ap (λ (t : Told). with_lines t (map loses told.losses)) (with_turns [] told.turns)
     ∙ with_losses told.turns [] told.losses
 
+next_told : (past : Past) (line : Line) → (next past line).told ≡ with_line past.told line
+next_told past (begins head) = refl
+next_told past (enters entry) = refl
+next_told past (loses loss) = refl
+
+all_told : (past : Past) (lines : List Line) → (after_all past lines).told ≡ with_lines past.told lines
+unfolding after_all with_lines
+all_told past [] = refl
+all_told past (line ∷ lines) = all_told (next past line) lines ∙ ap (λ (t : Told). with_lines t lines) (next_told past line)
+
 -- ---- from what is told to its text
 
-act_words_some : (caller call : ℕ) (act : Act (List ℕ)) → act_words caller call act ≢ []
-act_words_some caller call (Report event count stamp context) e = cc e
-act_words_some caller call (State state) e = cc e
-act_words_some caller call (SetMode event mode) e = cc e
-
--- a line that tells something has words
-some_words : (line : Line) → words_for line ≢ []
-some_words (begins head) e = cc e
-some_words (enters entry) e = act_words_some entry.caller entry.call entry.act e
-some_words (loses loss) e = cc e
-
 -- the line of what can be told without a fault adds it
-line_adds : (config : Parts) (told : Told) (line : Line) → Small (length config.events) → fault_of config told line ≡ Ok tt → IsHeld line → after_line config told (line_for line) ≡ Ok (with_line told line)
-line_adds config told line few none held =
-    let facts = line_facts config told line few none in
-    ap (λ ws. told_with config told (told_by ws)) (words_of-line_of (words_for line) (some_words line) (words_for-free space space_separates line facts.0 held))
-    ∙ ap (told_with config told) (line_again line facts.0 held facts.1)
-    ∙ ap (λ (r : Result ⊤ ℕ). r >> Ok (with_line told line)) none
+line_adds : (config : Parts) (past : Past) (line : Line) → FewEvents config → fault_of config past line ≡ Ok tt → IsHeld line → after_line config past (line_for line) ≡ Ok (next past line)
+line_adds config past line few none held =
+    let exact = line_exact config past line few none in
+    ap (λ ws. past_with config past (told_by ws)) (line_words line held exact)
+    ∙ ap (past_with config past) (line_again line held exact)
+    ∙ ap (λ (r : Result ⊤ ℕ). r >> Ok (next past line)) none
 
-lines_add : (config : Parts) (n : ℕ) (told : Told) (lines : List Line) → Small (length config.events) → AreFaultless config told lines → AllByRecursion IsHeld lines
-    → after_lines config n told (map line_for lines) ≡ Ok (with_lines told lines)
-unfolding after_lines with_lines
-lines_add config n told [] few none held = refl
-lines_add config n told (line ∷ lines) few none held =
-    then_ok (at_line n (after_line config told (line_for line))) (λ now. after_lines config (suc n) now (map line_for lines)) (with_line told line) (ap (at_line n) (line_adds config told line few none.0 held.0))
-    ∙ lines_add config (suc n) (with_line told line) lines few none.1 held.1
+lines_add : (config : Parts) (n : ℕ) (past : Past) (lines : List Line) → FewEvents config → AreFaultless config past lines → AllByRecursion IsHeld lines
+    → after_pieces config n past (map line_for lines ++ [] ∷ []) ≡ Ok (after_all past lines)
+unfolding after_pieces after_all
+lines_add config n past [] few none held = refl
+lines_add config n past (line ∷ []) few none held =
+    then_ok (at_line n (after_line config past (line_for line))) _ (next past line) (ap (at_line n) (line_adds config past line few none.0 held.0))
+lines_add config n past (line ∷ another ∷ lines) few none held =
+    then_ok (at_line n (after_line config past (line_for line))) (λ now. after_pieces config (suc n) now (map line_for (another ∷ lines) ++ [] ∷ [])) (next past line) (ap (at_line n) (line_adds config past line few none.0 held.0))
+    ∙ lines_add config (suc n) (next past line) (another ∷ lines) few none.1 held.1
 
 -- no line has a line feed
-lines_free : (config : Parts) (told : Told) (lines : List Line) → Small (length config.events) → AreFaultless config told lines → AllByRecursion IsHeld lines → AllByRecursion (Free line_feed) (map line_for lines)
-lines_free config told [] few none held = tt
-lines_free config told (line ∷ lines) few none held = (line_for-free line (line_facts config told line few none.0).0 held.0, lines_free config (with_line told line) lines few none.1 held.1)
+lines_free : (config : Parts) (past : Past) (lines : List Line) → FewEvents config → AreFaultless config past lines → AllByRecursion IsHeld lines → AllByRecursion (Free line_feed) (map line_for lines)
+lines_free config past [] few none held = tt
+lines_free config past (line ∷ lines) few none held = (line_for-free line held.0 (line_exact config past line few none.0), lines_free config (next past line) lines few none.1 held.1)
 
 -- a journal's own text tells it
-pub journal_is_told : (config : Parts) (text : List ℕ) (told : Told) → Small (length config.events) → IsJournal config text told → journal_in config text ≡ Ok told
+pub journal_is_told : (config : Parts) (text : List ℕ) (told : Told) → FewEvents config → IsJournal config text told → journal_in config text ≡ Ok told
 journal_is_told config text told few journal =
     let lines = lines_told told in
-    let texts = map line_for lines in
-    let pieces : slice_split (λ b. b == line_feed) (text_of texts) ≡ texts ++ [] ∷ [] = split_text texts (lines_free config nothing lines few journal.fits.faultless journal.fits.held) in
-    let ended : ended_lines (text_of texts) ≡ texts = ap but_last pieces ∙ but_last-push texts [] in
-    let none : open_line (text_of texts) ≡ [] = ap last_piece pieces ∙ last_piece-push texts [] in
-    let added : after_lines config 1 nothing texts ≡ Ok told = lines_add config 1 nothing lines few journal.fits.faultless journal.fits.held ∙ ap Ok (with_lines_told told) in
+    let pieces : pieces_of line_feed (text_of (map line_for lines)) ≡ map line_for lines ++ [] ∷ [] = split_text (map line_for lines) (lines_free config start lines few journal.fits.faultless journal.fits.held) in
+    let added = lines_add config 1 start lines few journal.fits.faultless journal.fits.held in
     ap (journal_in config) journal.is_text
-    ∙ ap (λ (ls : List (List ℕ)). after_lines config 1 nothing ls >>= all_ended (open_line (text_of texts)) (suc (length ls))) ended
-    ∙ ap (λ (l : List ℕ). after_lines config 1 nothing texts >>= all_ended l (suc (length texts))) none
-    ∙ then_ok (after_lines config 1 nothing texts) (all_ended [] (suc (length texts))) told added
+    ∙ ap (λ (ps : List (List ℕ)). after_pieces config 1 start ps >>= λ past. Ok past.told) pieces
+    ∙ then_ok (after_pieces config 1 start (map line_for lines ++ [] ∷ [])) (λ past. Ok past.told) (after_all start lines) added
+    ∙ ap Ok (all_told start lines ∙ with_lines_told told)
 
 -- a text is the journal of one history and its losses at most
-pub one_reading : (config : Parts) (text : List ℕ) (a b : Told) → Small (length config.events) → IsJournal config text a → IsJournal config text b → a ≡ b
+pub one_reading : (config : Parts) (text : List ℕ) (a b : Told) → FewEvents config → IsJournal config text a → IsJournal config text b → a ≡ b
 one_reading config text a b few is_a is_b =
     let same : Ok a ≡ Ok b = sym (journal_is_told config text a few is_a) ∙ journal_is_told config text b few is_b in
     cc same
 
 -- a text with a bad line is no journal
-pub bad_is_none : (config : Parts) (text : List ℕ) (bad : BadLine) → Small (length config.events) → journal_in config text ≡ Err bad → (told : Told) → IsJournal config text told → ⊥
+pub bad_is_none : (config : Parts) (text : List ℕ) (bad : BadLine) → FewEvents config → journal_in config text ≡ Err bad → (told : Told) → IsJournal config text told → ⊥
 bad_is_none config text bad few read told journal =
     let both : Ok told ≡ Err bad = sym (journal_is_told config text told few journal) ∙ read in
     cc both

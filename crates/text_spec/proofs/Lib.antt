@@ -1,9 +1,10 @@
+pub mod ContextsLaws
+pub mod FieldsLaws
 pub mod FrontLemmas
 pub mod HexadecimalLemmas
 pub mod JournalFacts
 pub mod JournalFits
 pub mod JournalForms
-pub mod JournalFree
 pub mod JournalLaws
 pub mod ModesLemmas
 pub mod NumbersLemmas

@@ -1,7 +1,7 @@
 -- The faults of a journal's line, 2 to 7, behind what the lines before it tell. Fault 1 is a line that
 -- has no form.
 -- Source: the text formats of this project (docs/FORMATS.md).
-use Rattle.std.specs.Prelude.{ℕ, suc, ◌+◌, ◌-◌, ◌*◌, ◌^◌, ◌==◌, ◌&&◌, not, nat_lt, nat_le, max, filter, Bool, true, List, [], ◌∷◌, ◌++◌, length, map, Result, ⊤}
+use Rattle.std.specs.Prelude.{ℕ, suc, ◌+◌, ◌*◌, ◌^◌, ◌==◌, ◌&&◌, not, nat_lt, nat_le, Bool, true, List, [], ◌∷◌, ◌++◌, length, replicate, slice_index, slice_set, Result, ⊤}
 use Rattle.std.specs.List.{list_all, list_any}
 use Rattle.ids_config.specs.Parts.{Parts, is_sensor}
 use Rattle.ids_config.specs.Steps.{◌>>◌, asks}
@@ -12,7 +12,7 @@ use Rattle.ids_types.specs.declared.entry.Act.TheVariants.{Report, State, SetMod
 use Rattle.ids_types.specs.declared.entry.Entry.{Entry}
 use Rattle.ids_types.specs.declared.entry.TurnHead.{TurnHead}
 use Rattle.ids_types.specs.declared.loss.Loss.{Loss}
-use Rattle.ids_types.specs.Turns.{Turn, begun, with_entry, turn_at, entries_of}
+use Rattle.ids_types.specs.Turns.{Turn, begun, with_entry, entries_of}
 use Rattle.text_spec.specs.JournalText.{Told, Line, begins, enters, loses}
 
 -- ---- fault 3: ranges
@@ -63,85 +63,34 @@ is_in_ranges config (begins head) = is_head head
 is_in_ranges config (enters entry) = is_call entry.caller entry.call && is_act entry.act && has_event config entry.act
 is_in_ranges config (loses loss) = is_call loss.caller loss.call && is_claim loss.given
 
--- ---- faults 5 to 7: order and number
+-- ---- faults 2, 5, 6 and 7: what the lines before ask of a line
 
--- the greatest of numbers, 0 where there are none
-abbrev pub greatest : List ℕ → ℕ
-greatest [] = 0
-greatest (x ∷ xs) = max x (greatest xs)
-
--- the least number above all of these
-abbrev pub above_all : List ℕ → ℕ
-above_all [] = 0
-above_all (x ∷ xs) = max (suc x) (above_all xs)
-
--- the ticks of turns
-abbrev pub ticks_of : List Turn → List ℕ
-ticks_of turns = map (λ t. t.head.tick) turns
-
--- the numbers of a caller's calls among entries
-abbrev pub calls_of : ℕ → List (Entry (List ℕ)) → List ℕ
-calls_of caller entries = map (λ e. e.call) (filter (λ e. e.caller == caller) entries)
-
--- the least tick that may follow
-abbrev pub least_tick : List Turn → ℕ
-least_tick turns = greatest (ticks_of turns)
-
--- the least call of the caller that may follow
-abbrev pub least_call : List Turn → ℕ → ℕ
-least_call turns caller = above_all (calls_of caller (entries_of turns))
-
--- how many entries the last turn has
-abbrev pub last_entries : List Turn → ℕ
-last_entries turns = length (turn_at turns (length turns - 1)).entries
+-- what the lines so far tell, and what the next one has to observe
+pub record Past : Type 0 where
+  pub told : Told
+  -- the tick of the last turn, and how many entries it has
+  pub tick : ℕ
+  pub entries : ℕ
+  -- each caller's least call that may follow
+  pub calls : List ℕ
+  -- the least pair of a loss that may follow
+  pub pair : ℕ
 
 -- a pair of caller and call as one number, in the order by caller and then by call
 abbrev pub pair_of : ℕ → ℕ → ℕ
 pair_of caller call = caller * 2 ^ 40 + call
 
--- the pairs of entries, and of losses
-abbrev pub entry_pairs : List Turn → List ℕ
-entry_pairs turns = map (λ e. pair_of e.caller e.call) (entries_of turns)
+-- whether one of the entries is this pair's
+abbrev pub has_pair : List Turn → ℕ → Bool
+has_pair turns pair = list_any (λ e. pair_of e.caller e.call == pair) (entries_of turns)
 
-abbrev pub loss_pairs : List Loss → List ℕ
-loss_pairs losses = map (λ l. pair_of l.caller l.call) losses
+-- nothing is told yet
+abbrev pub nothing : Told
+nothing = record { turns = []; losses = [] }
 
--- the least pair of a loss that may follow
-abbrev pub least_pair : List Loss → ℕ
-least_pair losses = above_all (loss_pairs losses)
-
--- ---- the first fault of a line
-
--- the first fault of a line that begins a turn
-abbrev pub head_fault : Told → TurnHead → Result ⊤ ℕ
-head_fault told head =
-    asks 2 (length told.losses == 0)
-    >> asks 3 (is_head head)
-    >> asks 5 (nat_le (least_tick told.turns) head.tick)
-
--- the first fault of a line that tells an entry
-abbrev pub entry_fault : Parts → Told → Entry (List ℕ) → Result ⊤ ℕ
-entry_fault config told entry =
-    asks 2 (nat_lt 0 (length told.turns) && length told.losses == 0)
-    >> asks 3 (is_call entry.caller entry.call && is_act entry.act)
-    >> asks 4 (has_event config entry.act)
-    >> asks 6 (nat_le (least_call told.turns entry.caller) entry.call)
-    >> asks 7 (nat_lt (last_entries told.turns) 1024)
-
--- the first fault of a line that tells a loss
-abbrev pub loss_fault : Told → Loss → Result ⊤ ℕ
-loss_fault told loss =
-    asks 3 (is_call loss.caller loss.call && is_claim loss.given)
-    >> asks 6 (nat_le (least_pair told.losses) (pair_of loss.caller loss.call)
-    && not (list_any (λ p. p == pair_of loss.caller loss.call) (entry_pairs told.turns)))
-
--- the first fault of a line that has a form
-abbrev pub fault_of : Parts → Told → Line → Result ⊤ ℕ
-fault_of config told (begins head) = head_fault told head
-fault_of config told (enters entry) = entry_fault config told entry
-fault_of config told (loses loss) = loss_fault told loss
-
--- ---- what a line adds
+-- no line was read
+abbrev pub start : Past
+start = record { told = nothing; tick = 0; entries = 0; calls = replicate 32 0; pair = 0 }
 
 -- what is told with one line more
 abbrev pub with_line : Told → Line → Told
@@ -149,6 +98,38 @@ with_line told (begins head) = record { turns = told.turns ++ begun head ∷ [];
 with_line told (enters entry) = record { turns = with_entry told.turns entry; losses = told.losses }
 with_line told (loses loss) = record { turns = told.turns; losses = told.losses ++ loss ∷ [] }
 
--- nothing is told yet
-abbrev pub nothing : Told
-nothing = record { turns = []; losses = [] }
+-- the lines so far with one more
+abbrev pub next : Past → Line → Past
+next past (begins head) = record past { told = with_line past.told (begins head); tick = head.tick; entries = 0 }
+next past (enters entry) = record past { told = with_line past.told (enters entry); entries = past.entries + 1; calls = slice_set past.calls entry.caller (entry.call + 1) }
+next past (loses loss) = record past { told = with_line past.told (loses loss); pair = pair_of loss.caller loss.call + 1 }
+
+-- ---- the first fault of a line
+
+-- the first fault of a line that begins a turn
+abbrev pub head_fault : Past → TurnHead → Result ⊤ ℕ
+head_fault past head =
+    asks 2 (length past.told.losses == 0)
+    >> asks 3 (is_head head)
+    >> asks 5 (nat_le past.tick head.tick)
+
+-- the first fault of a line that tells an entry
+abbrev pub entry_fault : Parts → Past → Entry (List ℕ) → Result ⊤ ℕ
+entry_fault config past entry =
+    asks 2 (nat_lt 0 (length past.told.turns) && length past.told.losses == 0)
+    >> asks 3 (is_call entry.caller entry.call && is_act entry.act)
+    >> asks 4 (has_event config entry.act)
+    >> asks 6 (nat_le (slice_index past.calls entry.caller) entry.call)
+    >> asks 7 (nat_lt past.entries 1024)
+
+-- the first fault of a line that tells a loss
+abbrev pub loss_fault : Past → Loss → Result ⊤ ℕ
+loss_fault past loss =
+    asks 3 (is_call loss.caller loss.call && is_claim loss.given)
+    >> asks 6 (nat_le past.pair (pair_of loss.caller loss.call) && not (has_pair past.told.turns (pair_of loss.caller loss.call)))
+
+-- the first fault of a line that has a form
+abbrev pub fault_of : Parts → Past → Line → Result ⊤ ℕ
+fault_of config past (begins head) = head_fault past head
+fault_of config past (enters entry) = entry_fault config past entry
+fault_of config past (loses loss) = loss_fault past loss

@@ -1,21 +1,18 @@
 -- The journal: the text of a history and its losses, a line for each turn, each entry and each loss.
 -- Source: the text formats of this project (docs/FORMATS.md).
-use Rattle.std.specs.Prelude.{ℕ, List, [], ◌∷◌, ◌++◌, map, codes, decimal}
-use Rattle.std.specs.List.{flat_map, join_with_byte}
-use Rattle.hex.specs.Hex.{encode_lower}
-use Rattle.ids_types.specs.declared.entry.Carried.{Carried}
-use Rattle.ids_types.specs.declared.entry.Carried.TheVariants.{Absent, Kept, Missing}
+use Rattle.std.specs.Prelude.{ℕ, List, [], ◌∷◌, ◌++◌, map, codes}
+use Rattle.std.specs.List.{flat_map}
 use Rattle.ids_types.specs.declared.entry.Act.{Act}
 use Rattle.ids_types.specs.declared.entry.Act.TheVariants.{Report, State, SetMode}
 use Rattle.ids_types.specs.declared.entry.Entry.{Entry}
 use Rattle.ids_types.specs.declared.entry.TurnHead.{TurnHead}
 use Rattle.ids_types.specs.declared.loss.Loss.{Loss}
 use Rattle.ids_types.specs.Turns.{Turn}
-use Rattle.text_spec.specs.Modes.{mode_name}
-use Rattle.text_spec.specs.Words.{absent, line_of, text_of}
-use Rattle.text_spec.specs.Stamps.{stamp_text}
+use Rattle.text_spec.specs.Contexts.{a_context}
+use Rattle.text_spec.specs.Fields.{Filled, the, a_number, a_stamp, a_mode, put, words_of_fields}
+use Rattle.text_spec.specs.Words.{line_of, text_of}
 
--- what a journal tells: the turns, and the reports that found no event buffer
+-- what a journal tells: the turns, and the calls that found no event buffer
 pub record Told : Type 0 where
   pub turns : List Turn
   pub losses : List Loss
@@ -26,57 +23,39 @@ pub data Line : Type 0 where
   enters : Entry (List ℕ) → Line
   loses : Loss → Line
 
--- ---- the words of a line
+-- ---- the fields of a line
 
--- the characters `:`, `.` and `!`
-abbrev pub colon : ℕ
-colon = 58
+-- `T TICK LOST_EVENTS LOST_CONTEXTS LIMITED`
+abbrev pub head_fields : TurnHead → List Filled
+head_fields head = put (the (codes "T")) tt ∷ put a_number head.tick ∷ put a_number head.lost_events ∷ put a_number head.lost_contexts ∷ put a_number head.limited ∷ []
 
-abbrev pub point : ℕ
-point = 46
+-- `R CALLER CALL EVENT COUNT STAMP CONTEXT`, `C CALLER CALL S STATE` or `C CALLER CALL M EVENT MODE`
+abbrev pub act_fields : ℕ → ℕ → Act (List ℕ) → List Filled
+act_fields caller call (Report event count stamp context) =
+    put (the (codes "R")) tt ∷ put a_number caller ∷ put a_number call ∷ put a_number event.0 ∷ put a_number count ∷ put a_stamp stamp ∷ put a_context context ∷ []
+act_fields caller call (State state) = put (the (codes "C")) tt ∷ put a_number caller ∷ put a_number call ∷ put (the (codes "S")) tt ∷ put a_number state ∷ []
+act_fields caller call (SetMode event mode) =
+    put (the (codes "C")) tt ∷ put a_number caller ∷ put a_number call ∷ put (the (codes "M")) tt ∷ put a_number event.0 ∷ put a_mode mode ∷ []
 
-abbrev pub mark : ℕ
-mark = 33
+-- `L CALLER CALL GIVEN`
+abbrev pub loss_fields : Loss → List Filled
+loss_fields loss = put (the (codes "L")) tt ∷ put a_number loss.caller ∷ put a_number loss.call ∷ put a_number loss.given ∷ []
 
--- the word of a context: `-`, `CLASS:CLAIM:HEX`, or `!` and the numbers that were claimed
-abbrev pub context_word : Carried (List ℕ) → List ℕ
-context_word Absent = absent
-context_word (Kept class claim bytes) = join_with_byte colon (decimal class ∷ decimal claim ∷ encode_lower bytes ∷ [])
-context_word (Missing numbers) = mark ∷ join_with_byte point (map decimal numbers)
+-- the fields of the line that tells this
+abbrev pub fields_of : Line → List Filled
+fields_of (begins head) = head_fields head
+fields_of (enters entry) = act_fields entry.caller entry.call entry.act
+fields_of (loses loss) = loss_fields loss
 
--- the words of the line `T TICK LOST_EVENTS LOST_CONTEXTS LIMITED`
-abbrev pub head_words : TurnHead → List (List ℕ)
-head_words head = codes "T" ∷ decimal head.tick ∷ decimal head.lost_events ∷ decimal head.lost_contexts ∷ decimal head.limited ∷ []
-
--- the words of an entry's line, `R CALLER CALL EVENT COUNT STAMP CONTEXT`, `C CALLER CALL S STATE` or
--- `C CALLER CALL M EVENT MODE`
-abbrev pub act_words : ℕ → ℕ → Act (List ℕ) → List (List ℕ)
-act_words caller call (Report event count stamp context) = codes "R" ∷ decimal caller ∷ decimal call ∷ decimal event.0 ∷ decimal count ∷ stamp_text stamp ∷ context_word context ∷ []
-act_words caller call (State state) = codes "C" ∷ decimal caller ∷ decimal call ∷ codes "S" ∷ decimal state ∷ []
-act_words caller call (SetMode event mode) = codes "C" ∷ decimal caller ∷ decimal call ∷ codes "M" ∷ decimal event.0 ∷ mode_name mode ∷ []
-
-abbrev pub entry_words : Entry (List ℕ) → List (List ℕ)
-entry_words entry = act_words entry.caller entry.call entry.act
-
--- the words of the line `L CALLER CALL GIVEN`
-abbrev pub loss_words : Loss → List (List ℕ)
-loss_words loss = codes "L" ∷ decimal loss.caller ∷ decimal loss.call ∷ decimal loss.given ∷ []
-
--- the words of what a line tells
-abbrev pub words_for : Line → List (List ℕ)
-words_for (begins head) = head_words head
-words_for (enters entry) = entry_words entry
-words_for (loses loss) = loss_words loss
+-- the line of some fields, without its line feed
+abbrev pub line_with : List Filled → List ℕ
+line_with fields = line_of (words_of_fields fields)
 
 -- the line that tells this, without its line feed
 abbrev pub line_for : Line → List ℕ
-line_for line = line_of (words_for line)
+line_for line = line_with (fields_of line)
 
 -- ---- the lines of a journal
-
--- a turn of this head and these entries
-abbrev pub turn_of : TurnHead → List (Entry (List ℕ)) → Turn
-turn_of head entries = record { head = head; entries = entries }
 
 -- a turn: it begins, then its entries
 abbrev pub turn_told : Turn → List Line

@@ -1,4 +1,6 @@
+pub mod Contexts
 pub mod DecodedText
+pub mod Fields
 pub mod HexTextView
 pub mod Hexadecimal
 pub mod JournalFaults
@@ -8,6 +10,6 @@ pub mod JournalText
 pub mod Maybe
 pub mod Modes
 pub mod Numbers
-pub mod Pieces
+pub mod PiecesView
 pub mod Stamps
 pub mod Words

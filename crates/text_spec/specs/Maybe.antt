@@ -7,6 +7,11 @@ abbrev pub ◌>>=◌ : {A B : Type 0} → Option A → (A → Option B) → Opti
 None >>= f = None
 (Some x) >>= f = f x
 
+-- what the first search found, or else the second
+abbrev pub or_else : {A : Type 0} → Option A → Option A → Option A
+or_else (Some x) other = Some x
+or_else None other = other
+
 -- the first element and the rest
 abbrev pub first_of : {A : Type 0} → List A → Option (A × List A)
 first_of [] = None

@@ -14,7 +14,6 @@ mod journal;
 mod modes;
 mod numbers;
 mod pieces;
-mod splits;
 mod stamps;
 
 pub use decoded::push_message;
@@ -24,5 +23,4 @@ pub use journal::{one_journal_for_a_text, what_a_fitting_journal_keeps};
 pub use modes::{mode, one_name_for_a_mode, push_mode};
 pub use numbers::{number, number_upto, one_text_for_a_number, push_field, push_number};
 pub use pieces::Pieces;
-pub use splits::{ended_lines, lines, one_line_for_words, one_text_for_lines};
 pub use stamps::{one_text_for_a_stamp, push_stamp, stamp};

@@ -1,9 +1,10 @@
-ghost use Rattle.std.specs.Prelude.{◌≡◌, ◌==◌, ℕ, ◌<◌, ◌≤◌, ◌-◌, List, ◌∷◌, option_map, IfSome, position};
-ghost use Rattle.std.specs.List.{slice_split};
+ghost use Rattle.std.specs.Prelude.{◌≡◌, ◌==◌, ℕ, List, ◌∷◌, option_map, position};
+ghost use Rattle.text_spec.specs.Fields.{a_number, a_stamp, first_as};
 ghost use Rattle.text_spec.specs.Maybe.{first_of, ended as ended_of};
-ghost use Rattle.text_spec.specs.Pieces.{pieces_left, number_first, told_first, stamp_first, above_zero, absent_first};
+ghost use Rattle.text_spec.specs.PiecesView.{pieces_left};
+ghost use Rattle.text_spec.specs.Words.{pieces_of};
 
-use crate::numbers::{number, number_upto};
+use crate::numbers::number;
 use crate::stamps::stamp;
 use ids_types::Stamp;
 use std::marker::Model;
@@ -25,7 +26,7 @@ impl<'a> Model for Pieces<'a> {
 impl<'a> Pieces<'a> {
     /// All pieces of a text.
     pub fn of(text: &'a [u8], separator: u8) -> Pieces<'a>
-        ensures { result ≡ slice_split (λ b. b == separator) text.now }
+        ensures { result ≡ pieces_of separator text.now }
     {
         Pieces {
             rest: Some(text),
@@ -42,21 +43,10 @@ impl<'a> Pieces<'a> {
         Some((piece, Pieces { rest, separator }))
     }
 
-    /// The number at the front, where it is at most this, and the pieces behind it.
-    pub fn number(self, most: u64) -> Option<(u64, Pieces<'a>)>
-        requires { most < u64.MAX }
-        ensures value { result ≡ number_first most self.entry }
-        ensures within { IfSome result (λ x. x.0 ≤ most) }
-    {
-        let (word, rest) = self.first()?;
-        let number = number_upto(word, most)?;
-        Some((number, rest))
-    }
-
     /// The number at the front, of any length, and the pieces behind it. `number` says how a number
     /// is told that is too great.
     pub fn any_number(self) -> Option<(u64, Pieces<'a>)>
-        ensures { result ≡ told_first self.entry }
+        ensures { result ≡ first_as a_number self.entry }
     {
         let (word, rest) = self.first()?;
         let told = number(word)?;
@@ -65,7 +55,7 @@ impl<'a> Pieces<'a> {
 
     /// The optional timestamp at the front, and the pieces behind it.
     pub fn stamp(self) -> Option<(Option<Stamp>, Pieces<'a>)>
-        ensures { result ≡ stamp_first self.entry }
+        ensures { result ≡ first_as a_stamp self.entry }
     {
         let (word, rest) = self.first()?;
         let stamp = stamp(word)?;
@@ -85,7 +75,7 @@ impl<'a> Pieces<'a> {
 
 /// What stands before the first separator, and what stands behind it, if there is one.
 fn cut(text: &[u8], separator: u8) -> (&[u8], Option<&[u8]>)
-    ensures { slice_split (λ b. b == separator) text.now ≡
+    ensures { pieces_of separator text.now ≡
         result.0.now ∷ pieces_left separator (option_map (λ r. r.now) result.1) }
 {
     match place_of(text, separator) {

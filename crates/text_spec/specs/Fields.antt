@@ -1,0 +1,106 @@
+-- Lines as lists of fields: what a field may hold, the word for each value, how a word is read, and
+-- how the words of a line are read as its fields, one after another.
+-- Source: the text formats of this project (docs/FORMATS.md).
+use Rattle.std.specs.Prelude.{ℕ, ◌<◌, ◌^◌, ◌≤◌, bytes_eq, List, [], ◌∷◌, length, Option, Some, None, option_map, IfSome, ⊤, codes, decimal, if◌then◌else◌}
+use Rattle.std.specs.List.{AllByRecursion}
+use Rattle.hex.specs.Hex.{encode_lower}
+use Rattle.ids_types.specs.declared.mode.Mode.{Mode}
+use Rattle.ids_types.specs.declared.names.Stamp.{Stamp}
+use Rattle.text_spec.specs.Hexadecimal.{some_hex}
+use Rattle.text_spec.specs.Maybe.{◌>>=◌, first_of, ended, or_else}
+use Rattle.text_spec.specs.Modes.{mode_name, mode_named}
+use Rattle.text_spec.specs.Numbers.{number_in, capped, greatest_told}
+use Rattle.text_spec.specs.Stamps.{stamp_in, stamp_text}
+
+-- a field of a line
+pub record Field : Type 1 where
+  -- its values, those of them that there are, and those that are told as they are
+  pub Value : Type 0
+  pub Held : Value → Type 0
+  pub Exact : Value → Type 0
+  -- the word for a value, and the value that a word is read as
+  pub word : Value → List ℕ
+  pub reading : List ℕ → Option Value
+
+-- ---- fields
+
+-- this word
+abbrev pub the : List ℕ → Field
+the letter = record { Value = ⊤; Held = λ _. ⊤; Exact = λ _. ⊤; word = λ _. letter; reading = λ word. if bytes_eq word letter then Some tt else None }
+
+-- a number: one that is too great is told as the greatest
+abbrev pub a_number : Field
+a_number = record { Value = ℕ; Held = λ _. ⊤; Exact = λ n. n < greatest_told; word = decimal; reading = λ word. option_map capped (number_in word) }
+
+-- an optional timestamp of 64 bits
+abbrev pub a_stamp : Field
+a_stamp = record { Value = Option Stamp; Held = λ stamp. IfSome stamp (λ s. s.0 < 2 ^ 64); Exact = λ _. ⊤; word = stamp_text; reading = stamp_in }
+
+-- a reporting mode
+abbrev pub a_mode : Field
+a_mode = record { Value = Mode; Held = λ _. ⊤; Exact = λ _. ⊤; word = mode_name; reading = mode_named }
+
+-- a byte or more
+abbrev pub some_bytes : Field
+some_bytes = record { Value = List ℕ; Held = AllByRecursion (λ b. b < 256); Exact = λ bytes. 1 ≤ length bytes; word = encode_lower; reading = some_hex }
+
+-- ---- fields with their values
+
+-- a field and a value of it
+pub record Filled : Type 1 where
+  pub field : Field
+  pub value : field.Value
+
+-- the field with this value
+abbrev pub put : (field : Field) → field.Value → Filled
+put field value = record { field = field; value = value }
+
+-- the words of fields
+abbrev pub words_of_fields : List Filled → List (List ℕ)
+words_of_fields [] = []
+words_of_fields (one ∷ more) = one.field.word one.value ∷ words_of_fields more
+
+-- all values are ones that there are
+abbrev pub AreHeld : List Filled → Type 0
+AreHeld [] = ⊤
+AreHeld (one ∷ more) = one.field.Held one.value × AreHeld more
+
+-- all values are told as they are
+abbrev pub AreExact : List Filled → Type 0
+AreExact [] = ⊤
+AreExact (one ∷ more) = one.field.Exact one.value × AreExact more
+
+-- ---- reading
+
+-- a way to make something of the values of fields
+abbrev pub Makes : List Field → Type 0 → Type 0
+Makes [] A = A
+Makes (field ∷ fields) A = field.Value → Makes fields A
+
+-- the value at the front, and the words behind it
+abbrev pub first_as : (field : Field) → List (List ℕ) → Option (field.Value × List (List ℕ))
+first_as field words = first_of words >>= λ w. option_map (λ x. (x, w.1)) (field.reading w.0)
+
+-- what is made of the values of words, where each is read as the field at its place
+abbrev pub read_by : {A : Type 0} → (fields : List Field) → Makes fields A → List (List ℕ) → Option A
+read_by [] made words = ended made words
+read_by (field ∷ fields) makes words = first_as field words >>= λ x. read_by fields (makes x.0) x.1
+
+-- a form of lines: its letter, and the fields behind it
+pub record Form (A : Type 0) : Type 1 where
+  pub letter : List ℕ
+  pub fields : List Field
+  pub makes : Makes fields A
+
+-- what the words behind the letter tell
+abbrev pub behind : {A : Type 0} → Form A → List (List ℕ) → Option A
+behind form words = read_by form.fields form.makes words
+
+-- what the words of a line tell, where it has this form
+abbrev pub told_in : {A : Type 0} → Form A → List (List ℕ) → Option A
+told_in form words = first_as (the form.letter) words >>= λ x. behind form x.1
+
+-- what the words of a line tell, in the first of these forms that it has
+abbrev pub told_in_one : {A : Type 0} → List (Form A) → List (List ℕ) → Option A
+told_in_one [] words = None
+told_in_one (form ∷ forms) words = or_else (told_in form words) (told_in_one forms words)
