@@ -1,6 +1,5 @@
 pub mod FormLemmas
-pub mod OrderLemmas
+pub mod PairsLemmas
 pub mod Passing
 pub mod PrintingLemmas
 pub mod ReadingLemmas
-pub mod TurnsLemmas

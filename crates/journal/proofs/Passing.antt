@@ -11,9 +11,8 @@ use Rattle.ids_types.specs.declared.entry.Act.{Act}
 use Rattle.ids_types.specs.declared.entry.Act.TheVariants.{Report, State, SetMode}
 use Rattle.ids_types.specs.declared.entry.Entry.{Entry}
 use Rattle.ids_types.specs.declared.loss.Loss.{Loss}
-use Rattle.text_spec.specs.JournalFaults.{is_claim, is_call, is_context, is_act, has_event, least_pair, pair_of, entry_pairs, entry_fault, loss_fault}
-use Rattle.text_spec.specs.JournalText.{Told}
-use Rattle.text_spec.proofs.JournalFacts.{asked, entry_passes, sensor_is_there}
+use Rattle.text_spec.specs.JournalFaults.{Past, is_claim, is_call, is_context, is_act, has_event, entry_fault}
+use Rattle.text_spec.proofs.JournalFacts.{entry_passes, sensor_is_there}
 use Rattle.journal.specs.Typed.{IsTypedContext, IsTypedAct, IsTyped}
 
 -- a caller and a call in their ranges
@@ -43,21 +42,8 @@ typed_act config (State state) few is known = let most = leb-true state 255 is i
 typed_act config (SetMode event mode) few is known = let there = ltb-true event.0 (length config.events) known in omega arith
 
 -- the numbers of an entry without a fault fit their types
-pub entry_typed : (config : Parts) (told : Told) (entry : Entry (List ℕ)) → length config.events ≤ 256 → entry_fault config told entry ≡ Ok tt → IsTyped entry
-entry_typed config told entry few none =
-    let passes = entry_passes config told entry none in
+pub entry_typed : (config : Parts) (past : Past) (entry : Entry (List ℕ)) → length config.events ≤ 256 → entry_fault config past entry ≡ Ok tt → IsTyped entry
+entry_typed config past entry few none =
+    let passes = entry_passes config past entry none in
     let call = call_in entry.caller entry.call passes.call in
     record { caller_fits = omega (arith, call.0); act_fits = typed_act config entry.act few passes.act passes.event }
-
--- the last step of a search
-asked_alone : (n : ℕ) (holds : Bool) → asks n holds ≡ Ok tt → holds ≡ true
-asked_alone n true none = refl
-asked_alone n false none = cc none
-
--- the pair of a loss without a fault may follow
-pub loss_follows : (told : Told) (loss : Loss) → loss_fault told loss ≡ Ok tt → least_pair told.losses ≤ pair_of loss.caller loss.call
-loss_follows told loss none =
-    let free = nat_le (least_pair told.losses) (pair_of loss.caller loss.call) && not (list_any (λ p. p == pair_of loss.caller loss.call) (entry_pairs told.turns)) in
-    let first = asked 3 (is_call loss.caller loss.call && is_claim loss.given) (asks 6 free) tt none in
-    let second = asked_alone 6 free first.1 in
-    leb-true _ _ (and_parts (nat_le (least_pair told.losses) (pair_of loss.caller loss.call)) (not (list_any (λ p. p == pair_of loss.caller loss.call) (entry_pairs told.turns))) second).0

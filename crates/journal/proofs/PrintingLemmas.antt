@@ -9,8 +9,9 @@ use Rattle.ids_types.specs.declared.entry.Act.TheVariants.{State}
 use Rattle.ids_types.specs.declared.entry.Entry.{Entry}
 use Rattle.ids_types.specs.declared.loss.Loss.{Loss}
 use Rattle.ids_types.specs.Turns.{Turn, begun, turn_at, entry_at}
-use Rattle.text_spec.specs.JournalText.{Line, enters, loses, point, words_for, line_for, head_words, entry_words, loss_words, turn_told}
-use Rattle.text_spec.specs.Words.{line_feed, line_of}
+use Rattle.text_spec.specs.Contexts.{point}
+use Rattle.text_spec.specs.JournalText.{Line, begins, enters, loses, line_for, fields_of, turn_told}
+use Rattle.text_spec.specs.Words.{line_feed}
 use Rattle.text_spec.proofs.JournalFacts.{flat_map-push}
 use Rattle.journal.specs.Printing.{ended_line, lines_text, pointed}
 
@@ -20,25 +21,21 @@ lines_text-append [] ys = refl
 lines_text-append (x ∷ xs) ys =
     ap (λ bs. line_for x ++ line_feed ∷ bs) (lines_text-append xs ys) ∙ sym (append_assoc (line_for x) (line_feed ∷ lines_text xs) (lines_text ys))
 
--- one line
-lines_text-one : (x : Line) → lines_text (x ∷ []) ≡ ended_line (words_for x)
-lines_text-one x = refl
-
 -- the entries of a turn, and one more
 pub entries_more : (before : List ℕ) (entries : List (Entry (List ℕ))) (i : ℕ) (d : Entry (List ℕ)) → i < length entries
-    → before ++ lines_text (map enters (take (i + 1) entries)) ≡ (before ++ lines_text (map enters (take i entries))) ++ ended_line (entry_words (get_or entries i d))
+    → before ++ lines_text (map enters (take (i + 1) entries)) ≡ (before ++ lines_text (map enters (take i entries))) ++ ended_line (fields_of (enters (get_or entries i d)))
 entries_more before entries i d within =
     let e = get_or entries i d in
     ap (λ (es : List (Entry (List ℕ))). before ++ lines_text (map enters es)) (take_more entries i d within)
     ∙ ap (λ (ls : List Line). before ++ lines_text ls) (map-append enters (take i entries) (e ∷ []))
     ∙ ap (λ bs. before ++ bs) (lines_text-append (map enters (take i entries)) (enters e ∷ []))
-    ∙ sym (append_assoc before (lines_text (map enters (take i entries))) (ended_line (entry_words e)))
+    ∙ sym (append_assoc before (lines_text (map enters (take i entries))) (ended_line (fields_of (enters e))))
 
 -- a turn's head and its entries
-pub turn_whole : (before : List ℕ) (turn : Turn) → (before ++ ended_line (head_words turn.head)) ++ lines_text (map enters turn.entries) ≡ before ++ lines_text (turn_told turn)
+pub turn_whole : (before : List ℕ) (turn : Turn) → (before ++ ended_line (fields_of (begins turn.head))) ++ lines_text (map enters turn.entries) ≡ before ++ lines_text (turn_told turn)
 turn_whole before turn =
-    append_assoc before (ended_line (head_words turn.head)) (lines_text (map enters turn.entries))
-    ∙ ap (λ bs. before ++ bs) (append_assoc (line_of (head_words turn.head)) (line_feed ∷ []) (lines_text (map enters turn.entries)))
+    append_assoc before (ended_line (fields_of (begins turn.head))) (lines_text (map enters turn.entries))
+    ∙ ap (λ bs. before ++ bs) (append_assoc (line_for (begins turn.head)) (line_feed ∷ []) (lines_text (map enters turn.entries)))
 
 -- the turns, and one more
 pub turns_more : (turns : List Turn) (i : ℕ) (d : Turn) → i < length turns
@@ -50,7 +47,7 @@ turns_more turns i d within =
 
 -- the losses, and one more
 pub losses_more : (lines : List Line) (losses : List Loss) (i : ℕ) (d : Loss) → i < length losses
-    → lines_text (lines ++ map loses (take (i + 1) losses)) ≡ lines_text (lines ++ map loses (take i losses)) ++ ended_line (loss_words (get_or losses i d))
+    → lines_text (lines ++ map loses (take (i + 1) losses)) ≡ lines_text (lines ++ map loses (take i losses)) ++ ended_line (fields_of (loses (get_or losses i d)))
 losses_more lines losses i d within =
     let l = get_or losses i d in
     ap (λ (ls : List Loss). lines_text (lines ++ map loses ls)) (take_more losses i d within)
@@ -84,11 +81,11 @@ claims_more before numbers i within =
 -- ---- steps of the loops
 
 pub entry_printed : (before now next : List ℕ) (turn : Turn) (i : ℕ) (e : Entry (List ℕ)) → i < length turn.entries → e ≡ entry_at turn i
-    → now ≡ before ++ lines_text (map enters (take i turn.entries)) → next ≡ now ++ ended_line (entry_words e)
+    → now ≡ before ++ lines_text (map enters (take i turn.entries)) → next ≡ now ++ ended_line (fields_of (enters e))
     → next ≡ before ++ lines_text (map enters (take (i + 1) turn.entries))
 entry_printed before now next turn i e within is was step =
-    step ∙ ap (λ bs. bs ++ ended_line (entry_words e)) was
-    ∙ ap (λ (x : Entry (List ℕ)). (before ++ lines_text (map enters (take i turn.entries))) ++ ended_line (entry_words x)) is
+    step ∙ ap (λ bs. bs ++ ended_line (fields_of (enters e))) was
+    ∙ ap (λ (x : Entry (List ℕ)). (before ++ lines_text (map enters (take i turn.entries))) ++ ended_line (fields_of (enters x))) is
     ∙ sym (entries_more before turn.entries i (record { caller = 0; call = 0; act = State 0 }) within)
 
 pub turn_printed : (now next : List ℕ) (turns : List Turn) (i : ℕ) → i < length turns
@@ -99,10 +96,10 @@ turn_printed now next turns i within was step =
     ∙ sym (turns_more turns i (begun (record { tick = 0; lost_events = 0; lost_contexts = 0; limited = 0 })) within)
 
 pub loss_printed : (now next : List ℕ) (lines : List Line) (losses : List Loss) (i : ℕ) (d : Loss) → i < length losses
-    → now ≡ lines_text (lines ++ map loses (take i losses)) → next ≡ now ++ ended_line (loss_words (get_or losses i d))
+    → now ≡ lines_text (lines ++ map loses (take i losses)) → next ≡ now ++ ended_line (fields_of (loses (get_or losses i d)))
     → next ≡ lines_text (lines ++ map loses (take (i + 1) losses))
 loss_printed now next lines losses i d within was step =
-    step ∙ ap (λ bs. bs ++ ended_line (loss_words (get_or losses i d))) was ∙ sym (losses_more lines losses i d within)
+    step ∙ ap (λ bs. bs ++ ended_line (fields_of (loses (get_or losses i d)))) was ∙ sym (losses_more lines losses i d within)
 
 pub claim_printed : (before now next numbers : List ℕ) (i n : ℕ) → i < length numbers → slice_get numbers i ≡ Some n
     → now ≡ before ++ join_with_byte point (map decimal (take i numbers)) → next ≡ now ++ pointed i n

@@ -1,10 +1,10 @@
 -- The lines of a text, one after another, and what a reading of them says.
-use Rattle.std.proofs.Common.{◌≡◌, ℕ, suc, ◌+◌, ◌<◌, ◌≤◌, List, [], ◌∷◌, length, map, drop, get_or, refl, sym, ap, subst, ◌∙◌, arith, drop-cons, add-one}
+use Rattle.std.proofs.Common.{◌≡◌, ℕ, suc, ◌+◌, ◌<◌, ◌≤◌, ◌==◌, false, List, [], ◌∷◌, length, refl, sym, ap, subst, ◌∙◌, arith}
 use Rattle.std.specs.Prelude.{Result, Ok, Err, IfOk, IfErr}
-use denote.Ref.{Bor}
-use Rattle.std.proofs.lemmas.List.{drop_all}
 use Rattle.ids_config.specs.Parts.{Parts}
-use Rattle.text_spec.specs.JournalReading.{BadLine, IsJournal, at_line, after_line, after_lines, journal_in, ◌>>=◌}
+use Rattle.ids_config.specs.Steps.{◌>>◌, asks}
+use Rattle.text_spec.specs.JournalFaults.{Past}
+use Rattle.text_spec.specs.JournalReading.{BadLine, IsJournal, at_line, after_line, after_pieces, journal_in, ◌>>=◌}
 use Rattle.text_spec.specs.JournalText.{Told}
 use Rattle.text_spec.proofs.JournalLaws.{told_is_journal, journal_is_told, bad_is_none}
 use Rattle.journal.specs.declared.fault.JournalFault.{JournalFault}
@@ -13,45 +13,48 @@ use Rattle.journal.specs.declared.fault.LineFault.{LineFault}
 use Rattle.journal.specs.declared.fault.LineFault.TheVariants as line_faults
 use Rattle.journal.specs.Answers.{RefusedFor, fault_at, IsFirstBad, HasNone, Fails, Reads}
 
--- the lines from one on
-abbrev pub texts_from : ℕ → List (Bor (List ℕ)) → List (List ℕ)
-texts_from i lines = map (λ l. l.now) (drop i lines)
+-- a line stands in front of the other pieces
+at_front : (config : Parts) (n : ℕ) (past : Past) (line : List ℕ) (pieces : List (List ℕ)) → 0 < length pieces
+    → after_pieces config n past (line ∷ pieces) ≡ (at_line n (after_line config past line) >>= λ now. after_pieces config (suc n) now pieces)
+unfolding after_pieces
+at_front config n past line [] some = absurd (omega arith)
+at_front config n past line (piece ∷ pieces) some = refl
 
--- the line at a place stands in front of those behind it
-texts_at : (lines : List (Bor (List ℕ))) (i : ℕ) (d : Bor (List ℕ)) → i < length lines → texts_from i lines ≡ (get_or lines i d).now ∷ texts_from (i + 1) lines
-texts_at lines i d within = rw (add-one, drop-cons lines i d) refl
+-- pieces that were cut off at a line feed, and those behind it, of which there is one at least
+module _ (config : Parts) (n : ℕ) (past : Past) (line : List ℕ) (rest pieces : List (List ℕ)) (expected : Result Past BadLine) (some : 0 < length rest)
+    (are : pieces ≡ line ∷ rest) (was : after_pieces config n past pieces ≡ expected) where
+  -- after a line that was taken
+  pub goes_on : (now : Past) → after_line config past line ≡ Ok now → after_pieces config (n + 1) now rest ≡ expected
+  goes_on now took =
+      let more : n + 1 ≡ suc n = omega arith in
+      ap (λ k. after_pieces config k now rest) more
+      ∙ sym (ap (λ (r : Result Past ℕ). at_line n r >>= λ then. after_pieces config (suc n) then rest) took)
+      ∙ sym (at_front config n past line rest some)
+      ∙ sym (ap (after_pieces config n past) are)
+      ∙ was
 
--- after a line that was taken
-pub goes_on : (config : Parts) (before now : Told) (lines : List (Bor (List ℕ))) (i : ℕ) (d : Bor (List ℕ)) (expected : Result Told BadLine) → i < length lines
-    → after_line config before (get_or lines i d).now ≡ Ok now
-    → after_lines config (i + 1) before (texts_from i lines) ≡ expected
-    → after_lines config ((i + 1) + 1) now (texts_from (i + 1) lines) ≡ expected
-unfolding after_lines
-goes_on config before now lines i d expected within took was =
-    let n : (i + 1) + 1 ≡ suc (i + 1) = omega arith in
-    ap (λ k. after_lines config k now (texts_from (i + 1) lines)) n
-    ∙ sym (ap (λ (r : Result Told ℕ). at_line (i + 1) r >>= λ next. after_lines config (suc (i + 1)) next (texts_from (i + 1) lines)) took)
-    ∙ sym (ap (after_lines config (i + 1) before) (texts_at lines i d within))
-    ∙ was
+  -- at a line that was refused
+  pub refuses : (fault : LineFault) → RefusedFor (after_line config past line) fault → Fails expected (fault_at n fault)
+  refuses (line_faults.Fault number) refused =
+      sym was
+      ∙ ap (after_pieces config n past) are
+      ∙ at_front config n past line rest some
+      ∙ ap (λ (r : Result Past ℕ). at_line n r >>= λ then. after_pieces config (suc n) then rest) refused
+  refuses line_faults.NoMemory refused = tt
 
--- at a line with a fault
-stops : (config : Parts) (before : Told) (lines : List (Bor (List ℕ))) (i fault : ℕ) (d : Bor (List ℕ)) (expected : Result Told BadLine) → i < length lines
-    → after_line config before (get_or lines i d).now ≡ Err fault
-    → after_lines config (i + 1) before (texts_from i lines) ≡ expected
-    → expected ≡ Err (record { line = i + 1; fault = fault })
-unfolding after_lines
-stops config before lines i fault d expected within refused was =
-    sym was
-    ∙ ap (after_lines config (i + 1) before) (texts_at lines i d within)
-    ∙ ap (λ (r : Result Told ℕ). at_line (i + 1) r >>= λ next. after_lines config (suc (i + 1)) next (texts_from (i + 1) lines)) refused
+-- behind all lines
+pub is_done : (config : Parts) (n : ℕ) (past : Past) (rest : List ℕ) (pieces : List (List ℕ)) (expected : Result Past BadLine) → pieces ≡ rest ∷ [] → length rest ≡ 0
+    → after_pieces config n past pieces ≡ expected → expected ≡ Ok past
+unfolding after_pieces
+is_done config n past rest pieces expected are none was =
+    sym was ∙ ap (after_pieces config n past) are ∙ ap (λ k. at_line n (asks 1 (k == 0) >> Ok past)) none
 
--- at a line that was refused
-pub refuses : (config : Parts) (before : Told) (lines : List (Bor (List ℕ))) (i : ℕ) (fault : LineFault) (d : Bor (List ℕ)) (expected : Result Told BadLine) → i < length lines
-    → RefusedFor (after_line config before (get_or lines i d).now) fault
-    → after_lines config (i + 1) before (texts_from i lines) ≡ expected
-    → Fails expected (fault_at (i + 1) fault)
-refuses config before lines i (line_faults.Fault number) d expected within refused was = stops config before lines i number d expected within refused was
-refuses config before lines i line_faults.NoMemory d expected within refused was = tt
+-- the last line is not ended
+pub is_open : (config : Parts) (n : ℕ) (past : Past) (rest : List ℕ) (pieces : List (List ℕ)) (expected : Result Past BadLine) → pieces ≡ rest ∷ [] → (length rest == 0) ≡ false
+    → after_pieces config n past pieces ≡ expected → expected ≡ Err (record { line = n; fault = 1 })
+unfolding after_pieces
+is_open config n past rest pieces expected are some was =
+    sym was ∙ ap (after_pieces config n past) are ∙ ap (λ b. at_line n (asks 1 b >> Ok past)) some
 
 -- ---- what a reading says of the text
 
@@ -84,12 +87,3 @@ first_at config text faults.NoMemory fails = tt
 pub first : {X : Type 0} (view : X → Told) (config : Parts) (text : List ℕ) (read : Result X JournalFault) → Reads view (journal_in config text) read → IfErr read (IsFirstBad config text)
 first view config text (Ok x) reads = tt
 first view config text (Err fault) reads = first_at config text fault reads
-
--- behind all lines
-pub is_done : (config : Parts) (before : Told) (lines : List (Bor (List ℕ))) (i : ℕ) (expected : Result Told BadLine) → length lines ≤ i
-    → after_lines config (i + 1) before (texts_from i lines) ≡ expected
-    → expected ≡ Ok before
-unfolding after_lines
-is_done config before lines i expected past was =
-    let none : drop i lines ≡ [] = drop_all i lines past in
-    sym was ∙ ap (λ (ls : List (Bor (List ℕ))). after_lines config (i + 1) before (map (λ l. l.now) ls)) none

@@ -5,7 +5,7 @@ use Rattle.ids_config.specs.Steps.{◌>>◌}
 use Rattle.ids_types.specs.declared.loss.Loss.{Loss}
 use Rattle.ids_types.specs.Turns.{Turn}
 use Rattle.text_spec.specs.JournalReading.{BadLine, IsJournal, journal_in}
-use Rattle.text_spec.specs.JournalFaults.{with_line}
+use Rattle.text_spec.specs.JournalFaults.{Past, next}
 use Rattle.text_spec.specs.JournalText.{Told, Line}
 use Rattle.journal.specs.declared.fault.JournalFault.{JournalFault}
 use Rattle.journal.specs.declared.fault.JournalFault.TheVariants as faults
@@ -17,12 +17,12 @@ abbrev pub told : List Turn → List Loss → Told
 told turns losses = record { turns = turns; losses = losses }
 
 -- the line's first fault, or want of memory
-abbrev pub RefusedFor : Result Told ℕ → LineFault → Type 0
+abbrev pub RefusedFor : Result Past ℕ → LineFault → Type 0
 RefusedFor expected (line_faults.Fault number) = expected ≡ Err number
 RefusedFor expected line_faults.NoMemory = ⊤
 
--- the line was taken or refused as it was expected, or memory was refused
-abbrev pub Took : Told → Result Told ℕ → Result ⊤ LineFault → Type 0
+-- the line was taken, and these are the lines so far, or refused as it was expected, or memory was refused
+abbrev pub Took : Past → Result Past ℕ → Result ⊤ LineFault → Type 0
 Took now expected (Ok done) = expected ≡ Ok now
 Took now expected (Err fault) = RefusedFor expected fault
 
@@ -36,17 +36,17 @@ abbrev pub HasNone : Parts → List ℕ → JournalFault → Type 0
 HasNone config text (faults.Line line number) = (told : Told) → IsJournal config text told → ⊥
 HasNone config text faults.NoMemory = ⊤
 
--- what a text tells, or its first bad line, or want of memory
-abbrev pub Fails : Result Told BadLine → JournalFault → Type 0
+-- the first bad line that was expected, or want of memory
+abbrev pub Fails : {A : Type 0} → Result A BadLine → JournalFault → Type 0
 Fails expected (faults.Line line number) = expected ≡ Err (record { line = line; fault = number })
 Fails expected faults.NoMemory = ⊤
 
--- what is told with a line more, where it has no fault
-abbrev pub added : Told → Line → Result ⊤ ℕ → Result Told ℕ
-added before line fault = fault >> Ok (with_line before line)
+-- the lines so far with one more, where it has no fault
+abbrev pub added : Past → Line → Result ⊤ ℕ → Result Past ℕ
+added past line fault = fault >> Ok (next past line)
 
 -- what was read is what was expected, or the first bad line, or memory was refused
-abbrev pub Reads : {X : Type 0} → (X → Told) → Result Told BadLine → Result X JournalFault → Type 0
+abbrev pub Reads : {A X : Type 0} → (X → A) → Result A BadLine → Result X JournalFault → Type 0
 Reads view expected (Ok x) = expected ≡ Ok (view x)
 Reads view expected (Err fault) = Fails expected fault
 

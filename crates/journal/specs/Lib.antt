@@ -1,4 +1,5 @@
 pub mod Answers
 pub mod Printing
 pub mod RawLines
+pub mod ReaderView
 pub mod Typed

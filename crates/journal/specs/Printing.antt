@@ -1,11 +1,13 @@
 -- The text of some lines.
 use Rattle.std.specs.Prelude.{ℕ, ◌==◌, List, [], ◌∷◌, ◌++◌, map, decimal, if◌then◌else◌}
-use Rattle.text_spec.specs.JournalText.{Line, line_for, point}
-use Rattle.text_spec.specs.Words.{line_feed, line_of, text_of}
+use Rattle.text_spec.specs.Contexts.{point}
+use Rattle.text_spec.specs.Fields.{Filled}
+use Rattle.text_spec.specs.JournalText.{Line, line_with, line_for}
+use Rattle.text_spec.specs.Words.{line_feed, text_of}
 
--- a line of these words, with its line feed
-abbrev pub ended_line : List (List ℕ) → List ℕ
-ended_line words = line_of words ++ line_feed ∷ []
+-- a line of these fields, with its line feed
+abbrev pub ended_line : List Filled → List ℕ
+ended_line fields = line_with fields ++ line_feed ∷ []
 
 -- the text of lines
 abbrev pub lines_text : List Line → List ℕ

@@ -1,12 +1,17 @@
 //! The forms of a journal's lines.
 
-ghost use Rattle.std.specs.Prelude.{◌≡◌, ℕ, List, [], option_map, Some, None, bytes_eq, codes};
-ghost use Rattle.text_spec.specs.JournalForm.{kept_in, numbers_in, claims_in, context_in, head_in, report_in, state_in, setting_in, control_in, change_in, loss_in, told_by};
+ghost use Rattle.std.specs.Prelude.{◌≡◌, ℕ, List, [], ◌∷◌, option_map, Some, None};
+ghost use Rattle.text_spec.specs.Contexts.{numbers_in, claims_in, context_in, kept_in, a_context};
+ghost use Rattle.text_spec.specs.Fields.{a_number, a_mode, behind, first_as, read_by};
+ghost use Rattle.text_spec.specs.JournalForm.{turn_form, report_form, state_form, setting_form, loss_form, told_by, index, entry_of};
+ghost use Rattle.text_spec.specs.JournalText.{enters};
+ghost use Rattle.text_spec.specs.Maybe.{or_else};
 ghost use Rattle.journal.specs.RawLines.{context_told, line_told};
+ghost use Rattle.ids_types.specs.declared.entry.Act.TheVariants.{State, SetMode};
 ghost use Rattle.ids_types.specs.declared.entry.Carried.TheVariants.{Missing};
 
 use crate::line::{RawAct, RawContext, RawEntry, RawLine, RawLoss};
-use ids_types::{Numbers, TurnHead};
+use ids_types::{Mode, Numbers, TurnHead};
 use text_spec::{HexText, Pieces, mode, number};
 
 /// What a line of these words tells, `None` where it has no form.
@@ -30,9 +35,8 @@ pub(crate) fn line_of(words: Pieces<'_>) -> Option<RawLine<'_>>
 }
 
 /// The words behind `T`.
-#[tactic(auto, unfolding(text_spec::specs::JournalForm::head_in))]
 fn head_of(words: Pieces<'_>) -> Option<RawLine<'_>>
-    ensures { option_map line_told result ≡ head_in words.entry }
+    ensures { option_map line_told result ≡ behind turn_form words.entry }
 {
     let (tick, words) = words.any_number()?;
     let (lost_events, words) = words.any_number()?;
@@ -47,17 +51,15 @@ fn head_of(words: Pieces<'_>) -> Option<RawLine<'_>>
 }
 
 /// The words behind `R`.
-#[tactic(auto, unfolding(text_spec::specs::JournalForm::report_in))]
 fn report_of(words: Pieces<'_>) -> Option<RawLine<'_>>
-    ensures { option_map line_told result ≡ report_in words.entry }
+    ensures { option_map line_told result ≡ behind report_form words.entry }
 {
     let (caller, words) = words.any_number()?;
     let (call, words) = words.any_number()?;
     let (event, words) = words.any_number()?;
     let (count, words) = words.any_number()?;
     let (stamp, words) = words.stamp()?;
-    let (word, words) = words.first()?;
-    let context = context_of(word)?;
+    let (context, words) = context_first(words)?;
     words.ended(RawLine::Entry(RawEntry {
         caller,
         call,
@@ -71,20 +73,13 @@ fn report_of(words: Pieces<'_>) -> Option<RawLine<'_>>
 }
 
 /// The words behind `C`.
-#[tactic(auto, unfolding(text_spec::specs::JournalForm::change_in))]
 fn change_of(words: Pieces<'_>) -> Option<RawLine<'_>>
-    ensures { option_map line_told result ≡ change_in words.entry }
+    ensures { option_map line_told result ≡
+        or_else (behind state_form words.entry) (behind setting_form words.entry) }
 {
     let (caller, words) = words.any_number()?;
     let (call, words) = words.any_number()?;
     let (kind, words) = words.first()?;
-    control_of(caller, call, kind, words)
-}
-
-/// The words behind `S` or `M`.
-fn control_of<'a>(caller: u64, call: u64, kind: &[u8], words: Pieces<'a>) -> Option<RawLine<'a>>
-    ensures { option_map line_told result ≡ control_in caller call kind.now words.entry }
-{
     if kind == b"S".as_slice() {
         return state_of(caller, call, words);
     }
@@ -95,9 +90,9 @@ fn control_of<'a>(caller: u64, call: u64, kind: &[u8], words: Pieces<'a>) -> Opt
 }
 
 /// A new state.
-#[tactic(auto, unfolding(text_spec::specs::JournalForm::state_in))]
 fn state_of(caller: u64, call: u64, words: Pieces<'_>) -> Option<RawLine<'_>>
-    ensures { option_map line_told result ≡ state_in caller call words.entry }
+    ensures { option_map line_told result ≡
+        read_by (a_number ∷ []) (λ state. enters (entry_of caller call (State state))) words.entry }
 {
     let (state, words) = words.any_number()?;
     words.ended(RawLine::Entry(RawEntry {
@@ -108,13 +103,12 @@ fn state_of(caller: u64, call: u64, words: Pieces<'_>) -> Option<RawLine<'_>>
 }
 
 /// An event and its new mode.
-#[tactic(auto, unfolding(text_spec::specs::JournalForm::setting_in))]
 fn setting_of(caller: u64, call: u64, words: Pieces<'_>) -> Option<RawLine<'_>>
-    ensures { option_map line_told result ≡ setting_in caller call words.entry }
+    ensures { option_map line_told result ≡ read_by (a_number ∷ a_mode ∷ [])
+        (λ event mode. enters (entry_of caller call (SetMode (index event) mode))) words.entry }
 {
     let (event, words) = words.any_number()?;
-    let (name, words) = words.first()?;
-    let mode = mode(name)?;
+    let (mode, words) = mode_first(words)?;
     words.ended(RawLine::Entry(RawEntry {
         caller,
         call,
@@ -122,10 +116,18 @@ fn setting_of(caller: u64, call: u64, words: Pieces<'_>) -> Option<RawLine<'_>>
     }))
 }
 
+/// The mode at the front, and the words behind it.
+fn mode_first(words: Pieces<'_>) -> Option<(Mode, Pieces<'_>)>
+    ensures { result ≡ first_as a_mode words.entry }
+{
+    let (word, words) = words.first()?;
+    let mode = mode(word)?;
+    Some((mode, words))
+}
+
 /// The words behind `L`.
-#[tactic(auto, unfolding(text_spec::specs::JournalForm::loss_in))]
 fn loss_of(words: Pieces<'_>) -> Option<RawLine<'_>>
-    ensures { option_map line_told result ≡ loss_in words.entry }
+    ensures { option_map line_told result ≡ behind loss_form words.entry }
 {
     let (caller, words) = words.any_number()?;
     let (call, words) = words.any_number()?;
@@ -135,6 +137,15 @@ fn loss_of(words: Pieces<'_>) -> Option<RawLine<'_>>
         call,
         given,
     }))
+}
+
+/// The context at the front, and the words behind it.
+fn context_first(words: Pieces<'_>) -> Option<(RawContext<'_>, Pieces<'_>)>
+    ensures { option_map (λ x. (context_told x.0, x.1)) result ≡ first_as a_context words.entry }
+{
+    let (word, words) = words.first()?;
+    let context = context_of(word)?;
+    Some((context, words))
 }
 
 /// `-`, `CLASS:CLAIM:HEX`, or `!` and numbers.
@@ -158,7 +169,6 @@ fn missing_of<'a>(word: &[u8]) -> Option<RawContext<'a>>
     Some(RawContext::Missing(claims_of(word)?))
 }
 
-#[tactic(auto, unfolding(text_spec::specs::JournalForm::kept_in))]
 fn kept_of(pieces: Pieces<'_>) -> Option<RawContext<'_>>
     ensures { option_map context_told result ≡ kept_in pieces.entry }
 {

@@ -11,10 +11,12 @@
 mod fault;
 mod form;
 mod line;
+mod pairs;
 mod printing;
 mod ranges;
 mod reader;
 mod reading;
+mod room;
 mod taking;
 
 pub use fault::JournalFault;

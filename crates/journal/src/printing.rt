@@ -5,7 +5,8 @@ ghost use Rattle.std.specs.List.{flat_map, join_with_byte};
 ghost use Rattle.ids_types.specs.Plain.{plain_carried, plain_entry};
 ghost use Rattle.ids_types.specs.Turns.{turn_at};
 ghost use Rattle.ids_types.specs.declared.entry.Act.TheVariants.{Report, State, SetMode};
-ghost use Rattle.text_spec.specs.JournalText.{enters, point, context_word, head_words, entry_words, loss_words, act_words, turn_told, line_for, journal_text};
+ghost use Rattle.text_spec.specs.Contexts.{point, context_word};
+ghost use Rattle.text_spec.specs.JournalText.{begins, enters, loses, fields_of, turn_told, line_for, journal_text};
 ghost use Rattle.text_spec.specs.JournalReading.{Fits, IsJournal};
 ghost use Rattle.ids_config.specs.Parts.{Parts};
 ghost use Rattle.text_spec.specs.Stamps.{stamp_text};
@@ -59,7 +60,7 @@ fn push_turn(out: &mut Vec<u8>, history: &History, turn: u64) -> Result<(), NoMe
 
 /// Appends `T TICK LOST_EVENTS LOST_CONTEXTS LIMITED` as a line.
 fn push_head(out: &mut Vec<u8>, head: &TurnHead) -> Result<(), NoMemory>
-    ensures { OnOk result (out.new.items ≡ out.old.items ++ ended_line (head_words head.now)) }
+    ensures { OnOk result (out.new.items ≡ out.old.items ++ ended_line (fields_of (begins head.now))) }
 {
     out.push(b'T')?;
     push_field(out, head.tick)?;
@@ -71,7 +72,7 @@ fn push_head(out: &mut Vec<u8>, head: &TurnHead) -> Result<(), NoMemory>
 
 /// Appends `L CALLER CALL GIVEN` as a line.
 fn push_loss(out: &mut Vec<u8>, loss: &Loss) -> Result<(), NoMemory>
-    ensures { OnOk result (out.new.items ≡ out.old.items ++ ended_line (loss_words loss.now)) }
+    ensures { OnOk result (out.new.items ≡ out.old.items ++ ended_line (fields_of (loses loss.now))) }
 {
     push_call(out, b'L', loss.caller, loss.call)?;
     push_field(out, loss.given)?;
@@ -81,7 +82,7 @@ fn push_loss(out: &mut Vec<u8>, loss: &Loss) -> Result<(), NoMemory>
 /// Appends an entry as a line.
 fn push_entry(out: &mut Vec<u8>, entry: &Entry<Plain<'_>>) -> Result<(), NoMemory>
     ensures { OnOk result (out.new.items ≡
-        out.old.items ++ ended_line (entry_words (plain_entry entry.now))) }
+        out.old.items ++ ended_line (fields_of (enters (plain_entry entry.now)))) }
 {
     match &entry.act {
         Act::Report {

@@ -1,22 +1,17 @@
-ghost use Rattle.std.specs.Prelude.{◌≡◌, ℕ, ◌<◌, ◌≤◌, ◌^◌, ◌==◌, [], length, nat_le, nat_lt, slice_index, IfOk, OnOk, OnErr, not, ◌&&◌};
+ghost use Rattle.std.specs.Prelude.{◌≡◌, ℕ, ◌<◌, ◌≤◌, ◌^◌, length, IfOk, OnOk};
 ghost use Rattle.std.specs.Ordering.{nat_cmp};
-ghost use Rattle.std.specs.List.{list_any};
 ghost use Rattle.std.specs.BTreeSet.{contains as set_contains};
-ghost use Rattle.ids_types.specs.Plain.{plain_entry};
-ghost use Rattle.ids_types.specs.Turns.{with_entry};
-ghost use Rattle.text_spec.specs.JournalText.{begins, enters, loses};
-ghost use Rattle.text_spec.specs.JournalFaults.{least_tick, least_call, last_entries as entries_of_last, least_pair, entry_pairs, pair_of, head_fault, entry_fault, loss_fault};
-ghost use Rattle.text_spec.specs.JournalReading.{after_line};
-ghost use Rattle.journal.specs.RawLines.{entry_told, loss_told};
-ghost use Rattle.journal.specs.Answers.{told, Took, added};
+ghost use Rattle.text_spec.specs.JournalFaults.{has_pair, start};
 
 use crate::fault::LineFault;
 use crate::form::line_of;
 use crate::line::{RawEntry, RawLine, RawLoss};
+use crate::pairs::{is_free, pairs_of};
 use crate::ranges::{CALLS, MAX_BYTES, has_event, is_act, is_call, is_claim, is_head};
+use crate::room::{entry_room, turn_room};
 use crate::taking::{decode_context, entry_of};
 use ids_config::{Config, asks};
-use ids_types::{Entry, History, Loss, NoMemory, Plain, TurnHead};
+use ids_types::{History, Loss, NoMemory, TurnHead};
 use std::alloc::Global;
 use std::collections::BTreeSet;
 use text_spec::Pieces;
@@ -29,63 +24,83 @@ const MAX_ENTRIES: u64 = 1024;
 pub(crate) struct Reader {
     pub(crate) history: History,
     pub(crate) losses: Vec<Loss>,
-    /// The tick of the last turn.
-    tick: u64,
+    /// The tick of the last turn, and how many entries it has.
+    pub(crate) tick: u64,
+    pub(crate) entries: u64,
     /// Each caller's least call that may follow.
-    calls: [u64; 32],
-    /// Caller and call of each entry, as one number.
-    pairs: BTreeSet<u64>,
+    pub(crate) calls: [u64; 32],
     /// The least caller and call of a loss that may follow, as one number.
-    least: u64,
-    ghost ticks: { tick ≡ least_tick history.turns },
-    ghost rises: { (c : ℕ) → c < 32 → slice_index calls c ≡ least_call history.turns c },
-    ghost known: { (p : ℕ) → set_contains nat_cmp pairs p ≡ list_any (λ q. q == p) (entry_pairs history.turns) },
-    ghost follows: { least ≡ least_pair losses.items },
+    pub(crate) pair: u64,
+    /// Caller and call of each entry, as one number: once there are losses.
+    pub(crate) pairs: BTreeSet<u64>,
+    /// How many turns, entries and bytes of context the history has room for.
+    turns_left: u64,
+    entries_left: u64,
+    bytes_left: u64,
+    /// Where a context is decoded.
+    room: [u8; 1024],
+    ghost known: { 0 < length losses.items → (p : ℕ) → p < 2 ^ 48 →
+        set_contains nat_cmp pairs p ≡ has_pair history.turns p },
+    ghost of_turns: { turns_left ≤ history.room.turns },
+    ghost of_entries: { entries_left ≤ history.room.entries },
+    ghost of_bytes: { bytes_left ≤ history.room.bytes },
 }
 
 impl Reader {
+    ghost use Rattle.std.specs.Prelude.{◌≡◌, ◌<◌, ◌≤◌, length, IfOk, OnOk};
+    ghost use Rattle.text_spec.specs.JournalFaults.{start, head_fault, entry_fault, loss_fault};
+    ghost use Rattle.text_spec.specs.JournalReading.{after_line};
+    ghost use Rattle.text_spec.specs.JournalText.{begins, enters, loses};
+    ghost use Rattle.journal.specs.RawLines.{entry_told, loss_told};
+    ghost use Rattle.journal.specs.Answers.{Took, added};
+    ghost use Rattle.journal.specs.ReaderView.{past_of, Knows};
+
     pub(crate) fn new(alloc: Global) -> Result<Reader, NoMemory>
-        ensures turns { IfOk result (λ r. r.history.turns ≡ []) }
-        ensures losses { IfOk result (λ r. r.losses.items ≡ []) }
+        ensures { IfOk result (λ r. past_of r ≡ start) }
     {
         Ok(Reader {
             history: History::make(alloc, 0, 0, 0)?,
             losses: Vec::new(alloc),
             tick: 0,
+            entries: 0,
             calls: [0; 32],
+            pair: 0,
             pairs: BTreeSet::new(alloc),
-            least: 0,
+            turns_left: 0,
+            entries_left: 0,
+            bytes_left: 0,
+            room: [0; MAX_BYTES],
         })
     }
 
     /// Takes a line, or tells its first fault.
-    pub(crate) fn line(&mut self, config: &Config, line: &[u8]) -> Result<(), LineFault>
-        ensures { Took (told self.new.history.turns self.new.losses.items)
-            (after_line config.now (told self.old.history.turns self.old.losses.items) line.now) result }
+    pub(crate) fn line(&mut self, alloc: Global, config: &Config, line: &[u8]) -> Result<(), LineFault>
+        ensures { Took (past_of self.new) (after_line config.now (past_of self.old) line.now) result }
     {
         match line_of(Pieces::of(line, b' ')) {
             None => Err(LineFault::Fault(1)),
             Some(RawLine::Turn(head)) => self.begin(&head),
             Some(RawLine::Entry(entry)) => self.enter(config, &entry),
-            Some(RawLine::Loss(loss)) => self.lose(&loss),
+            Some(RawLine::Loss(loss)) => self.lose(alloc, &loss),
         }
     }
 
     /// Begins a turn.
     fn begin(&mut self, head: &TurnHead) -> Result<(), LineFault>
-        ensures { let before = told self.old.history.turns self.old.losses.items in
-            Took (told self.new.history.turns self.new.losses.items)
-            (added before (begins head.now) (head_fault before head.now)) result }
+        ensures { let past = past_of self.old in
+            Took (past_of self.new) (added past (begins head.now) (head_fault past head.now)) result }
     {
         self.check_head(head)?;
-        self.history.reserve(1, 0, 0)?;
+        let left = turn_room(&mut self.history, self.turns_left)?;
         self.history.begin(head);
+        self.turns_left = left - 1;
         self.tick = head.tick;
+        self.entries = 0;
         Ok(())
     }
 
     fn check_head(&self, head: &TurnHead) -> Result<(), u8>
-        ensures { result ≡ head_fault (told self.now.history.turns self.now.losses.items) head.now }
+        ensures { result ≡ head_fault (past_of self.now) head.now }
     {
         asks(2, self.losses.is_empty())?;
         asks(3, is_head(head))?;
@@ -94,99 +109,60 @@ impl Reader {
 
     /// Takes a report or a control.
     fn enter(&mut self, config: &Config, entry: &RawEntry<'_>) -> Result<(), LineFault>
-        ensures { let before = told self.old.history.turns self.old.losses.items in
-            Took (told self.new.history.turns self.new.losses.items)
-            (added before (enters (entry_told entry.now))
-            (entry_fault config.now before (entry_told entry.now))) result }
+        ensures { let past = past_of self.old in
+            Took (past_of self.new) (added past (enters (entry_told entry.now))
+            (entry_fault config.now past (entry_told entry.now))) result }
     {
         self.check_entry(config, entry)?;
-        let mut room = [0; MAX_BYTES];
-        let len = decode_context(&entry.act, &mut room);
-        let entry = entry_of(entry, &room[..len]);
-        Ok(self.add(&entry)?)
+        let len = decode_context(&entry.act, &mut self.room);
+        let (entries, bytes) = entry_room(&mut self.history, self.entries_left, self.bytes_left, len as u64)?;
+        let entry = entry_of(entry, &self.room[..len]);
+        self.history.add(&entry);
+        self.entries_left = entries - 1;
+        self.bytes_left = bytes - len as u64;
+        self.calls[entry.caller as usize] = entry.call + 1;
+        self.entries += 1;
+        Ok(())
     }
 
     fn check_entry(&self, config: &Config, entry: &RawEntry<'_>) -> Result<(), u8>
-        ensures fault { result ≡ entry_fault config.now
-            (told self.now.history.turns self.now.losses.items) (entry_told entry.now) }
+        ensures fault { result ≡ entry_fault config.now (past_of self.now) (entry_told entry.now) }
         ensures few { OnOk result (length config.now.events ≤ 256) }
     {
         asks(2, self.history.turns() > 0 && self.losses.is_empty())?;
         asks(3, is_call(entry.caller, entry.call) && is_act(&entry.act))?;
         asks(4, has_event(config, &entry.act))?;
-        asks(6, self.may_call(entry.caller, entry.call))?;
-        asks(7, self.last_entries() < MAX_ENTRIES)
-    }
-
-    /// The call is above the caller's calls so far.
-    fn may_call(&self, caller: u64, call: u64) -> bool
-        requires { caller ≤ 31 }
-        ensures { result ≡ nat_le (least_call self.now.history.turns caller) call }
-    {
-        self.calls[caller as usize] <= call
-    }
-
-    /// How many entries the last turn has, 0 where there is no turn.
-    fn last_entries(&self) -> u64
-        ensures { result ≡ entries_of_last self.now.history.turns }
-    {
-        let turns = self.history.turns();
-        if turns == 0 {
-            return 0;
-        }
-        self.history.entries(turns - 1)
-    }
-
-    /// Adds an entry that may follow to the last turn.
-    fn add(&mut self, entry: &Entry<Plain<'_>>) -> Result<(), NoMemory>
-        requires begun { 0 < length self.old.history.turns }
-        requires caller { entry.now.caller ≤ 31 }
-        requires call { entry.now.call < 2 ^ 40 }
-        requires rises { least_call self.old.history.turns entry.now.caller ≤ entry.now.call }
-        ensures turns { OnOk result (self.new.history.turns
-            ≡ with_entry self.old.history.turns (plain_entry entry.now)) }
-        ensures losses { OnOk result (self.new.losses.items ≡ self.old.losses.items) }
-    {
-        let pair = u64::from(entry.caller) * CALLS + entry.call;
-        self.history.reserve(0, 1, entry.kept_bytes().len() as u64)?;
-        self.pairs.insert(pair)?;
-        self.history.add(entry);
-        self.calls[entry.caller as usize] = entry.call + 1;
-        Ok(())
+        asks(6, self.calls[entry.caller as usize] <= entry.call)?;
+        asks(7, self.entries < MAX_ENTRIES)
     }
 
     /// Takes a loss.
-    fn lose(&mut self, loss: &RawLoss) -> Result<(), LineFault>
-        ensures { let before = told self.old.history.turns self.old.losses.items in
-            Took (told self.new.history.turns self.new.losses.items)
-            (added before (loses (loss_told loss.now)) (loss_fault before (loss_told loss.now))) result }
+    fn lose(&mut self, alloc: Global, loss: &RawLoss) -> Result<(), LineFault>
+        ensures { let past = past_of self.old in
+            Took (past_of self.new)
+            (added past (loses (loss_told loss.now)) (loss_fault past (loss_told loss.now))) result }
     {
-        self.check_loss(loss)?;
+        asks(3, is_call(loss.caller, loss.call) && is_claim(loss.given))?;
+        self.learn_pairs(alloc)?;
+        let pair = loss.caller * CALLS + loss.call;
+        asks(6, self.pair <= pair && is_free(&self.pairs, pair))?;
         self.losses.push(Loss {
             caller: loss.caller as u8,
             call: loss.call,
             given: loss.given,
         })?;
-        self.least = loss.caller * CALLS + loss.call + 1;
+        self.pair = pair + 1;
         Ok(())
     }
 
-    fn check_loss(&self, loss: &RawLoss) -> Result<(), u8>
-        ensures { result ≡ loss_fault
-            (told self.now.history.turns self.now.losses.items) (loss_told loss.now) }
+    /// Knows the pairs of entries from the first loss on.
+    fn learn_pairs(&mut self, alloc: Global) -> Result<(), NoMemory>
+        ensures same { OnOk result (past_of self.new ≡ past_of self.old) }
+        ensures knows { OnOk result (Knows self.new) }
     {
-        asks(3, is_call(loss.caller, loss.call) && is_claim(loss.given))?;
-        asks(6, self.may_lose(loss.caller, loss.call))
-    }
-
-    /// The caller and call of a loss are above those of the losses so far, and of no entry.
-    fn may_lose(&self, caller: u64, call: u64) -> bool
-        requires caller { caller ≤ 31 }
-        requires call { call < 2 ^ 40 }
-        ensures { result ≡ (nat_le (least_pair self.now.losses.items) (pair_of caller call)
-            && not (list_any (λ p. p == pair_of caller call) (entry_pairs self.now.history.turns))) }
-    {
-        let pair = caller * CALLS + call;
-        self.least <= pair && !self.pairs.contains(&pair)
+        if self.losses.is_empty() {
+            self.pairs = pairs_of(alloc, &self.history)?;
+        }
+        Ok(())
     }
 }

@@ -1,22 +1,24 @@
-ghost use Rattle.std.specs.Prelude.{◌≡◌, ◌<◌, ◌+◌, ◌^◌, [], map, length, vec_len, Ok, IfOk, IfErr};
-ghost use Rattle.ids_config.specs.Parts.{Parts};
-ghost use Rattle.text_spec.specs.JournalReading.{IsJournal, journal_in, after_lines, all_ended};
+ghost use Rattle.std.specs.Prelude.{◌≡◌, Ok, IfOk, IfErr};
+ghost use Rattle.text_spec.specs.JournalFaults.{start};
+ghost use Rattle.text_spec.specs.JournalReading.{IsJournal, journal_in, after_pieces};
 ghost use Rattle.text_spec.specs.JournalText.{Told};
+ghost use Rattle.text_spec.specs.Words.{line_feed, pieces_of};
 ghost use Rattle.journal.specs.Answers.{told, fault_at, IsFirstBad, HasNone, Reads};
+ghost use Rattle.journal.specs.ReaderView.{past_of};
 
 use crate::fault::{JournalFault, LineFault};
 use crate::reader::Reader;
 use ids_config::Config;
 use ids_types::{History, Loss};
 use std::alloc::Global;
-use text_spec::ended_lines;
+use text_spec::cut;
 
 /// What a journal tells.
 #[derive(Debug, Drop)]
 pub struct Journal {
     /// The turns of a run, each with its entries.
     pub history: History,
-    /// The reports that found no event buffer, by caller and then by call.
+    /// The calls that found no event buffer, by caller and then by call.
     pub losses: Vec<Loss>,
 }
 
@@ -44,34 +46,35 @@ pub fn read(alloc: Global, text: &[u8], config: &Config) -> Result<Journal, Jour
 fn read_lines(alloc: Global, text: &[u8], config: &Config) -> Result<Journal, JournalFault>
     ensures { Reads (λ j. told j.history.turns j.losses.items) (journal_in config.now text.now) result }
 {
-    let (lines, rest) = ended_lines(alloc, text)?;
-    let reader = read_all(alloc, &lines, config)?;
-    if !rest.is_empty() {
-        return Err(JournalFault::Line {
-            line: lines.len() as u64 + 1,
-            number: 1,
-        });
-    }
+    let reader = read_all(alloc, text, config)?;
     Ok(Journal {
         history: reader.history,
         losses: reader.losses,
     })
 }
 
-/// The reader behind these lines, which stand first in the text.
-fn read_all(alloc: Global, lines: &[&[u8]], config: &Config) -> Result<Reader, JournalFault>
-    requires { length lines.now + 1 < 2 ^ 64 }
-    ensures { Reads (λ r. told r.history.turns r.losses.items)
-        (after_lines config.now 1 (told [] []) (map (λ l. l.now) lines.now)) result }
+/// The reader behind the lines of a text, each of which is ended.
+fn read_all(alloc: Global, text: &[u8], config: &Config) -> Result<Reader, JournalFault>
+    ensures { Reads past_of (after_pieces config.now 1 start (pieces_of line_feed text.now)) result }
 {
     let mut reader = Reader::new(alloc)?;
-    for i in 0..lines.len() {
-        match reader.line(config, lines[i]) {
+    let mut number = 1u64;
+    let mut rest = text;
+    'lines: loop {
+        let (line, behind) = cut(rest, b'\n');
+        let Some(behind) = behind else {
+            if line.is_empty() {
+                return Ok(reader);
+            }
+            return Err(JournalFault::Line { line: number, number: 1 });
+        };
+        match reader.line(alloc, config, line) {
             Ok(()) => {}
-            Err(fault) => return Err(at_line(i as u64 + 1, fault)),
+            Err(fault) => return Err(at_line(number, fault)),
         }
+        number += 1;
+        rest = behind;
     }
-    Ok(reader)
 }
 
 /// Why the line of this number was not taken.

@@ -1,5 +1,5 @@
 -- What turns and losses that fit a configuration keep.
-use Rattle.std.proofs.Common.{◌≡◌, ◌≢◌, ℕ, ◌+◌, ◌<◌, ◌≤◌, ◌==◌, ◌||◌, Bool, true, false, inl, inr, List, [], ◌∷◌, ◌++◌, length, map, set, get_or, length-set, get_or-set_same, get_or-set_other, refl, sym, ap, subst, ◌∙◌, append_assoc, arith}
+use Rattle.std.proofs.Common.{◌≡◌, ◌≢◌, ℕ, ◌+◌, ◌<◌, ◌≤◌, ◌==◌, ◌||◌, true, false, inl, inr, List, [], ◌∷◌, ◌++◌, length, map, set, get_or, length-set, get_or-set_same, get_or-set_other, refl, sym, ap, subst, ◌∙◌, append_assoc, arith}
 use Rattle.std.specs.Prelude.{Ok}
 use Rattle.std.specs.List.{AllByRecursion, flat_map, list_any}
 use Rattle.std.proofs.lemmas.Bool.{and_from, both_ways, cases_eq, eq-eqb}
@@ -8,7 +8,7 @@ use Rattle.std.proofs.lemmas.List.Folds.{list_any-append}
 use Rattle.ids_config.specs.Parts.{Parts}
 use Rattle.ids_types.specs.declared.entry.Entry.{Entry}
 use Rattle.ids_types.specs.Turns.{Turn, begun, with_entry, entries_of}
-use Rattle.text_spec.specs.JournalFaults.{Past, is_in_ranges, fault_of, next, start, has_pair, pair_of}
+use Rattle.text_spec.specs.JournalFaults.{Past, is_in_ranges, fault_of, next, start, is_pair, has_pair, pair_of}
 use Rattle.text_spec.specs.JournalReading.{AreFaultless, Fits, Follows}
 use Rattle.text_spec.specs.JournalText.{Told, Line, begins, enters, loses, turn_told, lines_told}
 use Rattle.text_spec.proofs.JournalFacts.{head_passes, entry_passes, loss_passes, flat_map-push}
@@ -33,16 +33,12 @@ fits_in_ranges config told fits = all_in_ranges config start (lines_told told) f
 
 -- ---- order
 
-entries_of-with_entry : (turns : List Turn) (entry : Entry (List ℕ)) → 0 < length turns → entries_of (with_entry turns entry) ≡ entries_of turns ++ entry ∷ []
+pub entries_of-with_entry : (turns : List Turn) (entry : Entry (List ℕ)) → 0 < length turns → entries_of (with_entry turns entry) ≡ entries_of turns ++ entry ∷ []
 entries_of-with_entry [] entry some = absurd (omega arith)
 entries_of-with_entry (turn ∷ []) entry some = append-nil (turn.entries ++ entry ∷ []) ∙ ap (λ (es : List (Entry (List ℕ))). es ++ entry ∷ []) (sym (append-nil turn.entries))
 entries_of-with_entry (turn ∷ another ∷ turns) entry some =
     ap (λ (es : List (Entry (List ℕ))). turn.entries ++ es) (entries_of-with_entry (another ∷ turns) entry (omega arith))
     ∙ sym (append_assoc turn.entries (entries_of (another ∷ turns)) (entry ∷ []))
-
--- the test of a pair
-abbrev is_pair : ℕ → Entry (List ℕ) → Bool
-is_pair pair e = pair_of e.caller e.call == pair
 
 -- what the lines so far keep of one of them
 abbrev Keeps : Past → Line → Type 0

@@ -1,5 +1,5 @@
 -- The first piece of a text that is cut at a separator.
-use Rattle.std.proofs.Common.{◌≡◌, ℕ, ◌+◌, Bool, List, [], ◌∷◌, length, take, drop, Some, None, sym, ap, ◌∙◌, arith, inl, inr}
+use Rattle.std.proofs.Common.{◌≡◌, ℕ, ◌+◌, Bool, ◌<◌, List, [], ◌∷◌, length, take, drop, Some, None, sym, ap, subst, ◌∙◌, arith, inl, inr}
 use Rattle.std.specs.Prelude.{nat_lt, position}
 use Rattle.std.specs.List.{slice_split, position_or_len}
 use Rattle.std.proofs.lemmas.Bool.{cases_Bool, cond-true, ltb-true, ltb-false}
@@ -27,3 +27,10 @@ cut_none p text found =
           let far = ltb-false at (length text) past in
           slice_split_none p text (λ k d below. fails_before_first p text k d (omega arith))
     ]
+
+-- a place that was found is in the text
+pub position_within : (p : ℕ → Bool) (text : List ℕ) (i : ℕ) → position p text ≡ Some i → i < length text
+position_within p text i found =
+    let at = position_or_len p text in
+    let parts = cond_some (nat_lt at (length text)) at i found in
+    subst (λ k. k < length text) parts.1 (ltb-true at (length text) parts.0)

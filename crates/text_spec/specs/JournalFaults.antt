@@ -80,9 +80,12 @@ pub record Past : Type 0 where
 abbrev pub pair_of : ℕ → ℕ → ℕ
 pair_of caller call = caller * 2 ^ 40 + call
 
--- whether one of the entries is this pair's
+-- whether an entry, or one of those of turns, is this pair's
+abbrev pub is_pair : ℕ → Entry (List ℕ) → Bool
+is_pair pair entry = pair_of entry.caller entry.call == pair
+
 abbrev pub has_pair : List Turn → ℕ → Bool
-has_pair turns pair = list_any (λ e. pair_of e.caller e.call == pair) (entries_of turns)
+has_pair turns pair = list_any (is_pair pair) (entries_of turns)
 
 -- nothing is told yet
 abbrev pub nothing : Told

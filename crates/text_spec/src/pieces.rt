@@ -1,4 +1,4 @@
-ghost use Rattle.std.specs.Prelude.{◌≡◌, ◌==◌, ℕ, List, ◌∷◌, option_map, position};
+ghost use Rattle.std.specs.Prelude.{◌≡◌, ◌==◌, ℕ, ◌<◌, List, ◌∷◌, length, option_map, IfSome, position};
 ghost use Rattle.text_spec.specs.Fields.{a_number, a_stamp, first_as};
 ghost use Rattle.text_spec.specs.Maybe.{first_of, ended as ended_of};
 ghost use Rattle.text_spec.specs.PiecesView.{pieces_left};
@@ -74,9 +74,10 @@ impl<'a> Pieces<'a> {
 }
 
 /// What stands before the first separator, and what stands behind it, if there is one.
-fn cut(text: &[u8], separator: u8) -> (&[u8], Option<&[u8]>)
-    ensures { pieces_of separator text.now ≡
+pub fn cut(text: &[u8], separator: u8) -> (&[u8], Option<&[u8]>)
+    ensures pieces { pieces_of separator text.now ≡
         result.0.now ∷ pieces_left separator (option_map (λ r. r.now) result.1) }
+    ensures shorter { IfSome result.1 (λ r. length r.now < length text.now) }
 {
     match place_of(text, separator) {
         None => (text, None),

@@ -1,5 +1,5 @@
 use Rattle.std.proofs.Common.{◌≡◌, ◌-◌, take, length}
-use Rattle.text_spec.specs.JournalForm.{numbers_in}
+use Rattle.text_spec.specs.Contexts.{numbers_in}
 use Rattle.journal.proofs.FormLemmas.{with_front}
 use Rattle.journal.proofs.form.numbers_of.Given as goal
 

@@ -1,8 +1,16 @@
-use Rattle.std.proofs.Common.{◌≡◌, ◌+◌, [], map, drop}
-use Rattle.text_spec.specs.JournalReading.{after_lines}
-use Rattle.journal.specs.Answers.{told}
+use Rattle.std.proofs.Common.{◌≡◌, ◌≤◌, ◌+◌, length}
+use Rattle.text_spec.specs.JournalFaults.{start}
+use Rattle.text_spec.specs.JournalReading.{after_pieces}
+use Rattle.text_spec.specs.Words.{line_feed, pieces_of}
+use Rattle.journal.specs.ReaderView.{past_of}
 use Rattle.journal.proofs.reading.read_all.Given as goal
 
--- the lines that are left lead to where all lines lead
-abbrev pub invariant-loop-i : goal.invariant-loop-i
-invariant-loop-i l = after_lines l.config (l.i + 1) (told l.reader.history.turns l.reader.losses.items) (map (λ line. line.now) (drop l.i l.lines)) ≡ after_lines l.config 1 (told [] []) (map (λ line. line.now) l.lines)
+-- what the lines so far and those that are left tell is what all lines tell
+abbrev pub invariant-lines : goal.invariant-lines
+invariant-lines l = record {
+  tells : after_pieces l.config l.number (past_of l.reader) (pieces_of line_feed l.rest) ≡ after_pieces l.config 1 start (pieces_of line_feed l.text);
+  counted : l.number + length l.rest ≤ length l.text + 1;
+}
+
+abbrev pub decreases-lines : goal.decreases-lines
+decreases-lines l = length l.rest

@@ -1,0 +1,11 @@
+use Rattle.std.proofs.Common.{◌≡◌, ℕ, ◌<◌, ◌^◌, ◌||◌, take}
+use Rattle.std.specs.BTreeSet.{contains}
+use Rattle.std.specs.List.{list_any}
+use Rattle.std.specs.Ordering.{nat_cmp}
+use Rattle.ids_types.specs.Turns.{turn_at}
+use Rattle.text_spec.specs.JournalFaults.{is_pair}
+use Rattle.journal.proofs.pairs.add_pairs.Given as goal
+
+-- the set has the pairs of the turn's first entries beside those that it had
+abbrev pub invariant-loop-i : goal.invariant-loop-i
+invariant-loop-i l = (p : ℕ) → p < 2 ^ 48 → contains nat_cmp l.pairs p ≡ (contains nat_cmp l.initial.pairs p || list_any (is_pair p) (take l.i (turn_at l.history.turns l.turn).entries))
