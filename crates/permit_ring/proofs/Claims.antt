@@ -15,6 +15,7 @@ use Rattle.ring_core.specs.declared.word.PermitWord.{PermitWord}
 use Rattle.ring_core.specs.Machine.{Machine, opening, seat_at, claimed_from, next}
 use Rattle.ring_core.specs.Sound.{IsRing, Holds}
 use Rattle.ring_core.specs.Words.{packed, field_of, IsPackable, IsReadable}
+use Rattle.ring_core.proofs.Bounds.{small}
 use Rattle.ring_core.proofs.Claims.{vain_after, served_after}
 use Rattle.ring_core.proofs.Nexts.{claim_served_next, claim_vain_next}
 use Rattle.ring_core.proofs.RingLaws.{armed_leaves_field, step_of_next, word_packs}
@@ -270,7 +271,8 @@ module _ {O D T N : Type 0} (note : D → N) (Ao : T → O → Type 0) (An : T �
         × (IsReadable key.limit (slice_index s.words 0)
         × (0 < word.free → (y : O) × Ao key.terms y × ◌≡◌ {A = Known O D T N} (w, carried_after hand a) (Sits key (memo_by word b), (word.claimed % slots, Offered y) ∷ hand))
         × (word.free ≡ 0 → ◌≡◌ {A = Known O D T N} (w, carried_after hand a) (Sits key (memo_by word b), hand))
-        × IsOrdered (seat_in w))
+        × IsOrdered (seat_in w)
+        × (word.claimed ≤ 2 ^ 45))
 
     ends_by : (slots : ℕ) (hand : List (ℕ × Slot O D)) → slots ≡ n → (b : Bool) → nat_lt 0 m.word.free ≡ b → EndsBy slots hand m.word b
     ends_by slots hand same true e =
@@ -280,7 +282,7 @@ module _ {O D T N : Type 0} (note : D → N) (Ao : T → O → Type 0) (An : T �
           takes (m.word.claimed % n) (Offered slot.0),
           slot.2,
           served_runs free,
-          (number_reads note Ao An key s r, (λ _. (slot.0, slot.1, ap (λ (k : ℕ). (Sits key (served_memo free), (m.word.claimed % k, Offered slot.0) ∷ hand)) (sym same))), (λ full. absurd (omega (arith, free, full))), (knows_served free).ordered),
+          (number_reads note Ao An key s r, (λ _. (slot.0, slot.1, ap (λ (k : ℕ). (Sits key (served_memo free), (m.word.claimed % k, Offered slot.0) ∷ hand)) (sym same))), (λ full. absurd (omega (arith, free, full))), (knows_served free).ordered, (small m ring).claimed),
         )
     ends_by slots hand same false e =
         let none = ltb-false 0 m.word.free e in
@@ -289,7 +291,7 @@ module _ {O D T N : Type 0} (note : D → N) (Ao : T → O → Type 0) (An : T �
           keeps,
           tt,
           vain_runs full,
-          (number_reads note Ao An key s r, (λ free. absurd (omega (arith, free, full))), (λ _. refl), (knows_vain full).ordered),
+          (number_reads note Ao An key s r, (λ free. absurd (omega (arith, free, full))), (λ _. refl), (knows_vain full).ordered, (small m ring).claimed),
         )
 
   pub claims_allowed : (slots id : ℕ) (memo : SeatMemo N) (hand : List (ℕ × Slot O D)) → slots ≡ key.positions → memo.view.armed ≡ true

@@ -18,7 +18,7 @@ use Rattle.permit_ring.specs.declared.memo.Slot.TheVariants.{Empty}
 use Rattle.permit_ring.specs.declared.memo.View.{View}
 use Rattle.permit_ring.specs.declared.memo.View.TheVariants.{Keeps}
 use Rattle.permit_ring.specs.declared.ring.Ring.{Ring}
-use Rattle.permit_ring.specs.Calls.{tried}
+use Rattle.permit_ring.specs.Calls.{AreOthers, last_word, tried}
 use Rattle.permit_ring.specs.Hands.{hand_from, filled_then}
 use Rattle.permit_ring.specs.Plays.{Known, IsWord, keeper_in, limit_in, positions_in, on_keeper, ready, tried_offer}
 use Rattle.permit_ring.specs.Rule.{Runs}
@@ -184,6 +184,14 @@ module _ {F O D T N : Type 0} (Ao : T → O → Type 0) (ring : Ring F O D T N) 
       (subst (λ (x : ℕ × ℕ × PermitWord). IsWord x.0 x.1 x.2) (λ i. (sym positions i, limit i, was.seen_is i)) was.seen_packs)
       (was_old ∙ ap₂ packed limit was.seen_is) (was_new ∙ ap₂ packed limit (is ∙ ap₂ offered_to was.seen_is (sym count)))
 
+-- what is to be offered again is within the ring, and few were reaped
+pub within_ring : {F O D T N : Type 0} (Ao : T → O → Type 0) (ring : Ring F O D T N) (keeper : Keeper F O D T N) → IsKeeperOf Ao ring keeper
+    → (keeper.vacant + keeper.filled ≤ ring.positions) × (length (keeper_memo keeper).notes ≤ 2 ^ 45)
+within_ring Ao ring keeper is =
+    let account = is.account in
+    let offered = is.reaped_offered in
+    (omega (arith, account, offered), subst (λ (k : ℕ). k ≤ 2 ^ 45) is.reaped_is is.reaped_within)
+
 -- a token that keeps its table still keeps the ring
 pub keeping_after : {F O D T N : Type 0} (ring : Ring F O D T N) (place now : Token (Slot O D) (View T N)) (k : KeeperMemo N) (hand : List (ℕ × Slot O D)) → IsKeeping ring place → now.table_id ≡ place.table_id → now.me ≡ (Keeps ring.table.shared.key k, hand) → IsKeeping ring now
 keeping_after ring place now k hand was same told = record {
@@ -192,14 +200,14 @@ keeping_after ring place now k hand was same told = record {
   keeps = ap (λ me. me.0) told ∙ ap (λ me. Keeps ring.table.shared.key (keeper_in me.0)) (sym told);
 }
 
--- the last word that the tries found, or the one that was known before
-abbrev pub last_word : PermitWord → List PermitWord → PermitWord
-last_word word [] = word
-last_word word (next ∷ words) = last_word next words
-
 -- the keeper after tries that each found another word
 abbrev pub missed_all : {N : Type 0} → ℕ → ℕ → List PermitWord → KeeperMemo N → KeeperMemo N
 missed_all limit count missed k = record k { offers = k.offers + length missed; seen = last_word k.seen missed; moves = k.moves ++ map (tried limit count) missed }
+
+-- one more word that is another than the last
+pub others-more : (word next : PermitWord) (missed : List PermitWord) → AreOthers word missed → next ≢ last_word word missed → AreOthers word (missed ++ next ∷ [])
+others-more word next [] others other = (other, tt)
+others-more word next (first ∷ missed) others other = (others.0, others-more first next missed others.1 other)
 
 last-more : (word next : PermitWord) (missed : List PermitWord) → last_word word (missed ++ next ∷ []) ≡ next
 last-more word next [] = refl

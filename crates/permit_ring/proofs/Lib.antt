@@ -15,6 +15,7 @@ pub mod NewRings
 pub mod Offers
 pub mod Openings
 pub mod WordReads
+pub mod Positions
 pub mod Ready
 pub mod Refills
 pub mod RuleLaws

@@ -27,7 +27,7 @@ use Rattle.permit_ring.specs.Rule.{IsSeatMemo, Runs}
 use Rattle.permit_ring.specs.Steps.{looks, and_move}
 use Rattle.permit_ring.proofs.LogLemmas.{IsOrderly, orderly}
 use Rattle.permit_ring.proofs.MoveLemmas.{leads_on, by_seat-own, by_seat-else}
-use Rattle.permit_ring.proofs.SeatSteps.{IsStepOf, idle_decided, keeper_stays, limit_is, read_back, number_reads, none_free_at_front}
+use Rattle.permit_ring.proofs.SeatSteps.{IsStepOf, idle_decided, keeper_stays, limit_is, read_back, number_reads, few_claims, none_free_at_front}
 use Rattle.permit_ring.proofs.Stays.{fates_stay, slots_stay}
 use Rattle.permit_ring.proofs.States.{knows_it, seat_stays, seat_changes}
 
@@ -102,5 +102,5 @@ module _ {O D T N : Type 0} (note : D → N) (Ao : T → O → Type 0) (An : T �
         keeps,
         tt,
         subst (λ (word : PermitWord). Runs note Ao An key record { words = set s.words 0 (slice_index s.words 0); homes = s.homes; views = set s.views id (Sits key (looks key.limit word memo)) }) back (look_runs id memo idle few s r at),
-        (number_reads note Ao An key s r, refl, subst (λ (word : PermitWord). IsOrdered (looks key.limit word memo)) back (knows_new id memo idle few s r at).ordered),
+        (number_reads note Ao An key s r, refl, subst (λ (word : PermitWord). IsOrdered (looks key.limit word memo)) back (knows_new id memo idle few s r at).ordered, few_claims note Ao An key s r),
       )

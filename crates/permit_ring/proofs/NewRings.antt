@@ -82,7 +82,7 @@ module _ {F O D T N : Type 0} (Ao : T → O → Type 0) (ring : Ring F O D T N) 
         reaped_within = omega arith;
         reaped_offered = omega arith;
         seen_is = sym (ap (λ (k : KeeperMemo N). k.seen) now ∙ is.seen_is);
-        seen_packs = record { packs = record { tries_fit = omega arith; free_fits = omega (arith, most, few); over_fits = omega arith; either = inr refl }; free_within = omega (arith, positions) };
+        seen_packs = record { packs = record { tries_fit = omega arith; free_fits = omega (arith, most, few); over_fits = omega arith; either = inr refl }; free_within = omega (arith, positions); few = omega arith };
         account = omega (arith, offered, positions);
         next_is = sym (ap (λ (k : ℕ). 0 % k) positions ∙ first);
         vacancy_is = sym (ap₂ (λ (t k : ℕ). t % k) (let sum : (keeper_in place.me.0).offered + 0 ≡ 0 + n = omega (arith, offered) in sum) positions ∙ add-mod_right 0 n ∙ first);

@@ -13,6 +13,7 @@ use Rattle.ring_core.specs.declared.word.PermitWord.{PermitWord}
 use Rattle.ring_core.specs.Machine.{HasSizes, Machine, offered_to}
 use Rattle.ring_core.specs.Sound.{IsRing}
 use Rattle.ring_core.specs.Words.{field_of, packed, unpacked, IsPackable, IsReadable}
+use Rattle.ring_core.proofs.Bounds.{small}
 use Rattle.ring_core.proofs.Nexts.{offer_takes_next, offer_misses_next}
 use Rattle.ring_core.proofs.RingLaws.{word_packs, seen_packs, missed_field_falls}
 use Rattle.ring_core.proofs.Runs.{next_keeps}
@@ -89,11 +90,7 @@ module _ {O D N : Type 0} (note : D → N) (Admits : O → Type 0) (n : ℕ) (fa
 module _ (n limit : ℕ) (m : Machine) (ring : IsRing m) (sizes : HasSizes n limit m) where
   -- a ring's permit word is a word of its sizes
   pub word_in : IsWord n limit m.word
-  word_in = record { packs = subst (λ (l : ℕ). IsPackable l m.word) sizes.limit_is (word_packs m ring); free_within = subst (λ (k : ℕ). m.word.free ≤ k) sizes.positions_are ring.permits.free_within }
-
-  -- and so is the one that the keeper last read or left
-  pub seen_in : IsWord n limit m.seen
-  seen_in = record { packs = subst (λ (l : ℕ). IsPackable l m.seen) sizes.limit_is (seen_packs m ring); free_within = subst (λ (k : ℕ). m.seen.free ≤ k) sizes.positions_are ring.last.free_within }
+  word_in = record { packs = subst (λ (l : ℕ). IsPackable l m.word) sizes.limit_is (word_packs m ring); free_within = subst (λ (k : ℕ). m.word.free ≤ k) sizes.positions_are ring.permits.free_within; few = (small m ring).claimed }
 
 module _ {O D T N : Type 0} (note : D → N) (Ao : T → O → Type 0) (An : T → N → Type 0) (key : Key T) where
   -- what a try to offer tells the keeper
@@ -162,10 +159,10 @@ module _ {O D T N : Type 0} (note : D → N) (Ao : T → O → Type 0) (An : T �
         let knows = r.knows in
         let count : ℕ = ready hand in
         let now : Machine = record m { word = offered_to m.word count; offered = m.offered + count; seen = offered_to m.word count } in
-        let same : m.word ≡ m.seen = packed_apart key.limit m.word m.seen few_seats fits.packs (seen_in key.positions key.limit m ring sizes).packs (sym read_word ∙ hit ∙ was ∙ ap (packed key.limit) (sym knows.seen_is)) in
+        let same : m.word ≡ m.seen = packed_apart key.limit m.word m.seen few_seats fits.packs (subst (λ (l : ℕ). IsPackable l m.seen) sizes.limit_is (seen_packs m ring)) (sym read_word ∙ hit ∙ was ∙ ap (packed key.limit) (sym knows.seen_is)) in
         let word : m.word ≡ k.seen = same ∙ knows.seen_is in
         let leads = offer_takes_next m count filled machine_room same in
-        let left = seen_in key.positions key.limit now (subst (λ (o : Option Machine). IfSome o IsRing) leads (next_keeps m ring (Offer count))) record { positions_are = sizes.positions_are; limit_is = sizes.limit_is } in (
+        let left = word_in key.positions key.limit now (subst (λ (o : Option Machine). IfSome o IsRing) leads (next_keeps m ring (Offer count))) record { positions_are = sizes.positions_are; limit_is = sizes.limit_is } in (
           Keeps key (offers_all key.limit count k),
           gives_all count,
           gives_valid count s.homes hand,

@@ -40,11 +40,13 @@ module _ {O D T N : Type 0} (note : D → N) (Ao : T → O → Type 0) (An : T �
       (subst (λ (v : View T N). Allows (Runs note Ao An key) slots id (v, me.1) (suc kind) (λ n. (n + 1) % 2 ^ 64) (marked_loss (step slots (suc kind) 1 0 none) (v, me.1))) (sym sits) (marks_allowed note Ao An key slots id kind (seat_in me.0) me.1 low few))
 
 -- a finish of a token that has just put a value into its slot
-pub finish_ready_with : {O D T N : Type 0} (note : D → N) (Ao : T → O → Type 0) (An : T → N → Type 0) (key : Key T) (slots id : ℕ) (old me : Known O D T N) (n t : ℕ) (d : D) (rest : List (ℕ × Slot O D)) → old.0 ≡ Sits key (seat_in old.0) → me ≡ (old.0, (t % n, Finished d) ∷ rest) → key.positions ≡ n → Holds (seat_in old.0).view t → An key.terms (note d)
-    → Allows (Runs note Ao An key) slots id me (t % n + 3) (λ _. t + 1) (λ _. finished_value note (step slots (t % n + 3) (t + 1) 0 none) me (t + 1))
-finish_ready_with {O = O} {D = D} {T = T} {N = N} note Ao An key slots id old me n t d rest sits is same holds admitted =
-    subst (λ (k : Known O D T N). Allows (Runs note Ao An key) slots id k (t % n + 3) (λ _. t + 1) (λ _. finished_value note (step slots (t % n + 3) (t + 1) 0 none) k (t + 1))) (sym is)
-    (finish_ready note Ao An key slots id (old.0, (t % n, Finished d) ∷ rest) sits (t % n + 3) t d rest (ap (λ (k : ℕ). (t % k, Finished d) ∷ rest) (sym same)) holds admitted (ap (λ (k : ℕ). t % k + 3) (sym same)))
+pub finish_ready_with : {O D T N : Type 0} (note : D → N) (Ao : T → O → Type 0) (An : T → N → Type 0) (key : Key T) (slots id : ℕ) (old me : Known O D T N) (n t at : ℕ) (d : D) (rest : List (ℕ × Slot O D))
+    → old.0 ≡ Sits key (seat_in old.0) → me ≡ (old.0, (at, Finished d) ∷ rest) → at ≡ t % n → key.positions ≡ n → Holds (seat_in old.0).view t → An key.terms (note d)
+    → Allows (Runs note Ao An key) slots id me (at + 3) (λ _. t + 1) (λ _. finished_value note (step slots (at + 3) (t + 1) 0 none) me (t + 1))
+finish_ready_with {O = O} {D = D} {T = T} {N = N} note Ao An key slots id old me n t at d rest sits is place same holds admitted =
+    let here : at ≡ t % key.positions = place ∙ ap (λ (k : ℕ). t % k) (sym same) in
+    subst (λ (k : Known O D T N). Allows (Runs note Ao An key) slots id k (at + 3) (λ _. t + 1) (λ _. finished_value note (step slots (at + 3) (t + 1) 0 none) k (t + 1))) (sym is)
+    (finish_ready note Ao An key slots id (old.0, (at, Finished d) ∷ rest) sits (at + 3) t d rest (ap (λ (k : ℕ). (k, Finished d) ∷ rest) here) holds admitted (ap (λ (k : ℕ). k + 3) here))
 
 module _ {O D T N : Type 0} (note : D → N) (Ao : T → O → Type 0) (An : T → N → Type 0) (key : Key T) (slots id : ℕ) (me : Known O D T N) (keeps : me.0 ≡ Keeps key (keeper_in me.0)) where
   pub see_ready : (word : ℕ) → slots ≡ key.positions → word ≡ length (keeper_in me.0).notes % key.positions + 3 → Allows (Runs note Ao An key) slots id me word (λ n. n) (saw_mark note An (step slots word 0 0 none) me)

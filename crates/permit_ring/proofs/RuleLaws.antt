@@ -61,14 +61,14 @@ module _ {N : Type 0} where
   got_in (Got u y ∷ log) (suc j) t x e = let rest = got_in log j t x e in (suc rest.0, rest.1)
 
   -- and stands in the log
-  got_from : (log : List (Outcome N)) (k t : ℕ) (x : N) → get_elem? (got_of log) k ≡ some (t, x) → (j : ℕ) × (get_elem? log j ≡ some (Got t x))
+  pub got_from : (log : List (Outcome N)) (k t : ℕ) (x : N) → get_elem? (got_of log) k ≡ some (t, x) → (j : ℕ) × (get_elem? log j ≡ some (Got t x))
   got_from [] k t x e = absurd (some-ne-none (t, x) (sym e))
   got_from (Lost g ∷ log) k t x e = let rest = got_from log k t x e in (suc rest.0, rest.1)
   got_from (Got u y ∷ log) zero t x e = (0, ap (λ (p : ℕ × N). some (Got p.0 p.1)) (some-injective (u, y) (t, x) e))
   got_from (Got u y ∷ log) (suc k) t x e = let rest = got_from log k t x e in (suc rest.0, rest.1)
 
   -- a ticket that the seat finished is among those that it took
-  taken_in : (i from : ℕ) (fates : List (Option (ℕ × N))) (u t : ℕ) (x : N) → t ≡ from + u → get_elem? fates u ≡ some (Some (i, x)) → (k : ℕ) × (get_elem? (taken_by i from fates) k ≡ some (t, x))
+  pub taken_in : (i from : ℕ) (fates : List (Option (ℕ × N))) (u t : ℕ) (x : N) → t ≡ from + u → get_elem? fates u ≡ some (Some (i, x)) → (k : ℕ) × (get_elem? (taken_by i from fates) k ≡ some (t, x))
   taken_in i from [] u t x is e = absurd (some-ne-none (Some (i, x)) (sym e))
   taken_in i from (None ∷ fates) zero t x is e = absurd (none-some (i, x) (some-injective None (Some (i, x)) e))
   taken_in i from (None ∷ fates) (suc u) t x is e = taken_in i (suc from) fates u t x (omega (arith, is)) e
@@ -126,7 +126,7 @@ module _ {N : Type 0} where
       omega (arith, first, own, rest)
 
   -- and above that of each
-  within_end : (low : ℕ) (log : List (Outcome N)) (j : ℕ) (a : Outcome N) → RisesFrom low log → get_elem? log j ≡ some a → end_of a ≤ end_from low log
+  pub within_end : (low : ℕ) (log : List (Outcome N)) (j : ℕ) (a : Outcome N) → RisesFrom low log → get_elem? log j ≡ some a → end_of a ≤ end_from low log
   within_end low [] j a rises e = absurd (some-ne-none a (sym e))
   within_end low (r ∷ log) zero a rises e = subst (λ (o : Outcome N). end_of o ≤ end_from (end_of r) log) (some-injective r a e) (low_to_end (end_of r) log rises.1)
   within_end low (r ∷ log) (suc j) a rises e = within_end (end_of r) log j a rises.1 e

@@ -11,6 +11,7 @@ use Rattle.ring_core.specs.declared.step.Step.{Step}
 use Rattle.ring_core.specs.declared.word.PermitWord.{PermitWord}
 use Rattle.ring_core.specs.Machine.{Machine, opening, seat_at}
 use Rattle.ring_core.specs.Words.{packed, unpacked, field_of, tries_of, IsPackable, IsReadable}
+use Rattle.ring_core.proofs.Bounds.{small}
 use Rattle.ring_core.proofs.RingLaws.{word_packs, all_claimed}
 use Rattle.ring_core.proofs.SeatLemmas.{Idle, live_is_made, seat_at-else}
 use Rattle.ring_core.proofs.WordLemmas.{unpacked-packed}
@@ -87,6 +88,10 @@ module _ {O D T N : Type 0} (note : D → N) (Ao : T → O → Type 0) (An : T �
 
   pub number_reads : IsReadable key.limit (slice_index s.words 0)
   number_reads = subst (IsReadable key.limit) (sym number_is) (readable key.limit r.machine.word word_packs_here)
+
+  -- and its claims are few
+  pub few_claims : (unpacked key.limit (slice_index s.words 0)).claimed ≤ 2 ^ 45
+  few_claims = subst (λ (word : PermitWord). word.claimed ≤ 2 ^ 45) (sym read_back) (small r.machine (ring_of note Ao An key s r)).claimed
 
   -- where none is free, the number of claims is the last front
   pub none_free_at_front : r.machine.word.free ≡ 0 → StandsIn r.keeper.fronts r.machine.word.claimed

@@ -21,17 +21,19 @@ use Rattle.ring_core.proofs.SeatLemmas.{live_is_made}
 use Rattle.ring_core.proofs.Turns.{one_turn}
 use Rattle.permit_ring.specs.declared.memo.Key.{Key}
 use Rattle.permit_ring.specs.declared.memo.KeeperMemo.{KeeperMemo}
+use Rattle.permit_ring.specs.declared.memo.Outcome.TheVariants.{Got}
 use Rattle.permit_ring.specs.declared.memo.SeatMemo.{SeatMemo}
 use Rattle.permit_ring.specs.declared.memo.Slot.{Slot}
 use Rattle.permit_ring.specs.declared.memo.Slot.TheVariants.{Finished}
 use Rattle.permit_ring.specs.declared.memo.View.{View}
 use Rattle.permit_ring.specs.declared.memo.View.TheVariants.{Keeps}
-use Rattle.permit_ring.specs.Closing.{AreAllBack, IsSettled, IsWholeLog}
+use Rattle.permit_ring.specs.Closing.{AreAllBack, IsAllReaped, IsSettled, IsWholeLog}
 use Rattle.permit_ring.specs.Logs.{IsOrdered, end_from, taken_by}
 use Rattle.permit_ring.specs.Plays.{Known, saw_mark}
 use Rattle.permit_ring.specs.Rule.{words_of, AreSlots, IsSomewhere, Runs}
 use Rattle.permit_ring.specs.Steps.{and_move, reaps, waits}
 use Rattle.permit_ring.proofs.KeeperSteps.{Ends, keeper_allowed, keeper_steps, sizes_of}
+use Rattle.permit_ring.proofs.RuleLaws.{got_from, taken_in, within_end}
 use Rattle.permit_ring.proofs.Stays.{places_apart}
 use Rattle.permit_ring.proofs.States.{ring_of}
 use Rattle.permit_ring.proofs.ListLemmas.{at_end, at_length, there}
@@ -185,6 +187,28 @@ module _ {O D T N : Type 0} (note : D → N) (Ao : T → O → Type 0) (An : T �
           logs_are = λ i memo e. whole_log free all.0 all.1 i memo (r.each_seat i (Some memo) e);
         }
 
+    -- the next ticket is none of a seat that came back with all its calls reaped
+    past_back : (i : ℕ) (x : N) (b : Option (SeatMemo N)) → is_some b ≡ true → get_elem? r.keeper.back i ≡ some b → IsAllReaped r.keeper
+        → get_elem? r.fates r.machine.reaped ≡ some (Some (i, x)) → ⊥
+    past_back i x None is at reaped e = false≢true is
+    past_back i x (Some memo) is at reaped e =
+        let p = r.each_seat i (Some memo) at in
+        let took = taken_in i 0 r.fates r.machine.reaped r.machine.reaped x (omega arith) e in
+        let own = p.2.got ∙ ap (λ (j : ℕ). taken_by j 0 r.fates) p.0 in
+        let entry = got_from memo.log took.0 r.machine.reaped x (ap (λ (l : List (ℕ × N)). get_elem? l took.0) own ∙ took.1) in
+        let above = within_end 0 memo.log entry.0 (Got r.machine.reaped x) p.2.ordered.rises entry.1 in
+        let low = reaped i memo at in
+        let count = r.knows.reaped_is in
+        omega (arith, above, low, count)
+
+    -- so once all seats are back, the next ticket is finished only where some was not reaped
+    not_over : (i : ℕ) (x : N) → get_elem? r.fates r.machine.reaped ≡ some (Some (i, x)) → AreAllBack r.keeper → ¬ IsAllReaped r.keeper
+    not_over i x e back reaped =
+        let made = (r.are_fates.finished r.machine.reaped i x e).0 in
+        let long = r.knows.back_is in
+        let b = there r.keeper.back i (omega (arith, made, long)) in
+        past_back i x b.0 (back i b.0 b.1) b.1 reaped e
+
     -- the mark of the next ticket's position, where it is read
     read_mark : (word : ℕ) → word ≡ length r.keeper.notes % key.positions + 3 → slice_index s.words word ≡ mark_at r.machine.marks (r.machine.reaped % r.machine.positions)
     read_mark word e =
@@ -270,7 +294,7 @@ module _ {O D T N : Type 0} (note : D → N) (Ao : T → O → Type 0) (An : T �
                 swept1_is = knows.swept1_is;
               },
           (
-            (λ _. (d, (r.are_fates.finished m.reaped i (note d) fate).1, refl, omega (arith, count, out, account, offered), omega (arith, count, out, claimed))),
+            (λ _. (d, (r.are_fates.finished m.reaped i (note d) fate).1, refl, omega (arith, count, out, account, offered), omega (arith, count, out, claimed), not_over s r i (note d) fate)),
             λ miss. absurd (miss hit),
           ),
         )

@@ -1,8 +1,7 @@
 -- What the calls of seats and of the keeper do, as equations on what they know.
-use Rattle.std.specs.Prelude.{◌≡◌, ◌≢◌, ℕ, ◌+◌, ◌<◌, ◌⊎◌, false, List, [], ◌∷◌, ◌++◌, map, length, Option, Some, None, Result, Ok, Err}
+use Rattle.std.specs.Prelude.{◌≡◌, ◌≢◌, ℕ, ◌+◌, ◌<◌, ◌⊎◌, List, [], ◌∷◌, ◌++◌, map, length, Option, Some, None, Result, Ok, Err}
 use Rattle.ids_types.specs.declared.names.Ticket.{Ticket}
-use Rattle.ring_core.specs.declared.seat.SeatView.{SeatView}
-use Rattle.ring_core.specs.declared.step.Step.TheVariants.{Look, Claim, Offer}
+use Rattle.ring_core.specs.declared.step.Step.TheVariants.{Offer}
 use Rattle.ring_core.specs.declared.word.PermitWord.{PermitWord}
 use Rattle.ring_core.specs.Machine.{offered_to}
 use Rattle.ring_core.specs.Words.{packed}
@@ -10,43 +9,32 @@ use Rattle.permit_ring.specs.declared.answer.Look.{Look as Shown}
 use Rattle.permit_ring.specs.declared.answer.Unready.{Unready}
 use Rattle.permit_ring.specs.declared.memo.KeeperMemo.{KeeperMemo}
 use Rattle.permit_ring.specs.declared.memo.Move.{Move}
-use Rattle.permit_ring.specs.declared.memo.Outcome.TheVariants.{Lost}
 use Rattle.permit_ring.specs.declared.memo.SeatMemo.{SeatMemo}
 use Rattle.permit_ring.specs.Moves.{move}
-use Rattle.permit_ring.specs.Steps.{waits, reaps, reads}
-
--- the seat with one call more, which got this ticket
-abbrev pub with_ticket : ℕ → SeatView → SeatView
-with_ticket t view = record view { calls = view.calls + 1; armed = false; held = Some (record { 0 = t }) }
-
--- the seat with one call more
-abbrev pub with_call : SeatView → SeatView
-with_call view = record view { calls = view.calls + 1 }
-
--- the look and the claim of a call, with the words that they found
-abbrev pub look_and_claim : ℕ → ℕ → PermitWord → PermitWord → List Move
-look_and_claim limit i first second = move (Look i) (packed limit first) ∷ move (Claim i) (packed limit second) ∷ []
+use Rattle.permit_ring.specs.Steps.{looks, claims, waits, reaps, reads}
 
 module _ {N : Type 0} where
-  -- a claim that got a ticket: its look and its claim found a position free, and the claim's word had so many claims
+  -- a claim that got a ticket: its look and its claim found a position free, and so many were claimed at its claim
   abbrev pub GotTicket : ℕ → SeatMemo N → ℕ → SeatMemo N → Type 0
-  GotTicket limit old t new = (first : PermitWord) × (second : PermitWord) × (0 < first.free) × (0 < second.free) × (second.claimed ≡ t)
-      × (new ≡ record old { view = with_ticket t old.view; moves = old.moves ++ look_and_claim limit old.number first second })
+  GotTicket limit old t new = (first second : PermitWord) × (0 < first.free) × (0 < second.free) × (second.claimed ≡ t) × (new ≡ claims limit second (looks limit first old))
 
   -- a call that was lost at its look, which found none free
   abbrev pub LostLook : ℕ → SeatMemo N → ℕ → SeatMemo N → Type 0
-  LostLook limit old g new = (word : PermitWord) × (word.free ≡ 0) × (word.claimed ≡ g)
-      × (new ≡ record old { view = with_call old.view; log = old.log ++ Lost g ∷ []; moves = old.moves ++ move (Look old.number) (packed limit word) ∷ [] })
+  LostLook limit old g new = (word : PermitWord) × (word.free ≡ 0) × (word.claimed ≡ g) × (new ≡ looks limit word old)
 
   -- and one that was lost at its claim, after a look that found a position free
   abbrev pub LostClaim : ℕ → SeatMemo N → ℕ → SeatMemo N → Type 0
-  LostClaim limit old g new = (first : PermitWord) × (second : PermitWord) × (0 < first.free) × (second.free ≡ 0) × (second.claimed ≡ g)
-      × (new ≡ record old { view = with_call old.view; log = old.log ++ Lost g ∷ []; moves = old.moves ++ look_and_claim limit old.number first second })
+  LostClaim limit old g new = (first second : PermitWord) × (0 < first.free) × (second.free ≡ 0) × (second.claimed ≡ g) × (new ≡ claims limit second (looks limit first old))
 
   -- a claim got a ticket, or was lost, and answers the word that showed it
   abbrev pub ClaimTells : ℕ → SeatMemo N → Result Ticket Shown → SeatMemo N → Type 0
   ClaimTells limit old (Ok ticket) new = GotTicket limit old ticket.0 new
   ClaimTells limit old (Err look) new = (look.free ≡ 0) × (LostLook limit old look.claimed new ⊎ LostClaim limit old look.claimed new)
+
+-- how many claims had got a ticket where a call got this answer
+abbrev pub claimed_at : Result Ticket Shown → ℕ
+claimed_at (Ok ticket) = ticket.0
+claimed_at (Err look) = look.claimed
 
 -- the ticket that a call got
 abbrev pub ticket_got : Result Ticket Shown → Option Ticket
@@ -68,15 +56,25 @@ vacant_after vacant (Err unready) = vacant
 abbrev pub tried : ℕ → ℕ → PermitWord → Move
 tried limit count word = move (Offer count) (packed limit word)
 
--- tries to offer some positions: some that each missed, and found another word than the keeper's, and one that found the keeper's and left it with these positions free
+-- each word is another than the one before it
+abbrev pub AreOthers : PermitWord → List PermitWord → Type 0
+AreOthers word [] = Unit {0}
+AreOthers word (next ∷ words) = (next ≢ word) × AreOthers next words
+
+-- the last of some words, or the one before all of them
+abbrev pub last_word : PermitWord → List PermitWord → PermitWord
+last_word word [] = word
+last_word word (next ∷ words) = last_word next words
+
+-- tries to offer some positions: some that each missed, and found another word than the one known before, and one that found the last and left it with these positions free
 abbrev pub TriesTell : {N : Type 0} → ℕ → ℕ → KeeperMemo N → ℕ → KeeperMemo N → Type 0
-TriesTell limit count old tries new = (missed : List PermitWord) × (word : PermitWord) × (tries ≡ length missed + 1)
+TriesTell limit count old tries new = (missed : List PermitWord) × (tries ≡ length missed + 1) × AreOthers old.seen missed
     × (new ≡ record old {
       fronts = old.fronts ++ (old.offered + count) ∷ [];
       offered = old.offered + count;
       offers = old.offers + tries;
-      seen = offered_to word count;
-      moves = old.moves ++ map (tried limit count) (missed ++ word ∷ []);
+      seen = offered_to (last_word old.seen missed) count;
+      moves = old.moves ++ map (tried limit count) (missed ++ last_word old.seen missed ∷ []);
     })
 
 -- an offer of some positions: a look at the permit word, and then the tries

@@ -14,6 +14,10 @@ module _ {N : Type 0} where
   abbrev pub AreAllBack : KeeperMemo N → Type 0
   AreAllBack k = (i : ℕ) (back : Option (SeatMemo N)) → get_elem? k.back i ≡ some back → is_some back ≡ true
 
+  -- no seat that came back has a call above the tickets that were reaped
+  abbrev pub IsAllReaped : KeeperMemo N → Type 0
+  IsAllReaped k = (i : ℕ) (memo : SeatMemo N) → get_elem? k.back i ≡ some (Some memo) → end_from 0 memo.log ≤ length k.notes
+
   -- the log of seat i, when it came back: each of its calls in order, lost at a front or got
   pub record IsWholeLog (fronts : List ℕ) (taken : List (ℕ × N)) (i : ℕ) (memo : SeatMemo N) : Type 0 where
     pub number_is : memo.number ≡ i

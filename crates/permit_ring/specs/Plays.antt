@@ -10,7 +10,7 @@ use Rattle.permit_ring.specs.declared.memo.Slot.{Slot}
 use Rattle.permit_ring.specs.declared.memo.Slot.TheVariants.{Empty, Offered, Finished}
 use Rattle.permit_ring.specs.declared.memo.View.{View}
 use Rattle.permit_ring.specs.declared.memo.View.TheVariants.{Sits, Keeps, Spent}
-use Rattle.permit_ring.specs.Closing.{AreAllBack, IsSettled, AreAllSwept, swept_of}
+use Rattle.permit_ring.specs.Closing.{AreAllBack, IsAllReaped, IsSettled, AreAllSwept, swept_of}
 use Rattle.permit_ring.specs.Logs.{IsOrdered}
 use Rattle.permit_ring.specs.Steps.{new_memo, first_memo, looks, claims, finishes, adds_mark, waits, reaps, reads, offers_all, misses, sweeps, makes, welcomes}
 
@@ -18,6 +18,7 @@ use Rattle.permit_ring.specs.Steps.{new_memo, first_memo, looks, claims, finishe
 pub record IsWord (n limit : ℕ) (word : PermitWord) : Type 0 where
   pub packs : IsPackable limit word
   pub free_within : word.free ≤ n
+  pub few : word.claimed ≤ 2 ^ 45
 
 module _ {T N : Type 0} where
   -- how many positions the ring of a view has
@@ -102,7 +103,11 @@ module _ {O D : Type 0} where
 module _ {O D T N : Type 0} where
   -- a look at the permit word
   abbrev pub saw_word : Step (Slot O D) → Known O D T N → ℕ → Known O D T N → Type 0
-  saw_word st me n now = IsReadable (limit_in me.0) n × (now ≡ (on_seat (looks (limit_in me.0) (unpacked (limit_in me.0) n)) me.0, me.1)) × IsOrdered (seat_in now.0)
+  saw_word st me n now =
+      IsReadable (limit_in me.0) n
+      × (now ≡ (on_seat (looks (limit_in me.0) (unpacked (limit_in me.0) n)) me.0, me.1))
+      × IsOrdered (seat_in now.0)
+      × ((unpacked (limit_in me.0) n).claimed ≤ 2 ^ 45)
 
   -- a mark of a kind of loss
   abbrev pub marked_loss : Step (Slot O D) → Known O D T N → ℕ → Known O D T N → Type 0
@@ -135,6 +140,7 @@ module _ {O D T N : Type 0} where
       × (now ≡ (on_seat (claims (limit_in me.0) (unpacked (limit_in me.0) n)) me.0, ((unpacked (limit_in me.0) n).claimed % st.slots, Offered y) ∷ me.1)))
       × ((unpacked (limit_in me.0) n).free ≡ 0 → now ≡ (on_seat (claims (limit_in me.0) (unpacked (limit_in me.0) n)) me.0, me.1))
       × IsOrdered (seat_in now.0)
+      × ((unpacked (limit_in me.0) n).claimed ≤ 2 ^ 45)
 
 module _ {O D T N : Type 0} (note : D → N) where
   -- the view after a finish with the value of a slot
@@ -152,5 +158,6 @@ module _ {O D T N : Type 0} (note : D → N) where
   saw_mark Admits st me n now =
       (n ≡ length (keeper_in me.0).notes + 1 → (d : D) × AdmittedIn Admits me.0 (note d)
       × (now ≡ (on_keeper (reaps n (note d)) me.0, (length (keeper_in me.0).notes % st.slots, Finished d) ∷ me.1))
-      × (length (keeper_in me.0).notes + 1 ≤ (keeper_in me.0).offered) × (length (keeper_in me.0).notes + 1 ≤ 2 ^ 45))
+      × (length (keeper_in me.0).notes + 1 ≤ (keeper_in me.0).offered) × (length (keeper_in me.0).notes + 1 ≤ 2 ^ 45)
+      × (AreAllBack (keeper_in me.0) → ¬ IsAllReaped (keeper_in me.0)))
       × (n ≢ length (keeper_in me.0).notes + 1 → (now ≡ (on_keeper (waits n) me.0, me.1)) × (AreAllBack (keeper_in me.0) → IsSettled (keeper_in now.0)))

@@ -78,7 +78,7 @@ module _ {F O D T N : Type 0} where
 -- an idle seat has no slot in hand, and one with a ticket has its position's, with what was offered
 abbrev pub HasInHand : {O D : Type 0} → (O → Type 0) → ℕ → Option Ticket → List (ℕ × Slot O D) → Type 0
 HasInHand Admits n None hand = hand ≡ []
-HasInHand Admits n (Some ticket) hand = (ticket.0 < 2 ^ 48) × ((y : _) × Admits y × (hand ≡ (ticket.0 % n, Offered y) ∷ []))
+HasInHand Admits n (Some ticket) hand = (ticket.0 ≤ 2 ^ 45) × ((y : _) × Admits y × (hand ≡ (ticket.0 % n, Offered y) ∷ []))
 
 -- the keeper has the slots of so many positions from ticket t on in hand: some filled with admitted values, and behind them the vacant ones
 pub record KeepsInHand {O D : Type 0} (Admits : O → Type 0) (n t filled vacant : ℕ) (hand : List (ℕ × Slot O D)) : Type 0 where

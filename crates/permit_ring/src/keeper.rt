@@ -3,7 +3,7 @@ ghost use Rattle.std.specs.Prelude.{◌≡◌, ◌≢◌, ℕ, ◌+◌, ◌-◌,
 ghost use Rattle.ring_core.specs.Machine.{all_free as all_free_word};
 ghost use Rattle.ring_core.specs.Words.{field_of};
 ghost use Rattle.permit_ring.specs.Calls.{ReapTells, TriesTell, OfferTells, vacant_after};
-ghost use Rattle.permit_ring.specs.Closing.{AreAllBack, IsSettled, AreAllSwept, swept_of};
+ghost use Rattle.permit_ring.specs.Closing.{AreAllBack, IsAllReaped, IsSettled, AreAllSwept, swept_of};
 ghost use Rattle.permit_ring.specs.Steps.{reads, offers_all, misses, sweeps, welcomes};
 
 use crate::answer::Unready;
@@ -55,13 +55,16 @@ impl<F: Freight> Keeper<F> {
     }
 
     /// Takes the value of the next ticket. `Err` comes exactly where the mark that was read at this
-    /// call's step is not that ticket's, and then nothing is taken.
+    /// call's step is not that ticket's, and then nothing is taken. Once all seats are back and all
+    /// that was claimed was reaped, it comes always.
     pub fn reap(&mut self, ring: &Ring<F>) -> Result<F::Finished, Unready>
         requires mine { IsKeeperOf F.admits_offered ring.now self.old }
         ensures mine { IsKeeperOf F.admits_offered ring.now self.new }
         ensures told { ReapTells F.note (keeper_memo self.old) result (keeper_memo self.new) }
         ensures admitted { IfOk result (λ value. F.admits_note (ring_terms ring.now) (F.note value)) }
         ensures counts { (vacant_of self.new ≡ vacant_after (vacant_of self.old) result) × (filled_of self.new ≡ filled_of self.old) }
+        ensures within { (vacant_of self.new + filled_of self.new ≤ ring_positions ring.now) × (length (keeper_memo self.new).notes ≤ 2 ^ 45) }
+        ensures over { IfOk result (λ _. AreAllBack (keeper_memo self.old) → ¬ IsAllReaped (keeper_memo self.old)) }
         ensures settled { IfErr result (λ _. AreAllBack (keeper_memo self.old) → IsSettled (keeper_memo self.new)) }
     {
         match ring.reap(&mut self.place, self.next, self.reaped) {

@@ -103,8 +103,8 @@ fn make_seats<F: Freight>(
     Ok(seats)
 }
 
-/// Makes a ring of `n` positions, all free, the first values of whose slots are those of `load` in
-/// order, and as many idle seats as are asked for. It is the one call of a ring that takes memory.
+/// Makes a ring of `n` positions, all free, with a value of `load` for the slot of each, and as many
+/// idle seats as are asked for. It is the one call of a ring that takes memory.
 pub fn make<F: Freight>(
     alloc: Global,
     n: u16,

@@ -4,7 +4,7 @@ ghost use Rattle.std.specs.Prelude.{◌≡◌, ℕ, ◌+◌, ◌%◌, ◌^◌, �
 ghost use Rattle.ring_core.specs.Machine.{all_free as all_free_word, is_idle, marks_of};
 ghost use Rattle.permit_ring.specs.declared.memo.Slot.TheVariants.{Empty, Offered};
 ghost use Rattle.permit_ring.specs.declared.memo.View.TheVariants.{Sits, Keeps};
-ghost use Rattle.permit_ring.specs.Closing.{AreAllBack, IsSettled, AreAllSwept, swept_of};
+ghost use Rattle.permit_ring.specs.Closing.{AreAllBack, IsAllReaped, IsSettled, AreAllSwept, swept_of};
 ghost use Rattle.permit_ring.specs.Logs.{IsOrdered};
 ghost use Rattle.permit_ring.specs.Plays.{seat_in, keeper_in};
 ghost use Rattle.permit_ring.specs.Steps.{looks, claims, finishes, adds_mark, new_memo, waits, reaps, sweeps, makes, welcomes};
@@ -58,6 +58,7 @@ impl<F: Freight> Ring<F> {
         ensures mine { IsSitting self.now place.new }
         ensures told { place.new.me ≡ (Sits self.now.table.shared.key (looks self.now.limit result (seat_in place.old.me.0)), place.old.me.1) }
         ensures ordered { IsOrdered (seat_in place.new.me.0) }
+        ensures small { result.claimed ≤ 2 ^ 45 }
     {
         let number = self.table.shared.load::<SeesWord>(place, PERMITS);
         PermitWord::unpack(number, self.limit)
@@ -71,7 +72,7 @@ impl<F: Freight> Ring<F> {
         ensures got { 0 < result.free → (y : F.Offered) × F.admits_offered (ring_terms self.now) y
             × (place.new.me ≡ (Sits self.now.table.shared.key (claims self.now.limit result (seat_in place.old.me.0)), (result.claimed % self.now.positions, Offered y) ∷ place.old.me.1)) }
         ensures vain { result.free ≡ 0 → place.new.me ≡ (Sits self.now.table.shared.key (claims self.now.limit result (seat_in place.old.me.0)), place.old.me.1) }
-        ensures small { result.claimed < 2 ^ 48 }
+        ensures small { result.claimed ≤ 2 ^ 45 }
         ensures ordered { IsOrdered (seat_in place.new.me.0) }
     {
         let number = self
@@ -97,7 +98,7 @@ impl<F: Freight> Ring<F> {
         ensures ordered { IsOrdered (seat_in place.new.me.0) }
         ensures admitted { F.admits_offered (ring_terms self.now) result }
     {
-        let position = (ticket.0 % self.positions as u64) as usize;
+        let position = self.position_of(ticket.0);
         let words = &self.table.shared;
         let old = words.exchange(place, position, Slot::Finished(value));
         words.store::<Finishes<F>>(place, position + MARKS, ticket.0 + 1);
@@ -134,6 +135,7 @@ impl<F: Freight> Ring<F> {
         requires next { next ≡ reaped % self.now.positions }
         ensures mine { IsKeeping self.now place.new }
         ensures ok { IfOk result (λ value. F.admits_note (ring_terms self.now) (F.note value) × (reaped + 1 ≤ (keeper_in place.old.me.0).offered) × (reaped + 1 ≤ 2 ^ 45)
+            × (AreAllBack (keeper_in place.old.me.0) → ¬ IsAllReaped (keeper_in place.old.me.0))
             × (place.new.me ≡ (Keeps self.now.table.shared.key (reaps (reaped + 1) (F.note value) (keeper_in place.old.me.0)), place.old.me.1 ++ (next, Empty) ∷ []))) }
         ensures err { IfErr result (λ mark. (mark ≢ reaped + 1) × (AreAllBack (keeper_in place.old.me.0) → IsSettled (keeper_in place.new.me.0))
             × (place.new.me ≡ (Keeps self.now.table.shared.key (waits mark (keeper_in place.old.me.0)), place.old.me.1))) }
@@ -162,6 +164,21 @@ impl<F: Freight> Ring<F> {
     {
         let words = &self.table.shared;
         words.swap::<Sweeps>(place, kind as usize + LOSSES, 0)
+    }
+
+    // A ticket's position. Where their number is a power of two, it is told without a division.
+    fn position_of(&self, ticket: u64) -> usize
+        requires { IsSized self.now }
+        ensures { result ≡ ticket % self.now.positions }
+    {
+        let n = self.positions as u64;
+        let power = n.next_power_of_two();
+        let position = if power == n {
+            ticket & (n - 1)
+        } else {
+            ticket % n
+        };
+        position as usize
     }
 
     /// The position after this one, round the ring.

@@ -1,7 +1,7 @@
 //! One who claims positions of a ring.
-ghost use Rattle.std.specs.Prelude.{◌≡◌, ◌+◌, ◌<◌, ◌^◌, false, None, Some, is_none, [], ◌∷◌, ℕ};
+ghost use Rattle.std.specs.Prelude.{◌≡◌, ◌+◌, ◌<◌, ◌≤◌, ◌^◌, false, None, Some, is_none, [], ◌∷◌, ℕ};
 ghost use Rattle.ring_core.specs.Machine.{marks_of};
-ghost use Rattle.permit_ring.specs.Calls.{ClaimTells, ticket_got};
+ghost use Rattle.permit_ring.specs.Calls.{ClaimTells, claimed_at, ticket_got};
 ghost use Rattle.permit_ring.specs.Logs.{IsOrdered};
 ghost use Rattle.permit_ring.specs.Steps.{finishes, adds_mark};
 
@@ -75,6 +75,7 @@ impl<F: Freight> Seat<F> {
         ensures told { ClaimTells (ring_seats ring.now) (seat_memo self.old) result (seat_memo self.new) }
         ensures ordered { IsOrdered (seat_memo self.new) }
         ensures held { seat_ticket self.new ≡ ticket_got result }
+        ensures small { claimed_at result ≤ 2 ^ 45 }
         ensures counted { (seat_calls self.new ≡ seat_calls self.old + 1) × (seat_number self.new ≡ seat_number self.old) }
     {
         self.calls += 1;

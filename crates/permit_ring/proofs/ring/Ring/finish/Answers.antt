@@ -1,13 +1,12 @@
-use Rattle.std.proofs.Common.{rules, ◌%◌, ◌∷◌, sym, ap, ◌∙◌}
-use Rattle.atomic_table.specs.Table.{rest}
+use Rattle.std.proofs.Common.{rules, sym, ◌∙◌}
 use Rattle.permit_ring.specs.declared.memo.Slot.TheVariants.{Offered}
-use Rattle.permit_ring.proofs.Ready.{finish_ready_with}
+use Rattle.permit_ring.proofs.Ready.{finish_ready_with, in_front}
 use Rattle.permit_ring.proofs.ring.Ring.finish.Goals as goal
 
 pub exchange-old-requires : goal.exchange-old-requires
 exchange-old-requires g c =
     let hand = c.requires.hand.1 in
-    (c.requires.mine.at_table, (Offered hand.0, hand.2 ∙ (λ i. (c.args.ticket.0 % c.args.self.now.positions, Offered hand.0) ∷ ap rest (sym hand.2) i)))
+    (c.requires.mine.at_table, (Offered hand.0, in_front _ _ _ _ _ hand.2 (sym c.position_of-position.ensures)))
 
 pub store-requires : goal.store-requires
 store-requires g c =
@@ -16,5 +15,6 @@ store-requires g c =
     let put = c.exchange-old.ensures in (
       put.0 ∙ mine.at_table,
       search rules,
-      finish_ready_with f.note f.admits_offered f.admits_note _ _ _ c.args.place.now.me _ c.args.self.now.positions _ c.args.value _ mine.sits put.3 mine.ring_is.positions_are c.requires.held c.requires.admitted,
+      finish_ready_with f.note f.admits_offered f.admits_note _ _ _ c.args.place.now.me _ c.args.self.now.positions c.args.ticket.0 _ c.args.value _ mine.sits put.3
+          c.position_of-position.ensures mine.ring_is.positions_are c.requires.held c.requires.admitted,
     )
