@@ -21,6 +21,7 @@ pub mod Refills
 pub mod RuleLaws
 pub mod SeatSteps
 pub mod Sees
+pub mod Settled
 pub mod Splits
 pub mod States
 pub mod Stays

@@ -1,6 +1,6 @@
 -- Logs with one call more.
-use Rattle.std.proofs.Common.{◌≡◌, ℕ, ◌≤◌, Bool, true, false, cond, nat_lt, List, [], ◌∷◌, ◌++◌, refl, sym, subst, ap, inl, inr, arith, le_refl}
-use Rattle.std.proofs.lemmas.Bool.{ltb-false}
+use Rattle.std.proofs.Common.{◌≡◌, ℕ, ◌<◌, ◌≤◌, Bool, true, false, cond, nat_lt, List, [], ◌∷◌, ◌++◌, refl, sym, subst, ap, inl, inr, arith, le_refl}
+use Rattle.std.proofs.lemmas.Bool.{ltb-false, lt-ltb, le-ltb}
 use mathlib.Core.Option.{some}
 use lib.ListN.{get_elem?}
 use Rattle.atomic_table.proofs.Lists.{at_snoc}
@@ -31,6 +31,14 @@ module _ {N : Type 0} where
   got_of-got [] t x = refl
   got_of-got (Lost h ∷ log) t x = got_of-got log t x
   got_of-got (Got u y ∷ log) t x = ap (λ (l : List (ℕ × N)). (u, y) ∷ l) (got_of-got log t x)
+
+  -- a step that found a position free lost no call
+  pub kept_log : (word : PermitWord) (log : List (Outcome N)) → 0 < word.free → and_lost word log ≡ log
+  kept_log word log free = ap (λ (b : Bool). cond b log (log ++ Lost word.claimed ∷ [])) (lt-ltb 0 word.free free)
+
+  -- and one that found none lost its call
+  pub lost_log : (word : PermitWord) (log : List (Outcome N)) → word.free ≡ 0 → and_lost word log ≡ log ++ Lost word.claimed ∷ []
+  lost_log word log full = ap (λ (b : Bool). cond b log (log ++ Lost word.claimed ∷ [])) (le-ltb 0 word.free (omega (arith, full)))
 
 lost_number : {N : Type 0} → Outcome N → ℕ
 lost_number (Lost g) = g

@@ -12,6 +12,7 @@ use Rattle.permit_ring.specs.declared.memo.View.{View}
 use Rattle.permit_ring.specs.declared.memo.View.TheVariants.{Sits, Keeps}
 use Rattle.permit_ring.specs.declared.ring.Ring.{Ring}
 use Rattle.permit_ring.specs.declared.seat.Seat.{Seat}
+use Rattle.permit_ring.specs.Logs.{IsOrdered}
 use Rattle.permit_ring.specs.Making.{made_memo, IsNewSeat, AreNewSeats}
 use Rattle.permit_ring.specs.Plays.{seat_in, keeper_in}
 use Rattle.permit_ring.specs.Seats.{IsSitting, IsKeeping, IsKeeperOf}
@@ -33,6 +34,10 @@ fresh n zero = record { no_notes = refl; offered_is = refl; seen_is = refl; made
 fresh {N = N} n (suc made) =
     let was : IsFresh {N = N} n made (made_memo n made) = fresh n made in
     record { no_notes = was.no_notes; offered_is = was.offered_is; seen_is = was.seen_is; made_is = ap (λ (k : ℕ). k + 1) was.made_is ∙ one_more made }
+
+-- the log of a seat that has just been made is in order
+pub new_ordered : {N : Type 0} (i : ℕ) → IsOrdered (new_memo {N = N} i)
+new_ordered i = record { decided = refl; rises = tt; below_ticket = λ t h. omega arith }
 
 module _ {F O D T N : Type 0} (Ao : T → O → Type 0) (ring : Ring F O D T N) where
   pub no_seats : AreNewSeats Ao ring 0 []

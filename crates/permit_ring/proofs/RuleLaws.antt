@@ -21,7 +21,7 @@ use Rattle.permit_ring.specs.declared.memo.View.{View}
 use Rattle.permit_ring.specs.declared.memo.View.TheVariants.{Sits, Keeps}
 use Rattle.permit_ring.specs.Logs.{start_of, end_of, RisesFrom, end_from, got_of, taken_by}
 use Rattle.permit_ring.specs.Places.{ShowsRing, SitsThere, CameBack, IsMemoThere, IsHeldOnce, IsLoggedOnce, HasOnePlace, IsNotedAs, IsInOrder, IsAdmittedSlot, IsOneSeats}
-use Rattle.permit_ring.specs.Rule.{IsSeatMemo, IsSomewhere, Runs}
+use Rattle.permit_ring.specs.Rule.{IsSeatMemo, IsSomewhere, Runs, HasFinished, IsOut}
 use Rattle.permit_ring.proofs.States.{one_memo, ring_of, keeper_port, at_own_port, is_live, knows_it, not_ended}
 use Rattle.permit_ring.proofs.ListLemmas.{at_length, there}
 
@@ -160,11 +160,15 @@ module _ {O D T N : Type 0} (note : D → N) (Ao : T → O → Type 0) (An : T �
   memo_known memo (inl sits) = knows_it note Ao An key s r sits.port sits.its_key memo sits.there
   memo_known memo (inr back) = (ended_known memo back).1
 
+  -- a number has one port
+  pub one_port : (p q : ℕ) (its other : Key T) (a b : SeatMemo N) → get_elem? s.views p ≡ some (Sits its a) → get_elem? s.views q ≡ some (Sits other b) → a.number ≡ b.number → p ≡ q
+  one_port p q its other a b at_a at_b e = sym (at_own_port note Ao An key s r p its a at_a) ∙ ap r.owner e ∙ at_own_port note Ao An key s r q other b at_b
+
   -- a number has one memo
   one_each : (a b : SeatMemo N) → IsMemoThere s.views a → IsMemoThere s.views b → a.number ≡ b.number → a ≡ b
   one_each a b (inl x) (inl y) e =
-      let one_port : y.port ≡ x.port = sym (at_own_port note Ao An key s r y.port y.its_key b y.there) ∙ ap r.owner (sym e) ∙ at_own_port note Ao An key s r x.port x.its_key a x.there in
-      one_memo x.its_key y.its_key a b (one_element s.views x.port (Sits x.its_key a) (Sits y.its_key b) x.there (ap (get_elem? s.views) (sym one_port) ∙ y.there))
+      let same = one_port x.port y.port x.its_key y.its_key a b x.there y.there e in
+      one_memo x.its_key y.its_key a b (one_element s.views x.port (Sits x.its_key a) (Sits y.its_key b) x.there (ap (get_elem? s.views) same ∙ y.there))
   one_each a b (inl x) (inr y) e = let was = ended_known b y in not_ended note Ao An key s r x.port x.its_key a x.there b was.0 (sym e) was.1
   one_each a b (inr x) (inl y) e = let was = ended_known a x in not_ended note Ao An key s r y.port y.its_key b y.there a was.0 e was.1
   one_each a b (inr x) (inr y) e = same_Some a b (one_element r.keeper.back a.number (Some a) (Some b) (back_there a x) (ap (get_elem? r.keeper.back) e ∙ back_there b y))
@@ -231,6 +235,10 @@ module _ {O D T N : Type 0} (note : D → N) (Ao : T → O → Type 0) (An : T �
       let all = r.are_fates.each_claimed in
       (omega (arith, less, all), λ other there h. not_both t (memo.number, x) (open_of other t there h) done)
 
+  -- what its slot holds, until it is reaped
+  pub slot_of_logged : (memo : SeatMemo N) (j t : ℕ) (x : N) → IsMemoThere s.views memo → get_elem? memo.log j ≡ some (Got t x) → r.machine.reaped ≤ t → HasFinished key.positions s.homes t note x
+  slot_of_logged memo j t x is e from = r.are_slots.finished_home t memo.number x from (fate_of memo j t x is e)
+
   -- in one log a ticket stands at one place
   one_place : (memo : SeatMemo N) (j l t : ℕ) (x y : N) → IsMemoThere s.views memo → get_elem? memo.log j ≡ some (Got t x) → get_elem? memo.log l ≡ some (Got t y) → j ≡ l
   one_place memo j l t x y is ex ey = elim (cases_order j l) [
@@ -269,6 +277,10 @@ module _ {O D T N : Type 0} (note : D → N) (Ao : T → O → Type 0) (An : T �
   -- a held ticket was claimed, and is not reaped
   pub held_is_claimed : (memo : SeatMemo N) (t : ℕ) → IsMemoThere s.views memo → Holds memo.view t → (r.machine.reaped ≤ t) × (t < r.machine.word.claimed)
   held_is_claimed memo t is h = ((ring_of note Ao An key s r).seats.each memo.number).held_is_out t (machine_holds memo t is h)
+
+  -- and its slot is out
+  pub slot_of_held : (memo : SeatMemo N) (t : ℕ) → IsMemoThere s.views memo → Holds memo.view t → IsOut key.positions s.homes t
+  slot_of_held memo t is h = r.are_slots.held_out t (held_is_claimed memo t is h).0 (open_of memo t is h)
 
   -- two seats that hold one ticket are one
   one_holder : (a b : SeatMemo N) (t : ℕ) → IsMemoThere s.views a → IsMemoThere s.views b → Holds a.view t → Holds b.view t → a ≡ b

@@ -24,6 +24,7 @@ use Rattle.permit_ring.specs.Plays.{split_left, split_right}
 use Rattle.permit_ring.specs.Rule.{IsSeatMemo, IsKeeperMemo, Plays, IsSomewhere, Runs}
 use Rattle.permit_ring.specs.Steps.{and_move, new_memo, makes}
 use Rattle.permit_ring.proofs.Lives.{keeper_stays}
+use Rattle.permit_ring.proofs.NewRings.{new_ordered}
 use Rattle.permit_ring.proofs.Stays.{fates_stay, slots_stay}
 use Rattle.permit_ring.proofs.MoveLemmas.{leads_on, led_sizes, by_seat-else, by_keeper-own}
 use Rattle.permit_ring.proofs.States.{seat_stays, keeper_port, not_first}
@@ -110,7 +111,7 @@ module _ {N : Type 0} (n : ℕ) (m : Machine) (seats : List SeatView) (moves the
     is_made = omega arith;
     shows = sym split.new;
     moved = sym (split.quiet k.made ∙ is.unmade_rest k.made (le_refl k.made));
-    ordered = record { decided = refl; rises = tt; below_ticket = λ t h. omega arith };
+    ordered = new_ordered k.made;
     below_claims = omega arith;
     got = sym (taken_none k.made 0 fates below);
     lost_at_front = λ j g e. absurd (some-ne-none _ (sym e));

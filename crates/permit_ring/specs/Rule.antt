@@ -83,18 +83,31 @@ module _ {N : Type 0} where
     -- a seat that is not made yet has made no move
     pub unmade_rest : (i : ℕ) → k.made ≤ i → by_seat i moves ≡ []
 
+module _ {O D : Type 0} (n : ℕ) (homes : List (maybe.Option (Slot O D))) (t : ℕ) where
+  -- the slot of ticket t has a finished value of this note
+  abbrev pub HasFinished : {N : Type 0} → (D → N) → N → Type 0
+  HasFinished note x = (d : D) × (note d ≡ x) × (get_elem? homes (t % n) ≡ some (some (Finished d)))
+
+  -- or an admitted value that was offered
+  abbrev pub HasOffered : (O → Type 0) → Type 0
+  HasOffered Admits = (y : O) × Admits y × (get_elem? homes (t % n) ≡ some (some (Offered y)))
+
+  -- or someone has it
+  abbrev pub IsOut : Type 0
+  IsOut = get_elem? homes (t % n) ≡ some none
+
 module _ {O D N : Type 0} (note : D → N) (Admits : O → Type 0) where
   -- what the slots hold, from the next ticket to be reaped on for one turn
   pub record AreSlots (n : ℕ) (m : Machine) (fates : List (Option (ℕ × N))) (homes : List (maybe.Option (Slot O D))) : Type 0 where
     pub a_slot_each : length homes ≡ n
     -- of a finished ticket, its value
-    pub finished_home : (t i : ℕ) (x : N) → m.reaped ≤ t → get_elem? fates t ≡ some (Some (i, x)) → (d : D) × (note d ≡ x) × (get_elem? homes (t % n) ≡ some (some (Finished d)))
+    pub finished_home : (t i : ℕ) (x : N) → m.reaped ≤ t → get_elem? fates t ≡ some (Some (i, x)) → HasFinished n homes t note x
     -- of a held one, nothing, for its seat has it
-    pub held_out : (t : ℕ) → m.reaped ≤ t → get_elem? fates t ≡ some None → get_elem? homes (t % n) ≡ some none
+    pub held_out : (t : ℕ) → m.reaped ≤ t → get_elem? fates t ≡ some None → IsOut n homes t
     -- of one that may be claimed, what was offered
-    pub offered_home : (t : ℕ) → m.word.claimed ≤ t → t < m.offered → (y : O) × Admits y × (get_elem? homes (t % n) ≡ some (some (Offered y)))
+    pub offered_home : (t : ℕ) → m.word.claimed ≤ t → t < m.offered → HasOffered n homes t Admits
     -- of one that is not offered yet, nothing, for the keeper has it
-    pub vacant_out : (t : ℕ) → m.offered ≤ t → t < m.reaped + n → get_elem? homes (t % n) ≡ some none
+    pub vacant_out : (t : ℕ) → m.offered ≤ t → t < m.reaped + n → IsOut n homes t
 
 module _ {T N : Type 0} (key : Key T) (m : Machine) (moves : List Move) (fates : List (Option (ℕ × N))) (k : KeeperMemo N) (views : List (View T N)) (owner : ℕ → ℕ) where
   -- the view at a port: there is one keeper, and each number belongs to one seat

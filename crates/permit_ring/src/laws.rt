@@ -1,13 +1,19 @@
 //! What the rule of a running ring says between any two steps, as the contracts of functions that
 //! do nothing.
-ghost use Rattle.std.specs.Prelude.{◌≡◌, ℕ, ◌<◌, ◌≤◌};
+ghost use Rattle.std.specs.Prelude.{◌≡◌, ℕ, ◌+◌, ◌<◌, ◌≤◌};
 ghost use mathlib.Core.Option.{some};
 ghost use lib.ListN.{get_elem?};
 ghost use Rattle.permit_ring.specs.declared.memo.SeatMemo.{SeatMemo};
 ghost use Rattle.permit_ring.specs.declared.memo.Slot.{Slot};
 ghost use Rattle.permit_ring.specs.Places.{HasOnePlace, IsOneSeats, IsMemoThere, IsInOrder, IsNotedAs, IsAdmittedSlot, ShowsRing};
 ghost use Rattle.permit_ring.specs.Logs.{IsOrdered};
-ghost use Rattle.permit_ring.specs.Rule.{RunningRing, StandsIn};
+ghost use Rattle.permit_ring.specs.Rule.{RunningRing, StandsIn, HasFinished, HasOffered, IsOut};
+ghost use Rattle.permit_ring.specs.Calls.{OfferTells};
+ghost use Rattle.permit_ring.specs.Closing.{AreAllBack, IsAllReaped, IsSettled};
+ghost use Rattle.ring_core.specs.Sound.{Holds};
+ghost use Rattle.permit_ring.specs.declared.memo.Key.{Key};
+ghost use Rattle.permit_ring.specs.declared.memo.KeeperMemo.{KeeperMemo};
+ghost use Rattle.permit_ring.specs.declared.memo.View.TheVariants.{Sits};
 ghost use Rattle.permit_ring.specs.declared.memo.Outcome.TheVariants.{Lost, Got};
 
 use crate::freight::Freight;
@@ -23,6 +29,42 @@ pub fn words_show_the_machine<F: Freight>()
 pub fn each_ticket_has_one_place<F: Freight>(ticket: u64)
     ghost r: { RunningRing F.note F.admits_offered F.admits_note }
     ensures { ticket < r.rule.machine.word.claimed → HasOnePlace r.table.views ticket }
+{}
+
+/// A ticket that stands in a log was claimed.
+pub fn logged_tickets_are_claimed<F: Freight>()
+    ghost r: { RunningRing F.note F.admits_offered F.admits_note }
+    ensures { (memo : SeatMemo F.Note) → IsMemoThere r.table.views memo → (j t : ℕ) (x : F.Note) → get_elem? memo.log j ≡ some (Got t x) → t < r.rule.machine.word.claimed }
+{}
+
+/// The view of a seat stands at one port.
+pub fn each_seat_has_one_port<F: Freight>()
+    ghost r: { RunningRing F.note F.admits_offered F.admits_note }
+    ensures { (p q : ℕ) (key its : Key F.Terms) (a b : SeatMemo F.Note) → get_elem? r.table.views p ≡ some (Sits key a) → get_elem? r.table.views q ≡ some (Sits its b) → a.number ≡ b.number → p ≡ q }
+{}
+
+/// What the slot of a ticket holds, by what became of the ticket: its finished value until it is
+/// reaped, nothing while a seat or the keeper has it, and what was offered until it is claimed.
+pub fn slots_follow_their_tickets<F: Freight>(ticket: u64)
+    ghost r: { RunningRing F.note F.admits_offered F.admits_note }
+    ensures finished { (memo : SeatMemo F.Note) → IsMemoThere r.table.views memo → (j : ℕ) (x : F.Note) → get_elem? memo.log j ≡ some (Got ticket x) → r.rule.machine.reaped ≤ ticket → HasFinished r.key.positions r.table.homes ticket F.note x }
+    ensures held { (memo : SeatMemo F.Note) → IsMemoThere r.table.views memo → Holds memo.view ticket → IsOut r.key.positions r.table.homes ticket }
+    ensures offered { r.rule.machine.word.claimed ≤ ticket → ticket < r.rule.machine.offered → HasOffered r.key.positions r.table.homes ticket (F.admits_offered r.key.terms) }
+    ensures vacant { r.rule.machine.offered ≤ ticket → ticket < r.rule.machine.reaped + r.key.positions → IsOut r.key.positions r.table.homes ticket }
+{}
+
+/// What is settled is all reaped, so that no later reap answers `Ok`.
+pub fn what_is_settled_is_reaped<F: Freight>()
+    ghost k: { KeeperMemo F.Note }
+    ensures { IsSettled k → IsAllReaped k }
+{}
+
+/// One offer more changes nothing of what was settled.
+pub fn an_offer_keeps_what_is_settled<F: Freight>(seats: u8, count: u16, tries: u16)
+    ghost k: { KeeperMemo F.Note × KeeperMemo F.Note }
+    ensures back { OfferTells seats count k.0 tries k.1 → AreAllBack k.0 → AreAllBack k.1 }
+    ensures reaped { OfferTells seats count k.0 tries k.1 → IsAllReaped k.0 → IsAllReaped k.1 }
+    ensures settled { OfferTells seats count k.0 tries k.1 → IsSettled k.0 → IsSettled k.1 }
 {}
 
 /// The t-th note of the keeper is that of ticket t in its log.

@@ -1,5 +1,5 @@
 -- How a caller stands after each of its calls.
-use Rattle.std.proofs.Common.{◌≡◌, ℕ, ◌-◌, ◌<◌, ◌≤◌, ◌^◌, Bool, true, false, ◌||◌, is_some, is_none, if◌then◌else◌, List, [], ◌∷◌, ◌++◌, length, Option, Some, None, Result, Ok, Err, sym, ap, ap₂, ◌∙◌, subst, inl, inr, true≢false, arith}
+use Rattle.std.proofs.Common.{◌≡◌, ℕ, ◌+◌, ◌-◌, ◌<◌, ◌≤◌, ◌^◌, Bool, true, false, ◌||◌, is_some, is_none, if◌then◌else◌, List, [], ◌∷◌, ◌++◌, length, Option, Some, None, Result, Ok, Err, sym, ap, ap₂, ◌∙◌, subst, inl, inr, true≢false, arith}
 use Rattle.ids_types.specs.declared.names.Ticket.{Ticket}
 use Rattle.ring_core.specs.declared.seat.SeatView.{SeatView}
 use Rattle.ring_core.specs.declared.seat.Ticket0.{Ticket0}
@@ -9,16 +9,17 @@ use Rattle.permit_ring.specs.declared.memo.Outcome.TheVariants.{Lost, Got}
 use Rattle.permit_ring.specs.declared.memo.SeatMemo.{SeatMemo}
 use Rattle.permit_ring.specs.Calls.{ClaimTells}
 use Rattle.permit_ring.specs.Logs.{IsOrdered, undecided}
-use Rattle.permit_ring.specs.Seats.{IsSeatOf, machine_ticket}
-use Rattle.permit_ring.specs.Steps.{finishes, ticket_in}
+use Rattle.permit_ring.specs.Seats.{HasInHand, IsSeatOf, machine_ticket, ring_terms}
+use Rattle.permit_ring.specs.Steps.{and_lost, finishes, ticket_in}
 use Rattle.permit_ring.proofs.ListLemmas.{at_end}
+use Rattle.permit_ring.proofs.LogLemmas.{kept_log, lost_log}
 use Rattle.report_queue.specs.declared.cargo.Item.{Item}
 use Rattle.report_queue.specs.declared.seat.Queue.{Queue}
 use Rattle.report_queue.specs.declared.seat.QueueSeat.{QueueSeat}
 use Rattle.report_queue.specs.Calls.{and_answer, calls_once}
 use Rattle.report_queue.specs.Items.{admits_all}
 use Rattle.report_queue.specs.Parts.{IsCallerOf, caller_memo, caller_number, caller_view, calls_of, ticket_of}
-use Rattle.report_queue.specs.Views.{NamesItsCalls, caller_in}
+use Rattle.report_queue.specs.Views.{CallerView, NamesItsCalls, caller_in}
 
 is_lost : {N : Type 0} → Outcome N → Bool
 is_lost (Lost g) = true
@@ -50,10 +51,21 @@ module _ {N : Type 0} (i : ℕ) (log : List (Outcome (Item N))) (names : NamesIt
   ]
 
 module _ {N : Type 0} where
+  -- one call more, with what became of it
+  once : (old : SeatMemo (Item N)) {log after : List (Outcome (Item N))} → log ≡ after
+      → ◌≡◌ {A = CallerView N} (record (caller_in old) { calls = old.view.calls + 1; log = log }) (record (caller_in old) { calls = old.view.calls + 1; log = after })
+  once old e = ap (λ (log : List (Outcome (Item N))). record (caller_in old) { calls = old.view.calls + 1; log = log }) e
+
   -- what a claim shows
   pub claim_shown : (limit : ℕ) (old : SeatMemo (Item N)) (answer : Result Ticket Look) (new : SeatMemo (Item N)) → ClaimTells limit old answer new → caller_in new ≡ calls_once answer (caller_in old)
-  claim_shown limit old (Ok ticket) new tells = ap caller_in tells.5
-  claim_shown limit old (Err look) new tells = elim tells.1 [ inl first ↦ ap caller_in first.3 | inr second ↦ ap caller_in second.5 ]
+  claim_shown limit old (Ok ticket) new tells = ap caller_in tells.5 ∙ once old (kept_log tells.1 (and_lost tells.0 old.log) tells.3 ∙ kept_log tells.0 old.log tells.2)
+  claim_shown limit old (Err look) new tells = elim tells.1 [
+    | inl at_look ↦ ap caller_in at_look.3 ∙ once old (lost_log at_look.0 old.log at_look.1 ∙ ap (λ (g : ℕ). old.log ++ Lost g ∷ []) at_look.2)
+    | inr at_claim ↦
+        let lost = lost_log at_claim.1 (and_lost at_claim.0 old.log) at_claim.3 in
+        let kept = kept_log at_claim.0 old.log at_claim.2 in
+        ap caller_in at_claim.5 ∙ once old (lost ∙ ap₂ (λ (log : List (Outcome (Item N))) (g : ℕ). log ++ Lost g ∷ []) kept at_claim.4)
+  ]
 
   names-claim : (i : ℕ) (log : List (Outcome (Item N))) (answer : Result Ticket Look) → NamesItsCalls i log → NamesItsCalls i (and_answer log answer)
   names-claim i log (Ok ticket) names = names
@@ -99,3 +111,7 @@ module _ {P L T N : Type 0} (queue : Queue P L T N) where
       let decided = was.in_order.decided in
       let t : ℕ = ticket_in (caller_memo old).view.held in
       stands old new was is ordered (ap (λ v. v.caller) shown) (omega (arith, same, within, calls)) (subst (NamesItsCalls (caller_number old)) (sym (ap (λ v. v.log) shown)) (names-got (caller_number old) (caller_view old).log was.names t item its_caller (omega (arith, its_call, calls, decided, one))))
+
+-- the ticket that a caller holds is small
+pub held_is_small : {P L T N : Type 0} (queue : Queue P L T N) (seat : QueueSeat P L T N) (ticket : Ticket) → IsCallerOf queue seat → ticket_of seat ≡ Some ticket → ticket.0 ≤ 2 ^ 45
+held_is_small {T = T} queue seat ticket is held = (subst (λ (h : Option Ticket). HasInHand (admits_all {T = T} (ring_terms queue.ring)) queue.ring.positions h seat.seat.place.me.1) held is.is_seat.in_hand).0

@@ -1,9 +1,10 @@
 -- What was taken once all callers are back, from what the ring's keeper knows.
-use Rattle.std.proofs.Common.{◌≡◌, ℕ, zero, suc, ◌+◌, ◌<◌, ◌≤◌, ◌==◌, if◌then◌else◌, Bool, true, false, is_some, List, [], ◌∷◌, map, length, Option, Some, None, refl, sym, ap, ap₂, ◌∙◌, subst, true≢false, arith, eq-eqb}
+use Rattle.std.proofs.Common.{◌≡◌, ℕ, zero, suc, ◌+◌, ◌<◌, ◌≤◌, ◌==◌, if◌then◌else◌, Bool, true, false, is_some, List, [], ◌∷◌, ◌++◌, map, length, Option, Some, None, refl, sym, ap, ap₂, ◌∙◌, subst, true≢false, arith, eq-eqb}
 use Rattle.std.proofs.lemmas.List.{length-map}
 use Rattle.std.proofs.lemmas.Option.{none-some}
 use mathlib.Core.Option.{some, some-injective, some-ne-none}
 use lib.ListN.{get_elem?}
+use Rattle.atomic_table.proofs.Lists.{at_longer}
 use Rattle.permit_ring.specs.declared.memo.KeeperMemo.{KeeperMemo}
 use Rattle.permit_ring.specs.declared.memo.Outcome.{Outcome}
 use Rattle.permit_ring.specs.declared.memo.Outcome.TheVariants.{Lost, Got}
@@ -11,17 +12,13 @@ use Rattle.permit_ring.specs.declared.memo.SeatMemo.{SeatMemo}
 use Rattle.permit_ring.specs.Closing.{AreAllBack, IsSettled}
 use Rattle.permit_ring.specs.Logs.{end_from, got_of, taken_by}
 use Rattle.permit_ring.specs.Steps.{waits}
+use Rattle.permit_ring.proofs.ListLemmas.{there}
 use Rattle.report_queue.specs.declared.cargo.Item.{Item}
 use Rattle.report_queue.specs.Closing as queue
 use Rattle.report_queue.specs.Closing.{IsAllTaken, IsWholeCaller, items_of}
-use Rattle.report_queue.specs.Views.{CallerView, NamesItsCalls, back_in, caller_in, taker_in}
+use Rattle.report_queue.specs.Calls.{GivesBack}
+use Rattle.report_queue.specs.Views.{CallerView, NamesItsCalls, TakerView, back_in, caller_in, taker_in}
 use Rattle.report_queue.proofs.TakerLemmas.{NameTheirs, all_back, one_some}
-
--- below its length a list has an element
-there : {A : Type 0} (l : List A) (i : ℕ) → i < length l → (a : A) × (get_elem? l i ≡ some a)
-there [] i h = absurd (omega arith)
-there (x ∷ xs) zero h = (x, refl)
-there (x ∷ xs) (suc i) h = there xs i (omega arith)
 
 -- an element of a mapped list is that of the list, mapped
 pub at_map_back : {A B : Type 0} (f : A → B) (l : List A) (i : ℕ) (b : B) → get_elem? (map f l) i ≡ some b → (a : A) × (get_elem? l i ≡ some a) × (f a ≡ b)
@@ -110,8 +107,31 @@ module _ {N : Type 0} where
     }
 
 -- a take in vain once all callers are back
-pub taken_by_then : {N : Type 0} (k new : KeeperMemo (Item N)) (mark : ℕ) → new ≡ waits mark k → k.made ≡ length k.back → NameTheirs k.back → queue.AreAllBack (taker_in k) → (AreAllBack k → IsSettled new) → IsAllTaken (taker_in new)
+pub taken_by_then : {N : Type 0} (k new : KeeperMemo (Item N)) (mark : ℕ) → new ≡ waits mark k → k.made ≡ length k.back → NameTheirs k.back → queue.AreCallersBack (taker_in k) → (AreAllBack k → IsSettled new) → IsAllTaken (taker_in new)
 taken_by_then k new mark told made names all settled =
     let back = ap (λ m. m.back) told in
     let were = all_back k all in
     all_taken new (ap (λ m. m.made) told ∙ made ∙ sym (ap length back)) (subst NameTheirs (sym back) names) (subst AreAllBack (sym told) were) (settled were)
+
+module _ {N : Type 0} (bound count : ℕ) (old new : TakerView N) (gave : GivesBack bound count old new) where
+  same_back : new.back ≡ old.back
+  same_back = ap (λ (v : TakerView N). v.back) gave.3
+
+  -- giving back leaves who is back
+  pub back_on : queue.AreCallersBack old → queue.AreCallersBack new
+  back_on all = subst (λ (l : List (Option (CallerView N))). (i : ℕ) (back : Option (CallerView N)) → get_elem? l i ≡ some back → is_some back ≡ true) (sym same_back) all
+
+  same_caller : (i : ℕ) (caller : CallerView N) → IsWholeCaller old.fronts old.items i caller → IsWholeCaller (old.fronts ++ (old.offered + count) ∷ []) old.items i caller
+  same_caller i caller w = record {
+    number_is = w.number_is;
+    calls_are = w.calls_are;
+    names = w.names;
+    rises = w.rises;
+    within = w.within;
+    accepted = w.accepted;
+    lost_at_front = λ j g e. let f = w.lost_at_front j g e in (f.0, at_longer old.fronts ((old.offered + count) ∷ []) f.0 g f.1);
+  }
+
+  -- and what was taken
+  pub taken_on : IsAllTaken old → IsAllTaken new
+  taken_on is = subst IsAllTaken (sym gave.3) record { of_callers = is.of_callers; whole = λ i caller e. same_caller i caller (is.whole i caller e) }

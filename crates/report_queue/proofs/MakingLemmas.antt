@@ -12,8 +12,8 @@ use Rattle.permit_ring.specs.declared.seat.Seat.{Seat}
 use Rattle.permit_ring.specs.Logs.{IsOrdered}
 use Rattle.permit_ring.specs.Making as ring
 use Rattle.permit_ring.specs.Seats.{seat_number}
-use Rattle.permit_ring.specs.Steps.{new_memo}
 use Rattle.permit_ring.proofs.ListLemmas.{at_length}
+use Rattle.permit_ring.proofs.NewRings.{new_ordered}
 use Rattle.report_queue.specs.declared.cargo.Item.{Item}
 use Rattle.report_queue.specs.declared.cargo.Items.{Items}
 use Rattle.report_queue.specs.declared.seat.Queue.{Queue}
@@ -54,9 +54,6 @@ module _ {N : Type 0} where
         back_is = back;
         made_is = ap (λ (m : ℕ). m + 1) was.made_is ∙ one;
       }
-
-  new_ordered : (i : ℕ) → IsOrdered (new_memo {N = Item N} i)
-  new_ordered i = record { decided = omega arith; rises = tt; below_ticket = λ t holds. omega arith }
 
 module _ {P L T N : Type 0} (queue : Queue P L T N) where
   new_caller_is : (i : ℕ) (seat : Seat (Items P) (Unit {0}) (Item L) T (Item N)) → i < 32 → ring.IsNewSeat admits_all queue.ring i seat → IsUnused queue record { seat = seat } × (seat_number seat ≡ i)

@@ -15,8 +15,8 @@ use Rattle.report_queue.specs.declared.cargo.Item.{Item}
 use Rattle.report_queue.specs.declared.seat.Queue.{Queue}
 use Rattle.report_queue.specs.declared.seat.QueueSeat.{QueueSeat}
 use Rattle.report_queue.specs.declared.taker.Taker.{Taker}
-use Rattle.report_queue.specs.Calls.{GivesBack, welcomes}
-use Rattle.report_queue.specs.Closing.{AreAllBack, AreAllSwept, events_back, contexts_back}
+use Rattle.report_queue.specs.Calls.{GivesBack, welcomes_caller}
+use Rattle.report_queue.specs.Closing.{AreCallersBack, AreAllSwept, IsAllTaken, events_back, contexts_back}
 use Rattle.report_queue.specs.Items.{admits_all}
 use Rattle.report_queue.specs.Parts.{IsCallerOf, IsTakerOf, caller_memo, taker_memo}
 use Rattle.report_queue.specs.Views.{CallerView, NamesItsCalls, back_in, caller_in, taker_in}
@@ -44,8 +44,12 @@ module _ {N : Type 0} where
   is_back (Some memo) e = refl
 
   -- who is back is shown to be back
-  pub all_back : (k : KeeperMemo (Item N)) → AreAllBack (taker_in k) → ring.AreAllBack k
+  pub all_back : (k : KeeperMemo (Item N)) → AreCallersBack (taker_in k) → ring.AreAllBack k
   all_back k all i back e = is_back back (all i (back_in back) (at_map back_in k.back i back e))
+
+  -- where all that was put was taken, all is reaped
+  pub taken_is_reaped : (k : KeeperMemo (Item N)) → IsAllTaken (taker_in k) → ring.IsAllReaped k
+  taken_is_reaped k taken i memo e = (taken.whole i (caller_in memo) (at_map back_in k.back i (Some memo) e)).within
 
   same_events : (back : Option (SeatMemo (Item N))) → ring.marks_back 0 back ≡ events_back (back_in back)
   same_events None = refl
@@ -71,7 +75,7 @@ module _ {N : Type 0} where
   -- an offer shows all positions given back
   pub offer_shown : (limit count bound tries : ℕ) (k new : KeeperMemo (Item N)) → tries ≤ bound → OfferTells limit count k tries new → GivesBack bound count (taker_in k) (taker_in new)
   offer_shown limit count bound tries k new within tells =
-      let many = tells.1.2 in
+      let many = tells.1.1 in
       (tries, omega (arith, many), within, ap taker_in tells.1.3)
 
   -- an offer takes no caller back
@@ -79,7 +83,7 @@ module _ {N : Type 0} where
   offer_keeps limit count tries k new tells = (ap (λ m. m.back) tells.1.3, ap (λ m. m.made) tells.1.3)
 
   -- a caller that came back is shown
-  pub welcome_shown : (k : KeeperMemo (Item N)) (memo : SeatMemo (Item N)) → taker_in (step.welcomes memo k) ≡ welcomes (caller_in memo) (taker_in k)
+  pub welcome_shown : (k : KeeperMemo (Item N)) (memo : SeatMemo (Item N)) → taker_in (step.welcomes memo k) ≡ welcomes_caller (caller_in memo) (taker_in k)
   welcome_shown k memo = ap (λ (back : List (Option (CallerView N))). record (taker_in k) { back = back }) (map-set back_in k.back memo.number (Some (step.ended memo)))
 
   names-welcome : (back : List (Option (SeatMemo (Item N)))) (memo : SeatMemo (Item N)) → NameTheirs back → NamesItsCalls memo.number memo.log → NameTheirs (set back memo.number (Some (step.ended memo)))

@@ -1,6 +1,6 @@
 -- What the calls of callers and of the taker do, as equations on what they show.
 -- The words of the ring that clauses cite are named again here, for the crates above.
-pub use Rattle.permit_ring.specs.Calls.{ClaimTells, ticket_got, vacant_after}
+pub use Rattle.permit_ring.specs.Calls.{ClaimTells, claimed_at, ticket_got, vacant_after}
 use Rattle.std.specs.Prelude.{◌≡◌, ◌≢◌, ℕ, ◌+◌, ◌≤◌, List, [], ◌∷◌, ◌++◌, length, slice_set, Some, Result, Ok, Err}
 use Rattle.ids_types.specs.declared.names.Ticket.{Ticket}
 use Rattle.permit_ring.specs.declared.answer.Look.{Look}
@@ -36,8 +36,8 @@ module _ {N : Type 0} where
   takes item taker = record taker { items = taker.items ++ item ∷ []; marks = taker.marks ++ (length taker.items + 1) ∷ [] }
 
   -- the taker that read a mark in vain
-  abbrev pub waits : ℕ → TakerView N → TakerView N
-  waits mark taker = record taker { marks = taker.marks ++ mark ∷ [] }
+  abbrev pub finds_unready : ℕ → TakerView N → TakerView N
+  finds_unready mark taker = record taker { marks = taker.marks ++ mark ∷ [] }
 
   -- the taker that gave so many positions back by so many tries
   abbrev pub gives_back : ℕ → ℕ → TakerView N → TakerView N
@@ -48,17 +48,17 @@ module _ {N : Type 0} where
   }
 
   -- the taker that swept so many lost events and lost contexts
-  abbrev pub sweeps : ℕ × ℕ → TakerView N → TakerView N
-  sweeps swept taker = record taker { lost_events = taker.lost_events ++ swept.0 ∷ []; lost_contexts = taker.lost_contexts ++ swept.1 ∷ [] }
+  abbrev pub sweeps_both : ℕ × ℕ → TakerView N → TakerView N
+  sweeps_both swept taker = record taker { lost_events = taker.lost_events ++ swept.0 ∷ []; lost_contexts = taker.lost_contexts ++ swept.1 ∷ [] }
 
   -- the taker that took a caller back
-  abbrev pub welcomes : CallerView N → TakerView N → TakerView N
-  welcomes caller taker = record taker { back = slice_set taker.back caller.caller (Some caller) }
+  abbrev pub welcomes_caller : CallerView N → TakerView N → TakerView N
+  welcomes_caller caller taker = record taker { back = slice_set taker.back caller.caller (Some caller) }
 
 -- a take has the next ticket's item, or tells that it is not finished and changes nothing but the marks read
 abbrev pub TakeTells : {L N : Type 0} → (Item L → Item N) → TakerView N → Result (Item L) Unready → TakerView N → Type 0
 TakeTells note old (Ok item) new = new ≡ takes (note item) old
-TakeTells note old (Err unready) new = (unready.mark ≢ length old.items + 1) × (new ≡ waits unready.mark old)
+TakeTells note old (Err unready) new = (unready.mark ≢ length old.items + 1) × (new ≡ finds_unready unready.mark old)
 
 -- all positions were given back in one step, after tries that each found another word
 abbrev pub GivesBack : {N : Type 0} → ℕ → ℕ → TakerView N → TakerView N → Type 0

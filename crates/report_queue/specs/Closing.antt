@@ -10,8 +10,8 @@ use Rattle.report_queue.specs.Views.{CallerView, TakerView, NamesItsCalls}
 
 module _ {N : Type 0} where
   -- each caller that was made came back
-  abbrev pub AreAllBack : TakerView N → Type 0
-  AreAllBack taker = (i : ℕ) (back : Option (CallerView N)) → get_elem? taker.back i ≡ some back → is_some back ≡ true
+  abbrev pub AreCallersBack : TakerView N → Type 0
+  AreCallersBack taker = (i : ℕ) (back : Option (CallerView N)) → get_elem? taker.back i ≡ some back → is_some back ≡ true
 
   -- of items from ticket t on, those of caller i, with their tickets
   abbrev pub items_of : ℕ → ℕ → List (Item N) → List (ℕ × Item N)

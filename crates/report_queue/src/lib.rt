@@ -7,6 +7,7 @@
 #![tactic(auto)]
 
 mod cargo;
+mod laws;
 mod making;
 mod seat;
 mod sharing;
@@ -15,6 +16,7 @@ mod taker;
 mod tests;
 
 pub use cargo::{Cargo, Item, Items};
+pub use laws::giving_back_keeps_what_was_taken;
 pub use making::{MadeQueue, make};
 pub use permit_ring::{Look, Outcome, Unready};
 pub use seat::{Queue, QueueSeat};

@@ -1,6 +1,6 @@
 //! The queue that is shared, and one who puts items into it.
-ghost use Rattle.std.specs.Prelude.{◌≡◌, ◌<◌, ◌^◌, false, None, Some, is_none, IfErr};
-ghost use Rattle.report_queue.specs.Calls.{ClaimTells, ticket_got, calls_once, puts, marks_event, marks_context};
+ghost use Rattle.std.specs.Prelude.{◌≡◌, ◌<◌, ◌≤◌, ◌^◌, false, None, Some, is_none, IfErr};
+ghost use Rattle.report_queue.specs.Calls.{ClaimTells, claimed_at, ticket_got, calls_once, puts, marks_event, marks_context};
 
 use crate::cargo::{Cargo, Item, Items};
 use ids_types::Ticket;
@@ -51,6 +51,7 @@ impl<P: Cargo> QueueSeat<P> {
         ensures mine { IsCallerOf queue.now self.new }
         ensures told { caller_view self.new ≡ calls_once result (caller_view self.old) }
         ensures held { ticket_of self.new ≡ ticket_got result }
+        ensures small { claimed_at result ≤ 2 ^ 45 }
         ensures none_free { IfErr result (λ look. look.free ≡ 0) }
         ensures steps { ClaimTells (queue_seats queue.now) (caller_memo self.old) result (caller_memo self.new) }
     {
@@ -65,6 +66,7 @@ impl<P: Cargo> QueueSeat<P> {
         requires admitted { P.admits_note (queue_terms queue.now) (P.note payload) }
         ensures mine { IsCallerOf queue.now self.new }
         ensures ticket { ticket_of self.old ≡ Some result }
+        ensures small { result.0 ≤ 2 ^ 45 }
         ensures told { caller_view self.new ≡ puts result.0 (item_of self.old (P.note payload)) (caller_view self.old) }
         ensures held { ticket_of self.new ≡ None }
     {
