@@ -25,7 +25,7 @@ use Rattle.permit_ring.specs.Rule.{Runs}
 use Rattle.permit_ring.specs.Seats.{IsKeeping, IsKeeperOf, KeepsInHand, keeper_memo, ring_terms}
 use Rattle.permit_ring.specs.Steps.{reaps, offers_all, misses}
 use Rattle.permit_ring.proofs.HandLemmas.{hand-reaped, hand-offered, ready_filled}
-use Rattle.permit_ring.proofs.Ready.{offer_ready}
+use Rattle.permit_ring.proofs.KeeperSteps.{offer_ready}
 
 -- the position after that of a ticket is the next ticket's
 pub next_position : (t n : ℕ) → (t % n + 1) % n ≡ (t + 1) % n
@@ -181,7 +181,6 @@ module _ {F O D T N : Type 0} (Ao : T → O → Type 0) (ring : Ring F O D T N) 
       let limit = sym ring_is.limit_is in
       offer_ready note Ao An key ring.table.shared.table_id.slots id me was.keeping.keeps old new keeper.vacant hand.values (ring_is.slots_are ∙ sym positions) hand.admitted (omega (arith, filled, count))
       (hand.in_hand ∙ ap (λ (k : ℕ). hand_from k memo.offered (filled_then hand.values keeper.vacant)) (sym positions)) (omega (arith, account, count, reaped, positions))
-      (subst (λ (x : ℕ × ℕ × PermitWord). IsWord x.0 x.1 x.2) (λ i. (sym positions i, limit i, was.seen_is i)) was.seen_packs)
       (was_old ∙ ap₂ packed limit was.seen_is) (was_new ∙ ap₂ packed limit (is ∙ ap₂ offered_to was.seen_is (sym count)))
 
 -- what is to be offered again is within the ring, and few were reaped

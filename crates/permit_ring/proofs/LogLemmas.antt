@@ -1,5 +1,5 @@
 -- Logs with one call more.
-use Rattle.std.proofs.Common.{◌≡◌, ℕ, ◌<◌, ◌≤◌, Bool, true, false, cond, nat_lt, List, [], ◌∷◌, ◌++◌, refl, sym, subst, ap, inl, inr, arith, le_refl}
+use Rattle.std.proofs.Common.{◌≡◌, ℕ, ◌<◌, ◌≤◌, Bool, true, false, cond, nat_lt, List, [], ◌∷◌, ◌++◌, refl, sym, ap, subst, inl, inr, arith, le_refl}
 use Rattle.std.proofs.lemmas.Bool.{ltb-false, lt-ltb, le-ltb}
 use mathlib.Core.Option.{some}
 use lib.ListN.{get_elem?}
@@ -47,6 +47,14 @@ lost_number (Got t x) = t
 -- one lost call has one number
 pub one_loss : {N : Type 0} (g h : ℕ) → ◌≡◌ {A = Outcome N} (Lost g) (Lost h) → g ≡ h
 one_loss g h e = unfold lost_number in ap lost_number e
+
+is_got : {N : Type 0} → Outcome N → Bool
+is_got (Lost h) = false
+is_got (Got u y) = true
+
+-- a got call is no lost one
+pub no_loss : {A N : Type 0} (t g : ℕ) (x : N) → ◌≡◌ {A = Outcome N} (Got t x) (Lost g) → A
+no_loss t g x e = let c : true ≡ false = (unfold is_got in ap is_got e) in absurd cc
 
 module _ {N : Type 0} (word : PermitWord) (log : List (Outcome N)) (fronts : List ℕ) where
   -- the log after a step is in order

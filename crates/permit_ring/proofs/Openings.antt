@@ -14,7 +14,7 @@ use Rattle.permit_ring.specs.declared.memo.Slot.{Slot}
 use Rattle.permit_ring.specs.declared.memo.Slot.TheVariants.{Offered}
 use Rattle.permit_ring.specs.declared.memo.View.{View}
 use Rattle.permit_ring.specs.Hands.{AllAdmitted}
-use Rattle.permit_ring.specs.Rule.{IsKey, first_view, AreFates, AreSlots, IsKeeperMemo, Plays, Runs}
+use Rattle.permit_ring.specs.Rule.{IsKey, first_view, AreFates, AreSlots, IsKeeperMemo, IsViewAt, Runs}
 use Rattle.permit_ring.specs.Steps.{first_memo}
 use Rattle.permit_ring.proofs.ListLemmas.{there}
 
@@ -33,34 +33,31 @@ module _ {N : Type 0} (n limit : ℕ) where
   first_keeper = record {
     moved = refl;
     noted = λ t x e. absurd (some-ne-none _ (sym e));
-    reaped_is = refl;
-    offered_is = refl;
-    first_front = refl;
-    last_front = ([], refl);
-    seen_is = refl;
-    swept0_is = refl;
-    swept1_is = refl;
+    counted = record { reaped_is = refl; offered_is = refl; first_front = refl; last_front = ([], refl); seen_is = refl; swept0_is = refl; swept1_is = refl };
     made_is = inr (refl, refl);
     back_is = refl;
     unmade_rest = λ i past. refl;
   }
 
 -- each slot has a value that may be claimed
-first_slots : {O D N : Type 0} (note : D → N) (Admits : O → Type 0) (n limit : ℕ) (ys : List O) → length ys ≡ n → AllAdmitted Admits ys → AreSlots note Admits n (opening n limit) [] (map some (map Offered ys))
-first_slots {O} {D} {N} note Admits n limit ys long all = record {
+first_slots : {O D N : Type 0} (note : D → N) (Admits : O → Type 0) (n limit : ℕ) (ys : List O) → length ys ≡ n → AllAdmitted Admits ys
+    → AreSlots note Admits (opening n limit) [] n (map some (map Offered ys))
+first_slots note Admits n limit ys long all = record {
   a_slot_each = length-map (map Offered ys) some ∙ length-map ys Offered ∙ long;
-  finished_home = λ t i x past e. absurd (some-ne-none _ (sym e));
-  held_out = λ t past e. absurd (some-ne-none _ (sym e));
-  offered_home = λ t past below.
-      let is = there ys t (omega (arith, below, long)) in
-      (is.0, all t is.0 is.1, ap (get_elem? (map some (map Offered ys))) (mod-eq_of_lt below) ∙ at_map some (map Offered ys) t (Offered is.0) (at_map Offered ys t is.0 is.1));
-  vacant_out = λ t past below. absurd (omega (arith, past, below));
+  each = λ t past below. record {
+    finished_home = λ i x e. absurd (some-ne-none _ (sym e));
+    held_out = λ e. absurd (some-ne-none _ (sym e));
+    offered_home = λ _ until.
+        let is = there ys t (omega (arith, until, long)) in
+        (is.0, all t is.0 is.1, ap (get_elem? (map some (map Offered ys))) (mod-eq_of_lt until) ∙ at_map some (map Offered ys) t (Offered is.0) (at_map Offered ys t is.0 is.1));
+    vacant_out = λ from. absurd (omega (arith, from, below));
+  };
 }
 
 module _ {O D T N : Type 0} (note : D → N) (Ao : T → O → Type 0) (An : T → N → Type 0) (key : Key T) where
   -- the keeper alone is there
-  only_keeper : (port : ℕ) (v : View T N) → get_elem? (first_view key ∷ []) port ≡ some v → Plays key (opening key.positions key.limit) [] [] (first_memo key.positions) (first_view key ∷ []) (λ i. 0) port v
-  only_keeper zero v e = subst (Plays key (opening key.positions key.limit) [] [] (first_memo key.positions) (first_view key ∷ []) (λ i. 0) 0) (some-injective (first_view key) v e) refl
+  only_keeper : (port : ℕ) (v : View T N) → get_elem? (first_view key ∷ []) port ≡ some v → IsViewAt key (opening key.positions key.limit) [] [] (first_memo key.positions) (first_view key ∷ []) (λ i. 0) port v
+  only_keeper zero v e = subst (IsViewAt key (opening key.positions key.limit) [] [] (first_memo key.positions) (first_view key ∷ []) (λ i. 0) 0) (some-injective (first_view key) v e) refl
   only_keeper (suc port) v e = absurd (some-ne-none v (sym e))
 
   -- a ring whose slots have admitted values, and whose words are those of the opening state, runs
@@ -77,7 +74,7 @@ module _ {O D T N : Type 0} (note : D → N) (Ao : T → O → Type 0) (An : T �
         fates = [];
         keeper = first_memo key.positions;
         are_fates = first_fates key.positions key.limit (An key.terms) ring;
-        are_slots = subst (λ (xs : List (Slot O D)). AreSlots note (Ao key.terms) key.positions (opening key.positions key.limit) [] (map some xs)) (sym are) (first_slots note (Ao key.terms) key.positions key.limit ys long all);
+        are_slots = subst (λ (xs : List (Slot O D)). AreSlots note (Ao key.terms) (opening key.positions key.limit) [] key.positions (map some xs)) (sym are) (first_slots note (Ao key.terms) key.positions key.limit ys long all);
         keeper_there = refl;
         knows = first_keeper key.positions key.limit;
         owner = λ i. 0;

@@ -21,8 +21,8 @@ use Rattle.permit_ring.specs.declared.memo.View.{View}
 use Rattle.permit_ring.specs.declared.memo.View.TheVariants.{Sits, Keeps}
 use Rattle.permit_ring.specs.Logs.{start_of, end_of, RisesFrom, end_from, got_of, taken_by}
 use Rattle.permit_ring.specs.Places.{ShowsRing, SitsThere, CameBack, IsMemoThere, IsHeldOnce, IsLoggedOnce, HasOnePlace, IsNotedAs, IsInOrder, IsAdmittedSlot, IsOneSeats}
-use Rattle.permit_ring.specs.Rule.{IsSeatMemo, IsSomewhere, Runs, HasFinished, IsOut}
-use Rattle.permit_ring.proofs.States.{one_memo, ring_of, keeper_port, at_own_port, is_live, knows_it, not_ended}
+use Rattle.permit_ring.specs.Rule.{Home, IsSlot, IsSeatMemo, IsSomewhere, Runs, HasFinished, HasOffered, IsOut}
+use Rattle.permit_ring.proofs.States.{one_memo, ring_of, one_turn_ahead, keeper_port, at_own_port, is_live, knows_it, not_ended}
 use Rattle.permit_ring.proofs.ListLemmas.{at_length, there}
 
 -- each place of a turn is that of a ticket in it
@@ -136,20 +136,20 @@ one_element : {A : Type 0} (l : List A) (i : ℕ) (a b : A) → get_elem? l i �
 one_element l i a b ea eb = some-injective a b (sym ea ∙ eb)
 
 -- a seat that holds a ticket is one that was made
-made_if_holds : (made : ℕ) (seats : List SeatView) (i t : ℕ) → (made ≡ length seats) ⊎ ((made ≡ 0) × (seats ≡ new_seat ∷ [])) → i < length seats → Holds (seat_at seats i) t → i < made
-made_if_holds made seats i t (inl all) less h = omega (arith, all, less)
+made_if_holds : (made : ℕ) (seats : List SeatView) (i t : ℕ) → ((1 ≤ made) × (made ≡ length seats)) ⊎ ((made ≡ 0) × (seats ≡ new_seat ∷ [])) → i < length seats → Holds (seat_at seats i) t → i < made
+made_if_holds made seats i t (inl all) less h = let same = all.1 in omega (arith, same, less)
 made_if_holds made seats i t (inr first) less h =
     let one : length seats ≡ 1 = ap length first.1 in
     let at_zero : i ≡ 0 = omega (arith, one, less) in
     none_held (seat_at seats i).held t (ap (λ (v : SeatView). v.held) (ap₂ seat_at first.1 at_zero)) h
 
-module _ {O D T N : Type 0} (note : D → N) (Ao : T → O → Type 0) (An : T → N → Type 0) (key : Key T) (s : State (Slot O D) (View T N)) (r : Runs note Ao An key s) where
+module _ {O D T N : Type 0} {note : D → N} {Ao : T → O → Type 0} {An : T → N → Type 0} {key : Key T} {s : State (Slot O D) (View T N)} (r : Runs note Ao An key s) where
   abbrev Known : SeatMemo N → Type 0
   Known memo = IsSeatMemo r.machine r.moves r.fates r.keeper.fronts r.keeper.made memo
 
   -- the keeper has the memo
   back_there : (memo : SeatMemo N) → CameBack s.views memo → get_elem? r.keeper.back memo.number ≡ some (Some memo)
-  back_there memo c = ap (λ (k : KeeperMemo N). get_elem? k.back memo.number) (sym (keeper_port note Ao An key s r c.port c.its_key c.keeper c.there).1) ∙ c.back_at
+  back_there memo c = ap (λ (k : KeeperMemo N). get_elem? k.back memo.number) (sym (keeper_port r c.there).1) ∙ c.back_at
 
   -- who came back is not live, and knows what it knew
   ended_known : (memo : SeatMemo N) → CameBack s.views memo → (memo.view.live ≡ false) × Known memo
@@ -157,20 +157,20 @@ module _ {O D T N : Type 0} (note : D → N) (Ao : T → O → Type 0) (An : T �
 
   -- what a seat that was made knows
   pub memo_known : (memo : SeatMemo N) → IsMemoThere s.views memo → Known memo
-  memo_known memo (inl sits) = knows_it note Ao An key s r sits.port sits.its_key memo sits.there
+  memo_known memo (inl sits) = knows_it r _ sits.there
   memo_known memo (inr back) = (ended_known memo back).1
 
   -- a number has one port
   pub one_port : (p q : ℕ) (its other : Key T) (a b : SeatMemo N) → get_elem? s.views p ≡ some (Sits its a) → get_elem? s.views q ≡ some (Sits other b) → a.number ≡ b.number → p ≡ q
-  one_port p q its other a b at_a at_b e = sym (at_own_port note Ao An key s r p its a at_a) ∙ ap r.owner e ∙ at_own_port note Ao An key s r q other b at_b
+  one_port p q its other a b at_a at_b e = sym (at_own_port r _ at_a) ∙ ap r.owner e ∙ at_own_port r _ at_b
 
   -- a number has one memo
   one_each : (a b : SeatMemo N) → IsMemoThere s.views a → IsMemoThere s.views b → a.number ≡ b.number → a ≡ b
   one_each a b (inl x) (inl y) e =
       let same = one_port x.port y.port x.its_key y.its_key a b x.there y.there e in
       one_memo x.its_key y.its_key a b (one_element s.views x.port (Sits x.its_key a) (Sits y.its_key b) x.there (ap (get_elem? s.views) same ∙ y.there))
-  one_each a b (inl x) (inr y) e = let was = ended_known b y in not_ended note Ao An key s r x.port x.its_key a x.there b was.0 (sym e) was.1
-  one_each a b (inr x) (inl y) e = let was = ended_known a x in not_ended note Ao An key s r y.port y.its_key b y.there a was.0 e was.1
+  one_each a b (inl x) (inr y) e = let was = ended_known b y in not_ended r _ x.there b was.0 (sym e) was.1
+  one_each a b (inr x) (inl y) e = let was = ended_known a x in not_ended r _ y.there a was.0 e was.1
   one_each a b (inr x) (inr y) e = same_Some a b (one_element r.keeper.back a.number (Some a) (Some b) (back_there a x) (ap (get_elem? r.keeper.back) e ∙ back_there b y))
 
   -- the memo of a seat by its number, and whether it is live
@@ -236,8 +236,25 @@ module _ {O D T N : Type 0} (note : D → N) (Ao : T → O → Type 0) (An : T �
       (omega (arith, less, all), λ other there h. not_both t (memo.number, x) (open_of other t there h) done)
 
   -- what its slot holds, until it is reaped
-  pub slot_of_logged : (memo : SeatMemo N) (j t : ℕ) (x : N) → IsMemoThere s.views memo → get_elem? memo.log j ≡ some (Got t x) → r.machine.reaped ≤ t → HasFinished key.positions s.homes t note x
-  slot_of_logged memo j t x is e from = r.are_slots.finished_home t memo.number x from (fate_of memo j t x is e)
+  pub slot_of_logged : (memo : SeatMemo N) (j t : ℕ) (x : N) → IsMemoThere s.views memo → get_elem? memo.log j ≡ some (Got t x) → r.machine.reaped ≤ t → HasFinished (get_elem? s.homes (t % key.positions)) note x
+  slot_of_logged memo j t x is e from =
+      let out = (logged_is_done memo j t x is e).0 in
+      let account = (ring_of r).permits.account in
+      let turn = one_turn_ahead r in
+      (r.are_slots.each t from (omega (arith, out, account, turn))).finished_home memo.number x (fate_of memo j t x is e)
+
+  -- what a free slot holds, and a vacant one
+  pub slot_of_free : (t : ℕ) → r.machine.word.claimed ≤ t → t < r.machine.offered → HasOffered (get_elem? s.homes (t % key.positions)) (Ao key.terms)
+  slot_of_free t past below =
+      let behind = (ring_of r).permits.reaped_claimed in
+      let turn = one_turn_ahead r in
+      (r.are_slots.each t (omega (arith, past, behind)) (omega (arith, below, turn))).offered_home past below
+
+  pub slot_of_vacant : (t : ℕ) → r.machine.offered ≤ t → t < r.machine.reaped + key.positions → IsOut (get_elem? s.homes (t % key.positions))
+  slot_of_vacant t past below =
+      let account = (ring_of r).permits.account in
+      let behind = (ring_of r).permits.reaped_claimed in
+      (r.are_slots.each t (omega (arith, past, account, behind)) below).vacant_out past
 
   -- in one log a ticket stands at one place
   one_place : (memo : SeatMemo N) (j l t : ℕ) (x y : N) → IsMemoThere s.views memo → get_elem? memo.log j ≡ some (Got t x) → get_elem? memo.log l ≡ some (Got t y) → j ≡ l
@@ -256,7 +273,7 @@ module _ {O D T N : Type 0} (note : D → N) (Ao : T → O → Type 0) (An : T �
 
   -- a seat that holds a ticket is live
   holder_lives : (i t : ℕ) → Holds (seat_at r.machine.seats i) t → (seat_at r.machine.seats i).live ≡ true
-  holder_lives i t h = ((ring_of note Ao An key s r).seats.each i).holder_is_live (ap is_some h)
+  holder_lives i t h = ((ring_of r).seats.each i).holder_is_live (ap is_some h)
 
   -- and was made
   holder_made : (i t : ℕ) → Holds (seat_at r.machine.seats i) t → i < r.keeper.made
@@ -276,22 +293,27 @@ module _ {O D T N : Type 0} (note : D → N) (Ao : T → O → Type 0) (An : T �
 
   -- a held ticket was claimed, and is not reaped
   pub held_is_claimed : (memo : SeatMemo N) (t : ℕ) → IsMemoThere s.views memo → Holds memo.view t → (r.machine.reaped ≤ t) × (t < r.machine.word.claimed)
-  held_is_claimed memo t is h = ((ring_of note Ao An key s r).seats.each memo.number).held_is_out t (machine_holds memo t is h)
+  held_is_claimed memo t is h = ((ring_of r).seats.each memo.number).held_is_out t (machine_holds memo t is h)
 
   -- and its slot is out
-  pub slot_of_held : (memo : SeatMemo N) (t : ℕ) → IsMemoThere s.views memo → Holds memo.view t → IsOut key.positions s.homes t
-  slot_of_held memo t is h = r.are_slots.held_out t (held_is_claimed memo t is h).0 (open_of memo t is h)
+  pub slot_of_held : (memo : SeatMemo N) (t : ℕ) → IsMemoThere s.views memo → Holds memo.view t → IsOut (get_elem? s.homes (t % key.positions))
+  slot_of_held memo t is h =
+      let out = held_is_claimed memo t is h in
+      let below = out.1 in
+      let account = (ring_of r).permits.account in
+      let turn = one_turn_ahead r in
+      (r.are_slots.each t out.0 (omega (arith, below, account, turn))).held_out (open_of memo t is h)
 
   -- two seats that hold one ticket are one
   one_holder : (a b : SeatMemo N) (t : ℕ) → IsMemoThere s.views a → IsMemoThere s.views b → Holds a.view t → Holds b.view t → a ≡ b
-  one_holder a b t is_a is_b ha hb = one_each a b is_a is_b ((ring_of note Ao An key s r).seats.apart a.number b.number t (machine_holds a t is_a ha) (machine_holds b t is_b hb))
+  one_holder a b t is_a is_b ha hb = one_each a b is_a is_b ((ring_of r).seats.apart a.number b.number t (machine_holds a t is_a ha) (machine_holds b t is_b hb))
 
   -- a ticket that a seat holds has this place alone
   held_by : (memo : SeatMemo N) (t : ℕ) → IsMemoThere s.views memo → Holds memo.view t → IsHeldOnce s.views t
   held_by memo t is h = let sits = holder_sits memo t is h in record {
     holder = memo;
     sits = sits;
-    is_live = is_live note Ao An key s r sits.port sits.its_key memo sits.there;
+    is_live = is_live r _ sits.there;
     holds = h;
     no_other = λ other there_too h_too. one_holder other memo t there_too is h_too h;
     in_no_log = λ other j x there_too e. not_both t (other.number, x) (open_of memo t is h) (fate_of other j t x there_too e);
@@ -340,7 +362,7 @@ module _ {O D T N : Type 0} (note : D → N) (Ao : T → O → Type 0) (An : T �
   -- the keeper's note of a ticket is that of its log
   pub note_of_a_ticket : (port t : ℕ) (its : Key T) (k : KeeperMemo N) (x : N) → get_elem? s.views port ≡ some (Keeps its k) → get_elem? k.notes t ≡ some x → IsNotedAs s.views t x
   note_of_a_ticket port t its k x at e =
-      let one = (keeper_port note Ao An key s r port its k at).1 in
+      let one = (keeper_port r at).1 in
       let fate = r.knows.noted t x (ap (λ (h : KeeperMemo N). get_elem? h.notes t) (sym one) ∙ e) in
       noted_as t (fate.0, x) fate.1
 
@@ -357,33 +379,25 @@ module _ {O D T N : Type 0} (note : D → N) (Ao : T → O → Type 0) (An : T �
   abbrev Admitted : Slot O D → Type 0
   Admitted = IsAdmittedSlot note Ao An key.terms
 
-  -- a slot that is out has no value at home
-  not_out : (p : ℕ) (x : Slot O D) → get_elem? s.homes p ≡ some (some x) → get_elem? s.homes p ≡ some none → Admitted x
-  not_out p x at out = absurd (some-ne-none x (one_element s.homes p (some x) none at out))
+  -- what is said of a place holds of the value that stands there
+  not_out : (x : Slot O D) (home : Home O D) → home ≡ some (some x) → IsOut home → Admitted x
+  not_out x home at out = absurd (some-ne-none x (some-injective (some x) none (sym at ∙ out)))
 
-  -- a slot has one value
-  value_is : (p : ℕ) (x y : Slot O D) → get_elem? s.homes p ≡ some (some x) → get_elem? s.homes p ≡ some (some y) → Admitted y → Admitted x
-  value_is p x y at is = subst Admitted (sym (some-injective x y (one_element s.homes p (some x) (some y) at is)))
+  value_is : (x y : Slot O D) (home : Home O D) → home ≡ some (some x) → home ≡ some (some y) → Admitted y → Admitted x
+  value_is x y home at is = subst Admitted (sym (some-injective x y (some-injective (some x) (some y) (sym at ∙ is))))
 
   -- the value at home of a claimed ticket
-  claimed_value : (t : ℕ) (x : Slot O D) (fate : Option (ℕ × N)) → r.machine.reaped ≤ t → get_elem? r.fates t ≡ some fate → get_elem? s.homes (t % key.positions) ≡ some (some x) → Admitted x
-  claimed_value t x None from e at = not_out (t % key.positions) x at (r.are_slots.held_out t from e)
-  claimed_value t x (Some y) from e at =
-      let home = r.are_slots.finished_home t y.0 y.1 from e in
-      value_is (t % key.positions) x (Finished home.0) at home.2 (subst (An key.terms) (sym home.1) (r.are_fates.finished t y.0 y.1 e).1)
+  claimed_value : (t : ℕ) (x : Slot O D) (fate : Option (ℕ × N)) (home : Home O D) → IsSlot note (Ao key.terms) r.machine r.fates t home → get_elem? r.fates t ≡ some fate → home ≡ some (some x) → Admitted x
+  claimed_value t x None home is e at = not_out x home at (is.held_out e)
+  claimed_value t x (Some y) home is e at =
+      let done = is.finished_home y.0 y.1 e in
+      value_is x (Finished done.0) home at done.2 (subst (An key.terms) (sym done.1) (r.are_fates.finished t y.0 y.1 e).1)
 
   -- and of one that is not claimed yet
-  later_value : (t : ℕ) (x : Slot O D) → r.machine.word.claimed ≤ t → t < r.machine.reaped + key.positions → get_elem? s.homes (t % key.positions) ≡ some (some x) → Admitted x
-  later_value t x past within at = elim (cases_lt t r.machine.offered) [
-    | inl offered ↦ let home = r.are_slots.offered_home t past offered in value_is (t % key.positions) x (Offered home.0) at home.2 home.1
-    | inr vacant ↦ not_out (t % key.positions) x at (r.are_slots.vacant_out t vacant within)
-  ]
-
-  -- the value at home of any ticket of the turn
-  ticket_value : (t : ℕ) (x : Slot O D) → r.machine.reaped ≤ t → t < r.machine.reaped + key.positions → get_elem? s.homes (t % key.positions) ≡ some (some x) → Admitted x
-  ticket_value t x from within at = elim (cases_lt t r.machine.word.claimed) [
-    | inl claimed ↦ let all = r.are_fates.each_claimed in let fate = there r.fates t (omega (arith, claimed, all)) in claimed_value t x fate.0 from fate.1 at
-    | inr past ↦ later_value t x past within at
+  later_value : (t : ℕ) (x : Slot O D) (home : Home O D) → IsSlot note (Ao key.terms) r.machine r.fates t home → r.machine.word.claimed ≤ t → home ≡ some (some x) → Admitted x
+  later_value t x home is past at = elim (cases_lt t r.machine.offered) [
+    | inl offered ↦ let y = is.offered_home past offered in value_is x (Offered y.0) home at y.2 y.1
+    | inr vacant ↦ not_out x home at (is.vacant_out vacant)
   ]
 
   -- each value at home is admitted
@@ -391,9 +405,15 @@ module _ {O D T N : Type 0} (note : D → N) (Ao : T → O → Type 0) (An : T �
   values_at_home_are_admitted p x at =
       let below = at_length s.homes p (some x) at in
       let long = r.are_slots.a_slot_each in
-      let ticket = in_turn key.positions r.machine.reaped p (omega (arith, below, long)) in
-      ticket_value ticket.0 x ticket.1 ticket.2 (ap (get_elem? s.homes) ticket.3 ∙ at)
+      let t = in_turn key.positions r.machine.reaped p (omega (arith, below, long)) in
+      let is = r.are_slots.each t.0 t.1 t.2 in
+      let home = get_elem? s.homes (t.0 % key.positions) in
+      let here = ap (get_elem? s.homes) t.3 ∙ at in
+      elim (cases_lt t.0 r.machine.word.claimed) [
+        | inl claimed ↦ let all = r.are_fates.each_claimed in let fate = there r.fates t.0 (omega (arith, claimed, all)) in claimed_value t.0 x fate.0 home is fate.1 here
+        | inr past ↦ later_value t.0 x home is past here
+      ]
 
   -- the words show the machine
   pub words_show_the_machine : ShowsRing key s.words r.moves r.machine
-  words_show_the_machine = record { reached = r.reached; words_are = r.words_are; is_ring = ring_of note Ao An key s r }
+  words_show_the_machine = record { reached = r.reached; words_are = r.words_are; is_ring = ring_of r }

@@ -1,13 +1,16 @@
 -- What stays of the rule where one view changes.
-use Rattle.std.proofs.Common.{◌≡◌, ◌≢◌, ℕ, ◌≤◌, Bool, true, false, List, set, Option, Some, None, refl, sym, ◌∙◌, ap, subst, inl, inr, arith}
+use Rattle.std.proofs.Common.{◌≡◌, ◌≢◌, ℕ, ◌+◌, ◌%◌, ◌<◌, ◌≤◌, Bool, true, false, List, length, set, Option, Some, None, refl, sym, ◌∙◌, ap, subst, inl, inr, mod-lt, arith}
 use Rattle.std.proofs.lemmas.Bool.{cases_eq}
+use Rattle.std.proofs.lemmas.List.{length-set}
 use mathlib.Core.Option.{some, some-injective, some-ne-none}
 use mathlib.Core.Option as maybe
 use lib.ListN.{get_elem?}
 use Rattle.atomic_table.proofs.Lists.{at_set, set_here, set_else}
 use Rattle.atomic_table.specs.Table.{State}
 use Rattle.ring_core.specs.declared.seat.SeatView.{SeatView}
-use Rattle.ring_core.specs.Machine.{Machine, opening, seat_at}
+use Rattle.ring_core.specs.Machine.{HasSizes, Machine, opening, seat_at}
+use Rattle.ring_core.proofs.SeatLemmas.{SameHolders}
+use Rattle.ring_core.proofs.Turns.{same_position}
 use Rattle.ring_core.specs.Sound.{IsRing}
 use Rattle.ring_core.proofs.Opens.{opens}
 use Rattle.permit_ring.specs.declared.memo.Key.{Key}
@@ -19,9 +22,9 @@ use Rattle.permit_ring.specs.declared.memo.View.{View}
 use Rattle.permit_ring.specs.declared.memo.View.TheVariants.{Sits, Keeps, Spent}
 use Rattle.permit_ring.specs.Logs.{taken_by}
 use Rattle.permit_ring.specs.Moves.{Leads, by_seat}
-use Rattle.permit_ring.specs.Rule.{words_of, StandsIn, AreFates, AreSlots, IsSeatMemo, IsKeeperMemo, Plays, IsSomewhere, Runs}
+use Rattle.permit_ring.specs.Rule.{words_of, StandsIn, AreFates, Home, IsSlot, AreSlots, IsSeatMemo, IsKeeperMemo, IsViewAt, IsSomewhere, Runs}
 use Rattle.permit_ring.proofs.ListLemmas.{at_length}
-use Rattle.permit_ring.proofs.MoveLemmas.{led_ring}
+use Rattle.permit_ring.proofs.MoveLemmas.{led_ring, led_sizes}
 
 module _ {T N : Type 0} where
   sits : View T N → Bool
@@ -49,11 +52,13 @@ module _ {T N : Type 0} where
   pub no_seat_keeps : {A : Type 0} (key its : Key T) (memo : SeatMemo N) (k : KeeperMemo N) → Sits key memo ≡ Keeps its k → A
   no_seat_keeps key its memo k e = let c : true ≡ false = (unfold sits in ap sits e) in absurd cc
 
-module _ {N : Type 0} (m now : Machine) (moves then : List Move) (fates later : List (Option (ℕ × N))) (fronts further : List ℕ) (made more : ℕ) where
+module _ {N : Type 0} {m now : Machine} {fates later : List (Option (ℕ × N))} where
   -- a seat that a step leaves alone still knows what it knew
-  pub seat_stays : (memo : SeatMemo N) → IsSeatMemo m moves fates fronts made memo → seat_at now.seats memo.number ≡ seat_at m.seats memo.number → by_seat memo.number then ≡ by_seat memo.number moves → taken_by memo.number 0 later ≡ taken_by memo.number 0 fates → m.word.claimed ≤ now.word.claimed
+  pub seat_stays : {moves then : List Move} {fronts further : List ℕ} {made more : ℕ} {memo : SeatMemo N} → IsSeatMemo m moves fates fronts made memo
+      → seat_at now.seats memo.number ≡ seat_at m.seats memo.number → by_seat memo.number then ≡ by_seat memo.number moves
+      → taken_by memo.number 0 later ≡ taken_by memo.number 0 fates → m.word.claimed ≤ now.word.claimed
       → ((g : ℕ) → StandsIn fronts g → StandsIn further g) → made ≤ more → IsSeatMemo now then later further more memo
-  seat_stays memo k seat moved took claimed wider grown = record {
+  seat_stays k seat moved took claimed wider grown = record {
     is_made = let is = k.is_made in omega (arith, is, grown);
     shows = k.shows ∙ sym seat;
     moved = k.moved ∙ sym moved;
@@ -63,26 +68,78 @@ module _ {N : Type 0} (m now : Machine) (moves then : List Move) (fates later : 
     lost_at_front = λ j g e. wider g (k.lost_at_front j g e);
   }
 
-module _ {O D T N : Type 0} (note : D → N) (Ao : T → O → Type 0) (An : T → N → Type 0) (key : Key T) (s : State (Slot O D) (View T N)) (r : Runs note Ao An key s) where
+module _ {N : Type 0} {m now : Machine} {fates : List (Option (ℕ × N))} where
+  -- where no ticket changes hands, the fates stay
+  pub fates_stay : {Admits : N → Type 0} {made more : ℕ} → made ≤ more → SameHolders m.seats now.seats → now.word.claimed ≡ m.word.claimed
+      → AreFates m Admits made fates → AreFates now Admits more fates
+  fates_stay grown same claimed f = record {
+    each_claimed = f.each_claimed ∙ sym claimed;
+    held_is_open = λ i t h. f.held_is_open i t (sym (same i) ∙ h);
+    open_is_held = λ t e. let h = f.open_is_held t e in (h.0, same h.0 ∙ h.1);
+    finished = λ t i x e. let done = f.finished t i x e in let less = done.0 in (omega (arith, less, grown), done.1);
+  }
+
+  module _ {O D : Type 0} {note : D → N} {Admits : O → Type 0} {n : ℕ} {homes : List (maybe.Option (Slot O D))} where
+    -- where none is claimed, offered or reaped, the slots stay
+    pub slots_stay : now.reaped ≡ m.reaped → now.word.claimed ≡ m.word.claimed → now.offered ≡ m.offered
+        → AreSlots note Admits m fates n homes → AreSlots note Admits now fates n homes
+    slots_stay reaped claimed offered a = record {
+      a_slot_each = a.a_slot_each;
+      each = λ t from to. let is = a.each t (omega (arith, from, reaped)) (omega (arith, to, reaped)) in record {
+        finished_home = is.finished_home;
+        held_out = is.held_out;
+        offered_home = λ past below. is.offered_home (omega (arith, past, claimed)) (omega (arith, below, offered));
+        vacant_out = λ past. is.vacant_out (omega (arith, past, offered));
+      };
+    }
+
+module _ {O D N : Type 0} {note : D → N} {Admits : O → Type 0} {n : ℕ} {homes : List (maybe.Option (Slot O D))} {m now : Machine} {fates later : List (Option (ℕ × N))} where
+  -- the slots after that of ticket u of the turn changed
+  pub slots_set : (u : ℕ) (v : maybe.Option (Slot O D)) → 1 ≤ n → m.reaped ≤ u → u < m.reaped + n → now.reaped ≡ m.reaped
+      → AreSlots note Admits m fates n homes → IsSlot note Admits now later u (some v)
+      → ((t : ℕ) (home : Home O D) → t ≢ u → m.reaped ≤ t → t < m.reaped + n → IsSlot note Admits m fates t home → IsSlot note Admits now later t home)
+      → AreSlots note Admits now later n (set homes (u % n) v)
+  slots_set u v positive from_u to_u reaped was own others = record {
+    a_slot_each = length-set homes (u % n) v ∙ was.a_slot_each;
+    each = λ t from to.
+        let since : m.reaped ≤ t = omega (arith, from, reaped) in
+        let until : t < m.reaped + n = omega (arith, to, reaped) in
+        elim (cases_eq t u) [
+          | inl here ↦
+              let place : u % n < length homes = subst (λ (k : ℕ). u % n < k) (sym was.a_slot_each) (mod-lt u positive) in
+              let at = ap (λ (k : ℕ). get_elem? (set homes (u % n) v) (k % n)) here ∙ set_here homes (u % n) v place in
+              subst (IsSlot note Admits now later t) (sym at) (subst (λ (k : ℕ). IsSlot note Admits now later k (some v)) (sym here) own)
+          | inr away ↦
+              let apart : t % n ≢ u % n = λ e. away (same_position m.reaped n t u since until from_u to_u e) in
+              subst (IsSlot note Admits now later t) (sym (set_else homes (u % n) (t % n) v apart)) (others t (get_elem? homes (t % n)) away since until (was.each t since until))
+        ];
+  }
+
+module _ {O D T N : Type 0} {note : D → N} {Ao : T → O → Type 0} {An : T → N → Type 0} {key : Key T} {s : State (Slot O D) (View T N)} (r : Runs note Ao An key s) where
   -- the machine is a ring
   pub ring_of : IsRing r.machine
   ring_of = led_ring (opening key.positions key.limit) r.machine r.moves (opens key.positions key.limit r.sizes.some_position r.sizes.most_positions r.sizes.some_seat r.sizes.most_seats) r.reached
 
+  -- of the ring's sizes
+  pub sizes_of : HasSizes key.positions key.limit r.machine
+  sizes_of = led_sizes (opening key.positions key.limit) r.machine r.moves r.reached
+
+  -- no ticket is a turn ahead
+  pub one_turn_ahead : r.machine.offered ≤ r.machine.reaped + key.positions
+  one_turn_ahead = subst (λ (k : ℕ). r.machine.offered ≤ r.machine.reaped + k) sizes_of.positions_are ring_of.permits.one_turn_ahead
+
   -- the keeper sits at the first port
-  pub keeper_port : (id : ℕ) (its : Key T) (k : KeeperMemo N) → get_elem? s.views id ≡ some (Keeps its k) → (id ≡ 0) × (k ≡ r.keeper)
-  keeper_port id its k at =
+  pub keeper_port : {id : ℕ} {its : Key T} {k : KeeperMemo N} → get_elem? s.views id ≡ some (Keeps its k) → (id ≡ 0) × (k ≡ r.keeper)
+  keeper_port {id = id} {its = its} {k = k} at =
       let first : id ≡ 0 = r.each_view id (Keeps its k) at in
       (first, one_keeper its key k r.keeper (some-injective (Keeps its k) (Keeps key r.keeper) (sym (ap (get_elem? s.views) (sym first) ∙ at) ∙ r.keeper_there)))
 
-  module _ (id : ℕ) (its : Key T) (memo : SeatMemo N) (at : get_elem? s.views id ≡ some (Sits its memo)) where
+  module _ (id : ℕ) {its : Key T} {memo : SeatMemo N} (at : get_elem? s.views id ≡ some (Sits its memo)) where
     -- a seat sits elsewhere
     pub not_first : id ≢ 0
     not_first e = no_seat_keeps its key memo r.keeper (some-injective (Sits its memo) (Keeps key r.keeper) (sym at ∙ ap (get_elem? s.views) e ∙ r.keeper_there))
 
-    -- with the ring's key, live, and at its own port
-    pub its_key : its ≡ key
-    its_key = (r.each_view id (Sits its memo) at).0
-
+    -- at its own port, live, and knows
     pub at_own_port : r.owner memo.number ≡ id
     at_own_port = (r.each_view id (Sits its memo) at).1
 
@@ -97,13 +154,13 @@ module _ {O D T N : Type 0} (note : D → N) (Ao : T → O → Type 0) (An : T �
     not_ended other off e k = let c : true ≡ false = sym is_live ∙ ap (λ (v : SeatView). v.live) (knows_it.shows ∙ ap (seat_at r.machine.seats) (sym e) ∙ sym k.shows) ∙ off in absurd cc
 
   -- the machine, its moves and the fates go on
-  module _ (now : Machine) (then : List Move) (later : List (Option (ℕ × N))) (words : List ℕ) (homes : List (maybe.Option (Slot O D))) (led : Leads (opening key.positions key.limit) then now) (told : words ≡ words_of now) (slots : AreSlots note (Ao key.terms) key.positions now later homes) where
+  module _ (now : Machine) (then : List Move) (later : List (Option (ℕ × N))) (words : List ℕ) (homes : List (maybe.Option (Slot O D))) (led : Leads (opening key.positions key.limit) then now) (told : words ≡ words_of now) (slots : AreSlots note (Ao key.terms) now later key.positions homes) where
     -- and one seat knows more
-    pub seat_changes : (id : ℕ) (memo new : SeatMemo N) → get_elem? s.views id ≡ some (Sits key memo) → new.number ≡ memo.number → new.view.live ≡ true → AreFates now (An key.terms) r.keeper.made later → IsKeeperMemo key.positions now then later r.keeper
+    pub seat_changes : (id : ℕ) {memo new : SeatMemo N} → get_elem? s.views id ≡ some (Sits key memo) → new.number ≡ memo.number → new.view.live ≡ true → AreFates now (An key.terms) r.keeper.made later → IsKeeperMemo key.positions now then later r.keeper
         → IsSeatMemo now then later r.keeper.fronts r.keeper.made new
         → ((other : SeatMemo N) → other.number ≢ memo.number → IsSeatMemo r.machine r.moves r.fates r.keeper.fronts r.keeper.made other → IsSeatMemo now then later r.keeper.fronts r.keeper.made other)
         → Runs note Ao An key record { words = words; homes = homes; views = set s.views id (Sits key new) }
-    seat_changes id memo new at same live fates keeps mine others = record {
+    seat_changes id {memo = memo} {new = new} at same live fates keeps mine others = record {
       sizes = r.sizes;
       machine = now;
       moves = then;
@@ -113,18 +170,18 @@ module _ {O D T N : Type 0} (note : D → N) (Ao : T → O → Type 0) (An : T �
       keeper = r.keeper;
       are_fates = fates;
       are_slots = slots;
-      keeper_there = set_else s.views id 0 (Sits key new) (λ e. not_first id key memo at (sym e)) ∙ r.keeper_there;
+      keeper_there = set_else s.views id 0 (Sits key new) (λ e. not_first id at (sym e)) ∙ r.keeper_there;
       knows = keeps;
       owner = r.owner;
       each_view = λ port v e. elim (at_set s.views id port (Sits key new) v e) [
-        | inl here ↦ subst (Plays key now then later r.keeper (set s.views id (Sits key new)) r.owner port) here.1 (refl, ap r.owner same ∙ at_own_port id key memo at ∙ sym here.0, live, mine)
+        | inl here ↦ subst (IsViewAt key now then later r.keeper (set s.views id (Sits key new)) r.owner port) here.1 (refl, ap r.owner same ∙ at_own_port id at ∙ sym here.0, live, mine)
         | inr there ↦ still port v there.0 (r.each_view port v there.1)
       ];
       each_seat = λ i back e. somewhere i back (r.each_seat i back e);
     }
       where
-        still : (port : ℕ) (v : View T N) → port ≢ id → Plays key r.machine r.moves r.fates r.keeper s.views r.owner port v → Plays key now then later r.keeper (set s.views id (Sits key new)) r.owner port v
-        still port (Sits its other) away p = (p.0, p.1, p.2, others other (λ e. away (sym p.1 ∙ ap r.owner e ∙ at_own_port id key memo at)) p.3)
+        still : (port : ℕ) (v : View T N) → port ≢ id → IsViewAt key r.machine r.moves r.fates r.keeper s.views r.owner port v → IsViewAt key now then later r.keeper (set s.views id (Sits key new)) r.owner port v
+        still port (Sits its other) away p = (p.0, p.1, p.2, others other (λ e. away (sym p.1 ∙ ap r.owner e ∙ at_own_port id at)) p.3)
         still port (Keeps its k) away p = p
         still port Spent away p = tt
 
@@ -136,13 +193,13 @@ module _ {O D T N : Type 0} (note : D → N) (Ao : T → O → Type 0) (An : T �
               (new, same ∙ ap (λ (k : SeatMemo N). k.number) one ∙ p.1, ap (get_elem? (set s.views id (Sits key new))) here ∙ set_here s.views id (Sits key new) long)
           | inr away ↦ (p.0, p.1, set_else s.views id (r.owner i) (Sits key new) away ∙ p.2)
         ]
-        somewhere i (Some ended) p = (p.0, p.1, others ended (λ e. not_ended id key memo at ended p.1 e p.2) p.2)
+        somewhere i (Some ended) p = (p.0, p.1, others ended (λ e. not_ended id at ended p.1 e p.2) p.2)
 
     -- or the keeper knows more, and made no seat
-    pub keeper_changes : (k : KeeperMemo N) → AreFates now (An key.terms) k.made later → IsKeeperMemo key.positions now then later k → k.back ≡ r.keeper.back
+    pub keeper_changes : {k : KeeperMemo N} → AreFates now (An key.terms) k.made later → IsKeeperMemo key.positions now then later k → k.back ≡ r.keeper.back
         → ((other : SeatMemo N) → IsSeatMemo r.machine r.moves r.fates r.keeper.fronts r.keeper.made other → IsSeatMemo now then later k.fronts k.made other)
         → Runs note Ao An key record { words = words; homes = homes; views = set s.views 0 (Keeps key k) }
-    keeper_changes k fates keeps back others = record {
+    keeper_changes {k = k} fates keeps back others = record {
       sizes = r.sizes;
       machine = now;
       moves = then;
@@ -156,17 +213,17 @@ module _ {O D T N : Type 0} (note : D → N) (Ao : T → O → Type 0) (An : T �
       knows = keeps;
       owner = r.owner;
       each_view = λ port v e. elim (at_set s.views 0 port (Keeps key k) v e) [
-        | inl here ↦ subst (Plays key now then later k (set s.views 0 (Keeps key k)) r.owner port) here.1 here.0
+        | inl here ↦ subst (IsViewAt key now then later k (set s.views 0 (Keeps key k)) r.owner port) here.1 here.0
         | inr there ↦ still port v (r.each_view port v there.1)
       ];
       each_seat = λ i was e. somewhere i was (r.each_seat i was (ap (λ (b : List (Option (SeatMemo N))). get_elem? b i) (sym back) ∙ e));
     }
       where
-        still : (port : ℕ) (v : View T N) → Plays key r.machine r.moves r.fates r.keeper s.views r.owner port v → Plays key now then later k (set s.views 0 (Keeps key k)) r.owner port v
+        still : (port : ℕ) (v : View T N) → IsViewAt key r.machine r.moves r.fates r.keeper s.views r.owner port v → IsViewAt key now then later k (set s.views 0 (Keeps key k)) r.owner port v
         still port (Sits its other) p = (p.0, p.1, p.2, others other p.3)
         still port (Keeps its other) p = p
         still port Spent p = tt
 
         somewhere : (i : ℕ) (was : Option (SeatMemo N)) → IsSomewhere key r.machine r.moves r.fates r.keeper s.views r.owner i was → IsSomewhere key now then later k (set s.views 0 (Keeps key k)) r.owner i was
-        somewhere i None p = (p.0, p.1, set_else s.views 0 (r.owner i) (Keeps key k) (not_first (r.owner i) key p.0 p.2) ∙ p.2)
+        somewhere i None p = (p.0, p.1, set_else s.views 0 (r.owner i) (Keeps key k) (not_first (r.owner i) p.2) ∙ p.2)
         somewhere i (Some ended) p = (p.0, p.1, others ended p.2)

@@ -6,6 +6,7 @@ use lib.ListN.{get_elem?}
 use Rattle.atomic_table.specs.Table.{State}
 use Rattle.ring_core.specs.Machine.{Machine, opening, new_seat, seat_at}
 use Rattle.ring_core.specs.Sound.{Holds}
+use Rattle.ring_core.specs.declared.word.PermitWord.{PermitWord}
 use Rattle.ring_core.specs.Words.{packed}
 use Rattle.permit_ring.specs.declared.memo.Key.{Key}
 use Rattle.permit_ring.specs.declared.memo.KeeperMemo.{KeeperMemo}
@@ -39,6 +40,20 @@ words_of m = packed m.limit m.word ∷ m.loss0.value ∷ m.loss1.value ∷ m.mar
 abbrev pub StandsIn : List ℕ → ℕ → Type 0
 StandsIn xs x = (place : ℕ) × (get_elem? xs place ≡ some x)
 
+-- the keeper's numbers beside the machine's
+pub record AreCounted (n reaped offered swept0 swept1 : ℕ) (seen : PermitWord) (notes : ℕ) (fronts : List ℕ) (free_until : ℕ) (known : PermitWord) (taken0 taken1 : List ℕ) : Type 0 where
+  pub reaped_is : reaped ≡ notes
+  pub offered_is : offered ≡ free_until
+  pub first_front : get_elem? fronts 0 ≡ some n
+  pub last_front : (earlier : List ℕ) × (fronts ≡ earlier ++ free_until ∷ [])
+  pub seen_is : seen ≡ known
+  pub swept0_is : swept0 ≡ sum taken0
+  pub swept1_is : swept1 ≡ sum taken1
+
+-- what the keeper counted, and the word that it last read or left, are the machine's
+abbrev pub Counts : {N : Type 0} → ℕ → Machine → KeeperMemo N → Type 0
+Counts n m k = AreCounted n m.reaped m.offered m.loss0.swept m.loss1.swept m.seen (length k.notes) k.fronts k.offered k.seen k.swept0 k.swept1
+
 module _ {N : Type 0} where
   -- what became of the tickets that were claimed
   pub record AreFates (m : Machine) (Admits : N → Type 0) (made : ℕ) (fates : List (Option (ℕ × N))) : Type 0 where
@@ -70,51 +85,51 @@ module _ {N : Type 0} where
     pub moved : k.moves ≡ by_keeper moves
     -- the t-th note is that of ticket t
     pub noted : (t : ℕ) (x : N) → get_elem? k.notes t ≡ some x → (i : ℕ) × (get_elem? fates t ≡ some (Some (i, x)))
-    pub reaped_is : m.reaped ≡ length k.notes
-    pub offered_is : m.offered ≡ k.offered
-    pub first_front : get_elem? k.fronts 0 ≡ some n
-    pub last_front : (earlier : List ℕ) × (k.fronts ≡ earlier ++ k.offered ∷ [])
-    pub seen_is : m.seen ≡ k.seen
-    pub swept0_is : m.loss0.swept ≡ sum k.swept0
-    pub swept1_is : m.loss1.swept ≡ sum k.swept1
+    pub counted : Counts n m k
     -- seat 0 is there before it is made
-    pub made_is : (k.made ≡ length m.seats) ⊎ ((k.made ≡ 0) × (m.seats ≡ new_seat ∷ []))
+    pub made_is : ((1 ≤ k.made) × (k.made ≡ length m.seats)) ⊎ ((k.made ≡ 0) × (m.seats ≡ new_seat ∷ []))
     pub back_is : length k.back ≡ k.made
     -- a seat that is not made yet has made no move
     pub unmade_rest : (i : ℕ) → k.made ≤ i → by_seat i moves ≡ []
 
-module _ {O D : Type 0} (n : ℕ) (homes : List (maybe.Option (Slot O D))) (t : ℕ) where
-  -- the slot of ticket t has a finished value of this note
+-- what stands at a place of the slots: nothing where it is no place, and else a value or, while someone has it, none
+abbrev pub Home : Type 0 → Type 0 → Type 0
+Home O D = maybe.Option (maybe.Option (Slot O D))
+
+module _ {O D : Type 0} (home : Home O D) where
+  -- a finished value of this note
   abbrev pub HasFinished : {N : Type 0} → (D → N) → N → Type 0
-  HasFinished note x = (d : D) × (note d ≡ x) × (get_elem? homes (t % n) ≡ some (some (Finished d)))
+  HasFinished note x = (d : D) × (note d ≡ x) × (home ≡ some (some (Finished d)))
 
-  -- or an admitted value that was offered
+  -- an admitted value that was offered
   abbrev pub HasOffered : (O → Type 0) → Type 0
-  HasOffered Admits = (y : O) × Admits y × (get_elem? homes (t % n) ≡ some (some (Offered y)))
+  HasOffered Admits = (y : O) × Admits y × (home ≡ some (some (Offered y)))
 
-  -- or someone has it
+  -- someone has it
   abbrev pub IsOut : Type 0
-  IsOut = get_elem? homes (t % n) ≡ some none
+  IsOut = home ≡ some none
 
-module _ {O D N : Type 0} (note : D → N) (Admits : O → Type 0) where
+module _ {O D N : Type 0} (note : D → N) (Admits : O → Type 0) (m : Machine) (fates : List (Option (ℕ × N))) where
+  -- what the slot of ticket t holds: the value of a finished one, and what was offered until it is claimed
+  pub record IsSlot (t : ℕ) (home : Home O D) : Type 0 where
+    pub finished_home : (i : ℕ) (x : N) → get_elem? fates t ≡ some (Some (i, x)) → HasFinished home note x
+    -- the seat that holds it has it
+    pub held_out : get_elem? fates t ≡ some None → IsOut home
+    pub offered_home : m.word.claimed ≤ t → t < m.offered → HasOffered home Admits
+    -- the keeper has it until it is offered
+    pub vacant_out : m.offered ≤ t → IsOut home
+
   -- what the slots hold, from the next ticket to be reaped on for one turn
-  pub record AreSlots (n : ℕ) (m : Machine) (fates : List (Option (ℕ × N))) (homes : List (maybe.Option (Slot O D))) : Type 0 where
+  pub record AreSlots (n : ℕ) (homes : List (maybe.Option (Slot O D))) : Type 0 where
     pub a_slot_each : length homes ≡ n
-    -- of a finished ticket, its value
-    pub finished_home : (t i : ℕ) (x : N) → m.reaped ≤ t → get_elem? fates t ≡ some (Some (i, x)) → HasFinished n homes t note x
-    -- of a held one, nothing, for its seat has it
-    pub held_out : (t : ℕ) → m.reaped ≤ t → get_elem? fates t ≡ some None → IsOut n homes t
-    -- of one that may be claimed, what was offered
-    pub offered_home : (t : ℕ) → m.word.claimed ≤ t → t < m.offered → HasOffered n homes t Admits
-    -- of one that is not offered yet, nothing, for the keeper has it
-    pub vacant_out : (t : ℕ) → m.offered ≤ t → t < m.reaped + n → IsOut n homes t
+    pub each : (t : ℕ) → m.reaped ≤ t → t < m.reaped + n → IsSlot t (get_elem? homes (t % n))
 
 module _ {T N : Type 0} (key : Key T) (m : Machine) (moves : List Move) (fates : List (Option (ℕ × N))) (k : KeeperMemo N) (views : List (View T N)) (owner : ℕ → ℕ) where
   -- the view at a port: there is one keeper, and each number belongs to one seat
-  abbrev pub Plays : ℕ → View T N → Type 0
-  Plays port (Sits its memo) = (its ≡ key) × (owner memo.number ≡ port) × (memo.view.live ≡ true) × IsSeatMemo m moves fates k.fronts k.made memo
-  Plays port (Keeps its other) = port ≡ 0
-  Plays port Spent = Unit {0}
+  abbrev pub IsViewAt : ℕ → View T N → Type 0
+  IsViewAt port (Sits its memo) = (its ≡ key) × (owner memo.number ≡ port) × (memo.view.live ≡ true) × IsSeatMemo m moves fates k.fronts k.made memo
+  IsViewAt port (Keeps its other) = port ≡ 0
+  IsViewAt port Spent = Unit {0}
 
   -- a seat that was made sits at its port, or came back
   abbrev pub IsSomewhere : ℕ → Option (SeatMemo N) → Type 0
@@ -133,13 +148,13 @@ module _ {O D T N : Type 0} (note : D → N) (admits_offered : T → O → Type 
     pub fates : List (Option (ℕ × N))
     pub keeper : KeeperMemo N
     pub are_fates : AreFates machine (admits_note key.terms) keeper.made fates
-    pub are_slots : AreSlots note (admits_offered key.terms) key.positions machine fates s.homes
+    pub are_slots : AreSlots note (admits_offered key.terms) machine fates key.positions s.homes
     -- the keeper's view, and what it knows
     pub keeper_there : get_elem? s.views 0 ≡ some (Keeps key keeper)
     pub knows : IsKeeperMemo key.positions machine moves fates keeper
     -- the port of each seat, and each view
     pub owner : ℕ → ℕ
-    pub each_view : (port : ℕ) (v : View T N) → get_elem? s.views port ≡ some v → Plays key machine moves fates keeper s.views owner port v
+    pub each_view : (port : ℕ) (v : View T N) → get_elem? s.views port ≡ some v → IsViewAt key machine moves fates keeper s.views owner port v
     pub each_seat : (i : ℕ) (back : Option (SeatMemo N)) → get_elem? keeper.back i ≡ some back → IsSomewhere key machine moves fates keeper s.views owner i back
 
   -- a ring between any two steps

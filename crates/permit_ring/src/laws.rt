@@ -1,6 +1,6 @@
 //! What the rule of a running ring says between any two steps, as the contracts of functions that
 //! do nothing.
-ghost use Rattle.std.specs.Prelude.{◌≡◌, ℕ, ◌+◌, ◌<◌, ◌≤◌};
+ghost use Rattle.std.specs.Prelude.{◌≡◌, ℕ, ◌+◌, ◌%◌, ◌<◌, ◌≤◌};
 ghost use mathlib.Core.Option.{some};
 ghost use lib.ListN.{get_elem?};
 ghost use Rattle.permit_ring.specs.declared.memo.SeatMemo.{SeatMemo};
@@ -47,10 +47,10 @@ pub fn each_seat_has_one_port<F: Freight>()
 /// reaped, nothing while a seat or the keeper has it, and what was offered until it is claimed.
 pub fn slots_follow_their_tickets<F: Freight>(ticket: u64)
     ghost r: { RunningRing F.note F.admits_offered F.admits_note }
-    ensures finished { (memo : SeatMemo F.Note) → IsMemoThere r.table.views memo → (j : ℕ) (x : F.Note) → get_elem? memo.log j ≡ some (Got ticket x) → r.rule.machine.reaped ≤ ticket → HasFinished r.key.positions r.table.homes ticket F.note x }
-    ensures held { (memo : SeatMemo F.Note) → IsMemoThere r.table.views memo → Holds memo.view ticket → IsOut r.key.positions r.table.homes ticket }
-    ensures offered { r.rule.machine.word.claimed ≤ ticket → ticket < r.rule.machine.offered → HasOffered r.key.positions r.table.homes ticket (F.admits_offered r.key.terms) }
-    ensures vacant { r.rule.machine.offered ≤ ticket → ticket < r.rule.machine.reaped + r.key.positions → IsOut r.key.positions r.table.homes ticket }
+    ensures finished { (memo : SeatMemo F.Note) → IsMemoThere r.table.views memo → (j : ℕ) (x : F.Note) → get_elem? memo.log j ≡ some (Got ticket x) → r.rule.machine.reaped ≤ ticket → HasFinished (get_elem? r.table.homes (ticket % r.key.positions)) F.note x }
+    ensures held { (memo : SeatMemo F.Note) → IsMemoThere r.table.views memo → Holds memo.view ticket → IsOut (get_elem? r.table.homes (ticket % r.key.positions)) }
+    ensures offered { r.rule.machine.word.claimed ≤ ticket → ticket < r.rule.machine.offered → HasOffered (get_elem? r.table.homes (ticket % r.key.positions)) (F.admits_offered r.key.terms) }
+    ensures vacant { r.rule.machine.offered ≤ ticket → ticket < r.rule.machine.reaped + r.key.positions → IsOut (get_elem? r.table.homes (ticket % r.key.positions)) }
 {}
 
 /// What is settled is all reaped, so that no later reap answers `Ok`.

@@ -3,10 +3,7 @@ use Rattle.permit_ring.proofs.laws.notes_are_admitted.Goals as goal
 
 pub returns-clause-logs : goal.returns-clause-logs
 returns-clause-logs g c =
-    let f = g.F.Freight in
-    λ memo is j t x e. logged_is_admitted f.note f.admits_offered f.admits_note g.r.key g.r.table g.r.rule memo j t x is e
+    λ memo is j t x e. logged_is_admitted g.r.rule memo j t x is e
 
 pub returns-clause-keeper : goal.returns-clause-keeper
-returns-clause-keeper g c =
-    let f = g.F.Freight in
-    noted_is_admitted f.note f.admits_offered f.admits_note g.r.key g.r.table g.r.rule
+returns-clause-keeper g c = noted_is_admitted g.r.rule

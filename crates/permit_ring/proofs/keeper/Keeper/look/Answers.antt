@@ -1,5 +1,5 @@
 use Rattle.std.proofs.Common.{rules}
-use Rattle.permit_ring.proofs.Ready.{read_ready}
+use Rattle.permit_ring.proofs.KeeperSteps.{read_ready}
 use Rattle.permit_ring.proofs.keeper.Keeper.look.Goals as goal
 
 pub load-number-requires : goal.load-number-requires

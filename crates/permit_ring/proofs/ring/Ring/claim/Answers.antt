@@ -1,5 +1,5 @@
 use Rattle.std.proofs.Common.{rules, sym, ◌∙◌}
-use Rattle.permit_ring.proofs.Ready.{claim_ready}
+use Rattle.permit_ring.proofs.SeatSteps.{claim_ready}
 use Rattle.permit_ring.proofs.ring.Ring.claim.Goals as goal
 
 pub fetch_add-number-requires : goal.fetch_add-number-requires

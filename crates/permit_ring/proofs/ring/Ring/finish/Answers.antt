@@ -1,6 +1,7 @@
 use Rattle.std.proofs.Common.{rules, sym, ◌∙◌}
 use Rattle.permit_ring.specs.declared.memo.Slot.TheVariants.{Offered}
-use Rattle.permit_ring.proofs.Ready.{finish_ready_with, in_front}
+use Rattle.permit_ring.proofs.KeeperSteps.{in_front}
+use Rattle.permit_ring.proofs.SeatSteps.{finish_ready}
 use Rattle.permit_ring.proofs.ring.Ring.finish.Goals as goal
 
 pub exchange-old-requires : goal.exchange-old-requires
@@ -15,6 +16,6 @@ store-requires g c =
     let put = c.exchange-old.ensures in (
       put.0 ∙ mine.at_table,
       search rules,
-      finish_ready_with f.note f.admits_offered f.admits_note _ _ _ c.args.place.now.me _ c.args.self.now.positions c.args.ticket.0 _ c.args.value _ mine.sits put.3
+      finish_ready f.note f.admits_offered f.admits_note _ _ _ c.args.place.now.me _ c.args.self.now.positions c.args.ticket.0 _ c.args.value _ mine.sits put.3
           c.position_of-position.ensures mine.ring_is.positions_are c.requires.held c.requires.admitted,
     )

@@ -1,5 +1,5 @@
 use Rattle.std.proofs.Common.{rules}
-use Rattle.permit_ring.proofs.Joins.{joins_allowed}
+use Rattle.permit_ring.proofs.Lives.{joins_allowed}
 use Rattle.permit_ring.proofs.ring.Ring.join.Goals as goal
 
 pub join_seat-requires : goal.join_seat-requires

@@ -1,5 +1,5 @@
 use Rattle.std.proofs.Common.{rules}
-use Rattle.permit_ring.proofs.Ready.{look_ready}
+use Rattle.permit_ring.proofs.SeatSteps.{look_ready}
 use Rattle.permit_ring.proofs.ring.Ring.look.Goals as goal
 
 pub load-number-requires : goal.load-number-requires

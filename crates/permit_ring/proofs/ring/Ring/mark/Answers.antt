@@ -1,5 +1,5 @@
 use Rattle.std.proofs.Common.{rules, arith}
-use Rattle.permit_ring.proofs.Ready.{mark_ready}
+use Rattle.permit_ring.proofs.SeatSteps.{mark_ready}
 use Rattle.permit_ring.proofs.ring.Ring.mark.Goals as goal
 
 pub fetch_add-requires : goal.fetch_add-requires

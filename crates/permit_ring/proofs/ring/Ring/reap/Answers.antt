@@ -1,6 +1,6 @@
 use Rattle.std.proofs.Common.{ℕ, ◌+◌, ◌%◌, sym, ap, ap₂, ◌∙◌, subst, ◌≤◌}
 use Rattle.permit_ring.specs.declared.memo.Slot.TheVariants.{Finished}
-use Rattle.permit_ring.proofs.Ready.{in_front, mark_fits, see_ready}
+use Rattle.permit_ring.proofs.KeeperSteps.{in_front, mark_fits, see_ready}
 use Rattle.permit_ring.proofs.ring.Ring.reap.Goals as goal
 
 pub load-mark-requires : goal.load-mark-requires

@@ -1,5 +1,5 @@
 use Rattle.std.proofs.Common.{rules}
-use Rattle.permit_ring.proofs.Ready.{loss_words, sweep_ready}
+use Rattle.permit_ring.proofs.KeeperSteps.{sweep_ready}
 use Rattle.permit_ring.proofs.ring.Ring.sweep.Goals as goal
 
 pub swap-requires : goal.swap-requires
@@ -8,5 +8,5 @@ swap-requires g c =
     let mine = c.requires.mine in (
       mine.at_table,
       search rules,
-      sweep_ready f.note f.admits_offered f.admits_note _ _ _ _ mine.keeps _ (loss_words c.args.kind c.requires.kind),
+      sweep_ready f.note f.admits_offered f.admits_note _ _ _ _ mine.keeps c.args.kind c.requires.kind,
     )
