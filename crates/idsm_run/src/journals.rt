@@ -4,7 +4,7 @@
 ghost use Rattle.std.specs.Prelude.{◌≡◌, ◌<◌, ◌+◌, ◌^◌, length, IfOk};
 ghost use Rattle.std.specs.List.{list_any, AllByRecursion};
 ghost use Rattle.ids_types.specs.Plain.{plain_entry};
-ghost use Rattle.ids_types.specs.Turns.{turn_at, entries_of};
+ghost use Rattle.ids_types.specs.Turns.{entries_of};
 ghost use Rattle.idsm_run.specs.Built.{has_control as some_control, is_control as control};
 ghost use Rattle.idsm_run.specs.FoldedJournal.{folded_in, held_back_line as line_held_back};
 ghost use Rattle.idsm_run.specs.Judge.{journal_judged};
@@ -13,7 +13,7 @@ ghost use Rattle.idsm_run.specs.Stages.{Judges};
 
 use crate::stop::{InputStop, Refusal};
 use ids_config::Config;
-use ids_types::{Act, Entry, History, Plain};
+use ids_types::{Act, Entry, EntryWalk, History, Plain};
 use journal::{JournalFault, read};
 use std::alloc::Global;
 use text_spec::what_a_fitting_journal_keeps;
@@ -70,20 +70,21 @@ fn held_back_line(history: &History) -> Option<u64>
 fn has_control(history: &History) -> bool
     ensures { result ≡ some_control history.now.turns }
 {
-    for turn in 0..history.turns() {
-        if turn_has_control(history, turn) {
+    let mut turns = history.walk();
+    while let Some((_, entries)) = turns.pop_front() {
+        if some_is_control(entries) {
             return true;
         }
     }
     false
 }
 
-fn turn_has_control(history: &History, turn: u64) -> bool
-    requires { turn < length history.now.turns }
-    ensures { result ≡ list_any control (turn_at history.now.turns turn).entries }
+fn some_is_control(entries: EntryWalk<'_>) -> bool
+    ensures { result ≡ list_any control entries.entry }
 {
-    for i in 0..history.entries(turn) {
-        if is_control(&history.entry(turn, i)) {
+    let mut rest = entries;
+    while let Some(entry) = rest.pop_front() {
+        if is_control(&entry) {
             return true;
         }
     }

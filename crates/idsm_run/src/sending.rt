@@ -1,16 +1,15 @@
 //! The messages of a history: one for each report.
-ghost use Rattle.std.specs.Prelude.{◌≡◌, ◌+◌, ◌≤◌, ◌<◌, ◌++◌, length, IfOk, OnOk, vec_len, option_map};
-ghost use Rattle.std.specs.List.{AllByRecursion};
+ghost use Rattle.std.specs.Prelude.{◌≡◌, ◌+◌, ◌≤◌, ◌<◌, ◌++◌, length, sum_by, IfOk, OnOk, vec_len, option_map};
+ghost use Rattle.std.specs.List.{AllByRecursion, flat_map};
 ghost use Rattle.ids_types.specs.Plain.{plain_entry, plain_carried};
-ghost use Rattle.ids_types.specs.Turns.{turn_at};
 ghost use Rattle.ids_config.specs.Parts.{event_at};
 ghost use Rattle.ids_frame.specs.Spelling.{spelling};
-ghost use Rattle.idsm_run.specs.Sending.{IsShort, CanSend, CanSendTurn, message_of, context_sent, entry_messages, turn_messages, messages_of, ends_of, entry_count, turn_count, count_of};
+ghost use Rattle.idsm_run.specs.Sending.{IsShort, CanSend, CanSendTurn, message_of, context_sent, entry_messages, messages_of, ends_of, entry_count, count_of};
 
 use arrayvec::ArrayVec;
 use ids_config::Config;
 use ids_frame::{Context, MAX_BYTES, Message, encode};
-use ids_types::{Act, Carried, Entry, EventIndex, History, NoMemory, Plain, Stamp};
+use ids_types::{Act, Carried, Entry, EntryWalk, EventIndex, History, NoMemory, Plain, Stamp};
 use std::alloc::Global;
 
 /// What a history sends: its messages one after another, how many bytes there are after each turn,
@@ -37,8 +36,9 @@ pub(crate) fn messages_of_history(
     let mut bytes = Vec::new(alloc);
     let mut ends = Vec::with_capacity(alloc, history.turns() as usize)?;
     let mut messages = 0;
-    for turn in 0..history.turns() {
-        messages += push_turn(config, history, turn, &mut bytes)?;
+    let mut turns = history.walk();
+    while let Some((_, entries)) = turns.pop_front() {
+        messages += push_entries(config, entries, &mut bytes)?;
         ends.push(bytes.len())?;
     }
     Ok(Sent {
@@ -48,23 +48,22 @@ pub(crate) fn messages_of_history(
     })
 }
 
-/// Appends the messages of a turn, and returns how many they are.
-fn push_turn(
+/// Appends the messages of the entries of a turn, and returns how many they are.
+fn push_entries(
     config: &Config,
-    history: &History,
-    turn: u64,
+    entries: EntryWalk<'_>,
     out: &mut Vec<u8>,
 ) -> Result<u64, NoMemory>
-    requires turn { turn < length history.now.turns }
-    requires fits { CanSendTurn (length config.now.events) (turn_at history.now.turns turn) }
+    requires { AllByRecursion (λ e. CanSend (length config.now.events) e.act) entries.entry }
     ensures bytes { OnOk result (out.new.items
-        ≡ out.old.items ++ turn_messages config.now (turn_at history.now.turns turn)) }
-    ensures count { IfOk result (λ n. n ≡ turn_count (turn_at history.now.turns turn)) }
+        ≡ out.old.items ++ flat_map (entry_messages config.now) entries.entry) }
+    ensures count { IfOk result (λ n. n ≡ sum_by entry_count entries.entry) }
     ensures grows { IfOk result (λ n. vec_len out.old + n ≤ vec_len out.new) }
 {
     let mut count = 0;
-    for i in 0..history.entries(turn) {
-        count += push_entry(config, &history.entry(turn, i), out)?;
+    let mut rest = entries;
+    while let Some(entry) = rest.pop_front() {
+        count += push_entry(config, &entry, out)?;
     }
     Ok(count)
 }

@@ -1,7 +1,10 @@
-use Rattle.std.proofs.Common.{◌≡◌, take, false}
+use Rattle.std.proofs.Common.{◌≡◌, length, ℕ}
 use Rattle.idsm_run.specs.Built.{has_control}
 use Rattle.idsm_run.proofs.journals.has_control.Given as goal
 
--- the first turns have no control
-abbrev pub invariant-loop-turn : goal.invariant-loop-turn
-invariant-loop-turn l = has_control (take l.turn l.history.turns) ≡ false
+abbrev pub decreases-loop-entries : goal.decreases-loop-entries
+decreases-loop-entries l = length l.turns
+
+-- the turns before have no control
+abbrev pub invariant-loop-entries : goal.invariant-loop-entries
+invariant-loop-entries l = has_control l.turns ≡ has_control l.initial.turns

@@ -1,12 +1,17 @@
-use Rattle.std.proofs.Common.{◌≡◌, ◌≤◌, take, vec_len}
-use Rattle.idsm_run.specs.Sending.{messages_of, ends_of, count_of}
+use Rattle.std.proofs.Common.{◌≡◌, ◌+◌, ◌≤◌, ◌++◌, length, vec_len, ℕ}
+use Rattle.std.specs.List.{AllByRecursion}
+use Rattle.idsm_run.specs.Sending.{CanSendTurn, messages_of, ends_from, ends_of, count_of}
 use Rattle.idsm_run.proofs.sending.messages_of_history.Given as goal
 
--- the first turns have been sent
-abbrev pub invariant-loop-turn : goal.invariant-loop-turn
-invariant-loop-turn l = record {
-  bytes : l.bytes.items ≡ messages_of l.config (take l.turn l.history.turns);
-  ends : l.ends.items ≡ ends_of l.config (take l.turn l.history.turns);
-  messages : l.messages ≡ count_of (take l.turn l.history.turns);
+abbrev pub decreases-loop-entries : goal.decreases-loop-entries
+decreases-loop-entries l = length l.turns
+
+-- what was sent, and what the turns that are left send, is what all send
+abbrev pub invariant-loop-entries : goal.invariant-loop-entries
+invariant-loop-entries l = record {
+  can : AllByRecursion (CanSendTurn (length l.config.events)) l.turns;
+  bytes : l.bytes.items ++ messages_of l.config l.turns ≡ messages_of l.config l.history.turns;
+  ends : l.ends.items ++ ends_from (length l.bytes.items) l.config l.turns ≡ ends_of l.config l.history.turns;
+  messages : l.messages + count_of l.turns ≡ count_of l.history.turns;
   grows : l.messages ≤ vec_len l.bytes;
 }

@@ -1,0 +1,17 @@
+use Rattle.std.proofs.Common.{◌≡◌, ◌+◌, ◌≤◌, ◌++◌, length, sum_by, vec_len, ℕ}
+use Rattle.std.specs.List.{flat_map, AllByRecursion}
+use Rattle.idsm_run.specs.Sending.{CanSend, entry_count, entry_messages}
+use Rattle.idsm_run.proofs.sending.push_entries.Given as goal
+
+abbrev pub decreases-loop-entry : goal.decreases-loop-entry
+decreases-loop-entry l = length l.rest
+
+-- what was sent, and what the entries that are left send, is what all send
+abbrev pub invariant-loop-entry : goal.invariant-loop-entry
+invariant-loop-entry l = record {
+  can : AllByRecursion (λ e. CanSend (length l.config.events) e.act) l.rest;
+  bytes : l.out.items ++ flat_map (entry_messages l.config) l.rest
+      ≡ l.initial.out.items ++ flat_map (entry_messages l.config) l.initial.rest;
+  count : l.count + sum_by entry_count l.rest ≡ sum_by entry_count l.initial.rest;
+  grows : vec_len l.initial.out + l.count ≤ vec_len l.out;
+}
