@@ -49,12 +49,8 @@ pub(crate) fn messages_of_history(
 }
 
 /// Appends the messages of the entries of a turn, and returns how many they are.
-fn push_entries(
-    config: &Config,
-    entries: EntryWalk<'_>,
-    out: &mut Vec<u8>,
-) -> Result<u64, NoMemory>
-    requires { AllByRecursion (λ e. CanSend (length config.now.events) e.act) entries.entry }
+fn push_entries(config: &Config, entries: EntryWalk<'_>, out: &mut Vec<u8>) -> Result<u64, NoMemory>
+    requires { AllByRecursion (λ e. CanSend (length config.now.events) e.act) entries }
     ensures bytes { OnOk result (out.new.items
         ≡ out.old.items ++ flat_map (entry_messages config.now) entries.entry) }
     ensures count { IfOk result (λ n. n ≡ sum_by entry_count entries.entry) }
