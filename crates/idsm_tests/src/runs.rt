@@ -1,7 +1,12 @@
-//! Runs of commands over files in memory: their statuses, their texts and what they leave, by number and
-//! worked out by hand from docs/COMMANDS.md and docs/FORMATS.md.
+//! Runs of commands over files in memory, worked out by hand from docs/COMMANDS.md and docs/FORMATS.md.
+//!
+//! A table has a line for each run, as `GIVEN => WANTED`. Given are the words, the file `c`, the file
+//! `j`, the calls of the shelf that fail and the puts that fail, between bars; where the last two are
+//! left out none fails. Wanted are the status, the text, and the files `m` and `r` that are left; `-` is
+//! one that is not there. In each `/` is a line feed, pairs of hexadecimal digits stand behind a `#`, and
+//! `.` is the configuration of one event.
 
-mod appending;
+mod calls;
 mod failing;
 mod folding;
 mod refusing;
@@ -11,70 +16,22 @@ use ids_outside::{MemoryShelf, MemorySink};
 use idsm_run::run_plain;
 use std::alloc::Global;
 use std::test::Fail;
+use text_spec::{push_hex, push_number};
 
 /// One event, with id 42 and sensor 3, of instance 18.
 const CONFIG: &str = r#"{"form":1,"instance":18,"events":[{"id":42,"sensor":3}]}"#;
 
-/// One report with two bytes of context, with `/` for a line feed.
-const ONE_REPORT: &str = "T 5 0 0 0/R 0 0 0 1 - 0:0:a1b2/";
-
-/// The message of that report, by the layout of its fields.
-const MESSAGE: &str = "#110483002a00010002a1b2";
-
-/// The words that fold `c` and `j`.
-const FOLD: &str = "fold c j m r";
-
-/// How a run ended: its status, and what it left.
-#[derive(Drop)]
-struct Ended {
-    status: u8,
-    shelf: MemoryShelf,
-    out: MemorySink,
-}
-
-/// Runs the words over the files `c` and `j`; the calls of these numbers fail.
-fn run(
-    alloc: Global,
-    words: &str,
-    config: &[u8],
-    journal: &[u8],
-    shelf_fails: &[u64],
-    put_fails: &[u64],
-) -> Result<Ended, Fail> {
-    let shelf_fails = shelf_fails.to_vec(alloc)?;
-    let out = MemorySink::make(alloc, put_fails.to_vec(alloc)?)?;
-    let shelf = shelf_of(
-        alloc,
-        config.to_vec(alloc)?,
-        journal.to_vec(alloc)?,
-        shelf_fails,
-    )?;
-    run_over(alloc, words, shelf, out)
-}
-
-/// A shelf of the files `c` and `j`, whose calls of these numbers fail.
-fn shelf_of(
-    alloc: Global,
-    config: Vec<u8>,
-    journal: Vec<u8>,
-    fails: Vec<u64>,
-) -> Result<MemoryShelf, Fail> {
-    let files = vec![in alloc;
-        (String::from_str(alloc, "c")?, config),
-        (String::from_str(alloc, "j")?, journal),
-    ]?;
-    Ok(MemoryShelf::make(alloc, files, fails)?)
-}
-
-fn run_over(
-    alloc: Global,
-    words: &str,
-    mut shelf: MemoryShelf,
-    mut out: MemorySink,
-) -> Result<Ended, Fail> {
-    let words = split_words(alloc, words)?;
-    let status = run_plain(alloc, &words, &mut shelf, &mut out);
-    Ok(Ended { status, shelf, out })
+/// The bytes that a table writes so.
+fn bytes_of(alloc: Global, written: &str) -> Result<Vec<u8>, Fail> {
+    if let Some(digits) = written.strip_prefix("#") {
+        return Ok(hex::decode(alloc, digits)?);
+    }
+    let text = if written == "." { CONFIG } else { written };
+    let mut bytes = Vec::new(alloc);
+    for &byte in text.as_bytes() {
+        bytes.push(if byte == b'/' { b'\n' } else { byte })?;
+    }
+    Ok(bytes)
 }
 
 /// The words of a line, between single spaces; no words of an empty line.
@@ -88,67 +45,92 @@ fn split_words(alloc: Global, line: &str) -> Result<Vec<String>, Fail> {
     Ok(words)
 }
 
-/// The bytes that a table writes so: pairs of hexadecimal digits behind a `#`, or a text with `/` for a
-/// line feed.
-fn bytes_of(alloc: Global, written: &str) -> Result<Vec<u8>, Fail> {
-    if let Some(digits) = written.strip_prefix("#") {
-        return Ok(hex::decode(alloc, digits)?);
-    }
-    let mut bytes = Vec::new(alloc);
-    for &byte in written.as_bytes() {
-        bytes.push(if byte == b'/' { b'\n' } else { byte })?;
-    }
-    Ok(bytes)
-}
-
-/// Whether a file is as a table writes it: `-` is one that is not there.
-fn is_file(alloc: Global, file: Option<&[u8]>, written: &str) -> Result<bool, Fail> {
-    if written == "-" {
-        return Ok(file.is_none());
-    }
-    let bytes = bytes_of(alloc, written)?;
-    Ok(file == Some(bytes.as_slice()))
-}
-
 /// The numbers between commas; none of `-`.
 fn numbers(alloc: Global, written: &str) -> Result<Vec<u64>, Fail> {
     let mut numbers = Vec::new(alloc);
-    if written != "-" {
-        for number in written.split(",") {
-            numbers.push(number.parse::<u64>().ok().ok_or("a number")?)?;
+    for word in written.split(",") {
+        if let Ok(number) = word.parse::<u64>() {
+            numbers.push(number)?;
         }
     }
     Ok(numbers)
 }
 
-/// The columns of a line of a table.
-fn columns<'a>(alloc: Global, line: &'a str) -> Result<Vec<&'a str>, Fail> {
-    let mut columns = Vec::new(alloc);
-    for column in line.split(" | ") {
-        columns.push(column)?;
-    }
-    Ok(columns)
+/// A shelf of the files `c` and `j`, whose calls of these numbers fail.
+fn shelf_over(
+    alloc: Global,
+    config: Vec<u8>,
+    journal: Vec<u8>,
+    fails: Vec<u64>,
+) -> Result<MemoryShelf, Fail> {
+    let files = vec![in alloc;
+        (String::from_str(alloc, "c")?, config),
+        (String::from_str(alloc, "j")?, journal),
+    ]?;
+    Ok(MemoryShelf::make(alloc, files, fails)?)
 }
 
-/// The first line of the table whose run ends otherwise. A line has the status, the text, the words, the
-/// files `c` and `j`, and the file `m` that is left; no call fails, and `r` is left empty where `m` is there.
+/// The same of what a table writes.
+fn shelf_of(alloc: Global, config: &str, journal: &str, fails: &str) -> Result<MemoryShelf, Fail> {
+    let config = bytes_of(alloc, config)?;
+    let journal = bytes_of(alloc, journal)?;
+    shelf_over(alloc, config, journal, numbers(alloc, fails)?)
+}
+
+fn sink_of(alloc: Global, fails: &str) -> Result<MemorySink, Fail> {
+    Ok(MemorySink::make(alloc, numbers(alloc, fails)?)?)
+}
+
+/// Appends a file, as a table writes it behind a bar.
+fn push_file(told: &mut Vec<u8>, file: Option<&[u8]>) -> Result<(), Fail> {
+    match file {
+        None => told.extend_from_slice(b" | -")?,
+        Some(bytes) => {
+            told.extend_from_slice(b" | #")?;
+            push_hex(told, bytes)?;
+        }
+    }
+    Ok(())
+}
+
+/// How a run ended, as a table writes it.
+fn told(alloc: Global, status: u8, shelf: &MemoryShelf, out: &MemorySink) -> Result<Vec<u8>, Fail> {
+    let mut told = Vec::new(alloc);
+    push_number(&mut told, status as u64)?;
+    told.extend_from_slice(b" | ")?;
+    for &byte in out.taken() {
+        told.push(if byte == b'\n' { b'/' } else { byte })?;
+    }
+    push_file(&mut told, shelf.contents("m"))?;
+    push_file(&mut told, shelf.contents("r"))?;
+    Ok(told)
+}
+
+/// Runs the words, and tells how the run ended.
+fn run(alloc: Global, words: &str, mut shelf: MemoryShelf, fails: &str) -> Result<Vec<u8>, Fail> {
+    let mut out = sink_of(alloc, fails)?;
+    let words = split_words(alloc, words)?;
+    let status = run_plain(alloc, &words, &mut shelf, &mut out);
+    told(alloc, status, &shelf, &out)
+}
+
+/// Runs what is given.
+fn run_given(alloc: Global, given: &str) -> Result<Vec<u8>, Fail> {
+    let mut columns = given.split(" | ");
+    let words = columns.next().unwrap_or("");
+    let config = columns.next().unwrap_or("");
+    let journal = columns.next().unwrap_or("");
+    let shelf_fails = columns.next().unwrap_or("-");
+    let put_fails = columns.next().unwrap_or("-");
+    let shelf = shelf_of(alloc, config, journal, shelf_fails)?;
+    run(alloc, words, shelf, put_fails)
+}
+
+/// The first line of the table whose run ends otherwise.
 fn first_wrong(alloc: Global, table: &'static str) -> Result<Option<&'static str>, Fail> {
     for line in table.lines() {
-        let columns = columns(alloc, line)?;
-        let [status, text, words, config, journal, messages] = columns.as_slice() else {
-            return Ok(Some(line));
-        };
-        let config = bytes_of(alloc, config)?;
-        let journal = bytes_of(alloc, journal)?;
-        let ended = run(alloc, words, &config, &journal, &[], &[])?;
-        let memory = if *messages == "-" { "-" } else { "#" };
-        if status.parse::<u8>() != Ok(ended.status)
-            || ended.out.taken() != bytes_of(alloc, text)?.as_slice()
-            || ended.shelf.contents("c") != Some(config.as_slice())
-            || ended.shelf.contents("j") != Some(journal.as_slice())
-            || !is_file(alloc, ended.shelf.contents("m"), messages)?
-            || !is_file(alloc, ended.shelf.contents("r"), memory)?
-        {
+        let (given, wanted) = line.split_once(" => ").unwrap_or((line, ""));
+        if run_given(alloc, given)?.as_slice() != wanted.as_bytes() {
             return Ok(Some(line));
         }
     }

@@ -4,7 +4,7 @@ ghost use Rattle.std.specs.Prelude.{true};
 ghost use Rattle.ids_outside.specs.MemoryShelf.{shelf_files, shelf_faults};
 ghost use Rattle.ids_outside.specs.MemorySink.{sink_taken, sink_faults};
 
-use super::{CONFIG, FOLD, ONE_REPORT, bytes_of, columns, is_file, split_words};
+use super::{shelf_of, sink_of, split_words, told};
 use ids_outside::{MemoryShelf, MemorySink, ReadFault, Shelf, Sink, WriteFault};
 use idsm_run::run_plain;
 use std::alloc::Global;
@@ -84,67 +84,45 @@ impl Sink for WantingSink {
     }
 }
 
-/// Folds one report over a shelf and a sink whose calls of these numbers want memory.
-fn fold_wanting(
-    alloc: Global,
-    shelf_at: u64,
-    put_at: u64,
-) -> Result<(u8, WantingShelf, WantingSink), Fail> {
-    let files = vec![in alloc;
-        (String::from_str(alloc, "c")?, bytes_of(alloc, CONFIG)?),
-        (String::from_str(alloc, "j")?, bytes_of(alloc, ONE_REPORT)?),
-    ]?;
+/// Counts from 0 up to the call that wants memory; where the text is no number, none does.
+fn wants_at(at: &str) -> Wanting {
+    let at = at.parse::<u64>().unwrap_or(u64::MAX);
+    Wanting { at, calls: 0 }
+}
+
+/// Folds one report, where the call of the shelf and the put of these numbers want memory.
+fn fold_wanting(alloc: Global, shelf_at: &str, put_at: &str) -> Result<Vec<u8>, Fail> {
     let mut shelf = WantingShelf {
-        inner: MemoryShelf::make(alloc, files, Vec::new(alloc))?,
-        wanting: Wanting {
-            at: shelf_at,
-            calls: 0,
-        },
+        inner: shelf_of(alloc, ".", "T 5 0 0 0/R 0 0 0 1 - 0:0:a1b2/", "-")?,
+        wanting: wants_at(shelf_at),
     };
     let mut out = WantingSink {
-        inner: MemorySink::make(alloc, Vec::new(alloc))?,
-        wanting: Wanting {
-            at: put_at,
-            calls: 0,
-        },
+        inner: sink_of(alloc, "-")?,
+        wanting: wants_at(put_at),
     };
-    let words = split_words(alloc, FOLD)?;
+    let words = split_words(alloc, "fold c j m r")?;
     let status = run_plain(alloc, &words, &mut shelf, &mut out);
-    Ok((status, shelf, out))
+    told(alloc, status, &shelf.inner, &out.inner)
 }
 
-/// The calls of the shelf and of the sink that want memory, the status, the text, and the files `m` and `r`
-/// that are left. The shelf's calls are two reads, the creation of `m`, one append and the creation of `r`.
-const WANTING: &str = "0 | 9 | 8 | no memory/ | - | -
-1 | 9 | 8 | no memory/ | - | -
-2 | 9 | 8 | no memory/ | - | -
-3 | 9 | 8 | no memory/ | # | -
-4 | 9 | 8 | no memory/ | #110483002a00010002a1b2 | -
-9 | 0 | 8 |  | #110483002a00010002a1b2 | #
-2 | 0 | 8 |  | - | -
-5 | 1 | 0 | turns 1 entries 1 messages 1 records 0/ | #110483002a00010002a1b2 | #";
-
-/// Whether the run of this line ends otherwise.
-fn is_wrong(alloc: Global, line: &str) -> Result<bool, Fail> {
-    let columns = columns(alloc, line)?;
-    let [shelf_at, put_at, status, text, messages, memory] = columns.as_slice() else {
-        return Ok(true);
-    };
-    let shelf_at = shelf_at.parse::<u64>().ok().ok_or("a call")?;
-    let put_at = put_at.parse::<u64>().ok().ok_or("a put")?;
-    let (ended, shelf, out) = fold_wanting(alloc, shelf_at, put_at)?;
-    Ok(
-        status.parse::<u8>() != Ok(ended)
-            || out.inner.taken() != bytes_of(alloc, text)?.as_slice()
-            || !is_file(alloc, shelf.inner.contents("m"), messages)?
-            || !is_file(alloc, shelf.inner.contents("r"), memory)?,
-    )
-}
+/// Given are the call of the shelf and the put that want memory, or `-`. The shelf's calls are two reads,
+/// the creation of `m`, one append and the creation of `r`.
+const WANTING: &str = "0 - => 8 | no memory/ | - | -
+1 - => 8 | no memory/ | - | -
+2 - => 8 | no memory/ | - | -
+3 - => 8 | no memory/ | # | -
+4 - => 8 | no memory/ | #110483002a00010002a1b2 | -
+- 0 => 8 |  | #110483002a00010002a1b2 | #
+2 0 => 8 |  | - | -
+5 1 => 0 | turns 1 entries 1 messages 1 records 0/ | #110483002a00010002a1b2 | #";
 
 #[test]
-fn want_of_memory_ends_a_run_with_8_and_its_text(rt: HostRuntime) -> Result<(), Fail> {
+fn want_of_memory_ends_a_run_with_its_status_and_its_text(rt: HostRuntime) -> Result<(), Fail> {
     for line in WANTING.lines() {
-        assert!(rt; !is_wrong(rt.alloc(), line)?, "{line}");
+        let (given, wanted) = line.split_once(" => ").unwrap_or((line, ""));
+        let (shelf_at, put_at) = given.split_once(" ").unwrap_or((given, ""));
+        let told = fold_wanting(rt.alloc(), shelf_at, put_at)?;
+        assert!(rt; told.as_slice() == wanted.as_bytes(), "{line}");
     }
     Ok(())
 }
