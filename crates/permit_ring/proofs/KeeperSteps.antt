@@ -32,7 +32,7 @@ use Rattle.permit_ring.specs.declared.memo.View.{View}
 use Rattle.permit_ring.specs.declared.memo.View.TheVariants.{Keeps}
 use Rattle.permit_ring.specs.Hands.{hand_from, filled_then, AllAdmitted}
 use Rattle.permit_ring.specs.Moves.{found_at, is_of_seat, is_of_keeper}
-use Rattle.permit_ring.specs.Plays.{Known, IsWord, keeper_in, ready, saw_mark, read_word, tried_offer, swept_loss}
+use Rattle.permit_ring.specs.Told.{Known, IsWord, keeper_in, ready, saw_mark, read_word, tried_offer, swept_loss}
 use Rattle.permit_ring.specs.Rule.{words_of, StandsIn, Home, IsSlot, AreSlots, Counts, Runs}
 use Rattle.permit_ring.specs.Steps.{and_move, waits, reaps, reads, offers_all, misses, sweeps}
 use Rattle.permit_ring.proofs.HandLemmas.{ready_filled}

@@ -20,7 +20,7 @@ use Rattle.permit_ring.specs.declared.memo.View.TheVariants.{Keeps}
 use Rattle.permit_ring.specs.declared.ring.Ring.{Ring}
 use Rattle.permit_ring.specs.Calls.{AreOthers, last_word, tried}
 use Rattle.permit_ring.specs.Hands.{hand_from, filled_then}
-use Rattle.permit_ring.specs.Plays.{Known, IsWord, keeper_in, limit_in, positions_in, on_keeper, ready, tried_offer}
+use Rattle.permit_ring.specs.Told.{Known, IsWord, keeper_in, limit_in, positions_in, on_keeper, ready, tried_offer}
 use Rattle.permit_ring.specs.Rule.{Runs}
 use Rattle.permit_ring.specs.Seats.{IsKeeping, IsKeeperOf, KeepsInHand, keeper_memo, ring_terms}
 use Rattle.permit_ring.specs.Steps.{reaps, offers_all, misses}

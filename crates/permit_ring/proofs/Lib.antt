@@ -1,4 +1,3 @@
-pub mod FateLemmas
 pub mod HandLemmas
 pub mod KeeperSteps
 pub mod Keepers
@@ -7,9 +6,7 @@ pub mod Lives
 pub mod LogLemmas
 pub mod MoveLemmas
 pub mod NewRings
-pub mod Openings
 pub mod Positions
-pub mod Refills
 pub mod RuleLaws
 pub mod SeatSteps
 pub mod Settled

@@ -19,7 +19,7 @@ use Rattle.permit_ring.specs.declared.memo.View.{View}
 use Rattle.permit_ring.specs.declared.memo.View.TheVariants.{Sits, Keeps, Spent}
 use Rattle.permit_ring.specs.Logs.{taken_by}
 use Rattle.permit_ring.specs.Moves.{Leads, by_seat, by_keeper}
-use Rattle.permit_ring.specs.Plays.{join_both, join_spent, split_left, split_right}
+use Rattle.permit_ring.specs.Told.{join_both, join_spent, split_left, split_right}
 use Rattle.permit_ring.specs.Rule.{IsSeatMemo, IsKeeperMemo, IsViewAt, IsSomewhere, Runs}
 use Rattle.permit_ring.specs.Steps.{and_move, ended, new_memo, makes, welcomes}
 use Rattle.permit_ring.proofs.ListLemmas.{at_end, at_length}

@@ -24,6 +24,7 @@ use Rattle.permit_ring.specs.Places.{ShowsRing, SitsThere, CameBack, IsMemoThere
 use Rattle.permit_ring.specs.Rule.{Home, IsSlot, IsSeatMemo, IsSomewhere, Runs, HasFinished, HasOffered, IsOut}
 use Rattle.permit_ring.proofs.States.{one_memo, ring_of, one_turn_ahead, keeper_port, at_own_port, is_live, knows_it, not_ended}
 use Rattle.permit_ring.proofs.ListLemmas.{at_length, there}
+use Rattle.permit_ring.proofs.LogLemmas.{got_in, got_from, taken_in, taken_from, rises_apart, within_end}
 
 -- each place of a turn is that of a ticket in it
 in_turn : (n from p : ℕ) → p < n → (t : ℕ) × (from ≤ t) × (t < from + n) × (t % n ≡ p)
@@ -36,100 +37,6 @@ in_turn n (suc from) p below =
       | inl here ↦ (from + n, omega (arith, below), omega arith, add-mod_right from n ∙ ap (λ (t : ℕ). t % n) here ∙ q.3)
       | inr later ↦ (q.0, omega (arith, low, later), omega (arith, high), q.3)
     ]
-
--- a list with or without one more element in front
-behind : {A : Type 0} (b : Bool) (x a : A) (l : List A) (k : ℕ) → get_elem? l k ≡ some a → (j : ℕ) × (get_elem? (cond b (x ∷ l) l) j ≡ some a)
-behind true x a l k e = (suc k, e)
-behind false x a l k e = (k, e)
-
-first_or_behind : {A : Type 0} (b : Bool) (x a : A) (l : List A) (k : ℕ) → get_elem? (cond b (x ∷ l) l) k ≡ some a → ((b ≡ true) × (x ≡ a)) ⊎ ((j : ℕ) × (get_elem? l j ≡ some a))
-first_or_behind true x a l zero e = inl (refl, some-injective x a e)
-first_or_behind true x a l (suc k) e = inr (k, e)
-first_or_behind false x a l k e = inr (k, e)
-
-module _ {N : Type 0} where
-  -- a call that got a ticket is among those that did
-  got_in : (log : List (Outcome N)) (j t : ℕ) (x : N) → get_elem? log j ≡ some (Got t x) → (k : ℕ) × (get_elem? (got_of log) k ≡ some (t, x))
-  got_in [] j t x e = absurd (some-ne-none (Got t x) (sym e))
-  got_in (Lost g ∷ log) zero t x e = let no = some-injective (Lost g) (Got t x) e in absurd cc
-  got_in (Lost g ∷ log) (suc j) t x e = got_in log j t x e
-  got_in (Got u y ∷ log) zero t x e =
-      let same = some-injective (Got u y) (Got t x) e in
-      let ticket : u ≡ t = cc in
-      let note : y ≡ x = cc in
-      (0, λ k. some (ticket k, note k))
-  got_in (Got u y ∷ log) (suc j) t x e = let rest = got_in log j t x e in (suc rest.0, rest.1)
-
-  -- and stands in the log
-  pub got_from : (log : List (Outcome N)) (k t : ℕ) (x : N) → get_elem? (got_of log) k ≡ some (t, x) → (j : ℕ) × (get_elem? log j ≡ some (Got t x))
-  got_from [] k t x e = absurd (some-ne-none (t, x) (sym e))
-  got_from (Lost g ∷ log) k t x e = let rest = got_from log k t x e in (suc rest.0, rest.1)
-  got_from (Got u y ∷ log) zero t x e = (0, ap (λ (p : ℕ × N). some (Got p.0 p.1)) (some-injective (u, y) (t, x) e))
-  got_from (Got u y ∷ log) (suc k) t x e = let rest = got_from log k t x e in (suc rest.0, rest.1)
-
-  -- a ticket that the seat finished is among those that it took
-  pub taken_in : (i from : ℕ) (fates : List (Option (ℕ × N))) (u t : ℕ) (x : N) → t ≡ from + u → get_elem? fates u ≡ some (Some (i, x)) → (k : ℕ) × (get_elem? (taken_by i from fates) k ≡ some (t, x))
-  taken_in i from [] u t x is e = absurd (some-ne-none (Some (i, x)) (sym e))
-  taken_in i from (None ∷ fates) zero t x is e = absurd (none-some (i, x) (some-injective None (Some (i, x)) e))
-  taken_in i from (None ∷ fates) (suc u) t x is e = taken_in i (suc from) fates u t x (omega (arith, is)) e
-  taken_in i from (Some y ∷ fates) zero t x is e =
-      let same = same_Some y (i, x) (some-injective (Some y) (Some (i, x)) e) in
-      let own : i ≡ y.0 = sym (ap (λ (p : ℕ × N). p.0) same) in
-      let here : from ≡ t = omega (arith, is) in
-      (0, ap (λ (b : Bool). get_elem? (cond b ((from, y.1) ∷ taken_by i (suc from) fates) (taken_by i (suc from) fates)) 0) (eq-eqb i y.0 own) ∙ (λ k. some (here k, (same k).1)))
-  taken_in i from (Some y ∷ fates) (suc u) t x is e =
-      let rest = taken_in i (suc from) fates u t x (omega (arith, is)) e in
-      behind (eqb i y.0) (from, y.1) (t, x) (taken_by i (suc from) fates) rest.0 rest.1
-
-  -- and what it took it finished
-  taken_from : (i from : ℕ) (fates : List (Option (ℕ × N))) (k t : ℕ) (x : N) → get_elem? (taken_by i from fates) k ≡ some (t, x) → (u : ℕ) × (t ≡ from + u) × (get_elem? fates u ≡ some (Some (i, x)))
-  taken_from i from [] k t x e = absurd (some-ne-none (t, x) (sym e))
-  taken_from i from (None ∷ fates) k t x e = let rest = taken_from i (suc from) fates k t x e in let is = rest.1 in (suc rest.0, omega (arith, is), rest.2)
-  taken_from i from (Some y ∷ fates) k t x e = elim (first_or_behind (eqb i y.0) (from, y.1) (t, x) (taken_by i (suc from) fates) k e) [
-    | inl here ↦
-        let own : y.0 ≡ i = sym (eqb-true i y.0 here.0) in
-        let its_ticket : from ≡ t = ap (λ (p : ℕ × N). p.0) here.1 in
-        let its_note : y.1 ≡ x = ap (λ (p : ℕ × N). p.1) here.1 in
-        (0, omega (arith, its_ticket), λ k. some (Some (own k, its_note k)))
-    | inr later ↦ let rest = taken_from i (suc from) fates later.0 t x later.1 in let is = rest.1 in (suc rest.0, omega (arith, is), rest.2)
-  ]
-
-  -- no call ends before it starts
-  start_end : (r : Outcome N) → start_of r ≤ end_of r
-  start_end (Lost g) = omega arith
-  start_end (Got t x) = omega arith
-
-  -- no call stands below where its log begins
-  above_low : (low : ℕ) (log : List (Outcome N)) (l : ℕ) (b : Outcome N) → RisesFrom low log → get_elem? log l ≡ some b → low ≤ start_of b
-  above_low low [] l b rises e = absurd (some-ne-none b (sym e))
-  above_low low (r ∷ log) zero b rises e = subst (λ (o : Outcome N). low ≤ start_of o) (some-injective r b e) rises.0
-  above_low low (r ∷ log) (suc l) b rises e =
-      let first = rises.0 in
-      let own = start_end r in
-      let rest = above_low (end_of r) log l b rises.1 e in
-      omega (arith, first, own, rest)
-
-  -- nor before the end of one before it
-  rises_apart : (low : ℕ) (log : List (Outcome N)) (j l : ℕ) (a b : Outcome N) → RisesFrom low log → j < l → get_elem? log j ≡ some a → get_elem? log l ≡ some b → end_of a ≤ start_of b
-  rises_apart low [] j l a b rises less ea eb = absurd (some-ne-none b (sym eb))
-  rises_apart low (r ∷ log) j zero a b rises less ea eb = absurd (omega (arith, less))
-  rises_apart low (r ∷ log) zero (suc l) a b rises less ea eb = subst (λ (o : Outcome N). end_of o ≤ start_of b) (some-injective r a ea) (above_low (end_of r) log l b rises.1 eb)
-  rises_apart low (r ∷ log) (suc j) (suc l) a b rises less ea eb = rises_apart (end_of r) log j l a b rises.1 (omega (arith, less)) ea eb
-
-  -- the end of the last is above where the log begins
-  low_to_end : (low : ℕ) (log : List (Outcome N)) → RisesFrom low log → low ≤ end_from low log
-  low_to_end low [] rises = omega arith
-  low_to_end low (r ∷ log) rises =
-      let first = rises.0 in
-      let own = start_end r in
-      let rest = low_to_end (end_of r) log rises.1 in
-      omega (arith, first, own, rest)
-
-  -- and above that of each
-  pub within_end : (low : ℕ) (log : List (Outcome N)) (j : ℕ) (a : Outcome N) → RisesFrom low log → get_elem? log j ≡ some a → end_of a ≤ end_from low log
-  within_end low [] j a rises e = absurd (some-ne-none a (sym e))
-  within_end low (r ∷ log) zero a rises e = subst (λ (o : Outcome N). end_of o ≤ end_from (end_of r) log) (some-injective r a e) (low_to_end (end_of r) log rises.1)
-  within_end low (r ∷ log) (suc j) a rises e = within_end (end_of r) log j a rises.1 e
 
 -- two elements at one place are one
 one_element : {A : Type 0} (l : List A) (i : ℕ) (a b : A) → get_elem? l i ≡ some a → get_elem? l i ≡ some b → a ≡ b

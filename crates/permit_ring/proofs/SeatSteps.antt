@@ -36,12 +36,11 @@ use Rattle.permit_ring.specs.declared.memo.View.{View}
 use Rattle.permit_ring.specs.declared.memo.View.TheVariants.{Sits}
 use Rattle.permit_ring.specs.Logs.{IsOrdered, undecided, end_from, got_of, taken_by}
 use Rattle.permit_ring.specs.Moves.{found_at, is_of_seat, is_of_keeper, by_seat}
-use Rattle.permit_ring.specs.Plays.{Known, seat_in, saw_word, claimed_word, marked_loss, finished_value}
+use Rattle.permit_ring.specs.Told.{Known, seat_in, saw_word, claimed_word, marked_loss, finished_value}
 use Rattle.permit_ring.specs.Rule.{words_of, StandsIn, AreFates, AreSlots, Home, IsSlot, Counts, IsSeatMemo, IsKeeperMemo, Runs}
 use Rattle.permit_ring.specs.Steps.{and_move, and_lost, looks, claims, adds_mark, finishes, ticket_in}
-use Rattle.permit_ring.proofs.FateLemmas.{open_undecided, taken-open, taken-else, taken-own}
+use Rattle.permit_ring.proofs.LogLemmas.{open_undecided, taken-open, taken-else, taken-own, IsOrderly, orderly, one_lost, rises_on, end_on, got_of-got, no_loss}
 use Rattle.permit_ring.proofs.ListLemmas.{at_end, at_length}
-use Rattle.permit_ring.proofs.LogLemmas.{IsOrderly, orderly, one_lost, rises_on, end_on, got_of-got, no_loss}
 use Rattle.permit_ring.proofs.MoveLemmas.{leads_on, by_seat-own, by_seat-else, by_keeper-else}
 use Rattle.permit_ring.proofs.States.{ring_of, sizes_of, one_turn_ahead, knows_it, is_live, seat_stays, fates_stay, slots_stay, slots_set, seat_changes}
 

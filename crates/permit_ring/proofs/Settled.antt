@@ -27,7 +27,7 @@ use Rattle.permit_ring.specs.Logs.{IsOrdered, end_from, taken_by}
 use Rattle.permit_ring.specs.Rule.{StandsIn, IsSomewhere, Runs}
 use Rattle.permit_ring.specs.Steps.{waits}
 use Rattle.permit_ring.proofs.ListLemmas.{there}
-use Rattle.permit_ring.proofs.RuleLaws.{got_from, taken_in, within_end}
+use Rattle.permit_ring.proofs.LogLemmas.{got_from, taken_in, within_end}
 use Rattle.permit_ring.proofs.States.{ring_of}
 
 module _ {A : Type 0} where

@@ -5,7 +5,7 @@ pub mod Logs
 pub mod Making
 pub mod Moves
 pub mod Places
-pub mod Plays
 pub mod Rule
 pub mod Seats
 pub mod Steps
+pub mod Told

@@ -13,7 +13,7 @@ use Rattle.permit_ring.specs.declared.memo.View.TheVariants.{Sits, Keeps}
 use Rattle.permit_ring.specs.declared.ring.Ring.{Ring}
 use Rattle.permit_ring.specs.declared.seat.Seat.{Seat}
 use Rattle.permit_ring.specs.Hands.{hand_from, filled_then, AllAdmitted}
-use Rattle.permit_ring.specs.Plays.{IsWord, seat_in, keeper_in}
+use Rattle.permit_ring.specs.Told.{IsWord, seat_in, keeper_in}
 use Rattle.permit_ring.specs.Rule.{IsKey}
 
 -- the ticket as the machine has it

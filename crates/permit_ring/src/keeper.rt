@@ -8,7 +8,7 @@ ghost use Rattle.permit_ring.specs.Steps.{reads, offers_all, misses, sweeps, wel
 
 use crate::answer::Unready;
 use crate::freight::Freight;
-use crate::plays::{Offers, ReadsWord};
+use crate::told::{Offers, ReadsWord};
 use crate::ring::{PERMITS, Place, Ring, all_free};
 use crate::seat::Seat;
 use ring_core::PermitWord;

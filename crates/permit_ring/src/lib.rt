@@ -14,10 +14,10 @@ mod keeper;
 mod laws;
 mod making;
 mod memo;
-mod plays;
 mod ring;
 mod seat;
 mod sharing;
+mod told;
 
 pub use answer::{Look, Unready};
 pub use freight::{Freight, Running};

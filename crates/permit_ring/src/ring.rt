@@ -6,12 +6,12 @@ ghost use Rattle.permit_ring.specs.declared.memo.Slot.TheVariants.{Empty, Offere
 ghost use Rattle.permit_ring.specs.declared.memo.View.TheVariants.{Sits, Keeps};
 ghost use Rattle.permit_ring.specs.Closing.{AreAllBack, IsAllReaped, IsSettled, AreAllSwept, swept_of};
 ghost use Rattle.permit_ring.specs.Logs.{IsOrdered};
-ghost use Rattle.permit_ring.specs.Plays.{seat_in, keeper_in};
+ghost use Rattle.permit_ring.specs.Told.{seat_in, keeper_in};
 ghost use Rattle.permit_ring.specs.Steps.{looks, claims, finishes, adds_mark, new_memo, waits, reaps, sweeps, makes, welcomes};
 
 use crate::freight::{Freight, Running};
 use crate::memo::{Key, Slot, View};
-use crate::plays::{Claims, Finishes, Lives, MarksLoss, SeesMark, SeesWord, Sweeps};
+use crate::told::{ClaimsTicket, Finishes, Lives, MarksLoss, SeesMark, SeesWord, Sweeps};
 use atomic_table::{Seat as Token, Table};
 use ids_types::Ticket;
 use ring_core::PermitWord;
@@ -78,7 +78,7 @@ impl<F: Freight> Ring<F> {
         let number = self
             .table
             .shared
-            .fetch_add::<Claims<F>>(place, PERMITS, ONE_CLAIM);
+            .fetch_add::<ClaimsTicket<F>>(place, PERMITS, ONE_CLAIM);
         PermitWord::unpack(number, self.limit)
     }
 

@@ -4,7 +4,7 @@ use Rattle.std.proofs.lemmas.List.{length-map}
 use Rattle.std.proofs.lemmas.Option.{none-some}
 use mathlib.Core.Option.{some, some-injective, some-ne-none}
 use lib.ListN.{get_elem?}
-use Rattle.atomic_table.proofs.Lists.{at_longer}
+use Rattle.atomic_table.proofs.Lists.{at_longer, at_map}
 use Rattle.permit_ring.specs.declared.memo.KeeperMemo.{KeeperMemo}
 use Rattle.permit_ring.specs.declared.memo.Outcome.{Outcome}
 use Rattle.permit_ring.specs.declared.memo.Outcome.TheVariants.{Lost, Got}
@@ -13,6 +13,7 @@ use Rattle.permit_ring.specs.Closing.{AreAllBack, IsSettled}
 use Rattle.permit_ring.specs.Logs.{end_from, got_of, taken_by}
 use Rattle.permit_ring.specs.Steps.{waits}
 use Rattle.permit_ring.proofs.ListLemmas.{there}
+use Rattle.permit_ring.proofs.LogLemmas.{got_from, taken_in}
 use Rattle.report_queue.specs.declared.cargo.Item.{Item}
 use Rattle.report_queue.specs.Closing as queue
 use Rattle.report_queue.specs.Closing.{IsAllTaken, IsWholeCaller, items_of}
@@ -25,32 +26,6 @@ pub at_map_back : {A B : Type 0} (f : A → B) (l : List A) (i : ℕ) (b : B) �
 at_map_back f [] i b e = absurd (some-ne-none b (sym e))
 at_map_back f (x ∷ l) zero b e = (x, refl, some-injective (f x) b e)
 at_map_back f (x ∷ l) (suc i) b e = at_map_back f l i b e
-
--- an element is still there with one more in front, or none
-later : {A : Type 0} (b : Bool) (l : List A) (x a : A) → (m : ℕ) × (get_elem? l m ≡ some a) → (m : ℕ) × (get_elem? (if b then x ∷ l else l) m ≡ some a)
-later true l x a at = (suc at.0, at.1)
-later false l x a at = at
-
-module _ {N : Type 0} where
-  -- a ticket that a log got stands in it
-  got_stands : (log : List (Outcome N)) (m t : ℕ) (x : N) → get_elem? (got_of log) m ≡ some (t, x) → (j : ℕ) × (get_elem? log j ≡ some (Got t x))
-  got_stands [] m t x e = absurd (some-ne-none (t, x) (sym e))
-  got_stands (Lost g ∷ log) m t x e = let rest = got_stands log m t x e in (suc rest.0, rest.1)
-  got_stands (Got u y ∷ log) zero t x e = let same = some-injective (u, y) (t, x) e in (zero, ap (λ (p : ℕ × N). some (Got p.0 p.1)) same)
-  got_stands (Got u y ∷ log) (suc m) t x e = let rest = got_stands log m t x e in (suc rest.0, rest.1)
-
-  -- a ticket of seat i is among its tickets
-  is_its_own : (i f t : ℕ) (x : N) (taken : List (ℕ × N)) → get_elem? taken t ≡ some (i, x) → (m : ℕ) × (get_elem? (taken_by i f (map Some taken)) m ≡ some (f + t, x))
-  is_its_own i f t x [] e = absurd (some-ne-none (i, x) (sym e))
-  is_its_own i f zero x (p ∷ taken) e =
-      let same = some-injective p (i, x) e in
-      let is : (i == p.0) ≡ true = ap (λ (k : ℕ). i == k) (ap (λ (q : ℕ × N). q.0) same) ∙ eq-eqb i i refl in
-      let Stands : Bool → Type 0 = λ b. (m : ℕ) × (get_elem? (if b then (f, p.1) ∷ taken_by i (suc f) (map Some taken) else taken_by i (suc f) (map Some taken)) m ≡ some (f + 0, x)) in
-      subst Stands (sym is) (0, ap₂ (λ (u : ℕ) (y : N). some (u, y)) (let none : f ≡ f + 0 = omega arith in none) (ap (λ (q : ℕ × N). q.1) same))
-  is_its_own i f (suc t) x (p ∷ taken) e =
-      let rest = is_its_own i (suc f) t x taken e in
-      let at = rest.1 ∙ ap (λ (u : ℕ). some (u, x)) (let next : suc f + t ≡ f + suc t = omega arith in next) in
-      later (i == p.0) (taken_by i (suc f) (map Some taken)) (f, p.1) (f + suc t, x) (rest.0, at)
 
 module _ {N : Type 0} where
   -- tickets whose seats are the callers of their items
@@ -66,8 +41,8 @@ module _ {N : Type 0} where
     owner_back t i x None e at is = absurd (true≢false (sym is))
     owner_back t i x (Some memo) e at is =
         let whole = s.logs_are i memo at in
-        let own = is_its_own i 0 t x s.taken e in
-        let got = got_stands memo.log own.0 t x (ap (λ (l : List (ℕ × Item N)). get_elem? l own.0) whole.got ∙ own.1 ∙ ap (λ (u : ℕ). some (u, x)) (let none : 0 + t ≡ t = omega arith in none)) in
+        let own = taken_in i 0 (map Some s.taken) t t x (omega arith) (at_map Some s.taken t (i, x) e) in
+        let got = got_from memo.log own.0 t x (ap (λ (l : List (ℕ × Item N)). get_elem? l own.0) whole.got ∙ own.1) in
         sym ((names i memo at got.0 t x got.1).0 ∙ whole.number_is)
 
     owner : (t : ℕ) (p : ℕ × Item N) → get_elem? s.taken t ≡ some p → p.0 ≡ p.1.caller

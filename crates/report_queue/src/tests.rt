@@ -83,6 +83,29 @@ fn a_full_queue_answers_a_look(rt: HostRuntime) -> Result<(), Fail> {
     Ok(())
 }
 
+/// The number that a claim answers, which a journal's range of numbers has room for.
+fn claim_number(queue: &Queue<Numbers>, seat: &mut QueueSeat<Numbers>) -> u64
+    requires mine { IsCallerOf queue.now seat.old }
+    requires idle { ticket_of seat.old ≡ None }
+    requires few { calls_of seat.old < 2 ^ 40 }
+    ensures { result ≤ 2 ^ 46 }
+{
+    match seat.claim(queue) {
+        Ok(ticket) => ticket.0,
+        Err(look) => look.claimed,
+    }
+}
+
+#[test]
+fn a_claim_number_is_small(rt: HostRuntime) -> Result<(), Fail> {
+    let MadeQueue {
+        queue, mut seats, ..
+    } = make::<Numbers>(rt.alloc(), 2, 1, ())?;
+    let mut seat = last_of(&queue, &mut seats).expect(&rt, "a caller");
+    assert_eq!(rt; claim_number(&queue, &mut seat), 0);
+    Ok(())
+}
+
 #[test]
 fn a_stalled_caller_holds_the_items_behind_it(rt: HostRuntime) -> Result<(), Fail> {
     let MadeQueue {

@@ -1,7 +1,7 @@
 use Rattle.std.proofs.Common.{ℕ, ◌≤◌, [], sym, ap, ap₂, ◌∙◌, subst}
 use Rattle.permit_ring.specs.declared.memo.View.TheVariants.{Keeps}
 use Rattle.permit_ring.specs.Making.{AreNewSeats, made_memo}
-use Rattle.permit_ring.specs.Plays.{keeper_in}
+use Rattle.permit_ring.specs.Told.{keeper_in}
 use Rattle.permit_ring.specs.Seats.{IsKeeperOf, keeper_memo, vacant_of, filled_of}
 use Rattle.permit_ring.proofs.NewRings.{new_keeper_is}
 use Rattle.permit_ring.proofs.making.make.Goals as goal

@@ -1,6 +1,6 @@
 use Rattle.std.proofs.Common.{arith, ℕ, ◌<◌, ◌+◌, sym, ap, ◌∙◌, subst, []}
 use Rattle.permit_ring.specs.declared.memo.View.TheVariants.{Sits, Keeps}
-use Rattle.permit_ring.specs.Plays.{keeper_in}
+use Rattle.permit_ring.specs.Told.{keeper_in}
 use Rattle.permit_ring.specs.Making.{AreNewSeats, IsNewSeat}
 use Rattle.permit_ring.specs.Steps.{makes, new_memo}
 use Rattle.permit_ring.proofs.NewRings.{fresh, made_more, new_seat_is, one_seat_more}

@@ -1,5 +1,5 @@
 use Rattle.std.proofs.Common.{◌∙◌}
-use Rattle.permit_ring.proofs.Openings.{opens_running}
+use Rattle.permit_ring.proofs.NewRings.{opens_running}
 use Rattle.permit_ring.proofs.making.open_ring.Goals as goal
 
 pub new-requires : goal.new-requires

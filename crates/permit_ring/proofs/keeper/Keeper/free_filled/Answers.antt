@@ -1,7 +1,7 @@
 use Rattle.std.proofs.Common.{arith, ℕ, ◌≢◌, ◌+◌, ◌∷◌, ◌++◌, [], sym, ap, ◌∙◌}
 use Rattle.std.proofs.lemmas.List.{length_push}
 use Rattle.permit_ring.specs.Calls.{last_word}
-use Rattle.permit_ring.specs.Plays.{keeper_in}
+use Rattle.permit_ring.specs.Told.{keeper_in}
 use Rattle.permit_ring.specs.Steps.{misses, offers_all}
 use Rattle.ring_core.specs.Words.{field_of}
 use Rattle.permit_ring.proofs.Keepers.{missed-more, offer_ends, others-more}

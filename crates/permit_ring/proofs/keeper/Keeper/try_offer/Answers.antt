@@ -1,6 +1,6 @@
 use Rattle.std.proofs.Common.{rules, refl, sym, ap, subst, ◌∙◌, ◌<◌}
 use Rattle.ring_core.specs.Words.{field_of}
-use Rattle.permit_ring.specs.Plays.{keeper_in}
+use Rattle.permit_ring.specs.Told.{keeper_in}
 use Rattle.permit_ring.specs.Steps.{misses}
 use Rattle.permit_ring.proofs.Keepers.{keeping_after, missed_keeper, missed_told, offer_allowed, offer_told, offered_keeper}
 use Rattle.permit_ring.proofs.keeper.Keeper.try_offer.Goals as goal

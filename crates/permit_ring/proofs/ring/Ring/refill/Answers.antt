@@ -1,7 +1,7 @@
 use Rattle.std.proofs.Common.{sym, ap, ◌∙◌}
 use Rattle.permit_ring.specs.declared.memo.Slot.TheVariants.{Empty}
-use Rattle.permit_ring.specs.Plays.{first_slot}
-use Rattle.permit_ring.proofs.Refills.{filled_fit, one_more_filled, vacant_fit, vacant_in_front}
+use Rattle.permit_ring.specs.Told.{first_slot}
+use Rattle.permit_ring.proofs.HandLemmas.{filled_fit, one_more_filled, vacant_fit, vacant_in_front}
 use Rattle.permit_ring.proofs.ring.Ring.refill.Goals as goal
 
 pub turn_hand-requires : goal.turn_hand-requires

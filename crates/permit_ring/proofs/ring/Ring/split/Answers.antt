@@ -1,5 +1,5 @@
 use Rattle.std.proofs.Common.{rules, ℕ, ◌<◌, sym, subst}
-use Rattle.permit_ring.specs.Plays.{keeper_in}
+use Rattle.permit_ring.specs.Told.{keeper_in}
 use Rattle.permit_ring.proofs.Lives.{splits_allowed}
 use Rattle.permit_ring.proofs.ring.Ring.split.Goals as goal
 

@@ -1,5 +1,5 @@
 //! What each atomic step tells its seat or the keeper. These types are for the proofs alone.
-ghost use Rattle.permit_ring.specs.Plays.{saw_word, claimed_word, finished_value, marked_loss, saw_mark, read_word, tried_offer, swept_loss, split_left, split_right, join_both, join_spent};
+ghost use Rattle.permit_ring.specs.Told.{saw_word, claimed_word, finished_value, marked_loss, saw_mark, read_word, tried_offer, swept_loss, split_left, split_right, join_both, join_spent};
 
 use crate::freight::Freight;
 use crate::memo::{Slot, View};
@@ -14,11 +14,11 @@ impl<O, D, T, N> Play<Slot<O, D>, View<T, N>> for SeesWord {
 }
 
 /// A seat's claim.
-pub struct Claims<F> {
+pub struct ClaimsTicket<F> {
     freight: PhantomData<F>,
 }
 
-impl<F: Freight> Play<Slot<F::Offered, F::Finished>, View<F::Terms, F::Note>> for Claims<F> {
+impl<F: Freight> Play<Slot<F::Offered, F::Finished>, View<F::Terms, F::Note>> for ClaimsTicket<F> {
     ghost then = { claimed_word F.admits_offered };
 }
 
