@@ -15,8 +15,8 @@ use Rattle.ring_core.specs.declared.step.Step.{Step}
 use Rattle.ring_core.specs.declared.step.Step.TheVariants.{See, Read, Offer, Sweep}
 use Rattle.ring_core.specs.declared.word.PermitWord.{PermitWord}
 use Rattle.ring_core.specs.Machine.{HasSizes, Machine, new_seat, opening, seat_at, mark_at, next, offered_to, with_loss, swept_clean}
-use Rattle.ring_core.specs.Sound.{ArePermits, IsFinished, IsRing}
-use Rattle.ring_core.specs.Words.{field_of, packed, unpacked, IsPackable, IsReadable}
+use Rattle.ring_core.specs.Sound.{IsFinished, IsRing}
+use Rattle.ring_core.specs.Words.{field_of, packed, IsPackable}
 use Rattle.ring_core.proofs.Bounds.{small}
 use Rattle.ring_core.proofs.Nexts.{see_takes_next, see_waits_next, read_next, sweep_next, offer_takes_next, offer_misses_next}
 use Rattle.ring_core.proofs.RingLaws.{word_packs, seen_packs, missed_field_falls}
@@ -33,7 +33,7 @@ use Rattle.permit_ring.specs.declared.memo.View.TheVariants.{Keeps}
 use Rattle.permit_ring.specs.Hands.{hand_from, filled_then, AllAdmitted}
 use Rattle.permit_ring.specs.Moves.{found_at, is_of_seat, is_of_keeper}
 use Rattle.permit_ring.specs.Told.{Known, IsWord, keeper_in, ready, saw_mark, read_word, tried_offer, swept_loss}
-use Rattle.permit_ring.specs.Rule.{words_of, StandsIn, Home, IsSlot, AreSlots, Counts, Runs}
+use Rattle.permit_ring.specs.Rule.{words_of, StandsIn, IsSlot, AreSlots, Counts, Runs}
 use Rattle.permit_ring.specs.Steps.{and_move, waits, reaps, reads, offers_all, misses, sweeps}
 use Rattle.permit_ring.proofs.HandLemmas.{ready_filled}
 use Rattle.permit_ring.proofs.ListLemmas.{at_end, at_length, there}
@@ -180,7 +180,7 @@ module _ {O D T N : Type 0} {note : D → N} {Ao : T → O → Type 0} {An : T �
       }
       on.back_stays
       (λ other knew. seat_stays knew (ap (λ (seats : List SeatView). seat_at seats other.number) same) (by_seat-else r.moves step found other.number (its.no_seats other.number)) refl
-          (omega (arith, claimed)) on.fronts_stay (omega (arith, made)))
+      (omega (arith, claimed)) on.fronts_stay (omega (arith, made)))
 
   -- the permit word is one of the ring's sizes
   word_in : IsWord key.positions key.limit r.machine.word
@@ -210,7 +210,6 @@ module _ {O D T N : Type 0} {note : D → N} {Ao : T → O → Type 0} {An : T �
       let some_position = r.sizes.some_position in
       let home = (r.are_slots.each r.machine.reaped (le_refl r.machine.reaped) (omega (arith, some_position))).finished_home x.0.0 x.0.1 x.1 in
       (x.0.0, home.0, x.1 ∙ ap (λ (y : N). some (Some (x.0.0, y))) (sym home.1), home.2)
-
 
 -- what a step of the keeper owes that leaves f of what it found
 module _ {O D T N : Type 0} (note : D → N) (Ao : T → O → Type 0) (An : T → N → Type 0) (key : Key T) where
@@ -458,7 +457,6 @@ module _ {O D T N : Type 0} (note : D → N) (Ao : T → O → Type 0) (An : T �
         exchanged (slice_index s.words 0) old new (EndsWith 0 (tried_offer (step n 0 old new none) (Keeps key r.keeper, hand)) hand s 0)
         (λ hit. offers_hitting n old new hand r some fits can.was hit (can.becomes ∙ ap (λ (j : ℕ). packed key.limit (offered_to r.keeper.seen j)) (sym count)) given)
         (offers_missing n old new hand r some fits can.was)
-
 
 -- the steps of a token whose view is the keeper's
 module _ {O D T N : Type 0} (note : D → N) (Ao : T → O → Type 0) (An : T → N → Type 0) (key : Key T) (slots id : ℕ) (me : Known O D T N) (keeps_it : me.0 ≡ Keeps key (keeper_in me.0)) where

@@ -1,5 +1,5 @@
 -- Splits and joins keep the rule: the keeper makes one more seat, or takes one back.
-use Rattle.std.proofs.Common.{◌≡◌, ◌≢◌, ℕ, zero, suc, ◌+◌, ◌<◌, ◌≤◌, ◌⊎◌, Bool, true, false, cond, eqb, List, [], ◌∷◌, ◌++◌, set, length, Option, Some, None, refl, sym, ◌∙◌, ap, ap₂, subst, subst₂, inl, inr, le_refl, eq-eqb, ne_eqb, arith}
+use Rattle.std.proofs.Common.{◌≡◌, ◌≢◌, ℕ, suc, ◌+◌, ◌<◌, Bool, true, false, cond, eqb, List, [], ◌∷◌, ◌++◌, set, length, Option, Some, None, refl, sym, ◌∙◌, ap, ap₂, subst, subst₂, inl, inr, le_refl, eq-eqb, ne_eqb, arith}
 use Rattle.std.proofs.lemmas.List.{length-append, length-set, get_or_append_left, get_or_push}
 use mathlib.Core.Option.{some, some-injective, some-ne-none}
 use lib.ListN.{get_elem?}
@@ -20,7 +20,7 @@ use Rattle.permit_ring.specs.declared.memo.View.TheVariants.{Sits, Keeps, Spent}
 use Rattle.permit_ring.specs.Logs.{taken_by}
 use Rattle.permit_ring.specs.Moves.{Leads, by_seat, by_keeper}
 use Rattle.permit_ring.specs.Told.{join_both, join_spent, split_left, split_right}
-use Rattle.permit_ring.specs.Rule.{IsSeatMemo, IsKeeperMemo, IsViewAt, IsSomewhere, Runs}
+use Rattle.permit_ring.specs.Rule.{IsSeatMemo, IsViewAt, IsSomewhere, Runs}
 use Rattle.permit_ring.specs.Steps.{and_move, ended, new_memo, makes, welcomes}
 use Rattle.permit_ring.proofs.ListLemmas.{at_end, at_length}
 use Rattle.permit_ring.proofs.MoveLemmas.{leads_on, by_seat-else, by_keeper-own}
@@ -177,7 +177,7 @@ module _ {O D T N : Type 0} {note : D → N} {Ao : T → O → Type 0} {An : T �
         split_runs r (r.machine.seats ++ new_seat ∷ []) (and_move r.moves Split 0) (later_split r.keeper.made r.machine.seats r.moves all.1)
         (leads_on (opening key.positions key.limit) r.machine (record r.machine { seats = r.machine.seats ++ new_seat ∷ [] }) r.moves Split r.reached (split_next r.machine (omega (arith, room, same, limit))))
         (ap (λ (b : Bool). cond b r.keeper.moves (and_move r.keeper.moves Split 0)) (ne_eqb r.keeper.made 0 (λ e. omega (arith, e, positive)))
-            ∙ ap (λ (l : List Move). and_move l Split 0) r.knows.moved ∙ sym (by_keeper-own r.moves Split 0 refl))
+        ∙ ap (λ (l : List Move). and_move l Split 0) r.knows.moved ∙ sym (by_keeper-own r.moves Split 0 refl))
     | inr first ↦ split_runs r r.machine.seats r.moves (first_split r.keeper.made r.machine.seats r.moves first.0 first.1) r.reached
         (ap (λ (b : Bool). cond b r.keeper.moves (and_move r.keeper.moves Split 0)) (eq-eqb r.keeper.made 0 first.0) ∙ r.knows.moved)
   ]

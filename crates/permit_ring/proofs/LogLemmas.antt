@@ -1,6 +1,6 @@
 -- The log of a seat and what became of tickets, with one call or one ticket more.
-use Rattle.std.proofs.Common.{◌≡◌, ℕ, ◌<◌, ◌≤◌, Bool, true, false, cond, nat_lt, List, [], ◌∷◌, ◌++◌, refl, sym, ap, subst, inl, inr, arith, le_refl, ◌≢◌, zero, suc, ◌+◌, eqb, eq-eqb, ne_eqb, set, Option, Some, None, ◌∙◌, ◌%◌, ◌⊎◌, is_some, length, ap₂, mod-eq_of_lt, eqb-true}
-use Rattle.std.proofs.lemmas.Bool.{ltb-false, lt-ltb, le-ltb, cases_eq, cases_lt, cases_order}
+use Rattle.std.proofs.Common.{◌≡◌, ℕ, ◌<◌, ◌≤◌, Bool, true, false, cond, nat_lt, List, [], ◌∷◌, ◌++◌, refl, sym, ap, subst, inl, inr, arith, le_refl, ◌≢◌, zero, suc, ◌+◌, eqb, eq-eqb, ne_eqb, set, Option, Some, None, ◌∙◌, ◌⊎◌, eqb-true}
+use Rattle.std.proofs.lemmas.Bool.{ltb-false, lt-ltb, le-ltb}
 use mathlib.Core.Option.{some, some-injective, some-ne-none}
 use lib.ListN.{get_elem?}
 use Rattle.atomic_table.proofs.Lists.{at_snoc}
@@ -8,24 +8,9 @@ use Rattle.ring_core.specs.declared.word.PermitWord.{PermitWord}
 use Rattle.permit_ring.specs.declared.memo.Outcome.{Outcome}
 use Rattle.permit_ring.specs.declared.memo.Outcome.TheVariants.{Lost, Got}
 use Rattle.permit_ring.specs.Logs.{start_of, end_of, RisesFrom, end_from, got_of, taken_by}
-use Rattle.permit_ring.specs.Rule.{StandsIn, Home, IsSlot, IsSeatMemo, IsSomewhere, Runs, HasFinished, HasOffered, IsOut}
+use Rattle.permit_ring.specs.Rule.{StandsIn}
 use Rattle.permit_ring.specs.Steps.{and_lost}
 use Rattle.std.proofs.lemmas.Option.{none-some, same_Some}
-use native.Mathlib.Nat.{add-mod_right}
-use Rattle.atomic_table.specs.Table.{State}
-use Rattle.ring_core.specs.declared.seat.SeatView.{SeatView}
-use Rattle.ring_core.specs.Machine.{new_seat, seat_at}
-use Rattle.ring_core.specs.Sound.{Holds}
-use Rattle.ring_core.proofs.SeatLemmas.{live_is_made, none_held}
-use Rattle.permit_ring.specs.declared.memo.Key.{Key}
-use Rattle.permit_ring.specs.declared.memo.KeeperMemo.{KeeperMemo}
-use Rattle.permit_ring.specs.declared.memo.SeatMemo.{SeatMemo}
-use Rattle.permit_ring.specs.declared.memo.Slot.{Slot}
-use Rattle.permit_ring.specs.declared.memo.Slot.TheVariants.{Offered, Finished}
-use Rattle.permit_ring.specs.declared.memo.View.{View}
-use Rattle.permit_ring.specs.declared.memo.View.TheVariants.{Sits, Keeps}
-use Rattle.permit_ring.specs.Places.{ShowsRing, SitsThere, CameBack, IsMemoThere, IsHeldOnce, IsLoggedOnce, HasOnePlace, IsNotedAs, IsInOrder, IsAdmittedSlot, IsOneSeats}
-use Rattle.permit_ring.proofs.ListLemmas.{at_length, there}
 
 module _ {N : Type 0} where
   -- a call that does not stand before the last one's end

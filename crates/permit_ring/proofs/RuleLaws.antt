@@ -1,5 +1,5 @@
 -- What the rule says of a ring: of its tickets, its logs, its slots and its words.
-use Rattle.std.proofs.Common.{◌≡◌, ℕ, zero, suc, ◌+◌, ◌%◌, ◌<◌, ◌≤◌, ◌⊎◌, Bool, true, false, cond, eqb, is_some, List, [], ◌∷◌, length, Option, Some, None, refl, sym, ◌∙◌, ap, ap₂, subst, inl, inr, mod-eq_of_lt, eq-eqb, eqb-true, arith}
+use Rattle.std.proofs.Common.{◌≡◌, ℕ, zero, suc, ◌+◌, ◌%◌, ◌<◌, ◌≤◌, ◌⊎◌, true, false, is_some, List, [], ◌∷◌, length, Option, Some, None, sym, ◌∙◌, ap, ap₂, subst, inl, inr, mod-eq_of_lt, arith}
 use Rattle.std.proofs.lemmas.Bool.{cases_eq, cases_lt, cases_order}
 use Rattle.std.proofs.lemmas.Option.{none-some, same_Some}
 use native.Mathlib.Nat.{add-mod_right}
@@ -12,14 +12,12 @@ use Rattle.ring_core.specs.Sound.{Holds}
 use Rattle.ring_core.proofs.SeatLemmas.{live_is_made, none_held}
 use Rattle.permit_ring.specs.declared.memo.Key.{Key}
 use Rattle.permit_ring.specs.declared.memo.KeeperMemo.{KeeperMemo}
-use Rattle.permit_ring.specs.declared.memo.Outcome.{Outcome}
 use Rattle.permit_ring.specs.declared.memo.Outcome.TheVariants.{Lost, Got}
 use Rattle.permit_ring.specs.declared.memo.SeatMemo.{SeatMemo}
 use Rattle.permit_ring.specs.declared.memo.Slot.{Slot}
 use Rattle.permit_ring.specs.declared.memo.Slot.TheVariants.{Offered, Finished}
 use Rattle.permit_ring.specs.declared.memo.View.{View}
 use Rattle.permit_ring.specs.declared.memo.View.TheVariants.{Sits, Keeps}
-use Rattle.permit_ring.specs.Logs.{start_of, end_of, RisesFrom, end_from, got_of, taken_by}
 use Rattle.permit_ring.specs.Places.{ShowsRing, SitsThere, CameBack, IsMemoThere, IsHeldOnce, IsLoggedOnce, HasOnePlace, IsNotedAs, IsInOrder, IsAdmittedSlot, IsOneSeats}
 use Rattle.permit_ring.specs.Rule.{Home, IsSlot, IsSeatMemo, IsSomewhere, Runs, HasFinished, HasOffered, IsOut}
 use Rattle.permit_ring.proofs.States.{one_memo, ring_of, one_turn_ahead, keeper_port, at_own_port, is_live, knows_it, not_ended}

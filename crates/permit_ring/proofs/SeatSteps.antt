@@ -7,8 +7,8 @@ use Rattle.std.proofs.lemmas.Option.{none-some, some_pair_parts}
 use mathlib.Core.Option.{some, none}
 use mathlib.Core.Option as maybe
 use lib.ListN.{get_elem?}
-use Rattle.atomic_table.proofs.Lists.{at_last, at_longer, at_set, at_snoc, set_here, set_else}
-use Rattle.atomic_table.specs.Table.{State, Act, Valid, step, stepped, carried_after, rest, keeps, takes, gives, Allows}
+use Rattle.atomic_table.proofs.Lists.{at_last, at_longer, at_set, at_snoc, set_else}
+use Rattle.atomic_table.specs.Table.{State, Act, Valid, step, stepped, carried_after, keeps, takes, gives, Allows}
 use Rattle.ring_core.specs.declared.seat.SeatView.{SeatView}
 use Rattle.ring_core.specs.declared.seat.Ticket0.{Ticket0}
 use Rattle.ring_core.specs.declared.step.Step.{Step}
@@ -27,7 +27,6 @@ use Rattle.ring_core.proofs.WordLemmas.{unpacked-packed, packed-claimed}
 use Rattle.permit_ring.specs.declared.memo.Key.{Key}
 use Rattle.permit_ring.specs.declared.memo.KeeperMemo.{KeeperMemo}
 use Rattle.permit_ring.specs.declared.memo.Move.{Move}
-use Rattle.permit_ring.specs.declared.memo.Outcome.{Outcome}
 use Rattle.permit_ring.specs.declared.memo.Outcome.TheVariants.{Lost, Got}
 use Rattle.permit_ring.specs.declared.memo.SeatMemo.{SeatMemo}
 use Rattle.permit_ring.specs.declared.memo.Slot.{Slot}
@@ -37,10 +36,10 @@ use Rattle.permit_ring.specs.declared.memo.View.TheVariants.{Sits}
 use Rattle.permit_ring.specs.Logs.{IsOrdered, undecided, end_from, got_of, taken_by}
 use Rattle.permit_ring.specs.Moves.{found_at, is_of_seat, is_of_keeper, by_seat}
 use Rattle.permit_ring.specs.Told.{Known, seat_in, saw_word, claimed_word, marked_loss, finished_value}
-use Rattle.permit_ring.specs.Rule.{words_of, StandsIn, AreFates, AreSlots, Home, IsSlot, Counts, IsSeatMemo, IsKeeperMemo, Runs}
-use Rattle.permit_ring.specs.Steps.{and_move, and_lost, looks, claims, adds_mark, finishes, ticket_in}
-use Rattle.permit_ring.proofs.LogLemmas.{open_undecided, taken-open, taken-else, taken-own, IsOrderly, orderly, one_lost, rises_on, end_on, got_of-got, no_loss}
-use Rattle.permit_ring.proofs.ListLemmas.{at_end, at_length}
+use Rattle.permit_ring.specs.Rule.{words_of, StandsIn, AreFates, AreSlots, Counts, IsSeatMemo, Runs}
+use Rattle.permit_ring.specs.Steps.{and_move, looks, adds_mark, finishes, ticket_in}
+use Rattle.permit_ring.proofs.LogLemmas.{open_undecided, taken-open, taken-else, taken-own, orderly, one_lost, rises_on, end_on, got_of-got, no_loss}
+use Rattle.permit_ring.proofs.ListLemmas.{at_end}
 use Rattle.permit_ring.proofs.MoveLemmas.{leads_on, by_seat-own, by_seat-else, by_keeper-else}
 use Rattle.permit_ring.proofs.States.{ring_of, sizes_of, one_turn_ahead, knows_it, is_live, seat_stays, fates_stay, slots_stay, slots_set, seat_changes}
 
@@ -275,8 +274,8 @@ module _ {O D T N : Type 0} {note : D → N} {Ao : T → O → Type 0} {An : T �
           lost_at_front = to.at_front;
         }
         (λ other away was. seat_stays was
-            (ap (λ (seats : List SeatView). seat_at seats other.number) to.seats_are ∙ seat_at-else r.machine.seats i new.view made_there other.number away)
-            (by_seat-else r.moves step found other.number (to.is_its.no_other other.number away)) (to.others_took other.number away) to.claims_grow (λ g h. h) (le_refl r.keeper.made))
+        (ap (λ (seats : List SeatView). seat_at seats other.number) to.seats_are ∙ seat_at-else r.machine.seats i new.view made_there other.number away)
+        (by_seat-else r.moves step found other.number (to.is_its.no_other other.number away)) (to.others_took other.number away) to.claims_grow (λ g h. h) (le_refl r.keeper.made))
 
     -- a look of an idle seat: one call more, which is decided where none is free
     module _ (idle : is_idle memo.view ≡ true) (few : memo.view.calls < 2 ^ 40) where

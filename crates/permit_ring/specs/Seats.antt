@@ -1,5 +1,5 @@
 -- Who belongs to a ring, and what it knows and holds between two calls.
-use Rattle.std.specs.Prelude.{◌≡◌, ℕ, ◌+◌, ◌%◌, ◌^◌, ◌<◌, ◌≤◌, true, false, List, [], ◌∷◌, length, Option, Some, None}
+use Rattle.std.specs.Prelude.{◌≡◌, ℕ, ◌+◌, ◌%◌, ◌^◌, ◌≤◌, true, false, List, [], ◌∷◌, length, Option, Some, None}
 use Rattle.atomic_table.specs.declared.shared.Seat.{Seat as Token}
 use Rattle.ids_types.specs.declared.names.Ticket.{Ticket}
 use Rattle.ring_core.specs.declared.seat.Ticket0.{Ticket0}

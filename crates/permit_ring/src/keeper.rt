@@ -8,9 +8,9 @@ ghost use Rattle.permit_ring.specs.Steps.{reads, offers_all, misses, sweeps, wel
 
 use crate::answer::Unready;
 use crate::freight::Freight;
-use crate::told::{Offers, ReadsWord};
 use crate::ring::{PERMITS, Place, Ring, all_free};
 use crate::seat::Seat;
+use crate::told::{Offers, ReadsWord};
 use ring_core::PermitWord;
 
 /// The one who takes what was finished, in the order of its tickets, and offers positions again.
