@@ -28,12 +28,14 @@ use Rattle.permit_ring.proofs.NewRings.{new_ordered}
 use Rattle.permit_ring.proofs.States.{one_memo, seat_stays, fates_stay, slots_stay, keeper_port, not_first, at_own_port, knows_it, sizes_of}
 
 -- a seat above all that finished a ticket finished none
-taken_none : {N : Type 0} (i t : ℕ) (fates : List (Option (ℕ × N))) → ((u j : ℕ) (x : N) → get_elem? fates u ≡ some (Some (j, x)) → j < i) → taken_by i t fates ≡ []
+taken_none : {N : Type 0} (i t : ℕ) (fates : List (Option (ℕ × N))) → ((u j : ℕ) (x : N) → get_elem? fates u ≡ some (Some (j, x)) → j < i)
+    → taken_by i t fates ≡ []
 taken_none i t [] below = refl
 taken_none i t (None ∷ fates) below = taken_none i (suc t) fates (λ u j x e. below (suc u) j x e)
 taken_none {N} i t (Some x ∷ fates) below =
     let less : x.0 < i = below 0 x.0 x.1 refl in
-    ap (λ (b : Bool). cond b ((t, x.1) ∷ taken_by i (suc t) fates) (taken_by i (suc t) fates)) (ne_eqb i x.0 (λ e. omega (arith, e, less))) ∙ taken_none i (suc t) fates (λ u j y e. below (suc u) j y e)
+    ap (λ (b : Bool). cond b ((t, x.1) ∷ taken_by i (suc t) fates) (taken_by i (suc t) fates))
+    (ne_eqb i x.0 (λ e. omega (arith, e, less))) ∙ taken_none i (suc t) fates (λ u j y e. below (suc u) j y e)
 
 -- the seats and the moves after the seat of this number was made
 record IsSplit (made : ℕ) (seats now : List SeatView) (moves then : List Move) : Type 0 where
@@ -44,7 +46,8 @@ record IsSplit (made : ℕ) (seats now : List SeatView) (moves then : List Move)
   quiet : (i : ℕ) → by_seat i then ≡ by_seat i moves
 
 -- seat 0 is there from the start
-first_split : (made : ℕ) (seats : List SeatView) (moves : List Move) → made ≡ 0 → seats ≡ new_seat ∷ [] → IsSplit made seats seats moves moves
+first_split : (made : ℕ) (seats : List SeatView) (moves : List Move) → made ≡ 0 → seats ≡ new_seat ∷ []
+    → IsSplit made seats seats moves moves
 first_split made seats moves none one = record {
   grown = ap (λ (k : ℕ). k + 1) none ∙ sym (ap length one);
   old = λ i below. absurd (omega (arith, below, none));
@@ -54,7 +57,8 @@ first_split made seats moves none one = record {
 }
 
 -- each later one is added
-later_split : (made : ℕ) (seats : List SeatView) (moves : List Move) → made ≡ length seats → IsSplit made seats (seats ++ new_seat ∷ []) moves (and_move moves Split 0)
+later_split : (made : ℕ) (seats : List SeatView) (moves : List Move) → made ≡ length seats
+    → IsSplit made seats (seats ++ new_seat ∷ []) moves (and_move moves Split 0)
 later_split made seats moves all = record {
   grown = let grown = length-append seats (new_seat ∷ []) in omega (arith, grown, all);
   old = λ i below. get_or_append_left seats (new_seat ∷ []) nobody i (omega (arith, below, all));
@@ -75,7 +79,9 @@ port_of_new made port owner i e = ap (λ (b : Bool). cond b port (owner i)) (eq-
 port_of_old : (made port : ℕ) (owner : ℕ → ℕ) (i : ℕ) → i < made → port_after made port owner i ≡ owner i
 port_of_old made port owner i less = ap (λ (b : Bool). cond b port (owner i)) (ne_eqb i made (λ e. omega (arith, e, less)))
 
-module _ {O D T N : Type 0} {note : D → N} {Ao : T → O → Type 0} {An : T → N → Type 0} {key : Key T} {s : State (Slot O D) (View T N)} (r : Runs note Ao An key s) (seats : List SeatView) (then : List Move) (split : IsSplit r.keeper.made r.machine.seats seats r.moves then) where
+module _ {O D T N : Type 0} {note : D → N} {Ao : T → O → Type 0} {An : T → N → Type 0} {key : Key T} {s : State (Slot O D) (View T N)}
+    (r : Runs note Ao An key s) (seats : List SeatView) (then : List Move)
+    (split : IsSplit r.keeper.made r.machine.seats seats r.moves then) where
   abbrev after_it : Machine
   after_it = record r.machine { seats = seats }
 
@@ -86,8 +92,10 @@ module _ {O D T N : Type 0} {note : D → N} {Ao : T → O → Type 0} {An : T �
   owner = port_after r.keeper.made (length s.views) r.owner
 
   -- the seats that were made before know what they knew
-  known : (memo : SeatMemo N) → IsSeatMemo r.machine r.moves r.fates r.keeper.fronts r.keeper.made memo → IsSeatMemo (record r.machine { seats = seats }) then r.fates r.keeper.fronts (r.keeper.made + 1) memo
-  known memo is = seat_stays is (split.old memo.number is.is_made) (split.quiet memo.number) refl (le_refl r.machine.word.claimed) (λ g stands. stands) (omega arith)
+  known : (memo : SeatMemo N) → IsSeatMemo r.machine r.moves r.fates r.keeper.fronts r.keeper.made memo
+      → IsSeatMemo (record r.machine { seats = seats }) then r.fates r.keeper.fronts (r.keeper.made + 1) memo
+  known memo is = seat_stays is (split.old memo.number is.is_made) (split.quiet memo.number) refl (le_refl r.machine.word.claimed)
+      (λ g stands. stands) (omega arith)
 
   -- and the new one knows of no call
   known_new : IsSeatMemo (record r.machine { seats = seats }) then r.fates r.keeper.fronts (r.keeper.made + 1) (new_memo r.keeper.made)
@@ -102,47 +110,70 @@ module _ {O D T N : Type 0} {note : D → N} {Ao : T → O → Type 0} {An : T �
   }
 
   -- each view but the keeper's plays on
-  still : (port : ℕ) (v : View T N) → IsViewAt key r.machine r.moves r.fates r.keeper s.views r.owner port v → IsViewAt key after_it then r.fates (makes r.keeper) views owner port v
-  still port (Sits its memo) p = (p.0, port_of_old r.keeper.made (length s.views) r.owner memo.number p.3.is_made ∙ p.1, p.2, known memo p.3)
+  still : (port : ℕ) (v : View T N) → IsViewAt key r.machine r.moves r.fates r.keeper s.views r.owner port v
+      → IsViewAt key after_it then r.fates (makes r.keeper) views owner port v
+  still port (Sits its memo) p = (
+    p.0,
+    port_of_old r.keeper.made (length s.views) r.owner memo.number p.3.is_made
+        ∙ p.1,
+    p.2,
+    known memo p.3,
+  )
   still port (Keeps its other) p = p
   still port Spent p = tt
 
-  still_there : (port : ℕ) (v : View T N) → get_elem? (set s.views 0 (Keeps key (makes r.keeper))) port ≡ some v → IsViewAt key after_it then r.fates (makes r.keeper) views owner port v
+  still_there : (port : ℕ) (v : View T N) → get_elem? (set s.views 0 (Keeps key (makes r.keeper))) port ≡ some v
+      → IsViewAt key after_it then r.fates (makes r.keeper) views owner port v
   still_there port v e = elim (at_set s.views 0 port (Keeps key (makes r.keeper)) v e) [
     | inl here ↦ subst (IsViewAt key after_it then r.fates (makes r.keeper) views owner port) here.1 here.0
     | inr there ↦ still port v (r.each_view port v there.1)
   ]
 
   -- each view, the new one too
-  each_after : (port : ℕ) (v : View T N) → get_elem? views port ≡ some v → IsViewAt key after_it then r.fates (makes r.keeper) views owner port v
+  each_after : (port : ℕ) (v : View T N) → get_elem? views port ≡ some v
+      → IsViewAt key after_it then r.fates (makes r.keeper) views owner port v
   each_after port v e = elim (at_end (set s.views 0 (Keeps key (makes r.keeper))) (Sits key (new_memo r.keeper.made)) v port e) [
     | inl before ↦ still_there port v before
-    | inr last ↦ subst (IsViewAt key after_it then r.fates (makes r.keeper) views owner port) last.1
-        (refl, port_of_new r.keeper.made (length s.views) r.owner r.keeper.made refl ∙ sym (last.0 ∙ length-set s.views 0 (Keeps key (makes r.keeper))), refl, known_new)
+    | inr last ↦ subst (IsViewAt key after_it then r.fates (makes r.keeper) views owner port) last.1 (
+      refl,
+      port_of_new r.keeper.made (length s.views) r.owner r.keeper.made refl
+          ∙ sym (last.0 ∙ length-set s.views 0 (Keeps key (makes r.keeper))),
+      refl,
+      known_new,
+    )
   ]
 
   -- each seat of before is where it was
-  somewhere : (i : ℕ) (back : Option (SeatMemo N)) → i < r.keeper.made → IsSomewhere key r.machine r.moves r.fates r.keeper s.views r.owner i back → IsSomewhere key after_it then r.fates (makes r.keeper) views owner i back
+  somewhere : (i : ℕ) (back : Option (SeatMemo N)) → i < r.keeper.made
+      → IsSomewhere key r.machine r.moves r.fates r.keeper s.views r.owner i back
+      → IsSomewhere key after_it then r.fates (makes r.keeper) views owner i back
   somewhere i None less p = (
     p.0,
     p.1,
     ap (get_elem? views) (port_of_old r.keeper.made (length s.views) r.owner i less)
-        ∙ at_longer (set s.views 0 (Keeps key (makes r.keeper))) (Sits key (new_memo r.keeper.made) ∷ []) (r.owner i) (Sits key p.0) (set_else s.views 0 (r.owner i) (Keeps key (makes r.keeper)) (not_first r (r.owner i) p.2) ∙ p.2),
+        ∙ at_longer (set s.views 0 (Keeps key (makes r.keeper))) (Sits key (new_memo r.keeper.made) ∷ []) (r.owner i) (Sits key p.0)
+        (set_else s.views 0 (r.owner i) (Keeps key (makes r.keeper)) (not_first r (r.owner i) p.2) ∙ p.2),
   )
   somewhere i (Some memo) less p = (p.0, p.1, known memo p.2)
 
   new_there : (i : ℕ) → i ≡ r.keeper.made → get_elem? views (owner i) ≡ some (Sits key (new_memo r.keeper.made))
-  new_there i e = at_last (set s.views 0 (Keeps key (makes r.keeper))) (Sits key (new_memo r.keeper.made)) (owner i) (length-set s.views 0 (Keeps key (makes r.keeper)) ∙ sym (port_of_new r.keeper.made (length s.views) r.owner i e))
+  new_there i e = at_last (set s.views 0 (Keeps key (makes r.keeper))) (Sits key (new_memo r.keeper.made)) (owner i)
+      (length-set s.views 0 (Keeps key (makes r.keeper)) ∙ sym (port_of_new r.keeper.made (length s.views) r.owner i e))
 
   -- each seat, the new one too
-  each_made : (i : ℕ) (back : Option (SeatMemo N)) → get_elem? (r.keeper.back ++ None ∷ []) i ≡ some back → IsSomewhere key after_it then r.fates (makes r.keeper) views owner i back
+  each_made : (i : ℕ) (back : Option (SeatMemo N)) → get_elem? (r.keeper.back ++ None ∷ []) i ≡ some back
+      → IsSomewhere key after_it then r.fates (makes r.keeper) views owner i back
   each_made i back e = elim (at_end r.keeper.back None back i e) [
-    | inl before ↦ let less = at_length r.keeper.back i back before in let all = r.knows.back_is in somewhere i back (omega (arith, less, all)) (r.each_seat i back before)
-    | inr last ↦ let here : i ≡ r.keeper.made = last.0 ∙ r.knows.back_is in subst (IsSomewhere key after_it then r.fates (makes r.keeper) views owner i) last.1 (new_memo r.keeper.made, sym here, new_there i here)
+    | inl before ↦ let less = at_length r.keeper.back i back before in let all = r.knows.back_is in somewhere i back
+        (omega (arith, less, all)) (r.each_seat i back before)
+    | inr last ↦ let here : i ≡ r.keeper.made = last.0
+        ∙ r.knows.back_is in subst (IsSomewhere key after_it then r.fates (makes r.keeper) views owner i) last.1
+        (new_memo r.keeper.made, sym here, new_there i here)
   ]
 
   -- the rule after the split
-  split_runs : Leads (opening key.positions key.limit) then after_it → (makes r.keeper).moves ≡ by_keeper then → Runs note Ao An key record { words = s.words; homes = s.homes; views = views }
+  split_runs : Leads (opening key.positions key.limit) then after_it → (makes r.keeper).moves ≡ by_keeper then
+      → Runs note Ao An key record { words = s.words; homes = s.homes; views = views }
   split_runs led moved = record {
     sizes = r.sizes;
     machine = after_it;
@@ -153,7 +184,9 @@ module _ {O D T N : Type 0} {note : D → N} {Ao : T → O → Type 0} {An : T �
     keeper = makes r.keeper;
     are_fates = fates_stay (omega arith) split.holders refl r.are_fates;
     are_slots = slots_stay refl refl refl r.are_slots;
-    keeper_there = at_longer (set s.views 0 (Keeps key (makes r.keeper))) (Sits key (new_memo r.keeper.made) ∷ []) 0 (Keeps key (makes r.keeper)) (set_here s.views 0 (Keeps key (makes r.keeper)) (at_length s.views 0 (Keeps key r.keeper) r.keeper_there));
+    keeper_there = at_longer (set s.views 0 (Keeps key (makes r.keeper))) (Sits key (new_memo r.keeper.made) ∷ []) 0
+        (Keeps key (makes r.keeper)) (set_here s.views 0 (Keeps key (makes r.keeper))
+        (at_length s.views 0 (Keeps key r.keeper) r.keeper_there));
     knows = record {
       moved = moved;
       noted = r.knows.noted;
@@ -167,22 +200,32 @@ module _ {O D T N : Type 0} {note : D → N} {Ao : T → O → Type 0} {An : T �
     each_seat = each_made;
   }
 
-module _ {O D T N : Type 0} {note : D → N} {Ao : T → O → Type 0} {An : T → N → Type 0} {key : Key T} {s : State (Slot O D) (View T N)} (r : Runs note Ao An key s) (room : r.keeper.made < key.limit) where
-  splits : Runs note Ao An key record { words = s.words; homes = s.homes; views = set s.views 0 (Keeps key (makes r.keeper)) ++ Sits key (new_memo r.keeper.made) ∷ [] }
+module _ {O D T N : Type 0} {note : D → N} {Ao : T → O → Type 0} {An : T → N → Type 0} {key : Key T} {s : State (Slot O D) (View T N)}
+    (r : Runs note Ao An key s) (room : r.keeper.made < key.limit) where
+  splits : Runs note Ao An key record {
+    words = s.words;
+    homes = s.homes;
+    views = set s.views 0 (Keeps key (makes r.keeper)) ++ Sits key (new_memo r.keeper.made) ∷ [];
+  }
   splits = elim r.knows.made_is [
     | inl all ↦
         let limit = (sizes_of r).limit_is in
         let positive = all.0 in
         let same = all.1 in
         split_runs r (r.machine.seats ++ new_seat ∷ []) (and_move r.moves Split 0) (later_split r.keeper.made r.machine.seats r.moves all.1)
-        (leads_on (opening key.positions key.limit) r.machine (record r.machine { seats = r.machine.seats ++ new_seat ∷ [] }) r.moves Split r.reached (split_next r.machine (omega (arith, room, same, limit))))
-        (ap (λ (b : Bool). cond b r.keeper.moves (and_move r.keeper.moves Split 0)) (ne_eqb r.keeper.made 0 (λ e. omega (arith, e, positive)))
+        (leads_on (opening key.positions key.limit) r.machine
+        (record r.machine { seats = r.machine.seats ++ new_seat ∷ [] }) r.moves Split r.reached
+        (split_next r.machine (omega (arith, room, same, limit))))
+        (ap (λ (b : Bool). cond b r.keeper.moves (and_move r.keeper.moves Split 0))
+        (ne_eqb r.keeper.made 0 (λ e. omega (arith, e, positive)))
         ∙ ap (λ (l : List Move). and_move l Split 0) r.knows.moved ∙ sym (by_keeper-own r.moves Split 0 refl))
     | inr first ↦ split_runs r r.machine.seats r.moves (first_split r.keeper.made r.machine.seats r.moves first.0 first.1) r.reached
         (ap (λ (b : Bool). cond b r.keeper.moves (and_move r.keeper.moves Split 0)) (eq-eqb r.keeper.made 0 first.0) ∙ r.knows.moved)
   ]
 
-module _ {O D T N : Type 0} {note : D → N} {Ao : T → O → Type 0} {An : T → N → Type 0} {key : Key T} {s : State (Slot O D) (View T N)} (r : Runs note Ao An key s) (other : ℕ) (memo : SeatMemo N) (at : get_elem? s.views other ≡ some (Sits key memo)) (idle : is_idle memo.view ≡ true) where
+module _ {O D T N : Type 0} {note : D → N} {Ao : T → O → Type 0} {An : T → N → Type 0} {key : Key T} {s : State (Slot O D) (View T N)}
+    (r : Runs note Ao An key s) (other : ℕ) (memo : SeatMemo N) (at : get_elem? s.views other ≡ some (Sits key memo))
+    (idle : is_idle memo.view ≡ true) where
   is : IsSeatMemo r.machine r.moves r.fates r.keeper.fronts r.keeper.made memo
   is = knows_it r other at
 
@@ -203,15 +246,19 @@ module _ {O D T N : Type 0} {note : D → N} {Ao : T → O → Type 0} {An : T �
   join_made = live_is_made r.machine.seats memo.number (idle_parts (seat_at r.machine.seats memo.number) join_idle).live
 
   -- each other seat that was made knows what it knew
-  join_known : (k : SeatMemo N) → k.number ≢ memo.number → IsSeatMemo r.machine r.moves r.fates r.keeper.fronts r.keeper.made k → IsSeatMemo after_join further r.fates r.keeper.fronts r.keeper.made k
-  join_known k apart was = seat_stays was (seat_at-else r.machine.seats memo.number (record (seat_at r.machine.seats memo.number) { live = false }) join_made k.number apart)
-      (by_seat-else r.moves (Join memo.number) 0 k.number refl) refl (le_refl r.machine.word.claimed) (λ g stands. stands) (le_refl r.keeper.made)
+  join_known : (k : SeatMemo N) → k.number ≢ memo.number → IsSeatMemo r.machine r.moves r.fates r.keeper.fronts r.keeper.made k
+      → IsSeatMemo after_join further r.fates r.keeper.fronts r.keeper.made k
+  join_known k apart was = seat_stays was (seat_at-else r.machine.seats memo.number
+      (record (seat_at r.machine.seats memo.number) { live = false }) join_made k.number apart)
+      (by_seat-else r.moves (Join memo.number) 0 k.number refl) refl (le_refl r.machine.word.claimed) (λ g stands. stands)
+      (le_refl r.keeper.made)
 
   -- and so does this one, but that it is not live any more
   join_ended : IsSeatMemo after_join further r.fates r.keeper.fronts r.keeper.made (ended memo)
   join_ended = record {
     is_made = is.is_made;
-    shows = ap (λ (v : SeatView). record v { live = false }) is.shows ∙ sym (seat_at-here r.machine.seats memo.number (record (seat_at r.machine.seats memo.number) { live = false }) join_made);
+    shows = ap (λ (v : SeatView). record v { live = false }) is.shows
+        ∙ sym (seat_at-here r.machine.seats memo.number (record (seat_at r.machine.seats memo.number) { live = false }) join_made);
     moved = is.moved ∙ sym (by_seat-else r.moves (Join memo.number) 0 memo.number refl);
     ordered = record { decided = is.ordered.decided; rises = is.ordered.rises; below_ticket = is.ordered.below_ticket };
     below_claims = is.below_claims;
@@ -220,31 +267,39 @@ module _ {O D T N : Type 0} {note : D → N} {Ao : T → O → Type 0} {An : T �
   }
 
   -- each other view plays on
-  join_still : (port : ℕ) (v : View T N) → port ≢ other → IsViewAt key r.machine r.moves r.fates r.keeper s.views r.owner port v → IsViewAt key after_join further r.fates (welcomes memo r.keeper) joined r.owner port v
+  join_still : (port : ℕ) (v : View T N) → port ≢ other → IsViewAt key r.machine r.moves r.fates r.keeper s.views r.owner port v
+      → IsViewAt key after_join further r.fates (welcomes memo r.keeper) joined r.owner port v
   join_still port (Sits its k) away p = (p.0, p.1, p.2, join_known k (λ e. away (sym p.1 ∙ ap r.owner e ∙ at_own_port r other at)) p.3)
   join_still port (Keeps its k) away p = p
   join_still port Spent away p = tt
 
-  join_still_there : (port : ℕ) (v : View T N) → port ≢ other → get_elem? (set s.views 0 (Keeps key (welcomes memo r.keeper))) port ≡ some v → IsViewAt key after_join further r.fates (welcomes memo r.keeper) joined r.owner port v
+  join_still_there : (port : ℕ) (v : View T N) → port ≢ other
+      → get_elem? (set s.views 0 (Keeps key (welcomes memo r.keeper))) port ≡ some v
+      → IsViewAt key after_join further r.fates (welcomes memo r.keeper) joined r.owner port v
   join_still_there port v away e = elim (at_set s.views 0 port (Keeps key (welcomes memo r.keeper)) v e) [
     | inl here ↦ subst (IsViewAt key after_join further r.fates (welcomes memo r.keeper) joined r.owner port) here.1 here.0
     | inr there ↦ join_still port v away (r.each_view port v there.1)
   ]
 
-  join_each : (port : ℕ) (v : View T N) → get_elem? joined port ≡ some v → IsViewAt key after_join further r.fates (welcomes memo r.keeper) joined r.owner port v
+  join_each : (port : ℕ) (v : View T N) → get_elem? joined port ≡ some v
+      → IsViewAt key after_join further r.fates (welcomes memo r.keeper) joined r.owner port v
   join_each port v e = elim (at_set (set s.views 0 (Keeps key (welcomes memo r.keeper))) other port Spent v e) [
     | inl here ↦ subst (IsViewAt key after_join further r.fates (welcomes memo r.keeper) joined r.owner port) here.1 tt
     | inr there ↦ join_still_there port v there.0 there.1
   ]
 
   -- a seat of another number sits elsewhere
-  elsewhere : (i : ℕ) (k : SeatMemo N) → i ≢ memo.number → k.number ≡ i → get_elem? s.views (r.owner i) ≡ some (Sits key k) → r.owner i ≢ other
+  elsewhere : (i : ℕ) (k : SeatMemo N) → i ≢ memo.number → k.number ≡ i → get_elem? s.views (r.owner i) ≡ some (Sits key k)
+      → r.owner i ≢ other
   elsewhere i k apart its_number there e =
-      let one : memo ≡ k = one_memo key key memo k (some-injective (Sits key memo) (Sits key k) (sym at ∙ ap (get_elem? s.views) (sym e) ∙ there)) in
+      let one : memo ≡ k = one_memo key key memo k (some-injective (Sits key memo) (Sits key k)
+      (sym at ∙ ap (get_elem? s.views) (sym e) ∙ there)) in
       apart (sym its_number ∙ sym (ap (λ (h : SeatMemo N). h.number) one))
 
   -- each other seat is where it was
-  join_somewhere : (i : ℕ) (back : Option (SeatMemo N)) → i ≢ memo.number → IsSomewhere key r.machine r.moves r.fates r.keeper s.views r.owner i back → IsSomewhere key after_join further r.fates (welcomes memo r.keeper) joined r.owner i back
+  join_somewhere : (i : ℕ) (back : Option (SeatMemo N)) → i ≢ memo.number
+      → IsSomewhere key r.machine r.moves r.fates r.keeper s.views r.owner i back
+      → IsSomewhere key after_join further r.fates (welcomes memo r.keeper) joined r.owner i back
   join_somewhere i None apart p = (
     p.0,
     p.1,
@@ -254,9 +309,11 @@ module _ {O D T N : Type 0} {note : D → N} {Ao : T → O → Type 0} {An : T �
   join_somewhere i (Some k) apart p = (p.0, p.1, join_known k (λ e. apart (sym p.0 ∙ e)) p.2)
 
   -- and this one came back
-  join_each_made : (i : ℕ) (back : Option (SeatMemo N)) → get_elem? (welcomes memo r.keeper).back i ≡ some back → IsSomewhere key after_join further r.fates (welcomes memo r.keeper) joined r.owner i back
+  join_each_made : (i : ℕ) (back : Option (SeatMemo N)) → get_elem? (welcomes memo r.keeper).back i ≡ some back
+      → IsSomewhere key after_join further r.fates (welcomes memo r.keeper) joined r.owner i back
   join_each_made i back e = elim (at_set r.keeper.back memo.number i (Some (ended memo)) back e) [
-    | inl here ↦ subst (IsSomewhere key after_join further r.fates (welcomes memo r.keeper) joined r.owner i) here.1 (sym here.0, refl, join_ended)
+    | inl here ↦ subst (IsSomewhere key after_join further r.fates (welcomes memo r.keeper) joined r.owner i) here.1
+        (sym here.0, refl, join_ended)
     | inr there ↦ join_somewhere i back there.0 (r.each_seat i back there.1)
   ]
 
@@ -266,11 +323,13 @@ module _ {O D T N : Type 0} {note : D → N} {Ao : T → O → Type 0} {An : T �
     sizes = r.sizes;
     machine = after_join;
     moves = further;
-    reached = leads_on (opening key.positions key.limit) r.machine after_join r.moves (Join memo.number) r.reached (join_next r.machine memo.number join_idle);
+    reached = leads_on (opening key.positions key.limit) r.machine after_join r.moves (Join memo.number) r.reached
+        (join_next r.machine memo.number join_idle);
     words_are = r.words_are;
     fates = r.fates;
     keeper = welcomes memo r.keeper;
-    are_fates = fates_stay (le_refl r.keeper.made) (holders_stay r.machine.seats memo.number (record (seat_at r.machine.seats memo.number) { live = false }) join_made refl) refl r.are_fates;
+    are_fates = fates_stay (le_refl r.keeper.made) (holders_stay r.machine.seats memo.number
+        (record (seat_at r.machine.seats memo.number) { live = false }) join_made refl) refl r.are_fates;
     are_slots = slots_stay refl refl refl r.are_slots;
     keeper_there = set_else (set s.views 0 (Keeps key (welcomes memo r.keeper))) other 0 Spent (λ e. not_first r other at (sym e))
         ∙ set_here s.views 0 (Keeps key (welcomes memo r.keeper)) (at_length s.views 0 (Keeps key r.keeper) r.keeper_there);
@@ -279,7 +338,11 @@ module _ {O D T N : Type 0} {note : D → N} {Ao : T → O → Type 0} {An : T �
       noted = r.knows.noted;
       counted = r.knows.counted;
       made_is = elim r.knows.made_is [
-        | inl all ↦ inl (all.0, all.1 ∙ sym (length-set r.machine.seats memo.number (record (seat_at r.machine.seats memo.number) { live = false })))
+        | inl all ↦ inl (
+          all.0,
+          all.1 ∙ sym (length-set r.machine.seats memo.number
+              (record (seat_at r.machine.seats memo.number) { live = false })),
+        )
         | inr none ↦ (let made = is.is_made in let zero_made = none.0 in absurd (omega (arith, made, zero_made)))
       ];
       back_is = length-set r.keeper.back memo.number (Some (ended memo)) ∙ r.knows.back_is;
@@ -292,17 +355,36 @@ module _ {O D T N : Type 0} {note : D → N} {Ao : T → O → Type 0} {An : T �
 
 module _ {O D T N : Type 0} (note : D → N) (Ao : T → O → Type 0) (An : T → N → Type 0) (key : Key T) where
   -- the keeper may make one more seat where fewer were made than may be
-  pub splits_allowed : (id : ℕ) (v : View T N) (k : KeeperMemo N) → v ≡ Keeps key k → k.made < key.limit → Splits (Runs note Ao An key) id v (split_left v) (split_right v)
+  pub splits_allowed : (id : ℕ) (v : View T N) (k : KeeperMemo N) → v ≡ Keeps key k → k.made < key.limit
+      → Splits (Runs note Ao An key) id v (split_left v) (split_right v)
   splits_allowed id v k is room s r at =
       let p = keeper_port r (at ∙ ap some is) in
-      subst (λ (w : View T N). Runs note Ao An key record { words = s.words; homes = s.homes; views = set s.views id (split_left w) ++ split_right w ∷ [] }) (sym is)
-      (subst₂ (λ (j : ℕ) (h : KeeperMemo N). Runs note Ao An key record { words = s.words; homes = s.homes; views = set s.views j (Keeps key (makes h)) ++ Sits key (new_memo h.made) ∷ [] }) (sym p.0) (sym p.1)
+      subst (λ (w : View T N). Runs note Ao An key record {
+        words = s.words;
+        homes = s.homes;
+        views = set s.views id (split_left w) ++ split_right w ∷ [];
+      }) (sym is)
+      (subst₂ (λ (j : ℕ) (h : KeeperMemo N). Runs note Ao An key record {
+        words = s.words;
+        homes = s.homes;
+        views = set s.views j (Keeps key (makes h)) ++ Sits key (new_memo h.made) ∷ [];
+      }) (sym p.0) (sym p.1)
       (splits r (subst (λ (h : KeeperMemo N). h.made < key.limit) p.1 room)))
 
   -- the keeper may take an idle seat back
-  pub joins_allowed : (id other : ℕ) (v w : View T N) (k : KeeperMemo N) (memo : SeatMemo N) → v ≡ Keeps key k → w ≡ Sits key memo → is_idle memo.view ≡ true → Joins (Runs note Ao An key) id v other w (join_both v w) join_spent
+  pub joins_allowed : (id other : ℕ) (v w : View T N) (k : KeeperMemo N) (memo : SeatMemo N) → v ≡ Keeps key k → w ≡ Sits key memo
+      → is_idle memo.view ≡ true → Joins (Runs note Ao An key) id v other w (join_both v w) join_spent
   joins_allowed id other v w k memo keeps sits idle s r at apart at_other =
       let p = keeper_port r (at ∙ ap some keeps) in
-      let there : get_elem? s.views other ≡ some (Sits key memo) = sym (set_else s.views id other (join_both v w) apart) ∙ at_other ∙ ap some sits in
-      subst₂ (λ (x y : View T N). Runs note Ao An key record { words = s.words; homes = s.homes; views = set (set s.views id (join_both x y)) other Spent }) (sym keeps) (sym sits)
-      (subst₂ (λ (j : ℕ) (h : KeeperMemo N). Runs note Ao An key record { words = s.words; homes = s.homes; views = set (set s.views j (Keeps key (welcomes memo h))) other Spent }) (sym p.0) (sym p.1) (joins r other memo there idle))
+      let there : get_elem? s.views other ≡ some (Sits key memo) = sym (set_else s.views id other (join_both v w) apart) ∙ at_other
+      ∙ ap some sits in
+      subst₂ (λ (x y : View T N). Runs note Ao An key record {
+        words = s.words;
+        homes = s.homes;
+        views = set (set s.views id (join_both x y)) other Spent;
+      }) (sym keeps) (sym sits)
+      (subst₂ (λ (j : ℕ) (h : KeeperMemo N). Runs note Ao An key record {
+        words = s.words;
+        homes = s.homes;
+        views = set (set s.views j (Keeps key (welcomes memo h))) other Spent;
+      }) (sym p.0) (sym p.1) (joins r other memo there idle))

@@ -14,7 +14,8 @@ use Rattle.std.proofs.lemmas.Option.{none-some, same_Some}
 
 module _ {N : Type 0} where
   -- a call that does not stand before the last one's end
-  pub rises_on : (low : ℕ) (log : List (Outcome N)) (x : Outcome N) → RisesFrom low log → end_from low log ≤ start_of x → RisesFrom low (log ++ x ∷ [])
+  pub rises_on : (low : ℕ) (log : List (Outcome N)) (x : Outcome N) → RisesFrom low log → end_from low log ≤ start_of x
+      → RisesFrom low (log ++ x ∷ [])
   rises_on low [] x rises after = (after, tt)
   rises_on low (r ∷ log) x rises after = (rises.0, rises_on (end_of r) log x rises.1 after)
 
@@ -65,16 +66,19 @@ module _ {N : Type 0} (word : PermitWord) (log : List (Outcome N)) (fronts : Lis
     pub got : got_of after ≡ got_of log
     pub at_front : (j g : ℕ) → get_elem? after j ≡ some (Lost g) → StandsIn fronts g
 
-  module _ (rises : RisesFrom 0 log) (below : end_from 0 log ≤ word.claimed) (at_front : (j g : ℕ) → get_elem? log j ≡ some (Lost g) → StandsIn fronts g) where
+  module _ (rises : RisesFrom 0 log) (below : end_from 0 log ≤ word.claimed)
+      (at_front : (j g : ℕ) → get_elem? log j ≡ some (Lost g) → StandsIn fronts g) where
     pub one_lost : StandsIn fronts word.claimed → IsOrderly (log ++ Lost word.claimed ∷ [])
     one_lost full = record {
       rises = rises_on 0 log (Lost word.claimed) rises below;
       below = subst (λ (k : ℕ). k ≤ word.claimed) (sym (end_on 0 log (Lost word.claimed))) (le_refl word.claimed);
       got = got_of-lost log word.claimed;
-      at_front = λ j g e. elim (at_snoc log (Lost word.claimed) (Lost g) j e) [ inl old ↦ at_front j g old | inr new ↦ subst (StandsIn fronts) (one_loss word.claimed g new) full ];
+      at_front = λ j g e. elim (at_snoc log (Lost word.claimed)
+          (Lost g) j e) [ inl old ↦ at_front j g old | inr new ↦ subst (StandsIn fronts) (one_loss word.claimed g new) full ];
     }
 
-    orderly_by : (b : Bool) → nat_lt 0 word.free ≡ b → (word.free ≡ 0 → StandsIn fronts word.claimed) → IsOrderly (cond b log (log ++ Lost word.claimed ∷ []))
+    orderly_by : (b : Bool) → nat_lt 0 word.free ≡ b → (word.free ≡ 0 → StandsIn fronts word.claimed)
+        → IsOrderly (cond b log (log ++ Lost word.claimed ∷ []))
     orderly_by true e full = record { rises = rises; below = below; got = refl; at_front = at_front }
     orderly_by false e full = let none = ltb-false 0 word.free e in one_lost (full (omega (arith, none)))
 
@@ -82,18 +86,21 @@ module _ {N : Type 0} (word : PermitWord) (log : List (Outcome N)) (fronts : Lis
     orderly full = orderly_by (nat_lt 0 word.free) refl full
 
 -- a list with or without one more element in front
-behind : {A : Type 0} (b : Bool) (x a : A) (l : List A) (k : ℕ) → get_elem? l k ≡ some a → (j : ℕ) × (get_elem? (cond b (x ∷ l) l) j ≡ some a)
+behind : {A : Type 0} (b : Bool) (x a : A) (l : List A) (k : ℕ) → get_elem? l k ≡ some a → (j : ℕ)
+    × (get_elem? (cond b (x ∷ l) l) j ≡ some a)
 behind true x a l k e = (suc k, e)
 behind false x a l k e = (k, e)
 
-first_or_behind : {A : Type 0} (b : Bool) (x a : A) (l : List A) (k : ℕ) → get_elem? (cond b (x ∷ l) l) k ≡ some a → ((b ≡ true) × (x ≡ a)) ⊎ ((j : ℕ) × (get_elem? l j ≡ some a))
+first_or_behind : {A : Type 0} (b : Bool) (x a : A) (l : List A) (k : ℕ) → get_elem? (cond b (x ∷ l) l) k ≡ some a
+    → ((b ≡ true) × (x ≡ a)) ⊎ ((j : ℕ) × (get_elem? l j ≡ some a))
 first_or_behind true x a l zero e = inl (refl, some-injective x a e)
 first_or_behind true x a l (suc k) e = inr (k, e)
 first_or_behind false x a l k e = inr (k, e)
 
 module _ {N : Type 0} where
   -- a call that got a ticket is among those that did
-  pub got_in : (log : List (Outcome N)) (j t : ℕ) (x : N) → get_elem? log j ≡ some (Got t x) → (k : ℕ) × (get_elem? (got_of log) k ≡ some (t, x))
+  pub got_in : (log : List (Outcome N)) (j t : ℕ) (x : N) → get_elem? log j ≡ some (Got t x) → (k : ℕ)
+      × (get_elem? (got_of log) k ≡ some (t, x))
   got_in [] j t x e = absurd (some-ne-none (Got t x) (sym e))
   got_in (Lost g ∷ log) zero t x e = let no = some-injective (Lost g) (Got t x) e in absurd cc
   got_in (Lost g ∷ log) (suc j) t x e = got_in log j t x e
@@ -105,30 +112,37 @@ module _ {N : Type 0} where
   got_in (Got u y ∷ log) (suc j) t x e = let rest = got_in log j t x e in (suc rest.0, rest.1)
 
   -- and stands in the log
-  pub got_from : (log : List (Outcome N)) (k t : ℕ) (x : N) → get_elem? (got_of log) k ≡ some (t, x) → (j : ℕ) × (get_elem? log j ≡ some (Got t x))
+  pub got_from : (log : List (Outcome N)) (k t : ℕ) (x : N) → get_elem? (got_of log) k ≡ some (t, x) → (j : ℕ)
+      × (get_elem? log j ≡ some (Got t x))
   got_from [] k t x e = absurd (some-ne-none (t, x) (sym e))
   got_from (Lost g ∷ log) k t x e = let rest = got_from log k t x e in (suc rest.0, rest.1)
   got_from (Got u y ∷ log) zero t x e = (0, ap (λ (p : ℕ × N). some (Got p.0 p.1)) (some-injective (u, y) (t, x) e))
   got_from (Got u y ∷ log) (suc k) t x e = let rest = got_from log k t x e in (suc rest.0, rest.1)
 
   -- a ticket that the seat finished is among those that it took
-  pub taken_in : (i from : ℕ) (fates : List (Option (ℕ × N))) (u t : ℕ) (x : N) → t ≡ from + u → get_elem? fates u ≡ some (Some (i, x)) → (k : ℕ) × (get_elem? (taken_by i from fates) k ≡ some (t, x))
+  pub taken_in : (i from : ℕ) (fates : List (Option (ℕ × N))) (u t : ℕ) (x : N) → t ≡ from + u → get_elem? fates u ≡ some (Some (i, x))
+      → (k : ℕ) × (get_elem? (taken_by i from fates) k ≡ some (t, x))
   taken_in i from [] u t x is e = absurd (some-ne-none (Some (i, x)) (sym e))
   taken_in i from (None ∷ fates) zero t x is e = absurd (none-some (i, x) (some-injective None (Some (i, x)) e))
   taken_in i from (None ∷ fates) (suc u) t x is e = taken_in i (suc from) fates u t x (omega (arith, is)) e
   taken_in i from (Some y ∷ fates) zero t x is e =
       let same = same_Some y (i, x) (some-injective (Some y) (Some (i, x)) e) in
       let own : i ≡ y.0 = sym (ap (λ (p : ℕ × N). p.0) same) in
-      let here : from ≡ t = omega (arith, is) in
-      (0, ap (λ (b : Bool). get_elem? (cond b ((from, y.1) ∷ taken_by i (suc from) fates) (taken_by i (suc from) fates)) 0) (eq-eqb i y.0 own) ∙ (λ k. some (here k, (same k).1)))
+      let here : from ≡ t = omega (arith, is) in (
+        0,
+        ap (λ (b : Bool). get_elem? (cond b ((from, y.1) ∷ taken_by i (suc from) fates) (taken_by i (suc from) fates)) 0)
+            (eq-eqb i y.0 own) ∙ (λ k. some (here k, (same k).1)),
+      )
   taken_in i from (Some y ∷ fates) (suc u) t x is e =
       let rest = taken_in i (suc from) fates u t x (omega (arith, is)) e in
       behind (eqb i y.0) (from, y.1) (t, x) (taken_by i (suc from) fates) rest.0 rest.1
 
   -- and what it took it finished
-  pub taken_from : (i from : ℕ) (fates : List (Option (ℕ × N))) (k t : ℕ) (x : N) → get_elem? (taken_by i from fates) k ≡ some (t, x) → (u : ℕ) × (t ≡ from + u) × (get_elem? fates u ≡ some (Some (i, x)))
+  pub taken_from : (i from : ℕ) (fates : List (Option (ℕ × N))) (k t : ℕ) (x : N) → get_elem? (taken_by i from fates) k ≡ some (t, x)
+      → (u : ℕ) × (t ≡ from + u) × (get_elem? fates u ≡ some (Some (i, x)))
   taken_from i from [] k t x e = absurd (some-ne-none (t, x) (sym e))
-  taken_from i from (None ∷ fates) k t x e = let rest = taken_from i (suc from) fates k t x e in let is = rest.1 in (suc rest.0, omega (arith, is), rest.2)
+  taken_from i from (None ∷ fates) k t x e = let rest = taken_from i
+      (suc from) fates k t x e in let is = rest.1 in (suc rest.0, omega (arith, is), rest.2)
   taken_from i from (Some y ∷ fates) k t x e = elim (first_or_behind (eqb i y.0) (from, y.1) (t, x) (taken_by i (suc from) fates) k e) [
     | inl here ↦
         let own : y.0 ≡ i = sym (eqb-true i y.0 here.0) in
@@ -154,10 +168,12 @@ module _ {N : Type 0} where
       omega (arith, first, own, rest)
 
   -- nor before the end of one before it
-  pub rises_apart : (low : ℕ) (log : List (Outcome N)) (j l : ℕ) (a b : Outcome N) → RisesFrom low log → j < l → get_elem? log j ≡ some a → get_elem? log l ≡ some b → end_of a ≤ start_of b
+  pub rises_apart : (low : ℕ) (log : List (Outcome N)) (j l : ℕ) (a b : Outcome N) → RisesFrom low log → j < l → get_elem? log j ≡ some a
+      → get_elem? log l ≡ some b → end_of a ≤ start_of b
   rises_apart low [] j l a b rises less ea eb = absurd (some-ne-none b (sym eb))
   rises_apart low (r ∷ log) j zero a b rises less ea eb = absurd (omega (arith, less))
-  rises_apart low (r ∷ log) zero (suc l) a b rises less ea eb = subst (λ (o : Outcome N). end_of o ≤ start_of b) (some-injective r a ea) (above_low (end_of r) log l b rises.1 eb)
+  rises_apart low (r ∷ log) zero (suc l) a b rises less ea eb = subst (λ (o : Outcome N). end_of o ≤ start_of b) (some-injective r a ea)
+      (above_low (end_of r) log l b rises.1 eb)
   rises_apart low (r ∷ log) (suc j) (suc l) a b rises less ea eb = rises_apart (end_of r) log j l a b rises.1 (omega (arith, less)) ea eb
 
   -- the end of the last is above where the log begins
@@ -170,16 +186,19 @@ module _ {N : Type 0} where
       omega (arith, first, own, rest)
 
   -- and above that of each
-  pub within_end : (low : ℕ) (log : List (Outcome N)) (j : ℕ) (a : Outcome N) → RisesFrom low log → get_elem? log j ≡ some a → end_of a ≤ end_from low log
+  pub within_end : (low : ℕ) (log : List (Outcome N)) (j : ℕ) (a : Outcome N) → RisesFrom low log → get_elem? log j ≡ some a
+      → end_of a ≤ end_from low log
   within_end low [] j a rises e = absurd (some-ne-none a (sym e))
-  within_end low (r ∷ log) zero a rises e = subst (λ (o : Outcome N). end_of o ≤ end_from (end_of r) log) (some-injective r a e) (low_to_end (end_of r) log rises.1)
+  within_end low (r ∷ log) zero a rises e = subst (λ (o : Outcome N). end_of o ≤ end_from (end_of r) log) (some-injective r a e)
+      (low_to_end (end_of r) log rises.1)
   within_end low (r ∷ log) (suc j) a rises e = within_end (end_of r) log j a rises.1 e
 
 abbrev Fates : Type 0 → Type 0
 Fates N = List (Option (ℕ × N))
 
 -- an open fate is not decided
-pub open_undecided : {A N : Type 0} (fates : Fates N) (t : ℕ) (x : ℕ × N) → get_elem? fates t ≡ some None → get_elem? fates t ≡ some (Some x) → A
+pub open_undecided : {A N : Type 0} (fates : Fates N) (t : ℕ) (x : ℕ × N) → get_elem? fates t ≡ some None
+    → get_elem? fates t ≡ some (Some x) → A
 open_undecided fates t x is_open done = absurd (none-some x (some-injective None (Some x) (sym is_open ∙ done)))
 
 -- the tickets with the first one, where it is the seat's
@@ -199,15 +218,18 @@ module _ {N : Type 0} where
   taken-open i f (Some x ∷ fates) = ap (and_own i f x) (taken-open i (suc f) fates)
 
   -- one that another seat finishes is none of this seat's
-  pub taken-else : (i j f : ℕ) (x : N) (fates : Fates N) (t : ℕ) → i ≢ j → get_elem? fates t ≡ some None → taken_by i f (set fates t (Some (j, x))) ≡ taken_by i f fates
+  pub taken-else : (i j f : ℕ) (x : N) (fates : Fates N) (t : ℕ) → i ≢ j → get_elem? fates t ≡ some None
+      → taken_by i f (set fates t (Some (j, x))) ≡ taken_by i f fates
   taken-else i j f x [] t other e = refl
-  taken-else i j f x (None ∷ fates) zero other e = ap (λ (b : Bool). cond b ((f, x) ∷ taken_by i (suc f) fates) (taken_by i (suc f) fates)) (ne_eqb i j other)
+  taken-else i j f x (None ∷ fates) zero other e = ap (λ (b : Bool). cond b ((f, x) ∷ taken_by i (suc f) fates)
+      (taken_by i (suc f) fates)) (ne_eqb i j other)
   taken-else i j f x (Some y ∷ fates) zero other e = open_undecided (Some y ∷ fates) zero y e refl
   taken-else i j f x (None ∷ fates) (suc t) other e = taken-else i j (suc f) x fates t other e
   taken-else i j f x (Some y ∷ fates) (suc t) other e = ap (and_own i f y) (taken-else i j (suc f) x fates t other e)
 
   -- where all tickets of a seat are below the first one, there is none
-  below_own : (i f b : ℕ) (x : ℕ × N) (rest : List (ℕ × N)) (own : Bool) → b ≤ f → rest ≡ [] → AllBelow b (cond own ((f, x.1) ∷ rest) rest) → cond own ((f, x.1) ∷ rest) rest ≡ []
+  below_own : (i f b : ℕ) (x : ℕ × N) (rest : List (ℕ × N)) (own : Bool) → b ≤ f → rest ≡ []
+      → AllBelow b (cond own ((f, x.1) ∷ rest) rest) → cond own ((f, x.1) ∷ rest) rest ≡ []
   below_own i f b x rest true past none below = absurd (omega (arith, past, below.0))
   below_own i f b x rest false past none below = none
 
@@ -218,22 +240,29 @@ module _ {N : Type 0} where
   none_from : (i f b : ℕ) (fates : Fates N) → b ≤ f → AllBelow b (taken_by i f fates) → taken_by i f fates ≡ []
   none_from i f b [] past below = refl
   none_from i f b (None ∷ fates) past below = none_from i (suc f) b fates (omega (arith, past)) below
-  none_from i f b (Some x ∷ fates) past below = below_own i f b x (taken_by i (suc f) fates) (eqb i x.0) past (none_from i (suc f) b fates (omega (arith, past)) (rest_below f b x (taken_by i (suc f) fates) (eqb i x.0) below)) below
+  none_from i f b (Some x ∷ fates) past below = below_own i f b x (taken_by i (suc f) fates) (eqb i x.0) past
+      (none_from i (suc f) b fates (omega (arith, past)) (rest_below f b x (taken_by i (suc f) fates) (eqb i x.0) below)) below
 
-  own_more : (f : ℕ) (y : ℕ × N) (rest more last : List (ℕ × N)) (own : Bool) → more ≡ rest ++ last → cond own ((f, y.1) ∷ more) more ≡ cond own ((f, y.1) ∷ rest) rest ++ last
+  own_more : (f : ℕ) (y : ℕ × N) (rest more last : List (ℕ × N)) (own : Bool) → more ≡ rest ++ last
+      → cond own ((f, y.1) ∷ more) more ≡ cond own ((f, y.1) ∷ rest) rest ++ last
   own_more f y rest more last true e = ap (λ (l : List (ℕ × N)). (f, y.1) ∷ l) e
   own_more f y rest more last false e = e
 
   -- one that the seat finishes itself comes last, where all that it got before are below it
-  taken-own_from : (i f b : ℕ) (x : N) (fates : Fates N) (t : ℕ) → b ≡ f + t → get_elem? fates t ≡ some None → AllBelow b (taken_by i f fates) → taken_by i f (set fates t (Some (i, x))) ≡ taken_by i f fates ++ (b, x) ∷ []
+  taken-own_from : (i f b : ℕ) (x : N) (fates : Fates N) (t : ℕ) → b ≡ f + t → get_elem? fates t ≡ some None
+      → AllBelow b (taken_by i f fates) → taken_by i f (set fates t (Some (i, x))) ≡ taken_by i f fates ++ (b, x) ∷ []
   taken-own_from i f b x [] t is e below = absurd (some-ne-none None (sym e))
   taken-own_from i f b x (None ∷ fates) zero is e below =
       let none = none_from i (suc f) b fates (omega (arith, is)) below in
       let here : b ≡ f = omega (arith, is) in
-      ap (λ (own : Bool). cond own ((f, x) ∷ taken_by i (suc f) fates) (taken_by i (suc f) fates)) (eq-eqb i i refl) ∙ ap (λ (l : List (ℕ × N)). (f, x) ∷ l) none ∙ ap (λ (k : ℕ). (k, x) ∷ []) (sym here) ∙ ap (λ (l : List (ℕ × N)). l ++ (b, x) ∷ []) (sym none)
+      ap (λ (own : Bool). cond own ((f, x) ∷ taken_by i (suc f) fates) (taken_by i (suc f) fates)) (eq-eqb i i refl)
+      ∙ ap (λ (l : List (ℕ × N)). (f, x) ∷ l) none ∙ ap (λ (k : ℕ). (k, x) ∷ []) (sym here)
+      ∙ ap (λ (l : List (ℕ × N)). l ++ (b, x) ∷ []) (sym none)
   taken-own_from i f b x (Some y ∷ fates) zero is e below = open_undecided (Some y ∷ fates) zero y e refl
   taken-own_from i f b x (None ∷ fates) (suc t) is e below = taken-own_from i (suc f) b x fates t (omega (arith, is)) e below
-  taken-own_from i f b x (Some y ∷ fates) (suc t) is e below = own_more f y (taken_by i (suc f) fates) (taken_by i (suc f) (set fates t (Some (i, x)))) ((b, x) ∷ []) (eqb i y.0) (taken-own_from i (suc f) b x fates t (omega (arith, is)) e (rest_below f b y (taken_by i (suc f) fates) (eqb i y.0) below))
+  taken-own_from i f b x (Some y ∷ fates) (suc t) is e below = own_more f y (taken_by i (suc f) fates)
+      (taken_by i (suc f) (set fates t (Some (i, x)))) ((b, x) ∷ []) (eqb i y.0)
+      (taken-own_from i (suc f) b x fates t (omega (arith, is)) e (rest_below f b y (taken_by i (suc f) fates) (eqb i y.0) below))
 
   below_more : (b c : ℕ) (got : List (ℕ × N)) → b ≤ c → AllBelow b got → AllBelow c got
   below_more b c [] le below = tt
@@ -245,6 +274,9 @@ module _ {N : Type 0} where
   got_below low (Got t x ∷ log) rises = (let up = low_to_end (t + 1) log rises.1 in omega (arith, up), got_below (t + 1) log rises.1)
 
   -- a ticket that a seat finishes comes last among its own
-  pub taken-own : (i t : ℕ) (x : N) (fates : Fates N) (log : List (Outcome N)) → RisesFrom 0 log → end_from 0 log ≤ t → got_of log ≡ taken_by i 0 fates → get_elem? fates t ≡ some None → taken_by i 0 (set fates t (Some (i, x))) ≡ taken_by i 0 fates ++ (t, x) ∷ []
+  pub taken-own : (i t : ℕ) (x : N) (fates : Fates N) (log : List (Outcome N)) → RisesFrom 0 log → end_from 0 log ≤ t
+      → got_of log ≡ taken_by i 0 fates → get_elem? fates t ≡ some None
+      → taken_by i 0 (set fates t (Some (i, x))) ≡ taken_by i 0 fates ++ (t, x) ∷ []
   taken-own i t x fates log rises after got is_open =
-      taken-own_from i 0 t x fates t (omega arith) is_open (subst (AllBelow t) got (below_more (end_from 0 log) t (got_of log) after (got_below 0 log rises)))
+      taken-own_from i 0 t x fates t (omega arith) is_open (subst (AllBelow t) got
+      (below_more (end_from 0 log) t (got_of log) after (got_below 0 log rises)))

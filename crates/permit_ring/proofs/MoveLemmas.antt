@@ -13,10 +13,12 @@ use Rattle.permit_ring.specs.Moves.{found_at, move, Leads, is_of_seat, is_of_kee
 use Rattle.permit_ring.specs.Steps.{and_move}
 
 -- one step more
-pub leads_on : (start m now : Machine) (moves : List Move) (step : Step) → Leads start moves m → next m step ≡ Some now → Leads start (and_move moves step (found_at m step)) now
+pub leads_on : (start m now : Machine) (moves : List Move) (step : Step) → Leads start moves m → next m step ≡ Some now
+    → Leads start (and_move moves step (found_at m step)) now
 leads_on start m now [] step led e =
     let is = step_of_next m now step e in
-    subst (λ (k : Machine). (possible k step ≡ true) × (found_at m step ≡ found_at k step) × (now ≡ after k step)) led (is.possible_here, refl, is.is_after)
+    subst (λ (k : Machine). (possible k step ≡ true) × (found_at m step ≡ found_at k step) × (now ≡ after k step)) led
+    (is.possible_here, refl, is.is_after)
 leads_on start m now (v ∷ vs) step led e = (led.0, led.1, leads_on (after start v.step) m now vs step led.2 e)
 
 -- moves lead from a ring to a ring
@@ -27,19 +29,24 @@ led_ring start m (v ∷ vs) r led = led_ring (after start v.step) m vs (after_ke
 -- and leave its sizes
 pub led_sizes : (start m : Machine) (moves : List Move) → Leads start moves m → HasSizes start.positions start.limit m
 led_sizes start m [] led = same_sizes start m led
-led_sizes start m (v ∷ vs) led = sizes_on start.positions start.limit (after start v.step) m (after_sizes start v.step) (led_sizes (after start v.step) m vs led.2)
+led_sizes start m (v ∷ vs) led = sizes_on start.positions start.limit (after start v.step) m (after_sizes start v.step)
+    (led_sizes (after start v.step) m vs led.2)
 
 module _ (moves : List Move) (step : Step) (found : ℕ) where
   -- a move of seat i stands last among its moves
   pub by_seat-own : (i : ℕ) → is_of_seat i step ≡ true → by_seat i (and_move moves step found) ≡ and_move (by_seat i moves) step found
-  by_seat-own i own = filter-append (λ (v : Move). is_of_seat i v.step) moves (move step found ∷ []) ∙ ap (λ (b : Bool). by_seat i moves ++ cond b (move step found ∷ []) []) own
+  by_seat-own i own = filter-append (λ (v : Move). is_of_seat i v.step) moves (move step found ∷ [])
+      ∙ ap (λ (b : Bool). by_seat i moves ++ cond b (move step found ∷ []) []) own
 
   -- and another's move leaves them alone
   pub by_seat-else : (i : ℕ) → is_of_seat i step ≡ false → by_seat i (and_move moves step found) ≡ by_seat i moves
-  by_seat-else i other = filter-append (λ (v : Move). is_of_seat i v.step) moves (move step found ∷ []) ∙ ap (λ (b : Bool). by_seat i moves ++ cond b (move step found ∷ []) []) other ∙ append-nil (by_seat i moves)
+  by_seat-else i other = filter-append (λ (v : Move). is_of_seat i v.step) moves (move step found ∷ [])
+      ∙ ap (λ (b : Bool). by_seat i moves ++ cond b (move step found ∷ []) []) other ∙ append-nil (by_seat i moves)
 
   pub by_keeper-own : is_of_keeper step ≡ true → by_keeper (and_move moves step found) ≡ and_move (by_keeper moves) step found
-  by_keeper-own own = filter-append (λ (v : Move). is_of_keeper v.step) moves (move step found ∷ []) ∙ ap (λ (b : Bool). by_keeper moves ++ cond b (move step found ∷ []) []) own
+  by_keeper-own own = filter-append (λ (v : Move). is_of_keeper v.step) moves (move step found ∷ [])
+      ∙ ap (λ (b : Bool). by_keeper moves ++ cond b (move step found ∷ []) []) own
 
   pub by_keeper-else : is_of_keeper step ≡ false → by_keeper (and_move moves step found) ≡ by_keeper moves
-  by_keeper-else other = filter-append (λ (v : Move). is_of_keeper v.step) moves (move step found ∷ []) ∙ ap (λ (b : Bool). by_keeper moves ++ cond b (move step found ∷ []) []) other ∙ append-nil (by_keeper moves)
+  by_keeper-else other = filter-append (λ (v : Move). is_of_keeper v.step) moves (move step found ∷ [])
+      ∙ ap (λ (b : Bool). by_keeper moves ++ cond b (move step found ∷ []) []) other ∙ append-nil (by_keeper moves)

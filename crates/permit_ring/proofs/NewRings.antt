@@ -44,7 +44,15 @@ module _ {N : Type 0} (n limit : ℕ) where
   first_keeper = record {
     moved = refl;
     noted = λ t x e. absurd (some-ne-none _ (sym e));
-    counted = record { reaped_is = refl; offered_is = refl; first_front = refl; last_front = ([], refl); seen_is = refl; swept0_is = refl; swept1_is = refl };
+    counted = record {
+      reaped_is = refl;
+      offered_is = refl;
+      first_front = refl;
+      last_front = ([], refl);
+      seen_is = refl;
+      swept0_is = refl;
+      swept1_is = refl;
+    };
     made_is = inr (refl, refl);
     back_is = refl;
     unmade_rest = λ i past. refl;
@@ -59,20 +67,28 @@ first_slots note Admits n limit ys long all = record {
     finished_home = λ i x e. absurd (some-ne-none _ (sym e));
     held_out = λ e. absurd (some-ne-none _ (sym e));
     offered_home = λ _ until.
-        let is = there ys t (omega (arith, until, long)) in
-        (is.0, all t is.0 is.1, ap (get_elem? (map some (map Offered ys))) (mod-eq_of_lt until) ∙ at_map some (map Offered ys) t (Offered is.0) (at_map Offered ys t is.0 is.1));
+        let is = there ys t (omega (arith, until, long)) in (
+          is.0,
+          all t is.0 is.1,
+          ap (get_elem? (map some (map Offered ys))) (mod-eq_of_lt until)
+              ∙ at_map some (map Offered ys) t (Offered is.0) (at_map Offered ys t is.0 is.1),
+        );
     vacant_out = λ from. absurd (omega (arith, from, below));
   };
 }
 
 module _ {O D T N : Type 0} (note : D → N) (Ao : T → O → Type 0) (An : T → N → Type 0) (key : Key T) where
   -- the keeper alone is there
-  only_keeper : (port : ℕ) (v : View T N) → get_elem? (first_view key ∷ []) port ≡ some v → IsViewAt key (opening key.positions key.limit) [] [] (first_memo key.positions) (first_view key ∷ []) (λ i. 0) port v
-  only_keeper zero v e = subst (IsViewAt key (opening key.positions key.limit) [] [] (first_memo key.positions) (first_view key ∷ []) (λ i. 0) 0) (some-injective (first_view key) v e) refl
+  only_keeper : (port : ℕ) (v : View T N) → get_elem? (first_view key ∷ []) port ≡ some v
+      → IsViewAt key (opening key.positions key.limit) [] [] (first_memo key.positions) (first_view key ∷ []) (λ i. 0) port v
+  only_keeper zero v e = subst (IsViewAt key (opening key.positions key.limit) [] [] (first_memo key.positions)
+      (first_view key ∷ []) (λ i. 0) 0) (some-injective (first_view key) v e) refl
   only_keeper (suc port) v e = absurd (some-ne-none v (sym e))
 
   -- a ring whose slots have admitted values, and whose words are those of the opening state, runs
-  pub opens_running : (words : List ℕ) (slots : List (Slot O D)) (ys : List O) → IsKey key → length ys ≡ key.positions → slots ≡ map Offered ys → AllAdmitted (Ao key.terms) ys → words ≡ packed key.limit (all_free key.positions) ∷ 0 ∷ 0 ∷ replicate key.positions 0
+  pub opens_running : (words : List ℕ) (slots : List (Slot O D)) (ys : List O) → IsKey key → length ys ≡ key.positions
+      → slots ≡ map Offered ys → AllAdmitted (Ao key.terms) ys
+      → words ≡ packed key.limit (all_free key.positions) ∷ 0 ∷ 0 ∷ replicate key.positions 0
       → Runs note Ao An key (table.opening words slots (first_view key))
   opens_running words slots ys sizes long are all told =
       let ring = opens key.positions key.limit sizes.some_position sizes.most_positions sizes.some_seat sizes.most_seats in
@@ -85,7 +101,8 @@ module _ {O D T N : Type 0} (note : D → N) (Ao : T → O → Type 0) (An : T �
         fates = [];
         keeper = first_memo key.positions;
         are_fates = first_fates key.positions key.limit (An key.terms) ring;
-        are_slots = subst (λ (xs : List (Slot O D)). AreSlots note (Ao key.terms) (opening key.positions key.limit) [] key.positions (map some xs)) (sym are) (first_slots note (Ao key.terms) key.positions key.limit ys long all);
+        are_slots = subst (λ (xs : List (Slot O D)). AreSlots note (Ao key.terms) (opening key.positions key.limit) [] key.positions
+            (map some xs)) (sym are) (first_slots note (Ao key.terms) key.positions key.limit ys long all);
         keeper_there = refl;
         knows = first_keeper key.positions key.limit;
         owner = λ i. 0;
@@ -107,7 +124,12 @@ pub fresh : {N : Type 0} (n made : ℕ) → IsFresh {N = N} n made (made_memo n 
 fresh n zero = record { no_notes = refl; offered_is = refl; seen_is = refl; made_is = refl }
 fresh {N = N} n (suc made) =
     let was : IsFresh {N = N} n made (made_memo n made) = fresh n made in
-    record { no_notes = was.no_notes; offered_is = was.offered_is; seen_is = was.seen_is; made_is = ap (λ (k : ℕ). k + 1) was.made_is ∙ one_more made }
+    record {
+      no_notes = was.no_notes;
+      offered_is = was.offered_is;
+      seen_is = was.seen_is;
+      made_is = ap (λ (k : ℕ). k + 1) was.made_is ∙ one_more made;
+    }
 
 -- the log of a seat that has just been made is in order
 pub new_ordered : {N : Type 0} (i : ℕ) → IsOrdered (new_memo {N = N} i)
@@ -118,17 +140,21 @@ module _ {F O D T N : Type 0} (Ao : T → O → Type 0) (ring : Ring F O D T N) 
   no_seats = record { all_made = refl; each = λ i seat e. absurd (some-ne-none seat (sym e)) }
 
   -- one seat more
-  pub one_seat_more : (made : ℕ) (seats : List (Seat F O D T N)) (seat : Seat F O D T N) → AreNewSeats Ao ring made seats → IsNewSeat Ao ring made seat → AreNewSeats Ao ring (made + 1) (seats ++ seat ∷ [])
+  pub one_seat_more : (made : ℕ) (seats : List (Seat F O D T N)) (seat : Seat F O D T N) → AreNewSeats Ao ring made seats
+      → IsNewSeat Ao ring made seat → AreNewSeats Ao ring (made + 1) (seats ++ seat ∷ [])
   one_seat_more made seats seat were is = record {
     all_made = length_push seats seat ∙ ap (λ (k : ℕ). k + 1) were.all_made;
     each = λ i other e. elim (at_end seats seat other i e) [
       | inl old ↦ were.each i other old
-      | inr last ↦ subst (λ (s : Seat F O D T N). IsNewSeat Ao ring i s) last.1 (subst (λ (k : ℕ). IsNewSeat Ao ring k seat) (sym (last.0 ∙ were.all_made)) is)
+      | inr last ↦ subst (λ (s : Seat F O D T N). IsNewSeat Ao ring i s) last.1
+          (subst (λ (k : ℕ). IsNewSeat Ao ring k seat) (sym (last.0 ∙ were.all_made)) is)
     ];
   }
 
   -- the token of a split is a new seat's
-  pub new_seat_is : (i : ℕ) (place : Token (Slot O D) (View T N)) → IsSitting ring place → place.me ≡ (Sits ring.table.shared.key (new_memo i), []) → IsNewSeat Ao ring i record { place = place; number = i; calls = 0; held = None }
+  pub new_seat_is : (i : ℕ) (place : Token (Slot O D) (View T N)) → IsSitting ring place
+      → place.me ≡ (Sits ring.table.shared.key (new_memo i), [])
+      → IsNewSeat Ao ring i record { place = place; number = i; calls = 0; held = None }
   new_seat_is i place sitting told =
       let now : seat_in place.me.0 ≡ new_memo i = ap (λ me. seat_in me.0) told in
       record {
@@ -148,7 +174,8 @@ module _ {F O D T N : Type 0} (Ao : T → O → Type 0) (ring : Ring F O D T N) 
       }
 
   -- and the keeper has no slot in hand
-  pub new_keeper_is : (n made : ℕ) (place : Token (Slot O D) (View T N)) → 1 ≤ n → n ≤ 1024 → ring.limit ≤ 32 → ring.positions ≡ n → IsKeeping ring place → place.me ≡ (Keeps ring.table.shared.key (made_memo n made), [])
+  pub new_keeper_is : (n made : ℕ) (place : Token (Slot O D) (View T N)) → 1 ≤ n → n ≤ 1024 → ring.limit ≤ 32 → ring.positions ≡ n
+      → IsKeeping ring place → place.me ≡ (Keeps ring.table.shared.key (made_memo n made), [])
       → IsKeeperOf Ao ring record { place = place; reaped = 0; seen = all_free n; filled = 0; vacant = 0; next = 0; vacancy = 0 }
   new_keeper_is n made place some_place most few positions keeping told =
       let now : keeper_in place.me.0 ≡ made_memo n made = ap (λ me. keeper_in me.0) told in
@@ -161,11 +188,21 @@ module _ {F O D T N : Type 0} (Ao : T → O → Type 0) (ring : Ring F O D T N) 
         reaped_within = omega arith;
         reaped_offered = omega arith;
         seen_is = sym (ap (λ (k : KeeperMemo N). k.seen) now ∙ is.seen_is);
-        seen_packs = record { packs = record { tries_fit = omega arith; free_fits = omega (arith, most, few); over_fits = omega arith; either = inr refl }; free_within = omega (arith, positions); few = omega arith };
+        seen_packs = record {
+          packs = record { tries_fit = omega arith; free_fits = omega (arith, most, few); over_fits = omega arith; either = inr refl };
+          free_within = omega (arith, positions);
+          few = omega arith;
+        };
         account = omega (arith, offered, positions);
         next_is = sym (ap (λ (k : ℕ). 0 % k) positions ∙ first);
-        vacancy_is = sym (ap₂ (λ (t k : ℕ). t % k) (let sum : (keeper_in place.me.0).offered + 0 ≡ 0 + n = omega (arith, offered) in sum) positions ∙ add-mod_right 0 n ∙ first);
-        in_hand = record { values = []; filled_are = refl; admitted = λ j y e. absurd (some-ne-none y (sym e)); in_hand = ap (λ me. me.1) told };
+        vacancy_is = sym (ap₂ (λ (t k : ℕ). t % k) (let sum :
+            (keeper_in place.me.0).offered + 0 ≡ 0 + n = omega (arith, offered) in sum) positions ∙ add-mod_right 0 n ∙ first);
+        in_hand = record {
+          values = [];
+          filled_are = refl;
+          admitted = λ j y e. absurd (some-ne-none y (sym e));
+          in_hand = ap (λ me. me.1) told;
+        };
       }
 
 -- one seat more is made

@@ -41,14 +41,16 @@ one_element : {A : Type 0} (l : List A) (i : ℕ) (a b : A) → get_elem? l i �
 one_element l i a b ea eb = some-injective a b (sym ea ∙ eb)
 
 -- a seat that holds a ticket is one that was made
-made_if_holds : (made : ℕ) (seats : List SeatView) (i t : ℕ) → ((1 ≤ made) × (made ≡ length seats)) ⊎ ((made ≡ 0) × (seats ≡ new_seat ∷ [])) → i < length seats → Holds (seat_at seats i) t → i < made
+made_if_holds : (made : ℕ) (seats : List SeatView) (i t : ℕ) → ((1 ≤ made) × (made ≡ length seats))
+    ⊎ ((made ≡ 0) × (seats ≡ new_seat ∷ [])) → i < length seats → Holds (seat_at seats i) t → i < made
 made_if_holds made seats i t (inl all) less h = let same = all.1 in omega (arith, same, less)
 made_if_holds made seats i t (inr first) less h =
     let one : length seats ≡ 1 = ap length first.1 in
     let at_zero : i ≡ 0 = omega (arith, one, less) in
     none_held (seat_at seats i).held t (ap (λ (v : SeatView). v.held) (ap₂ seat_at first.1 at_zero)) h
 
-module _ {O D T N : Type 0} {note : D → N} {Ao : T → O → Type 0} {An : T → N → Type 0} {key : Key T} {s : State (Slot O D) (View T N)} (r : Runs note Ao An key s) where
+module _ {O D T N : Type 0} {note : D → N} {Ao : T → O → Type 0} {An : T → N → Type 0} {key : Key T} {s : State (Slot O D) (View T N)}
+    (r : Runs note Ao An key s) where
   abbrev Known : SeatMemo N → Type 0
   Known memo = IsSeatMemo r.machine r.moves r.fates r.keeper.fronts r.keeper.made memo
 
@@ -66,25 +68,44 @@ module _ {O D T N : Type 0} {note : D → N} {Ao : T → O → Type 0} {An : T �
   memo_known memo (inr back) = (ended_known memo back).1
 
   -- a number has one port
-  pub one_port : (p q : ℕ) (its other : Key T) (a b : SeatMemo N) → get_elem? s.views p ≡ some (Sits its a) → get_elem? s.views q ≡ some (Sits other b) → a.number ≡ b.number → p ≡ q
+  pub one_port : (p q : ℕ) (its other : Key T) (a b : SeatMemo N) → get_elem? s.views p ≡ some (Sits its a)
+      → get_elem? s.views q ≡ some (Sits other b) → a.number ≡ b.number → p ≡ q
   one_port p q its other a b at_a at_b e = sym (at_own_port r _ at_a) ∙ ap r.owner e ∙ at_own_port r _ at_b
 
   -- a number has one memo
   one_each : (a b : SeatMemo N) → IsMemoThere s.views a → IsMemoThere s.views b → a.number ≡ b.number → a ≡ b
   one_each a b (inl x) (inl y) e =
       let same = one_port x.port y.port x.its_key y.its_key a b x.there y.there e in
-      one_memo x.its_key y.its_key a b (one_element s.views x.port (Sits x.its_key a) (Sits y.its_key b) x.there (ap (get_elem? s.views) same ∙ y.there))
+      one_memo x.its_key y.its_key a b (one_element s.views x.port (Sits x.its_key a) (Sits y.its_key b) x.there
+      (ap (get_elem? s.views) same ∙ y.there))
   one_each a b (inl x) (inr y) e = let was = ended_known b y in not_ended r _ x.there b was.0 (sym e) was.1
   one_each a b (inr x) (inl y) e = let was = ended_known a x in not_ended r _ y.there a was.0 e was.1
-  one_each a b (inr x) (inr y) e = same_Some a b (one_element r.keeper.back a.number (Some a) (Some b) (back_there a x) (ap (get_elem? r.keeper.back) e ∙ back_there b y))
+  one_each a b (inr x) (inr y) e = same_Some a b (one_element r.keeper.back a.number (Some a) (Some b) (back_there a x)
+      (ap (get_elem? r.keeper.back) e ∙ back_there b y))
 
   -- the memo of a seat by its number, and whether it is live
-  memo_from : (i : ℕ) (back : Option (SeatMemo N)) → get_elem? r.keeper.back i ≡ some back → IsSomewhere key r.machine r.moves r.fates r.keeper s.views r.owner i back → (memo : SeatMemo N) × (memo.number ≡ i) × (SitsThere s.views memo ⊎ ((memo.view.live ≡ false) × CameBack s.views memo))
+  memo_from : (i : ℕ) (back : Option (SeatMemo N)) → get_elem? r.keeper.back i ≡ some back
+      → IsSomewhere key r.machine r.moves r.fates r.keeper s.views r.owner i back → (memo : SeatMemo N) × (memo.number ≡ i)
+      × (SitsThere s.views memo ⊎ ((memo.view.live ≡ false) × CameBack s.views memo))
   memo_from i None e p = (p.0, p.1, inl (record { port = r.owner i; its_key = key; there = p.2 }))
-  memo_from i (Some memo) e p = (memo, p.0, inr (p.1, record { port = 0; its_key = key; keeper = r.keeper; there = r.keeper_there; back_at = ap (get_elem? r.keeper.back) p.0 ∙ e }))
+  memo_from i (Some memo) e p = (
+    memo,
+    p.0,
+    inr (
+      p.1,
+      record {
+        port = 0;
+        its_key = key;
+        keeper = r.keeper;
+        there = r.keeper_there;
+        back_at = ap (get_elem? r.keeper.back) p.0 ∙ e;
+      },
+    ),
+  )
 
   -- each seat that was made has a memo
-  memo_of : (i : ℕ) → i < r.keeper.made → (memo : SeatMemo N) × (memo.number ≡ i) × (SitsThere s.views memo ⊎ ((memo.view.live ≡ false) × CameBack s.views memo))
+  memo_of : (i : ℕ) → i < r.keeper.made → (memo : SeatMemo N) × (memo.number ≡ i)
+      × (SitsThere s.views memo ⊎ ((memo.view.live ≡ false) × CameBack s.views memo))
   memo_of i less =
       let all = r.knows.back_is in
       let back = there r.keeper.back i (omega (arith, less, all)) in
@@ -102,22 +123,26 @@ module _ {O D T N : Type 0} {note : D → N} {Ao : T → O → Type 0} {An : T �
       record { memo = one.0; is_there = is; number_is = one.1; no_other = λ other there e. one_each other one.0 there is (e ∙ sym one.1) }
 
   -- a ticket in a log was finished by its seat
-  fate_of : (memo : SeatMemo N) (j t : ℕ) (x : N) → IsMemoThere s.views memo → get_elem? memo.log j ≡ some (Got t x) → get_elem? r.fates t ≡ some (Some (memo.number, x))
+  fate_of : (memo : SeatMemo N) (j t : ℕ) (x : N) → IsMemoThere s.views memo → get_elem? memo.log j ≡ some (Got t x)
+      → get_elem? r.fates t ≡ some (Some (memo.number, x))
   fate_of memo j t x is e =
       let got = got_in memo.log j t x e in
-      let took = taken_from memo.number 0 r.fates got.0 t x (ap (λ (l : List (ℕ × N)). get_elem? l got.0) (sym (memo_known memo is).got) ∙ got.1) in
+      let took = taken_from memo.number 0 r.fates got.0 t x (ap (λ (l : List (ℕ × N)). get_elem? l got.0) (sym (memo_known memo is).got)
+      ∙ got.1) in
       let is_there = took.1 in
       let here : t ≡ took.0 = omega (arith, is_there) in
       ap (get_elem? r.fates) here ∙ took.2
 
   -- and one that a seat finished is in its log
-  log_of : (memo : SeatMemo N) (t : ℕ) (x : N) → IsMemoThere s.views memo → get_elem? r.fates t ≡ some (Some (memo.number, x)) → (j : ℕ) × (get_elem? memo.log j ≡ some (Got t x))
+  log_of : (memo : SeatMemo N) (t : ℕ) (x : N) → IsMemoThere s.views memo → get_elem? r.fates t ≡ some (Some (memo.number, x)) → (j : ℕ)
+      × (get_elem? memo.log j ≡ some (Got t x))
   log_of memo t x is e =
       let took = taken_in memo.number 0 r.fates t t x (omega arith) e in
       got_from memo.log took.0 t x (ap (λ (l : List (ℕ × N)). get_elem? l took.0) (memo_known memo is).got ∙ took.1)
 
   -- with an admitted note
-  pub logged_is_admitted : (memo : SeatMemo N) (j t : ℕ) (x : N) → IsMemoThere s.views memo → get_elem? memo.log j ≡ some (Got t x) → An key.terms x
+  pub logged_is_admitted : (memo : SeatMemo N) (j t : ℕ) (x : N) → IsMemoThere s.views memo → get_elem? memo.log j ≡ some (Got t x)
+      → An key.terms x
   logged_is_admitted memo j t x is e = (r.are_fates.finished t memo.number x (fate_of memo j t x is e)).1
 
   -- and so is each note of the keeper
@@ -133,7 +158,8 @@ module _ {O D T N : Type 0} {note : D → N} {Ao : T → O → Type 0} {An : T �
   not_both t y undone done = absurd (none-some y (one_element r.fates t None (Some y) undone done))
 
   -- a ticket in a log was claimed, and no seat holds it
-  pub logged_is_done : (memo : SeatMemo N) (j t : ℕ) (x : N) → IsMemoThere s.views memo → get_elem? memo.log j ≡ some (Got t x) → (t < r.machine.word.claimed) × ((other : SeatMemo N) → IsMemoThere s.views other → ¬ Holds other.view t)
+  pub logged_is_done : (memo : SeatMemo N) (j t : ℕ) (x : N) → IsMemoThere s.views memo → get_elem? memo.log j ≡ some (Got t x)
+      → (t < r.machine.word.claimed) × ((other : SeatMemo N) → IsMemoThere s.views other → ¬ Holds other.view t)
   logged_is_done memo j t x is e =
       let done = fate_of memo j t x is e in
       let less = at_length r.fates t (Some (memo.number, x)) done in
@@ -141,7 +167,8 @@ module _ {O D T N : Type 0} {note : D → N} {Ao : T → O → Type 0} {An : T �
       (omega (arith, less, all), λ other there h. not_both t (memo.number, x) (open_of other t there h) done)
 
   -- what its slot holds, until it is reaped
-  pub slot_of_logged : (memo : SeatMemo N) (j t : ℕ) (x : N) → IsMemoThere s.views memo → get_elem? memo.log j ≡ some (Got t x) → r.machine.reaped ≤ t → HasFinished (get_elem? s.homes (t % key.positions)) note x
+  pub slot_of_logged : (memo : SeatMemo N) (j t : ℕ) (x : N) → IsMemoThere s.views memo → get_elem? memo.log j ≡ some (Got t x)
+      → r.machine.reaped ≤ t → HasFinished (get_elem? s.homes (t % key.positions)) note x
   slot_of_logged memo j t x is e from =
       let out = (logged_is_done memo j t x is e).0 in
       let account = (ring_of r).permits.account in
@@ -149,30 +176,37 @@ module _ {O D T N : Type 0} {note : D → N} {Ao : T → O → Type 0} {An : T �
       (r.are_slots.each t from (omega (arith, out, account, turn))).finished_home memo.number x (fate_of memo j t x is e)
 
   -- what a free slot holds, and a vacant one
-  pub slot_of_free : (t : ℕ) → r.machine.word.claimed ≤ t → t < r.machine.offered → HasOffered (get_elem? s.homes (t % key.positions)) (Ao key.terms)
+  pub slot_of_free : (t : ℕ) → r.machine.word.claimed ≤ t → t < r.machine.offered
+      → HasOffered (get_elem? s.homes (t % key.positions)) (Ao key.terms)
   slot_of_free t past below =
       let behind = (ring_of r).permits.reaped_claimed in
       let turn = one_turn_ahead r in
       (r.are_slots.each t (omega (arith, past, behind)) (omega (arith, below, turn))).offered_home past below
 
-  pub slot_of_vacant : (t : ℕ) → r.machine.offered ≤ t → t < r.machine.reaped + key.positions → IsOut (get_elem? s.homes (t % key.positions))
+  pub slot_of_vacant : (t : ℕ) → r.machine.offered ≤ t → t < r.machine.reaped + key.positions
+      → IsOut (get_elem? s.homes (t % key.positions))
   slot_of_vacant t past below =
       let account = (ring_of r).permits.account in
       let behind = (ring_of r).permits.reaped_claimed in
       (r.are_slots.each t (omega (arith, past, account, behind)) below).vacant_out past
 
   -- in one log a ticket stands at one place
-  one_place : (memo : SeatMemo N) (j l t : ℕ) (x y : N) → IsMemoThere s.views memo → get_elem? memo.log j ≡ some (Got t x) → get_elem? memo.log l ≡ some (Got t y) → j ≡ l
+  one_place : (memo : SeatMemo N) (j l t : ℕ) (x y : N) → IsMemoThere s.views memo → get_elem? memo.log j ≡ some (Got t x)
+      → get_elem? memo.log l ≡ some (Got t y) → j ≡ l
   one_place memo j l t x y is ex ey = elim (cases_order j l) [
     | inl same ↦ same
-    | inr (inl less) ↦ let no : t + 1 ≤ t = rises_apart 0 memo.log j l (Got t x) (Got t y) (memo_known memo is).ordered.rises less ex ey in absurd (omega (arith, no))
-    | inr (inr more) ↦ let no : t + 1 ≤ t = rises_apart 0 memo.log l j (Got t y) (Got t x) (memo_known memo is).ordered.rises more ey ex in absurd (omega (arith, no))
+    | inr (inl less) ↦ let no : t + 1 ≤ t = rises_apart 0 memo.log j l (Got t x) (Got t y)
+        (memo_known memo is).ordered.rises less ex ey in absurd (omega (arith, no))
+    | inr (inr more) ↦ let no : t + 1 ≤ t = rises_apart 0 memo.log l j (Got t y) (Got t x)
+        (memo_known memo is).ordered.rises more ey ex in absurd (omega (arith, no))
   ]
 
   -- two places of one ticket in logs are one
-  one_entry : (a b : SeatMemo N) (j l t : ℕ) (x y : N) → IsMemoThere s.views a → IsMemoThere s.views b → get_elem? a.log j ≡ some (Got t x) → get_elem? b.log l ≡ some (Got t y) → (a ≡ b) × (j ≡ l) × (x ≡ y)
+  one_entry : (a b : SeatMemo N) (j l t : ℕ) (x y : N) → IsMemoThere s.views a → IsMemoThere s.views b
+      → get_elem? a.log j ≡ some (Got t x) → get_elem? b.log l ≡ some (Got t y) → (a ≡ b) × (j ≡ l) × (x ≡ y)
   one_entry a b j l t x y is_a is_b ea eb =
-      let fate = same_Some (a.number, x) (b.number, y) (one_element r.fates t (Some (a.number, x)) (Some (b.number, y)) (fate_of a j t x is_a ea) (fate_of b l t y is_b eb)) in
+      let fate = same_Some (a.number, x) (b.number, y) (one_element r.fates t (Some (a.number, x)) (Some (b.number, y))
+      (fate_of a j t x is_a ea) (fate_of b l t y is_b eb)) in
       let one : a ≡ b = one_each a b is_a is_b (ap (λ (p : ℕ × N). p.0) fate) in
       (one, one_place a j l t x y is_a ea (ap (λ (memo : SeatMemo N). get_elem? memo.log l) one ∙ eb), ap (λ (p : ℕ × N). p.1) fate)
 
@@ -182,7 +216,8 @@ module _ {O D T N : Type 0} {note : D → N} {Ao : T → O → Type 0} {An : T �
 
   -- and was made
   holder_made : (i t : ℕ) → Holds (seat_at r.machine.seats i) t → i < r.keeper.made
-  holder_made i t h = made_if_holds r.keeper.made r.machine.seats i t r.knows.made_is (live_is_made r.machine.seats i (holder_lives i t h)) h
+  holder_made i t h = made_if_holds r.keeper.made r.machine.seats i t r.knows.made_is
+      (live_is_made r.machine.seats i (holder_lives i t h)) h
 
   -- a seat holds in the machine what its memo says
   machine_holds : (memo : SeatMemo N) (t : ℕ) → IsMemoThere s.views memo → Holds memo.view t → Holds (seat_at r.machine.seats memo.number) t
@@ -193,15 +228,18 @@ module _ {O D T N : Type 0} {note : D → N} {Ao : T → O → Type 0} {An : T �
   holder_sits memo t (inl sits) h = sits
   holder_sits memo t (inr back) h =
       let was = ended_known memo back in
-      let c : false ≡ true = sym was.0 ∙ ap (λ (v : SeatView). v.live) was.1.shows ∙ holder_lives memo.number t (machine_holds memo t (inr back) h) in
+      let c : false ≡ true = sym was.0 ∙ ap (λ (v : SeatView). v.live) was.1.shows
+      ∙ holder_lives memo.number t (machine_holds memo t (inr back) h) in
       absurd cc
 
   -- a held ticket was claimed, and is not reaped
-  pub held_is_claimed : (memo : SeatMemo N) (t : ℕ) → IsMemoThere s.views memo → Holds memo.view t → (r.machine.reaped ≤ t) × (t < r.machine.word.claimed)
+  pub held_is_claimed : (memo : SeatMemo N) (t : ℕ) → IsMemoThere s.views memo → Holds memo.view t → (r.machine.reaped ≤ t)
+      × (t < r.machine.word.claimed)
   held_is_claimed memo t is h = ((ring_of r).seats.each memo.number).held_is_out t (machine_holds memo t is h)
 
   -- and its slot is out
-  pub slot_of_held : (memo : SeatMemo N) (t : ℕ) → IsMemoThere s.views memo → Holds memo.view t → IsOut (get_elem? s.homes (t % key.positions))
+  pub slot_of_held : (memo : SeatMemo N) (t : ℕ) → IsMemoThere s.views memo → Holds memo.view t
+      → IsOut (get_elem? s.homes (t % key.positions))
   slot_of_held memo t is h =
       let out = held_is_claimed memo t is h in
       let below = out.1 in
@@ -211,7 +249,8 @@ module _ {O D T N : Type 0} {note : D → N} {Ao : T → O → Type 0} {An : T �
 
   -- two seats that hold one ticket are one
   one_holder : (a b : SeatMemo N) (t : ℕ) → IsMemoThere s.views a → IsMemoThere s.views b → Holds a.view t → Holds b.view t → a ≡ b
-  one_holder a b t is_a is_b ha hb = one_each a b is_a is_b ((ring_of r).seats.apart a.number b.number t (machine_holds a t is_a ha) (machine_holds b t is_b hb))
+  one_holder a b t is_a is_b ha hb = one_each a b is_a is_b ((ring_of r).seats.apart a.number b.number t (machine_holds a t is_a ha)
+      (machine_holds b t is_b hb))
 
   -- a ticket that a seat holds has this place alone
   held_by : (memo : SeatMemo N) (t : ℕ) → IsMemoThere s.views memo → Holds memo.view t → IsHeldOnce s.views t
@@ -265,7 +304,8 @@ module _ {O D T N : Type 0} {note : D → N} {Ao : T → O → Type 0} {An : T �
       place_from t fate.0 fate.1
 
   -- the keeper's note of a ticket is that of its log
-  pub note_of_a_ticket : (port t : ℕ) (its : Key T) (k : KeeperMemo N) (x : N) → get_elem? s.views port ≡ some (Keeps its k) → get_elem? k.notes t ≡ some x → IsNotedAs s.views t x
+  pub note_of_a_ticket : (port t : ℕ) (its : Key T) (k : KeeperMemo N) (x : N) → get_elem? s.views port ≡ some (Keeps its k)
+      → get_elem? k.notes t ≡ some x → IsNotedAs s.views t x
   note_of_a_ticket port t its k x at e =
       let one = (keeper_port r at).1 in
       let fate = r.knows.noted t x (ap (λ (h : KeeperMemo N). get_elem? h.notes t) (sym one) ∙ e) in
@@ -292,14 +332,16 @@ module _ {O D T N : Type 0} {note : D → N} {Ao : T → O → Type 0} {An : T �
   value_is x y home at is = subst Admitted (sym (some-injective x y (some-injective (some x) (some y) (sym at ∙ is))))
 
   -- the value at home of a claimed ticket
-  claimed_value : (t : ℕ) (x : Slot O D) (fate : Option (ℕ × N)) (home : Home O D) → IsSlot note (Ao key.terms) r.machine r.fates t home → get_elem? r.fates t ≡ some fate → home ≡ some (some x) → Admitted x
+  claimed_value : (t : ℕ) (x : Slot O D) (fate : Option (ℕ × N)) (home : Home O D) → IsSlot note (Ao key.terms) r.machine r.fates t home
+      → get_elem? r.fates t ≡ some fate → home ≡ some (some x) → Admitted x
   claimed_value t x None home is e at = not_out x home at (is.held_out e)
   claimed_value t x (Some y) home is e at =
       let done = is.finished_home y.0 y.1 e in
       value_is x (Finished done.0) home at done.2 (subst (An key.terms) (sym done.1) (r.are_fates.finished t y.0 y.1 e).1)
 
   -- and of one that is not claimed yet
-  later_value : (t : ℕ) (x : Slot O D) (home : Home O D) → IsSlot note (Ao key.terms) r.machine r.fates t home → r.machine.word.claimed ≤ t → home ≡ some (some x) → Admitted x
+  later_value : (t : ℕ) (x : Slot O D) (home : Home O D) → IsSlot note (Ao key.terms) r.machine r.fates t home
+      → r.machine.word.claimed ≤ t → home ≡ some (some x) → Admitted x
   later_value t x home is past at = elim (cases_lt t r.machine.offered) [
     | inl offered ↦ let y = is.offered_home past offered in value_is x (Offered y.0) home at y.2 y.1
     | inr vacant ↦ not_out x home at (is.vacant_out vacant)
@@ -315,7 +357,8 @@ module _ {O D T N : Type 0} {note : D → N} {Ao : T → O → Type 0} {An : T �
       let home = get_elem? s.homes (t.0 % key.positions) in
       let here = ap (get_elem? s.homes) t.3 ∙ at in
       elim (cases_lt t.0 r.machine.word.claimed) [
-        | inl claimed ↦ let all = r.are_fates.each_claimed in let fate = there r.fates t.0 (omega (arith, claimed, all)) in claimed_value t.0 x fate.0 home is fate.1 here
+        | inl claimed ↦ let all = r.are_fates.each_claimed in let fate = there r.fates t.0
+            (omega (arith, claimed, all)) in claimed_value t.0 x fate.0 home is fate.1 here
         | inr past ↦ later_value t.0 x home is past here
       ]
 

@@ -54,7 +54,8 @@ module _ {T N : Type 0} where
 
 module _ {N : Type 0} {m now : Machine} {fates later : List (Option (ℕ × N))} where
   -- a seat that a step leaves alone still knows what it knew
-  pub seat_stays : {moves then : List Move} {fronts further : List ℕ} {made more : ℕ} {memo : SeatMemo N} → IsSeatMemo m moves fates fronts made memo
+  pub seat_stays : {moves then : List Move} {fronts further : List ℕ} {made more : ℕ} {memo : SeatMemo N}
+      → IsSeatMemo m moves fates fronts made memo
       → seat_at now.seats memo.number ≡ seat_at m.seats memo.number → by_seat memo.number then ≡ by_seat memo.number moves
       → taken_by memo.number 0 later ≡ taken_by memo.number 0 fates → m.word.claimed ≤ now.word.claimed
       → ((g : ℕ) → StandsIn fronts g → StandsIn further g) → made ≤ more → IsSeatMemo now then later further more memo
@@ -93,11 +94,13 @@ module _ {N : Type 0} {m now : Machine} {fates : List (Option (ℕ × N))} where
       };
     }
 
-module _ {O D N : Type 0} {note : D → N} {Admits : O → Type 0} {n : ℕ} {homes : List (maybe.Option (Slot O D))} {m now : Machine} {fates later : List (Option (ℕ × N))} where
+module _ {O D N : Type 0} {note : D → N} {Admits : O
+    → Type 0} {n : ℕ} {homes : List (maybe.Option (Slot O D))} {m now : Machine} {fates later : List (Option (ℕ × N))} where
   -- the slots after that of ticket u of the turn changed
   pub slots_set : (u : ℕ) (v : maybe.Option (Slot O D)) → 1 ≤ n → m.reaped ≤ u → u < m.reaped + n → now.reaped ≡ m.reaped
       → AreSlots note Admits m fates n homes → IsSlot note Admits now later u (some v)
-      → ((t : ℕ) (home : Home O D) → t ≢ u → m.reaped ≤ t → t < m.reaped + n → IsSlot note Admits m fates t home → IsSlot note Admits now later t home)
+      → ((t : ℕ) (home : Home O D) → t ≢ u → m.reaped ≤ t → t < m.reaped + n → IsSlot note Admits m fates t home
+      → IsSlot note Admits now later t home)
       → AreSlots note Admits now later n (set homes (u % n) v)
   slots_set u v positive from_u to_u reaped was own others = record {
     a_slot_each = length-set homes (u % n) v ∙ was.a_slot_each;
@@ -111,14 +114,17 @@ module _ {O D N : Type 0} {note : D → N} {Admits : O → Type 0} {n : ℕ} {ho
               subst (IsSlot note Admits now later t) (sym at) (subst (λ (k : ℕ). IsSlot note Admits now later k (some v)) (sym here) own)
           | inr away ↦
               let apart : t % n ≢ u % n = λ e. away (same_position m.reaped n t u since until from_u to_u e) in
-              subst (IsSlot note Admits now later t) (sym (set_else homes (u % n) (t % n) v apart)) (others t (get_elem? homes (t % n)) away since until (was.each t since until))
+              subst (IsSlot note Admits now later t) (sym (set_else homes (u % n) (t % n) v apart))
+              (others t (get_elem? homes (t % n)) away since until (was.each t since until))
         ];
   }
 
-module _ {O D T N : Type 0} {note : D → N} {Ao : T → O → Type 0} {An : T → N → Type 0} {key : Key T} {s : State (Slot O D) (View T N)} (r : Runs note Ao An key s) where
+module _ {O D T N : Type 0} {note : D → N} {Ao : T → O → Type 0} {An : T → N → Type 0} {key : Key T} {s : State (Slot O D) (View T N)}
+    (r : Runs note Ao An key s) where
   -- the machine is a ring
   pub ring_of : IsRing r.machine
-  ring_of = led_ring (opening key.positions key.limit) r.machine r.moves (opens key.positions key.limit r.sizes.some_position r.sizes.most_positions r.sizes.some_seat r.sizes.most_seats) r.reached
+  ring_of = led_ring (opening key.positions key.limit) r.machine r.moves
+      (opens key.positions key.limit r.sizes.some_position r.sizes.most_positions r.sizes.some_seat r.sizes.most_seats) r.reached
 
   -- of the ring's sizes
   pub sizes_of : HasSizes key.positions key.limit r.machine
@@ -131,13 +137,17 @@ module _ {O D T N : Type 0} {note : D → N} {Ao : T → O → Type 0} {An : T �
   -- the keeper sits at the first port
   pub keeper_port : {id : ℕ} {its : Key T} {k : KeeperMemo N} → get_elem? s.views id ≡ some (Keeps its k) → (id ≡ 0) × (k ≡ r.keeper)
   keeper_port {id = id} {its = its} {k = k} at =
-      let first : id ≡ 0 = r.each_view id (Keeps its k) at in
-      (first, one_keeper its key k r.keeper (some-injective (Keeps its k) (Keeps key r.keeper) (sym (ap (get_elem? s.views) (sym first) ∙ at) ∙ r.keeper_there)))
+      let first : id ≡ 0 = r.each_view id (Keeps its k) at in (
+        first,
+        one_keeper its key k r.keeper (some-injective (Keeps its k) (Keeps key r.keeper)
+            (sym (ap (get_elem? s.views) (sym first) ∙ at) ∙ r.keeper_there)),
+      )
 
   module _ (id : ℕ) {its : Key T} {memo : SeatMemo N} (at : get_elem? s.views id ≡ some (Sits its memo)) where
     -- a seat sits elsewhere
     pub not_first : id ≢ 0
-    not_first e = no_seat_keeps its key memo r.keeper (some-injective (Sits its memo) (Keeps key r.keeper) (sym at ∙ ap (get_elem? s.views) e ∙ r.keeper_there))
+    not_first e = no_seat_keeps its key memo r.keeper (some-injective (Sits its memo) (Keeps key r.keeper)
+        (sym at ∙ ap (get_elem? s.views) e ∙ r.keeper_there))
 
     -- at its own port, live, and knows
     pub at_own_port : r.owner memo.number ≡ id
@@ -150,15 +160,21 @@ module _ {O D T N : Type 0} {note : D → N} {Ao : T → O → Type 0} {An : T �
     knows_it = (r.each_view id (Sits its memo) at).3
 
     -- and is none that came back
-    pub not_ended : {A : Type 0} (other : SeatMemo N) → other.view.live ≡ false → other.number ≡ memo.number → IsSeatMemo r.machine r.moves r.fates r.keeper.fronts r.keeper.made other → A
-    not_ended other off e k = let c : true ≡ false = sym is_live ∙ ap (λ (v : SeatView). v.live) (knows_it.shows ∙ ap (seat_at r.machine.seats) (sym e) ∙ sym k.shows) ∙ off in absurd cc
+    pub not_ended : {A : Type 0} (other : SeatMemo N) → other.view.live ≡ false → other.number ≡ memo.number
+        → IsSeatMemo r.machine r.moves r.fates r.keeper.fronts r.keeper.made other → A
+    not_ended other off e k = let c : true ≡ false = sym is_live
+        ∙ ap (λ (v : SeatView). v.live) (knows_it.shows ∙ ap (seat_at r.machine.seats) (sym e) ∙ sym k.shows) ∙ off in absurd cc
 
   -- the machine, its moves and the fates go on
-  module _ (now : Machine) (then : List Move) (later : List (Option (ℕ × N))) (words : List ℕ) (homes : List (maybe.Option (Slot O D))) (led : Leads (opening key.positions key.limit) then now) (told : words ≡ words_of now) (slots : AreSlots note (Ao key.terms) now later key.positions homes) where
+  module _ (now : Machine) (then : List Move) (later : List (Option (ℕ × N))) (words : List ℕ) (homes : List (maybe.Option (Slot O D)))
+      (led : Leads (opening key.positions key.limit) then now) (told : words ≡ words_of now)
+      (slots : AreSlots note (Ao key.terms) now later key.positions homes) where
     -- and one seat knows more
-    pub seat_changes : (id : ℕ) {memo new : SeatMemo N} → get_elem? s.views id ≡ some (Sits key memo) → new.number ≡ memo.number → new.view.live ≡ true → AreFates now (An key.terms) r.keeper.made later → IsKeeperMemo key.positions now then later r.keeper
+    pub seat_changes : (id : ℕ) {memo new : SeatMemo N} → get_elem? s.views id ≡ some (Sits key memo) → new.number ≡ memo.number
+        → new.view.live ≡ true → AreFates now (An key.terms) r.keeper.made later → IsKeeperMemo key.positions now then later r.keeper
         → IsSeatMemo now then later r.keeper.fronts r.keeper.made new
-        → ((other : SeatMemo N) → other.number ≢ memo.number → IsSeatMemo r.machine r.moves r.fates r.keeper.fronts r.keeper.made other → IsSeatMemo now then later r.keeper.fronts r.keeper.made other)
+        → ((other : SeatMemo N) → other.number ≢ memo.number → IsSeatMemo r.machine r.moves r.fates r.keeper.fronts r.keeper.made other
+        → IsSeatMemo now then later r.keeper.fronts r.keeper.made other)
         → Runs note Ao An key record { words = words; homes = homes; views = set s.views id (Sits key new) }
     seat_changes id {memo = memo} {new = new} at same live fates keeps mine others = record {
       sizes = r.sizes;
@@ -174,30 +190,40 @@ module _ {O D T N : Type 0} {note : D → N} {Ao : T → O → Type 0} {An : T �
       knows = keeps;
       owner = r.owner;
       each_view = λ port v e. elim (at_set s.views id port (Sits key new) v e) [
-        | inl here ↦ subst (IsViewAt key now then later r.keeper (set s.views id (Sits key new)) r.owner port) here.1 (refl, ap r.owner same ∙ at_own_port id at ∙ sym here.0, live, mine)
+        | inl here ↦ subst (IsViewAt key now then later r.keeper (set s.views id (Sits key new)) r.owner port) here.1
+            (refl, ap r.owner same ∙ at_own_port id at ∙ sym here.0, live, mine)
         | inr there ↦ still port v there.0 (r.each_view port v there.1)
       ];
       each_seat = λ i back e. somewhere i back (r.each_seat i back e);
     }
       where
-        still : (port : ℕ) (v : View T N) → port ≢ id → IsViewAt key r.machine r.moves r.fates r.keeper s.views r.owner port v → IsViewAt key now then later r.keeper (set s.views id (Sits key new)) r.owner port v
+        still : (port : ℕ) (v : View T N) → port ≢ id → IsViewAt key r.machine r.moves r.fates r.keeper s.views r.owner port v
+            → IsViewAt key now then later r.keeper (set s.views id (Sits key new)) r.owner port v
         still port (Sits its other) away p = (p.0, p.1, p.2, others other (λ e. away (sym p.1 ∙ ap r.owner e ∙ at_own_port id at)) p.3)
         still port (Keeps its k) away p = p
         still port Spent away p = tt
 
-        somewhere : (i : ℕ) (back : Option (SeatMemo N)) → IsSomewhere key r.machine r.moves r.fates r.keeper s.views r.owner i back → IsSomewhere key now then later r.keeper (set s.views id (Sits key new)) r.owner i back
+        somewhere : (i : ℕ) (back : Option (SeatMemo N)) → IsSomewhere key r.machine r.moves r.fates r.keeper s.views r.owner i back
+            → IsSomewhere key now then later r.keeper (set s.views id (Sits key new)) r.owner i back
         somewhere i None p = elim (cases_eq (r.owner i) id) [
           | inl here ↦
-              let one : memo ≡ p.0 = one_memo key key memo p.0 (some-injective (Sits key memo) (Sits key p.0) (sym at ∙ ap (get_elem? s.views) (sym here) ∙ p.2)) in
-              let long = at_length s.views id (Sits key memo) at in
-              (new, same ∙ ap (λ (k : SeatMemo N). k.number) one ∙ p.1, ap (get_elem? (set s.views id (Sits key new))) here ∙ set_here s.views id (Sits key new) long)
+              let one : memo ≡ p.0 = one_memo key key memo p.0
+              (some-injective (Sits key memo) (Sits key p.0) (sym at ∙ ap (get_elem? s.views) (sym here) ∙ p.2)) in
+              let long = at_length s.views id (Sits key memo) at in (
+                new,
+                same ∙ ap (λ (k : SeatMemo N). k.number) one ∙ p.1,
+                ap (get_elem? (set s.views id (Sits key new))) here
+                    ∙ set_here s.views id (Sits key new) long,
+              )
           | inr away ↦ (p.0, p.1, set_else s.views id (r.owner i) (Sits key new) away ∙ p.2)
         ]
         somewhere i (Some ended) p = (p.0, p.1, others ended (λ e. not_ended id at ended p.1 e p.2) p.2)
 
     -- or the keeper knows more, and made no seat
-    pub keeper_changes : {k : KeeperMemo N} → AreFates now (An key.terms) k.made later → IsKeeperMemo key.positions now then later k → k.back ≡ r.keeper.back
-        → ((other : SeatMemo N) → IsSeatMemo r.machine r.moves r.fates r.keeper.fronts r.keeper.made other → IsSeatMemo now then later k.fronts k.made other)
+    pub keeper_changes : {k : KeeperMemo N} → AreFates now (An key.terms) k.made later → IsKeeperMemo key.positions now then later k
+        → k.back ≡ r.keeper.back
+        → ((other : SeatMemo N) → IsSeatMemo r.machine r.moves r.fates r.keeper.fronts r.keeper.made other
+        → IsSeatMemo now then later k.fronts k.made other)
         → Runs note Ao An key record { words = words; homes = homes; views = set s.views 0 (Keeps key k) }
     keeper_changes {k = k} fates keeps back others = record {
       sizes = r.sizes;
@@ -219,11 +245,13 @@ module _ {O D T N : Type 0} {note : D → N} {Ao : T → O → Type 0} {An : T �
       each_seat = λ i was e. somewhere i was (r.each_seat i was (ap (λ (b : List (Option (SeatMemo N))). get_elem? b i) (sym back) ∙ e));
     }
       where
-        still : (port : ℕ) (v : View T N) → IsViewAt key r.machine r.moves r.fates r.keeper s.views r.owner port v → IsViewAt key now then later k (set s.views 0 (Keeps key k)) r.owner port v
+        still : (port : ℕ) (v : View T N) → IsViewAt key r.machine r.moves r.fates r.keeper s.views r.owner port v
+            → IsViewAt key now then later k (set s.views 0 (Keeps key k)) r.owner port v
         still port (Sits its other) p = (p.0, p.1, p.2, others other p.3)
         still port (Keeps its other) p = p
         still port Spent p = tt
 
-        somewhere : (i : ℕ) (was : Option (SeatMemo N)) → IsSomewhere key r.machine r.moves r.fates r.keeper s.views r.owner i was → IsSomewhere key now then later k (set s.views 0 (Keeps key k)) r.owner i was
+        somewhere : (i : ℕ) (was : Option (SeatMemo N)) → IsSomewhere key r.machine r.moves r.fates r.keeper s.views r.owner i was
+            → IsSomewhere key now then later k (set s.views 0 (Keeps key k)) r.owner i was
         somewhere i None p = (p.0, p.1, set_else s.views 0 (r.owner i) (Keeps key k) (not_first (r.owner i) p.2) ∙ p.2)
         somewhere i (Some ended) p = (p.0, p.1, others ended p.2)

@@ -16,7 +16,8 @@ use Rattle.permit_ring.specs.Steps.{looks, claims, waits, reaps, reads}
 module _ {N : Type 0} where
   -- a claim that got a ticket: its look and its claim found a position free, and so many were claimed at its claim
   abbrev pub GotTicket : ℕ → SeatMemo N → ℕ → SeatMemo N → Type 0
-  GotTicket limit old t new = (first second : PermitWord) × (0 < first.free) × (0 < second.free) × (second.claimed ≡ t) × (new ≡ claims limit second (looks limit first old))
+  GotTicket limit old t new = (first second : PermitWord) × (0 < first.free) × (0 < second.free) × (second.claimed ≡ t)
+      × (new ≡ claims limit second (looks limit first old))
 
   -- a call that was lost at its look, which found none free
   abbrev pub LostLook : ℕ → SeatMemo N → ℕ → SeatMemo N → Type 0
@@ -24,7 +25,8 @@ module _ {N : Type 0} where
 
   -- and one that was lost at its claim, after a look that found a position free
   abbrev pub LostClaim : ℕ → SeatMemo N → ℕ → SeatMemo N → Type 0
-  LostClaim limit old g new = (first second : PermitWord) × (0 < first.free) × (second.free ≡ 0) × (second.claimed ≡ g) × (new ≡ claims limit second (looks limit first old))
+  LostClaim limit old g new = (first second : PermitWord) × (0 < first.free) × (second.free ≡ 0) × (second.claimed ≡ g)
+      × (new ≡ claims limit second (looks limit first old))
 
   -- a claim got a ticket, or was lost, and answers the word that showed it
   abbrev pub ClaimTells : ℕ → SeatMemo N → Result Ticket Shown → SeatMemo N → Type 0

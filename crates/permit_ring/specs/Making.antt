@@ -29,7 +29,8 @@ module _ {F O D T N : Type 0} (admits_offered : T → O → Type 0) where
     pub each : (i : ℕ) (seat : Seat F O D T N) → get_elem? seats i ≡ some seat → IsNewSeat ring i seat
 
   -- all positions are free, and all seats are made and idle
-  pub record IsNewRing (n limit : ℕ) (terms : T) (ring : Ring F O D T N) (keeper : Keeper F O D T N) (seats : List (Seat F O D T N)) : Type 0 where
+  pub record IsNewRing (n limit : ℕ) (terms : T) (ring : Ring F O D T N) (keeper : Keeper F O D T N)
+      (seats : List (Seat F O D T N)) : Type 0 where
     pub positions_are : ring_positions ring ≡ n
     pub seats_may_be : ring_seats ring ≡ limit
     pub terms_are : ring_terms ring ≡ terms

@@ -66,7 +66,8 @@ module _ {T N : Type 0} (views : List (View T N)) where
     pub place : ℕ
     pub its_note : N
     pub stands : get_elem? taker.log place ≡ some (Got t its_note)
-    pub no_other : (memo : SeatMemo N) (j : ℕ) (x : N) → IsMemoThere memo → get_elem? memo.log j ≡ some (Got t x) → (memo ≡ taker) × (j ≡ place) × (x ≡ its_note)
+    pub no_other : (memo : SeatMemo N) (j : ℕ) (x : N) → IsMemoThere memo → get_elem? memo.log j ≡ some (Got t x) → (memo ≡ taker)
+        × (j ≡ place) × (x ≡ its_note)
     pub held_by_none : (memo : SeatMemo N) → IsMemoThere memo → ¬ Holds memo.view t
 
   -- the ticket has one place

@@ -41,7 +41,8 @@ abbrev pub StandsIn : List ℕ → ℕ → Type 0
 StandsIn xs x = (place : ℕ) × (get_elem? xs place ≡ some x)
 
 -- the keeper's numbers beside the machine's
-pub record AreCounted (n reaped offered swept0 swept1 : ℕ) (seen : PermitWord) (notes : ℕ) (fronts : List ℕ) (free_until : ℕ) (known : PermitWord) (taken0 taken1 : List ℕ) : Type 0 where
+pub record AreCounted (n reaped offered swept0 swept1 : ℕ) (seen : PermitWord) (notes : ℕ) (fronts : List ℕ) (free_until : ℕ)
+    (known : PermitWord) (taken0 taken1 : List ℕ) : Type 0 where
   pub reaped_is : reaped ≡ notes
   pub offered_is : offered ≡ free_until
   pub first_front : get_elem? fronts 0 ≡ some n
@@ -52,7 +53,8 @@ pub record AreCounted (n reaped offered swept0 swept1 : ℕ) (seen : PermitWord)
 
 -- what the keeper counted, and the word that it last read or left, are the machine's
 abbrev pub Counts : {N : Type 0} → ℕ → Machine → KeeperMemo N → Type 0
-Counts n m k = AreCounted n m.reaped m.offered m.loss0.swept m.loss1.swept m.seen (length k.notes) k.fronts k.offered k.seen k.swept0 k.swept1
+Counts n m k = AreCounted n m.reaped m.offered m.loss0.swept m.loss1.swept m.seen
+    (length k.notes) k.fronts k.offered k.seen k.swept0 k.swept1
 
 module _ {N : Type 0} where
   -- what became of the tickets that were claimed
@@ -66,7 +68,8 @@ module _ {N : Type 0} where
     pub finished : (t i : ℕ) (x : N) → get_elem? fates t ≡ some (Some (i, x)) → (i < made) × Admits x
 
   -- what a seat knows
-  pub record IsSeatMemo (m : Machine) (moves : List Move) (fates : List (Option (ℕ × N))) (fronts : List ℕ) (made : ℕ) (memo : SeatMemo N) : Type 0 where
+  pub record IsSeatMemo (m : Machine) (moves : List Move) (fates : List (Option (ℕ × N))) (fronts : List ℕ) (made : ℕ)
+      (memo : SeatMemo N) : Type 0 where
     pub is_made : memo.number < made
     -- itself
     pub shows : memo.view ≡ seat_at m.seats memo.number
@@ -124,10 +127,12 @@ module _ {O D N : Type 0} (note : D → N) (Admits : O → Type 0) (m : Machine)
     pub a_slot_each : length homes ≡ n
     pub each : (t : ℕ) → m.reaped ≤ t → t < m.reaped + n → IsSlot t (get_elem? homes (t % n))
 
-module _ {T N : Type 0} (key : Key T) (m : Machine) (moves : List Move) (fates : List (Option (ℕ × N))) (k : KeeperMemo N) (views : List (View T N)) (owner : ℕ → ℕ) where
+module _ {T N : Type 0} (key : Key T) (m : Machine) (moves : List Move) (fates : List (Option (ℕ × N))) (k : KeeperMemo N)
+    (views : List (View T N)) (owner : ℕ → ℕ) where
   -- the view at a port: there is one keeper, and each number belongs to one seat
   abbrev pub IsViewAt : ℕ → View T N → Type 0
-  IsViewAt port (Sits its memo) = (its ≡ key) × (owner memo.number ≡ port) × (memo.view.live ≡ true) × IsSeatMemo m moves fates k.fronts k.made memo
+  IsViewAt port (Sits its memo) = (its ≡ key) × (owner memo.number ≡ port) × (memo.view.live ≡ true)
+      × IsSeatMemo m moves fates k.fronts k.made memo
   IsViewAt port (Keeps its other) = port ≡ 0
   IsViewAt port Spent = Unit {0}
 
@@ -154,8 +159,10 @@ module _ {O D T N : Type 0} (note : D → N) (admits_offered : T → O → Type 
     pub knows : IsKeeperMemo key.positions machine moves fates keeper
     -- the port of each seat, and each view
     pub owner : ℕ → ℕ
-    pub each_view : (port : ℕ) (v : View T N) → get_elem? s.views port ≡ some v → IsViewAt key machine moves fates keeper s.views owner port v
-    pub each_seat : (i : ℕ) (back : Option (SeatMemo N)) → get_elem? keeper.back i ≡ some back → IsSomewhere key machine moves fates keeper s.views owner i back
+    pub each_view : (port : ℕ) (v : View T N) → get_elem? s.views port ≡ some v
+        → IsViewAt key machine moves fates keeper s.views owner port v
+    pub each_seat : (i : ℕ) (back : Option (SeatMemo N)) → get_elem? keeper.back i ≡ some back
+        → IsSomewhere key machine moves fates keeper s.views owner i back
 
   -- a ring between any two steps
   pub record RunningRing : Type 0 where

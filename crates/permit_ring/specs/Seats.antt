@@ -110,4 +110,5 @@ module _ {F O D T N : Type 0} (admits_offered : T → O → Type 0) where
     pub account : (keeper_memo keeper).offered + keeper.filled + keeper.vacant ≡ keeper.reaped + ring.positions
     pub next_is : keeper.next ≡ keeper.reaped % ring.positions
     pub vacancy_is : keeper.vacancy ≡ ((keeper_memo keeper).offered + keeper.filled) % ring.positions
-    pub in_hand : KeepsInHand (admits_offered (ring_terms ring)) ring.positions (keeper_memo keeper).offered keeper.filled keeper.vacant keeper.place.me.1
+    pub in_hand : KeepsInHand (admits_offered (ring_terms ring)) ring.positions
+        (keeper_memo keeper).offered keeper.filled keeper.vacant keeper.place.me.1

@@ -33,23 +33,55 @@ module _ {N : Type 0} where
 
   -- after a look that read the word
   abbrev pub looks : ℕ → PermitWord → SeatMemo N → SeatMemo N
-  looks limit word memo = record { number = memo.number; view = looked word memo.view; log = and_lost word memo.log; moves = and_move memo.moves (Look memo.number) (packed limit word) }
+  looks limit word memo = record {
+    number = memo.number;
+    view = looked word memo.view;
+    log = and_lost word memo.log;
+    moves = and_move memo.moves (Look memo.number) (packed limit word);
+  }
 
   -- after a claim that found the word
   abbrev pub claims : ℕ → PermitWord → SeatMemo N → SeatMemo N
-  claims limit word memo = record { number = memo.number; view = served word memo.view; log = and_lost word memo.log; moves = and_move memo.moves (Claim memo.number) (packed limit word) }
+  claims limit word memo = record {
+    number = memo.number;
+    view = served word memo.view;
+    log = and_lost word memo.log;
+    moves = and_move memo.moves (Claim memo.number) (packed limit word);
+  }
 
   -- after the finish of the held ticket, with a value of the note
   abbrev pub finishes : N → SeatMemo N → SeatMemo N
-  finishes x memo = record { number = memo.number; view = record memo.view { held = None }; log = memo.log ++ Got (ticket_in memo.view.held) x ∷ []; moves = and_move memo.moves (Finish memo.number) 0 }
+  finishes x memo = record {
+    number = memo.number;
+    view = record memo.view { held = None };
+    log = memo.log ++ Got (ticket_in memo.view.held) x ∷ [];
+    moves = and_move memo.moves (Finish memo.number) 0;
+  }
 
   -- after a mark of a kind of loss
   abbrev pub adds_mark : ℕ → ℕ → SeatMemo N → SeatMemo N
-  adds_mark kind found memo = record { number = memo.number; view = marked kind memo.view; log = memo.log; moves = and_move memo.moves (Mark memo.number kind) found }
+  adds_mark kind found memo = record {
+    number = memo.number;
+    view = marked kind memo.view;
+    log = memo.log;
+    moves = and_move memo.moves (Mark memo.number kind) found;
+  }
 
   -- what the keeper knows at first
   abbrev pub first_memo : ℕ → KeeperMemo N
-  first_memo n = record { notes = []; fronts = n ∷ []; offered = n; offers = 0; marks = []; swept0 = []; swept1 = []; seen = all_free n; made = 0; back = []; moves = [] }
+  first_memo n = record {
+    notes = [];
+    fronts = n ∷ [];
+    offered = n;
+    offers = 0;
+    marks = [];
+    swept0 = [];
+    swept1 = [];
+    seen = all_free n;
+    made = 0;
+    back = [];
+    moves = [];
+  }
 
   -- after a look at a mark that was not the next one
   abbrev pub waits : ℕ → KeeperMemo N → KeeperMemo N

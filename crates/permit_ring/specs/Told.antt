@@ -115,7 +115,8 @@ module _ {O D T N : Type 0} where
 
   -- a sweep of a kind of loss: all that was swept is at most 2^45, and all that was marked once all seats are back
   abbrev pub swept_loss : Step (Slot O D) → Known O D T N → ℕ → Known O D T N → Type 0
-  swept_loss st me n now = (now ≡ (on_keeper (sweeps (st.word - 1) n) me.0, me.1)) × (sum (swept_of (st.word - 1) (keeper_in now.0)) ≤ 2 ^ 45)
+  swept_loss st me n now = (now ≡ (on_keeper (sweeps (st.word - 1) n) me.0, me.1))
+      × (sum (swept_of (st.word - 1) (keeper_in now.0)) ≤ 2 ^ 45)
       × (AreAllBack (keeper_in me.0) → AreAllSwept (st.word - 1) (keeper_in now.0))
 
   -- the keeper's look at the permit word
@@ -128,16 +129,22 @@ module _ {O D T N : Type 0} where
   -- a try to offer what is ready
   abbrev pub tried_offer : Step (Slot O D) → Known O D T N → ℕ → Known O D T N → Type 0
   tried_offer st me n now =
-      (n ≡ st.first → (now ≡ (on_keeper (offers_all (limit_in me.0) (ready me.1)) me.0, drop (ready me.1) me.1)) × IsWord (positions_in me.0) (limit_in me.0) (offered_to (keeper_in me.0).seen (ready me.1)))
-      × (n ≢ st.first → IsReadable (limit_in me.0) n × (now ≡ (on_keeper (misses (limit_in me.0) (ready me.1) (unpacked (limit_in me.0) n)) me.0, me.1))
-      × IsWord (positions_in me.0) (limit_in me.0) (unpacked (limit_in me.0) n) × (field_of (limit_in me.0) (unpacked (limit_in me.0) n) < field_of (limit_in me.0) (keeper_in me.0).seen))
+      (n ≡ st.first → (now ≡ (on_keeper (offers_all (limit_in me.0) (ready me.1)) me.0, drop (ready me.1) me.1))
+      × IsWord (positions_in me.0) (limit_in me.0) (offered_to (keeper_in me.0).seen (ready me.1)))
+      × (n ≢ st.first → IsReadable (limit_in me.0) n
+      × (now ≡ (on_keeper (misses (limit_in me.0) (ready me.1) (unpacked (limit_in me.0) n)) me.0, me.1))
+      × IsWord (positions_in me.0) (limit_in me.0) (unpacked (limit_in me.0) n)
+      × (field_of (limit_in me.0) (unpacked (limit_in me.0) n) < field_of (limit_in me.0) (keeper_in me.0).seen))
 
   -- a claim: where a position was free, its seat has the slot with what was offered
   abbrev pub claimed_word : (T → O → Type 0) → Step (Slot O D) → Known O D T N → ℕ → Known O D T N → Type 0
   claimed_word Admits st me n now =
       IsReadable (limit_in me.0) n
       × (0 < (unpacked (limit_in me.0) n).free → (y : O) × AdmittedIn Admits me.0 y
-      × (now ≡ (on_seat (claims (limit_in me.0) (unpacked (limit_in me.0) n)) me.0, ((unpacked (limit_in me.0) n).claimed % st.slots, Offered y) ∷ me.1)))
+      × (now ≡ (
+        on_seat (claims (limit_in me.0) (unpacked (limit_in me.0) n)) me.0,
+        ((unpacked (limit_in me.0) n).claimed % st.slots, Offered y) ∷ me.1,
+      )))
       × ((unpacked (limit_in me.0) n).free ≡ 0 → now ≡ (on_seat (claims (limit_in me.0) (unpacked (limit_in me.0) n)) me.0, me.1))
       × IsOrdered (seat_in now.0)
       × ((unpacked (limit_in me.0) n).claimed ≤ 2 ^ 45)
@@ -160,4 +167,5 @@ module _ {O D T N : Type 0} (note : D → N) where
       × (now ≡ (on_keeper (reaps n (note d)) me.0, (length (keeper_in me.0).notes % st.slots, Finished d) ∷ me.1))
       × (length (keeper_in me.0).notes + 1 ≤ (keeper_in me.0).offered) × (length (keeper_in me.0).notes + 1 ≤ 2 ^ 45)
       × (AreAllBack (keeper_in me.0) → ¬ IsAllReaped (keeper_in me.0)))
-      × (n ≢ length (keeper_in me.0).notes + 1 → (now ≡ (on_keeper (waits n) me.0, me.1)) × (AreAllBack (keeper_in me.0) → IsSettled (keeper_in now.0)))
+      × (n ≢ length (keeper_in me.0).notes + 1 → (now ≡ (on_keeper (waits n) me.0, me.1))
+      × (AreAllBack (keeper_in me.0) → IsSettled (keeper_in now.0)))

@@ -22,22 +22,26 @@ use Rattle.report_queue.specs.Views.{CallerView, NamesItsCalls, TakerView, back_
 use Rattle.report_queue.proofs.TakerLemmas.{NameTheirs, all_back, one_some}
 
 -- an element of a mapped list is that of the list, mapped
-pub at_map_back : {A B : Type 0} (f : A → B) (l : List A) (i : ℕ) (b : B) → get_elem? (map f l) i ≡ some b → (a : A) × (get_elem? l i ≡ some a) × (f a ≡ b)
+pub at_map_back : {A B : Type 0} (f : A → B) (l : List A) (i : ℕ) (b : B) → get_elem? (map f l) i ≡ some b → (a : A)
+    × (get_elem? l i ≡ some a) × (f a ≡ b)
 at_map_back f [] i b e = absurd (some-ne-none b (sym e))
 at_map_back f (x ∷ l) zero b e = (x, refl, some-injective (f x) b e)
 at_map_back f (x ∷ l) (suc i) b e = at_map_back f l i b e
 
 module _ {N : Type 0} where
   -- tickets whose seats are the callers of their items
-  same_items : (i f : ℕ) (taken : List (ℕ × Item N)) → ((t : ℕ) (p : ℕ × Item N) → get_elem? taken t ≡ some p → p.0 ≡ p.1.caller) → taken_by i f (map Some taken) ≡ items_of i f (map (λ (x : ℕ × Item N). x.1) taken)
+  same_items : (i f : ℕ) (taken : List (ℕ × Item N)) → ((t : ℕ) (p : ℕ × Item N) → get_elem? taken t ≡ some p → p.0 ≡ p.1.caller)
+      → taken_by i f (map Some taken) ≡ items_of i f (map (λ (x : ℕ × Item N). x.1) taken)
   same_items i f [] same = refl
   same_items i f (p ∷ taken) same =
       let rest = same_items i (suc f) taken (λ t q e. same (suc t) q e) in
       ap₂ (λ (k : ℕ) (l : List (ℕ × Item N)). if i == k then (f, p.1) ∷ l else l) (same 0 p refl) rest
 
-  module _ (k : KeeperMemo (Item N)) (made : k.made ≡ length k.back) (names : NameTheirs k.back) (all : AreAllBack k) (s : IsSettled k) where
+  module _ (k : KeeperMemo (Item N)) (made : k.made ≡ length k.back) (names : NameTheirs k.back) (all : AreAllBack k)
+      (s : IsSettled k) where
     -- the seat that came back with a ticket's item named itself in it
-    owner_back : (t i : ℕ) (x : Item N) (back : Option (SeatMemo (Item N))) → get_elem? s.taken t ≡ some (i, x) → get_elem? k.back i ≡ some back → is_some back ≡ true → i ≡ x.caller
+    owner_back : (t i : ℕ) (x : Item N) (back : Option (SeatMemo (Item N))) → get_elem? s.taken t ≡ some (i, x)
+        → get_elem? k.back i ≡ some back → is_some back ≡ true → i ≡ x.caller
     owner_back t i x None e at is = absurd (true≢false (sym is))
     owner_back t i x (Some memo) e at is =
         let whole = s.logs_are i memo at in
@@ -50,7 +54,8 @@ module _ {N : Type 0} where
         let at = there k.back p.0 (subst (λ (n : ℕ). p.0 < n) made (s.seats_are t p.0 p.1 e)) in
         owner_back t p.0 p.1 at.0 e at.1 (all p.0 at.0 at.1)
 
-    whole_caller : (i : ℕ) (memo : SeatMemo (Item N)) → get_elem? k.back i ≡ some (Some memo) → IsWholeCaller k.fronts k.notes i (caller_in memo)
+    whole_caller : (i : ℕ) (memo : SeatMemo (Item N)) → get_elem? k.back i ≡ some (Some memo)
+        → IsWholeCaller k.fronts k.notes i (caller_in memo)
     whole_caller i memo at =
         let whole = s.logs_are i memo at in
         let items = s.notes_are in
@@ -59,18 +64,22 @@ module _ {N : Type 0} where
           calls_are = whole.calls_are;
           names = subst (λ (n : ℕ). NamesItsCalls n memo.log) whole.number_is (names i memo at);
           rises = whole.rises;
-          within = subst (λ (n : ℕ). end_from 0 memo.log ≤ n) (sym (ap length items ∙ length-map s.taken (λ (x : ℕ × Item N). x.1))) whole.within;
+          within = subst (λ (n : ℕ). end_from 0 memo.log ≤ n)
+              (sym (ap length items ∙ length-map s.taken (λ (x : ℕ × Item N). x.1))) whole.within;
           accepted = whole.got ∙ same_items i 0 s.taken owner ∙ sym (ap (items_of i 0) items);
           lost_at_front = whole.lost_at_front;
         }
 
-    whole_back : (i : ℕ) (caller : CallerView N) (back : Option (SeatMemo (Item N))) → get_elem? k.back i ≡ some back → back_in back ≡ Some caller → IsWholeCaller k.fronts k.notes i caller
+    whole_back : (i : ℕ) (caller : CallerView N) (back : Option (SeatMemo (Item N))) → get_elem? k.back i ≡ some back
+        → back_in back ≡ Some caller → IsWholeCaller k.fronts k.notes i caller
     whole_back i caller None at e = absurd (none-some caller e)
-    whole_back i caller (Some memo) at e = subst (IsWholeCaller k.fronts k.notes i) (one_some (caller_in memo) caller e) (whole_caller i memo at)
+    whole_back i caller (Some memo) at e = subst (IsWholeCaller k.fronts k.notes i) (one_some (caller_in memo) caller e)
+        (whole_caller i memo at)
 
     of_caller : (t : ℕ) (item : Item N) → get_elem? k.notes t ≡ some item → item.caller < length k.back
     of_caller t item e =
-        let found = at_map_back (λ (x : ℕ × Item N). x.1) s.taken t item (sym (ap (λ (l : List (Item N)). get_elem? l t) s.notes_are) ∙ e) in
+        let found = at_map_back (λ (x : ℕ × Item N). x.1) s.taken t item
+        (sym (ap (λ (l : List (Item N)). get_elem? l t) s.notes_are) ∙ e) in
         let p = found.0 in
         let is = owner t p found.1 ∙ ap (λ (x : Item N). x.caller) found.2 in
         subst (λ (n : ℕ). item.caller < n) made (subst (λ (c : ℕ). c < k.made) is (s.seats_are t p.0 p.1 found.1))
@@ -82,11 +91,13 @@ module _ {N : Type 0} where
     }
 
 -- a take in vain once all callers are back
-pub taken_by_then : {N : Type 0} (k new : KeeperMemo (Item N)) (mark : ℕ) → new ≡ waits mark k → k.made ≡ length k.back → NameTheirs k.back → queue.AreCallersBack (taker_in k) → (AreAllBack k → IsSettled new) → IsAllTaken (taker_in new)
+pub taken_by_then : {N : Type 0} (k new : KeeperMemo (Item N)) (mark : ℕ) → new ≡ waits mark k → k.made ≡ length k.back
+    → NameTheirs k.back → queue.AreCallersBack (taker_in k) → (AreAllBack k → IsSettled new) → IsAllTaken (taker_in new)
 taken_by_then k new mark told made names all settled =
     let back = ap (λ m. m.back) told in
     let were = all_back k all in
-    all_taken new (ap (λ m. m.made) told ∙ made ∙ sym (ap length back)) (subst NameTheirs (sym back) names) (subst AreAllBack (sym told) were) (settled were)
+    all_taken new (ap (λ m. m.made) told ∙ made ∙ sym (ap length back)) (subst NameTheirs (sym back) names)
+    (subst AreAllBack (sym told) were) (settled were)
 
 module _ {N : Type 0} (bound count : ℕ) (old new : TakerView N) (gave : GivesBack bound count old new) where
   same_back : new.back ≡ old.back
@@ -94,9 +105,11 @@ module _ {N : Type 0} (bound count : ℕ) (old new : TakerView N) (gave : GivesB
 
   -- giving back leaves who is back
   pub back_on : queue.AreCallersBack old → queue.AreCallersBack new
-  back_on all = subst (λ (l : List (Option (CallerView N))). (i : ℕ) (back : Option (CallerView N)) → get_elem? l i ≡ some back → is_some back ≡ true) (sym same_back) all
+  back_on all = subst (λ (l : List (Option (CallerView N))). (i : ℕ) (back : Option (CallerView N)) → get_elem? l i ≡ some back
+      → is_some back ≡ true) (sym same_back) all
 
-  same_caller : (i : ℕ) (caller : CallerView N) → IsWholeCaller old.fronts old.items i caller → IsWholeCaller (old.fronts ++ (old.offered + count) ∷ []) old.items i caller
+  same_caller : (i : ℕ) (caller : CallerView N) → IsWholeCaller old.fronts old.items i caller
+      → IsWholeCaller (old.fronts ++ (old.offered + count) ∷ []) old.items i caller
   same_caller i caller w = record {
     number_is = w.number_is;
     calls_are = w.calls_are;
@@ -109,4 +122,8 @@ module _ {N : Type 0} (bound count : ℕ) (old new : TakerView N) (gave : GivesB
 
   -- and what was taken
   pub taken_on : IsAllTaken old → IsAllTaken new
-  taken_on is = subst IsAllTaken (sym gave.3) record { of_callers = is.of_callers; whole = λ i caller e. same_caller i caller (is.whole i caller e) }
+  taken_on is = subst IsAllTaken (sym gave.3) record {
+    of_callers = is.of_callers;
+    whole = λ i caller e. same_caller i caller
+        (is.whole i caller e);
+  }

@@ -47,16 +47,19 @@ module _ {N : Type 0} where
   all_made n (suc seats) =
       let was : IsMade {N = N} n seats (ring.made_memo n seats) = all_made n seats in
       let one : seats + 1 ≡ suc seats = omega arith in
-      let back = ap (λ (l : List (Option (SeatMemo (Item N)))). l ++ None ∷ []) was.back_is ∙ replicate_more seats None ∙ ap (λ (m : ℕ). replicate m None) one in
+      let back = ap (λ (l : List (Option (SeatMemo (Item N)))). l ++ None ∷ []) was.back_is ∙ replicate_more seats None
+      ∙ ap (λ (m : ℕ). replicate m None) one in
       record {
         shows = ap (λ (v : TakerView N). record v { back = map back_in ((ring.made_memo n seats).back ++ None ∷ []) }) was.shows
-            ∙ ap (λ (l : List (Option (CallerView N))). record (new_taker n seats) { back = l }) (ap (map back_in) back ∙ map-replicate back_in (suc seats) None);
+            ∙ ap (λ (l : List (Option (CallerView N))). record (new_taker n seats) { back = l })
+            (ap (map back_in) back ∙ map-replicate back_in (suc seats) None);
         back_is = back;
         made_is = ap (λ (m : ℕ). m + 1) was.made_is ∙ one;
       }
 
 module _ {P L T N : Type 0} (queue : Queue P L T N) where
-  new_caller_is : (i : ℕ) (seat : Seat (Items P) (Unit {0}) (Item L) T (Item N)) → i < 32 → ring.IsNewSeat admits_all queue.ring i seat → IsUnused queue record { seat = seat } × (seat_number seat ≡ i)
+  new_caller_is : (i : ℕ) (seat : Seat (Items P) (Unit {0}) (Item L) T (Item N)) → i < 32 → ring.IsNewSeat admits_all queue.ring i seat
+      → IsUnused queue record { seat = seat } × (seat_number seat ≡ i)
   new_caller_is i seat within is =
       let none = is.no_calls in (
         record {
@@ -67,7 +70,8 @@ module _ {P L T N : Type 0} (queue : Queue P L T N) where
             number_is = is.is_seat.number_is;
             calls_are = is.is_seat.calls_are;
             in_order = subst IsOrdered (sym is.knows) (new_ordered i);
-            names = λ j t item e. absurd (some-ne-none (Got t item) (sym (sym (ap (λ (m : SeatMemo (Item N)). get_elem? m.log j) is.knows) ∙ e)));
+            names = λ j t item e. absurd (some-ne-none (Got t item)
+                (sym (sym (ap (λ (m : SeatMemo (Item N)). get_elem? m.log j) is.knows) ∙ e)));
           };
           shows = ap caller_in is.knows ∙ ap new_caller (sym is.number_is);
           no_calls = none;
@@ -77,7 +81,9 @@ module _ {P L T N : Type 0} (queue : Queue P L T N) where
       )
 
   -- a new ring with a keeper and callers is a new queue
-  pub new_queue_is : (n seats : ℕ) (terms : T) (taker : Taker P L T N) (ring_seats : List (Seat (Items P) (Unit {0}) (Item L) T (Item N))) (callers : List (QueueSeat P L T N)) → seats ≤ 32 → ring.IsNewRing admits_all n seats terms queue.ring taker.keeper ring_seats → callers ≡ as_callers ring_seats → IsNewQueue n seats terms queue taker callers
+  pub new_queue_is : (n seats : ℕ) (terms : T) (taker : Taker P L T N) (ring_seats : List (Seat (Items P) (Unit {0}) (Item L) T (Item N)))
+      (callers : List (QueueSeat P L T N)) → seats ≤ 32 → ring.IsNewRing admits_all n seats terms queue.ring taker.keeper ring_seats
+      → callers ≡ as_callers ring_seats → IsNewQueue n seats terms queue taker callers
   new_queue_is n seats terms taker ring_seats callers within is are =
       let made : IsMade {N = N} n seats (ring.made_memo n seats) = all_made n seats in
       let back = ap (λ (k : KeeperMemo (Item N)). k.back) is.knows ∙ made.back_is in
@@ -96,13 +102,16 @@ module _ {P L T N : Type 0} (queue : Queue P L T N) where
         none_to_give_back = is.none_filled;
         all_made = ap length are ∙ length-map ring_seats (λ seat. record { seat = seat }) ∙ count;
         each = λ i seat e.
-            let found = at_map_back (λ (s : Seat (Items P) (Unit {0}) (Item L) T (Item N)). record { seat = s }) ring_seats i seat (ap (λ (l : List (QueueSeat P L T N)). get_elem? l i) (sym are) ∙ e) in
+            let found = at_map_back (λ (s : Seat (Items P) (Unit {0}) (Item L) T (Item N)). record { seat = s }) ring_seats i seat
+            (ap (λ (l : List (QueueSeat P L T N)). get_elem? l i) (sym are) ∙ e) in
             let low = at_length ring_seats i found.0 found.1 in
-            subst (λ (c : QueueSeat P L T N). IsUnused queue c × (caller_number c ≡ i)) found.2 (new_caller_is i found.0 (omega (arith, low, count, within)) (is.seats_are.each i found.0 found.1));
+            subst (λ (c : QueueSeat P L T N). IsUnused queue c × (caller_number c ≡ i)) found.2
+            (new_caller_is i found.0 (omega (arith, low, count, within)) (is.seats_are.each i found.0 found.1));
       }
 
   -- each caller of a new queue is unused
-  pub all_unused : (n seats : ℕ) (terms : T) (taker : Taker P L T N) (callers : List (QueueSeat P L T N)) → IsNewQueue n seats terms queue taker callers → All (IsUnused queue) callers
+  pub all_unused : (n seats : ℕ) (terms : T) (taker : Taker P L T N) (callers : List (QueueSeat P L T N))
+      → IsNewQueue n seats terms queue taker callers → All (IsUnused queue) callers
   all_unused n seats terms taker callers is i d low =
       let seat : QueueSeat P L T N = slice_index_or callers i d in
       (is.each i seat (at_index callers i seat low (get_or_default callers i d seat low))).0

@@ -32,7 +32,8 @@ module _ {N : Type 0} where
   -- all that was put was taken
   pub record IsAllTaken (taker : TakerView N) : Type 0 where
     pub of_callers : (t : ℕ) (item : Item N) → get_elem? taker.items t ≡ some item → item.caller < length taker.back
-    pub whole : (i : ℕ) (caller : CallerView N) → get_elem? taker.back i ≡ some (Some caller) → IsWholeCaller taker.fronts taker.items i caller
+    pub whole : (i : ℕ) (caller : CallerView N) → get_elem? taker.back i ≡ some (Some caller)
+        → IsWholeCaller taker.fronts taker.items i caller
 
   -- the lost events that a caller marked which came back
   abbrev pub events_back : Option (CallerView N) → ℕ

@@ -18,7 +18,16 @@ module _ {N : Type 0} where
 
   -- the taker that took nothing, of a queue of n positions with so many callers
   abbrev pub new_taker : ℕ → ℕ → TakerView N
-  new_taker n seats = record { items = []; marks = []; fronts = n ∷ []; offered = n; offers = 0; lost_events = []; lost_contexts = []; back = replicate seats None }
+  new_taker n seats = record {
+    items = [];
+    marks = [];
+    fronts = n ∷ [];
+    offered = n;
+    offers = 0;
+    lost_events = [];
+    lost_contexts = [];
+    back = replicate seats None;
+  }
 
 module _ {P L T N : Type 0} where
   -- the callers of a ring's seats
@@ -33,7 +42,8 @@ module _ {P L T N : Type 0} where
     pub is_idle : ticket_of seat ≡ None
 
   -- all positions are free, nothing was taken, and all callers are made and idle
-  pub record IsNewQueue (n seats : ℕ) (terms : T) (queue : Queue P L T N) (taker : Taker P L T N) (callers : List (QueueSeat P L T N)) : Type 0 where
+  pub record IsNewQueue (n seats : ℕ) (terms : T) (queue : Queue P L T N) (taker : Taker P L T N)
+      (callers : List (QueueSeat P L T N)) : Type 0 where
     pub positions_are : queue_positions queue ≡ n
     pub seats_may_be : queue_seats queue ≡ seats
     pub terms_are : queue_terms queue ≡ terms

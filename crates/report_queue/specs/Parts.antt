@@ -80,4 +80,5 @@ module _ {P L T N : Type 0} where
     pub none_vacant : vacant_of taker.keeper ≡ 0
     pub made_are : (taker_memo taker).made ≡ length (taker_memo taker).back
     -- each caller that came back named its calls
-    pub names : (i : ℕ) (memo : SeatMemo (Item N)) → get_elem? (taker_memo taker).back i ≡ some (Some memo) → NamesItsCalls memo.number memo.log
+    pub names : (i : ℕ) (memo : SeatMemo (Item N)) → get_elem? (taker_memo taker).back i ≡ some (Some memo)
+        → NamesItsCalls memo.number memo.log

@@ -39,7 +39,13 @@ pub record TakerView (N : Type 0) : Type 0 where
 module _ {N : Type 0} where
   -- what a seat's memo shows of its caller
   abbrev pub caller_in : SeatMemo (Item N) → CallerView N
-  caller_in memo = record { caller = memo.number; calls = memo.view.calls; log = memo.log; lost_events = memo.view.marks0; lost_contexts = memo.view.marks1 }
+  caller_in memo = record {
+    caller = memo.number;
+    calls = memo.view.calls;
+    log = memo.log;
+    lost_events = memo.view.marks0;
+    lost_contexts = memo.view.marks1;
+  }
 
   -- a caller that came back, where it did
   abbrev pub back_in : Option (SeatMemo (Item N)) → Option (CallerView N)
@@ -48,7 +54,16 @@ module _ {N : Type 0} where
 
   -- what the keeper's memo shows of the taker
   abbrev pub taker_in : KeeperMemo (Item N) → TakerView N
-  taker_in k = record { items = k.notes; marks = k.marks; fronts = k.fronts; offered = k.offered; offers = k.offers; lost_events = k.swept0; lost_contexts = k.swept1; back = map back_in k.back }
+  taker_in k = record {
+    items = k.notes;
+    marks = k.marks;
+    fronts = k.fronts;
+    offered = k.offered;
+    offers = k.offers;
+    lost_events = k.swept0;
+    lost_contexts = k.swept1;
+    back = map back_in k.back;
+  }
 
   -- an item that call j of caller i got names i and j
   abbrev pub NamesItsCalls : ℕ → List (Outcome (Item N)) → Type 0

@@ -6,7 +6,8 @@ use Rattle.ring_core.specs.Machine.{Machine, seat_at}
 use Rattle.ring_core.specs.Sound.{IsRing}
 
 -- a sum over seats that each add at most `most`
-sum_within : (f : SeatView → ℕ) (most : ℕ) (seats : List SeatView) → ((i : ℕ) → f (seat_at seats i) ≤ most) → sum_by f seats ≤ length seats * most
+sum_within : (f : SeatView → ℕ) (most : ℕ) (seats : List SeatView) → ((i : ℕ) → f (seat_at seats i) ≤ most)
+    → sum_by f seats ≤ length seats * most
 sum_within f most [] each = omega arith
 sum_within f most (seat ∷ seats) each =
     let here : f seat ≤ most = each 0 in
@@ -51,6 +52,8 @@ small m r =
       free = omega (arith, free, most);
       reaped = omega (arith, claims, reaped);
       offered = omega (arith, claims, account, free, most);
-      loss0 = subst (λ (k : ℕ). k ≤ 2 ^ 45) (sym r.loss0) (ring_sum_within m r (λ (s : SeatView). s.marks0) (λ i. (r.seats.each i).marks0_within));
-      loss1 = subst (λ (k : ℕ). k ≤ 2 ^ 45) (sym r.loss1) (ring_sum_within m r (λ (s : SeatView). s.marks1) (λ i. (r.seats.each i).marks1_within));
+      loss0 = subst (λ (k : ℕ). k ≤ 2 ^ 45) (sym r.loss0) (ring_sum_within m r (λ (s : SeatView). s.marks0)
+          (λ i. (r.seats.each i).marks0_within));
+      loss1 = subst (λ (k : ℕ). k ≤ 2 ^ 45) (sym r.loss1) (ring_sum_within m r (λ (s : SeatView). s.marks1)
+          (λ i. (r.seats.each i).marks1_within));
     }

@@ -52,7 +52,8 @@ module _ (m : Machine) (r : IsRing m) (i : ℕ) (is_armed : (seat_at m.seats i).
   served_seat = record (seat_at m.seats i) { armed = false; held = Some (record { 0 = m.word.claimed }) }
 
   disarmed : (seat : SeatView) → seat.armed ≡ false → armed_count (set m.seats i seat) + 1 ≡ armed_count m.seats
-  disarmed seat off = let e = armed-after m.seats i seat made in let was = one_if-true (seat_at m.seats i).armed is_armed in let now = ap one_if off in omega (arith, e, was, now)
+  disarmed seat off = let e = armed-after m.seats i seat made in let was = one_if-true
+      (seat_at m.seats i).armed is_armed in let now = ap one_if off in omega (arith, e, was, now)
 
   vain_seat : IsSeat m.reaped m.word.claimed vain
   vain_seat = let s = r.seats.each i in record {
@@ -74,7 +75,8 @@ module _ (m : Machine) (r : IsRing m) (i : ℕ) (is_armed : (seat_at m.seats i).
     apart = apart_same m.seats (set m.seats i vain) (holders_stay m.seats i vain made refl) r.seats.apart;
     made_within = made_after m.seats i vain made m.limit r.seats.made_within;
     armed_within = let old = r.seats.armed_within in omega (arith, fewer, old);
-    each_had_a_call = let old = r.seats.each_had_a_call in let calls = sum_stays m.seats i vain made (λ (s : SeatView). s.calls) refl in omega (arith, fewer, old, calls);
+    each_had_a_call = let old = r.seats.each_had_a_call in let calls = sum_stays m.seats i vain made
+        (λ (s : SeatView). s.calls) refl in omega (arith, fewer, old, calls);
   }
 
   vain_last : IsLast m.positions m.limit vain_word m.seen
@@ -102,7 +104,8 @@ module _ (m : Machine) (r : IsRing m) (i : ℕ) (is_armed : (seat_at m.seats i).
       one_turn_ahead = r.permits.one_turn_ahead;
     };
     seats = vain_seats;
-    marks = λ p h. mark_same m.seats (set m.seats i vain) (holders_stay m.seats i vain made refl) m.positions m.word.claimed p _ (r.marks p h);
+    marks = λ p h. mark_same m.seats (set m.seats i vain) (holders_stay m.seats i vain made refl) m.positions m.word.claimed p _
+        (r.marks p h);
     loss0 = r.loss0 ∙ sym (sum_stays m.seats i vain made (λ (s : SeatView). s.marks0) refl);
     loss1 = r.loss1 ∙ sym (sum_stays m.seats i vain made (λ (s : SeatView). s.marks1) refl);
     last = vain_last;
@@ -129,7 +132,11 @@ module _ (m : Machine) (r : IsRing m) (i : ℕ) (is_armed : (seat_at m.seats i).
   -- a ticket that is held after the claim is the new one, or was held before
   held_after : (j t : ℕ) → Holds (seat_at after_served j) t → ((j ≡ i) × (m.word.claimed ≡ t)) ⊎ ((j ≢ i) × Holds (seat_at m.seats j) t)
   held_after j t h = elim (cases_eq j i) [
-    | inl here ↦ inl (here, one_ticket m.word.claimed t (ap (λ (s : SeatView). s.held) (sym (seat_at-here m.seats i served_seat made)) ∙ ap (λ (k : ℕ). (seat_at after_served k).held) (sym here) ∙ h))
+    | inl here ↦ inl (
+      here,
+      one_ticket m.word.claimed t (ap (λ (s : SeatView). s.held) (sym (seat_at-here m.seats i served_seat made))
+          ∙ ap (λ (k : ℕ). (seat_at after_served k).held) (sym here) ∙ h),
+    )
     | inr other ↦ inr (other, ap (λ (s : SeatView). s.held) (sym (seat_at-else m.seats i served_seat made j other)) ∙ h)
   ]
 
@@ -160,14 +167,17 @@ module _ (m : Machine) (r : IsRing m) (i : ℕ) (is_armed : (seat_at m.seats i).
 
   served_seats : AreSeats m.limit m.reaped served_word after_served
   served_seats = let fewer = disarmed served_seat refl in record {
-    each = each_after m.seats i served_seat made (IsSeat m.reaped (m.word.claimed + 1)) (λ j. wider_seat m.reaped m.word.claimed (seat_at m.seats j) (r.seats.each j)) served_in_order;
+    each = each_after m.seats i served_seat made (IsSeat m.reaped (m.word.claimed + 1))
+        (λ j. wider_seat m.reaped m.word.claimed (seat_at m.seats j) (r.seats.each j)) served_in_order;
     apart = apart_served;
     made_within = made_after m.seats i served_seat made m.limit r.seats.made_within;
     armed_within = let old = r.seats.armed_within in omega (arith, fewer, old);
-    each_had_a_call = let old = r.seats.each_had_a_call in let calls = sum_stays m.seats i served_seat made (λ (s : SeatView). s.calls) refl in omega (arith, fewer, old, calls);
+    each_had_a_call = let old = r.seats.each_had_a_call in let calls = sum_stays m.seats i served_seat made
+        (λ (s : SeatView). s.calls) refl in omega (arith, fewer, old, calls);
   }
 
-  finished_before : (p t : ℕ) → IsFinished m.positions (m.word.claimed + 1) after_served p t → IsFinished m.positions m.word.claimed m.seats p t
+  finished_before : (p t : ℕ) → IsFinished m.positions (m.word.claimed + 1) after_served p t
+      → IsFinished m.positions m.word.claimed m.seats p t
   finished_before p t f = record {
     claimed_before = elim (cases_eq m.word.claimed t) [
       | inl new ↦ absurd (f.held_by_none i (subst (λ (u : ℕ). Holds (seat_at after_served i) u) new new_is_held))
@@ -177,7 +187,8 @@ module _ (m : Machine) (r : IsRing m) (i : ℕ) (is_armed : (seat_at m.seats i).
     held_by_none = λ j h. f.held_by_none j (held_before j t h);
   }
 
-  finished_after : (p t : ℕ) → IsFinished m.positions m.word.claimed m.seats p t → IsFinished m.positions (m.word.claimed + 1) after_served p t
+  finished_after : (p t : ℕ) → IsFinished m.positions m.word.claimed m.seats p t
+      → IsFinished m.positions (m.word.claimed + 1) after_served p t
   finished_after p t f = let below = f.claimed_before in record {
     claimed_before = omega (arith, below);
     stands_at = f.stands_at;
@@ -187,7 +198,8 @@ module _ (m : Machine) (r : IsRing m) (i : ℕ) (is_armed : (seat_at m.seats i).
     ];
   }
 
-  served_mark : (p mark : ℕ) → IsMark m.positions m.word.claimed m.seats p mark → IsMark m.positions (m.word.claimed + 1) after_served p mark
+  served_mark : (p mark : ℕ) → IsMark m.positions m.word.claimed m.seats p mark
+      → IsMark m.positions (m.word.claimed + 1) after_served p mark
   served_mark p mark old = record {
     above_all = λ t f. old.above_all t (finished_before p t f);
     just_above = λ t e. finished_after p t (old.just_above t e);
@@ -231,7 +243,11 @@ module _ (m : Machine) (r : IsRing m) (i : ℕ) (is_armed : (seat_at m.seats i).
 
   -- the state after the claim, where `some` tells whether a position is free
   abbrev claimed_to : Bool → Machine
-  claimed_to some = record (with_seat m i (record (seat_at m.seats i) { armed = false; held = cond some (Some (record { 0 = m.word.claimed })) (seat_at m.seats i).held })) { word = cond some served_word vain_word }
+  claimed_to some = record (with_seat m i (record (seat_at m.seats i) {
+    armed = false;
+    held = cond some
+        (Some (record { 0 = m.word.claimed })) (seat_at m.seats i).held;
+  })) { word = cond some served_word vain_word }
 
   claim_either : (some : Bool) → nat_lt 0 m.word.free ≡ some → IsRing (claimed_to some)
   claim_either true e = claim_served (ltb-true 0 m.word.free e)
@@ -244,10 +260,14 @@ pub claim_keeps : (m : Machine) → IsRing m → (i : ℕ) → possible m (Claim
 claim_keeps m r i ok = claim_sound m r i ok
 
 -- the same for the seat as the code reads it
-pub vain_of : (m : Machine) → IsRing m → (i : ℕ) (seat : SeatView) → seat ≡ seat_at m.seats i → seat.armed ≡ true → m.word.free ≡ 0 → IsRing (vain_after m i seat)
+pub vain_of : (m : Machine) → IsRing m → (i : ℕ) (seat : SeatView) → seat ≡ seat_at m.seats i → seat.armed ≡ true → m.word.free ≡ 0
+    → IsRing (vain_after m i seat)
 vain_of m r i seat is is_armed full =
-    subst (λ (s : SeatView). IsRing (vain_after m i s)) (sym is) (claim_in_vain m r i (ap (λ (s : SeatView). s.armed) (sym is) ∙ is_armed) full)
+    subst (λ (s : SeatView). IsRing (vain_after m i s)) (sym is)
+    (claim_in_vain m r i (ap (λ (s : SeatView). s.armed) (sym is) ∙ is_armed) full)
 
-pub served_of : (m : Machine) → IsRing m → (i : ℕ) (seat : SeatView) → seat ≡ seat_at m.seats i → seat.armed ≡ true → 0 < m.word.free → IsRing (served_after m i seat)
+pub served_of : (m : Machine) → IsRing m → (i : ℕ) (seat : SeatView) → seat ≡ seat_at m.seats i → seat.armed ≡ true → 0 < m.word.free
+    → IsRing (served_after m i seat)
 served_of m r i seat is is_armed some =
-    subst (λ (s : SeatView). IsRing (served_after m i s)) (sym is) (claim_served m r i (ap (λ (s : SeatView). s.armed) (sym is) ∙ is_armed) some)
+    subst (λ (s : SeatView). IsRing (served_after m i s)) (sym is)
+    (claim_served m r i (ap (λ (s : SeatView). s.armed) (sym is) ∙ is_armed) some)

@@ -40,7 +40,8 @@ module _ (m : Machine) (r : IsRing m) (i t : ℕ) (holds : Holds (seat_at m.seat
   -- a ticket that is held after the finish was held before, by another seat
   held_else : (j u : ℕ) → Holds (seat_at seats_now j) u → (j ≢ i) × Holds (seat_at m.seats j) u
   held_else j u h = elim (cases_eq j i) [
-    | inl here ↦ none_held (seat_at seats_now i).held u (ap (λ (s : SeatView). s.held) (seat_at-here m.seats i empty made)) (ap (λ (k : ℕ). (seat_at seats_now k).held) (sym here) ∙ h)
+    | inl here ↦ none_held (seat_at seats_now i).held u (ap (λ (s : SeatView). s.held) (seat_at-here m.seats i empty made))
+        (ap (λ (k : ℕ). (seat_at seats_now k).held) (sym here) ∙ h)
     | inr other ↦ (other, ap (λ (s : SeatView). s.held) (sym (seat_at-else m.seats i empty made j other)) ∙ h)
   ]
 
@@ -73,11 +74,20 @@ module _ (m : Machine) (r : IsRing m) (i t : ℕ) (holds : Holds (seat_at m.seat
     held_by_none = λ j h. let before = held_else j t h in before.0 (r.seats.apart j i t before.1 holds);
   }
 
-  finished_before : (p u : ℕ) → t ≢ u → IsFinished m.positions m.word.claimed seats_now p u → IsFinished m.positions m.word.claimed m.seats p u
-  finished_before p u other f = record { claimed_before = f.claimed_before; stands_at = f.stands_at; held_by_none = λ j h. f.held_by_none j (still_held j u other h) }
+  finished_before : (p u : ℕ) → t ≢ u → IsFinished m.positions m.word.claimed seats_now p u
+      → IsFinished m.positions m.word.claimed m.seats p u
+  finished_before p u other f = record {
+    claimed_before = f.claimed_before;
+    stands_at = f.stands_at;
+    held_by_none = λ j h. f.held_by_none j (still_held j u other h);
+  }
 
   finished_after : (p u : ℕ) → IsFinished m.positions m.word.claimed m.seats p u → IsFinished m.positions m.word.claimed seats_now p u
-  finished_after p u f = record { claimed_before = f.claimed_before; stands_at = f.stands_at; held_by_none = λ j h. f.held_by_none j (held_else j u h).1 }
+  finished_after p u f = record {
+    claimed_before = f.claimed_before;
+    stands_at = f.stands_at;
+    held_by_none = λ j h. f.held_by_none j (held_else j u h).1;
+  }
 
   -- no finished ticket at t's position is above t, which stands in the last turn
   below_mark : (u : ℕ) → IsFinished m.positions m.word.claimed seats_now (t % m.positions) u → u < t + 1
@@ -95,12 +105,15 @@ module _ (m : Machine) (r : IsRing m) (i t : ℕ) (holds : Holds (seat_at m.seat
   mark_here : IsMark m.positions m.word.claimed seats_now (t % m.positions) (t + 1)
   mark_here = record {
     above_all = below_mark;
-    just_above = λ u e. let same : t ≡ u = omega (arith, e) in subst (λ (v : ℕ). IsFinished m.positions m.word.claimed seats_now (t % m.positions) v) same now_finished;
+    just_above = λ u e. let same : t ≡ u = omega (arith, e) in subst (λ (v : ℕ). IsFinished m.positions m.word.claimed seats_now
+        (t % m.positions) v) same now_finished;
   }
 
-  mark_else : (p mark : ℕ) → p ≢ t % m.positions → IsMark m.positions m.word.claimed m.seats p mark → IsMark m.positions m.word.claimed seats_now p mark
+  mark_else : (p mark : ℕ) → p ≢ t % m.positions → IsMark m.positions m.word.claimed m.seats p mark
+      → IsMark m.positions m.word.claimed seats_now p mark
   mark_else p mark other old = record {
-    above_all = λ u f. old.above_all u (finished_before p u (λ same. other (sym f.stands_at ∙ ap (λ (v : ℕ). v % m.positions) (sym same))) f);
+    above_all = λ u f. old.above_all u (finished_before p u (λ same. other
+        (sym f.stands_at ∙ ap (λ (v : ℕ). v % m.positions) (sym same))) f);
     just_above = λ u e. finished_after p u (old.just_above u e);
   }
 
@@ -108,12 +121,16 @@ module _ (m : Machine) (r : IsRing m) (i t : ℕ) (holds : Holds (seat_at m.seat
   marks_now = set m.marks (t % m.positions) (t + 1)
 
   stands_within : t % m.positions < length m.marks
-  stands_within = let some = r.sizes.some_position in let e = r.sizes.a_mark_each in let below : t % m.positions < m.positions = mod-lt t (omega (arith, some)) in omega (arith, e, below)
+  stands_within = let some = r.sizes.some_position in let e = r.sizes.a_mark_each in let below : t % m.positions < m.positions = mod-lt t
+      (omega (arith, some)) in omega (arith, e, below)
 
   marks : (p : ℕ) → p < m.positions → IsMark m.positions m.word.claimed seats_now p (mark_at marks_now p)
   marks p h = elim (cases_eq p (t % m.positions)) [
-    | inl here ↦ subst (λ (q : ℕ). IsMark m.positions m.word.claimed seats_now q (mark_at marks_now q)) (sym here) (subst (IsMark m.positions m.word.claimed seats_now (t % m.positions)) (sym (get_or-set_same m.marks (t % m.positions) (t + 1) 0 stands_within)) mark_here)
-    | inr other ↦ subst (IsMark m.positions m.word.claimed seats_now p) (sym (get_or-set_other m.marks (t % m.positions) p (t + 1) 0 other)) (mark_else p _ other (r.marks p h))
+    | inl here ↦ subst (λ (q : ℕ). IsMark m.positions m.word.claimed seats_now q (mark_at marks_now q)) (sym here)
+        (subst (IsMark m.positions m.word.claimed seats_now (t % m.positions))
+        (sym (get_or-set_same m.marks (t % m.positions) (t + 1) 0 stands_within)) mark_here)
+    | inr other ↦ subst (IsMark m.positions m.word.claimed seats_now p)
+        (sym (get_or-set_other m.marks (t % m.positions) p (t + 1) 0 other)) (mark_else p _ other (r.marks p h))
   ]
 
   pub finish_sound : IsRing (record (with_seat m i empty) { marks = marks_now })
@@ -136,7 +153,8 @@ module _ (m : Machine) (r : IsRing m) (i t : ℕ) (holds : Holds (seat_at m.seat
 abbrev emptied : Machine → ℕ → Option Ticket0 → Machine
 emptied m i held = record (with_seat m i (record (seat_at m.seats i) { held = None })) { marks = finished m.positions m.marks held }
 
-finish_holding : (m : Machine) → IsRing m → (i : ℕ) (held : Option Ticket0) → (seat_at m.seats i).held ≡ held → is_some held ≡ true → IsRing (emptied m i held)
+finish_holding : (m : Machine) → IsRing m → (i : ℕ) (held : Option Ticket0) → (seat_at m.seats i).held ≡ held → is_some held ≡ true
+    → IsRing (emptied m i held)
 finish_holding m r i None e some = absurd cc
 finish_holding m r i (Some ticket) e some = finish_sound m r i ticket.0 e
 
@@ -144,6 +162,8 @@ pub finish_keeps : (m : Machine) → IsRing m → (i : ℕ) → possible m (Fini
 finish_keeps m r i ok = finish_holding m r i (seat_at m.seats i).held refl ok
 
 -- the same for the seat as the code reads it
-pub finish_of : (m : Machine) → IsRing m → (i t : ℕ) (seat : SeatView) → seat ≡ seat_at m.seats i → Holds seat t → IsRing (record (with_seat m i (record seat { held = None })) { marks = set m.marks (t % m.positions) (t + 1) })
+pub finish_of : (m : Machine) → IsRing m → (i t : ℕ) (seat : SeatView) → seat ≡ seat_at m.seats i → Holds seat t
+    → IsRing (record (with_seat m i (record seat { held = None })) { marks = set m.marks (t % m.positions) (t + 1) })
 finish_of m r i t seat is holds =
-    subst (λ (s : SeatView). IsRing (record (with_seat m i (record s { held = None })) { marks = set m.marks (t % m.positions) (t + 1) })) (sym is) (finish_sound m r i t (ap (λ (s : SeatView). s.held) (sym is) ∙ holds))
+    subst (λ (s : SeatView). IsRing (record (with_seat m i (record s { held = None })) { marks = set m.marks (t % m.positions) (t + 1) }))
+    (sym is) (finish_sound m r i t (ap (λ (s : SeatView). s.held) (sym is) ∙ holds))

@@ -8,11 +8,14 @@ use Rattle.ring_core.specs.Sound.{IsRing, IsSeat, IsFinished, Holds}
 
 module _ (m : Machine) (r : IsRing m) where
   -- the next ticket where its mark is set
-  next_finished : mark_at m.marks (m.reaped % m.positions) ≡ m.reaped + 1 → IsFinished m.positions m.word.claimed m.seats (m.reaped % m.positions) m.reaped
-  next_finished e = let some = r.sizes.some_position in (r.marks (m.reaped % m.positions) (mod-lt m.reaped (omega (arith, some)))).just_above m.reaped e
+  next_finished : mark_at m.marks (m.reaped % m.positions) ≡ m.reaped + 1
+      → IsFinished m.positions m.word.claimed m.seats (m.reaped % m.positions) m.reaped
+  next_finished e = let some = r.sizes.some_position in (r.marks (m.reaped % m.positions)
+      (mod-lt m.reaped (omega (arith, some)))).just_above m.reaped e
 
   -- the next ticket is finished, so no seat holds it
-  seen_seat : IsFinished m.positions m.word.claimed m.seats (m.reaped % m.positions) m.reaped → (i : ℕ) → IsSeat (m.reaped + 1) m.word.claimed (seat_at m.seats i)
+  seen_seat : IsFinished m.positions m.word.claimed m.seats (m.reaped % m.positions) m.reaped → (i : ℕ)
+      → IsSeat (m.reaped + 1) m.word.claimed (seat_at m.seats i)
   seen_seat f i = let s = r.seats.each i in record {
     armed_is_live = s.armed_is_live;
     holder_is_live = s.holder_is_live;
@@ -54,7 +57,8 @@ module _ (m : Machine) (r : IsRing m) where
       }
 
   -- the same for the mark as the code reads it
-  pub see_of : (mark : ℕ) → mark ≡ get_or m.marks (m.reaped % m.positions) mark → mark ≡ m.reaped + 1 → IsRing (record m { reaped = m.reaped + 1 })
+  pub see_of : (mark : ℕ) → mark ≡ get_or m.marks (m.reaped % m.positions) mark → mark ≡ m.reaped + 1
+      → IsRing (record m { reaped = m.reaped + 1 })
   see_of mark is next =
       let some = r.sizes.some_position in
       let each = r.sizes.a_mark_each in
@@ -129,4 +133,5 @@ module _ (m : Machine) (r : IsRing m) where
   offer_either k room false = read_keeps
 
   pub offer_keeps : (k : ℕ) → possible m (Offer k) ≡ true → IsRing (after m (Offer k))
-  offer_keeps k ok = offer_either k (leb-true (m.offered + k) (m.reaped + m.positions) (and_parts (nat_le 1 k) (nat_le (m.offered + k) (m.reaped + m.positions)) ok).1) (same_word m.word m.seen)
+  offer_keeps k ok = offer_either k (leb-true (m.offered + k) (m.reaped + m.positions)
+      (and_parts (nat_le 1 k) (nat_le (m.offered + k) (m.reaped + m.positions)) ok).1) (same_word m.word m.seen)

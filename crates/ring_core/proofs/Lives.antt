@@ -79,7 +79,8 @@ module _ (m : Machine) (r : IsRing m) (i : ℕ) (idle : Idle (seat_at m.seats i)
     sizes = r.sizes;
     permits = r.permits;
     seats = seats_stay m r i made ended ended_in_order refl refl refl;
-    marks = λ p h. mark_same m.seats (set m.seats i ended) (holders_stay m.seats i ended made refl) m.positions m.word.claimed p _ (r.marks p h);
+    marks = λ p h. mark_same m.seats (set m.seats i ended) (holders_stay m.seats i ended made refl) m.positions m.word.claimed p _
+        (r.marks p h);
     loss0 = r.loss0 ∙ sym (sum_stays m.seats i ended made (λ (s : SeatView). s.marks0) refl);
     loss1 = r.loss1 ∙ sym (sum_stays m.seats i ended made (λ (s : SeatView). s.marks1) refl);
     last = r.last;
@@ -89,5 +90,7 @@ pub join_keeps : (m : Machine) → IsRing m → (i : ℕ) → possible m (Join i
 join_keeps m r i ok = join_sound m r i (idle_parts (seat_at m.seats i) ok)
 
 -- the same for the seat as the code reads it
-pub join_of : (m : Machine) → IsRing m → (i : ℕ) (seat : SeatView) → seat ≡ seat_at m.seats i → is_idle seat ≡ true → IsRing (with_seat m i (record seat { live = false }))
-join_of m r i seat is idle = subst (λ (s : SeatView). IsRing (with_seat m i (record s { live = false }))) (sym is) (join_sound m r i (subst Idle is (idle_parts seat idle)))
+pub join_of : (m : Machine) → IsRing m → (i : ℕ) (seat : SeatView) → seat ≡ seat_at m.seats i → is_idle seat ≡ true
+    → IsRing (with_seat m i (record seat { live = false }))
+join_of m r i seat is idle = subst (λ (s : SeatView). IsRing (with_seat m i (record s { live = false }))) (sym is)
+    (join_sound m r i (subst Idle is (idle_parts seat idle)))

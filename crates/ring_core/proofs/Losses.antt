@@ -8,7 +8,8 @@ use Rattle.ring_core.specs.Sound.{IsRing, IsSeat, AreSeats}
 use Rattle.ring_core.proofs.SeatLemmas.{live_is_made, one_if, mark_same, apart_same, each_after, made_after, sum-after, sum_stays, holders_stay}
 
 -- the seat with one mark more stays in order
-marked_seat : (reaped claimed kind : ℕ) (seat : SeatView) → marks_of seat kind < 2 ^ 40 → IsSeat reaped claimed seat → IsSeat reaped claimed (marked kind seat)
+marked_seat : (reaped claimed kind : ℕ) (seat : SeatView) → marks_of seat kind < 2 ^ 40 → IsSeat reaped claimed seat
+    → IsSeat reaped claimed (marked kind seat)
 marked_seat reaped claimed zero seat few s = record {
   armed_is_live = s.armed_is_live;
   holder_is_live = s.holder_is_live;
@@ -29,7 +30,9 @@ marked_seat reaped claimed (suc kind) seat few s = record {
 }
 
 -- a change that leaves the ticket, the calls and whether it is armed alone
-module _ (m : Machine) (r : IsRing m) (i : ℕ) (made : i < length m.seats) (now : SeatView) (in_order : IsSeat m.reaped m.word.claimed now) (held : now.held ≡ (seat_at m.seats i).held) (armed : now.armed ≡ (seat_at m.seats i).armed) (calls : now.calls ≡ (seat_at m.seats i).calls) where
+module _ (m : Machine) (r : IsRing m) (i : ℕ) (made : i < length m.seats) (now : SeatView) (in_order : IsSeat m.reaped m.word.claimed now)
+    (held : now.held ≡ (seat_at m.seats i).held) (armed : now.armed ≡ (seat_at m.seats i).armed)
+    (calls : now.calls ≡ (seat_at m.seats i).calls) where
   pub seats_stay : AreSeats m.limit m.reaped m.word (set m.seats i now)
   seats_stay =
       let same_armed = sum_stays m.seats i now made (λ (s : SeatView). one_if s.armed) (ap one_if armed) in
@@ -57,7 +60,8 @@ module _ (m : Machine) (r : IsRing m) (i : ℕ) (live : (seat_at m.seats i).live
         sizes = r.sizes;
         permits = r.permits;
         seats = seats_stay m r i made now (marked_seat m.reaped m.word.claimed 0 (seat_at m.seats i) few (r.seats.each i)) refl refl refl;
-        marks = λ p h. mark_same m.seats (set m.seats i now) (holders_stay m.seats i now made refl) m.positions m.word.claimed p _ (r.marks p h);
+        marks = λ p h. mark_same m.seats (set m.seats i now) (holders_stay m.seats i now made refl) m.positions m.word.claimed p _
+            (r.marks p h);
         loss0 = omega (arith, sum, old);
         loss1 = r.loss1 ∙ sym (sum_stays m.seats i now made (λ (s : SeatView). s.marks1) refl);
         last = r.last;
@@ -71,14 +75,17 @@ module _ (m : Machine) (r : IsRing m) (i : ℕ) (live : (seat_at m.seats i).live
       record {
         sizes = r.sizes;
         permits = r.permits;
-        seats = seats_stay m r i made now (marked_seat m.reaped m.word.claimed (suc kind) (seat_at m.seats i) few (r.seats.each i)) refl refl refl;
-        marks = λ p h. mark_same m.seats (set m.seats i now) (holders_stay m.seats i now made refl) m.positions m.word.claimed p _ (r.marks p h);
+        seats = seats_stay m r i made now (marked_seat m.reaped m.word.claimed (suc kind) (seat_at m.seats i) few
+            (r.seats.each i)) refl refl refl;
+        marks = λ p h. mark_same m.seats (set m.seats i now) (holders_stay m.seats i now made refl) m.positions m.word.claimed p _
+            (r.marks p h);
         loss0 = r.loss0 ∙ sym (sum_stays m.seats i now made (λ (s : SeatView). s.marks0) refl);
         loss1 = omega (arith, sum, old);
         last = r.last;
       }
 
-mark_few : (m : Machine) → IsRing m → (i kind : ℕ) → (seat_at m.seats i).live ≡ true → marks_of (seat_at m.seats i) kind < 2 ^ 40 → IsRing (after m (Mark i kind))
+mark_few : (m : Machine) → IsRing m → (i kind : ℕ) → (seat_at m.seats i).live ≡ true → marks_of (seat_at m.seats i) kind < 2 ^ 40
+    → IsRing (after m (Mark i kind))
 mark_few m r i zero live few = mark0_sound m r i live few
 mark_few m r i (suc kind) live few = mark1_sound m r i live kind few
 
@@ -89,8 +96,24 @@ mark_keeps m r i kind ok =
     mark_few m r i kind inner.0 (ltb-true (marks_of (seat_at m.seats i) kind) (2 ^ 40) inner.1)
 
 pub sweep_keeps : (m : Machine) → IsRing m → (kind : ℕ) → IsRing (after m (Sweep kind))
-sweep_keeps m r zero = let old = r.loss0 in record { sizes = r.sizes; permits = r.permits; seats = r.seats; marks = r.marks; loss0 = omega (arith, old); loss1 = r.loss1; last = r.last }
-sweep_keeps m r (suc kind) = let old = r.loss1 in record { sizes = r.sizes; permits = r.permits; seats = r.seats; marks = r.marks; loss0 = r.loss0; loss1 = omega (arith, old); last = r.last }
+sweep_keeps m r zero = let old = r.loss0 in record {
+  sizes = r.sizes;
+  permits = r.permits;
+  seats = r.seats;
+  marks = r.marks;
+  loss0 = omega (arith, old);
+  loss1 = r.loss1;
+  last = r.last;
+}
+sweep_keeps m r (suc kind) = let old = r.loss1 in record {
+  sizes = r.sizes;
+  permits = r.permits;
+  seats = r.seats;
+  marks = r.marks;
+  loss0 = r.loss0;
+  loss1 = omega (arith, old);
+  last = r.last;
+}
 
 -- the same for the seat and the marked seat as the code reads them
 module _ (m : Machine) (r : IsRing m) (i : ℕ) (seat now : SeatView) (is : seat ≡ seat_at m.seats i) (live : seat.live ≡ true) where
@@ -103,10 +126,16 @@ module _ (m : Machine) (r : IsRing m) (i : ℕ) (seat now : SeatView) (is : seat
   now_is : (kind : ℕ) → now ≡ marked kind seat → marked kind (seat_at m.seats i) ≡ now
   now_is kind e = ap (marked kind) (sym is) ∙ sym e
 
-  pub mark0_of : (kind : ℕ) → kind ≡ 0 → marks_of seat kind < 2 ^ 40 → now ≡ marked kind seat → IsRing (record (with_seat m i now) { loss0 = record m.loss0 { value = m.loss0.value + 1 } })
-  mark0_of zero e few is_now = subst (λ (s : SeatView). IsRing (record (with_seat m i s) { loss0 = record m.loss0 { value = m.loss0.value + 1 } })) (now_is 0 is_now) (mark0_sound m r i there (few_there 0 few))
+  pub mark0_of : (kind : ℕ) → kind ≡ 0 → marks_of seat kind < 2 ^ 40 → now ≡ marked kind seat
+      → IsRing (record (with_seat m i now) { loss0 = record m.loss0 { value = m.loss0.value + 1 } })
+  mark0_of zero e few is_now = subst (λ (s : SeatView). IsRing
+      (record (with_seat m i s) { loss0 = record m.loss0 { value = m.loss0.value + 1 } })) (now_is 0 is_now)
+      (mark0_sound m r i there (few_there 0 few))
   mark0_of (suc kind) e few is_now = absurd (omega (arith, e))
 
-  pub mark1_of : (kind : ℕ) → kind ≢ 0 → marks_of seat kind < 2 ^ 40 → now ≡ marked kind seat → IsRing (record (with_seat m i now) { loss1 = record m.loss1 { value = m.loss1.value + 1 } })
+  pub mark1_of : (kind : ℕ) → kind ≢ 0 → marks_of seat kind < 2 ^ 40 → now ≡ marked kind seat
+      → IsRing (record (with_seat m i now) { loss1 = record m.loss1 { value = m.loss1.value + 1 } })
   mark1_of zero e few is_now = absurd (e refl)
-  mark1_of (suc kind) e few is_now = subst (λ (s : SeatView). IsRing (record (with_seat m i s) { loss1 = record m.loss1 { value = m.loss1.value + 1 } })) (now_is (suc kind) is_now) (mark1_sound m r i there kind (few_there (suc kind) few))
+  mark1_of (suc kind) e few is_now = subst (λ (s : SeatView). IsRing
+      (record (with_seat m i s) { loss1 = record m.loss1 { value = m.loss1.value + 1 } })) (now_is (suc kind) is_now)
+      (mark1_sound m r i there kind (few_there (suc kind) few))

@@ -31,7 +31,13 @@ fresh_mark n p = record {
 pub opens : (n limit : ℕ) → 1 ≤ n → n ≤ 1024 → 1 ≤ limit → limit ≤ 32 → IsRing (opening n limit)
 opens n limit some most one few = record {
   sizes = record { some_position = some; most_positions = most; most_seats = few; a_mark_each = length-replicate n 0 };
-  permits = record { account = omega arith; free_within = omega arith; either = inr refl; reaped_claimed = omega arith; one_turn_ahead = omega arith };
+  permits = record {
+    account = omega arith;
+    free_within = omega arith;
+    either = inr refl;
+    reaped_claimed = omega arith;
+    one_turn_ahead = omega arith;
+  };
   seats = record {
     each = first_in_order;
     apart = λ i j t hi hj. none_held (seat_at (new_seat ∷ []) i).held t (first_holds_none i) hi;

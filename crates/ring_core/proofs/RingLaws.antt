@@ -20,7 +20,12 @@ module _ (m : Machine) (r : IsRing m) where
       let free = low.free in
       let limit = r.sizes.most_seats in
       let armed = r.seats.armed_within in
-      record { tries_fit = omega (arith, claimed, over); free_fits = omega (arith, free, limit); over_fits = omega (arith, armed); either = r.permits.either }
+      record {
+        tries_fit = omega (arith, claimed, over);
+        free_fits = omega (arith, free, limit);
+        over_fits = omega (arith, armed);
+        either = r.permits.either;
+      }
 
   -- and so can the word that the keeper last read or left
   pub seen_packs : IsPackable m.limit m.seen
@@ -33,7 +38,12 @@ module _ (m : Machine) (r : IsRing m) where
       let limit = r.sizes.most_seats in
       let falls = r.last.field_falls in
       let rises = r.last.tries_rise in
-      record { tries_fit = omega (arith, claimed, over, falls, rises); free_fits = omega (arith, free, positions, limit); over_fits = r.last.over_within; either = r.last.either }
+      record {
+        tries_fit = omega (arith, claimed, over, falls, rises);
+        free_fits = omega (arith, free, positions, limit);
+        over_fits = r.last.over_within;
+        either = r.last.either;
+      }
 
   -- the field of the keeper's word is at most the positions and the seats
   pub seen_field_within : field_of m.limit m.seen ≤ m.positions + m.limit
@@ -81,7 +91,8 @@ reached_or : Machine → Option Machine → Machine
 reached_or m None = m
 reached_or m (Some now) = now
 
-step_from : (m now : Machine) (step : Step) (b : Bool) → possible m step ≡ b → cond b (Some (after m step)) None ≡ Some now → IsStep m step now
+step_from : (m now : Machine) (step : Step) (b : Bool) → possible m step ≡ b → cond b (Some (after m step)) None ≡ Some now
+    → IsStep m step now
 step_from m now step true ok e = unfold reached_or in record { possible_here = ok; is_after = sym (ap (reached_or m) e) }
 step_from m now step false ok e = absurd (none-some now e)
 

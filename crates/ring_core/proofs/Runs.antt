@@ -41,7 +41,9 @@ pub next_keeps : (m : Machine) → IsRing m → (step : Step) → IfSome (next m
 next_keeps m r step = if_some m step (possible m step) refl r
 
 -- and so is what follows it by any list of steps
-steps_keep : (steps : List Step) (now : Option Machine) → IfSome now IsRing → ((m : Machine) → IsRing m → IfSome (after_all m steps) IsRing) → IfSome (option_and_then (λ (m : Machine). after_all m steps) now) IsRing
+steps_keep : (steps : List Step) (now : Option Machine) → IfSome now IsRing
+    → ((m : Machine) → IsRing m → IfSome (after_all m steps) IsRing)
+    → IfSome (option_and_then (λ (m : Machine). after_all m steps) now) IsRing
 steps_keep steps None r rest = tt
 steps_keep steps (Some m) r rest = rest m r
 
@@ -49,7 +51,10 @@ pub runs_keep : (m : Machine) → IsRing m → (steps : List Step) → IfSome (a
 runs_keep m r [] = r
 runs_keep m r (step ∷ steps) = steps_keep steps (next m step) (next_keeps m r step) (λ now ring. runs_keep now ring steps)
 
-after_append_from : (now : Option Machine) (first rest : List Step) → ((m : Machine) → after_all m (first ++ rest) ≡ option_and_then (λ (k : Machine). after_all k rest) (after_all m first)) → option_and_then (λ (m : Machine). after_all m (first ++ rest)) now ≡ option_and_then (λ (k : Machine). after_all k rest) (option_and_then (λ (m : Machine). after_all m first) now)
+after_append_from : (now : Option Machine) (first rest : List Step)
+    → ((m : Machine) → after_all m (first ++ rest) ≡ option_and_then (λ (k : Machine). after_all k rest) (after_all m first))
+    → option_and_then (λ (m : Machine). after_all m (first ++ rest)) now ≡ option_and_then (λ (k : Machine). after_all k rest)
+    (option_and_then (λ (m : Machine). after_all m first) now)
 after_append_from None first rest each = refl
 after_append_from (Some m) first rest each = each m
 
@@ -58,17 +63,22 @@ one_step None = refl
 one_step (Some m) = refl
 
 -- a list of steps in two parts
-pub after_all-append : (m : Machine) (first rest : List Step) → after_all m (first ++ rest) ≡ option_and_then (λ (now : Machine). after_all now rest) (after_all m first)
+pub after_all-append : (m : Machine) (first rest : List Step)
+    → after_all m (first ++ rest) ≡ option_and_then (λ (now : Machine). after_all now rest) (after_all m first)
 after_all-append m [] rest = refl
 after_all-append m (step ∷ first) rest = after_append_from (next m step) first rest (λ now. after_all-append now first rest)
 
 -- one step more
-pub after_all-step : (start m : Machine) (steps : List Step) (step : Step) → after_all start steps ≡ Some m → after_all start (steps ++ step ∷ []) ≡ next m step
-after_all-step start m steps step e = after_all-append start steps (step ∷ []) ∙ ap (option_and_then (λ (now : Machine). after_all now (step ∷ []))) e ∙ one_step (next m step)
+pub after_all-step : (start m : Machine) (steps : List Step) (step : Step) → after_all start steps ≡ Some m
+    → after_all start (steps ++ step ∷ []) ≡ next m step
+after_all-step start m steps step e = after_all-append start steps (step ∷ [])
+    ∙ ap (option_and_then (λ (now : Machine). after_all now (step ∷ []))) e ∙ one_step (next m step)
 
 -- a ring that was reached by steps from the opening state
-pub reached_ring : (n limit : ℕ) (m : Machine) (steps : List Step) → 1 ≤ n → n ≤ 1024 → 1 ≤ limit → limit ≤ 32 → after_all (opening n limit) steps ≡ Some m → IsRing m
-reached_ring n limit m steps some most one few e = let kept = runs_keep (opening n limit) (opens n limit some most one few) steps in subst (λ (o : Option Machine). IfSome o IsRing) e kept
+pub reached_ring : (n limit : ℕ) (m : Machine) (steps : List Step) → 1 ≤ n → n ≤ 1024 → 1 ≤ limit → limit ≤ 32
+    → after_all (opening n limit) steps ≡ Some m → IsRing m
+reached_ring n limit m steps some most one few e = let kept = runs_keep (opening n limit)
+    (opens n limit some most one few) steps in subst (λ (o : Option Machine). IfSome o IsRing) e kept
 
 -- the steps lead to this state, and it is that of a ring
 pub record IsReached (start : Machine) (steps : List Step) (now : Machine) : Type 0 where
@@ -85,7 +95,8 @@ err_part : {X E : Type 0} (A B : Type 0) (r : Result X E) → MatchResult r (λ 
 err_part A B (Ok _) fact failed = absurd cc
 err_part A B (Err _) fact failed = fact
 
-module _ (start m now : Machine) (steps : List Step) (at : ℕ) (within : at < length steps) (so_far : after_all start (take at steps) ≡ Some m) {X E : Type 0} (result : Result X E) where
+module _ (start m now : Machine) (steps : List Step) (at : ℕ) (within : at < length steps)
+    (so_far : after_all start (take at steps) ≡ Some m) {X E : Type 0} (result : Result X E) where
   abbrev step : Step
   step = get_or steps at (Look 0)
 
@@ -101,8 +112,13 @@ module _ (start m now : Machine) (steps : List Step) (at : ℕ) (within : at < l
 
   -- and one that was not is the first that is not possible
   pub run_stops : Answers → is_err result ≡ true → StopsAt start steps at
-  run_stops answers failed = record { within = within; before = ap is_some so_far; stops = one_more ∙ err_part (next m step ≡ Some now) (next m step ≡ None) result answers failed }
+  run_stops answers failed = record {
+    within = within;
+    before = ap is_some so_far;
+    stops = one_more ∙ err_part (next m step ≡ Some now) (next m step ≡ None) result answers failed;
+  }
 
 -- all steps were made
-pub run_ends : (start now : Machine) (steps : List Step) (at : ℕ) → length steps ≤ at → after_all start (take at steps) ≡ Some now → after_all start steps ≡ Some now
+pub run_ends : (start now : Machine) (steps : List Step) (at : ℕ) → length steps ≤ at → after_all start (take at steps) ≡ Some now
+    → after_all start steps ≡ Some now
 run_ends start now steps at past e = ap (after_all start) (sym (take_all at steps past)) ∙ e

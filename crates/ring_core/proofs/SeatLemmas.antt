@@ -69,13 +69,21 @@ SameHolders seats now = (j : ℕ) → (seat_at now j).held ≡ (seat_at seats j)
 pub same_back : (seats now : List SeatView) → SameHolders seats now → SameHolders now seats
 same_back seats now same j = sym (same j)
 
-pub apart_same : (seats now : List SeatView) → SameHolders seats now → ((i j t : ℕ) → Holds (seat_at seats i) t → Holds (seat_at seats j) t → i ≡ j) → (i j t : ℕ) → Holds (seat_at now i) t → Holds (seat_at now j) t → i ≡ j
+pub apart_same : (seats now : List SeatView) → SameHolders seats now
+    → ((i j t : ℕ) → Holds (seat_at seats i) t → Holds (seat_at seats j) t → i ≡ j) → (i j t : ℕ) → Holds (seat_at now i) t
+    → Holds (seat_at now j) t → i ≡ j
 apart_same seats now same apart i j t hi hj = apart i j t (sym (same i) ∙ hi) (sym (same j) ∙ hj)
 
-pub finished_same : (seats now : List SeatView) → SameHolders seats now → (n claimed p t : ℕ) → IsFinished n claimed seats p t → IsFinished n claimed now p t
-finished_same seats now same n claimed p t f = record { claimed_before = f.claimed_before; stands_at = f.stands_at; held_by_none = λ i h. f.held_by_none i (sym (same i) ∙ h) }
+pub finished_same : (seats now : List SeatView) → SameHolders seats now → (n claimed p t : ℕ) → IsFinished n claimed seats p t
+    → IsFinished n claimed now p t
+finished_same seats now same n claimed p t f = record {
+  claimed_before = f.claimed_before;
+  stands_at = f.stands_at;
+  held_by_none = λ i h. f.held_by_none i (sym (same i) ∙ h);
+}
 
-pub mark_same : (seats now : List SeatView) → SameHolders seats now → (n claimed p mark : ℕ) → IsMark n claimed seats p mark → IsMark n claimed now p mark
+pub mark_same : (seats now : List SeatView) → SameHolders seats now → (n claimed p mark : ℕ) → IsMark n claimed seats p mark
+    → IsMark n claimed now p mark
 mark_same seats now same n claimed p mark old = record {
   above_all = λ t f. old.above_all t (finished_same now seats (same_back seats now same) n claimed p t f);
   just_above = λ t e. finished_same seats now same n claimed p t (old.just_above t e);
@@ -112,18 +120,22 @@ module _ (seats : List SeatView) (i : ℕ) (seat : SeatView) (made : i < length 
   -- a change that leaves the ticket alone leaves all tickets alone
   pub holders_stay : seat.held ≡ (seat_at seats i).held → SameHolders seats (set seats i seat)
   holders_stay e j = elim (cases_eq j i) [
-    | inl here ↦ subst (λ (k : ℕ). (seat_at (set seats i seat) k).held ≡ (seat_at seats k).held) (sym here) (ap (λ (s : SeatView). s.held) seat_at-here ∙ e)
+    | inl here ↦ subst (λ (k : ℕ). (seat_at (set seats i seat) k).held ≡ (seat_at seats k).held) (sym here)
+        (ap (λ (s : SeatView). s.held) seat_at-here ∙ e)
     | inr other ↦ ap (λ (s : SeatView). s.held) (seat_at-else j other)
   ]
 
 -- one seat more, which no number had before
 module _ (seats : List SeatView) where
-  pub seat_at-push : (P : SeatView → Type 0) → ((j : ℕ) → P (seat_at seats j)) → P new_seat → (j : ℕ) → P (seat_at (seats ++ new_seat ∷ []) j)
+  pub seat_at-push : (P : SeatView → Type 0) → ((j : ℕ) → P (seat_at seats j)) → P new_seat → (j : ℕ)
+      → P (seat_at (seats ++ new_seat ∷ []) j)
   seat_at-push P old new j = elim (cases_lt j (length seats)) [
     | inl before ↦ subst P (sym (get_or_append_left seats (new_seat ∷ []) nobody j before)) (old j)
     | inr from ↦ elim (cases_eq (length seats) j) [
       | inl last ↦ subst P (sym (get_or_push seats new_seat nobody j last)) new
-      | inr past ↦ subst P (get_or_past seats j nobody from ∙ sym (get_or_past (seats ++ new_seat ∷ []) j nobody (let l = length-append seats (new_seat ∷ []) in grind (arith, l, from, past)))) (old j)
+      | inr past ↦ subst P (get_or_past seats j nobody from
+          ∙ sym (get_or_past (seats ++ new_seat ∷ []) j nobody
+          (let l = length-append seats (new_seat ∷ []) in grind (arith, l, from, past)))) (old j)
     ]
   ]
 
@@ -132,6 +144,7 @@ module _ (seats : List SeatView) where
     | inl before ↦ ap (λ (s : SeatView). s.held) (get_or_append_left seats (new_seat ∷ []) nobody j before)
     | inr from ↦ (elim (cases_eq (length seats) j) [
       | inl last ↦ ap (λ (s : SeatView). s.held) (get_or_push seats new_seat nobody j last)
-      | inr past ↦ ap (λ (s : SeatView). s.held) (get_or_past (seats ++ new_seat ∷ []) j nobody (let l = length-append seats (new_seat ∷ []) in grind (arith, l, from, past)))
+      | inr past ↦ ap (λ (s : SeatView). s.held) (get_or_past (seats ++ new_seat ∷ []) j nobody
+          (let l = length-append seats (new_seat ∷ []) in grind (arith, l, from, past)))
     ]) ∙ sym (ap (λ (s : SeatView). s.held) (get_or_past seats j nobody from))
   ]

@@ -9,9 +9,17 @@ pub same_sizes : (m now : Machine) → now ≡ m → HasSizes m.positions m.limi
 same_sizes m now e = record { positions_are = ap (λ (k : Machine). k.positions) e; limit_is = ap (λ (k : Machine). k.limit) e }
 
 pub sizes_on : (n limit : ℕ) (m now : Machine) → HasSizes n limit m → HasSizes m.positions m.limit now → HasSizes n limit now
-sizes_on n limit m now before after_it = record { positions_are = after_it.positions_are ∙ before.positions_are; limit_is = after_it.limit_is ∙ before.limit_is }
+sizes_on n limit m now before after_it = record {
+  positions_are = after_it.positions_are
+      ∙ before.positions_are;
+  limit_is = after_it.limit_is ∙ before.limit_is;
+}
 
-offer_sizes : (m : Machine) (k : ℕ) (same : Bool) → HasSizes m.positions m.limit (cond same (record m { word = offered_to m.word k; offered = m.offered + k; seen = offered_to m.word k }) (record m { seen = m.word }))
+offer_sizes : (m : Machine) (k : ℕ) (same : Bool) → HasSizes m.positions m.limit (cond same (record m {
+  word = offered_to m.word k;
+  offered = m.offered + k;
+  seen = offered_to m.word k;
+}) (record m { seen = m.word }))
 offer_sizes m k true = record { positions_are = refl; limit_is = refl }
 offer_sizes m k false = record { positions_are = refl; limit_is = refl }
 
@@ -29,6 +37,8 @@ after_sizes m (Sweep (suc kind)) = record { positions_are = refl; limit_is = ref
 after_sizes m Split = record { positions_are = refl; limit_is = refl }
 after_sizes m (Join i) = record { positions_are = refl; limit_is = refl }
 
-pub answer_sizes : {X E : Type 0} (m now : Machine) (step : Step) (result : Result X E) → StepAnswers m step result now → HasSizes m.positions m.limit now
-answer_sizes m now step (Ok _) answer = sizes_on m.positions m.limit (after m step) now (after_sizes m step) (same_sizes (after m step) now (step_of_next m now step answer).is_after)
+pub answer_sizes : {X E : Type 0} (m now : Machine) (step : Step) (result : Result X E) → StepAnswers m step result now
+    → HasSizes m.positions m.limit now
+answer_sizes m now step (Ok _) answer = sizes_on m.positions m.limit (after m step) now (after_sizes m step)
+    (same_sizes (after m step) now (step_of_next m now step answer).is_after)
 answer_sizes m now step (Err _) answer = same_sizes m now answer.1

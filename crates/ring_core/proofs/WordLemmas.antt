@@ -11,7 +11,8 @@ pub record SameCounts (a b : PermitWord) : Type 0 where
   pub free : a.free ≡ b.free
   pub over : a.over ≡ b.over
 
-pub same_counts : (seats : ℕ) (a b : PermitWord) → FreeOrOver a → a.over ≤ seats → FreeOrOver b → b.over ≤ seats → field_of seats a ≡ field_of seats b → SameCounts a b
+pub same_counts : (seats : ℕ) (a b : PermitWord) → FreeOrOver a → a.over ≤ seats → FreeOrOver b → b.over ≤ seats
+    → field_of seats a ≡ field_of seats b → SameCounts a b
 same_counts seats a b (inl fa) oa (inl fb) ob e = record { free = omega (arith, fa, fb); over = omega (arith, fa, fb, oa, ob, e) }
 same_counts seats a b (inl fa) oa (inr vb) ob e = record { free = omega (arith, fa, vb, oa, e); over = omega (arith, fa, vb, oa, e) }
 same_counts seats a b (inr va) oa (inl fb) ob e = record { free = omega (arith, va, fb, ob, e); over = omega (arith, va, fb, ob, e) }
@@ -26,16 +27,24 @@ same_parts a b c f o = λ k. record { claimed = c k; free = f k; over = o k }
 
 -- the word with so many tries and this field, by whether the field reaches the number of seats
 abbrev told : ℕ → ℕ → ℕ → Bool → PermitWord
-told seats tries field b = cond b (record { claimed = tries; free = field - seats; over = 0 }) (record { claimed = tries - (seats - field); free = 0; over = seats - field })
+told seats tries field b = cond b (record { claimed = tries; free = field - seats; over = 0 }) (record {
+  claimed = tries - (seats - field);
+  free = 0;
+  over = seats - field;
+})
 
-told_word : (seats : ℕ) (word : PermitWord) → FreeOrOver word → word.over ≤ seats → (b : Bool) → nat_le seats (field_of seats word) ≡ b → told seats (tries_of word) (field_of seats word) b ≡ word
-told_word seats word (inl full) within true e = let reaches = leb-true seats (field_of seats word) e in same_parts _ word (omega (arith, full, within, reaches)) (omega (arith, full, within, reaches)) (omega (arith, full, within, reaches))
+told_word : (seats : ℕ) (word : PermitWord) → FreeOrOver word → word.over ≤ seats → (b : Bool) → nat_le seats (field_of seats word) ≡ b
+    → told seats (tries_of word) (field_of seats word) b ≡ word
+told_word seats word (inl full) within true e = let reaches = leb-true seats (field_of seats word) e in same_parts _ word
+    (omega (arith, full, within, reaches)) (omega (arith, full, within, reaches)) (omega (arith, full, within, reaches))
 told_word seats word (inr none) within true e = same_parts _ word (omega (arith, none)) (omega (arith, none)) (omega (arith, none))
-told_word seats word (inl full) within false e = let below = leb-false seats (field_of seats word) e in same_parts _ word (omega (arith, full, within, below)) (omega (arith, full)) (omega (arith, full, within, below))
+told_word seats word (inl full) within false e = let below = leb-false seats (field_of seats word) e in same_parts _ word
+    (omega (arith, full, within, below)) (omega (arith, full)) (omega (arith, full, within, below))
 told_word seats word (inr none) within false e = let below = leb-false seats (field_of seats word) e in absurd (omega (arith, none, below))
 
 -- a word is told from its tries and its field
-word_of-parts : (seats : ℕ) (word : PermitWord) → FreeOrOver word → word.over ≤ seats → word_of seats (tries_of word) (field_of seats word) ≡ word
+word_of-parts : (seats : ℕ) (word : PermitWord) → FreeOrOver word → word.over ≤ seats
+    → word_of seats (tries_of word) (field_of seats word) ≡ word
 word_of-parts seats word either within = told_word seats word either within (nat_le seats (field_of seats word)) refl
 
 -- unpacking gives the word that was packed
@@ -48,19 +57,22 @@ unpacked-packed seats word few fits =
     ap₂ (word_of seats) tries low ∙ word_of-parts seats word fits.either fits.over_fits
 
 -- two words that pack to one number are one
-pub packed_apart : (seats : ℕ) (a b : PermitWord) → seats < 256 → IsPackable seats a → IsPackable seats b → packed seats a ≡ packed seats b → a ≡ b
+pub packed_apart : (seats : ℕ) (a b : PermitWord) → seats < 256 → IsPackable seats a → IsPackable seats b
+    → packed seats a ≡ packed seats b → a ≡ b
 packed_apart seats a b few fa fb e = sym (unpacked-packed seats a few fa) ∙ ap (unpacked seats) e ∙ unpacked-packed seats b few fb
 
 abbrev claimed_by : PermitWord → Bool → PermitWord
 claimed_by word b = cond b (record word { claimed = word.claimed + 1; free = word.free - 1 }) (record word { over = word.over + 1 })
 
-packed_after : (seats : ℕ) (word : PermitWord) → FreeOrOver word → 0 < field_of seats word → (b : Bool) → nat_lt 0 word.free ≡ b → packed seats (claimed_by word b) ≡ packed seats word + 65535
+packed_after : (seats : ℕ) (word : PermitWord) → FreeOrOver word → 0 < field_of seats word → (b : Bool) → nat_lt 0 word.free ≡ b
+    → packed seats (claimed_by word b) ≡ packed seats word + 65535
 packed_after seats word (inl full) some true e = let free = ltb-true 0 word.free e in absurd (omega (arith, free, full))
 packed_after seats word (inr none) some true e = let free = ltb-true 0 word.free e in omega (arith, free, none)
 packed_after seats word either some false e = omega (arith, some)
 
 -- a claim adds 2^16 and takes 1: that is one number, whatever the word shows
-pub packed-claimed : (seats : ℕ) (word : PermitWord) → FreeOrOver word → 0 < field_of seats word → packed seats (claimed_from word) ≡ packed seats word + 65535
+pub packed-claimed : (seats : ℕ) (word : PermitWord) → FreeOrOver word → 0 < field_of seats word
+    → packed seats (claimed_from word) ≡ packed seats word + 65535
 packed-claimed seats word either some = packed_after seats word either some (nat_lt 0 word.free) refl
 
 same_parts_of_test : (a b : PermitWord) → same_word a b ≡ true → a ≡ b

@@ -10,5 +10,7 @@ loop-number-init g c =
     let rest = c.pop.new.self.items in
     let seat = c.unwrap-seat.result in
     let items = c.pop.ensures.items ∙ ap (λ o. c.pop.new.self.items ++ option_to_list o) c.unwrap-seat.ensures in
-    let is = made.seats_are.each (length c.pop.new.self.items) c.unwrap-seat.result (ap (λ l. get_elem? l (length c.pop.new.self.items)) items ∙ at_last c.pop.new.self.items c.unwrap-seat.result (length c.pop.new.self.items) refl) in
+    let is = made.seats_are.each (length c.pop.new.self.items) c.unwrap-seat.result
+    (ap (λ l. get_elem? l (length c.pop.new.self.items)) items
+    ∙ at_last c.pop.new.self.items c.unwrap-seat.result (length c.pop.new.self.items) refl) in
     (made.is_keeper, is.is_seat, is.is_idle, is.no_calls)

@@ -18,7 +18,8 @@ returns g c =
       positions_are = sizes.0;
       seats_may_be = sizes.1;
       terms_are = sizes.2;
-      is_keeper = subst (IsKeeperOf admits c.in_ok-ring.ring) (sym keeper) (new_keeper_is admits c.in_ok-ring.ring c.args.n c.args.seats c.make_seats.new.place c.requires.positions.0 c.requires.positions.1 (subst (λ (k : ℕ). k ≤ 32) (sym sizes.1) c.requires.seats.1) sizes.0 made.mine told);
+      is_keeper = subst (IsKeeperOf admits c.in_ok-ring.ring) (sym keeper)
+          (new_keeper_is admits c.in_ok-ring.ring c.args.n c.args.seats c.make_seats.new.place c.requires.positions.0 c.requires.positions.1 (subst (λ (k : ℕ). k ≤ 32) (sym sizes.1) c.requires.seats.1) sizes.0 made.mine told);
       knows = ap keeper_memo keeper ∙ ap (λ me. keeper_in me.0) told;
       none_vacant = ap vacant_of keeper;
       none_filled = ap filled_of keeper;

@@ -2,4 +2,5 @@ use Rattle.std.proofs.Common.{◌≡◌, ◌++◌, take, drop}
 use Rattle.permit_ring.proofs.ring.turn_hand.Given as goal
 
 abbrev pub invariant-loop : goal.invariant-loop
-invariant-loop g l = (l.place.table_id ≡ l.initial.place.table_id) × (l.place.id ≡ l.initial.place.id) × (l.place.me ≡ (l.initial.place.me.0, drop l.counter l.initial.place.me.1 ++ take l.counter l.initial.place.me.1))
+invariant-loop g l = (l.place.table_id ≡ l.initial.place.table_id) × (l.place.id ≡ l.initial.place.id)
+    × (l.place.me ≡ (l.initial.place.me.0, drop l.counter l.initial.place.me.1 ++ take l.counter l.initial.place.me.1))

@@ -28,7 +28,8 @@ loop-tries-preserved g c =
         tries.0 ++ word ∷ [],
         ap (λ (n : ℕ). n + 1) (tries.1 ∙ sym more),
         others-more old.seen word tries.0 tries.2 other,
-        missed.0 ∙ ap (λ (n : ℕ). misses limit n word (keeper_in c.loop-tries.self.place.me.0)) is.1 ∙ ap (misses limit count word) tries.3 ∙ missed-more limit count tries.0 word (keeper_in c.args.self.now.place.me.0),
+        missed.0 ∙ ap (λ (n : ℕ). misses limit n word (keeper_in c.loop-tries.self.place.me.0)) is.1
+            ∙ ap (misses limit count word) tries.3 ∙ missed-more limit count tries.0 word (keeper_in c.args.self.now.place.me.0),
       ),
       omega (arith, bound, falls),
     )
@@ -43,5 +44,6 @@ returns-clause-told g c =
       tries.0,
       tries.1,
       tries.2,
-      hit.0 ∙ ap (λ (n : ℕ). offers_all limit n (keeper_in c.loop-tries.self.place.me.0)) is.1 ∙ ap (offers_all limit count) tries.3 ∙ offer_ends limit count c.loop-tries.tries tries.0 (keeper_in c.args.self.now.place.me.0) tries.1,
+      hit.0 ∙ ap (λ (n : ℕ). offers_all limit n (keeper_in c.loop-tries.self.place.me.0)) is.1 ∙ ap (offers_all limit count) tries.3
+          ∙ offer_ends limit count c.loop-tries.tries tries.0 (keeper_in c.args.self.now.place.me.0) tries.1,
     )

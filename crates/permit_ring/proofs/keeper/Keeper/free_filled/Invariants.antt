@@ -11,7 +11,8 @@ invariant-loop-tries g l =
     IsKeeperOf g.F.Freight.admits_offered l.ring l.self
     × (l.self.filled ≡ l.initial.self.filled)
     × (l.self.vacant ≡ l.initial.self.vacant)
-    × ((missed : List PermitWord) × (l.tries ≡ length missed + 1) × AreOthers (keeper_memo l.initial.self).seen missed × (keeper_memo l.self ≡ missed_all l.ring.limit l.initial.self.filled missed (keeper_memo l.initial.self)))
+    × ((missed : List PermitWord) × (l.tries ≡ length missed + 1) × AreOthers (keeper_memo l.initial.self).seen missed
+    × (keeper_memo l.self ≡ missed_all l.ring.limit l.initial.self.filled missed (keeper_memo l.initial.self)))
     × (l.tries + field_of l.ring.limit (keeper_memo l.self).seen ≤ l.ring.positions + l.ring.limit + 1)
 
 abbrev pub decreases-loop-tries : goal.decreases-loop-tries

@@ -21,7 +21,8 @@ returns-then-found-old-clause-mine g c =
     let mine = c.requires.mine in
     let tried = c.compare_exchange-found.ensures in
     let told = missed_told f.admits_offered c.args.ring.now c.args.self.now mine c.args.self.now.place mine.keeping c.args.ring.now.table.shared.table_id.slots c.pack-old.result c.pack-new.result _ _ c.unpack-self.result tried.2 c.if-found-old.true c.unpack-self.ensures.word in
-    missed_keeper f.admits_offered c.args.ring.now c.args.self.now mine _ (keeping_after c.args.ring.now c.args.self.now.place _ _ _ mine.keeping tried.0 told.0) c.unpack-self.result told.1 told.0
+    missed_keeper f.admits_offered c.args.ring.now c.args.self.now mine _
+    (keeping_after c.args.ring.now c.args.self.now.place _ _ _ mine.keeping tried.0 told.0) c.unpack-self.result told.1 told.0
 
 pub returns-then-found-old-clause-missed : goal.returns-then-found-old-clause-missed
 returns-then-found-old-clause-missed g c =
@@ -31,9 +32,11 @@ returns-then-found-old-clause-missed g c =
     let told = missed_told f.admits_offered c.args.ring.now c.args.self.now mine c.args.self.now.place mine.keeping c.args.ring.now.table.shared.table_id.slots c.pack-old.result c.pack-new.result _ _ c.unpack-self.result tried.2 c.if-found-old.true c.unpack-self.ensures.word in
     let seen = ap (λ me. (keeper_in me.0).seen) told.0 in
     λ _. (
-      ap (λ me. keeper_in me.0) told.0 ∙ ap (λ word. misses c.args.ring.now.limit c.args.self.now.filled word (keeper_in c.args.self.now.place.me.0)) (sym seen),
+      ap (λ me. keeper_in me.0) told.0 ∙ ap (λ word. misses c.args.ring.now.limit c.args.self.now.filled word
+          (keeper_in c.args.self.now.place.me.0)) (sym seen),
       refl,
-      subst (λ word. field_of c.args.ring.now.limit word < field_of c.args.ring.now.limit (keeper_in c.args.self.now.place.me.0).seen) (sym seen) told.2,
+      subst (λ word. field_of c.args.ring.now.limit word < field_of c.args.ring.now.limit (keeper_in c.args.self.now.place.me.0).seen)
+          (sym seen) told.2,
     )
 
 pub returns-clause-mine : goal.returns-clause-mine
@@ -42,7 +45,8 @@ returns-clause-mine g c =
     let mine = c.requires.mine in
     let tried = c.compare_exchange-found.ensures in
     let told = (offer_told f.admits_offered c.args.ring.now c.args.self.now mine c.args.self.now.place mine.keeping c.args.ring.now.table.shared.table_id.slots c.pack-old.result c.pack-new.result _ _ tried.2).0 c.if-found-old.false in
-    offered_keeper f.admits_offered c.args.ring.now c.args.self.now mine _ (keeping_after c.args.ring.now c.args.self.now.place _ _ _ mine.keeping tried.0 told.0) _ refl told.1 told.0
+    offered_keeper f.admits_offered c.args.ring.now c.args.self.now mine _
+    (keeping_after c.args.ring.now c.args.self.now.place _ _ _ mine.keeping tried.0 told.0) _ refl told.1 told.0
 
 pub returns-clause-hit : goal.returns-clause-hit
 returns-clause-hit g c =

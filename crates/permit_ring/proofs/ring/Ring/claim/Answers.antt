@@ -8,5 +8,6 @@ fetch_add-number-requires g c =
     let mine = c.requires.mine in (
       mine.at_table,
       search rules,
-      claim_ready f.note f.admits_offered f.admits_note _ _ _ _ mine.sits (mine.ring_is.slots_are ∙ sym mine.ring_is.positions_are) c.requires.armed,
+      claim_ready f.note f.admits_offered f.admits_note _ _ _ _ mine.sits
+          (mine.ring_is.slots_are ∙ sym mine.ring_is.positions_are) c.requires.armed,
     )

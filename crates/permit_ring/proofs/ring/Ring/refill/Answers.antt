@@ -16,12 +16,16 @@ exchange-requires g c =
 
 pub unreachable-requires : goal.unreachable-requires
 unreachable-requires g c =
-    let front = vacant_in_front _ _ _ _ _ _ c.requires.vacant c.requires.hand _ (ap (λ me. me.1) c.turn_hand.ensures.turned) _ c.requires.vacancy in
+    let front = vacant_in_front _ _ _ _ _ _ c.requires.vacant c.requires.hand _
+    (ap (λ me. me.1) c.turn_hand.ensures.turned) _ c.requires.vacancy in
     c.in_default.not-Empty (ap first_slot (sym c.exchange.ensures.2 ∙ front))
 
 pub turn_hand-requires-2 : goal.turn_hand-requires-2
-turn_hand-requires-2 g c = vacant_fit _ _ _ _ _ _ c.requires.vacant c.requires.hand _ (ap (λ me. me.1) c.turn_hand.ensures.turned) _ c.requires.vacancy _ c.args.value (ap (λ me. me.1) c.exchange.ensures.3)
+turn_hand-requires-2 g c = vacant_fit _ _ _ _ _ _ c.requires.vacant c.requires.hand _
+    (ap (λ me. me.1) c.turn_hand.ensures.turned) _ c.requires.vacancy _ c.args.value (ap (λ me. me.1) c.exchange.ensures.3)
 
 pub returns-clause-hand : goal.returns-clause-hand
 returns-clause-hand g c =
-    one_more_filled _ _ _ _ _ _ c.requires.vacant c.requires.hand _ (ap (λ me. me.1) c.turn_hand.ensures.turned) _ c.requires.vacancy _ c.args.value (ap (λ me. me.1) c.exchange.ensures.3) c.requires.admitted _ (ap (λ me. me.1) c.turn_hand-2.ensures.turned)
+    one_more_filled _ _ _ _ _ _ c.requires.vacant c.requires.hand _
+    (ap (λ me. me.1) c.turn_hand.ensures.turned) _ c.requires.vacancy _ c.args.value
+    (ap (λ me. me.1) c.exchange.ensures.3) c.requires.admitted _ (ap (λ me. me.1) c.turn_hand-2.ensures.turned)

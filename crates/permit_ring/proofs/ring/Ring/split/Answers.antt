@@ -9,5 +9,6 @@ split_seat-requires g c =
     let mine = c.requires.mine in (
       mine.at_table,
       search rules,
-      splits_allowed f.note f.admits_offered f.admits_note c.args.self.now.table.shared.key _ _ _ mine.keeps (subst (λ (limit : ℕ). (keeper_in c.args.place.now.me.0).made < limit) (sym mine.ring_is.limit_is) c.requires.room),
+      splits_allowed f.note f.admits_offered f.admits_note c.args.self.now.table.shared.key _ _ _ mine.keeps
+          (subst (λ (limit : ℕ). (keeper_in c.args.place.now.me.0).made < limit) (sym mine.ring_is.limit_is) c.requires.room),
     )

@@ -8,10 +8,13 @@ pub returns-clause-mine : goal.returns-clause-mine
 returns-clause-mine g c =
     let did = c.offer.ensures in
     let was = c.requires.mine in
-    offered_stays c.args.queue.now c.args.self.now record { keeper = c.offer.new.self } was did.mine (did.counts.0 ∙ was.none_vacant) c.args.queue.now.ring.limit c.offer.result (to_give_back c.args.self.now) (λ none. (did.none none).1) did.told
+    offered_stays c.args.queue.now c.args.self.now record { keeper = c.offer.new.self } was did.mine
+    (did.counts.0 ∙ was.none_vacant) c.args.queue.now.ring.limit c.offer.result (to_give_back c.args.self.now)
+    (λ none. (did.none none).1) did.told
 
 pub returns-clause-told : goal.returns-clause-told
 returns-clause-told g c = λ some.
     let did = c.offer.ensures in
     let ring = c.args.queue.now.ring in
-    offer_shown ring.limit (to_give_back c.args.self.now) (ring.positions + ring.limit + 1) c.offer.result (taker_memo c.args.self.now) (keeper_memo c.offer.new.self) did.bound (did.told some)
+    offer_shown ring.limit (to_give_back c.args.self.now) (ring.positions + ring.limit + 1) c.offer.result (taker_memo c.args.self.now)
+    (keeper_memo c.offer.new.self) did.bound (did.told some)

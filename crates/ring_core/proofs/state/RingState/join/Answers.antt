@@ -8,6 +8,7 @@ pub invariant_of-self : goal.invariant_of-self
 invariant_of-self c =
     let is = c.seat-view.ensures ∙ sym (ap (λ (m : Machine). seat_at m.seats c.args.seat) c.self.view_is) in
     record {
-      ring = join_of (machine_of c.self.inside) c.self.invariant.ring c.args.seat c.seat-view.result is (sym c.is_idle.ensures ∙ c.if-not-is_idle.false);
+      ring = join_of (machine_of c.self.inside) c.self.invariant.ring c.args.seat c.seat-view.result is
+          (sym c.is_idle.ensures ∙ c.if-not-is_idle.false);
       room = c.self.invariant.room;
     }

@@ -11,6 +11,7 @@ invariant_of-self c =
     let few : length c.self.inside.seats.items < c.self.inside.limit = search rules in
     let old = c.self.invariant.room in
     record {
-      ring = subst (λ (now : List SeatView). IsRing (record (machine_of c.self.inside) { seats = now })) (sym seats) (split_sound (machine_of c.self.inside) c.self.invariant.ring few);
+      ring = subst (λ (now : List SeatView). IsRing (record (machine_of c.self.inside) { seats = now })) (sym seats)
+          (split_sound (machine_of c.self.inside) c.self.invariant.ring few);
       room = omega (arith, old, c.push_reserved.ensures.capacity);
     }
