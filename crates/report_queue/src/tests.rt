@@ -99,7 +99,9 @@ fn claim_number(queue: &Queue<Numbers>, seat: &mut QueueSeat<Numbers>) -> u64
 #[test]
 fn a_claim_number_is_small(rt: HostRuntime) -> Result<(), Fail> {
     let MadeQueue {
-        queue, mut seats, ..
+        queue,
+        mut seats,
+        ..
     } = make::<Numbers>(rt.alloc(), 2, 1, ())?;
     let mut seat = last_of(&queue, &mut seats).expect(&rt, "a caller");
     assert_eq!(rt; claim_number(&queue, &mut seat), 0);
