@@ -1,12 +1,11 @@
 -- Lists of fields: their reading against their words, both ways, for any fields that keep the laws.
 use Rattle.std.proofs.Common.{◌≡◌, ℕ, ◌==◌, false, List, [], ◌∷◌, refl, sym, ap, subst, ◌∙◌, arith, ◌⊎◌, inl, inr}
-use Rattle.std.specs.Prelude.{Option, Some, None, option_map, ⊤, bytes_eq}
+use Rattle.std.specs.Prelude.{Option, Some, None, option_map}
 use Rattle.std.specs.Char.{is_ascii_digit}
 use Rattle.std.specs.Int.{is_in_range}
 use Rattle.std.specs.List.{AllByRecursion}
-use Rattle.std.proofs.lemmas.Option.{none-some, cond_some}
-use Rattle.std.proofs.lemmas.Slice.Eq.{bytes_eq-Decides}
-use Rattle.text_spec.specs.Fields.{Field, Filled, put, the, words_of_fields, AreHeld, AreExact, Makes, first_as, read_by, Form, behind, told_in, told_in_one}
+use Rattle.std.proofs.lemmas.Option.{none-some}
+use Rattle.text_spec.specs.Fields.{Field, Filled, put, the, words_of_fields, AreHeld, AreExact, AreWritten, HasForm, Makes, first_as, read_by, Form, behind, told_in, told_in_one}
 use Rattle.text_spec.specs.Hexadecimal.{is_lower_digit}
 use Rattle.text_spec.specs.Maybe.{◌>>=◌, first_of, ended, or_else}
 use Rattle.text_spec.specs.Words.{Free, space, line_feed}
@@ -29,6 +28,9 @@ line_feed_separates = record { not_digit = refl; not_lower = refl; not_letter = 
 -- ---- the laws of a field
 
 pub record Lawful (field : Field) : Type 0 where
+  -- a word is read exactly where it is one that the field may be
+  pub writes : (word : List ℕ) (x : field.Value) → field.reading word ≡ Some x → field.Writes word
+  pub reads : (word : List ℕ) → field.Writes word → (x : field.Value) × (field.reading word ≡ Some x)
   -- a word that is read as a value is one that there is, and its word where it is told as it is
   pub held : (word : List ℕ) (x : field.Value) → field.reading word ≡ Some x → field.Held x
   pub takes : (word : List ℕ) (x : field.Value) → field.reading word ≡ Some x → field.Exact x → word ≡ field.word x
@@ -75,13 +77,14 @@ first_takes field (word ∷ words) x read =
 pub record Reads {A : Type 0} (fields : List Field) (makes : Makes fields A) (words : List (List ℕ)) (a : A) : Type 0 where
   pub values : Values fields
   pub made : made_of fields makes values ≡ a
+  pub written : AreWritten fields words
   pub held : AreHeld (fill fields values)
   pub are : AreExact (fill fields values) → words ≡ words_of_fields (fill fields values)
 
 pub fields_take : {A : Type 0} (fields : List Field) (makes : Makes fields A) (words : List (List ℕ)) (a : A) → AreLawful fields → read_by fields makes words ≡ Some a → Reads fields makes words a
 fields_take [] makes words a laws read =
     let end = ended_takes makes words a read in
-    record { values = tt; made = end.1; held = tt; are = λ exact. end.0 }
+    record { values = tt; made = end.1; written = subst (AreWritten []) (sym end.0) tt; held = tt; are = λ exact. end.0 }
 fields_take (field ∷ fields) makes words a laws read =
     let first = bind_some (first_as field words) _ a read in
     let front = first_takes field words first.0 first.1 in
@@ -89,6 +92,7 @@ fields_take (field ∷ fields) makes words a laws read =
     record {
       values = (first.0.0, more.values);
       made = more.made;
+      written = subst (AreWritten (field ∷ fields)) (sym front.are) (laws.0.writes front.word first.0.0 front.reads, more.written);
       held = (laws.0.held front.word first.0.0 front.reads, more.held);
       are = λ exact. front.are ∙ ap (λ w. w ∷ first.0.1) (laws.0.takes front.word first.0.0 front.reads exact.0) ∙ ap (λ ws. field.word first.0.0 ∷ ws) (more.are exact.1);
     }
@@ -101,6 +105,22 @@ fields_again (field ∷ fields) makes values laws held exact =
     let rest = words_of_fields (fill fields values.1) in
     bind_again (first_as field (field.word values.0 ∷ rest)) (λ x. read_by fields (makes x.0) x.1) (values.0, rest) (ap (option_map (λ x. (x, rest))) (laws.0.again values.0 held.0 exact.0))
     ∙ fields_again fields (makes values.0) values.1 laws.1 held.1 exact.1
+
+-- words that the fields may be are read
+pub fields_read : {A : Type 0} (fields : List Field) (makes : Makes fields A) (words : List (List ℕ)) → AreLawful fields → AreWritten fields words → (a : A) × (read_by fields makes words ≡ Some a)
+fields_read [] makes [] laws written = (makes, refl)
+fields_read [] makes (word ∷ words) laws written = absurd written
+fields_read (field ∷ fields) makes [] laws written = absurd written
+fields_read (field ∷ fields) makes (word ∷ words) laws written =
+    let first = laws.0.reads word written.0 in
+    let more = fields_read fields (makes first.0) words laws.1 written.1 in
+    (more.0, bind_again (first_as field (word ∷ words)) (λ x. read_by fields (makes x.0) x.1) (first.0, words) (ap (option_map (λ x. (x, words))) first.1) ∙ more.1)
+
+-- the words of values are words that the fields may be
+pub fields_written : (fields : List Field) (values : Values fields) → AreLawful fields → AreHeld (fill fields values) → AreExact (fill fields values) → AreWritten fields (words_of_fields (fill fields values))
+fields_written [] values laws held exact = tt
+fields_written (field ∷ fields) values laws held exact =
+    (laws.0.writes (field.word values.0) values.0 (laws.0.again values.0 held.0 exact.0), fields_written fields values.1 laws.1 held.1 exact.1)
 
 -- the fields of these values keep the laws
 abbrev pub KeepLaws : List Filled → Type 0
@@ -116,6 +136,7 @@ words_free c (one ∷ more) out laws held exact = (laws.0.free c out one.value h
 
 -- what a form makes has the form's letter and its fields
 pub record IsForm {A : Type 0} (shows : A → List Filled) (form : Form A) : Type 1 where
+  pub letter : Lawful (the form.letter)
   pub laws : AreLawful form.fields
   pub is : (values : Values form.fields) → shows (made_of form.fields form.makes values) ≡ put (the form.letter) tt ∷ fill form.fields values
 
@@ -128,21 +149,11 @@ pub record Tells (words : List (List ℕ)) (fields : List Filled) : Type 0 where
   pub held : AreHeld fields
   pub are : AreExact fields → words ≡ words_of_fields fields
 
--- a letter that was read
-pub the_takes : (letter word : List ℕ) (x : ⊤) → (the letter).reading word ≡ Some x → word ≡ letter
-the_takes letter word x read = (bytes_eq-Decides word letter).0 (cond_some (bytes_eq word letter) tt x read).0
-
 -- what was read in a form
 form_takes : {A : Type 0} (shows : A → List Filled) (form : Form A) (words : List (List ℕ)) (a : A) → IsForm shows form → told_in form words ≡ Some a → Tells words (shows a)
 form_takes shows form words a is read =
-    let first = bind_some (first_as (the form.letter) words) _ a read in
-    let front = first_takes (the form.letter) words first.0 first.1 in
-    let more = fields_take form.fields form.makes first.0.1 a is.laws first.2 in
-    let shown : shows a ≡ put (the form.letter) tt ∷ fill form.fields more.values = ap shows (sym more.made) ∙ is.is more.values in
-    subst (Tells words) (sym shown) (record {
-      held = (tt, more.held);
-      are = λ exact. front.are ∙ ap (λ w. w ∷ first.0.1) (the_takes form.letter front.word first.0.0 front.reads) ∙ ap (λ ws. form.letter ∷ ws) (more.are exact.1);
-    })
+    let all = fields_take (the form.letter ∷ form.fields) (λ _. form.makes) words a (is.letter, is.laws) read in
+    subst (Tells words) (sym (ap shows (sym all.made) ∙ is.is all.values.1)) (record { held = all.held; are = all.are })
 
 -- what one of two searches found
 either_some : {A : Type 0} (one other : Option A) (a : A) → or_else one other ≡ Some a → (one ≡ Some a) ⊎ (other ≡ Some a)
@@ -156,3 +167,27 @@ forms_take shows (form ∷ forms) words a are read = elim (either_some (told_in 
   | inl here ↦ form_takes shows form words a are.0 here
   | inr later ↦ forms_take shows forms words a are.1 later
 ]
+
+-- ---- which lines have a form
+
+pub forms_written : {A : Type 0} (shows : A → List Filled) (forms : List (Form A)) (words : List (List ℕ)) (a : A) → AreForms shows forms → told_in_one forms words ≡ Some a → HasForm forms words
+forms_written shows [] words a are read = absurd (none-some a read)
+forms_written shows (form ∷ forms) words a are read = elim (either_some (told_in form words) (told_in_one forms words) a read) [
+  | inl here ↦ inl (fields_take (the form.letter ∷ form.fields) (λ _. form.makes) words a (are.0.letter, are.0.laws) here).written
+  | inr later ↦ inr (forms_written shows forms words a are.1 later)
+]
+
+none_first : {A : Type 0} (one other : Option A) → or_else one other ≡ None → (one ≡ None) × (other ≡ None)
+none_first None other none = (refl, none)
+none_first (Some a) other none = absurd (none-some a (sym none))
+
+pub forms_read : {A : Type 0} (shows : A → List Filled) (forms : List (Form A)) (words : List (List ℕ)) → AreForms shows forms → told_in_one forms words ≡ None → HasForm forms words → ⊥
+forms_read shows [] words are none written = written
+forms_read shows (form ∷ forms) words are none written =
+    let both = none_first (told_in form words) (told_in_one forms words) none in
+    elim written [
+      | inl here ↦
+          let read = fields_read (the form.letter ∷ form.fields) (λ _. form.makes) words (are.0.letter, are.0.laws) here in
+          none-some read.0 (sym both.0 ∙ read.1)
+      | inr later ↦ forms_read shows forms words are.1 both.1 later
+    ]

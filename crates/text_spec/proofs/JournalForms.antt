@@ -4,13 +4,13 @@ use Rattle.std.specs.Prelude.{Option, Some, None, option_map, codes, decimal}
 use Rattle.std.specs.List.{AllByRecursion}
 use Rattle.ids_types.specs.declared.entry.Act.{Act}
 use Rattle.ids_types.specs.declared.entry.Act.TheVariants.{Report, State, SetMode}
-use Rattle.text_spec.specs.Fields.{the, a_number, a_mode, words_of_fields, AreHeld, AreExact, first_as, behind}
-use Rattle.text_spec.specs.JournalForm.{entry_of, turn_form, report_form, state_form, setting_form, loss_form, told_by}
+use Rattle.text_spec.specs.Fields.{the, a_number, a_mode, words_of_fields, AreHeld, AreExact, HasForm, first_as, behind}
+use Rattle.text_spec.specs.JournalForm.{entry_of, turn_form, report_form, state_form, setting_form, loss_form, line_forms, told_by}
 use Rattle.text_spec.specs.JournalText.{Line, begins, enters, loses, act_fields, fields_of, line_for}
 use Rattle.text_spec.specs.Maybe.{or_else}
 use Rattle.text_spec.specs.Words.{Free, space, line_feed, words_of}
 use Rattle.text_spec.proofs.ContextsLaws.{the_lawful, number_lawful, stamp_lawful, mode_lawful, context_lawful}
-use Rattle.text_spec.proofs.FieldsLaws.{AreLawful, AreForms, KeepLaws, Tells, forms_take, fields_again, words_free, space_separates, line_feed_separates}
+use Rattle.text_spec.proofs.FieldsLaws.{AreLawful, AreForms, KeepLaws, Tells, forms_take, forms_written, forms_read, fields_again, words_free, space_separates, line_feed_separates}
 use Rattle.text_spec.proofs.FrontLemmas.{bind_again}
 use Rattle.text_spec.proofs.WordsLemmas.{words_of-line_of, join_free}
 
@@ -31,18 +31,31 @@ setting_lawful = (number_lawful, (number_lawful, (the_lawful (codes "M") refl, (
 loss_lawful : AreLawful loss_form.fields
 loss_lawful = (number_lawful, (number_lawful, (number_lawful, tt)))
 
-are_forms : AreForms fields_of (turn_form ∷ report_form ∷ state_form ∷ setting_form ∷ loss_form ∷ [])
+are_forms : AreForms fields_of line_forms
 are_forms = (
-  record { laws = turn_lawful; is = λ values. refl },
+  record { letter = the_lawful (codes "T") refl; laws = turn_lawful; is = λ values. refl },
   (
-    record { laws = report_lawful; is = λ values. refl },
-    (record { laws = state_lawful; is = λ values. refl }, (record { laws = setting_lawful; is = λ values. refl }, (record { laws = loss_lawful; is = λ values. refl }, tt))),
+    record { letter = the_lawful (codes "R") refl; laws = report_lawful; is = λ values. refl },
+    (
+      record { letter = the_lawful (codes "C") refl; laws = state_lawful; is = λ values. refl },
+      (
+        record { letter = the_lawful (codes "C") refl; laws = setting_lawful; is = λ values. refl },
+        (record { letter = the_lawful (codes "L") refl; laws = loss_lawful; is = λ values. refl }, tt),
+      ),
+    ),
   ),
 )
 
 -- a line that was read from its words has these words
 pub line_takes : (words : List (List ℕ)) (line : Line) → told_by words ≡ Some line → Tells words (fields_of line)
-line_takes words line read = forms_take fields_of (turn_form ∷ report_form ∷ state_form ∷ setting_form ∷ loss_form ∷ []) words line are_forms read
+line_takes words line read = forms_take fields_of line_forms words line are_forms read
+
+-- words that tell a line have a form, and words that tell none have none
+pub told_has_form : (words : List (List ℕ)) (line : Line) → told_by words ≡ Some line → HasForm line_forms words
+told_has_form words line read = forms_written fields_of line_forms words line are_forms read
+
+pub none_has_none : (words : List (List ℕ)) → told_by words ≡ None → HasForm line_forms words → ⊥
+none_has_none words none = forms_read fields_of line_forms words are_forms none
 
 -- ---- the words of a line
 

@@ -1,10 +1,10 @@
 -- The word of a report's context: `-`, `CLASS:CLAIM:HEX`, or `!` and the numbers that were claimed.
 -- Source: the text formats of this project (docs/FORMATS.md).
-use Rattle.std.specs.Prelude.{ℕ, zero, suc, ◌≤◌, ◌==◌, bytes_eq, List, [], ◌∷◌, length, map, Option, Some, None, option_map, decimal, ⊤, if◌then◌else◌}
+use Rattle.std.specs.Prelude.{◌≡◌, ◌⊎◌, ℕ, zero, suc, ◌≤◌, ◌==◌, bytes_eq, List, [], ◌∷◌, length, map, Option, Some, None, option_map, decimal, ⊤, if◌then◌else◌}
 use Rattle.std.specs.List.{AllByRecursion, slice_split, join_with_byte}
 use Rattle.ids_types.specs.declared.entry.Carried.{Carried}
 use Rattle.ids_types.specs.declared.entry.Carried.TheVariants.{Absent, Kept, Missing}
-use Rattle.text_spec.specs.Fields.{Field, Filled, Form, a_number, some_bytes, put, words_of_fields, AreHeld, AreExact, first_as, read_by}
+use Rattle.text_spec.specs.Fields.{Field, Filled, a_number, hex_bytes, put, words_of_fields, AreHeld, AreExact, AreWritten, read_by}
 use Rattle.text_spec.specs.Maybe.{◌>>=◌}
 use Rattle.text_spec.specs.Words.{absent}
 
@@ -22,7 +22,7 @@ mark = 33
 
 -- the fields of a context that was kept
 abbrev pub kept_fields : ℕ → ℕ → List ℕ → List Filled
-kept_fields class claim bytes = put a_number class ∷ put a_number claim ∷ put some_bytes bytes ∷ []
+kept_fields class claim bytes = put a_number class ∷ put a_number claim ∷ put hex_bytes bytes ∷ []
 
 -- the word of a context
 abbrev pub context_word : Carried (List ℕ) → List ℕ
@@ -42,11 +42,22 @@ IsExactContext Absent = ⊤
 IsExactContext (Kept class claim bytes) = AreExact (kept_fields class claim bytes)
 IsExactContext (Missing numbers) = AllByRecursion a_number.Exact numbers
 
+-- the fields of `CLASS:CLAIM:HEX`
+abbrev pub kept_places : List Field
+kept_places = a_number ∷ a_number ∷ hex_bytes ∷ []
+
+-- the words that a context may be: `-`, `CLASS:CLAIM:HEX`, or `!` and zero to four numbers with points between them
+abbrev pub IsContextWord : List ℕ → Type 0
+IsContextWord word =
+    (word ≡ absent)
+    ⊎ ((pieces : List (List ℕ)) × AreWritten kept_places pieces × (word ≡ join_with_byte colon pieces))
+    ⊎ ((numbers : List (List ℕ)) × AllByRecursion a_number.Writes numbers × (length numbers ≤ 4) × (word ≡ mark ∷ join_with_byte point numbers))
+
 -- ---- its reading
 
 -- `CLASS:CLAIM:HEX`, by its pieces
 abbrev pub kept_in : List (List ℕ) → Option (Carried (List ℕ))
-kept_in pieces = read_by (a_number ∷ a_number ∷ some_bytes ∷ []) (λ class claim bytes. Kept class claim bytes) pieces
+kept_in pieces = read_by kept_places (λ class claim bytes. Kept class claim bytes) pieces
 
 -- the number of each piece, where they are at most so many
 abbrev pub numbers_in : ℕ → List (List ℕ) → Option (List ℕ)
@@ -69,4 +80,8 @@ context_in (first ∷ rest) =
 
 -- the field of a context
 abbrev pub a_context : Field
-a_context = record { Value = Carried (List ℕ); Held = IsContext; Exact = IsExactContext; word = context_word; reading = context_in }
+a_context = record {
+  Writes = IsContextWord;
+  Value = Carried (List ℕ); Held = IsContext; Exact = IsExactContext;
+  word = context_word; reading = context_in;
+}

@@ -1,7 +1,7 @@
 -- Lines as lists of fields: what a field may hold, the word for each value, how a word is read, and
 -- how the words of a line are read as its fields, one after another.
 -- Source: the text formats of this project (docs/FORMATS.md).
-use Rattle.std.specs.Prelude.{ℕ, ◌<◌, ◌^◌, ◌≤◌, bytes_eq, List, [], ◌∷◌, length, Option, Some, None, option_map, IfSome, ⊤, codes, decimal, if◌then◌else◌}
+use Rattle.std.specs.Prelude.{◌≡◌, ℕ, ◌<◌, ◌^◌, ◌≤◌, ◌⊎◌, true, bytes_eq, List, [], ◌∷◌, length, Option, Some, None, option_map, IfSome, ⊤, codes, decimal, if◌then◌else◌}
 use Rattle.std.specs.List.{AllByRecursion}
 use Rattle.hex.specs.Hex.{encode_lower}
 use Rattle.ids_types.specs.declared.mode.Mode.{Mode}
@@ -9,11 +9,13 @@ use Rattle.ids_types.specs.declared.names.Stamp.{Stamp}
 use Rattle.text_spec.specs.Hexadecimal.{some_hex}
 use Rattle.text_spec.specs.Maybe.{◌>>=◌, first_of, ended, or_else}
 use Rattle.text_spec.specs.Modes.{mode_name, mode_named}
-use Rattle.text_spec.specs.Numbers.{number_in, capped, greatest_told}
+use Rattle.text_spec.specs.Numbers.{is_number, number_in, capped, greatest_told}
 use Rattle.text_spec.specs.Stamps.{stamp_in, stamp_text}
 
 -- a field of a line
 pub record Field : Type 1 where
+  -- the words that it may be
+  pub Writes : List ℕ → Type 0
   -- its values, those of them that there are, and those that are told as they are
   pub Value : Type 0
   pub Held : Value → Type 0
@@ -26,23 +28,43 @@ pub record Field : Type 1 where
 
 -- this word
 abbrev pub the : List ℕ → Field
-the letter = record { Value = ⊤; Held = λ _. ⊤; Exact = λ _. ⊤; word = λ _. letter; reading = λ word. if bytes_eq word letter then Some tt else None }
+the letter = record {
+  Writes = λ word. word ≡ letter;
+  Value = ⊤; Held = λ _. ⊤; Exact = λ _. ⊤;
+  word = λ _. letter; reading = λ word. if bytes_eq word letter then Some tt else None;
+}
 
--- a number: one that is too great is told as the greatest
+-- a number of any length: one that is too great is told as the greatest
 abbrev pub a_number : Field
-a_number = record { Value = ℕ; Held = λ _. ⊤; Exact = λ n. n < greatest_told; word = decimal; reading = λ word. option_map capped (number_in word) }
+a_number = record {
+  Writes = λ word. is_number word ≡ true;
+  Value = ℕ; Held = λ _. ⊤; Exact = λ n. n < greatest_told;
+  word = decimal; reading = λ word. option_map capped (number_in word);
+}
 
 -- an optional timestamp of 64 bits
 abbrev pub a_stamp : Field
-a_stamp = record { Value = Option Stamp; Held = λ stamp. IfSome stamp (λ s. s.0 < 2 ^ 64); Exact = λ _. ⊤; word = stamp_text; reading = stamp_in }
+a_stamp = record {
+  Writes = λ word. (stamp : Option Stamp) × IfSome stamp (λ s. s.0 < 2 ^ 64) × (word ≡ stamp_text stamp);
+  Value = Option Stamp; Held = λ stamp. IfSome stamp (λ s. s.0 < 2 ^ 64); Exact = λ _. ⊤;
+  word = stamp_text; reading = stamp_in;
+}
 
 -- a reporting mode
 abbrev pub a_mode : Field
-a_mode = record { Value = Mode; Held = λ _. ⊤; Exact = λ _. ⊤; word = mode_name; reading = mode_named }
+a_mode = record {
+  Writes = λ word. (mode : Mode) × (word ≡ mode_name mode);
+  Value = Mode; Held = λ _. ⊤; Exact = λ _. ⊤;
+  word = mode_name; reading = mode_named;
+}
 
 -- a byte or more
-abbrev pub some_bytes : Field
-some_bytes = record { Value = List ℕ; Held = AllByRecursion (λ b. b < 256); Exact = λ bytes. 1 ≤ length bytes; word = encode_lower; reading = some_hex }
+abbrev pub hex_bytes : Field
+hex_bytes = record {
+  Writes = λ word. (bytes : List ℕ) × AllByRecursion (λ b. b < 256) bytes × (1 ≤ length bytes) × (word ≡ encode_lower bytes);
+  Value = List ℕ; Held = AllByRecursion (λ b. b < 256); Exact = λ bytes. 1 ≤ length bytes;
+  word = encode_lower; reading = some_hex;
+}
 
 -- ---- fields with their values
 
@@ -69,6 +91,13 @@ AreHeld (one ∷ more) = one.field.Held one.value × AreHeld more
 abbrev pub AreExact : List Filled → Type 0
 AreExact [] = ⊤
 AreExact (one ∷ more) = one.field.Exact one.value × AreExact more
+
+-- each word is one that the field at its place may be, and there are no others
+abbrev pub AreWritten : List Field → List (List ℕ) → Type 0
+AreWritten [] [] = ⊤
+AreWritten [] (word ∷ words) = ⊥
+AreWritten (field ∷ fields) [] = ⊥
+AreWritten (field ∷ fields) (word ∷ words) = field.Writes word × AreWritten fields words
 
 -- ---- reading
 
@@ -104,3 +133,8 @@ told_in form words = first_as (the form.letter) words >>= λ x. behind form x.1
 abbrev pub told_in_one : {A : Type 0} → List (Form A) → List (List ℕ) → Option A
 told_in_one [] words = None
 told_in_one (form ∷ forms) words = or_else (told_in form words) (told_in_one forms words)
+
+-- the words are those of a line in one of these forms, whatever it tells
+abbrev pub HasForm : {A : Type 0} → List (Form A) → List (List ℕ) → Type 0
+HasForm [] words = ⊥
+HasForm (form ∷ forms) words = AreWritten (the form.letter ∷ form.fields) words ⊎ HasForm forms words

@@ -58,6 +58,10 @@ loss_form = record {
   makes = λ caller call given. loses (record { caller = caller; call = call; given = given });
 }
 
+-- the forms of a line
+abbrev pub line_forms : List (Form Line)
+line_forms = turn_form ∷ report_form ∷ state_form ∷ setting_form ∷ loss_form ∷ []
+
 -- what the words of a line tell
 abbrev pub told_by : List (List ℕ) → Option Line
-told_by words = told_in_one (turn_form ∷ report_form ∷ state_form ∷ setting_form ∷ loss_form ∷ []) words
+told_by words = told_in_one line_forms words

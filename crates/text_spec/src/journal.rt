@@ -1,9 +1,11 @@
 //! The journal's text.
 
-ghost use Rattle.std.specs.Prelude.{◌≡◌, ℕ, ◌≤◌, List, ◌∷◌, ◌++◌, true, Ok, Err, length};
+ghost use Rattle.std.specs.Prelude.{◌≡◌, ℕ, ◌≤◌, List, ◌∷◌, ◌++◌, true, Some, None, Ok, Err, length};
 ghost use Rattle.std.specs.List.{AllByRecursion};
 ghost use Rattle.ids_config.specs.Parts.{Parts};
+ghost use Rattle.text_spec.specs.Fields.{HasForm};
 ghost use Rattle.text_spec.specs.JournalFaults.{is_in_ranges};
+ghost use Rattle.text_spec.specs.JournalForm.{line_forms, told_by};
 ghost use Rattle.text_spec.specs.JournalReading.{BadLine, Fits, Follows, IsJournal, journal_in};
 ghost use Rattle.text_spec.specs.JournalText.{Told, Line, lines_told};
 
@@ -18,6 +20,15 @@ pub fn one_journal_for_a_text()
         journal_in config text ≡ Ok told → IsJournal config text told }
     ensures bad { (config : Parts) (text : List ℕ) (bad : BadLine) → length config.events ≤ 256 →
         journal_in config text ≡ Err bad → (told : Told) → IsJournal config text told → ⊥ }
+{}
+
+/// The words of a line tell something exactly where they are those of one of the five forms: a number
+/// of any length, a timestamp, a context and so on, each at its place. So fault 1 is a line without a
+/// form, and no other.
+pub fn which_lines_have_a_form()
+    ensures told { (words : List (List ℕ)) (line : Line) → told_by words ≡ Some line →
+        HasForm line_forms words }
+    ensures none { (words : List (List ℕ)) → told_by words ≡ None → HasForm line_forms words → ⊥ }
 {}
 
 /// What turns and losses that fit a configuration keep: every number is in its range and every event
