@@ -1,6 +1,6 @@
 //! The fields of the project's texts: lines, words, numbers, lower-case hexadecimal and timestamps.
 //!
-//! Layer 9, texts. Over `ids_types`, `ids_frame` and the kit's `hex` and `itoa`; the journal, decoded
+//! Layer 9, texts. Over `ids_types`, `ids_frame` and the kit's `hex`, `itoa` and `memchr`; the journal, decoded
 //! messages, the trace and the text of the memory are read or printed by it.
 //! Contracts see a word by its bytes. `specs/` gives each field its text and its reading, and the
 //! functions with an empty body say that the two are inverse to one another.
@@ -22,5 +22,5 @@ pub use hexadecimal::{hex_into, one_text_for_bytes, push_hex};
 pub use journal::{one_journal_for_a_text, what_a_fitting_journal_keeps, which_lines_have_a_form};
 pub use modes::{mode, one_name_for_a_mode, push_mode};
 pub use numbers::{number, number_upto, one_text_for_a_number, push_field, push_number};
-pub use pieces::{Pieces, cut};
+pub use pieces::{Pieces, cut_line};
 pub use stamps::{one_text_for_a_stamp, push_stamp, stamp};
