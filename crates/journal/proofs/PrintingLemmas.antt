@@ -6,11 +6,9 @@ use Rattle.std.proofs.lemmas.Bool.{cond-false, ne_eqb}
 use Rattle.std.proofs.lemmas.List.{map-append, take_more, length-take-le}
 use Rattle.std.proofs.lemmas.Option.{get_or_from_slice_get}
 use Rattle.ids_types.specs.declared.entry.Act.TheVariants.{State}
-use Rattle.ids_types.specs.declared.entry.Entry.{Entry}
-use Rattle.ids_types.specs.declared.loss.Loss.{Loss}
 use Rattle.ids_types.specs.Turns.{Turn, begun, turn_at, entry_at}
 use Rattle.text_spec.specs.Contexts.{point}
-use Rattle.text_spec.specs.JournalText.{Line, begins, enters, loses, line_for, fields_of, turn_told}
+use Rattle.text_spec.specs.JournalText.{Entry, Loss, Line, begins, enters, loses, line_for, fields_of, turn_told}
 use Rattle.text_spec.specs.Words.{line_feed}
 use Rattle.text_spec.proofs.JournalFacts.{flat_map-push}
 use Rattle.journal.specs.Printing.{ended_line, lines_text, pointed}

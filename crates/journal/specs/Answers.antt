@@ -2,11 +2,10 @@
 use Rattle.std.specs.Prelude.{◌≡◌, ℕ, List, Result, Ok, Err, ⊤}
 use Rattle.ids_config.specs.Parts.{Parts}
 use Rattle.ids_config.specs.Steps.{◌>>◌}
-use Rattle.ids_types.specs.declared.loss.Loss.{Loss}
 use Rattle.ids_types.specs.Turns.{Turn}
 use Rattle.text_spec.specs.JournalReading.{BadLine, IsJournal, journal_in}
 use Rattle.text_spec.specs.JournalFaults.{Past, next}
-use Rattle.text_spec.specs.JournalText.{Told, Line}
+use Rattle.text_spec.specs.JournalText.{Loss, Told, Line}
 use Rattle.journal.specs.declared.fault.JournalFault.{JournalFault}
 use Rattle.journal.specs.declared.fault.JournalFault.TheVariants as faults
 use Rattle.journal.specs.declared.fault.LineFault.{LineFault}

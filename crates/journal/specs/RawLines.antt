@@ -1,13 +1,7 @@
 -- What a line in form tells, as the definitions of the journal's text see it.
 use Rattle.std.specs.Prelude.{ℕ, List}
-use Rattle.ids_types.specs.declared.entry.Carried.{Carried}
-use Rattle.ids_types.specs.declared.entry.Carried.TheVariants.{Absent, Kept, Missing}
-use Rattle.ids_types.specs.declared.entry.Act.{Act}
-use Rattle.ids_types.specs.declared.entry.Act.TheVariants.{Report, State, SetMode}
-use Rattle.ids_types.specs.declared.entry.Entry.{Entry}
-use Rattle.ids_types.specs.declared.loss.Loss.{Loss}
 use Rattle.text_spec.specs.JournalForm.{index, entry_of}
-use Rattle.text_spec.specs.JournalText.{Line, begins, enters, loses}
+use Rattle.text_spec.specs.JournalText.{Carried, Absent, Kept, Missing, Act, Report, State, SetMode, Entry, Loss, Line, begins, enters, loses}
 use Rattle.journal.specs.declared.line.RawContext.{RawContext}
 use Rattle.journal.specs.declared.line.RawContext.TheVariants as contexts
 use Rattle.journal.specs.declared.line.RawAct.{RawAct}

@@ -1,10 +1,6 @@
 -- Numbers that fit the types of an entry's fields.
 use Rattle.std.specs.Prelude.{ℕ, ◌<◌, ◌^◌, List, ⊤}
-use Rattle.ids_types.specs.declared.entry.Carried.{Carried}
-use Rattle.ids_types.specs.declared.entry.Carried.TheVariants.{Absent, Kept, Missing}
-use Rattle.ids_types.specs.declared.entry.Act.{Act}
-use Rattle.ids_types.specs.declared.entry.Act.TheVariants.{Report, State, SetMode}
-use Rattle.ids_types.specs.declared.entry.Entry.{Entry}
+use Rattle.text_spec.specs.JournalText.{Carried, Absent, Kept, Missing, Act, Report, State, SetMode, Entry}
 
 -- a class of 8 bits
 abbrev pub IsTypedContext : Carried (List ℕ) → Type 0

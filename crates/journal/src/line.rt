@@ -39,7 +39,7 @@ pub(crate) struct RawEntry<'a> {
     pub(crate) act: RawAct<'a>,
 }
 
-/// A report that found no event buffer.
+/// A call that found no event buffer.
 #[derive(Clone, Copy, Debug)]
 pub(crate) struct RawLoss {
     pub(crate) caller: u64,

@@ -7,18 +7,11 @@ use Rattle.std.proofs.lemmas.List.{append-nil, map-append, nil_from_length}
 use Rattle.ids_config.specs.Parts.{Parts, is_sensor, is_given}
 use Rattle.ids_config.specs.Steps.{◌>>◌, asks}
 use Rattle.ids_config.proofs.StepLemmas.{asked, asks_ok}
-use Rattle.ids_types.specs.declared.entry.Carried.{Carried}
-use Rattle.ids_types.specs.declared.entry.Carried.TheVariants.{Absent, Kept, Missing}
-use Rattle.ids_types.specs.declared.entry.Act.{Act}
-use Rattle.ids_types.specs.declared.entry.Act.TheVariants.{Report, State, SetMode}
-use Rattle.ids_types.specs.declared.entry.Entry.{Entry}
-use Rattle.ids_types.specs.declared.entry.TurnHead.{TurnHead}
-use Rattle.ids_types.specs.declared.loss.Loss.{Loss}
 use Rattle.ids_types.specs.Turns.{Turn, begun, with_entry}
 use Rattle.text_spec.specs.Contexts.{IsExactContext}
 use Rattle.text_spec.specs.Fields.{a_number, AreExact}
 use Rattle.text_spec.specs.JournalFaults.{Past, is_claim, is_count_lost, is_call, is_context, is_act, is_head, has_event, pair_of, has_pair, head_fault, entry_fault, loss_fault, fault_of, next, with_line}
-use Rattle.text_spec.specs.JournalText.{Told, Line, begins, enters, loses, act_fields, fields_of, turn_told, lines_told}
+use Rattle.text_spec.specs.JournalText.{Carried, Absent, Kept, Missing, Act, Report, State, SetMode, Entry, TurnHead, Loss, Told, Line, begins, enters, loses, act_fields, fields_of, turn_told, lines_told}
 
 -- ---- what holds of a line without a fault
 

@@ -6,11 +6,10 @@ use Rattle.std.proofs.lemmas.Bool.{and_from, both_ways, cases_eq, eq-eqb}
 use Rattle.std.proofs.lemmas.List.{append-nil, length-append}
 use Rattle.std.proofs.lemmas.List.Folds.{list_any-append}
 use Rattle.ids_config.specs.Parts.{Parts}
-use Rattle.ids_types.specs.declared.entry.Entry.{Entry}
 use Rattle.ids_types.specs.Turns.{Turn, begun, with_entry, entries_of}
 use Rattle.text_spec.specs.JournalFaults.{Past, is_in_ranges, fault_of, next, start, is_pair, has_pair, pair_of}
 use Rattle.text_spec.specs.JournalReading.{AreFaultless, Fits, Follows}
-use Rattle.text_spec.specs.JournalText.{Told, Line, begins, enters, loses, turn_told, lines_told}
+use Rattle.text_spec.specs.JournalText.{Entry, Told, Line, begins, enters, loses, turn_told, lines_told}
 use Rattle.text_spec.proofs.JournalFacts.{head_passes, entry_passes, loss_passes, flat_map-push}
 
 -- ---- ranges

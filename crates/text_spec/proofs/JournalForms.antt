@@ -2,11 +2,9 @@
 use Rattle.std.proofs.Common.{◌≡◌, ◌≢◌, ℕ, List, [], ◌∷◌, refl, ap, ◌∙◌}
 use Rattle.std.specs.Prelude.{Option, Some, None, option_map, codes, decimal}
 use Rattle.std.specs.List.{AllByRecursion}
-use Rattle.ids_types.specs.declared.entry.Act.{Act}
-use Rattle.ids_types.specs.declared.entry.Act.TheVariants.{Report, State, SetMode}
 use Rattle.text_spec.specs.Fields.{the, a_number, a_mode, words_of_fields, AreHeld, AreExact, HasForm, first_as, behind}
 use Rattle.text_spec.specs.JournalForm.{entry_of, turn_form, report_form, state_form, setting_form, loss_form, line_forms, told_by}
-use Rattle.text_spec.specs.JournalText.{Line, begins, enters, loses, act_fields, fields_of, line_for}
+use Rattle.text_spec.specs.JournalText.{Act, Report, State, SetMode, Line, begins, enters, loses, act_fields, fields_of, line_for}
 use Rattle.text_spec.specs.Maybe.{or_else}
 use Rattle.text_spec.specs.Words.{Free, space, line_feed, words_of}
 use Rattle.text_spec.proofs.ContextsLaws.{the_lawful, number_lawful, stamp_lawful, mode_lawful, context_lawful}

@@ -8,15 +8,12 @@ use Rattle.std.proofs.lemmas.List.Splits.{join_with_byte-slice_split, length-sli
 use Rattle.ids_config.specs.Parts.{Parts}
 use Rattle.ids_config.specs.Steps.{◌>>◌, asks}
 use Rattle.ids_config.proofs.StepLemmas.{both_ok, asked}
-use Rattle.ids_types.specs.declared.entry.Entry.{Entry}
-use Rattle.ids_types.specs.declared.entry.TurnHead.{TurnHead}
-use Rattle.ids_types.specs.declared.loss.Loss.{Loss}
 use Rattle.ids_types.specs.Turns.{Turn, begun, with_entry}
 use Rattle.text_spec.specs.Fields.{a_number}
 use Rattle.text_spec.specs.JournalFaults.{Past, fault_of, next, nothing, start, with_line}
 use Rattle.text_spec.specs.JournalForm.{told_by}
 use Rattle.text_spec.specs.JournalReading.{AreFaultless, IsHeld, IsJournal, BadLine, at_line, past_with, after_line, after_pieces, journal_in, ◌>>=◌}
-use Rattle.text_spec.specs.JournalText.{Told, Line, begins, enters, loses, line_for, turn_told, lines_told}
+use Rattle.text_spec.specs.JournalText.{Entry, TurnHead, Loss, Told, Line, begins, enters, loses, line_for, turn_told, lines_told}
 use Rattle.text_spec.specs.Words.{Free, line_feed, pieces_of, words_of, line_of, text_of}
 use Rattle.text_spec.proofs.JournalFacts.{line_exact, line_grows}
 use Rattle.text_spec.proofs.JournalForms.{line_takes, line_again, line_words, line_for-free}

@@ -5,15 +5,8 @@ use Rattle.std.specs.Prelude.{ℕ, suc, ◌+◌, ◌*◌, ◌^◌, ◌==◌, ◌
 use Rattle.std.specs.List.{list_all, list_any}
 use Rattle.ids_config.specs.Parts.{Parts, is_sensor}
 use Rattle.ids_config.specs.Steps.{◌>>◌, asks}
-use Rattle.ids_types.specs.declared.entry.Carried.{Carried}
-use Rattle.ids_types.specs.declared.entry.Carried.TheVariants.{Absent, Kept, Missing}
-use Rattle.ids_types.specs.declared.entry.Act.{Act}
-use Rattle.ids_types.specs.declared.entry.Act.TheVariants.{Report, State, SetMode}
-use Rattle.ids_types.specs.declared.entry.Entry.{Entry}
-use Rattle.ids_types.specs.declared.entry.TurnHead.{TurnHead}
-use Rattle.ids_types.specs.declared.loss.Loss.{Loss}
 use Rattle.ids_types.specs.Turns.{Turn, begun, with_entry, entries_of}
-use Rattle.text_spec.specs.JournalText.{Told, Line, begins, enters, loses}
+use Rattle.text_spec.specs.JournalText.{Carried, Absent, Kept, Missing, Act, Report, State, SetMode, Entry, TurnHead, Loss, Told, Line, begins, enters, loses}
 
 -- ---- fault 3: ranges
 

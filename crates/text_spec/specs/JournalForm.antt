@@ -2,13 +2,10 @@
 -- of any length is one; whether it is in its range is not asked here.
 -- Source: the text formats of this project (docs/FORMATS.md).
 use Rattle.std.specs.Prelude.{ℕ, List, [], ◌∷◌, Option, codes}
-use Rattle.ids_types.specs.declared.entry.Act.{Act}
-use Rattle.ids_types.specs.declared.entry.Act.TheVariants.{Report, State, SetMode}
-use Rattle.ids_types.specs.declared.entry.Entry.{Entry}
 use Rattle.ids_types.specs.declared.names.EventIndex.{EventIndex}
 use Rattle.text_spec.specs.Contexts.{a_context}
 use Rattle.text_spec.specs.Fields.{Form, the, a_number, a_stamp, a_mode, told_in_one}
-use Rattle.text_spec.specs.JournalText.{Line, begins, enters, loses}
+use Rattle.text_spec.specs.JournalText.{Act, Report, State, SetMode, Entry, Line, begins, enters, loses}
 
 -- the index of an event
 abbrev pub index : ℕ → EventIndex

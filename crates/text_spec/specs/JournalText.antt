@@ -2,11 +2,13 @@
 -- Source: the text formats of this project (docs/FORMATS.md).
 use Rattle.std.specs.Prelude.{ℕ, List, [], ◌∷◌, ◌++◌, map, codes}
 use Rattle.std.specs.List.{flat_map}
-use Rattle.ids_types.specs.declared.entry.Act.{Act}
-use Rattle.ids_types.specs.declared.entry.Act.TheVariants.{Report, State, SetMode}
-use Rattle.ids_types.specs.declared.entry.Entry.{Entry}
-use Rattle.ids_types.specs.declared.entry.TurnHead.{TurnHead}
-use Rattle.ids_types.specs.declared.loss.Loss.{Loss}
+pub use Rattle.ids_types.specs.declared.entry.Act.TheVariants.{Report, State, SetMode}
+pub use Rattle.ids_types.specs.declared.entry.Act.{Act}
+pub use Rattle.ids_types.specs.declared.entry.Carried.TheVariants.{Absent, Kept, Missing}
+pub use Rattle.ids_types.specs.declared.entry.Carried.{Carried}
+pub use Rattle.ids_types.specs.declared.entry.Entry.{Entry}
+pub use Rattle.ids_types.specs.declared.entry.TurnHead.{TurnHead}
+pub use Rattle.ids_types.specs.declared.loss.Loss.{Loss}
 use Rattle.ids_types.specs.Turns.{Turn}
 use Rattle.text_spec.specs.Contexts.{a_context}
 use Rattle.text_spec.specs.Fields.{Filled, the, a_number, a_stamp, a_mode, put, words_of_fields}

@@ -1,4 +1,4 @@
-ghost use Rattle.std.specs.Prelude.{◌≡◌, ℕ, List, Some, bytes_eq, ◌++◌, OnOk};
+ghost use Rattle.std.specs.Prelude.{◌≡◌, ℕ, List, Some, bytes_eq, ◌++◌, ◌+◌, ◌<◌, length, vec_len, vec_capacity, OnOk, OnErr};
 ghost use Rattle.text_spec.specs.Modes.{mode_name as name_of, mode_named as named};
 ghost use Rattle.ids_types.specs.declared.mode.Mode.{Mode};
 
@@ -28,7 +28,10 @@ pub fn mode(word: &[u8]) -> Option<Mode>
 
 /// Appends the name of the mode.
 pub fn push_mode(out: &mut Vec<u8>, mode: Mode) -> Result<(), NoMemory>
-    ensures { OnOk result (out.new.items ≡ out.old.items ++ name_of mode) }
+    ensures ok { OnOk result (out.new.items ≡ out.old.items ++ name_of mode) }
+    ensures err { OnErr result (out.new.items ≡ out.old.items) }
+    ensures full { let text = name_of mode in
+        OnErr result (vec_capacity out.old < vec_len out.old + length text) }
 {
     let name: &[u8] = match mode {
         Mode::Off => b"OFF",
