@@ -6,7 +6,7 @@ use std::alloc::Global;
 use std::io::{Read, Write};
 
 /// The most bytes that one read asks for.
-const CHUNK: usize = 4096;
+const CHUNK: usize = 65536;
 
 /// Reads to the end, and takes at most `limit + 1` bytes to find it. A read that gives nothing is
 /// the end; an interrupted one is a failure, as every other error.

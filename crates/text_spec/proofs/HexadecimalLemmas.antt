@@ -1,6 +1,7 @@
 -- Lower-case hexadecimal: the reading of a word against the text of bytes.
-use Rattle.std.proofs.Common.{◌≡◌, ℕ, zero, suc, ◌+◌, ◌*◌, ◌/◌, ◌%◌, ◌<◌, ◌≤◌, ◌==◌, not, Bool, true, false, ◌&&◌, ◌||◌, inl, inr, List, [], ◌∷◌, length, slice_index, unwrap_or, Result, Ok, Err, refl, sym, ap, subst, ◌∙◌, arith}
-use Rattle.std.specs.Prelude.{nat_le, Option, Some, None, IsOk, option_and_then, leb}
+use Rattle.std.proofs.Common.{◌≡◌, ℕ, zero, suc, ◌+◌, ◌-◌, ◌*◌, ◌/◌, ◌%◌, ◌<◌, ◌≤◌, ◌==◌, not, Bool, true, false, ◌&&◌, ◌||◌, inl, inr, List, [], ◌∷◌, length, slice_index, take, unwrap_or, Result, Ok, Err, refl, sym, ap, subst, ◌∙◌, arith}
+use Rattle.std.specs.Prelude.{nat_le, Option, Some, None, option_and_then, option_map, leb}
+use Rattle.std.proofs.lemmas.List.{length-take-le}
 use Rattle.std.specs.Int.{is_in_range}
 use Rattle.std.specs.List.{list_all}
 use Rattle.std.specs.Result.{result_ok}
@@ -9,8 +10,8 @@ use Rattle.std.proofs.lemmas.List.Sums.{AllPass-from_list_all}
 use Rattle.std.proofs.lemmas.Option.{cond_some, option_and_then_some, same_Some, none-some}
 use Rattle.hex.specs.Hex.{IsBytes, decode_of, decode_pairs, decode_sized, is_hex_digit, digit_or_error, hex_digit_value, encode_lower, encode_with, lower_digits, pair_value, value_at, ◌>>=◌}
 use Rattle.hex.specs.declared.error.FromHexError.{FromHexError}
-use Rattle.hex.proofs.HexLemmas.{IsOk-decode_sized, decode_of-encode_lower, decode_of-even, decode_of-ok}
-use Rattle.text_spec.specs.Hexadecimal.{hex_in, hex_upto, fitting, is_lower_digit}
+use Rattle.hex.proofs.HexLemmas.{decode_of-encode_lower, decode_of-even, decode_of-ok}
+use Rattle.text_spec.specs.Hexadecimal.{hex_in, hex_upto, fitting, is_lower_digit, IsWritten}
 use Rattle.text_spec.specs.Words.{Free}
 use Rattle.text_spec.proofs.WordsLemmas.{free_from_test}
 
@@ -187,12 +188,6 @@ hex_digits (c ∷ word) all =
     let parts = and_parts (is_lower_digit c) (list_all is_lower_digit word) all in
     and_from _ _ (hex_digit c parts.0) (hex_digits word parts.1)
 
--- digits of lower case decode into a room of half as many bytes
-pub decodes : (word : List ℕ) (n : ℕ) → list_all is_lower_digit word ≡ true → length word ≡ 2 * n
-    → IsOk (decode_sized word n)
-decodes word n all twice =
-    (IsOk-decode_sized word n).1 (twice, AllPass-from_list_all is_hex_digit word (hex_digits word all))
-
 -- what was read of a word, with room for less than half its length
 short_room : (room : ℕ) (word : List ℕ) → room < length word / 2 → (read : Option (List ℕ))
     → hex_in word ≡ read
@@ -222,3 +217,108 @@ hex_upto-some room word bytes read =
     let parts = cond_some (nat_le (length all) room) all bytes kept in
     let bound = leb-true (length all) room parts.0 in
     (is ∙ ap Some parts.1, subst (λ bs. length bs ≤ room) parts.1 bound))
+
+-- the value of a digit from `0` to `9`, and from `a` to `f`, has the digit
+pub digit_number : (c : ℕ) → 48 ≤ c → c ≤ 57 → slice_index lower_digits (c - 48) ≡ c
+digit_number c low high =
+    let passes = all_below-at (λ k. (slice_index lower_digits k == k + 48) || not (leb k 9)) 16 (c - 48) refl (omega arith) in
+    elim (or_cases _ _ passes) [
+      | inl same ↦ let e = eqb-true (slice_index lower_digits (c - 48)) (c - 48 + 48) same in omega (arith, e)
+      | inr other ↦ absurd (both_ways (leb (c - 48) 9) (not-true (leb (c - 48) 9) other) (le-leb (c - 48) 9 (omega arith)))
+    ]
+
+pub digit_letter : (c : ℕ) → 97 ≤ c → c ≤ 102 → slice_index lower_digits (c - 97 + 10) ≡ c
+digit_letter c low high =
+    let passes = all_below-at (λ k. (slice_index lower_digits k == k + 87) || leb k 9) 16 (c - 97 + 10) refl (omega arith) in
+    elim (or_cases _ _ passes) [
+      | inl same ↦ let e = eqb-true (slice_index lower_digits (c - 97 + 10)) (c - 97 + 10 + 87) same in omega (arith, e)
+      | inr small ↦ let le = leb-true (c - 97 + 10) 9 small in absurd (omega (arith, le))
+    ]
+
+-- the byte at a place is written by the two digits there
+abbrev pub PairAt : List ℕ → List ℕ → ℕ → Type 0
+PairAt word room k = IsWritten (slice_index room k) (slice_index word (2 * k)) (slice_index word (2 * k + 1))
+
+-- a place of a word behind two digits
+two_on : (c d : ℕ) (word : List ℕ) (i k : ℕ) → i ≡ suc (suc k) → slice_index (c ∷ d ∷ word) i ≡ slice_index word k
+two_on c d word i k e = rw e refl
+
+-- the byte at a place behind the first
+pair_behind : (c d b : ℕ) (word room : List ℕ) (k : ℕ) → PairAt (c ∷ d ∷ word) (b ∷ room) (suc k) → PairAt word room k
+pair_behind c d b word room k pair = record {
+  high = pair.high ∙ two_on c d word (2 * suc k) (2 * k) (omega arith);
+  low = pair.low ∙ two_on c d word (2 * suc k + 1) (2 * k + 1) (omega arith);
+}
+
+-- a word whose digits write the first bytes of a room is their text
+pub pairs_text : (n : ℕ) (word room : List ℕ) → length word ≡ 2 * n → n ≤ length room → ((k : ℕ) → k < n → PairAt word room k)
+    → encode_lower (take n room) ≡ word
+unfolding encode_with
+pairs_text zero [] room len le pairs = refl
+pairs_text zero (c ∷ word) room len le pairs = absurd (omega arith)
+pairs_text (suc n) [] room len le pairs = absurd (omega arith)
+pairs_text (suc n) (c ∷ []) room len le pairs = absurd (omega arith)
+pairs_text (suc n) (c ∷ d ∷ word) [] len le pairs = absurd (omega arith)
+pairs_text (suc n) (c ∷ d ∷ word) (b ∷ room) len le pairs =
+    let first = pairs 0 (omega arith) in
+    let others = pairs_text n word room (omega arith) (omega arith) (λ k lt. pair_behind c d b word room k (pairs (suc k) (omega arith))) in
+    rw (first.high, first.low, others) refl
+
+-- a test that one element fails is not passed by all
+pub not_all : (p : ℕ → Bool) (xs : List ℕ) (i : ℕ) → i < length xs → p (slice_index xs i) ≡ false → list_all p xs ≡ false
+not_all p [] i lt fails = absurd (omega arith)
+not_all p (x ∷ xs) zero lt fails = rw fails refl
+not_all p (x ∷ xs) (suc i) lt fails = elim (cases_Bool (p x)) [
+  | inl passed ↦ rw (passed, not_all p xs i (omega arith) fails) refl
+  | inr failed ↦ rw failed refl
+]
+
+-- a word with another byte is not read
+pub hex_in-other : (word : List ℕ) → list_all is_lower_digit word ≡ false → hex_in word ≡ None
+hex_in-other word other = cond-false _ (result_ok (decode_of word)) None other
+
+-- nor is a pair with another byte
+pub hex_in-pair : (word : List ℕ) (i : ℕ) → 2 * i + 1 < length word
+    → (is_lower_digit (slice_index word (2 * i)) && is_lower_digit (slice_index word (2 * i + 1))) ≡ false → hex_in word ≡ None
+hex_in-pair word i lt fails = elim (cases_Bool (is_lower_digit (slice_index word (2 * i)))) [
+  | inl passed ↦
+      let low : is_lower_digit (slice_index word (2 * i + 1)) ≡ false = rw passed at fails in
+      hex_in-other word (not_all is_lower_digit word (2 * i + 1) lt low)
+  | inr failed ↦ hex_in-other word (not_all is_lower_digit word (2 * i) (omega arith) failed)
+]
+
+-- what was read of an odd number of digits
+odd_read : (word : List ℕ) (read : Option (List ℕ)) → hex_in word ≡ read → length word % 2 ≡ 1 → read ≡ None
+odd_read word None is odd = refl
+odd_read word (Some bytes) is odd = absurd (omega (arith, odd, (bytes_in-hex word bytes is).1))
+
+-- an odd number of digits is not read
+pub hex_in-odd : (word : List ℕ) → length word % 2 ≡ 1 → hex_in word ≡ None
+hex_in-odd word odd = odd_read word (hex_in word) refl odd
+
+-- what is not read does not fit a room
+pub hex_upto-none : (room : ℕ) (word : List ℕ) → hex_in word ≡ None → hex_upto room word ≡ None
+hex_upto-none room word none = ap (option_and_then (fitting room)) none
+
+-- the first bytes of a room are bytes
+bytes_taken : (n : ℕ) (room : List ℕ) → ((k : ℕ) → k < n → slice_index room k < 256) → IsBytes (take n room)
+bytes_taken zero room small i = omega arith
+bytes_taken (suc n) [] small i = omega arith
+bytes_taken (suc n) (b ∷ room) small zero = small 0 (omega arith)
+bytes_taken (suc n) (b ∷ room) small (suc i) = bytes_taken n room (λ k lt. small (suc k) (omega arith)) i
+
+-- a word whose digits write the first bytes of a room is read as them
+pub pairs_read : (n : ℕ) (word room : List ℕ) → ((k : ℕ) → k < n → slice_index room k < 256) → length word ≡ 2 * n → n ≤ length room → ((k : ℕ) → k < n → PairAt word room k)
+    → hex_in word ≡ Some (take n room)
+pairs_read n word room fits len le pairs =
+    let text = pairs_text n word room len le pairs in
+    ap hex_in (sym text) ∙ hex_in-encode_lower (take n room) (bytes_taken n room fits)
+
+-- and fits a room for as many
+pub hex_upto-read : (most n : ℕ) (word room : List ℕ) → ((k : ℕ) → k < n → slice_index room k < 256) → length word ≡ 2 * n → n ≤ length room → n ≤ most → ((k : ℕ) → k < n → PairAt word room k)
+    → Some n ≡ option_map length (hex_upto most word)
+hex_upto-read most n word room fits len le few pairs =
+    let size : length (take n room) ≡ n = length-take-le n room le in
+    let read = ap (option_and_then (fitting most)) (pairs_read n word room fits len le pairs) in
+    let kept = cond-true _ (Some (take n room)) None (le-leb (length (take n room)) most (omega arith)) in
+    ap Some (sym size) ∙ sym (ap (option_map length) (read ∙ kept))

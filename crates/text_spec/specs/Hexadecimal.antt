@@ -1,11 +1,11 @@
 -- Bytes of a text, in lower-case hexadecimal: two digits each. The text of bytes is `encode_lower` of
 -- the crate hex.
 -- Source: the text formats of this project.
-use Rattle.std.specs.Prelude.{ℕ, ◌||◌, nat_le, Bool, List, [], ◌∷◌, length, Option, Some, None, option_and_then, unwrap_or, if◌then◌else◌}
+use Rattle.std.specs.Prelude.{◌≡◌, ℕ, ◌/◌, ◌%◌, ◌||◌, slice_index, nat_le, Bool, List, [], ◌∷◌, length, Option, Some, None, option_and_then, unwrap_or, if◌then◌else◌}
 use Rattle.std.specs.Int.{is_in_range}
 use Rattle.std.specs.List.{list_all}
 use Rattle.std.specs.Result.{result_ok}
-use Rattle.hex.specs.Hex.{decode_of}
+use Rattle.hex.specs.Hex.{decode_of, lower_digits}
 use Rattle.text_spec.specs.Maybe.{◌>>=◌}
 
 -- whether this character is a digit of lower-case hexadecimal: `0` to `9` or `a` to `f`
@@ -15,6 +15,11 @@ is_lower_digit c = is_in_range 48 57 c || is_in_range 97 102 c
 -- the bytes that a word writes in lower-case hexadecimal
 abbrev pub hex_in : List ℕ → Option (List ℕ)
 hex_in word = if list_all is_lower_digit word then result_ok (decode_of word) else None
+
+-- the byte is written by these two digits
+pub record IsWritten (byte first second : ℕ) : Type 0 where
+  pub high : slice_index lower_digits (byte / 16) ≡ first
+  pub low : slice_index lower_digits (byte % 16) ≡ second
 
 -- these bytes, where they fit the room
 abbrev pub fitting : ℕ → List ℕ → Option (List ℕ)

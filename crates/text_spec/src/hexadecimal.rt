@@ -1,29 +1,48 @@
-ghost use Rattle.std.specs.Prelude.{◌≡◌, ℕ, ◌<◌, List, length, take, drop, option_map, IfSome, IfNone, IsTrue, ◌++◌, ◌*◌, OnOk, OnErr, ◌+◌, vec_len, vec_capacity};
+ghost use Rattle.std.specs.Prelude.{◌≡◌, ℕ, ◌<◌, ◌&&◌, List, length, take, drop, option_map, IfSome, IfNone, IsTrue, ◌++◌, ◌*◌, OnOk, OnErr, ◌+◌, vec_len, vec_capacity, slice_index, false};
 ghost use Rattle.std.specs.List.{list_all};
-ghost use Rattle.hex.specs.Hex.{IsBytes, encode_lower};
-ghost use Rattle.text_spec.specs.Hexadecimal.{hex_in, hex_upto, is_lower_digit as writes_digit};
+ghost use Rattle.hex.specs.Hex.{IsBytes, encode_lower, lower_digits};
+ghost use Rattle.text_spec.specs.Hexadecimal.{hex_in, hex_upto, is_lower_digit as writes_digit, IsWritten};
 
 use ids_types::NoMemory;
 
 /// Decodes a word of lower-case hexadecimal into the front of `room`, and returns how many bytes.
 ///
-/// `None` where the word is no such text, or its bytes do not fit the room. An empty word has no
-/// bytes.
+/// `None` where the word is no such text, or its bytes do not fit the room: what the room then holds
+/// is unspecified. An empty word has no bytes. Each digit is looked at once.
 pub fn hex_into(word: &[u8], room: &mut [u8]) -> Option<usize>
     ensures count { result ≡ option_map length (hex_upto (length room.old) word.now) }
     ensures bytes { IfSome result (λ n. hex_in word.now ≡ Some (take n room.new)) }
     ensures rest { IfSome result (λ n. drop n room.new ≡ drop n room.old) }
-    ensures none { IfNone result (room.new ≡ room.old) }
 {
-    if !are_lower_digits(word) {
-        return None;
-    }
     let count = word.len() / 2;
-    if room.len() < count {
+    if word.len() % 2 == 1 || room.len() < count {
         return None;
     }
-    hex::decode_to_slice(word, &mut room[..count]).ok()?;
+    for i in 0..count {
+        room[i] = byte_of(word[2 * i], word[2 * i + 1])?;
+    }
     Some(count)
+}
+
+/// The byte that two digits write.
+fn byte_of(high: u8, low: u8) -> Option<u8>
+    ensures none { IfNone result ((writes_digit high && writes_digit low) ≡ false) }
+    ensures some { IfSome result (λ byte. IsWritten byte high low) }
+{
+    Some(digit_of(high)? * 16 + digit_of(low)?)
+}
+
+/// The value of a digit.
+fn digit_of(byte: u8) -> Option<u8>
+    ensures none { IfNone result (writes_digit byte ≡ false) }
+    ensures small { IfSome result (λ value. value < 16) }
+    ensures some { IfSome result (λ value. slice_index lower_digits value ≡ byte) }
+{
+    match byte {
+        b'0'..=b'9' => Some(byte - b'0'),
+        b'a'..=b'f' => Some(byte - b'a' + 10),
+        _ => None,
+    }
 }
 
 /// Appends the text of the bytes.

@@ -1,26 +1,31 @@
-use Rattle.std.proofs.Common.{◌≡◌, ◌*◌, ◌/◌, true, length, take, arith}
-use Rattle.std.specs.List.{list_all}
-use Rattle.std.proofs.lemmas.Grind.{common_steps}
-use Rattle.hex.specs.Hex.{decode_sized}
-use Rattle.hex.proofs.HexLemmas.{IsOk-written}
-use Rattle.text_spec.specs.Hexadecimal.{is_lower_digit}
-use Rattle.text_spec.proofs.HexadecimalLemmas.{decodes, hex_upto-short}
+use Rattle.std.proofs.Common.{◌≡◌, ◌<◌, ℕ, ◌*◌, ◌/◌, ◌≤◌, length, ap, sym, ◌∙◌, arith}
+use Rattle.std.specs.Prelude.{option_map}
+use Rattle.text_spec.proofs.HexadecimalLemmas.{hex_in-odd, hex_upto-none, hex_upto-short, pairs_read, hex_upto-read}
 use Rattle.text_spec.proofs.hexadecimal.hex_into.Goals as goal
+use Rattle.text_spec.proofs.hexadecimal.hex_into.Goals.{then-word-eq1-via-then-word-eq1, then-word-eq1-via-else-word-eq1+then-room-count}
 
-pub returns-then-room-count-clause-count : goal.returns-then-room-count-clause-count
-returns-then-room-count-clause-count c =
-    let none = hex_upto-short (length c.args.room.now) c.args.word.now c.if-room-count.true in
-    grind (arith, none)
-
-pub returns-in_err-ok-clause-none : goal.returns-in_err-ok-clause-none
-returns-in_err-ok-clause-none c =
+pub returns-then-word-eq1-clause-count : goal.returns-then-word-eq1-clause-count
+returns-then-word-eq1-clause-count c =
     let word = c.args.word.now in
-    let front = take (length word / 2) c.args.room.now in
-    let all : list_all is_lower_digit word ≡ true = grind (arith, c.are_lower_digits.ensures) in
-    let odd : length word ≡ 2 * length front → ⊥ = λ even.
-    let written = IsOk-written (decode_sized word (length front))
-    c.decode_to_slice.result c.decode_to_slice.new.out c.decode_to_slice.ensures.value in
-    let ok = written.1 (decodes word (length front) all even) in
-    absurd (cc (ok, c.in_err-ok.ensures.variant)) in
-    let same = c.decode_to_slice.ensures.same odd in
-    grind (arith, common_steps, same)
+    elim c.then-word-eq1.branch [
+      | then-word-eq1-via-then-word-eq1 w ↦ sym (ap (option_map length) (hex_upto-none (length c.args.room.now) word (hex_in-odd word (omega arith))))
+      | then-word-eq1-via-else-word-eq1+then-room-count w ↦ sym (ap (option_map length) (hex_upto-short (length c.args.room.now) word (omega arith)))
+    ]
+
+pub returns-clause-count : goal.returns-clause-count
+returns-clause-count c =
+    let word = c.args.word.now in
+    let n = length word / 2 in
+    let room = c.loop-i.room in
+    let twice : length word ≡ 2 * n = omega arith in
+    let within : n ≤ length room = omega arith in
+    hex_upto-read (length c.args.room.now) n word room (λ k lt. c.loop-i.invariant.small k (omega arith)) twice within (omega arith) (λ k lt. c.loop-i.invariant.pairs k (omega arith))
+
+pub returns-clause-bytes : goal.returns-clause-bytes
+returns-clause-bytes c =
+    let word = c.args.word.now in
+    let n = length word / 2 in
+    let room = c.loop-i.room in
+    let twice : length word ≡ 2 * n = omega arith in
+    let within : n ≤ length room = omega arith in
+    pairs_read n word room (λ k lt. c.loop-i.invariant.small k (omega arith)) twice within (λ k lt. c.loop-i.invariant.pairs k (omega arith))
