@@ -1,7 +1,7 @@
 -- The command `fold`, from its inputs to its outputs.
-use Rattle.std.proofs.Common.{◌≡◌, ℕ, List, Ok, IsTrue, refl, sym, subst, inl, inr, ◌∙◌}
+use Rattle.std.proofs.Common.{◌≡◌, ℕ, List, Ok, IsTrue, refl, sym, subst, inr}
 use Rattle.ids_config.specs.Parts.{Parts}
-use Rattle.ids_outside.specs.Faults.{Faults, WantsMemory}
+use Rattle.ids_outside.specs.Faults.{WantsMemory}
 use Rattle.ids_outside.specs.Files.{Files, SameFiles}
 use Rattle.ids_outside.specs.Shelved.{Shelved}
 use Rattle.ids_outside.specs.declared.faults.WriteFault.{WriteFault}

@@ -1,5 +1,5 @@
 -- What a journal that is folded says of its turns.
-use Rattle.std.proofs.Common.{◌≡◌, ℕ, zero, suc, ◌+◌, ◌<◌, ◌≤◌, List, [], ◌∷◌, ◌++◌, length, map, drop, take, true, false, Some, refl, arith, length-append, ◌==◌, ◌&&◌}
+use Rattle.std.proofs.Common.{◌≡◌, ℕ, zero, suc, ◌+◌, ◌<◌, ◌≤◌, List, [], ◌∷◌, ◌++◌, length, map, take, true, refl, arith, length-append, ◌&&◌}
 use Rattle.std.specs.List.{flat_map, AllByRecursion}
 use Rattle.std.proofs.lemmas.List.{length-map}
 use Rattle.std.proofs.lemmas.Bool.{and_parts, leb-true}
@@ -18,7 +18,6 @@ use Rattle.text_spec.specs.JournalReading.{IsJournal}
 use Rattle.text_spec.specs.Words.{text_of, line_feed}
 use Rattle.text_spec.proofs.JournalFacts.{sensor_is_there}
 use Rattle.journal.specs.Answers.{told}
-use Rattle.idsm_run.specs.FoldedJournal.{held_back_line}
 use Rattle.idsm_run.specs.Sending.{IsShort, CanSend, CanSendTurn}
 
 -- ---- what can be sent
@@ -115,22 +114,6 @@ lines_are_few config text turns losses is =
     let have = turns_have_lines turns in
     rw is.is_text
     (omega (arith, lines, have, length-map (lines_told (told turns losses)) line_for, length-append (flat_map turn_told turns) (map loses losses)))
-
--- ---- the line of a turn that says that events were held back
-
-pub held_back_next : (n : ℕ) (turns : List Turn) (i : ℕ) → i < length turns
-    → (turn_at turns i).head.limited ≡ 0
-    → held_back_line n (drop i turns)
-    ≡ held_back_line (n + (1 + length (turn_at turns i).entries)) (drop (suc i) turns)
-held_back_next n [] i within none = absurd (omega arith)
-held_back_next n (turn ∷ turns) zero within none = rw none refl
-held_back_next n (turn ∷ turns) (suc i) within none = held_back_next n turns i (omega arith) none
-
-pub held_back_here : (n : ℕ) (turns : List Turn) (i : ℕ) → i < length turns
-    → ((turn_at turns i).head.limited == 0) ≡ false → held_back_line n (drop i turns) ≡ Some n
-held_back_here n [] i within some = absurd (omega arith)
-held_back_here n (turn ∷ turns) zero within some = rw some refl
-held_back_here n (turn ∷ turns) (suc i) within some = held_back_here n turns i (omega arith) some
 
 -- the entries of the turns before one, and its own, are at most all
 pub entries_upto : (turns : List Turn) (i : ℕ) → i < length turns

@@ -1,5 +1,5 @@
 -- What the input files of a command deserve, stage by stage.
-use Rattle.std.proofs.Common.{◌≡◌, ◌≢◌, ℕ, List, [], ◌∷◌, Bool, true, false, Option, Some, None, Ok, Err, Bor, IsTrue, refl, sym, ap, subst, ◌∙◌, inl, inr}
+use Rattle.std.proofs.Common.{◌≡◌, ◌≢◌, ℕ, List, Bool, true, false, None, Ok, Err, Bor, IsTrue, refl, sym, subst, ◌∙◌, inl, inr}
 use Rattle.std.specs.Prelude.{Result, if◌then◌else◌}
 use Rattle.std.specs.Str.{bytes_eq}
 use Rattle.std.proofs.lemmas.Bool.{false_from_ne_true}
@@ -19,7 +19,7 @@ use Rattle.text_spec.specs.DecodedText.{decoded_text}
 use Rattle.text_spec.specs.JournalReading.{BadLine}
 use Rattle.text_spec.specs.JournalText.{Told}
 use Rattle.idsm_run.specs.declared.stop.Refusal.{Refusal}
-use Rattle.idsm_run.specs.declared.stop.Refusal.TheVariants.{CannotRead, TooLong, BadConfig, NotBuilt, BadJournal, BadMessages}
+use Rattle.idsm_run.specs.declared.stop.Refusal.TheVariants.{BadConfig, NotBuilt, BadJournal, BadMessages}
 use Rattle.idsm_run.specs.declared.stop.InputStop.{InputStop}
 use Rattle.idsm_run.specs.declared.stop.InputStop.TheVariants.{Refused, NoMemory}
 use Rattle.idsm_run.specs.Built.{is_built, has_control}
@@ -27,7 +27,7 @@ use Rattle.idsm_run.specs.Command.{Command, FoldFiles, fold, decode, Input, conf
 use Rattle.idsm_run.specs.FoldedJournal.{folded_in}
 use Rattle.idsm_run.specs.Judge
 use Rattle.idsm_run.specs.Judge.{file_of, bytes_of, without, config_judged, journal_judged, messages_judged, folding_in, folding, messages_in, judge, decode_work}
-use Rattle.idsm_run.specs.Run.{seen, RefusedBehind, MayRefuse, WasRefused, WasDone, StopsFor}
+use Rattle.idsm_run.specs.Run.{seen, RefusedBehind, name_of, MayRefuse, WasRefused, WasDone, StopsFor}
 use Rattle.idsm_run.specs.StopView.{stop_of_input}
 use Rattle.idsm_run.specs.Stages.{Unread, ReadStops, StopsAs, InputsStop, plain_refusal, plain_stop}
 
@@ -45,58 +45,44 @@ same_file : (limit : ℕ) (name : List ℕ) (old new : Files) → SameFiles old 
     → file_of limit name new ≡ file_of limit name old
 same_file limit name old new same = rw (same name) refl
 
--- a file that was not read is refused so
-unread_file : (limit : ℕ) (name : List ℕ) (old new : Shelved) (refusal : Refusal (List ℕ))
-    → Unread limit name old new refusal → IsTrue old.tells
-    → file_of limit name (seen refusal old.files) ≡ Err refusal
-unread_file limit name old new (CannotRead other) why told =
-    let P : List ℕ → Type 0 = λ n. file_of limit name (without n old.files) ≡ Err (CannotRead n) in
-    subst P (sym why.0) (rw (without-itself name old.files) refl)
-unread_file limit name old new (TooLong other) why told =
-    let P : List ℕ → Type 0 = λ n. file_of limit name old.files ≡ Err (TooLong n) in
-    subst P (sym why.0) (why.2 told)
-unread_file limit name old new (BadConfig fault) why told = absurd why
-unread_file limit name old new NotBuilt why told = absurd why
-unread_file limit name old new (BadJournal line number) why told = absurd why
-unread_file limit name old new (BadMessages bad) why told = absurd why
+-- a refusal of a file that was not read: it may come for each kind of input, is the one that the file
+-- deserves, and leaves the other files as they are
+record IsUnread (limit : ℕ) (name : List ℕ) (old new : Shelved) (refusal : Refusal (List ℕ)) : Type 0 where
+  may : (input : Input) → name_of input ≡ name → MayRefuse input refusal
+  judged : IsTrue old.tells → file_of limit name (seen refusal old.files) ≡ Err refusal
+  behind : RefusedBehind refusal old.faults new.faults
+  others : (l : ℕ) (other : List ℕ) → other ≢ name
+      → file_of l other (seen refusal old.files) ≡ file_of l other old.files
 
-unread_behind : (limit : ℕ) (name : List ℕ) (old new : Shelved) (refusal : Refusal (List ℕ))
-    → Unread limit name old new refusal → RefusedBehind refusal old.faults new.faults
-unread_behind limit name old new (CannotRead other) why =
-    subst (λ n. CountsFault old.faults new.faults Read n) (sym why.0) why.1
-unread_behind limit name old new (TooLong other) why = why.1
-unread_behind limit name old new (BadConfig fault) why = absurd why
-unread_behind limit name old new NotBuilt why = absurd why
-unread_behind limit name old new (BadJournal line number) why = absurd why
-unread_behind limit name old new (BadMessages bad) why = absurd why
-
-unread_may : (limit : ℕ) (name : List ℕ) (old new : Shelved) (refusal : Refusal (List ℕ))
-    → Unread limit name old new refusal
-    → MayRefuse (config_file name) refusal × MayRefuse (journal_file name) refusal
-    × MayRefuse (messages_file name) refusal
-unread_may limit name old new (CannotRead other) why = (why.0, why.0, why.0)
-unread_may limit name old new (TooLong other) why = (why.0, why.0, why.0)
-unread_may limit name old new (BadConfig fault) why = absurd why
-unread_may limit name old new NotBuilt why = absurd why
-unread_may limit name old new (BadJournal line number) why = absurd why
-unread_may limit name old new (BadMessages bad) why = absurd why
+is_unread : (limit : ℕ) (name : List ℕ) (old new : Shelved) (refusal : Refusal (List ℕ))
+    → Unread limit name old new refusal → IsUnread limit name old new refusal
+is_unread limit name old new refusal (inl failed) =
+    subst (IsUnread limit name old new) (sym failed.0) (record {
+      may = λ input is. sym is;
+      judged = λ told. rw (without-itself name old.files) refl;
+      behind = failed.1;
+      others = λ l other differ. rw (without-other name other old.files differ) refl;
+    })
+is_unread limit name old new refusal (inr long) =
+    subst (IsUnread limit name old new) (sym long.0) (record {
+      may = λ input is. sym is;
+      judged = long.2;
+      behind = long.1;
+      others = λ l other differ. refl;
+    })
 
 -- a shelf that was only read from is read from as before
 unread_since : (limit : ℕ) (name : List ℕ) (old middle new : Shelved) (refusal : Refusal (List ℕ))
     → middle.tells ≡ old.tells → middle.faults ≡ old.faults
     → (IsTrue old.tells → SameFiles old.files middle.files)
     → Unread limit name middle new refusal → Unread limit name old new refusal
-unread_since limit name old middle new (CannotRead other) tells faults same why =
-    (why.0, subst (λ f. CountsFault f new.faults Read name) faults why.1)
-unread_since limit name old middle new (TooLong other) tells faults same why = (
-  why.0,
-  why.1 ∙ faults,
-  λ told. sym (same_file limit name old.files middle.files (same told)) ∙ why.2 (subst IsTrue (sym tells) told),
+unread_since limit name old middle new refusal tells faults same (inl failed) =
+    inl (failed.0, subst (λ f. CountsFault f new.faults Read name) faults failed.1)
+unread_since limit name old middle new refusal tells faults same (inr long) = inr (
+  long.0,
+  long.1 ∙ faults,
+  λ told. sym (same_file limit name old.files middle.files (same told)) ∙ long.2 (subst IsTrue (sym tells) told),
 )
-unread_since limit name old middle new (BadConfig fault) tells faults same why = absurd why
-unread_since limit name old middle new NotBuilt tells faults same why = absurd why
-unread_since limit name old middle new (BadJournal line number) tells faults same why = absurd why
-unread_since limit name old middle new (BadMessages bad) tells faults same why = absurd why
 
 -- what was read after other reads stood there before them
 pub read_since : (limit : ℕ) (name bytes : List ℕ) (old middle : Shelved) → middle.tells ≡ old.tells
@@ -105,18 +91,6 @@ pub read_since : (limit : ℕ) (name bytes : List ℕ) (old middle : Shelved) �
     → IsTrue old.tells → file_of limit name old.files ≡ Ok bytes
 read_since limit name bytes old middle tells same found told =
     sym (same_file limit name old.files middle.files (same told)) ∙ found (subst IsTrue (sym tells) told)
-
--- a file that was not read is another's than this one's
-seen_other : (limit : ℕ) (name other : List ℕ) (files : Files) (refusal : Refusal (List ℕ))
-    → MayRefuse (journal_file other) refusal → name ≢ other
-    → file_of limit name (seen refusal files) ≡ file_of limit name files
-seen_other limit name other files (CannotRead missing) may differ =
-    rw (without-other missing name files (λ same. differ (same ∙ may))) refl
-seen_other limit name other files (TooLong long) may differ = refl
-seen_other limit name other files (BadConfig fault) may differ = refl
-seen_other limit name other files NotBuilt may differ = refl
-seen_other limit name other files (BadJournal line number) may differ = refl
-seen_other limit name other files (BadMessages bad) may differ = refl
 
 -- ---- what bytes are refused for
 
@@ -211,12 +185,14 @@ module _ (names : FoldFiles) (old new : Shelved)
   -- the configuration was not read
   pub config_unread : (stop : InputStop (Bor (List ℕ)))
       → ReadStops 1048576 names.config old new stop → InputsStop (fold names) old new stop
-  config_unread (Refused refusal) why = record {
-    may = inl (unread_may _ _ old new (plain_refusal refusal) why).0;
-    judged = λ told. config_is_first names _ _ (unread_file _ _ old new (plain_refusal refusal) why told);
-    behind = unread_behind _ _ old new (plain_refusal refusal) why;
-    same = same;
-  }
+  config_unread (Refused refusal) why =
+      let unread = is_unread _ _ old new (plain_refusal refusal) why in
+      record {
+        may = inl (unread.may (config_file names.config) refl);
+        judged = λ told. config_is_first names _ _ (unread.judged told);
+        behind = unread.behind;
+        same = same;
+      }
   config_unread NoMemory why = same
 
   -- its bytes were refused
@@ -245,14 +221,12 @@ module _ (names : FoldFiles) (old new : Shelved)
         → ReadStops 16777216 names.journal middle new stop → InputsStop (fold names) old new stop
     journal_unread middle (Refused refusal) differ tells faults stays late =
         let r : Refusal (List ℕ) = plain_refusal refusal in
-        let why : Unread 16777216 names.journal old new r = unread_since _ _ old middle new r tells faults stays late in
-        let may : MayRefuse (journal_file names.journal) r = (unread_may _ _ old new r why).1 in
+        let unread = is_unread _ _ old new r (unread_since _ _ old middle new r tells faults stays late) in
         record {
-          may = inr (inl may);
+          may = inr (inl (unread.may (journal_file names.journal) refl));
           judged = λ told. journal_is_second names _ text config r
-              (seen_other _ names.config names.journal old.files r may differ ∙ read told) is
-              (unread_file _ _ old new r why told);
-          behind = unread_behind _ _ old new r why;
+              (unread.others 1048576 names.config differ ∙ read told) is (unread.judged told);
+          behind = unread.behind;
           same = same;
         }
     journal_unread middle NoMemory differ tells faults stays late = same
@@ -299,12 +273,14 @@ module _ (name : List ℕ) (old new : Shelved)
   -- the file was not read
   pub messages_unread : (stop : InputStop (Bor (List ℕ)))
       → ReadStops 67108864 name old new stop → InputsStop (decode name) old new stop
-  messages_unread (Refused refusal) why = record {
-    may = inl (unread_may _ _ old new (plain_refusal refusal) why).2;
-    judged = λ told. messages_are_first name _ _ (unread_file _ _ old new (plain_refusal refusal) why told);
-    behind = unread_behind _ _ old new (plain_refusal refusal) why;
-    same = same;
-  }
+  messages_unread (Refused refusal) why =
+      let unread = is_unread _ _ old new (plain_refusal refusal) why in
+      record {
+        may = inl (unread.may (messages_file name) refl);
+        judged = λ told. messages_are_first name _ _ (unread.judged told);
+        behind = unread.behind;
+        same = same;
+      }
   messages_unread NoMemory why = same
 
   -- its bytes were refused

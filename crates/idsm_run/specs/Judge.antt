@@ -1,7 +1,7 @@
 -- What the input files of a command deserve: the work that they ask for, or the first refusal, in the
 -- order in which files are read and judged.
 -- Source: docs/COMMANDS.md, "Order of work".
-use Rattle.std.specs.Prelude.{ℕ, List, [], ◌∷◌, length, nat_lt, Option, Some, None, Result, Ok, Err, if◌then◌else◌, bytes_eq}
+use Rattle.std.specs.Prelude.{ℕ, List, [], length, nat_lt, Option, Some, None, Result, Ok, Err, if◌then◌else◌, bytes_eq}
 use Rattle.config_json.specs.Configured.{configuration}
 use Rattle.ids_config.specs.Parts.{Parts}
 use Rattle.ids_config.specs.declared.fault.ConfigFault.{ConfigFault}

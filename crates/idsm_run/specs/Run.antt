@@ -1,7 +1,7 @@
 -- What a run does, by cases on its command: it did its command's work, or stopped, each with its status
 -- and its text.
 -- Source: docs/COMMANDS.md.
-use Rattle.std.specs.Prelude.{◌≡◌, ◌⊎◌, ℕ, List, [], ◌∷◌, Bool, IsTrue, Option, Some, None, Ok, Err, Contains}
+use Rattle.std.specs.Prelude.{◌≡◌, ◌⊎◌, ℕ, List, [], ◌∷◌, IsTrue, Option, Some, None, Ok, Err, Contains}
 use Rattle.ids_outside.specs.Faults.{Faults, Rose, CountsFault}
 use Rattle.ids_outside.specs.Files.{Files, SameFiles}
 use Rattle.ids_outside.specs.Shelved.{Shelved}
@@ -11,8 +11,6 @@ use Rattle.ids_outside.specs.declared.faults.WriteFault.{WriteFault}
 use Rattle.ids_outside.specs.declared.faults.WriteFault.TheVariants.{Failed}
 use Rattle.idsm_run.specs.declared.stop.Refusal.{Refusal}
 use Rattle.idsm_run.specs.declared.stop.Refusal.TheVariants.{CannotRead, TooLong, BadConfig, NotBuilt, BadJournal, BadMessages}
-use Rattle.idsm_run.specs.declared.stop.InputStop.{InputStop}
-use Rattle.idsm_run.specs.declared.stop.InputStop.TheVariants as input_stops
 use Rattle.idsm_run.specs.declared.stop.Stop.{Stop}
 use Rattle.idsm_run.specs.declared.stop.Stop.TheVariants as stops
 use Rattle.idsm_run.specs.Command.{Command, Input, config_file, journal_file, messages_file, read_by, written_by}

@@ -1,6 +1,6 @@
 -- What the stages of reading answer: what their bytes deserve, or want of memory.
 use Rattle.std.specs.Borrow.{Bor}
-use Rattle.std.specs.Prelude.{◌≡◌, ℕ, List, IsTrue, Result, Ok, Err, ⊤}
+use Rattle.std.specs.Prelude.{◌≡◌, ◌⊎◌, ℕ, List, IsTrue, Result, Ok, Err, ⊤}
 use Rattle.ids_outside.specs.Faults.{CountsFault}
 use Rattle.ids_outside.specs.Files.{SameFiles}
 use Rattle.ids_outside.specs.Shelved.{Shelved}
@@ -33,14 +33,12 @@ abbrev pub Judges : {A X : Type 0} → (X → A) → Result A (Refusal (List ℕ
 Judges view found (Ok x) = found ≡ Ok (view x)
 Judges view found (Err stop) = StopsAs found stop
 
--- why a file of at most so many bytes was not read
+-- why a file of at most so many bytes was not read: its read failed, or it is too long
 abbrev pub Unread : ℕ → List ℕ → Shelved → Shelved → Refusal (List ℕ) → Type 0
-Unread limit name old new (CannotRead other) =
-    (other ≡ name) × CountsFault old.faults new.faults Read name
-Unread limit name old new (TooLong other) =
-    (other ≡ name) × (new.faults ≡ old.faults)
-    × (IsTrue old.tells → file_of limit name old.files ≡ Err (TooLong name))
-Unread limit name old new other = ⊥
+Unread limit name old new refusal =
+    ((refusal ≡ CannotRead name) × CountsFault old.faults new.faults Read name)
+    ⊎ ((refusal ≡ TooLong name) × (new.faults ≡ old.faults)
+    × (IsTrue old.tells → file_of limit name old.files ≡ Err (TooLong name)))
 
 -- the same, or want of memory
 abbrev pub ReadStops : ℕ → List ℕ → Shelved → Shelved → InputStop (Bor (List ℕ)) → Type 0

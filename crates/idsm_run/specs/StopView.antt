@@ -1,5 +1,4 @@
 -- Stops and refusals, with the names of files as their bytes.
-use Rattle.std.specs.Prelude.{ℕ, List}
 use Rattle.ids_outside.specs.declared.faults.WriteFault.{WriteFault}
 use Rattle.ids_outside.specs.declared.faults.WriteFault.TheVariants as write
 use Rattle.idsm_run.specs.declared.stop.Refusal.{Refusal}

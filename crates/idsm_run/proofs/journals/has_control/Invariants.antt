@@ -1,4 +1,4 @@
-use Rattle.std.proofs.Common.{◌≡◌, length, ℕ}
+use Rattle.std.proofs.Common.{◌≡◌, length}
 use Rattle.idsm_run.specs.Built.{has_control}
 use Rattle.idsm_run.proofs.journals.has_control.Given as goal
 

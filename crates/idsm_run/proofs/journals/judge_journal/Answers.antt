@@ -1,4 +1,4 @@
-use Rattle.std.proofs.Common.{arith, rules}
+use Rattle.std.proofs.Common.{arith}
 use Rattle.std.proofs.lemmas.Grind.{common_steps}
 use Rattle.journal.specs.Answers.{told}
 use Rattle.idsm_run.proofs.JournalLemmas.{lines_are_few, can_send}

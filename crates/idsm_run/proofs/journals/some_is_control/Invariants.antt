@@ -1,4 +1,4 @@
-use Rattle.std.proofs.Common.{◌≡◌, length, ℕ}
+use Rattle.std.proofs.Common.{◌≡◌, length}
 use Rattle.std.specs.List.{list_any}
 use Rattle.idsm_run.specs.Built.{is_control}
 use Rattle.idsm_run.proofs.journals.some_is_control.Given as goal

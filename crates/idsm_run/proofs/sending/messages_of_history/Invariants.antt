@@ -1,4 +1,4 @@
-use Rattle.std.proofs.Common.{◌≡◌, ◌+◌, ◌≤◌, ◌++◌, length, vec_len, ℕ}
+use Rattle.std.proofs.Common.{◌≡◌, ◌+◌, ◌≤◌, ◌++◌, length, vec_len}
 use Rattle.std.specs.List.{AllByRecursion}
 use Rattle.idsm_run.specs.Sending.{CanSendTurn, messages_of, ends_from, ends_of, count_of}
 use Rattle.idsm_run.proofs.sending.messages_of_history.Given as goal

@@ -1,4 +1,4 @@
-use Rattle.std.proofs.Common.{◌≡◌, ◌+◌, ◌≤◌, ◌++◌, length, sum_by, vec_len, ℕ}
+use Rattle.std.proofs.Common.{◌≡◌, ◌+◌, ◌≤◌, ◌++◌, length, sum_by, vec_len}
 use Rattle.std.specs.List.{flat_map, AllByRecursion}
 use Rattle.idsm_run.specs.Sending.{CanSend, entry_count, entry_messages}
 use Rattle.idsm_run.proofs.sending.push_entries.Given as goal
