@@ -1,6 +1,6 @@
 //! The calls of a report queue, in batches.
-ghost use Rattle.std.specs.Prelude.{◌≤◌, ◌^◌};
-ghost use Rattle.report_queue.specs.Parts.{IsIdle, IsTakerOf, calls_of};
+ghost use Rattle.std.specs.Prelude.{◌≡◌, ◌+◌, ◌≤◌, ◌^◌, length};
+ghost use Rattle.report_queue.specs.Parts.{IsIdle, IsTakerOf, calls_of, taker_view, to_give_back};
 
 use crate::work::{Caller, PUTS, TAKES, Taker};
 use report_queue::{Cargo, Queue, QueueSeat};
@@ -59,6 +59,7 @@ impl Caller for QueueCaller<'_> {
 fn put_all(queue: &Queue<Numbers>, seat: &mut QueueSeat<Numbers>) -> u64
     requires { IsIdle queue.now seat.old × (calls_of seat.old ≤ 2 ^ 32) }
     ensures idle { IsIdle queue.now seat.new }
+    ensures calls { calls_of seat.new ≡ calls_of seat.old + 256 }
     ensures count { result ≤ 256 }
 {
     let mut count = 0;
@@ -103,6 +104,8 @@ impl Taker for QueueTaker<'_> {
 fn take_ready(queue: &Queue<Numbers>, taker: &mut report_queue::Taker<Numbers>) -> u64
     requires { IsTakerOf queue.now taker.old }
     ensures mine { IsTakerOf queue.now taker.new }
+    ensures taken { length (taker_view taker.new).items ≡ length (taker_view taker.old).items + result }
+    ensures given_back { to_give_back taker.new ≡ 0 }
     ensures count { result ≤ 64 }
 {
     let mut count = 0;
