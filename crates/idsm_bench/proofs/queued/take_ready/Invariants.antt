@@ -1,4 +1,4 @@
-use Rattle.std.proofs.Common.{◌≡◌, ◌≤◌, ◌+◌, length}
+use Rattle.std.proofs.Common.{◌≡◌, ◌+◌, length}
 use Rattle.report_queue.specs.Parts.{IsTakerOf, taker_view}
 use Rattle.idsm_bench.proofs.queued.take_ready.Given as goal
 
