@@ -1,8 +1,8 @@
 //! Runs over a shelf and a sink that want memory: their status and their text.
 
-ghost use Rattle.std.specs.Prelude.{true};
-ghost use Rattle.ids_outside.specs.MemoryShelf.{shelf_files, shelf_faults};
-ghost use Rattle.ids_outside.specs.MemorySink.{sink_taken, sink_faults};
+ghost use Rattle.std.specs.Prelude.{◌-◌, ◌^◌, None};
+ghost use Rattle.ids_outside.specs.Shelved.{silent};
+ghost use Rattle.ids_outside.specs.Sinks.{deaf};
 
 use super::{shelf_of, sink_of, split_words, told};
 use ids_outside::{MemoryShelf, MemorySink, ReadFault, Shelf, Sink, WriteFault};
@@ -26,7 +26,8 @@ impl Wanting {
     }
 }
 
-/// A shelf in memory of which one call wants memory, and then does nothing.
+/// A shelf in memory of which one call wants memory and does nothing; so does one that fails. It tells
+/// nothing, and its count of refusals stands at the greatest one.
 #[derive(Drop)]
 struct WantingShelf {
     inner: MemoryShelf,
@@ -34,35 +35,34 @@ struct WantingShelf {
 }
 
 impl Shelf for WantingShelf {
-    ghost tells = { λ _. true };
-
-    ghost contents = { λ shelf. shelf_files shelf.inner };
-
-    ghost faults = { λ shelf. shelf_faults shelf.inner };
+    ghost shows = { λ _. silent (record { count = 0; last = None; refused = 2 ^ 64 - 1 }) };
 
     fn read(&mut self, alloc: Global, name: &str, limit: u64) -> Result<Vec<u8>, ReadFault> {
         if self.wanting.next_wants() {
             return Err(ReadFault::NoMemory);
         }
-        self.inner.read(alloc, name, limit)
+        match self.inner.read(alloc, name, limit) {
+            Ok(bytes) => Ok(bytes),
+            Err(_) => Err(ReadFault::NoMemory),
+        }
     }
 
     fn create(&mut self, name: &str) -> Result<(), WriteFault> {
-        if self.wanting.next_wants() {
+        if self.wanting.next_wants() || self.inner.create(name).is_err() {
             return Err(WriteFault::NoMemory);
         }
-        self.inner.create(name)
+        Ok(())
     }
 
     fn append(&mut self, name: &str, piece: &[u8]) -> Result<(), WriteFault> {
-        if self.wanting.next_wants() {
+        if self.wanting.next_wants() || self.inner.append(name, piece).is_err() {
             return Err(WriteFault::NoMemory);
         }
-        self.inner.append(name, piece)
+        Ok(())
     }
 }
 
-/// A sink in memory of which one put wants memory, and then takes nothing.
+/// A sink in memory of which one put wants memory and takes nothing, as the shelf.
 #[derive(Drop)]
 struct WantingSink {
     inner: MemorySink,
@@ -70,17 +70,13 @@ struct WantingSink {
 }
 
 impl Sink for WantingSink {
-    ghost tells = { λ _. true };
-
-    ghost taken = { λ sink. sink_taken sink.inner };
-
-    ghost faults = { λ sink. sink_faults sink.inner };
+    ghost hears = { λ _. deaf (record { failed = 0; refused = 2 ^ 64 - 1 }) };
 
     fn put(&mut self, piece: &[u8]) -> Result<(), WriteFault> {
-        if self.wanting.next_wants() {
+        if self.wanting.next_wants() || self.inner.put(piece).is_err() {
             return Err(WriteFault::NoMemory);
         }
-        self.inner.put(piece)
+        Ok(())
     }
 }
 
