@@ -79,11 +79,7 @@ pub only : {X : Type 0} (view : X → Told) (config : Parts) (text : List ℕ) (
 only view config text (Ok x) few reads = tt
 only view config text (Err fault) few reads = none_at config text fault few reads
 
-first_at : (config : Parts) (text : List ℕ) (fault : JournalFault) → Fails (journal_in config text) fault → IsFirstBad config text fault
-first_at config text (faults.Line line number) fails = fails
-first_at config text faults.NoMemory fails = tt
-
 -- it is the first bad line
 pub first : {X : Type 0} (view : X → Told) (config : Parts) (text : List ℕ) (read : Result X JournalFault) → Reads view (journal_in config text) read → IfErr read (IsFirstBad config text)
 first view config text (Ok x) reads = tt
-first view config text (Err fault) reads = first_at config text fault reads
+first view config text (Err fault) reads = reads

@@ -25,11 +25,6 @@ abbrev pub Took : Past → Result Past ℕ → Result ⊤ LineFault → Type 0
 Took now expected (Ok done) = expected ≡ Ok now
 Took now expected (Err fault) = RefusedFor expected fault
 
--- the first bad line of the text, or want of memory
-abbrev pub IsFirstBad : Parts → List ℕ → JournalFault → Type 0
-IsFirstBad config text (faults.Line line number) = journal_in config text ≡ Err (record { line = line; fault = number })
-IsFirstBad config text faults.NoMemory = ⊤
-
 -- where a line is bad the text is no journal
 abbrev pub HasNone : Parts → List ℕ → JournalFault → Type 0
 HasNone config text (faults.Line line number) = (told : Told) → IsJournal config text told → ⊥
@@ -39,6 +34,10 @@ HasNone config text faults.NoMemory = ⊤
 abbrev pub Fails : {A : Type 0} → Result A BadLine → JournalFault → Type 0
 Fails expected (faults.Line line number) = expected ≡ Err (record { line = line; fault = number })
 Fails expected faults.NoMemory = ⊤
+
+-- the first bad line of the text, or want of memory
+abbrev pub IsFirstBad : Parts → List ℕ → JournalFault → Type 0
+IsFirstBad config text fault = Fails (journal_in config text) fault
 
 -- the lines so far with one more, where it has no fault
 abbrev pub added : Past → Line → Result ⊤ ℕ → Result Past ℕ

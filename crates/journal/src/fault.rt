@@ -3,7 +3,7 @@ ghost use Rattle.journal.specs.declared.fault.LineFault.TheVariants as line_faul
 ghost use Rattle.journal.specs.declared.fault.JournalFault.TheVariants as faults;
 
 use ids_types::NoMemory;
-use std::alloc::{AllocError, AllocFailed};
+use std::alloc::AllocFailed;
 
 /// Why no journal was read.
 #[derive(Clone, Copy, Debug, PartialEq, Eq)]
@@ -42,14 +42,6 @@ impl From<NoMemory> for LineFault {
     ghost from_gives = { λ _ answer. answer ≡ line_faults.NoMemory };
 
     fn from(_: NoMemory) -> Self {
-        LineFault::NoMemory
-    }
-}
-
-impl From<AllocError> for LineFault {
-    ghost from_gives = { λ _ answer. answer ≡ line_faults.NoMemory };
-
-    fn from(_: AllocError) -> Self {
         LineFault::NoMemory
     }
 }

@@ -123,11 +123,6 @@ unfoldable pub after_all : Past → List Line → Past
 after_all past [] = past
 after_all past (line ∷ lines) = after_all (next past line) lines
 
-pub after_all-append : (past : Past) (xs ys : List Line) → after_all past (xs ++ ys) ≡ after_all (after_all past xs) ys
-unfolding after_all
-after_all-append past [] ys = refl
-after_all-append past (line ∷ xs) ys = after_all-append (next past line) xs ys
-
 -- what is told with lines more
 unfoldable with_lines : Told → List Line → Told
 with_lines told [] = told
