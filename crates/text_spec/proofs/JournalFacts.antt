@@ -11,20 +11,10 @@ use Rattle.ids_types.specs.Turns.{Turn, begun, with_entry}
 use Rattle.text_spec.specs.Contexts.{IsExactContext}
 use Rattle.text_spec.specs.Fields.{a_number, AreExact}
 use Rattle.text_spec.specs.JournalFaults.{Past, is_claim, is_count_lost, is_call, is_context, is_act, is_head, has_event, pair_of, has_pair, head_fault, entry_fault, loss_fault, fault_of, next, with_line}
+use Rattle.text_spec.specs.JournalForm.{entry_of}
 use Rattle.text_spec.specs.JournalText.{Carried, Absent, Kept, Missing, Act, Report, State, SetMode, Entry, TurnHead, Loss, Told, Line, begins, enters, loses, act_fields, fields_of, turn_told, lines_told}
 
--- ---- what holds of a line without a fault
-
--- of a head
-pub record HeadPasses (past : Past) (head : TurnHead) : Type 0 where
-  pub no_losses : past.told.losses ≡ []
-  pub numbers : is_head head ≡ true
-  pub follows : past.tick ≤ head.tick
-
-pub head_passes : (past : Past) (head : TurnHead) → head_fault past head ≡ Ok tt → HeadPasses past head
-head_passes past head none = record { no_losses = nil_from_length past.told.losses (grind (arith, none)); numbers = grind (arith, none); follows = grind (arith, none) }
-
--- of an entry
+-- what holds of an entry without a fault
 pub record EntryPasses (config : Parts) (past : Past) (entry : Entry (List ℕ)) : Type 0 where
   pub some : 0 < length past.told.turns
   pub no_losses : past.told.losses ≡ []
@@ -47,27 +37,10 @@ entry_passes config past entry none = record {
   few = grind (arith, none);
 }
 
--- of a loss
-pub record LossPasses (past : Past) (loss : Loss) : Type 0 where
-  pub call : is_call loss.caller loss.call ≡ true
-  pub given : is_claim loss.given ≡ true
-  pub rises : past.pair ≤ pair_of loss.caller loss.call
-  pub no_entry : has_pair past.told.turns (pair_of loss.caller loss.call) ≡ false
-
-pub loss_passes : (past : Past) (loss : Loss) → loss_fault past loss ≡ Ok tt → LossPasses past loss
-loss_passes past loss none = record { call = grind (arith, none); given = grind (arith, none); rises = grind (arith, none); no_entry = grind (arith, none) }
-
 -- ---- its numbers are told as they are
-
-small_call : (caller call : ℕ) → is_call caller call ≡ true → a_number.Exact caller × a_number.Exact call
-small_call caller call is =
-    (grind (arith, is), grind (arith, is))
 
 small_claim : (n : ℕ) → is_claim n ≡ true → a_number.Exact n
 small_claim n is = grind (arith, is)
-
-small_count : (n : ℕ) → is_count_lost n ≡ true → a_number.Exact n
-small_count n is = grind (arith, is)
 
 small_claims : (numbers : List ℕ) → list_all is_claim numbers ≡ true → AllByRecursion a_number.Exact numbers
 small_claims [] all = tt
@@ -84,28 +57,21 @@ exact_context (Missing numbers) is = small_claims numbers is
 pub sensor_is_there : (config : Parts) (k : ℕ) → is_sensor config k ≡ true → k < length config.events
 sensor_is_there config k is = grind (arith, is)
 
-exact_act : (config : Parts) (caller call : ℕ) (act : Act (List ℕ)) → a_number.Exact (length config.events) → a_number.Exact caller × a_number.Exact call → is_act act ≡ true → has_event config act ≡ true
-    → AreExact (act_fields caller call act)
-exact_act config caller call (Report event count stamp context) few own is known =
+exact_act : (config : Parts) (past : Past) (caller call : ℕ) (act : Act (List ℕ)) → a_number.Exact (length config.events) → entry_fault config past (entry_of caller call act) ≡ Ok tt → AreExact (act_fields caller call act)
+exact_act config past caller call (Report event count stamp context) few none =
+    let passes = entry_passes config past (entry_of caller call (Report event count stamp context)) none in
+    let is = passes.act in
     let carried : is_context context ≡ true = grind (arith, is) in
-    let there = sensor_is_there config event.0 known in
-    (tt, (own.0, (own.1, (omega arith, (grind (arith, is), (tt, (exact_context context carried, tt)))))))
-exact_act config caller call (State state) few own is known = (tt, (own.0, (own.1, (tt, (grind (arith, is), tt)))))
-exact_act config caller call (SetMode event mode) few own is known = (tt, (own.0, (own.1, (tt, (grind (arith, few, known), (tt, tt))))))
-
-exact_head : (head : TurnHead) → is_head head ≡ true → AreExact (fields_of (begins head))
-exact_head head is = (tt, (grind (arith, is), (grind (arith, is), (grind (arith, is), (grind (arith, is), tt)))))
+    let there = sensor_is_there config event.0 passes.event in
+    (tt, (grind (arith, none), (grind (arith, none), (omega arith, (grind (arith, is), (tt, (exact_context context carried, tt)))))))
+exact_act config past caller call (State state) few none = (tt, (grind (arith, none), (grind (arith, none), (tt, (grind (arith, none), tt)))))
+exact_act config past caller call (SetMode event mode) few none = (tt, (grind (arith, none), (grind (arith, none), (tt, (grind (arith, few, none), (tt, tt))))))
 
 -- a line without a fault is told as it is
 pub line_exact : (config : Parts) (past : Past) (line : Line) → a_number.Exact (length config.events) → fault_of config past line ≡ Ok tt → AreExact (fields_of line)
-line_exact config past (begins head) few none = exact_head head (head_passes past head none).numbers
-line_exact config past (enters entry) few none =
-    let passes = entry_passes config past entry none in
-    exact_act config entry.caller entry.call entry.act few (small_call entry.caller entry.call passes.call) passes.act passes.event
-line_exact config past (loses loss) few none =
-    let passes = loss_passes past loss none in
-    let call = small_call loss.caller loss.call passes.call in
-    (tt, (call.0, (call.1, (small_claim loss.given passes.given, tt))))
+line_exact config past (begins head) few none = (tt, (grind (arith, none), (grind (arith, none), (grind (arith, none), (grind (arith, none), tt)))))
+line_exact config past (enters entry) few none = exact_act config past entry.caller entry.call entry.act few none
+line_exact config past (loses loss) few none = (tt, (grind (arith, none), (grind (arith, none), (grind (arith, none), tt))))
 
 -- ---- what it adds
 
@@ -131,10 +97,10 @@ no_losses_told turns losses none = rw none (append-nil (flat_map turn_told turns
 -- a line without a fault stands behind the lines before it
 pub line_grows : (config : Parts) (past : Past) (line : Line) → fault_of config past line ≡ Ok tt → lines_told (next past line).told ≡ lines_told past.told ++ line ∷ []
 line_grows config past (begins head) none =
-    let passes = head_passes past head none in
-    no_losses_told (past.told.turns ++ begun head ∷ []) past.told.losses passes.no_losses
+    let no_losses : past.told.losses ≡ [] = nil_from_length past.told.losses (grind (arith, none)) in
+    no_losses_told (past.told.turns ++ begun head ∷ []) past.told.losses no_losses
     ∙ flat_map-push turn_told past.told.turns (begun head)
-    ∙ ap (λ (ls : List Line). ls ++ begins head ∷ []) (sym (no_losses_told past.told.turns past.told.losses passes.no_losses))
+    ∙ ap (λ (ls : List Line). ls ++ begins head ∷ []) (sym (no_losses_told past.told.turns past.told.losses no_losses))
 line_grows config past (enters entry) none =
     let passes = entry_passes config past entry none in
     no_losses_told (with_entry past.told.turns entry) past.told.losses passes.no_losses

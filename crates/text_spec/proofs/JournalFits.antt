@@ -7,21 +7,19 @@ use Rattle.std.proofs.lemmas.List.{append-nil, length-append}
 use Rattle.std.proofs.lemmas.List.Folds.{list_any-append}
 use Rattle.ids_config.specs.Parts.{Parts}
 use Rattle.ids_types.specs.Turns.{Turn, begun, with_entry, entries_of}
-use Rattle.text_spec.specs.JournalFaults.{Past, is_in_ranges, fault_of, next, start, is_pair, has_pair, pair_of}
+use Rattle.text_spec.specs.JournalFaults.{Past, is_in_ranges, loss_fault, fault_of, next, start, is_pair, has_pair, pair_of}
 use Rattle.text_spec.specs.JournalReading.{AreFaultless, Fits, Follows}
-use Rattle.text_spec.specs.JournalText.{Entry, Told, Line, begins, enters, loses, turn_told, lines_told}
-use Rattle.text_spec.proofs.JournalFacts.{head_passes, entry_passes, loss_passes, flat_map-push}
+use Rattle.text_spec.specs.JournalText.{Loss, Entry, Told, Line, begins, enters, loses, turn_told, lines_told}
+use Rattle.text_spec.proofs.JournalFacts.{entry_passes, flat_map-push}
 
 -- ---- ranges
 
 in_ranges_of : (config : Parts) (past : Past) (line : Line) → fault_of config past line ≡ Ok tt → is_in_ranges config line ≡ true
-in_ranges_of config past (begins head) none = (head_passes past head none).numbers
+in_ranges_of config past (begins head) none = grind (arith, none)
 in_ranges_of config past (enters entry) none =
     let passes = entry_passes config past entry none in
     and_from _ _ (and_from _ _ passes.call passes.act) passes.event
-in_ranges_of config past (loses loss) none =
-    let passes = loss_passes past loss none in
-    and_from _ _ passes.call passes.given
+in_ranges_of config past (loses loss) none = grind (arith, none)
 
 all_in_ranges : (config : Parts) (past : Past) (lines : List Line) → AreFaultless config past lines → AllByRecursion (λ line. is_in_ranges config line ≡ true) lines
 all_in_ranges config past [] none = tt
@@ -64,7 +62,7 @@ kept_now config past (loses loss) calls none = (omega arith, rw length-append (o
 
 -- what is kept stays kept
 kept_on : (config : Parts) (past : Past) (first line : Line) → Keeps past first → fault_of config past line ≡ Ok tt → Keeps (next past line) first
-kept_on config past (begins one) (begins head) keeps none = let follows = (head_passes past head none).follows in omega arith
+kept_on config past (begins one) (begins head) keeps none = grind (arith, keeps, none)
 kept_on config past (begins one) (enters entry) keeps none = keeps
 kept_on config past (begins one) (loses loss) keeps none = keeps
 kept_on config past (enters one) (begins head) keeps none =
@@ -86,11 +84,15 @@ kept_on config past (enters one) (enters entry) keeps none =
 kept_on config past (enters one) (loses loss) keeps none = keeps
 kept_on config past (loses one) (begins head) keeps none = keeps
 kept_on config past (loses one) (enters entry) keeps none = keeps
-kept_on config past (loses one) (loses loss) keeps none = let rises = (loss_passes past loss none).rises in (omega (arith, keeps.0, rises), rw length-append (omega arith))
+kept_on config past (loses one) (loses loss) keeps none = (grind (arith, keeps.0, none), rw length-append (omega arith))
+
+-- the pair of a loss without a fault is no entry's
+no_entry : (past : Past) (loss : Loss) → loss_fault past loss ≡ Ok tt → has_pair past.told.turns (pair_of loss.caller loss.call) ≡ false
+no_entry past loss none = grind (arith, none)
 
 -- a line follows each that is kept
 kept_follows : (config : Parts) (past : Past) (first line : Line) → Keeps past first → fault_of config past line ≡ Ok tt → Follows first line
-kept_follows config past (begins one) (begins head) keeps none = let follows = (head_passes past head none).follows in omega arith
+kept_follows config past (begins one) (begins head) keeps none = grind (arith, keeps, none)
 kept_follows config past (begins one) (enters entry) keeps none = tt
 kept_follows config past (begins one) (loses loss) keeps none = tt
 kept_follows config past (enters one) (begins head) keeps none = tt
@@ -98,10 +100,10 @@ kept_follows config past (enters one) (enters entry) keeps none =
     λ own. let before : one.call < get_or past.calls entry.caller 0 = subst (λ c. one.call < get_or past.calls c 0) own keeps.1 in
     omega (arith, before, (entry_passes config past entry none).rises)
 kept_follows config past (enters one) (loses loss) keeps none =
-    λ same. both_ways (has_pair past.told.turns (pair_of loss.caller loss.call)) (loss_passes past loss none).no_entry (ap (has_pair past.told.turns) (sym same) ∙ keeps.2)
-kept_follows config past (loses one) (begins head) keeps none = absurd (omega (arith, keeps.1, ap length (head_passes past head none).no_losses))
-kept_follows config past (loses one) (enters entry) keeps none = absurd (omega (arith, keeps.1, ap length (entry_passes config past entry none).no_losses))
-kept_follows config past (loses one) (loses loss) keeps none = let rises = (loss_passes past loss none).rises in omega (arith, keeps.0, rises)
+    λ same. both_ways (has_pair past.told.turns (pair_of loss.caller loss.call)) (no_entry past loss none) (ap (has_pair past.told.turns) (sym same) ∙ keeps.2)
+kept_follows config past (loses one) (begins head) keeps none = grind (arith, keeps.1, none)
+kept_follows config past (loses one) (enters entry) keeps none = grind (arith, keeps.1, none)
+kept_follows config past (loses one) (loses loss) keeps none = grind (arith, keeps.0, none)
 
 -- each line follows one that is kept
 later_follows : (config : Parts) (past : Past) (first : Line) (middle : List Line) (last : Line) (behind : List Line) → Keeps past first → AreFaultless config past (middle ++ last ∷ behind) → Follows first last

@@ -119,23 +119,18 @@ told_is_journal config text told few read =
 -- ---- what lines add up to
 
 -- the lines so far with some more
-unfoldable pub after_all : Past → List Line → Past
+unfoldable after_all : Past → List Line → Past
 after_all past [] = past
 after_all past (line ∷ lines) = after_all (next past line) lines
 
--- what is told with lines more
-unfoldable with_lines : Told → List Line → Told
-with_lines told [] = told
-with_lines told (line ∷ lines) = with_lines (with_line told line) lines
+after_all-append : (past : Past) (xs ys : List Line) → after_all past (xs ++ ys) ≡ after_all (after_all past xs) ys
+unfolding after_all
+after_all-append past [] ys = refl
+after_all-append past (line ∷ xs) ys = after_all-append (next past line) xs ys
 
-with_lines-append : (told : Told) (xs ys : List Line) → with_lines told (xs ++ ys) ≡ with_lines (with_lines told xs) ys
-unfolding with_lines
-with_lines-append told [] ys = refl
-with_lines-append told (line ∷ xs) ys = with_lines-append (with_line told line) xs ys
-
--- turns without losses
-abbrev only_turns : List Turn → Told
-only_turns turns = record { turns = turns; losses = [] }
+-- they tell these turns and losses
+abbrev Tell : Past → List Turn → List Loss → Type 0
+Tell past turns losses = past.told ≡ record { turns = turns; losses = losses }
 
 abbrev turn_of : TurnHead → List (Entry (List ℕ)) → Turn
 turn_of head entries = record { head = head; entries = entries }
@@ -144,47 +139,34 @@ turn_of head entries = record { head = head; entries = entries }
 with_entry-last : (done : List Turn) (head : TurnHead) (first : List (Entry (List ℕ))) (entry : Entry (List ℕ)) → with_entry (done ++ turn_of head first ∷ []) entry ≡ done ++ turn_of head (first ++ entry ∷ []) ∷ []
 with_entry-last [] head first entry = refl
 with_entry-last (turn ∷ []) head first entry = refl
-with_entry-last (turn ∷ next ∷ done) head first entry = ap (λ (ts : List Turn). turn ∷ ts) (with_entry-last (next ∷ done) head first entry)
+with_entry-last (turn ∷ another ∷ done) head first entry = ap (λ (ts : List Turn). turn ∷ ts) (with_entry-last (another ∷ done) head first entry)
 
-with_entries : (done : List Turn) (head : TurnHead) (first rest : List (Entry (List ℕ))) → with_lines (only_turns (done ++ turn_of head first ∷ [])) (map enters rest) ≡ only_turns (done ++ turn_of head (first ++ rest) ∷ [])
-unfolding with_lines
-with_entries done head first [] = ap (λ (es : List (Entry (List ℕ))). only_turns (done ++ turn_of head es ∷ [])) (sym (append-nil first))
-with_entries done head first (entry ∷ rest) =
-    ap (λ (ts : List Turn). with_lines (only_turns ts) (map enters rest)) (with_entry-last done head first entry)
-    ∙ with_entries done head (first ++ entry ∷ []) rest
-    ∙ ap (λ (es : List (Entry (List ℕ))). only_turns (done ++ turn_of head es ∷ [])) (append_assoc first (entry ∷ []) rest)
+after_entries : (past : Past) (done : List Turn) (head : TurnHead) (first rest : List (Entry (List ℕ))) (losses : List Loss) → Tell past (done ++ turn_of head first ∷ []) losses → Tell (after_all past (map enters rest)) (done ++ turn_of head (first ++ rest) ∷ []) losses
+unfolding after_all
+after_entries past done head first [] losses tell = rw append-nil tell
+after_entries past done head first (entry ∷ rest) losses tell =
+    rw (← append_assoc first (entry ∷ []) rest) (after_entries (next past (enters entry)) done head (first ++ entry ∷ []) rest losses (ap (λ (t : Told). with_line t (enters entry)) tell ∙ ap (λ (ts : List Turn). record { turns = ts; losses = losses }) (with_entry-last done head first entry)))
 
-with_turns : (done turns : List Turn) → with_lines (only_turns done) (flat_map turn_told turns) ≡ only_turns (done ++ turns)
-unfolding with_lines
-with_turns done [] = ap only_turns (sym (append-nil done))
-with_turns done (turn ∷ turns) =
-    with_lines-append (only_turns (done ++ begun turn.head ∷ [])) (map enters turn.entries) (flat_map turn_told turns)
-    ∙ ap (λ (t : Told). with_lines t (flat_map turn_told turns)) (with_entries done turn.head [] turn.entries)
-    ∙ with_turns (done ++ turn ∷ []) turns
-    ∙ ap only_turns (append_assoc done (turn ∷ []) turns)
+after_turns : (past : Past) (done turns : List Turn) (losses : List Loss) → Tell past done losses → Tell (after_all past (flat_map turn_told turns)) (done ++ turns) losses
+unfolding after_all
+after_turns past done [] losses tell = rw append-nil tell
+after_turns past done (turn ∷ turns) losses tell =
+    let begun_is : Tell (next past (begins turn.head)) (done ++ begun turn.head ∷ []) losses = ap (λ (t : Told). with_line t (begins turn.head)) tell in
+    let whole = after_entries (next past (begins turn.head)) done turn.head [] turn.entries losses begun_is in
+    rw (after_all-append (next past (begins turn.head)) (map enters turn.entries) (flat_map turn_told turns), ← append_assoc done (turn ∷ []) turns)
+    (after_turns (after_all (next past (begins turn.head)) (map enters turn.entries)) (done ++ turn ∷ []) turns losses whole)
 
-with_losses : (turns : List Turn) (done losses : List Loss) → with_lines (record { turns = turns; losses = done }) (map loses losses) ≡ record { turns = turns; losses = done ++ losses }
-unfolding with_lines
-with_losses turns done [] = ap (λ (ls : List Loss). record { turns = turns; losses = ls }) (sym (append-nil done))
-with_losses turns done (loss ∷ losses) =
-    with_losses turns (done ++ loss ∷ []) losses ∙ ap (λ (ls : List Loss). record { turns = turns; losses = ls }) (append_assoc done (loss ∷ []) losses)
+after_losses : (past : Past) (turns : List Turn) (done losses : List Loss) → Tell past turns done → Tell (after_all past (map loses losses)) turns (done ++ losses)
+unfolding after_all
+after_losses past turns done [] tell = rw append-nil tell
+after_losses past turns done (loss ∷ losses) tell =
+    rw (← append_assoc done (loss ∷ []) losses) (after_losses (next past (loses loss)) turns (done ++ loss ∷ []) losses (ap (λ (t : Told). with_line t (loses loss)) tell))
 
 -- the lines of turns and losses add up to them
-with_lines_told : (told : Told) → with_lines nothing (lines_told told) ≡ told
-with_lines_told told =
-    with_lines-append nothing (flat_map turn_told told.turns) (map loses told.losses)
-    ∙ ap (λ (t : Told). with_lines t (map loses told.losses)) (with_turns [] told.turns)
-    ∙ with_losses told.turns [] told.losses
-
-next_told : (past : Past) (line : Line) → (next past line).told ≡ with_line past.told line
-next_told past (begins head) = refl
-next_told past (enters entry) = refl
-next_told past (loses loss) = refl
-
-all_told : (past : Past) (lines : List Line) → (after_all past lines).told ≡ with_lines past.told lines
-unfolding after_all with_lines
-all_told past [] = refl
-all_told past (line ∷ lines) = all_told (next past line) lines ∙ ap (λ (t : Told). with_lines t lines) (next_told past line)
+after_told : (told : Told) → (after_all start (lines_told told)).told ≡ told
+after_told told =
+    ap (λ (p : Past). p.told) (after_all-append start (flat_map turn_told told.turns) (map loses told.losses))
+    ∙ after_losses (after_all start (flat_map turn_told told.turns)) told.turns [] told.losses (after_turns start [] told.turns [] refl)
 
 -- ---- from what is told to its text
 
@@ -220,7 +202,7 @@ journal_is_told config text told few journal =
     ap (journal_in config) journal.is_text
     ∙ ap (λ (ps : List (List ℕ)). after_pieces config 1 start ps >>= λ past. Ok past.told) pieces
     ∙ then_ok (after_pieces config 1 start (map line_for lines ++ [] ∷ [])) (λ past. Ok past.told) (after_all start lines) added
-    ∙ ap Ok (all_told start lines ∙ with_lines_told told)
+    ∙ ap Ok (after_told told)
 
 -- a text is the journal of one history and its losses at most
 pub one_reading : (config : Parts) (text : List ℕ) (a b : Told) → FewEvents config → IsJournal config text a → IsJournal config text b → a ≡ b
