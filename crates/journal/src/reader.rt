@@ -74,7 +74,12 @@ impl Reader {
     }
 
     /// Takes a line, or tells its first fault.
-    pub(crate) fn line(&mut self, alloc: Global, config: &Config, line: &[u8]) -> Result<(), LineFault>
+    pub(crate) fn line(
+        &mut self,
+        alloc: Global,
+        config: &Config,
+        line: &[u8],
+    ) -> Result<(), LineFault>
         ensures { Took (past_of self.new) (after_line config.now (past_of self.old) line.now) result }
     {
         match line_of(Pieces::of(line, b' ')) {
@@ -115,7 +120,12 @@ impl Reader {
     {
         self.check_entry(config, entry)?;
         let len = decode_context(&entry.act, &mut self.room);
-        let (entries, bytes) = entry_room(&mut self.history, self.entries_left, self.bytes_left, len as u64)?;
+        let (entries, bytes) = entry_room(
+            &mut self.history,
+            self.entries_left,
+            self.bytes_left,
+            len as u64,
+        )?;
         let entry = entry_of(entry, &self.room[..len]);
         self.history.add(&entry);
         self.entries_left = entries - 1;

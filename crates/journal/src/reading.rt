@@ -66,7 +66,10 @@ fn read_all(alloc: Global, text: &[u8], config: &Config) -> Result<Reader, Journ
             if line.is_empty() {
                 return Ok(reader);
             }
-            return Err(JournalFault::Line { line: number, number: 1 });
+            return Err(JournalFault::Line {
+                line: number,
+                number: 1,
+            });
         };
         match reader.line(alloc, config, line) {
             Ok(()) => {}

@@ -6,7 +6,9 @@ use ids_types::{History, NoMemory};
 
 /// How many turns, entries and bytes of context room is made for at a time, at least.
 const TURNS: u64 = 256;
+
 const ENTRIES: u64 = 4096;
+
 const BYTES: u64 = 65536;
 
 /// Makes room for a turn, where none is left, and tells how many turns there is room for.

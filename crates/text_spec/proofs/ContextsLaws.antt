@@ -1,11 +1,11 @@
 -- The fields of the texts keep the laws of a field.
-use Rattle.std.proofs.Common.{◌≡◌, ℕ, zero, suc, ◌<◌, ◌≤◌, ◌==◌, true, false, inl, inr, List, [], ◌∷◌, ◌++◌, length, length-append, map, refl, sym, ap, subst, ◌∙◌, arith}
-use Rattle.std.specs.Prelude.{Option, Some, None, option_map, codes, decimal, bytes_eq, ⊤}
+use Rattle.std.proofs.Common.{◌≡◌, ℕ, zero, suc, ◌<◌, ◌≤◌, ◌==◌, true, false, inl, inr, List, [], ◌∷◌, length, length-append, map, refl, sym, ap, subst, ◌∙◌, arith}
+use Rattle.std.specs.Prelude.{Option, Some, None, option_map, decimal, bytes_eq, ⊤}
 use Rattle.std.specs.Char.{is_ascii_digit}
 use Rattle.std.specs.Int.{is_in_range}
 use Rattle.std.specs.List.{AllByRecursion, slice_split, join_with_byte, list_all}
 use Rattle.std.specs.Str.Parse.{digits_value}
-use Rattle.std.proofs.lemmas.Bool.{cases_Bool, cond-true, cond-false, eq-eqb, eqb-true, false_from_ne_true}
+use Rattle.std.proofs.lemmas.Bool.{cases_Bool, cond-true, cond-false, eqb-true, false_from_ne_true}
 use Rattle.std.proofs.lemmas.List.Splits.{join_with_byte-slice_split}
 use Rattle.std.proofs.lemmas.Option.{same_Some, none-some, cond_some}
 use Rattle.std.proofs.lemmas.Slice.Eq.{bytes_eq-Decides}
@@ -16,7 +16,7 @@ use Rattle.ids_types.specs.declared.mode.Mode.{Mode}
 use Rattle.ids_types.specs.declared.mode.Mode.TheVariants.{Off, Brief, Detailed, BriefBypassing, DetailedBypassing}
 use Rattle.ids_types.specs.declared.names.Stamp.{Stamp}
 use Rattle.text_spec.specs.Contexts.{colon, point, mark, kept_fields, kept_places, context_word, IsContextWord, IsContext, IsExactContext, kept_in, numbers_in, claims_in, context_in, a_context}
-use Rattle.text_spec.specs.Fields.{Field, the, a_number, a_stamp, a_mode, hex_bytes, words_of_fields, AreWritten}
+use Rattle.text_spec.specs.Fields.{the, a_number, a_stamp, a_mode, hex_bytes, words_of_fields, AreWritten}
 use Rattle.text_spec.specs.Hexadecimal.{is_lower_digit, hex_in, some_bytes, some_hex}
 use Rattle.text_spec.specs.Modes.{mode_name, mode_named, all_modes}
 use Rattle.text_spec.specs.Numbers.{is_number, capped}

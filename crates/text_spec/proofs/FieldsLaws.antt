@@ -1,13 +1,13 @@
 -- Lists of fields: their reading against their words, both ways, for any fields that keep the laws.
-use Rattle.std.proofs.Common.{◌≡◌, ℕ, ◌==◌, false, List, [], ◌∷◌, refl, sym, ap, subst, ◌∙◌, arith, ◌⊎◌, inl, inr}
+use Rattle.std.proofs.Common.{◌≡◌, ℕ, ◌==◌, false, List, [], ◌∷◌, refl, sym, ap, subst, ◌∙◌, ◌⊎◌, inl, inr}
 use Rattle.std.specs.Prelude.{Option, Some, None, option_map}
 use Rattle.std.specs.Char.{is_ascii_digit}
 use Rattle.std.specs.Int.{is_in_range}
 use Rattle.std.specs.List.{AllByRecursion}
 use Rattle.std.proofs.lemmas.Option.{none-some}
-use Rattle.text_spec.specs.Fields.{Field, Filled, put, the, words_of_fields, AreHeld, AreExact, AreWritten, HasForm, Makes, first_as, read_by, Form, behind, told_in, told_in_one}
+use Rattle.text_spec.specs.Fields.{Field, Filled, put, the, words_of_fields, AreHeld, AreExact, AreWritten, HasForm, Makes, first_as, read_by, Form, told_in, told_in_one}
 use Rattle.text_spec.specs.Hexadecimal.{is_lower_digit}
-use Rattle.text_spec.specs.Maybe.{◌>>=◌, first_of, ended, or_else}
+use Rattle.text_spec.specs.Maybe.{or_else}
 use Rattle.text_spec.specs.Words.{Free, space, line_feed}
 use Rattle.text_spec.proofs.FrontLemmas.{bind_some, bind_again, mapped_some, ended_takes}
 

@@ -1,18 +1,16 @@
 -- A line without a fault: what holds of it, and what it adds to the lines before it.
-use Rattle.std.proofs.Common.{◌≡◌, ℕ, ◌^◌, ◌<◌, ◌≤◌, ◌==◌, ◌&&◌, Bool, true, false, List, [], ◌∷◌, ◌++◌, length, map, refl, sym, ap, ◌∙◌, append_assoc, arith}
-use Rattle.std.specs.Prelude.{Result, Ok, not, nat_lt, nat_le, slice_index}
+use Rattle.std.proofs.Common.{◌≡◌, ℕ, ◌<◌, ◌≤◌, true, List, [], ◌∷◌, ◌++◌, length, map, sym, ap, ◌∙◌, append_assoc, arith}
+use Rattle.std.specs.Prelude.{Ok, slice_index}
 use Rattle.std.specs.List.{AllByRecursion, flat_map, list_all}
-use Rattle.std.proofs.lemmas.Bool.{and_parts, eqb-true, ltb-true, leb-true, not-true}
+use Rattle.std.proofs.lemmas.Bool.{and_parts}
 use Rattle.std.proofs.lemmas.List.{append-nil, map-append, nil_from_length}
-use Rattle.ids_config.specs.Parts.{Parts, is_sensor, is_given}
-use Rattle.ids_config.specs.Steps.{◌>>◌, asks}
-use Rattle.ids_config.proofs.StepLemmas.{asked, asks_ok}
+use Rattle.ids_config.specs.Parts.{Parts, is_sensor}
 use Rattle.ids_types.specs.Turns.{Turn, begun, with_entry}
 use Rattle.text_spec.specs.Contexts.{IsExactContext}
 use Rattle.text_spec.specs.Fields.{a_number, AreExact}
-use Rattle.text_spec.specs.JournalFaults.{Past, is_claim, is_count_lost, is_call, is_context, is_act, is_head, has_event, pair_of, has_pair, head_fault, entry_fault, loss_fault, fault_of, next, with_line}
+use Rattle.text_spec.specs.JournalFaults.{Past, is_claim, is_call, is_context, is_act, has_event, entry_fault, fault_of, next}
 use Rattle.text_spec.specs.JournalForm.{entry_of}
-use Rattle.text_spec.specs.JournalText.{Carried, Absent, Kept, Missing, Act, Report, State, SetMode, Entry, TurnHead, Loss, Told, Line, begins, enters, loses, act_fields, fields_of, turn_told, lines_told}
+use Rattle.text_spec.specs.JournalText.{Carried, Absent, Kept, Missing, Act, Report, State, SetMode, Entry, Loss, Line, begins, enters, loses, act_fields, fields_of, turn_told, lines_told}
 
 -- what holds of an entry without a fault
 pub record EntryPasses (config : Parts) (past : Past) (entry : Entry (List ℕ)) : Type 0 where

@@ -1,5 +1,5 @@
 -- What turns and losses that fit a configuration keep.
-use Rattle.std.proofs.Common.{◌≡◌, ◌≢◌, ℕ, ◌+◌, ◌<◌, ◌≤◌, ◌==◌, ◌||◌, true, false, inl, inr, List, [], ◌∷◌, ◌++◌, length, map, set, get_or, length-set, get_or-set_same, get_or-set_other, refl, sym, ap, subst, ◌∙◌, append_assoc, arith}
+use Rattle.std.proofs.Common.{◌≡◌, ℕ, ◌+◌, ◌<◌, ◌≤◌, ◌||◌, true, false, inl, inr, List, [], ◌∷◌, ◌++◌, length, map, get_or, length-set, get_or-set_same, get_or-set_other, refl, sym, ap, subst, ◌∙◌, append_assoc, arith}
 use Rattle.std.specs.Prelude.{Ok}
 use Rattle.std.specs.List.{AllByRecursion, flat_map, list_any}
 use Rattle.std.proofs.lemmas.Bool.{and_from, both_ways, cases_eq, eq-eqb}
@@ -52,8 +52,7 @@ kept_now : (config : Parts) (past : Past) (line : Line) → length past.calls �
 kept_now config past (begins head) calls none = omega arith
 kept_now config past (enters entry) calls none =
     let passes = entry_passes config past entry none in
-    let within : entry.caller < length past.calls = omega (arith, calls, passes.caller) in
-    (
+    let within : entry.caller < length past.calls = omega (arith, calls, passes.caller) in (
       rw length-set within,
       rw (get_or-set_same past.calls entry.caller (entry.call + 1) 0 within) (omega arith),
       has_pair-more past.told.turns entry (pair_of entry.caller entry.call) passes.some ∙ grind (arith, eq-eqb (pair_of entry.caller entry.call) (pair_of entry.caller entry.call) refl),
@@ -69,8 +68,7 @@ kept_on config past (enters one) (begins head) keeps none =
     let same = flat_map-push (λ (t : Turn). t.entries) past.told.turns (begun head) ∙ append-nil (entries_of past.told.turns) in
     (keeps.0, keeps.1, ap (list_any (is_pair (pair_of one.caller one.call))) same ∙ keeps.2)
 kept_on config past (enters one) (enters entry) keeps none =
-    let passes = entry_passes config past entry none in
-    (
+    let passes = entry_passes config past entry none in (
       rw length-set keeps.0,
       elim (cases_eq one.caller entry.caller) [
         | inl own ↦

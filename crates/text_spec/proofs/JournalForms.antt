@@ -1,8 +1,7 @@
 -- One line of a journal: its reading against its own text, both ways.
 use Rattle.std.proofs.Common.{◌≡◌, ◌≢◌, ℕ, List, [], ◌∷◌, refl, ap, ◌∙◌}
 use Rattle.std.specs.Prelude.{Option, Some, None, option_map, codes, decimal}
-use Rattle.std.specs.List.{AllByRecursion}
-use Rattle.text_spec.specs.Fields.{the, a_number, a_mode, words_of_fields, AreHeld, AreExact, HasForm, first_as, behind}
+use Rattle.text_spec.specs.Fields.{a_number, a_mode, words_of_fields, AreHeld, AreExact, HasForm, first_as, behind}
 use Rattle.text_spec.specs.JournalForm.{entry_of, turn_form, report_form, state_form, setting_form, loss_form, line_forms, told_by}
 use Rattle.text_spec.specs.JournalText.{Act, Report, State, SetMode, Line, begins, enters, loses, act_fields, fields_of, line_for}
 use Rattle.text_spec.specs.Maybe.{or_else}

@@ -1,5 +1,5 @@
 -- All lines of a journal: what a text tells is a journal, and each journal is told by its own text.
-use Rattle.std.proofs.Common.{◌≡◌, ◌≢◌, ℕ, suc, ◌<◌, ◌==◌, List, [], ◌∷◌, ◌++◌, length, map, refl, sym, ap, subst, ◌∙◌, append_assoc, arith}
+use Rattle.std.proofs.Common.{◌≡◌, ℕ, suc, ◌<◌, ◌==◌, List, [], ◌∷◌, ◌++◌, length, map, refl, sym, ap, subst, ◌∙◌, append_assoc, arith}
 use Rattle.std.specs.Prelude.{Option, Some, None, Result, Ok, Err, ⊤}
 use Rattle.std.specs.List.{AllByRecursion, flat_map, join_with_byte}
 use Rattle.std.proofs.lemmas.Bool.{eqb-true}
@@ -10,7 +10,7 @@ use Rattle.ids_config.specs.Steps.{◌>>◌, asks}
 use Rattle.ids_config.proofs.StepLemmas.{both_ok, asked}
 use Rattle.ids_types.specs.Turns.{Turn, begun, with_entry}
 use Rattle.text_spec.specs.Fields.{a_number}
-use Rattle.text_spec.specs.JournalFaults.{Past, fault_of, next, nothing, start, with_line}
+use Rattle.text_spec.specs.JournalFaults.{Past, fault_of, next, start, with_line}
 use Rattle.text_spec.specs.JournalForm.{told_by}
 use Rattle.text_spec.specs.JournalReading.{AreFaultless, IsHeld, IsJournal, BadLine, at_line, past_with, after_line, after_pieces, journal_in, ◌>>=◌}
 use Rattle.text_spec.specs.JournalText.{Entry, TurnHead, Loss, Told, Line, begins, enters, loses, line_for, turn_told, lines_told}

@@ -82,6 +82,9 @@ context_in (first ∷ rest) =
 abbrev pub a_context : Field
 a_context = record {
   Writes = IsContextWord;
-  Value = Carried (List ℕ); Held = IsContext; Exact = IsExactContext;
-  word = context_word; reading = context_in;
+  Value = Carried (List ℕ);
+  Held = IsContext;
+  Exact = IsExactContext;
+  word = context_word;
+  reading = context_in;
 }

@@ -1,7 +1,7 @@
 -- Lines as lists of fields: what a field may hold, the word for each value, how a word is read, and
 -- how the words of a line are read as its fields, one after another.
 -- Source: the text formats of this project (docs/FORMATS.md).
-use Rattle.std.specs.Prelude.{◌≡◌, ℕ, ◌<◌, ◌^◌, ◌≤◌, ◌⊎◌, true, bytes_eq, List, [], ◌∷◌, length, Option, Some, None, option_map, IfSome, ⊤, codes, decimal, if◌then◌else◌}
+use Rattle.std.specs.Prelude.{◌≡◌, ℕ, ◌<◌, ◌^◌, ◌≤◌, ◌⊎◌, true, bytes_eq, List, [], ◌∷◌, length, Option, Some, None, option_map, IfSome, ⊤, decimal, if◌then◌else◌}
 use Rattle.std.specs.List.{AllByRecursion}
 use Rattle.hex.specs.Hex.{encode_lower}
 use Rattle.ids_types.specs.declared.mode.Mode.{Mode}
@@ -30,40 +30,55 @@ pub record Field : Type 1 where
 abbrev pub the : List ℕ → Field
 the letter = record {
   Writes = λ word. word ≡ letter;
-  Value = ⊤; Held = λ _. ⊤; Exact = λ _. ⊤;
-  word = λ _. letter; reading = λ word. if bytes_eq word letter then Some tt else None;
+  Value = ⊤;
+  Held = λ _. ⊤;
+  Exact = λ _. ⊤;
+  word = λ _. letter;
+  reading = λ word. if bytes_eq word letter then Some tt else None;
 }
 
 -- a number of any length: one that is too great is told as the greatest
 abbrev pub a_number : Field
 a_number = record {
   Writes = λ word. is_number word ≡ true;
-  Value = ℕ; Held = λ _. ⊤; Exact = λ n. n < greatest_told;
-  word = decimal; reading = λ word. option_map capped (number_in word);
+  Value = ℕ;
+  Held = λ _. ⊤;
+  Exact = λ n. n < greatest_told;
+  word = decimal;
+  reading = λ word. option_map capped (number_in word);
 }
 
 -- an optional timestamp of 64 bits
 abbrev pub a_stamp : Field
 a_stamp = record {
   Writes = λ word. (stamp : Option Stamp) × IfSome stamp (λ s. s.0 < 2 ^ 64) × (word ≡ stamp_text stamp);
-  Value = Option Stamp; Held = λ stamp. IfSome stamp (λ s. s.0 < 2 ^ 64); Exact = λ _. ⊤;
-  word = stamp_text; reading = stamp_in;
+  Value = Option Stamp;
+  Held = λ stamp. IfSome stamp (λ s. s.0 < 2 ^ 64);
+  Exact = λ _. ⊤;
+  word = stamp_text;
+  reading = stamp_in;
 }
 
 -- a reporting mode
 abbrev pub a_mode : Field
 a_mode = record {
   Writes = λ word. (mode : Mode) × (word ≡ mode_name mode);
-  Value = Mode; Held = λ _. ⊤; Exact = λ _. ⊤;
-  word = mode_name; reading = mode_named;
+  Value = Mode;
+  Held = λ _. ⊤;
+  Exact = λ _. ⊤;
+  word = mode_name;
+  reading = mode_named;
 }
 
 -- a byte or more
 abbrev pub hex_bytes : Field
 hex_bytes = record {
   Writes = λ word. (bytes : List ℕ) × AllByRecursion (λ b. b < 256) bytes × (1 ≤ length bytes) × (word ≡ encode_lower bytes);
-  Value = List ℕ; Held = AllByRecursion (λ b. b < 256); Exact = λ bytes. 1 ≤ length bytes;
-  word = encode_lower; reading = some_hex;
+  Value = List ℕ;
+  Held = AllByRecursion (λ b. b < 256);
+  Exact = λ bytes. 1 ≤ length bytes;
+  word = encode_lower;
+  reading = some_hex;
 }
 
 -- ---- fields with their values

@@ -1,7 +1,7 @@
 -- The faults of a journal's line, 2 to 7, behind what the lines before it tell. Fault 1 is a line that
 -- has no form.
 -- Source: the text formats of this project (docs/FORMATS.md).
-use Rattle.std.specs.Prelude.{ℕ, suc, ◌+◌, ◌*◌, ◌^◌, ◌==◌, ◌&&◌, not, nat_lt, nat_le, Bool, true, List, [], ◌∷◌, ◌++◌, length, replicate, slice_index, slice_set, Result, ⊤}
+use Rattle.std.specs.Prelude.{ℕ, ◌+◌, ◌*◌, ◌^◌, ◌==◌, ◌&&◌, not, nat_lt, nat_le, Bool, true, List, [], ◌∷◌, ◌++◌, length, replicate, slice_index, slice_set, Result, ⊤}
 use Rattle.std.specs.List.{list_all, list_any}
 use Rattle.ids_config.specs.Parts.{Parts, is_sensor}
 use Rattle.ids_config.specs.Steps.{◌>>◌, asks}

@@ -32,6 +32,6 @@ lines-preserved c =
     let shorter : length c.in-Some.behind.now < length c.lines.rest.now = search rules in
     record {
       tells = goes_on c.args.config.now c.lines.number (past_of c.lines.reader) c.cut_line.result.0.now (pieces_of line_feed c.in-Some.behind.now) (pieces_of line_feed c.lines.rest.now) _ some first
-      c.lines.invariant.tells (past_of c.line.new.self) c.in-Ok.ensures;
+          c.lines.invariant.tells (past_of c.line.new.self) c.in-Ok.ensures;
       counted = omega (arith, shorter, c.lines.invariant.counted);
     }
