@@ -13,6 +13,7 @@ use Rattle.hex.specs.declared.error.FromHexError.{FromHexError}
 use Rattle.hex.proofs.HexLemmas.{decode_of-encode_lower, decode_of-even, decode_of-ok}
 use Rattle.text_spec.specs.Hexadecimal.{hex_in, hex_upto, fitting, is_lower_digit, IsWritten}
 use Rattle.text_spec.specs.Words.{Free}
+use Rattle.text_spec.proofs.TestsLemmas.{not_all}
 use Rattle.text_spec.proofs.WordsLemmas.{free_from_test}
 
 -- ---- tests of all numbers below a bound, which compute
@@ -202,22 +203,6 @@ short_room room word short (Some bytes) is =
 pub hex_upto-short : (room : ℕ) (word : List ℕ) → room < length word / 2 → hex_upto room word ≡ None
 hex_upto-short room word short = short_room room word short (hex_in word) refl
 
--- the text of bytes that fit the room is read as them
-pub hex_upto-encode_lower : (room : ℕ) (bytes : List ℕ) → IsBytes bytes → length bytes ≤ room
-    → hex_upto room (encode_lower bytes) ≡ Some bytes
-hex_upto-encode_lower room bytes all fits =
-    ap (option_and_then (fitting room)) (hex_in-encode_lower bytes all)
-    ∙ cond-true _ (Some bytes) None (le-leb (length bytes) room fits)
-
--- bytes that were read into a room are the word's, and fit the room
-pub hex_upto-some : (room : ℕ) (word bytes : List ℕ) → hex_upto room word ≡ Some bytes
-    → (hex_in word ≡ Some bytes) × (length bytes ≤ room)
-hex_upto-some room word bytes read =
-    option_and_then_some (fitting room) (hex_in word) bytes read (λ all is kept.
-    let parts = cond_some (nat_le (length all) room) all bytes kept in
-    let bound = leb-true (length all) room parts.0 in
-    (is ∙ ap Some parts.1, subst (λ bs. length bs ≤ room) parts.1 bound))
-
 -- the value of a digit from `0` to `9`, and from `a` to `f`, has the digit
 pub digit_number : (c : ℕ) → 48 ≤ c → c ≤ 57 → slice_index lower_digits (c - 48) ≡ c
 digit_number c low high =
@@ -263,15 +248,6 @@ pairs_text (suc n) (c ∷ d ∷ word) (b ∷ room) len le pairs =
     let first = pairs 0 (omega arith) in
     let others = pairs_text n word room (omega arith) (omega arith) (λ k lt. pair_behind c d b word room k (pairs (suc k) (omega arith))) in
     rw (first.high, first.low, others) refl
-
--- a test that one element fails is not passed by all
-pub not_all : (p : ℕ → Bool) (xs : List ℕ) (i : ℕ) → i < length xs → p (slice_index xs i) ≡ false → list_all p xs ≡ false
-not_all p [] i lt fails = absurd (omega arith)
-not_all p (x ∷ xs) zero lt fails = rw fails refl
-not_all p (x ∷ xs) (suc i) lt fails = elim (cases_Bool (p x)) [
-  | inl passed ↦ rw (passed, not_all p xs i (omega arith) fails) refl
-  | inr failed ↦ rw failed refl
-]
 
 -- a word with another byte is not read
 pub hex_in-other : (word : List ℕ) → list_all is_lower_digit word ≡ false → hex_in word ≡ None

@@ -11,4 +11,5 @@ pub mod NumbersLemmas
 pub mod PiecesLemmas
 pub mod SomeHexLemmas
 pub mod StampsLemmas
+pub mod TestsLemmas
 pub mod WordsLemmas

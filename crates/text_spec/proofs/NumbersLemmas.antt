@@ -1,19 +1,21 @@
 -- Numbers: the reading of a word against the text of a number.
-use Rattle.std.proofs.Common.{◌≡◌, ℕ, zero, suc, ◌+◌, ◌-◌, ◌*◌, ◌^◌, ◌<◌, ◌≤◌, ◌==◌, min, not, true, false, ◌||◌, inl, inr, List, [], ◌∷◌, length, take, get_or, refl, sym, ap, ◌∙◌, arith, rules}
+use Rattle.std.proofs.Common.{◌≡◌, ℕ, zero, suc, ◌+◌, ◌-◌, ◌*◌, ◌/◌, ◌%◌, ◌^◌, ◌<◌, ◌≤◌, ◌==◌, min, not, Bool, cond, true, false, ◌||◌, inl, inr, List, [], ◌∷◌, length, take, get_or, refl, sym, ap, ◌∙◌, append_assoc, ◌++◌, arith, rules}
 use Rattle.std.specs.Prelude.{Option, Some, None, option_map, option_and_then, bytes_eq, decimal, nat_le}
 use Rattle.std.specs.Char.{is_ascii_digit}
 use Rattle.std.specs.Int.{IsInRange}
 use Rattle.std.specs.List.{list_all}
 use Rattle.std.specs.Str.Parse.{digits_value}
 use Rattle.std.proofs.lemmas.Bool.{le-leb, false_from_ne_true, and_parts, and_from, or_cases, cases_eq, cond-true, cond-false, cases_Bool, leb-true, eqb-true, eq-eqb, ne_eqb}
-use Rattle.std.proofs.lemmas.Fmt.{digits_decimal, digits_value-decimal, decimal-digits_value, first_decimal, decimal_nonempty, decimal_digit}
+use Rattle.std.proofs.lemmas.Fmt.{digits_decimal, digits_value-decimal, decimal-digits_value, first_decimal, decimal_nonempty, decimal_digit, decimal_step, length-decimal-le_wide}
+use Rattle.std.proofs.lemmas.List.{take_all, length-append}
 use Rattle.std.proofs.lemmas.Int.Digits.{digits_value_more}
 use Rattle.std.proofs.lemmas.Option.{same_Some, none-some, cond_some, option_and_then_some}
 use Rattle.std.proofs.lemmas.Slice.Eq.{bytes_eq-Decides}
 use Rattle.std.proofs.lemmas.Str.{digit_value_digit}
 use Rattle.std.proofs.lemmas.Str.Parse.{IsNumeralModel, numerals_by_value}
-use Rattle.text_spec.specs.Numbers.{is_number, number_in, number_upto, at_most, capped, greatest_told}
+use Rattle.text_spec.specs.Numbers.{is_number, begins_number, number_in, capped, greatest_told}
 use Rattle.text_spec.specs.Words.{Free, absent}
+use Rattle.text_spec.proofs.TestsLemmas.{not_all}
 use Rattle.text_spec.proofs.WordsLemmas.{free_from_test}
 
 -- a word of digits
@@ -32,19 +34,13 @@ in_range c h =
 pub own_digits : IsNumeralModel Digits (digits_value 10)
 own_digits = numerals_by_value Digits (search rules)
 
--- each byte of a word of digits is one
-pub digit_at : (ds : List ℕ) (i : ℕ) → Digits ds → i < length ds → IsInRange 48 57 (get_or ds i 0)
-digit_at [] i all inside = absurd (omega arith)
-digit_at (c ∷ cs) zero all inside = in_range c (and_parts _ _ all).0
-digit_at (c ∷ cs) (suc i) all inside = digit_at cs i (and_parts _ _ all).1 (omega arith)
-
 -- one more digit
-pub capped_more : (ds : List ℕ) (i v : ℕ) → Digits ds → i < length ds
+pub capped_more : (ds : List ℕ) (i v : ℕ) → is_ascii_digit (get_or ds i 0) ≡ true → i < length ds
     → v ≡ capped (digits_value 10 (take i ds))
     → min (min (v * 10) greatest_told + (get_or ds i 0 - 48)) greatest_told ≡ capped (digits_value 10 (take (i + 1) ds))
-capped_more ds i v all inside was =
+capped_more ds i v is inside was =
     let more = digits_value_more 10 ds i inside in
-    let digit = digit_value_digit (get_or ds i 0) (digit_at ds i all inside) in
+    let digit = digit_value_digit (get_or ds i 0) (in_range (get_or ds i 0) is) in
     omega (arith, more, digit, was)
 
 -- a word is a number where it is digits, and nothing follows a zero that stands first
@@ -105,13 +101,6 @@ pub decimal-free : (c n : ℕ) → is_ascii_digit c ≡ false → n < 2 ^ 64 →
 decimal-free c n out small =
     free_from_test is_ascii_digit c (decimal n) out (digits_decimal own_digits n small)
 
--- the text of a number is not the word for no value
-pub decimal-present : (n : ℕ) → n < 2 ^ 64 → bytes_eq (decimal n) absent ≡ false
-decimal-present n small = false_from_ne_true (bytes_eq (decimal n) absent) (λ same.
-    let e = (bytes_eq-Decides (decimal n) absent).0 same in
-    let free = rw e at (decimal-free 45 n refl small) in
-    cc free.0)
-
 -- ---- numbers as they are told
 
 -- the text of a number is told as it
@@ -135,20 +124,54 @@ pub decimal-told : (word : List ℕ) (n : ℕ) → option_map capped (number_in 
 decimal-told word n told small =
     decimal-number_in word n (uncapped (number_in word) n told small) (omega arith)
 
--- the text of a number up to this is read as it
-pub number_upto-decimal : (most n : ℕ) → n ≤ most → n < 2 ^ 64
-    → number_upto most (decimal n) ≡ Some n
-number_upto-decimal most n within small =
-    ap (option_and_then (at_most most)) (number_in-decimal n small)
-    ∙ cond-true _ (Some n) None (le-leb n most within)
+-- ---- one pass over a word
 
--- a word that is read as a number up to this is the number's text
-pub decimal-number_upto : (most : ℕ) (word : List ℕ) (n : ℕ) → number_upto most word ≡ Some n
-    → n < 2 ^ 64
-    → (word ≡ decimal n) × (n ≤ most)
-decimal-number_upto most word n read small =
-    option_and_then_some (at_most most) (number_in word) n read (λ k is kept.
-    let parts = cond_some (nat_le k most) k n kept in
-    let bound = leb-true k most parts.0 in
-    let same = parts.1 in
-    (decimal-number_in word n (is ∙ ap Some same) small, omega arith))
+-- a word that does not begin as a number is none
+pub number_in-begins : (word : List ℕ) → begins_number word ≡ false → number_in word ≡ None
+number_in-begins [] not_so = refl
+number_in-begins (c ∷ cs) not_so =
+    cond-false _ (Some (digits_value 10 (c ∷ cs))) None (elim (cases_Bool (list_all is_ascii_digit (c ∷ cs))) [
+      | inl all ↦ rw (all, not_so) refl
+      | inr other ↦ rw other refl
+    ])
+
+-- a word that begins as a number is one where it is digits
+pub number_in-digits : (word : List ℕ) → begins_number word ≡ true
+    → option_map capped (number_in word) ≡ cond (list_all is_ascii_digit word) (Some (capped (digits_value 10 word))) None
+number_in-digits [] begins = cc begins
+number_in-digits (c ∷ cs) begins = elim (cases_Bool (list_all is_ascii_digit (c ∷ cs))) [
+  | inl all ↦ rw (all, begins) refl
+  | inr other ↦ rw other refl
+]
+
+-- the value of a word of which all bytes passed
+pub value_told : (word : List ℕ) (i v : ℕ) → length word ≤ i → list_all is_ascii_digit (take i word) ≡ true → v ≡ capped (digits_value 10 (take i word))
+    → Some v ≡ cond (list_all is_ascii_digit word) (Some (capped (digits_value 10 word))) None
+value_told word i v end all was =
+    let whole : take i word ≡ word = take_all i word end in
+    let digits : list_all is_ascii_digit word ≡ true = rw whole at all in
+    let value : v ≡ capped (digits_value 10 word) = rw whole at was in
+    ap Some value ∙ sym (cond-true _ (Some (capped (digits_value 10 word))) None digits)
+
+-- the value of a word with another byte
+pub value_other : (word : List ℕ) (i : ℕ) → i < length word → is_ascii_digit (get_or word i 0) ≡ false
+    → None ≡ cond (list_all is_ascii_digit word) (Some (capped (digits_value 10 word))) None
+value_other word i inside other =
+    sym (cond-false _ (Some (capped (digits_value 10 word))) None (not_all is_ascii_digit word i inside other))
+
+-- ---- digits that are written one by one
+
+-- a number has at most twenty digits
+pub few_digits : (n : ℕ) → n < 2 ^ 64 → length (decimal n) ≤ 20
+few_digits n small = length-decimal-le_wide 20 n (omega arith) (omega arith) (omega arith)
+
+-- the last digit of a number follows those of its tenth
+pub decimal_last : (n : ℕ) (before : List ℕ) → 10 ≤ n → n < 2 ^ 64 → (before ++ decimal (n / 10)) ++ (48 + n % 10) ∷ [] ≡ before ++ decimal n
+decimal_last n before many small = rw (decimal_step n many small, append_assoc) refl
+
+-- the length of a number of one digit, and of one of more
+pub length_digit : (n : ℕ) → n < 10 → length (decimal n) ≡ 1
+length_digit n small = ap length (decimal_digit n small)
+
+pub length_last : (n : ℕ) → 10 ≤ n → n < 2 ^ 64 → length (decimal n) ≡ length (decimal (n / 10)) + 1
+length_last n many small = ap length (decimal_step n many small) ∙ length-append (decimal (n / 10)) ((48 + n % 10) ∷ [])

@@ -1,7 +1,7 @@
 -- Numbers of a text, in decimal: `0`, or a digit 1 to 9 followed by digits. The text of a number n is
 -- `decimal n`.
 -- Source: the text formats of this project.
-use Rattle.std.specs.Prelude.{ℕ, ◌-◌, ◌^◌, ◌==◌, ◌&&◌, ◌||◌, min, not, nat_le, Bool, false, List, [], ◌∷◌, length, Option, Some, None, option_and_then, if◌then◌else◌}
+use Rattle.std.specs.Prelude.{ℕ, ◌-◌, ◌^◌, ◌==◌, ◌&&◌, ◌||◌, min, not, Bool, false, List, [], ◌∷◌, length, Option, Some, None, if◌then◌else◌}
 use Rattle.std.specs.Char.{is_ascii_digit}
 use Rattle.std.specs.List.{list_all}
 use Rattle.std.specs.Str.Parse.{digits_value}
@@ -16,6 +16,11 @@ is_number [] = false
 is_number (first ∷ rest) =
     list_all is_ascii_digit (first ∷ rest) && (not (first == zero_digit) || length rest == 0)
 
+-- whether a byte stands there, and none behind a `0` that stands first
+abbrev pub begins_number : List ℕ → Bool
+begins_number [] = false
+begins_number (first ∷ rest) = not (first == zero_digit) || length rest == 0
+
 -- the number that a word writes, of any length
 abbrev pub number_in : List ℕ → Option ℕ
 number_in word = if is_number word then Some (digits_value 10 word) else None
@@ -27,11 +32,3 @@ greatest_told = 2 ^ 64 - 1
 -- a number as it is told: a greater one as the greatest
 abbrev pub capped : ℕ → ℕ
 capped n = min n greatest_told
-
--- a number, where it is at most this
-abbrev pub at_most : ℕ → ℕ → Option ℕ
-at_most most n = if nat_le n most then Some n else None
-
--- the number that a word writes, where it is at most this
-abbrev pub number_upto : ℕ → List ℕ → Option ℕ
-number_upto most word = option_and_then (at_most most) (number_in word)

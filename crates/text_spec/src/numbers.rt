@@ -1,9 +1,9 @@
-ghost use Rattle.std.specs.Prelude.{◌≡◌, ℕ, ◌<◌, ◌^◌, List, option_map, decimal, IsTrue, ◌++◌, ◌∷◌, OnOk, OnErr, ◌+◌, length, vec_len, vec_capacity};
+ghost use Rattle.std.specs.Prelude.{◌≡◌, ℕ, ◌<◌, ◌≤◌, ◌^◌, List, option_map, decimal, IsTrue, ◌++◌, ◌∷◌, OnOk, OnErr, ◌+◌, length, vec_len, vec_capacity, if◌then◌else◌};
 ghost use Rattle.std.specs.Char.{is_ascii_digit};
 ghost use Rattle.std.specs.List.{list_all};
 ghost use Rattle.std.specs.Str.Parse.{digits_value};
 ghost use Rattle.text_spec.specs.Words.{space};
-ghost use Rattle.text_spec.specs.Numbers.{capped, is_number as writes_number, number_in, number_upto as number_within};
+ghost use Rattle.text_spec.specs.Numbers.{capped, number_in, begins_number};
 
 use ids_types::NoMemory;
 use itoa::Buffer;
@@ -15,18 +15,38 @@ use itoa::Buffer;
 pub fn number(word: &[u8]) -> Option<u64>
     ensures { result ≡ option_map capped (number_in word.now) }
 {
-    if !is_number(word) {
+    if !may_begin(word) {
         return None;
     }
-    Some(value(word))
+    value(word)
 }
 
-/// The number that the word writes, `None` where it is no number or more than `most`.
-pub fn number_upto(word: &[u8], most: u64) -> Option<u64>
-    requires { most < u64.MAX }
-    ensures { result ≡ number_within most word.now }
+/// Whether a byte stands there, and none behind a `0` that stands first.
+fn may_begin(word: &[u8]) -> bool
+    ensures { result ≡ begins_number word.now }
 {
-    number(word).filter(|&n| n <= most)
+    match word {
+        [] => false,
+        [b'0', _, ..] => false,
+        _ => true,
+    }
+}
+
+/// The value of a word of digits, `None` where another byte is among them.
+fn value(word: &[u8]) -> Option<u64>
+    ensures { result ≡ (if list_all is_ascii_digit word.now
+        then Some (capped (digits_value 10 word.now)) else None) }
+{
+    let mut value = 0u64;
+    for &digit in word {
+        if !digit.is_ascii_digit() {
+            return None;
+        }
+        value = value
+            .saturating_mul(10)
+            .saturating_add(u64::from(digit - b'0'));
+    }
+    Some(value)
 }
 
 /// Appends the text of the number.
@@ -36,46 +56,59 @@ pub fn push_number(out: &mut Vec<u8>, number: u64) -> Result<(), NoMemory>
     ensures full { let text = decimal number in
         OnErr result (vec_capacity out.old < vec_len out.old + length text) }
 {
+    if out.capacity() - out.len() >= MOST_DIGITS {
+        put_digits(out, number);
+        return Ok(());
+    }
     let mut digits = Buffer::new();
     Ok(out.extend_from_slice(digits.format(number).as_bytes())?)
 }
 
 /// Appends a space and a number.
 pub fn push_field(out: &mut Vec<u8>, number: u64) -> Result<(), NoMemory>
-    ensures { OnOk result (out.new.items ≡ out.old.items ++ (space ∷ decimal number)) }
+    ensures ok { OnOk result (out.new.items ≡ out.old.items ++ (space ∷ decimal number)) }
+    ensures err { OnErr result (out.new.items ≡ out.old.items) }
+    ensures full { let text = space ∷ decimal number in
+        OnErr result (vec_capacity out.old < vec_len out.old + length text) }
 {
-    out.push(b' ')?;
-    push_number(out, number)
-}
-
-fn is_number(word: &[u8]) -> bool
-    ensures { result ≡ writes_number word.now }
-{
-    match word {
-        [] => false,
-        [b'0', _, ..] => false,
-        _ => are_digits(word),
+    if out.capacity() - out.len() <= MOST_DIGITS {
+        return push_field_at_end(out, number);
     }
+    out.push_reserved(b' ');
+    put_digits(out, number);
+    Ok(())
 }
 
-fn are_digits(word: &[u8]) -> bool
-    ensures { result ≡ list_all is_ascii_digit word.now }
-{
-    word.iter().all(u8::is_ascii_digit)
-}
+/// How many digits a number has at most.
+const MOST_DIGITS: usize = 20;
 
-/// The value of a word of digits.
-fn value(digits: &[u8]) -> u64
-    requires { IsTrue (list_all is_ascii_digit digits.now) }
-    ensures { result ≡ capped (digits_value 10 digits.now) }
+/// Writes a number into room that is there.
+fn put_digits(out: &mut Vec<u8>, number: u64)
+    requires { vec_len out.old + length (decimal number) ≤ vec_capacity out.old }
+    ensures items { out.new.items ≡ out.old.items ++ decimal number }
+    ensures len { vec_len out.new ≡ vec_len out.old + length (decimal number) }
+    ensures capacity { vec_capacity out.new ≡ vec_capacity out.old }
 {
-    let mut value = 0u64;
-    for &digit in digits {
-        value = value
-            .saturating_mul(10)
-            .saturating_add(u64::from(digit - b'0'));
+    if number < 10 {
+        out.push_reserved(b'0' + number as u8);
+        return;
     }
-    value
+    put_digits(out, number / 10);
+    out.push_reserved(b'0' + (number % 10) as u8);
+}
+
+/// Appends a space and a number where there may be little room.
+fn push_field_at_end(out: &mut Vec<u8>, number: u64) -> Result<(), NoMemory>
+    ensures ok { OnOk result (out.new.items ≡ out.old.items ++ (space ∷ decimal number)) }
+    ensures err { OnErr result (out.new.items ≡ out.old.items) }
+    ensures full { let text = space ∷ decimal number in
+        OnErr result (vec_capacity out.old < vec_len out.old + length text) }
+{
+    let mut digits = Buffer::new();
+    let text = digits.format(number).as_bytes();
+    out.reserve(text.len() + 1)?;
+    out.push_reserved(b' ');
+    Ok(out.extend_from_slice(text)?)
 }
 
 /// A number below 2^64 has one text, which is read as it.

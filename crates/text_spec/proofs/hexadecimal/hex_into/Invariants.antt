@@ -7,5 +7,5 @@ abbrev pub invariant-loop-i : goal.invariant-loop-i
 invariant-loop-i l = record {
   pairs : (k : ℕ) → k < l.i → PairAt l.word l.room k;
   small : (k : ℕ) → k < l.i → slice_index l.room k < 256;
-  rest : drop l.i l.room ≡ drop l.i l.initial.room
+  rest : drop l.i l.room ≡ drop l.i l.initial.room;
 }
