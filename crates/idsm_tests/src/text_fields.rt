@@ -3,8 +3,7 @@
 use ids_types::{Mode, Stamp};
 use std::test::Fail;
 use text_spec::{
-    HexText, Pieces, hex_into, mode, number, number_upto, push_hex, push_mode, push_number,
-    push_stamp, stamp,
+    HexText, Pieces, hex_into, mode, number, push_hex, push_mode, push_number, push_stamp, stamp,
 };
 
 #[test]
@@ -24,8 +23,6 @@ fn reads_numbers(rt: HostRuntime) {
     for (word, want) in rows {
         assert_eq!(rt; number(word), want);
     }
-    assert_eq!(rt; number_upto(b"255", 255), Some(255));
-    assert_eq!(rt; number_upto(b"256", 255), None);
 }
 
 #[test]
