@@ -75,10 +75,7 @@ impl FaultLog {
     }
 
     /// Hands on what the allocator answered, and counts a refusal.
-    pub(crate) fn served<T: Drop>(
-        &mut self,
-        answer: Result<T, AllocError>,
-    ) -> Result<T, AllocError>
+    pub(crate) fn served<T: Drop>(&mut self, answer: Result<T, AllocError>) -> Result<T, AllocError>
         ensures same { result ≡ answer }
         ensures ok { OnOk result (self.new ≡ self.old) }
         ensures err { OnErr result (WantsMemory self.old self.new) }
