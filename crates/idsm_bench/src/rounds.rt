@@ -156,8 +156,11 @@ fn serve<R: Clock, T: Taker>(
     for _ in 0..LOOKS {
         let arrived = meeting.arrived.load(Ordering::SeqCst);
         let count = time_takes(rt, &mut taker, &mut takes)?;
+        if count == 0 && begun.elapsed(rt)?.as_secs() >= LIMIT {
+            break;
+        }
         if count == 0 && arrived == callers.wrapping_mul(open) {
-            if open == rounds || begun.elapsed(rt)?.as_secs() >= LIMIT {
+            if open == rounds {
                 break;
             }
             open = open.wrapping_add(1);

@@ -24,9 +24,9 @@ pub fn print_counts<R: Print>(rt: &R, title: &str, pair: &Pair) -> io::Result<()
 /// Prints the head of the table.
 pub fn print_head<R: Print>(rt: &R) -> io::Result<()> {
     println!(rt; "nanoseconds for one item, in the fastest batch and in the middle one")?;
-    println!(rt; "{:<34}{:>22}{:>28}", "", "fastest", "middle")?;
+    println!(rt; "{:<36}{:>22}{:>28}", "", "fastest", "middle")?;
     println!(rt;
-        "{:<34}{:>8}{:>8}{:>8}{:>12}{:>8}{:>8}",
+        "{:<36}{:>8}{:>8}{:>8}{:>12}{:>8}{:>8}",
         "", "queue", "bare", "ratio", "queue", "bare", "ratio"
     )
 }
@@ -61,7 +61,7 @@ fn print_line<R: Print + AllocGlobal>(
 {
     let (queue_fastest, queue_middle) = queue.fastest_and_middle();
     let (bare_fastest, bare_middle) = bare.fastest_and_middle();
-    print!(rt; "{title:<34}")?;
+    print!(rt; "{title:<36}")?;
     print_times(rt, queue_fastest, bare_fastest, items)?;
     print!(rt; "    ")?;
     print_times(rt, queue_middle, bare_middle, items)?;
