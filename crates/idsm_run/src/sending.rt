@@ -36,9 +36,10 @@ pub(crate) fn messages_of_history(
     let mut bytes = Vec::new(alloc);
     let mut ends = Vec::with_capacity(alloc, history.turns() as usize)?;
     let mut messages = 0;
+    let mut room = ArrayVec::new();
     let mut turns = history.walk();
     while let Some((_, entries)) = turns.pop_front() {
-        messages += push_entries(config, entries, &mut bytes)?;
+        messages += push_entries(config, entries, &mut room, &mut bytes)?;
         ends.push(bytes.len())?;
     }
     Ok(Sent {
@@ -48,8 +49,14 @@ pub(crate) fn messages_of_history(
     })
 }
 
-/// Appends the messages of the entries of a turn, and returns how many they are.
-fn push_entries(config: &Config, entries: EntryWalk<'_>, out: &mut Vec<u8>) -> Result<u64, NoMemory>
+/// Appends the messages of the entries of a turn, and returns how many they are. A message is spelled
+/// in `room`.
+fn push_entries(
+    config: &Config,
+    entries: EntryWalk<'_>,
+    room: &mut ArrayVec<u8, MAX_BYTES>,
+    out: &mut Vec<u8>,
+) -> Result<u64, NoMemory>
     requires { AllByRecursion (λ e. CanSend (length config.now.events) e.act) entries }
     ensures bytes { OnOk result (out.new.items
         ≡ out.old.items ++ flat_map (entry_messages config.now) entries.entry) }
@@ -59,13 +66,18 @@ fn push_entries(config: &Config, entries: EntryWalk<'_>, out: &mut Vec<u8>) -> R
     let mut count = 0;
     let mut rest = entries;
     while let Some(entry) = rest.pop_front() {
-        count += push_entry(config, &entry, out)?;
+        count += push_entry(config, &entry, room, out)?;
     }
     Ok(count)
 }
 
 /// Appends the message of an entry, and returns how many it is: 1 for a report, 0 for a control.
-fn push_entry(config: &Config, entry: &Entry<Plain<'_>>, out: &mut Vec<u8>) -> Result<u64, NoMemory>
+fn push_entry(
+    config: &Config,
+    entry: &Entry<Plain<'_>>,
+    room: &mut ArrayVec<u8, MAX_BYTES>,
+    out: &mut Vec<u8>,
+) -> Result<u64, NoMemory>
     requires { CanSend (length config.now.events) (plain_entry entry.now).act }
     ensures bytes { OnOk result
         (out.new.items ≡ out.old.items ++ entry_messages config.now (plain_entry entry.now)) }
@@ -79,7 +91,8 @@ fn push_entry(config: &Config, entry: &Entry<Plain<'_>>, out: &mut Vec<u8>) -> R
             stamp,
             context,
         } => {
-            push_message(&message(config, *event, *count, *stamp, context), out)?;
+            let message = message(config, *event, *count, *stamp, context);
+            push_message(&message, room, out)?;
             Ok(1)
         }
         Act::State(_) | Act::SetMode { .. } => Ok(0),
@@ -156,13 +169,16 @@ fn context_of<'a>(context: &Carried<Plain<'a>>) -> Option<Context<'a>>
 
 /// Appends a message's spelling.
 #[tactic(auto, using(crate::proofs::SendingLemmas::spelling_has_bytes))]
-fn push_message(message: &Message<'_>, out: &mut Vec<u8>) -> Result<(), NoMemory>
+fn push_message(
+    message: &Message<'_>,
+    room: &mut ArrayVec<u8, MAX_BYTES>,
+    out: &mut Vec<u8>,
+) -> Result<(), NoMemory>
     requires { length (spelling message.now) ≤ MAX_BYTES }
     ensures bytes { OnOk result (out.new.items ≡ out.old.items ++ spelling message.now) }
     ensures grows { OnOk result (vec_len out.old + 1 ≤ vec_len out.new) }
 {
-    let mut spelled = ArrayVec::<u8, MAX_BYTES>::new();
-    encode(message, &mut spelled).unwrap();
-    out.extend_from_slice(&spelled)?;
+    encode(message, room).unwrap();
+    out.extend_from_slice(room)?;
     Ok(())
 }
