@@ -22,10 +22,13 @@ pub struct Keeper<F: Freight> {
     place: Place<F>,
     reaped: u64,
     seen: PermitWord,
+    // The two counts stand apart: side by side they were changed by one wide access, which waits for
+    // the narrow one before it.
     filled: u16,
-    vacant: u16,
-    // The positions of the next ticket, and of the first reaped one that is not filled.
+    // The position of the next ticket.
     next: u16,
+    vacant: u16,
+    // The position of the first reaped one that is not filled.
     vacancy: u16,
 }
 
