@@ -1,16 +1,15 @@
 -- Lower-case hexadecimal: the reading of a word against the text of bytes.
-use Rattle.std.proofs.Common.{◌≡◌, ℕ, zero, suc, ◌+◌, ◌-◌, ◌*◌, ◌/◌, ◌%◌, ◌<◌, ◌≤◌, ◌==◌, not, Bool, true, false, ◌&&◌, ◌||◌, inl, inr, List, [], ◌∷◌, length, slice_index, take, unwrap_or, Result, Ok, Err, refl, sym, ap, subst, ◌∙◌, arith}
-use Rattle.std.specs.Prelude.{nat_le, Option, Some, None, option_and_then, option_map, leb}
+use Rattle.std.proofs.Common.{◌≡◌, ℕ, zero, suc, ◌+◌, ◌-◌, ◌*◌, ◌/◌, ◌%◌, ◌<◌, ◌≤◌, ◌==◌, not, Bool, true, false, ◌&&◌, ◌||◌, inl, inr, List, [], ◌∷◌, ◌++◌, add-one, length, slice_index, take, unwrap_or, Result, Ok, Err, refl, sym, ap, ◌∙◌, arith}
+use Rattle.std.specs.Prelude.{Option, Some, None, option_and_then, option_map, leb}
 use Rattle.std.proofs.lemmas.List.{length-take-le}
 use Rattle.std.specs.Int.{is_in_range}
 use Rattle.std.specs.List.{list_all}
 use Rattle.std.specs.Result.{result_ok}
 use Rattle.std.proofs.lemmas.Bool.{le-leb, and_parts, lt-leb, and_from, or_cases, cases_lt, cond-true, cond-false, cases_Bool, eqb-true, leb-true, not-true, both_ways}
-use Rattle.std.proofs.lemmas.List.Sums.{AllPass-from_list_all}
-use Rattle.std.proofs.lemmas.Option.{cond_some, option_and_then_some, same_Some, none-some}
-use Rattle.hex.specs.Hex.{IsBytes, decode_of, decode_pairs, decode_sized, is_hex_digit, digit_or_error, hex_digit_value, encode_lower, encode_with, lower_digits, pair_value, value_at, ◌>>=◌}
+use Rattle.std.proofs.lemmas.Option.{same_Some, none-some}
+use Rattle.hex.specs.Hex.{IsBytes, decode_of, decode_pairs, is_hex_digit, digit_or_error, hex_digit_value, encode_lower, encode_with, lower_digits, pair_value, value_at, ◌>>=◌}
 use Rattle.hex.specs.declared.error.FromHexError.{FromHexError}
-use Rattle.hex.proofs.HexLemmas.{decode_of-encode_lower, decode_of-even, decode_of-ok}
+use Rattle.hex.proofs.HexLemmas.{length-encode_with, decode_of-encode_lower, decode_of-even, decode_of-ok}
 use Rattle.text_spec.specs.Hexadecimal.{hex_in, hex_upto, fitting, is_lower_digit, IsWritten}
 use Rattle.text_spec.specs.Words.{Free}
 use Rattle.text_spec.proofs.TestsLemmas.{not_all}
@@ -298,3 +297,20 @@ hex_upto-read most n word room fits len le few pairs =
     let read = ap (option_and_then (fitting most)) (pairs_read n word room fits len le pairs) in
     let kept = cond-true _ (Some (take n room)) None (le-leb (length (take n room)) most (omega arith)) in
     ap Some (sym size) ∙ sym (ap (option_map length) (read ∙ kept))
+
+-- the text of one byte more
+encode_next : (bytes : List ℕ) (i : ℕ) → i < length bytes
+    → encode_lower (take (suc i) bytes) ≡ encode_lower (take i bytes) ++ slice_index lower_digits (slice_index bytes i / 16) ∷ slice_index lower_digits (slice_index bytes i % 16) ∷ []
+unfolding encode_with
+encode_next [] i inside = absurd (omega arith)
+encode_next (b ∷ bytes) zero inside = refl
+encode_next (b ∷ bytes) (suc i) inside =
+    ap (λ (ds : List ℕ). slice_index lower_digits (b / 16) ∷ slice_index lower_digits (b % 16) ∷ ds) (encode_next bytes i (omega arith))
+
+pub encode_more : (bytes : List ℕ) (i : ℕ) → i < length bytes
+    → encode_lower (take (i + 1) bytes) ≡ encode_lower (take i bytes) ++ slice_index lower_digits (slice_index bytes i / 16) ∷ slice_index lower_digits (slice_index bytes i % 16) ∷ []
+encode_more bytes i inside = rw (add-one i) (encode_next bytes i inside)
+
+-- the text of bytes is twice as long
+pub length_hex : (bytes : List ℕ) → length (encode_lower bytes) ≡ 2 * length bytes
+length_hex bytes = length-encode_with lower_digits bytes

@@ -1,4 +1,4 @@
-ghost use Rattle.std.specs.Prelude.{◌≡◌, ◌≤◌, length, take};
+ghost use Rattle.std.specs.Prelude.{◌≡◌, ◌≤◌, length, take, drop};
 ghost use Rattle.text_spec.specs.Hexadecimal.{some_hex};
 
 use crate::hexadecimal::{are_lower_digits, hex_into};
@@ -52,6 +52,7 @@ impl<'a> HexText<'a> {
         requires { length self.now ≤ length room.old }
         ensures count { result ≡ length self.now }
         ensures bytes { take result room.new ≡ self.now }
+        ensures rest { drop result room.new ≡ drop result room.old }
         ensures same { length room.new ≡ length room.old }
     {
         hex_into(self.digits, room).unwrap()

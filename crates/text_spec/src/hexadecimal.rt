@@ -1,4 +1,4 @@
-ghost use Rattle.std.specs.Prelude.{◌≡◌, ℕ, ◌<◌, ◌&&◌, List, length, take, drop, option_map, IfSome, IfNone, IsTrue, ◌++◌, ◌*◌, OnOk, OnErr, ◌+◌, vec_len, vec_capacity, slice_index, false};
+ghost use Rattle.std.specs.Prelude.{◌≡◌, ℕ, ◌<◌, ◌≤◌, ◌&&◌, List, length, take, drop, option_map, IfSome, IfNone, IsTrue, ◌++◌, ◌*◌, OnOk, OnErr, ◌+◌, vec_len, vec_capacity, slice_index, false};
 ghost use Rattle.std.specs.List.{list_all};
 ghost use Rattle.hex.specs.Hex.{IsBytes, encode_lower, lower_digits};
 ghost use Rattle.text_spec.specs.Hexadecimal.{hex_in, hex_upto, is_lower_digit as writes_digit, IsWritten};
@@ -52,20 +52,25 @@ pub fn push_hex(out: &mut Vec<u8>, bytes: &[u8]) -> Result<(), NoMemory>
     ensures full { let text = encode_lower bytes.now in
         OnErr result (vec_capacity out.old < vec_len out.old + length text) }
 {
-    let digits = 2 * bytes.len();
-    out.reserve(digits)?;
-    let start = out.len();
-    out.resize(start + digits, 0)?;
-    write_hex(&mut out[start..], bytes);
+    out.reserve(2 * bytes.len())?;
+    put_hex(out, bytes);
     Ok(())
 }
 
-/// Writes the text of the bytes over the room, which is as long.
-fn write_hex(room: &mut [u8], bytes: &[u8])
-    requires { length room.old ≡ 2 * length bytes.now }
-    ensures { room.new ≡ encode_lower bytes.now }
+/// The digits, by their values.
+const DIGITS: &[u8; 16] = b"0123456789abcdef";
+
+/// Writes the text of the bytes into room that is there.
+pub(crate) fn put_hex(out: &mut Vec<u8>, bytes: &[u8])
+    requires { vec_len out.old + 2 * length bytes.now ≤ vec_capacity out.old }
+    ensures items { out.new.items ≡ out.old.items ++ encode_lower bytes.now }
+    ensures len { vec_len out.new ≡ vec_len out.old + 2 * length bytes.now }
+    ensures capacity { vec_capacity out.new ≡ vec_capacity out.old }
 {
-    hex::encode_to_slice(bytes, room).unwrap();
+    for byte in bytes {
+        out.push_reserved(DIGITS[(*byte / 16) as usize]);
+        out.push_reserved(DIGITS[(*byte % 16) as usize]);
+    }
 }
 
 pub(crate) fn are_lower_digits(word: &[u8]) -> bool

@@ -79,6 +79,28 @@ pub fn push_field(out: &mut Vec<u8>, number: u64) -> Result<(), NoMemory>
     Ok(())
 }
 
+/// How many bytes the text of the number has.
+pub(crate) fn digits_len(number: u64) -> usize
+    ensures value { result ≡ length (decimal number) }
+    ensures few { result ≤ 20 }
+{
+    if number < 10 {
+        return 1;
+    }
+    digits_len(number / 10) + 1
+}
+
+/// Writes a space and a number into room that is there.
+pub(crate) fn put_field(out: &mut Vec<u8>, number: u64)
+    requires { vec_len out.old + (1 + length (decimal number)) ≤ vec_capacity out.old }
+    ensures items { out.new.items ≡ out.old.items ++ (space ∷ decimal number) }
+    ensures len { vec_len out.new ≡ vec_len out.old + (1 + length (decimal number)) }
+    ensures capacity { vec_capacity out.new ≡ vec_capacity out.old }
+{
+    out.push_reserved(b' ');
+    put_digits(out, number);
+}
+
 /// How many digits a number has at most.
 const MOST_DIGITS: usize = 20;
 

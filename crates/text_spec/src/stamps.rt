@@ -1,8 +1,8 @@
-ghost use Rattle.std.specs.Prelude.{◌≡◌, ℕ, ◌<◌, ◌^◌, List, Option, ◌++◌, OnOk, OnErr, ◌+◌, length, vec_len, vec_capacity};
+ghost use Rattle.std.specs.Prelude.{◌≡◌, ℕ, ◌<◌, ◌^◌, ◌≤◌, List, Option, ◌++◌, OnOk, OnErr, ◌+◌, length, vec_len, vec_capacity};
 ghost use Rattle.text_spec.specs.Stamps.{stamp_in, stamp_text};
 ghost use Rattle.ids_types.specs.declared.names.Stamp.{Stamp};
 
-use crate::hexadecimal::{hex_into, push_hex};
+use crate::hexadecimal::{hex_into, push_hex, put_hex};
 use ids_types::{NoMemory, Stamp};
 
 /// The optional timestamp that the word writes, `None` where it is no text of one.
@@ -29,6 +29,32 @@ pub fn push_stamp(out: &mut Vec<u8>, stamp: Option<Stamp>) -> Result<(), NoMemor
     match stamp {
         None => Ok(out.push(b'-')?),
         Some(stamp) => push_hex(out, &stamp.0.to_be_bytes()),
+    }
+}
+
+/// How many bytes the text of the optional timestamp has.
+#[tactic(auto, using(crate::proofs::HexadecimalLemmas::length_hex))]
+pub(crate) fn stamp_len(stamp: Option<Stamp>) -> usize
+    ensures value { result ≡ length (stamp_text stamp) }
+    ensures few { result ≤ 16 }
+{
+    match stamp {
+        None => 1,
+        Some(_) => 16,
+    }
+}
+
+/// Writes the text of the optional timestamp into room that is there.
+#[tactic(auto, using(crate::proofs::HexadecimalLemmas::length_hex))]
+pub(crate) fn put_stamp(out: &mut Vec<u8>, stamp: Option<Stamp>)
+    requires { vec_len out.old + length (stamp_text stamp) ≤ vec_capacity out.old }
+    ensures items { out.new.items ≡ out.old.items ++ stamp_text stamp }
+    ensures len { vec_len out.new ≡ vec_len out.old + length (stamp_text stamp) }
+    ensures capacity { vec_capacity out.new ≡ vec_capacity out.old }
+{
+    match stamp {
+        None => out.push_reserved(b'-'),
+        Some(stamp) => put_hex(out, &stamp.0.to_be_bytes()),
     }
 }
 

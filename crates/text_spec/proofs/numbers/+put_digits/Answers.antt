@@ -1,5 +1,4 @@
-use Rattle.std.proofs.Common.{◌≡◌, ◌<◌, ◌^◌, ◌++◌, List, ℕ, sym, ap, ◌∙◌, arith}
-use Rattle.std.specs.Prelude.{decimal}
+use Rattle.std.proofs.Common.{◌<◌, ◌^◌, ◌++◌, List, ℕ, sym, ap, ◌∙◌, arith}
 use Rattle.std.proofs.lemmas.Fmt.{decimal_digit}
 use Rattle.text_spec.proofs.NumbersLemmas.{length_digit, length_last, decimal_last}
 use Rattle.text_spec.proofs.numbers.+put_digits.Goals as goal

@@ -1,4 +1,4 @@
-use Rattle.std.proofs.Common.{◌≤◌, ◌<◌, ◌^◌, arith}
+use Rattle.std.proofs.Common.{◌<◌, ◌^◌, arith}
 use Rattle.text_spec.proofs.NumbersLemmas.{few_digits}
 use Rattle.text_spec.proofs.numbers.push_field.Goals as goal
 
