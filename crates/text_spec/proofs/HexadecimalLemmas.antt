@@ -1,5 +1,5 @@
 -- Lower-case hexadecimal: the reading of a word against the text of bytes.
-use Rattle.std.proofs.Common.{◌≡◌, ℕ, zero, suc, ◌+◌, ◌-◌, ◌*◌, ◌/◌, ◌%◌, ◌<◌, ◌≤◌, ◌==◌, not, Bool, true, false, ◌&&◌, ◌||◌, inl, inr, List, [], ◌∷◌, ◌++◌, add-one, length, slice_index, take, unwrap_or, Result, Ok, Err, refl, sym, ap, ◌∙◌, arith}
+use Rattle.std.proofs.Common.{◌≡◌, ℕ, zero, suc, ◌+◌, ◌*◌, ◌/◌, ◌%◌, ◌<◌, ◌≤◌, ◌==◌, not, Bool, true, false, ◌&&◌, ◌||◌, inl, inr, List, [], ◌∷◌, ◌++◌, add-one, length, slice_index, take, unwrap_or, Result, Ok, Err, refl, sym, ap, ◌∙◌, arith}
 use Rattle.std.specs.Prelude.{Option, Some, None, option_and_then, option_map, leb}
 use Rattle.std.proofs.lemmas.List.{length-take-le}
 use Rattle.std.specs.Int.{is_in_range}
@@ -12,7 +12,6 @@ use Rattle.hex.specs.declared.error.FromHexError.{FromHexError}
 use Rattle.hex.proofs.HexLemmas.{length-encode_with, decode_of-encode_lower, decode_of-even, decode_of-ok}
 use Rattle.text_spec.specs.Hexadecimal.{hex_in, hex_upto, fitting, is_lower_digit, IsWritten}
 use Rattle.text_spec.specs.Words.{Free}
-use Rattle.text_spec.proofs.TestsLemmas.{not_all}
 use Rattle.text_spec.proofs.WordsLemmas.{free_from_test}
 
 -- ---- tests of all numbers below a bound, which compute
@@ -202,23 +201,6 @@ short_room room word short (Some bytes) is =
 pub hex_upto-short : (room : ℕ) (word : List ℕ) → room < length word / 2 → hex_upto room word ≡ None
 hex_upto-short room word short = short_room room word short (hex_in word) refl
 
--- the value of a digit from `0` to `9`, and from `a` to `f`, has the digit
-pub digit_number : (c : ℕ) → 48 ≤ c → c ≤ 57 → slice_index lower_digits (c - 48) ≡ c
-digit_number c low high =
-    let passes = all_below-at (λ k. (slice_index lower_digits k == k + 48) || not (leb k 9)) 16 (c - 48) refl (omega arith) in
-    elim (or_cases _ _ passes) [
-      | inl same ↦ let e = eqb-true (slice_index lower_digits (c - 48)) (c - 48 + 48) same in omega (arith, e)
-      | inr other ↦ absurd (both_ways (leb (c - 48) 9) (not-true (leb (c - 48) 9) other) (le-leb (c - 48) 9 (omega arith)))
-    ]
-
-pub digit_letter : (c : ℕ) → 97 ≤ c → c ≤ 102 → slice_index lower_digits (c - 97 + 10) ≡ c
-digit_letter c low high =
-    let passes = all_below-at (λ k. (slice_index lower_digits k == k + 87) || leb k 9) 16 (c - 97 + 10) refl (omega arith) in
-    elim (or_cases _ _ passes) [
-      | inl same ↦ let e = eqb-true (slice_index lower_digits (c - 97 + 10)) (c - 97 + 10 + 87) same in omega (arith, e)
-      | inr small ↦ let le = leb-true (c - 97 + 10) 9 small in absurd (omega (arith, le))
-    ]
-
 -- the byte at a place is written by the two digits there
 abbrev pub PairAt : List ℕ → List ℕ → ℕ → Type 0
 PairAt word room k = IsWritten (slice_index room k) (slice_index word (2 * k)) (slice_index word (2 * k + 1))
@@ -247,20 +229,6 @@ pairs_text (suc n) (c ∷ d ∷ word) (b ∷ room) len le pairs =
     let first = pairs 0 (omega arith) in
     let others = pairs_text n word room (omega arith) (omega arith) (λ k lt. pair_behind c d b word room k (pairs (suc k) (omega arith))) in
     rw (first.high, first.low, others) refl
-
--- a word with another byte is not read
-pub hex_in-other : (word : List ℕ) → list_all is_lower_digit word ≡ false → hex_in word ≡ None
-hex_in-other word other = cond-false _ (result_ok (decode_of word)) None other
-
--- nor is a pair with another byte
-pub hex_in-pair : (word : List ℕ) (i : ℕ) → 2 * i + 1 < length word
-    → (is_lower_digit (slice_index word (2 * i)) && is_lower_digit (slice_index word (2 * i + 1))) ≡ false → hex_in word ≡ None
-hex_in-pair word i lt fails = elim (cases_Bool (is_lower_digit (slice_index word (2 * i)))) [
-  | inl passed ↦
-      let low : is_lower_digit (slice_index word (2 * i + 1)) ≡ false = rw passed at fails in
-      hex_in-other word (not_all is_lower_digit word (2 * i + 1) lt low)
-  | inr failed ↦ hex_in-other word (not_all is_lower_digit word (2 * i) (omega arith) failed)
-]
 
 -- what was read of an odd number of digits
 odd_read : (word : List ℕ) (read : Option (List ℕ)) → hex_in word ≡ read → length word % 2 ≡ 1 → read ≡ None

@@ -1,5 +1,5 @@
 -- Numbers: the reading of a word against the text of a number.
-use Rattle.std.proofs.Common.{◌≡◌, ℕ, ◌+◌, ◌-◌, ◌*◌, ◌/◌, ◌%◌, ◌^◌, ◌<◌, ◌≤◌, ◌==◌, min, not, cond, true, false, ◌||◌, inl, inr, List, [], ◌∷◌, length, take, get_or, refl, sym, ap, ◌∙◌, append_assoc, ◌++◌, arith, rules}
+use Rattle.std.proofs.Common.{◌≡◌, ℕ, ◌+◌, ◌-◌, ◌*◌, ◌/◌, ◌%◌, ◌^◌, ◌<◌, ◌≤◌, ◌==◌, min, not, true, false, ◌||◌, inl, inr, List, [], ◌∷◌, length, take, get_or, refl, sym, ap, ◌∙◌, append_assoc, ◌++◌, arith, rules}
 use Rattle.std.specs.Prelude.{Option, Some, None, option_map, decimal}
 use Rattle.std.specs.Char.{is_ascii_digit}
 use Rattle.std.specs.Int.{IsInRange}
@@ -7,14 +7,13 @@ use Rattle.std.specs.List.{list_all}
 use Rattle.std.specs.Str.Parse.{digits_value}
 use Rattle.std.proofs.lemmas.Bool.{and_parts, and_from, or_cases, cases_eq, cond-true, cond-false, cases_Bool, leb-true, eqb-true, eq-eqb, ne_eqb}
 use Rattle.std.proofs.lemmas.Fmt.{digits_decimal, digits_value-decimal, decimal-digits_value, first_decimal, decimal_nonempty, decimal_digit, decimal_step, length-decimal-le_wide}
-use Rattle.std.proofs.lemmas.List.{take_all, length-append}
+use Rattle.std.proofs.lemmas.List.{length-append}
 use Rattle.std.proofs.lemmas.Int.Digits.{digits_value_more}
 use Rattle.std.proofs.lemmas.Option.{same_Some, none-some}
 use Rattle.std.proofs.lemmas.Str.{digit_value_digit}
 use Rattle.std.proofs.lemmas.Str.Parse.{IsNumeralModel, numerals_by_value}
-use Rattle.text_spec.specs.Numbers.{is_number, begins_number, number_in, capped, greatest_told}
+use Rattle.text_spec.specs.Numbers.{is_number, number_in, capped, greatest_told}
 use Rattle.text_spec.specs.Words.{Free}
-use Rattle.text_spec.proofs.TestsLemmas.{not_all}
 use Rattle.text_spec.proofs.WordsLemmas.{free_from_test}
 
 -- a word of digits
@@ -122,41 +121,6 @@ pub decimal-told : (word : List ℕ) (n : ℕ) → option_map capped (number_in 
     → word ≡ decimal n
 decimal-told word n told small =
     decimal-number_in word n (uncapped (number_in word) n told small) (omega arith)
-
--- ---- one pass over a word
-
--- a word that does not begin as a number is none
-pub number_in-begins : (word : List ℕ) → begins_number word ≡ false → number_in word ≡ None
-number_in-begins [] not_so = refl
-number_in-begins (c ∷ cs) not_so =
-    cond-false _ (Some (digits_value 10 (c ∷ cs))) None (elim (cases_Bool (list_all is_ascii_digit (c ∷ cs))) [
-      | inl all ↦ rw (all, not_so) refl
-      | inr other ↦ rw other refl
-    ])
-
--- a word that begins as a number is one where it is digits
-pub number_in-digits : (word : List ℕ) → begins_number word ≡ true
-    → option_map capped (number_in word) ≡ cond (list_all is_ascii_digit word) (Some (capped (digits_value 10 word))) None
-number_in-digits [] begins = cc begins
-number_in-digits (c ∷ cs) begins = elim (cases_Bool (list_all is_ascii_digit (c ∷ cs))) [
-  | inl all ↦ rw (all, begins) refl
-  | inr other ↦ rw other refl
-]
-
--- the value of a word of which all bytes passed
-pub value_told : (word : List ℕ) (i v : ℕ) → length word ≤ i → list_all is_ascii_digit (take i word) ≡ true → v ≡ capped (digits_value 10 (take i word))
-    → Some v ≡ cond (list_all is_ascii_digit word) (Some (capped (digits_value 10 word))) None
-value_told word i v end all was =
-    let whole : take i word ≡ word = take_all i word end in
-    let digits : list_all is_ascii_digit word ≡ true = rw whole at all in
-    let value : v ≡ capped (digits_value 10 word) = rw whole at was in
-    ap Some value ∙ sym (cond-true _ (Some (capped (digits_value 10 word))) None digits)
-
--- the value of a word with another byte
-pub value_other : (word : List ℕ) (i : ℕ) → i < length word → is_ascii_digit (get_or word i 0) ≡ false
-    → None ≡ cond (list_all is_ascii_digit word) (Some (capped (digits_value 10 word))) None
-value_other word i inside other =
-    sym (cond-false _ (Some (capped (digits_value 10 word))) None (not_all is_ascii_digit word i inside other))
 
 -- ---- digits that are written one by one
 
