@@ -11,7 +11,7 @@ use crate::reader::Reader;
 use ids_config::Config;
 use ids_types::{History, Loss};
 use std::alloc::Global;
-use text_spec::cut_line;
+use text_spec::cut;
 
 /// What a journal tells.
 #[derive(Debug, Drop)]
@@ -61,7 +61,7 @@ fn read_all(alloc: Global, text: &[u8], config: &Config) -> Result<Reader, Journ
     let mut number = 1u64;
     let mut rest = text;
     'lines: loop {
-        let (line, behind) = cut_line(rest);
+        let (line, behind) = cut(rest, b'\n');
         let Some(behind) = behind else {
             if line.is_empty() {
                 return Ok(reader);

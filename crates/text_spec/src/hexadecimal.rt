@@ -76,7 +76,11 @@ pub(crate) fn put_hex(out: &mut Vec<u8>, bytes: &[u8])
 pub(crate) fn are_lower_digits(word: &[u8]) -> bool
     ensures { result ≡ list_all writes_digit word.now }
 {
-    word.iter().all(is_lower_digit)
+    let mut all = true;
+    for byte in word {
+        all &= is_lower_digit(byte);
+    }
+    all
 }
 
 fn is_lower_digit(byte: &u8) -> bool

@@ -2,7 +2,7 @@ ghost use Rattle.std.specs.Prelude.{◌≡◌, ◌==◌, ℕ, ◌<◌, List, ◌
 ghost use Rattle.text_spec.specs.Fields.{a_number, a_stamp, first_as};
 ghost use Rattle.text_spec.specs.Maybe.{first_of, ended as ended_of};
 ghost use Rattle.text_spec.specs.PiecesView.{pieces_left};
-ghost use Rattle.text_spec.specs.Words.{line_feed, pieces_of};
+ghost use Rattle.text_spec.specs.Words.{pieces_of};
 
 use crate::numbers::number;
 use crate::stamps::stamp;
@@ -75,45 +75,20 @@ impl<'a> Pieces<'a> {
 }
 
 /// What stands before the first separator, and what stands behind it, if there is one.
-fn cut(text: &[u8], separator: u8) -> (&[u8], Option<&[u8]>)
-    ensures { pieces_of separator text.now ≡
-        result.0.now ∷ pieces_left separator (option_map (λ r. r.now) result.1) }
-{
-    cut_at(text, separator, place_of(text, separator))
-}
-
-/// What stands before the first line feed, and what stands behind it, if there is one.
-pub fn cut_line(text: &[u8]) -> (&[u8], Option<&[u8]>)
-    ensures pieces { pieces_of line_feed text.now ≡
-        result.0.now ∷ pieces_left line_feed (option_map (λ r. r.now) result.1) }
-    ensures shorter { IfSome result.1 (λ r. length r.now < length text.now) }
-{
-    cut_at(text, b'\n', end_of_line(text))
-}
-
-/// What stands before the first separator, which stands at this place, and what stands behind it.
-fn cut_at(text: &[u8], separator: u8, place: Option<usize>) -> (&[u8], Option<&[u8]>)
-    requires { place ≡ position (λ b. b == separator) text.now }
+pub fn cut(text: &[u8], separator: u8) -> (&[u8], Option<&[u8]>)
     ensures pieces { pieces_of separator text.now ≡
         result.0.now ∷ pieces_left separator (option_map (λ r. r.now) result.1) }
     ensures shorter { IfSome result.1 (λ r. length r.now < length text.now) }
 {
-    match place {
+    match place_of(text, separator) {
         None => (text, None),
         Some(i) => (&text[..i], Some(&text[i + 1..])),
     }
 }
 
-/// The first place of a byte, in a short text.
+/// The first place of a byte.
 fn place_of(text: &[u8], byte: u8) -> Option<usize>
     ensures { result ≡ position (λ b. b == byte) text.now }
 {
-    text.iter().position(|b| *b == byte)
-}
-
-/// The first place of a line feed.
-fn end_of_line(text: &[u8]) -> Option<usize>
-    ensures { result ≡ position (λ b. b == line_feed) text.now }
-{
-    memchr(b'\n', text)
+    memchr(byte, text)
 }

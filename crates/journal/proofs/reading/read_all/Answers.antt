@@ -8,30 +8,30 @@ use Rattle.journal.proofs.reading.read_all.Goals as goal
 
 pub returns-then-is_empty : goal.returns-then-is_empty
 returns-then-is_empty c =
-    let last : pieces_of line_feed c.lines.rest.now ≡ c.cut_line.result.0.now ∷ [] = search rules in
-    is_done c.args.config.now c.lines.number (past_of c.lines.reader) c.cut_line.result.0.now (pieces_of line_feed c.lines.rest.now) _ last
-    (eqb-true (length c.cut_line.result.0.now) 0 (sym c.if-is_empty.ensures)) c.lines.invariant.tells
+    let last : pieces_of line_feed c.lines.rest.now ≡ c.cut.result.0.now ∷ [] = search rules in
+    is_done c.args.config.now c.lines.number (past_of c.lines.reader) c.cut.result.0.now (pieces_of line_feed c.lines.rest.now) _ last
+    (eqb-true (length c.cut.result.0.now) 0 (sym c.if-is_empty.ensures)) c.lines.invariant.tells
 
 pub returns-in_default : goal.returns-in_default
 returns-in_default c =
-    let last : pieces_of line_feed c.lines.rest.now ≡ c.cut_line.result.0.now ∷ [] = search rules in
-    is_open c.args.config.now c.lines.number (past_of c.lines.reader) c.cut_line.result.0.now (pieces_of line_feed c.lines.rest.now) _ last (sym c.if-is_empty.ensures) c.lines.invariant.tells
+    let last : pieces_of line_feed c.lines.rest.now ≡ c.cut.result.0.now ∷ [] = search rules in
+    is_open c.args.config.now c.lines.number (past_of c.lines.reader) c.cut.result.0.now (pieces_of line_feed c.lines.rest.now) _ last (sym c.if-is_empty.ensures) c.lines.invariant.tells
 
 pub returns-in-Err : goal.returns-in-Err
 returns-in-Err c =
     let some : 0 < length (pieces_of line_feed c.in-Some.behind.now) = omega (arith, length-slice_split (λ b. b == line_feed) c.in-Some.behind.now) in
-    let first : pieces_of line_feed c.lines.rest.now ≡ c.cut_line.result.0.now ∷ pieces_of line_feed c.in-Some.behind.now = search rules in
+    let first : pieces_of line_feed c.lines.rest.now ≡ c.cut.result.0.now ∷ pieces_of line_feed c.in-Some.behind.now = search rules in
     rw c.at_line.ensures
-    (refuses c.args.config.now c.lines.number (past_of c.lines.reader) c.cut_line.result.0.now (pieces_of line_feed c.in-Some.behind.now) (pieces_of line_feed c.lines.rest.now) _ some first
+    (refuses c.args.config.now c.lines.number (past_of c.lines.reader) c.cut.result.0.now (pieces_of line_feed c.in-Some.behind.now) (pieces_of line_feed c.lines.rest.now) _ some first
     c.lines.invariant.tells c.in-Err.fault c.in-Err.ensures)
 
 pub lines-preserved : goal.lines-preserved
 lines-preserved c =
     let some : 0 < length (pieces_of line_feed c.in-Some.behind.now) = omega (arith, length-slice_split (λ b. b == line_feed) c.in-Some.behind.now) in
-    let first : pieces_of line_feed c.lines.rest.now ≡ c.cut_line.result.0.now ∷ pieces_of line_feed c.in-Some.behind.now = search rules in
+    let first : pieces_of line_feed c.lines.rest.now ≡ c.cut.result.0.now ∷ pieces_of line_feed c.in-Some.behind.now = search rules in
     let shorter : length c.in-Some.behind.now < length c.lines.rest.now = search rules in
     record {
-      tells = goes_on c.args.config.now c.lines.number (past_of c.lines.reader) c.cut_line.result.0.now (pieces_of line_feed c.in-Some.behind.now) (pieces_of line_feed c.lines.rest.now) _ some first
+      tells = goes_on c.args.config.now c.lines.number (past_of c.lines.reader) c.cut.result.0.now (pieces_of line_feed c.in-Some.behind.now) (pieces_of line_feed c.lines.rest.now) _ some first
           c.lines.invariant.tells (past_of c.line.new.self) c.in-Ok.ensures;
       counted = omega (arith, shorter, c.lines.invariant.counted);
     }
