@@ -1,6 +1,6 @@
 -- The pairs of a history's entries, one turn and one entry after another.
-use Rattle.std.proofs.Common.{◌≡◌, ℕ, ◌<◌, ◌≤◌, ◌^◌, ◌-◌, ◌+◌, ◌==◌, ◌||◌, min, false, inl, inr, Bool, List, [], ◌∷◌, ◌++◌, length, take, get_or, refl, sym, ap, ◌∙◌, arith}
-use Rattle.std.specs.List.{list_any, flat_map}
+use Rattle.std.proofs.Common.{◌≡◌, ℕ, ◌<◌, ◌^◌, ◌-◌, ◌+◌, ◌==◌, ◌||◌, min, false, inl, inr, List, [], ◌∷◌, length, take, get_or, sym, ap, ◌∙◌, arith}
+use Rattle.std.specs.List.{list_any}
 use Rattle.std.proofs.lemmas.Bool.{cases_lt, ne_eqb}
 use Rattle.std.proofs.lemmas.List.{take_more}
 use Rattle.std.proofs.lemmas.List.Folds.{list_any-append}

@@ -1,14 +1,11 @@
 -- What holds of a line that was checked.
-use Rattle.std.proofs.Common.{◌≡◌, ℕ, ◌^◌, ◌<◌, ◌≤◌, ◌==◌, ◌&&◌, Bool, true, false, List, length, refl, arith}
-use Rattle.std.specs.Prelude.{Ok, not, nat_le, nat_lt}
-use Rattle.std.specs.List.{list_any}
-use Rattle.std.proofs.lemmas.Bool.{and_parts, leb-true, ltb-true}
+use Rattle.std.proofs.Common.{◌≡◌, ℕ, ◌≤◌, true, List, length, arith}
+use Rattle.std.specs.Prelude.{Ok}
 use Rattle.ids_config.specs.Parts.{Parts}
-use Rattle.ids_config.specs.Steps.{asks}
-use Rattle.text_spec.specs.JournalFaults.{Past, is_claim, is_call, is_context, is_act, has_event, entry_fault}
+use Rattle.text_spec.specs.JournalFaults.{Past, is_context, is_act, has_event, entry_fault}
 use Rattle.text_spec.proofs.JournalFacts.{entry_passes, sensor_is_there}
 use Rattle.journal.specs.Typed.{IsTypedContext, IsTypedAct, IsTyped}
-use Rattle.text_spec.specs.JournalText.{Carried, Absent, Kept, Missing, Act, Report, State, SetMode, Entry, Loss}
+use Rattle.text_spec.specs.JournalText.{Carried, Absent, Kept, Missing, Act, Report, State, SetMode, Entry}
 
 typed_context : (context : Carried (List ℕ)) → is_context context ≡ true → IsTypedContext context
 typed_context Absent is = tt
