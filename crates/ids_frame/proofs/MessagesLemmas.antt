@@ -1,5 +1,5 @@
 -- What a file holds is its one list of messages, or the one place where they stop.
-use Rattle.std.proofs.Common.{◌≡◌, ℕ, zero, suc, ◌-◌, ◌<◌, ◌≤◌, List, [], ◌∷◌, ◌++◌, length, Ok, Err, refl, sym, ap, subst, ◌∙◌, append_assoc, arith}
+use Rattle.std.proofs.Common.{◌≡◌, ℕ, zero, suc, ◌-◌, ◌<◌, ◌≤◌, List, [], ◌∷◌, ◌++◌, length, Ok, Err, refl, sym, ap, subst, ◌∙◌, append_assoc, arith, inl, inr}
 use Rattle.std.specs.Prelude.{IsOk, IfOk, IfErr, IsErrOf}
 use Rattle.std.proofs.lemmas.List.{append-nil, length-append}
 use Rattle.ids_frame.specs.declared.fault.FrameFault.{FrameFault}
@@ -7,11 +7,11 @@ use Rattle.ids_frame.specs.declared.fault.FrameFault.TheVariants.{Short, Unknown
 use Rattle.ids_frame.specs.declared.fault.BadMessage.{BadMessage}
 use Rattle.ids_frame.specs.Message.{MessageParts, FitsMessage}
 use Rattle.ids_frame.specs.Spelling.{stamp_part, context_part, signature_part, spelling}
-use Rattle.ids_frame.specs.Reading.{Read, first_at, message_at}
+use Rattle.ids_frame.specs.Reading.{Read, first_at, message_at, behind_at}
 use Rattle.ids_frame.specs.Messages.{joined, AreMessages, IsJoined, HasMessages, CauseOf, Breaks, Held, held_in, messages_read}
 use Rattle.ids_frame.specs.MessagesView.{messages_of}
 use Rattle.ids_frame.proofs.DecodingLemmas.{short_if_cut, cut_if_short, strange_version, strange_part}
-use Rattle.ids_frame.proofs.PartLemmas.{IsBytes, ok_is, not_both}
+use Rattle.ids_frame.proofs.PartLemmas.{IsBytes, ok_is, not_both, bind_ok, bind_err}
 use Rattle.ids_frame.proofs.FirstByteLemmas.{version_at, part_at}
 use Rattle.ids_frame.proofs.ReadingLemmas.{message_is_part, first_stops}
 
@@ -54,6 +54,23 @@ pub fewer_behind : (bytes : List ℕ) (m : MessageParts) (rest : List ℕ) → I
 fewer_behind bytes m rest fits read =
     let size = ap (λ (l : List ℕ). length l) (message_is_part.takes bytes m rest fits read).0.parts in
     omega (arith, size, length-append (stamp_part m.stamp ++ context_part m.context ++ signature_part m.signature) rest)
+
+-- what stands behind a message stands there
+pub behind_read : (bytes behind : List ℕ) → behind_at bytes ≡ Ok (tt, behind) → (m : MessageParts) × (message_at bytes ≡ Ok (m, behind))
+behind_read bytes behind e =
+    let read = bind_ok (message_at bytes) (λ (x : MessageParts × List ℕ). Ok (tt {0}, x.1)) (tt {0}, behind) e in
+    let found : Unit {0} × List ℕ = (tt {0}, read.0.1) in
+    let wanted : Unit {0} × List ℕ = (tt {0}, behind) in
+    let same : read.0.1 ≡ behind = ap (λ (p : Unit {0} × List ℕ). p.1) (ok_is found wanted read.2) in
+    (read.0.0, read.1 ∙ ap (λ (b : List ℕ). Ok (read.0.0, b)) same)
+
+-- a fault that is met on the way behind a message is its fault
+pub behind_stops : (bytes : List ℕ) (d : FrameFault) → behind_at bytes ≡ Err d → message_at bytes ≡ Err d
+behind_stops bytes d e =
+    elim (bind_err (message_at bytes) (λ (x : MessageParts × List ℕ). Ok (tt {0}, x.1)) d e) [
+      | inl stops ↦ stops
+      | inr other ↦ not_both (tt {0}, other.0.1) d other.2
+    ]
 
 -- ---- the end of the messages
 

@@ -118,3 +118,9 @@ message_at bytes = do
     },
     signature.1,
   )
+
+-- that a message is there, and the bytes behind it
+abbrev pub behind_at : List ℕ → Read (Unit {0})
+behind_at bytes = do
+  message ← message_at bytes
+  Ok (tt, message.1)

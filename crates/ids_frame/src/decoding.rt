@@ -2,7 +2,7 @@
 ghost use Rattle.std.specs.Prelude.{◌≡◌, ℕ, ◌/◌, ◌%◌, ◌↔◌, ◌++◌, List, length, IsOk, IfOk, IsErrOf, IsTrue};
 ghost use Rattle.ids_frame.specs.Message.{MessageParts, IsKnown, FitsMessage};
 ghost use Rattle.ids_frame.specs.Spelling.{spelling};
-ghost use Rattle.ids_frame.specs.Reading.{Gives, has_layout, first_at, message_at};
+ghost use Rattle.ids_frame.specs.Reading.{Gives, has_layout, first_at, message_at, behind_at};
 ghost use Rattle.ids_frame.specs.Decoding.{BeginsWith, IsCut, StrangeVersion, StrangePart, Measures};
 
 use crate::fault::FrameFault;
@@ -57,6 +57,22 @@ pub(crate) fn message_of(bytes: &[u8]) -> Result<(Message<'_>, &[u8]), FrameFaul
         instance, sensor, event, count, reserved, stamp, context, signature,
     );
     Ok((message.unwrap(), rest))
+}
+
+/// The bytes behind the message at the front, which is not kept.
+#[tactic(auto, unfolding(crate::specs::Reading::message_at))]
+pub(crate) fn behind_of(bytes: &[u8]) -> Result<&[u8], FrameFault>
+    ensures { Gives (λ rest. (tt, rest.now)) result (behind_at bytes.now) }
+{
+    let (first, rest) = first_of(bytes)?;
+    let (_, rest) = u16_of(rest)?;
+    let (_, rest) = u16_of(rest)?;
+    let (_, rest) = u16_of(rest)?;
+    let (_, rest) = u8_of(rest)?;
+    let (_, rest) = stamp_of(first, rest)?;
+    let (_, rest) = context_of(first, rest)?;
+    let (_, rest) = signature_of(first, rest)?;
+    Ok(rest)
 }
 
 #[tactic(auto, unfolding(crate::specs::Reading::first_at))]

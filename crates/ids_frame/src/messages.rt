@@ -4,7 +4,7 @@ ghost use Rattle.ids_frame.specs.Bytes.{AreBytes};
 ghost use Rattle.ids_frame.specs.Message.{MessageParts, FitsMessage};
 ghost use Rattle.ids_frame.specs.Messages.{IsJoined, Breaks, messages_read};
 
-use crate::decoding::message_of;
+use crate::decoding::{behind_of, message_of};
 use crate::fault::BadMessage;
 use crate::message::Message;
 use std::marker::Model;
@@ -65,8 +65,8 @@ fn checked(bytes: &[u8]) -> Result<Messages<'_>, BadMessage>
 {
     let mut rest = bytes;
     while !rest.is_empty() {
-        match message_of(rest) {
-            Ok((_, behind)) => rest = behind,
+        match behind_of(rest) {
+            Ok(behind) => rest = behind,
             Err(fault) => {
                 let at = bytes.len() - rest.len();
                 return Err(BadMessage { at, fault });
