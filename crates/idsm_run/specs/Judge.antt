@@ -36,6 +36,7 @@ abbrev pub bytes_of : ℕ → List ℕ → Option (List ℕ) → Result (List �
 bytes_of limit name None = Err (CannotRead name)
 bytes_of limit name (Some bytes) = if nat_lt limit (length bytes) then Err (TooLong name) else Ok bytes
 
+-- the bytes of the file of this name
 abbrev pub file_of : ℕ → List ℕ → Files → Result (List ℕ) (Refusal (List ℕ))
 file_of limit name files = bytes_of limit name (files name)
 
@@ -68,6 +69,7 @@ pub record Folding : Type 0 where
   pub config : Parts
   pub turns : List Turn
 
+-- what is folded, by its parts
 abbrev pub folding : Parts → List Turn → Folding
 folding config turns = record { config = config; turns = turns }
 
@@ -93,12 +95,14 @@ pub record Work : Type 0 where
   pub outputs : List Output
   pub said : List ℕ
 
+-- the messages of the turns, an empty event memory, and the line that counts them
 abbrev pub fold_work : FoldFiles → Folding → Work
 fold_work names input = record {
   outputs = fold_outputs names (messages_of input.config input.turns);
   said = fold_text input.turns;
 }
 
+-- no file, and a line for each message
 abbrev pub decode_work : List MessageParts → Work
 decode_work messages = record { outputs = []; said = decoded_text messages }
 
