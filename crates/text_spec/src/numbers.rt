@@ -1,4 +1,4 @@
-ghost use Rattle.std.specs.Prelude.{◌≡◌, ℕ, ◌<◌, ◌≤◌, ◌^◌, List, option_map, decimal, IsTrue, ◌++◌, ◌∷◌, OnOk, OnErr, ◌+◌, length, vec_len, vec_capacity, if◌then◌else◌};
+ghost use Rattle.std.specs.Prelude.{◌≡◌, ℕ, ◌<◌, ◌≤◌, ◌^◌, List, option_map, decimal, IsTrue, ◌++◌, ◌∷◌, OnOk, OnErr, ◌+◌, ◌*◌, length, vec_len, vec_capacity, if◌then◌else◌};
 ghost use Rattle.std.specs.Char.{is_ascii_digit};
 ghost use Rattle.std.specs.List.{list_all};
 ghost use Rattle.std.specs.Str.Parse.{digits_value};
@@ -42,11 +42,20 @@ fn value(word: &[u8]) -> Option<u64>
         if !digit.is_ascii_digit() {
             return None;
         }
-        value = value
-            .saturating_mul(10)
-            .saturating_add(u64::from(digit - b'0'));
+        value = with_digit(value, u64::from(digit - b'0'));
     }
     Some(value)
+}
+
+/// The number with one digit more. Few are so great that the sum has to be watched.
+fn with_digit(number: u64, digit: u64) -> u64
+    requires { digit ≤ 9 }
+    ensures { result ≡ capped (number * 10 + digit) }
+{
+    if number < 1_000_000_000_000_000_000 {
+        return number * 10 + digit;
+    }
+    number.saturating_mul(10).saturating_add(digit)
 }
 
 /// Appends the text of the number.
