@@ -1,10 +1,9 @@
 -- The first piece of a text that is cut at a separator.
-use Rattle.std.proofs.Common.{◌≡◌, ℕ, zero, suc, ◌+◌, ◌==◌, Bool, true, false, cond, ◌<◌, List, [], ◌∷◌, length, take, drop, Some, None, refl, sym, ap, subst, ◌∙◌, arith, inl, inr}
-use Rattle.std.specs.Prelude.{Option, nat_lt, not, position}
-use Rattle.std.specs.List.{slice_split, prefix_len, position_or_len}
+use Rattle.std.proofs.Common.{◌≡◌, ℕ, ◌+◌, ◌==◌, Bool, ◌<◌, List, [], ◌∷◌, length, take, drop, Some, None, sym, ap, subst, ◌∙◌, arith, inl, inr}
+use Rattle.std.specs.Prelude.{Option, nat_lt, position}
+use Rattle.std.specs.List.{slice_split, position_or_len}
 use Rattle.std.proofs.lemmas.Bool.{cases_Bool, cond-true, cond-false, false_from_ne_true, ltb-true, ltb-false}
 use Rattle.std.proofs.lemmas.Option.{none-some, cond_some}
-use Rattle.std.proofs.lemmas.List.{length-take}
 use Rattle.std.proofs.lemmas.List.Splits.{slice_split_first, slice_split_none}
 use Rattle.std.proofs.lemmas.List.Sums.{fails_before_first, position_or_len_is}
 use Rattle.memchr.specs.Find.{IsFirstByte, is_byte}
@@ -36,32 +35,6 @@ position_within p text i found =
     let at = position_or_len p text in
     let parts = cond_some (nat_lt at (length text)) at i found in
     subst (λ k. k < length text) parts.1 (ltb-true at (length text) parts.0)
-
--- how many pass from the front on, where one among the first does not
-prefix_near : (q : ℕ → Bool) (n : ℕ) (xs : List ℕ) → prefix_len q (take n xs) < length (take n xs)
-    → prefix_len q xs ≡ prefix_len q (take n xs)
-prefix_near q zero xs inside = absurd (omega (arith, inside))
-prefix_near q (suc n) [] inside = absurd (omega (arith, inside))
-prefix_near q (suc n) (x ∷ xs) inside =
-    let P : Bool → Type 0 = λ b. cond b (1 + prefix_len q (take n xs)) 0 < suc (length (take n xs))
-    → cond b (1 + prefix_len q xs) 0 ≡ cond b (1 + prefix_len q (take n xs)) 0 in
-    let cases : (b : Bool) → P b = elim [
-      | true ↦ λ lt. ap (λ k. 1 + k) (prefix_near q n xs (omega (arith, lt)))
-      | false ↦ λ lt. refl
-    ] in
-    cases (q x) inside
-
--- a place that was found among the first bytes is the first place
-pub near_is_first : (p : ℕ → Bool) (n : ℕ) (text : List ℕ) (i : ℕ) → position p (take n text) ≡ Some i
-    → position p text ≡ Some i
-near_is_first p n text i found =
-    let near = take n text in
-    let at = position_or_len p near in
-    let parts = cond_some (nat_lt at (length near)) at i found in
-    let inside = ltb-true at (length near) parts.0 in
-    let same : position_or_len p text ≡ at = prefix_near (λ x. not (p x)) n text inside in
-    let within : position_or_len p text < length text = omega (arith, same, inside, length-take n text) in
-    cond-true (nat_lt (position_or_len p text) (length text)) _ None (grind (arith, within)) ∙ ap Some (same ∙ parts.1)
 
 -- the first place of a byte, as the crate memchr finds it
 pub first_is_position : (c : ℕ) (text : List ℕ) (r : Option ℕ) → IsFirstByte (is_byte c) text r → r ≡ position (λ b. b == c) text

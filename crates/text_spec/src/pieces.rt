@@ -10,9 +10,6 @@ use ids_types::Stamp;
 use memchr::memchr;
 use std::marker::Model;
 
-/// How many bytes are looked at one by one.
-const NEAR: usize = 8;
-
 /// The pieces of a text between separators that are still to be read: the words of a line, or the
 /// parts of a word. A text without a separator is one piece.
 #[derive(Debug, Drop)]
@@ -89,20 +86,9 @@ pub fn cut(text: &[u8], separator: u8) -> (&[u8], Option<&[u8]>)
     }
 }
 
-/// The first place of a byte. Most words are short: so it is looked for among the first bytes one by
-/// one, before all are searched many at a time.
+/// The first place of a byte.
 fn place_of(text: &[u8], byte: u8) -> Option<usize>
     ensures { result ≡ position (λ b. b == byte) text.now }
 {
-    let near = text.len().min(NEAR);
-    match near_place(&text[..near], byte) {
-        Some(i) => Some(i),
-        None => memchr(byte, text),
-    }
-}
-
-fn near_place(text: &[u8], byte: u8) -> Option<usize>
-    ensures { result ≡ position (λ b. b == byte) text.now }
-{
-    text.iter().position(|b| *b == byte)
+    memchr(byte, text)
 }
