@@ -1,8 +1,13 @@
 -- What the steps of a reading found.
-use Rattle.std.proofs.Common.{◌≡◌, List, [], ◌∷◌, refl, ap}
-use Rattle.std.specs.Prelude.{Option, Some, None, option_map}
+use Rattle.std.proofs.Common.{◌≡◌, ◌⊎◌, inl, inr, Bool, true, false, List, [], ◌∷◌, refl, ap}
+use Rattle.std.specs.Prelude.{Option, Some, None, option_map, if◌then◌else◌}
 use Rattle.std.proofs.lemmas.Option.{same_Some, none-some}
-use Rattle.text_spec.specs.Maybe.{◌>>=◌, ended}
+use Rattle.text_spec.specs.Maybe.{◌>>=◌}
+
+-- what a test chose
+pub chosen : {A : Type 0} (b : Bool) (x y z : A) → (if b then x else y) ≡ z → ((b ≡ true) × (x ≡ z)) ⊎ ((b ≡ false) × (y ≡ z))
+chosen true x y z h = inl (refl, h)
+chosen false x y z h = inr (refl, h)
 
 -- what two steps found
 pub bind_some : {A B : Type 0} (o : Option A) (f : A → Option B) (y : B) → (o >>= f) ≡ Some y → (x : A) × (o ≡ Some x) × (f x ≡ Some y)
@@ -18,7 +23,7 @@ pub mapped_some : {A B : Type 0} (f : A → B) (o : Option A) (y : B) → option
 mapped_some f None y h = absurd (none-some y h)
 mapped_some f (Some x) y h = (x, refl, same_Some (f x) y h)
 
--- nothing was left
-pub ended_takes : {A B : Type 0} (x : A) (ys : List B) (z : A) → ended x ys ≡ Some z → (ys ≡ []) × (x ≡ z)
-ended_takes x [] z h = (refl, same_Some x z h)
-ended_takes x (y ∷ ys) z h = absurd (none-some z h)
+-- what is not nothing is something
+pub is_some : {A : Type 0} (o : Option A) → (o ≡ None → ⊥) → (x : A) × (o ≡ Some x)
+is_some None none = absurd (none refl)
+is_some (Some x) none = (x, refl)

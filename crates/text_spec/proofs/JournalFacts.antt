@@ -48,7 +48,7 @@ small_claims (n ∷ numbers) all =
 
 exact_context : (context : Carried (List ℕ)) → is_context context ≡ true → IsExactContext context
 exact_context Absent is = tt
-exact_context (Kept class claim bytes) is = (grind (arith, is), (grind (arith, is), (grind (arith, is), tt)))
+exact_context (Kept class claim bytes) is = (grind (arith, is), (grind (arith, is), (tt, tt)))
 exact_context (Missing numbers) is = small_claims numbers is
 
 -- an event that sensors report is there

@@ -1,117 +1,87 @@
 -- One line of a journal: its reading against its own text, both ways.
-use Rattle.std.proofs.Common.{◌≡◌, ◌≢◌, ℕ, List, [], ◌∷◌, refl, ap, ◌∙◌}
-use Rattle.std.specs.Prelude.{Option, Some, None, option_map, codes, decimal}
-use Rattle.text_spec.specs.Fields.{a_number, a_mode, words_of_fields, AreHeld, AreExact, HasForm, first_as, behind}
+use Rattle.std.proofs.Common.{◌≡◌, ℕ, ◌==◌, not, true, Bool, List, [], ◌∷◌, refl, ap, subst, ◌∙◌, arith}
+use Rattle.std.specs.Prelude.{Option, Some, None, codes}
+use Rattle.std.specs.List.{list_all}
+use Rattle.text_spec.specs.Fields.{the, words_of_fields, AreHeld, AreExact, HasForm, Form, told_in}
 use Rattle.text_spec.specs.JournalForm.{entry_of, turn_form, report_form, state_form, setting_form, loss_form, line_forms, told_by}
 use Rattle.text_spec.specs.JournalText.{Act, Report, State, SetMode, Line, begins, enters, loses, act_fields, fields_of, line_for}
 use Rattle.text_spec.specs.Maybe.{or_else}
-use Rattle.text_spec.specs.Words.{Free, space, line_feed, words_of}
+use Rattle.text_spec.specs.Words.{space, line_feed, words_of, line_of}
 use Rattle.text_spec.proofs.ContextsLaws.{the_lawful, number_lawful, stamp_lawful, mode_lawful, context_lawful}
-use Rattle.text_spec.proofs.FieldsLaws.{AreLawful, AreForms, KeepLaws, Tells, forms_take, forms_written, forms_read, fields_again, words_free, space_separates, line_feed_separates}
-use Rattle.text_spec.proofs.FrontLemmas.{bind_again}
-use Rattle.text_spec.proofs.WordsLemmas.{words_of-line_of, join_free}
+use Rattle.text_spec.proofs.FieldsLaws.{AreLawful, AreForms, Values, IsTold, Tells, fill, made_of, fields_again, forms_are, forms_pass, in_word}
+use Rattle.text_spec.proofs.WordsLemmas.{Pass, all_pass, weaker, split_joined, join_passes}
 
 -- ---- the forms of a journal
 
-turn_lawful : AreLawful turn_form.fields
-turn_lawful = (number_lawful, (number_lawful, (number_lawful, (number_lawful, tt))))
-
-report_lawful : AreLawful report_form.fields
-report_lawful = (number_lawful, (number_lawful, (number_lawful, (number_lawful, (stamp_lawful, (context_lawful, tt))))))
-
-state_lawful : AreLawful state_form.fields
-state_lawful = (number_lawful, (number_lawful, (the_lawful (codes "S") refl, (number_lawful, tt))))
-
-setting_lawful : AreLawful setting_form.fields
-setting_lawful = (number_lawful, (number_lawful, (the_lawful (codes "M") refl, (number_lawful, (mode_lawful, tt)))))
-
-loss_lawful : AreLawful loss_form.fields
-loss_lawful = (number_lawful, (number_lawful, (number_lawful, tt)))
-
 are_forms : AreForms fields_of line_forms
 are_forms = (
-  record { letter = the_lawful (codes "T") refl; laws = turn_lawful; is = λ values. refl },
+  record { laws = (the_lawful (codes "T") refl, (number_lawful, (number_lawful, (number_lawful, (number_lawful, tt))))); is = λ values. refl },
   (
-    record { letter = the_lawful (codes "R") refl; laws = report_lawful; is = λ values. refl },
+    record { laws = (the_lawful (codes "R") refl, (number_lawful, (number_lawful, (number_lawful, (number_lawful, (stamp_lawful, (context_lawful, tt))))))); is = λ values. refl },
     (
-      record { letter = the_lawful (codes "C") refl; laws = state_lawful; is = λ values. refl },
+      record { laws = (the_lawful (codes "C") refl, (number_lawful, (number_lawful, (the_lawful (codes "S") refl, (number_lawful, tt))))); is = λ values. refl },
       (
-        record { letter = the_lawful (codes "C") refl; laws = setting_lawful; is = λ values. refl },
-        (record { letter = the_lawful (codes "L") refl; laws = loss_lawful; is = λ values. refl }, tt),
+        record { laws = (the_lawful (codes "C") refl, (number_lawful, (number_lawful, (the_lawful (codes "M") refl, (number_lawful, (mode_lawful, tt)))))); is = λ values. refl },
+        (record { laws = (the_lawful (codes "L") refl, (number_lawful, (number_lawful, (number_lawful, tt)))); is = λ values. refl }, tt),
       ),
     ),
   ),
 )
 
--- a line that was read from its words has these words
-pub line_takes : (words : List (List ℕ)) (line : Line) → told_by words ≡ Some line → Tells words (fields_of line)
-line_takes words line read = forms_take fields_of line_forms words line are_forms read
+-- words that tell a line have a form, and are the line's
+pub line_takes : (words : List (List ℕ)) (line : Line) → told_by words ≡ Some line → Tells line_forms words (fields_of line)
+line_takes words line read = subst (IsTold fields_of line_forms words) read (forms_are fields_of line_forms words are_forms)
 
--- words that tell a line have a form, and words that tell none have none
-pub told_has_form : (words : List (List ℕ)) (line : Line) → told_by words ≡ Some line → HasForm line_forms words
-told_has_form words line read = forms_written fields_of line_forms words line are_forms read
-
+-- words that tell none have none
 pub none_has_none : (words : List (List ℕ)) → told_by words ≡ None → HasForm line_forms words → ⊥
-none_has_none words none = forms_read fields_of line_forms words are_forms none
-
--- ---- the words of a line
-
-act_keeps_laws : (caller call : ℕ) (act : Act (List ℕ)) → KeepLaws (act_fields caller call act)
-act_keeps_laws caller call (Report event count stamp context) = (the_lawful (codes "R") refl, report_lawful)
-act_keeps_laws caller call (State state) = (the_lawful (codes "C") refl, state_lawful)
-act_keeps_laws caller call (SetMode event mode) = (the_lawful (codes "C") refl, setting_lawful)
-
-keeps_laws : (line : Line) → KeepLaws (fields_of line)
-keeps_laws (begins head) = (the_lawful (codes "T") refl, turn_lawful)
-keeps_laws (enters entry) = act_keeps_laws entry.caller entry.call entry.act
-keeps_laws (loses loss) = (the_lawful (codes "L") refl, loss_lawful)
-
-act_words_some : (caller call : ℕ) (act : Act (List ℕ)) → words_of_fields (act_fields caller call act) ≢ []
-act_words_some caller call (Report event count stamp context) e = cc e
-act_words_some caller call (State state) e = cc e
-act_words_some caller call (SetMode event mode) e = cc e
-
-some_words : (line : Line) → words_of_fields (fields_of line) ≢ []
-some_words (begins head) e = cc e
-some_words (enters entry) e = act_words_some entry.caller entry.call entry.act e
-some_words (loses loss) e = cc e
-
--- a line is read as its words
-pub line_words : (line : Line) → AreHeld (fields_of line) → AreExact (fields_of line) → words_of (line_for line) ≡ words_of_fields (fields_of line)
-line_words line held exact = words_of-line_of (words_of_fields (fields_of line)) (some_words line) (words_free space (fields_of line) space_separates (keeps_laws line) held exact)
-
--- a line has no line feed
-pub line_for-free : (line : Line) → AreHeld (fields_of line) → AreExact (fields_of line) → Free line_feed (line_for line)
-line_for-free line held exact = join_free line_feed space (words_of_fields (fields_of line)) refl (words_free line_feed (fields_of line) line_feed_separates (keeps_laws line) held exact)
+none_has_none words none = subst (IsTold fields_of line_forms words) none (forms_are fields_of line_forms words are_forms)
 
 -- ---- from a line's words to the line
 
--- what was found first
-or_first : {A : Type 0} (one other : Option A) (a : A) → one ≡ Some a → or_else one other ≡ Some a
-or_first one other a is = ap (λ o. or_else o other) is
-
--- a number is read where it stands
-number_first : (n : ℕ) (rest : List (List ℕ)) → a_number.Exact n → first_as a_number (decimal n ∷ rest) ≡ Some (n, rest)
-number_first n rest exact = ap (option_map (λ k. (k, rest))) (number_lawful.again n tt exact)
+-- a form is read where it is the first
+first_form : {A : Type 0} (form : Form A) (values : Values form.fields) (others : Option A) → AreLawful (the form.letter ∷ form.fields)
+    → AreHeld (fill form.fields values) → AreExact (fill form.fields values)
+    → or_else (told_in form (form.letter ∷ words_of_fields (fill form.fields values))) others ≡ Some (made_of form.fields form.makes values)
+first_form form values others laws held exact =
+    ap (λ o. or_else o others) (fields_again (the form.letter ∷ form.fields) (λ _. form.makes) (tt, values) laws (tt, held) (tt, exact))
 
 act_again : (caller call : ℕ) (act : Act (List ℕ)) → AreHeld (act_fields caller call act) → AreExact (act_fields caller call act)
     → told_by (words_of_fields (act_fields caller call act)) ≡ Some (enters (entry_of caller call act))
 act_again caller call (Report event count stamp context) held exact =
-    or_first _ _ _ (fields_again report_form.fields report_form.makes (caller, (call, (event.0, (count, (stamp, (context, tt)))))) report_lawful held.1 exact.1)
-act_again caller call (State state) held exact =
-    or_first _ _ _ (fields_again state_form.fields state_form.makes (caller, (call, (tt, (state, tt)))) state_lawful held.1 exact.1)
+    first_form report_form (caller, (call, (event.0, (count, (stamp, (context, tt)))))) _ are_forms.1.0.laws held.1 exact.1
+act_again caller call (State state) held exact = first_form state_form (caller, (call, (tt, (state, tt)))) _ are_forms.1.1.0.laws held.1 exact.1
 act_again caller call (SetMode event mode) held exact =
-    let words = codes "M" ∷ decimal event.0 ∷ a_mode.word mode ∷ [] in
-    let no_state : behind state_form (decimal caller ∷ decimal call ∷ words) ≡ None =
-    bind_again (first_as a_number (decimal caller ∷ decimal call ∷ words)) _ (caller, decimal call ∷ words) (number_first caller _ exact.1.0)
-    ∙ bind_again (first_as a_number (decimal call ∷ words)) _ (call, words) (number_first call _ exact.1.1.0) in
-    ap (λ o. or_else o (or_else (behind setting_form (decimal caller ∷ decimal call ∷ words)) None)) no_state
-    ∙ or_first _ _ _ (fields_again setting_form.fields setting_form.makes (caller, (call, (tt, (event.0, (mode, tt))))) setting_lawful held.1 exact.1)
+    let no_state : told_in state_form (words_of_fields (act_fields caller call (SetMode event mode))) ≡ None =
+    rw (number_lawful.again caller tt exact.1.0, number_lawful.again call tt exact.1.1.0) refl in
+    ap (λ o. or_else o (or_else (told_in setting_form (words_of_fields (act_fields caller call (SetMode event mode)))) None)) no_state
+    ∙ first_form setting_form (caller, (call, (tt, (event.0, (mode, tt))))) _ are_forms.1.1.1.0.laws held.1 exact.1
 
 -- a line is read from its words
 pub line_again : (line : Line) → AreHeld (fields_of line) → AreExact (fields_of line) → told_by (words_of_fields (fields_of line)) ≡ Some line
 line_again (begins head) held exact =
-    or_first _ _ _ (fields_again turn_form.fields turn_form.makes (head.tick, (head.lost_events, (head.lost_contexts, (head.limited, tt)))) turn_lawful held.1 exact.1)
+    first_form turn_form (head.tick, (head.lost_events, (head.lost_contexts, (head.limited, tt)))) _ are_forms.0.laws held.1 exact.1
 line_again (enters entry) held exact = act_again entry.caller entry.call entry.act held exact
-line_again (loses loss) held exact =
-    or_first _ _ _ (fields_again loss_form.fields loss_form.makes (loss.caller, (loss.call, (loss.given, tt))) loss_lawful held.1 exact.1)
+line_again (loses loss) held exact = first_form loss_form (loss.caller, (loss.call, (loss.given, tt))) _ are_forms.1.1.1.1.0.laws held.1 exact.1
+
+-- ---- from a line to its words
+
+-- a byte that lines have
+abbrev pub in_line : ℕ → Bool
+in_line b = not (b == line_feed)
+
+-- words that have a form are cut again
+cut_again : (words : List (List ℕ)) → HasForm line_forms words → words_of (line_of words) ≡ words
+cut_again [] written = absurd (none_has_none [] refl written)
+cut_again (word ∷ words) written = split_joined in_word space word words refl (forms_pass fields_of line_forms (word ∷ words) are_forms written)
+
+-- a line is read as its words
+pub line_words : (line : Line) → AreHeld (fields_of line) → AreExact (fields_of line) → words_of (line_for line) ≡ words_of_fields (fields_of line)
+line_words line held exact =
+    cut_again (words_of_fields (fields_of line)) (line_takes _ line (line_again line held exact)).written
+
+-- a line has no line feed
+pub line_passes : (line : Line) → AreHeld (fields_of line) → AreExact (fields_of line) → list_all in_line (line_for line) ≡ true
+line_passes line held exact =
+    let words = words_of_fields (fields_of line) in
+    let pass = forms_pass fields_of line_forms words are_forms (line_takes words line (line_again line held exact)).written in
+    join_passes in_line space words refl (all_pass in_line (λ word. list_all in_word word ≡ true) words (λ word is. weaker in_word in_line word (λ b above. grind (arith, above)) is) pass)

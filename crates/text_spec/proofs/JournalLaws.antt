@@ -14,10 +14,10 @@ use Rattle.text_spec.specs.JournalFaults.{Past, fault_of, next, start, with_line
 use Rattle.text_spec.specs.JournalForm.{told_by}
 use Rattle.text_spec.specs.JournalReading.{AreFaultless, IsHeld, IsJournal, BadLine, at_line, past_with, after_line, after_pieces, journal_in, ◌>>=◌}
 use Rattle.text_spec.specs.JournalText.{Entry, TurnHead, Loss, Told, Line, begins, enters, loses, line_for, turn_told, lines_told}
-use Rattle.text_spec.specs.Words.{Free, line_feed, pieces_of, words_of, line_of, text_of}
+use Rattle.text_spec.specs.Words.{space, line_feed, pieces_of, words_of, line_of, text_of}
 use Rattle.text_spec.proofs.JournalFacts.{line_exact, line_grows}
-use Rattle.text_spec.proofs.JournalForms.{line_takes, line_again, line_words, line_for-free}
-use Rattle.text_spec.proofs.WordsLemmas.{line_of-words_of, split_text, join_ended}
+use Rattle.text_spec.proofs.JournalForms.{line_takes, line_again, line_words, in_line, line_passes}
+use Rattle.text_spec.proofs.WordsLemmas.{Pass, split_text, join_ended}
 
 -- few events, so that the index of each is told as it is
 abbrev pub FewEvents : Parts → Type 0
@@ -56,7 +56,7 @@ one_more : (config : Parts) (past now : Past) (text : List ℕ) → FewEvents co
 one_more config past now text few read =
     let step = past_with_ok config past now (told_by (words_of text)) read in
     let tells = line_takes (words_of text) step.0 step.1 in
-    record { line = step.0; none = step.2; is = step.3; held = tells.held; is_text = ap line_of (sym (tells.are (line_exact config past step.0 few step.2))) ∙ line_of-words_of text }
+    record { line = step.0; none = step.2; is = step.3; held = tells.held; is_text = ap line_of (sym (tells.are (line_exact config past step.0 few step.2))) ∙ join_with_byte-slice_split space text }
 
 -- lines that were read, behind the lines before them
 record AllMore (config : Parts) (past now : Past) (pieces : List (List ℕ)) : Type 0 where
@@ -189,15 +189,15 @@ lines_add config n past (line ∷ another ∷ lines) few none held =
     ∙ lines_add config (suc n) (next past line) (another ∷ lines) few none.1 held.1
 
 -- no line has a line feed
-lines_free : (config : Parts) (past : Past) (lines : List Line) → FewEvents config → AreFaultless config past lines → AllByRecursion IsHeld lines → AllByRecursion (Free line_feed) (map line_for lines)
+lines_free : (config : Parts) (past : Past) (lines : List Line) → FewEvents config → AreFaultless config past lines → AllByRecursion IsHeld lines → Pass in_line (map line_for lines)
 lines_free config past [] few none held = tt
-lines_free config past (line ∷ lines) few none held = (line_for-free line held.0 (line_exact config past line few none.0), lines_free config (next past line) lines few none.1 held.1)
+lines_free config past (line ∷ lines) few none held = (line_passes line held.0 (line_exact config past line few none.0), lines_free config (next past line) lines few none.1 held.1)
 
 -- a journal's own text tells it
 pub journal_is_told : (config : Parts) (text : List ℕ) (told : Told) → FewEvents config → IsJournal config text told → journal_in config text ≡ Ok told
 journal_is_told config text told few journal =
     let lines = lines_told told in
-    let pieces : pieces_of line_feed (text_of (map line_for lines)) ≡ map line_for lines ++ [] ∷ [] = split_text (map line_for lines) (lines_free config start lines few journal.fits.faultless journal.fits.held) in
+    let pieces : pieces_of line_feed (text_of (map line_for lines)) ≡ map line_for lines ++ [] ∷ [] = split_text in_line (map line_for lines) refl (lines_free config start lines few journal.fits.faultless journal.fits.held) in
     let added = lines_add config 1 start lines few journal.fits.faultless journal.fits.held in
     ap (journal_in config) journal.is_text
     ∙ ap (λ (ps : List (List ℕ)). after_pieces config 1 start ps >>= λ past. Ok past.told) pieces

@@ -9,7 +9,6 @@ pub mod JournalLaws
 pub mod ModesLemmas
 pub mod NumbersLemmas
 pub mod PiecesLemmas
-pub mod SomeHexLemmas
 pub mod StampsLemmas
 pub mod TestsLemmas
 pub mod WordsLemmas

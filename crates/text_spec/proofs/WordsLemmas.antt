@@ -1,67 +1,59 @@
--- Words and lines: what is free of a byte, and the readings of a line and of a text against their
--- texts.
-use Rattle.std.proofs.Common.{◌≡◌, ◌≢◌, ℕ, ◌==◌, Bool, true, false, List, [], ◌∷◌, ◌++◌, refl, sym, ap, ◌∙◌}
-use Rattle.std.specs.List.{list_all, AllByRecursion, slice_split, join_with_byte}
-use Rattle.std.proofs.lemmas.Bool.{and_parts, eq-eqb, ne_eqb, both_ways}
-use Rattle.std.proofs.lemmas.List.Elements.{All-from_recursion}
-use Rattle.std.proofs.lemmas.List.Splits.{slice_split_none, slice_split_at, join_with_byte-slice_split}
-use Rattle.text_spec.specs.Words.{Free, space, line_feed, words_of, line_of, text_of}
+-- Words and lines: the tests that their bytes pass, and the readings of a line and of a text against
+-- their texts.
+use Rattle.std.proofs.Common.{◌≡◌, ℕ, ◌==◌, Bool, true, false, List, [], ◌∷◌, ◌++◌, refl, sym, ap, ◌∙◌}
+use Rattle.std.specs.List.{All, list_all, AllByRecursion, slice_split, join_with_byte}
+use Rattle.std.proofs.lemmas.Bool.{and_parts, and_from, eq-eqb, ne_eqb, both_ways}
+use Rattle.std.proofs.lemmas.List.Elements.{recursion_from_All}
+use Rattle.std.proofs.lemmas.List.Folds.{list_all-append}
+use Rattle.std.proofs.lemmas.List.Splits.{slice_split_none, slice_split_at}
+use Rattle.std.proofs.lemmas.List.Sums.{AllPass-from_list_all}
+use Rattle.text_spec.specs.Words.{Free, line_feed, text_of}
 
--- bytes that pass a test are free of a byte that does not
-pub free_from_test : (p : ℕ → Bool) (c : ℕ) (bytes : List ℕ) → p c ≡ false
-    → list_all p bytes ≡ true → Free c bytes
-free_from_test p c [] out all = tt
-free_from_test p c (b ∷ bytes) out all =
+-- all bytes of each of these words pass a test
+abbrev pub Pass : (ℕ → Bool) → List (List ℕ) → Type 0
+Pass p words = AllByRecursion (λ word. list_all p word ≡ true) words
+
+-- words of which each passes
+pub all_pass : (p : ℕ → Bool) (Is : List ℕ → Type 0) (words : List (List ℕ)) → ((word : List ℕ) → Is word → list_all p word ≡ true) → AllByRecursion Is words → Pass p words
+all_pass p Is [] each are = tt
+all_pass p Is (word ∷ words) each are = (each word are.0, all_pass p Is words each are.1)
+
+-- bytes that pass a test pass one that asks less
+pub weaker : (p q : ℕ → Bool) (bytes : List ℕ) → ((b : ℕ) → p b ≡ true → q b ≡ true) → list_all p bytes ≡ true → list_all q bytes ≡ true
+weaker p q [] less all = refl
+weaker p q (b ∷ bytes) less all =
     let parts = and_parts (p b) (list_all p bytes) all in
-    let other = λ (e : b ≡ c). both_ways (p c) out (ap p (sym e) ∙ parts.0) in
-    (ne_eqb b c other, free_from_test p c bytes out parts.1)
+    and_from _ _ (less b parts.0) (weaker p q bytes less parts.1)
 
--- ---- pieces between the bytes c
+-- a byte that does not pass is not among those that do
+not_among : (p : ℕ → Bool) (c : ℕ) (bytes : List ℕ) → p c ≡ false → list_all p bytes ≡ true → All (λ b. (b == c) ≡ false) bytes
+not_among p c bytes out all = λ k d within.
+    ne_eqb _ c (λ e. both_ways (p c) out (ap p (sym e) ∙ AllPass-from_list_all p bytes all k d within))
 
--- free pieces, joined by c and cut at it again
-pub split_joined : (c : ℕ) (piece : List ℕ) (pieces : List (List ℕ))
-    → AllByRecursion (Free c) (piece ∷ pieces)
+-- and are free of a byte that does not pass
+pub free_from_test : (p : ℕ → Bool) (c : ℕ) (bytes : List ℕ) → p c ≡ false → list_all p bytes ≡ true → Free c bytes
+free_from_test p c bytes out all = recursion_from_All _ bytes (not_among p c bytes out all)
+
+-- pieces joined by a byte that does not pass, and cut at it again
+pub split_joined : (p : ℕ → Bool) (c : ℕ) (piece : List ℕ) (pieces : List (List ℕ)) → p c ≡ false → Pass p (piece ∷ pieces)
     → slice_split (λ b. b == c) (join_with_byte c (piece ∷ pieces)) ≡ piece ∷ pieces
-split_joined c piece [] free = slice_split_none _ piece (All-from_recursion _ piece free.0)
-split_joined c piece (next ∷ pieces) free =
-    slice_split_at _ piece c _ (All-from_recursion _ piece free.0) (eq-eqb c c refl)
-    ∙ ap (λ parts. piece ∷ parts) (split_joined c next pieces free.1)
+split_joined p c piece [] out all = slice_split_none _ piece (not_among p c piece out all.0)
+split_joined p c piece (next ∷ pieces) out all =
+    slice_split_at _ piece c _ (not_among p c piece out all.0) (eq-eqb c c refl)
+    ∙ ap (λ parts. piece ∷ parts) (split_joined p c next pieces out all.1)
 
--- ---- words
-
--- the line of some words is read as them
-pub words_of-line_of : (words : List (List ℕ)) → words ≢ [] → AllByRecursion (Free space) words
-    → words_of (line_of words) ≡ words
-words_of-line_of [] some free = absurd (some refl)
-words_of-line_of (word ∷ words) some free = split_joined space word words free
-
--- the words of a line make it again
-pub line_of-words_of : (line : List ℕ) → line_of (words_of line) ≡ line
-line_of-words_of line = join_with_byte-slice_split space line
-
--- ---- joined words
-
--- what all of two lists have, all of both together have
-all_append : {X : Type 0} (P : X → Type 0) (xs ys : List X) → AllByRecursion P xs → AllByRecursion P ys → AllByRecursion P (xs ++ ys)
-all_append P [] ys all more = more
-all_append P (x ∷ xs) ys all more = (all.0, all_append P xs ys all.1 more)
-
--- words without a byte, joined by another byte
-pub join_free : (c separator : ℕ) (words : List (List ℕ)) → (separator == c) ≡ false → AllByRecursion (Free c) words → Free c (join_with_byte separator words)
-join_free c separator [] other all = tt
-join_free c separator (word ∷ []) other all = all.0
-join_free c separator (word ∷ next ∷ words) other all =
-    all_append (λ b. (b == c) ≡ false) word (separator ∷ join_with_byte separator (next ∷ words)) all.0 (other, join_free c separator (next ∷ words) other all.1)
-
--- ---- lines
+-- pieces joined by a byte that passes
+pub join_passes : (p : ℕ → Bool) (c : ℕ) (pieces : List (List ℕ)) → p c ≡ true → Pass p pieces → list_all p (join_with_byte c pieces) ≡ true
+join_passes p c [] is all = refl
+join_passes p c (piece ∷ []) is all = all.0
+join_passes p c (piece ∷ next ∷ pieces) is all =
+    list_all-append p piece _ ∙ and_from _ _ all.0 (and_from _ _ is (join_passes p c (next ∷ pieces) is all.1))
 
 -- the pieces of a text of lines: the lines, and an empty one
-pub split_text : (lines : List (List ℕ)) → AllByRecursion (Free line_feed) lines
-    → slice_split (λ b. b == line_feed) (text_of lines) ≡ lines ++ [] ∷ []
-split_text [] free = refl
-split_text (line ∷ lines) free =
-    slice_split_at _ line line_feed _ (All-from_recursion _ line free.0) refl
-    ∙ ap (λ parts. line ∷ parts) (split_text lines free.1)
+pub split_text : (p : ℕ → Bool) (lines : List (List ℕ)) → p line_feed ≡ false → Pass p lines → slice_split (λ b. b == line_feed) (text_of lines) ≡ lines ++ [] ∷ []
+split_text p [] out all = refl
+split_text p (line ∷ lines) out all =
+    slice_split_at _ line line_feed _ (not_among p line_feed line out all.0) refl ∙ ap (λ parts. line ∷ parts) (split_text p lines out all.1)
 
 -- lines and an empty piece, joined by line feeds
 pub join_ended : (lines : List (List ℕ)) → join_with_byte line_feed (lines ++ [] ∷ []) ≡ text_of lines

@@ -2,8 +2,7 @@
 -- how the words of a line are read as its fields, one after another.
 -- Source: the text formats of this project (docs/FORMATS.md).
 use Rattle.std.specs.Prelude.{◌≡◌, ℕ, ◌<◌, ◌^◌, ◌≤◌, ◌⊎◌, true, bytes_eq, List, [], ◌∷◌, length, Option, Some, None, option_map, IfSome, ⊤, decimal, if◌then◌else◌}
-use Rattle.std.specs.List.{AllByRecursion}
-use Rattle.hex.specs.Hex.{encode_lower}
+use Rattle.hex.specs.Hex.{IsBytes, encode_lower}
 use Rattle.ids_types.specs.declared.mode.Mode.{Mode}
 use Rattle.ids_types.specs.declared.names.Stamp.{Stamp}
 use Rattle.text_spec.specs.Hexadecimal.{some_hex}
@@ -26,16 +25,20 @@ pub record Field : Type 1 where
 
 -- ---- fields
 
+-- the field of these values, all told as they are: its words are those of the values that there are
+abbrev pub simple : (Value : Type 0) → (Value → Type 0) → (Value → List ℕ) → (List ℕ → Option Value) → Field
+simple Value Held word reading = record {
+  Writes = λ w. (x : Value) × Held x × (w ≡ word x);
+  Value = Value;
+  Held = Held;
+  Exact = λ _. ⊤;
+  word = word;
+  reading = reading;
+}
+
 -- this word
 abbrev pub the : List ℕ → Field
-the letter = record {
-  Writes = λ word. word ≡ letter;
-  Value = ⊤;
-  Held = λ _. ⊤;
-  Exact = λ _. ⊤;
-  word = λ _. letter;
-  reading = λ word. if bytes_eq word letter then Some tt else None;
-}
+the letter = simple ⊤ (λ _. ⊤) (λ _. letter) (λ word. if bytes_eq word letter then Some tt else None)
 
 -- a number of any length: one that is too great is told as the greatest
 abbrev pub a_number : Field
@@ -50,36 +53,15 @@ a_number = record {
 
 -- an optional timestamp of 64 bits
 abbrev pub a_stamp : Field
-a_stamp = record {
-  Writes = λ word. (stamp : Option Stamp) × IfSome stamp (λ s. s.0 < 2 ^ 64) × (word ≡ stamp_text stamp);
-  Value = Option Stamp;
-  Held = λ stamp. IfSome stamp (λ s. s.0 < 2 ^ 64);
-  Exact = λ _. ⊤;
-  word = stamp_text;
-  reading = stamp_in;
-}
+a_stamp = simple (Option Stamp) (λ stamp. IfSome stamp (λ s. s.0 < 2 ^ 64)) stamp_text stamp_in
 
 -- a reporting mode
 abbrev pub a_mode : Field
-a_mode = record {
-  Writes = λ word. (mode : Mode) × (word ≡ mode_name mode);
-  Value = Mode;
-  Held = λ _. ⊤;
-  Exact = λ _. ⊤;
-  word = mode_name;
-  reading = mode_named;
-}
+a_mode = simple Mode (λ _. ⊤) mode_name mode_named
 
 -- a byte or more
 abbrev pub hex_bytes : Field
-hex_bytes = record {
-  Writes = λ word. (bytes : List ℕ) × AllByRecursion (λ b. b < 256) bytes × (1 ≤ length bytes) × (word ≡ encode_lower bytes);
-  Value = List ℕ;
-  Held = AllByRecursion (λ b. b < 256);
-  Exact = λ bytes. 1 ≤ length bytes;
-  word = encode_lower;
-  reading = some_hex;
-}
+hex_bytes = simple (List ℕ) (λ bytes. IsBytes bytes × (1 ≤ length bytes)) encode_lower some_hex
 
 -- ---- fields with their values
 
