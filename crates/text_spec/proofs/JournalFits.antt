@@ -10,7 +10,7 @@ use Rattle.ids_types.specs.Turns.{Turn, begun, with_entry, entries_of}
 use Rattle.text_spec.specs.JournalFaults.{Past, is_in_ranges, loss_fault, fault_of, next, start, is_pair, has_pair, pair_of}
 use Rattle.text_spec.specs.JournalReading.{AreFaultless, Fits, Follows}
 use Rattle.text_spec.specs.JournalText.{Loss, Entry, Told, Line, begins, enters, loses, turn_told, lines_told}
-use Rattle.text_spec.proofs.JournalFacts.{entry_passes, flat_map-push}
+use Rattle.text_spec.proofs.JournalFacts.{entry_passes, flat_map-push, flat_map-with_entry}
 
 -- ---- ranges
 
@@ -21,21 +21,11 @@ in_ranges_of config past (enters entry) none =
     and_from _ _ (and_from _ _ passes.call passes.act) passes.event
 in_ranges_of config past (loses loss) none = grind (arith, none)
 
-all_in_ranges : (config : Parts) (past : Past) (lines : List Line) → AreFaultless config past lines → AllByRecursion (λ line. is_in_ranges config line ≡ true) lines
+pub all_in_ranges : (config : Parts) (past : Past) (lines : List Line) → AreFaultless config past lines → AllByRecursion (λ line. is_in_ranges config line ≡ true) lines
 all_in_ranges config past [] none = tt
 all_in_ranges config past (line ∷ lines) none = (in_ranges_of config past line none.0, all_in_ranges config (next past line) lines none.1)
 
-pub fits_in_ranges : (config : Parts) (told : Told) → Fits config told → AllByRecursion (λ line. is_in_ranges config line ≡ true) (lines_told told)
-fits_in_ranges config told fits = all_in_ranges config start (lines_told told) fits.faultless
-
 -- ---- order
-
-pub entries_of-with_entry : (turns : List Turn) (entry : Entry (List ℕ)) → 0 < length turns → entries_of (with_entry turns entry) ≡ entries_of turns ++ entry ∷ []
-entries_of-with_entry [] entry some = absurd (omega arith)
-entries_of-with_entry (turn ∷ []) entry some = append-nil (turn.entries ++ entry ∷ []) ∙ ap (λ (es : List (Entry (List ℕ))). es ++ entry ∷ []) (sym (append-nil turn.entries))
-entries_of-with_entry (turn ∷ another ∷ turns) entry some =
-    ap (λ (es : List (Entry (List ℕ))). turn.entries ++ es) (entries_of-with_entry (another ∷ turns) entry (omega arith))
-    ∙ sym (append_assoc turn.entries (entries_of (another ∷ turns)) (entry ∷ []))
 
 -- what the lines so far keep of one of them
 abbrev Keeps : Past → Line → Type 0
@@ -45,7 +35,7 @@ Keeps past (loses loss) = (pair_of loss.caller loss.call < past.pair) × (0 < le
 
 -- the pairs of entries with one more
 has_pair-more : (turns : List Turn) (entry : Entry (List ℕ)) (pair : ℕ) → 0 < length turns → has_pair (with_entry turns entry) pair ≡ (has_pair turns pair || (is_pair pair entry || false))
-has_pair-more turns entry pair some = ap (list_any (is_pair pair)) (entries_of-with_entry turns entry some) ∙ list_any-append (is_pair pair) (entries_of turns) (entry ∷ [])
+has_pair-more turns entry pair some = ap (list_any (is_pair pair)) (flat_map-with_entry (λ (turn : Turn). turn.entries) entry turns entry some (λ turn. refl)) ∙ list_any-append (is_pair pair) (entries_of turns) (entry ∷ [])
 
 -- a line that was taken is kept
 kept_now : (config : Parts) (past : Past) (line : Line) → length past.calls ≡ 32 → fault_of config past line ≡ Ok tt → Keeps (next past line) line
@@ -114,14 +104,10 @@ calls_stay past (begins head) calls = calls
 calls_stay past (enters entry) calls = length-set past.calls entry.caller (entry.call + 1) ∙ calls
 calls_stay past (loses loss) calls = calls
 
-in_order : (config : Parts) (past : Past) (before : List Line) (first : Line) (middle : List Line) (last : Line) (behind : List Line) → length past.calls ≡ 32
+pub in_order : (config : Parts) (past : Past) (before : List Line) (first : Line) (middle : List Line) (last : Line) (behind : List Line) → length past.calls ≡ 32
     → AreFaultless config past (before ++ first ∷ (middle ++ last ∷ behind)) → Follows first last
 in_order config past [] first middle last behind calls none = later_follows config (next past first) first middle last behind (kept_now config past first calls none.0) none.1
 in_order config past (line ∷ before) first middle last behind calls none = in_order config (next past line) before first middle last behind (calls_stay past line calls) none.1
-
--- of two lines of what fits the later follows the earlier
-pub fits_in_order : (config : Parts) (told : Told) (before middle behind : List Line) (first last : Line) → Fits config told → lines_told told ≡ before ++ first ∷ (middle ++ last ∷ behind) → Follows first last
-fits_in_order config told before middle behind first last fits are = in_order config start before first middle last behind refl (subst (AreFaultless config start) are fits.faultless)
 
 -- ---- number
 
@@ -134,12 +120,9 @@ few_more config past (entry ∷ entries) rest few none =
     let more = few_more config (next past (enters entry)) entries rest (omega arith) none.1 in
     (omega (arith, more.0), more.1, more.2)
 
-turns_few : (config : Parts) (past : Past) (turns : List Turn) (rest : List Line) → AreFaultless config past (flat_map turn_told turns ++ rest) → AllByRecursion (λ turn. length turn.entries ≤ 1024) turns
+pub turns_few : (config : Parts) (past : Past) (turns : List Turn) (rest : List Line) → AreFaultless config past (flat_map turn_told turns ++ rest) → AllByRecursion (λ turn. length turn.entries ≤ 1024) turns
 turns_few config past [] rest none = tt
 turns_few config past (turn ∷ turns) rest none =
     let lines : (map enters turn.entries ++ flat_map turn_told turns) ++ rest ≡ map enters turn.entries ++ (flat_map turn_told turns ++ rest) = append_assoc (map enters turn.entries) (flat_map turn_told turns) rest in
     let more = few_more config (next past (begins turn.head)) turn.entries (flat_map turn_told turns ++ rest) (omega arith) (subst (AreFaultless config (next past (begins turn.head))) lines none.1) in
     (omega (arith, more.0), turns_few config more.1 turns rest more.2)
-
-pub fits_few : (config : Parts) (told : Told) → Fits config told → AllByRecursion (λ turn. length turn.entries ≤ 1024) told.turns
-fits_few config told fits = turns_few config start told.turns (map loses told.losses) fits.faultless

@@ -8,7 +8,7 @@ use Rattle.text_spec.specs.JournalText.{Act, Report, State, SetMode, Line, begin
 use Rattle.text_spec.specs.Maybe.{or_else}
 use Rattle.text_spec.specs.Words.{space, line_feed, words_of, line_of}
 use Rattle.text_spec.proofs.ContextsLaws.{the_lawful, number_lawful, stamp_lawful, mode_lawful, context_lawful}
-use Rattle.text_spec.proofs.FieldsLaws.{AreLawful, AreForms, Values, IsTold, Tells, fill, made_of, fields_again, forms_are, forms_pass, in_word}
+use Rattle.text_spec.proofs.FieldsLaws.{AreLawful, AreForms, Values, IsTold, fill, made_of, fields_again, forms_are, forms_pass, in_word}
 use Rattle.text_spec.proofs.WordsLemmas.{Pass, all_pass, weaker, split_joined, join_passes}
 
 -- ---- the forms of a journal
@@ -28,13 +28,9 @@ are_forms = (
   ),
 )
 
--- words that tell a line have a form, and are the line's
-pub line_takes : (words : List (List ℕ)) (line : Line) → told_by words ≡ Some line → Tells line_forms words (fields_of line)
-line_takes words line read = subst (IsTold fields_of line_forms words) read (forms_are fields_of line_forms words are_forms)
-
--- words that tell none have none
-pub none_has_none : (words : List (List ℕ)) → told_by words ≡ None → HasForm line_forms words → ⊥
-none_has_none words none = subst (IsTold fields_of line_forms words) none (forms_are fields_of line_forms words are_forms)
+-- words tell a line exactly where they have a form, and are then the line's
+pub line_is : (words : List (List ℕ)) → IsTold fields_of line_forms words (told_by words)
+line_is words = forms_are fields_of line_forms words are_forms
 
 -- ---- from a line's words to the line
 
@@ -69,19 +65,24 @@ line_again (loses loss) held exact = first_form loss_form (loss.caller, (loss.ca
 abbrev pub in_line : ℕ → Bool
 in_line b = not (b == line_feed)
 
+-- the words of a line have a form
+has_form : (line : Line) → AreHeld (fields_of line) → AreExact (fields_of line) → HasForm line_forms (words_of_fields (fields_of line))
+has_form line held exact =
+    let words = words_of_fields (fields_of line) in
+    (subst (IsTold fields_of line_forms words) (line_again line held exact) (line_is words)).written
+
 -- words that have a form are cut again
 cut_again : (words : List (List ℕ)) → HasForm line_forms words → words_of (line_of words) ≡ words
-cut_again [] written = absurd (none_has_none [] refl written)
+cut_again [] written = absurd (line_is [] written)
 cut_again (word ∷ words) written = split_joined in_word space word words refl (forms_pass fields_of line_forms (word ∷ words) are_forms written)
 
 -- a line is read as its words
 pub line_words : (line : Line) → AreHeld (fields_of line) → AreExact (fields_of line) → words_of (line_for line) ≡ words_of_fields (fields_of line)
-line_words line held exact =
-    cut_again (words_of_fields (fields_of line)) (line_takes _ line (line_again line held exact)).written
+line_words line held exact = cut_again (words_of_fields (fields_of line)) (has_form line held exact)
 
 -- a line has no line feed
 pub line_passes : (line : Line) → AreHeld (fields_of line) → AreExact (fields_of line) → list_all in_line (line_for line) ≡ true
 line_passes line held exact =
     let words = words_of_fields (fields_of line) in
-    let pass = forms_pass fields_of line_forms words are_forms (line_takes words line (line_again line held exact)).written in
+    let pass = forms_pass fields_of line_forms words are_forms (has_form line held exact) in
     join_passes in_line space words refl (all_pass in_line (λ word. list_all in_word word ≡ true) words (λ word is. weaker in_word in_line word (λ b above. grind (arith, above)) is) pass)
