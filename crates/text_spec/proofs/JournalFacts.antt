@@ -1,5 +1,5 @@
 -- A line without a fault: what holds of it, and what it adds to the lines before it.
-use Rattle.std.proofs.Common.{◌≡◌, ℕ, ◌<◌, ◌≤◌, true, List, [], ◌∷◌, ◌++◌, length, map, sym, ap, ◌∙◌, append_assoc, arith}
+use Rattle.std.proofs.Common.{◌≡◌, ℕ, ◌<◌, ◌≤◌, true, List, [], ◌∷◌, ◌++◌, length, map, sym, ap, append_assoc, arith}
 use Rattle.std.specs.Prelude.{Ok, slice_index}
 use Rattle.std.specs.List.{AllByRecursion, flat_map, list_all}
 use Rattle.std.proofs.lemmas.Bool.{and_parts}
@@ -10,7 +10,7 @@ use Rattle.text_spec.specs.Contexts.{IsExactContext}
 use Rattle.text_spec.specs.Fields.{a_number, AreExact}
 use Rattle.text_spec.specs.JournalFaults.{Past, is_claim, is_call, is_context, is_act, has_event, entry_fault, fault_of, next}
 use Rattle.text_spec.specs.JournalForm.{entry_of}
-use Rattle.text_spec.specs.JournalText.{Carried, Absent, Kept, Missing, Act, Report, State, SetMode, Entry, Loss, Line, begins, enters, loses, act_fields, fields_of, turn_told, lines_told}
+use Rattle.text_spec.specs.JournalText.{Carried, Absent, Kept, Missing, Act, Report, State, SetMode, Entry, Line, begins, enters, loses, act_fields, fields_of, turn_told, lines_told}
 
 -- what holds of an entry without a fault
 pub record EntryPasses (config : Parts) (past : Past) (entry : Entry (List ℕ)) : Type 0 where
@@ -76,7 +76,7 @@ flat_map-push f xs x = sym (flat_map_more f [] xs x)
 pub flat_map-with_entry : {B : Type 0} (f : Turn → List B) (more : B) (turns : List Turn) (entry : Entry (List ℕ)) → 0 < length turns
     → ((turn : Turn) → f (extended turn entry) ≡ f turn ++ more ∷ []) → flat_map f (with_entry turns entry) ≡ flat_map f turns ++ more ∷ []
 flat_map-with_entry f more [] entry some adds = absurd (omega arith)
-flat_map-with_entry f more (turn ∷ []) entry some adds = rw (append-nil, append-nil) (adds turn)
+flat_map-with_entry f more (turn ∷ []) entry some adds = rw (append-nil (f (extended turn entry)), append-nil (f turn)) (adds turn)
 flat_map-with_entry f more (turn ∷ next ∷ turns) entry some adds =
     rw (flat_map-with_entry f more (next ∷ turns) entry (omega arith) adds) (sym (append_assoc (f turn) (flat_map f (next ∷ turns)) (more ∷ [])))
 

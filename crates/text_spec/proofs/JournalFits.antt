@@ -7,9 +7,9 @@ use Rattle.std.proofs.lemmas.List.{append-nil, length-append}
 use Rattle.std.proofs.lemmas.List.Folds.{list_any-append}
 use Rattle.ids_config.specs.Parts.{Parts}
 use Rattle.ids_types.specs.Turns.{Turn, begun, with_entry, entries_of}
-use Rattle.text_spec.specs.JournalFaults.{Past, is_in_ranges, loss_fault, fault_of, next, start, is_pair, has_pair, pair_of}
-use Rattle.text_spec.specs.JournalReading.{AreFaultless, Fits, Follows}
-use Rattle.text_spec.specs.JournalText.{Loss, Entry, Told, Line, begins, enters, loses, turn_told, lines_told}
+use Rattle.text_spec.specs.JournalFaults.{Past, is_in_ranges, loss_fault, fault_of, next, is_pair, has_pair, pair_of}
+use Rattle.text_spec.specs.JournalReading.{AreFaultless, Follows}
+use Rattle.text_spec.specs.JournalText.{Loss, Entry, Line, begins, enters, loses, turn_told}
 use Rattle.text_spec.proofs.JournalFacts.{entry_passes, flat_map-push, flat_map-with_entry}
 
 -- ---- ranges

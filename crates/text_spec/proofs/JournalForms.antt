@@ -9,7 +9,7 @@ use Rattle.text_spec.specs.Maybe.{or_else}
 use Rattle.text_spec.specs.Words.{space, line_feed, words_of, line_of}
 use Rattle.text_spec.proofs.ContextsLaws.{the_lawful, number_lawful, stamp_lawful, mode_lawful, context_lawful}
 use Rattle.text_spec.proofs.FieldsLaws.{AreLawful, AreForms, Values, IsTold, fill, made_of, fields_again, forms_are, forms_pass, in_word}
-use Rattle.text_spec.proofs.WordsLemmas.{Pass, all_pass, weaker, split_joined, join_passes}
+use Rattle.text_spec.proofs.WordsLemmas.{all_pass, weaker, split_joined, join_passes}
 
 -- ---- the forms of a journal
 

@@ -1,4 +1,5 @@
 pub mod ContextsLaws
+pub mod DecodedLemmas
 pub mod FieldsLaws
 pub mod FrontLemmas
 pub mod HexadecimalLemmas

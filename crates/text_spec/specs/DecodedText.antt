@@ -6,7 +6,7 @@ use Rattle.ids_frame.specs.declared.context.Form.{Form}
 use Rattle.ids_frame.specs.declared.context.Form.TheVariants.{Short, Long}
 use Rattle.ids_frame.specs.Context.{ContextPart}
 use Rattle.ids_frame.specs.Message.{MessageParts}
-use Rattle.text_spec.specs.Words.{absent, space, line_of, text_of}
+use Rattle.text_spec.specs.Words.{absent, line_of, text_of}
 use Rattle.text_spec.specs.Stamps.{stamp_text}
 
 -- the letter of a context's form: `s` for the short one, `l` for the long one
@@ -34,20 +34,6 @@ message_words m =
 -- the line of a message, without its line feed
 abbrev pub message_line : MessageParts → List ℕ
 message_line m = line_of (message_words m)
-
--- the line's beginning, `M INSTANCE SENSOR`
-abbrev pub source_text : MessageParts → List ℕ
-source_text m = codes "M" ++ ((space ∷ decimal m.instance) ++ (space ∷ decimal m.sensor))
-
--- what follows it, ` EVENT COUNT RESERVED`
-abbrev pub numbers_text : MessageParts → List ℕ
-numbers_text m = (space ∷ decimal m.event) ++ ((space ∷ decimal m.count) ++ (space ∷ decimal m.reserved))
-
--- and the line's end, ` STAMP CONTEXT SIGNATURE`
-abbrev pub parts_text : MessageParts → List ℕ
-parts_text m =
-    (space ∷ stamp_text m.stamp)
-    ++ ((space ∷ shown_context m.context) ++ (space ∷ shown_signature m.signature))
 
 -- the lines of messages
 abbrev pub decoded_text : List MessageParts → List ℕ
