@@ -231,17 +231,32 @@ some_hex_again word bytes some is = ap (λ o. o >>= some_bytes) (hex_in-text wor
 pub not_some_hex : (word : List ℕ) → hex_in word ≡ None → some_hex word ≡ None
 not_some_hex word none = ap (λ o. o >>= some_bytes) none
 
+-- nor is one of an odd number of digits
+pub some_hex-odd : (word : List ℕ) → length word % 2 ≡ 1 → some_hex word ≡ None
+some_hex-odd word odd = not_some_hex word (hex_in-odd word odd)
+
+pub some_hex-other : (word : List ℕ) → list_all is_lower_digit word ≡ false → some_hex word ≡ None
+some_hex-other word other = not_some_hex word (hex_in-other word other)
+
 -- an empty word is not read as some bytes
 pub some_hex-empty : (word : List ℕ) → length word ≡ 0 → some_hex word ≡ None
 unfolding decode_pairs
 some_hex-empty [] empty = refl
 some_hex-empty (b ∷ word) empty = absurd (omega arith)
 
--- digits of lower case in pairs are the text of some bytes
-pub text_of_pairs : (word : List ℕ) → list_all is_lower_digit word ≡ true → length word % 2 ≡ 0 → IsTextOf word (bytes_of word)
-text_of_pairs word all even = elim (by_pairs word all) [
+-- digits of lower case in pairs are read
+pub hex_in-pairs : (word : List ℕ) → list_all is_lower_digit word ≡ true → length word % 2 ≡ 0 → hex_in word ≡ Some (bytes_of word)
+hex_in-pairs word all even = elim (by_pairs word all) [
   | inl some ↦
-      let same : bytes_of word ≡ some.0 = ap (λ o. unwrap_or o []) (hex_in-text word some.0 some.1) in
-      subst (IsTextOf word) (sym same) some.1
+      let read = hex_in-text word some.0 some.1 in
+      read ∙ ap (λ o. Some (unwrap_or o [])) (sym read)
   | inr odd ↦ absurd (omega arith)
 ]
+
+pub some_hex-pairs : (word : List ℕ) → list_all is_lower_digit word ≡ true → length word % 2 ≡ 0 → 0 < length word → some_hex word ≡ Some (bytes_of word)
+some_hex-pairs word all even some =
+    let read = hex_in-pairs word all even in
+    ap (λ o. o >>= some_bytes) read ∙ some_bytes_again (bytes_of word) (omega (arith, length-hex_in word (bytes_of word) read))
+
+-- how a word is read
+pub ruleset readings = (some_hex-odd, some_hex-other, some_hex-empty, some_hex-pairs, hex_in-pairs, length-hex_in)

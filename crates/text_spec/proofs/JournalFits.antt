@@ -1,5 +1,5 @@
 -- What turns and losses that fit a configuration keep.
-use Rattle.std.proofs.Common.{◌≡◌, ℕ, ◌+◌, ◌<◌, ◌≤◌, ◌||◌, true, false, inl, inr, List, [], ◌∷◌, ◌++◌, length, map, get_or, length-set, get_or-set_same, get_or-set_other, refl, sym, ap, subst, ◌∙◌, append_assoc, arith}
+use Rattle.std.proofs.Common.{◌≡◌, ℕ, ◌+◌, ◌<◌, ◌≤◌, ◌||◌, true, false, inl, inr, List, [], ◌∷◌, ◌++◌, length, map, get_or, length-set, get_or-set_same, get_or-set_other, set, refl, sym, ap, subst, ◌∙◌, append_assoc, arith}
 use Rattle.std.specs.Prelude.{Ok}
 use Rattle.std.specs.List.{AllByRecursion, flat_map, list_any}
 use Rattle.std.proofs.lemmas.Bool.{and_from, both_ways, cases_eq, eq-eqb}
@@ -49,54 +49,43 @@ kept_now config past (enters entry) calls none =
     )
 kept_now config past (loses loss) calls none = (omega arith, rw length-append (omega arith))
 
--- what is kept stays kept
-kept_on : (config : Parts) (past : Past) (first line : Line) → Keeps past first → fault_of config past line ≡ Ok tt → Keeps (next past line) first
-kept_on config past (begins one) (begins head) keeps none = grind (arith, keeps, none)
-kept_on config past (begins one) (enters entry) keeps none = keeps
-kept_on config past (begins one) (loses loss) keeps none = keeps
-kept_on config past (enters one) (begins head) keeps none =
-    let same = flat_map-push (λ (t : Turn). t.entries) past.told.turns (begun head) ∙ append-nil (entries_of past.told.turns) in
-    (keeps.0, keeps.1, ap (list_any (is_pair (pair_of one.caller one.call))) same ∙ keeps.2)
-kept_on config past (enters one) (enters entry) keeps none =
-    let passes = entry_passes config past entry none in (
-      rw length-set keeps.0,
-      elim (cases_eq one.caller entry.caller) [
-        | inl own ↦
-            let within : entry.caller < length past.calls = subst (λ c. c < length past.calls) own keeps.0 in
-            let before : one.call < get_or past.calls entry.caller 0 = subst (λ c. one.call < get_or past.calls c 0) own keeps.1 in
-            rw (own, get_or-set_same past.calls entry.caller (entry.call + 1) 0 within) (omega (arith, before, passes.rises))
-        | inr other ↦ rw (get_or-set_other past.calls entry.caller one.caller (entry.call + 1) 0 other) keeps.1
-      ],
-      has_pair-more past.told.turns entry (pair_of one.caller one.call) passes.some ∙ grind (arith, keeps.2),
-    )
-kept_on config past (enters one) (loses loss) keeps none = keeps
-kept_on config past (loses one) (begins head) keeps none = keeps
-kept_on config past (loses one) (enters entry) keeps none = keeps
-kept_on config past (loses one) (loses loss) keeps none = (grind (arith, keeps.0, none), rw length-append (omega arith))
-
 -- the pair of a loss without a fault is no entry's
 no_entry : (past : Past) (loss : Loss) → loss_fault past loss ≡ Ok tt → has_pair past.told.turns (pair_of loss.caller loss.call) ≡ false
 no_entry past loss none = grind (arith, none)
 
--- a line follows each that is kept
-kept_follows : (config : Parts) (past : Past) (first line : Line) → Keeps past first → fault_of config past line ≡ Ok tt → Follows first line
-kept_follows config past (begins one) (begins head) keeps none = grind (arith, keeps, none)
-kept_follows config past (begins one) (enters entry) keeps none = tt
-kept_follows config past (begins one) (loses loss) keeps none = tt
-kept_follows config past (enters one) (begins head) keeps none = tt
-kept_follows config past (enters one) (enters entry) keeps none =
-    λ own. let before : one.call < get_or past.calls entry.caller 0 = subst (λ c. one.call < get_or past.calls c 0) own keeps.1 in
-    omega (arith, before, (entry_passes config past entry none).rises)
-kept_follows config past (enters one) (loses loss) keeps none =
-    λ same. both_ways (has_pair past.told.turns (pair_of loss.caller loss.call)) (no_entry past loss none) (ap (has_pair past.told.turns) (sym same) ∙ keeps.2)
-kept_follows config past (loses one) (begins head) keeps none = grind (arith, keeps.1, none)
-kept_follows config past (loses one) (enters entry) keeps none = grind (arith, keeps.1, none)
-kept_follows config past (loses one) (loses loss) keeps none = grind (arith, keeps.0, none)
+-- what is kept stays kept, and a line follows it
+kept_on : (config : Parts) (past : Past) (first line : Line) → Keeps past first → fault_of config past line ≡ Ok tt → Keeps (next past line) first × Follows first line
+kept_on config past (begins one) (begins head) keeps none = (grind (arith, keeps, none), grind (arith, keeps, none))
+kept_on config past (begins one) (enters entry) keeps none = (keeps, tt)
+kept_on config past (begins one) (loses loss) keeps none = (keeps, tt)
+kept_on config past (enters one) (begins head) keeps none =
+    let same = flat_map-push (λ (t : Turn). t.entries) past.told.turns (begun head) ∙ append-nil (entries_of past.told.turns) in
+    ((keeps.0, keeps.1, ap (list_any (is_pair (pair_of one.caller one.call))) same ∙ keeps.2), tt)
+kept_on config past (enters one) (enters entry) keeps none =
+    let passes = entry_passes config past entry none in
+    let rises : one.caller ≡ entry.caller → one.call < entry.call = λ own.
+    let before : one.call < get_or past.calls entry.caller 0 = subst (λ c. one.call < get_or past.calls c 0) own keeps.1 in
+    omega (arith, before, passes.rises) in
+    let still : one.call < get_or (set past.calls entry.caller (entry.call + 1)) one.caller 0 = elim (cases_eq one.caller entry.caller) [
+      | inl own ↦
+          let within : entry.caller < length past.calls = subst (λ c. c < length past.calls) own keeps.0 in
+          rw (own, get_or-set_same past.calls entry.caller (entry.call + 1) 0 within) (omega (arith, rises own))
+      | inr other ↦ rw (get_or-set_other past.calls entry.caller one.caller (entry.call + 1) 0 other) keeps.1
+    ] in
+    ((rw length-set keeps.0, still, has_pair-more past.told.turns entry (pair_of one.caller one.call) passes.some ∙ grind (arith, keeps.2)), rises)
+kept_on config past (enters one) (loses loss) keeps none = (
+  keeps,
+  λ same.
+      both_ways (has_pair past.told.turns (pair_of loss.caller loss.call)) (no_entry past loss none) (ap (has_pair past.told.turns) (sym same) ∙ keeps.2),
+)
+kept_on config past (loses one) (begins head) keeps none = (keeps, grind (arith, keeps.1, none))
+kept_on config past (loses one) (enters entry) keeps none = (keeps, grind (arith, keeps.1, none))
+kept_on config past (loses one) (loses loss) keeps none = ((grind (arith, keeps.0, none), rw length-append (omega arith)), grind (arith, keeps.0, none))
 
 -- each line follows one that is kept
 later_follows : (config : Parts) (past : Past) (first : Line) (middle : List Line) (last : Line) (behind : List Line) → Keeps past first → AreFaultless config past (middle ++ last ∷ behind) → Follows first last
-later_follows config past first [] last behind keeps none = kept_follows config past first last keeps none.0
-later_follows config past first (line ∷ middle) last behind keeps none = later_follows config (next past line) first middle last behind (kept_on config past first line keeps none.0) none.1
+later_follows config past first [] last behind keeps none = (kept_on config past first last keeps none.0).1
+later_follows config past first (line ∷ middle) last behind keeps none = later_follows config (next past line) first middle last behind (kept_on config past first line keeps none.0).0 none.1
 
 -- there are 32 callers
 calls_stay : (past : Past) (line : Line) → length past.calls ≡ 32 → length (next past line).calls ≡ 32

@@ -23,6 +23,7 @@ impl<'a> Model for HexText<'a> {
     ghost invariant = { IsText };
 }
 
+#[tactic(auto, using(crate::proofs::HexadecimalLemmas::readings))]
 impl<'a> HexText<'a> {
     /// The bytes that the word writes, `None` where it is no text of a byte or more.
     pub fn of(word: &'a [u8]) -> Option<HexText<'a>>

@@ -9,21 +9,18 @@ pub fn mode(word: &[u8]) -> Option<Mode>
     ensures { result ≡ named word.now }
 {
     if word == b"OFF".as_slice() {
-        return Some(Mode::Off);
+        Some(Mode::Off)
+    } else if word == b"BRIEF".as_slice() {
+        Some(Mode::Brief)
+    } else if word == b"DETAILED".as_slice() {
+        Some(Mode::Detailed)
+    } else if word == b"BRIEF_BYPASSING_FILTERS".as_slice() {
+        Some(Mode::BriefBypassing)
+    } else if word == b"DETAILED_BYPASSING_FILTERS".as_slice() {
+        Some(Mode::DetailedBypassing)
+    } else {
+        None
     }
-    if word == b"BRIEF".as_slice() {
-        return Some(Mode::Brief);
-    }
-    if word == b"DETAILED".as_slice() {
-        return Some(Mode::Detailed);
-    }
-    if word == b"BRIEF_BYPASSING_FILTERS".as_slice() {
-        return Some(Mode::BriefBypassing);
-    }
-    if word == b"DETAILED_BYPASSING_FILTERS".as_slice() {
-        return Some(Mode::DetailedBypassing);
-    }
-    None
 }
 
 /// Appends the name of the mode.
