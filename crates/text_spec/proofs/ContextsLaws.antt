@@ -1,25 +1,8 @@
 -- The fields of the texts keep the laws of a field.
-use Rattle.std.proofs.Common.{◌≡◌, ℕ, zero, suc, ◌<◌, ◌≤◌, ◌==◌, Bool, true, false, inl, inr, List, [], ◌∷◌, ◌++◌, length, map, refl, sym, ap, subst, ◌∙◌, arith}
-use Rattle.std.specs.Prelude.{Option, Some, None, IfSome, option_map, decimal, bytes_eq, ⊤, ◌^◌, if◌then◌else◌}
+use Rattle.text_spec.proofs.Names.{◌≡◌, ℕ, zero, suc, ◌<◌, ◌≤◌, ◌==◌, Bool, true, false, inl, inr, List, [], ◌∷◌, ◌++◌, length, map, refl, sym, ap, subst, ◌∙◌, arith, Option, Some, None, IfSome, option_map, decimal, bytes_eq, ⊤, ◌^◌, if◌then◌else◌, w64, to_be_bytes, AllByRecursion, slice_split, join_with_byte, list_all, and_left, and_parts, both_ways, cond-true, cond-false, eqb-true, ne_eqb, join_with_byte-slice_split, same_Some, none-some, cond_some, bytes_eq-Decides, IsBytes, encode_lower, Carried, Absent, Kept, Missing, Stamp, colon, point, mark, kept_fields, kept_places, context_word, IsContextWord, IsContext, IsExactContext, kept_in, numbers_in, claims_in, context_in, a_context, the, a_number, a_stamp, a_mode, hex_bytes, words_of_fields, AreWritten, is_lower_digit, some_hex, mode_name, mode_named, all_modes, stamp_in, stamp_text, absent}
 use Rattle.std.specs.Char.{is_ascii_digit}
-use Rattle.std.specs.Int.{w64, to_be_bytes}
-use Rattle.std.specs.List.{AllByRecursion, slice_split, join_with_byte, list_all}
 use Rattle.std.specs.Str.Parse.{digits_value}
-use Rattle.std.proofs.lemmas.Bool.{and_left, and_parts, both_ways, cond-true, cond-false, eqb-true, ne_eqb}
-use Rattle.std.proofs.lemmas.List.Splits.{join_with_byte-slice_split}
-use Rattle.std.proofs.lemmas.Option.{same_Some, none-some, cond_some}
-use Rattle.std.proofs.lemmas.Slice.Eq.{bytes_eq-Decides}
-use Rattle.hex.specs.Hex.{IsBytes, encode_lower}
-use Rattle.ids_types.specs.declared.entry.Carried.{Carried}
-use Rattle.ids_types.specs.declared.entry.Carried.TheVariants.{Absent, Kept, Missing}
-use Rattle.ids_types.specs.declared.names.Stamp.{Stamp}
-use Rattle.text_spec.specs.Contexts.{colon, point, mark, kept_fields, kept_places, context_word, IsContextWord, IsContext, IsExactContext, kept_in, numbers_in, claims_in, context_in, a_context}
-use Rattle.text_spec.specs.Fields.{the, a_number, a_stamp, a_mode, hex_bytes, words_of_fields, AreWritten}
-use Rattle.text_spec.specs.Hexadecimal.{is_lower_digit, some_hex}
-use Rattle.text_spec.specs.Modes.{mode_name, mode_named, all_modes}
 use Rattle.text_spec.specs.Numbers.{is_number, capped}
-use Rattle.text_spec.specs.Stamps.{stamp_in, stamp_text}
-use Rattle.text_spec.specs.Words.{absent}
 use Rattle.text_spec.proofs.FieldsLaws.{Told, IsReading, Lawful, AreLawful, in_word, lawful, simple_lawful, AreReading, reads, fields_are, fields_again, fields_pass}
 use Rattle.text_spec.proofs.FrontLemmas.{bind_some, bind_again, chosen, is_some, mapped_some}
 use Rattle.text_spec.proofs.HexadecimalLemmas.{lower_text, some_hex_takes, some_hex_again}

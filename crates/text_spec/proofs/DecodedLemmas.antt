@@ -1,9 +1,6 @@
 -- The line of a decoded message.
-use Rattle.std.proofs.Common.{◌≡◌, ℕ, ◌+◌, List, ◌++◌, append_assoc, length, length-append, arith}
-use Rattle.std.specs.Prelude.{decimal}
+use Rattle.text_spec.proofs.Names.{◌≡◌, ℕ, ◌+◌, List, ◌++◌, append_assoc, length, length-append, arith, decimal, message_line, shown_context, shown_signature, stamp_text}
 use Rattle.ids_frame.specs.Message.{MessageParts}
-use Rattle.text_spec.specs.DecodedText.{message_line, shown_context, shown_signature}
-use Rattle.text_spec.specs.Stamps.{stamp_text}
 
 -- the parts of a line
 pub length_line : (m : MessageParts) → length (message_line m) ≡ 9 + length (decimal m.instance) + length (decimal m.sensor) + length (decimal m.event) + length (decimal m.count)

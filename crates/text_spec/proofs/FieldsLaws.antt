@@ -1,11 +1,5 @@
 -- Lists of fields: their reading against their words, both ways, for any fields that keep the laws.
-use Rattle.std.proofs.Common.{◌≡◌, ℕ, Bool, true, List, [], ◌∷◌, refl, sym, ap, subst, ◌∙◌, inl, inr}
-use Rattle.std.specs.Prelude.{Option, Some, None, option_map, nat_lt}
-use Rattle.std.specs.List.{list_all}
-use Rattle.std.proofs.lemmas.Option.{none-some}
-use Rattle.text_spec.specs.Fields.{Field, Filled, simple, put, the, words_of_fields, AreHeld, AreExact, AreWritten, HasForm, Makes, first_as, read_by, Form, told_in, told_in_one}
-use Rattle.text_spec.specs.Maybe.{◌>>=◌, or_else}
-use Rattle.text_spec.specs.Words.{space}
+use Rattle.text_spec.proofs.Names.{◌≡◌, ℕ, Bool, true, List, [], ◌∷◌, refl, sym, ap, subst, ◌∙◌, inl, inr, Option, Some, None, option_map, nat_lt, list_all, none-some, Field, Filled, simple, put, the, words_of_fields, AreHeld, AreExact, AreWritten, HasForm, Makes, first_as, read_by, Form, told_in, told_in_one, ◌>>=◌, or_else, space}
 use Rattle.text_spec.proofs.FrontLemmas.{bind_again}
 use Rattle.text_spec.proofs.WordsLemmas.{Pass}
 

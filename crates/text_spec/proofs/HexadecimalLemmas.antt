@@ -1,15 +1,8 @@
 -- Hexadecimal: the readings of a word against the text of some bytes, into a room and byte by byte.
-use Rattle.std.proofs.Common.{◌≡◌, ◌⊎◌, ℕ, zero, suc, ◌+◌, ◌*◌, ◌-◌, ◌/◌, ◌%◌, ◌<◌, ◌≤◌, true, false, inl, inr, List, [], ◌∷◌, ◌++◌, add-one, length, slice_index, take, unwrap_or, refl, sym, ap, subst, ◌∙◌, arith}
-use Rattle.std.specs.Prelude.{Option, Some, None, option_and_then, option_map}
-use Rattle.std.specs.Int.{is_in_range}
-use Rattle.std.specs.List.{list_all}
+use Rattle.text_spec.proofs.Names.{◌≡◌, ◌⊎◌, ℕ, zero, suc, ◌+◌, ◌*◌, ◌-◌, ◌/◌, ◌%◌, ◌<◌, ◌≤◌, true, false, inl, inr, List, [], ◌∷◌, ◌++◌, add-one, length, slice_index, take, unwrap_or, refl, sym, ap, subst, ◌∙◌, arith, Option, Some, None, option_and_then, option_map, is_in_range, list_all, agree_below_at, and_from, and_parts, cases_Bool, cond-true, cond-false, le-leb, lt-leb, or_cases, length-take-le, IsBytes, decode_of, encode_lower, lower_digits, hex_in, hex_upto, fitting, is_lower_digit, some_bytes, some_hex, bytes_of, IsWritten, ◌>>=◌}
 use Rattle.std.specs.Result.{result_ok}
-use Rattle.std.proofs.lemmas.Bool.{agree_below_at, and_from, and_parts, cases_Bool, cond-true, cond-false, le-leb, lt-leb, or_cases}
-use Rattle.std.proofs.lemmas.List.{length-take-le}
-use Rattle.hex.specs.Hex.{IsBytes, decode_of, decode_pairs, encode_lower, encode_with, lower_digits}
+use Rattle.hex.specs.Hex.{decode_pairs, encode_with}
 use Rattle.hex.proofs.HexLemmas.{length-encode_with, decode_of-encode_lower, decode_of-odd}
-use Rattle.text_spec.specs.Hexadecimal.{hex_in, hex_upto, fitting, is_lower_digit, some_bytes, some_hex, bytes_of, IsWritten}
-use Rattle.text_spec.specs.Maybe.{◌>>=◌}
 
 -- the text of bytes is twice as long
 pub length_hex : (bytes : List ℕ) → length (encode_lower bytes) ≡ 2 * length bytes

@@ -1,16 +1,5 @@
 -- A line without a fault: what holds of it, and what it adds to the lines before it.
-use Rattle.std.proofs.Common.{◌≡◌, ℕ, ◌<◌, ◌≤◌, true, List, [], ◌∷◌, ◌++◌, length, map, sym, ap, append_assoc, arith}
-use Rattle.std.specs.Prelude.{Ok, slice_index}
-use Rattle.std.specs.List.{AllByRecursion, flat_map, list_all}
-use Rattle.std.proofs.lemmas.Bool.{and_parts}
-use Rattle.std.proofs.lemmas.List.{append-nil, flat_map_more, map-append, nil_from_length}
-use Rattle.ids_config.specs.Parts.{Parts, is_sensor}
-use Rattle.ids_types.specs.Turns.{Turn, begun, extended, with_entry}
-use Rattle.text_spec.specs.Contexts.{IsExactContext}
-use Rattle.text_spec.specs.Fields.{a_number, AreExact}
-use Rattle.text_spec.specs.JournalFaults.{Past, is_claim, is_call, is_context, is_act, has_event, entry_fault, fault_of, next}
-use Rattle.text_spec.specs.JournalForm.{entry_of}
-use Rattle.text_spec.specs.JournalText.{Carried, Absent, Kept, Missing, Act, Report, State, SetMode, Entry, Line, begins, enters, loses, act_fields, fields_of, turn_told, lines_told}
+use Rattle.text_spec.proofs.Names.{◌≡◌, ℕ, ◌<◌, ◌≤◌, true, List, [], ◌∷◌, ◌++◌, length, map, sym, ap, append_assoc, arith, Ok, slice_index, AllByRecursion, flat_map, list_all, and_parts, append-nil, flat_map_more, map-append, nil_from_length, Parts, is_sensor, Turn, begun, extended, with_entry, IsExactContext, a_number, AreExact, Past, is_claim, is_call, is_context, is_act, has_event, entry_fault, fault_of, next, entry_of, Carried, Absent, Kept, Missing, Act, Report, State, SetMode, Entry, Line, begins, enters, loses, act_fields, fields_of, turn_told, lines_told}
 
 -- what holds of an entry without a fault
 pub record EntryPasses (config : Parts) (past : Past) (entry : Entry (List ℕ)) : Type 0 where

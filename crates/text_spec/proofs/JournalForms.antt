@@ -1,12 +1,5 @@
 -- One line of a journal: its reading against its own text, both ways.
-use Rattle.std.proofs.Common.{◌≡◌, ℕ, ◌==◌, not, true, Bool, List, [], ◌∷◌, refl, ap, subst, ◌∙◌, arith}
-use Rattle.std.specs.Prelude.{Option, Some, None, codes}
-use Rattle.std.specs.List.{list_all}
-use Rattle.text_spec.specs.Fields.{the, words_of_fields, AreHeld, AreExact, HasForm, Form, told_in}
-use Rattle.text_spec.specs.JournalForm.{entry_of, turn_form, report_form, state_form, setting_form, loss_form, line_forms, told_by}
-use Rattle.text_spec.specs.JournalText.{Act, Report, State, SetMode, Line, begins, enters, loses, act_fields, fields_of, line_for}
-use Rattle.text_spec.specs.Maybe.{or_else}
-use Rattle.text_spec.specs.Words.{space, line_feed, words_of, line_of}
+use Rattle.text_spec.proofs.Names.{◌≡◌, ℕ, ◌==◌, not, true, Bool, List, [], ◌∷◌, refl, ap, subst, ◌∙◌, arith, Option, Some, None, codes, list_all, the, words_of_fields, AreHeld, AreExact, HasForm, Form, told_in, entry_of, turn_form, report_form, state_form, setting_form, loss_form, line_forms, told_by, Act, Report, State, SetMode, Line, begins, enters, loses, act_fields, fields_of, line_for, or_else, space, line_feed, words_of, line_of}
 use Rattle.text_spec.proofs.ContextsLaws.{the_lawful, number_lawful, stamp_lawful, mode_lawful, context_lawful}
 use Rattle.text_spec.proofs.FieldsLaws.{AreLawful, AreForms, Values, IsTold, fill, made_of, fields_again, forms_are, forms_pass, in_word}
 use Rattle.text_spec.proofs.WordsLemmas.{all_pass, weaker, split_joined, join_passes}

@@ -1,19 +1,8 @@
 -- All lines of a journal: what a text tells is a journal, and each journal is told by its own text.
-use Rattle.std.proofs.Common.{◌≡◌, ℕ, suc, ◌<◌, ◌≤◌, ◌==◌, List, [], ◌∷◌, ◌++◌, length, map, refl, sym, ap, subst, ◌∙◌, append_assoc, arith}
-use Rattle.std.specs.Prelude.{Option, Some, None, Result, Ok, Err, ⊤}
-use Rattle.std.specs.List.{AllByRecursion, flat_map, join_with_byte}
-use Rattle.std.proofs.lemmas.Bool.{eqb-true}
-use Rattle.std.proofs.lemmas.List.{append-nil, length-append, nil_from_length}
-use Rattle.std.proofs.lemmas.List.Splits.{join_with_byte-slice_split, length-slice_split}
-use Rattle.ids_config.specs.Parts.{Parts}
+use Rattle.text_spec.proofs.Names.{◌≡◌, ℕ, suc, ◌<◌, ◌≤◌, ◌==◌, List, [], ◌∷◌, ◌++◌, length, map, refl, sym, ap, subst, ◌∙◌, append_assoc, arith, Option, Some, None, Result, Ok, Err, ⊤, AllByRecursion, flat_map, join_with_byte, eqb-true, append-nil, length-append, nil_from_length, join_with_byte-slice_split, length-slice_split, Parts, Turn, Past, fault_of, next, start, line_forms, told_by, AreFaultless, IsHeld, IsJournal, BadLine, at_line, past_with, after_line, journal_in, Entry, Loss, Told, Line, begins, enters, loses, fields_of, line_for, turn_told, lines_told, space, line_feed, pieces_of, words_of, line_of, text_of}
 use Rattle.ids_config.specs.Steps.{◌>>◌, asks}
 use Rattle.ids_config.proofs.StepLemmas.{both_ok, asked}
-use Rattle.ids_types.specs.Turns.{Turn}
-use Rattle.text_spec.specs.JournalFaults.{Past, fault_of, next, start}
-use Rattle.text_spec.specs.JournalForm.{line_forms, told_by}
-use Rattle.text_spec.specs.JournalReading.{AreFaultless, IsHeld, IsJournal, BadLine, at_line, past_with, after_line, after_pieces, journal_in, ◌>>=◌}
-use Rattle.text_spec.specs.JournalText.{Entry, Loss, Told, Line, begins, enters, loses, fields_of, line_for, turn_told, lines_told}
-use Rattle.text_spec.specs.Words.{space, line_feed, pieces_of, words_of, line_of, text_of}
+use Rattle.text_spec.specs.JournalReading.{after_pieces, ◌>>=◌}
 use Rattle.text_spec.proofs.FieldsLaws.{IsTold}
 use Rattle.text_spec.proofs.JournalFacts.{line_exact, line_grows}
 use Rattle.text_spec.proofs.JournalForms.{line_is, line_again, line_words, in_line, line_passes}

@@ -8,6 +8,7 @@ pub mod JournalFits
 pub mod JournalForms
 pub mod JournalLaws
 pub mod ModesLemmas
+pub mod Names
 pub mod NumbersLemmas
 pub mod PiecesLemmas
 pub mod StampsLemmas

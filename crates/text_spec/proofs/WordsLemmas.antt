@@ -1,13 +1,8 @@
 -- Words and lines: the tests that their bytes pass, and the readings of a line and of a text against
 -- their texts.
-use Rattle.std.proofs.Common.{◌≡◌, ℕ, ◌==◌, Bool, true, false, List, [], ◌∷◌, ◌++◌, refl, sym, ap, ◌∙◌}
-use Rattle.std.specs.List.{All, list_all, AllByRecursion, slice_split, join_with_byte}
-use Rattle.std.proofs.lemmas.Bool.{and_parts, and_from, eq-eqb, ne_eqb, both_ways}
+use Rattle.text_spec.proofs.Names.{◌≡◌, ℕ, ◌==◌, Bool, true, false, List, [], ◌∷◌, ◌++◌, refl, sym, ap, ◌∙◌, All, list_all, AllByRecursion, slice_split, join_with_byte, and_parts, and_from, eq-eqb, ne_eqb, both_ways, list_all-append, slice_split_none, slice_split_at, Free, line_feed, text_of}
 use Rattle.std.proofs.lemmas.List.Elements.{recursion_from_All}
-use Rattle.std.proofs.lemmas.List.Folds.{list_all-append}
-use Rattle.std.proofs.lemmas.List.Splits.{slice_split_none, slice_split_at}
 use Rattle.std.proofs.lemmas.List.Sums.{AllPass-from_list_all}
-use Rattle.text_spec.specs.Words.{Free, line_feed, text_of}
 
 -- all bytes of each of these words pass a test
 abbrev pub Pass : (ℕ → Bool) → List (List ℕ) → Type 0

@@ -9,6 +9,7 @@ pub mod JournalReading
 pub mod JournalText
 pub mod Maybe
 pub mod Modes
+pub mod Names
 pub mod Numbers
 pub mod PiecesView
 pub mod Stamps

@@ -1,8 +1,6 @@
 //! Decoded messages as lines.
 
-ghost use Rattle.std.specs.Prelude.{◌≡◌, ◌+◌, ◌<◌, ◌≤◌, ◌++◌, ◌∷◌, [], OnOk, OnErr, option_copied, codes, decimal, length, IfSome, vec_len, vec_capacity, ◌^◌};
-ghost use Rattle.text_spec.specs.Words.{line_feed, space};
-ghost use Rattle.text_spec.specs.DecodedText.{message_line, form_letter, shown_context, shown_signature};
+ghost use Rattle.text_spec.specs.Names.{◌≡◌, ◌+◌, ◌<◌, ◌≤◌, ◌++◌, ◌∷◌, [], OnOk, OnErr, option_copied, codes, decimal, length, IfSome, vec_len, vec_capacity, ◌^◌, line_feed, space, message_line, form_letter, shown_context, shown_signature};
 
 use crate::hexadecimal::put_hex;
 use crate::numbers::{digits_len, put_field};

@@ -1,5 +1,4 @@
-ghost use Rattle.std.specs.Prelude.{◌≡◌, ◌≤◌, length, take, drop};
-ghost use Rattle.text_spec.specs.Hexadecimal.{some_hex};
+ghost use Rattle.text_spec.specs.Names.{◌≡◌, ◌≤◌, length, take, drop, some_hex};
 
 use crate::hexadecimal::{are_lower_digits, hex_into};
 use std::marker::Model;

@@ -1,13 +1,6 @@
 //! The journal's text.
 
-ghost use Rattle.std.specs.Prelude.{◌≡◌, ℕ, ◌≤◌, List, ◌∷◌, ◌++◌, true, Some, None, Ok, Err, length};
-ghost use Rattle.std.specs.List.{AllByRecursion};
-ghost use Rattle.ids_config.specs.Parts.{Parts};
-ghost use Rattle.text_spec.specs.Fields.{HasForm};
-ghost use Rattle.text_spec.specs.JournalFaults.{is_in_ranges};
-ghost use Rattle.text_spec.specs.JournalForm.{line_forms, told_by};
-ghost use Rattle.text_spec.specs.JournalReading.{BadLine, Fits, Follows, IsJournal, journal_in};
-ghost use Rattle.text_spec.specs.JournalText.{Told, Line, lines_told};
+ghost use Rattle.text_spec.specs.Names.{◌≡◌, ℕ, ◌≤◌, List, ◌∷◌, ◌++◌, true, Some, None, Ok, Err, length, AllByRecursion, Parts, HasForm, is_in_ranges, line_forms, told_by, BadLine, Fits, Follows, IsJournal, journal_in, Told, Line, lines_told};
 
 /// A text is the journal of one history with its losses at most, and is read as them; a text with a
 /// bad line is no journal. A configuration has at most 256 events.

@@ -1,6 +1,4 @@
-ghost use Rattle.std.specs.Prelude.{◌≡◌, ℕ, List, Some, bytes_eq, ◌++◌, ◌+◌, ◌<◌, length, vec_len, vec_capacity, OnOk, OnErr};
-ghost use Rattle.text_spec.specs.Modes.{mode_name as name_of, mode_named as named};
-ghost use Rattle.ids_types.specs.declared.mode.Mode.{Mode};
+ghost use Rattle.text_spec.specs.Names.{◌≡◌, ℕ, List, Some, bytes_eq, ◌++◌, ◌+◌, ◌<◌, length, vec_len, vec_capacity, OnOk, OnErr, mode_name as name_of, mode_named as named, Mode};
 
 use ids_types::{Mode, NoMemory};
 

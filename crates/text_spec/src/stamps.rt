@@ -1,6 +1,4 @@
-ghost use Rattle.std.specs.Prelude.{◌≡◌, ℕ, ◌<◌, ◌^◌, ◌≤◌, List, Option, ◌++◌, OnOk, OnErr, ◌+◌, length, vec_len, vec_capacity};
-ghost use Rattle.text_spec.specs.Stamps.{stamp_in, stamp_text};
-ghost use Rattle.ids_types.specs.declared.names.Stamp.{Stamp};
+ghost use Rattle.text_spec.specs.Names.{◌≡◌, ℕ, ◌<◌, ◌^◌, ◌≤◌, List, Option, ◌++◌, OnOk, OnErr, ◌+◌, length, vec_len, vec_capacity, stamp_in, stamp_text, Stamp};
 
 use crate::hexadecimal::{hex_into, push_hex, put_hex};
 use ids_types::{NoMemory, Stamp};

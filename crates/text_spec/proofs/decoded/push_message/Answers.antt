@@ -1,8 +1,4 @@
-use Rattle.std.proofs.Common.{[], ◌∷◌}
-use Rattle.std.specs.Prelude.{codes, decimal}
-use Rattle.text_spec.specs.DecodedText.{shown_context, shown_signature}
-use Rattle.text_spec.specs.Stamps.{stamp_text}
-use Rattle.text_spec.specs.Words.{line_feed, space}
+use Rattle.text_spec.proofs.Names.{[], ◌∷◌, codes, decimal, shown_context, shown_signature, stamp_text, line_feed, space}
 use Rattle.text_spec.proofs.DecodedLemmas.{texts_put}
 use Rattle.text_spec.proofs.decoded.push_message.Goals as goal
 

@@ -1,4 +1,4 @@
-use Rattle.std.proofs.Common.{sym, ◌∙◌}
+use Rattle.text_spec.proofs.Names.{sym, ◌∙◌}
 use Rattle.text_spec.proofs.JournalLaws.{journal_is_told, told_is_journal, bad_is_none}
 use Rattle.text_spec.proofs.journal.one_journal_for_a_text.Goals as goal
 

@@ -1,7 +1,4 @@
-use Rattle.std.proofs.Common.{map, refl, subst}
-use Rattle.text_spec.specs.JournalFaults.{start}
-use Rattle.text_spec.specs.JournalReading.{AreFaultless}
-use Rattle.text_spec.specs.JournalText.{lines_told, loses}
+use Rattle.text_spec.proofs.Names.{map, refl, subst, start, AreFaultless, lines_told, loses}
 use Rattle.text_spec.proofs.JournalFits.{all_in_ranges, in_order, turns_few}
 use Rattle.text_spec.proofs.journal.what_a_fitting_journal_keeps.Goals as goal
 

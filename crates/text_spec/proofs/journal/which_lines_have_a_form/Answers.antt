@@ -1,6 +1,4 @@
-use Rattle.std.proofs.Common.{subst}
-use Rattle.text_spec.specs.JournalForm.{line_forms}
-use Rattle.text_spec.specs.JournalText.{fields_of}
+use Rattle.text_spec.proofs.Names.{subst, line_forms, fields_of}
 use Rattle.text_spec.proofs.FieldsLaws.{IsTold}
 use Rattle.text_spec.proofs.JournalForms.{line_is}
 use Rattle.text_spec.proofs.journal.which_lines_have_a_form.Goals as goal

@@ -1,5 +1,4 @@
-use Rattle.std.proofs.Common.{sym}
-use Rattle.text_spec.specs.Modes.{all_modes}
+use Rattle.text_spec.proofs.Names.{sym, all_modes}
 use Rattle.text_spec.proofs.ModesLemmas.{named_takes, mode_again}
 use Rattle.text_spec.proofs.modes.one_name_for_a_mode.Goals as goal
 

@@ -1,5 +1,4 @@
-use Rattle.std.proofs.Common.{sym}
-use Rattle.std.specs.Prelude.{Some}
+use Rattle.text_spec.proofs.Names.{sym, Some}
 use Rattle.text_spec.proofs.StampsLemmas.{stamp_again, stamp_takes}
 use Rattle.text_spec.proofs.stamps.one_text_for_a_stamp.Goals as goal
 

@@ -1,0 +1,21 @@
+-- The names that the contracts and the proofs of this crate share, from where they are defined.
+pub use Rattle.std.specs.Int.{byte_at, bytes_high_first, from_be_bytes, is_in_range, to_be_bytes, w64}
+pub use Rattle.std.specs.List.{All, AllByRecursion, flat_map, join_with_byte, list_all, list_any, slice_split}
+pub use Rattle.std.specs.Prelude.{Err, IfSome, List, None, Ok, OnErr, OnOk, Option, Result, Some, [], bytes_eq, codes, decimal, drop, if◌then◌else◌, length, nat_lt, option_and_then, option_copied, option_map, take, true, vec_capacity, vec_len, ℕ, ⊤, ◌++◌, ◌+◌, ◌<◌, ◌^◌, ◌∷◌, ◌≡◌, ◌≤◌}
+pub use Rattle.hex.specs.Hex.{IsBytes, decode_of, encode_lower, lower_digits}
+pub use Rattle.ids_config.specs.Parts.{Parts, is_sensor}
+pub use Rattle.ids_types.specs.Turns.{Turn, begun, entries_of, extended, with_entry}
+pub use Rattle.ids_types.specs.declared.mode.Mode.{Mode}
+pub use Rattle.ids_types.specs.declared.names.Stamp.{Stamp}
+pub use Rattle.text_spec.specs.Contexts.{IsContext, IsContextWord, IsExactContext, a_context, claims_in, colon, context_in, context_word, kept_fields, kept_in, kept_places, mark, numbers_in, point}
+pub use Rattle.text_spec.specs.DecodedText.{form_letter, message_line, shown_context, shown_signature}
+pub use Rattle.text_spec.specs.Fields.{AreExact, AreHeld, AreWritten, Field, Filled, Form, HasForm, Makes, a_mode, a_number, a_stamp, first_as, hex_bytes, put, read_by, simple, the, told_in, told_in_one, words_of_fields}
+pub use Rattle.text_spec.specs.Hexadecimal.{IsWritten, bytes_of, fitting, hex_in, hex_upto, is_lower_digit, some_bytes, some_hex}
+pub use Rattle.text_spec.specs.JournalFaults.{Past, entry_fault, fault_of, has_event, has_pair, is_act, is_call, is_claim, is_context, is_in_ranges, is_pair, loss_fault, next, pair_of, start}
+pub use Rattle.text_spec.specs.JournalForm.{entry_of, line_forms, loss_form, report_form, setting_form, state_form, told_by, turn_form}
+pub use Rattle.text_spec.specs.JournalReading.{AreFaultless, BadLine, Fits, Follows, IsHeld, IsJournal, after_line, at_line, journal_in, past_with}
+pub use Rattle.text_spec.specs.JournalText.{Absent, Act, Carried, Entry, Kept, Line, Loss, Missing, Report, SetMode, State, Told, act_fields, begins, enters, fields_of, line_for, lines_told, loses, turn_told}
+pub use Rattle.text_spec.specs.Maybe.{or_else, ◌>>=◌}
+pub use Rattle.text_spec.specs.Modes.{all_modes, first_named, mode_name, mode_named}
+pub use Rattle.text_spec.specs.Stamps.{stamp_in, stamp_of_bytes, stamp_text}
+pub use Rattle.text_spec.specs.Words.{Free, absent, line_feed, line_of, pieces_of, space, text_of, words_of}
