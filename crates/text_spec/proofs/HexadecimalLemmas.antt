@@ -1,6 +1,7 @@
 -- Hexadecimal: the readings of a word against the text of some bytes, into a room and byte by byte.
-use Rattle.text_spec.proofs.Names.{◌≡◌, ◌⊎◌, ℕ, zero, suc, ◌+◌, ◌*◌, ◌-◌, ◌/◌, ◌%◌, ◌<◌, ◌≤◌, true, false, inl, inr, List, [], ◌∷◌, ◌++◌, add-one, length, slice_index, take, unwrap_or, refl, sym, ap, subst, ◌∙◌, arith, Option, Some, None, option_and_then, option_map, is_in_range, list_all, agree_below_at, and_from, and_parts, cases_Bool, cond-true, cond-false, le-leb, lt-leb, or_cases, length-take-le, IsBytes, decode_of, encode_lower, lower_digits, hex_in, hex_upto, fitting, is_lower_digit, some_bytes, some_hex, bytes_of, IsWritten, ◌>>=◌}
+use Rattle.text_spec.proofs.Names.{◌≡◌, ◌⊎◌, ℕ, zero, suc, ◌+◌, ◌*◌, ◌-◌, ◌/◌, ◌%◌, ◌<◌, ◌≤◌, true, false, inl, inr, List, [], ◌∷◌, ◌++◌, add-one, append_assoc, length, slice_index, take, unwrap_or, refl, sym, ap, subst, ◌∙◌, arith, Option, Some, None, option_and_then, option_map, is_in_range, list_all, agree_below_at, and_from, and_parts, cases_Bool, cond-true, cond-false, le-leb, lt-leb, or_cases, length-take-le, IsBytes, decode_of, encode_lower, lower_digits, hex_in, hex_upto, fitting, is_lower_digit, some_bytes, some_hex, bytes_of, IsWritten, ◌>>=◌}
 use Rattle.std.specs.Result.{result_ok}
+use Rattle.std.proofs.lemmas.List.{take_all, take_more}
 use Rattle.hex.specs.Hex.{decode_pairs, encode_with}
 use Rattle.hex.proofs.HexLemmas.{length-encode_with, decode_of-encode_lower, decode_of-odd}
 
@@ -134,30 +135,28 @@ hex_upto-short room word short = elim (hex_cases word) [
 abbrev pub PairAt : List ℕ → List ℕ → ℕ → Type 0
 PairAt word room k = IsWritten (slice_index room k) (slice_index word (2 * k)) (slice_index word (2 * k + 1))
 
--- a place of a word behind two digits
-two_on : (c d : ℕ) (word : List ℕ) (i k : ℕ) → i ≡ suc (suc k) → slice_index (c ∷ d ∷ word) i ≡ slice_index word k
-two_on c d word i k e = rw e refl
-
--- the byte at a place behind the first
-pair_behind : (c d b : ℕ) (word room : List ℕ) (k : ℕ) → PairAt (c ∷ d ∷ word) (b ∷ room) (suc k) → PairAt word room k
-pair_behind c d b word room k pair = record {
-  high = pair.high ∙ two_on c d word (2 * suc k) (2 * k) (omega arith);
-  low = pair.low ∙ two_on c d word (2 * suc k + 1) (2 * k + 1) (omega arith);
-}
-
--- a word whose digits write the first bytes of a room is their text
-pub pairs_text : (n : ℕ) (word room : List ℕ) → length word ≡ 2 * n → n ≤ length room → ((k : ℕ) → k < n → PairAt word room k)
-    → encode_lower (take n room) ≡ word
+-- the text of one byte more
+encode-push : (bytes : List ℕ) (b : ℕ) → encode_lower (bytes ++ b ∷ []) ≡ encode_lower bytes ++ slice_index lower_digits (b / 16) ∷ slice_index lower_digits (b % 16) ∷ []
 unfolding encode_with
-pairs_text zero [] room len le pairs = refl
-pairs_text zero (c ∷ word) room len le pairs = absurd (omega arith)
-pairs_text (suc n) [] room len le pairs = absurd (omega arith)
-pairs_text (suc n) (c ∷ []) room len le pairs = absurd (omega arith)
-pairs_text (suc n) (c ∷ d ∷ word) [] len le pairs = absurd (omega arith)
-pairs_text (suc n) (c ∷ d ∷ word) (b ∷ room) len le pairs =
-    let first = pairs 0 (omega arith) in
-    let others = pairs_text n word room (omega arith) (omega arith) (λ k lt. pair_behind c d b word room k (pairs (suc k) (omega arith))) in
-    rw (first.high, first.low, others) refl
+encode-push [] b = refl
+encode-push (c ∷ bytes) b = ap (λ (ds : List ℕ). slice_index lower_digits (c / 16) ∷ slice_index lower_digits (c % 16) ∷ ds) (encode-push bytes b)
+
+pub encode_more : (bytes : List ℕ) (i : ℕ) → i < length bytes
+    → encode_lower (take (i + 1) bytes) ≡ encode_lower (take i bytes) ++ slice_index lower_digits (slice_index bytes i / 16) ∷ slice_index lower_digits (slice_index bytes i % 16) ∷ []
+encode_more bytes i inside = ap encode_lower (take_more bytes i 0 inside) ∙ encode-push (take i bytes) (slice_index bytes i)
+
+-- the digits that write the first bytes of a room are their text
+pairs_text : (n : ℕ) (word room : List ℕ) → 2 * n ≤ length word → n ≤ length room → ((k : ℕ) → k < n → PairAt word room k)
+    → encode_lower (take n room) ≡ take (2 * n) word
+unfolding encode_with
+pairs_text zero word room len le pairs = refl
+pairs_text (suc n) word room len le pairs =
+    let last = pairs n (omega arith) in
+    let before = pairs_text n word room (omega arith) (omega arith) (λ k lt. pairs k (omega arith)) in
+    let two : 2 * suc n ≡ 2 * n + 1 + 1 = omega arith in
+    let digits = take_more word (2 * n + 1) 0 (omega arith) ∙ ap (λ ds. ds ++ slice_index word (2 * n + 1) ∷ []) (take_more word (2 * n) 0 (omega arith)) in
+    rw (← add-one n, encode_more room n (omega arith), last.high, last.low, before)
+    (sym (append_assoc (take (2 * n) word) (slice_index word (2 * n) ∷ []) (slice_index word (2 * n + 1) ∷ [])) ∙ sym digits ∙ ap (λ k. take k word) (sym two ∙ ap (λ k. 2 * k) (sym (add-one n))))
 
 -- the first bytes of a room are bytes
 bytes_taken : (n : ℕ) (room : List ℕ) → ((k : ℕ) → k < n → slice_index room k < 256) → IsBytes (take n room)
@@ -170,7 +169,7 @@ bytes_taken (suc n) (b ∷ room) small (suc i) = bytes_taken n room (λ k lt. sm
 pub pairs_read : (n : ℕ) (word room : List ℕ) → ((k : ℕ) → k < n → slice_index room k < 256) → length word ≡ 2 * n → n ≤ length room → ((k : ℕ) → k < n → PairAt word room k)
     → hex_in word ≡ Some (take n room)
 pairs_read n word room fits len le pairs =
-    let text = pairs_text n word room len le pairs in
+    let text = pairs_text n word room (omega arith) le pairs ∙ take_all (2 * n) word (omega arith) in
     ap hex_in (sym text) ∙ hex_in-encode_lower (take n room) (bytes_taken n room fits)
 
 -- and fits a room for as many
@@ -181,19 +180,6 @@ hex_upto-read most n word room fits len le few pairs =
     let read = ap (option_and_then (fitting most)) (pairs_read n word room fits len le pairs) in
     let kept = cond-true _ (Some (take n room)) None (le-leb (length (take n room)) most (omega arith)) in
     ap Some (sym size) ∙ sym (ap (option_map length) (read ∙ kept))
-
--- the text of one byte more
-encode_next : (bytes : List ℕ) (i : ℕ) → i < length bytes
-    → encode_lower (take (suc i) bytes) ≡ encode_lower (take i bytes) ++ slice_index lower_digits (slice_index bytes i / 16) ∷ slice_index lower_digits (slice_index bytes i % 16) ∷ []
-unfolding encode_with
-encode_next [] i inside = absurd (omega arith)
-encode_next (b ∷ bytes) zero inside = refl
-encode_next (b ∷ bytes) (suc i) inside =
-    ap (λ (ds : List ℕ). slice_index lower_digits (b / 16) ∷ slice_index lower_digits (b % 16) ∷ ds) (encode_next bytes i (omega arith))
-
-pub encode_more : (bytes : List ℕ) (i : ℕ) → i < length bytes
-    → encode_lower (take (i + 1) bytes) ≡ encode_lower (take i bytes) ++ slice_index lower_digits (slice_index bytes i / 16) ∷ slice_index lower_digits (slice_index bytes i % 16) ∷ []
-encode_more bytes i inside = rw (add-one i) (encode_next bytes i inside)
 
 -- ---- a byte or more
 

@@ -2,21 +2,6 @@
 use Rattle.text_spec.proofs.Names.{◌≡◌, ℕ, ◌+◌, ◌<◌, ◌≤◌, ◌||◌, true, false, inl, inr, List, [], ◌∷◌, ◌++◌, length, map, get_or, length-set, get_or-set_same, get_or-set_other, set, refl, sym, ap, subst, ◌∙◌, append_assoc, arith, Ok, AllByRecursion, flat_map, list_any, and_from, both_ways, cases_eq, eq-eqb, append-nil, length-append, list_any-append, Parts, Turn, begun, with_entry, entries_of, Past, is_in_ranges, loss_fault, fault_of, next, is_pair, has_pair, pair_of, AreFaultless, Follows, Loss, Entry, Line, begins, enters, loses, turn_told}
 use Rattle.text_spec.proofs.JournalFacts.{entry_passes, flat_map-push, flat_map-with_entry}
 
--- ---- ranges
-
-in_ranges_of : (config : Parts) (past : Past) (line : Line) → fault_of config past line ≡ Ok tt → is_in_ranges config line ≡ true
-in_ranges_of config past (begins head) none = grind (arith, none)
-in_ranges_of config past (enters entry) none =
-    let passes = entry_passes config past entry none in
-    and_from _ _ (and_from _ _ passes.call passes.act) passes.event
-in_ranges_of config past (loses loss) none = grind (arith, none)
-
-pub all_in_ranges : (config : Parts) (past : Past) (lines : List Line) → AreFaultless config past lines → AllByRecursion (λ line. is_in_ranges config line ≡ true) lines
-all_in_ranges config past [] none = tt
-all_in_ranges config past (line ∷ lines) none = (in_ranges_of config past line none.0, all_in_ranges config (next past line) lines none.1)
-
--- ---- order
-
 -- what the lines so far keep of one of them
 abbrev Keeps : Past → Line → Type 0
 Keeps past (begins head) = head.tick ≤ past.tick
@@ -27,55 +12,9 @@ Keeps past (loses loss) = (pair_of loss.caller loss.call < past.pair) × (0 < le
 has_pair-more : (turns : List Turn) (entry : Entry (List ℕ)) (pair : ℕ) → 0 < length turns → has_pair (with_entry turns entry) pair ≡ (has_pair turns pair || (is_pair pair entry || false))
 has_pair-more turns entry pair some = ap (list_any (is_pair pair)) (flat_map-with_entry (λ (turn : Turn). turn.entries) entry turns entry some (λ turn. refl)) ∙ list_any-append (is_pair pair) (entries_of turns) (entry ∷ [])
 
--- a line that was taken is kept
-kept_now : (config : Parts) (past : Past) (line : Line) → length past.calls ≡ 32 → fault_of config past line ≡ Ok tt → Keeps (next past line) line
-kept_now config past (begins head) calls none = omega arith
-kept_now config past (enters entry) calls none =
-    let passes = entry_passes config past entry none in
-    let within : entry.caller < length past.calls = omega (arith, calls, passes.caller) in (
-      rw length-set within,
-      rw (get_or-set_same past.calls entry.caller (entry.call + 1) 0 within) (omega arith),
-      has_pair-more past.told.turns entry (pair_of entry.caller entry.call) passes.some ∙ grind (arith, eq-eqb (pair_of entry.caller entry.call) (pair_of entry.caller entry.call) refl),
-    )
-kept_now config past (loses loss) calls none = (omega arith, rw length-append (omega arith))
-
 -- the pair of a loss without a fault is no entry's
 no_entry : (past : Past) (loss : Loss) → loss_fault past loss ≡ Ok tt → has_pair past.told.turns (pair_of loss.caller loss.call) ≡ false
 no_entry past loss none = grind (arith, none)
-
--- what is kept stays kept, and a line follows it
-kept_on : (config : Parts) (past : Past) (first line : Line) → Keeps past first → fault_of config past line ≡ Ok tt → Keeps (next past line) first × Follows first line
-kept_on config past (begins one) (begins head) keeps none = (grind (arith, keeps, none), grind (arith, keeps, none))
-kept_on config past (begins one) (enters entry) keeps none = (keeps, tt)
-kept_on config past (begins one) (loses loss) keeps none = (keeps, tt)
-kept_on config past (enters one) (begins head) keeps none =
-    let same = flat_map-push (λ (t : Turn). t.entries) past.told.turns (begun head) ∙ append-nil (entries_of past.told.turns) in
-    ((keeps.0, keeps.1, ap (list_any (is_pair (pair_of one.caller one.call))) same ∙ keeps.2), tt)
-kept_on config past (enters one) (enters entry) keeps none =
-    let passes = entry_passes config past entry none in
-    let rises : one.caller ≡ entry.caller → one.call < entry.call = λ own.
-    let before : one.call < get_or past.calls entry.caller 0 = subst (λ c. one.call < get_or past.calls c 0) own keeps.1 in
-    omega (arith, before, passes.rises) in
-    let still : one.call < get_or (set past.calls entry.caller (entry.call + 1)) one.caller 0 = elim (cases_eq one.caller entry.caller) [
-      | inl own ↦
-          let within : entry.caller < length past.calls = subst (λ c. c < length past.calls) own keeps.0 in
-          rw (own, get_or-set_same past.calls entry.caller (entry.call + 1) 0 within) (omega (arith, rises own))
-      | inr other ↦ rw (get_or-set_other past.calls entry.caller one.caller (entry.call + 1) 0 other) keeps.1
-    ] in
-    ((rw length-set keeps.0, still, has_pair-more past.told.turns entry (pair_of one.caller one.call) passes.some ∙ grind (arith, keeps.2)), rises)
-kept_on config past (enters one) (loses loss) keeps none = (
-  keeps,
-  λ same.
-      both_ways (has_pair past.told.turns (pair_of loss.caller loss.call)) (no_entry past loss none) (ap (has_pair past.told.turns) (sym same) ∙ keeps.2),
-)
-kept_on config past (loses one) (begins head) keeps none = (keeps, grind (arith, keeps.1, none))
-kept_on config past (loses one) (enters entry) keeps none = (keeps, grind (arith, keeps.1, none))
-kept_on config past (loses one) (loses loss) keeps none = ((grind (arith, keeps.0, none), rw length-append (omega arith)), grind (arith, keeps.0, none))
-
--- each line follows one that is kept
-later_follows : (config : Parts) (past : Past) (first : Line) (middle : List Line) (last : Line) (behind : List Line) → Keeps past first → AreFaultless config past (middle ++ last ∷ behind) → Follows first last
-later_follows config past first [] last behind keeps none = (kept_on config past first last keeps none.0).1
-later_follows config past first (line ∷ middle) last behind keeps none = later_follows config (next past line) first middle last behind (kept_on config past first line keeps none.0).0 none.1
 
 -- there are 32 callers
 calls_stay : (past : Past) (line : Line) → length past.calls ≡ 32 → length (next past line).calls ≡ 32
@@ -83,25 +22,87 @@ calls_stay past (begins head) calls = calls
 calls_stay past (enters entry) calls = length-set past.calls entry.caller (entry.call + 1) ∙ calls
 calls_stay past (loses loss) calls = calls
 
-pub in_order : (config : Parts) (past : Past) (before : List Line) (first : Line) (middle : List Line) (last : Line) (behind : List Line) → length past.calls ≡ 32
-    → AreFaultless config past (before ++ first ∷ (middle ++ last ∷ behind)) → Follows first last
-in_order config past [] first middle last behind calls none = later_follows config (next past first) first middle last behind (kept_now config past first calls none.0) none.1
-in_order config past (line ∷ before) first middle last behind calls none = in_order config (next past line) before first middle last behind (calls_stay past line calls) none.1
+module _ (config : Parts) where
+  -- ---- ranges
 
--- ---- number
+  in_ranges_of : (past : Past) (line : Line) → fault_of config past line ≡ Ok tt → is_in_ranges config line ≡ true
+  in_ranges_of past (begins head) none = grind (arith, none)
+  in_ranges_of past (enters entry) none =
+      let passes = entry_passes config past entry none in
+      and_from _ _ (and_from _ _ passes.call passes.act) passes.event
+  in_ranges_of past (loses loss) none = grind (arith, none)
 
--- entries without a fault are few, and the lines behind them have none
-few_more : (config : Parts) (past : Past) (entries : List (Entry (List ℕ))) (rest : List Line) → past.entries ≤ 1024 → AreFaultless config past (map enters entries ++ rest)
-    → (past.entries + length entries ≤ 1024) × (later : Past) × AreFaultless config later rest
-few_more config past [] rest few none = (omega arith, past, none)
-few_more config past (entry ∷ entries) rest few none =
-    let here = (entry_passes config past entry none.0).few in
-    let more = few_more config (next past (enters entry)) entries rest (omega arith) none.1 in
-    (omega (arith, more.0), more.1, more.2)
+  pub all_in_ranges : (past : Past) (lines : List Line) → AreFaultless config past lines → AllByRecursion (λ line. is_in_ranges config line ≡ true) lines
+  all_in_ranges past [] none = tt
+  all_in_ranges past (line ∷ lines) none = (in_ranges_of past line none.0, all_in_ranges (next past line) lines none.1)
 
-pub turns_few : (config : Parts) (past : Past) (turns : List Turn) (rest : List Line) → AreFaultless config past (flat_map turn_told turns ++ rest) → AllByRecursion (λ turn. length turn.entries ≤ 1024) turns
-turns_few config past [] rest none = tt
-turns_few config past (turn ∷ turns) rest none =
-    let lines : (map enters turn.entries ++ flat_map turn_told turns) ++ rest ≡ map enters turn.entries ++ (flat_map turn_told turns ++ rest) = append_assoc (map enters turn.entries) (flat_map turn_told turns) rest in
-    let more = few_more config (next past (begins turn.head)) turn.entries (flat_map turn_told turns ++ rest) (omega arith) (subst (AreFaultless config (next past (begins turn.head))) lines none.1) in
-    (omega (arith, more.0), turns_few config more.1 turns rest more.2)
+  -- ---- order
+
+  -- a line that was taken is kept
+  kept_now : (past : Past) (line : Line) → length past.calls ≡ 32 → fault_of config past line ≡ Ok tt → Keeps (next past line) line
+  kept_now past (begins head) calls none = omega arith
+  kept_now past (enters entry) calls none =
+      let passes = entry_passes config past entry none in
+      let within : entry.caller < length past.calls = omega (arith, calls, passes.caller) in (
+        rw length-set within,
+        rw (get_or-set_same past.calls entry.caller (entry.call + 1) 0 within) (omega arith),
+        has_pair-more past.told.turns entry (pair_of entry.caller entry.call) passes.some ∙ grind (arith, eq-eqb (pair_of entry.caller entry.call) (pair_of entry.caller entry.call) refl),
+      )
+  kept_now past (loses loss) calls none = (omega arith, rw length-append (omega arith))
+
+  -- what is kept stays kept, and a line follows it
+  kept_on : (past : Past) (first line : Line) → Keeps past first → fault_of config past line ≡ Ok tt → Keeps (next past line) first × Follows first line
+  kept_on past (begins one) (begins head) keeps none = (grind (arith, keeps, none), grind (arith, keeps, none))
+  kept_on past (begins one) (enters entry) keeps none = (keeps, tt)
+  kept_on past (begins one) (loses loss) keeps none = (keeps, tt)
+  kept_on past (enters one) (begins head) keeps none =
+      let same = flat_map-push (λ (t : Turn). t.entries) past.told.turns (begun head) ∙ append-nil (entries_of past.told.turns) in
+      ((keeps.0, keeps.1, ap (list_any (is_pair (pair_of one.caller one.call))) same ∙ keeps.2), tt)
+  kept_on past (enters one) (enters entry) keeps none =
+      let passes = entry_passes config past entry none in
+      let rises : one.caller ≡ entry.caller → one.call < entry.call = λ own.
+      let before : one.call < get_or past.calls entry.caller 0 = subst (λ c. one.call < get_or past.calls c 0) own keeps.1 in
+      omega (arith, before, passes.rises) in
+      let still : one.call < get_or (set past.calls entry.caller (entry.call + 1)) one.caller 0 = elim (cases_eq one.caller entry.caller) [
+        | inl own ↦
+            let within : entry.caller < length past.calls = subst (λ c. c < length past.calls) own keeps.0 in
+            rw (own, get_or-set_same past.calls entry.caller (entry.call + 1) 0 within) (omega (arith, rises own))
+        | inr other ↦ rw (get_or-set_other past.calls entry.caller one.caller (entry.call + 1) 0 other) keeps.1
+      ] in
+      ((rw length-set keeps.0, still, has_pair-more past.told.turns entry (pair_of one.caller one.call) passes.some ∙ grind (arith, keeps.2)), rises)
+  kept_on past (enters one) (loses loss) keeps none = (
+    keeps,
+    λ same.
+        both_ways (has_pair past.told.turns (pair_of loss.caller loss.call)) (no_entry past loss none) (ap (has_pair past.told.turns) (sym same) ∙ keeps.2),
+  )
+  kept_on past (loses one) (begins head) keeps none = (keeps, grind (arith, keeps.1, none))
+  kept_on past (loses one) (enters entry) keeps none = (keeps, grind (arith, keeps.1, none))
+  kept_on past (loses one) (loses loss) keeps none = ((grind (arith, keeps.0, none), rw length-append (omega arith)), grind (arith, keeps.0, none))
+
+  -- each line follows one that is kept
+  later_follows : (past : Past) (first : Line) (middle : List Line) (last : Line) (behind : List Line) → Keeps past first → AreFaultless config past (middle ++ last ∷ behind) → Follows first last
+  later_follows past first [] last behind keeps none = (kept_on past first last keeps none.0).1
+  later_follows past first (line ∷ middle) last behind keeps none = later_follows (next past line) first middle last behind (kept_on past first line keeps none.0).0 none.1
+
+  pub in_order : (past : Past) (before : List Line) (first : Line) (middle : List Line) (last : Line) (behind : List Line) → length past.calls ≡ 32
+      → AreFaultless config past (before ++ first ∷ (middle ++ last ∷ behind)) → Follows first last
+  in_order past [] first middle last behind calls none = later_follows (next past first) first middle last behind (kept_now past first calls none.0) none.1
+  in_order past (line ∷ before) first middle last behind calls none = in_order (next past line) before first middle last behind (calls_stay past line calls) none.1
+
+  -- ---- number
+
+  -- entries without a fault are few, and the lines behind them have none
+  few_more : (past : Past) (entries : List (Entry (List ℕ))) (rest : List Line) → past.entries ≤ 1024 → AreFaultless config past (map enters entries ++ rest)
+      → (past.entries + length entries ≤ 1024) × (later : Past) × AreFaultless config later rest
+  few_more past [] rest few none = (omega arith, past, none)
+  few_more past (entry ∷ entries) rest few none =
+      let here = (entry_passes config past entry none.0).few in
+      let more = few_more (next past (enters entry)) entries rest (omega arith) none.1 in
+      (omega (arith, more.0), more.1, more.2)
+
+  pub turns_few : (past : Past) (turns : List Turn) (rest : List Line) → AreFaultless config past (flat_map turn_told turns ++ rest) → AllByRecursion (λ turn. length turn.entries ≤ 1024) turns
+  turns_few past [] rest none = tt
+  turns_few past (turn ∷ turns) rest none =
+      let lines : (map enters turn.entries ++ flat_map turn_told turns) ++ rest ≡ map enters turn.entries ++ (flat_map turn_told turns ++ rest) = append_assoc (map enters turn.entries) (flat_map turn_told turns) rest in
+      let more = few_more (next past (begins turn.head)) turn.entries (flat_map turn_told turns ++ rest) (omega arith) (subst (AreFaultless config (next past (begins turn.head))) lines none.1) in
+      (omega (arith, more.0), turns_few more.1 turns rest more.2)

@@ -22,14 +22,10 @@ is_count_lost n = nat_le n (2 ^ 45)
 abbrev pub is_call : ℕ → ℕ → Bool
 is_call caller call = nat_le caller 31 && nat_lt call (2 ^ 40)
 
--- a kept context has 1 to 1,024 bytes, of one of four classes
-abbrev pub is_kept : ℕ → ℕ → List ℕ → Bool
-is_kept class claim bytes = nat_le class 3 && is_claim claim && nat_le 1 (length bytes) && nat_le (length bytes) 1024
-
--- the numbers of a context
+-- the numbers of a context: a kept one has 1 to 1,024 bytes, of one of four classes
 abbrev pub is_context : Carried (List ℕ) → Bool
 is_context Absent = true
-is_context (Kept class claim bytes) = is_kept class claim bytes
+is_context (Kept class claim bytes) = nat_le class 3 && is_claim claim && nat_le 1 (length bytes) && nat_le (length bytes) 1024
 is_context (Missing numbers) = list_all is_claim numbers
 
 -- the numbers of an act, but for the event
@@ -80,25 +76,19 @@ is_pair pair entry = pair_of entry.caller entry.call == pair
 abbrev pub has_pair : List Turn → ℕ → Bool
 has_pair turns pair = list_any (is_pair pair) (entries_of turns)
 
--- nothing is told yet
-abbrev pub nothing : Told
-nothing = record { turns = []; losses = [] }
-
 -- no line was read
 abbrev pub start : Past
-start = record { told = nothing; tick = 0; entries = 0; calls = replicate 32 0; pair = 0 }
-
--- what is told with one line more
-abbrev pub with_line : Told → Line → Told
-with_line told (begins head) = record { turns = told.turns ++ begun head ∷ []; losses = told.losses }
-with_line told (enters entry) = record { turns = with_entry told.turns entry; losses = told.losses }
-with_line told (loses loss) = record { turns = told.turns; losses = told.losses ++ loss ∷ [] }
+start = record { told = record { turns = []; losses = [] }; tick = 0; entries = 0; calls = replicate 32 0; pair = 0 }
 
 -- the lines so far with one more
 abbrev pub next : Past → Line → Past
-next past (begins head) = record past { told = with_line past.told (begins head); tick = head.tick; entries = 0 }
-next past (enters entry) = record past { told = with_line past.told (enters entry); entries = past.entries + 1; calls = slice_set past.calls entry.caller (entry.call + 1) }
-next past (loses loss) = record past { told = with_line past.told (loses loss); pair = pair_of loss.caller loss.call + 1 }
+next past (begins head) = record past { told = record past.told { turns = past.told.turns ++ begun head ∷ [] }; tick = head.tick; entries = 0 }
+next past (enters entry) = record past {
+  told = record past.told { turns = with_entry past.told.turns entry };
+  entries = past.entries + 1;
+  calls = slice_set past.calls entry.caller (entry.call + 1);
+}
+next past (loses loss) = record past { told = record past.told { losses = past.told.losses ++ loss ∷ [] }; pair = pair_of loss.caller loss.call + 1 }
 
 -- ---- the first fault of a line
 

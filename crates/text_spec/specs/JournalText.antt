@@ -27,10 +27,6 @@ pub data Line : Type 0 where
 
 -- ---- the fields of a line
 
--- `T TICK LOST_EVENTS LOST_CONTEXTS LIMITED`
-abbrev pub head_fields : TurnHead → List Filled
-head_fields head = put (the (codes "T")) tt ∷ put a_number head.tick ∷ put a_number head.lost_events ∷ put a_number head.lost_contexts ∷ put a_number head.limited ∷ []
-
 -- `R CALLER CALL EVENT COUNT STAMP CONTEXT`, `C CALLER CALL S STATE` or `C CALLER CALL M EVENT MODE`
 abbrev pub act_fields : ℕ → ℕ → Act (List ℕ) → List Filled
 act_fields caller call (Report event count stamp context) =
@@ -39,15 +35,13 @@ act_fields caller call (State state) = put (the (codes "C")) tt ∷ put a_number
 act_fields caller call (SetMode event mode) =
     put (the (codes "C")) tt ∷ put a_number caller ∷ put a_number call ∷ put (the (codes "M")) tt ∷ put a_number event.0 ∷ put a_mode mode ∷ []
 
--- `L CALLER CALL GIVEN`
-abbrev pub loss_fields : Loss → List Filled
-loss_fields loss = put (the (codes "L")) tt ∷ put a_number loss.caller ∷ put a_number loss.call ∷ put a_number loss.given ∷ []
-
--- the fields of the line that tells this
+-- the fields of the line that tells this; `T TICK LOST_EVENTS LOST_CONTEXTS LIMITED`, and `L CALLER CALL GIVEN`
 abbrev pub fields_of : Line → List Filled
-fields_of (begins head) = head_fields head
+fields_of (begins head) =
+    put (the (codes "T")) tt ∷ put a_number head.tick ∷ put a_number head.lost_events ∷ put a_number head.lost_contexts
+    ∷ put a_number head.limited ∷ []
 fields_of (enters entry) = act_fields entry.caller entry.call entry.act
-fields_of (loses loss) = loss_fields loss
+fields_of (loses loss) = put (the (codes "L")) tt ∷ put a_number loss.caller ∷ put a_number loss.call ∷ put a_number loss.given ∷ []
 
 -- the line of some fields, without its line feed
 abbrev pub line_with : List Filled → List ℕ
@@ -67,10 +61,6 @@ turn_told turn = begins turn.head ∷ map enters turn.entries
 abbrev pub lines_told : Told → List Line
 lines_told told = flat_map turn_told told.turns ++ map loses told.losses
 
--- the lines of a journal
-abbrev pub journal_lines : Told → List (List ℕ)
-journal_lines told = map line_for (lines_told told)
-
 -- the journal of these turns and losses
 abbrev pub journal_text : Told → List ℕ
-journal_text told = text_of (journal_lines told)
+journal_text told = text_of (map line_for (lines_told told))

@@ -28,13 +28,7 @@ impl<'a> HexText<'a> {
     pub fn of(word: &'a [u8]) -> Option<HexText<'a>>
         ensures { result ≡ some_hex word.now }
     {
-        if word.is_empty() {
-            return None;
-        }
-        if word.len() % 2 == 1 {
-            return None;
-        }
-        if !are_lower_digits(word) {
+        if word.is_empty() || word.len() % 2 == 1 || !are_lower_digits(word) {
             return None;
         }
         Some(HexText { digits: word })
