@@ -135,45 +135,46 @@ fields_pass [] (word ∷ words) laws written = absurd written
 fields_pass (field ∷ fields) [] laws written = absurd written
 fields_pass (field ∷ fields) (word ∷ words) laws written = (laws.0.passes word written.0, fields_pass fields words laws.1 written.1)
 
--- ---- forms
+module _ {A : Type 0} (shows : A → List Filled) where
+  -- ---- forms
 
--- what a form makes has the form's letter and its fields
-pub record IsForm {A : Type 0} (shows : A → List Filled) (form : Form A) : Type 1 where
-  pub laws : AreLawful (the form.letter ∷ form.fields)
-  pub is : (values : Values form.fields) → shows (made_of form.fields form.makes values) ≡ put (the form.letter) tt ∷ fill form.fields values
+  -- what a form makes has the form's letter and its fields
+  pub record IsForm (form : Form A) : Type 1 where
+    pub laws : AreLawful (the form.letter ∷ form.fields)
+    pub is : (values : Values form.fields) → shows (made_of form.fields form.makes values) ≡ put (the form.letter) tt ∷ fill form.fields values
 
-abbrev pub AreForms : {A : Type 0} → (A → List Filled) → List (Form A) → Type 1
-AreForms shows [] = Unit {1}
-AreForms shows (form ∷ forms) = IsForm shows form × AreForms shows forms
+  abbrev pub AreForms : List (Form A) → Type 1
+  AreForms [] = Unit {1}
+  AreForms (form ∷ forms) = IsForm form × AreForms forms
 
--- the words have a form, and are those of a line that tells these fields
-pub record Tells {A : Type 0} (forms : List (Form A)) (words : List (List ℕ)) (fields : List Filled) : Type 0 where
-  pub written : HasForm forms words
-  pub held : AreHeld fields
-  pub are : AreExact fields → words ≡ words_of_fields fields
+  -- the words have a form, and are those of a line that tells these fields
+  pub record Tells (forms : List (Form A)) (words : List (List ℕ)) (fields : List Filled) : Type 0 where
+    pub written : HasForm forms words
+    pub held : AreHeld fields
+    pub are : AreExact fields → words ≡ words_of_fields fields
 
--- what holds of words by what they tell in one of some forms
-abbrev pub IsTold : {A : Type 0} → (A → List Filled) → List (Form A) → List (List ℕ) → Option A → Type 0
-IsTold shows forms words None = HasForm forms words → ⊥
-IsTold shows forms words (Some a) = Tells forms words (shows a)
+  -- what holds of words by what they tell in one of some forms
+  abbrev pub IsTold : List (Form A) → List (List ℕ) → Option A → Type 0
+  IsTold forms words None = HasForm forms words → ⊥
+  IsTold forms words (Some a) = Tells forms words (shows a)
 
-told_or : {A : Type 0} (shows : A → List Filled) (form : Form A) (forms : List (Form A)) (words : List (List ℕ)) (one other : Option A) → IsForm shows form
-    → AreReading (the form.letter ∷ form.fields) (λ _. form.makes) words one → IsTold shows forms words other → IsTold shows (form ∷ forms) words (or_else one other)
-told_or shows form forms words None None is none nor = λ written. elim written [ inl here ↦ none here | inr later ↦ nor later ]
-told_or shows form forms words None (Some a) is none later = record { written = inr later.written; held = later.held; are = later.are }
-told_or shows form forms words (Some a) other is here later =
-    subst (Tells (form ∷ forms) words) (sym (ap shows (sym here.made) ∙ is.is here.values.1)) (record { written = inl here.written; held = here.held; are = here.are })
+  told_or : (form : Form A) (forms : List (Form A)) (words : List (List ℕ)) (one other : Option A) → IsForm form
+      → AreReading (the form.letter ∷ form.fields) (λ _. form.makes) words one → IsTold forms words other → IsTold (form ∷ forms) words (or_else one other)
+  told_or form forms words None None is none nor = λ written. elim written [ inl here ↦ none here | inr later ↦ nor later ]
+  told_or form forms words None (Some a) is none later = record { written = inr later.written; held = later.held; are = later.are }
+  told_or form forms words (Some a) other is here later =
+      subst (Tells (form ∷ forms) words) (sym (ap shows (sym here.made) ∙ is.is here.values.1)) (record { written = inl here.written; held = here.held; are = here.are })
 
--- words tell something exactly where they have one of the forms
-pub forms_are : {A : Type 0} (shows : A → List Filled) (forms : List (Form A)) (words : List (List ℕ)) → AreForms shows forms → IsTold shows forms words (told_in_one forms words)
-forms_are shows [] words are = λ written. written
-forms_are shows (form ∷ forms) words are =
-    told_or shows form forms words (told_in form words) (told_in_one forms words) are.0 (fields_are _ (the form.letter ∷ form.fields) (λ _. form.makes) words are.0.laws) (forms_are shows forms words are.1)
+  -- words tell something exactly where they have one of the forms
+  pub forms_are : (forms : List (Form A)) (words : List (List ℕ)) → AreForms forms → IsTold forms words (told_in_one forms words)
+  forms_are [] words are = λ written. written
+  forms_are (form ∷ forms) words are =
+      told_or form forms words (told_in form words) (told_in_one forms words) are.0 (fields_are _ (the form.letter ∷ form.fields) (λ _. form.makes) words are.0.laws) (forms_are forms words are.1)
 
--- the words of a form have only bytes that words have
-pub forms_pass : {A : Type 0} (shows : A → List Filled) (forms : List (Form A)) (words : List (List ℕ)) → AreForms shows forms → HasForm forms words → Pass in_word words
-forms_pass shows [] words are written = absurd written
-forms_pass shows (form ∷ forms) words are written = elim written [
-  | inl here ↦ fields_pass (the form.letter ∷ form.fields) words are.0.laws here
-  | inr later ↦ forms_pass shows forms words are.1 later
-]
+  -- the words of a form have only bytes that words have
+  pub forms_pass : (forms : List (Form A)) (words : List (List ℕ)) → AreForms forms → HasForm forms words → Pass in_word words
+  forms_pass [] words are written = absurd written
+  forms_pass (form ∷ forms) words are written = elim written [
+    | inl here ↦ fields_pass (the form.letter ∷ form.fields) words are.0.laws here
+    | inr later ↦ forms_pass forms words are.1 later
+  ]

@@ -25,6 +25,12 @@ are_forms = (
 pub line_is : (words : List (List ℕ)) → IsTold fields_of line_forms words (told_by words)
 line_is words = forms_are fields_of line_forms words are_forms
 
+pub told_has_form : (words : List (List ℕ)) (line : Line) → told_by words ≡ Some line → HasForm line_forms words
+told_has_form words line read = (subst (IsTold fields_of line_forms words) read (line_is words)).written
+
+pub none_has_none : (words : List (List ℕ)) → told_by words ≡ None → HasForm line_forms words → ⊥
+none_has_none words none = subst (IsTold fields_of line_forms words) none (line_is words)
+
 -- ---- from a line's words to the line
 
 -- a form is read where it is the first
@@ -61,12 +67,11 @@ in_line b = not (b == line_feed)
 -- the words of a line have a form
 has_form : (line : Line) → AreHeld (fields_of line) → AreExact (fields_of line) → HasForm line_forms (words_of_fields (fields_of line))
 has_form line held exact =
-    let words = words_of_fields (fields_of line) in
-    (subst (IsTold fields_of line_forms words) (line_again line held exact) (line_is words)).written
+    told_has_form (words_of_fields (fields_of line)) line (line_again line held exact)
 
 -- words that have a form are cut again
 cut_again : (words : List (List ℕ)) → HasForm line_forms words → words_of (line_of words) ≡ words
-cut_again [] written = absurd (line_is [] written)
+cut_again [] written = absurd (none_has_none [] refl written)
 cut_again (word ∷ words) written = split_joined in_word space word words refl (forms_pass fields_of line_forms (word ∷ words) are_forms written)
 
 -- a line is read as its words

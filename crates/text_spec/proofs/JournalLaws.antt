@@ -18,82 +18,6 @@ at_line_ok : {A : Type 0} (n : ℕ) (r : Result A ℕ) (x : A) → at_line n r �
 at_line_ok n (Ok y) x h = cc h
 at_line_ok n (Err fault) x h = cc h
 
--- ---- from the text to what it tells
-
--- a line that was read, behind the lines before it
-record OneMore (config : Parts) (past now : Past) (text : List ℕ) : Type 0 where
-  line : Line
-  none : fault_of config past line ≡ Ok tt
-  is : next past line ≡ now
-  held : IsHeld line
-  is_text : line_for line ≡ text
-
-one_more : (config : Parts) (past now : Past) (text : List ℕ) (read : Option Line) → length config.events ≤ 256 → IsTold fields_of line_forms (words_of text) read
-    → past_with config past read ≡ Ok now → OneMore config past now text
-one_more config past now text None few is step = cc step
-one_more config past now text (Some line) few is step =
-    let parts = both_ok (fault_of config past line) (Ok (next past line)) now step in
-    let words = is.are (line_exact config past line few parts.0) in
-    record { line = line; none = parts.0; is = cc parts.1; held = is.held; is_text = ap line_of (sym words) ∙ join_with_byte-slice_split space text }
-
--- lines that were read, behind the lines before them
-record AllMore (config : Parts) (past now : Past) (pieces : List (List ℕ)) : Type 0 where
-  lines : List Line
-  none : AreFaultless config past lines
-  held : AllByRecursion IsHeld lines
-  are_told : lines_told now.told ≡ lines_told past.told ++ lines
-  are_pieces : map line_for lines ++ [] ∷ [] ≡ pieces
-
-all_more : (config : Parts) (n : ℕ) (past now : Past) (piece : List ℕ) (pieces : List (List ℕ)) → length config.events ≤ 256 → after_pieces config n past (piece ∷ pieces) ≡ Ok now → AllMore config past now (piece ∷ pieces)
-unfolding after_pieces
-all_more config n past now piece [] few read =
-    let end = asked 1 (length piece == 0) (Ok past) now (at_line_ok n (asks 1 (length piece == 0) >> Ok past) now read) in
-    let same : past ≡ now = cc end.1 in
-    record {
-      lines = [];
-      none = tt;
-      held = tt;
-      are_told = ap (λ (p : Past). lines_told p.told) (sym same) ∙ sym (append-nil (lines_told past.told));
-      are_pieces = ap (λ p. p ∷ []) (sym (nil_from_length piece (eqb-true (length piece) 0 end.0)));
-    }
-all_more config n past now piece (another ∷ pieces) few read =
-    let step = bind_ok (at_line n (after_line config past piece)) (λ then. after_pieces config (suc n) then (another ∷ pieces)) now read in
-    let one = one_more config past step.0 piece (told_by (words_of piece)) few (line_is (words_of piece)) (at_line_ok n (after_line config past piece) step.0 step.1) in
-    let more = all_more config (suc n) step.0 now another pieces few step.2 in
-    record {
-      lines = one.line ∷ more.lines;
-      none = (one.none, subst (λ (p : Past). AreFaultless config p more.lines) (sym one.is) more.none);
-      held = (one.held, more.held);
-      are_told =
-          more.are_told
-          ∙ ap (λ (ls : List Line). ls ++ more.lines) (ap (λ (p : Past). lines_told p.told) (sym one.is) ∙ line_grows config past one.line one.none)
-          ∙ append_assoc (lines_told past.told) (one.line ∷ []) more.lines;
-      are_pieces = ap (λ (t : List ℕ). t ∷ (map line_for more.lines ++ [] ∷ [])) one.is_text ∙ ap (λ (ts : List (List ℕ)). piece ∷ ts) more.are_pieces;
-    }
-
--- pieces of a text that was read; there is one at least
-text_read : (config : Parts) (now : Past) (pieces : List (List ℕ)) → 0 < length pieces → length config.events ≤ 256 → after_pieces config 1 start pieces ≡ Ok now → AllMore config start now pieces
-text_read config now [] some few read = absurd (omega arith)
-text_read config now (piece ∷ pieces) some few read = all_more config 1 start now piece pieces few read
-
--- what a text tells is a journal, and the text is its own
-pub told_is_journal : (config : Parts) (text : List ℕ) (told : Told) → length config.events ≤ 256 → journal_in config text ≡ Ok told → IsJournal config text told
-told_is_journal config text told few read =
-    let pieces = pieces_of line_feed text in
-    let step = bind_ok (after_pieces config 1 start pieces) (λ past. Ok past.told) told read in
-    let same : step.0.told ≡ told = cc step.2 in
-    let some : 0 < length pieces = omega (arith, length-slice_split (λ b. b == line_feed) text) in
-    let all = text_read config step.0 pieces some few step.1 in
-    let texts = map line_for all.lines in
-    subst (IsJournal config text) same (record {
-      fits = record { held = subst (AllByRecursion IsHeld) (sym all.are_told) all.held; faultless = subst (AreFaultless config start) (sym all.are_told) all.none };
-      is_text =
-          sym (join_with_byte-slice_split line_feed text)
-          ∙ ap (join_with_byte line_feed) (sym all.are_pieces)
-          ∙ join_ended texts
-          ∙ ap (λ (ls : List Line). text_of (map line_for ls)) (sym all.are_told);
-    })
-
 -- ---- what lines tell
 
 -- the entries that lines begin with, and what the lines behind them tell
@@ -130,54 +54,138 @@ same_told a b same =
     let groups = sym (grouped-turns a.turns a.losses) ∙ ap grouped same ∙ grouped-turns b.turns b.losses in
     ap (λ (g : Grouped). record { turns = g.turns; losses = g.losses }) groups
 
--- ---- from what is told to its text
+module _ (config : Parts) where
+  -- ---- from the text to what it tells
 
--- the line of what can be told without a fault adds it
-line_adds : (config : Parts) (past : Past) (line : Line) → length config.events ≤ 256 → fault_of config past line ≡ Ok tt → IsHeld line → after_line config past (line_for line) ≡ Ok (next past line)
-line_adds config past line few none held =
-    let exact = line_exact config past line few none in
-    ap (λ ws. past_with config past (told_by ws)) (line_words line held exact)
-    ∙ ap (past_with config past) (line_again line held exact)
-    ∙ ap (λ (r : Result ⊤ ℕ). r >> Ok (next past line)) none
+  -- a line that was read, behind the lines before it
+  record OneMore (past now : Past) (text : List ℕ) : Type 0 where
+    line : Line
+    none : fault_of config past line ≡ Ok tt
+    is : next past line ≡ now
+    held : IsHeld line
+    is_text : line_for line ≡ text
 
--- a piece with others behind it
-more_pieces : (config : Parts) (n : ℕ) (past : Past) (piece : List ℕ) (pieces : List (List ℕ)) → 0 < length pieces
-    → after_pieces config n past (piece ∷ pieces) ≡ (at_line n (after_line config past piece) >>= λ now. after_pieces config (suc n) now pieces)
-unfolding after_pieces
-more_pieces config n past piece [] some = absurd (omega arith)
-more_pieces config n past piece (another ∷ pieces) some = refl
+  one_more : (past now : Past) (text : List ℕ) (read : Option Line) → length config.events ≤ 256 → IsTold fields_of line_forms (words_of text) read
+      → past_with config past read ≡ Ok now → OneMore past now text
+  one_more past now text None few is step = cc step
+  one_more past now text (Some line) few is step =
+      let parts = both_ok (fault_of config past line) (Ok (next past line)) now step in
+      let words = is.are (line_exact config past line few parts.0) in
+      record { line = line; none = parts.0; is = cc parts.1; held = is.held; is_text = ap line_of (sym words) ∙ join_with_byte-slice_split space text }
 
-lines_add : (config : Parts) (n : ℕ) (past : Past) (lines : List Line) → length config.events ≤ 256 → AreFaultless config past lines → AllByRecursion IsHeld lines
-    → (now : Past) × (after_pieces config n past (map line_for lines ++ [] ∷ []) ≡ Ok now) × (lines_told now.told ≡ lines_told past.told ++ lines)
-unfolding after_pieces
-lines_add config n past [] few none held = (past, refl, sym (append-nil (lines_told past.told)))
-lines_add config n past (line ∷ lines) few none held =
-    let rest = lines_add config (suc n) (next past line) lines few none.1 held.1 in
-    let step = more_pieces config n past (line_for line) (map line_for lines ++ [] ∷ []) (omega (arith, length-append (map line_for lines) ([] ∷ []))) in
-    let adds = ap (at_line n) (line_adds config past line few none.0 held.0) in (
-      rest.0,
-      step ∙ ap (λ r. r >>= λ now. after_pieces config (suc n) now (map line_for lines ++ [] ∷ [])) adds ∙ rest.1,
-      rest.2 ∙ ap (λ (ls : List Line). ls ++ lines) (line_grows config past line none.0) ∙ append_assoc (lines_told past.told) (line ∷ []) lines,
-    )
+  -- lines that were read, behind the lines before them
+  record AllMore (past now : Past) (pieces : List (List ℕ)) : Type 0 where
+    lines : List Line
+    none : AreFaultless config past lines
+    held : AllByRecursion IsHeld lines
+    are_told : lines_told now.told ≡ lines_told past.told ++ lines
+    are_pieces : map line_for lines ++ [] ∷ [] ≡ pieces
 
--- no line has a line feed
-lines_free : (config : Parts) (past : Past) (lines : List Line) → length config.events ≤ 256 → AreFaultless config past lines → AllByRecursion IsHeld lines → Pass in_line (map line_for lines)
-lines_free config past [] few none held = tt
-lines_free config past (line ∷ lines) few none held = (line_passes line held.0 (line_exact config past line few none.0), lines_free config (next past line) lines few none.1 held.1)
+  all_more : (n : ℕ) (past now : Past) (piece : List ℕ) (pieces : List (List ℕ)) → length config.events ≤ 256 → after_pieces config n past (piece ∷ pieces) ≡ Ok now → AllMore past now (piece ∷ pieces)
+  unfolding after_pieces
+  all_more n past now piece [] few read =
+      let end = asked 1 (length piece == 0) (Ok past) now (at_line_ok n (asks 1 (length piece == 0) >> Ok past) now read) in
+      let same : past ≡ now = cc end.1 in
+      record {
+        lines = [];
+        none = tt;
+        held = tt;
+        are_told = ap (λ (p : Past). lines_told p.told) (sym same) ∙ sym (append-nil (lines_told past.told));
+        are_pieces = ap (λ p. p ∷ []) (sym (nil_from_length piece (eqb-true (length piece) 0 end.0)));
+      }
+  all_more n past now piece (another ∷ pieces) few read =
+      let step = bind_ok (at_line n (after_line config past piece)) (λ then. after_pieces config (suc n) then (another ∷ pieces)) now read in
+      let one = one_more past step.0 piece (told_by (words_of piece)) few (line_is (words_of piece)) (at_line_ok n (after_line config past piece) step.0 step.1) in
+      let more = all_more (suc n) step.0 now another pieces few step.2 in
+      record {
+        lines = one.line ∷ more.lines;
+        none = (one.none, subst (λ (p : Past). AreFaultless config p more.lines) (sym one.is) more.none);
+        held = (one.held, more.held);
+        are_told =
+            more.are_told
+            ∙ ap (λ (ls : List Line). ls ++ more.lines) (ap (λ (p : Past). lines_told p.told) (sym one.is) ∙ line_grows config past one.line one.none)
+            ∙ append_assoc (lines_told past.told) (one.line ∷ []) more.lines;
+        are_pieces = ap (λ (t : List ℕ). t ∷ (map line_for more.lines ++ [] ∷ [])) one.is_text ∙ ap (λ (ts : List (List ℕ)). piece ∷ ts) more.are_pieces;
+      }
 
--- a journal's own text tells it
-pub journal_is_told : (config : Parts) (text : List ℕ) (told : Told) → length config.events ≤ 256 → IsJournal config text told → journal_in config text ≡ Ok told
-journal_is_told config text told few journal =
-    let lines = lines_told told in
-    let pieces : pieces_of line_feed (text_of (map line_for lines)) ≡ map line_for lines ++ [] ∷ [] = split_text in_line (map line_for lines) refl (lines_free config start lines few journal.fits.faultless journal.fits.held) in
-    let added = lines_add config 1 start lines few journal.fits.faultless journal.fits.held in
-    ap (journal_in config) journal.is_text
-    ∙ ap (λ (ps : List (List ℕ)). after_pieces config 1 start ps >>= λ past. Ok past.told) pieces
-    ∙ ap (λ r. r >>= λ past. Ok past.told) added.1
-    ∙ ap Ok (same_told added.0.told told added.2)
+  -- pieces of a text that was read; there is one at least
+  text_read : (now : Past) (pieces : List (List ℕ)) → 0 < length pieces → length config.events ≤ 256 → after_pieces config 1 start pieces ≡ Ok now → AllMore start now pieces
+  text_read now [] some few read = absurd (omega arith)
+  text_read now (piece ∷ pieces) some few read = all_more 1 start now piece pieces few read
 
--- a text with a bad line is no journal
-pub bad_is_none : (config : Parts) (text : List ℕ) (bad : BadLine) → length config.events ≤ 256 → journal_in config text ≡ Err bad → (told : Told) → IsJournal config text told → ⊥
-bad_is_none config text bad few read told journal =
-    let both : Ok told ≡ Err bad = sym (journal_is_told config text told few journal) ∙ read in
-    cc both
+  -- what a text tells is a journal, and the text is its own
+  pub told_is_journal : (text : List ℕ) (told : Told) → length config.events ≤ 256 → journal_in config text ≡ Ok told → IsJournal config text told
+  told_is_journal text told few read =
+      let pieces = pieces_of line_feed text in
+      let step = bind_ok (after_pieces config 1 start pieces) (λ past. Ok past.told) told read in
+      let same : step.0.told ≡ told = cc step.2 in
+      let some : 0 < length pieces = omega (arith, length-slice_split (λ b. b == line_feed) text) in
+      let all = text_read step.0 pieces some few step.1 in
+      let texts = map line_for all.lines in
+      subst (IsJournal config text) same (record {
+        fits = record { held = subst (AllByRecursion IsHeld) (sym all.are_told) all.held; faultless = subst (AreFaultless config start) (sym all.are_told) all.none };
+        is_text =
+            sym (join_with_byte-slice_split line_feed text)
+            ∙ ap (join_with_byte line_feed) (sym all.are_pieces)
+            ∙ join_ended texts
+            ∙ ap (λ (ls : List Line). text_of (map line_for ls)) (sym all.are_told);
+      })
+
+  -- ---- from what is told to its text
+
+  -- the line of what can be told without a fault adds it
+  line_adds : (past : Past) (line : Line) → length config.events ≤ 256 → fault_of config past line ≡ Ok tt → IsHeld line → after_line config past (line_for line) ≡ Ok (next past line)
+  line_adds past line few none held =
+      let exact = line_exact config past line few none in
+      ap (λ ws. past_with config past (told_by ws)) (line_words line held exact)
+      ∙ ap (past_with config past) (line_again line held exact)
+      ∙ ap (λ (r : Result ⊤ ℕ). r >> Ok (next past line)) none
+
+  -- a piece with others behind it
+  more_pieces : (n : ℕ) (past : Past) (piece : List ℕ) (pieces : List (List ℕ)) → 0 < length pieces
+      → after_pieces config n past (piece ∷ pieces) ≡ (at_line n (after_line config past piece) >>= λ now. after_pieces config (suc n) now pieces)
+  unfolding after_pieces
+  more_pieces n past piece [] some = absurd (omega arith)
+  more_pieces n past piece (another ∷ pieces) some = refl
+
+  lines_add : (n : ℕ) (past : Past) (lines : List Line) → length config.events ≤ 256 → AreFaultless config past lines → AllByRecursion IsHeld lines
+      → (now : Past) × (after_pieces config n past (map line_for lines ++ [] ∷ []) ≡ Ok now) × (lines_told now.told ≡ lines_told past.told ++ lines)
+  unfolding after_pieces
+  lines_add n past [] few none held = (past, refl, sym (append-nil (lines_told past.told)))
+  lines_add n past (line ∷ lines) few none held =
+      let rest = lines_add (suc n) (next past line) lines few none.1 held.1 in
+      let step = more_pieces n past (line_for line) (map line_for lines ++ [] ∷ []) (omega (arith, length-append (map line_for lines) ([] ∷ []))) in
+      let adds = ap (at_line n) (line_adds past line few none.0 held.0) in (
+        rest.0,
+        step ∙ ap (λ r. r >>= λ now. after_pieces config (suc n) now (map line_for lines ++ [] ∷ [])) adds ∙ rest.1,
+        rest.2 ∙ ap (λ (ls : List Line). ls ++ lines) (line_grows config past line none.0) ∙ append_assoc (lines_told past.told) (line ∷ []) lines,
+      )
+
+  -- no line has a line feed
+  lines_free : (past : Past) (lines : List Line) → length config.events ≤ 256 → AreFaultless config past lines → AllByRecursion IsHeld lines → Pass in_line (map line_for lines)
+  lines_free past [] few none held = tt
+  lines_free past (line ∷ lines) few none held = (line_passes line held.0 (line_exact config past line few none.0), lines_free (next past line) lines few none.1 held.1)
+
+  -- a journal's own text tells it
+  pub journal_is_told : (text : List ℕ) (told : Told) → length config.events ≤ 256 → IsJournal config text told → journal_in config text ≡ Ok told
+  journal_is_told text told few journal =
+      let lines = lines_told told in
+      let pieces : pieces_of line_feed (text_of (map line_for lines)) ≡ map line_for lines ++ [] ∷ [] = split_text in_line (map line_for lines) refl (lines_free start lines few journal.fits.faultless journal.fits.held) in
+      let added = lines_add 1 start lines few journal.fits.faultless journal.fits.held in
+      ap (journal_in config) journal.is_text
+      ∙ ap (λ (ps : List (List ℕ)). after_pieces config 1 start ps >>= λ past. Ok past.told) pieces
+      ∙ ap (λ r. r >>= λ past. Ok past.told) added.1
+      ∙ ap Ok (same_told added.0.told told added.2)
+
+  -- a text is the journal of one history and its losses at most
+  pub one_reading : (text : List ℕ) (a b : Told) → length config.events ≤ 256 → IsJournal config text a → IsJournal config text b → a ≡ b
+  one_reading text a b few is_a is_b = cc (sym (journal_is_told text a few is_a) ∙ journal_is_told text b few is_b)
+
+  -- a text with a bad line is no journal
+  pub bad_is_none : (text : List ℕ) (bad : BadLine) → length config.events ≤ 256 → journal_in config text ≡ Err bad → (told : Told) → IsJournal config text told → ⊥
+  bad_is_none text bad few read told journal =
+      let both : Ok told ≡ Err bad = sym (journal_is_told text told few journal) ∙ read in
+      cc both
+
+-- a text has one journal at most, which is read of it
+pub ruleset journal_laws = (one_reading, journal_is_told, told_is_journal, bad_is_none)

@@ -4,6 +4,7 @@ ghost use Rattle.text_spec.specs.Names.{◌≡◌, ℕ, ◌≤◌, List, ◌∷�
 
 /// A text is the journal of one history with its losses at most, and is read as them; a text with a
 /// bad line is no journal. A configuration has at most 256 events.
+#[tactic(auto, using(crate::proofs::JournalLaws::journal_laws))]
 pub fn one_journal_for_a_text()
     ensures one { (config : Parts) (text : List ℕ) (a b : Told) → length config.events ≤ 256 →
         IsJournal config text a → IsJournal config text b → a ≡ b }

@@ -39,6 +39,7 @@ pub fn push_mode(out: &mut Vec<u8>, mode: Mode) -> Result<(), NoMemory>
 }
 
 /// A mode has one name, which is read as it.
+#[tactic(auto, using(crate::proofs::ModesLemmas::mode_again, crate::proofs::ModesLemmas::named_takes))]
 pub fn one_name_for_a_mode()
     ensures read { (mode : Mode) → named (name_of mode) ≡ Some mode }
     ensures only { (word : List ℕ) (mode : Mode) → named word ≡ Some mode → name_of mode ≡ word }

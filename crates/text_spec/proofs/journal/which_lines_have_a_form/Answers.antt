@@ -1,10 +1,5 @@
-use Rattle.text_spec.proofs.Names.{subst, line_forms, fields_of}
-use Rattle.text_spec.proofs.FieldsLaws.{IsTold}
-use Rattle.text_spec.proofs.JournalForms.{line_is}
+use Rattle.text_spec.proofs.JournalForms.{told_has_form, none_has_none}
 use Rattle.text_spec.proofs.journal.which_lines_have_a_form.Goals as goal
 
-pub returns-clause-told : goal.returns-clause-told
-returns-clause-told c = λ words line read. (subst (IsTold fields_of line_forms words) read (line_is words)).written
-
-pub returns-clause-none : goal.returns-clause-none
-returns-clause-none c = λ words none. subst (IsTold fields_of line_forms words) none (line_is words)
+pub returns : goal.returns
+returns c = record { told = told_has_form; none = none_has_none }
