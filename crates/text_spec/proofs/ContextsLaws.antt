@@ -5,7 +5,7 @@ use Rattle.std.specs.Str.Parse.{digits_value}
 use Rattle.text_spec.specs.Numbers.{is_number, capped}
 use Rattle.text_spec.proofs.FieldsLaws.{Told, IsReading, Lawful, AreLawful, in_word, lawful, simple_lawful, AreReading, reads, fields_are, fields_again, fields_pass}
 use Rattle.text_spec.proofs.FrontLemmas.{bind_some, bind_again, chosen, is_some, mapped_some}
-use Rattle.text_spec.proofs.HexadecimalLemmas.{lower_text, some_hex_takes, some_hex_again}
+use Rattle.text_spec.proofs.HexadecimalLemmas.{hex_in-encode_lower, lower_text, some_hex_takes, some_hex_again}
 use Rattle.text_spec.proofs.ModesLemmas.{named_takes, mode_again}
 use Rattle.text_spec.proofs.NumbersLemmas.{number_parts, decimal-told, told-decimal}
 use Rattle.text_spec.proofs.StampsLemmas.{IsBytes-high_first, stamp_takes, stamp_again}
@@ -58,7 +58,7 @@ stamp_lawful = simple_lawful (λ stamp. IfSome stamp (λ s. s.0 < 2 ^ 64)) stamp
 bytes_lawful : Lawful hex_bytes
 bytes_lawful = simple_lawful (λ bytes. IsBytes bytes × (1 ≤ length bytes)) encode_lower some_hex
     (λ word bytes read. let is = some_hex_takes word bytes read in ((is.0.are_bytes, is.1), sym is.0.text))
-    (λ bytes held. some_hex_again (encode_lower bytes) bytes held.1 (record { are_bytes = held.0; text = refl }))
+    (λ bytes held. some_hex_again (encode_lower bytes) bytes held.1 (hex_in-encode_lower bytes held.0))
     (λ bytes held. lower_passes (encode_lower bytes) (lower_text bytes held.0))
 
 -- ---- a kept context

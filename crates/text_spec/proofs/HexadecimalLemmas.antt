@@ -192,9 +192,9 @@ some_bytes_takes (Some (b ∷ read)) bytes h =
     (h, rw (← same) (omega arith))
 
 -- some bytes are kept
-some_bytes_again : (bytes : List ℕ) → 1 ≤ length bytes → some_bytes bytes ≡ Some bytes
-some_bytes_again [] some = absurd (omega arith)
-some_bytes_again (b ∷ bytes) some = refl
+pub some_hex_again : (word bytes : List ℕ) → 1 ≤ length bytes → hex_in word ≡ Some bytes → some_hex word ≡ Some bytes
+some_hex_again word [] some read = absurd (omega arith)
+some_hex_again word (b ∷ bytes) some read = ap (λ o. o >>= some_bytes) read
 
 -- a word that is read as some bytes is their text
 pub some_hex_takes : (word bytes : List ℕ) → some_hex word ≡ Some bytes → IsTextOf word bytes × (1 ≤ length bytes)
@@ -202,22 +202,13 @@ some_hex_takes word bytes read =
     let is = some_bytes_takes (hex_in word) bytes read in
     (hex_in-some word bytes is.0, is.1)
 
--- some bytes are read from their text
-pub some_hex_again : (word bytes : List ℕ) → 1 ≤ length bytes → IsTextOf word bytes → some_hex word ≡ Some bytes
-some_hex_again word bytes some is = ap (λ o. o >>= some_bytes) (hex_in-text word bytes is) ∙ some_bytes_again bytes some
-
--- what is not read is no text of some bytes
-pub not_some_hex : (word : List ℕ) → hex_in word ≡ None → some_hex word ≡ None
-not_some_hex word none = ap (λ o. o >>= some_bytes) none
-
--- nor is one of an odd number of digits
+-- an odd number of digits and another byte are not read, nor is an empty word
 pub some_hex-odd : (word : List ℕ) → length word % 2 ≡ 1 → some_hex word ≡ None
-some_hex-odd word odd = not_some_hex word (hex_in-odd word odd)
+some_hex-odd word odd = ap (λ o. o >>= some_bytes) (hex_in-odd word odd)
 
 pub some_hex-other : (word : List ℕ) → list_all is_lower_digit word ≡ false → some_hex word ≡ None
-some_hex-other word other = not_some_hex word (hex_in-other word other)
+some_hex-other word other = ap (λ o. o >>= some_bytes) (hex_in-other word other)
 
--- an empty word is not read as some bytes
 pub some_hex-empty : (word : List ℕ) → length word ≡ 0 → some_hex word ≡ None
 unfolding decode_pairs
 some_hex-empty [] empty = refl
@@ -235,7 +226,7 @@ hex_in-pairs word all even = elim (by_pairs word all) [
 pub some_hex-pairs : (word : List ℕ) → list_all is_lower_digit word ≡ true → length word % 2 ≡ 0 → 0 < length word → some_hex word ≡ Some (bytes_of word)
 some_hex-pairs word all even some =
     let read = hex_in-pairs word all even in
-    ap (λ o. o >>= some_bytes) read ∙ some_bytes_again (bytes_of word) (omega (arith, length-hex_in word (bytes_of word) read))
+    some_hex_again word (bytes_of word) (omega (arith, length-hex_in word (bytes_of word) read)) read
 
 -- how a word is read
 pub ruleset readings = (some_hex-odd, some_hex-other, some_hex-empty, some_hex-pairs, hex_in-pairs, length-hex_in)

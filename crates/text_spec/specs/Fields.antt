@@ -1,10 +1,7 @@
 -- Lines as lists of fields: what a field may hold, the word for each value, how a word is read, and
 -- how the words of a line are read as its fields, one after another.
 -- Source: the text formats of this project (docs/FORMATS.md).
-use Rattle.std.specs.Prelude.{◌≡◌, ℕ, ◌<◌, ◌^◌, ◌≤◌, ◌⊎◌, true, bytes_eq, List, [], ◌∷◌, length, Option, Some, None, option_map, IfSome, ⊤, decimal, if◌then◌else◌}
-use Rattle.hex.specs.Hex.{IsBytes, encode_lower}
-use Rattle.ids_types.specs.declared.mode.Mode.{Mode}
-use Rattle.ids_types.specs.declared.names.Stamp.{Stamp}
+use Rattle.text_spec.specs.Below.{◌≡◌, ℕ, ◌<◌, ◌^◌, ◌≤◌, ◌⊎◌, true, bytes_eq, List, [], ◌∷◌, length, Option, Some, None, option_map, IfSome, ⊤, decimal, if◌then◌else◌, IsBytes, encode_lower, Mode, Stamp}
 use Rattle.text_spec.specs.Hexadecimal.{some_hex}
 use Rattle.text_spec.specs.Maybe.{◌>>=◌, first_of, ended, or_else}
 use Rattle.text_spec.specs.Modes.{mode_name, mode_named}

@@ -1,11 +1,8 @@
 -- Bytes of a text, in lower-case hexadecimal: two digits each. The text of bytes is `encode_lower` of
 -- the crate hex.
 -- Source: the text formats of this project.
-use Rattle.std.specs.Prelude.{◌≡◌, ℕ, ◌/◌, ◌%◌, ◌||◌, slice_index, nat_le, Bool, List, [], ◌∷◌, length, Option, Some, None, option_and_then, unwrap_or, if◌then◌else◌}
-use Rattle.std.specs.Int.{is_in_range}
-use Rattle.std.specs.List.{list_all}
+use Rattle.text_spec.specs.Below.{◌≡◌, ℕ, ◌/◌, ◌%◌, ◌||◌, slice_index, nat_le, Bool, List, [], ◌∷◌, length, Option, Some, None, option_and_then, unwrap_or, if◌then◌else◌, is_in_range, list_all, decode_of, lower_digits}
 use Rattle.std.specs.Result.{result_ok}
-use Rattle.hex.specs.Hex.{decode_of, lower_digits}
 use Rattle.text_spec.specs.Maybe.{◌>>=◌}
 
 -- whether this character is a digit of lower-case hexadecimal: `0` to `9` or `a` to `f`

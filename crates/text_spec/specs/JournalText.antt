@@ -1,7 +1,6 @@
 -- The journal: the text of a history and its losses, a line for each turn, each entry and each loss.
 -- Source: the text formats of this project (docs/FORMATS.md).
-use Rattle.std.specs.Prelude.{ℕ, List, [], ◌∷◌, ◌++◌, map, codes}
-use Rattle.std.specs.List.{flat_map}
+use Rattle.text_spec.specs.Below.{ℕ, List, [], ◌∷◌, ◌++◌, map, codes, flat_map, Turn}
 pub use Rattle.ids_types.specs.declared.entry.Act.TheVariants.{Report, State, SetMode}
 pub use Rattle.ids_types.specs.declared.entry.Act.{Act}
 pub use Rattle.ids_types.specs.declared.entry.Carried.TheVariants.{Absent, Kept, Missing}
@@ -9,7 +8,6 @@ pub use Rattle.ids_types.specs.declared.entry.Carried.{Carried}
 pub use Rattle.ids_types.specs.declared.entry.Entry.{Entry}
 pub use Rattle.ids_types.specs.declared.entry.TurnHead.{TurnHead}
 pub use Rattle.ids_types.specs.declared.loss.Loss.{Loss}
-use Rattle.ids_types.specs.Turns.{Turn}
 use Rattle.text_spec.specs.Contexts.{a_context}
 use Rattle.text_spec.specs.Fields.{Filled, the, a_number, a_stamp, a_mode, put, words_of_fields}
 use Rattle.text_spec.specs.Words.{line_of, text_of}

@@ -1,3 +1,4 @@
+pub mod Below
 pub mod Contexts
 pub mod DecodedText
 pub mod Fields

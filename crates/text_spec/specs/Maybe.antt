@@ -1,5 +1,5 @@
 -- Steps that may find nothing.
-use Rattle.std.specs.Prelude.{List, [], ◌∷◌, Option, Some, None}
+use Rattle.text_spec.specs.Below.{List, [], ◌∷◌, Option, Some, None}
 
 -- the second step, where the first found something
 infixl 10 ◌>>=◌

@@ -1,7 +1,6 @@
 -- The names of the reporting modes.
 -- Source: the text formats of this project (docs/FORMATS.md).
-use Rattle.std.specs.Prelude.{ℕ, List, [], ◌∷◌, bytes_eq, codes, Option, Some, None, if◌then◌else◌}
-use Rattle.ids_types.specs.declared.mode.Mode.{Mode}
+use Rattle.text_spec.specs.Below.{ℕ, List, [], ◌∷◌, bytes_eq, codes, Option, Some, None, if◌then◌else◌, Mode}
 use Rattle.ids_types.specs.declared.mode.Mode.TheVariants.{Off, Brief, Detailed, BriefBypassing, DetailedBypassing}
 
 -- the name of a mode

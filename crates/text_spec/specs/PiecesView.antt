@@ -1,5 +1,5 @@
 -- What contracts see of the pieces that are still to be read.
-use Rattle.std.specs.Prelude.{ℕ, List, [], Option, Some, None}
+use Rattle.text_spec.specs.Below.{ℕ, List, [], Option, Some, None}
 use Rattle.text_spec.specs.Words.{pieces_of}
 
 -- the pieces between the bytes that are the separator, none where there is no text

@@ -1,9 +1,6 @@
 -- The optional timestamp of a text: `-`, or 16 lower-case hexadecimal digits, the high ones first.
 -- Source: the text formats of this project.
-use Rattle.std.specs.Prelude.{ℕ, ◌==◌, List, length, bytes_eq, Option, Some, None, option_and_then, if◌then◌else◌}
-use Rattle.std.specs.Int.{w64, to_be_bytes, from_be_bytes}
-use Rattle.hex.specs.Hex.{encode_lower}
-use Rattle.ids_types.specs.declared.names.Stamp.{Stamp}
+use Rattle.text_spec.specs.Below.{ℕ, ◌==◌, List, length, bytes_eq, Option, Some, None, option_and_then, if◌then◌else◌, w64, to_be_bytes, from_be_bytes, encode_lower, Stamp}
 use Rattle.text_spec.specs.Hexadecimal.{hex_in}
 use Rattle.text_spec.specs.Words.{absent}
 
