@@ -1,11 +1,11 @@
-ghost use Rattle.std.specs.Prelude.{◌≡◌, ◌<◌, ◌≤◌, [], ◌∷◌, ◌++◌, length, IfOk, OnOk, OnErr};
+ghost use Rattle.std.specs.Prelude.{◌≡◌, ◌<◌, ◌≤◌, [], ◌∷◌, ◌++◌, length, IfOk, OnOk, OnErr, IsTrue, ◌↔◌};
 ghost use Rattle.ids_types.specs.Turns.{begun, with_entry, turn_at, entry_at, entries_of, context_bytes, HasRoom, room_after, wider_room, emptied};
 ghost use Rattle.ids_types.specs.Plain.{plain_entry, kept_bytes};
 
 use crate::entry::{Entry, TurnHead};
 use crate::memory::NoMemory;
 use crate::parcel::Plain;
-use crate::placing::{lent, row_of};
+use crate::placing::{lent, put_bytes, row_of};
 use crate::rows::{EntryRow, TurnRow};
 use crate::walk::Walk;
 use std::alloc::Global;
@@ -81,6 +81,13 @@ impl History {
         Ok(())
     }
 
+    /// Whether there is room for so many turns, entries and bytes of context.
+    pub fn has_room(&self, turns: u64, entries: u64, bytes: u64) -> bool
+        ensures { IsTrue result ↔ HasRoom self.now.room turns entries bytes }
+    {
+        turns <= self.turns_left && entries <= self.entries_left && bytes <= self.bytes_left
+    }
+
     /// Begins a turn, which has no entries yet.
     pub fn begin(&mut self, head: &TurnHead)
         requires { 1 ≤ self.old.room.turns }
@@ -105,7 +112,7 @@ impl History {
     {
         let bytes = entry.kept_bytes();
         let row = row_of(entry, self.bytes.len(), &mut self.numbers);
-        self.bytes.extend_from_slice(bytes).unwrap();
+        put_bytes(&mut self.bytes, bytes);
         self.bytes_left -= bytes.len() as u64;
         self.entries.push_reserved(row);
         self.entries_left -= 1;

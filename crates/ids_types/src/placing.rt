@@ -68,11 +68,34 @@ fn put_context(numbers: &mut Vec<u64>, context: &Carried<Plain<'_>>, start: usiz
             numbers.push_reserved((start + parcel.0.len()) as u64);
             RowKind::Holding(*class)
         }
-        Carried::Missing(asked) => {
-            let asked = asked.as_slice();
-            numbers.extend_from_slice(asked).unwrap();
-            RowKind::Lacking(asked.len() as u8)
-        }
+        Carried::Missing(asked) => RowKind::Lacking(put_asked(numbers, asked.again())),
+    }
+}
+
+/// Adds the numbers of a context that found no buffer, and tells how many they are. They come by value,
+/// so that an entry without them needs no place in memory on its way into a row.
+#[inline(never)]
+fn put_asked(numbers: &mut Vec<u64>, asked: Numbers) -> u8
+    requires { vec_len numbers.old + 4 ≤ vec_capacity numbers.old }
+    ensures numbers { numbers.new.items ≡ numbers.old.items ++ asked }
+    ensures few { vec_len numbers.new ≤ vec_len numbers.old + 4 }
+    ensures capacity { vec_capacity numbers.old ≤ vec_capacity numbers.new }
+    ensures count { result ≡ length asked }
+{
+    let asked = asked.as_slice();
+    numbers.extend_from_slice(asked).unwrap();
+    asked.len() as u8
+}
+
+/// Adds the bytes of a context. Most entries have none.
+pub(crate) fn put_bytes(out: &mut Vec<u8>, bytes: &[u8])
+    requires { vec_len out.old + length bytes.now ≤ vec_capacity out.old }
+    ensures items { out.new.items ≡ out.old.items ++ bytes.now }
+    ensures len { vec_len out.new ≡ vec_len out.old + length bytes.now }
+    ensures capacity { vec_capacity out.old ≤ vec_capacity out.new }
+{
+    if !bytes.is_empty() {
+        out.extend_from_slice(bytes).unwrap();
     }
 }
 

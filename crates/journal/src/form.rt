@@ -12,7 +12,7 @@ ghost use Rattle.ids_types.specs.declared.entry.Carried.TheVariants.{Missing};
 
 use crate::line::{RawAct, RawContext, RawEntry, RawLine, RawLoss};
 use ids_types::{Mode, Numbers, TurnHead};
-use text_spec::{HexText, Pieces, mode, number};
+use text_spec::{HexText, Pieces, mode};
 
 /// What a line of these words tells, `None` where it has no form.
 pub(crate) fn line_of(words: Pieces<'_>) -> Option<RawLine<'_>>
@@ -140,6 +140,7 @@ fn loss_of(words: Pieces<'_>) -> Option<RawLine<'_>>
 }
 
 /// The context at the front, and the words behind it.
+#[inline(always)]
 fn context_first(words: Pieces<'_>) -> Option<(RawContext<'_>, Pieces<'_>)>
     ensures { option_map (λ x. (context_told x.0, x.1)) result ≡ first_as a_context words.entry }
 {
@@ -149,6 +150,7 @@ fn context_first(words: Pieces<'_>) -> Option<(RawContext<'_>, Pieces<'_>)>
 }
 
 /// `-`, `CLASS:CLAIM:HEX`, or `!` and numbers.
+#[inline(always)]
 fn context_of(word: &[u8]) -> Option<RawContext<'_>>
     ensures { option_map context_told result ≡ context_in word.now }
 {
@@ -163,12 +165,14 @@ fn context_of(word: &[u8]) -> Option<RawContext<'_>>
 }
 
 /// The numbers of a missing context.
+#[inline(never)]
 fn missing_of<'a>(word: &[u8]) -> Option<RawContext<'a>>
     ensures { option_map context_told result ≡ option_map Missing (claims_in word.now) }
 {
     Some(RawContext::Missing(claims_of(word)?))
 }
 
+#[inline(never)]
 fn kept_of(pieces: Pieces<'_>) -> Option<RawContext<'_>>
     ensures { option_map context_told result ≡ kept_in pieces.entry }
 {
@@ -200,10 +204,11 @@ fn numbers_of(pieces: Pieces<'_>) -> Option<Numbers>
     let mut values = [0; 4];
     let mut rest = pieces;
     for i in 0..4 {
-        let Some((word, next)) = rest.first() else {
+        if rest.is_empty() {
             return Some(Numbers::make(&values[..i]));
-        };
-        values[i] = number(word)?;
+        }
+        let (value, next) = rest.any_number()?;
+        values[i] = value;
         rest = next;
     }
     rest.ended(Numbers::make(&values))

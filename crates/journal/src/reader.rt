@@ -33,17 +33,10 @@ pub(crate) struct Reader {
     pub(crate) pair: u64,
     /// Caller and call of each entry, as one number: once there are losses.
     pub(crate) pairs: BTreeSet<u64>,
-    /// How many turns, entries and bytes of context the history has room for.
-    turns_left: u64,
-    entries_left: u64,
-    bytes_left: u64,
     /// Where a context is decoded.
     room: [u8; 1024],
     ghost known: { 0 < length losses.items → (p : ℕ) → p < 2 ^ 48 →
         set_contains nat_cmp pairs p ≡ has_pair history.turns p },
-    ghost of_turns: { turns_left ≤ history.room.turns },
-    ghost of_entries: { entries_left ≤ history.room.entries },
-    ghost of_bytes: { bytes_left ≤ history.room.bytes },
 }
 
 impl Reader {
@@ -66,9 +59,6 @@ impl Reader {
             calls: [0; 32],
             pair: 0,
             pairs: BTreeSet::new(alloc),
-            turns_left: 0,
-            entries_left: 0,
-            bytes_left: 0,
             room: [0; MAX_BYTES],
         })
     }
@@ -96,9 +86,8 @@ impl Reader {
             Took (past_of self.new) (added past (begins head.now) (head_fault past head.now)) result }
     {
         self.check_head(head)?;
-        let left = turn_room(&mut self.history, self.turns_left)?;
+        turn_room(&mut self.history)?;
         self.history.begin(head);
-        self.turns_left = left - 1;
         self.tick = head.tick;
         self.entries = 0;
         Ok(())
@@ -120,16 +109,9 @@ impl Reader {
     {
         self.check_entry(config, entry)?;
         let len = decode_context(&entry.act, &mut self.room);
-        let (entries, bytes) = entry_room(
-            &mut self.history,
-            self.entries_left,
-            self.bytes_left,
-            len as u64,
-        )?;
+        entry_room(&mut self.history, len as u64)?;
         let entry = entry_of(entry, &self.room[..len]);
         self.history.add(&entry);
-        self.entries_left = entries - 1;
-        self.bytes_left = bytes - len as u64;
         self.calls[entry.caller as usize] = entry.call + 1;
         self.entries += 1;
         Ok(())

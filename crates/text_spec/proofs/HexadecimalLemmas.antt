@@ -172,14 +172,13 @@ pairs_read n word room fits len le pairs =
     let text = pairs_text n word room (omega arith) le pairs ∙ take_all (2 * n) word (omega arith) in
     ap hex_in (sym text) ∙ hex_in-encode_lower (take n room) (bytes_taken n room fits)
 
--- and fits a room for as many
-pub hex_upto-read : (most n : ℕ) (word room : List ℕ) → ((k : ℕ) → k < n → slice_index room k < 256) → length word ≡ 2 * n → n ≤ length room → n ≤ most → ((k : ℕ) → k < n → PairAt word room k)
+-- and what is read fits a room for as many
+pub hex_upto-read : (most n : ℕ) (word room : List ℕ) → hex_in word ≡ Some (take n room) → n ≤ length room → n ≤ most
     → Some n ≡ option_map length (hex_upto most word)
-hex_upto-read most n word room fits len le few pairs =
+hex_upto-read most n word room is le few =
     let size : length (take n room) ≡ n = length-take-le n room le in
-    let read = ap (option_and_then (fitting most)) (pairs_read n word room fits len le pairs) in
     let kept = cond-true _ (Some (take n room)) None (le-leb (length (take n room)) most (omega arith)) in
-    ap Some (sym size) ∙ sym (ap (option_map length) (read ∙ kept))
+    ap Some (sym size) ∙ sym (ap (option_map length) (ap (option_and_then (fitting most)) is ∙ kept))
 
 -- ---- a byte or more
 

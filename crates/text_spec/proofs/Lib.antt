@@ -12,5 +12,4 @@ pub mod Names
 pub mod NumbersLemmas
 pub mod PiecesLemmas
 pub mod StampsLemmas
-pub mod TestsLemmas
 pub mod WordsLemmas

@@ -1,12 +1,20 @@
--- The first piece of a text that is cut at a separator.
-use Rattle.std.proofs.Common.{◌≡◌, ℕ, ◌+◌, ◌==◌, Bool, ◌<◌, List, [], ◌∷◌, length, take, drop, Some, None, sym, ap, subst, ◌∙◌, arith, inl, inr}
-use Rattle.std.specs.Prelude.{Option, nat_lt, position}
-use Rattle.std.specs.List.{slice_split, position_or_len}
-use Rattle.std.proofs.lemmas.Bool.{cases_Bool, cond-true, cond-false, false_from_ne_true, ltb-true, ltb-false}
+-- The first piece of a text that is cut at a separator, and the number that it writes.
+use borrow.Author.Count.{below_none, below_more}
+use Rattle.std.proofs.Common.{◌≡◌, ◌≢◌, ◌≤◌, ℕ, ◌+◌, ◌==◌, Bool, true, false, not, ◌||◌, ◌<◌, List, [], ◌∷◌, length, take, drop, get_or, Some, None, sym, ap, subst, ◌∙◌, arith, inl, inr}
+use Rattle.std.specs.Prelude.{Option, nat_lt, position, option_map, ◌&&◌}
+use Rattle.std.specs.Char.{is_ascii_digit}
+use Rattle.std.specs.List.{slice_split, position_or_len, list_all}
+use Rattle.std.specs.Str.Parse.{digits_value}
+use Rattle.std.proofs.lemmas.Bool.{cases_Bool, cond-true, cond-false, false_from_ne_true, ltb-true, ltb-false, both_ways, eq-eqb, eqb-true, ne_eqb}
 use Rattle.std.proofs.lemmas.Option.{none-some, cond_some}
-use Rattle.std.proofs.lemmas.List.Splits.{slice_split_first, slice_split_none}
-use Rattle.std.proofs.lemmas.List.Sums.{fails_before_first, position_or_len_is}
+use Rattle.std.proofs.lemmas.List.{take_all, length-take, get_or-take}
+use Rattle.std.proofs.lemmas.List.Elements.{All-from_get_or}
+use Rattle.std.proofs.lemmas.List.Folds.{list_all_at}
+use Rattle.std.proofs.lemmas.List.Splits.{slice_split_first, slice_split_none, length-slice_split}
+use Rattle.std.proofs.lemmas.List.Sums.{fails_before_first, passes_at_first, position_or_len_is}
 use Rattle.memchr.specs.Find.{IsFirstByte, is_byte}
+use Rattle.text_spec.specs.Fields.{a_number, first_as}
+use Rattle.text_spec.specs.Numbers.{is_number, capped, zero_digit}
 
 -- the first piece ends at the first separator
 pub cut_some : (p : ℕ → Bool) (text : List ℕ) (end : ℕ) → position p text ≡ Some end
@@ -47,3 +55,61 @@ first_is_position c text (Some k) first =
     position_or_len_is (λ b. b == c) text k 0 (omega (arith, first.0.high)) (λ j below. false_from_ne_true _ (first.0.before j (omega arith) below)) (λ within. first.1) in
     let within = first.0.high in
     sym (cond-true (nat_lt (position_or_len (λ b. b == c) text) (length text)) _ None (grind (arith, at, within)) ∙ ap Some at)
+
+-- ---- numbers in front
+
+-- what stands before the first separator is the first piece
+pub first_piece : (c : ℕ) (text : List ℕ) (i : ℕ) → i < length text → ((k : ℕ) → k < i → (get_or text k 0 == c) ≡ false)
+    → (get_or text i 0 == c) ≡ true → slice_split (λ b. b == c) text ≡ take i text ∷ slice_split (λ b. b == c) (drop (i + 1) text)
+first_piece c text i inside before at =
+    let first = position_or_len_is (λ b. b == c) text i 0 (omega arith) before (λ _. at) in
+    slice_split_first (λ b. b == c) text 0 (omega (arith, first))
+    ∙ ap (λ k. take k text ∷ slice_split (λ b. b == c) (drop (k + 1) text)) first
+
+-- a text without the separator is its only piece
+pub whole_piece : (c : ℕ) (text : List ℕ) → ((k : ℕ) → k < length text → (get_or text k 0 == c) ≡ false) → slice_split (λ b. b == c) text ≡ text ∷ []
+whole_piece c text free = slice_split_none _ text (All-from_get_or (λ x. (x == c) ≡ false) text 0 free)
+
+-- a word with a byte that is no digit is no number
+strange_word : (word : List ℕ) → list_all is_ascii_digit word ≡ false → a_number.reading word ≡ None
+strange_word [] strange = cc
+strange_word (x ∷ xs) strange =
+    let none : is_number (x ∷ xs) ≡ false = ap (λ (b : Bool). b && (not (x == zero_digit) || length xs == 0)) strange in
+    ap (option_map capped) (cond-false _ (Some (digits_value 10 (x ∷ xs))) None none)
+
+-- nor is a first piece that has one
+pub no_number : (c : ℕ) (text : List ℕ) (i : ℕ) → i < length text → ((k : ℕ) → k < i + 1 → (get_or text k 0 == c) ≡ false)
+    → is_ascii_digit (get_or text i 0) ≡ false → first_as a_number (slice_split (λ b. b == c) text) ≡ None
+no_number c text i inside before strange =
+    let end = position_or_len (λ b. b == c) text in
+    let past : i < end = elim (cases_Bool (nat_lt i end)) [
+      | inl below ↦ ltb-true i end below
+      | inr not_below ↦
+          let low = ltb-false i end not_below in
+          absurd (both_ways _ (before end (omega (arith, low))) (passes_at_first (λ b. b == c) text 0 (omega (arith, low))))
+    ] in
+    let first : (ws : List (List ℕ)) × (slice_split (λ b. b == c) text ≡ take end text ∷ ws) = elim (cases_Bool (nat_lt end (length text))) [
+      | inl ends ↦ (slice_split (λ b. b == c) (drop (end + 1) text), slice_split_first (λ b. b == c) text 0 (ltb-true end (length text) ends))
+      | inr goes_on ↦
+          let far = ltb-false end (length text) goes_on in
+          ([], slice_split_none _ text (All-from_get_or (λ x. (x == c) ≡ false) text 0 (λ k below. fails_before_first (λ b. b == c) text k 0 (omega (arith, far))))
+              ∙ ap (λ w. w ∷ []) (sym (take_all end text (omega (arith, far)))))
+    ] in
+    let strange_there = list_all_at is_ascii_digit (take end text) i 0 (omega (arith, past, length-take end text)) (ap is_ascii_digit (get_or-take end text i 0 past) ∙ strange) in
+    ap (first_as a_number) first.1 ∙ ap (λ (o : Option ℕ). option_map (λ x. (x, first.0)) o) (strange_word (take end text) strange_there)
+
+-- a text has a piece
+pub some_piece : (c : ℕ) (text : List ℕ) → (length (slice_split (λ b. b == c) text) == 0) ≡ false
+some_piece c text = ne_eqb _ 0 (λ none. omega (arith, length-slice_split (λ b. b == c) text, none))
+
+-- the number in front is the first piece's
+pub number_first : (pieces : List (List ℕ)) (word : List ℕ) (behind : List (List ℕ)) (told : Option ℕ) → pieces ≡ word ∷ behind → told ≡ a_number.reading word
+    → option_map (λ n. (n, behind)) told ≡ first_as a_number pieces
+number_first pieces word behind told is read = ap (option_map (λ (n : ℕ). (n, behind))) read ∙ sym (ap (first_as a_number) is)
+
+-- a first piece of one byte
+pub short_piece : (c : ℕ) (text : List ℕ) → 2 ≤ length text → get_or text 0 0 ≢ c → get_or text 1 0 ≡ c
+    → slice_split (λ b. b == c) text ≡ take 1 text ∷ slice_split (λ b. b == c) (drop 2 text)
+short_piece c text long other ends =
+    let Other : ℕ → Type 0 = λ k. (get_or text k 0 == c) ≡ false in
+    first_piece c text 1 long (below_more Other 0 (below_none Other) (ne_eqb _ _ other)) (eq-eqb _ _ ends)

@@ -1,6 +1,6 @@
 ghost use Rattle.text_spec.specs.Names.{◌≡◌, ◌≤◌, length, take, drop, some_hex};
 
-use crate::hexadecimal::{are_lower_digits, hex_into};
+use crate::hexadecimal::{are_lower_digits, put_bytes};
 use std::marker::Model;
 
 /// A byte or more as a word of lower-case hexadecimal, not decoded yet: the word is lent, however long
@@ -49,6 +49,7 @@ impl<'a> HexText<'a> {
         ensures rest { drop result room.new ≡ drop result room.old }
         ensures same { length room.new ≡ length room.old }
     {
-        hex_into(self.digits, room).unwrap()
+        put_bytes(self.digits, room);
+        self.len()
     }
 }

@@ -1,4 +1,4 @@
-ghost use Rattle.std.specs.Prelude.{◌≡◌, ℕ, ◌<◌, ◌≤◌, ◌&&◌, List, length, take, drop, option_map, IfSome, IfNone, IsTrue, ◌++◌, ◌*◌, OnOk, OnErr, ◌+◌, vec_len, vec_capacity, slice_index, false};
+ghost use Rattle.std.specs.Prelude.{◌≡◌, ℕ, ◌/◌, ◌%◌, ◌<◌, ◌≤◌, List, length, take, drop, option_map, IfSome, IfNone, IsTrue, ◌++◌, ◌*◌, OnOk, OnErr, ◌+◌, vec_len, vec_capacity, slice_index};
 ghost use Rattle.std.specs.List.{list_all};
 ghost use Rattle.hex.specs.Hex.{IsBytes, encode_lower, lower_digits};
 ghost use Rattle.text_spec.specs.Hexadecimal.{hex_in, hex_upto, is_lower_digit as writes_digit, IsWritten};
@@ -7,41 +7,57 @@ use ids_types::NoMemory;
 
 /// Decodes a word of lower-case hexadecimal into the front of `room`, and returns how many bytes.
 ///
-/// `None` where the word is no such text, or its bytes do not fit the room: what the room then holds
-/// is unspecified. An empty word has no bytes. Each digit is looked at once.
+/// `None` where the word is no such text, or its bytes do not fit the room. An empty word has no bytes.
 pub fn hex_into(word: &[u8], room: &mut [u8]) -> Option<usize>
     ensures count { result ≡ option_map length (hex_upto (length room.old) word.now) }
     ensures bytes { IfSome result (λ n. hex_in word.now ≡ Some (take n room.new)) }
     ensures rest { IfSome result (λ n. drop n room.new ≡ drop n room.old) }
+    ensures same { IfNone result (room.new ≡ room.old) }
 {
     let count = word.len() / 2;
     if word.len() % 2 == 1 || room.len() < count {
         return None;
     }
-    for i in 0..count {
-        room[i] = byte_of(word[2 * i], word[2 * i + 1])?;
+    if !are_lower_digits(word) {
+        return None;
     }
+    put_bytes(word, room);
     Some(count)
 }
 
-/// The byte that two digits write.
-fn byte_of(high: u8, low: u8) -> Option<u8>
-    ensures none { IfNone result ((writes_digit high && writes_digit low) ≡ false) }
-    ensures some { IfSome result (λ byte. IsWritten byte high low) }
+/// Decodes pairs of digits into the front of `room`. That they are digits is not looked at again.
+pub(crate) fn put_bytes(digits: &[u8], room: &mut [u8])
+    requires digits { IsTrue (list_all writes_digit digits.now) }
+    requires pairs { length digits.now % 2 ≡ 0 }
+    requires fits { length digits.now / 2 ≤ length room.old }
+    ensures bytes { hex_in digits.now ≡ Some (take (length digits.now / 2) room.new) }
+    ensures rest { drop (length digits.now / 2) room.new ≡ drop (length digits.now / 2) room.old }
+    ensures same { length room.new ≡ length room.old }
 {
-    Some(digit_of(high)? * 16 + digit_of(low)?)
+    for i in 0..digits.len() / 2 {
+        room[i] = byte_of(digits[2 * i], digits[2 * i + 1]);
+    }
+}
+
+/// The byte that two digits write.
+fn byte_of(high: u8, low: u8) -> u8
+    requires high { IsTrue (writes_digit high) }
+    requires low { IsTrue (writes_digit low) }
+    ensures { IsWritten result high low }
+{
+    value_of(high) * 16 + value_of(low)
 }
 
 /// The value of a digit.
-fn digit_of(byte: u8) -> Option<u8>
-    ensures none { IfNone result (writes_digit byte ≡ false) }
-    ensures small { IfSome result (λ value. value < 16) }
-    ensures some { IfSome result (λ value. slice_index lower_digits value ≡ byte) }
+fn value_of(digit: u8) -> u8
+    requires { IsTrue (writes_digit digit) }
+    ensures small { result < 16 }
+    ensures written { slice_index lower_digits result ≡ digit }
 {
-    match byte {
-        b'0'..=b'9' => Some(byte - b'0'),
-        b'a'..=b'f' => Some(byte - b'a' + 10),
-        _ => None,
+    if digit < b'a' {
+        digit - b'0'
+    } else {
+        digit - b'a' + 10
     }
 }
 
@@ -86,7 +102,7 @@ pub(crate) fn are_lower_digits(word: &[u8]) -> bool
 fn is_lower_digit(byte: &u8) -> bool
     ensures { result ≡ writes_digit byte.now }
 {
-    matches!(byte, b'0'..=b'9' | b'a'..=b'f')
+    byte.is_ascii_digit() | matches!(byte, b'a'..=b'f')
 }
 
 /// Bytes have one text, which is read as them.

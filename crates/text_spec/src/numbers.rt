@@ -8,17 +8,13 @@ ghost use Rattle.text_spec.specs.Numbers.{capped, number_in, begins_number};
 use ids_types::NoMemory;
 use itoa::Buffer;
 
-/// The number that the word writes, `None` where it is no number.
-///
-/// A number of any length is one. It is told as `u64::MAX` where it is greater, so that a caller
-/// can tell a number out of its range from a word that is no number.
-pub fn number(word: &[u8]) -> Option<u64>
-    ensures { result ≡ option_map capped (number_in word.now) }
+/// The number of a word of digits that have this value, `None` where the word is no number.
+pub(crate) fn number_of(digits: &[u8], value: u64) -> Option<u64>
+    requires digits { IsTrue (list_all is_ascii_digit digits.now) }
+    requires value { value ≡ capped (digits_value 10 digits.now) }
+    ensures { result ≡ option_map capped (number_in digits.now) }
 {
-    if !may_begin(word) {
-        return None;
-    }
-    value(word)
+    may_begin(digits).then_some(value)
 }
 
 /// Whether a byte stands there, and none behind a `0` that stands first.
@@ -32,27 +28,12 @@ fn may_begin(word: &[u8]) -> bool
     }
 }
 
-/// The value of a word of digits, `None` where another byte is among them.
-fn value(word: &[u8]) -> Option<u64>
-    ensures { result ≡ (if list_all is_ascii_digit word.now
-        then Some (capped (digits_value 10 word.now)) else None) }
-{
-    let mut value = 0u64;
-    for &digit in word {
-        if !digit.is_ascii_digit() {
-            return None;
-        }
-        value = with_digit(value, u64::from(digit - b'0'));
-    }
-    Some(value)
-}
-
 /// The number with one digit more. Few are so great that the sum has to be watched.
-fn with_digit(number: u64, digit: u64) -> u64
+pub(crate) fn with_digit(number: u64, digit: u64) -> u64
     requires { digit ≤ 9 }
     ensures { result ≡ capped (number * 10 + digit) }
 {
-    if number < 1_000_000_000_000_000_000 {
+    if number < 1_000_000_000 {
         return number * 10 + digit;
     }
     number.saturating_mul(10).saturating_add(digit)
@@ -114,6 +95,7 @@ pub(crate) fn put_field(out: &mut Vec<u8>, number: u64)
 const MOST_DIGITS: usize = 20;
 
 /// Writes a number into room that is there.
+#[inline]
 fn put_digits(out: &mut Vec<u8>, number: u64)
     requires { vec_len out.old + length (decimal number) ≤ vec_capacity out.old }
     ensures items { out.new.items ≡ out.old.items ++ decimal number }

@@ -4,7 +4,7 @@ ghost use Rattle.text_spec.specs.Maybe.{first_of, ended as ended_of};
 ghost use Rattle.text_spec.specs.PiecesView.{pieces_left};
 ghost use Rattle.text_spec.specs.Words.{pieces_of};
 
-use crate::numbers::number;
+use crate::numbers::{number_of, with_digit};
 use crate::stamps::stamp;
 use ids_types::Stamp;
 use memchr::memchr;
@@ -36,25 +36,27 @@ impl<'a> Pieces<'a> {
     }
 
     /// The first piece, and those behind it.
+    #[inline(always)]
     pub fn first(self) -> Option<(&'a [u8], Pieces<'a>)>
         ensures { option_map (λ x. (x.0.now, x.1)) result ≡ first_of self.entry }
     {
         let separator = self.separator;
-        let (piece, rest) = cut(self.rest?, separator);
+        let (piece, rest) = cut_short(self.rest?, separator);
         Some((piece, Pieces { rest, separator }))
     }
 
-    /// The number at the front, of any length, and the pieces behind it. `number` says how a number
-    /// is told that is too great.
+    /// The number at the front, of any length, and the pieces behind it. A number that is greater is
+    /// told as `u64::MAX`, so that a number out of its range is not taken for a word that is no number.
     pub fn any_number(self) -> Option<(u64, Pieces<'a>)>
         ensures { result ≡ first_as a_number self.entry }
     {
-        let (word, rest) = self.first()?;
-        let told = number(word)?;
-        Some((told, rest))
+        let separator = self.separator;
+        let (number, rest) = cut_number(self.rest?, separator)?;
+        Some((number, Pieces { rest, separator }))
     }
 
     /// The optional timestamp at the front, and the pieces behind it.
+    #[inline(always)]
     pub fn stamp(self) -> Option<(Option<Stamp>, Pieces<'a>)>
         ensures { result ≡ first_as a_stamp self.entry }
     {
@@ -63,14 +65,19 @@ impl<'a> Pieces<'a> {
         Some((stamp, rest))
     }
 
+    /// Whether no piece is left.
+    #[tactic(auto, using(crate::proofs::PiecesLemmas::some_piece))]
+    pub fn is_empty(&self) -> bool
+        ensures { result ≡ (length self.now == 0) }
+    {
+        matches!(self.rest, None)
+    }
+
     /// The value, where no piece is left.
     pub fn ended<T: Drop>(self, value: T) -> Option<T>
         ensures { result ≡ ended_of value self.entry }
     {
-        match self.first() {
-            None => Some(value),
-            Some(_) => None,
-        }
+        self.is_empty().then_some(value)
     }
 }
 
@@ -91,4 +98,58 @@ fn place_of(text: &[u8], byte: u8) -> Option<usize>
     ensures { result ≡ position (λ b. b == byte) text.now }
 {
     memchr(byte, text)
+}
+
+/// The same as `cut`, quick where the first piece has one byte, as many words have.
+#[inline(always)]
+fn cut_short(text: &[u8], separator: u8) -> (&[u8], Option<&[u8]>)
+    ensures { pieces_of separator text.now ≡
+        result.0.now ∷ pieces_left separator (option_map (λ r. r.now) result.1) }
+{
+    match text {
+        [byte] if *byte != separator => (text, None),
+        [byte, next, rest @ ..] if *byte != separator && *next == separator => {
+            (&text[..1], Some(rest))
+        }
+        _ => cut(text, separator),
+    }
+}
+
+/// The number that the first piece writes, and what stands behind the piece: quick where it has one
+/// digit, as many numbers have.
+#[inline(always)]
+fn cut_number(text: &[u8], separator: u8) -> Option<(u64, Option<&[u8]>)>
+    ensures { option_map (λ x. (x.0, pieces_left separator (option_map (λ r. r.now) x.1))) result
+        ≡ first_as a_number (pieces_of separator text.now) }
+{
+    match text {
+        [digit, next, rest @ ..]
+            if digit.is_ascii_digit() && *digit != separator && *next == separator =>
+        {
+            Some((u64::from(*digit - b'0'), Some(rest)))
+        }
+        _ => cut_digits(text, separator),
+    }
+}
+
+/// The same, digit by digit.
+#[inline(never)]
+fn cut_digits(text: &[u8], separator: u8) -> Option<(u64, Option<&[u8]>)>
+    ensures { option_map (λ x. (x.0, pieces_left separator (option_map (λ r. r.now) x.1))) result
+        ≡ first_as a_number (pieces_of separator text.now) }
+{
+    let mut value = 0;
+    for i in 0..text.len() {
+        let byte = text[i];
+        if byte == separator {
+            let number = number_of(&text[..i], value)?;
+            return Some((number, Some(&text[i + 1..])));
+        }
+        if !byte.is_ascii_digit() {
+            return None;
+        }
+        value = with_digit(value, u64::from(byte - b'0'));
+    }
+    let number = number_of(text, value)?;
+    Some((number, None))
 }

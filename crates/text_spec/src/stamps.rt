@@ -1,15 +1,24 @@
-ghost use Rattle.text_spec.specs.Names.{◌≡◌, ℕ, ◌<◌, ◌^◌, ◌≤◌, List, Option, ◌++◌, OnOk, OnErr, ◌+◌, length, vec_len, vec_capacity, stamp_in, stamp_text, Stamp};
+ghost use Rattle.text_spec.specs.Names.{◌≡◌, ℕ, ◌<◌, ◌^◌, ◌≤◌, List, Option, ◌++◌, OnOk, OnErr, ◌+◌, length, vec_len, vec_capacity, stamp_in, stamp_text, stamp_of_bytes, hex_in, option_and_then, Stamp};
 
 use crate::hexadecimal::{hex_into, push_hex, put_hex};
 use ids_types::{NoMemory, Stamp};
 
 /// The optional timestamp that the word writes, `None` where it is no text of one.
+#[inline(always)]
 pub fn stamp(word: &[u8]) -> Option<Option<Stamp>>
     ensures { result ≡ stamp_in word.now }
 {
-    if let [b'-'] = word {
-        return Some(None);
+    match word {
+        [b'-'] => Some(None),
+        _ => stamp_of_digits(word),
     }
+}
+
+/// The timestamp of sixteen digits.
+#[inline(never)]
+fn stamp_of_digits(word: &[u8]) -> Option<Option<Stamp>>
+    ensures { result ≡ option_and_then stamp_of_bytes (hex_in word.now) }
+{
     let mut bytes = [0; 8];
     match hex_into(word, &mut bytes)? {
         8 => Some(Some(Stamp(u64::from_be_bytes(bytes)))),

@@ -13,7 +13,7 @@ invariant_of-self c =
     let h = c.self.inside in
     let entry = plain_entry c.args.entry.now in
     let own = kept_bytes entry in
-    let bytes_is : c.extend_from_slice.new.self.items ≡ h.bytes.items ++ own = search rules in
+    let bytes_is : c.put_bytes.new.out.items ≡ h.bytes.items ++ own = search rules in
     let numbers_is : c.row_of-row.new.numbers.items ≡ h.numbers.items ++ own_numbers (length h.bytes.items) entry = search rules in
     let entries_is : c.push_reserved.new.self.items ≡ h.entries.items ++ row_of (length h.numbers.items) entry ∷ [] = search rules in
     let some_turn : 0 < length h.rows.items = omega (arith, c.requires.begun, ap (λ (t : Turns). length t.turns) c.self.view_is, length-map h.rows.items (turn_of h.numbers.items h.bytes.items h.entries.items)) in
@@ -25,7 +25,7 @@ invariant_of-self c =
     let at_end : row.end ≡ length h.entries.items = ap (λ (r : TurnRow). r.end) (rw (c.len-last.ensures, rows_len) at c.index_mut.ensures.value) ∙ c.self.invariant.last row some_turn in
     let row_in : RowWithin (length h.entries.items) row = subst (RowWithin (length h.entries.items)) (sym c.index_mut.ensures.value) (All-from_recursion (RowWithin (length h.entries.items)) h.rows.items c.self.invariant.rows (c.len-last.result - 1) row last) in
     let more_entries : length c.push_reserved.new.self.items ≡ length h.entries.items + 1 = ap length entries_is ∙ length-append h.entries.items (row_of (length h.numbers.items) entry ∷ []) in
-    let more_bytes : length c.extend_from_slice.new.self.items ≡ length h.bytes.items + length own = ap length bytes_is ∙ length-append h.bytes.items own in
+    let more_bytes : length c.put_bytes.new.out.items ≡ length h.bytes.items + length own = ap length bytes_is ∙ length-append h.bytes.items own in
     let row_within : EntryWithin (h.numbers.items ++ own_numbers (length h.bytes.items) entry) (length h.bytes.items + length own) (row_of (length h.numbers.items) entry) = search rules in
     record {
       rows = rw more_entries (AllByRecursion-set _ h.rows.items _ _ (AllByRecursion-weaker (RowWithin (length h.entries.items)) (RowWithin (length h.entries.items + 1)) (λ r in_range. (in_range.0, omega arith)) h.rows.items c.self.invariant.rows) (omega arith, omega arith));
@@ -53,7 +53,7 @@ pub returns-clause-turns : goal.returns-clause-turns
 returns-clause-turns c =
     let h = c.self.inside in
     let entry = plain_entry c.args.entry.now in
-    let bytes_is : c.extend_from_slice.new.self.items ≡ h.bytes.items ++ kept_bytes entry = search rules in
+    let bytes_is : c.put_bytes.new.out.items ≡ h.bytes.items ++ kept_bytes entry = search rules in
     let numbers_is : c.row_of-row.new.numbers.items ≡ h.numbers.items ++ own_numbers (length h.bytes.items) entry = search rules in
     let entries_is : c.push_reserved.new.self.items ≡ h.entries.items ++ row_of (length h.numbers.items) entry ∷ [] = search rules in
     let some_turn : 0 < length h.rows.items = omega (arith, c.requires.begun, ap (λ (t : Turns). length t.turns) c.self.view_is, length-map h.rows.items (turn_of h.numbers.items h.bytes.items h.entries.items)) in

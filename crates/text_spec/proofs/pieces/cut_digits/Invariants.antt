@@ -1,0 +1,14 @@
+use Rattle.std.proofs.Common.{◌≡◌, ℕ, ◌<◌, ◌==◌, true, false, take, get_or}
+use Rattle.std.specs.Char.{is_ascii_digit}
+use Rattle.std.specs.List.{list_all}
+use Rattle.std.specs.Str.Parse.{digits_value}
+use Rattle.text_spec.specs.Numbers.{capped}
+use Rattle.text_spec.proofs.pieces.cut_digits.Given as goal
+
+-- the bytes so far are digits and no separators, and this is their value
+abbrev pub invariant-loop-i : goal.invariant-loop-i
+invariant-loop-i l = record {
+  free : (k : ℕ) → k < l.i → (get_or l.text k 0 == l.separator) ≡ false;
+  digits : list_all is_ascii_digit (take l.i l.text) ≡ true;
+  value : l.value ≡ capped (digits_value 10 (take l.i l.text));
+}
