@@ -86,29 +86,21 @@ fn is_context(context: &RawContext<'_>) -> bool
             let len = bytes.len();
             *class <= MAX_CLASS && is_claim(*claim) && 1 <= len && len <= MAX_BYTES
         }
-        RawContext::Missing(numbers) => are_claims(numbers),
+        RawContext::Missing(numbers) => are_claims(numbers.again()),
     }
 }
 
-fn are_claims(numbers: &Numbers) -> bool
-    ensures { result ≡ list_all claim_is numbers.now }
+/// They come by value, so that an act without them needs no place in memory while it is judged.
+#[inline(never)]
+fn are_claims(numbers: Numbers) -> bool
+    ensures { result ≡ list_all claim_is numbers }
 {
-    for i in 0..numbers.len() {
-        if !is_claim_at(numbers, i) {
+    for &number in numbers.as_slice() {
+        if !is_claim(number) {
             return false;
         }
     }
     true
-}
-
-fn is_claim_at(numbers: &Numbers, i: usize) -> bool
-    requires { i < length numbers.now }
-    ensures { result ≡ claim_is (slice_index numbers.now i) }
-{
-    match numbers.get(i) {
-        Some(n) => is_claim(n),
-        None => false,
-    }
 }
 
 /// A report's event is one that sensors report, and the event of a mode is there.
