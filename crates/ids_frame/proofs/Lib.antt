@@ -1,9 +1,6 @@
-pub mod DecodingLemmas
 pub mod FieldLemmas
-pub mod FirstByteLemmas
-pub mod JoinedPartLemmas
+pub mod MessageLemmas
 pub mod MessagesLemmas
 pub mod NumberLemmas
 pub mod PartLemmas
-pub mod ReadingLemmas
 pub mod SpellingLemmas

@@ -1,132 +1,205 @@
--- What a reader of a part and the part's spelling have to do with each other.
-use Rattle.std.proofs.Common.{◌≡◌, ℕ, zero, suc, ◌+◌, ◌<◌, ◌⊎◌, Bool, true, false, cond, List, [], ◌∷◌, ◌++◌, length, get_or, take, drop, replicate, Result, Ok, Err, refl, sym, ◌∙◌, arith, inl, inr}
-use Rattle.std.proofs.lemmas.Bool.{cases_lt}
-use Rattle.std.proofs.lemmas.List.{length-take, get_or-drop, get_or-take, get_or_past}
-use Rattle.ids_frame.specs.declared.fault.FrameFault.{FrameFault}
-use Rattle.ids_frame.specs.declared.fault.FrameFault.TheVariants.{Short}
+-- What a reader of a part and the part's spelling have to do with each other, for one part and for
+-- several, one behind the other.
+use Rattle.std.proofs.Common.{◌≡◌, ℕ, ◌⊎◌, Bool, true, false, List, [], ◌∷◌, ◌++◌, Some, None, refl, sym, ap, subst, ◌∙◌, append_assoc, inl, inr}
+use Rattle.std.specs.Prelude.{Option, IfSome, is_some}
+use Rattle.std.proofs.lemmas.List.{append-nil}
 use Rattle.ids_frame.specs.Bytes.{AreBytes}
-use Rattle.ids_frame.specs.Reading.{Read, ◌>>=◌}
-
--- ---- bytes
-
--- each number is that of a byte, and so is the one that stands for those past the end
-abbrev pub IsBytes : List ℕ → Type 0
-IsBytes bytes = (i : ℕ) → get_or bytes i 0 < 256
-
--- what is left of bytes, and what is taken of them, are bytes
-pub IsBytes-drop : (n : ℕ) (bytes : List ℕ) → IsBytes bytes → IsBytes (drop n bytes)
-IsBytes-drop n bytes h i = rw get_or-drop (h (n + i))
-
-pub IsBytes-take : (n : ℕ) (bytes : List ℕ) → IsBytes bytes → IsBytes (take n bytes)
-IsBytes-take n bytes h i =
-    elim (cases_lt i n) [
-      | inl lt ↦ rw (get_or-take n bytes i 0 lt) (h i)
-      | inr le ↦ rw (get_or_past (take n bytes) i 0 (omega (arith, length-take n bytes))) (omega arith)
-    ]
-
--- bytes behind a byte, behind bytes, and zeros are bytes
-pub IsBytes-cons : (b : ℕ) (bytes : List ℕ) → b < 256 → IsBytes bytes → IsBytes (b ∷ bytes)
-IsBytes-cons b bytes lt h zero = lt
-IsBytes-cons b bytes lt h (suc i) = h i
-
-pub IsBytes-append : (xs ys : List ℕ) → IsBytes xs → IsBytes ys → IsBytes (xs ++ ys)
-IsBytes-append [] ys h k i = k i
-IsBytes-append (x ∷ xs) ys h k zero = h zero
-IsBytes-append (x ∷ xs) ys h k (suc i) = IsBytes-append xs ys (λ j. h (suc j)) k i
-
-pub IsBytes-zeros : (n : ℕ) → IsBytes (replicate n 0)
-IsBytes-zeros zero i = omega arith
-IsBytes-zeros (suc n) zero = omega arith
-IsBytes-zeros (suc n) (suc i) = IsBytes-zeros n i
-
--- the same as a word of specs/
-pub AreBytes-of : (bytes : List ℕ) → IsBytes bytes → AreBytes bytes
-AreBytes-of [] h k d lt = absurd (omega (arith, lt))
-AreBytes-of (b ∷ bytes) h zero d lt = h zero
-AreBytes-of (b ∷ bytes) h (suc k) d lt = AreBytes-of bytes (λ j. h (suc j)) k d (omega (arith, lt))
-
--- what specs/ calls bytes are bytes here
-pub IsBytes-of : (bytes : List ℕ) → AreBytes bytes → IsBytes bytes
-IsBytes-of bytes h i =
-    elim (cases_lt i (length bytes)) [
-      | inl lt ↦ h i 0 lt
-      | inr le ↦ rw (get_or_past bytes i 0 le) (omega arith)
-    ]
+use Rattle.ids_frame.specs.Reading.{Read, ◌>>=◌, optional}
 
 -- ---- steps of a reader
 
--- the value of a step that did not fail
-pub bind_ok : {A B : Type 0} (r : Result A FrameFault) (f : A → Result B FrameFault) (y : B)
-    → (r >>= f) ≡ Ok y → (x : A) × (r ≡ Ok x) × (f x ≡ Ok y)
-bind_ok (Ok x) f y e = (x, refl, e)
-bind_ok (Err d) f y e = absurd cc
+-- the value of a step that found its part
+pub bind_some : {A B : Type 0} (r : Option A) (f : A → Option B) (y : B) → (r >>= f) ≡ Some y → (x : A) × (r ≡ Some x) × (f x ≡ Some y)
+bind_some (Some x) f y e = (x, refl, e)
+bind_some None f y e = absurd cc
 
--- the step that failed
-pub bind_err : {A B : Type 0} (r : Result A FrameFault) (f : A → Result B FrameFault) (d : FrameFault)
-    → (r >>= f) ≡ Err d → (r ≡ Err d) ⊎ ((x : A) × (r ≡ Ok x) × (f x ≡ Err d))
-bind_err (Ok x) f d e = inr (x, refl, e)
-bind_err (Err c) f d e = inl cc
+-- the step that did not
+pub bind_none : {A B : Type 0} (r : Option A) (f : A → Option B) → (r >>= f) ≡ None → (r ≡ None) ⊎ ((x : A) × (r ≡ Some x) × (f x ≡ None))
+bind_none (Some x) f e = inr (x, refl, e)
+bind_none None f e = inl refl
 
--- the way that a test took
-pub chosen : {A : Type 0} (b : Bool) (x y z : A) → cond b x y ≡ z
-    → ((b ≡ true) × (x ≡ z)) ⊎ ((b ≡ false) × (y ≡ z))
-chosen true x y z e = inl (refl, e)
-chosen false x y z e = inr (refl, e)
+-- two answers that are the same have one value, and the same bytes behind it
+pub one_answer : {A : Type 0} {p q : A × List ℕ} → Some p ≡ Some q → (p.0 ≡ q.0) × (p.1 ≡ q.1)
+one_answer {A} {p} {q} e =
+    let same : p ≡ q = cc in
+    (ap (λ r. r.0) same, ap (λ r. r.1) same)
 
--- an answer, with its type
-abbrev pub done : {A : Type 0} → A → Result A FrameFault
-done x = Ok x
+-- ---- a part
 
--- two answers that are the same hold the same
-pub ok_is : {A : Type 0} (x y : A) → done x ≡ done y → x ≡ y
-ok_is x y e = cc
-
--- a fault, with the type of its answer
-abbrev pub fault_of : (A : Type 0) → FrameFault → Result A FrameFault
-fault_of A d = Err d
-
--- an answer is no fault
-pub not_both : {A B : Type 0} (x : A) (d : FrameFault) → done x ≡ Err d → B
-not_both x d e = absurd cc
-
--- two faults that are the same are one
-pub err_is : {A : Type 0} (c d : FrameFault) → fault_of A c ≡ Err d → d ≡ c
-err_is c d e = cc
-
--- ---- parts
-
--- what a reader took from the front
+-- the bytes are this text, and then these bytes
 pub record Takes (bytes text rest : List ℕ) : Type 0 where
   pub parts : bytes ≡ text ++ rest
-  pub rest_fits : IsBytes rest
+  pub rest_fits : AreBytes rest
 
 -- the bytes are a proper prefix of a value's spelling
-pub record RunsOut (A : Type 0) (write : A → List ℕ) (Can : A → Type 0) (bytes : List ℕ) : Type 0 where
+pub record RunsOut {A : Type 0} (write : A → List ℕ) (Can : A → Type 0) (bytes : List ℕ) : Type 0 where
   pub value : A
   pub fits : Can value
   pub next : ℕ
   pub more : List ℕ
   pub whole : bytes ++ next ∷ more ≡ write value
 
--- what is read is spelled so, what is spelled so is read, and bytes are too short exactly where they
+-- what is read is spelled so, what is spelled so is read, and bytes are too short only where they
 -- can be completed
-pub record IsPart (A : Type 0) (read : List ℕ → Read A) (write : A → List ℕ) (Can : A → Type 0) : Type 0 where
-  pub takes : (bytes : List ℕ) (x : A) (rest : List ℕ) → IsBytes bytes → read bytes ≡ Ok (x, rest)
+pub record IsPart {A : Type 0} (read : List ℕ → Read A) (write : A → List ℕ) (Can : A → Type 0) : Type 0 where
+  pub takes : (bytes : List ℕ) (x : A) (rest : List ℕ) → AreBytes bytes → read bytes ≡ Some (x, rest)
       → Takes bytes (write x) rest × Can x
-  pub again : (x : A) (rest : List ℕ) → Can x → read (write x ++ rest) ≡ Ok (x, rest)
-  pub cut : (bytes : List ℕ) → IsBytes bytes → read bytes ≡ Err Short → RunsOut A write Can bytes
+  pub again : (x : A) (rest : List ℕ) → Can x → read (write x ++ rest) ≡ Some (x, rest)
+  pub cut : (bytes : List ℕ) → AreBytes bytes → read bytes ≡ None → RunsOut write Can bytes
   pub one : (x : A) × Can x
 
--- a reader with no fault but want of bytes
-abbrev pub OnlyShort : (A : Type 0) → (List ℕ → Read A) → Type 0
-OnlyShort A read = (bytes : List ℕ) (d : FrameFault) → read bytes ≡ Err d → d ≡ Short
+-- ---- parts one behind the other
 
--- the same reader in other words
-pub IsPart-same : {A : Type 0} (read read' : List ℕ → Read A) {write : A → List ℕ} {Can : A → Type 0}
-    → ((bytes : List ℕ) → read' bytes ≡ read bytes) → IsPart A read write Can → IsPart A read' write Can
-IsPart-same read read' same p = record {
-  takes = λ bytes x rest fits e. p.takes bytes x rest fits (sym (same bytes) ∙ e);
-  again = λ x rest can. same _ ∙ p.again x rest can;
-  cut = λ bytes fits e. p.cut bytes fits (sym (same bytes) ∙ e);
-  one = p.one;
+-- parts, where each may go by those before it, and what they make
+pub data Parts (A : Type 0) : Type 1 where
+  made : A → Parts A
+  part : {B : Type 0} {read : List ℕ → Read B} {write : B → List ℕ} {Can : B → Type 0} → IsPart read write Can → (B → Parts A) → Parts A
+
+-- reading them
+abbrev pub reads : {A : Type 0} → Parts A → List ℕ → Read A
+reads (made x) bytes = Some (x, bytes)
+reads (part {B} {read} p more) bytes = read bytes >>= λ x. reads (more x.0) x.1
+
+-- a value for each
+abbrev pub Values : {A : Type 0} → Parts A → Type 0
+Values (made x) = Unit {0}
+Values (part {B} p more) = (x : B) × Values (more x)
+
+-- what the values make
+abbrev pub value : {A : Type 0} → (parts : Parts A) → Values parts → A
+value (made x) v = x
+value (part p more) v = value (more v.0) v.1
+
+-- the values' spellings
+abbrev pub texts : {A : Type 0} → (parts : Parts A) → Values parts → List ℕ
+texts (made x) v = []
+texts (part {B} {read} {write} p more) v = write v.0 ++ texts (more v.0) v.1
+
+-- each value is one that its part can be
+abbrev pub AllCan : {A : Type 0} → (parts : Parts A) → Values parts → Type 0
+AllCan (made x) v = Unit {0}
+AllCan (part {B} {read} {write} {Can} p more) v = Can v.0 × AllCan (more v.0) v.1
+
+-- the values that were read
+pub record Found {A : Type 0} (parts : Parts A) (bytes : List ℕ) (x : A) (rest : List ℕ) : Type 0 where
+  pub values : Values parts
+  pub can : AllCan parts values
+  pub is : value parts values ≡ x
+  pub takes : Takes bytes (texts parts values) rest
+
+-- what is read is spelled so
+all_take : {A : Type 0} (parts : Parts A) (bytes : List ℕ) (x : A) (rest : List ℕ) → AreBytes bytes → reads parts bytes ≡ Some (x, rest) → Found parts bytes x rest
+all_take (made y) bytes x rest fits e =
+    let same = one_answer e in
+    record { values = tt; can = tt; is = same.0; takes = record { parts = same.1; rest_fits = subst AreBytes same.1 fits } }
+all_take (part {B} {read} {write} p more) bytes x rest fits e =
+    let b = bind_some (read bytes) (λ y. reads (more y.0) y.1) (x, rest) e in
+    let t = p.takes bytes b.0.0 b.0.1 fits b.1 in
+    let f = all_take (more b.0.0) b.0.1 x rest t.0.rest_fits b.2 in
+    record {
+      values = (b.0.0, f.values);
+      can = (t.1, f.can);
+      is = f.is;
+      takes = record {
+        parts = t.0.parts ∙ ap (λ r. write b.0.0 ++ r) f.takes.parts ∙ sym (append_assoc (write b.0.0) (texts (more b.0.0) f.values) rest);
+        rest_fits = f.takes.rest_fits;
+      };
+    }
+
+-- what is spelled so is read
+all_again : {A : Type 0} (parts : Parts A) (v : Values parts) (rest : List ℕ) → AllCan parts v → reads parts (texts parts v ++ rest) ≡ Some (value parts v, rest)
+all_again (made x) v rest can = refl
+all_again (part {B} {read} {write} p more) v rest can =
+    let behind = texts (more v.0) v.1 in
+    rw (append_assoc (write v.0) behind rest, p.again v.0 (behind ++ rest) can.0) (all_again (more v.0) v.1 rest can.1)
+
+-- some values
+some_values : {A : Type 0} (parts : Parts A) → (v : Values parts) × AllCan parts v
+some_values (made x) = (tt, tt)
+some_values (part p more) =
+    let behind = some_values (more p.one.0) in
+    ((p.one.0, behind.0), (p.one.1, behind.1))
+
+-- where a part runs out, any later parts complete it
+all_cut : {A : Type 0} (parts : Parts A) (bytes : List ℕ) → AreBytes bytes → reads parts bytes ≡ None → RunsOut (texts parts) (AllCan parts) bytes
+all_cut (made x) bytes fits e = absurd cc
+all_cut (part {B} {read} {write} p more) bytes fits e =
+    elim (bind_none (read bytes) (λ y. reads (more y.0) y.1) e) [
+      | inl out ↦
+          let r = p.cut bytes fits out in
+          let behind = some_values (more r.value) in
+          let text = texts (more r.value) behind.0 in
+          record {
+            value = (r.value, behind.0);
+            fits = (r.fits, behind.1);
+            next = r.next;
+            more = r.more ++ text;
+            whole = sym (append_assoc bytes (r.next ∷ r.more) text) ∙ ap (λ t. t ++ text) r.whole;
+          }
+      | inr b ↦
+          let t = p.takes bytes b.0.0 b.0.1 fits b.1 in
+          let r = all_cut (more b.0.0) b.0.1 t.0.rest_fits b.2 in
+          record {
+            value = (b.0.0, r.value);
+            fits = (t.1, r.fits);
+            next = r.next;
+            more = r.more;
+            whole = ap (λ t. t ++ r.next ∷ r.more) t.0.parts ∙ append_assoc (write b.0.0) b.0.1 (r.next ∷ r.more) ∙ ap (λ t. write b.0.0 ++ t) r.whole;
+          }
+    ]
+
+-- the values that make this
+pub record Makes {A : Type 0} (parts : Parts A) (x : A) : Type 0 where
+  pub values : Values parts
+  pub can : AllCan parts values
+  pub is : value parts values ≡ x
+
+-- what parts make is spelled as they are
+pub record SpelledAs {A : Type 0} (parts : Parts A) (write : A → List ℕ) (Can : A → Type 0) (v : Values parts) : Type 0 where
+  pub text : texts parts v ≡ write (value parts v)
+  pub can : Can (value parts v)
+
+-- parts are a part, under the spelling of what they make
+pub parts_are_part : {A : Type 0} (parts : Parts A) (write : A → List ℕ) (Can : A → Type 0)
+    → ((v : Values parts) → AllCan parts v → SpelledAs parts write Can v) → ((x : A) → Can x → Makes parts x)
+    → IsPart (reads parts) write Can
+parts_are_part {A} parts write Can spelled makes = record {
+  takes = λ bytes x rest fits e.
+      let f = all_take parts bytes x rest fits e in
+      let s = spelled f.values f.can in
+      let text : texts parts f.values ≡ write x = s.text ∙ ap write f.is in
+      (subst (λ t. Takes bytes t rest) text f.takes, subst Can f.is s.can);
+  again = λ x rest can.
+      let m = makes x can in
+      let text : write x ≡ texts parts m.values = ap write (sym m.is) ∙ sym (spelled m.values m.can).text in
+      rw text (all_again parts m.values rest m.can ∙ ap (λ y. Some (y, rest)) m.is);
+  cut = λ bytes fits e.
+      let r = all_cut parts bytes fits e in
+      let s = spelled r.value r.fits in
+      record { value = value parts r.value; fits = s.can; next = r.next; more = r.more; whole = r.whole ∙ s.text };
+  one =
+      let some = some_values parts in
+      (value parts some.0, (spelled some.0 some.1).can);
 }
+
+-- ---- a part that is there or not
+
+-- no part makes no value
+makes_none : {A : Type 0} (Can : A → Type 0) (o : Option A) → (false ≡ is_some o) × IfSome o Can → Makes {A = Option A} (made None) o
+makes_none Can None can = record { values = tt; can = tt; is = refl }
+makes_none Can (Some x) can = absurd (cc can.0)
+
+-- a part makes its value
+makes_some : {A : Type 0} {read : List ℕ → Read A} {write : A → List ℕ} {Can : A → Type 0} (p : IsPart read write Can) (o : Option A)
+    → (true ≡ is_some o) × IfSome o Can → Makes (part p (λ x. made (Some x))) o
+makes_some p None can = absurd (cc can.0)
+makes_some p (Some x) can = record { values = (x, tt); can = (can.1, tt); is = refl }
+
+-- a part that is there or not is a part
+pub optional_is_part : {A : Type 0} {read : List ℕ → Read A} (write : Option A → List ℕ) {Can : A → Type 0}
+    → write None ≡ [] → IsPart read (λ x. write (Some x)) Can
+    → (present : Bool) → IsPart (optional present read) write (λ o. (present ≡ is_some o) × IfSome o Can)
+optional_is_part {A} write {Can} none p false =
+    parts_are_part (made None) write _ (λ v can. record { text = sym none; can = (refl, tt) }) (makes_none Can)
+optional_is_part {A} write {Can} none p true =
+    parts_are_part (part p (λ x. made (Some x))) write _ (λ v can. record { text = append-nil _; can = (refl, can.0) }) (makes_some p)

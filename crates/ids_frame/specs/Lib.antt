@@ -5,6 +5,5 @@ pub mod Frame
 pub mod Message
 pub mod MessageView
 pub mod Messages
-pub mod MessagesView
 pub mod Reading
 pub mod Spelling

@@ -2,13 +2,13 @@
 -- Source: the layout of specs/Spelling.antt.
 use Rattle.std.specs.Prelude.{◌≡◌, ℕ, zero, suc, ◌-◌, List, [], ◌∷◌, ◌++◌, length, Result, Ok, Err}
 use Rattle.std.specs.List.{flat_map, AllByRecursion}
+use Rattle.std.specs.Result.{result_unwrap_or}
 use Rattle.ids_frame.specs.declared.fault.FrameFault.{FrameFault}
-use Rattle.ids_frame.specs.declared.fault.FrameFault.TheVariants.{Short, UnknownVersion, UnknownPart}
 use Rattle.ids_frame.specs.declared.fault.BadMessage.{BadMessage}
 use Rattle.ids_frame.specs.Message.{MessageParts, FitsMessage}
 use Rattle.ids_frame.specs.Spelling.{spelling}
-use Rattle.ids_frame.specs.Reading.{Read, message_at}
-use Rattle.ids_frame.specs.Decoding.{IsCut, StrangeVersion, StrangePart}
+use Rattle.ids_frame.specs.Reading.{message_at}
+use Rattle.ids_frame.specs.Decoding.{CauseOf}
 
 -- the spellings of these messages, one behind the other
 abbrev pub joined : List MessageParts → List ℕ
@@ -27,12 +27,6 @@ pub record IsJoined (bytes : List ℕ) (messages : List MessageParts) : Type 0 w
 abbrev pub HasMessages : List ℕ → Type 0
 HasMessages bytes = (messages : List MessageParts) × IsJoined bytes messages
 
--- why the bytes do not begin with a message
-abbrev pub CauseOf : FrameFault → List ℕ → Type 0
-CauseOf Short bytes = IsCut bytes
-CauseOf UnknownVersion bytes = StrangeVersion bytes
-CauseOf UnknownPart bytes = StrangePart bytes
-
 -- behind some messages there are bytes that do not begin with one
 pub record Breaks (bytes : List ℕ) (bad : BadMessage) : Type 0 where
   pub front : List MessageParts
@@ -47,24 +41,33 @@ pub record Breaks (bytes : List ℕ) (bad : BadMessage) : Type 0 where
 abbrev pub Held : Type 0
 Held = Result (List MessageParts) BadMessage
 
+-- the bytes are a file that holds this
+abbrev pub Holds : List ℕ → Held → Type 0
+Holds bytes (Ok messages) = IsJoined bytes messages
+Holds bytes (Err bad) = Breaks bytes bad
+
 -- this message stands before what is held behind it
 abbrev pub before : MessageParts → Held → Held
 before message (Ok messages) = Ok (message ∷ messages)
 before message (Err bad) = Err bad
 
--- what is held where this was read at a place, by what the bytes behind a message hold
-abbrev pub held_by : ℕ → Read MessageParts → (List ℕ → Held) → Held
-held_by at (Ok x) behind = before x.0 (behind x.1)
+-- what is held where this was read at a place, by what is held behind a message
+abbrev pub held_by : ℕ → Result (MessageParts × List ℕ) FrameFault → (MessageParts → Held) → Held
+held_by at (Ok x) behind = before x.0 (behind x.0)
 held_by at (Err fault) behind = Err (record { at = at; fault = fault })
 
--- what the last bytes of a file of this size hold, up to so many messages
-unfoldable pub held_in : (size most : ℕ) → List ℕ → Held
-held_in size zero bytes = Ok []
-held_in size (suc most) [] = Ok []
-held_in size (suc most) (next ∷ rest) =
-    let place = size - length (next ∷ rest) in
-    held_by place (message_at (next ∷ rest)) (λ behind. held_in size most behind)
+-- what the last bytes of a file of this size hold, behind the bytes of a message that are left out
+unfoldable pub held_in : (size left_out : ℕ) → List ℕ → Held
+held_in size left_out [] = Ok []
+held_in size (suc left_out) (byte ∷ bytes) = held_in size left_out bytes
+held_in size zero (byte ∷ bytes) =
+    held_by (size - length (byte ∷ bytes)) (message_at (byte ∷ bytes))
+    (λ message. held_in size (length (spelling message) - 1) bytes)
 
 -- what a whole file holds
 unfoldable pub messages_read : List ℕ → Held
-messages_read bytes = held_in (length bytes) (length bytes) bytes
+messages_read bytes = held_in (length bytes) 0 bytes
+
+-- the messages of a file that holds nothing else
+abbrev pub messages_of : List ℕ → List MessageParts
+messages_of bytes = result_unwrap_or (messages_read bytes) []

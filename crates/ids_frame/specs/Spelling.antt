@@ -8,14 +8,14 @@ use Rattle.ids_frame.specs.declared.context.Form.TheVariants.{Short, Long}
 use Rattle.ids_frame.specs.Context.{ContextPart}
 use Rattle.ids_frame.specs.Message.{MessageParts}
 
--- the bit of the header for a part, where the part is there
-abbrev pub flag : {A : Type 0} → ℕ → Option A → ℕ
-flag bit None = 0
-flag bit (Some part) = bit
+-- one where the part is there
+abbrev pub flag : {A : Type 0} → Option A → ℕ
+flag None = 0
+flag (Some part) = 1
 
 -- which parts follow the event part
 abbrev pub header : MessageParts → ℕ
-header m = flag 1 m.context + flag 2 m.stamp + flag 4 m.signature
+header m = flag m.context + 2 * flag m.stamp + 4 * flag m.signature
 
 -- the event part, of eight bytes
 abbrev pub event_part : MessageParts → List ℕ

@@ -1,9 +1,11 @@
 //! The message that bytes begin with.
-ghost use Rattle.std.specs.Prelude.{◌≡◌, ℕ, ◌/◌, ◌%◌, ◌↔◌, ◌++◌, List, length, IsOk, IfOk, IsErrOf, IsTrue};
+ghost use Rattle.std.specs.Prelude.{◌≡◌, ℕ, ◌/◌, ◌↔◌, ◌++◌, List, Result, IsTrue};
+ghost use Rattle.std.specs.Result.{result_map_both};
+ghost use Rattle.ids_frame.specs.Bytes.{AreBytes};
 ghost use Rattle.ids_frame.specs.Message.{MessageParts, IsKnown, FitsMessage};
 ghost use Rattle.ids_frame.specs.Spelling.{spelling};
-ghost use Rattle.ids_frame.specs.Reading.{Gives, has_layout, first_at, message_at, behind_at};
-ghost use Rattle.ids_frame.specs.Decoding.{BeginsWith, IsCut, StrangeVersion, StrangePart, Measures};
+ghost use Rattle.ids_frame.specs.Reading.{Gives, has_layout, parts_at, message_at};
+ghost use Rattle.ids_frame.specs.Decoding.{Begins, decoded};
 
 use crate::fault::FrameFault;
 use crate::message::Message;
@@ -12,18 +14,19 @@ use crate::reading::{context_of, signature_of, stamp_of, u8_of, u16_of};
 /// The message whose spelling the bytes begin with, and how many bytes that spelling has. What
 /// stands behind them is not looked at. The message's context and signature are slices of `bytes`.
 pub fn decode(bytes: &[u8]) -> Result<(Message<'_>, usize), FrameFault>
-    ensures found { IfOk result (λ x. BeginsWith bytes.now x.0 x.1) }
-    ensures only { (m : MessageParts) (size : ℕ) → BeginsWith bytes.now m size
-        → IsOk result × IfOk result (λ x. (x.0 ≡ m) × (x.1 ≡ size)) }
-    // What was written is read back, whatever follows it.
-    ensures back { (m : MessageParts) (rest : List ℕ) → FitsMessage m
-        → bytes.now ≡ spelling m ++ rest → IsOk result × IfOk result (λ x. x.0 ≡ m) }
-    ensures short { IsErrOf result FrameFault.Short ↔ IsCut bytes.now }
-    ensures version { IsErrOf result FrameFault.UnknownVersion ↔ StrangeVersion bytes.now }
-    ensures part { IsErrOf result FrameFault.UnknownPart ↔ StrangePart bytes.now }
+    ensures { result ≡ decoded bytes.now }
 {
-    measured(bytes)
+    let (message, _) = message_of(bytes)?;
+    let size = message.spelling_len() as usize;
+    Ok((message, size))
 }
+
+/// A message is read exactly where its spelling stands at the front, whatever follows it, and each
+/// fault exactly where it has its cause.
+pub fn what_bytes_begin_with()
+    ensures { (bytes : List ℕ) (read : Result (MessageParts × List ℕ) FrameFault) → AreBytes bytes →
+        (message_at bytes ≡ read) ↔ Begins bytes read }
+{}
 
 /// No spelling begins another: what begins with two messages' spellings has one message at its
 /// front, and the same bytes behind it.
@@ -32,20 +35,29 @@ pub fn one_message()
         → spelling m ++ a ≡ spelling n ++ b → (m ≡ n) × (a ≡ b) }
 {}
 
-fn measured(bytes: &[u8]) -> Result<(Message<'_>, usize), FrameFault>
-    ensures { Measures (λ x. (x.0, x.1)) result (message_at bytes.now) }
-{
-    let (message, _) = message_of(bytes)?;
-    let size = message.spelling_len() as usize;
-    Ok((message, size))
-}
-
 #[tactic(auto, unfolding(crate::specs::Reading::message_at))]
 pub(crate) fn message_of(bytes: &[u8]) -> Result<(Message<'_>, &[u8]), FrameFault>
-    ensures { Gives (λ x. (x.0, x.1.now)) result (message_at bytes.now) }
+    ensures { message_at bytes.now
+        ≡ result_map_both (λ x. (x.0, x.1.now)) (λ fault. fault) result }
 {
-    let (first, rest) = first_of(bytes)?;
-    let (place, rest) = u16_of(rest)?;
+    let [first, rest @ ..] = bytes else {
+        return Err(FrameFault::Short);
+    };
+    if !is_known(*first / 16) {
+        return Err(FrameFault::UnknownVersion);
+    }
+    if *first / 8 % 2 == 1 {
+        return Err(FrameFault::UnknownPart);
+    }
+    parts_of(*first, rest).ok_or(FrameFault::Short)
+}
+
+#[tactic(auto, unfolding(crate::specs::Reading::parts_at))]
+fn parts_of(first: u8, bytes: &[u8]) -> Option<(Message<'_>, &[u8])>
+    requires { IsKnown (first / 16) }
+    ensures { Gives (λ x. (x.0, x.1.now)) result (parts_at first bytes.now) }
+{
+    let (place, rest) = u16_of(bytes)?;
     let (event, rest) = u16_of(rest)?;
     let (count, rest) = u16_of(rest)?;
     let (reserved, rest) = u8_of(rest)?;
@@ -56,38 +68,7 @@ pub(crate) fn message_of(bytes: &[u8]) -> Result<(Message<'_>, &[u8]), FrameFaul
     let message = Message::make(
         instance, sensor, event, count, reserved, stamp, context, signature,
     );
-    Ok((message.unwrap(), rest))
-}
-
-/// The bytes behind the message at the front, which is not kept.
-#[tactic(auto, unfolding(crate::specs::Reading::message_at))]
-pub(crate) fn behind_of(bytes: &[u8]) -> Result<&[u8], FrameFault>
-    ensures { Gives (λ rest. (tt, rest.now)) result (behind_at bytes.now) }
-{
-    let (first, rest) = first_of(bytes)?;
-    let (_, rest) = u16_of(rest)?;
-    let (_, rest) = u16_of(rest)?;
-    let (_, rest) = u16_of(rest)?;
-    let (_, rest) = u8_of(rest)?;
-    let (_, rest) = stamp_of(first, rest)?;
-    let (_, rest) = context_of(first, rest)?;
-    let (_, rest) = signature_of(first, rest)?;
-    Ok(rest)
-}
-
-#[tactic(auto, unfolding(crate::specs::Reading::first_at))]
-fn first_of(bytes: &[u8]) -> Result<(u8, &[u8]), FrameFault>
-    ensures gives { Gives (λ x. (x.0, x.1.now)) result (first_at bytes.now) }
-    ensures known { IfOk result (λ x. IsKnown (x.0 / 16)) }
-{
-    let (first, rest) = u8_of(bytes)?;
-    if !is_known(first / 16) {
-        return Err(FrameFault::UnknownVersion);
-    }
-    if first / 8 % 2 == 1 {
-        return Err(FrameFault::UnknownPart);
-    }
-    Ok((first, rest))
+    Some((message.unwrap(), rest))
 }
 
 fn is_known(version: u8) -> bool

@@ -5,8 +5,9 @@
 //! writes them; `decode` reads the message at the front of bytes, and `Messages` those of a whole
 //! file. The layout is this project's own, "IDS message profile 1", after the event message of the
 //! AUTOSAR PRS Intrusion Detection System; `specs/Spelling.antt` states it, by the value.
-//! `specs/Reading.antt` goes by the bytes, and serves the proofs alone. Contracts see a message as
-//! its parts, a context as its form and bytes, and `Messages` as the list of those to be taken.
+//! `specs/Reading.antt` goes by the bytes, and the laws `what_bytes_begin_with` and
+//! `what_a_file_holds` tie the two. Contracts see a message as its parts, a context as its form and
+//! bytes, and `Messages` as the list of those to be taken.
 //!
 //! No clause says what a call costs, or where a message's context and signature lie. No call takes
 //! memory. `encode` copies the context once, `decode` looks at each byte at most once, and
@@ -23,7 +24,7 @@ mod reading;
 mod writing;
 
 pub use context::{Context, Form};
-pub use decoding::{decode, one_message};
+pub use decoding::{decode, one_message, what_bytes_begin_with};
 pub use fault::{BadMessage, FrameFault};
 pub use message::Message;
 pub use messages::{Messages, what_a_file_holds};

@@ -1,10 +1,10 @@
 //! Many messages, one behind the other.
-ghost use Rattle.std.specs.Prelude.{◌≡◌, ℕ, ◌∷◌, [], List, IsOk, IfOk, IfErr, IsErrOf, IfSome, IfNone, ◌↔◌};
+ghost use Rattle.std.specs.Prelude.{◌≡◌, ℕ, ◌∷◌, [], List, IfSome, IfNone, ◌↔◌};
 ghost use Rattle.ids_frame.specs.Bytes.{AreBytes};
-ghost use Rattle.ids_frame.specs.Message.{MessageParts, FitsMessage};
-ghost use Rattle.ids_frame.specs.Messages.{IsJoined, Breaks, messages_read};
+ghost use Rattle.ids_frame.specs.Message.{FitsMessage};
+ghost use Rattle.ids_frame.specs.Messages.{Held, Holds, messages_read};
 
-use crate::decoding::{behind_of, message_of};
+use crate::decoding::message_of;
 use crate::fault::BadMessage;
 use crate::message::Message;
 use std::marker::Model;
@@ -19,8 +19,7 @@ pub struct Messages<'a> {
 impl<'a> Model for Messages<'a> {
     ghost use Rattle.std.specs.Prelude.{List};
     ghost use Rattle.ids_frame.specs.Message.{MessageParts};
-    ghost use Rattle.ids_frame.specs.Messages.{HasMessages};
-    ghost use Rattle.ids_frame.specs.MessagesView.{messages_of};
+    ghost use Rattle.ids_frame.specs.Messages.{HasMessages, messages_of};
 
     ghost Value = { List MessageParts };
 
@@ -34,13 +33,18 @@ impl<'a> Messages<'a> {
     /// messages. Otherwise the answer is the place and the fault of the first that cannot be read.
     pub fn read(bytes: &'a [u8]) -> Result<Messages<'a>, BadMessage>
         ensures value { result ≡ messages_read bytes.now }
-        ensures found { IfOk result (IsJoined bytes.now) }
-        ensures only { (messages : List MessageParts) → IsJoined bytes.now messages
-            → IsOk result × IfOk result (λ m. m ≡ messages) }
-        ensures place { IfErr result (Breaks bytes.now) }
-        ensures place_only { (bad : BadMessage) → Breaks bytes.now bad → IsErrOf result bad }
     {
-        checked(bytes)
+        let mut rest = bytes;
+        while !rest.is_empty() {
+            match message_of(rest) {
+                Ok((_, behind)) => rest = behind,
+                Err(fault) => {
+                    let at = bytes.len() - rest.len();
+                    return Err(BadMessage { at, fault });
+                }
+            }
+        }
+        Ok(Messages { bytes })
     }
 
     /// Takes the first message out.
@@ -60,27 +64,9 @@ impl<'a> Messages<'a> {
     }
 }
 
-fn checked(bytes: &[u8]) -> Result<Messages<'_>, BadMessage>
-    ensures { result ≡ messages_read bytes.now }
-{
-    let mut rest = bytes;
-    while !rest.is_empty() {
-        match behind_of(rest) {
-            Ok(behind) => rest = behind,
-            Err(fault) => {
-                let at = bytes.len() - rest.len();
-                return Err(BadMessage { at, fault });
-            }
-        }
-    }
-    Ok(Messages { bytes })
-}
-
 /// A file holds messages exactly where it is their spellings one behind the other, and a fault
 /// exactly where the messages stop at it.
 pub fn what_a_file_holds()
-    ensures messages { (bytes : List ℕ) (messages : List MessageParts) → AreBytes bytes →
-        (messages_read bytes ≡ Ok messages) ↔ IsJoined bytes messages }
-    ensures fault { (bytes : List ℕ) (bad : BadMessage) → AreBytes bytes →
-        (messages_read bytes ≡ Err bad) ↔ Breaks bytes bad }
+    ensures { (bytes : List ℕ) (held : Held) → AreBytes bytes →
+        (messages_read bytes ≡ held) ↔ Holds bytes held }
 {}

@@ -1,114 +1,102 @@
-//! The parts of a message, each read from the front of bytes, with the bytes that are left.
-ghost use Rattle.std.specs.Prelude.{◌≡◌, ◌≤◌, ◌<◌, ◌^◌, length, IfOk, IfSome, option_copied};
+//! The parts of a message, each read from the front of bytes, with the bytes that are left. None is
+//! where the bytes end before the part does.
+ghost use Rattle.std.specs.Prelude.{◌≡◌, ◌≤◌, ◌<◌, ◌^◌, length, IfSome, option_copied};
 ghost use Rattle.std.specs.Int.{w16, w32, w64};
 ghost use Rattle.ids_frame.specs.Context.{most_bytes};
 ghost use Rattle.ids_frame.specs.Reading.{Gives, bytes_at, byte_at, number_at, has, optional, stamp_at, length_at, context_at, signature_at};
 
 use crate::context::{Context, Form};
-use crate::fault::FrameFault;
 use ids_types::Stamp;
 
-fn slice_of(count: usize, bytes: &[u8]) -> Result<(&[u8], &[u8]), FrameFault>
+fn slice_of(count: usize, bytes: &[u8]) -> Option<(&[u8], &[u8])>
     ensures gives { Gives (λ x. (x.0.now, x.1.now)) result (bytes_at count bytes.now) }
-    ensures size { IfOk result (λ x. length x.0.now ≡ count) }
+    ensures size { IfSome result (λ x. length x.0.now ≡ count) }
 {
-    if bytes.len() < count {
-        return Err(FrameFault::Short);
-    }
-    Ok(bytes.split_at(count))
+    bytes.split_at_checked(count)
 }
 
-pub(crate) fn u8_of(bytes: &[u8]) -> Result<(u8, &[u8]), FrameFault>
+pub(crate) fn u8_of(bytes: &[u8]) -> Option<(u8, &[u8])>
     ensures { Gives (λ x. (x.0, x.1.now)) result (byte_at bytes.now) }
 {
     match bytes {
-        [] => Err(FrameFault::Short),
-        [byte, rest @ ..] => Ok((*byte, rest)),
+        [] => None,
+        [byte, rest @ ..] => Some((*byte, rest)),
     }
 }
 
-pub(crate) fn u16_of(bytes: &[u8]) -> Result<(u16, &[u8]), FrameFault>
+pub(crate) fn u16_of(bytes: &[u8]) -> Option<(u16, &[u8])>
     ensures { Gives (λ x. (x.0, x.1.now)) result (number_at w16 bytes.now) }
 {
-    let Some((front, rest)) = bytes.split_first_chunk() else {
-        return Err(FrameFault::Short);
-    };
-    Ok((u16::from_be_bytes(*front), rest))
+    let (front, rest) = bytes.split_first_chunk()?;
+    Some((u16::from_be_bytes(*front), rest))
 }
 
-fn u32_of(bytes: &[u8]) -> Result<(u32, &[u8]), FrameFault>
+fn u32_of(bytes: &[u8]) -> Option<(u32, &[u8])>
     ensures { Gives (λ x. (x.0, x.1.now)) result (number_at w32 bytes.now) }
 {
-    let Some((front, rest)) = bytes.split_first_chunk() else {
-        return Err(FrameFault::Short);
-    };
-    Ok((u32::from_be_bytes(*front), rest))
+    let (front, rest) = bytes.split_first_chunk()?;
+    Some((u32::from_be_bytes(*front), rest))
 }
 
-fn u64_of(bytes: &[u8]) -> Result<(u64, &[u8]), FrameFault>
+fn u64_of(bytes: &[u8]) -> Option<(u64, &[u8])>
     ensures { Gives (λ x. (x.0, x.1.now)) result (number_at w64 bytes.now) }
 {
-    let Some((front, rest)) = bytes.split_first_chunk() else {
-        return Err(FrameFault::Short);
-    };
-    Ok((u64::from_be_bytes(*front), rest))
+    let (front, rest) = bytes.split_first_chunk()?;
+    Some((u64::from_be_bytes(*front), rest))
 }
 
 #[tactic(auto, unfolding(crate::specs::Reading::stamp_at))]
-pub(crate) fn stamp_of(first: u8, bytes: &[u8]) -> Result<(Option<Stamp>, &[u8]), FrameFault>
+pub(crate) fn stamp_of(first: u8, bytes: &[u8]) -> Option<(Option<Stamp>, &[u8])>
     ensures { Gives (λ x. (x.0, x.1.now)) result (optional (has 2 first) stamp_at bytes.now) }
 {
     if first / 2 % 2 == 1 {
         let (number, rest) = u64_of(bytes)?;
-        Ok((Some(Stamp(number)), rest))
+        Some((Some(Stamp(number)), rest))
     } else {
-        Ok((None, bytes))
+        Some((None, bytes))
     }
 }
 
 #[tactic(auto, unfolding(crate::specs::Reading::context_at))]
-pub(crate) fn context_of(
-    first: u8,
-    bytes: &[u8],
-) -> Result<(Option<Context<'_>>, &[u8]), FrameFault>
+pub(crate) fn context_of(first: u8, bytes: &[u8]) -> Option<(Option<Context<'_>>, &[u8])>
     ensures { Gives (λ x. (x.0, x.1.now)) result (optional (has 1 first) context_at bytes.now) }
 {
     if first % 2 == 1 {
         let ((form, size), rest) = length_of(bytes)?;
         let (held, rest) = slice_of(size, rest)?;
         // A length that was read is one that its form can say.
-        Ok((Context::make(form, held), rest))
+        Some((Context::make(form, held), rest))
     } else {
-        Ok((None, bytes))
+        Some((None, bytes))
     }
 }
 
 #[tactic(auto, unfolding(crate::specs::Reading::length_at))]
-fn length_of(bytes: &[u8]) -> Result<((Form, usize), &[u8]), FrameFault>
+fn length_of(bytes: &[u8]) -> Option<((Form, usize), &[u8])>
     ensures gives { Gives (λ x. (x.0, x.1.now)) result (length_at bytes.now) }
-    ensures most { IfOk result (λ x. x.0.1 ≤ most_bytes x.0.0) }
+    ensures most { IfSome result (λ x. x.0.1 ≤ most_bytes x.0.0) }
 {
     match bytes {
-        [] => Err(FrameFault::Short),
-        [first, rest @ ..] if *first < 128 => Ok(((Form::Short, *first as usize), rest)),
+        [] => None,
+        [first, rest @ ..] if *first < 128 => Some(((Form::Short, *first as usize), rest)),
         [_, ..] => {
             let (size, rest) = u32_of(bytes)?;
-            Ok(((Form::Long, (size - 0x8000_0000) as usize), rest))
+            Some(((Form::Long, (size - 0x8000_0000) as usize), rest))
         }
     }
 }
 
 #[tactic(auto, unfolding(crate::specs::Reading::signature_at))]
-pub(crate) fn signature_of(first: u8, bytes: &[u8]) -> Result<(Option<&[u8]>, &[u8]), FrameFault>
+pub(crate) fn signature_of(first: u8, bytes: &[u8]) -> Option<(Option<&[u8]>, &[u8])>
     ensures gives { Gives (λ x. (option_copied x.0, x.1.now)) result
         (optional (has 4 first) signature_at bytes.now) }
-    ensures short { IfOk result (λ x. IfSome x.0 (λ s. length s.now ≤ 65535)) }
+    ensures short { IfSome result (λ x. IfSome x.0 (λ s. length s.now ≤ 65535)) }
 {
     if first / 4 % 2 == 1 {
         let (size, rest) = u16_of(bytes)?;
         let (signature, rest) = slice_of(size as usize, rest)?;
-        Ok((Some(signature), rest))
+        Some((Some(signature), rest))
     } else {
-        Ok((None, bytes))
+        Some((None, bytes))
     }
 }

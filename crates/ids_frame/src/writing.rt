@@ -58,17 +58,14 @@ fn header_of(message: &Message<'_>) -> u8
     ensures value { result ≡ header message.now }
     ensures three_bits { result ≤ 7 }
 {
-    flag_of(1, &message.context()) + flag_of(2, &message.stamp()) + flag_of(4, &message.signature())
+    flag_of(&message.context()) + 2 * flag_of(&message.stamp()) + 4 * flag_of(&message.signature())
 }
 
-fn flag_of<T>(bit: u8, part: &Option<T>) -> u8
-    ensures value { result ≡ flag bit part.now }
-    ensures small { result ≤ bit }
+fn flag_of<T>(part: &Option<T>) -> u8
+    ensures value { result ≡ flag part.now }
+    ensures small { result ≤ 1 }
 {
-    match part {
-        Some(_) => bit,
-        None => 0,
-    }
+    u8::from(part.is_some())
 }
 
 fn put_stamp(stamp: Option<Stamp>, out: &mut ArrayVec<u8, MAX_BYTES>)

@@ -1,4 +1,4 @@
-use Rattle.ids_frame.proofs.DecodingLemmas.{one_message_lem}
+use Rattle.ids_frame.proofs.MessageLemmas.{one_message_lem}
 use Rattle.ids_frame.proofs.decoding.one_message.Goals as goal
 
 pub returns : goal.returns
