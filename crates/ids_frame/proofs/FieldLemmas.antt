@@ -6,7 +6,7 @@ use Rattle.std.proofs.lemmas.List.{append-nil}
 use Rattle.std.proofs.lemmas.List.Elements.{All-tail}
 use Rattle.ids_frame.specs.declared.context.Form.{Form}
 use Rattle.ids_frame.specs.declared.context.Form.TheVariants as forms
-use Rattle.ids_frame.specs.Bytes.{AreBytes}
+use Rattle.ids_frame.specs.Bytes.{IsByte, AreBytes}
 use Rattle.ids_frame.specs.Context.{FitsContext, most_bytes}
 use Rattle.ids_frame.specs.Spelling.{stamp_part, length_in, context_part, signature_part}
 use Rattle.ids_frame.specs.Reading.{Read, ◌>>=◌, number_at, stamp_at, length_at, context_at, signature_at}
@@ -22,6 +22,10 @@ stamp_is_part =
     (λ s lt. record { values = (s.0, tt); can = (lt, tt); is = refl })
 
 -- ---- a context's length
+
+-- a number of four bytes
+four : IsPart (number_at w32) (to_be_bytes w32) (λ n. n < 2 ^ 32)
+four = number_is_part w32 (2 ^ 32) wide32
 
 -- a length's spelling
 abbrev length_text : Form × ℕ → List ℕ
@@ -69,10 +73,10 @@ length_takes (a ∷ bytes) x rest fits e =
       | inl lt ↦
           let short : (Form × ℕ) × List ℕ = ((forms.Short, a), bytes) in
           let same : short ≡ found = cc (length_low a bytes lt) in
-          subst Told same (record { parts = refl; rest_fits = All-tail (λ b. b < 256) a bytes fits }, omega (arith, lt))
+          subst Told same (record { parts = refl; rest_fits = All-tail IsByte a bytes fits }, omega (arith, lt))
       | inr le ↦
           let b = bind_some (number_at w32 (a ∷ bytes)) long_of found (sym (length_high a bytes le) ∙ e) in
-          let t = (number_is_part w32 (2 ^ 32) wide32).takes (a ∷ bytes) b.0.0 b.0.1 fits b.1 in
+          let t = four.takes (a ∷ bytes) b.0.0 b.0.1 fits b.1 in
           let long : (Form × ℕ) × List ℕ = ((forms.Long, b.0.0 - 2 ^ 31), b.0.1) in
           let same : long ≡ found = cc b.2 in
           let text = long_text b.0.0 (high a bytes b.0.0 b.0.1 le t.0.parts) in
@@ -83,13 +87,14 @@ length_takes (a ∷ bytes) x rest fits e =
 length_again : (x : Form × ℕ) (rest : List ℕ) → LengthFits x → length_at (length_text x ++ rest) ≡ Some (x, rest)
 length_again x rest le = by_form x.0 x.1 rest le
   where
-    by_form : (form : Form) (size : ℕ) (rest : List ℕ) → size ≤ most_bytes form → length_at (length_in form size ++ rest) ≡ Some ((form, size), rest)
+    by_form : (form : Form) (size : ℕ) (rest : List ℕ) → size ≤ most_bytes form
+        → length_at (length_in form size ++ rest) ≡ Some ((form, size), rest)
     by_form forms.Short size rest le = length_low size rest (omega (arith, le))
     by_form forms.Long size rest le =
         let n = 2 ^ 31 + size in
         let text = to_be_bytes w32 n ++ rest in
         let first : 128 ≤ n / 2 ^ 24 % 256 = omega (arith, le) in
-        let number = (number_is_part w32 (2 ^ 32) wide32).again n rest (omega (arith, le)) in
+        let number = four.again n rest (omega (arith, le)) in
         let back : n - 2 ^ 31 ≡ size = omega arith in
         length_high (get_or text 0 0) _ first ∙ ap (λ r. r >>= long_of) number ∙ rw back refl
 
@@ -102,9 +107,11 @@ length_cut (a ∷ bytes) fits e =
       | inr le ↦
           elim (bind_none (number_at w32 (a ∷ bytes)) long_of (sym (length_high a bytes le) ∙ e)) [
             | inl out ↦
-                let r = (number_is_part w32 (2 ^ 32) wide32).cut (a ∷ bytes) fits out in
+                let r = four.cut (a ∷ bytes) fits out in
                 let up = high a (bytes ++ r.next ∷ r.more) r.value [] le (r.whole ∙ sym (append-nil _)) in
-                record { value = (forms.Long, r.value - 2 ^ 31); fits = omega (arith, r.fits); next = r.next; more = r.more; whole = r.whole ∙ long_text r.value up }
+                let whole = r.whole ∙ long_text r.value up in
+                let size = r.value - 2 ^ 31 in
+                record { value = (forms.Long, size); fits = omega (arith, r.fits); next = r.next; more = r.more; whole = whole }
             | inr b ↦ absurd (cc b.2)
           ]
     ]
@@ -124,7 +131,11 @@ context_is_part =
       text = rw (append-nil v.1.0, can.1.0.len) refl;
       can = record { size = rw can.1.0.len can.0; bytes = can.1.0.are_bytes };
     })
-    (λ c fits. record { values = ((c.form, length c.bytes), (c.bytes, tt)); can = (fits.size, (record { len = refl; are_bytes = fits.bytes }, tt)); is = refl })
+    (λ c fits. record {
+      values = ((c.form, length c.bytes), (c.bytes, tt));
+      can = (fits.size, (record { len = refl; are_bytes = fits.bytes }, tt));
+      is = refl;
+    })
 
 -- these are bytes, and no more than two bytes can say
 pub record FitsSignature (bytes : List ℕ) : Type 0 where
@@ -140,4 +151,8 @@ signature_is_part =
       text = rw (append-nil v.1.0, can.1.0.len) refl;
       can = record { short = omega (arith, can.0, can.1.0.len); are_bytes = can.1.0.are_bytes };
     })
-    (λ s fits. record { values = (length s, (s, tt)); can = (omega (arith, fits.short), (record { len = refl; are_bytes = fits.are_bytes }, tt)); is = refl })
+    (λ s fits. record {
+      values = (length s, (s, tt));
+      can = (omega (arith, fits.short), (record { len = refl; are_bytes = fits.are_bytes }, tt));
+      is = refl;
+    })

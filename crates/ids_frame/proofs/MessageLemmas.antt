@@ -1,6 +1,6 @@
 -- What bytes begin with is what is read of them.
 use Rattle.std.proofs.Common.{◌≡◌, ℕ, ◌+◌, ◌*◌, ◌/◌, ◌%◌, ◌^◌, ◌<◌, ◌≤◌, ◌⊎◌, false, List, [], ◌∷◌, ◌++◌, length, drop, Option, Some, None, Result, Ok, Err, refl, sym, ap, subst, ◌∙◌, append_assoc, arith, inl, inr}
-use Rattle.std.specs.Prelude.{IfSome, is_some, ok_or}
+use Rattle.std.specs.Prelude.{IfSome, is_some, ok_or, ◌↔◌}
 use Rattle.std.specs.Result.{result_ok}
 use Rattle.std.specs.Int.{w16}
 use Rattle.std.proofs.lemmas.Bool.{cases_lt, le-leb, lt-leb, eqb-true, eqb-false}
@@ -8,12 +8,13 @@ use Rattle.std.proofs.lemmas.List.{append-nil, length-append}
 use Rattle.std.proofs.lemmas.List.Elements.{All-tail}
 use Rattle.ids_frame.specs.declared.fault.FrameFault.{FrameFault}
 use Rattle.ids_frame.specs.declared.fault.FrameFault.TheVariants.{Short, UnknownVersion, UnknownPart}
-use Rattle.ids_frame.specs.Bytes.{AreBytes}
+use Rattle.ids_frame.specs.Bytes.{IsByte, AreBytes}
+use Rattle.ids_frame.specs.Context.{FitsContext}
 use Rattle.ids_frame.specs.Message.{MessageParts, FitsMessage, IsKnown, last_version}
 use Rattle.ids_frame.specs.Spelling.{flag, header, stamp_part, context_part, signature_part, spelling}
-use Rattle.ids_frame.specs.Reading.{has_layout, has, parts_at, message_at}
+use Rattle.ids_frame.specs.Reading.{has_layout, has, parts_at, Begun, message_at}
 use Rattle.ids_frame.specs.Decoding.{IsCut, StrangeVersion, StrangePart, Begins}
-use Rattle.ids_frame.proofs.PartLemmas.{one_answer, IsPart, Parts, Values, AllCan, made, part, SpelledAs, Makes, parts_are_part, optional_is_part}
+use Rattle.ids_frame.proofs.PartLemmas.{one_answer, IsPart, Parts, Values, AllCan, made, part, SpelledAs, Makes, parts_are_part, IsThere, optional_is_part}
 use Rattle.ids_frame.proofs.NumberLemmas.{wide16, number_is_part, byte_is_part}
 use Rattle.ids_frame.proofs.FieldLemmas.{stamp_is_part, context_is_part, FitsSignature, signature_is_part}
 
@@ -24,15 +25,10 @@ flag_small : {A : Type 0} (part : Option A) → flag part ≤ 1
 flag_small None = omega arith
 flag_small (Some x) = omega arith
 
--- a bit of the first byte is the flag of the part that it announces
-flag_of : {A : Type 0} (bit first : ℕ) (part : Option A) → has bit first ≡ is_some part → first / bit % 2 ≡ flag part
-flag_of bit first None e = omega (arith, eqb-false (first / bit % 2) 1 e)
-flag_of bit first (Some x) e = eqb-true _ _ e
-
--- and it announces that part
-has_part : {A : Type 0} (bit first : ℕ) (part : Option A) → first / bit % 2 ≡ flag part → has bit first ≡ is_some part
-has_part bit first None e = rw e refl
-has_part bit first (Some x) e = rw e refl
+-- a bit of the first byte announces a part where it is the flag of that part
+flag_is : {A : Type 0} (bit first : ℕ) (part : Option A) → (has bit first ≡ is_some part) ↔ (first / bit % 2 ≡ flag part)
+flag_is bit first None = (λ e. omega (arith, eqb-false (first / bit % 2) 1 e), λ e. rw e refl)
+flag_is bit first (Some x) = (λ e. eqb-true _ _ e, λ e. rw e refl)
 
 -- what the first byte of a message is made of
 record IsFirstOf (m : MessageParts) (first : ℕ) : Type 0 where
@@ -65,8 +61,7 @@ message_parts first =
     part (optional_is_part stamp_part refl stamp_is_part (has 2 first)) (λ stamp.
     part (optional_is_part context_part refl context_is_part (has 1 first)) (λ context.
     part (optional_is_part signature_part refl signature_is_part (has 4 first)) (λ signature.
-    made (
-    record {
+    made (record {
       version = first / 16;
       instance = place / 64;
       sensor = place % 64;
@@ -76,8 +71,7 @@ message_parts first =
       stamp = stamp;
       context = context;
       signature = signature;
-    }
-    ))))))))
+    }))))))))
 
 -- a message that this first byte announces
 record CanFollow (first : ℕ) (m : MessageParts) : Type 0 where
@@ -88,38 +82,35 @@ record CanFollow (first : ℕ) (m : MessageParts) : Type 0 where
 abbrev behind_first : MessageParts → List ℕ
 behind_first m = drop 1 (spelling m)
 
--- what is said of a signature at once
-signed : (s : Option (List ℕ)) → IfSome s (λ bytes. length bytes ≤ 65535) → IfSome s AreBytes → IfSome s FitsSignature
-signed None short bytes = tt
-signed (Some s) short bytes = record { short = short; are_bytes = bytes }
-
--- and one by one
-signed_parts : (s : Option (List ℕ)) → IfSome s FitsSignature → IfSome s (λ bytes. length bytes ≤ 65535) × IfSome s AreBytes
-signed_parts None fits = (tt, tt)
-signed_parts (Some s) fits = (fits.short, fits.are_bytes)
+-- what is said of a signature is said at once
+signed : (s : Option (List ℕ)) → IfSome s FitsSignature ↔ (IfSome s (λ bytes. length bytes ≤ 65535) × IfSome s AreBytes)
+signed None = (λ fits. (tt, tt), λ fits. tt)
+signed (Some s) = (λ fits. (fits.short, fits.are_bytes), λ fits. record { short = fits.0; are_bytes = fits.1 })
 
 -- the parts are spelled as the message
 spelled : (first : ℕ) → IsPlain first → (v : Values (message_parts first)) → AllCan (message_parts first) v
     → SpelledAs (message_parts first) behind_first (CanFollow first) v
 spelled first plain v can =
-    let tail = can.1.1.1.1 in
-    let stamp = flag_of 2 first v.1.1.1.1.0 tail.0.0 in
-    let context = flag_of 1 first v.1.1.1.1.1.0 tail.1.0.0 in
-    let signature = flag_of 4 first v.1.1.1.1.1.1.0 tail.1.1.0.0 in
-    let signed = signed_parts v.1.1.1.1.1.1.0 tail.1.1.0.1 in
+    let c = can.1.1.1.1 in
+    let w = v.1.1.1.1 in
+    let stamp = (flag_is 2 first w.0).0 c.0.0 in
+    let context = (flag_is 1 first w.1.0).0 c.1.0.0 in
+    let signature = (flag_is 4 first w.1.1.0).0 c.1.1.0.0 in
+    let held = (signed w.1.1.0).0 c.1.1.0.1 in
     let place : v.0 / 64 * 64 + v.0 % 64 ≡ v.0 = omega arith in
+    let last = signature_part w.1.1.0 in
     record {
-      text = rw (place, append_assoc (stamp_part v.1.1.1.1.0) (context_part v.1.1.1.1.1.0) (signature_part v.1.1.1.1.1.1.0), append-nil (signature_part v.1.1.1.1.1.1.0)) refl;
+      text = rw (place, append_assoc (stamp_part w.0) (context_part w.1.0) last, append-nil last) refl;
       can = record {
         fits = record {
           known = plain.known;
-          room = record { ten_bits = omega (arith, can.0); six_bits = omega arith; two_bytes = signed.0 };
+          room = record { ten_bits = omega (arith, can.0); six_bits = omega arith; two_bytes = held.0 };
           event = can.1.0;
           count = can.1.1.0;
           reserved = can.1.1.1.0;
-          stamp = tail.0.1;
-          context = tail.1.0.1;
-          signature = signed.1;
+          stamp = c.0.1;
+          context = c.1.0.1;
+          signature = held.1;
         };
         is = omega (arith, plain.few, stamp, context, signature);
       };
@@ -129,31 +120,18 @@ spelled first plain v can =
 makes_message : (first : ℕ) (m : MessageParts) → CanFollow first m → Makes (message_parts first) m
 makes_message first m can =
     let bits = first_of m first can.is in
-    let room = can.fits.room in
+    let fits = can.fits in
     let place = m.instance * 64 + m.sensor in
-    let high : place / 64 ≡ m.instance = omega (arith, room.six_bits) in
-    let low : place % 64 ≡ m.sensor = omega (arith, room.six_bits) in
+    let high : place / 64 ≡ m.instance = omega (arith, fits.room.six_bits) in
+    let low : place % 64 ≡ m.sensor = omega (arith, fits.room.six_bits) in
+    let below : place < 2 ^ 16 = omega (arith, fits.room.ten_bits, fits.room.six_bits) in
+    let stamp : IsThere (has 2 first) (λ s. s.0 < 2 ^ 64) m.stamp = ((flag_is 2 first m.stamp).1 bits.stamp, fits.stamp) in
+    let context : IsThere (has 1 first) FitsContext m.context = ((flag_is 1 first m.context).1 bits.context, fits.context) in
+    let signature : IsThere (has 4 first) FitsSignature m.signature =
+    ((flag_is 4 first m.signature).1 bits.signature, (signed m.signature).1 (fits.room.two_bytes, fits.signature)) in
     record {
       values = (place, (m.event, (m.count, (m.reserved, (m.stamp, (m.context, (m.signature, tt)))))));
-      can = (
-        omega (arith, room.ten_bits, room.six_bits),
-        (
-          can.fits.event,
-          (
-            can.fits.count,
-            (
-              can.fits.reserved,
-              (
-                (has_part 2 first m.stamp bits.stamp, can.fits.stamp),
-                (
-                  (has_part 1 first m.context bits.context, can.fits.context),
-                  ((has_part 4 first m.signature bits.signature, signed m.signature room.two_bytes can.fits.signature), tt),
-                ),
-              ),
-            ),
-          ),
-        ),
-      );
+      can = (below, (fits.event, (fits.count, (fits.reserved, (stamp, (context, (signature, tt)))))));
       is = rw (bits.version, high, low) refl;
     }
 
@@ -205,20 +183,23 @@ again m rest fits =
     ∙ ap (λ r. ok_or r Short) ((message_is_part first plain).again m rest (record { fits = fits; is = refl }))
 
 -- no spelling begins another: what begins with two spellings begins with one message
-pub one_message_lem : (m n : MessageParts) (a b : List ℕ) → FitsMessage m → FitsMessage n → spelling m ++ a ≡ spelling n ++ b → (m ≡ n) × (a ≡ b)
-one_message_lem m n a b fits_m fits_n same = one_answer (ap result_ok (sym (again m a fits_m) ∙ ap message_at same ∙ again n b fits_n))
+pub one_message_lem : (m n : MessageParts) (a b : List ℕ) → FitsMessage m → FitsMessage n
+    → spelling m ++ a ≡ spelling n ++ b → (m ≡ n) × (a ≡ b)
+one_message_lem m n a b fits_m fits_n same =
+    one_answer (ap result_ok (sym (again m a fits_m) ∙ ap message_at same ∙ again n b fits_n))
 
 -- ---- what is read tells what bytes begin with
 
 -- behind a plain first byte
-told_behind : (first : ℕ) (bytes : List ℕ) → IsPlain first → AreBytes bytes → (read : Option (MessageParts × List ℕ)) → parts_at first bytes ≡ read
-    → Begins (first ∷ bytes) (ok_or read Short)
+told_behind : (first : ℕ) (bytes : List ℕ) → IsPlain first → AreBytes bytes
+    → (read : Option (MessageParts × List ℕ)) → parts_at first bytes ≡ read → Begins (first ∷ bytes) (ok_or read Short)
 told_behind first bytes plain fits (Some x) e =
     let t = (message_is_part first plain).takes bytes x.0 x.1 fits e in
     record { fits = t.1.fits; whole = ap (λ l. first ∷ l) t.0.parts ∙ ap (λ b. b ∷ (behind_first x.0 ++ x.1)) t.1.is }
 told_behind first bytes plain fits None e =
     let r = (message_is_part first plain).cut bytes fits e in
-    record { message = r.value; fits = r.fits.fits; next = r.next; more = r.more; whole = ap (λ l. first ∷ l) r.whole ∙ ap (λ b. b ∷ behind_first r.value) r.fits.is }
+    let whole = ap (λ l. first ∷ l) r.whole ∙ ap (λ b. b ∷ behind_first r.value) r.fits.is in
+    record { message = r.value; fits = r.fits.fits; next = r.next; more = r.more; whole = whole }
 
 -- what is read is what bytes begin with
 pub told : (bytes : List ℕ) → AreBytes bytes → Begins bytes (message_at bytes)
@@ -226,7 +207,8 @@ unfolding message_at
 told [] fits =
     let plain : IsPlain 16 = record { known = (omega arith, omega arith); few = refl } in
     let some = (message_is_part 16 plain).one in
-    record { message = some.0; fits = some.1.fits; next = some.0.version * 16 + header some.0; more = behind_first some.0; whole = refl }
+    let next = some.0.version * 16 + header some.0 in
+    record { message = some.0; fits = some.1.fits; next = next; more = behind_first some.0; whole = refl }
 told (first ∷ bytes) fits = elim (layout (first / 16)) [
   | inr not ↦ subst (Begins (first ∷ bytes)) (sym (at_version (first ∷ bytes) not.1)) not.1
   | inl known ↦ elim (cases_lt (first / 8 % 2) 1) [
@@ -235,7 +217,8 @@ told (first ∷ bytes) fits = elim (layout (first / 16)) [
         subst (Begins (first ∷ bytes)) (sym (at_part (first ∷ bytes) strange)) strange
     | inl lt ↦
         let plain : IsPlain first = record { known = known; few = omega (arith, lt) } in
-        subst (Begins (first ∷ bytes)) (sym (at_plain first bytes plain)) (told_behind first bytes plain (All-tail (λ b. b < 256) first bytes fits) (parts_at first bytes) refl)
+        let begins = told_behind first bytes plain (All-tail IsByte first bytes fits) (parts_at first bytes) refl in
+        subst (Begins (first ∷ bytes)) (sym (at_plain first bytes plain)) begins
   ]
 ]
 
@@ -244,7 +227,7 @@ longer : (bytes : List ℕ) (cut : IsCut bytes) → message_at (bytes ++ cut.nex
 longer bytes cut = ap message_at (cut.whole ∙ sym (append-nil _)) ∙ again cut.message [] cut.fits
 
 -- a cut spelling begins with nothing else
-short_if_cut : (bytes : List ℕ) (cut : IsCut bytes) (read : Result (MessageParts × List ℕ) FrameFault) → Begins bytes read → read ≡ Err Short
+short_if_cut : (bytes : List ℕ) (cut : IsCut bytes) (read : Begun) → Begins bytes read → read ≡ Err Short
 short_if_cut bytes cut (Ok x) b =
     let more : List ℕ = cut.next ∷ cut.more in
     let here = ap message_at (ap (λ l. l ++ more) b.whole ∙ append_assoc (spelling x.0) x.1 more) ∙ again x.0 (x.1 ++ more) b.fits in
@@ -259,12 +242,12 @@ short_if_cut (first ∷ bytes) cut (Err UnknownPart) b =
     absurd (cc (longer (first ∷ bytes) cut, at_part (first ∷ (bytes ++ cut.next ∷ cut.more)) b))
 
 -- what bytes begin with is what is read
-pub read_of : (bytes : List ℕ) (read : Result (MessageParts × List ℕ) FrameFault) → AreBytes bytes → Begins bytes read → message_at bytes ≡ read
+pub read_of : (bytes : List ℕ) (read : Begun) → AreBytes bytes → Begins bytes read → message_at bytes ≡ read
 read_of bytes (Ok x) fits begins = ap message_at begins.whole ∙ again x.0 x.1 begins.fits
 read_of bytes (Err Short) fits cut = short_if_cut bytes cut (message_at bytes) (told bytes fits)
 read_of bytes (Err UnknownVersion) fits strange = at_version bytes strange
 read_of bytes (Err UnknownPart) fits strange = at_part bytes strange
 
 -- bytes begin exactly with what is read of them
-pub read_is_begun : (bytes : List ℕ) (read : Result (MessageParts × List ℕ) FrameFault) → AreBytes bytes → (message_at bytes ≡ read → Begins bytes read) × (Begins bytes read → message_at bytes ≡ read)
+pub read_is_begun : (bytes : List ℕ) (read : Begun) → AreBytes bytes → (message_at bytes ≡ read) ↔ Begins bytes read
 read_is_begun bytes read fits = (λ e. subst (Begins bytes) e (told bytes fits), read_of bytes read fits)

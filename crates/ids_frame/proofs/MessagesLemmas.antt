@@ -1,15 +1,16 @@
 -- What a file holds is its one list of messages, or the one place where they stop.
 use Rattle.std.proofs.Common.{◌≡◌, ℕ, zero, suc, ◌+◌, ◌-◌, ◌<◌, ◌≤◌, ◌==◌, true, false, List, [], ◌∷◌, ◌++◌, length, drop, Some, None, Result, Ok, Err, refl, sym, ap, subst, ◌∙◌, append_assoc, arith}
+use Rattle.std.specs.Prelude.{◌↔◌}
 use Rattle.std.specs.Result.{result_ok, result_err, result_unwrap_or}
 use Rattle.std.proofs.lemmas.Bool.{eqb-true}
 use Rattle.std.proofs.lemmas.List.{length-append, drop_at}
 use Rattle.std.proofs.lemmas.List.Elements.{All-drop}
 use Rattle.ids_frame.specs.declared.fault.FrameFault.{FrameFault}
 use Rattle.ids_frame.specs.declared.fault.BadMessage.{BadMessage}
-use Rattle.ids_frame.specs.Bytes.{AreBytes}
+use Rattle.ids_frame.specs.Bytes.{IsByte, AreBytes}
 use Rattle.ids_frame.specs.Message.{MessageParts, FitsMessage}
 use Rattle.ids_frame.specs.Spelling.{spelling}
-use Rattle.ids_frame.specs.Reading.{message_at}
+use Rattle.ids_frame.specs.Reading.{Begun, message_at}
 use Rattle.ids_frame.specs.Decoding.{BeginsWith, Begins}
 use Rattle.ids_frame.specs.Messages.{joined, AreMessages, IsJoined, HasMessages, Held, Holds, before, held_in, messages_read, messages_of}
 use Rattle.ids_frame.proofs.PartLemmas.{one_answer}
@@ -18,7 +19,15 @@ use Rattle.ids_frame.proofs.MessageLemmas.{again, told, read_of}
 -- what stands behind bytes are bytes
 behind_bytes : (front rest : List ℕ) → AreBytes (front ++ rest) → AreBytes rest
 behind_bytes front rest fits =
-    subst AreBytes (drop_at front rest (length front) refl) (All-drop (λ b. b < 256) (length front) (front ++ rest) fits)
+    subst AreBytes (drop_at front rest (length front) refl) (All-drop IsByte (length front) (front ++ rest) fits)
+
+-- behind a message there are fewer bytes
+is_less : (bytes : List ℕ) (m : MessageParts) (rest : List ℕ) → AreBytes bytes → BeginsWith bytes m rest
+    → AreBytes rest × (length rest < length bytes)
+is_less bytes m rest fits begins = (
+  behind_bytes (spelling m) rest (subst AreBytes begins.whole fits),
+  omega (arith, ap (λ l. length l) begins.whole, length-append (drop 1 (spelling m)) rest),
+)
 
 -- ---- bytes that hold something
 
@@ -29,7 +38,8 @@ left_out size [] rest = refl
 left_out size (byte ∷ text) rest = left_out size text rest
 
 -- a message stands before what is held behind it
-held_behind : (size : ℕ) (m : MessageParts) (rest : List ℕ) → FitsMessage m → held_in size 0 (spelling m ++ rest) ≡ before m (held_in size 0 rest)
+held_behind : (size : ℕ) (m : MessageParts) (rest : List ℕ) → FitsMessage m
+    → held_in size 0 (spelling m ++ rest) ≡ before m (held_in size 0 rest)
 unfolding held_in
 held_behind size m rest fits =
     let others : length (spelling m) - 1 ≡ length (drop 1 (spelling m)) = omega arith in
@@ -42,7 +52,8 @@ joined_held size [] fit = refl
 joined_held size (m ∷ messages) fit = held_behind size m (joined messages) fit.0 ∙ ap (before m) (joined_held size messages fit.1)
 
 -- a fault behind messages is held
-fault_held : (size : ℕ) (front : List MessageParts) (next : ℕ) (rest : List ℕ) (fault : FrameFault) → AreMessages front → message_at (next ∷ rest) ≡ Err fault
+fault_held : (size : ℕ) (front : List MessageParts) (next : ℕ) (rest : List ℕ) (fault : FrameFault) → AreMessages front
+    → message_at (next ∷ rest) ≡ Err fault
     → held_in size 0 (joined front ++ next ∷ rest) ≡ Err (record { at = size - length (next ∷ rest); fault = fault })
 unfolding held_in
 fault_held size [] next rest fault fit e = rw e refl
@@ -61,10 +72,12 @@ unfolding messages_read
 read_if_held bytes (Ok messages) fits joins = joined_read bytes messages joins
 read_if_held bytes (Err bad) fits breaks =
     let tail : List ℕ = breaks.next ∷ breaks.rest in
-    let fault = read_of tail (Err bad.fault) (behind_bytes (joined breaks.front) tail (subst AreBytes breaks.whole fits)) breaks.cause in
+    let tail_fits = behind_bytes (joined breaks.front) tail (subst AreBytes breaks.whole fits) in
+    let fault = read_of tail (Err bad.fault) tail_fits breaks.cause in
     let size = ap (λ l. length l) breaks.whole in
     let place : length bytes - length tail ≡ bad.at = omega (arith, breaks.place, size, length-append (joined breaks.front) tail) in
-    ap (held_in (length bytes) 0) breaks.whole ∙ fault_held (length bytes) breaks.front breaks.next breaks.rest bad.fault breaks.fit fault ∙ rw place refl
+    ap (held_in (length bytes) 0) breaks.whole
+    ∙ fault_held (length bytes) breaks.front breaks.next breaks.rest bad.fault breaks.fit fault ∙ rw place refl
 
 -- bytes, and what they hold
 record Found (bytes : List ℕ) : Type 0 where
@@ -89,14 +102,15 @@ found_behind m rest (Err bad) fits holds = record {
 }
 
 -- by what bytes begin with, where all that stands behind them holds something
-found_by : (next : ℕ) (rest : List ℕ) (read : Result (MessageParts × List ℕ) FrameFault) → AreBytes (next ∷ rest) → Begins (next ∷ rest) read
+found_by : (next : ℕ) (rest : List ℕ) (read : Begun) → AreBytes (next ∷ rest) → Begins (next ∷ rest) read
     → ((behind : List ℕ) → AreBytes behind → length behind < length (next ∷ rest) → Found behind) → Found (next ∷ rest)
-found_by next rest (Err fault) fits begins others =
-    record { held = Err (record { at = 0; fault = fault }); holds = record { front = []; fit = tt; next = next; rest = rest; whole = refl; place = refl; cause = begins } }
+found_by next rest (Err fault) fits begins others = record {
+  held = Err (record { at = 0; fault = fault });
+  holds = record { front = []; fit = tt; next = next; rest = rest; whole = refl; place = refl; cause = begins };
+}
 found_by next rest (Ok x) fits begins others =
-    let size = ap (λ l. length l) begins.whole in
-    let few : length x.1 < length (next ∷ rest) = omega (arith, size, length-append (drop 1 (spelling x.0)) x.1) in
-    let behind = others x.1 (behind_bytes (spelling x.0) x.1 (subst AreBytes begins.whole fits)) few in
+    let left = is_less (next ∷ rest) x.0 x.1 fits begins in
+    let behind = others x.1 left.0 left.1 in
     subst Found (sym begins.whole) (found_behind x.0 x.1 behind.held begins.fits behind.holds)
 
 -- all bytes hold something
@@ -107,7 +121,7 @@ found (suc most) (next ∷ rest) fits le =
     found_by next rest (message_at (next ∷ rest)) fits (told (next ∷ rest) fits) (λ behind fits' lt. found most behind fits' (omega arith))
 
 -- a file holds exactly what is read of it
-pub read_is_held : (bytes : List ℕ) (held : Held) → AreBytes bytes → (messages_read bytes ≡ held → Holds bytes held) × (Holds bytes held → messages_read bytes ≡ held)
+pub read_is_held : (bytes : List ℕ) (held : Held) → AreBytes bytes → (messages_read bytes ≡ held) ↔ Holds bytes held
 read_is_held bytes held fits =
     let f = found (length bytes) bytes fits (omega arith) in
     (λ e. subst (Holds bytes) (sym (read_if_held bytes f.held fits f.holds) ∙ e) f.holds, read_if_held bytes held fits)
@@ -136,18 +150,18 @@ pub left_behind : (bytes rest : List ℕ) (m : MessageParts) (behind : List ℕ)
     → IsLeft bytes behind × (length behind < length rest)
 left_behind bytes rest m behind left read =
     let begins : BeginsWith rest m behind = subst (Begins rest) read (told rest left.are_bytes) in
-    let fewer : length behind < length rest = omega (arith, ap (λ l. length l) begins.whole, length-append (drop 1 (spelling m)) behind) in
+    let less = is_less rest m behind left.are_bytes begins in
     let size = length bytes in (
       record {
-        few = omega (arith, left.few);
+        few = omega (arith, left.few, less.1);
         all_bytes = left.all_bytes;
-        are_bytes = behind_bytes (spelling m) behind (subst AreBytes begins.whole left.are_bytes);
+        are_bytes = less.0;
         same_fault = left.same_fault
             ∙ ap (λ l. result_err (held_in size 0 l)) begins.whole
             ∙ ap (λ h. result_err h) (held_behind size m behind begins.fits)
             ∙ err_before m (held_in size 0 behind);
       },
-      fewer,
+      less.1,
     )
 
 -- the fault of what has one
@@ -181,8 +195,8 @@ pub record Pops (bytes : List ℕ) (m : MessageParts) (rest : List ℕ) : Type 0
   pub others : HasMessages rest
 
 -- the message that is read is the first
-pub pops : (bytes : List ℕ) (m : MessageParts) (rest : List ℕ) (messages : List MessageParts) → IsJoined bytes messages → message_at bytes ≡ Ok (m, rest)
-    → Pops bytes m rest
+pub pops : (bytes : List ℕ) (m : MessageParts) (rest : List ℕ) (messages : List MessageParts) → IsJoined bytes messages
+    → message_at bytes ≡ Ok (m, rest) → Pops bytes m rest
 unfolding message_at
 pops bytes m rest [] joins read = absurd (cc (read, ap message_at joins.whole))
 pops bytes m rest (x ∷ xs) joins read =

@@ -1,11 +1,11 @@
 -- Reading bytes and numbers.
-use Rattle.std.proofs.Common.{◌≡◌, ℕ, suc, ◌-◌, ◌^◌, ◌<◌, ◌≤◌, List, [], ◌∷◌, ◌++◌, length, get_or, take, drop, replicate, Some, None, refl, sym, ap, subst, ◌∙◌, arith, inl, inr}
+use Rattle.std.proofs.Common.{◌≡◌, ℕ, suc, ◌-◌, ◌%◌, ◌^◌, ◌<◌, ◌≤◌, List, [], ◌∷◌, ◌++◌, length, get_or, take, drop, replicate, Some, None, refl, sym, ap, subst, ◌∙◌, arith, inl, inr}
 use Rattle.std.specs.Int.{Width, w16, w32, w64, byte_len, from_be_bytes, to_be_bytes}
 use Rattle.std.proofs.lemmas.Bool.{cases_lt, lt-ltb, le-ltb}
 use Rattle.std.proofs.lemmas.List.{append-nil, take_at, drop_at, take-append-drop, length-append, length-take, length-replicate, get_or_past}
-use Rattle.std.proofs.lemmas.List.Elements.{All-append, All-tail, All-take, All-drop, All-replicate, All-from_recursion}
+use Rattle.std.proofs.lemmas.List.Elements.{All-append, All-head, All-tail, All-take, All-drop, All-replicate, All-from_recursion}
 use Rattle.std.proofs.lemmas.Nat.{be_bytes_2, be_bytes_4, be_bytes_8, from_be_bytes-to_be_bytes_2, from_be_bytes-to_be_bytes_4, from_be_bytes-to_be_bytes_8}
-use Rattle.ids_frame.specs.Bytes.{AreBytes}
+use Rattle.ids_frame.specs.Bytes.{IsByte, AreBytes}
 use Rattle.ids_frame.specs.Reading.{bytes_at, byte_at, number_at}
 use Rattle.ids_frame.proofs.PartLemmas.{one_answer, Takes, RunsOut, IsPart, made, part, parts_are_part}
 
@@ -28,14 +28,15 @@ byte_is_part = record {
   one = (0, omega arith);
 }
   where
-    byte_takes : (bytes : List ℕ) (b : ℕ) (rest : List ℕ) → AreBytes bytes → byte_at bytes ≡ Some (b, rest) → Takes bytes (b ∷ []) rest × (b < 256)
+    byte_takes : (bytes : List ℕ) (b : ℕ) (rest : List ℕ) → AreBytes bytes → byte_at bytes ≡ Some (b, rest)
+        → Takes bytes (b ∷ []) rest × IsByte b
     byte_takes [] b rest fits e = absurd cc
     byte_takes (a ∷ bytes) b rest fits e =
         let same = one_answer e in
-        let byte : a < 256 = fits 0 0 (omega arith) in
-        (record { parts = cc (same.0, same.1); rest_fits = subst AreBytes same.1 (All-tail (λ b. b < 256) a bytes fits) }, subst (λ c. c < 256) same.0 byte)
+        let rest_fits = subst AreBytes same.1 (All-tail IsByte a bytes fits) in
+        (record { parts = cc (same.0, same.1); rest_fits = rest_fits }, subst IsByte same.0 (All-head IsByte a bytes fits))
 
-    byte_cut : (bytes : List ℕ) → AreBytes bytes → byte_at bytes ≡ None → RunsOut (λ b. b ∷ []) (λ b. b < 256) bytes
+    byte_cut : (bytes : List ℕ) → AreBytes bytes → byte_at bytes ≡ None → RunsOut (λ b. b ∷ []) IsByte bytes
     byte_cut [] fits e = record { value = 0; fits = omega arith; next = 0; more = []; whole = refl }
     byte_cut (a ∷ bytes) fits e = absurd cc
 
@@ -53,7 +54,8 @@ enough : (count : ℕ) (bytes : List ℕ) → count ≤ length bytes → bytes_a
 enough count bytes le = rw (le-ltb _ _ le) refl
 
 -- bytes are spelled as they are
-bytes_take : (count : ℕ) (bytes x rest : List ℕ) → AreBytes bytes → bytes_at count bytes ≡ Some (x, rest) → Takes bytes x rest × AreMany count x
+bytes_take : (count : ℕ) (bytes x rest : List ℕ) → AreBytes bytes → bytes_at count bytes ≡ Some (x, rest)
+    → Takes bytes x rest × AreMany count x
 bytes_take count bytes x rest fits e =
     elim (cases_lt (length bytes) count) [
       | inl lt ↦ absurd (cc (too_few count bytes lt))
@@ -61,11 +63,11 @@ bytes_take count bytes x rest fits e =
           let same = one_answer (sym (enough count bytes le) ∙ e) in (
             record {
               parts = cc (take-append-drop count bytes, same.0, same.1);
-              rest_fits = subst AreBytes same.1 (All-drop (λ b. b < 256) count bytes fits);
+              rest_fits = subst AreBytes same.1 (All-drop IsByte count bytes fits);
             },
             record {
               len = omega (arith, length-take count bytes, ap (λ l. length l) same.0);
-              are_bytes = subst AreBytes same.0 (All-take (λ b. b < 256) count bytes fits);
+              are_bytes = subst AreBytes same.0 (All-take IsByte count bytes fits);
             },
           )
     ]
@@ -73,7 +75,8 @@ bytes_take count bytes x rest fits e =
 -- so many bytes are read whatever follows them
 bytes_again : (count : ℕ) (x rest : List ℕ) → AreMany count x → bytes_at count (x ++ rest) ≡ Some (x, rest)
 bytes_again count x rest many =
-    rw (enough count (x ++ rest) (omega (arith, many.len, length-append x rest)), take_at x rest count many.len, drop_at x rest count many.len) refl
+    let le : count ≤ length (x ++ rest) = omega (arith, many.len, length-append x rest) in
+    rw (enough count (x ++ rest) le, take_at x rest count many.len, drop_at x rest count many.len) refl
 
 -- zeros complete bytes that are too few
 bytes_cut : (count : ℕ) (bytes : List ℕ) → AreBytes bytes → bytes_at count bytes ≡ None → RunsOut (λ x. x) (AreMany count) bytes
@@ -85,7 +88,7 @@ bytes_cut count bytes fits e =
         value = bytes ++ 0 ∷ zeros;
         fits = record {
           len = omega (arith, length-append bytes (0 ∷ zeros), length-replicate {A = ℕ} more 0);
-          are_bytes = All-append (λ b. b < 256) bytes (0 ∷ zeros) fits (All-replicate (λ b. b < 256) (suc more) 0 (omega arith));
+          are_bytes = All-append IsByte bytes (0 ∷ zeros) fits (All-replicate IsByte (suc more) 0 (omega arith));
         };
         next = 0;
         more = zeros;
@@ -100,7 +103,10 @@ bytes_are_part count = record {
   takes = bytes_take count;
   again = bytes_again count;
   cut = bytes_cut count;
-  one = (replicate count 0, record { len = length-replicate {A = ℕ} count 0; are_bytes = All-replicate (λ b. b < 256) count 0 (omega arith) });
+  one = (
+    replicate count 0,
+    record { len = length-replicate {A = ℕ} count 0; are_bytes = All-replicate IsByte count 0 (omega arith) },
+  );
 }
 
 -- ---- numbers
@@ -108,43 +114,49 @@ bytes_are_part count = record {
 -- the numbers of this width, and their bytes
 pub record IsWide (w : Width) (limit : ℕ) : Type 0 where
   pub many : (n : ℕ) → AreMany (byte_len w) (to_be_bytes w n)
-  pub back : (bytes : List ℕ) → length bytes ≡ byte_len w → ((i : ℕ) → get_or bytes i 0 < 256) → to_be_bytes w (from_be_bytes w bytes) ≡ bytes
+  pub back : (bytes : List ℕ) → AreMany (byte_len w) bytes → to_be_bytes w (from_be_bytes w bytes) ≡ bytes
   pub again : (n : ℕ) → n < limit → from_be_bytes w (to_be_bytes w n) ≡ n
-  pub below : (bytes : List ℕ) → ((i : ℕ) → get_or bytes i 0 < 256) → from_be_bytes w bytes < limit
+  pub below : (bytes : List ℕ) → AreBytes bytes → from_be_bytes w bytes < limit
+
+-- the rest by 256 is a byte
+digit : (n : ℕ) → IsByte (n % 256)
+digit n = omega arith
 
 -- numbers of two, four and eight bytes
 pub wide16 : IsWide w16 (2 ^ 16)
 wide16 = record {
-  many = λ n. record { len = refl; are_bytes = All-from_recursion (λ b. b < 256) (to_be_bytes w16 n) (omega arith, (omega arith, tt)) };
-  back = λ bytes len fits. be_bytes_2 bytes _ len fits refl;
+  many = λ n. record { len = refl; are_bytes = All-from_recursion IsByte (to_be_bytes w16 n) (digit _, (digit _, tt)) };
+  back = λ bytes many. be_bytes_2 bytes _ many.len (each_byte bytes many.are_bytes) refl;
   again = λ n lt. from_be_bytes-to_be_bytes_2 n lt;
-  below = λ bytes b. omega (arith, b 0, b 1);
+  below = λ bytes fits. let b = each_byte bytes fits in omega (arith, b 0, b 1);
 }
 
 pub wide32 : IsWide w32 (2 ^ 32)
 wide32 = record {
-  many = λ n. record { len = refl; are_bytes = All-from_recursion (λ b. b < 256) (to_be_bytes w32 n) (omega arith, (omega arith, (omega arith, (omega arith, tt)))) };
-  back = λ bytes len fits. be_bytes_4 bytes _ len fits refl;
+  many = λ n. record {
+    len = refl;
+    are_bytes = All-from_recursion IsByte (to_be_bytes w32 n) (digit _, (digit _, (digit _, (digit _, tt))));
+  };
+  back = λ bytes many. be_bytes_4 bytes _ many.len (each_byte bytes many.are_bytes) refl;
   again = λ n lt. from_be_bytes-to_be_bytes_4 n lt;
-  below = λ bytes b. omega (arith, b 0, b 1, b 2, b 3);
+  below = λ bytes fits. let b = each_byte bytes fits in omega (arith, b 0, b 1, b 2, b 3);
 }
 
 pub wide64 : IsWide w64 (2 ^ 64)
 wide64 = record {
   many = λ n. record {
     len = refl;
-    are_bytes = All-from_recursion (λ b. b < 256) (to_be_bytes w64 n) (omega arith, (omega arith, (omega arith, (omega arith, (omega arith, (omega arith, (omega arith, (omega arith, tt))))))));
+    are_bytes = All-from_recursion IsByte (to_be_bytes w64 n)
+        (digit _, (digit _, (digit _, (digit _, (digit _, (digit _, (digit _, (digit _, tt))))))));
   };
-  back = λ bytes len fits. be_bytes_8 bytes _ len fits refl;
+  back = λ bytes many. be_bytes_8 bytes _ many.len (each_byte bytes many.are_bytes) refl;
   again = λ n lt. from_be_bytes-to_be_bytes_8 n lt;
-  below = λ bytes b. omega (arith, b 0, b 1, b 2, b 3, b 4, b 5, b 6, b 7);
+  below = λ bytes fits. let b = each_byte bytes fits in omega (arith, b 0, b 1, b 2, b 3, b 4, b 5, b 6, b 7);
 }
 
 -- a number is a part
 pub number_is_part : (w : Width) (limit : ℕ) → IsWide w limit → IsPart (number_at w) (to_be_bytes w) (λ n. n < limit)
 number_is_part w limit wide =
     parts_are_part (part (bytes_are_part (byte_len w)) (λ bytes. made (from_be_bytes w bytes))) (to_be_bytes w) (λ n. n < limit)
-    (λ v can.
-    let bytes = each_byte v.0 can.0.are_bytes in
-    record { text = append-nil v.0 ∙ sym (wide.back v.0 can.0.len bytes); can = wide.below v.0 bytes })
+    (λ v can. record { text = append-nil v.0 ∙ sym (wide.back v.0 can.0); can = wide.below v.0 can.0.are_bytes })
     (λ n lt. record { values = (to_be_bytes w n, tt); can = (wide.many n, tt); is = wide.again n lt })

@@ -9,12 +9,14 @@ use Rattle.ids_frame.specs.Reading.{Read, ◌>>=◌, optional}
 -- ---- steps of a reader
 
 -- the value of a step that found its part
-pub bind_some : {A B : Type 0} (r : Option A) (f : A → Option B) (y : B) → (r >>= f) ≡ Some y → (x : A) × (r ≡ Some x) × (f x ≡ Some y)
+pub bind_some : {A B : Type 0} (r : Option A) (f : A → Option B) (y : B) → (r >>= f) ≡ Some y
+    → (x : A) × (r ≡ Some x) × (f x ≡ Some y)
 bind_some (Some x) f y e = (x, refl, e)
 bind_some None f y e = absurd cc
 
 -- the step that did not
-pub bind_none : {A B : Type 0} (r : Option A) (f : A → Option B) → (r >>= f) ≡ None → (r ≡ None) ⊎ ((x : A) × (r ≡ Some x) × (f x ≡ None))
+pub bind_none : {A B : Type 0} (r : Option A) (f : A → Option B) → (r >>= f) ≡ None
+    → (r ≡ None) ⊎ ((x : A) × (r ≡ Some x) × (f x ≡ None))
 bind_none (Some x) f e = inr (x, refl, e)
 bind_none None f e = inl refl
 
@@ -53,7 +55,8 @@ pub record IsPart {A : Type 0} (read : List ℕ → Read A) (write : A → List 
 -- parts, where each may go by those before it, and what they make
 pub data Parts (A : Type 0) : Type 1 where
   made : A → Parts A
-  part : {B : Type 0} {read : List ℕ → Read B} {write : B → List ℕ} {Can : B → Type 0} → IsPart read write Can → (B → Parts A) → Parts A
+  part : {B : Type 0} {read : List ℕ → Read B} {write : B → List ℕ} {Can : B → Type 0}
+      → IsPart read write Can → (B → Parts A) → Parts A
 
 -- reading them
 abbrev pub reads : {A : Type 0} → Parts A → List ℕ → Read A
@@ -80,38 +83,46 @@ abbrev pub AllCan : {A : Type 0} → (parts : Parts A) → Values parts → Type
 AllCan (made x) v = Unit {0}
 AllCan (part {B} {read} {write} {Can} p more) v = Can v.0 × AllCan (more v.0) v.1
 
--- the values that were read
-pub record Found {A : Type 0} (parts : Parts A) (bytes : List ℕ) (x : A) (rest : List ℕ) : Type 0 where
+-- the values that make this
+pub record Makes {A : Type 0} (parts : Parts A) (x : A) : Type 0 where
   pub values : Values parts
   pub can : AllCan parts values
   pub is : value parts values ≡ x
-  pub takes : Takes bytes (texts parts values) rest
+
+-- the values that were read
+record Found {A : Type 0} (parts : Parts A) (bytes : List ℕ) (x : A) (rest : List ℕ) : Type 0 where
+  makes : Makes parts x
+  takes : Takes bytes (texts parts makes.values) rest
 
 -- what is read is spelled so
-all_take : {A : Type 0} (parts : Parts A) (bytes : List ℕ) (x : A) (rest : List ℕ) → AreBytes bytes → reads parts bytes ≡ Some (x, rest) → Found parts bytes x rest
+all_take : {A : Type 0} (parts : Parts A) (bytes : List ℕ) (x : A) (rest : List ℕ) → AreBytes bytes
+    → reads parts bytes ≡ Some (x, rest) → Found parts bytes x rest
 all_take (made y) bytes x rest fits e =
     let same = one_answer e in
-    record { values = tt; can = tt; is = same.0; takes = record { parts = same.1; rest_fits = subst AreBytes same.1 fits } }
+    record {
+      makes = record { values = tt; can = tt; is = same.0 };
+      takes = record { parts = same.1; rest_fits = subst AreBytes same.1 fits };
+    }
 all_take (part {B} {read} {write} p more) bytes x rest fits e =
     let b = bind_some (read bytes) (λ y. reads (more y.0) y.1) (x, rest) e in
     let t = p.takes bytes b.0.0 b.0.1 fits b.1 in
     let f = all_take (more b.0.0) b.0.1 x rest t.0.rest_fits b.2 in
+    let text = texts (more b.0.0) f.makes.values in
     record {
-      values = (b.0.0, f.values);
-      can = (t.1, f.can);
-      is = f.is;
+      makes = record { values = (b.0.0, f.makes.values); can = (t.1, f.makes.can); is = f.makes.is };
       takes = record {
-        parts = t.0.parts ∙ ap (λ r. write b.0.0 ++ r) f.takes.parts ∙ sym (append_assoc (write b.0.0) (texts (more b.0.0) f.values) rest);
+        parts = t.0.parts ∙ ap (λ r. write b.0.0 ++ r) f.takes.parts ∙ sym (append_assoc (write b.0.0) text rest);
         rest_fits = f.takes.rest_fits;
       };
     }
 
 -- what is spelled so is read
-all_again : {A : Type 0} (parts : Parts A) (v : Values parts) (rest : List ℕ) → AllCan parts v → reads parts (texts parts v ++ rest) ≡ Some (value parts v, rest)
+all_again : {A : Type 0} (parts : Parts A) (v : Values parts) (rest : List ℕ) → AllCan parts v
+    → reads parts (texts parts v ++ rest) ≡ Some (value parts v, rest)
 all_again (made x) v rest can = refl
 all_again (part {B} {read} {write} p more) v rest can =
-    let behind = texts (more v.0) v.1 in
-    rw (append_assoc (write v.0) behind rest, p.again v.0 (behind ++ rest) can.0) (all_again (more v.0) v.1 rest can.1)
+    let text = texts (more v.0) v.1 in
+    rw (append_assoc (write v.0) text rest, p.again v.0 (text ++ rest) can.0) (all_again (more v.0) v.1 rest can.1)
 
 -- some values
 some_values : {A : Type 0} (parts : Parts A) → (v : Values parts) × AllCan parts v
@@ -121,7 +132,8 @@ some_values (part p more) =
     ((p.one.0, behind.0), (p.one.1, behind.1))
 
 -- where a part runs out, any later parts complete it
-all_cut : {A : Type 0} (parts : Parts A) (bytes : List ℕ) → AreBytes bytes → reads parts bytes ≡ None → RunsOut (texts parts) (AllCan parts) bytes
+all_cut : {A : Type 0} (parts : Parts A) (bytes : List ℕ) → AreBytes bytes → reads parts bytes ≡ None
+    → RunsOut (texts parts) (AllCan parts) bytes
 all_cut (made x) bytes fits e = absurd cc
 all_cut (part {B} {read} {write} p more) bytes fits e =
     elim (bind_none (read bytes) (λ y. reads (more y.0) y.1) e) [
@@ -139,20 +151,16 @@ all_cut (part {B} {read} {write} p more) bytes fits e =
       | inr b ↦
           let t = p.takes bytes b.0.0 b.0.1 fits b.1 in
           let r = all_cut (more b.0.0) b.0.1 t.0.rest_fits b.2 in
+          let left : List ℕ = r.next ∷ r.more in
+          let front = write b.0.0 in
           record {
             value = (b.0.0, r.value);
             fits = (t.1, r.fits);
             next = r.next;
             more = r.more;
-            whole = ap (λ t. t ++ r.next ∷ r.more) t.0.parts ∙ append_assoc (write b.0.0) b.0.1 (r.next ∷ r.more) ∙ ap (λ t. write b.0.0 ++ t) r.whole;
+            whole = ap (λ t. t ++ left) t.0.parts ∙ append_assoc front b.0.1 left ∙ ap (λ t. front ++ t) r.whole;
           }
     ]
-
--- the values that make this
-pub record Makes {A : Type 0} (parts : Parts A) (x : A) : Type 0 where
-  pub values : Values parts
-  pub can : AllCan parts values
-  pub is : value parts values ≡ x
 
 -- what parts make is spelled as they are
 pub record SpelledAs {A : Type 0} (parts : Parts A) (write : A → List ℕ) (Can : A → Type 0) (v : Values parts) : Type 0 where
@@ -166,9 +174,8 @@ pub parts_are_part : {A : Type 0} (parts : Parts A) (write : A → List ℕ) (Ca
 parts_are_part {A} parts write Can spelled makes = record {
   takes = λ bytes x rest fits e.
       let f = all_take parts bytes x rest fits e in
-      let s = spelled f.values f.can in
-      let text : texts parts f.values ≡ write x = s.text ∙ ap write f.is in
-      (subst (λ t. Takes bytes t rest) text f.takes, subst Can f.is s.can);
+      let s = spelled f.makes.values f.makes.can in
+      (subst (λ t. Takes bytes t rest) (s.text ∙ ap write f.makes.is) f.takes, subst Can f.makes.is s.can);
   again = λ x rest can.
       let m = makes x can in
       let text : write x ≡ texts parts m.values = ap write (sym m.is) ∙ sym (spelled m.values m.can).text in
@@ -184,22 +191,27 @@ parts_are_part {A} parts write Can spelled makes = record {
 
 -- ---- a part that is there or not
 
+-- the part is there where it is announced
+abbrev pub IsThere : {A : Type 0} → Bool → (A → Type 0) → Option A → Type 0
+IsThere present Can o = (present ≡ is_some o) × IfSome o Can
+
 -- no part makes no value
-makes_none : {A : Type 0} (Can : A → Type 0) (o : Option A) → (false ≡ is_some o) × IfSome o Can → Makes {A = Option A} (made None) o
-makes_none Can None can = record { values = tt; can = tt; is = refl }
-makes_none Can (Some x) can = absurd (cc can.0)
+makes_none : {A : Type 0} (Can : A → Type 0) (o : Option A) → IsThere false Can o → Makes {A = Option A} (made None) o
+makes_none Can None there = record { values = tt; can = tt; is = refl }
+makes_none Can (Some x) there = absurd (cc there.0)
 
 -- a part makes its value
 makes_some : {A : Type 0} {read : List ℕ → Read A} {write : A → List ℕ} {Can : A → Type 0} (p : IsPart read write Can) (o : Option A)
-    → (true ≡ is_some o) × IfSome o Can → Makes (part p (λ x. made (Some x))) o
-makes_some p None can = absurd (cc can.0)
-makes_some p (Some x) can = record { values = (x, tt); can = (can.1, tt); is = refl }
+    → IsThere true Can o → Makes (part p (λ x. made (Some x))) o
+makes_some p None there = absurd (cc there.0)
+makes_some p (Some x) there = record { values = (x, tt); can = (there.1, tt); is = refl }
 
 -- a part that is there or not is a part
 pub optional_is_part : {A : Type 0} {read : List ℕ → Read A} (write : Option A → List ℕ) {Can : A → Type 0}
     → write None ≡ [] → IsPart read (λ x. write (Some x)) Can
-    → (present : Bool) → IsPart (optional present read) write (λ o. (present ≡ is_some o) × IfSome o Can)
-optional_is_part {A} write {Can} none p false =
+    → (present : Bool) → IsPart (optional present read) write (IsThere present Can)
+optional_is_part write {Can} none p false =
     parts_are_part (made None) write _ (λ v can. record { text = sym none; can = (refl, tt) }) (makes_none Can)
-optional_is_part {A} write {Can} none p true =
-    parts_are_part (part p (λ x. made (Some x))) write _ (λ v can. record { text = append-nil _; can = (refl, can.0) }) (makes_some p)
+optional_is_part write none p true =
+    parts_are_part (part p (λ x. made (Some x))) write _
+    (λ v can. record { text = append-nil _; can = (refl, can.0) }) (makes_some p)

@@ -1,6 +1,10 @@
 -- Bytes as numbers.
 use Rattle.std.specs.Prelude.{ℕ, ◌<◌, List, All}
 
--- each number is that of a byte
+-- the number is that of a byte
+abbrev pub IsByte : ℕ → Type 0
+IsByte number = number < 256
+
+-- each number is
 abbrev pub AreBytes : List ℕ → Type 0
-AreBytes numbers = All (λ b. b < 256) numbers
+AreBytes numbers = All IsByte numbers

@@ -6,7 +6,7 @@ use Rattle.ids_frame.specs.declared.fault.FrameFault.{FrameFault}
 use Rattle.ids_frame.specs.declared.fault.FrameFault.TheVariants.{Short, UnknownVersion, UnknownPart}
 use Rattle.ids_frame.specs.Message.{MessageParts, FitsMessage, IsKnown}
 use Rattle.ids_frame.specs.Spelling.{spelling}
-use Rattle.ids_frame.specs.Reading.{message_at}
+use Rattle.ids_frame.specs.Reading.{Begun, message_at}
 
 -- the bytes are the spelling of this message, and then these bytes
 pub record BeginsWith (bytes : List ℕ) (message : MessageParts) (rest : List ℕ) : Type 0 where
@@ -38,7 +38,7 @@ CauseOf UnknownVersion bytes = StrangeVersion bytes
 CauseOf UnknownPart bytes = StrangePart bytes
 
 -- what the bytes begin with: this message, with these bytes behind it, or none for this reason
-abbrev pub Begins : List ℕ → Result (MessageParts × List ℕ) FrameFault → Type 0
+abbrev pub Begins : List ℕ → Begun → Type 0
 Begins bytes (Ok x) = BeginsWith bytes x.0 x.1
 Begins bytes (Err fault) = CauseOf fault bytes
 

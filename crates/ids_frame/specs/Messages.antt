@@ -3,11 +3,10 @@
 use Rattle.std.specs.Prelude.{◌≡◌, ℕ, zero, suc, ◌-◌, List, [], ◌∷◌, ◌++◌, length, Result, Ok, Err}
 use Rattle.std.specs.List.{flat_map, AllByRecursion}
 use Rattle.std.specs.Result.{result_unwrap_or}
-use Rattle.ids_frame.specs.declared.fault.FrameFault.{FrameFault}
 use Rattle.ids_frame.specs.declared.fault.BadMessage.{BadMessage}
 use Rattle.ids_frame.specs.Message.{MessageParts, FitsMessage}
 use Rattle.ids_frame.specs.Spelling.{spelling}
-use Rattle.ids_frame.specs.Reading.{message_at}
+use Rattle.ids_frame.specs.Reading.{Begun, message_at}
 use Rattle.ids_frame.specs.Decoding.{CauseOf}
 
 -- the spellings of these messages, one behind the other
@@ -52,7 +51,7 @@ before message (Ok messages) = Ok (message ∷ messages)
 before message (Err bad) = Err bad
 
 -- what is held where this was read at a place, by what is held behind a message
-abbrev pub held_by : ℕ → Result (MessageParts × List ℕ) FrameFault → (MessageParts → Held) → Held
+abbrev pub held_by : ℕ → Begun → (MessageParts → Held) → Held
 held_by at (Ok x) behind = before x.0 (behind x.0)
 held_by at (Err fault) behind = Err (record { at = at; fault = fault })
 

@@ -111,7 +111,11 @@ parts_at first bytes = do
   )
 
 -- a message and the bytes behind it, or why there is none
-unfoldable pub message_at : List ℕ → Result (MessageParts × List ℕ) FrameFault
+abbrev pub Begun : Type 0
+Begun = Result (MessageParts × List ℕ) FrameFault
+
+-- what is read at the front of bytes
+unfoldable pub message_at : List ℕ → Begun
 message_at [] = Err Short
 message_at (first ∷ bytes) =
     if has_layout (first / 16)

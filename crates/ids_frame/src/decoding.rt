@@ -1,10 +1,10 @@
 //! The message that bytes begin with.
-ghost use Rattle.std.specs.Prelude.{◌≡◌, ℕ, ◌/◌, ◌↔◌, ◌++◌, List, Result, IsTrue};
+ghost use Rattle.std.specs.Prelude.{◌≡◌, ℕ, ◌/◌, ◌↔◌, ◌++◌, List, IsTrue};
 ghost use Rattle.std.specs.Result.{result_map_both};
 ghost use Rattle.ids_frame.specs.Bytes.{AreBytes};
 ghost use Rattle.ids_frame.specs.Message.{MessageParts, IsKnown, FitsMessage};
 ghost use Rattle.ids_frame.specs.Spelling.{spelling};
-ghost use Rattle.ids_frame.specs.Reading.{Gives, has_layout, parts_at, message_at};
+ghost use Rattle.ids_frame.specs.Reading.{Gives, has_layout, parts_at, Begun, message_at};
 ghost use Rattle.ids_frame.specs.Decoding.{Begins, decoded};
 
 use crate::fault::FrameFault;
@@ -24,7 +24,7 @@ pub fn decode(bytes: &[u8]) -> Result<(Message<'_>, usize), FrameFault>
 /// A message is read exactly where its spelling stands at the front, whatever follows it, and each
 /// fault exactly where it has its cause.
 pub fn what_bytes_begin_with()
-    ensures { (bytes : List ℕ) (read : Result (MessageParts × List ℕ) FrameFault) → AreBytes bytes →
+    ensures { (bytes : List ℕ) (read : Begun) → AreBytes bytes →
         (message_at bytes ≡ read) ↔ Begins bytes read }
 {}
 
