@@ -1,10 +1,12 @@
 -- What a file holds is its one list of messages, or the one place where they stop.
 use Rattle.std.proofs.Common.{◌≡◌, ℕ, zero, suc, ◌+◌, ◌-◌, ◌<◌, ◌≤◌, ◌==◌, true, false, List, [], ◌∷◌, ◌++◌, length, drop, Some, None, Result, Ok, Err, refl, sym, ap, subst, ◌∙◌, append_assoc, arith}
 use Rattle.std.specs.Prelude.{◌↔◌}
-use Rattle.std.specs.Result.{result_ok, result_err, result_unwrap_or}
+use Rattle.std.specs.Result.{result_ok}
+use Rattle.std.proofs.Math.Dec.{eqb-suc-zero}
 use Rattle.std.proofs.lemmas.Bool.{eqb-true}
-use Rattle.std.proofs.lemmas.List.{length-append, drop_at}
+use Rattle.std.proofs.lemmas.List.{append-nil, length-append, drop_at}
 use Rattle.std.proofs.lemmas.List.Elements.{All-drop}
+use Rattle.std.proofs.lemmas.Grind.{flat_map-append}
 use Rattle.ids_frame.specs.declared.fault.FrameFault.{FrameFault}
 use Rattle.ids_frame.specs.declared.fault.BadMessage.{BadMessage}
 use Rattle.ids_frame.specs.Bytes.{IsByte, AreBytes}
@@ -15,19 +17,6 @@ use Rattle.ids_frame.specs.Decoding.{BeginsWith, Begins}
 use Rattle.ids_frame.specs.Messages.{joined, AreMessages, IsJoined, HasMessages, Held, Holds, before, held_in, messages_read, messages_of}
 use Rattle.ids_frame.proofs.PartLemmas.{one_answer}
 use Rattle.ids_frame.proofs.MessageLemmas.{again, told, read_of}
-
--- what stands behind bytes are bytes
-behind_bytes : (front rest : List ℕ) → AreBytes (front ++ rest) → AreBytes rest
-behind_bytes front rest fits =
-    subst AreBytes (drop_at front rest (length front) refl) (All-drop IsByte (length front) (front ++ rest) fits)
-
--- behind a message there are fewer bytes
-is_less : (bytes : List ℕ) (m : MessageParts) (rest : List ℕ) → AreBytes bytes → BeginsWith bytes m rest
-    → AreBytes rest × (length rest < length bytes)
-is_less bytes m rest fits begins = (
-  behind_bytes (spelling m) rest (subst AreBytes begins.whole fits),
-  omega (arith, ap (λ l. length l) begins.whole, length-append (drop 1 (spelling m)) rest),
-)
 
 -- ---- bytes that hold something
 
@@ -62,11 +51,97 @@ fault_held size (m ∷ front) next rest fault fit e =
     ∙ held_behind size m (joined front ++ next ∷ rest) fit.0 ∙ ap (before m) (fault_held size front next rest fault fit.1 e)
 
 -- messages that a file is joined of are read
-pub joined_read : (bytes : List ℕ) (messages : List MessageParts) → IsJoined bytes messages → messages_read bytes ≡ Ok messages
+joined_read : (bytes : List ℕ) (messages : List MessageParts) → IsJoined bytes messages → messages_read bytes ≡ Ok messages
 unfolding messages_read
 joined_read bytes messages joins = ap (held_in (length bytes) 0) joins.whole ∙ joined_held (length bytes) messages joins.fit
 
--- what bytes hold is what is read
+-- ---- going over the messages
+
+-- these bytes are left behind some messages
+pub record IsLeft (bytes rest : List ℕ) : Type 0 where
+  pub front : List MessageParts
+  pub fit : AreMessages front
+  pub whole : bytes ≡ joined front ++ rest
+  pub are_bytes : AreBytes rest
+
+-- at first all are left
+pub all_left : (bytes : List ℕ) → AreBytes bytes → IsLeft bytes bytes
+all_left bytes fits = record { front = []; fit = tt; whole = refl; are_bytes = fits }
+
+-- one message more
+fit_more : (front : List MessageParts) (m : MessageParts) → AreMessages front → FitsMessage m → AreMessages (front ++ m ∷ [])
+fit_more [] m fit fits = (fits, tt)
+fit_more (x ∷ front) m fit fits = (fit.0, fit_more front m fit.1 fits)
+
+-- what stands behind bytes are bytes
+behind_bytes : (front rest : List ℕ) → AreBytes (front ++ rest) → AreBytes rest
+behind_bytes front rest fits =
+    subst AreBytes (drop_at front rest (length front) refl) (All-drop IsByte (length front) (front ++ rest) fits)
+
+-- behind a message fewer are left
+pub left_behind : (bytes rest : List ℕ) (m : MessageParts) (behind : List ℕ) → IsLeft bytes rest → message_at rest ≡ Ok (m, behind)
+    → IsLeft bytes behind × (length behind < length rest)
+left_behind bytes rest m behind left read =
+    let begins : BeginsWith rest m behind = subst (Begins rest) read (told rest left.are_bytes) in
+    let grouped : joined left.front ++ (spelling m ++ behind) ≡ joined (left.front ++ m ∷ []) ++ behind =
+    simp (flat_map-append, append-nil, append_assoc) in (
+      record {
+        front = left.front ++ m ∷ [];
+        fit = fit_more left.front m left.fit begins.fits;
+        whole = left.whole ∙ ap (λ l. joined left.front ++ l) begins.whole ∙ grouped;
+        are_bytes = behind_bytes (spelling m) behind (subst AreBytes begins.whole left.are_bytes);
+      },
+      omega (arith, ap (λ l. length l) begins.whole, length-append (drop 1 (spelling m)) behind),
+    )
+
+-- the messages stop where none can be read
+pub stops : (bytes rest : List ℕ) (fault : FrameFault) → IsLeft bytes rest → (length rest == 0) ≡ false → message_at rest ≡ Err fault
+    → messages_read bytes ≡ Err (record { at = length bytes - length rest; fault = fault })
+unfolding messages_read
+stops bytes [] fault left some e = absurd (cc some)
+stops bytes (next ∷ rest) fault left some e =
+    ap (held_in (length bytes) 0) left.whole ∙ fault_held (length bytes) left.front next rest fault left.fit e
+
+-- where nothing is left all are messages
+pub all_read : (bytes rest : List ℕ) → IsLeft bytes rest → (length rest == 0) ≡ true → HasMessages bytes
+all_read bytes [] left none = (left.front, record { fit = left.fit; whole = left.whole ∙ append-nil (joined left.front) })
+all_read bytes (next ∷ rest) left none = absurd (omega (arith, eqb-true _ _ none))
+
+-- they are those that are read
+pub read_all : (bytes : List ℕ) → HasMessages bytes → Ok (messages_of bytes) ≡ messages_read bytes
+read_all bytes has = rw (joined_read bytes has.0 has.1) refl
+
+-- ---- what a file holds
+
+-- by what is read where bytes are left, if all that may be left behind it tells what the file holds
+held_by_left : (bytes : List ℕ) (next : ℕ) (rest : List ℕ) (read : Begun) → IsLeft bytes (next ∷ rest) → message_at (next ∷ rest) ≡ read
+    → ((behind : List ℕ) → IsLeft bytes behind → length behind < length (next ∷ rest) → Holds bytes (messages_read bytes))
+    → Holds bytes (messages_read bytes)
+held_by_left bytes next rest (Ok x) left e others =
+    let behind = left_behind bytes (next ∷ rest) x.0 x.1 left e in
+    others x.1 behind.0 behind.1
+held_by_left bytes next rest (Err fault) left e others =
+    let size = ap (λ l. length l) left.whole in
+    subst (Holds bytes) (sym (stops bytes (next ∷ rest) fault left (eqb-suc-zero _) e)) (record {
+      front = left.front;
+      fit = left.fit;
+      next = next;
+      rest = rest;
+      whole = left.whole;
+      place = omega (arith, size, length-append (joined left.front) (next ∷ rest));
+      cause = subst (Begins (next ∷ rest)) e (told (next ∷ rest) left.are_bytes);
+    })
+
+-- a file holds what is read of it
+holds : (most : ℕ) (bytes rest : List ℕ) → IsLeft bytes rest → length rest ≤ most → Holds bytes (messages_read bytes)
+holds most bytes [] left le =
+    let has = all_read bytes [] left refl in
+    subst (Holds bytes) (sym (joined_read bytes has.0 has.1)) has.1
+holds zero bytes (next ∷ rest) left le = absurd (omega arith)
+holds (suc most) bytes (next ∷ rest) left le =
+    held_by_left bytes next rest (message_at (next ∷ rest)) left refl (λ behind left' lt. holds most bytes behind left' (omega arith))
+
+-- what it holds is read of it
 read_if_held : (bytes : List ℕ) (held : Held) → AreBytes bytes → Holds bytes held → messages_read bytes ≡ held
 unfolding messages_read
 read_if_held bytes (Ok messages) fits joins = joined_read bytes messages joins
@@ -79,113 +154,10 @@ read_if_held bytes (Err bad) fits breaks =
     ap (held_in (length bytes) 0) breaks.whole
     ∙ fault_held (length bytes) breaks.front breaks.next breaks.rest bad.fault breaks.fit fault ∙ rw place refl
 
--- bytes, and what they hold
-record Found (bytes : List ℕ) : Type 0 where
-  held : Held
-  holds : Holds bytes held
-
--- one message more
-found_behind : (m : MessageParts) (rest : List ℕ) (held : Held) → FitsMessage m → Holds rest held → Found (spelling m ++ rest)
-found_behind m rest (Ok messages) fits holds =
-    record { held = Ok (m ∷ messages); holds = record { fit = (fits, holds.fit); whole = ap (λ l. spelling m ++ l) holds.whole } }
-found_behind m rest (Err bad) fits holds = record {
-  held = Err (record { at = length (spelling m) + bad.at; fault = bad.fault });
-  holds = record {
-    front = m ∷ holds.front;
-    fit = (fits, holds.fit);
-    next = holds.next;
-    rest = holds.rest;
-    whole = ap (λ l. spelling m ++ l) holds.whole ∙ sym (append_assoc (spelling m) (joined holds.front) (holds.next ∷ holds.rest));
-    place = omega (arith, holds.place, length-append (spelling m) (joined holds.front));
-    cause = holds.cause;
-  };
-}
-
--- by what bytes begin with, where all that stands behind them holds something
-found_by : (next : ℕ) (rest : List ℕ) (read : Begun) → AreBytes (next ∷ rest) → Begins (next ∷ rest) read
-    → ((behind : List ℕ) → AreBytes behind → length behind < length (next ∷ rest) → Found behind) → Found (next ∷ rest)
-found_by next rest (Err fault) fits begins others = record {
-  held = Err (record { at = 0; fault = fault });
-  holds = record { front = []; fit = tt; next = next; rest = rest; whole = refl; place = refl; cause = begins };
-}
-found_by next rest (Ok x) fits begins others =
-    let left = is_less (next ∷ rest) x.0 x.1 fits begins in
-    let behind = others x.1 left.0 left.1 in
-    subst Found (sym begins.whole) (found_behind x.0 x.1 behind.held begins.fits behind.holds)
-
--- all bytes hold something
-found : (most : ℕ) (bytes : List ℕ) → AreBytes bytes → length bytes ≤ most → Found bytes
-found most [] fits le = record { held = Ok []; holds = record { fit = tt; whole = refl } }
-found zero (next ∷ rest) fits le = absurd (omega arith)
-found (suc most) (next ∷ rest) fits le =
-    found_by next rest (message_at (next ∷ rest)) fits (told (next ∷ rest) fits) (λ behind fits' lt. found most behind fits' (omega arith))
-
 -- a file holds exactly what is read of it
 pub read_is_held : (bytes : List ℕ) (held : Held) → AreBytes bytes → (messages_read bytes ≡ held) ↔ Holds bytes held
 read_is_held bytes held fits =
-    let f = found (length bytes) bytes fits (omega arith) in
-    (λ e. subst (Holds bytes) (sym (read_if_held bytes f.held fits f.holds) ∙ e) f.holds, read_if_held bytes held fits)
-
--- ---- going over the messages
-
--- what is left behind some messages has the fault of the whole, if there is one
-pub record IsLeft (bytes rest : List ℕ) : Type 0 where
-  pub few : length rest ≤ length bytes
-  pub all_bytes : AreBytes bytes
-  pub are_bytes : AreBytes rest
-  pub same_fault : result_err (messages_read bytes) ≡ result_err (held_in (length bytes) 0 rest)
-
--- at first all is left
-pub all_left : (bytes : List ℕ) → AreBytes bytes → IsLeft bytes bytes
-unfolding messages_read
-all_left bytes fits = record { few = omega arith; all_bytes = fits; are_bytes = fits; same_fault = refl }
-
--- a message adds no fault
-err_before : (m : MessageParts) (held : Held) → result_err (before m held) ≡ result_err held
-err_before m (Ok messages) = refl
-err_before m (Err bad) = refl
-
--- behind a message there is less
-pub left_behind : (bytes rest : List ℕ) (m : MessageParts) (behind : List ℕ) → IsLeft bytes rest → message_at rest ≡ Ok (m, behind)
-    → IsLeft bytes behind × (length behind < length rest)
-left_behind bytes rest m behind left read =
-    let begins : BeginsWith rest m behind = subst (Begins rest) read (told rest left.are_bytes) in
-    let less = is_less rest m behind left.are_bytes begins in
-    let size = length bytes in (
-      record {
-        few = omega (arith, left.few, less.1);
-        all_bytes = left.all_bytes;
-        are_bytes = less.0;
-        same_fault = left.same_fault
-            ∙ ap (λ l. result_err (held_in size 0 l)) begins.whole
-            ∙ ap (λ h. result_err h) (held_behind size m behind begins.fits)
-            ∙ err_before m (held_in size 0 behind);
-      },
-      less.1,
-    )
-
--- the fault of what has one
-held_fault : (held : Held) (bad : BadMessage) → result_err held ≡ Some bad → held ≡ Err bad
-held_fault (Ok messages) bad e = absurd cc
-held_fault (Err other) bad e = cc
-
--- the messages of what has no fault
-held_messages : (held : Held) → result_err held ≡ None → held ≡ Ok (result_unwrap_or held [])
-held_messages (Ok messages) e = refl
-held_messages (Err bad) e = absurd cc
-
--- the messages stop where none can be read
-pub stops : (bytes rest : List ℕ) (fault : FrameFault) → IsLeft bytes rest → (length rest == 0) ≡ false → message_at rest ≡ Err fault
-    → messages_read bytes ≡ Err (record { at = length bytes - length rest; fault = fault })
-unfolding held_in
-stops bytes [] fault left some e = absurd (cc some)
-stops bytes (next ∷ rest) fault left some e = held_fault (messages_read bytes) _ (left.same_fault ∙ rw e refl)
-
--- where nothing is left all are messages
-pub all_read : (bytes rest : List ℕ) → IsLeft bytes rest → (length rest == 0) ≡ true → IsJoined bytes (messages_of bytes)
-unfolding held_in
-all_read bytes [] left none = (read_is_held bytes _ left.all_bytes).0 (held_messages (messages_read bytes) left.same_fault)
-all_read bytes (next ∷ rest) left none = absurd (omega (arith, eqb-true _ _ none))
+    (λ e. subst (Holds bytes) e (holds (length bytes) bytes bytes (all_left bytes fits) (omega arith)), read_if_held bytes held fits)
 
 -- ---- taking messages out
 

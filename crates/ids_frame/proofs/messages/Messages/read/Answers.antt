@@ -1,7 +1,7 @@
 use Rattle.std.proofs.Common.{sym, ◌∙◌, ◌<◌, arith}
 use Rattle.std.proofs.lemmas.List.Elements.{All-from_get_or}
 use Rattle.ids_frame.specs.Bytes.{IsByte}
-use Rattle.ids_frame.proofs.MessagesLemmas.{all_left, left_behind, stops, all_read, joined_read}
+use Rattle.ids_frame.proofs.MessagesLemmas.{all_left, left_behind, stops, all_read, read_all}
 use Rattle.ids_frame.proofs.messages.Messages.read.Goals as goal
 
 pub loop-rest-init : goal.loop-rest-init
@@ -19,9 +19,9 @@ returns-in-Err c =
     record { value = sym (stops _ _ c.in-Err.fault c.loop-rest.invariant some c.in-Err.ensures) }
 
 pub invariant_of-result : goal.invariant_of-result
-invariant_of-result c = (_, all_read _ _ c.loop-rest.invariant (sym c.is_empty.ensures ∙ c.loop-rest-test.false))
+invariant_of-result c = all_read _ _ c.loop-rest.invariant (sym c.is_empty.ensures ∙ c.loop-rest-test.false)
 
 pub returns : goal.returns
 returns c =
     let none = sym c.is_empty.ensures ∙ c.loop-rest-test.false in
-    record { value = sym (joined_read _ _ (all_read _ _ c.loop-rest.invariant none)) }
+    record { value = read_all c.args.bytes.now (all_read _ _ c.loop-rest.invariant none) }
