@@ -1,5 +1,5 @@
 -- What a file holds is its one list of messages, or the one place where they stop.
-use Rattle.std.proofs.Common.{◌≡◌, ℕ, zero, suc, ◌+◌, ◌-◌, ◌<◌, ◌≤◌, ◌==◌, true, false, List, [], ◌∷◌, ◌++◌, length, drop, Some, None, Result, Ok, Err, refl, sym, ap, subst, ◌∙◌, append_assoc, arith}
+use Rattle.std.proofs.Common.{◌≡◌, ℕ, zero, suc, ◌-◌, ◌<◌, ◌≤◌, ◌==◌, true, false, List, [], ◌∷◌, ◌++◌, length, drop, Ok, Err, refl, sym, ap, subst, ◌∙◌, append_assoc, arith}
 use Rattle.std.specs.Prelude.{◌↔◌}
 use Rattle.std.specs.Result.{result_ok}
 use Rattle.std.proofs.Math.Dec.{eqb-suc-zero}
@@ -8,7 +8,6 @@ use Rattle.std.proofs.lemmas.List.{append-nil, length-append, drop_at}
 use Rattle.std.proofs.lemmas.List.Elements.{All-drop}
 use Rattle.std.proofs.lemmas.Grind.{flat_map-append}
 use Rattle.ids_frame.specs.declared.fault.FrameFault.{FrameFault}
-use Rattle.ids_frame.specs.declared.fault.BadMessage.{BadMessage}
 use Rattle.ids_frame.specs.Bytes.{IsByte, AreBytes}
 use Rattle.ids_frame.specs.Message.{MessageParts, FitsMessage}
 use Rattle.ids_frame.specs.Spelling.{spelling}
@@ -78,21 +77,30 @@ behind_bytes : (front rest : List ℕ) → AreBytes (front ++ rest) → AreBytes
 behind_bytes front rest fits =
     subst AreBytes (drop_at front rest (length front) refl) (All-drop IsByte (length front) (front ++ rest) fits)
 
--- behind a message fewer are left
+-- a message that was read stands at the front
+begins_of : (bytes : List ℕ) (m : MessageParts) (rest : List ℕ) → AreBytes bytes → message_at bytes ≡ Ok (m, rest) → BeginsWith bytes m rest
+begins_of bytes m rest fits e = subst (Begins bytes) e (told bytes fits)
+
+-- one message fewer is left
 pub left_behind : (bytes rest : List ℕ) (m : MessageParts) (behind : List ℕ) → IsLeft bytes rest → message_at rest ≡ Ok (m, behind)
-    → IsLeft bytes behind × (length behind < length rest)
-left_behind bytes rest m behind left read =
-    let begins : BeginsWith rest m behind = subst (Begins rest) read (told rest left.are_bytes) in
+    → IsLeft bytes behind
+left_behind bytes rest m behind left e =
+    let begins = begins_of rest m behind left.are_bytes e in
     let grouped : joined left.front ++ (spelling m ++ behind) ≡ joined (left.front ++ m ∷ []) ++ behind =
-    simp (flat_map-append, append-nil, append_assoc) in (
-      record {
-        front = left.front ++ m ∷ [];
-        fit = fit_more left.front m left.fit begins.fits;
-        whole = left.whole ∙ ap (λ l. joined left.front ++ l) begins.whole ∙ grouped;
-        are_bytes = behind_bytes (spelling m) behind (subst AreBytes begins.whole left.are_bytes);
-      },
-      omega (arith, ap (λ l. length l) begins.whole, length-append (drop 1 (spelling m)) behind),
-    )
+    simp (flat_map-append, append-nil, append_assoc) in
+    record {
+      front = left.front ++ m ∷ [];
+      fit = fit_more left.front m left.fit begins.fits;
+      whole = left.whole ∙ ap (λ l. joined left.front ++ l) begins.whole ∙ grouped;
+      are_bytes = behind_bytes (spelling m) behind (subst AreBytes begins.whole left.are_bytes);
+    }
+
+-- and fewer bytes
+pub fewer_bytes : (bytes rest : List ℕ) (m : MessageParts) (behind : List ℕ) → IsLeft bytes rest → message_at rest ≡ Ok (m, behind)
+    → length behind < length rest
+fewer_bytes bytes rest m behind left e =
+    let whole = ap (λ l. length l) (begins_of rest m behind left.are_bytes e).whole in
+    omega (arith, whole, length-append (drop 1 (spelling m)) behind)
 
 -- the messages stop where none can be read
 pub stops : (bytes rest : List ℕ) (fault : FrameFault) → IsLeft bytes rest → (length rest == 0) ≡ false → message_at rest ≡ Err fault
@@ -108,8 +116,13 @@ all_read bytes [] left none = (left.front, record { fit = left.fit; whole = left
 all_read bytes (next ∷ rest) left none = absurd (omega (arith, eqb-true _ _ none))
 
 -- they are those that are read
-pub read_all : (bytes : List ℕ) → HasMessages bytes → Ok (messages_of bytes) ≡ messages_read bytes
-read_all bytes has = rw (joined_read bytes has.0 has.1) refl
+pub read_all : (bytes rest : List ℕ) → IsLeft bytes rest → (length rest == 0) ≡ true → Ok (messages_of bytes) ≡ messages_read bytes
+read_all bytes rest left none =
+    let has = all_read bytes rest left none in
+    rw (joined_read bytes has.0 has.1) refl
+
+-- what the steps of going over the messages need
+pub ruleset going_over = (all_left, left_behind, stops, all_read)
 
 -- ---- what a file holds
 
@@ -118,8 +131,7 @@ held_by_left : (bytes : List ℕ) (next : ℕ) (rest : List ℕ) (read : Begun) 
     → ((behind : List ℕ) → IsLeft bytes behind → length behind < length (next ∷ rest) → Holds bytes (messages_read bytes))
     → Holds bytes (messages_read bytes)
 held_by_left bytes next rest (Ok x) left e others =
-    let behind = left_behind bytes (next ∷ rest) x.0 x.1 left e in
-    others x.1 behind.0 behind.1
+    others x.1 (left_behind bytes (next ∷ rest) x.0 x.1 left e) (fewer_bytes bytes (next ∷ rest) x.0 x.1 left e)
 held_by_left bytes next rest (Err fault) left e others =
     let size = ap (λ l. length l) left.whole in
     subst (Holds bytes) (sym (stops bytes (next ∷ rest) fault left (eqb-suc-zero _) e)) (record {
@@ -181,3 +193,6 @@ pub none_left : (bytes : List ℕ) (fault : FrameFault) → message_at bytes ≡
 unfolding messages_read held_in
 none_left [] fault e = refl
 none_left (next ∷ rest) fault e = rw e refl
+
+-- what taking a message out needs
+pub ruleset taking_out = (pops, none_left)

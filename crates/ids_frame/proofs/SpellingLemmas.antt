@@ -1,5 +1,5 @@
 -- How long spellings are.
-use Rattle.std.specs.Prelude.{ℕ, ◌+◌, ◌≤◌, List, ◌++◌, length, Option, Some, None, IsNone, IfSome}
+use Rattle.std.specs.Prelude.{ℕ, ◌+◌, ◌≤◌, List, length, Option, Some, None, IsNone, IfSome}
 use Rattle.std.proofs.Common.{arith, rules, length-append}
 use Rattle.ids_types.specs.declared.names.Stamp.{Stamp}
 use Rattle.ids_frame.specs.declared.context.Form.{Form}

@@ -85,6 +85,21 @@ has_layout version = nat_le 1 version && nat_le version last_version
 abbrev pub has : ℕ → ℕ → Bool
 has bit first = first / bit % 2 == 1
 
+-- the message of these parts
+abbrev pub message_of : (first place event count reserved : ℕ)
+    → Option Stamp → Option ContextPart → Option (List ℕ) → MessageParts
+message_of first place event count reserved stamp context signature = record {
+  version = first / 16;
+  instance = place / 64;
+  sensor = place % 64;
+  event = event;
+  count = count;
+  reserved = reserved;
+  stamp = stamp;
+  context = context;
+  signature = signature;
+}
+
 -- a message behind its first byte
 unfoldable pub parts_at : ℕ → List ℕ → Read MessageParts
 parts_at first bytes = do
@@ -96,17 +111,7 @@ parts_at first bytes = do
   context ← optional (has 1 first) context_at stamp.1
   signature ← optional (has 4 first) signature_at context.1
   Some (
-    record {
-      version = first / 16;
-      instance = place.0 / 64;
-      sensor = place.0 % 64;
-      event = event.0;
-      count = count.0;
-      reserved = reserved.0;
-      stamp = stamp.0;
-      context = context.0;
-      signature = signature.0;
-    },
+    message_of first place.0 event.0 count.0 reserved.0 stamp.0 context.0 signature.0,
     signature.1,
   )
 

@@ -23,6 +23,7 @@ pub fn decode(bytes: &[u8]) -> Result<(Message<'_>, usize), FrameFault>
 
 /// A message is read exactly where its spelling stands at the front, whatever follows it, and each
 /// fault exactly where it has its cause.
+#[tactic(auto, using(crate::proofs::MessageLemmas::read_is_begun))]
 pub fn what_bytes_begin_with()
     ensures { (bytes : List ℕ) (read : Begun) → AreBytes bytes →
         (message_at bytes ≡ read) ↔ Begins bytes read }
@@ -30,6 +31,7 @@ pub fn what_bytes_begin_with()
 
 /// No spelling begins another: what begins with two messages' spellings has one message at its
 /// front, and the same bytes behind it.
+#[tactic(auto, using(crate::proofs::MessageLemmas::one_message_lem))]
 pub fn one_message()
     ensures { (m n : MessageParts) (a b : List ℕ) → FitsMessage m → FitsMessage n
         → spelling m ++ a ≡ spelling n ++ b → (m ≡ n) × (a ≡ b) }

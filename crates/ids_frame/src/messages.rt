@@ -31,6 +31,7 @@ impl<'a> Model for Messages<'a> {
 impl<'a> Messages<'a> {
     /// The messages of these bytes, where the bytes are messages and nothing else. No bytes are no
     /// messages. Otherwise the answer is the place and the fault of the first that cannot be read.
+    #[tactic(auto, using(crate::proofs::MessagesLemmas::going_over))]
     pub fn read(bytes: &'a [u8]) -> Result<Messages<'a>, BadMessage>
         ensures value { result ≡ messages_read bytes.now }
     {
@@ -48,6 +49,7 @@ impl<'a> Messages<'a> {
     }
 
     /// Takes the first message out.
+    #[tactic(auto, using(crate::proofs::MessagesLemmas::taking_out))]
     pub fn pop_front(&mut self) -> Option<Message<'a>>
         ensures some { IfSome result (λ m. self.old ≡ m ∷ self.new) }
         ensures none { IfNone result (self.old ≡ []) }
@@ -66,6 +68,7 @@ impl<'a> Messages<'a> {
 
 /// A file holds messages exactly where it is their spellings one behind the other, and a fault
 /// exactly where the messages stop at it.
+#[tactic(auto, using(crate::proofs::MessagesLemmas::read_is_held))]
 pub fn what_a_file_holds()
     ensures { (bytes : List ℕ) (held : Held) → AreBytes bytes →
         (messages_read bytes ≡ held) ↔ Holds bytes held }

@@ -1,19 +1,12 @@
 //! The parts of a message, each read from the front of bytes, with the bytes that are left. None is
 //! where the bytes end before the part does.
 ghost use Rattle.std.specs.Prelude.{◌≡◌, ◌≤◌, ◌<◌, ◌^◌, length, IfSome, option_copied};
-ghost use Rattle.std.specs.Int.{w16, w32, w64};
+ghost use Rattle.std.specs.Int.{w16};
 ghost use Rattle.ids_frame.specs.Context.{most_bytes};
-ghost use Rattle.ids_frame.specs.Reading.{Gives, bytes_at, byte_at, number_at, has, optional, stamp_at, length_at, context_at, signature_at};
+ghost use Rattle.ids_frame.specs.Reading.{Gives, byte_at, number_at, has, optional, stamp_at, length_at, context_at, signature_at};
 
 use crate::context::{Context, Form};
 use ids_types::Stamp;
-
-fn slice_of(count: usize, bytes: &[u8]) -> Option<(&[u8], &[u8])>
-    ensures gives { Gives (λ x. (x.0.now, x.1.now)) result (bytes_at count bytes.now) }
-    ensures size { IfSome result (λ x. length x.0.now ≡ count) }
-{
-    bytes.split_at_checked(count)
-}
 
 pub(crate) fn u8_of(bytes: &[u8]) -> Option<(u8, &[u8])>
     ensures { Gives (λ x. (x.0, x.1.now)) result (byte_at bytes.now) }
@@ -31,27 +24,13 @@ pub(crate) fn u16_of(bytes: &[u8]) -> Option<(u16, &[u8])>
     Some((u16::from_be_bytes(*front), rest))
 }
 
-fn u32_of(bytes: &[u8]) -> Option<(u32, &[u8])>
-    ensures { Gives (λ x. (x.0, x.1.now)) result (number_at w32 bytes.now) }
-{
-    let (front, rest) = bytes.split_first_chunk()?;
-    Some((u32::from_be_bytes(*front), rest))
-}
-
-fn u64_of(bytes: &[u8]) -> Option<(u64, &[u8])>
-    ensures { Gives (λ x. (x.0, x.1.now)) result (number_at w64 bytes.now) }
-{
-    let (front, rest) = bytes.split_first_chunk()?;
-    Some((u64::from_be_bytes(*front), rest))
-}
-
 #[tactic(auto, unfolding(crate::specs::Reading::stamp_at))]
 pub(crate) fn stamp_of(first: u8, bytes: &[u8]) -> Option<(Option<Stamp>, &[u8])>
     ensures { Gives (λ x. (x.0, x.1.now)) result (optional (has 2 first) stamp_at bytes.now) }
 {
     if first / 2 % 2 == 1 {
-        let (number, rest) = u64_of(bytes)?;
-        Some((Some(Stamp(number)), rest))
+        let (number, rest) = bytes.split_first_chunk()?;
+        Some((Some(Stamp(u64::from_be_bytes(*number))), rest))
     } else {
         Some((None, bytes))
     }
@@ -63,7 +42,7 @@ pub(crate) fn context_of(first: u8, bytes: &[u8]) -> Option<(Option<Context<'_>>
 {
     if first % 2 == 1 {
         let ((form, size), rest) = length_of(bytes)?;
-        let (held, rest) = slice_of(size, rest)?;
+        let (held, rest) = rest.split_at_checked(size)?;
         // A length that was read is one that its form can say.
         Some((Context::make(form, held), rest))
     } else {
@@ -80,7 +59,8 @@ fn length_of(bytes: &[u8]) -> Option<((Form, usize), &[u8])>
         [] => None,
         [first, rest @ ..] if *first < 128 => Some(((Form::Short, *first as usize), rest)),
         [_, ..] => {
-            let (size, rest) = u32_of(bytes)?;
+            let (size, rest) = bytes.split_first_chunk()?;
+            let size = u32::from_be_bytes(*size);
             Some(((Form::Long, (size - 0x8000_0000) as usize), rest))
         }
     }
@@ -94,7 +74,7 @@ pub(crate) fn signature_of(first: u8, bytes: &[u8]) -> Option<(Option<&[u8]>, &[
 {
     if first / 4 % 2 == 1 {
         let (size, rest) = u16_of(bytes)?;
-        let (signature, rest) = slice_of(size as usize, rest)?;
+        let (signature, rest) = rest.split_at_checked(size as usize)?;
         Some((Some(signature), rest))
     } else {
         Some((None, bytes))
