@@ -49,16 +49,12 @@ length_high : (a : ℕ) (bytes : List ℕ) → 128 ≤ a → length_at (a ∷ by
 unfolding length_at
 length_high a bytes le = rw (le-ltb _ _ le) refl
 
--- a number of four bytes is at least 2^31 where its first byte is at least 128
-high : (a : ℕ) (bytes : List ℕ) (n : ℕ) (rest : List ℕ) → 128 ≤ a → a ∷ bytes ≡ to_be_bytes w32 n ++ rest → 2 ^ 31 ≤ n
-high a bytes n rest le e =
+-- a number of four bytes of which the first is at least 128 spells a long length
+long_text : (a : ℕ) (bytes : List ℕ) (n : ℕ) (rest : List ℕ) → 128 ≤ a → a ∷ bytes ≡ to_be_bytes w32 n ++ rest
+    → to_be_bytes w32 n ≡ length_in forms.Long (n - 2 ^ 31)
+long_text a bytes n rest le e =
     let first : a ≡ n / 2 ^ 24 % 256 = ap (λ l. get_or l 0 0) e in
-    omega (arith, le, first)
-
--- such a number spells a long length
-long_text : (n : ℕ) → 2 ^ 31 ≤ n → to_be_bytes w32 n ≡ length_in forms.Long (n - 2 ^ 31)
-long_text n le =
-    let back : 2 ^ 31 + (n - 2 ^ 31) ≡ n = omega (arith, le) in
+    let back : 2 ^ 31 + (n - 2 ^ 31) ≡ n = omega (arith, le, first) in
     rw back refl
 
 -- a length that is read is spelled so
@@ -79,7 +75,7 @@ length_takes (a ∷ bytes) x rest fits e =
           let t = four.takes (a ∷ bytes) b.0.0 b.0.1 fits b.1 in
           let long : (Form × ℕ) × List ℕ = ((forms.Long, b.0.0 - 2 ^ 31), b.0.1) in
           let same : long ≡ found = cc b.2 in
-          let text = long_text b.0.0 (high a bytes b.0.0 b.0.1 le t.0.parts) in
+          let text = long_text a bytes b.0.0 b.0.1 le t.0.parts in
           subst Told same (subst (λ w. Takes (a ∷ bytes) w b.0.1) text t.0, omega (arith, t.1))
     ]
 
@@ -108,10 +104,9 @@ length_cut (a ∷ bytes) fits e =
           elim (bind_none (number_at w32 (a ∷ bytes)) long_of (sym (length_high a bytes le) ∙ e)) [
             | inl out ↦
                 let r = four.cut (a ∷ bytes) fits out in
-                let up = high a (bytes ++ r.next ∷ r.more) r.value [] le (r.whole ∙ sym (append-nil _)) in
-                let whole = r.whole ∙ long_text r.value up in
+                let text = long_text a (bytes ++ r.next ∷ r.more) r.value [] le (r.whole ∙ sym (append-nil _)) in
                 let size = r.value - 2 ^ 31 in
-                record { value = (forms.Long, size); fits = omega (arith, r.fits); next = r.next; more = r.more; whole = whole }
+                record { value = (forms.Long, size); fits = omega (arith, r.fits); next = r.next; more = r.more; whole = r.whole ∙ text }
             | inr b ↦ absurd (cc b.2)
           ]
     ]

@@ -21,10 +21,6 @@ pub record FitsContext (c : ContextPart) : Type 0 where
   pub size : length c.bytes ≤ most_bytes c.form
   pub bytes : AreBytes c.bytes
 
--- the form that the manager sends for this many bytes
-abbrev pub form_of : ℕ → Form
-form_of size = if nat_le size 127 then Short else Long
-
 -- the context that the manager sends for these bytes
 abbrev pub context_of : List ℕ → ContextPart
-context_of bytes = record { form = form_of (length bytes); bytes = bytes }
+context_of bytes = record { form = if nat_le (length bytes) 127 then Short else Long; bytes = bytes }

@@ -1,6 +1,6 @@
 //! A message's context: its bytes, and the form in which their number is spelled.
 ghost use Rattle.std.specs.Prelude.{◌≡◌, ◌<◌, ◌≤◌, ◌^◌, ◌↔◌, length, IsSome, IfSome};
-ghost use Rattle.ids_frame.specs.Context.{FitsContext, most_bytes, form_of, context_of};
+ghost use Rattle.ids_frame.specs.Context.{FitsContext, most_bytes, context_of};
 
 use std::marker::Model;
 
@@ -21,17 +21,6 @@ impl Form {
         match self {
             Form::Short => 0x7f,
             Form::Long => 0x7fff_ffff,
-        }
-    }
-
-    /// The form that the manager sends for a context of this many bytes: short where that does.
-    fn for_len(len: usize) -> Form
-        ensures { result ≡ form_of len }
-    {
-        if len <= Form::Short.most_bytes() {
-            Form::Short
-        } else {
-            Form::Long
         }
     }
 }
@@ -72,9 +61,16 @@ impl<'a> Context<'a> {
         requires { length bytes.now ≤ most_bytes Form.Long }
         ensures { result ≡ context_of bytes.now }
     {
-        Context {
-            form: Form::for_len(bytes.len()),
-            bytes,
+        if bytes.len() <= Form::Short.most_bytes() {
+            Context {
+                form: Form::Short,
+                bytes,
+            }
+        } else {
+            Context {
+                form: Form::Long,
+                bytes,
+            }
         }
     }
 
