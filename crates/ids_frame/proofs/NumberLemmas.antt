@@ -122,7 +122,7 @@ pub record IsWide (w : Width) (limit : ℕ) : Type 0 where
 digit : (n : ℕ) → IsByte (n % 256)
 digit n = omega arith
 
--- numbers of two, four and eight bytes
+-- numbers of two bytes are read back
 pub wide16 : IsWide w16 (2 ^ 16)
 wide16 = record {
   many = λ n. record { len = refl; are_bytes = All-from_recursion IsByte (to_be_bytes w16 n) (digit _, (digit _, tt)) };
@@ -131,6 +131,7 @@ wide16 = record {
   below = λ bytes fits. let b = each_byte bytes fits in omega (arith, b 0, b 1);
 }
 
+-- the same of four bytes
 pub wide32 : IsWide w32 (2 ^ 32)
 wide32 = record {
   many = λ n. record {
@@ -142,6 +143,7 @@ wide32 = record {
   below = λ bytes fits. let b = each_byte bytes fits in omega (arith, b 0, b 1, b 2, b 3);
 }
 
+-- and of eight
 pub wide64 : IsWide w64 (2 ^ 64)
 wide64 = record {
   many = λ n. record {
