@@ -1,6 +1,4 @@
-mod PrintedParts
-mod PrintedShape
-mod PrintedText
+mod PrintedLemmas
 mod ShapeLemmas
 pub mod TreeLemmas
 mod WorkedTexts

@@ -1,7 +1,9 @@
 -- The members of an object as its reader meets them: keys, and rows of a constant.
-use Rattle.std.proofs.Common.{◌≡◌, ℕ, List, [], ◌∷◌, map, Bool, Some, bytes_eq, string_bytes, refl, sym}
+use Rattle.std.proofs.Common.{◌≡◌, ℕ, List, [], ◌∷◌, map, Some, bytes_eq, string_bytes, refl, sym}
 use Rattle.std.specs.List.{list_any, list_all}
 use Rattle.std.specs.Map.{keys_of}
+use Rattle.std.proofs.lemmas.List.Folds.{list_all-map}
+use Rattle.std.proofs.lemmas.Simd.{map-map}
 use Rattle.serde_json.proofs.Views.{Entry}
 use Rattle.serde_json.specs.Data.{Data}
 use Rattle.serde_json.specs.Find.{as_object}
@@ -9,21 +11,20 @@ use Rattle.serde_json.specs.View.{view, items_view, members_view}
 use Rattle.serde_json.specs.declared.value.Value.{Value}
 use Rattle.config_json.specs.declared.tables.MemberRow.{MemberRow}
 use Rattle.config_json.specs.Kinds.{elements, is_whole}
+use Rattle.config_json.specs.Members.{state_in}
 use Rattle.config_json.specs.Rows.{row_of, is_among, members_shape}
 use Rattle.config_json.specs.Shape.{names_of, is_named, is_there, is_of_kind, object_shape}
-use Rattle.config_json.specs.Tables.{Row}
+use Rattle.config_json.proofs.PrintedLemmas.{elements_back}
 
 -- all trees of a list are whole numbers
 pub all_elements : (values : List Value)
     → list_all is_whole (elements (items_view values)) ≡ list_all (λ v. is_whole (view v)) values
-all_elements [] = refl
-all_elements (v ∷ values) = rw (all_elements values) refl
+all_elements values = rw (elements_back (map view values)) (list_all-map is_whole view values)
 
--- a condition on all rows
-all_rows : (P : Row → Bool) (rows : List MemberRow)
-    → list_all P (map row_of rows) ≡ list_all (λ row. P (row_of row)) rows
-all_rows P [] = refl
-all_rows P (row ∷ rows) = rw (all_rows P rows) refl
+-- the states of a list
+pub states_of : (values : List Value)
+    → map (λ value. state_in (view value)) values ≡ map state_in (map view values)
+states_of values = sym (map-map state_in view values)
 
 -- a name among the rows
 any_row : (key : List ℕ) (rows : List MemberRow)
@@ -47,6 +48,6 @@ object_members rows tree entries e =
     rw (
       sym e,
       named_members rows entries,
-      all_rows (is_there tree) rows,
-      all_rows (is_of_kind tree) rows,
+      list_all-map (is_there tree) row_of rows,
+      list_all-map (is_of_kind tree) row_of rows,
     ) refl

@@ -1,9 +1,7 @@
-pub mod Answers
 pub mod Configured
 pub mod Kinds
 pub mod Members
 pub mod Printed
-pub mod Puts
 pub mod Rows
 pub mod Shape
 pub mod Tables

@@ -1,7 +1,7 @@
 -- The text of a configuration: compact JSON with every member written, in the byte order of their names.
 -- Source: the configuration format of this project (docs/CONFIGURATION.md).
-use Rattle.std.specs.Prelude.{ℕ, List, map, Bool, Option, Some, None, codes, if◌then◌else◌}
-use Rattle.serde_json.specs.Data.{unsigned, Data, null, boolean, number, string, array, object, no_members, member}
+use Rattle.std.specs.Prelude.{ℕ, List, [], ◌∷◌, map, Bool, Option, Some, None, codes, if◌then◌else◌}
+use Rattle.serde_json.specs.Data.{unsigned, Data, Members, null, boolean, number, string, array, object, no_members, put}
 use Rattle.serde_json.specs.View.{items_of}
 use Rattle.serde_json.specs.Written.{compact_text}
 use Rattle.ids_types.specs.declared.class_spec.ClassSpec.{ClassSpec}
@@ -36,60 +36,71 @@ mode_name modes.DetailedBypassing = codes "DETAILED_BYPASSING_FILTERS"
 abbrev pub context_name : Bool → List ℕ
 context_name last = if last then codes "LAST" else codes "FIRST"
 
+-- these members in the byte order of their names, among others
+abbrev pub with_members : List (List ℕ × Data) → Members → Members
+with_members [] members = members
+with_members (first ∷ others) members = with_members others (put first.0 first.1 members)
+
+-- an object with these members
+abbrev pub object_of : List (List ℕ × Data) → Data
+object_of members = object (with_members members no_members)
+
 -- a class
 abbrev pub class_tree : ClassSpec → Data
-class_tree class = object
-    (member (codes "number") (whole class.number)
-    (member (codes "size") (whole class.size) no_members))
+class_tree class = object_of ((codes "size", whole class.size) ∷ (codes "number", whole class.number) ∷ [])
 
 -- a window, whose number has this name
 abbrev pub window_tree : List ℕ → Window → Data
-window_tree name window = object
-    (member name (whole window.number)
-    (member (codes "interval") (whole window.interval) no_members))
+window_tree name window = object_of ((codes "interval", whole window.interval) ∷ (name, whole window.number) ∷ [])
 
 -- an aggregation
 abbrev pub aggregate_tree : Aggregate → Data
-aggregate_tree aggregate = object
-    (member (codes "context") (string (context_name aggregate.last))
-    (member (codes "interval") (whole aggregate.interval) no_members))
+aggregate_tree aggregate = object_of (
+    (codes "interval", whole aggregate.interval)
+    ∷ (codes "context", string (context_name aggregate.last))
+    ∷ []
+    )
 
 -- an event
 unfoldable pub event_tree : Event → Data
-event_tree event = object
-    (member (codes "aggregate") (optional aggregate_tree event.aggregate)
-    (member (codes "block") (list_tree whole event.block)
-    (member (codes "id") (whole event.id)
-    (member (codes "mode") (string (mode_name event.mode))
-    (member (codes "nth") (whole event.nth)
-    (member (codes "send") (boolean event.send)
-    (member (codes "sensor") (whole event.sensor)
-    (member (codes "store") (boolean event.store)
-    (member (codes "threshold") (optional (window_tree (codes "count")) event.threshold)
-    no_members)))))))))
+event_tree event = object_of (
+    (codes "id", whole event.id)
+    ∷ (codes "sensor", whole event.sensor)
+    ∷ (codes "mode", string (mode_name event.mode))
+    ∷ (codes "send", boolean event.send)
+    ∷ (codes "store", boolean event.store)
+    ∷ (codes "block", list_tree whole event.block)
+    ∷ (codes "nth", whole event.nth)
+    ∷ (codes "aggregate", optional aggregate_tree event.aggregate)
+    ∷ (codes "threshold", optional (window_tree (codes "count")) event.threshold)
+    ∷ []
+    )
 
 -- the internal events
 abbrev pub internal_tree : Parts → Data
-internal_tree config = object
-    (member (codes "limited") (optional whole config.limited)
-    (member (codes "lost_contexts") (optional whole config.lost_contexts)
-    (member (codes "lost_events") (optional whole config.lost_events) no_members)))
+internal_tree config = object_of (
+    (codes "lost_events", optional whole config.lost_events)
+    ∷ (codes "lost_contexts", optional whole config.lost_contexts)
+    ∷ (codes "limited", optional whole config.limited)
+    ∷ []
+    )
 
 -- the whole configuration
 unfoldable pub config_tree : Parts → Data
-config_tree config = object
-    (member (codes "callers") (whole config.callers)
-    (member (codes "classes") (list_tree class_tree config.classes)
-    (member (codes "events") (list_tree event_tree config.events)
-    (member (codes "form") (whole 1)
-    (member (codes "instance") (whole config.instance)
-    (member (codes "internal") (internal_tree config)
-    (member (codes "memory") (whole config.memory)
-    (member (codes "rate") (optional (window_tree (codes "events")) config.rate)
-    (member (codes "ring") (whole config.ring)
-    (member (codes "state") (whole config.state)
-    (member (codes "traffic") (optional (window_tree (codes "bytes")) config.traffic)
-    no_members)))))))))))
+config_tree config = object_of (
+    (codes "form", whole 1)
+    ∷ (codes "instance", whole config.instance)
+    ∷ (codes "callers", whole config.callers)
+    ∷ (codes "ring", whole config.ring)
+    ∷ (codes "memory", whole config.memory)
+    ∷ (codes "state", whole config.state)
+    ∷ (codes "classes", list_tree class_tree config.classes)
+    ∷ (codes "rate", optional (window_tree (codes "events")) config.rate)
+    ∷ (codes "traffic", optional (window_tree (codes "bytes")) config.traffic)
+    ∷ (codes "events", list_tree event_tree config.events)
+    ∷ (codes "internal", internal_tree config)
+    ∷ []
+    )
 
 -- the text of a configuration
 abbrev pub config_text : Parts → List ℕ

@@ -54,39 +54,26 @@ is_known named name tree =
 
 -- ---- all objects
 
--- a class
-abbrev pub class_shape : Data → Result ⊤ ℕ
-class_shape tree = object_shape class_table tree
-
--- classes from this index on
-abbrev pub each_class : ℕ → List Data → Result ⊤ ConfigFault
-each_class index trees = each (λ i tree. at (places.Class (capped i)) (class_shape tree)) index trees
-
--- all classes
-abbrev pub classes_shape : List Data → Result ⊤ ConfigFault
-classes_shape trees = each_class 0 trees
+-- the class of this index
+abbrev pub class_shape : ℕ → Data → Result ⊤ ConfigFault
+class_shape index tree = at (places.Class (capped index)) (object_shape class_table tree)
 
 -- an aggregation
 abbrev pub aggregate_shape : Data → Result ⊤ ℕ
 aggregate_shape tree =
     object_shape aggregate_table tree >> asks 8 (is_known last_named (codes "context") tree)
 
--- an event with the members of the table
-unfoldable pub event_shape : List Row → Data → Result ⊤ ℕ
-event_shape rows tree =
-    object_shape rows tree
+-- an event
+unfoldable pub event_shape : Data → Result ⊤ ℕ
+event_shape tree =
+    object_shape event_table tree
     >> asks 7 (is_known mode_named (codes "mode") tree)
     >> part_shape aggregate_shape (codes "aggregate") tree
     >> part_shape (object_shape threshold_table) (codes "threshold") tree
 
--- events with the members of the table, from this index on
-abbrev pub each_event : List Row → ℕ → List Data → Result ⊤ ConfigFault
-each_event rows index trees =
-    each (λ i tree. at (places.Event (capped i)) (event_shape rows tree)) index trees
-
--- all events
-abbrev pub events_shape : List Row → List Data → Result ⊤ ConfigFault
-events_shape rows trees = each_event rows 0 trees
+-- the event of this index
+abbrev pub event_shape_at : ℕ → Data → Result ⊤ ConfigFault
+event_shape_at index tree = at (places.Event (capped index)) (event_shape tree)
 
 -- the form is the first
 abbrev pub is_first_form : Data → Bool
@@ -97,8 +84,8 @@ unfoldable pub config_shape : Data → Result ⊤ ConfigFault
 config_shape tree =
     at places.Top (object_shape top_table tree)
     >> at places.Top (asks 6 (is_first_form tree))
-    >> classes_shape (list_at (codes "classes") tree)
+    >> each class_shape 0 (list_at (codes "classes") tree)
     >> at places.Top (part_shape (object_shape rate_table) (codes "rate") tree)
     >> at places.Top (part_shape (object_shape traffic_table) (codes "traffic") tree)
-    >> events_shape event_table (list_at (codes "events") tree)
+    >> each event_shape_at 0 (list_at (codes "events") tree)
     >> at places.Top (part_shape (object_shape internal_table) (codes "internal") tree)

@@ -4,7 +4,7 @@ ghost use Rattle.std.specs.Prelude.{◌≡◌, length, is_some};
 ghost use Rattle.std.specs.List.{list_all};
 ghost use Rattle.serde_json.specs.Find.{as_null};
 ghost use Rattle.serde_json.specs.View.{view, items_view};
-ghost use Rattle.config_json.specs.Kinds.{has_kind as of_kind, is_whole as whole, are_wholes as wholes, is_null as null};
+ghost use Rattle.config_json.specs.Kinds.{has_kind as of_kind, is_whole as whole, are_wholes as wholes};
 
 use serde_json::Value;
 
@@ -30,27 +30,15 @@ pub(crate) fn has_kind(kind: Kind, value: &Value) -> bool
     ensures { result ≡ of_kind kind (view value.now) }
 {
     match kind {
-        Kind::Whole => is_whole(value),
-        Kind::WholeOrNull => is_null(value) || is_whole(value),
-        Kind::Truth => value.as_bool().is_some(),
+        Kind::Whole => value.is_u64(),
+        Kind::WholeOrNull => value.is_null() || value.is_u64(),
+        Kind::Truth => value.is_boolean(),
         Kind::Text => value.is_string(),
         Kind::List => value.is_array(),
         Kind::Wholes => are_wholes(value),
         Kind::Object => value.is_object(),
-        Kind::ObjectOrNull => is_null(value) || value.is_object(),
+        Kind::ObjectOrNull => value.is_null() || value.is_object(),
     }
-}
-
-fn is_null(value: &Value) -> bool
-    ensures { result ≡ null (view value.now) }
-{
-    value.as_null().is_some()
-}
-
-fn is_whole(value: &Value) -> bool
-    ensures { result ≡ whole (view value.now) }
-{
-    value.is_u64()
 }
 
 /// A list of whole numbers.
@@ -67,5 +55,5 @@ fn are_wholes(value: &Value) -> bool
 fn are_all_whole(values: &[Value]) -> bool
     ensures { result ≡ list_all (λ value. whole (view value)) values.now }
 {
-    values.iter().all(|value| is_whole(value))
+    values.iter().all(Value::is_u64)
 }

@@ -1,8 +1,7 @@
 //! The members of an object by their names.
 
-ghost use Rattle.std.specs.Prelude.{◌≡◌, option_map};
-ghost use Rattle.serde_json.specs.View.{view, items_view};
-ghost use Rattle.config_json.specs.Kinds.{elements};
+ghost use Rattle.std.specs.Prelude.{◌≡◌, map, option_map};
+ghost use Rattle.serde_json.specs.View.{view};
 ghost use Rattle.config_json.specs.Members.{whole_at, text_at, list_at, object_at, mode_named, last_named};
 
 use ids_types::Mode;
@@ -21,8 +20,9 @@ pub(crate) fn find_text<'a>(value: &'a Value, name: &str) -> Option<&'a str>
 }
 
 /// The list of this name, empty where it is absent.
+#[tactic(auto, using(crate::proofs::PrintedLemmas::elements_back))]
 pub(crate) fn find_list<'a>(value: &'a Value, name: &str) -> &'a [Value]
-    ensures { elements (items_view result.now) ≡ list_at name.now (view value.now) }
+    ensures { map view result.now ≡ list_at name.now (view value.now) }
 {
     match value.get(name).and_then(Value::as_array) {
         Some(list) => list,

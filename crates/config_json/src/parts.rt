@@ -1,9 +1,8 @@
 //! The parts of a configuration, each member's value or its default.
 
 ghost use Rattle.std.specs.Prelude.{◌≡◌, map, IfOk};
-ghost use Rattle.serde_json.specs.View.{view, items_view};
+ghost use Rattle.serde_json.specs.View.{view};
 ghost use Rattle.ids_config.specs.Classes.{class_of};
-ghost use Rattle.config_json.specs.Kinds.{elements};
 ghost use Rattle.config_json.specs.Members.{whole_or as whole_unless, truth_or as truth_unless, window_in, aggregate_in, class_in, state_in, event_in, internal_at, parts_in};
 
 use crate::members::{find_list, find_object, find_text, find_whole, last_of, mode_of};
@@ -34,8 +33,7 @@ pub(crate) fn read_parts(alloc: Global, value: &Value) -> Result<ConfigParts, Al
 }
 
 fn read_classes(alloc: Global, values: &[Value]) -> Result<Vec<(u64, u64)>, AllocError>
-    ensures { IfOk result (λ classes.
-        map class_of classes.items ≡ map class_in (elements (items_view values.now))) }
+    ensures { IfOk result (λ classes. map class_of classes.items ≡ map class_in (map view values.now)) }
 {
     let mut classes = Vec::with_capacity(alloc, values.len())?;
     for value in values {
@@ -45,8 +43,7 @@ fn read_classes(alloc: Global, values: &[Value]) -> Result<Vec<(u64, u64)>, Allo
 }
 
 fn read_events(alloc: Global, values: &[Value]) -> Result<Vec<EventParts>, AllocError>
-    ensures { IfOk result (λ events.
-        events.items ≡ map event_in (elements (items_view values.now))) }
+    ensures { IfOk result (λ events. events.items ≡ map event_in (map view values.now)) }
 {
     let mut events = Vec::with_capacity(alloc, values.len())?;
     for value in values {
@@ -55,7 +52,7 @@ fn read_events(alloc: Global, values: &[Value]) -> Result<Vec<EventParts>, Alloc
     Ok(events)
 }
 
-#[tactic(auto, unfolding(crate::specs::Members::event_in))]
+#[tactic(auto, using(crate::proofs::ShapeLemmas::states_of), unfolding(crate::specs::Members::event_in))]
 fn read_event(alloc: Global, value: &Value) -> Result<EventParts, AllocError>
     ensures { IfOk result (λ event. event ≡ event_in (view value.now)) }
 {
@@ -76,14 +73,12 @@ fn read_event(alloc: Global, value: &Value) -> Result<EventParts, AllocError>
 
 /// Blocking states.
 fn read_block(alloc: Global, values: &[Value]) -> Result<Vec<u64>, AllocError>
-    ensures { IfOk result (λ states.
-        states.items ≡ map state_in (elements (items_view values.now))) }
+    ensures { IfOk result (λ states. states.items ≡ map (λ value. state_in (view value)) values.now) }
 {
-    let mut states = Vec::with_capacity(alloc, values.len())?;
-    for value in values {
-        states.push(value.as_u64().unwrap_or(0))?;
-    }
-    Ok(states)
+    values
+        .iter()
+        .map(|value| value.as_u64().unwrap_or(0))
+        .collect(alloc)
 }
 
 fn read_aggregate(value: &Value) -> Aggregate

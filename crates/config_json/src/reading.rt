@@ -1,6 +1,5 @@
 ghost use Rattle.serde_json.specs.View.{view};
-ghost use Rattle.config_json.specs.Answers.{Tells};
-ghost use Rattle.config_json.specs.Configured.{config_in, configuration};
+ghost use Rattle.config_json.specs.Configured.{config_in, configuration, Tells};
 
 use crate::fault::JsonFault;
 use crate::parts::read_parts;
@@ -28,8 +27,5 @@ fn read_tree(alloc: Global, value: &Value) -> Result<Config, JsonFault>
 {
     check_shape(value)?;
     let parts = read_parts(alloc, value)?;
-    match Config::check(parts) {
-        Ok(config) => Ok(config),
-        Err(fault) => Err(JsonFault::Config(fault)),
-    }
+    Ok(Config::check(parts)?)
 }

@@ -3,11 +3,11 @@
 ghost use Rattle.std.specs.Prelude.{◌≡◌, map, bytes_eq, codes};
 ghost use Rattle.std.specs.List.{list_any, list_all};
 ghost use Rattle.std.specs.BTreeMap.{keys};
-ghost use Rattle.serde_json.specs.View.{view, items_view};
-ghost use Rattle.config_json.specs.Kinds.{elements};
+ghost use Rattle.serde_json.specs.View.{view};
+ghost use Rattle.ids_config.specs.Steps.{each};
 ghost use Rattle.config_json.specs.Members.{mode_named, last_named};
 ghost use Rattle.config_json.specs.Rows.{row_of, is_among as among, members_shape};
-ghost use Rattle.config_json.specs.Shape.{object_shape, part_shape, class_shape, classes_shape, aggregate_shape, event_shape, events_shape, config_shape, is_there as there, is_of_kind as of_kind, is_known as known, is_first_form as first_form};
+ghost use Rattle.config_json.specs.Shape.{object_shape, part_shape, class_shape, aggregate_shape, event_shape, event_shape_at, config_shape, is_there as there, is_of_kind as of_kind, is_known as known, is_first_form as first_form};
 
 use crate::kind::has_kind;
 use crate::members::{find_list, find_object, find_text, find_whole, last_of, mode_of};
@@ -25,7 +25,7 @@ pub(crate) fn check_shape(value: &Value) -> Result<(), ConfigFault>
     check_classes(find_list(value, "classes"))?;
     at(ConfigPlace::Top, check_part(value, "rate", &RATE))?;
     at(ConfigPlace::Top, check_part(value, "traffic", &TRAFFIC))?;
-    check_events(find_list(value, "events"), &EVENT)?;
+    check_events(find_list(value, "events"))?;
     at(ConfigPlace::Top, check_part(value, "internal", &INTERNAL))
 }
 
@@ -39,36 +39,35 @@ fn is_first_form(value: &Value) -> bool
 }
 
 fn check_classes(values: &[Value]) -> Result<(), ConfigFault>
-    ensures { result ≡ classes_shape (elements (items_view values.now)) }
+    ensures { result ≡ each class_shape 0 (map view values.now) }
 {
     for (index, value) in values.iter().enumerate() {
-        at(ConfigPlace::Class(capped(index)), check_class(value))?;
+        at(
+            ConfigPlace::Class(capped(index)),
+            check_object(value, &CLASS),
+        )?;
     }
     Ok(())
 }
 
-fn check_class(value: &Value) -> Result<(), u8>
-    ensures { result ≡ class_shape (view value.now) }
-{
-    check_object(value, &CLASS)
-}
-
-/// All events, each with the members of the table.
-fn check_events(values: &[Value], rows: &[MemberRow]) -> Result<(), ConfigFault>
-    ensures { result ≡ events_shape (map row_of rows.now) (elements (items_view values.now)) }
+fn check_events(values: &[Value]) -> Result<(), ConfigFault>
+    ensures { result ≡ each event_shape_at 0 (map view values.now) }
 {
     for (index, value) in values.iter().enumerate() {
-        at(ConfigPlace::Event(capped(index)), check_event(value, rows))?;
+        at(ConfigPlace::Event(capped(index)), check_event(value))?;
     }
     Ok(())
 }
 
 #[tactic(auto, unfolding(crate::specs::Shape::event_shape))]
-fn check_event(value: &Value, rows: &[MemberRow]) -> Result<(), u8>
-    ensures { result ≡ event_shape (map row_of rows.now) (view value.now) }
+fn check_event(value: &Value) -> Result<(), u8>
+    ensures { result ≡ event_shape (view value.now) }
 {
-    check_object(value, rows)?;
-    asks(7, has_known_mode(value))?;
+    check_object(value, &EVENT)?;
+    asks(
+        7,
+        find_text(value, "mode").is_none_or(|name| mode_of(name).is_some()),
+    )?;
     check_aggregate(value)?;
     check_part(value, "threshold", &THRESHOLD)
 }
@@ -81,25 +80,10 @@ fn check_aggregate(event: &Value) -> Result<(), u8>
         return Ok(());
     };
     check_object(value, &AGGREGATE)?;
-    asks(8, has_known_context(value))
-}
-
-fn has_known_mode(event: &Value) -> bool
-    ensures { result ≡ known mode_named (codes "mode") (view event.now) }
-{
-    match find_text(event, "mode") {
-        Some(name) => mode_of(name).is_some(),
-        None => true,
-    }
-}
-
-fn has_known_context(aggregate: &Value) -> bool
-    ensures { result ≡ known last_named (codes "context") (view aggregate.now) }
-{
-    match find_text(aggregate, "context") {
-        Some(name) => last_of(name).is_some(),
-        None => true,
-    }
+    asks(
+        8,
+        find_text(value, "context").is_none_or(|name| last_of(name).is_some()),
+    )
 }
 
 /// The object of this name, where there is one, with the members of the table.

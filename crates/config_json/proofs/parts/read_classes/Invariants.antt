@@ -1,12 +1,11 @@
 use Rattle.std.proofs.Common.{◌≡◌, ◌++◌, map, drop}
-use Rattle.serde_json.specs.View.{items_view}
+use Rattle.serde_json.specs.View.{view}
 use Rattle.ids_config.specs.Classes.{class_of}
-use Rattle.config_json.specs.Kinds.{elements}
 use Rattle.config_json.specs.Members.{class_in}
 use Rattle.config_json.proofs.parts.read_classes.Given as goal
 
 -- what the rest has, behind what was read, is what all trees have
 abbrev pub invariant-loop-value : goal.invariant-loop-value
 invariant-loop-value l =
-    map class_of l.classes.items ++ map class_in (elements (items_view (drop l.value-index l.values)))
-    ≡ map class_in (elements (items_view l.values))
+    map class_of l.classes.items ++ map class_in (map view (drop l.value-index l.values))
+    ≡ map class_in (map view l.values)

@@ -1,11 +1,10 @@
 use Rattle.std.proofs.Common.{◌≡◌, ◌++◌, map, drop}
-use Rattle.serde_json.specs.View.{items_view}
-use Rattle.config_json.specs.Kinds.{elements}
+use Rattle.serde_json.specs.View.{view}
 use Rattle.config_json.specs.Members.{event_in}
 use Rattle.config_json.proofs.parts.read_events.Given as goal
 
 -- what the rest has, behind what was read, is what all trees have
 abbrev pub invariant-loop-value : goal.invariant-loop-value
 invariant-loop-value l =
-    l.events.items ++ map event_in (elements (items_view (drop l.value-index l.values)))
-    ≡ map event_in (elements (items_view l.values))
+    l.events.items ++ map event_in (map view (drop l.value-index l.values))
+    ≡ map event_in (map view l.values)

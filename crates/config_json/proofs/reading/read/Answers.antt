@@ -1,11 +1,11 @@
 use Rattle.serde_json.specs.View.{view}
-use Rattle.config_json.proofs.TreeLemmas.{told_of_bytes, text_of_none}
+use Rattle.config_json.proofs.TreeLemmas.{text_of_tree, text_of_none}
 use Rattle.config_json.proofs.reading.read.Goals as goal
 
 pub returns-in-Ok : goal.returns-in-Ok
 returns-in-Ok c =
-    told_of_bytes c.args.bytes.now (view c.in-Ok.value) c.read_tree.result c.in-Ok.ensures.ok.0
-    c.in-Ok.ensures.ok.1 c.read_tree.ensures
+    rw (text_of_tree c.args.bytes.now (view c.in-Ok.value) c.in-Ok.ensures.ok.0 c.in-Ok.ensures.ok.1)
+    c.read_tree.ensures
 
 pub returns-in-Err-2 : goal.returns-in-Err-2
 returns-in-Err-2 c =

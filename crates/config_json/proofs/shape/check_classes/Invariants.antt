@@ -1,11 +1,10 @@
-use Rattle.std.proofs.Common.{◌≡◌, drop}
-use Rattle.serde_json.specs.View.{items_view}
-use Rattle.config_json.specs.Kinds.{elements}
-use Rattle.config_json.specs.Shape.{each_class}
+use Rattle.std.proofs.Common.{◌≡◌, map, drop}
+use Rattle.serde_json.specs.View.{view}
+use Rattle.ids_config.specs.Steps.{each}
+use Rattle.config_json.specs.Shape.{class_shape}
 use Rattle.config_json.proofs.shape.check_classes.Given as goal
 
 -- the rest has the fault that all classes have
 abbrev pub invariant-loop-index : goal.invariant-loop-index
 invariant-loop-index l =
-    each_class l.index (elements (items_view (drop l.index l.values)))
-    ≡ each_class 0 (elements (items_view l.values))
+    each class_shape l.index (map view (drop l.index l.values)) ≡ each class_shape 0 (map view l.values)
