@@ -1,10 +1,6 @@
 -- Entries whose context bytes are lent.
 use Rattle.std.specs.Prelude.{ℕ, List, []}
-use Rattle.ids_types.specs.declared.entry.Carried.{Carried}
-use Rattle.ids_types.specs.declared.entry.Carried.TheVariants.{Absent, Kept, Missing}
-use Rattle.ids_types.specs.declared.entry.Act.{Act}
-use Rattle.ids_types.specs.declared.entry.Act.TheVariants.{Report, State, SetMode}
-use Rattle.ids_types.specs.declared.entry.Entry.{Entry}
+use Rattle.ids_types.specs.Names.{Carried, Absent, Kept, Missing, Act, Report, State, SetMode, Entry}
 use Rattle.ids_types.specs.declared.parcel.Plain.{Plain}
 use Rattle.ids_types.specs.Carries.{carried_by, entry_by}
 

@@ -1,17 +1,9 @@
 -- How a history lies in memory: rows of turns over rows of entries, and in lists of their own the
 -- numbers and the context bytes that not every entry has.
 use Rattle.std.specs.Prelude.{◌≡◌, ℕ, ◌+◌, ◌-◌, ◌<◌, ◌≤◌, Bool, true, false, List, [], ◌∷◌, ◌++◌, length, map, IsTrue, is_some, slice_range, slice_index, slice_index_or, Option, Some, None}
-use Rattle.ids_types.specs.declared.entry.Carried.{Carried}
-use Rattle.ids_types.specs.declared.entry.Carried.TheVariants.{Absent, Kept, Missing}
-use Rattle.ids_types.specs.declared.entry.Act.{Act}
-use Rattle.ids_types.specs.declared.entry.Act.TheVariants.{Report, State, SetMode}
-use Rattle.ids_types.specs.declared.entry.Entry.{Entry}
-use Rattle.ids_types.specs.declared.names.Stamp.{Stamp}
-use Rattle.ids_types.specs.declared.rows.EntryRow.{EntryRow}
-use Rattle.ids_types.specs.declared.rows.RowKind.{RowKind}
-use Rattle.ids_types.specs.declared.rows.RowKind.TheVariants.{Bare, Holding, Lacking, StateTo, ModeTo}
-use Rattle.ids_types.specs.declared.rows.TurnRow.{TurnRow}
-use Rattle.ids_types.specs.Turns.{Turn}
+use Rattle.std.specs.List.{AllByRecursion}
+use Rattle.ids_types.specs.Names.{Carried, Absent, Kept, Missing, Act, Report, State, SetMode, Entry, Stamp, EntryRow, RowKind, Bare, Holding, Lacking, StateTo, ModeTo, TurnRow}
+use Rattle.ids_types.specs.Turns.{Turn, entries_of, context_bytes}
 
 -- ---- what a row tells
 
@@ -132,11 +124,14 @@ pub record EntryWithin (numbers : List ℕ) (n : ℕ) (row : EntryRow) : Type 0 
 abbrev pub RowWithin : ℕ → TurnRow → Type 0
 RowWithin n row = (row.start ≤ row.end) × (row.end ≤ n)
 
--- how many entries rows have
-abbrev pub rows_len : List TurnRow → ℕ
-rows_len [] = 0
-rows_len (row ∷ rows) = (row.end - row.start) + rows_len rows
-
 -- the last row goes up to the last entry
 abbrev pub LastRowEnds : List TurnRow → ℕ → Type 0
 LastRowEnds rows n = (d : TurnRow) → 0 < length rows → (slice_index_or rows (length rows - 1) d).end ≡ n
+
+-- rows point to what is there, and all that is there is that of a turn
+pub record Lies (numbers bytes : List ℕ) (entries : List EntryRow) (rows : List TurnRow) : Type 0 where
+  pub rows_in : AllByRecursion (RowWithin (length entries)) rows
+  pub entries_in : AllByRecursion (EntryWithin numbers (length bytes)) entries
+  pub last : LastRowEnds rows (length entries)
+  pub all : length (entries_of (map (turn_of numbers bytes entries) rows)) ≡ length entries
+  pub kept : context_bytes (map (turn_of numbers bytes entries) rows) ≡ bytes

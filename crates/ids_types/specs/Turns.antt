@@ -1,9 +1,7 @@
 -- The history as contracts see it: its turns, each with its head and its entries.
 use Rattle.std.specs.Prelude.{ℕ, ◌+◌, ◌-◌, ◌≤◌, max, List, [], ◌∷◌, ◌++◌, length, slice_index_or}
 use Rattle.std.specs.List.{flat_map}
-use Rattle.ids_types.specs.declared.entry.Act.TheVariants.{State}
-use Rattle.ids_types.specs.declared.entry.Entry.{Entry}
-use Rattle.ids_types.specs.declared.entry.TurnHead.{TurnHead}
+use Rattle.ids_types.specs.Names.{State, Entry, TurnHead}
 use Rattle.ids_types.specs.Plain.{kept_bytes}
 
 -- a turn of the main function, with the context of its entries as bytes

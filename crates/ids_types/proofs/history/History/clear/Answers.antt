@@ -3,7 +3,7 @@ use Rattle.std.proofs.lemmas.List.{length-map}
 use Rattle.ids_types.specs.HistoryView.{turns_of}
 use Rattle.ids_types.specs.Rows.{turn_of}
 use Rattle.ids_types.specs.Turns.{emptied}
-use Rattle.ids_types.proofs.HistoryLemmas.{cleared, length-entries_of}
+use Rattle.ids_types.proofs.HistoryLemmas.{cleared}
 use Rattle.ids_types.proofs.history.History.clear.Goals as goal
 
 pub returns : goal.returns
@@ -14,6 +14,6 @@ returns c =
     let bytes : c.len-3.result ≡ length h.bytes.items = search rules in
     let none : map (turn_of c.clear-3.new.self.items c.clear-4.new.self.items c.clear-2.new.self.items) c.clear.new.self.items ≡ [] = rw c.clear.ensures.items refl in
     cleared (turns_of h) _ _ _ _ none (rows ∙ sym (length-map h.rows.items (turn_of h.numbers.items h.bytes.items h.entries.items)))
-    (entries ∙ sym c.self.invariant.all ∙ sym (length-entries_of h.numbers.items h.bytes.items h.entries.items h.rows.items c.self.invariant.rows))
-    (bytes ∙ ap length (sym c.self.invariant.kept))
+    (entries ∙ sym c.self.invariant.lies.all)
+    (bytes ∙ ap length (sym c.self.invariant.lies.kept))
     ∙ ap emptied c.self.view_is
