@@ -65,15 +65,15 @@ event_ok event e =
 -- internal events without fault
 internal_ok : (config : Parts) → Values.internal_value config ≡ Ok tt → AreInternal config
 internal_ok config e =
-    let (lost_events, others) = both_ok _ _ _ e in
-    let (lost_contexts, limited) = both_ok _ _ _ others in
-    let (contexts_within, first_two) = and_parts _ _ (asks_ok 24 _ lost_contexts) in
-    let (limited_and_outer, last_two) = and_parts _ _ (asks_ok 24 _ limited) in
-    let (limited_within, outer_two) = and_parts _ _ limited_and_outer in
+    let (others, last_two) = and_parts _ _ (asks_ok 24 _ e) in
+    let (others, outer_two) = and_parts _ _ others in
+    let (others, first_two) = and_parts _ _ others in
+    let (others, limited) = and_parts _ _ others in
+    let (lost_events, lost_contexts) = and_parts _ _ others in
     record {
-      lost_events = asks_ok 24 _ lost_events;
-      lost_contexts = contexts_within;
-      limited = limited_within;
+      lost_events = lost_events;
+      lost_contexts = lost_contexts;
+      limited = limited;
       first_two = first_two;
       outer_two = outer_two;
       last_two = last_two;

@@ -100,10 +100,9 @@ differ (Some index) (Some other) = not (index == other)
 abbrev pub internal_value : Parts → Result ⊤ ℕ
 internal_value config =
     let events = length config.events in
-    asks 24 (is_within events config.lost_events)
-    >> asks 24 (is_within events config.lost_contexts && differ config.lost_events config.lost_contexts)
-    >> asks 24 (is_within events config.limited && differ config.lost_events config.limited
-    && differ config.lost_contexts config.limited)
+    asks 24 (is_within events config.lost_events && is_within events config.lost_contexts
+    && is_within events config.limited && differ config.lost_events config.lost_contexts
+    && differ config.lost_events config.limited && differ config.lost_contexts config.limited)
 
 -- the whole configuration
 unfoldable pub parts_value : Parts → Result ⊤ ConfigFault

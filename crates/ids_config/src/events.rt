@@ -3,7 +3,7 @@
 ghost use Rattle.std.specs.Prelude.{◌≡◌, ◌≤◌, OnOk};
 ghost use Rattle.std.specs.List.{AllByRecursion};
 ghost use Rattle.ids_config.specs.Valid.{IsPlainEvent};
-ghost use Rattle.ids_config.specs.Values.{event_value, events_value, each_event, block_value, aggregate_value, rises as rise};
+ghost use Rattle.ids_config.specs.Values.{event_value, events_value, block_value, aggregate_value, rises as rise};
 
 use crate::fault::{ConfigFault, ConfigPlace};
 use crate::layout::{check_interval, check_window, in_range};
@@ -21,13 +21,6 @@ pub(crate) fn check_events(events: &[EventParts]) -> Result<(), ConfigFault>
         ConfigPlace::Top,
         asks(19, !events.is_empty() && events.len() <= MAX_EVENTS),
     )?;
-    check_each_event(events)
-}
-
-fn check_each_event(events: &[EventParts]) -> Result<(), ConfigFault>
-    ensures value { result ≡ each_event 0 events.now }
-    ensures form { OnOk result (AllByRecursion IsPlainEvent events.now) }
-{
     for (index, event) in events.iter().enumerate() {
         at(ConfigPlace::Event(capped(index)), check_event(event))?;
     }

@@ -3,7 +3,7 @@
 ghost use Rattle.std.specs.Prelude.{◌≡◌, ◌≤◌, Some, map, length};
 ghost use Rattle.ids_config.specs.Classes.{class_of};
 ghost use Rattle.ids_config.specs.Steps.{in_range as range_value};
-ghost use Rattle.ids_config.specs.Values.{numbers_value, class_value, each_class, classes_value, limit_value, window_value, interval_value, is_within as within, differ as differs, internal_value};
+ghost use Rattle.ids_config.specs.Values.{numbers_value, class_value, classes_value, limit_value, window_value, interval_value, is_within as within, differ as differs, internal_value};
 
 use crate::fault::{ConfigFault, ConfigPlace};
 use crate::limits::{
@@ -64,12 +64,6 @@ pub(crate) fn check_classes(classes: &[(u64, u64)]) -> Result<(), ConfigFault>
     ensures { result ≡ classes_value (map class_of classes.now) }
 {
     at(ConfigPlace::Top, asks(14, classes.len() <= MAX_CLASSES))?;
-    check_each_class(classes)
-}
-
-fn check_each_class(classes: &[(u64, u64)]) -> Result<(), ConfigFault>
-    ensures { result ≡ each_class 0 0 (map class_of classes.now) }
-{
     let mut above = 0;
     for (index, class) in classes.iter().enumerate() {
         at(
@@ -94,14 +88,12 @@ pub(crate) fn check_internal(parts: &ConfigParts) -> Result<(), u8>
     ensures { result ≡ internal_value parts.now }
 {
     let events = parts.events.len() as u64;
-    asks(24, is_within(events, parts.lost_events))?;
     asks(
         24,
-        is_within(events, parts.lost_contexts) && differ(parts.lost_events, parts.lost_contexts),
-    )?;
-    asks(
-        24,
-        is_within(events, parts.limited)
+        is_within(events, parts.lost_events)
+            && is_within(events, parts.lost_contexts)
+            && is_within(events, parts.limited)
+            && differ(parts.lost_events, parts.lost_contexts)
             && differ(parts.lost_events, parts.limited)
             && differ(parts.lost_contexts, parts.limited),
     )
@@ -111,21 +103,15 @@ pub(crate) fn check_internal(parts: &ConfigParts) -> Result<(), u8>
 fn is_within(events: u64, index: Option<u64>) -> bool
     ensures { result ≡ within events index }
 {
-    match index {
-        Some(index) => index < events,
-        None => true,
-    }
+    index.is_none_or(|index| index < events)
 }
 
 /// The indices, where both are given, differ.
 fn differ(one: Option<u64>, other: Option<u64>) -> bool
     ensures { result ≡ differs one other }
 {
-    let Some(one) = one else {
-        return true;
-    };
-    match other {
-        Some(other) => one != other,
-        None => true,
+    match (one, other) {
+        (Some(one), Some(other)) => one != other,
+        _ => true,
     }
 }

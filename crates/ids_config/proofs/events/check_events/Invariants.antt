@@ -2,7 +2,7 @@ use Rattle.std.proofs.Common.{◌≡◌, drop}
 use Rattle.std.specs.List.{AllByRecursion}
 use Rattle.ids_config.specs.Valid.{IsPlainEvent}
 use Rattle.ids_config.specs.Values.{each_event}
-use Rattle.ids_config.proofs.events.check_each_event.Given as goal
+use Rattle.ids_config.proofs.events.check_events.Given as goal
 
 -- the rest has the fault that all events have; where the rest is plain, all are
 abbrev pub invariant-loop-index : goal.invariant-loop-index

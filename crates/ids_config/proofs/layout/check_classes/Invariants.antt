@@ -1,7 +1,7 @@
 use Rattle.std.proofs.Common.{◌≡◌, map, drop}
 use Rattle.ids_config.specs.Classes.{class_of}
 use Rattle.ids_config.specs.Values.{each_class}
-use Rattle.ids_config.proofs.layout.check_each_class.Given as goal
+use Rattle.ids_config.proofs.layout.check_classes.Given as goal
 
 -- the rest has the fault that all classes have
 abbrev pub invariant-loop-index : goal.invariant-loop-index
