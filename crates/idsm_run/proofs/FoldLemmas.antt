@@ -1,69 +1,60 @@
 -- The command `fold`, from its inputs to its outputs.
-use Rattle.std.proofs.Common.{◌≡◌, ℕ, List, Ok, IsTrue, refl, sym, subst, inr}
+use Rattle.std.proofs.Common.{◌≡◌, ℕ, List, Ok, IsTrue, sym, subst, inr}
 use Rattle.ids_config.specs.Parts.{Parts}
 use Rattle.ids_outside.specs.Faults.{WantsMemory}
-use Rattle.ids_outside.specs.Files.{Files, SameFiles}
+use Rattle.ids_outside.specs.Files.{SameFiles}
 use Rattle.ids_outside.specs.Shelved.{Shelved}
 use Rattle.ids_outside.specs.declared.faults.WriteFault.{WriteFault}
 use Rattle.ids_outside.specs.declared.faults.WriteFault.TheVariants as write
 use Rattle.ids_types.specs.Turns.{Turn}
 use Rattle.idsm_run.specs.Command.{FoldFiles, fold}
 use Rattle.idsm_run.specs.Fold.{fold_outputs, fold_text}
-use Rattle.idsm_run.specs.Judge.{folding_in, folding, fold_work, judge}
+use Rattle.idsm_run.specs.Judge.{fold_work, judge}
 use Rattle.idsm_run.specs.Run.{WasDone, StopsFor, OneFails, PartWritten}
 use Rattle.idsm_run.specs.Sending.{messages_of}
 use Rattle.idsm_run.specs.Stages.{plain_stop}
-use Rattle.idsm_run.specs.StopView.{stop_of_write}
-use Rattle.idsm_run.specs.Writing.{AreWritten, StandUpTo}
+use Rattle.idsm_run.specs.Writing.{AreWritten, StandUpTo, stop_of_write}
 use Rattle.idsm_run.proofs.WritingLemmas.{StandUpTo-before}
 
-module _ (names : FoldFiles) (config : Parts) (turns : List Turn) where
-  -- the work of the inputs
-  work_is : (files : Files) → folding_in names files ≡ Ok (folding config turns)
-      → judge (fold names) files ≡ Ok (fold_work names (folding config turns))
-  work_is files found = rw found refl
+module _ (names : FoldFiles) (config : Parts) (turns : List Turn) (bytes : List ℕ) (old middle new : Shelved)
+    (found : IsTrue old.tells → judge (fold names) old.files ≡ Ok (fold_work names config turns))
+    (tells : middle.tells ≡ old.tells) (sent : bytes ≡ messages_of config turns) where
+  -- what was folded
+  pub folded : (said : List ℕ) → said ≡ fold_text turns
+      → (IsTrue middle.tells → AreWritten (fold_outputs names bytes) new.files)
+      → new.faults ≡ old.faults → WasDone (fold names) said old new
+  folded said text written faults = record {
+    written = λ told. record {
+      work = fold_work names config turns;
+      judged = found told;
+      written = rw sent at (written (subst IsTrue (sym tells) told));
+      text = text;
+    };
+    no_fault = faults;
+  }
 
-  module _ (bytes : List ℕ) (old middle new : Shelved)
-      (found : IsTrue old.tells → folding_in names old.files ≡ Ok (folding config turns))
-      (tells : middle.tells ≡ old.tells)
-      (sent : bytes ≡ messages_of config turns) where
-    -- what was folded
-    pub folded : (said : List ℕ) → said ≡ fold_text turns
-        → (IsTrue middle.tells → AreWritten (fold_outputs names bytes) new.files)
-        → new.faults ≡ old.faults → WasDone (fold names) said old new
-    folded said text written faults = record {
-      written = λ told. record {
-        work = fold_work names (folding config turns);
-        judged = work_is old.files (found told);
-        written = subst (λ b. AreWritten (fold_outputs names b) new.files) sent (written (subst IsTrue (sym tells) told));
-        text = text;
-      };
-      no_fault = faults;
-    }
+  -- outputs that were written up to a place are those of the inputs
+  part_written : (IsTrue old.tells → SameFiles old.files middle.files)
+      → (IsTrue middle.tells → StandUpTo (fold_outputs names bytes) middle.files new.files)
+      → IsTrue old.tells → PartWritten (fold names) old.files new.files
+  part_written same stands told = record {
+    work = fold_work names config turns;
+    judged = found told;
+    place = StandUpTo-before (fold_outputs names (messages_of config turns)) old.files middle.files new.files (same told)
+        (rw sent at (stands (subst IsTrue (sym tells) told)));
+  }
 
-    -- outputs that were written up to a place are those of the inputs
-    part_written : (IsTrue old.tells → SameFiles old.files middle.files)
-        → (IsTrue middle.tells → StandUpTo (fold_outputs names bytes) middle.files new.files)
-        → IsTrue old.tells → PartWritten (fold names) old.files new.files
-    part_written same stands told = record {
-      work = fold_work names (folding config turns);
-      judged = work_is old.files (found told);
-      place = subst (λ b. StandUpTo (fold_outputs names b) old.files new.files) sent
-          (StandUpTo-before (fold_outputs names bytes) old.files middle.files new.files (same told)
-          (stands (subst IsTrue (sym tells) told)));
-    }
-
-    -- where a write failed, or memory was refused to one
-    pub fold_stopped : (fault : WriteFault) → (IsTrue old.tells → SameFiles old.files middle.files)
-        → middle.faults ≡ old.faults
-        → (IsTrue middle.tells → StandUpTo (fold_outputs names bytes) middle.files new.files)
-        → OneFails (fold names) middle.faults new.faults fault
-        → StopsFor (fold names) (plain_stop (stop_of_write fault)) old new
-    fold_stopped write.Failed same faults stands fails = record {
-      fails = subst (λ f. OneFails (fold names) f new.faults write.Failed) faults fails;
-      part = part_written same stands;
-    }
-    fold_stopped write.NoMemory same faults stands fails =
-        let wants : WantsMemory old.faults new.faults =
-        subst (λ f. WantsMemory f new.faults) faults fails.fails in
-        inr (wants.rose, part_written same stands)
+  -- where a write failed, or memory was refused to one
+  pub fold_stopped : (fault : WriteFault) → (IsTrue old.tells → SameFiles old.files middle.files)
+      → middle.faults ≡ old.faults
+      → (IsTrue middle.tells → StandUpTo (fold_outputs names bytes) middle.files new.files)
+      → OneFails (fold names) middle.faults new.faults fault
+      → StopsFor (fold names) (plain_stop (stop_of_write fault)) old new
+  fold_stopped write.Failed same faults stands fails = record {
+    fails = subst (λ f. OneFails (fold names) f new.faults write.Failed) faults fails;
+    part = part_written same stands;
+  }
+  fold_stopped write.NoMemory same faults stands fails =
+      let wants : WantsMemory old.faults new.faults =
+      subst (λ f. WantsMemory f new.faults) faults fails.fails in
+      inr (wants.rose, part_written same stands)

@@ -114,21 +114,3 @@ lines_are_few config text turns losses is =
     let have = turns_have_lines turns in
     rw is.is_text
     (omega (arith, lines, have, length-map (lines_told (told turns losses)) line_for, length-append (flat_map turn_told turns) (map loses losses)))
-
--- the entries of the turns before one, and its own, are at most all
-pub entries_upto : (turns : List Turn) (i : ℕ) → i < length turns
-    → length (entries_of (take i turns)) + length (turn_at turns i).entries ≤ length (entries_of turns)
-entries_upto [] i within = absurd (omega arith)
-entries_upto (turn ∷ turns) zero within = rw (length-append turn.entries (entries_of turns)) (omega arith)
-entries_upto (turn ∷ turns) (suc i) within =
-    let rest = entries_upto turns i (omega arith) in
-    rw (length-append turn.entries (entries_of (take i turns)), length-append turn.entries (entries_of turns)) (omega (arith, rest))
-
-pub entries_next : (turns : List Turn) (i : ℕ) → i < length turns
-    → length (entries_of (take (suc i) turns))
-    ≡ length (entries_of (take i turns)) + length (turn_at turns i).entries
-entries_next [] i within = absurd (omega arith)
-entries_next (turn ∷ turns) zero within = rw (length-append turn.entries []) (omega arith)
-entries_next (turn ∷ turns) (suc i) within =
-    let rest = entries_next turns i (omega arith) in
-    rw (length-append turn.entries (entries_of (take (suc i) turns)), length-append turn.entries (entries_of (take i turns))) (omega (arith, rest))

@@ -4,6 +4,5 @@ pub mod FoldLemmas
 pub mod JournalLemmas
 pub mod JudgeLemmas
 pub mod RunLemmas
-pub mod SayingLemmas
 pub mod SendingLemmas
 pub mod WritingLemmas

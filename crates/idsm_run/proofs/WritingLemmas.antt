@@ -2,32 +2,18 @@
 use Rattle.std.proofs.Common.{◌≡◌, ℕ, zero, suc, ◌+◌, ◌-◌, ◌≤◌, List, [], ◌∷◌, ◌++◌, length, take, drop, Option, Some, Ok, Err, refl, sym, ap, subst, ◌∙◌, arith, inl, inr, length-append}
 use Rattle.std.specs.Prelude.{unwrap_or, Result, OnOk, OnErr}
 use Rattle.std.proofs.lemmas.List.{take-take, length-take}
-use Rattle.ids_types.specs.Turns.{Turn}
+use Rattle.std.proofs.Math.Seq.{take-add}
 use Rattle.ids_outside.specs.Files.{Files, SameFiles, Changes, AddsAtMost, AppendMakes, bytes_at}
 use Rattle.ids_outside.specs.declared.faults.WriteFault.{WriteFault}
 use Rattle.ids_outside.specs.declared.faults.WriteFault.TheVariants as write
-use Rattle.ids_config.specs.Parts.{Parts}
-use Rattle.idsm_run.specs.Sending.{turn_messages, messages_of, ends_from, ends_of}
 use Rattle.idsm_run.specs.Writing.{Output, AreUntouched, HoldsPart, StandsInPart, StandUpTo, Cuts}
-
-take-nil : (n : ℕ) → take {A = ℕ} n [] ≡ []
-take-nil zero = refl
-take-nil (suc n) = refl
-
--- the first bytes, and some that follow them
-take_then : (i n : ℕ) (xs : List ℕ) → take i xs ++ take n (drop i xs) ≡ take (i + n) xs
-take_then zero n xs = ap (λ (k : ℕ). take k xs) (omega arith)
-take_then (suc i) n [] = take-nil n ∙ sym (take-nil (suc i + n))
-take_then (suc i) n (x ∷ xs) =
-    let e : suc i + n ≡ suc (i + n) = omega arith in
-    rw e (ap (λ (ys : List ℕ). x ∷ ys) (take_then i n xs))
 
 -- an append of the next piece leaves the bytes up to its end
 pub up_to_the_end : (old new : Files) (name bytes : List ℕ) (start end : ℕ) → start ≤ end → old name ≡ Some (take start bytes)
     → Changes old new name (Some (bytes_at old name ++ take (end - start) (drop start bytes))) → new name ≡ Some (take end bytes)
 up_to_the_end old new name bytes start end ordered before changes =
     let e : start + (end - start) ≡ end = omega arith in
-    changes.at ∙ ap Some (ap (λ (o : Option (List ℕ)). unwrap_or o [] ++ take (end - start) (drop start bytes)) before ∙ take_then start (end - start) bytes ∙ ap (λ (k : ℕ). take k bytes) e)
+    changes.at ∙ ap Some (ap (λ (o : Option (List ℕ)). unwrap_or o [] ++ take (end - start) (drop start bytes)) before ∙ sym (take-add start (end - start) bytes) ∙ ap (λ (k : ℕ). take k bytes) e)
 
 -- an append that fails leaves a first part of the bytes
 pub part_is_held : (old new : Files) (name bytes : List ℕ) (start n : ℕ) → old name ≡ Some (take start bytes)
@@ -39,7 +25,7 @@ part_is_held old new name bytes start n before adds =
         count = start + added.count;
         part = added.added ∙ ap Some (ap (λ (o : Option (List ℕ)). unwrap_or o [] ++ take added.count (take n (drop start bytes))) before
             ∙ ap (λ (ys : List ℕ). take start bytes ++ ys) (take-take added.count n (drop start bytes) (omega (arith, added.within, length-take n (drop start bytes))))
-            ∙ take_then start added.count bytes);
+            ∙ sym (take-add start added.count bytes));
       }
     ]
 
@@ -61,19 +47,11 @@ part_is_added old new name bytes start n (Err write.Failed) before makes =
 part_is_added old new name bytes start n (Err write.NoMemory) before makes =
     record { count = start; part = makes name ∙ before }
 
--- the cuts after each turn's messages are cuts of all messages
-cuts_of_messages : (start : ℕ) (config : Parts) (turns : List Turn) → Cuts start (ends_from start config turns) (start + length (messages_of config turns))
-cuts_of_messages start config [] = omega arith
-cuts_of_messages start config (turn ∷ turns) =
-    let own = turn_messages config turn in
-    let end = start + length own in
-    let both : start + length (messages_of config (turn ∷ turns)) ≡ end + length (messages_of config turns) = omega (arith, length-append own (messages_of config turns)) in
-    (omega arith, omega (arith, both), subst (Cuts end (ends_from end config turns)) (sym both) (cuts_of_messages end config turns))
-
-pub all_cuts : (config : Parts) (turns : List Turn) → Cuts 0 (ends_of config turns) (length (messages_of config turns))
-all_cuts config turns =
-    let whole : 0 + length (messages_of config turns) ≡ length (messages_of config turns) = omega arith in
-    subst (Cuts 0 (ends_of config turns)) whole (cuts_of_messages 0 config turns)
+-- the bytes went on to a next cut
+pub cuts_go_on : (start : ℕ) (cuts : List ℕ) (end more : ℕ) → Cuts start cuts end → end ≤ more
+    → Cuts start (cuts ++ more ∷ []) more
+cuts_go_on start [] end more all grows = (omega (arith, all), omega arith, refl)
+cuts_go_on start (cut ∷ cuts) end more all grows = (all.0, omega (arith, all.1), cuts_go_on cut cuts end more all.2 grows)
 
 -- ---- what stands where `fold` stopped
 

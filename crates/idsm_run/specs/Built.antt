@@ -2,20 +2,17 @@
 use Rattle.std.specs.Prelude.{Bool, true, false, not, ◌&&◌, ◌==◌, ℕ, List, length, is_none}
 use Rattle.std.specs.List.{list_all, list_any}
 use Rattle.ids_types.specs.declared.entry.Act.{Act}
-use Rattle.ids_types.specs.declared.entry.Act.TheVariants.{Report, State, SetMode}
+use Rattle.ids_types.specs.declared.entry.Act.TheVariants.{Report}
 use Rattle.ids_types.specs.declared.entry.Entry.{Entry}
 use Rattle.ids_types.specs.Turns.{Turn}
 use Rattle.ids_types.specs.declared.mode.Mode.{Mode}
-use Rattle.ids_types.specs.declared.mode.Mode.TheVariants.{Off, Brief, Detailed, BriefBypassing, DetailedBypassing}
+use Rattle.ids_types.specs.declared.mode.Mode.TheVariants.{Detailed}
 use Rattle.ids_config.specs.Parts.{Event, Parts}
 
 -- the mode lets a report through the filters with its context
 abbrev pub is_detailed : Mode → Bool
-is_detailed Off = false
-is_detailed Brief = false
 is_detailed Detailed = true
-is_detailed BriefBypassing = false
-is_detailed DetailedBypassing = false
+is_detailed other = false
 
 -- every report of the event is sent as it is, and not stored
 abbrev pub is_sent_as_is : Event → Bool
@@ -37,8 +34,7 @@ is_built config =
 -- the act is a control
 abbrev pub is_control_act : Act (List ℕ) → Bool
 is_control_act (Report event count stamp context) = false
-is_control_act (State state) = true
-is_control_act (SetMode event mode) = true
+is_control_act other = true
 
 abbrev pub is_control : Entry (List ℕ) → Bool
 is_control entry = is_control_act entry.act

@@ -51,16 +51,10 @@ command_of (word ∷ names) =
     else if bytes_eq word (codes "decode") then decode_of names
     else None
 
--- a file that a command reads, by what it is to hold
-pub data Input : Type 0 where
-  config_file : List ℕ → Input
-  journal_file : List ℕ → Input
-  messages_file : List ℕ → Input
-
 -- the files that the command reads, in the order in which it reads them
-abbrev pub read_by : Command → List Input
-read_by (fold files) = config_file files.config ∷ journal_file files.journal ∷ []
-read_by (decode messages) = messages_file messages ∷ []
+abbrev pub read_by : Command → List (List ℕ)
+read_by (fold files) = files.config ∷ files.journal ∷ []
+read_by (decode messages) = messages ∷ []
 
 -- the files that the command writes, in the order in which it writes them
 abbrev pub written_by : Command → List (List ℕ)

@@ -1,20 +1,15 @@
 -- What the input files deserve decides the answer of a run.
-use Rattle.std.specs.Prelude.{◌≡◌, ◌⊎◌, ℕ, List, Err}
-use Rattle.ids_outside.specs.Faults.{CountsFault}
+use Rattle.std.specs.Prelude.{◌≡◌, ◌⊎◌, ℕ, List}
 use Rattle.ids_outside.specs.Shelved.{Shelved}
 use Rattle.ids_outside.specs.Sinks.{Heard, MissesOne}
-use Rattle.ids_outside.specs.declared.faults.FaultKind.TheVariants.{Read}
 use Rattle.ids_outside.specs.declared.faults.WriteFault.TheVariants.{Failed}
-use Rattle.idsm_run.specs.declared.stop.Refusal.TheVariants.{CannotRead}
 use Rattle.idsm_run.specs.Command.{Command}
-use Rattle.idsm_run.specs.Judge.{judge, without}
-use Rattle.idsm_run.specs.Run.{OneFails}
+use Rattle.idsm_run.specs.Run.{OneFails, WasUnread}
 
 -- a read failed, and all that is read before it served
 pub record FailedBefore (command : Command) (old new : Shelved) : Type 0 where
   pub name : List ℕ
-  pub fault : CountsFault old.faults new.faults Read name
-  pub first : judge command (without name old.files) ≡ Err (CannotRead name)
+  pub unread : WasUnread command name old new
 
 -- a run ended with this status, or for want of memory, or at the put of its text, or at an earlier read
 abbrev pub EndsWith : ℕ → Command → ℕ → Shelved → Shelved → Heard → Heard → Type 0

@@ -4,7 +4,13 @@ use Rattle.std.specs.Prelude.{ℕ, ◌+◌, ◌==◌, List, [], ◌∷◌, lengt
 use Rattle.ids_config.specs.Parts.{Parts}
 use Rattle.ids_types.specs.Turns.{Turn}
 use Rattle.text_spec.specs.JournalText.{Told}
-use Rattle.text_spec.specs.JournalReading.{BadLine, journal_in, ◌>>=◌}
+use Rattle.text_spec.specs.JournalReading.{BadLine, journal_in}
+
+-- the next step, where nothing was refused yet
+infixl 10 ◌>>=◌
+abbrev pub ◌>>=◌ : {A B E : Type 0} → Result A E → (A → Result B E) → Result B E
+(Ok x) >>= f = f x
+(Err e) >>= f = Err e
 
 -- the line of the first turn that says that events were held back, where the first turn's line has
 -- this number
@@ -13,14 +19,10 @@ held_back_line n [] = None
 held_back_line n (turn ∷ turns) =
     if turn.head.limited == 0 then held_back_line (n + (1 + length turn.entries)) turns else Some n
 
--- a line, and its first fault
-abbrev pub bad_line : ℕ → ℕ → BadLine
-bad_line line fault = record { line = line; fault = fault }
-
 -- what a journal tells, unless this line says that events were held back: it has fault 8
 abbrev pub unless_held_back : Told → Option ℕ → Result Told BadLine
 unless_held_back told None = Ok told
-unless_held_back told (Some line) = Err (bad_line line 8)
+unless_held_back told (Some line) = Err (record { line = line; fault = 8 })
 
 -- what the text tells, or its first bad line; fault 8 is sought where no line has a fault 1 to 7
 abbrev pub folded_in : Parts → List ℕ → Result Told BadLine

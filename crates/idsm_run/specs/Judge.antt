@@ -1,5 +1,5 @@
--- What the input files of a command deserve: the work that they ask for, or the first refusal, in the
--- order in which files are read and judged.
+-- What the input files of a command deserve: the work that they ask for, or why the command has to stop,
+-- in the order in which files are read and judged.
 -- Source: docs/COMMANDS.md, "Order of work".
 use Rattle.std.specs.Prelude.{ℕ, List, [], length, nat_lt, Option, Some, None, Result, Ok, Err, if◌then◌else◌, bytes_eq}
 use Rattle.config_json.specs.Configured.{configuration}
@@ -13,31 +13,25 @@ use Rattle.ids_types.specs.Turns.{Turn}
 use Rattle.text_spec.specs.DecodedText.{decoded_text}
 use Rattle.text_spec.specs.JournalReading.{BadLine}
 use Rattle.text_spec.specs.JournalText.{Told}
-use Rattle.idsm_run.specs.declared.stop.Refusal.{Refusal}
-use Rattle.idsm_run.specs.declared.stop.Refusal.TheVariants.{CannotRead, TooLong, BadConfig, NotBuilt, BadJournal, BadMessages}
+use Rattle.idsm_run.specs.declared.stop.Refusal.TheVariants.{BadConfig, NotBuilt, BadJournal, BadMessages}
+use Rattle.idsm_run.specs.declared.stop.Stop.{Stop}
+use Rattle.idsm_run.specs.declared.stop.Stop.TheVariants.{CannotRead, TooLong, Refused}
 use Rattle.idsm_run.specs.Built.{is_built, has_control}
 use Rattle.idsm_run.specs.Command.{Command, fold, decode, FoldFiles}
 use Rattle.idsm_run.specs.Fold.{fold_outputs, fold_text}
-use Rattle.idsm_run.specs.FoldedJournal.{folded_in}
+use Rattle.idsm_run.specs.FoldedJournal.{folded_in, ◌>>=◌}
 use Rattle.idsm_run.specs.Sending.{messages_of}
 use Rattle.idsm_run.specs.Writing.{Output}
-
--- the next step, where nothing was refused yet
-infixl 10 ◌>>=◌
-abbrev pub ◌>>=◌ : {A B : Type 0} → Result A (Refusal (List ℕ)) → (A → Result B (Refusal (List ℕ)))
-    → Result B (Refusal (List ℕ))
-(Ok x) >>= f = f x
-(Err refusal) >>= f = Err refusal
 
 -- ---- files
 
 -- the bytes of a file that may have so many; a file that is not there cannot be read
-abbrev pub bytes_of : ℕ → List ℕ → Option (List ℕ) → Result (List ℕ) (Refusal (List ℕ))
+abbrev pub bytes_of : ℕ → List ℕ → Option (List ℕ) → Result (List ℕ) (Stop (List ℕ))
 bytes_of limit name None = Err (CannotRead name)
 bytes_of limit name (Some bytes) = if nat_lt limit (length bytes) then Err (TooLong name) else Ok bytes
 
 -- the bytes of the file of this name
-abbrev pub file_of : ℕ → List ℕ → Files → Result (List ℕ) (Refusal (List ℕ))
+abbrev pub file_of : ℕ → List ℕ → Files → Result (List ℕ) (Stop (List ℕ))
 file_of limit name files = bytes_of limit name (files name)
 
 -- the files without one of this name
@@ -47,46 +41,19 @@ without name files other = if bytes_eq other name then None else files other
 -- ---- what they hold
 
 -- a configuration that the chain can mean
-abbrev pub config_judged : Result Parts ConfigFault → Result Parts (Refusal (List ℕ))
-config_judged (Ok config) = if is_built config then Ok config else Err NotBuilt
-config_judged (Err fault) = Err (BadConfig fault)
+abbrev pub config_judged : Result Parts ConfigFault → Result Parts (Stop (List ℕ))
+config_judged (Ok config) = if is_built config then Ok config else Err (Refused NotBuilt)
+config_judged (Err fault) = Err (Refused (BadConfig fault))
 
 -- the turns of a journal that the chain can mean
-abbrev pub journal_judged : Result Told BadLine → Result (List Turn) (Refusal (List ℕ))
-journal_judged (Ok told) = if has_control told.turns then Err NotBuilt else Ok told.turns
-journal_judged (Err bad) = Err (BadJournal bad.line bad.fault)
+abbrev pub journal_judged : Result Told BadLine → Result (List Turn) (Stop (List ℕ))
+journal_judged (Ok told) = if has_control told.turns then Err (Refused NotBuilt) else Ok told.turns
+journal_judged (Err bad) = Err (Refused (BadJournal bad.line bad.fault))
 
 -- the messages of a file
-abbrev pub messages_judged : Result (List MessageParts) BadMessage
-    → Result (List MessageParts) (Refusal (List ℕ))
+abbrev pub messages_judged : Result (List MessageParts) BadMessage → Result (List MessageParts) (Stop (List ℕ))
 messages_judged (Ok messages) = Ok messages
-messages_judged (Err bad) = Err (BadMessages bad)
-
--- ---- the inputs of commands
-
--- what `fold` folds
-pub record Folding : Type 0 where
-  pub config : Parts
-  pub turns : List Turn
-
--- what is folded, by its parts
-abbrev pub folding : Parts → List Turn → Folding
-folding config turns = record { config = config; turns = turns }
-
--- the configuration is read and judged, and then the journal under it
-unfoldable pub folding_in : FoldFiles → Files → Result Folding (Refusal (List ℕ))
-folding_in names files = do
-  text ← file_of 1048576 names.config files
-  config ← config_judged (configuration text)
-  journal ← file_of 16777216 names.journal files
-  turns ← journal_judged (folded_in config journal)
-  Ok (folding config turns)
-
--- the file of messages is read and judged
-unfoldable pub messages_in : List ℕ → Files → Result (List MessageParts) (Refusal (List ℕ))
-messages_in name files = do
-  bytes ← file_of 67108864 name files
-  messages_judged (messages_read bytes)
+messages_judged (Err bad) = Err (Refused (BadMessages bad))
 
 -- ---- the work of commands
 
@@ -96,17 +63,26 @@ pub record Work : Type 0 where
   pub said : List ℕ
 
 -- the messages of the turns, an empty event memory, and the line that counts them
-abbrev pub fold_work : FoldFiles → Folding → Work
-fold_work names input = record {
-  outputs = fold_outputs names (messages_of input.config input.turns);
-  said = fold_text input.turns;
+abbrev pub fold_work : FoldFiles → Parts → List Turn → Work
+fold_work names config turns = record {
+  outputs = fold_outputs names (messages_of config turns);
+  said = fold_text turns;
 }
 
 -- no file, and a line for each message
 abbrev pub decode_work : List MessageParts → Work
 decode_work messages = record { outputs = []; said = decoded_text messages }
 
--- the work of a command over these files, or why they do not serve
-abbrev pub judge : Command → Files → Result Work (Refusal (List ℕ))
-judge (fold names) files = folding_in names files >>= λ input. Ok (fold_work names input)
-judge (decode name) files = messages_in name files >>= λ messages. Ok (decode_work messages)
+-- the work of a command over these files, or why they do not serve: each file is read and judged before
+-- the next, the journal under the configuration
+unfoldable pub judge : Command → Files → Result Work (Stop (List ℕ))
+judge (fold names) files = do
+  text ← file_of 1048576 names.config files
+  config ← config_judged (configuration text)
+  journal ← file_of 16777216 names.journal files
+  turns ← journal_judged (folded_in config journal)
+  Ok (fold_work names config turns)
+judge (decode name) files = do
+  bytes ← file_of 67108864 name files
+  messages ← messages_judged (messages_read bytes)
+  Ok (decode_work messages)

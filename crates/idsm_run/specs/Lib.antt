@@ -9,6 +9,5 @@ pub mod Run
 pub mod Saying
 pub mod Sending
 pub mod Stages
-pub mod StopView
 pub mod Texts
 pub mod Writing

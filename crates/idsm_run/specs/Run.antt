@@ -1,7 +1,7 @@
 -- What a run does, by cases on its command: it did its command's work, or stopped, each with its status
 -- and its text.
 -- Source: docs/COMMANDS.md.
-use Rattle.std.specs.Prelude.{◌≡◌, ◌⊎◌, ℕ, List, [], ◌∷◌, IsTrue, Option, Some, None, Ok, Err, Contains}
+use Rattle.std.specs.Prelude.{◌≡◌, ◌⊎◌, ℕ, List, [], ◌∷◌, IsTrue, Option, Some, None, Result, Ok, Err, Contains}
 use Rattle.ids_outside.specs.Faults.{Faults, Rose, CountsFault}
 use Rattle.ids_outside.specs.Files.{Files, SameFiles}
 use Rattle.ids_outside.specs.Shelved.{Shelved}
@@ -10,55 +10,43 @@ use Rattle.ids_outside.specs.declared.faults.FaultKind.TheVariants.{Read}
 use Rattle.ids_outside.specs.declared.faults.WriteFault.{WriteFault}
 use Rattle.ids_outside.specs.declared.faults.WriteFault.TheVariants.{Failed}
 use Rattle.idsm_run.specs.declared.stop.Refusal.{Refusal}
-use Rattle.idsm_run.specs.declared.stop.Refusal.TheVariants.{CannotRead, TooLong, BadConfig, NotBuilt, BadJournal, BadMessages}
+use Rattle.idsm_run.specs.declared.stop.Refusal.TheVariants.{BadMessages}
 use Rattle.idsm_run.specs.declared.stop.Stop.{Stop}
-use Rattle.idsm_run.specs.declared.stop.Stop.TheVariants as stops
-use Rattle.idsm_run.specs.Command.{Command, Input, config_file, journal_file, messages_file, read_by, written_by}
+use Rattle.idsm_run.specs.declared.stop.Stop.TheVariants.{CannotRead, TooLong, Refused, CannotWrite, NoMemory}
+use Rattle.idsm_run.specs.Command.{Command, fold, decode, read_by, written_by}
 use Rattle.idsm_run.specs.Judge.{Work, judge, without}
 use Rattle.idsm_run.specs.Saying.{Puts}
-use Rattle.idsm_run.specs.Texts.{usage, stop_text, stop_status}
+use Rattle.idsm_run.specs.Texts.{usage, answer_text, answer_status}
 use Rattle.idsm_run.specs.Writing.{AreWritten, StandUpTo, WriteFails}
 
--- ---- refusals
+-- ---- inputs that do not serve
 
--- the files that a refusal was found in: one that was not read is missing
-abbrev pub seen : Refusal (List ℕ) → Files → Files
-seen (CannotRead name) files = without name files
-seen other files = files
+-- the command may refuse so
+abbrev pub MayRefuse : Command → Refusal → Type 0
+MayRefuse (fold files) (BadMessages bad) = ⊥
+MayRefuse (fold files) refusal = Unit {0}
+MayRefuse (decode name) (BadMessages bad) = Unit {0}
+MayRefuse (decode name) refusal = ⊥
 
--- a read of that file failed, as the last fault; for any other refusal there was none
-abbrev pub RefusedBehind : Refusal (List ℕ) → Faults → Faults → Type 0
-RefusedBehind (CannotRead name) old new = CountsFault old new Read name
-RefusedBehind other old new = new ≡ old
+-- the command may stop so at its input files, whatever they hold
+abbrev pub MayStop : Command → Stop (List ℕ) → Type 0
+MayStop command (CannotRead name) = Contains (read_by command) name
+MayStop command (TooLong name) = Contains (read_by command) name
+MayStop command (Refused refusal) = MayRefuse command refusal
+MayStop command other = ⊥
 
--- the name of an input file
-abbrev pub name_of : Input → List ℕ
-name_of (config_file name) = name
-name_of (journal_file name) = name
-name_of (messages_file name) = name
-
--- an input file may be refused so, whatever it holds
-abbrev pub MayRefuse : Input → Refusal (List ℕ) → Type 0
-MayRefuse input (CannotRead name) = name ≡ name_of input
-MayRefuse input (TooLong name) = name ≡ name_of input
-MayRefuse (config_file name) (BadConfig fault) = Unit {0}
-MayRefuse (config_file name) NotBuilt = Unit {0}
-MayRefuse (journal_file name) NotBuilt = Unit {0}
-MayRefuse (journal_file name) (BadJournal line number) = Unit {0}
-MayRefuse (messages_file name) (BadMessages bad) = Unit {0}
-MayRefuse other refusal = ⊥
-
--- one of these input files may be refused so
-abbrev pub OneMayRefuse : List Input → Refusal (List ℕ) → Type 0
-OneMayRefuse [] refusal = ⊥
-OneMayRefuse (input ∷ inputs) refusal = MayRefuse input refusal ⊎ OneMayRefuse inputs refusal
+-- a read of an input file failed, as the last fault, and all that is read before it serves
+pub record WasUnread (command : Command) (name : List ℕ) (old new : Shelved) : Type 0 where
+  pub may : Contains (read_by command) name
+  pub fails : CountsFault old.faults new.faults Read name
+  pub first : IsTrue old.tells → judge command (without name old.files) ≡ Err (CannotRead name)
+  pub same : IsTrue old.tells → SameFiles old.files new.files
 
 -- the input files were refused: where they are told, as they deserve
-pub record WasRefused (command : Command) (refusal : Refusal (List ℕ)) (old new : Shelved)
-    : Type 0 where
-  pub may : OneMayRefuse (read_by command) refusal
-  pub judged : IsTrue old.tells → judge command (seen refusal old.files) ≡ Err refusal
-  pub behind : RefusedBehind refusal old.faults new.faults
+pub record WasRefused (command : Command) (reason : Stop (List ℕ)) (old new : Shelved) : Type 0 where
+  pub may : MayStop command reason
+  pub judged : IsTrue old.tells → judge command old.files ≡ Err reason
+  pub no_fault : new.faults ≡ old.faults
   pub same : IsTrue old.tells → SameFiles old.files new.files
 
 -- ---- what is written
@@ -103,34 +91,28 @@ WantedMemory command old new =
 
 -- why a command stopped, and what stands then
 abbrev pub StopsFor : Command → Stop (List ℕ) → Shelved → Shelved → Type 0
-StopsFor command (stops.Refused refusal) old new = WasRefused command refusal old new
-StopsFor command stops.CannotWrite old new = WasNotWritten command old new
-StopsFor command stops.NoMemory old new = WantedMemory command old new
+StopsFor command (CannotRead name) old new = WasUnread command name old new
+StopsFor command CannotWrite old new = WasNotWritten command old new
+StopsFor command NoMemory old new = WantedMemory command old new
+StopsFor command reason old new = WasRefused command reason old new
 
--- the command was done, and its text was put or not
-pub record Done (command : Command) (status : ℕ) (old new : Shelved) (before after : Heard)
-    : Type 0 where
-  pub said : List ℕ
-  pub done : WasDone command said old new
-  pub puts : Puts said 0 status before after
+-- the command did its work, with this text, or stopped
+abbrev pub EndsAs : Command → Result (List ℕ) (Stop (List ℕ)) → Shelved → Shelved → Type 0
+EndsAs command (Ok said) old new = WasDone command said old new
+EndsAs command (Err reason) old new = StopsFor command reason old new
 
--- the command stopped, and the text that tells why was put or not
-pub record Stopped (command : Command) (status : ℕ) (old new : Shelved) (before after : Heard)
+-- what a run of this command does: it ends so, and the text that goes with it was put or not
+pub record RanCommand (command : Command) (status : ℕ) (old new : Shelved) (before after : Heard)
     : Type 0 where
-  pub reason : Stop (List ℕ)
-  pub stops : StopsFor command reason old new
-  pub puts : Puts (stop_text reason) (stop_status reason) status before after
+  pub answer : Result (List ℕ) (Stop (List ℕ))
+  pub ends : EndsAs command answer old new
+  pub puts : Puts (answer_text answer) (answer_status answer) status before after
 
 -- the words are no command: the usage was put or not, and the shelf was not touched
 pub record Misused (status : ℕ) (old new : Shelved) (before after : Heard) : Type 0 where
   pub files : SameFiles old.files new.files
   pub no_fault : new.faults ≡ old.faults
   pub puts : Puts usage 2 status before after
-
--- what a run of this command does
-abbrev pub RanCommand : Command → ℕ → Shelved → Shelved → Heard → Heard → Type 0
-RanCommand command status old new before after =
-    Done command status old new before after ⊎ Stopped command status old new before after
 
 -- what a run does, where the words give this command or none
 abbrev pub Ran : Option Command → ℕ → Shelved → Shelved → Heard → Heard → Type 0

@@ -4,9 +4,9 @@
 use Rattle.std.specs.Prelude.{ℕ, ◌+◌, ◌<◌, ◌≤◌, List, [], ◌∷◌, length, sum_by, Option, Some, None, ⊤}
 use Rattle.std.specs.List.{flat_map, AllByRecursion}
 use Rattle.ids_types.specs.declared.entry.Carried.{Carried}
-use Rattle.ids_types.specs.declared.entry.Carried.TheVariants.{Absent, Kept, Missing}
+use Rattle.ids_types.specs.declared.entry.Carried.TheVariants.{Kept}
 use Rattle.ids_types.specs.declared.entry.Act.{Act}
-use Rattle.ids_types.specs.declared.entry.Act.TheVariants.{Report, State, SetMode}
+use Rattle.ids_types.specs.declared.entry.Act.TheVariants.{Report}
 use Rattle.ids_types.specs.declared.entry.Entry.{Entry}
 use Rattle.ids_types.specs.declared.names.Stamp.{Stamp}
 use Rattle.ids_types.specs.Turns.{Turn}
@@ -17,21 +17,18 @@ use Rattle.ids_config.specs.Parts.{Parts, event_at}
 
 -- the context that a message takes along: the one that was kept
 abbrev pub context_sent : Carried (List ℕ) → Option ContextPart
-context_sent Absent = None
 context_sent (Kept class claim bytes) = Some (context_of bytes)
-context_sent (Missing numbers) = None
+context_sent other = None
 
 -- a context has at most 1,024 bytes
 abbrev pub IsShort : Carried (List ℕ) → Type 0
-IsShort Absent = ⊤
 IsShort (Kept class claim bytes) = length bytes ≤ 1024
-IsShort (Missing numbers) = ⊤
+IsShort other = ⊤
 
 -- a report can be sent where its event is one of so many and its context is short
 abbrev pub CanSend : ℕ → Act (List ℕ) → Type 0
 CanSend events (Report event count stamp context) = (event.0 < events) × IsShort context
-CanSend events (State state) = ⊤
-CanSend events (SetMode event mode) = ⊤
+CanSend events other = ⊤
 
 -- the reports of a turn can be sent
 abbrev pub CanSendTurn : ℕ → Turn → Type 0
@@ -55,8 +52,7 @@ message_of config k count stamp context = record {
 abbrev pub act_messages : Parts → Act (List ℕ) → List ℕ
 act_messages config (Report event count stamp context) =
     spelling (message_of config event.0 count stamp context)
-act_messages config (State state) = []
-act_messages config (SetMode event mode) = []
+act_messages config other = []
 
 -- the bytes that an entry sends
 abbrev pub entry_messages : Parts → Entry (List ℕ) → List ℕ
@@ -70,22 +66,10 @@ turn_messages config turn = flat_map (entry_messages config) turn.entries
 abbrev pub messages_of : Parts → List Turn → List ℕ
 messages_of config turns = flat_map (turn_messages config) turns
 
--- how many bytes have been sent after each turn, where so many had been sent before them
-abbrev pub ends_from : ℕ → Parts → List Turn → List ℕ
-ends_from start config [] = []
-ends_from start config (turn ∷ turns) =
-    let end = start + length (turn_messages config turn) in
-    end ∷ ends_from end config turns
-
--- how many bytes have been sent after each turn
-abbrev pub ends_of : Parts → List Turn → List ℕ
-ends_of config turns = ends_from 0 config turns
-
 -- how many messages an act sends: one for a report, and none for a control
 abbrev pub act_count : Act (List ℕ) → ℕ
 act_count (Report event count stamp context) = 1
-act_count (State state) = 0
-act_count (SetMode event mode) = 0
+act_count other = 0
 
 -- how many messages an entry sends
 abbrev pub entry_count : Entry (List ℕ) → ℕ

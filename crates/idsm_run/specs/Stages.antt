@@ -1,51 +1,46 @@
 -- What the stages of reading answer: what their bytes deserve, or want of memory.
 use Rattle.std.specs.Borrow.{Bor}
-use Rattle.std.specs.Prelude.{◌≡◌, ◌⊎◌, ℕ, List, IsTrue, Result, Ok, Err, ⊤}
+use Rattle.std.specs.Prelude.{◌≡◌, ℕ, List, IsTrue, Result, Ok, Err, Vec, ⊤}
+use Rattle.std.specs.declared.alloc.Global.{Global}
 use Rattle.ids_outside.specs.Faults.{CountsFault}
-use Rattle.ids_outside.specs.Files.{SameFiles}
 use Rattle.ids_outside.specs.Shelved.{Shelved}
 use Rattle.ids_outside.specs.declared.faults.FaultKind.TheVariants.{Read}
-use Rattle.idsm_run.specs.declared.stop.Refusal.{Refusal}
-use Rattle.idsm_run.specs.declared.stop.Refusal.TheVariants.{CannotRead, TooLong}
-use Rattle.idsm_run.specs.declared.stop.InputStop.{InputStop}
-use Rattle.idsm_run.specs.declared.stop.InputStop.TheVariants.{Refused, NoMemory}
+use Rattle.ids_outside.specs.declared.faults.WriteFault.{WriteFault}
+use Rattle.ids_outside.specs.declared.faults.WriteFault.TheVariants as write
 use Rattle.idsm_run.specs.declared.stop.Stop.{Stop}
-use Rattle.idsm_run.specs.Command.{Command}
+use Rattle.idsm_run.specs.declared.stop.Stop.TheVariants.{CannotRead, TooLong, Refused, CannotWrite, NoMemory}
+use Rattle.idsm_run.specs.Command.{FoldFiles, fold}
 use Rattle.idsm_run.specs.Judge.{file_of}
-use Rattle.idsm_run.specs.Run.{WasRefused}
-use Rattle.idsm_run.specs.StopView.{refusal_by, stop_by}
+use Rattle.idsm_run.specs.Run.{MayRefuse}
 
--- a refusal, and a stop, with the names of files as their bytes
-abbrev pub plain_refusal : Refusal (Bor (List ℕ)) → Refusal (List ℕ)
-plain_refusal refusal = refusal_by (λ name. name.now) refusal
-
+-- a stop with the names of files as their bytes
 abbrev pub plain_stop : Stop (Bor (List ℕ)) → Stop (List ℕ)
-plain_stop stop = stop_by (λ name. name.now) stop
+plain_stop (CannotRead name) = CannotRead name.now
+plain_stop (TooLong name) = TooLong name.now
+plain_stop (Refused refusal) = Refused refusal
+plain_stop CannotWrite = CannotWrite
+plain_stop NoMemory = NoMemory
 
--- the refusal that was found, or want of memory
-abbrev pub StopsAs : {A : Type 0} → Result A (Refusal (List ℕ)) → InputStop (Bor (List ℕ)) → Type 0
-StopsAs found (Refused refusal) = found ≡ Err (plain_refusal refusal)
+-- the end of a command, with its text and the names of files as their bytes
+abbrev pub plain_end : Result (Vec ℕ Global) (Stop (Bor (List ℕ))) → Result (List ℕ) (Stop (List ℕ))
+plain_end (Ok said) = Ok said.items
+plain_end (Err reason) = Err (plain_stop reason)
+
+-- the refusal by `fold` that was found, or want of memory
+abbrev pub StopsAs : {A : Type 0} → Result A (Stop (List ℕ)) → Stop (List ℕ) → Type 0
+StopsAs found (Refused refusal) = (found ≡ Err (Refused refusal)) × ((files : FoldFiles) → MayRefuse (fold files) refusal)
 StopsAs found NoMemory = ⊤
+StopsAs found other = ⊥
 
 -- what was found, or want of memory
-abbrev pub Judges : {A X : Type 0} → (X → A) → Result A (Refusal (List ℕ))
-    → Result X (InputStop (Bor (List ℕ))) → Type 0
+abbrev pub Judges : {A X : Type 0} → (X → A) → Result A (Stop (List ℕ)) → Result X (Stop (Bor (List ℕ))) → Type 0
 Judges view found (Ok x) = found ≡ Ok (view x)
-Judges view found (Err stop) = StopsAs found stop
+Judges view found (Err reason) = StopsAs found (plain_stop reason)
 
--- why a file of at most so many bytes was not read: its read failed, or it is too long
-abbrev pub Unread : ℕ → List ℕ → Shelved → Shelved → Refusal (List ℕ) → Type 0
-Unread limit name old new refusal =
-    ((refusal ≡ CannotRead name) × CountsFault old.faults new.faults Read name)
-    ⊎ ((refusal ≡ TooLong name) × (new.faults ≡ old.faults)
-    × (IsTrue old.tells → file_of limit name old.files ≡ Err (TooLong name)))
-
--- the same, or want of memory
-abbrev pub ReadStops : ℕ → List ℕ → Shelved → Shelved → InputStop (Bor (List ℕ)) → Type 0
-ReadStops limit name old new (Refused refusal) = Unread limit name old new (plain_refusal refusal)
+-- why a file of at most so many bytes was not read: its read failed, it is too long, or memory was wanted
+abbrev pub ReadStops : ℕ → List ℕ → Shelved → Shelved → Stop (List ℕ) → Type 0
+ReadStops limit name old new (CannotRead other) = (other ≡ name) × CountsFault old.faults new.faults Read name
+ReadStops limit name old new (TooLong other) =
+    (other ≡ name) × (new.faults ≡ old.faults) × (IsTrue old.tells → file_of limit name old.files ≡ Err (TooLong name))
 ReadStops limit name old new NoMemory = ⊤
-
--- the inputs of a command were refused, or memory was wanted
-abbrev pub InputsStop : Command → Shelved → Shelved → InputStop (Bor (List ℕ)) → Type 0
-InputsStop command old new (Refused refusal) = WasRefused command (plain_refusal refusal) old new
-InputsStop command old new NoMemory = IsTrue old.tells → SameFiles old.files new.files
+ReadStops limit name old new other = ⊥

@@ -1,6 +1,6 @@
 -- The statuses and the texts of a run that did not do its work.
 -- Source: docs/COMMANDS.md.
-use Rattle.std.specs.Prelude.{ℕ, ◌++◌, List, codes, decimal}
+use Rattle.std.specs.Prelude.{ℕ, ◌++◌, List, Result, Ok, Err, codes, decimal}
 use Rattle.ids_config.specs.declared.fault.ConfigFault.{ConfigFault}
 use Rattle.ids_config.specs.declared.fault.ConfigPlace.{ConfigPlace}
 use Rattle.ids_config.specs.declared.fault.ConfigPlace.TheVariants.{Top, Class, Event}
@@ -8,9 +8,9 @@ use Rattle.ids_frame.specs.declared.fault.BadMessage.{BadMessage}
 use Rattle.ids_frame.specs.declared.fault.FrameFault.{FrameFault}
 use Rattle.ids_frame.specs.declared.fault.FrameFault.TheVariants.{Short, UnknownVersion, UnknownPart}
 use Rattle.idsm_run.specs.declared.stop.Refusal.{Refusal}
-use Rattle.idsm_run.specs.declared.stop.Refusal.TheVariants.{CannotRead, TooLong, BadConfig, NotBuilt, BadJournal, BadMessages}
+use Rattle.idsm_run.specs.declared.stop.Refusal.TheVariants.{BadConfig, NotBuilt, BadJournal, BadMessages}
 use Rattle.idsm_run.specs.declared.stop.Stop.{Stop}
-use Rattle.idsm_run.specs.declared.stop.Stop.TheVariants as stops
+use Rattle.idsm_run.specs.declared.stop.Stop.TheVariants.{CannotRead, TooLong, Refused, CannotWrite, NoMemory}
 
 -- the usage, with the commands that are built
 abbrev pub usage : List ℕ
@@ -18,10 +18,6 @@ usage =
     codes "usage: idsm fold CONFIG JOURNAL MESSAGES MEMORY\n" ++ codes "       idsm decode MESSAGES\n"
 
 -- ---- the texts of refusals
-
--- the line that names a file
-abbrev pub named_text : List ℕ → List ℕ → List ℕ
-named_text what name = what ++ (name ++ codes "\n")
 
 -- the words for a place of the configuration
 abbrev pub place_text : ConfigPlace → List ℕ
@@ -52,18 +48,14 @@ bad_message_text bad =
     codes "bad message at " ++ (decimal bad.at ++ (codes ": " ++ (fault_word bad.fault ++ codes "\n")))
 
 -- the text of a refusal
-abbrev pub refusal_text : Refusal (List ℕ) → List ℕ
-refusal_text (CannotRead name) = named_text (codes "cannot read ") name
-refusal_text (TooLong name) = named_text (codes "too long ") name
+abbrev pub refusal_text : Refusal → List ℕ
 refusal_text (BadConfig fault) = bad_config_text fault
 refusal_text NotBuilt = codes "not built\n"
 refusal_text (BadJournal line number) = bad_journal_text line number
 refusal_text (BadMessages bad) = bad_message_text bad
 
 -- the status of a refusal
-abbrev pub refusal_status : Refusal (List ℕ) → ℕ
-refusal_status (CannotRead name) = 3
-refusal_status (TooLong name) = 4
+abbrev pub refusal_status : Refusal → ℕ
 refusal_status (BadConfig fault) = 5
 refusal_status NotBuilt = 12
 refusal_status (BadJournal line number) = 6
@@ -76,12 +68,26 @@ no_memory_text = codes "no memory\n"
 
 -- the text of a stop
 abbrev pub stop_text : Stop (List ℕ) → List ℕ
-stop_text (stops.Refused refusal) = refusal_text refusal
-stop_text stops.CannotWrite = codes "cannot write\n"
-stop_text stops.NoMemory = no_memory_text
+stop_text (CannotRead name) = codes "cannot read " ++ (name ++ codes "\n")
+stop_text (TooLong name) = codes "too long " ++ (name ++ codes "\n")
+stop_text (Refused refusal) = refusal_text refusal
+stop_text CannotWrite = codes "cannot write\n"
+stop_text NoMemory = no_memory_text
 
 -- the status of a stop
 abbrev pub stop_status : Stop (List ℕ) → ℕ
-stop_status (stops.Refused refusal) = refusal_status refusal
-stop_status stops.CannotWrite = 7
-stop_status stops.NoMemory = 8
+stop_status (CannotRead name) = 3
+stop_status (TooLong name) = 4
+stop_status (Refused refusal) = refusal_status refusal
+stop_status CannotWrite = 7
+stop_status NoMemory = 8
+
+-- the text of a command that did its work, with this text, or stopped
+abbrev pub answer_text : Result (List ℕ) (Stop (List ℕ)) → List ℕ
+answer_text (Ok said) = said
+answer_text (Err reason) = stop_text reason
+
+-- its status
+abbrev pub answer_status : Result (List ℕ) (Stop (List ℕ)) → ℕ
+answer_status (Ok said) = 0
+answer_status (Err reason) = stop_status reason

@@ -5,6 +5,8 @@ use Rattle.ids_outside.specs.Files.{Files}
 use Rattle.ids_outside.specs.declared.faults.FaultKind.TheVariants.{Create, Append}
 use Rattle.ids_outside.specs.declared.faults.WriteFault.{WriteFault}
 use Rattle.ids_outside.specs.declared.faults.WriteFault.TheVariants as write
+use Rattle.idsm_run.specs.declared.stop.Stop.{Stop}
+use Rattle.idsm_run.specs.declared.stop.Stop.TheVariants.{CannotWrite, NoMemory}
 
 -- a file that is to be written, whole
 pub record Output : Type 0 where
@@ -42,6 +44,11 @@ StandUpTo (output ∷ outputs) old new =
 abbrev pub WriteFails : Faults → Faults → List ℕ → WriteFault → Type 0
 WriteFails old new name write.Failed = CountsFault old new Create name ⊎ CountsFault old new Append name
 WriteFails old new name write.NoMemory = WantsMemory old new
+
+-- why a command stops whose write failed so
+abbrev pub stop_of_write : {N : Type 0} → WriteFault → Stop N
+stop_of_write write.Failed = CannotWrite
+stop_of_write write.NoMemory = NoMemory
 
 -- the places at which so many bytes are cut into pieces: they do not fall, and the last is the end
 abbrev pub Cuts : ℕ → List ℕ → ℕ → Type 0

@@ -47,8 +47,5 @@ fn is_sent_as_is(event: &EventParts) -> bool
 fn is_detailed(mode: Mode) -> bool
     ensures { result ≡ detailed mode }
 {
-    match mode {
-        Mode::Detailed => true,
-        Mode::Off | Mode::Brief | Mode::BriefBypassing | Mode::DetailedBypassing => false,
-    }
+    matches!(mode, Mode::Detailed)
 }

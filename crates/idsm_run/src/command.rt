@@ -67,18 +67,21 @@ fn parse_fold(words: &[String]) -> Option<Request<'_>>
 fn names_differ(words: &[String]) -> bool
     ensures { result ≡ are_names (map string_bytes words.now) }
 {
-    for (i, word) in words.iter().enumerate() {
-        if !may_precede(word.as_str(), &words[i + 1..]) {
+    let mut left = words;
+    while let Some((word, rest)) = left.split_first() {
+        if !may_precede(word.as_str(), rest) {
             return false;
         }
+        left = rest;
     }
     true
 }
 
 /// The word is not empty, and none of these.
+#[tactic(auto, using(crate::proofs::CommandLemmas::any_of_mapped))]
 fn may_precede(word: &str, names: &[String]) -> bool
     ensures { result ≡ (is_name word.now
-        && not (list_any (λ other. bytes_eq word.now (string_bytes other)) names.now)) }
+        && not (list_any (bytes_eq word.now) (map string_bytes names.now))) }
 {
     !word.is_empty() && !is_among(word, names)
 }

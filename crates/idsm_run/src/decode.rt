@@ -26,7 +26,7 @@ pub(crate) fn decode_file<'a, H: Shelf>(
         SameFiles (H.shows shelf.old).files (H.shows shelf.new).files }
     ensures done { IfOk result (λ lines.
         WasDone (decode_command name.now) lines.items (H.shows shelf.old) (H.shows shelf.new)) }
-    ensures stops { IfErr result (λ stop. StopsFor (decode_command name.now) (plain_stop stop)
+    ensures stops { IfErr result (λ reason. StopsFor (decode_command name.now) (plain_stop reason)
         (H.shows shelf.old) (H.shows shelf.new)) }
 {
     let bytes = read_file(alloc, name, MAX_MESSAGES_BYTES, shelf)?;

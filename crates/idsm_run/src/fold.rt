@@ -1,6 +1,6 @@
 //! The command `fold`: the messages and the event memory of a recorded history.
 
-ghost use Rattle.std.specs.Prelude.{◌≡◌, ◌≢◌, length, IsTrue, IfOk, OnOk, OnErr, IfErr, string_bytes};
+ghost use Rattle.std.specs.Prelude.{◌≡◌, ◌≢◌, length, IsTrue, IfOk, OnOk, OnErr, IfErr};
 ghost use Rattle.idsm_run.specs.Sending.{count_of};
 ghost use Rattle.idsm_run.specs.Command.{SameBut, written_by, fold as fold_command};
 ghost use Rattle.idsm_run.specs.CommandView.{files_of};
@@ -15,8 +15,8 @@ use crate::outputs::write_file;
 use crate::sending::{Sent, messages_of_history};
 use crate::stop::Stop;
 use ids_outside::{Shelf, WriteFault};
-use ids_types::History;
-use std::alloc::{AllocError, Global};
+use ids_types::{History, NoMemory};
+use std::alloc::Global;
 
 /// Folds a journal, and returns the line that tells what was folded. All memory is taken before the
 /// first file is made.
@@ -24,16 +24,16 @@ pub(crate) fn fold<'a, H: Shelf>(
     alloc: Global,
     names: FoldNames<'a>,
     shelf: &mut H,
-) -> Result<String, Stop<&'a str>>
+) -> Result<Vec<u8>, Stop<&'a str>>
     requires inputs { names.config.now ≢ names.journal.now }
     requires outputs { names.messages.now ≢ names.memory.now }
     ensures others { IsTrue (H.shows shelf.old).tells →
         SameBut (written_by (fold_command (files_of names.entry)))
         (H.shows shelf.old).files (H.shows shelf.new).files }
     ensures done { IfOk result (λ text. WasDone (fold_command (files_of names.entry))
-        (string_bytes text) (H.shows shelf.old) (H.shows shelf.new)) }
-    ensures stops { IfErr result (λ stop. StopsFor (fold_command (files_of names.entry))
-        (plain_stop stop) (H.shows shelf.old) (H.shows shelf.new)) }
+        text.items (H.shows shelf.old) (H.shows shelf.new)) }
+    ensures stops { IfErr result (λ reason. StopsFor (fold_command (files_of names.entry))
+        (plain_stop reason) (H.shows shelf.old) (H.shows shelf.new)) }
 {
     let inputs = read_inputs(alloc, names, shelf)?;
     let sent = messages_of_history(alloc, &inputs.config, &inputs.history)?;
@@ -69,15 +69,16 @@ fn write_outputs<H: Shelf>(
 }
 
 /// `turns T entries E messages M records 0`, and a line feed.
-fn fold_text(alloc: Global, history: &History, messages: u64) -> Result<String, AllocError>
+fn fold_text(alloc: Global, history: &History, messages: u64) -> Result<Vec<u8>, NoMemory>
     requires { messages ≡ count_of history.now.turns }
-    ensures { IfOk result (λ text. string_bytes text ≡ text_of history.now.turns) }
+    ensures { IfOk result (λ text. text.items ≡ text_of history.now.turns) }
 {
     fold_line(alloc, history.turns(), history.total_entries(), messages)
 }
 
-fn fold_line(alloc: Global, turns: u64, entries: u64, messages: u64) -> Result<String, AllocError>
-    ensures { IfOk result (λ text. string_bytes text ≡ line_of turns entries messages) }
+fn fold_line(alloc: Global, turns: u64, entries: u64, messages: u64) -> Result<Vec<u8>, NoMemory>
+    ensures { IfOk result (λ text. text.items ≡ line_of turns entries messages) }
 {
-    format!(in alloc; "turns {turns} entries {entries} messages {messages} records 0\n")
+    let text = format!(in alloc; "turns {turns} entries {entries} messages {messages} records 0\n")?;
+    Ok(text.into_bytes())
 }

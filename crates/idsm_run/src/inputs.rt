@@ -6,15 +6,16 @@ ghost use Rattle.config_json.specs.Configured.{configuration};
 ghost use Rattle.ids_outside.specs.Files.{SameFiles};
 ghost use Rattle.idsm_run.specs.Command.{fold};
 ghost use Rattle.idsm_run.specs.CommandView.{files_of};
-ghost use Rattle.idsm_run.specs.Judge.{file_of, config_judged, folding_in, folding};
+ghost use Rattle.idsm_run.specs.Judge.{file_of, config_judged, judge, fold_work};
+ghost use Rattle.idsm_run.specs.Run.{StopsFor};
 ghost use Rattle.idsm_run.specs.Sending.{CanSendTurn};
-ghost use Rattle.idsm_run.specs.Stages.{Judges, ReadStops, InputsStop};
+ghost use Rattle.idsm_run.specs.Stages.{Judges, ReadStops, plain_stop};
 
 use crate::built::is_built;
 use crate::command::FoldNames;
 use crate::journals::judge_journal;
 use crate::limits::{MAX_CONFIG_BYTES, MAX_JOURNAL_BYTES};
-use crate::stop::{InputStop, Refusal};
+use crate::stop::{Refusal, Stop};
 use config_json::JsonFault;
 use ids_config::Config;
 use ids_outside::{ReadFault, Shelf};
@@ -33,19 +34,19 @@ pub(crate) fn read_inputs<'a, H: Shelf>(
     alloc: Global,
     names: FoldNames<'a>,
     shelf: &mut H,
-) -> Result<Inputs, InputStop<&'a str>>
+) -> Result<Inputs, Stop<&'a str>>
     requires { names.config.now ≢ names.journal.now }
     ensures tells { (H.shows shelf.new).tells ≡ (H.shows shelf.old).tells }
     ensures same { IsTrue (H.shows shelf.old).tells →
         SameFiles (H.shows shelf.old).files (H.shows shelf.new).files }
     ensures found { IsTrue (H.shows shelf.old).tells → IfOk result (λ i.
-        folding_in (files_of names.entry) (H.shows shelf.old).files
-        ≡ Ok (folding i.config i.history.turns)) }
+        judge (fold (files_of names.entry)) (H.shows shelf.old).files
+        ≡ Ok (fold_work (files_of names.entry) i.config i.history.turns)) }
     ensures fits { IfOk result (λ i.
         AllByRecursion (CanSendTurn (length i.config.events)) i.history.turns) }
     ensures no_fault { OnOk result ((H.shows shelf.new).faults ≡ (H.shows shelf.old).faults) }
-    ensures stops { IfErr result (InputsStop (fold (files_of names.entry))
-        (H.shows shelf.old) (H.shows shelf.new)) }
+    ensures stops { IfErr result (λ reason. StopsFor (fold (files_of names.entry))
+        (plain_stop reason) (H.shows shelf.old) (H.shows shelf.new)) }
 {
     let text = read_file(alloc, names.config, MAX_CONFIG_BYTES, shelf)?;
     let config = judge_config(alloc, &text)?;
@@ -55,14 +56,14 @@ pub(crate) fn read_inputs<'a, H: Shelf>(
 }
 
 /// The configuration that the bytes are the text of, where it is one that the chain can mean.
-fn judge_config<'a>(alloc: Global, text: &[u8]) -> Result<Config, InputStop<&'a str>>
+fn judge_config<'a>(alloc: Global, text: &[u8]) -> Result<Config, Stop<&'a str>>
     ensures { Judges (λ c. c) (config_judged (configuration text.now)) result }
 {
     match config_json::read(alloc, text) {
         Ok(config) if is_built(config.parts()) => Ok(config),
-        Ok(_) => Err(InputStop::Refused(Refusal::NotBuilt)),
-        Err(JsonFault::Config(fault)) => Err(InputStop::Refused(Refusal::BadConfig(fault))),
-        Err(JsonFault::NoMemory) => Err(InputStop::NoMemory),
+        Ok(_) => Err(Stop::Refused(Refusal::NotBuilt)),
+        Err(JsonFault::Config(fault)) => Err(Stop::Refused(Refusal::BadConfig(fault))),
+        Err(JsonFault::NoMemory) => Err(Stop::NoMemory),
     }
 }
 
@@ -72,20 +73,20 @@ pub(crate) fn read_file<'a, H: Shelf>(
     name: &'a str,
     limit: u64,
     shelf: &mut H,
-) -> Result<Vec<u8>, InputStop<&'a str>>
+) -> Result<Vec<u8>, Stop<&'a str>>
     ensures tells { (H.shows shelf.new).tells ≡ (H.shows shelf.old).tells }
     ensures same { IsTrue (H.shows shelf.old).tells →
         SameFiles (H.shows shelf.old).files (H.shows shelf.new).files }
     ensures found { IsTrue (H.shows shelf.old).tells → IfOk result (λ bytes.
         file_of limit name.now (H.shows shelf.old).files ≡ Ok bytes.items) }
     ensures no_fault { OnOk result ((H.shows shelf.new).faults ≡ (H.shows shelf.old).faults) }
-    ensures stops { IfErr result
-        (ReadStops limit name.now (H.shows shelf.old) (H.shows shelf.new)) }
+    ensures stops { IfErr result (λ reason. ReadStops limit name.now
+        (H.shows shelf.old) (H.shows shelf.new) (plain_stop reason)) }
 {
     match shelf.read(alloc, name, limit) {
         Ok(bytes) => Ok(bytes),
-        Err(ReadFault::Failed) => Err(InputStop::Refused(Refusal::CannotRead(name))),
-        Err(ReadFault::TooLong) => Err(InputStop::Refused(Refusal::TooLong(name))),
-        Err(ReadFault::NoMemory) => Err(InputStop::NoMemory),
+        Err(ReadFault::Failed) => Err(Stop::CannotRead(name)),
+        Err(ReadFault::TooLong) => Err(Stop::TooLong(name)),
+        Err(ReadFault::NoMemory) => Err(Stop::NoMemory),
     }
 }

@@ -11,7 +11,7 @@ ghost use Rattle.idsm_run.specs.Judge.{journal_judged};
 ghost use Rattle.idsm_run.specs.Sending.{CanSendTurn};
 ghost use Rattle.idsm_run.specs.Stages.{Judges};
 
-use crate::stop::{InputStop, Refusal};
+use crate::stop::{Refusal, Stop};
 use ids_config::Config;
 use ids_types::{Act, Entry, EntryWalk, History, Plain};
 use journal::{JournalFault, read};
@@ -26,7 +26,7 @@ pub(crate) fn judge_journal<'a>(
     alloc: Global,
     text: &[u8],
     config: &Config,
-) -> Result<History, InputStop<&'a str>>
+) -> Result<History, Stop<&'a str>>
     ensures judges { Judges (λ h. h.turns) (journal_judged (folded_in config.now text.now)) result }
     ensures fits { IfOk result (λ h. AllByRecursion (CanSendTurn (length config.now.events)) h.turns) }
 {
@@ -35,18 +35,18 @@ pub(crate) fn judge_journal<'a>(
     let history = match read(alloc, text, config) {
         Ok(journal) => journal.history,
         Err(JournalFault::Line { line, number }) => {
-            return Err(InputStop::Refused(Refusal::BadJournal { line, number }));
+            return Err(Stop::Refused(Refusal::BadJournal { line, number }));
         }
-        Err(JournalFault::NoMemory) => return Err(InputStop::NoMemory),
+        Err(JournalFault::NoMemory) => return Err(Stop::NoMemory),
     };
     if let Some(line) = held_back_line(&history) {
-        return Err(InputStop::Refused(Refusal::BadJournal {
+        return Err(Stop::Refused(Refusal::BadJournal {
             line,
             number: HELD_BACK,
         }));
     }
     if has_control(&history) {
-        return Err(InputStop::Refused(Refusal::NotBuilt));
+        return Err(Stop::Refused(Refusal::NotBuilt));
     }
     Ok(history)
 }
@@ -57,11 +57,12 @@ fn held_back_line(history: &History) -> Option<u64>
     ensures { result ≡ line_held_back 1 history.now.turns }
 {
     let mut line = 1;
-    for turn in 0..history.turns() {
-        if history.head(turn).limited != 0 {
+    let mut turns = history.walk();
+    while let Some((head, entries)) = turns.pop_front() {
+        if head.limited != 0 {
             return Some(line);
         }
-        line += 1 + history.entries(turn);
+        line += 1 + entries.len() as u64;
     }
     None
 }
@@ -94,8 +95,5 @@ fn some_is_control(entries: EntryWalk<'_>) -> bool
 fn is_control(entry: &Entry<Plain<'_>>) -> bool
     ensures { result ≡ control (plain_entry entry.now) }
 {
-    match entry.act {
-        Act::Report { .. } => false,
-        Act::State(_) | Act::SetMode { .. } => true,
-    }
+    !matches!(entry.act, Act::Report { .. })
 }

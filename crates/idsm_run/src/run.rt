@@ -1,20 +1,18 @@
-ghost use Rattle.std.specs.Prelude.{◌≡◌, ◌≢◌, ℕ, List, Ok, Err, IsTrue, map, string_bytes};
-ghost use Rattle.ids_outside.specs.Files.{SameFiles};
+ghost use Rattle.std.specs.Prelude.{◌≡◌, ℕ, List, Ok, Err, IsTrue, map, string_bytes};
 ghost use Rattle.ids_outside.specs.Shelved.{Shelved};
 ghost use Rattle.ids_outside.specs.Sinks.{Heard};
-ghost use Rattle.idsm_run.specs.declared.stop.Refusal.{Refusal};
-ghost use Rattle.idsm_run.specs.Command.{Command, command_of, written_by, SameBut, fold as fold_command, decode as decode_command};
-ghost use Rattle.idsm_run.specs.CommandView.{files_of};
+ghost use Rattle.idsm_run.specs.declared.stop.Stop.{Stop};
+ghost use Rattle.idsm_run.specs.Command.{Command, command_of, SameBut};
 ghost use Rattle.idsm_run.specs.Deserts.{EndsWith, EndsOrFails};
 ghost use Rattle.idsm_run.specs.Judge.{Work, judge};
 ghost use Rattle.idsm_run.specs.Run.{Ran, RanCommand, written_of};
-ghost use Rattle.idsm_run.specs.Texts.{refusal_status};
+ghost use Rattle.idsm_run.specs.Texts.{stop_status};
 
-use crate::command::{FoldNames, Request, parse};
+use crate::command::{Request, parse};
 use crate::decode::decode_file;
 use crate::fold::fold;
 use crate::saying::{say, tell};
-use crate::status::{BAD_WORDS, DONE};
+use crate::status::BAD_WORDS;
 use ids_outside::{Shelf, Sink};
 use std::alloc::Global;
 
@@ -44,40 +42,8 @@ pub fn run_plain<H: Shelf, K: Sink>(
 {
     match parse(words) {
         None => say(USAGE, BAD_WORDS, out),
-        Some(Request::Fold(names)) => run_fold(alloc, names, shelf, out),
-        Some(Request::Decode(name)) => run_decode(alloc, name, shelf, out),
-    }
-}
-
-fn run_fold<H: Shelf, K: Sink>(
-    alloc: Global,
-    names: FoldNames<'_>,
-    shelf: &mut H,
-    out: &mut K,
-) -> u8
-    requires inputs { names.config.now ≢ names.journal.now }
-    requires outputs { names.messages.now ≢ names.memory.now }
-    ensures ran { RanCommand (fold_command (files_of names.entry)) result
-        (H.shows shelf.old) (H.shows shelf.new) (K.hears out.old) (K.hears out.new) }
-    ensures others { IsTrue (H.shows shelf.old).tells → SameBut
-        (written_by (fold_command (files_of names.entry)))
-        (H.shows shelf.old).files (H.shows shelf.new).files }
-{
-    match fold(alloc, names, shelf) {
-        Ok(text) => say(text.as_bytes(), DONE, out),
-        Err(stop) => tell(alloc, stop, out),
-    }
-}
-
-fn run_decode<H: Shelf, K: Sink>(alloc: Global, name: &str, shelf: &mut H, out: &mut K) -> u8
-    ensures ran { RanCommand (decode_command name.now) result
-        (H.shows shelf.old) (H.shows shelf.new) (K.hears out.old) (K.hears out.new) }
-    ensures same { IsTrue (H.shows shelf.old).tells →
-        SameFiles (H.shows shelf.old).files (H.shows shelf.new).files }
-{
-    match decode_file(alloc, name, shelf) {
-        Ok(lines) => say(&lines, DONE, out),
-        Err(stop) => tell(alloc, stop, out),
+        Some(Request::Fold(names)) => tell(alloc, fold(alloc, names, shelf), out),
+        Some(Request::Decode(name)) => tell(alloc, decode_file(alloc, name, shelf), out),
     }
 }
 
@@ -86,9 +52,9 @@ fn run_decode<H: Shelf, K: Sink>(alloc: Global, name: &str, shelf: &mut H, out: 
 /// failed can end it otherwise.
 pub fn files_decide_the_answer()
     ensures refused { (command : Command) (status : ℕ) (old new : Shelved) (before after : Heard)
-        (refusal : Refusal (List ℕ)) → RanCommand command status old new before after →
-        IsTrue old.tells → judge command old.files ≡ Err refusal →
-        EndsWith (refusal_status refusal) command status old new before after }
+        (reason : Stop (List ℕ)) → RanCommand command status old new before after →
+        IsTrue old.tells → judge command old.files ≡ Err reason →
+        EndsWith (stop_status reason) command status old new before after }
     ensures served { (command : Command) (status : ℕ) (old new : Shelved) (before after : Heard)
         (work : Work) → RanCommand command status old new before after →
         IsTrue old.tells → judge command old.files ≡ Ok work →

@@ -1,12 +1,13 @@
 //! The one text that a run puts to its sink.
 
-ghost use Rattle.std.specs.Prelude.{◌≡◌, IfOk, MatchResult, string_bytes, codes};
-ghost use Rattle.idsm_run.specs.Saying.{Puts, TellsStop, TellsRefusal};
-ghost use Rattle.idsm_run.specs.Stages.{plain_refusal, plain_stop};
-ghost use Rattle.idsm_run.specs.Texts.{named_text, bad_config_text, bad_journal_text, bad_message_text, no_memory_text};
+ghost use Rattle.std.specs.Prelude.{◌≡◌, List, ℕ, Err, IfOk, string_bytes};
+ghost use Rattle.idsm_run.specs.Saying.{Puts, Says, Tells};
+ghost use Rattle.idsm_run.specs.Stages.{plain_end};
+ghost use Rattle.idsm_run.specs.Texts.{bad_config_text, bad_message_text};
+ghost use Rattle.idsm_run.specs.declared.stop.Stop.TheVariants as stops;
 
 use crate::status::{
-    BAD_CONFIG, BAD_JOURNAL, BAD_MESSAGE, CANNOT_READ, CANNOT_WRITE, NO_MEMORY, NOT_BUILT, TOO_LONG,
+    BAD_CONFIG, BAD_JOURNAL, BAD_MESSAGE, CANNOT_READ, CANNOT_WRITE, DONE, NO_MEMORY, NOT_BUILT, TOO_LONG,
 };
 use crate::stop::{Refusal, Stop};
 use ids_config::{ConfigFault, ConfigPlace};
@@ -29,28 +30,38 @@ pub(crate) fn say<K: Sink>(text: &[u8], status: u8, out: &mut K) -> u8
     }
 }
 
-/// Tells why a command stopped, and returns the status.
-pub(crate) fn tell<K: Sink>(alloc: Global, stop: Stop<&str>, out: &mut K) -> u8
-    ensures { TellsStop (plain_stop stop.entry) result (K.hears out.old) (K.hears out.new) }
+/// Puts the text of a command that did its work, or tells why it stopped, and returns the status.
+pub(crate) fn tell<K: Sink>(
+    alloc: Global,
+    end: Result<Vec<u8>, Stop<&str>>,
+    out: &mut K,
+) -> u8
+    ensures { Tells (plain_end end.entry) result (K.hears out.old) (K.hears out.new) }
 {
-    match stop {
-        Stop::Refused(refusal) => tell_refusal(alloc, refusal, out),
-        Stop::CannotWrite => say(b"cannot write\n", CANNOT_WRITE, out),
-        Stop::NoMemory => say(b"no memory\n", NO_MEMORY, out),
+    match end {
+        Ok(text) => say(&text, DONE, out),
+        Err(Stop::CannotRead(name)) => {
+            say_line(format!(in alloc; "cannot read {name}\n"), CANNOT_READ, out)
+        }
+        Err(Stop::TooLong(name)) => {
+            say_line(format!(in alloc; "too long {name}\n"), TOO_LONG, out)
+        }
+        Err(Stop::Refused(refusal)) => tell_refusal(alloc, refusal, out),
+        Err(Stop::CannotWrite) => say(b"cannot write\n", CANNOT_WRITE, out),
+        Err(Stop::NoMemory) => say(b"no memory\n", NO_MEMORY, out),
     }
 }
 
-/// Tells why the input files do not serve.
-fn tell_refusal<K: Sink>(alloc: Global, refusal: Refusal<&str>, out: &mut K) -> u8
-    ensures { TellsRefusal (plain_refusal refusal.entry) result (K.hears out.old) (K.hears out.new) }
+/// Tells why what the input files hold does not serve.
+fn tell_refusal<K: Sink>(alloc: Global, refusal: Refusal, out: &mut K) -> u8
+    ensures { Tells (Err (stops.Refused refusal)) result (K.hears out.old) (K.hears out.new) }
 {
     match refusal {
-        Refusal::CannotRead(name) => say_line(cannot_read_text(alloc, name), CANNOT_READ, out),
-        Refusal::TooLong(name) => say_line(too_long_text(alloc, name), TOO_LONG, out),
         Refusal::BadConfig(fault) => say_line(bad_config_line(alloc, fault), BAD_CONFIG, out),
         Refusal::NotBuilt => say(b"not built\n", NOT_BUILT, out),
         Refusal::BadJournal { line, number } => {
-            say_line(bad_journal_line(alloc, line, number), BAD_JOURNAL, out)
+            let told = format!(in alloc; "bad journal line {line}: {number}\n");
+            say_line(told, BAD_JOURNAL, out)
         }
         Refusal::BadMessages(bad) => say_line(bad_message_line(alloc, bad), BAD_MESSAGE, out),
     }
@@ -58,26 +69,13 @@ fn tell_refusal<K: Sink>(alloc: Global, refusal: Refusal<&str>, out: &mut K) -> 
 
 /// Puts a line that wanted memory, or tells that there was none.
 fn say_line<K: Sink>(line: Result<String, AllocError>, status: u8, out: &mut K) -> u8
-    ensures { MatchResult line
-        (λ t. Puts (string_bytes t) status result (K.hears out.old) (K.hears out.new))
-        (λ _. Puts no_memory_text 8 result (K.hears out.old) (K.hears out.new)) }
+    ensures { (text : List ℕ) → IfOk line (λ l. string_bytes l ≡ text) →
+        Says text status result (K.hears out.old) (K.hears out.new) }
 {
     match line {
         Ok(line) => say(line.as_bytes(), status, out),
         Err(_) => say(b"no memory\n", NO_MEMORY, out),
     }
-}
-
-fn cannot_read_text(alloc: Global, name: &str) -> Result<String, AllocError>
-    ensures { IfOk result (λ text. string_bytes text ≡ named_text (codes "cannot read ") name.now) }
-{
-    format!(in alloc; "cannot read {name}\n")
-}
-
-fn too_long_text(alloc: Global, name: &str) -> Result<String, AllocError>
-    ensures { IfOk result (λ text. string_bytes text ≡ named_text (codes "too long ") name.now) }
-{
-    format!(in alloc; "too long {name}\n")
 }
 
 fn bad_config_line(alloc: Global, fault: ConfigFault) -> Result<String, AllocError>
@@ -89,12 +87,6 @@ fn bad_config_line(alloc: Global, fault: ConfigFault) -> Result<String, AllocErr
         ConfigPlace::Class(index) => format!(in alloc; "bad config {number} at class {index}\n"),
         ConfigPlace::Event(index) => format!(in alloc; "bad config {number} at event {index}\n"),
     }
-}
-
-fn bad_journal_line(alloc: Global, line: u64, number: u8) -> Result<String, AllocError>
-    ensures { IfOk result (λ text. string_bytes text ≡ bad_journal_text line number) }
-{
-    format!(in alloc; "bad journal line {line}: {number}\n")
 }
 
 fn bad_message_line(alloc: Global, bad: BadMessage) -> Result<String, AllocError>

@@ -4,7 +4,8 @@ ghost use Rattle.std.specs.List.{AllByRecursion, flat_map};
 ghost use Rattle.ids_types.specs.Plain.{plain_entry, plain_carried};
 ghost use Rattle.ids_config.specs.Parts.{event_at};
 ghost use Rattle.ids_frame.specs.Spelling.{spelling};
-ghost use Rattle.idsm_run.specs.Sending.{IsShort, CanSend, CanSendTurn, message_of, context_sent, entry_messages, messages_of, ends_of, entry_count, count_of};
+ghost use Rattle.idsm_run.specs.Writing.{Cuts};
+ghost use Rattle.idsm_run.specs.Sending.{IsShort, CanSend, CanSendTurn, message_of, context_sent, entry_messages, messages_of, entry_count, count_of};
 
 use arrayvec::ArrayVec;
 use ids_config::Config;
@@ -30,7 +31,7 @@ pub(crate) fn messages_of_history(
     requires { AllByRecursion (CanSendTurn (length config.now.events)) history.now.turns }
     ensures bytes { IfOk result
         (λ sent. sent.bytes.items ≡ messages_of config.now history.now.turns) }
-    ensures ends { IfOk result (λ sent. sent.ends.items ≡ ends_of config.now history.now.turns) }
+    ensures cuts { IfOk result (λ sent. Cuts 0 sent.ends.items (length sent.bytes.items)) }
     ensures messages { IfOk result (λ sent. sent.messages ≡ count_of history.now.turns) }
 {
     let mut bytes = Vec::new(alloc);

@@ -1,24 +1,17 @@
 //! Why a command ended before its work was done. `N` is what holds the names of files.
 
 ghost use Rattle.std.specs.Prelude.{◌≡◌};
-ghost use Rattle.ids_outside.specs.declared.faults.WriteFault.{WriteFault as write_fault};
-ghost use Rattle.idsm_run.specs.StopView.{stop_of_input, stop_of_write};
-ghost use Rattle.idsm_run.specs.declared.stop.InputStop.TheVariants as input_stops;
+ghost use Rattle.idsm_run.specs.Writing.{stop_of_write};
 ghost use Rattle.idsm_run.specs.declared.stop.Stop.TheVariants as stops;
 
 use ids_config::ConfigFault;
 use ids_frame::BadMessage;
 use ids_outside::WriteFault;
 use ids_types::NoMemory;
-use std::alloc::AllocError;
 
-/// Why the input files do not serve.
+/// Why what an input file holds does not serve.
 #[derive(Clone, Copy, Debug)]
-pub(crate) enum Refusal<N> {
-    /// The file of this name was not read.
-    CannotRead(N),
-    /// The file of this name has more bytes than its kind may have.
-    TooLong(N),
+pub(crate) enum Refusal {
     /// The configuration has this fault.
     BadConfig(ConfigFault),
     /// The configuration or the journal uses what the chain cannot mean yet.
@@ -29,30 +22,16 @@ pub(crate) enum Refusal<N> {
     BadMessages(BadMessage),
 }
 
-/// Why the inputs were not had.
-#[derive(Clone, Copy, Debug)]
-pub(crate) enum InputStop<N> {
-    Refused(Refusal<N>),
-    NoMemory,
-}
-
 /// Why a command stopped.
 #[derive(Clone, Copy, Debug)]
 pub(crate) enum Stop<N> {
-    Refused(Refusal<N>),
+    /// The file of this name was not read.
+    CannotRead(N),
+    /// The file of this name has more bytes than its kind may have.
+    TooLong(N),
+    Refused(Refusal),
     CannotWrite,
     NoMemory,
-}
-
-impl<N> From<InputStop<N>> for Stop<N> {
-    ghost from_gives = { λ stop answer. answer ≡ stop_of_input stop };
-
-    fn from(stop: InputStop<N>) -> Self {
-        match stop {
-            InputStop::Refused(refusal) => Stop::Refused(refusal),
-            InputStop::NoMemory => Stop::NoMemory,
-        }
-    }
 }
 
 impl<N> From<WriteFault> for Stop<N> {
@@ -70,14 +49,6 @@ impl<N> From<NoMemory> for Stop<N> {
     ghost from_gives = { λ _ answer. answer ≡ stops.NoMemory };
 
     fn from(_: NoMemory) -> Self {
-        Stop::NoMemory
-    }
-}
-
-impl<N> From<AllocError> for Stop<N> {
-    ghost from_gives = { λ _ answer. answer ≡ stops.NoMemory };
-
-    fn from(_: AllocError) -> Self {
         Stop::NoMemory
     }
 }

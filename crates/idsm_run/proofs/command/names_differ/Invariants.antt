@@ -1,6 +1,9 @@
-use Rattle.std.proofs.Common.{◌≡◌, map, drop, string_bytes}
+use Rattle.std.proofs.Common.{◌≡◌, length, map, string_bytes}
 use Rattle.idsm_run.specs.Command.{are_names}
 use Rattle.idsm_run.proofs.command.names_differ.Given as goal
 
-abbrev pub invariant-loop-i : goal.invariant-loop-i
-invariant-loop-i l = are_names (map string_bytes (drop l.i l.words)) ≡ are_names (map string_bytes l.words)
+abbrev pub decreases-loop-word : goal.decreases-loop-word
+decreases-loop-word l = length l.left
+
+abbrev pub invariant-loop-word : goal.invariant-loop-word
+invariant-loop-word l = are_names (map string_bytes l.left) ≡ are_names (map string_bytes l.words)

@@ -1,14 +1,9 @@
 use Rattle.std.proofs.Common.{rules}
 use Rattle.idsm_run.specs.CommandView.{files_of}
-use Rattle.idsm_run.specs.StopView.{stop_of_write}
+use Rattle.idsm_run.specs.Writing.{stop_of_write}
 use Rattle.idsm_run.proofs.ExitLemmas.{left_by}
 use Rattle.idsm_run.proofs.FoldLemmas.{folded, fold_stopped}
-use Rattle.idsm_run.proofs.WritingLemmas.{all_cuts}
 use Rattle.idsm_run.proofs.fold.fold.Goals as goal
-
-pub write_outputs-requires-clause-cuts : goal.write_outputs-requires-clause-cuts
-write_outputs-requires-clause-cuts g c =
-    rw (c.in_ok-sent.ensures.ends, c.in_ok-sent.ensures.bytes) (all_cuts c.in_ok-inputs.inputs.config c.in_ok-inputs.inputs.history.turns)
 
 pub returns-in_err-write_outputs-clause-stops : goal.returns-in_err-write_outputs-clause-stops
 returns-in_err-write_outputs-clause-stops g c =

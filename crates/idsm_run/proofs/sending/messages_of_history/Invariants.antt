@@ -1,6 +1,7 @@
 use Rattle.std.proofs.Common.{◌≡◌, ◌+◌, ◌≤◌, ◌++◌, length, vec_len}
 use Rattle.std.specs.List.{AllByRecursion}
-use Rattle.idsm_run.specs.Sending.{CanSendTurn, messages_of, ends_from, ends_of, count_of}
+use Rattle.idsm_run.specs.Sending.{CanSendTurn, messages_of, count_of}
+use Rattle.idsm_run.specs.Writing.{Cuts}
 use Rattle.idsm_run.proofs.sending.messages_of_history.Given as goal
 
 abbrev pub decreases-loop-entries : goal.decreases-loop-entries
@@ -11,7 +12,7 @@ abbrev pub invariant-loop-entries : goal.invariant-loop-entries
 invariant-loop-entries l = record {
   can : AllByRecursion (CanSendTurn (length l.config.events)) l.turns;
   bytes : l.bytes.items ++ messages_of l.config l.turns ≡ messages_of l.config l.history.turns;
-  ends : l.ends.items ++ ends_from (length l.bytes.items) l.config l.turns ≡ ends_of l.config l.history.turns;
+  cuts : Cuts 0 l.ends.items (length l.bytes.items);
   messages : l.messages + count_of l.turns ≡ count_of l.history.turns;
   grows : l.messages ≤ vec_len l.bytes;
 }

@@ -1,0 +1,12 @@
+use Rattle.std.proofs.Common.{Ok, refl, arith}
+use Rattle.std.proofs.lemmas.Grind.{common_steps}
+use Rattle.idsm_run.proofs.saying.say.Goals as goal
+
+pub returns-then-is_empty : goal.returns-then-is_empty
+returns-then-is_empty g c = record {
+  put = Ok tt;
+  is = refl;
+  takes = λ told. grind (arith, common_steps);
+  cause = refl;
+  some = tt;
+}
