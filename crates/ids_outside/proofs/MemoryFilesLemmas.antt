@@ -1,5 +1,5 @@
 -- How the files of a map change with the map, and how given files are found.
-use Rattle.std.proofs.Common.{◌≡◌, ◌++◌, ◌∷◌, [], ℕ, Bool, true, false, List, Some, Result, Ok, Err, OnOk, OnErr, is_ok, String, Vec, string_bytes, option_map, refl, sym, ap, ◌∙◌, arith, if◌then◌else◌}
+use Rattle.std.proofs.Common.{◌≡◌, ◌++◌, ◌∷◌, [], ℕ, Bool, true, false, List, Some, Result, Ok, Err, is_ok, String, Vec, string_bytes, option_map, refl, sym, ap, ◌∙◌, arith, if◌then◌else◌}
 use Rattle.std.specs.BTreeMap.{BTreeMap, UpdatesBy, get_by_text}
 use Rattle.std.specs.Cmp.Lexicographic.{slice_cmp}
 use Rattle.std.specs.Ordering.{nat_cmp}
@@ -11,8 +11,8 @@ use Rattle.std.proofs.lemmas.Grind.{common_steps}
 use Rattle.std.proofs.lemmas.Map.Text.{btree_map_updates_text}
 use Rattle.std.proofs.lemmas.Slice.Eq.{bytes_eq-Decides}
 use Rattle.ids_outside.proofs.FilesLemmas.{bytes_eq-differ, same_from_changes}
-use Rattle.ids_outside.specs.Files.{Files, SameFiles, Changes, bytes_at}
-use Rattle.ids_outside.specs.MemoryFiles.{Given, has_name, given_files, files_in}
+use Rattle.ids_outside.specs.Files.{Files, SameFiles, Changes}
+use Rattle.ids_outside.specs.MemoryFiles.{Given, has_name, given_files, files_in, Adds}
 
 -- the map of a shelf in memory
 abbrev pub Kept : Type 0
@@ -33,25 +33,15 @@ changes_from_updates name old new bytes updates = record {
       ap (option_map (λ v. v.items)) (rw (bytes_eq-differ name other differ) at found);
 }
 
--- bytes that grew by a piece are the change that an append makes
+-- bytes that grew by a piece are the change that an append makes, and others change no file
 pub changes_from_growth : {E : Type 0} (r : Result (Unit {0}) E) (name piece : List ℕ)
     (old new : Kept) (before after : Vec ℕ Global)
     → get_by_text old name ≡ Some before → UpdatesName old new name after
     → after.items ≡ (if is_ok r then before.items ++ piece else before.items)
-    → OnOk r
-    (Changes (files_in old) (files_in new) name (Some (bytes_at (files_in old) name ++ piece)))
+    → Adds (files_in old) (files_in new) name piece r
 changes_from_growth (Ok _) name piece old new before after there updates grown =
     rw (there, ← grown) (changes_from_updates name old new after updates)
-changes_from_growth (Err _) name piece old new before after there updates grown = tt
-
--- bytes that did not grow change no file
-pub same_from_growth : {E : Type 0} (r : Result (Unit {0}) E) (name piece : List ℕ) (old new : Kept)
-    (before after : Vec ℕ Global)
-    → get_by_text old name ≡ Some before → UpdatesName old new name after
-    → after.items ≡ (if is_ok r then before.items ++ piece else before.items)
-    → OnErr r (SameFiles (files_in old) (files_in new))
-same_from_growth (Ok _) name piece old new before after there updates grown = tt
-same_from_growth (Err _) name piece old new before after there updates grown =
+changes_from_growth (Err _) name piece old new before after there updates grown =
     same_from_changes (files_in old) (files_in new) name
     (rw (there, ← grown) (changes_from_updates name old new after updates))
 

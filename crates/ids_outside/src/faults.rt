@@ -1,7 +1,8 @@
 ghost use Rattle.std.specs.Prelude.{◌≡◌};
 ghost use Rattle.ids_outside.specs.declared.faults.ReadFault.TheVariants as read;
 ghost use Rattle.ids_outside.specs.declared.faults.WriteFault.TheVariants as write;
-ghost use Rattle.ids_outside.specs.HostFaults.{read_fault_of, write_fault_of};
+ghost use Rattle.ids_outside.specs.HostFaults.{fault_at};
+ghost use Rattle.std.specs.IoError.{error_kind};
 
 use std::alloc::AllocError;
 use std::io;
@@ -42,7 +43,7 @@ impl From<AllocError> for ReadFault {
 }
 
 impl From<io::Error> for ReadFault {
-    ghost from_gives = { λ error fault. fault ≡ read_fault_of error };
+    ghost from_gives = { λ error fault. fault ≡ fault_at read.NoMemory read.Failed (error_kind error) };
 
     /// The host's own want of memory is `NoMemory`, and every other error a failure.
     fn from(error: io::Error) -> Self {
@@ -63,7 +64,7 @@ impl From<AllocError> for WriteFault {
 }
 
 impl From<io::Error> for WriteFault {
-    ghost from_gives = { λ error fault. fault ≡ write_fault_of error };
+    ghost from_gives = { λ error fault. fault ≡ fault_at write.NoMemory write.Failed (error_kind error) };
 
     /// The host's own want of memory is `NoMemory`, and every other error a failure.
     fn from(error: io::Error) -> Self {

@@ -1,4 +1,4 @@
-ghost use Rattle.std.specs.Prelude.{◌≡◌, ℕ, List, None, Some, IfOk, OnOk, OnErr, Ok, IfSome, option_map, string_bytes, length, ◌≤◌};
+ghost use Rattle.std.specs.Prelude.{◌≡◌, None, Some, IfOk, OnOk, OnErr, Ok, IfSome, string_bytes, length, ◌≤◌};
 ghost use Rattle.ids_outside.specs.Faults.{no_faults, WriteCause};
 ghost use Rattle.ids_outside.specs.declared.faults.FaultKind.TheVariants.{Create, Append};
 
@@ -42,21 +42,6 @@ impl<R: Files + Drop> HostShelf<R> {
             current: None,
             faults: FaultLog::new(),
         }
-    }
-
-    /// How many calls have failed, up to 2^64 - 1.
-    pub fn fault_count(&self) -> u64
-        ensures { result ≡ (host_shelf_faults self.now).count }
-    {
-        self.faults.count()
-    }
-
-    /// Which call failed last, and the name that it was given.
-    pub fn last_fault(&self) -> Option<(FaultKind, &str)>
-        ensures { option_map (λ p. record { kind = p.0; name = p.1.now }) result
-            ≡ (host_shelf_faults self.now).last }
-    {
-        self.faults.last()
     }
 
     /// Opens a file, and counts a fault of this kind where the host fails. Copies the name first.

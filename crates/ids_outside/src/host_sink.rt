@@ -26,13 +26,6 @@ impl<R: Print + Drop> HostSink<R> {
             missed: Missed::new(),
         }
     }
-
-    /// How many puts have failed, up to 2^64 - 1.
-    pub fn fault_count(&self) -> u64
-        ensures { result ≡ (host_sink_misses self.now).failed }
-    {
-        self.missed.failed()
-    }
 }
 
 impl<R: Print + Drop> Sink for HostSink<R> {

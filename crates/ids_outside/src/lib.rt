@@ -23,8 +23,6 @@ mod shelf;
 mod sink;
 mod steady_shelf;
 mod streams;
-#[cfg(test)]
-mod tests;
 
 pub use faults::{FaultKind, ReadFault, WriteFault};
 pub use host_shelf::HostShelf;

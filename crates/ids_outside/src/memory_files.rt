@@ -1,6 +1,6 @@
-ghost use Rattle.std.specs.Prelude.{◌≡◌, ◌++◌, Some, string_bytes, IfOk, OnOk, OnErr};
-ghost use Rattle.ids_outside.specs.Files.{bytes_at, Changes, SameFiles};
-ghost use Rattle.ids_outside.specs.MemoryFiles.{given_files, files_in};
+ghost use Rattle.std.specs.Prelude.{◌≡◌, Some, string_bytes, IfOk, OnOk, OnErr};
+ghost use Rattle.ids_outside.specs.Files.{Changes, SameFiles};
+ghost use Rattle.ids_outside.specs.MemoryFiles.{given_files, files_in, Adds};
 
 use std::alloc::{AllocError, Global};
 use std::collections::BTreeMap;
@@ -42,9 +42,7 @@ pub(crate) fn add_piece(
     piece: &[u8],
 ) -> Result<(), AllocError>
     requires { string_bytes key ≡ name.now }
-    ensures ok { OnOk result (Changes (files_in files.old) (files_in files.new) name.now
-        (Some (bytes_at (files_in files.old) name.now ++ piece.now))) }
-    ensures err { OnErr result (SameFiles (files_in files.old) (files_in files.new)) }
+    ensures { Adds (files_in files.old) (files_in files.new) name.now piece.now result }
 {
     if let Some(bytes) = files.get_mut(name) {
         return bytes.extend_from_slice(piece);

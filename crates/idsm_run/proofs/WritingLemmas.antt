@@ -8,34 +8,14 @@ use Rattle.ids_outside.specs.declared.faults.WriteFault.{WriteFault}
 use Rattle.ids_outside.specs.declared.faults.WriteFault.TheVariants as write
 use Rattle.idsm_run.specs.Writing.{Output, AreUntouched, HoldsPart, StandsInPart, StandUpTo, Cuts}
 
--- an append of the next piece leaves the bytes up to its end
-pub up_to_the_end : (old new : Files) (name bytes : List ℕ) (start end : ℕ) → start ≤ end → old name ≡ Some (take start bytes)
-    → Changes old new name (Some (bytes_at old name ++ take (end - start) (drop start bytes))) → new name ≡ Some (take end bytes)
-up_to_the_end old new name bytes start end ordered before changes =
-    let e : start + (end - start) ≡ end = omega arith in
-    changes.at ∙ ap Some (ap (λ (o : Option (List ℕ)). unwrap_or o [] ++ take (end - start) (drop start bytes)) before ∙ sym (take-add start (end - start) bytes) ∙ ap (λ (k : ℕ). take k bytes) e)
-
--- an append that fails leaves a first part of the bytes
-pub part_is_held : (old new : Files) (name bytes : List ℕ) (start n : ℕ) → old name ≡ Some (take start bytes)
-    → AddsAtMost old new name (take n (drop start bytes)) → HoldsPart new (record { name = name; bytes = bytes })
-part_is_held old new name bytes start n before adds =
-    elim adds.at [
-      | inl same ↦ record { count = start; part = same ∙ before }
-      | inr added ↦ record {
-        count = start + added.count;
-        part = added.added ∙ ap Some (ap (λ (o : Option (List ℕ)). unwrap_or o [] ++ take added.count (take n (drop start bytes))) before
-            ∙ ap (λ (ys : List ℕ). take start bytes ++ ys) (take-take added.count n (drop start bytes) (omega (arith, added.within, length-take n (drop start bytes))))
-            ∙ sym (take-add start added.count bytes));
-      }
-    ]
-
--- what an append of the next piece leaves, by its answer
+-- what an append of the next piece leaves: the bytes up to its end, or a first part of them
 pub piece_is_added : {T : Type 0} (old new : Files) (name bytes : List ℕ) (start end : ℕ) (answer : Result T WriteFault)
     → start ≤ end → old name ≡ Some (take start bytes)
     → AppendMakes old new name (take (end - start) (drop start bytes)) answer
     → OnOk answer (new name ≡ Some (take end bytes))
 piece_is_added old new name bytes start end (Ok _) ordered before makes =
-    up_to_the_end old new name bytes start end ordered before makes
+    let e : start + (end - start) ≡ end = omega arith in
+    rw before at makes.at ∙ ap Some (sym (take-add start (end - start) bytes) ∙ ap (λ (k : ℕ). take k bytes) e)
 piece_is_added old new name bytes start end (Err fault) ordered before makes = tt
 
 pub part_is_added : {T : Type 0} (old new : Files) (name bytes : List ℕ) (start n : ℕ) (answer : Result T WriteFault)
@@ -43,7 +23,16 @@ pub part_is_added : {T : Type 0} (old new : Files) (name bytes : List ℕ) (star
     → OnErr answer (HoldsPart new (record { name = name; bytes = bytes }))
 part_is_added old new name bytes start n (Ok _) before makes = tt
 part_is_added old new name bytes start n (Err write.Failed) before makes =
-    part_is_held old new name bytes start n before makes
+    elim makes.at [
+      | inl same ↦ record { count = start; part = same ∙ before }
+      | inr added ↦
+          let within : added.count ≤ n = omega (arith, added.within, length-take n (drop start bytes)) in
+          record {
+            count = start + added.count;
+            part = rw (before, take-take added.count n (drop start bytes) within) at added.added
+                ∙ ap Some (sym (take-add start added.count bytes));
+          }
+    ]
 part_is_added old new name bytes start n (Err write.NoMemory) before makes =
     record { count = start; part = makes name ∙ before }
 

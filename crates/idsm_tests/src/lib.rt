@@ -2,12 +2,14 @@
 //!
 //! Layer 10, runs. Each module tests one thing that no contract says: that calls succeed with ample
 //! memory, the printed texts, and the bytes and answers of worked examples, which were found by hand.
-//! Statuses, limits and ranges stand here as numbers. What needs threads, the host's files or private
-//! names is tested in its own crate.
+//! Statuses, limits and ranges stand here as numbers. What needs threads or private names is tested in its
+//! own crate.
 #![tactic(auto)]
 
 #[cfg(test)]
 mod configuration;
+#[cfg(test)]
+mod host_outside;
 #[cfg(test)]
 mod journals;
 #[cfg(test)]

@@ -1,20 +1,11 @@
 use Rattle.std.proofs.Common.{rules, sym}
-use Rattle.ids_outside.proofs.MemoryFilesLemmas.{changes_from_growth, same_from_growth}
+use Rattle.ids_outside.proofs.MemoryFilesLemmas.{changes_from_growth}
 use Rattle.ids_outside.proofs.memory_files.add_piece.Goals as goal
 
 -- what was written through the loan stands at the name
-pub returns-in-Some-clause-ok : goal.returns-in-Some-clause-ok
-returns-in-Some-clause-ok c =
-    let updates = (c.get_mut.follows.holds c.extend_from_slice.new.self).3 (search rules) in
+pub returns-in-Some : goal.returns-in-Some
+returns-in-Some c =
     changes_from_growth c.extend_from_slice.result c.args.name.now c.args.piece.now c.args.files.now
     (c.get_mut.follows.lender c.extend_from_slice.new.self) c.in-Some.bytes.now
-    c.extend_from_slice.new.self
-    (sym c.in-Some.ensures.value) updates c.extend_from_slice.ensures.items
-
-pub returns-in-Some-clause-err : goal.returns-in-Some-clause-err
-returns-in-Some-clause-err c =
-    let updates = (c.get_mut.follows.holds c.extend_from_slice.new.self).3 (search rules) in
-    same_from_growth c.extend_from_slice.result c.args.name.now c.args.piece.now c.args.files.now
-    (c.get_mut.follows.lender c.extend_from_slice.new.self) c.in-Some.bytes.now
-    c.extend_from_slice.new.self
-    (sym c.in-Some.ensures.value) updates c.extend_from_slice.ensures.items
+    c.extend_from_slice.new.self (sym c.in-Some.ensures.value)
+    ((c.get_mut.follows.holds c.extend_from_slice.new.self).3 (search rules)) c.extend_from_slice.ensures.items

@@ -1,4 +1,6 @@
-use crate::{FaultKind, HostShelf, HostSink, ReadFault, Shelf, Sink, WriteFault};
+//! The host's files and standard output.
+
+use ids_outside::{HostShelf, HostSink, ReadFault, Shelf, Sink, WriteFault};
 use std::fs;
 use std::test::Fail;
 
@@ -17,12 +19,9 @@ fn keeps_a_file_on_the_host(rt: HostRuntime) -> Result<(), Fail> {
     assert_eq!(rt; shelf.read(alloc, path, 5002), Err(ReadFault::TooLong));
     shelf.create(path)?;
     assert_eq!(rt; shelf.read(alloc, path, 0)?.len(), 0);
-    assert_eq!(rt; shelf.fault_count(), 0);
     fs::remove_file(&rt, path)?;
     assert_eq!(rt; shelf.read(alloc, path, 9), Err(ReadFault::Failed));
     assert_eq!(rt; shelf.create("no/such/folder"), Err(WriteFault::Failed));
-    assert!(rt; shelf.last_fault() == Some((FaultKind::Create, "no/such/folder")));
-    assert_eq!(rt; shelf.fault_count(), 2);
     Ok(())
 }
 
@@ -31,6 +30,5 @@ fn puts_on_standard_output(rt: HostRuntime) -> Result<(), Fail> {
     let mut sink = HostSink::new(rt);
     sink.put(b"")?;
     sink.put(b"\n")?;
-    assert_eq!(rt; sink.fault_count(), 0);
     Ok(())
 }
