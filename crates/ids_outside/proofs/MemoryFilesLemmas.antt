@@ -1,18 +1,37 @@
 -- How the files of a map change with the map, and how given files are found.
-use Rattle.std.proofs.Common.{◌≡◌, ◌++◌, ◌∷◌, [], ℕ, Bool, true, false, List, Some, Result, Ok, Err, is_ok, String, Vec, string_bytes, option_map, refl, sym, ap, ◌∙◌, arith, if◌then◌else◌}
+use Rattle.std.proofs.Common.{◌≡◌, ◌≢◌, ◌++◌, ◌∷◌, [], ℕ, Bool, true, false, List, Some, Result, Ok, Err, is_ok, String, Vec, string_bytes, option_map, refl, sym, subst, ap, ◌∙◌, arith, if◌then◌else◌}
+use Rattle.std.specs.Str.{bytes_eq}
 use Rattle.std.specs.BTreeMap.{BTreeMap, UpdatesBy, get_by_text}
 use Rattle.std.specs.Cmp.Lexicographic.{slice_cmp}
 use Rattle.std.specs.Ordering.{nat_cmp}
 use Rattle.std.specs.String.{string_cmp}
 use Rattle.std.specs.declared.alloc.Global.{Global}
-use Rattle.std.proofs.lemmas.Bool.{true≢false}
+use Rattle.std.proofs.lemmas.Bool.{false_from_ne_true, true≢false}
 use Rattle.std.proofs.lemmas.List.{reverse-append}
 use Rattle.std.proofs.lemmas.Grind.{common_steps}
 use Rattle.std.proofs.lemmas.Map.Text.{btree_map_updates_text}
 use Rattle.std.proofs.lemmas.Slice.Eq.{bytes_eq-Decides}
-use Rattle.ids_outside.proofs.FilesLemmas.{bytes_eq-differ, same_from_changes}
 use Rattle.ids_outside.specs.Files.{Files, SameFiles, Changes}
 use Rattle.ids_outside.specs.MemoryFiles.{Given, has_name, given_files, files_in, Adds}
+
+-- names that differ are told apart
+bytes_eq-differ : (name other : List ℕ) → other ≢ name → bytes_eq name other ≡ false
+bytes_eq-differ name other differ =
+    false_from_ne_true (bytes_eq name other)
+    (λ same. differ (sym ((bytes_eq-Decides name other).0 same)))
+
+-- a change of a name to what it has changes nothing
+same_from_changes : (old new : Files) (name : List ℕ)
+    → Changes old new name (old name) → SameFiles old new
+same_from_changes old new name changes other =
+    let test = bytes_eq-Decides name other in
+    let P : Bool → Type 0 = λ same. bytes_eq name other ≡ same → new other ≡ old other in
+    let cases : (same : Bool) → P same = elim [
+      | true ↦ λ same. subst (λ n. new n ≡ old n) (test.0 same) changes.at
+      | false ↦ λ differ.
+          changes.others other (λ same. true≢false (sym (test.1 (sym same)) ∙ differ))
+    ] in
+    cases (bytes_eq name other) refl
 
 -- the map of a shelf in memory
 abbrev pub Kept : Type 0

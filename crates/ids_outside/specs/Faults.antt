@@ -3,10 +3,10 @@
 use Rattle.std.specs.Prelude.{◌≡◌, ℕ, ◌+◌, ◌-◌, ◌^◌, ◌≤◌, min, List, Option, None, Some, Result, Ok, Err}
 use Rattle.ids_outside.specs.declared.faults.FaultKind.{FaultKind}
 use Rattle.ids_outside.specs.declared.faults.FaultKind.TheVariants.{Read}
-use Rattle.ids_outside.specs.declared.faults.ReadFault.{ReadFault}
 use Rattle.ids_outside.specs.declared.faults.ReadFault.TheVariants as read
-use Rattle.ids_outside.specs.declared.faults.WriteFault.{WriteFault}
+use Rattle.ids_outside.specs.declared.faults.ReadFault.{ReadFault}
 use Rattle.ids_outside.specs.declared.faults.WriteFault.TheVariants as write
+use Rattle.ids_outside.specs.declared.faults.WriteFault.{WriteFault}
 
 -- one more, in a count of 64 bits that stays at its greatest value
 abbrev pub counted : ℕ → ℕ

@@ -1,10 +1,10 @@
 -- Files by name, and what reads, creations and appends make of them.
 use Rattle.std.specs.Prelude.{◌≡◌, ◌≢◌, ◌⊎◌, ℕ, ◌<◌, ◌≤◌, List, [], ◌++◌, length, take, Option, Some, unwrap_or, IsSomeAnd, Result, Ok, Err, Vec}
-use Rattle.std.specs.declared.alloc.Global.{Global}
-use Rattle.ids_outside.specs.declared.faults.ReadFault.{ReadFault}
 use Rattle.ids_outside.specs.declared.faults.ReadFault.TheVariants as read
-use Rattle.ids_outside.specs.declared.faults.WriteFault.{WriteFault}
+use Rattle.ids_outside.specs.declared.faults.ReadFault.{ReadFault}
 use Rattle.ids_outside.specs.declared.faults.WriteFault.TheVariants as write
+use Rattle.ids_outside.specs.declared.faults.WriteFault.{WriteFault}
+use Rattle.std.specs.declared.alloc.Global.{Global}
 
 -- the bytes of each file by the bytes of its name, and none where there is no such file
 abbrev pub Files : Type 0

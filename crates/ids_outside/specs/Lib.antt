@@ -1,13 +1,9 @@
+pub mod Bodies
 pub mod Faults
 pub mod Files
 pub mod HostFaults
-pub mod HostShelf
-pub mod HostSink
 pub mod MemoryFiles
-pub mod MemoryShelf
-pub mod MemorySink
 pub mod Script
 pub mod Shelved
 pub mod Sinks
-pub mod SteadyShelf
 pub mod Streams

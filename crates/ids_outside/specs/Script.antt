@@ -1,10 +1,10 @@
 -- Scripted failures: a body in memory numbers its calls from 0, and those that a test lists fail.
 use Rattle.std.specs.Prelude.{◌≡◌, ◌⊎◌, ℕ, List, Option, None, Contains, Result, Ok, Err}
 use Rattle.ids_outside.specs.Faults.{counted}
-use Rattle.ids_outside.specs.declared.faults.ReadFault.{ReadFault}
 use Rattle.ids_outside.specs.declared.faults.ReadFault.TheVariants as read
-use Rattle.ids_outside.specs.declared.faults.WriteFault.{WriteFault}
+use Rattle.ids_outside.specs.declared.faults.ReadFault.{ReadFault}
 use Rattle.ids_outside.specs.declared.faults.WriteFault.TheVariants as write
+use Rattle.ids_outside.specs.declared.faults.WriteFault.{WriteFault}
 
 -- the numbers of the calls that are to fail, and how many calls were made
 pub record Plan : Type 0 where

@@ -1,8 +1,8 @@
 -- What a sink shows at a moment, and after each piece.
 use Rattle.std.specs.Prelude.{◌≡◌, ℕ, ◌≤◌, List, [], ◌++◌, length, take, Bool, true, false, Result, Ok, Err}
 use Rattle.ids_outside.specs.Faults.{Rose}
-use Rattle.ids_outside.specs.declared.faults.WriteFault.{WriteFault}
 use Rattle.ids_outside.specs.declared.faults.WriteFault.TheVariants as write
+use Rattle.ids_outside.specs.declared.faults.WriteFault.{WriteFault}
 
 -- how often a put has failed, and how often memory was refused to one
 pub record Misses : Type 0 where

@@ -1,11 +1,11 @@
 -- Whole reads and writes of the host's streams, where their bytes are known.
 use Rattle.std.specs.Prelude.{◌≡◌, ℕ, ◌<◌, ◌≤◌, List, length, take, Option, Result, Ok, Err, Vec}
 use Rattle.std.specs.Io.KnownBytes.{Appends, Keeps}
-use Rattle.std.specs.declared.alloc.Global.{Global}
-use Rattle.ids_outside.specs.declared.faults.ReadFault.{ReadFault}
 use Rattle.ids_outside.specs.declared.faults.ReadFault.TheVariants as read
-use Rattle.ids_outside.specs.declared.faults.WriteFault.{WriteFault}
+use Rattle.ids_outside.specs.declared.faults.ReadFault.{ReadFault}
 use Rattle.ids_outside.specs.declared.faults.WriteFault.TheVariants as write
+use Rattle.ids_outside.specs.declared.faults.WriteFault.{WriteFault}
+use Rattle.std.specs.declared.alloc.Global.{Global}
 
 -- a read to the end gives the bytes that were left, or says that they exceed the limit
 abbrev pub StreamGives : List ℕ → ℕ → Result (Vec ℕ Global) ReadFault → Type 0

@@ -1,4 +1,4 @@
-ghost use Rattle.std.specs.Prelude.{◌≡◌, ℕ, option_map, string_bytes, OnOk, OnErr};
+ghost use Rattle.std.specs.Prelude.{◌≡◌, option_map, string_bytes, OnOk, OnErr};
 ghost use Rattle.ids_outside.specs.Faults.{Fault, Faults, no_faults, counted, CountsFault, WantsMemory};
 
 use crate::count::one_more;

@@ -30,7 +30,7 @@ pub struct HostShelf<R: Files> {
 }
 
 impl<R: Files + Drop> HostShelf<R> {
-    ghost use Rattle.ids_outside.specs.HostShelf.{host_shelf_faults};
+    ghost use Rattle.ids_outside.specs.Bodies.{host_shelf_faults};
 
     /// Reaches the files by this runtime, and keeps the names of files in memory of `alloc`.
     pub fn new(rt: R, alloc: Global) -> HostShelf<R>
@@ -99,7 +99,7 @@ fn read_file<R: Files>(rt: &R, alloc: Global, name: &str, limit: u64) -> Result<
 }
 
 impl<R: Files + Drop> Shelf for HostShelf<R> {
-    ghost use Rattle.ids_outside.specs.HostShelf.{host_shelf_faults, open_name};
+    ghost use Rattle.ids_outside.specs.Bodies.{host_shelf_faults, open_name};
     ghost use Rattle.ids_outside.specs.Shelved.{silent};
 
     ghost shows = { λ shelf. silent (host_shelf_faults shelf) };

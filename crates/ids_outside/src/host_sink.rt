@@ -1,5 +1,5 @@
 ghost use Rattle.std.specs.Prelude.{◌≡◌};
-ghost use Rattle.ids_outside.specs.Sinks.{no_misses};
+ghost use Rattle.ids_outside.specs.Sinks.{no_misses, deaf};
 
 use crate::faults::WriteFault;
 use crate::missed::Missed;
@@ -15,7 +15,7 @@ pub struct HostSink<R> {
 }
 
 impl<R: Print + Drop> HostSink<R> {
-    ghost use Rattle.ids_outside.specs.HostSink.{host_sink_misses};
+    ghost use Rattle.ids_outside.specs.Bodies.{host_sink_misses};
 
     /// Writes by this runtime.
     pub fn new(rt: R) -> HostSink<R>
@@ -29,8 +29,7 @@ impl<R: Print + Drop> HostSink<R> {
 }
 
 impl<R: Print + Drop> Sink for HostSink<R> {
-    ghost use Rattle.ids_outside.specs.HostSink.{host_sink_misses};
-    ghost use Rattle.ids_outside.specs.Sinks.{deaf};
+    ghost use Rattle.ids_outside.specs.Bodies.{host_sink_misses};
 
     ghost hears = { λ sink. deaf (host_sink_misses sink) };
 

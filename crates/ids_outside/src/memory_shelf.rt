@@ -1,7 +1,10 @@
-ghost use Rattle.std.specs.Prelude.{◌≡◌, ◌≤◌, ℕ, List, length, option_map, IfOk, OnErr, IsTrue};
-ghost use Rattle.ids_outside.specs.Faults.{no_faults};
-ghost use Rattle.ids_outside.specs.Files.{SameFiles};
+ghost use Rattle.std.specs.Prelude.{◌≡◌, ◌≤◌, length, option_map, IfOk, OnErr, IsTrue};
+ghost use Rattle.ids_outside.specs.Faults.{no_faults, ReadCause, WriteCause};
+ghost use Rattle.ids_outside.specs.Files.{SameFiles, ReadGives, CreateMakes, AppendMakes};
 ghost use Rattle.ids_outside.specs.MemoryFiles.{given_files, names_differ};
+ghost use Rattle.ids_outside.specs.declared.faults.FaultKind.TheVariants.{Create, Append};
+ghost use Rattle.ids_outside.specs.Script.{CountsCall, ReadFollows, WriteFollows};
+ghost use Rattle.ids_outside.specs.Shelved.{telling};
 
 use crate::fault_log::FaultLog;
 use crate::faults::{FaultKind, ReadFault, WriteFault};
@@ -22,7 +25,7 @@ pub struct MemoryShelf {
 }
 
 impl MemoryShelf {
-    ghost use Rattle.ids_outside.specs.MemoryShelf.{shelf_files, shelf_faults, shelf_plan};
+    ghost use Rattle.ids_outside.specs.Bodies.{shelf_files, shelf_faults, shelf_plan};
 
     /// A shelf of these files, no two of one name. Its calls of `read`, `create` and `append` are
     /// numbered from 0, and those in `fails` fail.
@@ -70,12 +73,7 @@ impl MemoryShelf {
 }
 
 impl Shelf for MemoryShelf {
-    ghost use Rattle.ids_outside.specs.Faults.{ReadCause, WriteCause};
-    ghost use Rattle.ids_outside.specs.Files.{ReadGives, CreateMakes, AppendMakes};
-    ghost use Rattle.ids_outside.specs.Script.{CountsCall, ReadFollows, WriteFollows};
-    ghost use Rattle.ids_outside.specs.MemoryShelf.{shelf_files, shelf_faults, shelf_plan};
-    ghost use Rattle.ids_outside.specs.Shelved.{telling};
-    ghost use Rattle.ids_outside.specs.declared.faults.FaultKind.TheVariants.{Create, Append};
+    ghost use Rattle.ids_outside.specs.Bodies.{shelf_files, shelf_faults, shelf_plan};
 
     ghost shows = { λ shelf. telling (shelf_files shelf) (shelf_faults shelf) };
 

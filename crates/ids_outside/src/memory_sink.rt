@@ -1,5 +1,6 @@
-ghost use Rattle.std.specs.Prelude.{◌≡◌, ◌∷◌, [], ℕ, List, IfOk, OnErr};
-ghost use Rattle.ids_outside.specs.Sinks.{no_misses};
+ghost use Rattle.std.specs.Prelude.{◌≡◌, [], IfOk, OnErr};
+ghost use Rattle.ids_outside.specs.Script.{CountsCall, WriteFollows};
+ghost use Rattle.ids_outside.specs.Sinks.{no_misses, PutTakes, PutCause, hearing};
 
 use crate::faults::WriteFault;
 use crate::missed::Missed;
@@ -17,7 +18,7 @@ pub struct MemorySink {
 }
 
 impl MemorySink {
-    ghost use Rattle.ids_outside.specs.MemorySink.{sink_taken, sink_misses, sink_plan};
+    ghost use Rattle.ids_outside.specs.Bodies.{sink_taken, sink_misses, sink_plan};
 
     /// A sink that has taken nothing. Its puts are numbered from 0, and those in `fails` fail.
     pub fn make(alloc: Global, fails: Vec<u64>) -> Result<MemorySink, NoMemory>
@@ -49,9 +50,7 @@ impl MemorySink {
 }
 
 impl Sink for MemorySink {
-    ghost use Rattle.ids_outside.specs.Script.{CountsCall, WriteFollows};
-    ghost use Rattle.ids_outside.specs.Sinks.{PutTakes, PutCause, hearing};
-    ghost use Rattle.ids_outside.specs.MemorySink.{sink_taken, sink_misses, sink_plan};
+    ghost use Rattle.ids_outside.specs.Bodies.{sink_taken, sink_misses, sink_plan};
 
     ghost hears = { λ sink. hearing (sink_taken sink) (sink_misses sink) };
 

@@ -1,6 +1,11 @@
-ghost use Rattle.std.specs.Prelude.{◌≡◌, ◌≢◌, ◌≤◌, ℕ, List, length, option_map, IfOk, Err};
-ghost use Rattle.ids_outside.specs.Files.{SameFiles, empty_elsewhere};
+ghost use Rattle.std.specs.Prelude.{◌≡◌, ◌≢◌, ◌≤◌, length, option_map, IfOk, Err};
+ghost use Rattle.ids_outside.specs.Faults.{ReadCause, WriteCause};
+ghost use Rattle.ids_outside.specs.Files.{SameFiles, ReadGives, CreateMakes, AppendMakes, empty_elsewhere};
 ghost use Rattle.ids_outside.specs.MemoryFiles.{given_files};
+ghost use Rattle.ids_outside.specs.declared.faults.FaultKind.TheVariants.{Create, Append};
+ghost use Rattle.ids_outside.specs.declared.faults.ReadFault.TheVariants as read;
+ghost use Rattle.ids_outside.specs.declared.faults.WriteFault.TheVariants as write;
+ghost use Rattle.ids_outside.specs.Shelved.{telling};
 
 use crate::fault_log::FaultLog;
 use crate::faults::{ReadFault, WriteFault};
@@ -20,7 +25,7 @@ pub struct SteadyShelf {
 }
 
 impl SteadyShelf {
-    ghost use Rattle.ids_outside.specs.SteadyShelf.{steady_files};
+    ghost use Rattle.ids_outside.specs.Bodies.{steady_files};
 
     /// A shelf of these files. Of those of one name the last one stays.
     pub fn make(alloc: Global, files: Vec<(String, Vec<u8>)>) -> Result<SteadyShelf, NoMemory>
@@ -42,13 +47,7 @@ impl SteadyShelf {
 }
 
 impl Shelf for SteadyShelf {
-    ghost use Rattle.ids_outside.specs.Faults.{ReadCause, WriteCause};
-    ghost use Rattle.ids_outside.specs.Files.{ReadGives, CreateMakes, AppendMakes};
-    ghost use Rattle.ids_outside.specs.Shelved.{telling};
-    ghost use Rattle.ids_outside.specs.SteadyShelf.{steady_files, steady_faults};
-    ghost use Rattle.ids_outside.specs.declared.faults.FaultKind.TheVariants.{Create, Append};
-    ghost use Rattle.ids_outside.specs.declared.faults.ReadFault.TheVariants as read;
-    ghost use Rattle.ids_outside.specs.declared.faults.WriteFault.TheVariants as write;
+    ghost use Rattle.ids_outside.specs.Bodies.{steady_files, steady_faults};
 
     ghost shows = { λ shelf. telling (empty_elsewhere (steady_files shelf)) (steady_faults shelf) };
 
