@@ -1,19 +1,6 @@
 -- The command `fold`, from its inputs to its outputs.
 use Rattle.std.proofs.Common.{◌≡◌, ℕ, List, Ok, IsTrue, sym, subst, inr}
-use Rattle.ids_config.specs.Parts.{Parts}
-use Rattle.ids_outside.specs.Faults.{WantsMemory}
-use Rattle.ids_outside.specs.Files.{SameFiles}
-use Rattle.ids_outside.specs.Shelved.{Shelved}
-use Rattle.ids_outside.specs.declared.faults.WriteFault.{WriteFault}
-use Rattle.ids_outside.specs.declared.faults.WriteFault.TheVariants as write
-use Rattle.ids_types.specs.Turns.{Turn}
-use Rattle.idsm_run.specs.Command.{FoldFiles, fold}
-use Rattle.idsm_run.specs.Fold.{fold_outputs, fold_text}
-use Rattle.idsm_run.specs.Judge.{fold_work, judge}
-use Rattle.idsm_run.specs.Run.{WasDone, StopsFor, OneFails, PartWritten}
-use Rattle.idsm_run.specs.Sending.{messages_of}
-use Rattle.idsm_run.specs.Stages.{plain_stop}
-use Rattle.idsm_run.specs.Writing.{AreWritten, StandUpTo, stop_of_write}
+use Rattle.idsm_run.specs.Words.{Parts, WantsMemory, SameFiles, Shelved, WriteFault, Failed, MemoryRefused, Turn, FoldFiles, fold, fold_outputs, fold_text, fold_work, judge, WasDone, StopsFor, OneFails, PartWritten, messages_of, plain_stop, AreWritten, StandUpTo, stop_of_write}
 use Rattle.idsm_run.proofs.WritingLemmas.{StandUpTo-before}
 
 module _ (names : FoldFiles) (config : Parts) (turns : List Turn) (bytes : List ℕ) (old middle new : Shelved)
@@ -50,11 +37,11 @@ module _ (names : FoldFiles) (config : Parts) (turns : List Turn) (bytes : List 
       → (IsTrue middle.tells → StandUpTo (fold_outputs names bytes) middle.files new.files)
       → OneFails (fold names) middle.faults new.faults fault
       → StopsFor (fold names) (plain_stop (stop_of_write fault)) old new
-  fold_stopped write.Failed same faults stands fails = record {
-    fails = subst (λ f. OneFails (fold names) f new.faults write.Failed) faults fails;
+  fold_stopped Failed same faults stands fails = record {
+    fails = subst (λ f. OneFails (fold names) f new.faults Failed) faults fails;
     part = part_written same stands;
   }
-  fold_stopped write.NoMemory same faults stands fails =
+  fold_stopped MemoryRefused same faults stands fails =
       let wants : WantsMemory old.faults new.faults =
       subst (λ f. WantsMemory f new.faults) faults fails.fails in
       inr (wants.rose, part_written same stands)

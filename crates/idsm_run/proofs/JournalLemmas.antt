@@ -1,24 +1,13 @@
 -- What a journal that is folded says of its turns.
 use Rattle.std.proofs.Common.{◌≡◌, ℕ, ◌+◌, ◌≤◌, List, [], ◌∷◌, ◌++◌, length, map, true, refl, arith, length-append}
-use Rattle.std.specs.List.{flat_map, AllByRecursion}
+use Rattle.idsm_run.specs.Words.{flat_map, AllByRecursion, Parts, Carried, Absent, Kept, Missing, Act, Report, State, SetMode, Entry, Turn, entries_of, Line, enters, loses, turn_told, lines_told, line_for, IsJournal, told, IsShort, CanSend, CanSendTurn}
 use Rattle.std.specs.Prelude.{nat_le, ◌&&◌}
 use Rattle.std.proofs.lemmas.Bool.{and_parts}
 use Rattle.std.proofs.lemmas.List.{length-map}
-use Rattle.ids_config.specs.Parts.{Parts}
-use Rattle.ids_types.specs.declared.entry.Carried.{Carried}
-use Rattle.ids_types.specs.declared.entry.Carried.TheVariants.{Absent, Kept, Missing}
-use Rattle.ids_types.specs.declared.entry.Act.{Act}
-use Rattle.ids_types.specs.declared.entry.Act.TheVariants.{Report, State, SetMode}
-use Rattle.ids_types.specs.declared.entry.Entry.{Entry}
 use Rattle.ids_types.specs.declared.loss.Loss.{Loss}
-use Rattle.ids_types.specs.Turns.{Turn, entries_of}
-use Rattle.text_spec.specs.JournalText.{Line, enters, loses, turn_told, lines_told, line_for}
 use Rattle.text_spec.specs.JournalFaults.{is_call, is_context, is_act, has_event, is_in_ranges}
-use Rattle.text_spec.specs.JournalReading.{IsJournal}
 use Rattle.text_spec.specs.Words.{text_of}
 use Rattle.text_spec.proofs.JournalFacts.{sensor_is_there}
-use Rattle.journal.specs.Answers.{told}
-use Rattle.idsm_run.specs.Sending.{IsShort, CanSend, CanSendTurn}
 
 -- ---- what can be sent
 

@@ -4,25 +4,8 @@ use Rattle.std.specs.Prelude.{Result, Contains}
 use Rattle.std.specs.Str.{bytes_eq}
 use Rattle.std.proofs.lemmas.Bool.{false_from_ne_true}
 use Rattle.std.proofs.lemmas.Slice.Eq.{bytes_eq-Decides}
-use Rattle.config_json.specs.Configured.{configuration}
-use Rattle.ids_config.specs.Parts.{Parts}
-use Rattle.ids_frame.specs.Message.{MessageParts}
-use Rattle.ids_frame.specs.Messages.{messages_read}
-use Rattle.ids_frame.specs.declared.fault.BadMessage.{BadMessage}
-use Rattle.ids_outside.specs.Faults.{CountsFault}
-use Rattle.ids_outside.specs.Files.{Files, SameFiles, SameOthers}
-use Rattle.ids_outside.specs.Shelved.{Shelved}
-use Rattle.ids_outside.specs.declared.faults.FaultKind.TheVariants.{Read}
-use Rattle.ids_types.specs.Turns.{Turn}
-use Rattle.idsm_run.specs.declared.stop.Refusal.TheVariants.{BadMessages}
-use Rattle.idsm_run.specs.declared.stop.Stop.{Stop}
-use Rattle.idsm_run.specs.declared.stop.Stop.TheVariants.{CannotRead, TooLong, Refused, CannotWrite, NoMemory}
-use Rattle.idsm_run.specs.Command.{Command, FoldFiles, fold, decode, read_by}
-use Rattle.idsm_run.specs.FoldedJournal.{folded_in}
+use Rattle.idsm_run.specs.Words.{configuration, Parts, MessageParts, messages_read, BadMessage, CountsFault, Files, SameFiles, SameOthers, Shelved, Read, Turn, BadMessages, Stop, CannotRead, TooLong, Refused, CannotWrite, NoMemory, Command, FoldFiles, fold, decode, read_by, folded_in, file_of, without, config_judged, journal_judged, judge, fold_work, decode_work, StopsFor, ReadStops, StopsAs}
 use Rattle.idsm_run.specs.Judge
-use Rattle.idsm_run.specs.Judge.{file_of, without, config_judged, journal_judged, judge, fold_work, decode_work}
-use Rattle.idsm_run.specs.Run.{StopsFor}
-use Rattle.idsm_run.specs.Stages.{ReadStops, StopsAs}
 
 without-itself : (name : List ℕ) (files : Files) → without name files name ≡ None
 without-itself name files = rw ((bytes_eq-Decides name name).1 refl) refl

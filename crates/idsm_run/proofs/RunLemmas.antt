@@ -1,21 +1,7 @@
 -- How a command ended, how that was told, and what the files deserve.
 use Rattle.std.proofs.Common.{◌≡◌, ℕ, List, Ok, Err, Bor, IsTrue, subst, inl, inr}
 use Rattle.std.specs.Prelude.{Result, IfOk, IfErr, Vec, ⊤}
-use Rattle.std.specs.declared.alloc.Global.{Global}
-use Rattle.ids_outside.specs.Files.{SameFiles}
-use Rattle.ids_outside.specs.Shelved.{Shelved}
-use Rattle.ids_outside.specs.Sinks.{Heard, PutCause}
-use Rattle.ids_outside.specs.declared.faults.WriteFault.{WriteFault}
-use Rattle.ids_outside.specs.declared.faults.WriteFault.TheVariants as write
-use Rattle.idsm_run.specs.declared.stop.Stop.{Stop}
-use Rattle.idsm_run.specs.declared.stop.Stop.TheVariants.{CannotRead, TooLong, Refused, CannotWrite, NoMemory}
-use Rattle.idsm_run.specs.Command.{Command}
-use Rattle.idsm_run.specs.Deserts.{EndsWith, EndsOrFails}
-use Rattle.idsm_run.specs.Judge.{Work, judge}
-use Rattle.idsm_run.specs.Run.{RanCommand, EndsAs, StopsFor, WasDone, WasRefused, OneFails}
-use Rattle.idsm_run.specs.Saying.{Puts, Says, Tells, put_status}
-use Rattle.idsm_run.specs.Stages.{plain_stop, plain_end}
-use Rattle.idsm_run.specs.Texts.{stop_text, stop_status, answer_text, answer_status}
+use Rattle.idsm_run.specs.Words.{Global, SameFiles, Shelved, Heard, PutCause, WriteFault, Failed, MemoryRefused, Stop, CannotRead, TooLong, Refused, CannotWrite, NoMemory, Command, EndsWith, EndsOrFails, Work, judge, RanCommand, EndsAs, StopsFor, WasDone, WasRefused, OneFails, Puts, Says, Tells, put_status, plain_stop, plain_end, stop_text, stop_status, answer_text, answer_status}
 
 module _ (command : Command) (status : ℕ) (old new : Shelved) (before after : Heard) where
   -- where there was no memory to tell that the inputs do not serve, memory was wanted
@@ -48,8 +34,8 @@ module _ (command : Command) (status : ℕ) (old new : Shelved) (before after : 
   put_so : (wanted : ℕ) (put : Result ⊤ WriteFault) → status ≡ put_status wanted put
       → PutCause before.misses after.misses put → EndsWith wanted command status old new before after
   put_so wanted (Ok done) is cause = inl is
-  put_so wanted (Err write.Failed) is cause = inr (inr (inl (is, cause)))
-  put_so wanted (Err write.NoMemory) is cause = inr (inl is)
+  put_so wanted (Err Failed) is cause = inr (inr (inl (is, cause)))
+  put_so wanted (Err MemoryRefused) is cause = inr (inl is)
 
   put_ends : (wanted : ℕ) (text : List ℕ) → Puts text wanted status before after
       → EndsWith wanted command status old new before after
@@ -85,7 +71,7 @@ module _ (command : Command) (status : ℕ) (old new : Shelved) (before after : 
     refused_ends (Err NoMemory) wanted deserved ends puts = starved _ (put_ends 8 _ puts)
 
     -- where a file was not written, its text may not have been put either
-    unwritten : OneFails command old.faults new.faults write.Failed
+    unwritten : OneFails command old.faults new.faults Failed
         → EndsWith 7 command status old new before after → EndsOrFails 0 command status old new before after
     unwritten fails (inl is) = inr (is, fails)
     unwritten fails (inr other) = inl (inr other)

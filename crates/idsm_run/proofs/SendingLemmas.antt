@@ -1,13 +1,7 @@
 -- Messages that are sent: how long they are, and those of the first so many entries and turns.
 use Rattle.std.proofs.Common.{ℕ, ◌≤◌, List, length, Option, IfSome, refl, arith, length-append}
-use Rattle.ids_types.specs.declared.entry.Carried.{Carried}
-use Rattle.ids_types.specs.declared.entry.Carried.TheVariants.{Absent, Kept, Missing}
-use Rattle.ids_types.specs.declared.names.Stamp.{Stamp}
-use Rattle.ids_frame.specs.Message.{MessageParts}
-use Rattle.ids_frame.specs.Spelling.{spelling}
+use Rattle.idsm_run.specs.Words.{Carried, Absent, Kept, Missing, Stamp, MessageParts, spelling, Parts, IsShort, context_sent, message_of}
 use Rattle.ids_frame.proofs.SpellingLemmas.{unsigned_spelling_is_short}
-use Rattle.ids_config.specs.Parts.{Parts}
-use Rattle.idsm_run.specs.Sending.{IsShort, context_sent, message_of}
 
 -- a context that fits has at most 1,024 bytes
 context_is_short : (context : Carried (List ℕ)) → IsShort context

@@ -1,12 +1,9 @@
 -- A file that is written piece by piece.
-use Rattle.std.proofs.Common.{◌≡◌, ℕ, zero, suc, ◌+◌, ◌-◌, ◌≤◌, List, [], ◌∷◌, ◌++◌, length, take, drop, Option, Some, Ok, Err, refl, sym, ap, subst, ◌∙◌, arith, inl, inr, length-append}
-use Rattle.std.specs.Prelude.{unwrap_or, Result, OnOk, OnErr}
+use Rattle.std.proofs.Common.{◌≡◌, ℕ, ◌+◌, ◌-◌, ◌≤◌, List, [], ◌∷◌, ◌++◌, take, drop, Some, Ok, Err, refl, sym, ap, ◌∙◌, arith, inl, inr}
+use Rattle.std.specs.Prelude.{Result, OnOk, OnErr}
 use Rattle.std.proofs.lemmas.List.{take-take, length-take}
 use Rattle.std.proofs.Math.Seq.{take-add}
-use Rattle.ids_outside.specs.Files.{Files, SameFiles, Changes, AddsAtMost, AppendMakes, bytes_at}
-use Rattle.ids_outside.specs.declared.faults.WriteFault.{WriteFault}
-use Rattle.ids_outside.specs.declared.faults.WriteFault.TheVariants as write
-use Rattle.idsm_run.specs.Writing.{Output, AreUntouched, HoldsPart, StandsInPart, StandUpTo, Cuts}
+use Rattle.idsm_run.specs.Words.{Files, SameFiles, AppendMakes, WriteFault, Failed, MemoryRefused, Output, AreUntouched, HoldsPart, StandsInPart, StandUpTo, Cuts}
 
 -- what an append of the next piece leaves: the bytes up to its end, or a first part of them
 pub piece_is_added : {T : Type 0} (old new : Files) (name bytes : List ℕ) (start end : ℕ) (answer : Result T WriteFault)
@@ -22,7 +19,7 @@ pub part_is_added : {T : Type 0} (old new : Files) (name bytes : List ℕ) (star
     → old name ≡ Some (take start bytes) → AppendMakes old new name (take n (drop start bytes)) answer
     → OnErr answer (HoldsPart new (record { name = name; bytes = bytes }))
 part_is_added old new name bytes start n (Ok _) before makes = tt
-part_is_added old new name bytes start n (Err write.Failed) before makes =
+part_is_added old new name bytes start n (Err Failed) before makes =
     elim makes.at [
       | inl same ↦ record { count = start; part = same ∙ before }
       | inr added ↦
@@ -33,7 +30,7 @@ part_is_added old new name bytes start n (Err write.Failed) before makes =
                 ∙ ap Some (sym (take-add start added.count bytes));
           }
     ]
-part_is_added old new name bytes start n (Err write.NoMemory) before makes =
+part_is_added old new name bytes start n (Err MemoryRefused) before makes =
     record { count = start; part = makes name ∙ before }
 
 -- the bytes went on to a next cut

@@ -1,13 +1,8 @@
 -- What the chain of this release can mean: it sends every report as it is, and knows no controls.
 use Rattle.std.specs.Prelude.{Bool, true, false, not, ◌&&◌, ◌==◌, ℕ, List, length, is_none}
-use Rattle.std.specs.List.{list_all, list_any}
-use Rattle.ids_types.specs.declared.entry.Act.{Act}
-use Rattle.ids_types.specs.declared.entry.Act.TheVariants.{Report}
-use Rattle.ids_types.specs.declared.entry.Entry.{Entry}
-use Rattle.ids_types.specs.Turns.{Turn}
+use Rattle.idsm_run.specs.Names.{list_all, list_any, Act, Report, Entry, Turn, Event, Parts}
 use Rattle.ids_types.specs.declared.mode.Mode.{Mode}
 use Rattle.ids_types.specs.declared.mode.Mode.TheVariants.{Detailed}
-use Rattle.ids_config.specs.Parts.{Event, Parts}
 
 -- the mode lets a report through the filters with its context
 abbrev pub is_detailed : Mode → Bool

@@ -1,8 +1,7 @@
 -- The commands of the program, as its words give them.
 -- Source: docs/COMMANDS.md.
 use Rattle.std.specs.Prelude.{◌≡◌, ◌≢◌, ℕ, ◌&&◌, ◌==◌, not, bytes_eq, Bool, true, List, [], ◌∷◌, length, Option, Some, None, codes, if◌then◌else◌}
-use Rattle.std.specs.List.{list_any}
-use Rattle.ids_outside.specs.Files.{Files}
+use Rattle.idsm_run.specs.Names.{list_any, Files}
 
 -- the files that `fold` names: two that it reads, and two that it writes
 pub record FoldFiles : Type 0 where

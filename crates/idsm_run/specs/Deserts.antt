@@ -1,8 +1,6 @@
 -- What the input files deserve decides the answer of a run.
 use Rattle.std.specs.Prelude.{◌≡◌, ◌⊎◌, ℕ, List}
-use Rattle.ids_outside.specs.Shelved.{Shelved}
-use Rattle.ids_outside.specs.Sinks.{Heard, MissesOne}
-use Rattle.ids_outside.specs.declared.faults.WriteFault.TheVariants.{Failed}
+use Rattle.idsm_run.specs.Names.{Shelved, Heard, MissesOne, Failed}
 use Rattle.idsm_run.specs.Command.{Command}
 use Rattle.idsm_run.specs.Run.{OneFails, WasUnread}
 

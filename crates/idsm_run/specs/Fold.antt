@@ -1,6 +1,6 @@
 -- The command `fold`: the files that it writes, and its text.
 use Rattle.std.specs.Prelude.{ℕ, List, [], ◌∷◌, ◌++◌, length, codes, decimal}
-use Rattle.ids_types.specs.Turns.{Turn, entries_of}
+use Rattle.idsm_run.specs.Names.{Turn, entries_of}
 use Rattle.idsm_run.specs.Sending.{count_of}
 use Rattle.idsm_run.specs.Command.{FoldFiles}
 use Rattle.idsm_run.specs.Writing.{Output}

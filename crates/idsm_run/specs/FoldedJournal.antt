@@ -1,10 +1,7 @@
 -- Which journals `fold` folds: what they say of held-back events has to be the chain's own number.
 -- The chain of this release holds nothing back.
 use Rattle.std.specs.Prelude.{ℕ, ◌+◌, ◌==◌, List, [], ◌∷◌, length, Option, Some, None, Result, Ok, Err, if◌then◌else◌}
-use Rattle.ids_config.specs.Parts.{Parts}
-use Rattle.ids_types.specs.Turns.{Turn}
-use Rattle.text_spec.specs.JournalText.{Told}
-use Rattle.text_spec.specs.JournalReading.{BadLine, journal_in}
+use Rattle.idsm_run.specs.Names.{Parts, Turn, Told, BadLine, journal_in}
 
 -- the next step, where nothing was refused yet
 infixl 10 ◌>>=◌

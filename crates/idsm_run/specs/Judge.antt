@@ -2,20 +2,7 @@
 -- in the order in which files are read and judged.
 -- Source: docs/COMMANDS.md, "Order of work".
 use Rattle.std.specs.Prelude.{ℕ, List, [], length, nat_lt, Option, Some, None, Result, Ok, Err, if◌then◌else◌, bytes_eq}
-use Rattle.config_json.specs.Configured.{configuration}
-use Rattle.ids_config.specs.Parts.{Parts}
-use Rattle.ids_config.specs.declared.fault.ConfigFault.{ConfigFault}
-use Rattle.ids_frame.specs.Message.{MessageParts}
-use Rattle.ids_frame.specs.Messages.{messages_read}
-use Rattle.ids_frame.specs.declared.fault.BadMessage.{BadMessage}
-use Rattle.ids_outside.specs.Files.{Files}
-use Rattle.ids_types.specs.Turns.{Turn}
-use Rattle.text_spec.specs.DecodedText.{decoded_text}
-use Rattle.text_spec.specs.JournalReading.{BadLine}
-use Rattle.text_spec.specs.JournalText.{Told}
-use Rattle.idsm_run.specs.declared.stop.Refusal.TheVariants.{BadConfig, NotBuilt, BadJournal, BadMessages}
-use Rattle.idsm_run.specs.declared.stop.Stop.{Stop}
-use Rattle.idsm_run.specs.declared.stop.Stop.TheVariants.{CannotRead, TooLong, Refused}
+use Rattle.idsm_run.specs.Names.{configuration, Parts, ConfigFault, MessageParts, messages_read, BadMessage, Files, Turn, decoded_text, BadLine, Told, BadConfig, NotBuilt, BadJournal, BadMessages, Stop, CannotRead, TooLong, Refused}
 use Rattle.idsm_run.specs.Built.{is_built, has_control}
 use Rattle.idsm_run.specs.Command.{Command, fold, decode, FoldFiles}
 use Rattle.idsm_run.specs.Fold.{fold_outputs, fold_text}

@@ -5,9 +5,11 @@ pub mod Deserts
 pub mod Fold
 pub mod FoldedJournal
 pub mod Judge
+pub mod Names
 pub mod Run
 pub mod Saying
 pub mod Sending
 pub mod Stages
 pub mod Texts
+pub mod Words
 pub mod Writing

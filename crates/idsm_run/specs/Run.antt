@@ -1,18 +1,8 @@
 -- What a run does, by cases on its command: it did its command's work, or stopped, each with its status
 -- and its text.
 -- Source: docs/COMMANDS.md.
-use Rattle.std.specs.Prelude.{◌≡◌, ◌⊎◌, ℕ, List, [], ◌∷◌, IsTrue, Option, Some, None, Result, Ok, Err, Contains}
-use Rattle.ids_outside.specs.Faults.{Faults, Rose, CountsFault}
-use Rattle.ids_outside.specs.Files.{Files, SameFiles}
-use Rattle.ids_outside.specs.Shelved.{Shelved}
-use Rattle.ids_outside.specs.Sinks.{Heard}
-use Rattle.ids_outside.specs.declared.faults.FaultKind.TheVariants.{Read}
-use Rattle.ids_outside.specs.declared.faults.WriteFault.{WriteFault}
-use Rattle.ids_outside.specs.declared.faults.WriteFault.TheVariants.{Failed}
-use Rattle.idsm_run.specs.declared.stop.Refusal.{Refusal}
-use Rattle.idsm_run.specs.declared.stop.Refusal.TheVariants.{BadMessages}
-use Rattle.idsm_run.specs.declared.stop.Stop.{Stop}
-use Rattle.idsm_run.specs.declared.stop.Stop.TheVariants.{CannotRead, TooLong, Refused, CannotWrite, NoMemory}
+use Rattle.std.specs.Prelude.{◌≡◌, ◌⊎◌, ℕ, List, [], IsTrue, Option, Some, None, Result, Ok, Err, Contains}
+use Rattle.idsm_run.specs.Names.{Faults, Rose, CountsFault, Files, SameFiles, Shelved, Heard, Read, WriteFault, Failed, Refusal, BadMessages, Stop, CannotRead, TooLong, Refused, CannotWrite, NoMemory}
 use Rattle.idsm_run.specs.Command.{Command, fold, decode, read_by, written_by}
 use Rattle.idsm_run.specs.Judge.{Work, judge, without}
 use Rattle.idsm_run.specs.Saying.{Puts}

@@ -1,17 +1,13 @@
 -- How the put of a run's one text ends.
 use Rattle.std.specs.Prelude.{◌≡◌, ◌≢◌, ◌⊎◌, ℕ, List, [], IsTrue, Result, Ok, Err, IfErr, ⊤}
-use Rattle.ids_outside.specs.Sinks.{Heard, PutTakes, PutCause}
-use Rattle.ids_outside.specs.declared.faults.WriteFault.{WriteFault}
-use Rattle.ids_outside.specs.declared.faults.WriteFault.TheVariants as write
-use Rattle.idsm_run.specs.declared.stop.Stop.{Stop}
-use Rattle.idsm_run.specs.declared.stop.Stop.TheVariants.{CannotWrite, NoMemory}
+use Rattle.idsm_run.specs.Names.{Heard, PutTakes, PutCause, WriteFault, Failed, MemoryRefused, Stop, CannotWrite, NoMemory}
 use Rattle.idsm_run.specs.Texts.{stop_text, stop_status, no_memory_text}
 
 -- the status of a run whose put answered so, where this one goes with its text
 abbrev pub put_status : ℕ → Result ⊤ WriteFault → ℕ
 put_status wanted (Ok done) = wanted
-put_status wanted (Err write.Failed) = 7
-put_status wanted (Err write.NoMemory) = 8
+put_status wanted (Err Failed) = 7
+put_status wanted (Err MemoryRefused) = 8
 
 -- the text was put, with this status; or the put failed, behind a first part of it, or memory was refused
 -- to it. The put of no text cannot fail.

@@ -1,19 +1,9 @@
 -- The messages that the manager sends: one for each report, in the order of the reports.
 -- After the event message of the AUTOSAR PRS Intrusion Detection System; that every report is sent
 -- as it is, is this release's own.
-use Rattle.std.specs.Prelude.{ℕ, ◌+◌, ◌<◌, ◌≤◌, List, [], ◌∷◌, length, sum_by, Option, Some, None, ⊤}
-use Rattle.std.specs.List.{flat_map, AllByRecursion}
-use Rattle.ids_types.specs.declared.entry.Carried.{Carried}
-use Rattle.ids_types.specs.declared.entry.Carried.TheVariants.{Kept}
-use Rattle.ids_types.specs.declared.entry.Act.{Act}
-use Rattle.ids_types.specs.declared.entry.Act.TheVariants.{Report}
-use Rattle.ids_types.specs.declared.entry.Entry.{Entry}
-use Rattle.ids_types.specs.declared.names.Stamp.{Stamp}
-use Rattle.ids_types.specs.Turns.{Turn}
+use Rattle.std.specs.Prelude.{ℕ, ◌<◌, ◌≤◌, List, [], length, sum_by, Option, Some, None, ⊤}
+use Rattle.idsm_run.specs.Names.{flat_map, AllByRecursion, Carried, Kept, Act, Report, Entry, Stamp, Turn, MessageParts, spelling, Parts, event_at}
 use Rattle.ids_frame.specs.Context.{ContextPart, context_of}
-use Rattle.ids_frame.specs.Message.{MessageParts}
-use Rattle.ids_frame.specs.Spelling.{spelling}
-use Rattle.ids_config.specs.Parts.{Parts, event_at}
 
 -- the context that a message takes along: the one that was kept
 abbrev pub context_sent : Carried (List ℕ) → Option ContextPart

@@ -1,14 +1,7 @@
 -- What the stages of reading answer: what their bytes deserve, or want of memory.
 use Rattle.std.specs.Borrow.{Bor}
 use Rattle.std.specs.Prelude.{◌≡◌, ℕ, List, IsTrue, Result, Ok, Err, Vec, ⊤}
-use Rattle.std.specs.declared.alloc.Global.{Global}
-use Rattle.ids_outside.specs.Faults.{CountsFault}
-use Rattle.ids_outside.specs.Shelved.{Shelved}
-use Rattle.ids_outside.specs.declared.faults.FaultKind.TheVariants.{Read}
-use Rattle.ids_outside.specs.declared.faults.WriteFault.{WriteFault}
-use Rattle.ids_outside.specs.declared.faults.WriteFault.TheVariants as write
-use Rattle.idsm_run.specs.declared.stop.Stop.{Stop}
-use Rattle.idsm_run.specs.declared.stop.Stop.TheVariants.{CannotRead, TooLong, Refused, CannotWrite, NoMemory}
+use Rattle.idsm_run.specs.Names.{Global, CountsFault, Shelved, Read, Stop, CannotRead, TooLong, Refused, CannotWrite, NoMemory}
 use Rattle.idsm_run.specs.Command.{FoldFiles, fold}
 use Rattle.idsm_run.specs.Judge.{file_of}
 use Rattle.idsm_run.specs.Run.{MayRefuse}

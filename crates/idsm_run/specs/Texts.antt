@@ -1,16 +1,11 @@
 -- The statuses and the texts of a run that did not do its work.
 -- Source: docs/COMMANDS.md.
 use Rattle.std.specs.Prelude.{ℕ, ◌++◌, List, Result, Ok, Err, codes, decimal}
-use Rattle.ids_config.specs.declared.fault.ConfigFault.{ConfigFault}
+use Rattle.idsm_run.specs.Names.{ConfigFault, BadMessage, Refusal, BadConfig, NotBuilt, BadJournal, BadMessages, Stop, CannotRead, TooLong, Refused, CannotWrite, NoMemory}
 use Rattle.ids_config.specs.declared.fault.ConfigPlace.{ConfigPlace}
 use Rattle.ids_config.specs.declared.fault.ConfigPlace.TheVariants.{Top, Class, Event}
-use Rattle.ids_frame.specs.declared.fault.BadMessage.{BadMessage}
 use Rattle.ids_frame.specs.declared.fault.FrameFault.{FrameFault}
 use Rattle.ids_frame.specs.declared.fault.FrameFault.TheVariants.{Short, UnknownVersion, UnknownPart}
-use Rattle.idsm_run.specs.declared.stop.Refusal.{Refusal}
-use Rattle.idsm_run.specs.declared.stop.Refusal.TheVariants.{BadConfig, NotBuilt, BadJournal, BadMessages}
-use Rattle.idsm_run.specs.declared.stop.Stop.{Stop}
-use Rattle.idsm_run.specs.declared.stop.Stop.TheVariants.{CannotRead, TooLong, Refused, CannotWrite, NoMemory}
 
 -- the usage, with the commands that are built
 abbrev pub usage : List ℕ

@@ -1,12 +1,6 @@
 -- Files that a command writes, one after another, and what stands where it had to stop.
 use Rattle.std.specs.Prelude.{◌≡◌, ◌⊎◌, ℕ, ◌≤◌, List, [], ◌∷◌, take, Some}
-use Rattle.ids_outside.specs.Faults.{Faults, CountsFault, WantsMemory}
-use Rattle.ids_outside.specs.Files.{Files}
-use Rattle.ids_outside.specs.declared.faults.FaultKind.TheVariants.{Create, Append}
-use Rattle.ids_outside.specs.declared.faults.WriteFault.{WriteFault}
-use Rattle.ids_outside.specs.declared.faults.WriteFault.TheVariants as write
-use Rattle.idsm_run.specs.declared.stop.Stop.{Stop}
-use Rattle.idsm_run.specs.declared.stop.Stop.TheVariants.{CannotWrite, NoMemory}
+use Rattle.idsm_run.specs.Names.{Faults, CountsFault, WantsMemory, Files, Create, Append, WriteFault, Failed, MemoryRefused, Stop, CannotWrite, NoMemory}
 
 -- a file that is to be written, whole
 pub record Output : Type 0 where
@@ -42,13 +36,13 @@ StandUpTo (output ∷ outputs) old new =
 
 -- a creation or an append of a file failed, and was the last fault; or memory was refused to one
 abbrev pub WriteFails : Faults → Faults → List ℕ → WriteFault → Type 0
-WriteFails old new name write.Failed = CountsFault old new Create name ⊎ CountsFault old new Append name
-WriteFails old new name write.NoMemory = WantsMemory old new
+WriteFails old new name Failed = CountsFault old new Create name ⊎ CountsFault old new Append name
+WriteFails old new name MemoryRefused = WantsMemory old new
 
 -- why a command stops whose write failed so
 abbrev pub stop_of_write : {N : Type 0} → WriteFault → Stop N
-stop_of_write write.Failed = CannotWrite
-stop_of_write write.NoMemory = NoMemory
+stop_of_write Failed = CannotWrite
+stop_of_write MemoryRefused = NoMemory
 
 -- the places at which so many bytes are cut into pieces: they do not fall, and the last is the end
 abbrev pub Cuts : ℕ → List ℕ → ℕ → Type 0

@@ -1,8 +1,7 @@
 //! The configurations that the chain of this release can mean: it sends every report as it is.
 
 ghost use Rattle.std.specs.Prelude.{◌≡◌};
-ghost use Rattle.std.specs.List.{list_all};
-ghost use Rattle.idsm_run.specs.Built.{is_built as built, has_no_internal as no_internal, is_sent_as_is as sent_as_is, is_detailed as detailed};
+ghost use Rattle.idsm_run.specs.Words.{list_all, is_built as built, has_no_internal as no_internal, is_sent_as_is as sent_as_is, is_detailed as detailed};
 
 use ids_config::{ConfigParts, EventParts};
 use ids_types::Mode;

@@ -1,9 +1,7 @@
 //! The words behind the program's name.
 
-ghost use Rattle.std.specs.Prelude.{◌≡◌, ◌&&◌, not, List, map, option_map, string_bytes, bytes_eq, IsTrue};
-ghost use Rattle.std.specs.List.{list_any};
-ghost use Rattle.idsm_run.specs.Command.{command_of, fold_of, decode_of, is_name, are_names};
-ghost use Rattle.idsm_run.specs.CommandView.{asked};
+ghost use Rattle.std.specs.Prelude.{◌≡◌, ◌&&◌, not, map, option_map, string_bytes, bytes_eq};
+ghost use Rattle.idsm_run.specs.Words.{list_any, command_of, fold_of, decode_of, is_name, are_names, asked};
 
 /// The files of the command `fold`. The names are not empty and differ.
 #[derive(Clone, Copy, Debug)]

@@ -1,11 +1,7 @@
 //! The command `decode`: the messages of a file, a line for each.
 
 ghost use Rattle.std.specs.Prelude.{◌≡◌, IsTrue, IfOk, IfErr};
-ghost use Rattle.ids_outside.specs.Files.{SameFiles};
-ghost use Rattle.text_spec.specs.DecodedText.{decoded_text};
-ghost use Rattle.idsm_run.specs.Command.{decode as decode_command};
-ghost use Rattle.idsm_run.specs.Run.{WasDone, StopsFor};
-ghost use Rattle.idsm_run.specs.Stages.{plain_stop};
+ghost use Rattle.idsm_run.specs.Words.{SameFiles, decoded_text, decode as decode_command, WasDone, StopsFor, plain_stop};
 
 use crate::inputs::read_file;
 use crate::limits::MAX_MESSAGES_BYTES;

@@ -1,13 +1,7 @@
 //! The command `fold`: the messages and the event memory of a recorded history.
 
 ghost use Rattle.std.specs.Prelude.{◌≡◌, ◌≢◌, length, IsTrue, IfOk, OnOk, OnErr, IfErr};
-ghost use Rattle.idsm_run.specs.Sending.{count_of};
-ghost use Rattle.idsm_run.specs.Command.{SameBut, written_by, fold as fold_command};
-ghost use Rattle.idsm_run.specs.CommandView.{files_of};
-ghost use Rattle.idsm_run.specs.Fold.{fold_text as text_of, fold_line as line_of, fold_outputs};
-ghost use Rattle.idsm_run.specs.Run.{WasDone, StopsFor, OneFails};
-ghost use Rattle.idsm_run.specs.Stages.{plain_stop};
-ghost use Rattle.idsm_run.specs.Writing.{AreWritten, StandUpTo, Cuts};
+ghost use Rattle.idsm_run.specs.Words.{count_of, SameBut, written_by, fold as fold_command, files_of, fold_text as text_of, fold_line as line_of, fold_outputs, WasDone, StopsFor, OneFails, plain_stop, AreWritten, StandUpTo, Cuts};
 
 use crate::command::FoldNames;
 use crate::inputs::read_inputs;

@@ -1,15 +1,7 @@
 //! The input files of the command `fold`.
 
 ghost use Rattle.std.specs.Prelude.{◌≡◌, ◌≢◌, length, Ok, IsTrue, IfOk, OnOk, IfErr};
-ghost use Rattle.std.specs.List.{AllByRecursion};
-ghost use Rattle.config_json.specs.Configured.{configuration};
-ghost use Rattle.ids_outside.specs.Files.{SameFiles};
-ghost use Rattle.idsm_run.specs.Command.{fold};
-ghost use Rattle.idsm_run.specs.CommandView.{files_of};
-ghost use Rattle.idsm_run.specs.Judge.{file_of, config_judged, judge, fold_work};
-ghost use Rattle.idsm_run.specs.Run.{StopsFor};
-ghost use Rattle.idsm_run.specs.Sending.{CanSendTurn};
-ghost use Rattle.idsm_run.specs.Stages.{Judges, ReadStops, plain_stop};
+ghost use Rattle.idsm_run.specs.Words.{AllByRecursion, configuration, SameFiles, fold, files_of, file_of, config_judged, judge, fold_work, StopsFor, CanSendTurn, Judges, ReadStops, plain_stop};
 
 use crate::built::is_built;
 use crate::command::FoldNames;

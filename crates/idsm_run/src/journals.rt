@@ -2,14 +2,7 @@
 //! control.
 
 ghost use Rattle.std.specs.Prelude.{◌≡◌, ◌<◌, ◌+◌, ◌^◌, length, IfOk};
-ghost use Rattle.std.specs.List.{list_any, AllByRecursion};
-ghost use Rattle.ids_types.specs.Plain.{plain_entry};
-ghost use Rattle.ids_types.specs.Turns.{entries_of};
-ghost use Rattle.idsm_run.specs.Built.{has_control as some_control, is_control as control};
-ghost use Rattle.idsm_run.specs.FoldedJournal.{folded_in, held_back_line as line_held_back};
-ghost use Rattle.idsm_run.specs.Judge.{journal_judged};
-ghost use Rattle.idsm_run.specs.Sending.{CanSendTurn};
-ghost use Rattle.idsm_run.specs.Stages.{Judges};
+ghost use Rattle.idsm_run.specs.Words.{list_any, AllByRecursion, plain_entry, entries_of, has_control as some_control, is_control as control, folded_in, held_back_line as line_held_back, journal_judged, CanSendTurn, Judges};
 
 use crate::stop::{Refusal, Stop};
 use ids_config::Config;

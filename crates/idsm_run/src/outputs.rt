@@ -1,8 +1,7 @@
 //! Files that are written piece by piece.
 
-ghost use Rattle.std.specs.Prelude.{◌≡◌, ◌≤◌, ◌++◌, List, ℕ, length, IsTrue, OnOk, OnErr, IfErr, Some, [], take};
-ghost use Rattle.ids_outside.specs.Files.{SameOthers, Changes};
-ghost use Rattle.idsm_run.specs.Writing.{StandsInPart, HoldsPart, WriteFails, Cuts};
+ghost use Rattle.std.specs.Prelude.{◌≡◌, ◌≤◌, length, IsTrue, OnOk, OnErr, IfErr, Some, [], take};
+ghost use Rattle.idsm_run.specs.Words.{SameOthers, Changes, StandsInPart, HoldsPart, WriteFails, Cuts};
 
 use ids_outside::{Shelf, WriteFault};
 

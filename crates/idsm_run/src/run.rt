@@ -1,12 +1,5 @@
 ghost use Rattle.std.specs.Prelude.{◌≡◌, ℕ, List, Ok, Err, IsTrue, map, string_bytes};
-ghost use Rattle.ids_outside.specs.Shelved.{Shelved};
-ghost use Rattle.ids_outside.specs.Sinks.{Heard};
-ghost use Rattle.idsm_run.specs.declared.stop.Stop.{Stop};
-ghost use Rattle.idsm_run.specs.Command.{Command, command_of, SameBut};
-ghost use Rattle.idsm_run.specs.Deserts.{EndsWith, EndsOrFails};
-ghost use Rattle.idsm_run.specs.Judge.{Work, judge};
-ghost use Rattle.idsm_run.specs.Run.{Ran, RanCommand, written_of};
-ghost use Rattle.idsm_run.specs.Texts.{stop_status};
+ghost use Rattle.idsm_run.specs.Words.{Shelved, Heard, Stop, Command, command_of, SameBut, EndsWith, EndsOrFails, Work, judge, Ran, RanCommand, written_of, stop_status};
 
 use crate::command::{Request, parse};
 use crate::decode::decode_file;

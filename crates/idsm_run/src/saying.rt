@@ -1,10 +1,7 @@
 //! The one text that a run puts to its sink.
 
 ghost use Rattle.std.specs.Prelude.{◌≡◌, List, ℕ, Err, IfOk, string_bytes};
-ghost use Rattle.idsm_run.specs.Saying.{Puts, Says, Tells};
-ghost use Rattle.idsm_run.specs.Stages.{plain_end};
-ghost use Rattle.idsm_run.specs.Texts.{bad_config_text, bad_message_text};
-ghost use Rattle.idsm_run.specs.declared.stop.Stop.TheVariants as stops;
+ghost use Rattle.idsm_run.specs.Words.{Puts, Says, Tells, plain_end, bad_config_text, bad_message_text, Refused};
 
 use crate::status::{
     BAD_CONFIG, BAD_JOURNAL, BAD_MESSAGE, CANNOT_READ, CANNOT_WRITE, DONE, NO_MEMORY, NOT_BUILT, TOO_LONG,
@@ -54,7 +51,7 @@ pub(crate) fn tell<K: Sink>(
 
 /// Tells why what the input files hold does not serve.
 fn tell_refusal<K: Sink>(alloc: Global, refusal: Refusal, out: &mut K) -> u8
-    ensures { Tells (Err (stops.Refused refusal)) result (K.hears out.old) (K.hears out.new) }
+    ensures { Tells (Err (Refused refusal)) result (K.hears out.old) (K.hears out.new) }
 {
     match refusal {
         Refusal::BadConfig(fault) => say_line(bad_config_line(alloc, fault), BAD_CONFIG, out),

@@ -1,11 +1,6 @@
 //! The messages of a history: one for each report.
-ghost use Rattle.std.specs.Prelude.{◌≡◌, ◌+◌, ◌≤◌, ◌<◌, ◌++◌, length, sum_by, IfOk, OnOk, vec_len, option_map};
-ghost use Rattle.std.specs.List.{AllByRecursion, flat_map};
-ghost use Rattle.ids_types.specs.Plain.{plain_entry, plain_carried};
-ghost use Rattle.ids_config.specs.Parts.{event_at};
-ghost use Rattle.ids_frame.specs.Spelling.{spelling};
-ghost use Rattle.idsm_run.specs.Writing.{Cuts};
-ghost use Rattle.idsm_run.specs.Sending.{IsShort, CanSend, CanSendTurn, message_of, context_sent, entry_messages, messages_of, entry_count, count_of};
+ghost use Rattle.std.specs.Prelude.{◌≡◌, ◌+◌, ◌≤◌, ◌<◌, ◌++◌, length, sum_by, IfOk, OnOk, vec_len};
+ghost use Rattle.idsm_run.specs.Words.{AllByRecursion, flat_map, plain_entry, plain_carried, event_at, spelling, Cuts, IsShort, CanSend, CanSendTurn, message_of, context_sent, entry_messages, messages_of, entry_count, count_of};
 
 use arrayvec::ArrayVec;
 use ids_config::Config;

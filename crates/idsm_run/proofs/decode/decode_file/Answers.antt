@@ -1,5 +1,5 @@
 use Rattle.std.proofs.Common.{rules, refl, sym}
-use Rattle.idsm_run.specs.Judge.{decode_work}
+use Rattle.idsm_run.specs.Words.{decode_work}
 use Rattle.idsm_run.proofs.ExitLemmas.{left_by}
 use Rattle.idsm_run.proofs.JudgeLemmas.{unread, messages_first, messages_refused, messages_found}
 use Rattle.idsm_run.proofs.decode.decode_file.Goals as goal

@@ -1,6 +1,5 @@
 use Rattle.std.proofs.Common.{rules}
-use Rattle.idsm_run.specs.CommandView.{files_of}
-use Rattle.idsm_run.specs.Writing.{stop_of_write}
+use Rattle.idsm_run.specs.Words.{files_of, stop_of_write}
 use Rattle.idsm_run.proofs.ExitLemmas.{left_by}
 use Rattle.idsm_run.proofs.FoldLemmas.{folded, fold_stopped}
 use Rattle.idsm_run.proofs.fold.fold.Goals as goal

@@ -1,5 +1,5 @@
 use Rattle.std.proofs.Common.{rules, refl, arith}
-use Rattle.idsm_run.specs.CommandView.{files_of}
+use Rattle.idsm_run.specs.Words.{files_of}
 use Rattle.idsm_run.proofs.ExitLemmas.{left_by}
 use Rattle.idsm_run.proofs.JudgeLemmas.{unread, refused, read_since, config_first, config_refused, journal_next, journal_refused, inputs_found}
 use Rattle.idsm_run.proofs.inputs.read_inputs.Goals as goal

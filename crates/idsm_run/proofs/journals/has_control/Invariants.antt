@@ -1,5 +1,5 @@
 use Rattle.std.proofs.Common.{◌≡◌, length}
-use Rattle.idsm_run.specs.Built.{has_control}
+use Rattle.idsm_run.specs.Words.{has_control}
 use Rattle.idsm_run.proofs.journals.has_control.Given as goal
 
 abbrev pub decreases-loop-entries : goal.decreases-loop-entries

@@ -1,6 +1,5 @@
 use Rattle.std.proofs.Common.{◌≡◌, ◌+◌, length}
-use Rattle.ids_types.specs.Turns.{entries_of}
-use Rattle.idsm_run.specs.FoldedJournal.{held_back_line}
+use Rattle.idsm_run.specs.Words.{entries_of, held_back_line}
 use Rattle.idsm_run.proofs.journals.held_back_line.Given as goal
 
 abbrev pub decreases-loop-head : goal.decreases-loop-head

@@ -1,6 +1,6 @@
 use Rattle.std.proofs.Common.{arith}
 use Rattle.std.proofs.lemmas.Grind.{common_steps}
-use Rattle.journal.specs.Answers.{told}
+use Rattle.idsm_run.specs.Words.{told}
 use Rattle.idsm_run.proofs.JournalLemmas.{lines_are_few, can_send}
 use Rattle.idsm_run.proofs.journals.judge_journal.Goals as goal
 

@@ -1,6 +1,5 @@
 use Rattle.std.proofs.Common.{◌≡◌, length}
-use Rattle.std.specs.List.{list_any}
-use Rattle.idsm_run.specs.Built.{is_control}
+use Rattle.idsm_run.specs.Words.{list_any, is_control}
 use Rattle.idsm_run.proofs.journals.some_is_control.Given as goal
 
 abbrev pub decreases-loop-entry : goal.decreases-loop-entry

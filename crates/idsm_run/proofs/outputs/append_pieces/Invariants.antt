@@ -1,6 +1,5 @@
 use Rattle.std.proofs.Common.{◌≡◌, length, IsTrue, Some, [], take, drop}
-use Rattle.ids_outside.specs.Files.{SameOthers}
-use Rattle.idsm_run.specs.Writing.{Cuts}
+use Rattle.idsm_run.specs.Words.{SameOthers, Cuts}
 use Rattle.idsm_run.proofs.outputs.append_pieces.Given as goal
 
 -- the bytes up to `start` are in the file, and the cuts that are left go on from there

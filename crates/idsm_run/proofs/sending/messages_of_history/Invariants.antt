@@ -1,7 +1,5 @@
 use Rattle.std.proofs.Common.{◌≡◌, ◌+◌, ◌≤◌, ◌++◌, length, vec_len}
-use Rattle.std.specs.List.{AllByRecursion}
-use Rattle.idsm_run.specs.Sending.{CanSendTurn, messages_of, count_of}
-use Rattle.idsm_run.specs.Writing.{Cuts}
+use Rattle.idsm_run.specs.Words.{AllByRecursion, CanSendTurn, messages_of, count_of, Cuts}
 use Rattle.idsm_run.proofs.sending.messages_of_history.Given as goal
 
 abbrev pub decreases-loop-entries : goal.decreases-loop-entries

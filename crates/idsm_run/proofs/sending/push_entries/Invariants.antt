@@ -1,6 +1,5 @@
 use Rattle.std.proofs.Common.{◌≡◌, ◌+◌, ◌≤◌, ◌++◌, length, sum_by, vec_len}
-use Rattle.std.specs.List.{flat_map, AllByRecursion}
-use Rattle.idsm_run.specs.Sending.{CanSend, entry_count, entry_messages}
+use Rattle.idsm_run.specs.Words.{flat_map, AllByRecursion, CanSend, entry_count, entry_messages}
 use Rattle.idsm_run.proofs.sending.push_entries.Given as goal
 
 abbrev pub decreases-loop-entry : goal.decreases-loop-entry
