@@ -16,6 +16,6 @@ store-requires g c =
     let put = c.exchange-old.ensures in (
       put.0 ∙ mine.at_table,
       search rules,
-      finish_ready f.note f.admits_offered f.admits_note _ _ _ c.args.place.now.me _ c.args.self.now.positions c.args.ticket.0 _ c.args.value _ mine.sits put.3
-          c.position_of-position.ensures mine.ring_is.positions_are c.requires.held c.requires.admitted,
+      finish_ready f.note f.admits_offered f.admits_note _ _ _ c.args.place.now.me mine.sits put.3 c.position_of-position.ensures
+          mine.ring_is.positions_are c.requires.held c.requires.admitted,
     )

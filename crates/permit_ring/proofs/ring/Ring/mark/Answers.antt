@@ -1,4 +1,4 @@
-use Rattle.std.proofs.Common.{rules, arith}
+use Rattle.std.proofs.Common.{rules}
 use Rattle.permit_ring.proofs.SeatSteps.{mark_ready}
 use Rattle.permit_ring.proofs.ring.Ring.mark.Goals as goal
 
@@ -8,5 +8,5 @@ fetch_add-requires g c =
     let mine = c.requires.mine in (
       mine.at_table,
       search rules,
-      mark_ready f.note f.admits_offered f.admits_note _ _ _ _ mine.sits _ c.args.kind (omega arith) c.requires.kind c.requires.few,
+      mark_ready f.note f.admits_offered f.admits_note _ _ _ _ mine.sits c.args.kind c.requires.kind c.requires.few,
     )
