@@ -3,11 +3,11 @@ use Rattle.std.proofs.Common.{◌≡◌, ◌≢◌, ℕ, zero, suc, ◌+◌, ◌
 use Rattle.std.proofs.lemmas.Bool.{cases_eq, cases_lt, cases_Bool, ltb-true, ltb-false, lt-ltb, le-ltb}
 use Rattle.std.proofs.lemmas.List.{length-set, length_push}
 use Rattle.std.proofs.lemmas.Nat.{div-mul-add, mod-mul-add}
-use Rattle.std.proofs.lemmas.Option.{none-some, some_pair_parts}
-use mathlib.Core.Option.{some, none}
+use Rattle.std.proofs.lemmas.Option.{none-some, same_Some, some_pair_parts}
+use mathlib.Core.Option.{some, none, some-injective}
 use mathlib.Core.Option as maybe
 use lib.ListN.{get_elem?}
-use Rattle.atomic_table.proofs.Lists.{at_last, at_longer, at_set, at_snoc, set_else}
+use Rattle.atomic_table.proofs.Lists.{at_last, at_longer, at_set, at_snoc, set_else, set_here}
 use Rattle.atomic_table.specs.Table.{State, Act, Valid, step, stepped, carried_after, keeps, takes, gives, Allows}
 use Rattle.ring_core.specs.declared.seat.SeatView.{SeatView}
 use Rattle.ring_core.specs.declared.seat.Ticket0.{Ticket0}
@@ -39,7 +39,7 @@ use Rattle.permit_ring.specs.Told.{Known, seat_in, saw_word, claimed_word, marke
 use Rattle.permit_ring.specs.Rule.{words_of, StandsIn, AreFates, AreSlots, Counts, IsSeatMemo, Runs}
 use Rattle.permit_ring.specs.Steps.{and_move, and_lost, looks, claims, adds_mark, finishes, ticket_in}
 use Rattle.permit_ring.proofs.LogLemmas.{open_undecided, taken-open, taken-else, taken-own, IsOrderly, orderly, rises_on, end_on, got_of-got, no_loss}
-use Rattle.permit_ring.proofs.ListLemmas.{at_end}
+use Rattle.permit_ring.proofs.ListLemmas.{at_end, at_length}
 use Rattle.permit_ring.proofs.MoveLemmas.{leads_on, by_seat-own, by_seat-else, by_keeper-else}
 use Rattle.permit_ring.proofs.States.{ring_of, sizes_of, one_turn_ahead, knows_it, is_live, seat_stays, fates_stay, slots_stay, slots_set, seat_changes}
 
@@ -122,8 +122,8 @@ module _ (N : Type 0) (m : Machine) (i : ℕ) where
   record IsMarked (kind : ℕ) : Type 0 where
     seats_are : (after m (Mark i kind)).seats ≡ set m.seats i (marked kind (seat_at m.seats i))
     number_is : slice_index (words_of m) (kind + 1) ≡ (loss_at m kind).value
-    words_are : set (words_of m) (kind + 1) ((loss_at m kind).value + 1) ≡ words_of (after m (Mark i kind))
-    within : (loss_at m kind).value ≤ 2 ^ 45
+    -- the number rises by one, and does not wrap
+    told : set (words_of m) (kind + 1) ((slice_index (words_of m) (kind + 1) + 1) % 2 ^ 64) ≡ words_of (after m (Mark i kind))
     same_word : (after m (Mark i kind)).word ≡ m.word
     same_reaped : (after m (Mark i kind)).reaped ≡ m.reaped
     same_offered : (after m (Mark i kind)).offered ≡ m.offered
@@ -132,19 +132,16 @@ module _ (N : Type 0) (m : Machine) (i : ℕ) where
     ordered : (found : ℕ) (memo : SeatMemo N) → IsOrdered memo → IsOrdered (adds_mark kind found memo)
 
   mark_is : IsRing m → (kind : ℕ) → kind < 2 → IsMarked kind
-  mark_is ring zero low = let most = (small m ring).loss0 in let within : m.loss0.value ≤ 2 ^ 45 = omega (arith, most) in record {
-    seats_are = refl;
-    number_is = refl;
-    words_are = refl;
-    within = within;
-    same_word = refl;
-    same_reaped = refl;
-    same_offered = refl;
-    counts = λ n k c. c;
-    same_seat = λ v. (refl, refl);
-    ordered = λ found memo o. record { decided = o.decided; rises = o.rises; below_ticket = o.below_ticket };
-  }
-  mark_is ring (suc zero) low = let most = (small m ring).loss1 in let within : m.loss1.value ≤ 2 ^ 45 = omega (arith, most) in assumption
+  mark_is ring zero low =
+      let most = (small m ring).loss0 in
+      let risen : (m.loss0.value + 1) % 2 ^ 64 ≡ m.loss0.value + 1 = omega (arith, most) in
+      let told = ap (λ (n : ℕ). packed m.limit m.word ∷ n ∷ m.loss1.value ∷ m.marks) risen in
+      assumption
+  mark_is ring (suc zero) low =
+      let most = (small m ring).loss1 in
+      let risen : (m.loss1.value + 1) % 2 ^ 64 ≡ m.loss1.value + 1 = omega (arith, most) in
+      let told = ap (λ (n : ℕ). packed m.limit m.word ∷ m.loss0.value ∷ n ∷ m.marks) risen in
+      assumption
   mark_is ring (suc (suc kind)) low = absurd (omega (arith, low))
 
 module _ {O D T N : Type 0} {note : D → N} {Ao : T → O → Type 0} {An : T → N → Type 0} {key : Key T} {s : State (Slot O D) (View T N)}
@@ -168,10 +165,7 @@ module _ {O D T N : Type 0} {note : D → N} {Ao : T → O → Type 0} {An : T �
   none_free_at_front full =
       let last = r.knows.counted.last_front in
       let there = at_last last.0 r.keeper.offered (length last.0) refl in
-      let all = all_claimed r.machine (ring_of r) full in
-      let counts = r.knows.counted.offered_is in
-      let fronts = last.1 in
-      (length last.0, cc)
+      (length last.0, cc (last.1, all_claimed r.machine (ring_of r) full, r.knows.counted.offered_is))
 
   -- what a step of a seat makes of the machine, of the fates and of the seat's memo
   record IsStepTo (memo : SeatMemo N) (step : Step) (later : List (Option (ℕ × N))) (new : SeatMemo N) : Type 0 where
@@ -345,11 +339,8 @@ module _ {O D T N : Type 0} {note : D → N} {Ao : T → O → Type 0} {An : T �
 
       -- where a position is free, the seat holds the next ticket
       module _ (free : 0 < r.machine.word.free) where
-        before_offered : r.machine.word.claimed < r.machine.offered
-        before_offered = let account = (ring_of r).permits.account in omega (arith, account, free)
-
-        in_turn_now : r.machine.word.claimed < r.machine.reaped + key.positions
-        in_turn_now = let before = before_offered in let turn = one_turn_ahead r in omega (arith, before, turn)
+        is_next : (r.machine.word.claimed < r.machine.offered) × (r.machine.word.claimed < r.machine.reaped + key.positions)
+        is_next = let account = (ring_of r).permits.account in let turn = one_turn_ahead r in omega (arith, account, turn, free)
 
         one_more : claim_now.word.claimed ≡ r.machine.word.claimed + 1
         one_more = simp (lt-ltb 0 r.machine.word.free free)
@@ -362,7 +353,7 @@ module _ {O D T N : Type 0} {note : D → N} {Ao : T → O → Type 0} {An : T �
         served_slots : AreSlots note (Ao key.terms) claim_now
             (r.fates ++ None ∷ []) key.positions (set s.homes (r.machine.word.claimed % key.positions) none)
         served_slots = let more = one_more in slots_set r.machine.word.claimed none r.sizes.some_position
-            (ring_of r).permits.reaped_claimed in_turn_now refl r.are_slots
+            (ring_of r).permits.reaped_claimed is_next.1 refl r.are_slots
             record {
               finished_home = λ j x e. open_undecided (r.fates ++ None ∷ []) r.machine.word.claimed (j, x)
                   (at_last r.fates None r.machine.word.claimed r.are_fates.each_claimed) e;
@@ -398,13 +389,8 @@ module _ {O D T N : Type 0} {note : D → N} {Ao : T → O → Type 0} {An : T �
       loss_there : slice_index s.words (kind + 1) ≡ (loss_at r.machine kind).value
       loss_there = ap (λ (words : List ℕ). slice_index words (kind + 1)) r.words_are ∙ is_marked.number_is
 
-      -- the number rises by one, and does not wrap
       mark_told : set s.words (kind + 1) ((slice_index s.words (kind + 1) + 1) % 2 ^ 64) ≡ words_of (after r.machine (Mark memo.number kind))
-      mark_told =
-          let few = is_marked.within in
-          let is = loss_there in
-          let risen : (slice_index s.words (kind + 1) + 1) % 2 ^ 64 ≡ (loss_at r.machine kind).value + 1 = omega (arith, few, is) in
-          ap₂ (λ (words : List ℕ) (n : ℕ). set words (kind + 1) n) r.words_are risen ∙ is_marked.words_are
+      mark_told = ap (λ (words : List ℕ). set words (kind + 1) ((slice_index words (kind + 1) + 1) % 2 ^ 64)) r.words_are ∙ is_marked.told
 
       mark_step : IsStepTo memo (Mark memo.number kind) r.fates (adds_mark kind (slice_index s.words (kind + 1)) memo)
       mark_step =
@@ -442,12 +428,6 @@ module _ {O D T N : Type 0} {note : D → N} {Ao : T → O → Type 0} {An : T �
       is_open : get_elem? r.fates t ≡ some None
       is_open = r.are_fates.held_is_open memo.number t holds_there
 
-      not_armed : memo.view.armed ≡ false
-      not_armed = elim (cases_Bool memo.view.armed) [
-        | inl armed ↦ none_held memo.view.held t (no_ticket armed) holds
-        | inr off ↦ off
-      ]
-
       -- what became of the ticket
       abbrev fate : Option (ℕ × N)
       fate = Some (memo.number, note d)
@@ -472,7 +452,7 @@ module _ {O D T N : Type 0} {note : D → N} {Ao : T → O → Type 0} {An : T �
                 (λ same. open_undecided r.fates t (j, x) is_open (ap (get_elem? r.fates) (sym same) ∙ e)) ∙ e;
             others_took = λ j other. taken-else j memo.number 0 (note d) r.fates t other is_open;
             ordered = record {
-              decided = let was = its.ordered.decided in let long = length_push memo.log call in let off = not_armed in grind (arith, was, long, off, holds);
+              decided = let was = its.ordered.decided in let long = length_push memo.log call in let apart = no_ticket in grind (arith, was, long, apart, holds);
               rises = rises_on 0 memo.log call its.ordered.rises after_log;
               below_ticket = λ u h. absurd (none-some (record { 0 = u }) h);
             };
@@ -488,17 +468,13 @@ module _ {O D T N : Type 0} {note : D → N} {Ao : T → O → Type 0} {An : T �
           let out = is_out.1 in
           let account = (ring_of r).permits.account in
           let turn = one_turn_ahead r in
+          let here = set_here r.fates t fate (at_length r.fates t None is_open) in
           slots_set t (some (Finished d)) r.sizes.some_position is_out.0 (omega (arith, out, account, turn)) refl r.are_slots
           record {
-            finished_home = λ j x e. elim (at_set r.fates t t fate (Some (j, x)) e) [
-              | inl here ↦ (d, (some_pair_parts memo.number j (note d) x here.1).1, refl)
-              | inr there ↦ absurd (there.0 refl)
-            ];
-            held_out = λ e. elim (at_set r.fates t t fate None e) [
-              | inl here ↦ absurd (none-some (memo.number, note d)
-                  (sym here.1))
-              | inr there ↦ absurd (there.0 refl)
-            ];
+            finished_home = λ j x e.
+                let same = same_Some (memo.number, note d) (j, x) (some-injective fate (Some (j, x)) (sym here ∙ e)) in
+                (d, ap (λ (p : ℕ × N). p.1) same, refl);
+            held_out = λ e. open_undecided (set r.fates t fate) t (memo.number, note d) e here;
             offered_home = λ past below. absurd (omega (arith, past, out));
             vacant_out = λ past. absurd (omega (arith, past, out, account));
           }
@@ -544,8 +520,9 @@ module _ {O D T N : Type 0} (note : D → N) (Ao : T → O → Type 0) (An : T �
       (λ s r wide at fits. rw (read_back r) (elim (cases_lt 0 r.machine.word.free) [
         | inl free ↦
             let to = served_step r id at armed free in
-            let home = (r.are_slots.each r.machine.word.claimed (ring_of r).permits.reaped_claimed (in_turn_now r id at armed free)).offered_home
-            (le_refl r.machine.word.claimed) (before_offered r id at armed free) in (
+            let next = is_next r id at armed free in
+            let home = (r.are_slots.each r.machine.word.claimed (ring_of r).permits.reaped_claimed next.1).offered_home
+            (le_refl r.machine.word.claimed) next.0 in (
               Sits key (claims key.limit r.machine.word memo),
               takes (r.machine.word.claimed % key.positions) (Offered home.0),
               home.2,
