@@ -43,15 +43,6 @@ use Rattle.permit_ring.proofs.ListLemmas.{at_end, at_length}
 use Rattle.permit_ring.proofs.MoveLemmas.{leads_on, by_seat-own, by_seat-else, by_keeper-else}
 use Rattle.permit_ring.proofs.States.{ring_of, sizes_of, one_turn_ahead, knows_it, is_live, seat_stays, fates_stay, slots_stay, slots_set, seat_changes}
 
--- a step of one seat is no other's
-record IsStepOf (i : ℕ) (step : Step) : Type 0 where
-  own : is_of_seat i step ≡ true
-  no_other : (j : ℕ) → j ≢ i → is_of_seat j step ≡ false
-  no_keeper : is_of_keeper step ≡ false
-
-step_of : (i : ℕ) {step : Step} → ((j : ℕ) → is_of_seat j step ≡ (j == i)) → is_of_keeper step ≡ false → IsStepOf i step
-step_of i its no_keeper = record { own = its i ∙ eq-eqb i i refl; no_other = λ j other. its j ∙ ne_eqb j i other; no_keeper = no_keeper }
-
 -- the number of a word that can be packed can be read
 readable : (limit : ℕ) (word : PermitWord) → IsPackable limit word → IsReadable limit (packed limit word)
 readable limit word packs = let free = packs.free_fits in let over = packs.over_fits in omega arith
