@@ -1,47 +1,42 @@
 -- Each step of a seat keeps the rule.
-use Rattle.std.proofs.Common.{◌≡◌, ◌≢◌, ℕ, zero, suc, ◌+◌, ◌-◌, ◌%◌, ◌^◌, ◌<◌, ◌≤◌, ◌==◌, ◌&&◌, ◌⊎◌, Bool, true, false, cond, nat_lt, ◌||◌, is_some, List, [], ◌∷◌, ◌++◌, set, length, Option, Some, None, refl, sym, ◌∙◌, ap, ap₂, subst, inl, inr, slice_index, arith, mod-eq_of_lt, le_refl, eq-eqb, ne_eqb}
-use Rattle.std.proofs.lemmas.Bool.{cases_eq, cases_lt, cases_Bool, ltb-true, ltb-false, lt-ltb, le-ltb}
+use Rattle.std.proofs.Common.{◌≡◌, ◌≢◌, ℕ, zero, suc, ◌+◌, ◌-◌, ◌%◌, ◌^◌, ◌<◌, ◌≤◌, ◌==◌, ◌&&◌, true, false, nat_lt, is_some, List, [], ◌∷◌, ◌++◌, set, length, Option, Some, None, refl, sym, ◌∙◌, ap, ap₂, subst, inl, inr, slice_index, arith, le_refl, eq-eqb, ne_eqb}
+use Rattle.std.proofs.lemmas.Bool.{cases_lt, lt-ltb, le-ltb}
 use Rattle.std.proofs.lemmas.List.{length-set, length_push}
-use Rattle.std.proofs.lemmas.Nat.{div-mul-add, mod-mul-add}
-use Rattle.std.proofs.lemmas.Option.{none-some, same_Some, some_pair_parts}
-use mathlib.Core.Option.{some, none, some-injective}
+use mathlib.Core.Option.{some, none}
 use mathlib.Core.Option as maybe
 use lib.ListN.{get_elem?}
 use Rattle.atomic_table.proofs.Lists.{at_last, at_longer, at_set, at_snoc, set_else, set_here}
-use Rattle.atomic_table.specs.Table.{State, Act, Valid, step, stepped, carried_after, keeps, takes, gives, Allows}
+use Rattle.atomic_table.specs.Table.{State, step, keeps, takes, gives, Allows}
 use Rattle.ring_core.specs.declared.seat.SeatView.{SeatView}
 use Rattle.ring_core.specs.declared.seat.Ticket0.{Ticket0}
 use Rattle.ring_core.specs.declared.step.Step.{Step}
 use Rattle.ring_core.specs.declared.step.Step.TheVariants.{Look, Claim, Finish, Mark}
 use Rattle.ring_core.specs.declared.word.PermitWord.{PermitWord}
-use Rattle.ring_core.specs.Machine.{Machine, opening, possible, after, finished, served, is_idle, looked, with_seat, with_loss, seat_at, loss_at, marks_of, marked, one_more_lost, claimed_from, next}
+use Rattle.ring_core.specs.Machine.{Machine, opening, possible, after, finished, served, is_idle, looked, seat_at, loss_at, marks_of, marked, claimed_from, next}
 use Rattle.ring_core.specs.Sound.{IsRing, Holds}
-use Rattle.ring_core.specs.Words.{packed, unpacked, field_of, tries_of, FreeOrOver, IsPackable, IsReadable}
+use Rattle.ring_core.specs.Words.{packed, unpacked, field_of, FreeOrOver, IsPackable, IsReadable}
 use Rattle.ring_core.proofs.Bounds.{small}
-use Rattle.ring_core.proofs.Claims.{vain_after, served_after}
-use Rattle.ring_core.proofs.Nexts.{look_next, claim_served_next, claim_vain_next, finish_next, mark_next}
-use Rattle.ring_core.proofs.RingLaws.{word_packs, all_claimed, armed_leaves_field, step_of_next}
+use Rattle.ring_core.proofs.RingLaws.{word_packs, all_claimed, armed_leaves_field}
 use Rattle.ring_core.proofs.Runs.{after_keeps, next_of_possible}
-use Rattle.ring_core.proofs.SeatLemmas.{SameHolders, Idle, idle_parts, live_is_made, seat_at-here, seat_at-else, holders_stay, none_held, one_ticket}
+use Rattle.ring_core.proofs.SeatLemmas.{SameHolders, idle_parts, live_is_made, seat_at-here, seat_at-else, holders_stay}
 use Rattle.ring_core.proofs.WordLemmas.{unpacked-packed, packed-claimed}
 use Rattle.permit_ring.specs.declared.memo.Key.{Key}
 use Rattle.permit_ring.specs.declared.memo.KeeperMemo.{KeeperMemo}
-use Rattle.permit_ring.specs.declared.memo.Move.{Move}
 use Rattle.permit_ring.specs.declared.memo.Outcome.TheVariants.{Lost, Got}
 use Rattle.permit_ring.specs.declared.memo.SeatMemo.{SeatMemo}
 use Rattle.permit_ring.specs.declared.memo.Slot.{Slot}
 use Rattle.permit_ring.specs.declared.memo.Slot.TheVariants.{Offered, Finished}
 use Rattle.permit_ring.specs.declared.memo.View.{View}
 use Rattle.permit_ring.specs.declared.memo.View.TheVariants.{Sits}
-use Rattle.permit_ring.specs.Logs.{IsOrdered, undecided, end_from, got_of, taken_by}
-use Rattle.permit_ring.specs.Moves.{found_at, is_of_seat, is_of_keeper, by_seat}
+use Rattle.permit_ring.specs.Logs.{IsOrdered, end_from, got_of, taken_by}
+use Rattle.permit_ring.specs.Moves.{found_at, is_of_seat, is_of_keeper}
 use Rattle.permit_ring.specs.Told.{Known, seat_in, saw_word, claimed_word, marked_loss, finished_value}
 use Rattle.permit_ring.specs.Rule.{words_of, StandsIn, AreFates, AreSlots, Counts, IsSeatMemo, Runs}
 use Rattle.permit_ring.specs.Steps.{and_move, and_lost, looks, claims, adds_mark, finishes, ticket_in}
-use Rattle.permit_ring.proofs.LogLemmas.{open_undecided, taken-open, taken-else, taken-own, IsOrderly, orderly, rises_on, end_on, got_of-got, no_loss}
+use Rattle.permit_ring.proofs.LogLemmas.{open_undecided, taken-open, taken-else, taken-own, IsOrderly, orderly, rises_on, end_on, got_of-got}
 use Rattle.permit_ring.proofs.ListLemmas.{at_end, at_length}
 use Rattle.permit_ring.proofs.MoveLemmas.{leads_on, by_seat-own, by_seat-else, by_keeper-else}
-use Rattle.permit_ring.proofs.States.{ring_of, sizes_of, one_turn_ahead, knows_it, is_live, seat_stays, fates_stay, slots_stay, slots_set, seat_changes}
+use Rattle.permit_ring.proofs.States.{ring_of, sizes_of, one_turn_ahead, knows_it, is_live, fates_stay, slots_stay, slots_set, seat_changes}
 
 -- the number of a word that can be packed can be read
 readable : (limit : ℕ) (word : PermitWord) → IsPackable limit word → IsReadable limit (packed limit word)
@@ -59,54 +54,33 @@ claimed_number limit word either left packs =
 -- the fates after seat i changed
 module _ {N : Type 0} {m : Machine} {fates : List (Option (ℕ × N))} {Admits : N → Type 0} {known : ℕ} (was : AreFates m Admits known fates)
     (now : Machine) (i : ℕ) (view : SeatView) (made : i < length m.seats) (seats_are : now.seats ≡ set m.seats i view) where
-  -- who holds a ticket after is that seat, or another that held it before
-  held_after : (j t : ℕ) → Holds (seat_at now.seats j) t → ((j ≡ i) × Holds view t) ⊎ ((j ≢ i) × Holds (seat_at m.seats j) t)
-  held_after j t h = elim (cases_eq j i) [
-    | inl here ↦ inl (here, cc (seat_at-here m.seats i view made))
-    | inr away ↦ inr (away, cc (seat_at-else m.seats i view made j away))
-  ]
-
-  held_by_it : (t : ℕ) → Holds view t → Holds (seat_at now.seats i) t
-  held_by_it t h = cc (seat_at-here m.seats i view made)
-
-  held_by_other : (j t : ℕ) → j ≢ i → Holds (seat_at m.seats j) t → Holds (seat_at now.seats j) t
-  held_by_other j t away h = cc (seat_at-else m.seats i view made j away)
-
   -- with one that it holds
   served_fates : (seat_at m.seats i).held ≡ None → Holds view m.word.claimed → now.word.claimed ≡ m.word.claimed + 1
       → AreFates now Admits known (fates ++ None ∷ [])
-  served_fates empty holds more = record {
-    each_claimed = let long = length_push fates None in let all = was.each_claimed in cc;
-    held_is_open = λ j t h. elim (held_after j t h) [
-      | inl own ↦ at_last fates None t (was.each_claimed ∙ one_ticket m.word.claimed t (sym holds ∙ own.1))
-      | inr old ↦ at_longer fates (None ∷ []) t None (was.held_is_open j t old.1)
-    ];
-    open_is_held = λ t e. elim (at_end fates None None t e) [
-      | inl old ↦ let h = was.open_is_held t old in (h.0, held_by_other h.0 t (λ e. none_held (seat_at m.seats i).held t empty cc) h.1)
-      | inr last ↦ (i, held_by_it t (holds ∙ ap (λ (k : ℕ). Some (record { 0 = k })) (sym (last.0 ∙ was.each_claimed))))
-    ];
-    finished = λ t j x e. elim (at_end fates None
-        (Some (j, x)) t e) [ inl old ↦ was.finished t j x old | inr last ↦ absurd (none-some (j, x) last.1) ];
-  }
+  served_fates empty holds more =
+      let here = seat_at-here m.seats i view made in
+      let else = seat_at-else m.seats i view made in
+      record {
+        each_claimed = grind (arith, was, more, length_push fates None);
+        held_is_open = λ j t h.
+            grind (arith, was, h, holds, seats_are, here, else, at_longer fates (None ∷ []) t None, at_last fates None t);
+        open_is_held = λ t e. let c = at_end fates None None t e in grind (arith, was, c, empty, holds, seats_are, here, else);
+        finished = λ t j x e. let c = at_end fates None (Some (j, x)) t e in grind (arith, was, c);
+      }
 
   -- with ticket t decided, which it alone held
   finished_fates : (t : ℕ) (x : N) → ((j : ℕ) → Holds (seat_at m.seats j) t → j ≡ i) → Holds (seat_at m.seats i) t → view.held ≡ None
       → i < known → Admits x → now.word.claimed ≡ m.word.claimed → AreFates now Admits known (set fates t (Some (i, x)))
-  finished_fates t x alone holds empty is_known admitted same = record {
-    each_claimed = length-set fates t (Some (i, x)) ∙ was.each_claimed ∙ sym same;
-    held_is_open = λ j u h. elim (held_after j u h) [
-      | inl own ↦ none_held view.held u empty own.1
-      | inr old ↦ set_else fates t u (Some (i, x)) (λ e. old.0 (alone j cc)) ∙ was.held_is_open j u old.1
-    ];
-    open_is_held = λ u e. elim (at_set fates t u (Some (i, x)) None e) [
-      | inl here ↦ absurd (none-some (i, x) (sym here.1))
-      | inr there ↦ let h = was.open_is_held u there.1 in (h.0, held_by_other h.0 u (λ e. there.0 (one_ticket u t cc)) h.1)
-    ];
-    finished = λ u j y e. elim (at_set fates t u (Some (i, x)) (Some (j, y)) e) [
-      | inl here ↦ let same = some_pair_parts i j x y here.1 in (subst (λ (k : ℕ). k < known) same.0 is_known, subst Admits same.1 admitted)
-      | inr there ↦ was.finished u j y there.1
-    ];
-  }
+  finished_fates t x alone holds empty is_known admitted same =
+      let here = seat_at-here m.seats i view made in
+      let else = seat_at-else m.seats i view made in
+      let fate : Option (ℕ × N) = Some (i, x) in
+      record {
+        each_claimed = length-set fates t fate ∙ was.each_claimed ∙ sym same;
+        held_is_open = λ j u h. grind (arith, was, alone, empty, h, set_else fates t u fate, seats_are, here, else);
+        open_is_held = λ u e. let c = at_set fates t u fate None e in grind (arith, was, c, holds, seats_are, else);
+        finished = λ u j y e. let c = at_set fates t u fate (Some (j, y)) e in grind (arith, was, c, is_known, admitted);
+      }
 
 module _ (N : Type 0) (m : Machine) (i : ℕ) where
   -- what a mark of a kind changes, and what it leaves alone
@@ -171,7 +145,7 @@ module _ {O D T N : Type 0} {note : D → N} {Ao : T → O → Type 0} {An : T �
     fates_on : (t j : ℕ) (x : N) → get_elem? r.fates t ≡ some (Some (j, x)) → get_elem? later t ≡ some (Some (j, x))
     others_took : (j : ℕ) → j ≢ memo.number → taken_by j 0 later ≡ taken_by j 0 r.fates
     ordered : IsOrdered new
-    below_claims : end_from 0 new.log ≤ (after r.machine step).word.claimed
+    below_claims : end_from 0 new.log ≤ r.machine.word.claimed
     got : got_of new.log ≡ taken_by memo.number 0 later
     at_front : (j g : ℕ) → get_elem? new.log j ≡ some (Lost g) → StandsIn r.keeper.fronts g
 
@@ -201,41 +175,23 @@ module _ {O D T N : Type 0} {note : D → N} {Ao : T → O → Type 0} {An : T �
     seat_runs {step} {later} {new} {words} {homes} to told slots =
         let found : ℕ = found_at r.machine step in
         let i : ℕ = memo.number in
-        let now : Machine = after r.machine step in
-        let made = its.is_made in
-        let same = to.same.0 in
+        let was = its in
+        let knows = r.knows in
         let own = to.its_alone.0 in
-        seat_changes r now (and_move r.moves step found) later words homes
-        (leads_on (opening key.positions key.limit) r.machine now r.moves step r.reached (next_of_possible r.machine step to.possible_here))
-        told slots id at same (to.same.1 ∙ is_live r id at) to.are_fates
-        record {
-          moved = r.knows.moved ∙ sym (by_keeper-else r.moves step found to.its_alone.1);
-          noted = λ t x e. let f = r.knows.noted t x e in (f.0, to.fates_on t f.0 x f.1);
-          counted = to.counts;
-          made_is = elim r.knows.made_is [
-            | inl all ↦ inl (all.0, all.1 ∙ sym (ap length to.seats_are ∙ length-set r.machine.seats i new.view))
-            | inr first ↦ absurd (omega (arith, made, first.0))
-          ];
-          back_is = r.knows.back_is;
-          unmade_rest = λ j past. by_seat-else r.moves step found j (own j ∙ ne_eqb j i (λ e. omega (arith, past, made, e)))
-              ∙ r.knows.unmade_rest j past;
-        }
-        record {
-          is_made = omega (arith, made, same);
-          shows = let seats = to.seats_are in let here = seat_at-here r.machine.seats i new.view made_there in cc;
-          moved = let mine = by_seat-own r.moves step found i (own i ∙ eq-eqb i i refl) in
-              to.moved ∙ ap (λ (moves : List Move). and_move moves step found) its.moved ∙ sym mine
-              ∙ ap (λ (j : ℕ). by_seat j (and_move r.moves step found)) (sym same);
-          ordered = to.ordered;
-          below_claims = to.below_claims;
-          got = to.got ∙ ap (λ (j : ℕ). taken_by j 0 later) (sym same);
-          lost_at_front = to.at_front;
-        }
-        (λ other away was. seat_stays was
-        (ap (λ (seats : List SeatView). seat_at seats other.number) to.seats_are
-        ∙ seat_at-else r.machine.seats i new.view made_there other.number away)
-        (by_seat-else r.moves step found other.number (own other.number ∙ ne_eqb other.number i away))
-        (to.others_took other.number away) to.claims_grow (λ g h. h) (le_refl r.keeper.made))
+        let mine = by_seat-own r.moves step found i (own i ∙ eq-eqb i i refl) in
+        let none = by_keeper-else r.moves step found to.its_alone.1 in
+        let long = length-set r.machine.seats i new.view in
+        let here = seat_at-here r.machine.seats i new.view made_there in
+        seat_changes r (after r.machine step) (and_move r.moves step found) later words homes
+        (leads_on (opening key.positions key.limit) r.machine (after r.machine step) r.moves step r.reached
+        (next_of_possible r.machine step to.possible_here))
+        told slots id at to.same.0 (to.same.1 ∙ is_live r id at) to.are_fates
+        (grind (arith, was, knows, none, long, by_seat-else r.moves step found, to, ne_eqb))
+        (grind (arith, was, mine, here, to))
+        (λ other away knew.
+        let none = by_seat-else r.moves step found other.number (own other.number ∙ ne_eqb other.number i away) in
+        let else = seat_at-else r.machine.seats i new.view made_there other.number away in
+        grind (arith, knew, none, else, to))
 
     -- the log after a step that read the word
     order_now : IsOrderly r.machine.word memo.log r.keeper.fronts (and_lost r.machine.word memo.log)
@@ -250,7 +206,8 @@ module _ {O D T N : Type 0} {note : D → N} {Ao : T → O → Type 0} {An : T �
     fates_same : (now : Machine) (view : SeatView) → now.seats ≡ set r.machine.seats memo.number view → view.held ≡ seat.held
         → now.word.claimed ≡ r.machine.word.claimed → AreFates now (An key.terms) r.keeper.made r.fates
     fates_same now view seats_are held claimed = fates_stay (le_refl r.keeper.made)
-        (subst (SameHolders r.machine.seats) (sym seats_are) (holders_stay r.machine.seats memo.number view made_there held)) claimed r.are_fates
+        (subst (SameHolders r.machine.seats) (sym seats_are) (holders_stay r.machine.seats memo.number view made_there held))
+        claimed r.are_fates
 
     -- a look of an idle seat: one call more, which is decided where none is free
     look_step : is_idle memo.view ≡ true → memo.view.calls < 2 ^ 40
@@ -258,26 +215,11 @@ module _ {O D T N : Type 0} {note : D → N} {Ao : T → O → Type 0} {An : T �
     look_step idle few =
         let known = idle_parts memo.view idle in
         let word = r.machine.word in
-        record {
-          its_alone = (λ j. refl, refl);
-          possible_here = rw (← its.shows) (ap₂ ◌&&◌ idle (lt-ltb memo.view.calls (2 ^ 40) few));
-          seats_are = seat_now (looked word);
-          same = (refl, refl);
-          moved = word_moved (Look memo.number);
-          counts = r.knows.counted;
-          claims_grow = le_refl word.claimed;
-          are_fates = fates_same (after r.machine (Look memo.number)) (looked word seat) refl refl refl;
-          fates_on = λ t j x e. e;
-          others_took = λ j other. refl;
-          ordered = record {
-            decided = let was = its.ordered.decided in let long = length_push memo.log (Lost word.claimed) in grind (arith, was, long, known);
-            rises = order_now.rises;
-            below_ticket = λ t h. none_held memo.view.held t known.no_ticket h;
-          };
-          below_claims = order_now.below;
-          got = order_now.got ∙ its.got;
-          at_front = order_now.at_front;
-        }
+        let long = length_push memo.log (Lost word.claimed) in
+        let ordered : IsOrdered (looks key.limit word memo) = grind (arith, its.ordered.decided, long, known, order_now) in
+        let can : possible r.machine (Look memo.number) ≡ true = rw (← its.shows) (ap₂ ◌&&◌ idle (lt-ltb memo.view.calls (2 ^ 40) few)) in
+        let fates = fates_same (after r.machine (Look memo.number)) (looked word seat) refl refl refl in
+        assumption (order_now, le_refl word.claimed, seat_now (looked word), word_moved (Look memo.number), order_now.got ∙ its.got)
 
     -- a claim of an armed seat
     module _ (armed : memo.view.armed ≡ true) where
@@ -296,8 +238,9 @@ module _ {O D T N : Type 0} {note : D → N} {Ao : T → O → Type 0} {An : T �
       claim_told =
           let packs = word_packs claim_now (after_keeps r.machine (ring_of r) (Claim memo.number) claim_possible) in
           let left = armed_leaves_field r.machine (ring_of r) memo.number claim_possible in
+          let number = claimed_number r.machine.limit r.machine.word (ring_of r).permits.either left packs in
           ap (λ (words : List ℕ). set words 0 ((slice_index words 0 + 65535) % 2 ^ 64)) r.words_are
-          ∙ ap (λ (n : ℕ). set (words_of r.machine) 0 n) (claimed_number r.machine.limit r.machine.word (ring_of r).permits.either left packs)
+          ∙ ap (λ (n : ℕ). set (words_of r.machine) 0 n) number
 
       claim_step : {later : List (Option (ℕ × N))} → AreFates claim_now (An key.terms) r.keeper.made later
           → ((t j : ℕ) (x : N) → get_elem? r.fates t ≡ some (Some (j, x)) → get_elem? later t ≡ some (Some (j, x)))
@@ -305,28 +248,12 @@ module _ {O D T N : Type 0} {note : D → N} {Ao : T → O → Type 0} {An : T �
           → IsStepTo memo (Claim memo.number) later (claims key.limit r.machine.word memo)
       claim_step fates on took =
           let word = r.machine.word in
-          let below = order_now.below in
           let grow : word.claimed ≤ (claimed_from word).claimed = grind arith in
-          record {
-            its_alone = (λ j. refl, refl);
-            possible_here = claim_possible;
-            seats_are = seat_now (served word);
-            same = (refl, refl);
-            moved = word_moved (Claim memo.number);
-            counts = r.knows.counted;
-            claims_grow = grow;
-            are_fates = fates;
-            fates_on = on;
-            others_took = λ j other. took j;
-            ordered = record {
-              decided = let was = its.ordered.decided in let long = length_push memo.log (Lost word.claimed) in let none = no_ticket in grind (arith, was, long, none, armed);
-              rises = order_now.rises;
-              below_ticket = λ t h. let none = no_ticket in grind (arith, below, none, h);
-            };
-            below_claims = omega (arith, below, grow);
-            got = order_now.got ∙ its.got ∙ sym (took memo.number);
-            at_front = order_now.at_front;
-          }
+          let long = length_push memo.log (Lost word.claimed) in
+          let ordered : IsOrdered (claims key.limit word memo) = grind (arith, its.ordered.decided, long, no_ticket, armed, order_now) in
+          let others = λ (j : ℕ) (other : j ≢ memo.number). took j in
+          let got = order_now.got ∙ its.got ∙ sym (took memo.number) in
+          assumption (order_now, seat_now (served word), word_moved (Claim memo.number), claim_possible)
 
       -- where a position is free, the seat holds the next ticket
       module _ (free : 0 < r.machine.word.free) where
@@ -343,26 +270,12 @@ module _ {O D T N : Type 0} {note : D → N} {Ao : T → O → Type 0} {An : T �
 
         served_slots : AreSlots note (Ao key.terms) claim_now
             (r.fates ++ None ∷ []) key.positions (set s.homes (r.machine.word.claimed % key.positions) none)
-        served_slots = let more = one_more in slots_set r.machine.word.claimed none r.sizes.some_position
-            (ring_of r).permits.reaped_claimed is_next.1 refl r.are_slots
-            record {
-              finished_home = λ j x e. open_undecided (r.fates ++ None ∷ []) r.machine.word.claimed (j, x)
-                  (at_last r.fates None r.machine.word.claimed r.are_fates.each_claimed) e;
-              held_out = λ e. refl;
-              offered_home = λ past below. absurd (omega (arith, past, more));
-              vacant_out = λ past. refl;
-            }
-            (λ t home away from to is. record {
-              finished_home = λ j x e. elim (at_end r.fates None
-                  (Some (j, x)) t e) [ inl old ↦ is.finished_home j x old | inr last ↦ absurd (none-some (j, x) last.1) ];
-              held_out = λ e. elim (at_end r.fates None None t e) [
-                | inl old ↦ is.held_out old
-                | inr last ↦ absurd (away (last.0
-                    ∙ r.are_fates.each_claimed))
-              ];
-              offered_home = λ past below. is.offered_home (omega (arith, past, more)) below;
-              vacant_out = is.vacant_out;
-            })
+        served_slots =
+            let last = at_last r.fates None r.machine.word.claimed r.are_fates.each_claimed in
+            let more = one_more in
+            slots_set r.machine.word.claimed none r.sizes.some_position (ring_of r).permits.reaped_claimed is_next.1 refl r.are_slots
+            (grind (arith, last, more))
+            (λ t home away from to is. grind (arith, is, away, from, more, r.are_fates.each_claimed, at_end r.fates))
 
       -- and where none is, its call is lost
       module _ (full : r.machine.word.free ≡ 0) where
@@ -370,7 +283,8 @@ module _ {O D T N : Type 0} {note : D → N} {Ao : T → O → Type 0} {An : T �
         none_more = le-ltb 0 r.machine.word.free (omega (arith, full))
 
         vain_step : IsStepTo memo (Claim memo.number) r.fates (claims key.limit r.machine.word memo)
-        vain_step = claim_step (fates_same claim_now (served r.machine.word seat) refl (simp none_more) (simp none_more)) (λ t j x e. e) (λ j. refl)
+        vain_step = claim_step (fates_same claim_now (served r.machine.word seat) refl (simp none_more) (simp none_more))
+            (λ t j x e. e) (λ j. refl)
 
     -- a mark of a kind of loss
     module _ (kind : ℕ) (low : kind < 2) (few : marks_of memo.view kind < 2 ^ 40) where
@@ -380,30 +294,23 @@ module _ {O D T N : Type 0} {note : D → N} {Ao : T → O → Type 0} {An : T �
       loss_there : slice_index s.words (kind + 1) ≡ (loss_at r.machine kind).value
       loss_there = ap (λ (words : List ℕ). slice_index words (kind + 1)) r.words_are ∙ is_marked.number_is
 
-      mark_told : set s.words (kind + 1) ((slice_index s.words (kind + 1) + 1) % 2 ^ 64) ≡ words_of (after r.machine (Mark memo.number kind))
-      mark_told = ap (λ (words : List ℕ). set words (kind + 1) ((slice_index words (kind + 1) + 1) % 2 ^ 64)) r.words_are ∙ is_marked.told
+      mark_told : set s.words (kind + 1) ((slice_index s.words (kind + 1) + 1) % 2 ^ 64)
+          ≡ words_of (after r.machine (Mark memo.number kind))
+      mark_told = ap (λ (words : List ℕ). set words (kind + 1) ((slice_index words (kind + 1) + 1) % 2 ^ 64)) r.words_are
+          ∙ is_marked.told
 
       mark_step : IsStepTo memo (Mark memo.number kind) r.fates (adds_mark kind (slice_index s.words (kind + 1)) memo)
       mark_step =
+          let now = after r.machine (Mark memo.number kind) in
           let claimed = ap (λ (w : PermitWord). w.claimed) is_marked.same_word in
-          let below = its.below_claims in
+          let grow : r.machine.word.claimed ≤ now.word.claimed = omega (arith, claimed) in
           let few_there = subst (λ (v : SeatView). marks_of v kind < 2 ^ 40) its.shows few in
-          record {
-            its_alone = (λ j. refl, refl);
-            possible_here = ap₂ ◌&&◌ (lt-ltb kind 2 low) (ap₂ ◌&&◌ live_there (lt-ltb (marks_of seat kind) (2 ^ 40) few_there));
-            seats_are = is_marked.seats_are ∙ seat_now (marked kind);
-            same = (refl, (is_marked.same_seat memo.view).1);
-            moved = ap (and_move memo.moves (Mark memo.number kind)) loss_there;
-            counts = is_marked.counts key.positions r.keeper r.knows.counted;
-            claims_grow = omega (arith, claimed);
-            are_fates = fates_same (after r.machine (Mark memo.number kind)) (marked kind seat) is_marked.seats_are (is_marked.same_seat seat).0 claimed;
-            fates_on = λ t j x e. e;
-            others_took = λ j other. refl;
-            ordered = is_marked.ordered (slice_index s.words (kind + 1)) memo its.ordered;
-            below_claims = omega (arith, claimed, below);
-            got = its.got;
-            at_front = its.lost_at_front;
-          }
+          let can = ap₂ ◌&&◌ (lt-ltb kind 2 low) (ap₂ ◌&&◌ live_there (lt-ltb (marks_of seat kind) (2 ^ 40) few_there)) in
+          let fates = fates_same now (marked kind seat) is_marked.seats_are (is_marked.same_seat seat).0 claimed in
+          let moved = ap (and_move memo.moves (Mark memo.number kind)) loss_there in
+          let ordered = is_marked.ordered (slice_index s.words (kind + 1)) memo its.ordered in
+          let counts = is_marked.counts key.positions r.keeper r.knows.counted in
+          assumption (its, is_marked.seats_are ∙ seat_now (marked kind), (is_marked.same_seat memo.view).1)
 
     -- the finish of the held ticket with a value
     module _ (t : ℕ) (d : D) (holds : Holds memo.view t) (admitted : An key.terms (note d)) where
@@ -424,57 +331,37 @@ module _ {O D T N : Type 0} {note : D → N} {Ao : T → O → Type 0} {An : T �
       fate = Some (memo.number, note d)
 
       finish_step : IsStepTo memo (Finish memo.number) (set r.fates t fate) (finishes (note d) memo)
-      finish_step = subst (λ (u : ℕ). IsStepTo memo (Finish memo.number) (set r.fates t fate) (record (finishes (note d) memo) { log = memo.log ++ Got u (note d) ∷ [] }))
-          (sym (ap ticket_in holds)) (
+      finish_step = subst (λ (u : ℕ). IsStepTo memo (Finish memo.number) (set r.fates t fate)
+          (record (finishes (note d) memo) { log = memo.log ++ Got u (note d) ∷ [] })) (sym (ap ticket_in holds)) (
           let after_log : end_from 0 memo.log ≤ t = its.ordered.below_ticket t holds in
-          let out = is_out.1 in
           let call = Got t (note d) in
-          record {
-            its_alone = (λ j. refl, refl);
-            possible_here = ap is_some holds_there;
-            seats_are = seat_now (λ (v : SeatView). record v { held = None });
-            same = (refl, refl);
-            moved = refl;
-            counts = r.knows.counted;
-            claims_grow = le_refl r.machine.word.claimed;
-            are_fates = finished_fates r.are_fates finish_now memo.number (record seat { held = None }) made_there refl t (note d)
-                (λ j h. (ring_of r).seats.apart j memo.number t h holds_there) holds_there refl its.is_made admitted refl;
-            fates_on = λ u j x e. set_else r.fates t u fate
-                (λ same. open_undecided r.fates t (j, x) is_open (ap (get_elem? r.fates) (sym same) ∙ e)) ∙ e;
-            others_took = λ j other. taken-else j memo.number 0 (note d) r.fates t other is_open;
-            ordered = record {
-              decided = let was = its.ordered.decided in let long = length_push memo.log call in let apart = no_ticket in grind (arith, was, long, apart, holds);
-              rises = rises_on 0 memo.log call its.ordered.rises after_log;
-              below_ticket = λ u h. absurd (none-some (record { 0 = u }) h);
-            };
-            below_claims = subst (λ (k : ℕ). k ≤ r.machine.word.claimed) (sym (end_on 0 memo.log call)) (omega (arith, out));
-            got = got_of-got memo.log t (note d) ∙ ap (λ (l : List (ℕ × N)). l ++ (t, note d) ∷ []) its.got
-                ∙ sym (taken-own memo.number t (note d) r.fates memo.log its.ordered.rises after_log its.got is_open);
-            at_front = λ j g e. elim (at_snoc memo.log call
-                (Lost g) j e) [ inl old ↦ its.lost_at_front j g old | inr last ↦ no_loss t g (note d) last ];
-          })
-
-      finished_slots : AreSlots note (Ao key.terms) finish_now (set r.fates t fate) key.positions (set s.homes (t % key.positions) (some (Finished d)))
-      finished_slots =
+          let now : SeatMemo N = record (finishes (note d) memo) { log = memo.log ++ call ∷ [] } in
+          let rises = rises_on 0 memo.log call its.ordered.rises after_log in
+          let long = length_push memo.log call in
+          let ordered : IsOrdered now = grind (arith, its.ordered.decided, long, no_ticket, holds, rises) in
+          let fates = finished_fates r.are_fates finish_now memo.number (record seat { held = None }) made_there refl t (note d)
+              (λ j h. (ring_of r).seats.apart j memo.number t h holds_there) holds_there refl its.is_made admitted refl in
+          let on = λ (u j : ℕ) (x : N) (e : get_elem? r.fates u ≡ some (Some (j, x))). set_else r.fates t u fate
+              (λ same. open_undecided r.fates t (j, x) is_open (ap (get_elem? r.fates) (sym same) ∙ e)) ∙ e in
+          let others = λ (j : ℕ) (other : j ≢ memo.number). taken-else j memo.number 0 (note d) r.fates t other is_open in
           let out = is_out.1 in
+          let below : end_from 0 now.log ≤ r.machine.word.claimed = omega (arith, end_on 0 memo.log call, out) in
+          let got = got_of-got memo.log t (note d) ∙ ap (λ (l : List (ℕ × N)). l ++ (t, note d) ∷ []) its.got
+              ∙ sym (taken-own memo.number t (note d) r.fates memo.log its.ordered.rises after_log its.got is_open) in
+          let front : (j g : ℕ) → get_elem? now.log j ≡ some (Lost g) → StandsIn r.keeper.fronts g =
+              λ j g e. let c = at_snoc memo.log call (Lost g) j e in grind (arith, its.lost_at_front j g, c) in
+          assumption (le_refl r.machine.word.claimed, seat_now (λ (v : SeatView). record v { held = None }), ap is_some holds_there))
+
+      finished_slots : AreSlots note (Ao key.terms) finish_now (set r.fates t fate) key.positions
+          (set s.homes (t % key.positions) (some (Finished d)))
+      finished_slots =
+          let out = is_out in
           let account = (ring_of r).permits.account in
           let turn = one_turn_ahead r in
           let here = set_here r.fates t fate (at_length r.fates t None is_open) in
-          slots_set t (some (Finished d)) r.sizes.some_position is_out.0 (omega (arith, out, account, turn)) refl r.are_slots
-          record {
-            finished_home = λ j x e.
-                let same = same_Some (memo.number, note d) (j, x) (some-injective fate (Some (j, x)) (sym here ∙ e)) in
-                (d, ap (λ (p : ℕ × N). p.1) same, refl);
-            held_out = λ e. open_undecided (set r.fates t fate) t (memo.number, note d) e here;
-            offered_home = λ past below. absurd (omega (arith, past, out));
-            vacant_out = λ past. absurd (omega (arith, past, out, account));
-          }
-          (λ u home away from to is. record {
-            finished_home = λ j x e. is.finished_home j x (sym (set_else r.fates t u fate away) ∙ e);
-            held_out = λ e. is.held_out (sym (set_else r.fates t u fate away) ∙ e);
-            offered_home = is.offered_home;
-            vacant_out = is.vacant_out;
-          })
+          slots_set t (some (Finished d)) r.sizes.some_position out.0 (omega (arith, out, account, turn)) refl r.are_slots
+          (grind (arith, here, out, account))
+          (λ u home away from to is. grind (arith, is, set_else r.fates t u fate away))
 
       -- the mark of the ticket's position
       finish_told : set s.words (t % key.positions + 3) (t + 1) ≡ words_of finish_now
@@ -482,7 +369,8 @@ module _ {O D T N : Type 0} {note : D → N} {Ao : T → O → Type 0} {An : T �
           let three : t % key.positions + 3 ≡ suc (suc (suc (t % key.positions))) = omega arith in
           let place = three ∙ ap (λ (k : ℕ). suc (suc (suc (t % k)))) (sym (sizes_of r).positions_are) in
           ap₂ (λ (words : List ℕ) (k : ℕ). set words k (t + 1)) r.words_are place
-          ∙ ap (λ (held : Option Ticket0). packed r.machine.limit r.machine.word ∷ r.machine.loss0.value ∷ r.machine.loss1.value ∷ finished r.machine.positions r.machine.marks held) (sym holds_there)
+          ∙ ap (λ (held : Option Ticket0). words_of (record r.machine { marks = finished r.machine.positions r.machine.marks held }))
+          (sym holds_there)
 
 -- the steps of a token whose view is a seat's
 module _ {O D T N : Type 0} (note : D → N) (Ao : T → O → Type 0) (An : T → N → Type 0) (key : Key T) (slots id : ℕ) (me : Known O D T N)
@@ -490,37 +378,45 @@ module _ {O D T N : Type 0} (note : D → N) (Ao : T → O → Type 0) (An : T �
   abbrev memo : SeatMemo N
   memo = seat_in me.0
 
+  -- what may be done
+  abbrev Allowed : Known O D T N → ℕ → (ℕ → ℕ) → (ℕ → Known O D T N → Type 0) → Type 0
+  Allowed me word f then = Allows (Runs note Ao An key) slots id me word f then
+
   -- what is allowed to the seat is allowed to the token
-  at_seat : (P : Known O D T N → Type 0) → P (Sits key memo, me.1) → P me
-  at_seat P = subst (λ (v : View T N). P (v, me.1)) (sym sits)
+  at_seat : (word : ℕ) (f : ℕ → ℕ) (then : Known O D T N → ℕ → Known O D T N → Type 0)
+      → Allowed (Sits key memo, me.1) word f (then (Sits key memo, me.1)) → Allowed me word f (then me)
+  at_seat word f then = subst (λ (v : View T N). Allowed (v, me.1) word f (then (v, me.1))) (sym sits)
 
   pub look_ready : is_idle memo.view ≡ true → memo.view.calls < 2 ^ 40
-      → Allows (Runs note Ao An key) slots id me 0 (λ n. n) (saw_word (step slots 0 0 0 none) me)
-  look_ready idle few = at_seat (λ me. Allows (Runs note Ao An key) slots id me 0 (λ n. n) (saw_word (step slots 0 0 0 none) me))
+      → Allowed me 0 (λ n. n) (saw_word (step slots 0 0 0 none) me)
+  look_ready idle few = at_seat 0 (λ n. n) (saw_word (step slots 0 0 0 none))
       (λ s r wide at fits. let to = look_step r id at idle few in rw (read_back r) (
         Sits key (looks key.limit r.machine.word memo),
         keeps,
         tt,
-        seat_runs r id at to (ap (λ (words : List ℕ). set words 0 (slice_index words 0)) r.words_are) (slots_stay refl refl refl r.are_slots),
+        seat_runs r id at to (ap (λ (words : List ℕ). set words 0 (slice_index words 0)) r.words_are)
+            (slots_stay refl refl refl r.are_slots),
         (number_reads r, refl, to.ordered, (small r.machine (ring_of r)).claimed),
       ))
 
   pub claim_ready : slots ≡ key.positions → memo.view.armed ≡ true
-      → Allows (Runs note Ao An key) slots id me 0 (λ n. (n + 65535) % 2 ^ 64) (claimed_word Ao (step slots 0 65535 0 none) me)
-  claim_ready same armed = at_seat (λ me. Allows (Runs note Ao An key) slots id me 0 (λ n. (n + 65535) % 2 ^ 64) (claimed_word Ao (step slots 0 65535 0 none) me))
+      → Allowed me 0 (λ n. (n + 65535) % 2 ^ 64) (claimed_word Ao (step slots 0 65535 0 none) me)
+  claim_ready same armed = at_seat 0 (λ n. (n + 65535) % 2 ^ 64) (claimed_word Ao (step slots 0 65535 0 none))
       (λ s r wide at fits. rw (read_back r) (elim (cases_lt 0 r.machine.word.free) [
         | inl free ↦
             let to = served_step r id at armed free in
             let next = is_next r id at armed free in
             let home = (r.are_slots.each r.machine.word.claimed (ring_of r).permits.reaped_claimed next.1).offered_home
-            (le_refl r.machine.word.claimed) next.0 in (
+            (le_refl r.machine.word.claimed) next.0 in
+            let memo_now = claims key.limit r.machine.word memo in
+            let told = ap {B = Known O D T N} (λ (k : ℕ). (Sits key memo_now, (r.machine.word.claimed % k, Offered home.0) ∷ me.1)) (sym same) in (
               Sits key (claims key.limit r.machine.word memo),
               takes (r.machine.word.claimed % key.positions) (Offered home.0),
               home.2,
               seat_runs r id at to (claim_told r id at armed) (served_slots r id at armed free),
               (
                 number_reads r,
-                (λ _. (home.0, home.1, ap (λ (k : ℕ). (Sits key (claims key.limit r.machine.word memo), (r.machine.word.claimed % k, Offered home.0) ∷ me.1)) (sym same))),
+                (λ _. (home.0, home.1, told)),
                 (λ full. absurd (omega (arith, free, full))),
                 to.ordered,
                 (small r.machine (ring_of r)).claimed,
@@ -544,29 +440,29 @@ module _ {O D T N : Type 0} (note : D → N) (Ao : T → O → Type 0) (An : T �
       ]))
 
   pub mark_ready : (kind : ℕ) → kind < 2 → marks_of memo.view kind < 2 ^ 40
-      → Allows (Runs note Ao An key) slots id me (kind + 1) (λ n. (n + 1) % 2 ^ 64) (marked_loss (step slots (kind + 1) 1 0 none) me)
-  mark_ready kind low few = at_seat (λ me. Allows (Runs note Ao An key) slots id me (kind + 1)
-      (λ n. (n + 1) % 2 ^ 64) (marked_loss (step slots (kind + 1) 1 0 none) me)) (λ s r wide at fits.
+      → Allowed me (kind + 1) (λ n. (n + 1) % 2 ^ 64) (marked_loss (step slots (kind + 1) 1 0 none) me)
+  mark_ready kind low few = at_seat (kind + 1) (λ n. (n + 1) % 2 ^ 64) (marked_loss (step slots (kind + 1) 1 0 none)) (λ s r wide at fits.
       let same : kind ≡ kind + 1 - 1 = omega arith in
       let to = mark_step r id at kind low few in
       let is = is_marked r id at kind low few in (
         Sits key (adds_mark kind (slice_index s.words (kind + 1)) memo),
         keeps,
         tt,
-        seat_runs r id at to (mark_told r id at kind low few) (slots_stay is.same_reaped (ap (λ (w : PermitWord). w.claimed) is.same_word) is.same_offered r.are_slots),
+        seat_runs r id at to (mark_told r id at kind low few)
+            (slots_stay is.same_reaped (ap (λ (w : PermitWord). w.claimed) is.same_word) is.same_offered r.are_slots),
         (ap (λ (j : ℕ). (Sits key (adds_mark j (slice_index s.words (kind + 1)) memo), me.1)) same, to.ordered),
       ))
 
   -- a finish of a token that has just put a value into its slot
   pub finish_ready : {new : Known O D T N} {n t place : ℕ} {d : D} {others : List (ℕ × Slot O D)}
       → new ≡ (me.0, (place, Finished d) ∷ others) → place ≡ t % n → key.positions ≡ n → Holds memo.view t → An key.terms (note d)
-      → Allows (Runs note Ao An key) slots id new (place + 3) (λ _. t + 1)
-      (λ _. finished_value note (step slots (place + 3) (t + 1) 0 none) new (t + 1))
+      → Allowed new (place + 3) (λ _. t + 1) (λ _. finished_value note (step slots (place + 3) (t + 1) 0 none) new (t + 1))
   finish_ready {t = t} {place = place} {d = d} {others = others} is here same holds admitted =
       let at_place : place ≡ t % key.positions = here ∙ ap (λ (k : ℕ). t % k) (sym same) in
-      subst (λ (x : ℕ × Known O D T N). Allows (Runs note Ao An key) slots id x.1 (x.0 + 3) (λ _. t + 1)
+      subst (λ (x : ℕ × Known O D T N). Allowed x.1 (x.0 + 3) (λ _. t + 1)
       (λ _. finished_value note (step slots (x.0 + 3) (t + 1) 0 none) x.1 (t + 1)))
-      (λ j. (sym at_place j, sym (is ∙ λ j. (sits j, (at_place j, Finished d) ∷ others)) j)) (λ s r wide at fits. let to = finish_step r id at t d holds admitted in (
+      (λ j. (sym at_place j, sym (is ∙ λ j. (sits j, (at_place j, Finished d) ∷ others)) j)) (λ s r wide at fits.
+      let to = finish_step r id at t d holds admitted in (
         Sits key (finishes (note d) memo),
         gives,
         tt,

@@ -4,10 +4,6 @@ use Rattle.permit_ring.proofs.ring.Ring.claim.Goals as goal
 
 pub fetch_add-number-requires : goal.fetch_add-number-requires
 fetch_add-number-requires g c =
-    let f = g.F.Freight in
-    let mine = c.requires.mine in (
-      mine.at_table,
-      search rules,
-      claim_ready f.note f.admits_offered f.admits_note _ _ _ _ mine.sits
-          (mine.ring_is.slots_are ∙ sym mine.ring_is.positions_are) c.requires.armed,
-    )
+    let mine = c.requires.mine in
+    let same = mine.ring_is.slots_are ∙ sym mine.ring_is.positions_are in
+    (mine.at_table, search rules, claim_ready _ _ _ _ _ _ _ mine.sits same c.requires.armed)

@@ -11,11 +11,10 @@ exchange-old-requires g c =
 
 pub store-requires : goal.store-requires
 store-requires g c =
-    let f = g.F.Freight in
     let mine = c.requires.mine in
     let put = c.exchange-old.ensures in (
       put.0 ∙ mine.at_table,
       search rules,
-      finish_ready f.note f.admits_offered f.admits_note _ _ _ c.args.place.now.me mine.sits put.3 c.position_of-position.ensures
-          mine.ring_is.positions_are c.requires.held c.requires.admitted,
+      finish_ready _ _ _ _ _ _ c.args.place.now.me mine.sits put.3 c.position_of-position.ensures mine.ring_is.positions_are c.requires.held
+          c.requires.admitted,
     )
