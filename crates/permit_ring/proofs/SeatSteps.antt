@@ -340,16 +340,16 @@ module _ {O D T N : Type 0} {note : D → N} {Ao : T → O → Type 0} {An : T �
           let long = length_push memo.log call in
           let ordered : IsOrdered now = grind (arith, its.ordered.decided, long, no_ticket, holds, rises) in
           let fates = finished_fates r.are_fates finish_now memo.number (record seat { held = None }) made_there refl t (note d)
-              (λ j h. (ring_of r).seats.apart j memo.number t h holds_there) holds_there refl its.is_made admitted refl in
+          (λ j h. (ring_of r).seats.apart j memo.number t h holds_there) holds_there refl its.is_made admitted refl in
           let on = λ (u j : ℕ) (x : N) (e : get_elem? r.fates u ≡ some (Some (j, x))). set_else r.fates t u fate
-              (λ same. open_undecided r.fates t (j, x) is_open (ap (get_elem? r.fates) (sym same) ∙ e)) ∙ e in
+          (λ same. open_undecided r.fates t (j, x) is_open (ap (get_elem? r.fates) (sym same) ∙ e)) ∙ e in
           let others = λ (j : ℕ) (other : j ≢ memo.number). taken-else j memo.number 0 (note d) r.fates t other is_open in
           let out = is_out.1 in
           let below : end_from 0 now.log ≤ r.machine.word.claimed = omega (arith, end_on 0 memo.log call, out) in
           let got = got_of-got memo.log t (note d) ∙ ap (λ (l : List (ℕ × N)). l ++ (t, note d) ∷ []) its.got
-              ∙ sym (taken-own memo.number t (note d) r.fates memo.log its.ordered.rises after_log its.got is_open) in
+          ∙ sym (taken-own memo.number t (note d) r.fates memo.log its.ordered.rises after_log its.got is_open) in
           let front : (j g : ℕ) → get_elem? now.log j ≡ some (Lost g) → StandsIn r.keeper.fronts g =
-              λ j g e. let c = at_snoc memo.log call (Lost g) j e in grind (arith, its.lost_at_front j g, c) in
+          λ j g e. let c = at_snoc memo.log call (Lost g) j e in grind (arith, its.lost_at_front j g, c) in
           assumption (le_refl r.machine.word.claimed, seat_now (λ (v : SeatView). record v { held = None }), ap is_some holds_there))
 
       finished_slots : AreSlots note (Ao key.terms) finish_now (set r.fates t fate) key.positions

@@ -14,6 +14,7 @@ use crate::keeper::Keeper;
 use crate::memo::{Key, Slot};
 use crate::ring::{MARKS, PERMITS, Place, Ring, all_free};
 use crate::seat::Seat;
+use crate::told::Lives;
 use atomic_table::Table;
 use ids_types::NoMemory;
 use std::alloc::{AllocError, Global};
@@ -98,7 +99,8 @@ fn make_seats<F: Freight>(
 {
     let mut seats = Vec::with_capacity(alloc, ring.limit as usize)?;
     for number in 0..ring.limit {
-        seats.push_reserved(Seat::of(ring.split(place), number));
+        let seat = ring.table.shared.split_seat::<Lives>(place);
+        seats.push_reserved(Seat::of(seat, number));
     }
     Ok(seats)
 }

@@ -1,31 +1,27 @@
 //! The ring that threads share, and its atomic steps.
 
 ghost use Rattle.std.specs.Prelude.{◌≡◌, ℕ, ◌+◌, ◌%◌, ◌^◌, ◌<◌, ◌≤◌, ◌≢◌, true, [], ◌∷◌, ◌++◌, ◌-◌, length, take, drop, sum, Some, None, IfOk, IfErr};
-ghost use Rattle.ring_core.specs.Machine.{all_free as all_free_word, is_idle, marks_of};
+ghost use Rattle.ring_core.specs.Machine.{all_free as all_free_word, is_idle};
 ghost use Rattle.permit_ring.specs.declared.memo.Slot.TheVariants.{Empty, Offered};
 ghost use Rattle.permit_ring.specs.declared.memo.View.TheVariants.{Sits, Keeps};
 ghost use Rattle.permit_ring.specs.Closing.{AreAllBack, IsAllReaped, IsSettled, AreAllSwept, swept_of};
 ghost use Rattle.permit_ring.specs.Logs.{IsOrdered};
 ghost use Rattle.permit_ring.specs.Told.{seat_in, keeper_in};
-ghost use Rattle.permit_ring.specs.Steps.{looks, claims, finishes, adds_mark, new_memo, waits, reaps, sweeps, makes, welcomes};
+ghost use Rattle.permit_ring.specs.Steps.{looks, claims, waits, reaps, sweeps, welcomes};
 
 use crate::freight::{Freight, Running};
 use crate::memo::{Key, Slot, View};
-use crate::told::{ClaimsTicket, Finishes, Lives, MarksLoss, SeesMark, SeesWord, Sweeps};
+use crate::told::{Lives, SeesMark, Sweeps};
 use atomic_table::{Seat as Token, Table};
-use ids_types::Ticket;
 use ring_core::PermitWord;
 use std::alloc::Global;
 
 // The words of a ring: the permit word, two loss words, and the mark of each position.
 pub(crate) const PERMITS: usize = 0;
 
-const LOSSES: usize = 1;
+pub(crate) const LOSSES: usize = 1;
 
 pub(crate) const MARKS: usize = 3;
-
-// What a claim adds to the permit word: one claim more, and one free position less.
-const ONE_CLAIM: u64 = 65535;
 
 /// The token of a seat or of the keeper at the table of a ring.
 pub(crate) type Place<F> = Token<
@@ -48,79 +44,7 @@ pub struct Ring<F: Freight> {
 }
 
 impl<F: Freight> Ring<F> {
-    ghost use Rattle.permit_ring.specs.Seats.{IsSized, IsSitting, IsKeeping, HasInHand, KeepsInHand, ring_terms};
-
-    /// The permit word as it is now.
-    pub(crate) fn look(&self, place: &mut Place<F>) -> PermitWord
-        requires mine { IsSitting self.now place.old }
-        requires idle { is_idle (seat_in place.old.me.0).view ≡ true }
-        requires few { (seat_in place.old.me.0).view.calls < 2 ^ 40 }
-        ensures mine { IsSitting self.now place.new }
-        ensures told { place.new.me ≡ (Sits self.now.table.shared.key (looks self.now.limit result (seat_in place.old.me.0)), place.old.me.1) }
-        ensures ordered { IsOrdered (seat_in place.new.me.0) }
-        ensures small { result.claimed ≤ 2 ^ 45 }
-    {
-        let number = self.table.shared.load::<SeesWord>(place, PERMITS);
-        PermitWord::unpack(number, self.limit)
-    }
-
-    /// Claims a position, and gives the permit word as it was.
-    pub(crate) fn claim(&self, place: &mut Place<F>) -> PermitWord
-        requires mine { IsSitting self.now place.old }
-        requires armed { (seat_in place.old.me.0).view.armed ≡ true }
-        ensures mine { IsSitting self.now place.new }
-        ensures got { 0 < result.free → (y : F.Offered) × F.admits_offered (ring_terms self.now) y
-            × (place.new.me ≡ (Sits self.now.table.shared.key (claims self.now.limit result (seat_in place.old.me.0)), (result.claimed % self.now.positions, Offered y) ∷ place.old.me.1)) }
-        ensures vain { result.free ≡ 0 → place.new.me ≡ (Sits self.now.table.shared.key (claims self.now.limit result (seat_in place.old.me.0)), place.old.me.1) }
-        ensures small { result.claimed ≤ 2 ^ 45 }
-        ensures ordered { IsOrdered (seat_in place.new.me.0) }
-    {
-        let number = self
-            .table
-            .shared
-            .fetch_add::<ClaimsTicket<F>>(place, PERMITS, ONE_CLAIM);
-        PermitWord::unpack(number, self.limit)
-    }
-
-    /// Puts the value into the slot of a held ticket, and then sets the mark of its position.
-    pub(crate) fn finish(
-        &self,
-        place: &mut Place<F>,
-        ticket: Ticket,
-        value: F::Finished,
-    ) -> F::Offered
-        requires mine { IsSitting self.now place.old }
-        requires held { (seat_in place.old.me.0).view.held ≡ Some (record { 0 = ticket.0 }) }
-        requires hand { HasInHand (F.admits_offered (ring_terms self.now)) self.now.positions (Some ticket) place.old.me.1 }
-        requires admitted { F.admits_note (ring_terms self.now) (F.note value) }
-        ensures mine { IsSitting self.now place.new }
-        ensures told { place.new.me ≡ (Sits self.now.table.shared.key (finishes (F.note value) (seat_in place.old.me.0)), []) }
-        ensures ordered { IsOrdered (seat_in place.new.me.0) }
-        ensures admitted { F.admits_offered (ring_terms self.now) result }
-    {
-        let position = self.position_of(ticket.0);
-        let words = &self.table.shared;
-        let old = words.exchange(place, position, Slot::Finished(value));
-        words.store::<Finishes<F>>(place, position + MARKS, ticket.0 + 1);
-        let Slot::Offered(offered) = old else {
-            unreachable!()
-        };
-        offered
-    }
-
-    /// Adds one to a loss word.
-    pub(crate) fn mark(&self, place: &mut Place<F>, kind: u8)
-        requires mine { IsSitting self.now place.old }
-        requires kind { kind < 2 }
-        requires few { marks_of (seat_in place.old.me.0).view kind < 2 ^ 40 }
-        ensures mine { IsSitting self.now place.new }
-        ensures told { (found : ℕ) × (place.new.me ≡ (Sits self.now.table.shared.key (adds_mark kind found (seat_in place.old.me.0)), place.old.me.1)) }
-        ensures ordered { IsOrdered (seat_in place.new.me.0) }
-    {
-        self.table
-            .shared
-            .fetch_add::<MarksLoss>(place, kind as usize + LOSSES, 1);
-    }
+    ghost use Rattle.permit_ring.specs.Seats.{IsSized, IsSitting, IsKeeping, KeepsInHand, ring_terms};
 
     /// Looks at the mark of the next ticket's position. Where it is that ticket's, takes the value
     /// of its slot, and else answers the mark.
@@ -167,7 +91,7 @@ impl<F: Freight> Ring<F> {
     }
 
     // A ticket's position. Where their number is a power of two, it is told without a division.
-    fn position_of(&self, ticket: u64) -> usize
+    pub(crate) fn position_of(&self, ticket: u64) -> usize
         requires { IsSized self.now }
         ensures { result ≡ ticket % self.now.positions }
     {
@@ -222,18 +146,6 @@ impl<F: Freight> Ring<F> {
             unreachable!()
         };
         turn_hand(place, vacant);
-    }
-
-    /// Makes a seat.
-    pub(crate) fn split(&self, place: &mut Place<F>) -> Place<F>
-        requires mine { IsKeeping self.now place.old }
-        requires room { (keeper_in place.old.me.0).made < self.now.limit }
-        ensures mine { IsKeeping self.now place.new }
-        ensures told { place.new.me ≡ (Keeps self.now.table.shared.key (makes (keeper_in place.old.me.0)), place.old.me.1) }
-        ensures seat { IsSitting self.now result }
-        ensures new { result.me ≡ (Sits self.now.table.shared.key (new_memo (keeper_in place.old.me.0).made), []) }
-    {
-        self.table.shared.split_seat::<Lives>(place)
     }
 
     /// Takes a seat back.

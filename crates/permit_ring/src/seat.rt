@@ -7,9 +7,14 @@ ghost use Rattle.permit_ring.specs.Steps.{finishes, adds_mark};
 
 use crate::answer::Look;
 use crate::freight::Freight;
-use crate::ring::{Place, Ring};
+use crate::memo::Slot;
+use crate::ring::{LOSSES, MARKS, PERMITS, Place, Ring};
+use crate::told::{ClaimsTicket, Finishes, MarksLoss, SeesWord};
 use ids_types::Ticket;
 use ring_core::PermitWord;
+
+// What a claim adds to the permit word: one claim more, and one free position less.
+const ONE_CLAIM: u64 = 65535;
 
 /// One who claims positions of a ring, one at a time, from any thread.
 ///
@@ -79,11 +84,14 @@ impl<F: Freight> Seat<F> {
         ensures counted { (seat_calls self.new ≡ seat_calls self.old + 1) × (seat_number self.new ≡ seat_number self.old) }
     {
         self.calls += 1;
-        let seen = ring.look(&mut self.place);
+        let words = &ring.table.shared;
+        let number = words.load::<SeesWord>(&mut self.place, PERMITS);
+        let seen = PermitWord::unpack(number, ring.limit);
         if seen.free == 0 {
             return Err(Look::of(&seen));
         }
-        let word = ring.claim(&mut self.place);
+        let number = words.fetch_add::<ClaimsTicket<F>>(&mut self.place, PERMITS, ONE_CLAIM);
+        let word = PermitWord::unpack(number, ring.limit);
         if word.free == 0 {
             return Err(Look::of(&word));
         }
@@ -107,7 +115,14 @@ impl<F: Freight> Seat<F> {
     {
         let ticket = self.held.unwrap();
         self.held = None;
-        ring.finish(&mut self.place, ticket, value)
+        let position = ring.position_of(ticket.0);
+        let words = &ring.table.shared;
+        let old = words.exchange(&mut self.place, position, Slot::Finished(value));
+        words.store::<Finishes<F>>(&mut self.place, position + MARKS, ticket.0 + 1);
+        let Slot::Offered(offered) = old else {
+            unreachable!()
+        };
+        offered
     }
 
     /// Adds one to a loss word: kind 0 for lost events, 1 for lost contexts.
@@ -121,7 +136,9 @@ impl<F: Freight> Seat<F> {
         ensures held { seat_ticket self.new ≡ seat_ticket self.old }
         ensures same { (seat_calls self.new ≡ seat_calls self.old) × (seat_number self.new ≡ seat_number self.old) }
     {
-        ring.mark(&mut self.place, kind);
+        ring.table
+            .shared
+            .fetch_add::<MarksLoss>(&mut self.place, kind as usize + LOSSES, 1);
     }
 
     pub(crate) fn of(place: Place<F>, number: u8) -> Seat<F>

@@ -1,0 +1,21 @@
+use Rattle.std.proofs.Common.{rules, ap, ◌∙◌}
+use Rattle.permit_ring.specs.declared.memo.Slot.TheVariants.{Offered}
+use Rattle.permit_ring.specs.Seats.{machine_ticket}
+use Rattle.permit_ring.proofs.SeatSteps.{finish_ready}
+use Rattle.permit_ring.proofs.seat.Seat.finish.Goals as goal
+
+pub exchange-old-requires : goal.exchange-old-requires
+exchange-old-requires g c =
+    let hand = (rw c.unwrap-ticket.ensures at c.requires.mine.in_hand).1 in
+    let is = c.position_of-position.ensures in
+    (c.requires.mine.sitting.at_table, (Offered hand.0, cc))
+
+pub store-requires : goal.store-requires
+store-requires g c =
+    let mine = c.requires.mine in
+    let put = c.exchange-old.ensures in (
+      put.0 ∙ mine.sitting.at_table,
+      search rules,
+      finish_ready _ _ _ _ _ _ c.args.self.now.place.me mine.sitting.sits put.3 c.position_of-position.ensures
+          mine.sitting.ring_is.positions_are (mine.ticket_is ∙ ap machine_ticket c.unwrap-ticket.ensures) c.requires.admitted,
+    )
