@@ -32,14 +32,13 @@ module _ (O D : Type 0) (n : ℕ) where
   hand-append : (t : ℕ) (xs ys : List (Slot O D)) → hand_from n t (xs ++ ys) ≡ hand_from n t xs ++ hand_from n (t + length xs) ys
   hand-append t [] ys = let same : t ≡ t + 0 = omega arith in ap (λ (k : ℕ). hand_from n k ys) same
   hand-append t (x ∷ xs) ys =
-      let rest = hand-append (suc t) xs ys in
       let same : suc t + length xs ≡ t + suc (length xs) = omega arith in
-      cc
+      cc (hand-append (suc t) xs ys)
 
   -- the filled ones, and the vacant ones behind them
   two_rows : (t : ℕ) (ys : List O) (slots : List (Slot O D))
       → hand_from n t (filled_row ys ++ slots) ≡ hand_from n t (filled_row ys) ++ hand_from n (t + length ys) slots
-  two_rows t ys slots = let rows = hand-append t (filled_row ys) slots in let long = length-map {B = Slot O D} ys Offered in cc
+  two_rows t ys slots = cc (hand-append t (filled_row ys) slots, length-map {B = Slot O D} ys Offered)
 
   length-filled : (t : ℕ) (ys : List O) → length (hand_from n t (filled_row ys)) ≡ length ys
   length-filled t ys = length-hand t (filled_row ys) ∙ length-map ys Offered
@@ -62,14 +61,10 @@ module _ (O D : Type 0) (n : ℕ) where
   pub hand-reaped : (t : ℕ) (ys : List O) (vacant at : ℕ) → at ≡ (t + length ys + vacant) % n
       → hand_from n t (row ys vacant) ++ (at, Empty) ∷ [] ≡ hand_from n t (row ys (vacant + 1))
   hand-reaped t ys vacant at is =
-      let all = hand-append t (row ys vacant) (Empty ∷ []) in
-      let long = length-append (filled_row ys) (empties vacant) in
-      let filled = length-map {B = Slot O D} ys Offered in
-      let empty = length-replicate {A = Slot O D} vacant Empty in
-      let place : t + length (row ys vacant) ≡ t + length ys + vacant = omega (arith, long, filled, empty) in
-      let one = append_assoc (filled_row ys) (empties vacant) (Empty ∷ []) in
-      let more = replicate_more {X = Slot O D} vacant Empty in
-      cc
+      let place : t + length (row ys vacant) ≡ t + length ys + vacant = omega (arith, length-append (filled_row ys) (empties vacant),
+          length-map {B = Slot O D} ys Offered, length-replicate {A = Slot O D} vacant Empty) in
+      cc (hand-append t (row ys vacant) (Empty ∷ []), append_assoc (filled_row ys) (empties vacant) (Empty ∷ []),
+          replicate_more {X = Slot O D} vacant Empty)
 
   -- what was filled is offered
   pub hand-offered : (t : ℕ) (ys : List O) (vacant : ℕ)
@@ -111,21 +106,16 @@ module _ {O D : Type 0} {Admits : O → Type 0} {n t filled vacant : ℕ} {slots
   module _ {turned : List (ℕ × Slot O D)} (is : turned ≡ drop filled slots ++ take filled slots) {vacancy : ℕ}
       (vacancy_is : vacancy ≡ (t + filled) % n) where
     in_front : turned ≡ (vacancy, Empty) ∷ (back ++ front)
-    in_front =
-        let rows = two_rows O D n t ys (empties O D n vacant) in
-        let turns = turned_parts front (hand_from n (t + length ys) (empties O D n vacant)) (length ys) (length-filled O D n t ys) in
-        let hand = keeps.in_hand in
-        let filled = keeps.filled_are in
-        let more = one_more in
-        cc
+    in_front = cc (two_rows O D n t ys (empties O D n vacant), keeps.in_hand, keeps.filled_are, one_more,
+        turned_parts front (hand_from n (t + length ys) (empties O D n vacant)) (length ys) (length-filled O D n t ys))
 
     -- the vacant slot is in front
     pub vacant_in_front : turned ≡ (vacancy, Empty) ∷ rest turned
-    vacant_in_front = let front = in_front in cc
+    vacant_in_front = cc in_front
 
     module _ {now : List (ℕ × Slot O D)} {value : O} (put : now ≡ (vacancy, Offered value) ∷ rest turned) where
       filled_now : now ≡ (vacancy, Offered value) ∷ (back ++ front)
-      filled_now = let front = in_front in cc
+      filled_now = cc in_front
 
       pub vacant_fit : vacant ≤ length now
       vacant_fit = omega (arith, ap length filled_now, length-append back front, length-vacant O D n (suc (t + length ys)) left, one_more)
@@ -138,12 +128,8 @@ module _ {O D : Type 0} {Admits : O → Type 0} {n t filled vacant : ℕ} {slots
         filled_are = length_push ys value ∙ ap (λ (k : ℕ). k + 1) keeps.filled_are;
         admitted = λ j y e. elim (at_snoc ys value y j e) [ inl old ↦ keeps.admitted j y old | inr new ↦ subst Admits new admitted ];
         in_hand =
-            let turns = turned_parts ((vacancy, Offered value) ∷ back) front vacant
-            (ap suc (length-vacant O D n (suc (t + length ys)) left) ∙ sym one_more) in
-            let rows = two_rows O D n t ys (Offered value ∷ empties O D n left) in
-            let more = map_push {Y = Slot O D} Offered ys value in
-            let one = append_assoc (filled_row O D n ys) (Offered value ∷ []) (empties O D n left) in
-            let put = filled_now in
-            let filled = keeps.filled_are in
-            cc;
+            let behind = ap suc (length-vacant O D n (suc (t + length ys)) left) ∙ sym one_more in
+            cc (turned_parts ((vacancy, Offered value) ∷ back) front vacant behind, two_rows O D n t ys (Offered value ∷ empties O D n left),
+                map_push {Y = Slot O D} Offered ys value, append_assoc (filled_row O D n ys) (Offered value ∷ []) (empties O D n left),
+                filled_now, keeps.filled_are);
       }

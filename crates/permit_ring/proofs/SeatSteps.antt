@@ -175,19 +175,15 @@ module _ {O D T N : Type 0} {note : D → N} {Ao : T → O → Type 0} {An : T �
     seat_runs {step} {later} {new} {words} {homes} to told slots =
         let found : ℕ = found_at r.machine step in
         let i : ℕ = memo.number in
-        let was = its in
-        let knows = r.knows in
         let own = to.its_alone.0 in
-        let mine = by_seat-own r.moves step found i (own i ∙ eq-eqb i i refl) in
-        let none = by_keeper-else r.moves step found to.its_alone.1 in
-        let long = length-set r.machine.seats i new.view in
-        let here = seat_at-here r.machine.seats i new.view made_there in
         seat_changes r (after r.machine step) (and_move r.moves step found) later words homes
         (leads_on (opening key.positions key.limit) r.machine (after r.machine step) r.moves step r.reached
         (next_of_possible r.machine step to.possible_here))
         told slots id at to.same.0 (to.same.1 ∙ is_live r id at) to.are_fates
-        (grind (arith, was, knows, none, long, by_seat-else r.moves step found, to, ne_eqb))
-        (grind (arith, was, mine, here, to))
+        (grind (arith, its.is_made, r.knows, by_keeper-else r.moves step found to.its_alone.1, by_seat-else r.moves step found, to, ne_eqb,
+        length-set r.machine.seats i new.view))
+        (grind (arith, its, to, by_seat-own r.moves step found i (own i ∙ eq-eqb i i refl),
+        seat_at-here r.machine.seats i new.view made_there))
         (λ other away knew.
         let none = by_seat-else r.moves step found other.number (own other.number ∙ ne_eqb other.number i away) in
         let else = seat_at-else r.machine.seats i new.view made_there other.number away in
@@ -215,8 +211,8 @@ module _ {O D T N : Type 0} {note : D → N} {Ao : T → O → Type 0} {An : T �
     look_step idle few =
         let known = idle_parts memo.view idle in
         let word = r.machine.word in
-        let long = length_push memo.log (Lost word.claimed) in
-        let ordered : IsOrdered (looks key.limit word memo) = grind (arith, its.ordered.decided, long, known, order_now) in
+        let ordered : IsOrdered (looks key.limit word memo) =
+            grind (arith, its.ordered.decided, length_push memo.log (Lost word.claimed), known, order_now) in
         let can : possible r.machine (Look memo.number) ≡ true = rw (← its.shows) (ap₂ ◌&&◌ idle (lt-ltb memo.view.calls (2 ^ 40) few)) in
         let fates = fates_same (after r.machine (Look memo.number)) (looked word seat) refl refl refl in
         assumption (order_now, le_refl word.claimed, seat_now (looked word), word_moved (Look memo.number), order_now.got ∙ its.got)
@@ -249,8 +245,8 @@ module _ {O D T N : Type 0} {note : D → N} {Ao : T → O → Type 0} {An : T �
       claim_step fates on took =
           let word = r.machine.word in
           let grow : word.claimed ≤ (claimed_from word).claimed = grind arith in
-          let long = length_push memo.log (Lost word.claimed) in
-          let ordered : IsOrdered (claims key.limit word memo) = grind (arith, its.ordered.decided, long, no_ticket, armed, order_now) in
+          let ordered : IsOrdered (claims key.limit word memo) =
+              grind (arith, its.ordered.decided, length_push memo.log (Lost word.claimed), no_ticket, armed, order_now) in
           let others = λ (j : ℕ) (other : j ≢ memo.number). took j in
           let got = order_now.got ∙ its.got ∙ sym (took memo.number) in
           assumption (order_now, seat_now (served word), word_moved (Claim memo.number), claim_possible)
@@ -337,8 +333,7 @@ module _ {O D T N : Type 0} {note : D → N} {Ao : T → O → Type 0} {An : T �
           let call = Got t (note d) in
           let now : SeatMemo N = record (finishes (note d) memo) { log = memo.log ++ call ∷ [] } in
           let rises = rises_on 0 memo.log call its.ordered.rises after_log in
-          let long = length_push memo.log call in
-          let ordered : IsOrdered now = grind (arith, its.ordered.decided, long, no_ticket, holds, rises) in
+          let ordered : IsOrdered now = grind (arith, its.ordered.decided, length_push memo.log call, no_ticket, holds, rises) in
           let fates = finished_fates r.are_fates finish_now memo.number (record seat { held = None }) made_there refl t (note d)
           (λ j h. (ring_of r).seats.apart j memo.number t h holds_there) holds_there refl its.is_made admitted refl in
           let on = λ (u j : ℕ) (x : N) (e : get_elem? r.fates u ≡ some (Some (j, x))). set_else r.fates t u fate

@@ -4,12 +4,7 @@ use Rattle.permit_ring.proofs.making.open_ring.Goals as goal
 
 pub new-requires : goal.new-requires
 new-requires g c =
-    let f = g.F.Freight in
     let n = c.requires.positions in
     let seats = c.requires.seats in
-    opens_running f.note f.admits_offered f.admits_note _ _ _ c.args.load.items (record {
-      some_position = n.0;
-      most_positions = n.1;
-      some_seat = seats.0;
-      most_seats = seats.1;
-    }) c.requires.load.0 c.in_ok-slots.ensures c.requires.load.1 (c.as_slice.ensures.value ∙ c.in_ok-words.ensures)
+    opens_running _ _ _ _ _ _ c.args.load.items (assumption) c.requires.load.0 c.in_ok-slots.ensures c.requires.load.1
+    (c.as_slice.ensures.value ∙ c.in_ok-words.ensures)

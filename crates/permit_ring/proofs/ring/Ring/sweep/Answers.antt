@@ -4,9 +4,5 @@ use Rattle.permit_ring.proofs.ring.Ring.sweep.Goals as goal
 
 pub swap-requires : goal.swap-requires
 swap-requires g c =
-    let f = g.F.Freight in
-    let mine = c.requires.mine in (
-      mine.at_table,
-      search rules,
-      sweep_ready f.note f.admits_offered f.admits_note _ _ _ _ mine.keeps c.args.kind c.requires.kind,
-    )
+    let mine = c.requires.mine in
+    (mine.at_table, search rules, sweep_ready _ _ _ _ _ _ _ mine.keeps c.args.kind c.requires.kind)
