@@ -61,10 +61,13 @@ module _ (O D : Type 0) (n : ℕ) where
   pub hand-reaped : (t : ℕ) (ys : List O) (vacant at : ℕ) → at ≡ (t + length ys + vacant) % n
       → hand_from n t (row ys vacant) ++ (at, Empty) ∷ [] ≡ hand_from n t (row ys (vacant + 1))
   hand-reaped t ys vacant at is =
-      let place : t + length (row ys vacant) ≡ t + length ys + vacant = omega (arith, length-append (filled_row ys) (empties vacant),
-          length-map {B = Slot O D} ys Offered, length-replicate {A = Slot O D} vacant Empty) in
-      cc (hand-append t (row ys vacant) (Empty ∷ []), append_assoc (filled_row ys) (empties vacant) (Empty ∷ []),
-          replicate_more {X = Slot O D} vacant Empty)
+      let all = hand-append t (row ys vacant) (Empty ∷ []) in
+      let long = length-append (filled_row ys) (empties vacant) in
+      let filled = length-map {B = Slot O D} ys Offered in
+      let empty = length-replicate {A = Slot O D} vacant Empty in
+      let place : t + length (row ys vacant) ≡ t + length ys + vacant = omega (arith, long, filled, empty) in
+      let one = append_assoc (filled_row ys) (empties vacant) (Empty ∷ []) in
+      cc (all, one, replicate_more {X = Slot O D} vacant Empty)
 
   -- what was filled is offered
   pub hand-offered : (t : ℕ) (ys : List O) (vacant : ℕ)
@@ -106,8 +109,10 @@ module _ {O D : Type 0} {Admits : O → Type 0} {n t filled vacant : ℕ} {slots
   module _ {turned : List (ℕ × Slot O D)} (is : turned ≡ drop filled slots ++ take filled slots) {vacancy : ℕ}
       (vacancy_is : vacancy ≡ (t + filled) % n) where
     in_front : turned ≡ (vacancy, Empty) ∷ (back ++ front)
-    in_front = cc (two_rows O D n t ys (empties O D n vacant), keeps.in_hand, keeps.filled_are, one_more,
-        turned_parts front (hand_from n (t + length ys) (empties O D n vacant)) (length ys) (length-filled O D n t ys))
+    in_front =
+        let behind = hand_from n (t + length ys) (empties O D n vacant) in
+        let turns = turned_parts front behind (length ys) (length-filled O D n t ys) in
+        cc (two_rows O D n t ys (empties O D n vacant), keeps.in_hand, keeps.filled_are, one_more, turns)
 
     -- the vacant slot is in front
     pub vacant_in_front : turned ≡ (vacancy, Empty) ∷ rest turned
@@ -129,7 +134,9 @@ module _ {O D : Type 0} {Admits : O → Type 0} {n t filled vacant : ℕ} {slots
         admitted = λ j y e. elim (at_snoc ys value y j e) [ inl old ↦ keeps.admitted j y old | inr new ↦ subst Admits new admitted ];
         in_hand =
             let behind = ap suc (length-vacant O D n (suc (t + length ys)) left) ∙ sym one_more in
-            cc (turned_parts ((vacancy, Offered value) ∷ back) front vacant behind, two_rows O D n t ys (Offered value ∷ empties O D n left),
-                map_push {Y = Slot O D} Offered ys value, append_assoc (filled_row O D n ys) (Offered value ∷ []) (empties O D n left),
-                filled_now, keeps.filled_are);
+            let turns = turned_parts ((vacancy, Offered value) ∷ back) front vacant behind in
+            let rows = two_rows O D n t ys (Offered value ∷ empties O D n left) in
+            let more = map_push {Y = Slot O D} Offered ys value in
+            let one = append_assoc (filled_row O D n ys) (Offered value ∷ []) (empties O D n left) in
+            cc (turns, rows, more, one, filled_now, keeps.filled_are);
       }

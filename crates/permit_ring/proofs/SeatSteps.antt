@@ -176,14 +176,16 @@ module _ {O D T N : Type 0} {note : D → N} {Ao : T → O → Type 0} {An : T �
         let found : ℕ = found_at r.machine step in
         let i : ℕ = memo.number in
         let own = to.its_alone.0 in
+        let mine = by_seat-own r.moves step found i (own i ∙ eq-eqb i i refl) in
+        let none = by_keeper-else r.moves step found to.its_alone.1 in
+        let long = length-set r.machine.seats i new.view in
+        let here = seat_at-here r.machine.seats i new.view made_there in
         seat_changes r (after r.machine step) (and_move r.moves step found) later words homes
         (leads_on (opening key.positions key.limit) r.machine (after r.machine step) r.moves step r.reached
         (next_of_possible r.machine step to.possible_here))
         told slots id at to.same.0 (to.same.1 ∙ is_live r id at) to.are_fates
-        (grind (arith, its.is_made, r.knows, by_keeper-else r.moves step found to.its_alone.1, by_seat-else r.moves step found, to, ne_eqb,
-        length-set r.machine.seats i new.view))
-        (grind (arith, its, to, by_seat-own r.moves step found i (own i ∙ eq-eqb i i refl),
-        seat_at-here r.machine.seats i new.view made_there))
+        (grind (arith, its.is_made, r.knows, none, long, by_seat-else r.moves step found, to, ne_eqb))
+        (grind (arith, its, mine, here, to))
         (λ other away knew.
         let none = by_seat-else r.moves step found other.number (own other.number ∙ ne_eqb other.number i away) in
         let else = seat_at-else r.machine.seats i new.view made_there other.number away in
@@ -212,7 +214,7 @@ module _ {O D T N : Type 0} {note : D → N} {Ao : T → O → Type 0} {An : T �
         let known = idle_parts memo.view idle in
         let word = r.machine.word in
         let ordered : IsOrdered (looks key.limit word memo) =
-            grind (arith, its.ordered.decided, length_push memo.log (Lost word.claimed), known, order_now) in
+        grind (arith, its.ordered.decided, length_push memo.log (Lost word.claimed), known, order_now) in
         let can : possible r.machine (Look memo.number) ≡ true = rw (← its.shows) (ap₂ ◌&&◌ idle (lt-ltb memo.view.calls (2 ^ 40) few)) in
         let fates = fates_same (after r.machine (Look memo.number)) (looked word seat) refl refl refl in
         assumption (order_now, le_refl word.claimed, seat_now (looked word), word_moved (Look memo.number), order_now.got ∙ its.got)
@@ -246,7 +248,7 @@ module _ {O D T N : Type 0} {note : D → N} {Ao : T → O → Type 0} {An : T �
           let word = r.machine.word in
           let grow : word.claimed ≤ (claimed_from word).claimed = grind arith in
           let ordered : IsOrdered (claims key.limit word memo) =
-              grind (arith, its.ordered.decided, length_push memo.log (Lost word.claimed), no_ticket, armed, order_now) in
+          grind (arith, its.ordered.decided, length_push memo.log (Lost word.claimed), no_ticket, armed, order_now) in
           let others = λ (j : ℕ) (other : j ≢ memo.number). took j in
           let got = order_now.got ∙ its.got ∙ sym (took memo.number) in
           assumption (order_now, seat_now (served word), word_moved (Claim memo.number), claim_possible)
@@ -404,7 +406,8 @@ module _ {O D T N : Type 0} (note : D → N) (Ao : T → O → Type 0) (An : T �
             let home = (r.are_slots.each r.machine.word.claimed (ring_of r).permits.reaped_claimed next.1).offered_home
             (le_refl r.machine.word.claimed) next.0 in
             let memo_now = claims key.limit r.machine.word memo in
-            let told = ap {B = Known O D T N} (λ (k : ℕ). (Sits key memo_now, (r.machine.word.claimed % k, Offered home.0) ∷ me.1)) (sym same) in (
+            let t : ℕ = r.machine.word.claimed in
+            let told = ap {B = Known O D T N} (λ (n : ℕ). (Sits key memo_now, (t % n, Offered home.0) ∷ me.1)) (sym same) in (
               Sits key (claims key.limit r.machine.word memo),
               takes (r.machine.word.claimed % key.positions) (Offered home.0),
               home.2,

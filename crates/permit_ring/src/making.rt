@@ -6,7 +6,7 @@ ghost use Rattle.permit_ring.specs.declared.memo.Slot.TheVariants.{Offered};
 ghost use Rattle.permit_ring.specs.declared.memo.View.TheVariants.{Keeps};
 ghost use Rattle.permit_ring.specs.Hands.{AllAdmitted};
 ghost use Rattle.permit_ring.specs.Making.{AreNewSeats, IsNewRing, made_memo};
-ghost use Rattle.permit_ring.specs.Seats.{IsKeeping, ring_positions, ring_seats, ring_terms};
+ghost use Rattle.permit_ring.specs.Seats.{IsKeeping};
 ghost use Rattle.permit_ring.specs.Steps.{first_memo};
 
 use crate::freight::Freight;
@@ -51,40 +51,6 @@ fn offered_slots<O: Drop, D: Drop>(
     Ok(slots)
 }
 
-// The ring and the keeper's token, with no seat made yet.
-fn open_ring<F: Freight>(
-    alloc: Global,
-    n: u16,
-    seats: u8,
-    terms: F::Terms,
-    load: Vec<F::Offered>,
-) -> Result<(Ring<F>, Place<F>), NoMemory>
-    requires positions { (1 ≤ n) × (n ≤ 1024) }
-    requires seats { (1 ≤ seats) × (seats ≤ 32) }
-    requires load { (length load.items ≡ n) × AllAdmitted (F.admits_offered terms) load.items }
-    ensures sizes { IfOk result (λ r. (ring_positions r.0 ≡ n) × (ring_seats r.0 ≡ seats) × (ring_terms r.0 ≡ terms)) }
-    ensures keeper { IfOk result (λ r. IsKeeping r.0 r.1 × (r.1.me ≡ (Keeps r.0.table.shared.key (first_memo n), []))) }
-{
-    let words = fresh_words(alloc, n, seats)?;
-    let slots = offered_slots(alloc, load)?;
-    let key = Key {
-        positions: n,
-        limit: seats,
-        terms,
-    };
-    match Table::new(alloc, words.as_slice(), slots, &key) {
-        Ok((table, place)) => {
-            let ring = Ring {
-                table,
-                positions: n,
-                limit: seats,
-            };
-            Ok((ring, place))
-        }
-        Err(_) => Err(NoMemory),
-    }
-}
-
 // Makes all seats of a ring, by number.
 fn make_seats<F: Freight>(
     alloc: Global,
@@ -119,7 +85,21 @@ pub fn make<F: Freight>(
     requires load { (length load.items ≡ n) × AllAdmitted (F.admits_offered terms) load.items }
     ensures { IfOk result (λ made. IsNewRing F.admits_offered n seats terms made.ring made.keeper made.seats.items) }
 {
-    let (ring, mut place) = open_ring::<F>(alloc, n, seats, terms, load)?;
+    let words = fresh_words(alloc, n, seats)?;
+    let slots = offered_slots(alloc, load)?;
+    let key = Key {
+        positions: n,
+        limit: seats,
+        terms,
+    };
+    let Ok((table, mut place)) = Table::new(alloc, words.as_slice(), slots, &key) else {
+        return Err(NoMemory);
+    };
+    let ring = Ring {
+        table,
+        positions: n,
+        limit: seats,
+    };
     let seats = make_seats(alloc, &ring, &mut place)?;
     let keeper = Keeper::of(place, n);
     Ok(Made {

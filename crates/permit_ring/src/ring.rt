@@ -1,13 +1,12 @@
 //! The ring that threads share, and its atomic steps.
 
-ghost use Rattle.std.specs.Prelude.{◌≡◌, ℕ, ◌+◌, ◌%◌, ◌^◌, ◌<◌, ◌≤◌, ◌≢◌, true, [], ◌∷◌, ◌++◌, ◌-◌, length, take, drop, sum, Some, None, IfOk, IfErr};
+ghost use Rattle.std.specs.Prelude.{◌≡◌, ◌+◌, ◌%◌, ◌^◌, ◌<◌, ◌≤◌, ◌≢◌, true, [], ◌∷◌, ◌++◌, ◌-◌, length, take, drop, sum, IfOk, IfErr};
 ghost use Rattle.ring_core.specs.Machine.{all_free as all_free_word, is_idle};
 ghost use Rattle.permit_ring.specs.declared.memo.Slot.TheVariants.{Empty, Offered};
-ghost use Rattle.permit_ring.specs.declared.memo.View.TheVariants.{Sits, Keeps};
+ghost use Rattle.permit_ring.specs.declared.memo.View.TheVariants.{Keeps};
 ghost use Rattle.permit_ring.specs.Closing.{AreAllBack, IsAllReaped, IsSettled, AreAllSwept, swept_of};
-ghost use Rattle.permit_ring.specs.Logs.{IsOrdered};
 ghost use Rattle.permit_ring.specs.Told.{seat_in, keeper_in};
-ghost use Rattle.permit_ring.specs.Steps.{looks, claims, waits, reaps, sweeps, welcomes};
+ghost use Rattle.permit_ring.specs.Steps.{waits, reaps, sweeps, welcomes};
 
 use crate::freight::{Freight, Running};
 use crate::memo::{Key, Slot, View};

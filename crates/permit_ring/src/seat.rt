@@ -1,5 +1,5 @@
 //! One who claims positions of a ring.
-ghost use Rattle.std.specs.Prelude.{◌≡◌, ◌+◌, ◌<◌, ◌≤◌, ◌^◌, false, None, Some, is_none, [], ◌∷◌, ℕ};
+ghost use Rattle.std.specs.Prelude.{◌≡◌, ◌+◌, ◌<◌, ◌≤◌, ◌^◌, false, None, Some, is_none, ℕ};
 ghost use Rattle.ring_core.specs.Machine.{marks_of};
 ghost use Rattle.permit_ring.specs.Calls.{ClaimTells, claimed_at, ticket_got};
 ghost use Rattle.permit_ring.specs.Logs.{IsOrdered};
