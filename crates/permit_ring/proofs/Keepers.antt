@@ -1,5 +1,5 @@
 -- A keeper between two calls, after each of them.
-use Rattle.std.proofs.Common.{◌≡◌, ◌≢◌, ℕ, eqb, ◌+◌, ◌-◌, ◌%◌, ◌^◌, ◌<◌, ◌≤◌, List, [], ◌∷◌, ◌++◌, length, drop, refl, sym, ◌∙◌, ap, ap₂, subst, arith, map}
+use Rattle.std.proofs.Common.{◌≡◌, ◌≢◌, ℕ, eqb, ◌+◌, ◌-◌, ◌%◌, ◌^◌, ◌<◌, ◌≤◌, List, [], ◌∷◌, ◌++◌, length, drop, refl, sym, ◌∙◌, ap, subst, arith, map}
 use Rattle.std.proofs.lemmas.List.{append-nil, append_assoc, length_push, map_push}
 use native.Mathlib.Nat.{add-mod_right, mod-add-mod}
 use mathlib.Core.Option.{none, some-ne-none}
@@ -8,7 +8,7 @@ use Rattle.atomic_table.specs.Table.{step, Allows}
 use Rattle.atomic_table.specs.declared.shared.Seat.{Seat as Token}
 use Rattle.ring_core.specs.declared.word.PermitWord.{PermitWord}
 use Rattle.ring_core.specs.Machine.{offered_to}
-use Rattle.ring_core.specs.Words.{packed, unpacked, field_of, IsReadable}
+use Rattle.ring_core.specs.Words.{packed, unpacked, field_of}
 use Rattle.permit_ring.specs.declared.keeper.Keeper.{Keeper}
 use Rattle.permit_ring.specs.declared.memo.Key.{Key}
 use Rattle.permit_ring.specs.declared.memo.KeeperMemo.{KeeperMemo}
@@ -19,242 +19,144 @@ use Rattle.permit_ring.specs.declared.memo.View.{View}
 use Rattle.permit_ring.specs.declared.memo.View.TheVariants.{Keeps}
 use Rattle.permit_ring.specs.declared.ring.Ring.{Ring}
 use Rattle.permit_ring.specs.Calls.{AreOthers, last_word, tried}
-use Rattle.permit_ring.specs.Hands.{hand_from, filled_then}
-use Rattle.permit_ring.specs.Told.{Known, IsWord, keeper_in, limit_in, positions_in, on_keeper, ready, tried_offer}
+use Rattle.permit_ring.specs.Told.{Known, keeper_in, limit_in, positions_in, ready, tried_offer}
 use Rattle.permit_ring.specs.Rule.{Runs}
-use Rattle.permit_ring.specs.Seats.{IsKeeping, IsKeeperOf, KeepsInHand, keeper_memo, ring_terms}
+use Rattle.permit_ring.specs.Seats.{IsKeeperOf, KeepsInHand, keeper_memo, ring_terms}
 use Rattle.permit_ring.specs.Steps.{reaps, offers_all, misses}
 use Rattle.permit_ring.proofs.HandLemmas.{hand-reaped, hand-offered, ready_filled}
 use Rattle.permit_ring.proofs.KeeperSteps.{offer_ready}
 
--- the position after that of a ticket is the next ticket's
-pub next_position : (t n : ℕ) → (t % n + 1) % n ≡ (t + 1) % n
-next_position t n = mod-add-mod t n 1
+module _ {F O D T N : Type 0} (Ao : T → O → Type 0) (ring : Ring F O D T N) where
+  -- a keeper with the view and the slots in hand that it is told to have
+  keeper_told : (keeper : Keeper F O D T N) {known : Known O D T N} → keeper.place.me ≡ known
+      → IsKeeperOf Ao ring (record keeper { place = record keeper.place { me = known } }) → IsKeeperOf Ao ring keeper
+  keeper_told keeper told = subst (λ (known : Known O D T N). IsKeeperOf Ao ring (record keeper { place = record keeper.place { me = known } }))
+      (sym told)
 
-module _ {F O D T N : Type 0} (Ao : T → O → Type 0) (ring : Ring F O D T N) (keeper : Keeper F O D T N) (was : IsKeeperOf Ao ring keeper)
-    (place : Token (Slot O D) (View T N)) (keeping : IsKeeping ring place) where
-  abbrev memo : KeeperMemo N
-  memo = keeper_memo keeper
+  module _ (keeper : Keeper F O D T N) (was : IsKeeperOf Ao ring keeper) where
+    abbrev memo : KeeperMemo N
+    memo = keeper_memo keeper
 
-  abbrev n : ℕ
-  n = ring.positions
+    abbrev n : ℕ
+    n = ring.positions
 
-  -- after a reap
-  pub reaped_keeper : (x : N) (next : ℕ) → keeper.reaped + 1 ≤ memo.offered → keeper.reaped + 1 ≤ 2 ^ 45 → next ≡ (keeper.next + 1) % n
-      → place.me ≡ (Keeps ring.table.shared.key (reaps (keeper.reaped + 1) x memo), keeper.place.me.1 ++ (keeper.next, Empty) ∷ [])
-      → IsKeeperOf Ao ring record {
-        place = place;
-        reaped = keeper.reaped + 1;
-        seen = keeper.seen;
-        filled = keeper.filled;
-        vacant = keeper.vacant + 1;
-        next = next;
-        vacancy = keeper.vacancy;
-      }
-  reaped_keeper x next within few next_is told =
-      let now : keeper_in place.me.0 ≡ reaps (keeper.reaped + 1) x memo = ap (λ me. keeper_in me.0) told in
-      let offered : (keeper_in place.me.0).offered ≡ memo.offered = ap (λ (k : KeeperMemo N). k.offered) now in
-      let account = was.account in
-      let hand = was.in_hand in
-      let filled = hand.filled_are in
-      let turn : memo.offered + length hand.values + keeper.vacant ≡ keeper.reaped + n = omega (arith, account, filled) in
-      record {
-        keeping = keeping;
-        reaped_is = ap (λ (k : ℕ). k + 1) was.reaped_is ∙ sym (length_push memo.notes x)
-            ∙ sym (ap (λ (k : KeeperMemo N). length k.notes) now);
-        reaped_within = few;
-        reaped_offered = omega (arith, within, offered);
-        seen_is = was.seen_is ∙ sym (ap (λ (k : KeeperMemo N). k.seen) now);
-        seen_packs = was.seen_packs;
-        account = omega (arith, account, offered);
-        next_is = next_is ∙ ap (λ (k : ℕ). (k + 1) % n) was.next_is ∙ next_position keeper.reaped n;
-        vacancy_is = was.vacancy_is ∙ ap (λ (k : ℕ). (k + keeper.filled) % n) (sym offered);
-        in_hand = record {
-          values = hand.values;
-          filled_are = filled;
-          admitted = hand.admitted;
-          in_hand = ap (λ me. me.1) told ∙ ap (λ (slots : List (ℕ × Slot O D)). slots ++ (keeper.next, Empty) ∷ []) hand.in_hand
-              ∙ hand-reaped O D n memo.offered hand.values keeper.vacant keeper.next
-              (was.next_is ∙ sym (add-mod_right keeper.reaped n) ∙ ap (λ (k : ℕ). k % n) (sym turn))
-              ∙ ap (λ (t : ℕ). hand_from n t (filled_then hand.values (keeper.vacant + 1))) (sym offered);
-        };
-      }
+    abbrev key : Key T
+    key = ring.table.shared.key
 
-  -- after a refill
-  pub refilled_keeper : (vacancy : ℕ) → 0 < keeper.vacant → place.me.0 ≡ keeper.place.me.0 → vacancy ≡ (keeper.vacancy + 1) % n
-      → KeepsInHand (Ao (ring_terms ring)) n memo.offered (keeper.filled + 1) (keeper.vacant - 1) place.me.1
-      → IsKeeperOf Ao ring record {
-        place = place;
-        reaped = keeper.reaped;
-        seen = keeper.seen;
-        filled = keeper.filled + 1;
-        vacant = keeper.vacant - 1;
-        next = keeper.next;
-        vacancy = vacancy;
-      }
-  refilled_keeper vacancy some_vacant same is hand =
-      let now : memo ≡ keeper_in place.me.0 = ap keeper_in (sym same) in
-      let offered = ap (λ (k : KeeperMemo N). k.offered) now in
-      let account = was.account in
-      record {
-        keeping = keeping;
-        reaped_is = was.reaped_is ∙ ap (λ (k : KeeperMemo N). length k.notes) now;
-        reaped_within = was.reaped_within;
-        reaped_offered = subst (λ (t : ℕ). keeper.reaped ≤ t) offered was.reaped_offered;
-        seen_is = was.seen_is ∙ ap (λ (k : KeeperMemo N). k.seen) now;
-        seen_packs = was.seen_packs;
-        account = omega (arith, account, offered, some_vacant);
-        next_is = was.next_is;
-        vacancy_is = is ∙ ap (λ (t : ℕ). (t + 1) % n) was.vacancy_is ∙ next_position (memo.offered + keeper.filled) n
-            ∙ ap (λ (t : ℕ). t % n)
-            (let sum : memo.offered + keeper.filled + 1 ≡ (keeper_in place.me.0).offered + (keeper.filled + 1) = omega (arith, offered) in sum);
-        in_hand = subst (λ (t : ℕ). KeepsInHand (Ao (ring_terms ring)) n t (keeper.filled + 1) (keeper.vacant - 1) place.me.1) offered hand;
-      }
+    abbrev me : Known O D T N
+    me = keeper.place.me
 
-  abbrev key : Key T
-  key = ring.table.shared.key
+    -- as many are ready as were filled
+    all_ready : ready me.1 ≡ keeper.filled
+    all_ready = ap ready was.in_hand.in_hand ∙ ready_filled O D n memo.offered was.in_hand.values keeper.vacant ∙ was.in_hand.filled_are
 
-  abbrev me : Known O D T N
-  me = keeper.place.me
+    -- the ring's sizes are those that its view shows
+    limit_is : limit_in me.0 ≡ ring.limit
+    limit_is = rw was.keeping.keeps was.keeping.ring_is.limit_is
 
-  -- as many are ready as were filled
-  all_ready : ready me.1 ≡ keeper.filled
-  all_ready = ap ready was.in_hand.in_hand ∙ ready_filled O D n memo.offered was.in_hand.values keeper.vacant ∙ was.in_hand.filled_are
+    positions_are : positions_in me.0 ≡ n
+    positions_are = rw was.keeping.keeps was.keeping.ring_is.positions_are
 
-  -- what a try to offer tells, in the keeper's own numbers
-  abbrev Told : View T N → ℕ → ℕ → ℕ → PermitWord → ℕ → ℕ → Known O D T N → Type 0
-  Told v count limit positions seen old found now =
-      (found ≡ old → ◌≡◌ {A = Known O D T N} now (on_keeper (offers_all limit count) v, drop count me.1)
-      × IsWord positions limit (offered_to seen count))
-      × (found ≢ old → IsReadable limit found × ◌≡◌ {A = Known O D T N} now (on_keeper (misses limit count (unpacked limit found)) v, me.1)
-      × IsWord positions limit (unpacked limit found) × (field_of limit (unpacked limit found) < field_of limit seen))
+    -- the keeper may try to offer what is filled
+    pub offer_allowed : (note : D → N) (An : T → N → Type 0) (id old new : ℕ) → 0 < keeper.filled
+        → old ≡ packed ring.limit keeper.seen → new ≡ packed ring.limit (offered_to keeper.seen keeper.filled)
+        → Allows (Runs note Ao An key) ring.table.shared.table_id.slots id me 0 (λ n. either (eqb n old) new n)
+        (tried_offer (step ring.table.shared.table_id.slots 0 old new none) me)
+    offer_allowed note An id old new filled was_old was_new =
+        let ring_is = was.keeping.ring_is in
+        let account = was.account in
+        let reaped = was.reaped_is in
+        let positions = ring_is.positions_are in
+        offer_ready note Ao An key ring.table.shared.table_id.slots id me was.keeping.keeps old new keeper.filled keeper.vacant record {
+          in_hand = rw positions was.in_hand;
+          some_filled = filled;
+          one_turn = omega arith;
+          was = rw (ring_is.limit_is, ← was.seen_is) was_old;
+          becomes = rw (ring_is.limit_is, ← was.seen_is) was_new;
+        }
 
-  pub offer_told : (slots old new found : ℕ) (now : Known O D T N) → tried_offer (step slots 0 old new none) me found now
-      → Told (Keeps key memo) keeper.filled ring.limit n keeper.seen old found now
-  offer_told slots old new found now told =
-      let ring_is = was.keeping.ring_is in
-      let keeps = was.keeping.keeps in
-      let limit = ap limit_in keeps ∙ ring_is.limit_is in
-      let positions = ap positions_in keeps ∙ ring_is.positions_are in
-      subst (λ (x : View T N × ℕ × ℕ × ℕ × PermitWord). Told x.0 x.1 x.2 x.3 x.4 old found now)
-      (λ i. (keeps i, all_ready i, limit i, positions i, sym was.seen_is i)) told
+    module _ (place : Token (Slot O D) (View T N)) (at_table : place.table_id ≡ ring.table.shared.table_id) where
+      -- after a reap
+      pub reaped_keeper : (x : N) (next : ℕ) → keeper.reaped + 1 ≤ memo.offered → keeper.reaped + 1 ≤ 2 ^ 45 → next ≡ (keeper.next + 1) % n
+          → place.me ≡ (Keeps key (reaps (keeper.reaped + 1) x memo), me.1 ++ (keeper.next, Empty) ∷ [])
+          → IsKeeperOf Ao ring (record keeper { place = place; reaped = keeper.reaped + 1; vacant = keeper.vacant + 1; next = next })
+      reaped_keeper x next within few next_is told =
+          let hand = was.in_hand in
+          let filled = hand.filled_are in
+          let account = was.account in
+          let turn : memo.offered + length hand.values + keeper.vacant ≡ keeper.reaped + n = omega arith in
+          let reaped : keeper.reaped + 1 ≡ length (memo.notes ++ x ∷ []) = omega (arith, length_push memo.notes x) in
+          let more : memo.offered + keeper.filled + (keeper.vacant + 1) ≡ keeper.reaped + 1 + n = omega arith in
+          let slots : KeepsInHand (Ao (ring_terms ring)) n memo.offered keeper.filled (keeper.vacant + 1)
+          (me.1 ++ (keeper.next, Empty) ∷ []) = record {
+            values = hand.values;
+            filled_are = filled;
+            admitted = hand.admitted;
+            in_hand = rw hand.in_hand (hand-reaped O D n memo.offered hand.values keeper.vacant keeper.next
+                (rw (turn, add-mod_right) was.next_is));
+          } in
+          keeper_told _ told
+          (assumption (was, reaped, more, slots, next_is ∙ ap (λ (t : ℕ). (t + 1) % n) was.next_is ∙ mod-add-mod keeper.reaped n 1))
 
-  -- the same of a word that was found
-  pub missed_told : (slots old new found : ℕ) (now : Known O D T N) (word : PermitWord)
-      → tried_offer (step slots 0 old new none) me found now → found ≢ old → word ≡ unpacked ring.limit found
-      → ◌≡◌ {A = Known O D T N} now (Keeps key (misses ring.limit keeper.filled word memo), me.1) × IsWord n ring.limit word
-      × (field_of ring.limit word < field_of ring.limit memo.seen)
-  missed_told slots old new found now word told other is =
-      let all = (offer_told slots old new found now told).1 other in
-      subst (λ (w : PermitWord). ◌≡◌ {A = Known O D T N} now (Keeps key (misses ring.limit keeper.filled w memo), me.1)
-      × IsWord n ring.limit w × (field_of ring.limit w < field_of ring.limit memo.seen)) (sym is)
-      (all.1, all.2, subst (λ (w : PermitWord). field_of ring.limit (unpacked ring.limit found) < field_of ring.limit w) was.seen_is all.3)
+      -- after a refill
+      pub refilled_keeper : (vacancy : ℕ) → 0 < keeper.vacant → place.me.0 ≡ me.0 → vacancy ≡ (keeper.vacancy + 1) % n
+          → KeepsInHand (Ao (ring_terms ring)) n memo.offered (keeper.filled + 1) (keeper.vacant - 1) place.me.1
+          → IsKeeperOf Ao ring (record keeper { place = place; filled = keeper.filled + 1; vacant = keeper.vacant - 1; vacancy = vacancy })
+      refilled_keeper vacancy some_vacant same is hand =
+          let account = was.account in
+          let less : memo.offered + (keeper.filled + 1) + (keeper.vacant - 1) ≡ keeper.reaped + n = omega arith in
+          let sum : memo.offered + keeper.filled + 1 ≡ memo.offered + (keeper.filled + 1) = omega arith in
+          let told : place.me ≡ (me.0, place.me.1) = λ i. (same i, place.me.1) in
+          keeper_told _ told (assumption (
+            was,
+            less,
+            hand,
+            is ∙ ap (λ (t : ℕ). (t + 1) % n) was.vacancy_is
+                ∙ mod-add-mod (memo.offered + keeper.filled) n 1 ∙ ap (λ (t : ℕ). t % n) sum,
+          ))
 
-  -- after a try that found another word
-  pub missed_keeper : (word : PermitWord) → IsWord n ring.limit word
-      → place.me ≡ (Keeps key (misses ring.limit keeper.filled word memo), keeper.place.me.1)
-      → IsKeeperOf Ao ring record {
-        place = place;
-        reaped = keeper.reaped;
-        seen = word;
-        filled = keeper.filled;
-        vacant = keeper.vacant;
-        next = keeper.next;
-        vacancy = keeper.vacancy;
-      }
-  missed_keeper word packs told =
-      let now : keeper_in place.me.0 ≡ misses ring.limit keeper.filled word memo = ap (λ me. keeper_in me.0) told in
-      let offered : memo.offered ≡ (keeper_in place.me.0).offered = ap (λ (k : KeeperMemo N). k.offered) (sym now) in
-      record {
-        keeping = keeping;
-        reaped_is = was.reaped_is ∙ ap (λ (k : KeeperMemo N). length k.notes) (sym now);
-        reaped_within = was.reaped_within;
-        reaped_offered = subst (λ (t : ℕ). keeper.reaped ≤ t) offered was.reaped_offered;
-        seen_is = ap (λ (k : KeeperMemo N). k.seen) (sym now);
-        seen_packs = packs;
-        account = ap (λ (t : ℕ). t + keeper.filled + keeper.vacant) (sym offered) ∙ was.account;
-        next_is = was.next_is;
-        vacancy_is = was.vacancy_is ∙ ap (λ (t : ℕ). (t + keeper.filled) % n) offered;
-        in_hand = subst (λ (x : ℕ × List (ℕ × Slot O D)). KeepsInHand (Ao (ring_terms ring)) n x.0 keeper.filled keeper.vacant x.1)
-            (λ i. (offered i, ap (λ me. me.1) (sym told) i)) was.in_hand;
-      }
+      module _ (old found : ℕ) (told : tried_offer (step 0 0 old 0 none) me found place.me) where
+        -- after a try that found another word
+        pub missed_keeper : (word : PermitWord) → found ≢ old → word ≡ unpacked ring.limit found
+            → IsKeeperOf Ao ring (record keeper { place = place; seen = word })
+            × ((keeper_in place.me.0 ≡ misses ring.limit keeper.filled (keeper_in place.me.0).seen memo) × (keeper.filled ≡ keeper.filled)
+            × (field_of ring.limit (keeper_in place.me.0).seen < field_of ring.limit memo.seen))
+        missed_keeper word other is =
+            let tells = (rw (limit_is, positions_are, all_ready, was.keeping.keeps, ← is) at told).1 other in
+            let now : place.me ≡ (Keeps key (misses ring.limit keeper.filled word memo), me.1) = tells.1 in
+            (keeper_told _ now (assumption (was, tells)), rw now (refl, refl, tells.3))
 
-  -- and after one that found the keeper's
-  pub offered_keeper : (word : PermitWord) → word ≡ offered_to keeper.seen keeper.filled
-      → IsWord n ring.limit (offered_to keeper.seen keeper.filled)
-      → place.me ≡ (Keeps key (offers_all ring.limit keeper.filled memo), drop keeper.filled keeper.place.me.1)
-      → IsKeeperOf Ao ring record {
-        place = place;
-        reaped = keeper.reaped;
-        seen = word;
-        filled = 0;
-        vacant = keeper.vacant;
-        next = keeper.next;
-        vacancy = keeper.vacancy;
-      }
-  offered_keeper word is packs told =
-      let now : keeper_in place.me.0 ≡ offers_all ring.limit keeper.filled memo = ap (λ me. keeper_in me.0) told in
-      let offered : memo.offered + keeper.filled ≡ (keeper_in place.me.0).offered = ap (λ (k : KeeperMemo N). k.offered) (sym now) in
-      let account = was.account in
-      let within = was.reaped_offered in
-      let hand = was.in_hand in
-      record {
-        keeping = keeping;
-        reaped_is = was.reaped_is ∙ ap (λ (k : KeeperMemo N). length k.notes) (sym now);
-        reaped_within = was.reaped_within;
-        reaped_offered = omega (arith, offered, within);
-        seen_is = is ∙ ap (λ (w : PermitWord). offered_to w keeper.filled) was.seen_is ∙ ap (λ (k : KeeperMemo N). k.seen) (sym now);
-        seen_packs = subst (IsWord n ring.limit) (sym is) packs;
-        account = omega (arith, offered, account);
-        next_is = was.next_is;
-        vacancy_is = was.vacancy_is ∙ ap (λ (t : ℕ). t % n)
-            (let same : memo.offered + keeper.filled ≡ (keeper_in place.me.0).offered + 0 = omega (arith, offered) in same);
-        in_hand = record {
-          values = [];
-          filled_are = refl;
-          admitted = λ j y e. absurd (some-ne-none y (sym e));
-          in_hand = ap (λ me. me.1) told ∙ ap₂ drop (sym hand.filled_are) hand.in_hand
-              ∙ hand-offered O D n memo.offered hand.values keeper.vacant
-              ∙ ap (λ (t : ℕ). hand_from n t (filled_then [] keeper.vacant)) (ap (λ (k : ℕ). memo.offered + k) hand.filled_are ∙ offered);
-        };
-      }
-
-  -- the keeper may try to offer what is filled
-  pub offer_allowed : (note : D → N) (An : T → N → Type 0) (id old new : ℕ) (word : PermitWord) → 0 < keeper.filled
-      → old ≡ packed ring.limit keeper.seen → new ≡ packed ring.limit word → word ≡ offered_to keeper.seen keeper.filled
-      → Allows (Runs note Ao An key) ring.table.shared.table_id.slots id me 0 (λ n. either (eqb n old) new n)
-      (tried_offer (step ring.table.shared.table_id.slots 0 old new none) me)
-  offer_allowed note An id old new word filled was_old was_new is =
-      let ring_is = was.keeping.ring_is in
-      let hand = was.in_hand in
-      let account = was.account in
-      let count = hand.filled_are in
-      let reaped = was.reaped_is in
-      let positions = ring_is.positions_are in
-      let limit = sym ring_is.limit_is in
-      offer_ready note Ao An key ring.table.shared.table_id.slots id me was.keeping.keeps old new keeper.vacant hand.values
-      (ring_is.slots_are ∙ sym positions) hand.admitted (omega (arith, filled, count))
-      (hand.in_hand ∙ ap (λ (k : ℕ). hand_from k memo.offered (filled_then hand.values keeper.vacant)) (sym positions))
-      (omega (arith, account, count, reaped, positions))
-      (was_old ∙ ap₂ packed limit was.seen_is) (was_new ∙ ap₂ packed limit (is ∙ ap₂ offered_to was.seen_is (sym count)))
-
--- what is to be offered again is within the ring, and few were reaped
-pub within_ring : {F O D T N : Type 0} (Ao : T → O → Type 0) (ring : Ring F O D T N) (keeper : Keeper F O D T N) → IsKeeperOf Ao ring keeper
-    → (keeper.vacant + keeper.filled ≤ ring.positions) × (length (keeper_memo keeper).notes ≤ 2 ^ 45)
-within_ring Ao ring keeper is =
-    let account = is.account in
-    let offered = is.reaped_offered in
-    (omega (arith, account, offered), subst (λ (k : ℕ). k ≤ 2 ^ 45) is.reaped_is is.reaped_within)
-
--- a token that keeps its table still keeps the ring
-pub keeping_after : {F O D T N : Type 0} (ring : Ring F O D T N) (place now : Token (Slot O D) (View T N)) (k : KeeperMemo N)
-    (hand : List (ℕ × Slot O D)) → IsKeeping ring place → now.table_id ≡ place.table_id → now.me ≡ (Keeps ring.table.shared.key k, hand)
-    → IsKeeping ring now
-keeping_after ring place now k hand was same told = record {
-  ring_is = was.ring_is;
-  at_table = same ∙ was.at_table;
-  keeps = ap (λ me. me.0) told ∙ ap (λ me. Keeps ring.table.shared.key (keeper_in me.0)) (sym told);
-}
+        -- and after one that found the keeper's
+        pub offered_keeper : found ≡ old
+            → IsKeeperOf Ao ring (record keeper { place = place; seen = offered_to keeper.seen keeper.filled; filled = 0 })
+            × (keeper_in place.me.0 ≡ offers_all ring.limit keeper.filled memo)
+        offered_keeper same =
+            let tells = (rw (limit_is, positions_are, all_ready, was.keeping.keeps) at told).0 same in
+            let now : place.me ≡ (Keeps key (offers_all ring.limit keeper.filled memo), drop keeper.filled me.1) = tells.0 in
+            let account = was.account in
+            let hand = was.in_hand in
+            let filled = hand.filled_are in
+            let seen = ap (λ (w : PermitWord). offered_to w keeper.filled) was.seen_is in
+            let reaped : keeper.reaped ≤ memo.offered + keeper.filled = let within = was.reaped_offered in omega arith in
+            let all : memo.offered + keeper.filled + 0 + keeper.vacant ≡ keeper.reaped + n = omega arith in
+            let none_more : memo.offered + keeper.filled ≡ memo.offered + keeper.filled + 0 = omega arith in
+            let slots : KeepsInHand (Ao (ring_terms ring)) n (memo.offered + keeper.filled) 0 keeper.vacant (drop keeper.filled me.1) = record {
+              values = [];
+              filled_are = refl;
+              admitted = λ j y e. absurd (some-ne-none y (sym e));
+              in_hand = rw (hand.in_hand, ← filled) (hand-offered O D n memo.offered hand.values keeper.vacant);
+            } in (
+              keeper_told _ now (assumption (
+                was,
+                seen,
+                rw (← was.seen_is) at tells.1,
+                reaped,
+                all,
+                slots,
+                was.vacancy_is ∙ ap (λ (t : ℕ). t % n) none_more,
+              )),
+              rw now refl,
+            )
 
 -- the keeper after tries that each found another word
 abbrev pub missed_all : {N : Type 0} → ℕ → ℕ → List PermitWord → KeeperMemo N → KeeperMemo N

@@ -1,5 +1,5 @@
 -- What is left once all seats are back, and that what is settled stays so.
-use Rattle.std.proofs.Common.{◌≡◌, ◌≢◌, ℕ, zero, suc, ◌+◌, ◌-◌, ◌%◌, ◌<◌, ◌≤◌, Bool, true, false, cond, ◌||◌, is_some, List, [], ◌∷◌, map, length, get_or, sum_by, Option, Some, None, refl, sym, ◌∙◌, ap, ap₂, subst, inl, inr, mod-lt, arith}
+use Rattle.std.proofs.Common.{◌≡◌, ◌≢◌, ℕ, zero, suc, ◌+◌, ◌-◌, ◌%◌, ◌≤◌, Bool, true, false, cond, ◌||◌, is_some, List, [], ◌∷◌, ◌++◌, map, length, get_or, sum_by, Option, Some, None, refl, sym, ◌∙◌, ap, ap₂, subst, inl, inr, mod-lt, arith}
 use Rattle.std.proofs.lemmas.Bool.{cases_lt, cases_Bool, false≢true}
 use Rattle.std.proofs.lemmas.List.{length-map, nil_from_length}
 use Rattle.std.proofs.lemmas.List.Sums.{sum_by-cons}
@@ -17,7 +17,7 @@ use Rattle.ring_core.proofs.SeatLemmas.{live_is_made}
 use Rattle.ring_core.proofs.Turns.{one_turn}
 use Rattle.permit_ring.specs.declared.memo.Key.{Key}
 use Rattle.permit_ring.specs.declared.memo.KeeperMemo.{KeeperMemo}
-use Rattle.permit_ring.specs.declared.memo.Outcome.TheVariants.{Got}
+use Rattle.permit_ring.specs.declared.memo.Outcome.TheVariants.{Lost, Got}
 use Rattle.permit_ring.specs.declared.memo.SeatMemo.{SeatMemo}
 use Rattle.permit_ring.specs.declared.memo.Slot.{Slot}
 use Rattle.permit_ring.specs.declared.memo.View.{View}
@@ -25,7 +25,6 @@ use Rattle.permit_ring.specs.Calls.{OfferTells}
 use Rattle.permit_ring.specs.Closing.{AreAllBack, IsAllReaped, IsSettled, IsWholeLog, marks_back}
 use Rattle.permit_ring.specs.Logs.{IsOrdered, end_from, taken_by}
 use Rattle.permit_ring.specs.Rule.{StandsIn, IsSomewhere, Runs}
-use Rattle.permit_ring.specs.Steps.{waits}
 use Rattle.permit_ring.proofs.ListLemmas.{there}
 use Rattle.permit_ring.proofs.LogLemmas.{got_from, taken_in, within_end}
 use Rattle.permit_ring.proofs.States.{ring_of}
@@ -96,10 +95,6 @@ whole_calls memo {seat} free is here off order =
     let all = order.decided in
     omega (arith, all, none)
 
--- a look that changed nothing else leaves nothing
-pub settled_still : {N : Type 0} (mark : ℕ) (k : KeeperMemo N) → IsSettled k → IsSettled (waits mark k)
-settled_still mark k s = record { taken = s.taken; notes_are = s.notes_are; seats_are = s.seats_are; logs_are = s.logs_are }
-
 -- two lists of the same length whose elements weigh the same weigh the same
 same_sums : {A B : Type 0} (f : A → ℕ) (g : B → ℕ) (d : A) (xs : List A) (ys : List B) → length ys ≡ length xs
     → ((i : ℕ) (y : B) → get_elem? ys i ≡ some y → f (get_or xs i d) ≡ g y) → sum_by f xs ≡ sum_by g ys
@@ -110,49 +105,30 @@ same_sums f g d (x ∷ xs) (y ∷ ys) long each =
     let shorter : length ys ≡ length xs = omega (arith, long) in
     sum_by-cons f x xs ∙ ap₂ ◌+◌ (each zero y refl) (same_sums f g d xs ys shorter (λ i z e. each (suc i) z e)) ∙ sym (sum_by-cons g y ys)
 
+-- a front stands among more
+pub more_fronts : (fronts : List ℕ) (next g : ℕ) → StandsIn fronts g → StandsIn (fronts ++ next ∷ []) g
+more_fronts fronts next g f = (f.0, at_longer fronts (next ∷ []) f.0 g f.1)
+
 module _ {N : Type 0} where
   -- what is settled is all reaped
   pub settled_is_reaped : (k : KeeperMemo N) → IsSettled k → IsAllReaped k
   settled_is_reaped k s i memo at = subst (λ (n : ℕ). end_from 0 memo.log ≤ n)
       (sym (ap length s.notes_are ∙ length-map s.taken (λ (x : ℕ × N). x.1))) (s.logs_are i memo at).within
 
-  -- with more fronts it is settled still
-  more_fronts : (fronts further : List ℕ) → ((g : ℕ) → StandsIn fronts g → StandsIn further g)
-      → (i : ℕ) (memo : SeatMemo N) (taken : List (ℕ × N)) → IsWholeLog fronts taken i memo → IsWholeLog further taken i memo
-  more_fronts fronts further wider i memo taken w = record {
-    number_is = w.number_is;
-    calls_are = w.calls_are;
-    rises = w.rises;
-    within = w.within;
-    got = w.got;
-    lost_at_front = λ j g e. wider g (w.lost_at_front j g e);
-  }
-
   module _ (limit count tries : ℕ) (old new : KeeperMemo N) (tells : OfferTells limit count old tries new) where
-    same_back : new.back ≡ old.back
-    same_back = ap (λ (k : KeeperMemo N). k.back) tells.1.3
-
-    notes_kept : new.notes ≡ old.notes
-    notes_kept = ap (λ (k : KeeperMemo N). k.notes) tells.1.3
-
-    wider : (g : ℕ) → StandsIn old.fronts g → StandsIn new.fronts g
-    wider g f = subst (λ (fronts : List ℕ). StandsIn fronts g) (sym (ap (λ (k : KeeperMemo N). k.fronts) tells.1.3))
-        (f.0, at_longer old.fronts ((old.offered + count) ∷ []) f.0 g f.1)
-
     pub offer_keeps_back : AreAllBack old → AreAllBack new
-    offer_keeps_back all i back at = all i back (ap (λ (l : List (Option (SeatMemo N))). get_elem? l i) (sym same_back) ∙ at)
+    offer_keeps_back = subst AreAllBack (sym tells.1.3)
 
     pub offer_keeps_reaped : IsAllReaped old → IsAllReaped new
-    offer_keeps_reaped all i memo at = subst (λ (notes : List N). end_from 0 memo.log ≤ length notes) (sym notes_kept)
-        (all i memo (ap (λ (l : List (Option (SeatMemo N))). get_elem? l i) (sym same_back) ∙ at))
+    offer_keeps_reaped = subst IsAllReaped (sym tells.1.3)
 
     pub offer_keeps_settled : IsSettled old → IsSettled new
-    offer_keeps_settled s = record {
+    offer_keeps_settled s = subst IsSettled (sym tells.1.3) record {
       taken = s.taken;
-      notes_are = notes_kept ∙ s.notes_are;
-      seats_are = λ t i x e. subst (λ (made : ℕ). i < made) (sym (ap (λ (k : KeeperMemo N). k.made) tells.1.3)) (s.seats_are t i x e);
-      logs_are = λ i memo e. more_fronts old.fronts new.fronts wider i memo s.taken
-          (s.logs_are i memo (ap (λ (l : List (Option (SeatMemo N))). get_elem? l i) (sym same_back) ∙ e));
+      notes_are = s.notes_are;
+      seats_are = s.seats_are;
+      logs_are = λ i memo e. let its = s.logs_are i memo e in
+          assumption (its, λ (j g : ℕ) (l : get_elem? memo.log j ≡ some (Lost g)). more_fronts old.fronts (old.offered + count) g (its.lost_at_front j g l));
     }
 
 module _ {O D T N : Type 0} {note : D → N} {Ao : T → O → Type 0} {An : T → N → Type 0} {key : Key T} {s : State (Slot O D) (View T N)}
