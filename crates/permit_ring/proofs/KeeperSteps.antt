@@ -45,11 +45,8 @@ use Rattle.permit_ring.proofs.States.{ring_of, sizes_of, one_turn_ahead, keeper_
 
 -- a ring's permit word is one of its sizes
 is_word : (n limit : ℕ) (m : Machine) → IsRing m → HasSizes n limit m → IsWord n limit m.word
-is_word n limit m ring sizes = record {
-  packs = subst (λ (l : ℕ). IsPackable l m.word) sizes.limit_is (word_packs m ring);
-  free_within = subst (λ (k : ℕ). m.word.free ≤ k) sizes.positions_are ring.permits.free_within;
-  few = (small m ring).claimed;
-}
+is_word n limit m ring sizes =
+    assumption (rw sizes.limit_is at (word_packs m ring), rw sizes.positions_are at ring.permits.free_within, small m ring)
 
 module _ {S : Type 0} where
   -- so many slots are given back, the first first
@@ -94,25 +91,6 @@ module _ {O D N : Type 0} {note : D → N} {Admits : O → Type 0} {n : ℕ} {fa
     ];
   }
 
-  -- the slots after one position more is offered, and its slot is given back
-  slots_offered_one : (m : Machine) {homes : List (maybe.Option (Slot O D))} (y : O) → Admits y → m.reaped ≤ m.word.claimed
-      → m.word.claimed ≤ m.offered → m.offered < m.reaped + n → length fates ≡ m.word.claimed → AreSlots note Admits m fates n homes
-      → AreSlots note Admits (record m { offered = suc m.offered }) fates n (set homes (m.offered % n) (some (Offered y)))
-  slots_offered_one m y admitted behind within room claims slots =
-      slots_set m.offered (some (Offered y)) (omega arith) (omega arith) room refl slots
-      record {
-        finished_home = λ i x e. let low = at_length fates m.offered (Some (i, x)) e in absurd (omega arith);
-        held_out = λ e. let low = at_length fates m.offered None e in absurd (omega arith);
-        offered_home = λ past below. (y, admitted, refl);
-        vacant_out = λ past. absurd (omega arith);
-      }
-      (λ t home away from to is. record {
-        finished_home = is.finished_home;
-        held_out = is.held_out;
-        offered_home = λ past below. is.offered_home past (omega arith);
-        vacant_out = λ past. is.vacant_out (omega arith);
-      })
-
   -- the slots after all that are filled again are given back
   slots_offered : (ys : List O) (vacant : ℕ) (m : Machine) {now : Machine} (homes : List (maybe.Option (Slot O D)))
       → now.reaped ≡ m.reaped → now.word.claimed ≡ m.word.claimed → now.offered ≡ m.offered + length ys
@@ -123,7 +101,12 @@ module _ {O D N : Type 0} {note : D → N} {Admits : O → Type 0} {n : ℕ} {fa
   slots_offered (y ∷ ys) vacant m homes reaped claimed offered all behind within room claims slots =
       slots_offered ys vacant (record m { offered = suc m.offered }) (set homes (m.offered % n) (some (Offered y))) reaped claimed
       (omega arith) (λ j z e. all (suc j) z e) behind (omega arith) room claims
-      (slots_offered_one m y (all zero y refl) behind within (omega arith) claims slots)
+      (slots_set m.offered (some (Offered y)) (omega arith) (omega arith) (omega arith) refl slots record {
+        finished_home = λ i x e. let low = at_length fates m.offered (Some (i, x)) e in absurd (omega arith);
+        held_out = λ e. let low = at_length fates m.offered None e in absurd (omega arith);
+        offered_home = λ past below. (y, all zero y refl, refl);
+        vacant_out = λ past. absurd (omega arith);
+      } (λ t home away from to is. search (arith, is)))
 
 -- something became of a ticket that is not open
 decided : {N : Type 0} (fates : List (Option (ℕ × N))) (t : ℕ) (fate : Option (ℕ × N)) → get_elem? fates t ≡ some fate
@@ -155,13 +138,24 @@ module _ {O D T N : Type 0} (note : D → N) (Ao : T → O → Type 0) (An : T �
   EndsAt word told me s id value = (w : View T N) × (a : Act (Slot O D)) × Valid s.homes me.1 a
       × Runs note Ao An key (stepped s word value id me.1 w a) × told me (slice_index s.words word) (w, carried_after me.1 a)
 
+  -- what the keeper knows that makes a try
+  pub record CanOffer (old new filled vacant : ℕ) (hand : List (ℕ × Slot O D)) (k : KeeperMemo N) : Type 0 where
+    pub in_hand : KeepsInHand (Ao key.terms) key.positions k.offered filled vacant hand
+    pub some_filled : 1 ≤ filled
+    pub one_turn : k.offered + filled + vacant ≡ length k.notes + key.positions
+    pub was : old ≡ packed key.limit k.seen
+    pub becomes : new ≡ packed key.limit (offered_to k.seen filled)
+
   module _ {s : State (Slot O D) (View T N)} (r : Runs note Ao An key s) where
+    abbrev m : Machine
+    m = r.machine
+
     -- what a step of the keeper does to the machine, and to what it knows: it moves no seat, and claims nothing
     record IsKeepers (step : Step) (found : ℕ) (now : Machine) (k : KeeperMemo N) : Type 0 where
       own : is_of_keeper step ≡ true
       no_seats : (i : ℕ) → is_of_seat i step ≡ false
-      seats_stay : now.seats ≡ r.machine.seats
-      claims_stay : now.word.claimed ≡ r.machine.word.claimed
+      seats_stay : now.seats ≡ m.seats
+      claims_stay : now.word.claimed ≡ m.word.claimed
       moved : k.moves ≡ and_move r.keeper.moves step found
       made_stays : k.made ≡ r.keeper.made
       back_stays : k.back ≡ r.keeper.back
@@ -171,20 +165,21 @@ module _ {O D T N : Type 0} (note : D → N) (Ao : T → O → Type 0) (An : T �
 
     -- so it keeps the rule, where the words and the slots are those of the state after
     keeper_steps : (step : Step) {found : ℕ} {now : Machine} {k : KeeperMemo N} {words : List ℕ} {homes : List (maybe.Option (Slot O D))}
-        → next r.machine step ≡ Some now → found ≡ found_at r.machine step → words ≡ words_of now
+        → next m step ≡ Some now → found ≡ found_at m step → words ≡ words_of now
         → AreSlots note (Ao key.terms) now r.fates key.positions homes → IsKeepers step found now k
         → Runs note Ao An key record { words = words; homes = homes; views = set s.views 0 (Keeps key k) }
     keeper_steps step {found} {now} {k} {words} {homes} leads read told slots its =
-        let then : List Move = and_move r.moves step (found_at r.machine step) in
-        let else : (i : ℕ) → by_seat i then ≡ by_seat i r.moves = λ i. by_seat-else r.moves step (found_at r.machine step) i (its.no_seats i) in
+        let at : ℕ = found_at m step in
+        let then : List Move = and_move r.moves step at in
+        let else : (i : ℕ) → by_seat i then ≡ by_seat i r.moves = λ i. by_seat-else r.moves step at i (its.no_seats i) in
         let made = its.made_stays in
         let claimed = its.claims_stay in
         keeper_changes r now then r.fates words homes
-        (leads_on (opening key.positions key.limit) r.machine now r.moves step r.reached leads) told slots
+        (leads_on (opening key.positions key.limit) m now r.moves step r.reached leads) told slots
         (fates_stay (omega arith) (λ i. ap (λ (seats : List SeatView). (seat_at seats i).held) its.seats_stay) claimed r.are_fates)
         record {
           moved = its.moved ∙ ap₂ (λ (vs : List Move) (n : ℕ). and_move vs step n) r.knows.moved read
-              ∙ sym (by_keeper-own r.moves step (found_at r.machine step) its.own);
+              ∙ sym (by_keeper-own r.moves step at its.own);
           noted = its.noted;
           counted = its.counts;
           made_is = rw (its.made_stays, its.seats_stay) r.knows.made_is;
@@ -196,21 +191,21 @@ module _ {O D T N : Type 0} (note : D → N) (Ao : T → O → Type 0) (An : T �
         (else other.number) refl (omega arith) its.fronts_stay (omega arith))
 
     -- the permit word is one of the ring's sizes
-    word_in : IsWord key.positions key.limit r.machine.word
-    word_in = is_word key.positions key.limit r.machine (ring_of r) (sizes_of r)
+    word_in : IsWord key.positions key.limit m.word
+    word_in = is_word key.positions key.limit m (ring_of r) (sizes_of r)
 
     -- its number by the ring's limit
-    here : packed key.limit r.machine.word ≡ packed r.machine.limit r.machine.word
-    here = ap (λ (limit : ℕ). packed limit r.machine.word) (sym (sizes_of r).limit_is)
+    here : packed key.limit m.word ≡ packed m.limit m.word
+    here = ap (λ (limit : ℕ). packed limit m.word) (sym (sizes_of r).limit_is)
 
     -- where the next ticket is finished, its slot has a value of its note
-    next_value : mark_at r.machine.marks (r.machine.reaped % r.machine.positions) ≡ r.machine.reaped + 1
-        → (r.machine.reaped < r.machine.word.claimed) × (i : ℕ) × (d : D)
-        × (get_elem? r.fates r.machine.reaped ≡ some (Some (i, note d)))
-        × (get_elem? s.homes (r.machine.reaped % key.positions) ≡ some (some (Finished d)))
+    next_value : mark_at m.marks (m.reaped % m.positions) ≡ m.reaped + 1
+        → (m.reaped < m.word.claimed) × (i : ℕ) × (d : D)
+        × (get_elem? r.fates m.reaped ≡ some (Some (i, note d)))
+        × (get_elem? s.homes (m.reaped % key.positions) ≡ some (some (Finished d)))
     next_value ready =
-        let m : Machine = r.machine in
-        let over = ((ring_of r).marks (m.reaped % m.positions) (mod-lt m.reaped (ring_of r).sizes.some_position)).just_above m.reaped ready in
+        let positive = (ring_of r).sizes.some_position in
+        let over = ((ring_of r).marks (m.reaped % m.positions) (mod-lt m.reaped positive)).just_above m.reaped ready in
         let out = over.claimed_before in
         let long = r.are_fates.each_claimed in
         let fate = there r.fates m.reaped (omega arith) in
@@ -224,7 +219,6 @@ module _ {O D T N : Type 0} (note : D → N) (Ao : T → O → Type 0) (An : T �
     sees : (slots word : ℕ) (hand : List (ℕ × Slot O D)) → slots ≡ key.positions → word ≡ length r.keeper.notes % key.positions + 3
         → EndsAt word (saw_mark note An (step slots word 0 0 none)) (Keeps key r.keeper, hand) s 0 (slice_index s.words word)
     sees slots word hand wide e =
-        let m : Machine = r.machine in
         let count : m.reaped ≡ length r.keeper.notes = r.knows.counted.reaped_is in
         let place : m.reaped % m.positions ≡ length r.keeper.notes % key.positions = ap₂ ◌%◌ count (sizes_of r).positions_are in
         let at : word ≡ suc (suc (suc (m.reaped % m.positions))) = omega arith in
@@ -239,25 +233,16 @@ module _ {O D T N : Type 0} (note : D → N) (Ao : T → O → Type 0) (An : T �
               let turn = one_turn_ahead r in
               let claimed = (small m (ring_of r)).claimed in
               let slots_now = slots_reaped m r.sizes.some_position (omega arith) turn r.are_fates.each_claimed x.0 r.are_slots in
+              let noted = noted_more r.fates r.keeper.notes x.1 (note x.2) (ap (get_elem? r.fates) (sym count) ∙ fate) r.knows.noted in
+              let admitted = (r.are_fates.finished m.reaped x.1 (note x.2) fate).1 in
               let push = length_push r.keeper.notes (note x.2) in
               let reaped : m.reaped + 1 ≡ length (r.keeper.notes ++ note x.2 ∷ []) = omega arith in
               let home : length r.keeper.notes % slots ≡ m.reaped % key.positions = ap₂ ◌%◌ (sym count) wide in (
                 Keeps key (reaps (slice_index s.words word) (note x.2) r.keeper),
                 takes (length r.keeper.notes % slots) (Finished x.2),
                 ap (get_elem? s.homes) home ∙ x.4,
-                keeper_steps See (see_takes_next m mark) read words (rw home slots_now)
-                    (assumption (reaped, noted_more r.fates r.keeper.notes x.1 (note x.2) (ap (get_elem? r.fates) (sym count) ∙ fate) r.knows.noted)),
-                (
-                  (λ _. (
-                    x.2,
-                    (r.are_fates.finished m.reaped x.1 (note x.2) fate).1,
-                    refl,
-                    omega arith,
-                    omega arith,
-                    not_over r x.1 (note x.2) fate,
-                  )),
-                  λ miss. absurd (miss hit),
-                ),
+                keeper_steps See (see_takes_next m mark) read words (rw home slots_now) (assumption (reaped, noted)),
+                ((λ _. (x.2, admitted, refl, omega arith, omega arith, not_over r x.1 (note x.2) fate)), λ miss. absurd (miss hit)),
               )
           | inr miss ↦
               let other : mark_at m.marks (m.reaped % m.positions) ≢ m.reaped + 1 = λ hit. miss (omega arith) in (
@@ -273,10 +258,11 @@ module _ {O D T N : Type 0} (note : D → N) (Ao : T → O → Type 0) (An : T �
     reads_word : (slots : ℕ) (hand : List (ℕ × Slot O D))
         → EndsAt 0 (read_word (step slots 0 0 0 none)) (Keeps key r.keeper, hand) s 0 (slice_index s.words 0)
     reads_word slots hand = (
-      Keeps key (reads key.limit r.machine.word r.keeper),
+      Keeps key (reads key.limit m.word r.keeper),
       keeps,
       tt,
-      keeper_steps Read (read_next r.machine) here (set-get_or s.words 0 0 ∙ r.words_are) (slots_stay refl refl refl r.are_slots) (assumption),
+      keeper_steps Read (read_next m) here (set-get_or s.words 0 0 ∙ r.words_are) (slots_stay refl refl refl r.are_slots)
+          (assumption),
       rw (read_back r) (number_reads r, refl, word_in),
     )
 
@@ -284,108 +270,96 @@ module _ {O D T N : Type 0} (note : D → N) (Ao : T → O → Type 0) (An : T �
     sweeps_loss : (slots kind : ℕ) (hand : List (ℕ × Slot O D)) → kind < 2
         → EndsAt (kind + 1) (swept_loss (step slots (kind + 1) 0 0 none)) (Keeps key r.keeper, hand) s 0 0
     sweeps_loss slots zero hand low =
-        let m : Machine = r.machine in
         let read : slice_index s.words 1 ≡ m.loss0.value = ap (λ (ws : List ℕ). slice_index ws 1) r.words_are in
-        let swept = swept_more r.keeper.swept0 r.knows.counted.swept0_is read (small m (ring_of r)).loss0 (ring_of r).loss0 (λ back. all_marks r back 0 refl) in (
+        let swept = swept_more r.keeper.swept0 r.knows.counted.swept0_is read (small m (ring_of r)).loss0 (ring_of r).loss0
+        (λ back. all_marks r back 0 refl) in (
           Keeps key (sweeps 0 (slice_index s.words 1) r.keeper),
           keeps,
           tt,
-          keeper_steps (Sweep 0) (sweep_next m 0 low) read (ap (λ (ws : List ℕ). set ws 1 0) r.words_are) (slots_stay refl refl refl r.are_slots)
-              (assumption swept.0),
+          keeper_steps (Sweep 0) (sweep_next m 0 low) read (ap (λ (ws : List ℕ). set ws 1 0) r.words_are)
+              (slots_stay refl refl refl r.are_slots) (assumption swept.0),
           (refl, swept.1, swept.2),
         )
     sweeps_loss slots (suc zero) hand low =
-        let m : Machine = r.machine in
         let read : slice_index s.words 2 ≡ m.loss1.value = ap (λ (ws : List ℕ). slice_index ws 2) r.words_are in
-        let swept = swept_more r.keeper.swept1 r.knows.counted.swept1_is read (small m (ring_of r)).loss1 (ring_of r).loss1 (λ back. all_marks r back 1 refl) in (
+        let swept = swept_more r.keeper.swept1 r.knows.counted.swept1_is read (small m (ring_of r)).loss1 (ring_of r).loss1
+        (λ back. all_marks r back 1 refl) in (
           Keeps key (sweeps 1 (slice_index s.words 2) r.keeper),
           keeps,
           tt,
-          keeper_steps (Sweep 1) (sweep_next m 1 low) read (ap (λ (ws : List ℕ). set ws 2 0) r.words_are) (slots_stay refl refl refl r.are_slots)
-              (assumption swept.0),
+          keeper_steps (Sweep 1) (sweep_next m 1 low) read (ap (λ (ws : List ℕ). set ws 2 0) r.words_are)
+              (slots_stay refl refl refl r.are_slots) (assumption swept.0),
           (refl, swept.1, swept.2),
         )
     sweeps_loss slots (suc (suc kind)) hand low = absurd (omega (arith, low))
 
-  -- what the keeper knows that makes a try
-  pub record CanOffer (old new filled vacant : ℕ) (hand : List (ℕ × Slot O D)) (k : KeeperMemo N) : Type 0 where
-    pub in_hand : KeepsInHand (Ao key.terms) key.positions k.offered filled vacant hand
-    pub some_filled : 1 ≤ filled
-    pub one_turn : k.offered + filled + vacant ≡ length k.notes + key.positions
-    pub was : old ≡ packed key.limit k.seen
-    pub becomes : new ≡ packed key.limit (offered_to k.seen filled)
+    module _ (slots old new filled vacant : ℕ) (hand : List (ℕ × Slot O D)) (can : CanOffer old new filled vacant hand r.keeper) where
+      ready_is : ready hand ≡ filled
+      ready_is = rw can.in_hand.in_hand (ready_filled O D key.positions r.keeper.offered can.in_hand.values vacant ∙ can.in_hand.filled_are)
 
-  module _ {s : State (Slot O D) (View T N)} (r : Runs note Ao An key s) (slots old new filled vacant : ℕ) (hand : List (ℕ × Slot O D))
-      (can : CanOffer old new filled vacant hand r.keeper) where
-    ready_is : ready hand ≡ filled
-    ready_is = rw can.in_hand.in_hand (ready_filled O D key.positions r.keeper.offered can.in_hand.values vacant ∙ can.in_hand.filled_are)
+      has_room : (1 ≤ ready hand) × (m.offered + ready hand ≤ m.reaped + m.positions)
+      has_room =
+          let n = (sizes_of r).positions_are in
+          let counted = r.knows.counted in
+          let is = ready_is in
+          (omega arith, omega arith)
 
-    some_ready : 1 ≤ ready hand
-    some_ready = let is = ready_is in omega arith
+      -- another word was found: only the word that the keeper knows changes
+      offers_missing : slice_index s.words 0 ≢ old
+          → EndsAt 0 (tried_offer (step slots 0 old new none)) (Keeps key r.keeper, hand) s 0 (slice_index s.words 0)
+      offers_missing miss =
+            let seen = r.knows.counted.seen_is in
+          let other : m.word ≢ m.seen = λ same. miss (number_is r ∙ ap (packed key.limit) (same ∙ seen) ∙ sym can.was) in
+          let falls = missed_field_falls r.machine (ring_of r) (other_word m.word m.seen other) in (
+            Keeps key (misses key.limit (ready hand) m.word r.keeper),
+            keeps,
+            tt,
+            keeper_steps (Offer (ready hand)) (offer_misses_next m (ready hand) has_room.0 has_room.1 other) here
+                (set-get_or s.words 0 0 ∙ r.words_are) (slots_stay refl refl refl r.are_slots) (assumption),
+            (
+              (λ hit. absurd (miss hit)),
+              λ _. rw (read_back r) (number_reads r, refl, word_in, rw ((sizes_of r).limit_is, seen) at falls),
+            ),
+          )
 
-    has_room : r.machine.offered + ready hand ≤ r.machine.reaped + r.machine.positions
-    has_room =
-        let n = (sizes_of r).positions_are in
-        let counted = r.knows.counted in
-        let is = ready_is in
-        omega arith
-
-    -- another word was found: only the word that the keeper knows changes
-    offers_missing : slice_index s.words 0 ≢ old
-        → EndsAt 0 (tried_offer (step slots 0 old new none)) (Keeps key r.keeper, hand) s 0 (slice_index s.words 0)
-    offers_missing miss =
-        let m : Machine = r.machine in
-        let seen = r.knows.counted.seen_is in
-        let other : m.word ≢ m.seen = λ same. miss (number_is r ∙ ap (packed key.limit) (same ∙ seen) ∙ sym can.was) in
-        let falls = missed_field_falls m (ring_of r) (other_word m.word m.seen other) in (
-          Keeps key (misses key.limit (ready hand) m.word r.keeper),
-          keeps,
-          tt,
-          keeper_steps r (Offer (ready hand)) (offer_misses_next m (ready hand) some_ready has_room other) (here r) (set-get_or s.words 0 0 ∙ r.words_are)
-              (slots_stay refl refl refl r.are_slots) (assumption),
-          (
-            (λ hit. absurd (miss hit)),
-            λ _. rw (read_back r) (number_reads r, refl, word_in r, rw ((sizes_of r).limit_is, seen) at falls),
-          ),
-        )
-
-    -- the keeper's word was found: all slots that are filled again are given back
-    offers_hitting : slice_index s.words 0 ≡ old → EndsAt 0 (tried_offer (step slots 0 old new none)) (Keeps key r.keeper, hand) s 0 new
-    offers_hitting hit =
-        let m : Machine = r.machine in
-        let k : KeeperMemo N = r.keeper in
-        let counted = r.knows.counted in
-        let count : ℕ = ready hand in
-        let limit = (sizes_of r).limit_is in
-        let most = r.sizes.most_seats in
-        let same : m.word ≡ m.seen = packed_apart key.limit m.word m.seen (omega arith) (word_packs_here r)
-        (rw limit at (seen_packs m (ring_of r))) (sym (number_is r) ∙ hit ∙ can.was ∙ ap (packed key.limit) (sym counted.seen_is)) in
-        let word : m.word ≡ k.seen = same ∙ counted.seen_is in
-        let leads = offer_takes_next m count some_ready has_room same in
-        let now : Machine = record m { word = offered_to m.word count; offered = m.offered + count; seen = offered_to m.word count } in
-        let left = is_word key.positions key.limit now (rw leads at (next_keeps m (ring_of r) (Offer count)))
-        (record { positions_are = (sizes_of r).positions_are; limit_is = limit }) in
-        let permits = (ring_of r).permits in
-        let account = permits.account in
-        let room = has_room in
-        let positions = (sizes_of r).positions_are in
-        let its = can.in_hand in
-        let long : ready hand ≡ length its.values = ready_is ∙ sym its.filled_are in
-        let offered : m.offered + count ≡ k.offered + count = ap (λ (o : ℕ). o + count) counted.offered_is in
-        let first = at_longer k.fronts ((k.offered + count) ∷ []) 0 key.positions counted.first_front in
-        let last : (earlier : List ℕ) × (k.fronts ++ (k.offered + count) ∷ [] ≡ earlier ++ (k.offered + count) ∷ []) = (k.fronts, refl) in
-        let seen = ap (λ (w : PermitWord). offered_to w count) word in (
-          Keeps key (offers_all key.limit count k),
-          gives_all count,
-          gives_valid count s.homes hand,
-          keeper_steps r (Offer count) leads (ap₂ packed (sym limit) (sym word))
-              (ap₂ (λ (ws : List ℕ) (n : ℕ). set ws 0 n) r.words_are
-              (can.becomes ∙ λ i. packed (sym limit i) (offered_to (sym word i) (sym ready_is i))))
-              (rw (long, its.in_hand, ← counted.offered_is) (slots_offered its.values vacant m s.homes refl refl refl its.admitted
-              permits.reaped_claimed (omega arith) (omega arith) r.are_fates.each_claimed r.are_slots))
-              (assumption (offered, first, last, seen, more_fronts k.fronts (k.offered + count))),
-          ((λ _. (rw (gives_rest count hand) refl, rw word at left)), λ miss. absurd (miss hit)),
-        )
+      -- the keeper's word was found: all slots that are filled again are given back
+      offers_hitting : slice_index s.words 0 ≡ old → EndsAt 0 (tried_offer (step slots 0 old new none)) (Keeps key r.keeper, hand) s 0 new
+      offers_hitting hit =
+          let m : Machine = r.machine in
+            let k : KeeperMemo N = r.keeper in
+          let counted = r.knows.counted in
+          let count : ℕ = ready hand in
+          let limit = (sizes_of r).limit_is in
+          let most = r.sizes.most_seats in
+          let read = sym (number_is r) ∙ hit ∙ can.was ∙ ap (packed key.limit) (sym counted.seen_is) in
+          let same : m.word ≡ m.seen = packed_apart key.limit m.word m.seen (omega arith) (word_packs_here r)
+          (rw limit at (seen_packs m (ring_of r))) read in
+          let word : m.word ≡ k.seen = same ∙ counted.seen_is in
+          let leads = offer_takes_next m count has_room.0 has_room.1 same in
+          let now : Machine = record m { word = offered_to m.word count; offered = m.offered + count; seen = offered_to m.word count } in
+          let left = is_word key.positions key.limit now (rw leads at (next_keeps m (ring_of r) (Offer count)))
+          (record { positions_are = (sizes_of r).positions_are; limit_is = limit }) in
+          let permits = (ring_of r).permits in
+          let account = permits.account in
+          let room = has_room.1 in
+          let positions = (sizes_of r).positions_are in
+          let its = can.in_hand in
+          let long : ready hand ≡ length its.values = ready_is ∙ sym its.filled_are in
+          let offered : m.offered + count ≡ k.offered + count = ap (λ (o : ℕ). o + count) counted.offered_is in
+          let first = at_longer k.fronts ((k.offered + count) ∷ []) 0 key.positions counted.first_front in
+          let last : (earlier : List ℕ) × (k.fronts ++ (k.offered + count) ∷ [] ≡ earlier ++ (k.offered + count) ∷ []) = (k.fronts, refl) in
+          let seen = ap (λ (w : PermitWord). offered_to w count) word in (
+            Keeps key (offers_all key.limit count k),
+            gives_all count,
+            gives_valid count s.homes hand,
+            keeper_steps (Offer count) leads (ap₂ packed (sym limit) (sym word))
+                (ap₂ (λ (ws : List ℕ) (n : ℕ). set ws 0 n) r.words_are
+                (can.becomes ∙ λ i. packed (sym limit i) (offered_to (sym word i) (sym ready_is i))))
+                (rw (long, its.in_hand, ← counted.offered_is) (slots_offered its.values vacant m s.homes refl refl refl its.admitted
+                permits.reaped_claimed (omega arith) (omega arith) r.are_fates.each_claimed r.are_slots))
+                (assumption (offered, first, last, seen, more_fronts k.fronts (k.offered + count))),
+            ((λ _. (rw (gives_rest count hand) refl, rw word at left)), λ miss. absurd (miss hit)),
+          )
 
   -- the steps of a token whose view is the keeper's
   module _ (slots id : ℕ) (me : Known O D T N) (keeps_it : me.0 ≡ Keeps key (keeper_in me.0)) where
