@@ -1,5 +1,5 @@
 -- A keeper between two calls, after each of them.
-use Rattle.std.proofs.Common.{◌≡◌, ◌≢◌, ℕ, eqb, ◌+◌, ◌-◌, ◌%◌, ◌^◌, ◌<◌, ◌≤◌, List, [], ◌∷◌, ◌++◌, length, drop, refl, sym, ◌∙◌, ap, subst, arith, map}
+use Rattle.std.proofs.Common.{add_assoc, ◌≡◌, ◌≢◌, ℕ, eqb, ◌+◌, ◌-◌, ◌%◌, ◌^◌, ◌<◌, ◌≤◌, List, [], ◌∷◌, ◌++◌, length, drop, refl, sym, ◌∙◌, ap, subst, arith, map}
 use Rattle.std.proofs.lemmas.List.{append-nil, append_assoc, length_push, map_push}
 use native.Mathlib.Nat.{add-mod_right, mod-add-mod}
 use mathlib.Core.Option.{none, some-ne-none}
@@ -30,8 +30,8 @@ module _ {F O D T N : Type 0} (Ao : T → O → Type 0) (ring : Ring F O D T N) 
   -- a keeper with the view and the slots in hand that it is told to have
   keeper_told : (keeper : Keeper F O D T N) {known : Known O D T N} → keeper.place.me ≡ known
       → IsKeeperOf Ao ring (record keeper { place = record keeper.place { me = known } }) → IsKeeperOf Ao ring keeper
-  keeper_told keeper told = subst (λ (known : Known O D T N). IsKeeperOf Ao ring (record keeper { place = record keeper.place { me = known } }))
-      (sym told)
+  keeper_told keeper told = subst (λ (known : Known O D T N). IsKeeperOf Ao ring
+      (record keeper { place = record keeper.place { me = known } })) (sym told)
 
   module _ (keeper : Keeper F O D T N) (was : IsKeeperOf Ao ring keeper) where
     abbrev memo : KeeperMemo N
@@ -140,7 +140,8 @@ module _ {F O D T N : Type 0} (Ao : T → O → Type 0) (ring : Ring F O D T N) 
             let reaped : keeper.reaped ≤ memo.offered + keeper.filled = let within = was.reaped_offered in omega arith in
             let all : memo.offered + keeper.filled + 0 + keeper.vacant ≡ keeper.reaped + n = omega arith in
             let none_more : memo.offered + keeper.filled ≡ memo.offered + keeper.filled + 0 = omega arith in
-            let slots : KeepsInHand (Ao (ring_terms ring)) n (memo.offered + keeper.filled) 0 keeper.vacant (drop keeper.filled me.1) = record {
+            let slots : KeepsInHand (Ao (ring_terms ring)) n (memo.offered + keeper.filled) 0 keeper.vacant (drop keeper.filled me.1) =
+              record {
               values = [];
               filled_are = refl;
               admitted = λ j y e. absurd (some-ne-none y (sym e));
@@ -176,22 +177,10 @@ last-more : (word next : PermitWord) (missed : List PermitWord) → last_word wo
 last-more word next [] = refl
 last-more word next (first ∷ missed) = last-more first next missed
 
--- none yet
-pub none_missed : {N : Type 0} (limit count : ℕ) (k : KeeperMemo N) → k ≡ missed_all limit count [] k
-none_missed limit count k = λ i. record k { offers = (let same : k.offers ≡ k.offers + 0 = omega arith in same) i; moves = sym (append-nil k.moves) i }
-
-moves-more : (limit count : ℕ) (moves : List Move) (missed : List PermitWord) (word : PermitWord)
-    → (moves ++ map (tried limit count) missed) ++ tried limit count word ∷ [] ≡ moves ++ map (tried limit count) (missed ++ word ∷ [])
-moves-more limit count moves missed word = append_assoc moves (map (tried limit count) missed) (tried limit count word ∷ [])
-    ∙ ap (λ (more : List Move). moves ++ more) (sym (map_push (tried limit count) missed word))
-
 -- one more
 pub missed-more : {N : Type 0} (limit count : ℕ) (missed : List PermitWord) (word : PermitWord) (k : KeeperMemo N)
     → misses limit count word (missed_all limit count missed k) ≡ missed_all limit count (missed ++ word ∷ []) k
-missed-more limit count missed word k =
-    let more = length_push missed word in
-    let tries : k.offers + length missed + 1 ≡ k.offers + length (missed ++ word ∷ []) = omega (arith, more) in
-    λ i. record k { offers = tries i; seen = sym (last-more k.seen word missed) i; moves = moves-more limit count k.moves missed word i }
+missed-more limit count missed word k = simp (last-more, length_push, map_push, append_assoc, add_assoc)
 
 -- and the one that succeeds
 pub offer_ends : {N : Type 0} (limit count tries : ℕ) (missed : List PermitWord) (k : KeeperMemo N) → tries ≡ length missed + 1
@@ -202,12 +191,4 @@ pub offer_ends : {N : Type 0} (limit count tries : ℕ) (missed : List PermitWor
       seen = offered_to (last_word k.seen missed) count;
       moves = k.moves ++ map (tried limit count) (missed ++ last_word k.seen missed ∷ []);
     }
-offer_ends limit count tries missed k is =
-    let sum : k.offers + length missed + 1 ≡ k.offers + tries = omega (arith, is) in
-    λ i. record k {
-      fronts = k.fronts ++ (k.offered + count) ∷ [];
-      offered = k.offered + count;
-      offers = sum i;
-      seen = offered_to (last_word k.seen missed) count;
-      moves = moves-more limit count k.moves missed (last_word k.seen missed) i;
-    }
+offer_ends limit count tries missed k is = simp (is, map_push, append_assoc, add_assoc)

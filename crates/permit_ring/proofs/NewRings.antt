@@ -1,5 +1,5 @@
 -- A ring that has just been made: it keeps the rule, and its keeper and seats stand.
-use Rattle.std.proofs.Common.{◌≡◌, ℕ, zero, suc, ◌+◌, ◌%◌, ◌≤◌, List, [], ◌∷◌, ◌++◌, length, None, refl, sym, ◌∙◌, ap, ap₂, subst, inl, inr, mod-eq_of_lt, arith, map, replicate}
+use Rattle.std.proofs.Common.{◌≡◌, ℕ, zero, suc, ◌+◌, ◌%◌, ◌^◌, ◌≤◌, List, [], ◌∷◌, ◌++◌, length, None, refl, sym, ◌∙◌, add-one, ap, ap₂, subst, inl, inr, mod-eq_of_lt, arith, map, replicate}
 use Rattle.std.proofs.lemmas.List.{length_push, length-map}
 use mathlib.Core.Option.{some-ne-none, some, some-injective}
 use native.Mathlib.Nat.{add-mod_right}
@@ -14,8 +14,8 @@ use Rattle.permit_ring.specs.declared.ring.Ring.{Ring}
 use Rattle.permit_ring.specs.declared.seat.Seat.{Seat}
 use Rattle.permit_ring.specs.Logs.{IsOrdered}
 use Rattle.permit_ring.specs.Making.{made_memo, IsNewSeat, AreNewSeats}
-use Rattle.permit_ring.specs.Told.{seat_in, keeper_in}
-use Rattle.permit_ring.specs.Seats.{IsSitting, IsKeeping, IsKeeperOf}
+use Rattle.permit_ring.specs.Told.{Known, IsWord, seat_in, keeper_in}
+use Rattle.permit_ring.specs.Seats.{IsSitting, IsKeeping, IsKeeperOf, KeepsInHand, ring_terms}
 use Rattle.permit_ring.specs.Steps.{new_memo, makes, first_memo}
 use Rattle.permit_ring.proofs.ListLemmas.{at_end, there}
 use lib.ListN.{get_elem?}
@@ -117,19 +117,13 @@ pub record IsFresh {N : Type 0} (n made : ℕ) (k : KeeperMemo N) : Type 0 where
   pub seen_is : k.seen ≡ all_free n
   pub made_is : k.made ≡ made
 
-one_more : (k : ℕ) → k + 1 ≡ suc k
-one_more k = omega arith
-
 pub fresh : {N : Type 0} (n made : ℕ) → IsFresh {N = N} n made (made_memo n made)
-fresh n zero = record { no_notes = refl; offered_is = refl; seen_is = refl; made_is = refl }
+fresh n zero = assumption
 fresh {N = N} n (suc made) =
-    let was : IsFresh {N = N} n made (made_memo n made) = fresh n made in
-    record {
-      no_notes = was.no_notes;
-      offered_is = was.offered_is;
-      seen_is = was.seen_is;
-      made_is = ap (λ (k : ℕ). k + 1) was.made_is ∙ one_more made;
-    }
+    let was = fresh {N = N} n made in
+    let made_now = was.made_is in
+    let more : (made_memo {N = N} n made).made + 1 ≡ suc made = omega arith in
+    assumption (was, more)
 
 -- the log of a seat that has just been made is in order
 pub new_ordered : {N : Type 0} (i : ℕ) → IsOrdered (new_memo {N = N} i)
@@ -156,55 +150,37 @@ module _ {F O D T N : Type 0} (Ao : T → O → Type 0) (ring : Ring F O D T N) 
       → place.me ≡ (Sits ring.table.shared.key (new_memo i), [])
       → IsNewSeat Ao ring i record { place = place; number = i; calls = 0; held = None }
   new_seat_is i place sitting told =
-      let now : seat_in place.me.0 ≡ new_memo i = ap (λ me. seat_in me.0) told in
-      record {
-        is_seat = record {
-          sitting = sitting;
-          number_is = ap (λ (k : SeatMemo N). k.number) (sym now);
-          calls_are = ap (λ (k : SeatMemo N). k.view.calls) (sym now);
-          ticket_is = ap (λ (k : SeatMemo N). k.view.held) now;
-          is_live = ap (λ (k : SeatMemo N). k.view.live) now;
-          not_armed = ap (λ (k : SeatMemo N). k.view.armed) now;
-          in_hand = ap (λ me. me.1) told;
-        };
-        knows = now;
-        number_is = refl;
-        no_calls = refl;
-        is_idle = refl;
-      }
+      subst (λ (me : Known O D T N). IsNewSeat Ao ring i record { place = record place { me = me }; number = i; calls = 0; held = None })
+      (sym told) (assumption sitting)
 
   -- and the keeper has no slot in hand
   pub new_keeper_is : (n made : ℕ) (place : Token (Slot O D) (View T N)) → 1 ≤ n → n ≤ 1024 → ring.limit ≤ 32 → ring.positions ≡ n
       → IsKeeping ring place → place.me ≡ (Keeps ring.table.shared.key (made_memo n made), [])
       → IsKeeperOf Ao ring record { place = place; reaped = 0; seen = all_free n; filled = 0; vacant = 0; next = 0; vacancy = 0 }
   new_keeper_is n made place some_place most few positions keeping told =
-      let now : keeper_in place.me.0 ≡ made_memo n made = ap (λ me. keeper_in me.0) told in
       let is : IsFresh {N = N} n made (made_memo n made) = fresh n made in
-      let offered : (keeper_in place.me.0).offered ≡ n = ap (λ (k : KeeperMemo N). k.offered) now ∙ is.offered_is in
+      let offered = is.offered_is in
       let first : 0 % n ≡ 0 = mod-eq_of_lt some_place in
+      let sum : (made_memo {N = N} n made).offered + 0 ≡ 0 + n = omega arith in
+      subst (λ (me : Known O D T N). IsKeeperOf Ao ring
+      (record { place = record place { me = me }; reaped = 0; seen = all_free n; filled = 0; vacant = 0; next = 0; vacancy = 0 })) (sym told)
       record {
-        keeping = keeping;
-        reaped_is = ap (λ (notes : List N). length notes) (sym (ap (λ (k : KeeperMemo N). k.notes) now ∙ is.no_notes));
+        keeping = assumption keeping;
+        reaped_is = rw is.no_notes refl;
         reaped_within = omega arith;
         reaped_offered = omega arith;
-        seen_is = sym (ap (λ (k : KeeperMemo N). k.seen) now ∙ is.seen_is);
+        seen_is = sym is.seen_is;
         seen_packs = record {
-          packs = record { tries_fit = omega arith; free_fits = omega (arith, most, few); over_fits = omega arith; either = inr refl };
-          free_within = omega (arith, positions);
+          packs = record { tries_fit = omega arith; free_fits = omega arith; over_fits = omega arith; either = inr refl };
+          free_within = omega arith;
           few = omega arith;
         };
-        account = omega (arith, offered, positions);
-        next_is = sym (ap (λ (k : ℕ). 0 % k) positions ∙ first);
-        vacancy_is = sym (ap₂ (λ (t k : ℕ). t % k) (let sum :
-            (keeper_in place.me.0).offered + 0 ≡ 0 + n = omega (arith, offered) in sum) positions ∙ add-mod_right 0 n ∙ first);
-        in_hand = record {
-          values = [];
-          filled_are = refl;
-          admitted = λ j y e. absurd (some-ne-none y (sym e));
-          in_hand = ap (λ me. me.1) told;
-        };
+        account = omega arith;
+        next_is = rw positions (sym first);
+        vacancy_is = rw (sum, positions, add-mod_right) (sym first);
+        in_hand = record { values = []; filled_are = refl; admitted = λ j y e. absurd (some-ne-none y (sym e)); in_hand = refl };
       }
 
 -- one seat more is made
 pub made_more : {N : Type 0} (n made : ℕ) → makes (made_memo {N = N} n made) ≡ made_memo n (made + 1)
-made_more n made = ap (made_memo n) (sym (one_more made))
+made_more n made = ap (made_memo n) (sym (add-one made))

@@ -4,4 +4,4 @@ use Rattle.permit_ring.proofs.keeper.Keeper.reap.Goals as goal
 pub returns-in-Ok-clause-mine : goal.returns-in-Ok-clause-mine
 returns-in-Ok-clause-mine g c =
     let ok = c.in-Ok.ensures.ok in
-    reaped_keeper g.F.Freight.admits_offered c.args.ring.now c.args.self.now c.requires.mine c.reap.new.place c.in-Ok.ensures.mine.at_table _ _ ok.1 ok.2 c.after-self.ensures ok.4
+    reaped_keeper _ _ _ c.requires.mine _ c.in-Ok.ensures.mine.at_table _ _ ok.1 ok.2 c.after-self.ensures ok.4

@@ -4,4 +4,4 @@ use Rattle.permit_ring.proofs.keeper.Keeper.refill.Goals as goal
 pub returns-clause-mine : goal.returns-clause-mine
 returns-clause-mine g c =
     let put = c.refill.ensures in
-    refilled_keeper g.F.Freight.admits_offered c.args.ring.now c.args.self.now c.requires.mine c.refill.new.place put.mine.at_table _ c.requires.vacant put.told c.after-self.ensures put.hand
+    refilled_keeper _ _ _ c.requires.mine _ put.mine.at_table _ c.requires.vacant put.told c.after-self.ensures put.hand
