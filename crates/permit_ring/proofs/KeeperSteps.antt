@@ -16,7 +16,7 @@ use Rattle.ring_core.specs.declared.step.Step.TheVariants.{See, Read, Offer, Swe
 use Rattle.ring_core.specs.declared.word.PermitWord.{PermitWord}
 use Rattle.ring_core.specs.Machine.{HasSizes, Machine, opening, seat_at, mark_at, next, offered_to}
 use Rattle.ring_core.specs.Sound.{IsRing}
-use Rattle.ring_core.specs.Words.{packed, IsPackable}
+use Rattle.ring_core.specs.Words.{packed}
 use Rattle.ring_core.proofs.Bounds.{small}
 use Rattle.ring_core.proofs.Nexts.{see_takes_next, see_waits_next, read_next, sweep_next, offer_takes_next, offer_misses_next}
 use Rattle.ring_core.proofs.RingLaws.{word_packs, seen_packs, missed_field_falls}
@@ -254,18 +254,6 @@ module _ {O D T N : Type 0} (note : D → N) (Ao : T → O → Type 0) (An : T �
               )
         ]
 
-    -- the look at the permit word: only the word that the keeper knows changes
-    reads_word : (slots : ℕ) (hand : List (ℕ × Slot O D))
-        → EndsAt 0 (read_word (step slots 0 0 0 none)) (Keeps key r.keeper, hand) s 0 (slice_index s.words 0)
-    reads_word slots hand = (
-      Keeps key (reads key.limit m.word r.keeper),
-      keeps,
-      tt,
-      keeper_steps Read (read_next m) here (set-get_or s.words 0 0 ∙ r.words_are) (slots_stay refl refl refl r.are_slots)
-          (assumption),
-      rw (read_back r) (number_reads r, refl, word_in),
-    )
-
     -- a sweep of a kind of loss
     sweeps_loss : (slots kind : ℕ) (hand : List (ℕ × Slot O D)) → kind < 2
         → EndsAt (kind + 1) (swept_loss (step slots (kind + 1) 0 0 none)) (Keeps key r.keeper, hand) s 0 0
@@ -308,7 +296,7 @@ module _ {O D T N : Type 0} (note : D → N) (Ao : T → O → Type 0) (An : T �
       offers_missing : slice_index s.words 0 ≢ old
           → EndsAt 0 (tried_offer (step slots 0 old new none)) (Keeps key r.keeper, hand) s 0 (slice_index s.words 0)
       offers_missing miss =
-            let seen = r.knows.counted.seen_is in
+          let seen = r.knows.counted.seen_is in
           let other : m.word ≢ m.seen = λ same. miss (number_is r ∙ ap (packed key.limit) (same ∙ seen) ∙ sym can.was) in
           let falls = missed_field_falls r.machine (ring_of r) (other_word m.word m.seen other) in (
             Keeps key (misses key.limit (ready hand) m.word r.keeper),
@@ -326,7 +314,7 @@ module _ {O D T N : Type 0} (note : D → N) (Ao : T → O → Type 0) (An : T �
       offers_hitting : slice_index s.words 0 ≡ old → EndsAt 0 (tried_offer (step slots 0 old new none)) (Keeps key r.keeper, hand) s 0 new
       offers_hitting hit =
           let m : Machine = r.machine in
-            let k : KeeperMemo N = r.keeper in
+          let k : KeeperMemo N = r.keeper in
           let counted = r.knows.counted in
           let count : ℕ = ready hand in
           let limit = (sizes_of r).limit_is in
@@ -363,7 +351,7 @@ module _ {O D T N : Type 0} (note : D → N) (Ao : T → O → Type 0) (An : T �
 
   -- the steps of a token whose view is the keeper's
   module _ (slots id : ℕ) (me : Known O D T N) (keeps_it : me.0 ≡ Keeps key (keeper_in me.0)) where
-    -- which is the rule's keeper at the first port
+    -- that view is the rule's keeper at the first port, so a step is allowed that this keeper may make there
     keeper_allowed : (word : ℕ) (f : ℕ → ℕ) (told : Known O D T N → ℕ → Known O D T N → Type 0)
         → ((s : State (Slot O D) (View T N)) (r : Runs note Ao An key s) → keeper_in me.0 ≡ r.keeper
         → EndsAt word told (Keeps key r.keeper, me.1) s 0 (f (slice_index s.words word)))
@@ -374,19 +362,30 @@ module _ {O D T N : Type 0} (note : D → N) (Ao : T → O → Type 0) (An : T �
         subst (λ (x : ℕ × View T N). EndsAt word told (x.1, me.1) s x.0 (f (slice_index s.words word))) (λ j. (sym here.0 j, view j))
         (ends s r here.1)
 
+    -- its look at the mark of the next ticket
     pub see_ready : (word : ℕ) → slots ≡ key.positions → word ≡ length (keeper_in me.0).notes % key.positions + 3
         → Allows (Runs note Ao An key) slots id me word (λ n. n) (saw_mark note An (step slots word 0 0 none) me)
     see_ready word same is = keeper_allowed word (λ n. n) (saw_mark note An (step slots word 0 0 none))
         (λ s r known. sees r slots word me.1 same (rw known at is))
 
+    -- its look at the permit word: only the word that it knows changes
     pub read_ready : Allows (Runs note Ao An key) slots id me 0 (λ n. n) (read_word (step slots 0 0 0 none) me)
-    read_ready = keeper_allowed 0 (λ n. n) (read_word (step slots 0 0 0 none)) (λ s r _. reads_word r slots me.1)
+    read_ready = keeper_allowed 0 (λ n. n) (read_word (step slots 0 0 0 none)) (λ s r _. (
+      Keeps key (reads key.limit r.machine.word r.keeper),
+      keeps,
+      tt,
+      keeper_steps r Read (read_next r.machine) (here r) (set-get_or s.words 0 0 ∙ r.words_are) (slots_stay refl refl refl r.are_slots)
+          (assumption),
+      rw (read_back r) (number_reads r, refl, word_in r),
+    ))
 
+    -- its sweep of a kind of loss
     pub sweep_ready : (kind : ℕ) → kind < 2 → Allows (Runs note Ao An key) slots id me (kind + 1) (λ _. 0)
         (swept_loss (step slots (kind + 1) 0 0 none) me)
     sweep_ready kind low = keeper_allowed (kind + 1) (λ _. 0) (swept_loss (step slots (kind + 1) 0 0 none))
         (λ s r _. sweeps_loss r slots kind me.1 low)
 
+    -- and its try to offer what is filled
     pub offer_ready : (old new filled vacant : ℕ) → CanOffer old new filled vacant me.1 (keeper_in me.0)
         → Allows (Runs note Ao An key) slots id me 0 (λ n. either (eqb n old) new n) (tried_offer (step slots 0 old new none) me)
     offer_ready old new filled vacant can = keeper_allowed 0 (λ n. either (eqb n old) new n) (tried_offer (step slots 0 old new none))

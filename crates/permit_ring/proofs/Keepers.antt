@@ -1,6 +1,6 @@
 -- A keeper between two calls, after each of them.
 use Rattle.std.proofs.Common.{add_assoc, ◌≡◌, ◌≢◌, ℕ, eqb, ◌+◌, ◌-◌, ◌%◌, ◌^◌, ◌<◌, ◌≤◌, List, [], ◌∷◌, ◌++◌, length, drop, refl, sym, ◌∙◌, ap, subst, arith, map}
-use Rattle.std.proofs.lemmas.List.{append-nil, append_assoc, length_push, map_push}
+use Rattle.std.proofs.lemmas.List.{append_assoc, length_push, map_push}
 use native.Mathlib.Nat.{add-mod_right, mod-add-mod}
 use mathlib.Core.Option.{none, some-ne-none}
 use prog.Atomic.{either}
@@ -12,7 +12,6 @@ use Rattle.ring_core.specs.Words.{packed, unpacked, field_of}
 use Rattle.permit_ring.specs.declared.keeper.Keeper.{Keeper}
 use Rattle.permit_ring.specs.declared.memo.Key.{Key}
 use Rattle.permit_ring.specs.declared.memo.KeeperMemo.{KeeperMemo}
-use Rattle.permit_ring.specs.declared.memo.Move.{Move}
 use Rattle.permit_ring.specs.declared.memo.Slot.{Slot}
 use Rattle.permit_ring.specs.declared.memo.Slot.TheVariants.{Empty}
 use Rattle.permit_ring.specs.declared.memo.View.{View}
@@ -141,7 +140,7 @@ module _ {F O D T N : Type 0} (Ao : T → O → Type 0) (ring : Ring F O D T N) 
             let all : memo.offered + keeper.filled + 0 + keeper.vacant ≡ keeper.reaped + n = omega arith in
             let none_more : memo.offered + keeper.filled ≡ memo.offered + keeper.filled + 0 = omega arith in
             let slots : KeepsInHand (Ao (ring_terms ring)) n (memo.offered + keeper.filled) 0 keeper.vacant (drop keeper.filled me.1) =
-              record {
+            record {
               values = [];
               filled_are = refl;
               admitted = λ j y e. absurd (some-ne-none y (sym e));

@@ -1,12 +1,11 @@
 -- A ring that has just been made: it keeps the rule, and its keeper and seats stand.
-use Rattle.std.proofs.Common.{◌≡◌, ℕ, zero, suc, ◌+◌, ◌%◌, ◌^◌, ◌≤◌, List, [], ◌∷◌, ◌++◌, length, None, refl, sym, ◌∙◌, add-one, ap, ap₂, subst, inl, inr, mod-eq_of_lt, arith, map, replicate}
+use Rattle.std.proofs.Common.{◌≡◌, ℕ, zero, suc, ◌+◌, ◌%◌, ◌≤◌, List, [], ◌∷◌, ◌++◌, length, None, refl, sym, ◌∙◌, add-one, ap, subst, inl, inr, mod-eq_of_lt, arith, map, replicate}
 use Rattle.std.proofs.lemmas.List.{length_push, length-map}
 use mathlib.Core.Option.{some-ne-none, some, some-injective}
 use native.Mathlib.Nat.{add-mod_right}
 use Rattle.atomic_table.specs.declared.shared.Seat.{Seat as Token}
 use Rattle.ring_core.specs.Machine.{all_free, opening}
 use Rattle.permit_ring.specs.declared.memo.KeeperMemo.{KeeperMemo}
-use Rattle.permit_ring.specs.declared.memo.SeatMemo.{SeatMemo}
 use Rattle.permit_ring.specs.declared.memo.Slot.{Slot}
 use Rattle.permit_ring.specs.declared.memo.View.{View}
 use Rattle.permit_ring.specs.declared.memo.View.TheVariants.{Sits, Keeps}
@@ -14,8 +13,8 @@ use Rattle.permit_ring.specs.declared.ring.Ring.{Ring}
 use Rattle.permit_ring.specs.declared.seat.Seat.{Seat}
 use Rattle.permit_ring.specs.Logs.{IsOrdered}
 use Rattle.permit_ring.specs.Making.{made_memo, IsNewSeat, AreNewSeats}
-use Rattle.permit_ring.specs.Told.{Known, IsWord, seat_in, keeper_in}
-use Rattle.permit_ring.specs.Seats.{IsSitting, IsKeeping, IsKeeperOf, KeepsInHand, ring_terms}
+use Rattle.permit_ring.specs.Told.{Known}
+use Rattle.permit_ring.specs.Seats.{IsSitting, IsKeeping, IsKeeperOf}
 use Rattle.permit_ring.specs.Steps.{new_memo, makes, first_memo}
 use Rattle.permit_ring.proofs.ListLemmas.{at_end, there}
 use lib.ListN.{get_elem?}
@@ -41,22 +40,16 @@ module _ {N : Type 0} (n limit : ℕ) where
 
   -- and the keeper knows of no step
   first_keeper : IsKeeperMemo {N = N} n (opening n limit) [] [] (first_memo n)
-  first_keeper = record {
-    moved = refl;
-    noted = λ t x e. absurd (some-ne-none _ (sym e));
-    counted = record {
-      reaped_is = refl;
-      offered_is = refl;
-      first_front = refl;
-      last_front = ([], refl);
-      seen_is = refl;
-      swept0_is = refl;
-      swept1_is = refl;
-    };
-    made_is = inr (refl, refl);
-    back_is = refl;
-    unmade_rest = λ i past. refl;
-  }
+  first_keeper =
+      let last : (earlier : List ℕ) × (n ∷ [] ≡ earlier ++ n ∷ []) = ([], refl) in
+      record {
+        moved = refl;
+        noted = λ t x e. absurd (some-ne-none _ (sym e));
+        counted = assumption last;
+        made_is = inr (refl, refl);
+        back_is = refl;
+        unmade_rest = λ i past. refl;
+      }
 
 -- each slot has a value that may be claimed
 first_slots : {O D N : Type 0} (note : D → N) (Admits : O → Type 0) (n limit : ℕ) (ys : List O) → length ys ≡ n → AllAdmitted Admits ys
@@ -70,8 +63,7 @@ first_slots note Admits n limit ys long all = record {
         let is = there ys t (omega (arith, until, long)) in (
           is.0,
           all t is.0 is.1,
-          ap (get_elem? (map some (map Offered ys))) (mod-eq_of_lt until)
-              ∙ at_map some (map Offered ys) t (Offered is.0) (at_map Offered ys t is.0 is.1),
+          rw mod-eq_of_lt (at_map some (map Offered ys) t (Offered is.0) (at_map Offered ys t is.0 is.1)),
         );
     vacant_out = λ from. absurd (omega (arith, from, below));
   };
@@ -140,8 +132,7 @@ module _ {F O D T N : Type 0} (Ao : T → O → Type 0) (ring : Ring F O D T N) 
     all_made = length_push seats seat ∙ ap (λ (k : ℕ). k + 1) were.all_made;
     each = λ i other e. elim (at_end seats seat other i e) [
       | inl old ↦ were.each i other old
-      | inr last ↦ subst (λ (s : Seat F O D T N). IsNewSeat Ao ring i s) last.1
-          (subst (λ (k : ℕ). IsNewSeat Ao ring k seat) (sym (last.0 ∙ were.all_made)) is)
+      | inr last ↦ rw (last.0, were.all_made, ← last.1) is
     ];
   }
 
@@ -163,8 +154,8 @@ module _ {F O D T N : Type 0} (Ao : T → O → Type 0) (ring : Ring F O D T N) 
       let first : 0 % n ≡ 0 = mod-eq_of_lt some_place in
       let sum : (made_memo {N = N} n made).offered + 0 ≡ 0 + n = omega arith in
       subst (λ (me : Known O D T N). IsKeeperOf Ao ring
-      (record { place = record place { me = me }; reaped = 0; seen = all_free n; filled = 0; vacant = 0; next = 0; vacancy = 0 })) (sym told)
-      record {
+      (record { place = record place { me = me }; reaped = 0; seen = all_free n; filled = 0; vacant = 0; next = 0; vacancy = 0 }))
+      (sym told) record {
         keeping = assumption keeping;
         reaped_is = rw is.no_notes refl;
         reaped_within = omega arith;

@@ -1,53 +1,44 @@
 -- What is left once all seats are back, and that what is settled stays so.
 use Rattle.std.proofs.Common.{◌≡◌, ◌≢◌, ℕ, zero, suc, ◌+◌, ◌-◌, ◌%◌, ◌<◌, ◌≤◌, Bool, true, false, cond, ◌||◌, is_some, List, [], ◌∷◌, ◌++◌, map, length, get_or, sum_by, Option, Some, None, refl, sym, ◌∙◌, ap, ap₂, subst, inl, inr, mod-lt, arith}
-use Rattle.std.proofs.lemmas.Bool.{cases_lt, cases_Bool, false≢true}
+use Rattle.std.proofs.lemmas.Bool.{cases_lt, false≢true}
 use Rattle.std.proofs.lemmas.List.{length-map, nil_from_length}
 use Rattle.std.proofs.lemmas.List.Sums.{sum_by-cons}
-use Rattle.std.proofs.lemmas.Option.{none-some, same_Some}
-use mathlib.Core.Option.{some, some-injective}
+use Rattle.std.proofs.lemmas.Option.{none-some}
+use mathlib.Core.Option.{some}
 use lib.ListN.{get_elem?}
 use Rattle.atomic_table.proofs.Lists.{at_longer, at_map}
 use Rattle.atomic_table.specs.Table.{State}
 use Rattle.ring_core.specs.declared.seat.SeatView.{SeatView}
-use Rattle.ring_core.specs.declared.seat.Ticket0.{Ticket0}
 use Rattle.ring_core.specs.Machine.{Machine, marks_of, new_seat, nobody, mark_at, seat_at}
-use Rattle.ring_core.specs.Sound.{Holds, IsRing, IsSeat}
+use Rattle.ring_core.specs.Sound.{Holds, IsRing}
 use Rattle.ring_core.proofs.RingLaws.{all_but_a_turn_reaped}
 use Rattle.ring_core.proofs.SeatLemmas.{live_is_made}
 use Rattle.ring_core.proofs.Turns.{one_turn}
 use Rattle.permit_ring.specs.declared.memo.Key.{Key}
 use Rattle.permit_ring.specs.declared.memo.KeeperMemo.{KeeperMemo}
-use Rattle.permit_ring.specs.declared.memo.Outcome.TheVariants.{Lost, Got}
+use Rattle.permit_ring.specs.declared.memo.Outcome.TheVariants.{Got}
 use Rattle.permit_ring.specs.declared.memo.SeatMemo.{SeatMemo}
 use Rattle.permit_ring.specs.declared.memo.Slot.{Slot}
 use Rattle.permit_ring.specs.declared.memo.View.{View}
 use Rattle.permit_ring.specs.Calls.{OfferTells}
 use Rattle.permit_ring.specs.Closing.{AreAllBack, IsAllReaped, IsSettled, IsWholeLog, marks_back}
-use Rattle.permit_ring.specs.Logs.{IsOrdered, end_from, taken_by}
+use Rattle.permit_ring.specs.Logs.{end_from, taken_by}
 use Rattle.permit_ring.specs.Rule.{StandsIn, IsSomewhere, Runs}
 use Rattle.permit_ring.proofs.ListLemmas.{there}
 use Rattle.permit_ring.proofs.LogLemmas.{got_from, taken_in, within_end}
 use Rattle.permit_ring.proofs.States.{ring_of}
 
-module _ {A : Type 0} where
-  -- options that all have a value are the values of a list
-  pub all_some : (l : List (Option A)) → ((t : ℕ) → get_elem? l t ≡ some None → ⊥) → (xs : List A) × (l ≡ map Some xs)
-  all_some [] some_each = ([], refl)
-  all_some (None ∷ l) some_each = absurd (some_each zero refl)
-  all_some (Some x ∷ l) some_each = let rest = all_some l (λ t e. some_each
-      (suc t) e) in (x ∷ rest.0, ap (λ (ys : List (Option A)). Some x ∷ ys) rest.1)
-
--- notes that are those of what became of the tickets, as many as these
-same_notes : {N : Type 0} (notes : List N) (taken : List (ℕ × N)) → length notes ≡ length taken
-    → ((t : ℕ) (x : N) → get_elem? notes t ≡ some x → (i : ℕ) × (get_elem? (map Some taken) t ≡ some (Some (i, x))))
-    → notes ≡ map (λ (x : ℕ × N). x.1) taken
-same_notes [] [] e each = refl
-same_notes [] (y ∷ taken) e each = absurd (omega arith)
-same_notes (x ∷ notes) [] e each = absurd (omega arith)
-same_notes {N} (x ∷ notes) (y ∷ taken) e each =
+-- where each ticket has its note, something became of each
+all_noted : {N : Type 0} (fates : List (Option (ℕ × N))) (notes : List N) → length notes ≡ length fates
+    → ((t : ℕ) (x : N) → get_elem? notes t ≡ some x → (i : ℕ) × (get_elem? fates t ≡ some (Some (i, x))))
+    → (taken : List (ℕ × N)) × (notes ≡ map (λ (x : ℕ × N). x.1) taken) × (fates ≡ map Some taken)
+all_noted [] [] long each = ([], refl, refl)
+all_noted [] (x ∷ notes) long each = absurd (omega arith)
+all_noted (fate ∷ fates) [] long each = absurd (omega arith)
+all_noted {N} (fate ∷ fates) (x ∷ notes) long each =
     let here = each zero x refl in
-    let one : y ≡ (here.0, x) = same_Some y (here.0, x) (some-injective (Some y) (Some (here.0, x)) here.1) in
-    ap₂ ◌∷◌ (sym (ap (λ (p : ℕ × N). p.1) one)) (same_notes notes taken (omega (arith, e)) (λ t z f. each (suc t) z f))
+    let rest = all_noted fates notes (omega arith) (λ t y e. each (suc t) y e) in
+    ((here.0, x) ∷ rest.0, ap (λ (ys : List N). x ∷ ys) rest.1, cc (here.1, rest.2))
 
 -- where no seat holds a ticket, and the next one is not finished, all that was claimed was reaped
 all_reaped : (m : Machine) → IsRing m → ((i t : ℕ) → Holds (seat_at m.seats i) t → ⊥)
@@ -164,21 +155,14 @@ module _ {O D T N : Type 0} {note : D → N} {Ao : T → O → Type 0} {An : T �
   pub settled : mark_at r.machine.marks (r.machine.reaped % r.machine.positions) ≢ r.machine.reaped + 1 → AreAllBack r.keeper
       → IsSettled r.keeper
   settled other back =
-      let free = none_left back in
-      let all = all_some r.fates (λ t e. let o = r.are_fates.open_is_held t e in free o.0 t o.1) in
-      let reaped = all_reaped r.machine (ring_of r) free other in
-      let long : length r.keeper.notes ≡ length all.0 = sym r.knows.counted.reaped_is ∙ reaped ∙ sym r.are_fates.each_claimed
-      ∙ ap length all.1 ∙ length-map all.0 Some in
+      let reaped = all_reaped r.machine (ring_of r) (none_left back) other in
+      let long = sym r.knows.counted.reaped_is ∙ reaped ∙ sym r.are_fates.each_claimed in
+      let all = all_noted r.fates r.keeper.notes long r.knows.noted in
       record {
         taken = all.0;
-        notes_are = same_notes r.keeper.notes all.0 long (λ t x e. let f = r.knows.noted t x e in (
-          f.0,
-          ap (λ (l : List
-              (Option (ℕ × N))). get_elem? l t) (sym all.1) ∙ f.1,
-        ));
-        seats_are = λ t i x e. (r.are_fates.finished t i x (ap (λ (l : List (Option (ℕ × N))). get_elem? l t) all.1
-            ∙ at_map Some all.0 t (i, x) e)).0;
-        logs_are = λ i memo e. whole_log all.0 all.1 i memo (r.each_seat i (Some memo) e);
+        notes_are = all.1;
+        seats_are = λ t i x e. (r.are_fates.finished t i x (rw all.2 (at_map Some all.0 t (i, x) e))).0;
+        logs_are = λ i memo e. whole_log all.0 all.2 i memo (r.each_seat i (Some memo) e);
       }
 
   -- so once all seats are back, the next ticket is finished only where some was not reaped
