@@ -1,5 +1,5 @@
 -- A keeper between two calls, after each of them.
-use Rattle.std.proofs.Common.{add_assoc, ◌≡◌, ◌≢◌, ℕ, eqb, ◌+◌, ◌-◌, ◌%◌, ◌^◌, ◌<◌, ◌≤◌, List, [], ◌∷◌, ◌++◌, length, drop, refl, sym, ◌∙◌, ap, subst, arith, map}
+use Rattle.std.proofs.Common.{ap₂, add_assoc, ◌≡◌, ◌≢◌, ℕ, eqb, ◌+◌, ◌-◌, ◌%◌, ◌^◌, ◌<◌, ◌≤◌, List, [], ◌∷◌, ◌++◌, length, drop, refl, sym, ◌∙◌, ap, subst, arith, map}
 use Rattle.std.proofs.lemmas.List.{append_assoc, length_push, map_push}
 use native.Mathlib.Nat.{add-mod_right, mod-add-mod}
 use mathlib.Core.Option.{none, some-ne-none}
@@ -17,7 +17,7 @@ use Rattle.permit_ring.specs.declared.memo.Slot.TheVariants.{Empty}
 use Rattle.permit_ring.specs.declared.memo.View.{View}
 use Rattle.permit_ring.specs.declared.memo.View.TheVariants.{Keeps}
 use Rattle.permit_ring.specs.declared.ring.Ring.{Ring}
-use Rattle.permit_ring.specs.Calls.{AreOthers, last_word, tried}
+use Rattle.permit_ring.specs.Calls.{AreOthers, last_word, tried, TriesTell}
 use Rattle.permit_ring.specs.Told.{Known, keeper_in, limit_in, positions_in, ready, tried_offer}
 use Rattle.permit_ring.specs.Rule.{Runs}
 use Rattle.permit_ring.specs.Seats.{IsKeeperOf, KeepsInHand, keeper_memo, ring_terms}
@@ -50,11 +50,8 @@ module _ {F O D T N : Type 0} (Ao : T → O → Type 0) (ring : Ring F O D T N) 
     all_ready = ap ready was.in_hand.in_hand ∙ ready_filled O D n memo.offered was.in_hand.values keeper.vacant ∙ was.in_hand.filled_are
 
     -- the ring's sizes are those that its view shows
-    limit_is : limit_in me.0 ≡ ring.limit
-    limit_is = rw was.keeping.keeps was.keeping.ring_is.limit_is
-
-    positions_are : positions_in me.0 ≡ n
-    positions_are = rw was.keeping.keeps was.keeping.ring_is.positions_are
+    sizes_are : (limit_in me.0 ≡ ring.limit) × (positions_in me.0 ≡ n)
+    sizes_are = rw was.keeping.keeps (was.keeping.ring_is.limit_is, was.keeping.ring_is.positions_are)
 
     -- the keeper may try to offer what is filled
     pub offer_allowed : (note : D → N) (An : T → N → Type 0) (id old new : ℕ) → 0 < keeper.filled
@@ -121,7 +118,7 @@ module _ {F O D T N : Type 0} (Ao : T → O → Type 0) (ring : Ring F O D T N) 
             × ((keeper_in place.me.0 ≡ misses ring.limit keeper.filled (keeper_in place.me.0).seen memo) × (keeper.filled ≡ keeper.filled)
             × (field_of ring.limit (keeper_in place.me.0).seen < field_of ring.limit memo.seen))
         missed_keeper word other is =
-            let tells = (rw (limit_is, positions_are, all_ready, was.keeping.keeps, ← is) at told).1 other in
+            let tells = (rw (sizes_are.0, sizes_are.1, all_ready, was.keeping.keeps, ← is) at told).1 other in
             let now : place.me ≡ (Keeps key (misses ring.limit keeper.filled word memo), me.1) = tells.1 in
             (keeper_told _ now (assumption (was, tells)), rw now (refl, refl, tells.3))
 
@@ -130,7 +127,7 @@ module _ {F O D T N : Type 0} (Ao : T → O → Type 0) (ring : Ring F O D T N) 
             → IsKeeperOf Ao ring (record keeper { place = place; seen = offered_to keeper.seen keeper.filled; filled = 0 })
             × (keeper_in place.me.0 ≡ offers_all ring.limit keeper.filled memo)
         offered_keeper same =
-            let tells = (rw (limit_is, positions_are, all_ready, was.keeping.keeps) at told).0 same in
+            let tells = (rw (sizes_are.0, sizes_are.1, all_ready, was.keeping.keeps) at told).0 same in
             let now : place.me ≡ (Keeps key (offers_all ring.limit keeper.filled memo), drop keeper.filled me.1) = tells.0 in
             let account = was.account in
             let hand = was.in_hand in
@@ -166,8 +163,13 @@ missed_all limit count missed k = record k {
   moves = k.moves ++ map (tried limit count) missed;
 }
 
+-- some tries that each found another word than the one known before
+abbrev pub Missed : {N : Type 0} → ℕ → ℕ → KeeperMemo N → ℕ → KeeperMemo N → Type 0
+Missed limit count old tries now = (missed : List PermitWord) × (tries ≡ length missed + 1) × AreOthers old.seen missed
+    × (now ≡ missed_all limit count missed old)
+
 -- one more word that is another than the last
-pub others-more : (word next : PermitWord) (missed : List PermitWord) → AreOthers word missed → next ≢ last_word word missed
+others-more : (word next : PermitWord) (missed : List PermitWord) → AreOthers word missed → next ≢ last_word word missed
     → AreOthers word (missed ++ next ∷ [])
 others-more word next [] others other = (other, tt)
 others-more word next (first ∷ missed) others other = (others.0, others-more first next missed others.1 other)
@@ -176,18 +178,28 @@ last-more : (word next : PermitWord) (missed : List PermitWord) → last_word wo
 last-more word next [] = refl
 last-more word next (first ∷ missed) = last-more first next missed
 
--- one more
-pub missed-more : {N : Type 0} (limit count : ℕ) (missed : List PermitWord) (word : PermitWord) (k : KeeperMemo N)
-    → misses limit count word (missed_all limit count missed k) ≡ missed_all limit count (missed ++ word ∷ []) k
-missed-more limit count missed word k = simp (last-more, length_push, map_push, append_assoc, add_assoc)
+module _ {N : Type 0} (limit count filled tries : ℕ) (old now new : KeeperMemo N) (was : Missed limit count old tries now)
+    (same : filled ≡ count) where
+  -- one more
+  pub one_more_missed : new ≡ misses limit filled new.seen now → field_of limit new.seen < field_of limit now.seen
+      → Missed limit count old (tries + 1) new
+  one_more_missed is falls =
+      let tried_so = was.1 in
+      let more = length_push was.0 new.seen in
+      let last : now.seen ≡ last_word old.seen was.0 = ap (λ (k : KeeperMemo N). k.seen) was.3 in
+      let other : new.seen ≢ last_word old.seen was.0 = λ e. omega (arith, ap (field_of limit) (e ∙ sym last), falls) in (
+        was.0 ++ new.seen ∷ [],
+        omega arith,
+        others-more old.seen new.seen was.0 was.2 other,
+        is ∙ ap₂ (λ (n : ℕ) (k : KeeperMemo N). misses limit n new.seen k) same was.3
+            ∙ simp (last-more, length_push, map_push, append_assoc, add_assoc),
+      )
 
--- and the one that succeeds
-pub offer_ends : {N : Type 0} (limit count tries : ℕ) (missed : List PermitWord) (k : KeeperMemo N) → tries ≡ length missed + 1
-    → offers_all limit count (missed_all limit count missed k) ≡ record k {
-      fronts = k.fronts ++ (k.offered + count) ∷ [];
-      offered = k.offered + count;
-      offers = k.offers + tries;
-      seen = offered_to (last_word k.seen missed) count;
-      moves = k.moves ++ map (tried limit count) (missed ++ last_word k.seen missed ∷ []);
-    }
-offer_ends limit count tries missed k is = simp (is, map_push, append_assoc, add_assoc)
+  -- and the one that succeeds
+  pub tries_end : new ≡ offers_all limit filled now → TriesTell limit count old tries new
+  tries_end is = (
+    was.0,
+    was.1,
+    was.2,
+    is ∙ ap₂ (λ (n : ℕ) (k : KeeperMemo N). offers_all limit n k) same was.3 ∙ simp (was.1, map_push, append_assoc, add_assoc),
+  )

@@ -33,7 +33,7 @@ module _ {N : Type 0} (n limit : ℕ) where
   first_fates : (Admits : N → Type 0) → IsRing (opening n limit) → AreFates (opening n limit) Admits 0 []
   first_fates Admits ring = record {
     each_claimed = refl;
-    held_is_open = λ i t h. let out = ((ring.seats.each i).held_is_out t h).1 in absurd (omega (arith, out));
+    held_is_open = λ i t h. let out = (ring.seats.each i).held_is_out t h in absurd (omega (arith, out.1));
     open_is_held = λ t e. absurd (some-ne-none _ (sym e));
     finished = λ t i x e. absurd (some-ne-none _ (sym e));
   }
@@ -93,8 +93,7 @@ module _ {O D T N : Type 0} (note : D → N) (Ao : T → O → Type 0) (An : T �
         fates = [];
         keeper = first_memo key.positions;
         are_fates = first_fates key.positions key.limit (An key.terms) ring;
-        are_slots = subst (λ (xs : List (Slot O D)). AreSlots note (Ao key.terms) (opening key.positions key.limit) [] key.positions
-            (map some xs)) (sym are) (first_slots note (Ao key.terms) key.positions key.limit ys long all);
+        are_slots = rw are (first_slots note (Ao key.terms) key.positions key.limit ys long all);
         keeper_there = refl;
         knows = first_keeper key.positions key.limit;
         owner = λ i. 0;

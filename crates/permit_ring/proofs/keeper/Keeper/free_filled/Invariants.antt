@@ -1,8 +1,6 @@
-use Rattle.std.proofs.Common.{◌≡◌, ◌+◌, ◌≤◌, List, length}
-use Rattle.ring_core.specs.declared.word.PermitWord.{PermitWord}
+use Rattle.std.proofs.Common.{◌≡◌, ◌+◌, ◌≤◌}
 use Rattle.ring_core.specs.Words.{field_of}
-use Rattle.permit_ring.proofs.Keepers.{missed_all}
-use Rattle.permit_ring.specs.Calls.{AreOthers}
+use Rattle.permit_ring.proofs.Keepers.{Missed}
 use Rattle.permit_ring.specs.Seats.{IsKeeperOf, keeper_memo}
 use Rattle.permit_ring.proofs.keeper.Keeper.free_filled.Given as goal
 
@@ -11,8 +9,7 @@ invariant-loop-tries g l =
     IsKeeperOf g.F.Freight.admits_offered l.ring l.self
     × (l.self.filled ≡ l.initial.self.filled)
     × (l.self.vacant ≡ l.initial.self.vacant)
-    × ((missed : List PermitWord) × (l.tries ≡ length missed + 1) × AreOthers (keeper_memo l.initial.self).seen missed
-    × (keeper_memo l.self ≡ missed_all l.ring.limit l.initial.self.filled missed (keeper_memo l.initial.self)))
+    × Missed l.ring.limit l.initial.self.filled (keeper_memo l.initial.self) l.tries (keeper_memo l.self)
     × (l.tries + field_of l.ring.limit (keeper_memo l.self).seen ≤ l.ring.positions + l.ring.limit + 1)
 
 abbrev pub decreases-loop-tries : goal.decreases-loop-tries
