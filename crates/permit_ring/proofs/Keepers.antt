@@ -91,8 +91,8 @@ module _ {F O D T N : Type 0} (Ao : T → O → Type 0) (ring : Ring F O D T N) 
             in_hand = rw hand.in_hand (hand-reaped O D n memo.offered hand.values keeper.vacant keeper.next
                 (rw (turn, add-mod_right) was.next_is));
           } in
-          keeper_told _ told
-          (assumption (was, reaped, more, slots, next_is ∙ ap (λ (t : ℕ). (t + 1) % n) was.next_is ∙ mod-add-mod keeper.reaped n 1))
+          let position = next_is ∙ ap (λ (t : ℕ). (t + 1) % n) was.next_is ∙ mod-add-mod keeper.reaped n 1 in
+          keeper_told _ told (assumption (was, reaped, more, slots, position))
 
       -- after a refill
       pub refilled_keeper : (vacancy : ℕ) → 0 < keeper.vacant → place.me.0 ≡ me.0 → vacancy ≡ (keeper.vacancy + 1) % n
@@ -103,13 +103,9 @@ module _ {F O D T N : Type 0} (Ao : T → O → Type 0) (ring : Ring F O D T N) 
           let less : memo.offered + (keeper.filled + 1) + (keeper.vacant - 1) ≡ keeper.reaped + n = omega arith in
           let sum : memo.offered + keeper.filled + 1 ≡ memo.offered + (keeper.filled + 1) = omega arith in
           let told : place.me ≡ (me.0, place.me.1) = λ i. (same i, place.me.1) in
-          keeper_told _ told (assumption (
-            was,
-            less,
-            hand,
-            is ∙ ap (λ (t : ℕ). (t + 1) % n) was.vacancy_is
-                ∙ mod-add-mod (memo.offered + keeper.filled) n 1 ∙ ap (λ (t : ℕ). t % n) sum,
-          ))
+          let position = is ∙ ap (λ (t : ℕ). (t + 1) % n) was.vacancy_is ∙ mod-add-mod (memo.offered + keeper.filled) n 1
+          ∙ ap (λ (t : ℕ). t % n) sum in
+          keeper_told _ told (assumption (was, less, hand, position))
 
       module _ (old found : ℕ) (told : tried_offer (step 0 0 old 0 none) me found place.me) where
         -- after a try that found another word
@@ -142,18 +138,10 @@ module _ {F O D T N : Type 0} (Ao : T → O → Type 0) (ring : Ring F O D T N) 
               filled_are = refl;
               admitted = λ j y e. absurd (some-ne-none y (sym e));
               in_hand = rw (hand.in_hand, ← filled) (hand-offered O D n memo.offered hand.values keeper.vacant);
-            } in (
-              keeper_told _ now (assumption (
-                was,
-                seen,
-                rw (← was.seen_is) at tells.1,
-                reaped,
-                all,
-                slots,
-                was.vacancy_is ∙ ap (λ (t : ℕ). t % n) none_more,
-              )),
-              rw now refl,
-            )
+            } in
+            let packs = rw (← was.seen_is) at tells.1 in
+            let position = was.vacancy_is ∙ ap (λ (t : ℕ). t % n) none_more in
+            (keeper_told _ now (assumption (was, seen, packs, reaped, all, slots, position)), rw now refl)
 
 -- the keeper after tries that each found another word
 abbrev pub missed_all : {N : Type 0} → ℕ → ℕ → List PermitWord → KeeperMemo N → KeeperMemo N

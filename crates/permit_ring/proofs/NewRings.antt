@@ -73,8 +73,7 @@ module _ {O D T N : Type 0} (note : D → N) (Ao : T → O → Type 0) (An : T �
   -- the keeper alone is there
   only_keeper : (port : ℕ) (v : View T N) → get_elem? (first_view key ∷ []) port ≡ some v
       → IsViewAt key (opening key.positions key.limit) [] [] (first_memo key.positions) (first_view key ∷ []) (λ i. 0) port v
-  only_keeper zero v e = subst (IsViewAt key (opening key.positions key.limit) [] [] (first_memo key.positions)
-      (first_view key ∷ []) (λ i. 0) 0) (some-injective (first_view key) v e) refl
+  only_keeper zero v e = rw (← some-injective (first_view key) v e) refl
   only_keeper (suc port) v e = absurd (some-ne-none v (sym e))
 
   -- a ring whose slots have admitted values, and whose words are those of the opening state, runs

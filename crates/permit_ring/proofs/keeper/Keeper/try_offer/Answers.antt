@@ -11,30 +11,19 @@ compare_exchange-found-requires g c =
       offer_allowed _ _ _ mine f.note f.admits_note _ _ _ c.requires.some c.pack-old.ensures.number c.pack-new.ensures.number,
     )
 
-pub returns-then-found-old-clause-mine : goal.returns-then-found-old-clause-mine
-returns-then-found-old-clause-mine g c =
+pub returns-then-found-old : goal.returns-then-found-old
+returns-then-found-old g c =
     let mine = c.requires.mine in
     let tried = c.compare_exchange-found.ensures in
     let at = tried.0 ∙ mine.keeping.at_table in
-    (missed_keeper _ _ _ mine _ at _ _ tried.2 _ c.if-found-old.true c.unpack-self.ensures.word).0
+    let word = c.unpack-self.ensures.word in
+    let missed = missed_keeper _ _ _ mine c.compare_exchange-found.new.seat at _ _ tried.2 _ c.if-found-old.true word in
+    record { mine = missed.0; hit = search rules; missed = λ _. missed.1; vacant = refl }
 
-pub returns-then-found-old-clause-missed : goal.returns-then-found-old-clause-missed
-returns-then-found-old-clause-missed g c =
+pub returns : goal.returns
+returns g c =
     let mine = c.requires.mine in
     let tried = c.compare_exchange-found.ensures in
     let at = tried.0 ∙ mine.keeping.at_table in
-    let seat = c.compare_exchange-found.new.seat in
-    λ _. (missed_keeper _ _ _ mine seat at _ _ tried.2 _ c.if-found-old.true c.unpack-self.ensures.word).1
-
-pub returns-clause-mine : goal.returns-clause-mine
-returns-clause-mine g c =
-    let mine = c.requires.mine in
-    let tried = c.compare_exchange-found.ensures in
-    (offered_keeper _ _ _ mine _ (tried.0 ∙ mine.keeping.at_table) _ _ tried.2 c.if-found-old.false).0
-
-pub returns-clause-hit : goal.returns-clause-hit
-returns-clause-hit g c =
-    let mine = c.requires.mine in
-    let tried = c.compare_exchange-found.ensures in
-    let seat = c.compare_exchange-found.new.seat in
-    λ _. ((offered_keeper _ _ _ mine seat (tried.0 ∙ mine.keeping.at_table) _ _ tried.2 c.if-found-old.false).1, refl)
+    let hit = offered_keeper _ _ _ mine c.compare_exchange-found.new.seat at _ _ tried.2 c.if-found-old.false in
+    record { mine = hit.0; hit = λ _. (hit.1, refl); missed = search rules; vacant = refl }
