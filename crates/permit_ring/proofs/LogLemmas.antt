@@ -4,9 +4,7 @@ use Rattle.std.proofs.lemmas.Bool.{ltb-false, lt-ltb, le-ltb}
 use mathlib.Core.Option.{some, some-injective, some-ne-none}
 use lib.ListN.{get_elem?}
 use Rattle.atomic_table.proofs.Lists.{at_snoc}
-use Rattle.ring_core.specs.declared.word.PermitWord.{PermitWord}
-use Rattle.permit_ring.specs.declared.memo.Outcome.{Outcome}
-use Rattle.permit_ring.specs.declared.memo.Outcome.TheVariants.{Lost, Got}
+use Rattle.permit_ring.specs.Names.{PermitWord, Outcome, Lost, Got}
 use Rattle.permit_ring.specs.Logs.{start_of, end_of, RisesFrom, end_from, got_of, taken_by}
 use Rattle.permit_ring.specs.Rule.{StandsIn}
 use Rattle.permit_ring.specs.Steps.{and_lost}

@@ -2,13 +2,12 @@
 use Rattle.std.proofs.Common.{◌≡◌, ℕ, Bool, true, false, cond, List, [], ◌∷◌, ◌++◌, Some, refl, sym, ◌∙◌, ap, subst}
 use Rattle.std.proofs.lemmas.List.{append-nil}
 use Rattle.std.proofs.lemmas.List.Elements.{filter-append}
-use Rattle.ring_core.specs.declared.step.Step.{Step}
 use Rattle.ring_core.specs.Machine.{HasSizes, Machine, possible, after, next}
 use Rattle.ring_core.specs.Sound.{IsRing}
 use Rattle.ring_core.proofs.RingLaws.{step_of_next}
 use Rattle.ring_core.proofs.Runs.{after_keeps}
 use Rattle.ring_core.proofs.Sizes.{after_sizes, same_sizes, sizes_on}
-use Rattle.permit_ring.specs.declared.memo.Move.{Move}
+use Rattle.permit_ring.specs.Names.{Step, Move}
 use Rattle.permit_ring.specs.Moves.{found_at, move, Leads, is_of_seat, is_of_keeper, by_seat, by_keeper}
 use Rattle.permit_ring.specs.Steps.{and_move}
 

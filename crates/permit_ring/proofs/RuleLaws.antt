@@ -6,18 +6,10 @@ use native.Mathlib.Nat.{add-mod_right}
 use mathlib.Core.Option.{some, none, some-injective, some-ne-none}
 use lib.ListN.{get_elem?}
 use Rattle.atomic_table.specs.Table.{State}
-use Rattle.ring_core.specs.declared.seat.SeatView.{SeatView}
 use Rattle.ring_core.specs.Machine.{new_seat, seat_at}
 use Rattle.ring_core.specs.Sound.{Holds}
 use Rattle.ring_core.proofs.SeatLemmas.{live_is_made, none_held}
-use Rattle.permit_ring.specs.declared.memo.Key.{Key}
-use Rattle.permit_ring.specs.declared.memo.KeeperMemo.{KeeperMemo}
-use Rattle.permit_ring.specs.declared.memo.Outcome.TheVariants.{Lost, Got}
-use Rattle.permit_ring.specs.declared.memo.SeatMemo.{SeatMemo}
-use Rattle.permit_ring.specs.declared.memo.Slot.{Slot}
-use Rattle.permit_ring.specs.declared.memo.Slot.TheVariants.{Offered, Finished}
-use Rattle.permit_ring.specs.declared.memo.View.{View}
-use Rattle.permit_ring.specs.declared.memo.View.TheVariants.{Sits, Keeps}
+use Rattle.permit_ring.specs.Names.{SeatView, Key, KeeperMemo, Lost, Got, SeatMemo, Slot, Offered, Finished, View, Sits, Keeps}
 use Rattle.permit_ring.specs.Places.{ShowsRing, SitsThere, CameBack, IsMemoThere, IsHeldOnce, IsLoggedOnce, HasOnePlace, IsNotedAs, IsInOrder, IsAdmittedSlot, IsOneSeats}
 use Rattle.permit_ring.specs.Rule.{Home, IsSlot, IsSeatMemo, IsSomewhere, Runs, HasFinished, HasOffered, IsOut}
 use Rattle.permit_ring.proofs.States.{one_memo, ring_of, one_turn_ahead, keeper_port, at_own_port, is_live, knows_it, not_ended}

@@ -7,19 +7,12 @@ use mathlib.Core.Option as maybe
 use lib.ListN.{get_elem?}
 use Rattle.atomic_table.proofs.Lists.{at_set, set_here, set_else}
 use Rattle.atomic_table.specs.Table.{State}
-use Rattle.ring_core.specs.declared.seat.SeatView.{SeatView}
 use Rattle.ring_core.specs.Machine.{HasSizes, Machine, opening, seat_at}
 use Rattle.ring_core.proofs.SeatLemmas.{SameHolders}
 use Rattle.ring_core.proofs.Turns.{same_position}
 use Rattle.ring_core.specs.Sound.{IsRing}
 use Rattle.ring_core.proofs.Opens.{opens}
-use Rattle.permit_ring.specs.declared.memo.Key.{Key}
-use Rattle.permit_ring.specs.declared.memo.KeeperMemo.{KeeperMemo}
-use Rattle.permit_ring.specs.declared.memo.Move.{Move}
-use Rattle.permit_ring.specs.declared.memo.SeatMemo.{SeatMemo}
-use Rattle.permit_ring.specs.declared.memo.Slot.{Slot}
-use Rattle.permit_ring.specs.declared.memo.View.{View}
-use Rattle.permit_ring.specs.declared.memo.View.TheVariants.{Sits, Keeps, Spent}
+use Rattle.permit_ring.specs.Names.{SeatView, Key, KeeperMemo, Move, SeatMemo, Slot, View, Sits, Keeps, Spent}
 use Rattle.permit_ring.specs.Logs.{taken_by}
 use Rattle.permit_ring.specs.Moves.{Leads, by_seat}
 use Rattle.permit_ring.specs.Rule.{words_of, StandsIn, AreFates, Home, IsSlot, AreSlots, IsSeatMemo, IsKeeperMemo, IsViewAt, IsSomewhere, Runs}

@@ -1,15 +1,11 @@
 -- What the calls of seats and of the keeper do, as equations on what they know.
 use Rattle.std.specs.Prelude.{◌≡◌, ◌≢◌, ℕ, ◌+◌, ◌<◌, ◌⊎◌, List, [], ◌∷◌, ◌++◌, map, length, Option, Some, None, Result, Ok, Err}
 use Rattle.ids_types.specs.declared.names.Ticket.{Ticket}
-use Rattle.ring_core.specs.declared.step.Step.TheVariants.{Offer}
-use Rattle.ring_core.specs.declared.word.PermitWord.{PermitWord}
 use Rattle.ring_core.specs.Machine.{offered_to}
 use Rattle.ring_core.specs.Words.{packed}
 use Rattle.permit_ring.specs.declared.answer.Look.{Look as Shown}
 use Rattle.permit_ring.specs.declared.answer.Unready.{Unready}
-use Rattle.permit_ring.specs.declared.memo.KeeperMemo.{KeeperMemo}
-use Rattle.permit_ring.specs.declared.memo.Move.{Move}
-use Rattle.permit_ring.specs.declared.memo.SeatMemo.{SeatMemo}
+use Rattle.permit_ring.specs.Names.{Offer, PermitWord, KeeperMemo, Move, SeatMemo}
 use Rattle.permit_ring.specs.Moves.{move}
 use Rattle.permit_ring.specs.Steps.{looks, claims, waits, reaps, reads}
 

@@ -3,9 +3,7 @@ use Rattle.std.specs.Prelude.{◌≡◌, ℕ, zero, suc, ◌<◌, ◌≤◌, Lis
 use mathlib.Core.Option.{some}
 use lib.ListN.{get_elem?}
 use Rattle.ring_core.specs.Machine.{marks_of}
-use Rattle.permit_ring.specs.declared.memo.KeeperMemo.{KeeperMemo}
-use Rattle.permit_ring.specs.declared.memo.SeatMemo.{SeatMemo}
-use Rattle.permit_ring.specs.declared.memo.Outcome.TheVariants.{Lost}
+use Rattle.permit_ring.specs.Names.{KeeperMemo, SeatMemo, Lost}
 use Rattle.permit_ring.specs.Logs.{RisesFrom, end_from, got_of, taken_by}
 use Rattle.permit_ring.specs.Rule.{StandsIn}
 

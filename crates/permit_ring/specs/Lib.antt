@@ -4,6 +4,7 @@ pub mod Hands
 pub mod Logs
 pub mod Making
 pub mod Moves
+pub mod Names
 pub mod Places
 pub mod Rule
 pub mod Seats

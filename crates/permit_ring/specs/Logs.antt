@@ -1,10 +1,7 @@
 -- What became of the calls of a seat, and of the tickets of a ring.
 use Rattle.std.specs.Prelude.{◌≡◌, ℕ, suc, ◌+◌, ◌≤◌, ◌==◌, ◌||◌, is_some, if◌then◌else◌, List, [], ◌∷◌, length, Option, Some, None}
-use Rattle.ring_core.specs.declared.seat.SeatView.{SeatView}
 use Rattle.ring_core.specs.Sound.{Holds}
-use Rattle.permit_ring.specs.declared.memo.Outcome.{Outcome}
-use Rattle.permit_ring.specs.declared.memo.Outcome.TheVariants.{Lost, Got}
-use Rattle.permit_ring.specs.declared.memo.SeatMemo.{SeatMemo}
+use Rattle.permit_ring.specs.Names.{SeatView, Outcome, Lost, Got, SeatMemo}
 
 module _ {N : Type 0} where
   -- a lost call stands where the claims were then, and a call that got a ticket at its ticket

@@ -4,16 +4,7 @@ use mathlib.Core.Option.{some}
 use lib.ListN.{get_elem?}
 use Rattle.ring_core.specs.Machine.{Machine, opening}
 use Rattle.ring_core.specs.Sound.{Holds, IsRing}
-use Rattle.permit_ring.specs.declared.memo.Key.{Key}
-use Rattle.permit_ring.specs.declared.memo.KeeperMemo.{KeeperMemo}
-use Rattle.permit_ring.specs.declared.memo.Move.{Move}
-use Rattle.permit_ring.specs.declared.memo.Outcome.{Outcome}
-use Rattle.permit_ring.specs.declared.memo.Outcome.TheVariants.{Lost, Got}
-use Rattle.permit_ring.specs.declared.memo.SeatMemo.{SeatMemo}
-use Rattle.permit_ring.specs.declared.memo.Slot.{Slot}
-use Rattle.permit_ring.specs.declared.memo.Slot.TheVariants.{Empty, Offered, Finished}
-use Rattle.permit_ring.specs.declared.memo.View.{View}
-use Rattle.permit_ring.specs.declared.memo.View.TheVariants.{Sits, Keeps}
+use Rattle.permit_ring.specs.Names.{Key, KeeperMemo, Move, Outcome, Lost, Got, SeatMemo, Slot, Empty, Offered, Finished, View, Sits, Keeps}
 use Rattle.permit_ring.specs.Logs.{start_of, end_of}
 use Rattle.permit_ring.specs.Moves.{Leads}
 use Rattle.permit_ring.specs.Rule.{words_of}

@@ -6,17 +6,8 @@ use lib.ListN.{get_elem?}
 use Rattle.atomic_table.specs.Table.{State}
 use Rattle.ring_core.specs.Machine.{Machine, opening, new_seat, seat_at}
 use Rattle.ring_core.specs.Sound.{Holds}
-use Rattle.ring_core.specs.declared.word.PermitWord.{PermitWord}
 use Rattle.ring_core.specs.Words.{packed}
-use Rattle.permit_ring.specs.declared.memo.Key.{Key}
-use Rattle.permit_ring.specs.declared.memo.KeeperMemo.{KeeperMemo}
-use Rattle.permit_ring.specs.declared.memo.Move.{Move}
-use Rattle.permit_ring.specs.declared.memo.Outcome.TheVariants.{Lost}
-use Rattle.permit_ring.specs.declared.memo.SeatMemo.{SeatMemo}
-use Rattle.permit_ring.specs.declared.memo.Slot.{Slot}
-use Rattle.permit_ring.specs.declared.memo.Slot.TheVariants.{Offered, Finished}
-use Rattle.permit_ring.specs.declared.memo.View.{View}
-use Rattle.permit_ring.specs.declared.memo.View.TheVariants.{Sits, Keeps, Spent}
+use Rattle.permit_ring.specs.Names.{PermitWord, Key, KeeperMemo, Move, Lost, SeatMemo, Slot, Offered, Finished, View, Sits, Keeps, Spent}
 use Rattle.permit_ring.specs.Logs.{IsOrdered, end_from, got_of, taken_by}
 use Rattle.permit_ring.specs.Moves.{Leads, by_seat, by_keeper}
 use Rattle.permit_ring.specs.Steps.{first_memo}

@@ -2,14 +2,8 @@
 use Rattle.std.specs.Prelude.{◌≡◌, ℕ, ◌+◌, ◌%◌, ◌^◌, ◌≤◌, true, false, List, [], ◌∷◌, length, Option, Some, None}
 use Rattle.atomic_table.specs.declared.shared.Seat.{Seat as Token}
 use Rattle.ids_types.specs.declared.names.Ticket.{Ticket}
-use Rattle.ring_core.specs.declared.seat.Ticket0.{Ticket0}
 use Rattle.permit_ring.specs.declared.keeper.Keeper.{Keeper}
-use Rattle.permit_ring.specs.declared.memo.KeeperMemo.{KeeperMemo}
-use Rattle.permit_ring.specs.declared.memo.SeatMemo.{SeatMemo}
-use Rattle.permit_ring.specs.declared.memo.Slot.{Slot}
-use Rattle.permit_ring.specs.declared.memo.Slot.TheVariants.{Offered}
-use Rattle.permit_ring.specs.declared.memo.View.{View}
-use Rattle.permit_ring.specs.declared.memo.View.TheVariants.{Sits, Keeps}
+use Rattle.permit_ring.specs.Names.{Ticket0, KeeperMemo, SeatMemo, Slot, Offered, View, Sits, Keeps}
 use Rattle.permit_ring.specs.declared.ring.Ring.{Ring}
 use Rattle.permit_ring.specs.declared.seat.Seat.{Seat}
 use Rattle.permit_ring.specs.Hands.{hand_from, filled_then, AllAdmitted}

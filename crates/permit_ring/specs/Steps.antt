@@ -1,16 +1,8 @@
 -- What each step adds to what its seat or the keeper knows.
 use Rattle.std.specs.Prelude.{ℕ, ◌+◌, false, nat_lt, ◌==◌, if◌then◌else◌, List, [], ◌∷◌, ◌++◌, slice_set, Option, Some, None, zero, suc}
-use Rattle.ring_core.specs.declared.seat.Ticket0.{Ticket0}
-use Rattle.ring_core.specs.declared.step.Step.{Step}
-use Rattle.ring_core.specs.declared.step.Step.TheVariants.{Look, Claim, Finish, See, Read, Offer, Mark, Sweep, Split, Join}
-use Rattle.ring_core.specs.declared.word.PermitWord.{PermitWord}
 use Rattle.ring_core.specs.Machine.{new_seat, looked, served, marked, offered_to, all_free}
 use Rattle.ring_core.specs.Words.{packed}
-use Rattle.permit_ring.specs.declared.memo.KeeperMemo.{KeeperMemo}
-use Rattle.permit_ring.specs.declared.memo.Move.{Move}
-use Rattle.permit_ring.specs.declared.memo.Outcome.{Outcome}
-use Rattle.permit_ring.specs.declared.memo.Outcome.TheVariants.{Lost, Got}
-use Rattle.permit_ring.specs.declared.memo.SeatMemo.{SeatMemo}
+use Rattle.permit_ring.specs.Names.{Ticket0, Step, Look, Claim, Finish, See, Read, Offer, Mark, Sweep, Split, Join, PermitWord, KeeperMemo, Move, Outcome, Lost, Got, SeatMemo}
 use Rattle.permit_ring.specs.Moves.{move}
 
 -- one move more

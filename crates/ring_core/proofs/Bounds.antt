@@ -1,7 +1,7 @@
 -- The numbers of a ring are small: each fits far below 64 bits.
-use Rattle.std.proofs.Common.{ℕ, suc, ◌+◌, ◌*◌, ◌^◌, ◌≤◌, List, [], ◌∷◌, length, sum_by, sym, subst, suc-mul, arith}
+use Rattle.std.proofs.Common.{ℕ, suc, ◌+◌, ◌*◌, ◌^◌, ◌≤◌, List, [], ◌∷◌, length, sum_by, suc-mul, arith}
 use Rattle.std.proofs.lemmas.List.Sums.{sum_by-cons}
-use Rattle.ring_core.specs.declared.seat.SeatView.{SeatView}
+use Rattle.ring_core.specs.Names.{SeatView}
 use Rattle.ring_core.specs.Machine.{Machine, seat_at}
 use Rattle.ring_core.specs.Sound.{IsRing}
 
@@ -10,20 +10,13 @@ sum_within : (f : SeatView → ℕ) (most : ℕ) (seats : List SeatView) → ((i
     → sum_by f seats ≤ length seats * most
 sum_within f most [] each = omega arith
 sum_within f most (seat ∷ seats) each =
-    let here : f seat ≤ most = each 0 in
+    let here = each 0 in
     let rest = sum_within f most seats (λ i. each (suc i)) in
-    let step = sum_by-cons f seat seats in
-    let grown = suc-mul (length seats) most in
-    omega (arith, here, rest, step, grown)
+    omega (arith, sum_by-cons f seat seats, suc-mul (length seats) most)
 
 -- a sum over the seats of a ring is at most 2^45
 pub ring_sum_within : (m : Machine) → IsRing m → (f : SeatView → ℕ) → ((i : ℕ) → f (seat_at m.seats i) ≤ 2 ^ 40) → sum_by f m.seats ≤ 2 ^ 45
-ring_sum_within m r f each =
-    let sum = sum_within f (2 ^ 40) m.seats each in
-    let made = r.seats.made_within in
-    let limit = r.sizes.most_seats in
-    let few : length m.seats ≤ 32 = omega (arith, made, limit) in
-    omega (arith, sum, few)
+ring_sum_within m r f each = let few : length m.seats ≤ 32 = omega arith in omega (arith, sum_within f (2 ^ 40) m.seats each)
 
 -- bounds of the numbers of a ring
 pub record AreSmall (m : Machine) : Type 0 where
@@ -38,22 +31,14 @@ pub record AreSmall (m : Machine) : Type 0 where
 pub small : (m : Machine) → IsRing m → AreSmall m
 small m r =
     let calls = ring_sum_within m r (λ (s : SeatView). s.calls) (λ i. (r.seats.each i).calls_within) in
-    let had = r.seats.each_had_a_call in
-    let reaped = r.permits.reaped_claimed in
-    let account = r.permits.account in
-    let free = r.permits.free_within in
-    let armed = r.seats.armed_within in
-    let most = r.sizes.most_positions in
-    let seats = r.sizes.most_seats in
-    let claims : m.word.claimed ≤ 2 ^ 45 = omega (arith, calls, had) in
+    let marks0 = ring_sum_within m r (λ (s : SeatView). s.marks0) (λ i. (r.seats.each i).marks0_within) in
+    let marks1 = ring_sum_within m r (λ (s : SeatView). s.marks1) (λ i. (r.seats.each i).marks1_within) in
     record {
-      claimed = claims;
-      over = omega (arith, armed, seats);
-      free = omega (arith, free, most);
-      reaped = omega (arith, claims, reaped);
-      offered = omega (arith, claims, account, free, most);
-      loss0 = subst (λ (k : ℕ). k ≤ 2 ^ 45) (sym r.loss0) (ring_sum_within m r (λ (s : SeatView). s.marks0)
-          (λ i. (r.seats.each i).marks0_within));
-      loss1 = subst (λ (k : ℕ). k ≤ 2 ^ 45) (sym r.loss1) (ring_sum_within m r (λ (s : SeatView). s.marks1)
-          (λ i. (r.seats.each i).marks1_within));
+      claimed = omega arith;
+      over = omega arith;
+      free = omega arith;
+      reaped = omega arith;
+      offered = omega arith;
+      loss0 = omega arith;
+      loss1 = omega arith;
     }

@@ -1,18 +1,11 @@
 -- The keeper's sees, reads and offers keep what holds of a ring.
-use Rattle.std.proofs.Common.{◌≡◌, ◌≢◌, ℕ, ◌+◌, ◌%◌, ◌<◌, ◌≤◌, Bool, true, false, cond, nat_le, length, get_or, refl, sym, ◌∙◌, subst, inr, arith, mod-lt}
+use Rattle.std.proofs.Common.{◌≡◌, ◌≢◌, ℕ, ◌+◌, ◌%◌, ◌≤◌, Bool, true, false, cond, nat_le, sym, subst, refl, inr, arith, mod-lt}
 use Rattle.std.proofs.lemmas.Bool.{and_parts, eqb-true, leb-true}
-use Rattle.std.proofs.lemmas.Grind.{get_or_default_zero}
-use Rattle.ring_core.specs.declared.step.Step.TheVariants.{See, Read, Offer}
+use Rattle.ring_core.specs.Names.{See, Read, Offer}
 use Rattle.ring_core.specs.Machine.{Machine, seat_at, mark_at, next_is_finished, same_word, offered_to, possible, after}
 use Rattle.ring_core.specs.Sound.{IsRing, IsSeat, IsFinished, Holds}
 
 module _ (m : Machine) (r : IsRing m) where
-  -- the next ticket where its mark is set
-  next_finished : mark_at m.marks (m.reaped % m.positions) ≡ m.reaped + 1
-      → IsFinished m.positions m.word.claimed m.seats (m.reaped % m.positions) m.reaped
-  next_finished e = let some = r.sizes.some_position in (r.marks (m.reaped % m.positions)
-      (mod-lt m.reaped (omega (arith, some)))).just_above m.reaped e
-
   -- the next ticket is finished, so no seat holds it
   seen_seat : IsFinished m.positions m.word.claimed m.seats (m.reaped % m.positions) m.reaped → (i : ℕ)
       → IsSeat (m.reaped + 1) m.word.claimed (seat_at m.seats i)
@@ -23,25 +16,23 @@ module _ (m : Machine) (r : IsRing m) where
     held_is_out = λ t h.
         let out = s.held_is_out t h in
         let other : m.reaped ≢ t = λ same. f.held_by_none i (subst (λ (u : ℕ). Holds (seat_at m.seats i) u) (sym same) h) in
-        (omega (arith, out.0, other), out.1);
+        (omega arith, out.1);
     calls_within = s.calls_within;
     marks0_within = s.marks0_within;
     marks1_within = s.marks1_within;
   }
 
-  pub see_finished : mark_at m.marks (m.reaped % m.positions) ≡ m.reaped + 1 → IsRing (record m { reaped = m.reaped + 1 })
+  see_finished : mark_at m.marks (m.reaped % m.positions) ≡ m.reaped + 1 → IsRing (record m { reaped = m.reaped + 1 })
   see_finished e =
-      let f = next_finished e in
-      let claimed = f.claimed_before in
-      let turn = r.permits.one_turn_ahead in
+      let f = (r.marks (m.reaped % m.positions) (mod-lt m.reaped (omega arith))).just_above m.reaped e in
       record {
         sizes = r.sizes;
         permits = record {
           account = r.permits.account;
           free_within = r.permits.free_within;
           either = r.permits.either;
-          reaped_claimed = omega (arith, claimed);
-          one_turn_ahead = omega (arith, turn);
+          reaped_claimed = omega arith;
+          one_turn_ahead = omega arith;
         };
         seats = record {
           each = seen_seat f;
@@ -56,20 +47,7 @@ module _ (m : Machine) (r : IsRing m) where
         last = r.last;
       }
 
-  -- the same for the mark as the code reads it
-  pub see_of : (mark : ℕ) → mark ≡ get_or m.marks (m.reaped % m.positions) mark → mark ≡ m.reaped + 1
-      → IsRing (record m { reaped = m.reaped + 1 })
-  see_of mark is next =
-      let some = r.sizes.some_position in
-      let each = r.sizes.a_mark_each in
-      let below : m.reaped % m.positions < m.positions = mod-lt m.reaped (omega (arith, some)) in
-      let there : m.reaped % m.positions < length m.marks = omega (arith, below, each) in
-      see_finished (sym (get_or_default_zero m.marks (m.reaped % m.positions) mark there) ∙ sym is ∙ next)
-
-  abbrev seen_to : Bool → Machine
-  seen_to finished = record m { reaped = cond finished (m.reaped + 1) m.reaped }
-
-  see_either : (finished : Bool) → next_is_finished m ≡ finished → IsRing (seen_to finished)
+  see_either : (finished : Bool) → next_is_finished m ≡ finished → IsRing (record m { reaped = cond finished (m.reaped + 1) m.reaped })
   see_either true e = see_finished (eqb-true (mark_at m.marks (m.reaped % m.positions)) (m.reaped + 1) e)
   see_either false e = r
 
@@ -77,7 +55,7 @@ module _ (m : Machine) (r : IsRing m) where
   see_keeps = see_either (next_is_finished m) refl
 
   pub read_keeps : IsRing (after m Read)
-  read_keeps = let within = r.seats.armed_within in record {
+  read_keeps = record {
     sizes = r.sizes;
     permits = r.permits;
     seats = r.seats;
@@ -88,7 +66,7 @@ module _ (m : Machine) (r : IsRing m) where
       field_falls = omega arith;
       tries_rise = refl;
       free_within = r.permits.free_within;
-      over_within = omega (arith, within);
+      over_within = omega arith;
       either = r.permits.either;
     };
   }
@@ -97,38 +75,30 @@ module _ (m : Machine) (r : IsRing m) where
   abbrev offered : ℕ → Machine
   offered k = record m { word = offered_to m.word k; offered = m.offered + k; seen = offered_to m.word k }
 
-  pub offer_taken : (k : ℕ) → m.offered + k ≤ m.reaped + m.positions → IsRing (offered k)
-  offer_taken k room =
-      let account = r.permits.account in
-      let reaped = r.permits.reaped_claimed in
-      let within : m.word.free + k ≤ m.positions = omega (arith, account, reaped, room) in
-      let armed = r.seats.armed_within in
-      record {
-        sizes = r.sizes;
-        permits = record {
-          account = omega (arith, account);
-          free_within = within;
-          either = inr refl;
-          reaped_claimed = reaped;
-          one_turn_ahead = room;
-        };
-        seats = record {
-          each = r.seats.each;
-          apart = r.seats.apart;
-          made_within = r.seats.made_within;
-          armed_within = omega (arith, armed);
-          each_had_a_call = r.seats.each_had_a_call;
-        };
-        marks = r.marks;
-        loss0 = r.loss0;
-        loss1 = r.loss1;
-        last = record { field_falls = omega arith; tries_rise = refl; free_within = within; over_within = omega arith; either = inr refl };
-      }
+  offer_taken : (k : ℕ) → m.offered + k ≤ m.reaped + m.positions → IsRing (offered k)
+  offer_taken k room = record {
+    sizes = r.sizes;
+    permits = record {
+      account = omega arith;
+      free_within = omega arith;
+      either = inr refl;
+      reaped_claimed = r.permits.reaped_claimed;
+      one_turn_ahead = room;
+    };
+    seats = record {
+      each = r.seats.each;
+      apart = r.seats.apart;
+      made_within = r.seats.made_within;
+      armed_within = omega arith;
+      each_had_a_call = r.seats.each_had_a_call;
+    };
+    marks = r.marks;
+    loss0 = r.loss0;
+    loss1 = r.loss1;
+    last = record { field_falls = omega arith; tries_rise = refl; free_within = omega arith; over_within = omega arith; either = inr refl };
+  }
 
-  abbrev offered_or_not : ℕ → Bool → Machine
-  offered_or_not k same = cond same (offered k) (record m { seen = m.word })
-
-  offer_either : (k : ℕ) → m.offered + k ≤ m.reaped + m.positions → (same : Bool) → IsRing (offered_or_not k same)
+  offer_either : (k : ℕ) → m.offered + k ≤ m.reaped + m.positions → (same : Bool) → IsRing (cond same (offered k) (record m { seen = m.word }))
   offer_either k room true = offer_taken k room
   offer_either k room false = read_keeps
 

@@ -1,4 +1,5 @@
 pub mod Bounds
+pub mod Changes
 pub mod Claims
 pub mod Finishes
 pub mod Keeps

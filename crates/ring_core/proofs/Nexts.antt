@@ -1,9 +1,7 @@
 -- The next state of each kind of step, from what its caller knows.
 use Rattle.std.proofs.Common.{◌≡◌, ◌≢◌, ℕ, ◌+◌, ◌-◌, ◌%◌, ◌^◌, ◌<◌, ◌≤◌, ◌&&◌, Bool, true, false, cond, is_some, Option, Some, None, [], ◌∷◌, ◌++◌, length, set, refl, ◌∙◌, ap, ap₂, arith}
 use Rattle.std.proofs.lemmas.Bool.{lt-ltb, le-ltb, le-leb, eq-eqb, ne_eqb}
-use Rattle.ring_core.specs.declared.seat.Ticket0.{Ticket0}
-use Rattle.ring_core.specs.declared.step.Step.TheVariants.{Look, Claim, Finish, See, Read, Offer, Mark, Sweep, Split, Join}
-use Rattle.ring_core.specs.declared.word.PermitWord.{PermitWord}
+use Rattle.ring_core.specs.Names.{Ticket0, Look, Claim, Finish, See, Read, Offer, Mark, Sweep, Split, Join, PermitWord}
 use Rattle.ring_core.specs.Machine.{Machine, new_seat, seat_at, mark_at, marks_of, marked, loss_at, is_idle, looked, offered_to, with_seat, with_loss, one_more_lost, swept_clean, finished, possible, next}
 use Rattle.ring_core.specs.Sound.{Holds}
 use Rattle.ring_core.proofs.Claims.{vain_after, served_after}

@@ -1,32 +1,17 @@
 -- What holds of a ring holds of one whose positions are all free.
-use Rattle.std.proofs.Common.{◌≡◌, ℕ, zero, suc, ◌≤◌, [], ◌∷◌, refl, sym, subst, inr, arith}
+use Rattle.std.proofs.Common.{ℕ, ◌≤◌, [], ◌∷◌, refl, sym, subst, inr, arith}
+use Rattle.std.proofs.lemmas.Grind.{common_steps}
 use Rattle.std.proofs.lemmas.List.{get_or-replicate, length-replicate}
-use Rattle.ring_core.specs.Machine.{nobody, new_seat, seat_at, opening}
+use Rattle.ring_core.specs.Machine.{nobody, new_seat, opening}
 use Rattle.ring_core.specs.Sound.{IsRing, IsSeat, IsMark}
 use Rattle.ring_core.proofs.Lives.{new_in_order}
-use Rattle.ring_core.proofs.SeatLemmas.{none_held}
+use Rattle.ring_core.proofs.SeatLemmas.{none_held, apart_same, seat_at-push, holders_stay_push}
 
-first_holds_none : (i : ℕ) → (seat_at (new_seat ∷ []) i).held ≡ nobody.held
-first_holds_none zero = refl
-first_holds_none (suc i) = refl
-
-first_in_order : (i : ℕ) → IsSeat 0 0 (seat_at (new_seat ∷ []) i)
-first_in_order zero = new_in_order 0 0
-first_in_order (suc i) = record {
-  armed_is_live = λ e. e;
-  holder_is_live = λ e. e;
-  armed_holds_none = λ _. refl;
-  held_is_out = λ t h. none_held nobody.held t refl h;
-  calls_within = omega arith;
-  marks0_within = omega arith;
-  marks1_within = omega arith;
-}
+nobody_in_order : IsSeat 0 0 nobody
+nobody_in_order = grind (arith, common_steps)
 
 fresh_mark : (n p : ℕ) → IsMark n 0 (new_seat ∷ []) p 0
-fresh_mark n p = record {
-  above_all = λ t f. f.claimed_before;
-  just_above = λ t e. absurd (omega (arith, e));
-}
+fresh_mark n p = record { above_all = λ t f. f.claimed_before; just_above = λ t e. absurd (omega arith) }
 
 pub opens : (n limit : ℕ) → 1 ≤ n → n ≤ 1024 → 1 ≤ limit → limit ≤ 32 → IsRing (opening n limit)
 opens n limit some most one few = record {
@@ -39,8 +24,8 @@ opens n limit some most one few = record {
     one_turn_ahead = omega arith;
   };
   seats = record {
-    each = first_in_order;
-    apart = λ i j t hi hj. none_held (seat_at (new_seat ∷ []) i).held t (first_holds_none i) hi;
+    each = seat_at-push [] (IsSeat 0 0) (λ i. nobody_in_order) (new_in_order 0 0);
+    apart = apart_same [] (new_seat ∷ []) (holders_stay_push []) (λ i j t hi hj. none_held nobody.held t refl hi);
     made_within = one;
     armed_within = omega arith;
     each_had_a_call = omega arith;

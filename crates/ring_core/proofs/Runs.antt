@@ -2,8 +2,7 @@
 use Rattle.std.proofs.Common.{◌≡◌, ℕ, ◌+◌, ◌<◌, ◌≤◌, Bool, true, false, cond, Option, Some, None, IfSome, is_some, Result, Ok, Err, is_err, MatchResult, List, [], ◌∷◌, ◌++◌, length, take, get_or, refl, sym, ◌∙◌, ap, subst}
 use Rattle.std.specs.Option.{option_and_then}
 use Rattle.std.proofs.lemmas.List.{take_more, take_all}
-use Rattle.ring_core.specs.declared.step.Step.{Step}
-use Rattle.ring_core.specs.declared.step.Step.TheVariants.{Look, Claim, Finish, See, Read, Offer, Mark, Sweep, Split, Join}
+use Rattle.ring_core.specs.Names.{Step, Look, Claim, Finish, See, Read, Offer, Mark, Sweep, Split, Join}
 use Rattle.ring_core.specs.Machine.{HasSizes, Machine, opening, possible, after, next}
 use Rattle.ring_core.specs.Runs.{after_all, StopsAt}
 use Rattle.ring_core.specs.Sound.{IsRing}
@@ -39,6 +38,10 @@ if_some m step false ok r = tt
 -- what follows a ring by a step is a ring
 pub next_keeps : (m : Machine) → IsRing m → (step : Step) → IfSome (next m step) IsRing
 next_keeps m r step = if_some m step (possible m step) refl r
+
+-- the same for the state that was reached
+pub step_sound : {m now : Machine} → IsRing m → (step : Step) → next m step ≡ Some now → IsRing now
+step_sound {m = m} r step e = subst (λ (o : Option Machine). IfSome o IsRing) e (next_keeps m r step)
 
 -- and so is what follows it by any list of steps
 steps_keep : (steps : List Step) (now : Option Machine) → IfSome now IsRing

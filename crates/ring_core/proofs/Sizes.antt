@@ -1,7 +1,6 @@
 -- No step changes the sizes of a ring.
 use Rattle.std.proofs.Common.{◌≡◌, ℕ, ◌+◌, zero, suc, Bool, true, false, cond, Result, Ok, Err, refl, ◌∙◌, ap}
-use Rattle.ring_core.specs.declared.step.Step.{Step}
-use Rattle.ring_core.specs.declared.step.Step.TheVariants.{Look, Claim, Finish, See, Read, Offer, Mark, Sweep, Split, Join}
+use Rattle.ring_core.specs.Names.{Step, Look, Claim, Finish, See, Read, Offer, Mark, Sweep, Split, Join}
 use Rattle.ring_core.specs.Machine.{Machine, HasSizes, StepAnswers, same_word, offered_to, after}
 use Rattle.ring_core.proofs.RingLaws.{step_of_next}
 

@@ -1,4 +1,5 @@
 pub mod Machine
+pub mod Names
 pub mod Runs
 pub mod Sound
 pub mod StateView

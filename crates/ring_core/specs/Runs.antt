@@ -3,7 +3,7 @@ use Rattle.std.specs.Prelude.{◌≡◌, ℕ, ◌+◌, ◌<◌, List, [], ◌∷
 use Rattle.std.specs.Option.{option_and_then}
 use Rattle.ring_core.specs.declared.fault.RunFault.{RunFault}
 use Rattle.ring_core.specs.declared.fault.RunFault.TheVariants.{NotPossible, NoMemory}
-use Rattle.ring_core.specs.declared.step.Step.{Step}
+use Rattle.ring_core.specs.Names.{Step}
 use Rattle.ring_core.specs.Machine.{Machine, next}
 
 -- the state after all steps, where each is possible in turn

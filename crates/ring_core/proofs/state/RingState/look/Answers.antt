@@ -1,14 +1,7 @@
-use Rattle.std.proofs.Common.{sym, ◌∙◌, ap}
-use Rattle.ring_core.specs.Machine.{Machine, seat_at}
-use Rattle.ring_core.specs.StateView.{machine_of}
-use Rattle.ring_core.proofs.Looks.{look_of}
+use Rattle.std.proofs.Common.{rules}
+use Rattle.ring_core.specs.Names.{Look}
+use Rattle.ring_core.proofs.Runs.{step_sound}
 use Rattle.ring_core.proofs.state.RingState.look.Goals as goal
 
 pub invariant_of-self : goal.invariant_of-self
-invariant_of-self c =
-    let is = c.seat-view.ensures ∙ sym (ap (λ (m : Machine). seat_at m.seats c.args.seat) c.self.view_is) in
-    let idle = sym c.is_idle.ensures ∙ c.if-not-is_idle.false in
-    record {
-      ring = look_of (machine_of c.self.inside) c.self.invariant.ring c.args.seat c.seat-view.result is idle c.if-view-ge-MOST.false;
-      room = c.self.invariant.room;
-    }
+invariant_of-self c = record { ring = step_sound c.self.invariant.ring (Look c.args.seat) (search rules); room = c.self.invariant.room }

@@ -4,7 +4,7 @@ use Rattle.ring_core.proofs.Bounds.{small}
 use Rattle.ring_core.proofs.state.RingState.sweep.Goals as goal
 
 pub overflow_add-self : goal.overflow_add-self
-overflow_add-self c = let low = (small (machine_of c.self.inside) c.self.invariant.ring).loss0 in omega (arith, low)
+overflow_add-self c = omega (arith, small (machine_of c.self.inside) c.self.invariant.ring)
 
 pub overflow_add-self-else-kind-eq0 : goal.overflow_add-self-else-kind-eq0
-overflow_add-self-else-kind-eq0 c = let low = (small (machine_of c.self.inside) c.self.invariant.ring).loss1 in omega (arith, low)
+overflow_add-self-else-kind-eq0 c = omega (arith, small (machine_of c.self.inside) c.self.invariant.ring)
