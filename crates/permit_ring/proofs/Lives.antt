@@ -1,7 +1,7 @@
 -- Splits and joins keep the rule: the keeper makes one more seat, or takes one back.
-use Rattle.std.proofs.Common.{◌≡◌, ◌≢◌, ℕ, suc, ◌+◌, ◌<◌, Bool, true, false, cond, eqb, List, [], ◌∷◌, ◌++◌, set, length, Option, Some, None, refl, sym, ◌∙◌, ap, ap₂, subst, subst₂, inl, inr, le_refl, eq-eqb, ne_eqb, arith}
+use Rattle.std.proofs.Common.{◌≡◌, ◌≢◌, ℕ, ◌+◌, ◌<◌, Bool, true, false, cond, eqb, List, [], ◌∷◌, ◌++◌, set, length, Option, Some, None, refl, sym, ◌∙◌, ap, ap₂, subst, subst₂, inl, inr, le_refl, eq-eqb, ne_eqb, arith}
 use Rattle.std.proofs.lemmas.List.{length-append, length-set, get_or_append_left, get_or_push}
-use mathlib.Core.Option.{some, some-injective, some-ne-none}
+use mathlib.Core.Option.{some, some-injective}
 use lib.ListN.{get_elem?}
 use Rattle.atomic_table.specs.Table.{State, Joins, Splits}
 use Rattle.atomic_table.proofs.Lists.{at_set, set_here, set_else, at_longer, at_last}
@@ -9,7 +9,7 @@ use Rattle.ring_core.specs.Machine.{Machine, opening, nobody, new_seat, seat_at,
 use Rattle.ring_core.proofs.Nexts.{split_next, join_next}
 use Rattle.ring_core.proofs.SeatLemmas.{SameHolders, holders_stay_push, idle_parts, live_is_made, holders_stay, seat_at-here, seat_at-else}
 use Rattle.permit_ring.specs.Names.{SeatView, Split, Join, Key, KeeperMemo, Move, SeatMemo, Slot, View, Sits, Keeps, Spent}
-use Rattle.permit_ring.specs.Logs.{taken_by}
+use Rattle.permit_ring.proofs.LogLemmas.{taken_none}
 use Rattle.permit_ring.specs.Moves.{Leads, by_seat, by_keeper}
 use Rattle.permit_ring.specs.Told.{join_both, join_spent, split_left, split_right}
 use Rattle.permit_ring.specs.Rule.{IsSeatMemo, IsViewAt, IsSomewhere, Runs}
@@ -17,17 +17,7 @@ use Rattle.permit_ring.specs.Steps.{and_move, ended, new_memo, makes, welcomes}
 use Rattle.permit_ring.proofs.ListLemmas.{at_end, at_length}
 use Rattle.permit_ring.proofs.MoveLemmas.{leads_on, by_seat-else, by_keeper-own}
 use Rattle.permit_ring.proofs.NewRings.{new_ordered}
-use Rattle.permit_ring.proofs.States.{one_memo, seat_stays, fates_stay, slots_stay, keeper_port, not_first, at_own_port, knows_it, sizes_of}
-
--- a seat above all that finished a ticket finished none
-taken_none : {N : Type 0} (i t : ℕ) (fates : List (Option (ℕ × N))) → ((u j : ℕ) (x : N) → get_elem? fates u ≡ some (Some (j, x)) → j < i)
-    → taken_by i t fates ≡ []
-taken_none i t [] below = refl
-taken_none i t (None ∷ fates) below = taken_none i (suc t) fates (λ u j x e. below (suc u) j x e)
-taken_none {N} i t (Some x ∷ fates) below =
-    let less : x.0 < i = below 0 x.0 x.1 refl in
-    ap (λ (b : Bool). cond b ((t, x.1) ∷ taken_by i (suc t) fates) (taken_by i (suc t) fates))
-    (ne_eqb i x.0 (λ e. omega (arith, e, less))) ∙ taken_none i (suc t) fates (λ u j y e. below (suc u) j y e)
+use Rattle.permit_ring.proofs.States.{one_memo, view_stays, somewhere_stays, seat_stays, fates_stay, slots_stay, keeper_port, not_first, at_own_port, knows_it, sizes_of}
 
 -- the seats and the moves after the seat of this number was made
 record IsSplit (made : ℕ) (seats now : List SeatView) (moves then : List Move) : Type 0 where
@@ -41,8 +31,8 @@ record IsSplit (made : ℕ) (seats now : List SeatView) (moves then : List Move)
 first_split : (made : ℕ) (seats : List SeatView) (moves : List Move) → made ≡ 0 → seats ≡ new_seat ∷ []
     → IsSplit made seats seats moves moves
 first_split made seats moves none one = record {
-  grown = ap (λ (k : ℕ). k + 1) none ∙ sym (ap length one);
-  old = λ i below. absurd (omega (arith, below, none));
+  grown = omega (arith, ap length one);
+  old = λ i below. absurd (omega arith);
   new = ap₂ seat_at one none;
   holders = λ j. refl;
   quiet = λ i. refl;
@@ -52,8 +42,8 @@ first_split made seats moves none one = record {
 later_split : (made : ℕ) (seats : List SeatView) (moves : List Move) → made ≡ length seats
     → IsSplit made seats (seats ++ new_seat ∷ []) moves (and_move moves Split 0)
 later_split made seats moves all = record {
-  grown = let grown = length-append seats (new_seat ∷ []) in omega (arith, grown, all);
-  old = λ i below. get_or_append_left seats (new_seat ∷ []) nobody i (omega (arith, below, all));
+  grown = omega (arith, length-append seats (new_seat ∷ []));
+  old = λ i below. get_or_append_left seats (new_seat ∷ []) nobody i (omega arith);
   new = get_or_push seats new_seat nobody made (sym all);
   holders = holders_stay_push seats;
   quiet = λ i. by_seat-else moves Split 0 i refl;
@@ -69,7 +59,7 @@ port_of_new made port owner i e = ap (λ (b : Bool). cond b port (owner i)) (eq-
 
 -- and each other where it was
 port_of_old : (made port : ℕ) (owner : ℕ → ℕ) (i : ℕ) → i < made → port_after made port owner i ≡ owner i
-port_of_old made port owner i less = ap (λ (b : Bool). cond b port (owner i)) (ne_eqb i made (λ e. omega (arith, e, less)))
+port_of_old made port owner i less = ap (λ (b : Bool). cond b port (owner i)) (ne_eqb i made (λ e. omega arith))
 
 module _ {O D T N : Type 0} {note : D → N} {Ao : T → O → Type 0} {An : T → N → Type 0} {key : Key T} {s : State (Slot O D) (View T N)}
     (r : Runs note Ao An key s) (seats : List SeatView) (then : List Move)
@@ -77,8 +67,11 @@ module _ {O D T N : Type 0} {note : D → N} {Ao : T → O → Type 0} {An : T �
   abbrev after_it : Machine
   after_it = record r.machine { seats = seats }
 
+  abbrev kept : List (View T N)
+  kept = set s.views 0 (Keeps key (makes r.keeper))
+
   abbrev views : List (View T N)
-  views = set s.views 0 (Keeps key (makes r.keeper)) ++ Sits key (new_memo r.keeper.made) ∷ []
+  views = kept ++ Sits key (new_memo r.keeper.made) ∷ []
 
   abbrev owner : ℕ → ℕ
   owner = port_after r.keeper.made (length s.views) r.owner
@@ -97,36 +90,22 @@ module _ {O D T N : Type 0} {note : D → N} {Ao : T → O → Type 0} {An : T �
     moved = sym (split.quiet r.keeper.made ∙ r.knows.unmade_rest r.keeper.made (le_refl r.keeper.made));
     ordered = new_ordered r.keeper.made;
     below_claims = omega arith;
-    got = sym (taken_none r.keeper.made 0 r.fates (λ t i x e. (r.are_fates.finished t i x e).0));
-    lost_at_front = λ j g e. absurd (some-ne-none _ (sym e));
+    got = sym (taken_none r.keeper.made 0 r.fates (λ t x e. let done = r.are_fates.finished t r.keeper.made x e in omega arith));
+    lost_at_front = λ j g e. cc;
   }
 
-  -- each view but the keeper's plays on
-  still : (port : ℕ) (v : View T N) → IsViewAt key r.machine r.moves r.fates r.keeper s.views r.owner port v
-      → IsViewAt key after_it then r.fates (makes r.keeper) views owner port v
-  still port (Sits its memo) p = (
-    p.0,
-    port_of_old r.keeper.made (length s.views) r.owner memo.number p.3.is_made
-        ∙ p.1,
-    p.2,
-    known memo p.3,
-  )
-  still port (Keeps its other) p = p
-  still port Spent p = tt
+  abbrev Plays : ℕ → View T N → Type 0
+  Plays = IsViewAt key after_it then r.fates (makes r.keeper) views owner
 
-  still_there : (port : ℕ) (v : View T N) → get_elem? (set s.views 0 (Keeps key (makes r.keeper))) port ≡ some v
-      → IsViewAt key after_it then r.fates (makes r.keeper) views owner port v
-  still_there port v e = elim (at_set s.views 0 port (Keeps key (makes r.keeper)) v e) [
-    | inl here ↦ subst (IsViewAt key after_it then r.fates (makes r.keeper) views owner port) here.1 here.0
-    | inr there ↦ still port v (r.each_view port v there.1)
-  ]
-
-  -- each view, the new one too
-  each_after : (port : ℕ) (v : View T N) → get_elem? views port ≡ some v
-      → IsViewAt key after_it then r.fates (makes r.keeper) views owner port v
-  each_after port v e = elim (at_end (set s.views 0 (Keeps key (makes r.keeper))) (Sits key (new_memo r.keeper.made)) v port e) [
-    | inl before ↦ still_there port v before
-    | inr last ↦ subst (IsViewAt key after_it then r.fates (makes r.keeper) views owner port) last.1 (
+  -- each view plays on, and the new one too
+  each_after : (port : ℕ) (v : View T N) → get_elem? views port ≡ some v → Plays port v
+  each_after port v e = elim (at_end kept (Sits key (new_memo r.keeper.made)) v port e) [
+    | inl before ↦ elim (at_set s.views 0 port (Keeps key (makes r.keeper)) v before) [
+      | inl here ↦ subst (Plays port) here.1 here.0
+      | inr there ↦ view_stays r after_it then r.fates (makes r.keeper) views owner there.1 (λ memo port_is was.
+          (port_of_old r.keeper.made (length s.views) r.owner memo.number was.is_made ∙ port_is, known memo was))
+    ]
+    | inr last ↦ subst (Plays port) last.1 (
       refl,
       port_of_new r.keeper.made (length s.views) r.owner r.keeper.made refl
           ∙ sym (last.0 ∙ length-set s.views 0 (Keeps key (makes r.keeper))),
@@ -135,32 +114,26 @@ module _ {O D T N : Type 0} {note : D → N} {Ao : T → O → Type 0} {An : T �
     )
   ]
 
-  -- each seat of before is where it was
-  somewhere : (i : ℕ) (back : Option (SeatMemo N)) → i < r.keeper.made
-      → IsSomewhere key r.machine r.moves r.fates r.keeper s.views r.owner i back
-      → IsSomewhere key after_it then r.fates (makes r.keeper) views owner i back
-  somewhere i None less p = (
-    p.0,
-    p.1,
-    ap (get_elem? views) (port_of_old r.keeper.made (length s.views) r.owner i less)
-        ∙ at_longer (set s.views 0 (Keeps key (makes r.keeper))) (Sits key (new_memo r.keeper.made) ∷ []) (r.owner i) (Sits key p.0)
-        (set_else s.views 0 (r.owner i) (Keeps key (makes r.keeper)) (not_first r (r.owner i) p.2) ∙ p.2),
-  )
-  somewhere i (Some memo) less p = (p.0, p.1, known memo p.2)
-
-  new_there : (i : ℕ) → i ≡ r.keeper.made → get_elem? views (owner i) ≡ some (Sits key (new_memo r.keeper.made))
-  new_there i e = at_last (set s.views 0 (Keeps key (makes r.keeper))) (Sits key (new_memo r.keeper.made)) (owner i)
-      (length-set s.views 0 (Keeps key (makes r.keeper)) ∙ sym (port_of_new r.keeper.made (length s.views) r.owner i e))
-
-  -- each seat, the new one too
+  -- each seat of before is where it was, and the new one is at its port
   each_made : (i : ℕ) (back : Option (SeatMemo N)) → get_elem? (r.keeper.back ++ None ∷ []) i ≡ some back
       → IsSomewhere key after_it then r.fates (makes r.keeper) views owner i back
   each_made i back e = elim (at_end r.keeper.back None back i e) [
-    | inl before ↦ let less = at_length r.keeper.back i back before in let all = r.knows.back_is in somewhere i back
-        (omega (arith, less, all)) (r.each_seat i back before)
-    | inr last ↦ let here : i ≡ r.keeper.made = last.0
-        ∙ r.knows.back_is in subst (IsSomewhere key after_it then r.fates (makes r.keeper) views owner i) last.1
-        (new_memo r.keeper.made, sym here, new_there i here)
+    | inl before ↦ somewhere_stays r after_it then r.fates (makes r.keeper) views owner before
+        (λ memo number_is there. (
+          memo,
+          number_is,
+          ap (get_elem? views) (port_of_old r.keeper.made (length s.views) r.owner i (omega (arith, at_length r.keeper.back i back before, r.knows.back_is)))
+              ∙ at_longer kept (Sits key (new_memo r.keeper.made) ∷ []) (r.owner i) (Sits key memo)
+              (set_else s.views 0 (r.owner i) (Keeps key (makes r.keeper)) (not_first r (r.owner i) there) ∙ there),
+        ))
+        (λ memo number_is off was. known memo was)
+    | inr last ↦ let here : i ≡ r.keeper.made = last.0 ∙ r.knows.back_is in
+        subst (IsSomewhere key after_it then r.fates (makes r.keeper) views owner i) last.1 (
+          new_memo r.keeper.made,
+          sym here,
+          at_last kept (Sits key (new_memo r.keeper.made)) (owner i)
+              (length-set s.views 0 (Keeps key (makes r.keeper)) ∙ sym (port_of_new r.keeper.made (length s.views) r.owner i here)),
+        )
   ]
 
   -- the rule after the split
@@ -176,7 +149,7 @@ module _ {O D T N : Type 0} {note : D → N} {Ao : T → O → Type 0} {An : T �
     keeper = makes r.keeper;
     are_fates = fates_stay (omega arith) split.holders refl r.are_fates;
     are_slots = slots_stay refl refl refl r.are_slots;
-    keeper_there = at_longer (set s.views 0 (Keeps key (makes r.keeper))) (Sits key (new_memo r.keeper.made) ∷ []) 0
+    keeper_there = at_longer kept (Sits key (new_memo r.keeper.made) ∷ []) 0
         (Keeps key (makes r.keeper)) (set_here s.views 0 (Keeps key (makes r.keeper))
         (at_length s.views 0 (Keeps key r.keeper) r.keeper_there));
     knows = record {
@@ -185,7 +158,7 @@ module _ {O D T N : Type 0} {note : D → N} {Ao : T → O → Type 0} {An : T �
       counted = r.knows.counted;
       made_is = inl (omega arith, split.grown);
       back_is = length-append r.keeper.back (None ∷ []) ∙ ap (λ (j : ℕ). j + 1) r.knows.back_is;
-      unmade_rest = λ i past. split.quiet i ∙ r.knows.unmade_rest i (omega (arith, past));
+      unmade_rest = λ i past. split.quiet i ∙ r.knows.unmade_rest i (omega arith);
     };
     owner = owner;
     each_view = each_after;
@@ -201,15 +174,13 @@ module _ {O D T N : Type 0} {note : D → N} {Ao : T → O → Type 0} {An : T �
   }
   splits = elim r.knows.made_is [
     | inl all ↦
-        let limit = (sizes_of r).limit_is in
-        let positive = all.0 in
-        let same = all.1 in
+        let sizes = sizes_of r in
         split_runs r (r.machine.seats ++ new_seat ∷ []) (and_move r.moves Split 0) (later_split r.keeper.made r.machine.seats r.moves all.1)
         (leads_on (opening key.positions key.limit) r.machine
         (record r.machine { seats = r.machine.seats ++ new_seat ∷ [] }) r.moves Split r.reached
-        (split_next r.machine (omega (arith, room, same, limit))))
+        (split_next r.machine (omega arith)))
         (ap (λ (b : Bool). cond b r.keeper.moves (and_move r.keeper.moves Split 0))
-        (ne_eqb r.keeper.made 0 (λ e. omega (arith, e, positive)))
+        (ne_eqb r.keeper.made 0 (λ e. omega arith))
         ∙ ap (λ (l : List Move). and_move l Split 0) r.knows.moved ∙ sym (by_keeper-own r.moves Split 0 refl))
     | inr first ↦ split_runs r r.machine.seats r.moves (first_split r.keeper.made r.machine.seats r.moves first.0 first.1) r.reached
         (ap (λ (b : Bool). cond b r.keeper.moves (and_move r.keeper.moves Split 0)) (eq-eqb r.keeper.made 0 first.0) ∙ r.knows.moved)
@@ -227,8 +198,11 @@ module _ {O D T N : Type 0} {note : D → N} {Ao : T → O → Type 0} {An : T �
   abbrev further : List Move
   further = and_move r.moves (Join memo.number) 0
 
+  abbrev kept_back : List (View T N)
+  kept_back = set s.views 0 (Keeps key (welcomes memo r.keeper))
+
   abbrev joined : List (View T N)
-  joined = set (set s.views 0 (Keeps key (welcomes memo r.keeper))) other Spent
+  joined = set kept_back other Spent
 
   -- the machine's seat is idle, and it was made
   join_idle : is_idle (seat_at r.machine.seats memo.number) ≡ true
@@ -258,55 +232,37 @@ module _ {O D T N : Type 0} {note : D → N} {Ao : T → O → Type 0} {An : T �
     lost_at_front = is.lost_at_front;
   }
 
+  abbrev Stays : ℕ → View T N → Type 0
+  Stays = IsViewAt key after_join further r.fates (welcomes memo r.keeper) joined r.owner
+
   -- each other view plays on
-  join_still : (port : ℕ) (v : View T N) → port ≢ other → IsViewAt key r.machine r.moves r.fates r.keeper s.views r.owner port v
-      → IsViewAt key after_join further r.fates (welcomes memo r.keeper) joined r.owner port v
-  join_still port (Sits its k) away p = (p.0, p.1, p.2, join_known k (λ e. away (sym p.1 ∙ ap r.owner e ∙ at_own_port r other at)) p.3)
-  join_still port (Keeps its k) away p = p
-  join_still port Spent away p = tt
-
-  join_still_there : (port : ℕ) (v : View T N) → port ≢ other
-      → get_elem? (set s.views 0 (Keeps key (welcomes memo r.keeper))) port ≡ some v
-      → IsViewAt key after_join further r.fates (welcomes memo r.keeper) joined r.owner port v
-  join_still_there port v away e = elim (at_set s.views 0 port (Keeps key (welcomes memo r.keeper)) v e) [
-    | inl here ↦ subst (IsViewAt key after_join further r.fates (welcomes memo r.keeper) joined r.owner port) here.1 here.0
-    | inr there ↦ join_still port v away (r.each_view port v there.1)
+  join_each : (port : ℕ) (v : View T N) → get_elem? joined port ≡ some v → Stays port v
+  join_each port v e = elim (at_set kept_back other port Spent v e) [
+    | inl here ↦ subst (Stays port) here.1 tt
+    | inr away ↦ elim (at_set s.views 0 port (Keeps key (welcomes memo r.keeper)) v away.1) [
+      | inl here ↦ subst (Stays port) here.1 here.0
+      | inr there ↦ view_stays r after_join further r.fates (welcomes memo r.keeper) joined r.owner there.1 (λ k port_is was.
+          (port_is, join_known k (λ same. away.0 (sym port_is ∙ ap r.owner same ∙ at_own_port r other at)) was))
+    ]
   ]
 
-  join_each : (port : ℕ) (v : View T N) → get_elem? joined port ≡ some v
-      → IsViewAt key after_join further r.fates (welcomes memo r.keeper) joined r.owner port v
-  join_each port v e = elim (at_set (set s.views 0 (Keeps key (welcomes memo r.keeper))) other port Spent v e) [
-    | inl here ↦ subst (IsViewAt key after_join further r.fates (welcomes memo r.keeper) joined r.owner port) here.1 tt
-    | inr there ↦ join_still_there port v there.0 there.1
-  ]
-
-  -- a seat of another number sits elsewhere
-  elsewhere : (i : ℕ) (k : SeatMemo N) → i ≢ memo.number → k.number ≡ i → get_elem? s.views (r.owner i) ≡ some (Sits key k)
-      → r.owner i ≢ other
-  elsewhere i k apart its_number there e =
-      let one : memo ≡ k = one_memo key key memo k (some-injective (Sits key memo) (Sits key k)
-      (sym at ∙ ap (get_elem? s.views) (sym e) ∙ there)) in
-      apart (sym its_number ∙ sym (ap (λ (h : SeatMemo N). h.number) one))
-
-  -- each other seat is where it was
-  join_somewhere : (i : ℕ) (back : Option (SeatMemo N)) → i ≢ memo.number
-      → IsSomewhere key r.machine r.moves r.fates r.keeper s.views r.owner i back
-      → IsSomewhere key after_join further r.fates (welcomes memo r.keeper) joined r.owner i back
-  join_somewhere i None apart p = (
-    p.0,
-    p.1,
-    set_else (set s.views 0 (Keeps key (welcomes memo r.keeper))) other (r.owner i) Spent (elsewhere i p.0 apart p.1 p.2)
-        ∙ set_else s.views 0 (r.owner i) (Keeps key (welcomes memo r.keeper)) (not_first r (r.owner i) p.2) ∙ p.2,
-  )
-  join_somewhere i (Some k) apart p = (p.0, p.1, join_known k (λ e. apart (sym p.0 ∙ e)) p.2)
-
-  -- and this one came back
+  -- each other seat is where it was, and this one came back
   join_each_made : (i : ℕ) (back : Option (SeatMemo N)) → get_elem? (welcomes memo r.keeper).back i ≡ some back
       → IsSomewhere key after_join further r.fates (welcomes memo r.keeper) joined r.owner i back
   join_each_made i back e = elim (at_set r.keeper.back memo.number i (Some (ended memo)) back e) [
     | inl here ↦ subst (IsSomewhere key after_join further r.fates (welcomes memo r.keeper) joined r.owner i) here.1
         (sym here.0, refl, join_ended)
-    | inr there ↦ join_somewhere i back there.0 (r.each_seat i back there.1)
+    | inr apart ↦ somewhere_stays r after_join further r.fates (welcomes memo r.keeper) joined r.owner apart.1
+        (λ k number_is there.
+          let elsewhere : r.owner i ≢ other = λ same.
+              let one : memo ≡ k = one_memo key key memo k (some-injective _ _ (sym at ∙ ap (get_elem? s.views) (sym same) ∙ there)) in
+              apart.0 (sym number_is ∙ sym (ap (λ (h : SeatMemo N). h.number) one)) in (
+            k,
+            number_is,
+            set_else kept_back other (r.owner i) Spent elsewhere
+                ∙ set_else s.views 0 (r.owner i) (Keeps key (welcomes memo r.keeper)) (not_first r (r.owner i) there) ∙ there,
+          ))
+        (λ k number_is off was. join_known k (λ same. apart.0 (sym number_is ∙ same)) was)
   ]
 
   -- the rule after the join
@@ -323,7 +279,7 @@ module _ {O D T N : Type 0} {note : D → N} {Ao : T → O → Type 0} {An : T �
     are_fates = fates_stay (le_refl r.keeper.made) (holders_stay r.machine.seats memo.number
         (record (seat_at r.machine.seats memo.number) { live = false }) join_made refl) refl r.are_fates;
     are_slots = slots_stay refl refl refl r.are_slots;
-    keeper_there = set_else (set s.views 0 (Keeps key (welcomes memo r.keeper))) other 0 Spent (λ e. not_first r other at (sym e))
+    keeper_there = set_else kept_back other 0 Spent (λ e. not_first r other at (sym e))
         ∙ set_here s.views 0 (Keeps key (welcomes memo r.keeper)) (at_length s.views 0 (Keeps key r.keeper) r.keeper_there);
     knows = record {
       moved = ap (λ (l : List Move). and_move l (Join memo.number) 0) r.knows.moved ∙ sym (by_keeper-own r.moves (Join memo.number) 0 refl);
@@ -335,7 +291,7 @@ module _ {O D T N : Type 0} {note : D → N} {Ao : T → O → Type 0} {An : T �
           all.1 ∙ sym (length-set r.machine.seats memo.number
               (record (seat_at r.machine.seats memo.number) { live = false })),
         )
-        | inr none ↦ (let made = is.is_made in let zero_made = none.0 in absurd (omega (arith, made, zero_made)))
+        | inr none ↦ absurd (omega (arith, is.is_made))
       ];
       back_is = length-set r.keeper.back memo.number (Some (ended memo)) ∙ r.knows.back_is;
       unmade_rest = λ i past. by_seat-else r.moves (Join memo.number) 0 i refl ∙ r.knows.unmade_rest i past;

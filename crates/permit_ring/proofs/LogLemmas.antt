@@ -1,14 +1,18 @@
 -- The log of a seat and what became of tickets, with one call or one ticket more.
-use Rattle.std.proofs.Common.{◌≡◌, ℕ, ◌<◌, ◌≤◌, Bool, true, false, cond, nat_lt, List, [], ◌∷◌, ◌++◌, refl, sym, ap, subst, inl, inr, arith, le_refl, ◌≢◌, zero, suc, ◌+◌, eqb, eq-eqb, ne_eqb, set, Option, Some, None, ◌∙◌, ◌⊎◌, eqb-true}
-use Rattle.std.proofs.lemmas.Bool.{ltb-false, lt-ltb, le-ltb}
-use mathlib.Core.Option.{some, some-injective, some-ne-none}
+use Rattle.std.proofs.Common.{◌≡◌, ◌≢◌, ℕ, zero, suc, ◌+◌, ◌<◌, ◌≤◌, ◌⊎◌, Bool, true, false, cond, List, [], ◌∷◌, ◌++◌, set, Option, Some, None, refl, sym, ◌∙◌, ap, subst, inl, inr, le_refl, eqb, eq-eqb, ne_eqb, eqb-true, arith}
+use Rattle.std.proofs.lemmas.Bool.{cases_lt, lt-ltb, le-ltb}
+use Rattle.std.proofs.lemmas.List.{append-nil}
+use mathlib.Core.Option.{some, some-injective}
 use lib.ListN.{get_elem?}
 use Rattle.atomic_table.proofs.Lists.{at_snoc}
 use Rattle.permit_ring.specs.Names.{PermitWord, Outcome, Lost, Got}
 use Rattle.permit_ring.specs.Logs.{start_of, end_of, RisesFrom, end_from, got_of, taken_by}
 use Rattle.permit_ring.specs.Rule.{StandsIn}
 use Rattle.permit_ring.specs.Steps.{and_lost}
-use Rattle.std.proofs.lemmas.Option.{none-some, same_Some}
+
+-- a got call is no lost one
+pub no_loss : {A N : Type 0} (t g : ℕ) (x : N) → ◌≡◌ {A = Outcome N} (Got t x) (Lost g) → A
+no_loss t g x e = cc
 
 module _ {N : Type 0} where
   -- a call that does not stand before the last one's end
@@ -21,16 +25,14 @@ module _ {N : Type 0} where
   end_on low [] x = refl
   end_on low (r ∷ log) x = end_on (end_of r) log x
 
-  -- a lost call got no ticket
-  pub got_of-lost : (log : List (Outcome N)) (g : ℕ) → got_of (log ++ Lost g ∷ []) ≡ got_of log
-  got_of-lost [] g = refl
-  got_of-lost (Lost h ∷ log) g = got_of-lost log g
-  got_of-lost (Got t x ∷ log) g = ap (λ (l : List (ℕ × N)). (t, x) ∷ l) (got_of-lost log g)
+  -- the tickets of more calls come behind
+  got_of-append : (log more : List (Outcome N)) → got_of (log ++ more) ≡ got_of log ++ got_of more
+  got_of-append [] more = refl
+  got_of-append (Lost h ∷ log) more = got_of-append log more
+  got_of-append (Got t x ∷ log) more = ap (λ (l : List (ℕ × N)). (t, x) ∷ l) (got_of-append log more)
 
   pub got_of-got : (log : List (Outcome N)) (t : ℕ) (x : N) → got_of (log ++ Got t x ∷ []) ≡ got_of log ++ (t, x) ∷ []
-  got_of-got [] t x = refl
-  got_of-got (Lost h ∷ log) t x = got_of-got log t x
-  got_of-got (Got u y ∷ log) t x = ap (λ (l : List (ℕ × N)). (u, y) ∷ l) (got_of-got log t x)
+  got_of-got log t x = got_of-append log (Got t x ∷ [])
 
   -- a step that found a position free lost no call
   pub kept_log : (word : PermitWord) (log : List (Outcome N)) → 0 < word.free → and_lost word log ≡ log
@@ -38,23 +40,7 @@ module _ {N : Type 0} where
 
   -- and one that found none lost its call
   pub lost_log : (word : PermitWord) (log : List (Outcome N)) → word.free ≡ 0 → and_lost word log ≡ log ++ Lost word.claimed ∷ []
-  lost_log word log full = ap (λ (b : Bool). cond b log (log ++ Lost word.claimed ∷ [])) (le-ltb 0 word.free (omega (arith, full)))
-
-lost_number : {N : Type 0} → Outcome N → ℕ
-lost_number (Lost g) = g
-lost_number (Got t x) = t
-
--- one lost call has one number
-pub one_loss : {N : Type 0} (g h : ℕ) → ◌≡◌ {A = Outcome N} (Lost g) (Lost h) → g ≡ h
-one_loss g h e = unfold lost_number in ap lost_number e
-
-is_got : {N : Type 0} → Outcome N → Bool
-is_got (Lost h) = false
-is_got (Got u y) = true
-
--- a got call is no lost one
-pub no_loss : {A N : Type 0} (t g : ℕ) (x : N) → ◌≡◌ {A = Outcome N} (Got t x) (Lost g) → A
-no_loss t g x e = let c : true ≡ false = (unfold is_got in ap is_got e) in absurd cc
+  lost_log word log full = ap (λ (b : Bool). cond b log (log ++ Lost word.claimed ∷ [])) (le-ltb 0 word.free (omega arith))
 
 module _ {N : Type 0} (word : PermitWord) (log : List (Outcome N)) (fronts : List ℕ) where
   -- the log after a step is in order
@@ -70,18 +56,18 @@ module _ {N : Type 0} (word : PermitWord) (log : List (Outcome N)) (fronts : Lis
     one_lost full = record {
       rises = rises_on 0 log (Lost word.claimed) rises below;
       below = subst (λ (k : ℕ). k ≤ word.claimed) (sym (end_on 0 log (Lost word.claimed))) (le_refl word.claimed);
-      got = got_of-lost log word.claimed;
-      at_front = λ j g e. elim (at_snoc log (Lost word.claimed)
-          (Lost g) j e) [ inl old ↦ at_front j g old | inr new ↦ subst (StandsIn fronts) (one_loss word.claimed g new) full ];
+      got = got_of-append log (Lost word.claimed ∷ []) ∙ append-nil (got_of log);
+      at_front = λ j g e. elim (at_snoc log (Lost word.claimed) (Lost g) j e) [
+        | inl old ↦ at_front j g old
+        | inr new ↦ let same : word.claimed ≡ g = cc in subst (StandsIn fronts) same full
+      ];
     }
 
-    orderly_by : (b : Bool) → nat_lt 0 word.free ≡ b → (word.free ≡ 0 → StandsIn fronts word.claimed)
-        → IsOrderly (cond b log (log ++ Lost word.claimed ∷ []))
-    orderly_by true e full = record { rises = rises; below = below; got = refl; at_front = at_front }
-    orderly_by false e full = let none = ltb-false 0 word.free e in one_lost (full (omega (arith, none)))
-
     pub orderly : (word.free ≡ 0 → StandsIn fronts word.claimed) → IsOrderly (and_lost word log)
-    orderly full = orderly_by (nat_lt 0 word.free) refl full
+    orderly full = elim (cases_lt 0 word.free) [
+      | inl free ↦ subst IsOrderly (sym (kept_log word log free)) (record { rises = rises; below = below; got = refl; at_front = at_front })
+      | inr past ↦ let none : word.free ≡ 0 = omega arith in subst IsOrderly (sym (lost_log word log none)) (one_lost (full none))
+    ]
 
 -- a list with or without one more element in front
 behind : {A : Type 0} (b : Bool) (x a : A) (l : List A) (k : ℕ) → get_elem? l k ≡ some a → (j : ℕ)
@@ -91,7 +77,7 @@ behind false x a l k e = (k, e)
 
 first_or_behind : {A : Type 0} (b : Bool) (x a : A) (l : List A) (k : ℕ) → get_elem? (cond b (x ∷ l) l) k ≡ some a
     → ((b ≡ true) × (x ≡ a)) ⊎ ((j : ℕ) × (get_elem? l j ≡ some a))
-first_or_behind true x a l zero e = inl (refl, some-injective x a e)
+first_or_behind true x a l zero e = inl (refl, cc)
 first_or_behind true x a l (suc k) e = inr (k, e)
 first_or_behind false x a l k e = inr (k, e)
 
@@ -99,20 +85,16 @@ module _ {N : Type 0} where
   -- a call that got a ticket is among those that did
   pub got_in : (log : List (Outcome N)) (j t : ℕ) (x : N) → get_elem? log j ≡ some (Got t x) → (k : ℕ)
       × (get_elem? (got_of log) k ≡ some (t, x))
-  got_in [] j t x e = absurd (some-ne-none (Got t x) (sym e))
-  got_in (Lost g ∷ log) zero t x e = let no = some-injective (Lost g) (Got t x) e in absurd cc
+  got_in [] j t x e = cc
+  got_in (Lost g ∷ log) zero t x e = cc
   got_in (Lost g ∷ log) (suc j) t x e = got_in log j t x e
-  got_in (Got u y ∷ log) zero t x e =
-      let same = some-injective (Got u y) (Got t x) e in
-      let ticket : u ≡ t = cc in
-      let note : y ≡ x = cc in
-      (0, λ k. some (ticket k, note k))
+  got_in (Got u y ∷ log) zero t x e = (0, cc)
   got_in (Got u y ∷ log) (suc j) t x e = let rest = got_in log j t x e in (suc rest.0, rest.1)
 
   -- and stands in the log
   pub got_from : (log : List (Outcome N)) (k t : ℕ) (x : N) → get_elem? (got_of log) k ≡ some (t, x) → (j : ℕ)
       × (get_elem? log j ≡ some (Got t x))
-  got_from [] k t x e = absurd (some-ne-none (t, x) (sym e))
+  got_from [] k t x e = cc
   got_from (Lost g ∷ log) k t x e = let rest = got_from log k t x e in (suc rest.0, rest.1)
   got_from (Got u y ∷ log) zero t x e = (0, ap (λ (p : ℕ × N). some (Got p.0 p.1)) (some-injective (u, y) (t, x) e))
   got_from (Got u y ∷ log) (suc k) t x e = let rest = got_from log k t x e in (suc rest.0, rest.1)
@@ -120,34 +102,31 @@ module _ {N : Type 0} where
   -- a ticket that the seat finished is among those that it took
   pub taken_in : (i from : ℕ) (fates : List (Option (ℕ × N))) (u t : ℕ) (x : N) → t ≡ from + u → get_elem? fates u ≡ some (Some (i, x))
       → (k : ℕ) × (get_elem? (taken_by i from fates) k ≡ some (t, x))
-  taken_in i from [] u t x is e = absurd (some-ne-none (Some (i, x)) (sym e))
-  taken_in i from (None ∷ fates) zero t x is e = absurd (none-some (i, x) (some-injective None (Some (i, x)) e))
-  taken_in i from (None ∷ fates) (suc u) t x is e = taken_in i (suc from) fates u t x (omega (arith, is)) e
+  taken_in i from [] u t x is e = cc
+  taken_in i from (None ∷ fates) zero t x is e = cc
+  taken_in i from (None ∷ fates) (suc u) t x is e = taken_in i (suc from) fates u t x (omega arith) e
   taken_in i from (Some y ∷ fates) zero t x is e =
-      let same = same_Some y (i, x) (some-injective (Some y) (Some (i, x)) e) in
-      let own : i ≡ y.0 = sym (ap (λ (p : ℕ × N). p.0) same) in
-      let here : from ≡ t = omega (arith, is) in (
+      let same : y ≡ (i, x) = cc in
+      let here : from ≡ t = omega arith in (
         0,
         ap (λ (b : Bool). get_elem? (cond b ((from, y.1) ∷ taken_by i (suc from) fates) (taken_by i (suc from) fates)) 0)
-            (eq-eqb i y.0 own) ∙ (λ k. some (here k, (same k).1)),
+            (eq-eqb i y.0 (ap (λ (p : ℕ × N). p.0) (sym same))) ∙ (λ k. some (here k, (same k).1)),
       )
   taken_in i from (Some y ∷ fates) (suc u) t x is e =
-      let rest = taken_in i (suc from) fates u t x (omega (arith, is)) e in
+      let rest = taken_in i (suc from) fates u t x (omega arith) e in
       behind (eqb i y.0) (from, y.1) (t, x) (taken_by i (suc from) fates) rest.0 rest.1
 
   -- and what it took it finished
   pub taken_from : (i from : ℕ) (fates : List (Option (ℕ × N))) (k t : ℕ) (x : N) → get_elem? (taken_by i from fates) k ≡ some (t, x)
       → (u : ℕ) × (t ≡ from + u) × (get_elem? fates u ≡ some (Some (i, x)))
-  taken_from i from [] k t x e = absurd (some-ne-none (t, x) (sym e))
-  taken_from i from (None ∷ fates) k t x e = let rest = taken_from i
-      (suc from) fates k t x e in let is = rest.1 in (suc rest.0, omega (arith, is), rest.2)
+  taken_from i from [] k t x e = cc
+  taken_from i from (None ∷ fates) k t x e = let rest = taken_from i (suc from) fates k t x e in (suc rest.0, omega arith, rest.2)
   taken_from i from (Some y ∷ fates) k t x e = elim (first_or_behind (eqb i y.0) (from, y.1) (t, x) (taken_by i (suc from) fates) k e) [
     | inl here ↦
         let own : y.0 ≡ i = sym (eqb-true i y.0 here.0) in
         let its_ticket : from ≡ t = ap (λ (p : ℕ × N). p.0) here.1 in
-        let its_note : y.1 ≡ x = ap (λ (p : ℕ × N). p.1) here.1 in
-        (0, omega (arith, its_ticket), λ k. some (Some (own k, its_note k)))
-    | inr later ↦ let rest = taken_from i (suc from) fates later.0 t x later.1 in let is = rest.1 in (suc rest.0, omega (arith, is), rest.2)
+        (0, omega arith, λ k. some (Some (own k, (here.1 k).1)))
+    | inr later ↦ let rest = taken_from i (suc from) fates later.0 t x later.1 in (suc rest.0, omega arith, rest.2)
   ]
 
   -- no call ends before it starts
@@ -157,37 +136,32 @@ module _ {N : Type 0} where
 
   -- no call stands below where its log begins
   above_low : (low : ℕ) (log : List (Outcome N)) (l : ℕ) (b : Outcome N) → RisesFrom low log → get_elem? log l ≡ some b → low ≤ start_of b
-  above_low low [] l b rises e = absurd (some-ne-none b (sym e))
-  above_low low (r ∷ log) zero b rises e = subst (λ (o : Outcome N). low ≤ start_of o) (some-injective r b e) rises.0
+  above_low low [] l b rises e = cc
+  above_low low (r ∷ log) zero b rises e = let same : r ≡ b = cc in subst (λ (o : Outcome N). low ≤ start_of o) same rises.0
   above_low low (r ∷ log) (suc l) b rises e =
-      let first = rises.0 in
       let own = start_end r in
       let rest = above_low (end_of r) log l b rises.1 e in
-      omega (arith, first, own, rest)
+      omega arith
 
   -- nor before the end of one before it
   pub rises_apart : (low : ℕ) (log : List (Outcome N)) (j l : ℕ) (a b : Outcome N) → RisesFrom low log → j < l → get_elem? log j ≡ some a
       → get_elem? log l ≡ some b → end_of a ≤ start_of b
-  rises_apart low [] j l a b rises less ea eb = absurd (some-ne-none b (sym eb))
-  rises_apart low (r ∷ log) j zero a b rises less ea eb = absurd (omega (arith, less))
-  rises_apart low (r ∷ log) zero (suc l) a b rises less ea eb = subst (λ (o : Outcome N). end_of o ≤ start_of b) (some-injective r a ea)
+  rises_apart low [] j l a b rises less ea eb = cc
+  rises_apart low (r ∷ log) j zero a b rises less ea eb = absurd (omega arith)
+  rises_apart low (r ∷ log) zero (suc l) a b rises less ea eb = let same : r ≡ a = cc in subst (λ (o : Outcome N). end_of o ≤ start_of b) same
       (above_low (end_of r) log l b rises.1 eb)
-  rises_apart low (r ∷ log) (suc j) (suc l) a b rises less ea eb = rises_apart (end_of r) log j l a b rises.1 (omega (arith, less)) ea eb
+  rises_apart low (r ∷ log) (suc j) (suc l) a b rises less ea eb = rises_apart (end_of r) log j l a b rises.1 (omega arith) ea eb
 
   -- the end of the last is above where the log begins
   low_to_end : (low : ℕ) (log : List (Outcome N)) → RisesFrom low log → low ≤ end_from low log
   low_to_end low [] rises = omega arith
-  low_to_end low (r ∷ log) rises =
-      let first = rises.0 in
-      let own = start_end r in
-      let rest = low_to_end (end_of r) log rises.1 in
-      omega (arith, first, own, rest)
+  low_to_end low (r ∷ log) rises = let own = start_end r in let rest = low_to_end (end_of r) log rises.1 in omega arith
 
   -- and above that of each
   pub within_end : (low : ℕ) (log : List (Outcome N)) (j : ℕ) (a : Outcome N) → RisesFrom low log → get_elem? log j ≡ some a
       → end_of a ≤ end_from low log
-  within_end low [] j a rises e = absurd (some-ne-none a (sym e))
-  within_end low (r ∷ log) zero a rises e = subst (λ (o : Outcome N). end_of o ≤ end_from (end_of r) log) (some-injective r a e)
+  within_end low [] j a rises e = cc
+  within_end low (r ∷ log) zero a rises e = let same : r ≡ a = cc in subst (λ (o : Outcome N). end_of o ≤ end_from (end_of r) log) same
       (low_to_end (end_of r) log rises.1)
   within_end low (r ∷ log) (suc j) a rises e = within_end (end_of r) log j a rises.1 e
 
@@ -197,16 +171,11 @@ Fates N = List (Option (ℕ × N))
 -- an open fate is not decided
 pub open_undecided : {A N : Type 0} (fates : Fates N) (t : ℕ) (x : ℕ × N) → get_elem? fates t ≡ some None
     → get_elem? fates t ≡ some (Some x) → A
-open_undecided fates t x is_open done = absurd (none-some x (some-injective None (Some x) (sym is_open ∙ done)))
+open_undecided fates t x is_open done = cc
 
 -- the tickets with the first one, where it is the seat's
 abbrev and_own : {N : Type 0} → ℕ → ℕ → ℕ × N → List (ℕ × N) → List (ℕ × N)
 and_own i f x rest = cond (eqb i x.0) ((f, x.1) ∷ rest) rest
-
--- each of these tickets is below a number
-abbrev AllBelow : {N : Type 0} → ℕ → List (ℕ × N) → Type 0
-AllBelow b [] = Unit {0}
-AllBelow b (x ∷ got) = (x.0 < b) × AllBelow b got
 
 module _ {N : Type 0} where
   -- a ticket that is held belongs to no log
@@ -221,60 +190,46 @@ module _ {N : Type 0} where
   taken-else i j f x [] t other e = refl
   taken-else i j f x (None ∷ fates) zero other e = ap (λ (b : Bool). cond b ((f, x) ∷ taken_by i (suc f) fates)
       (taken_by i (suc f) fates)) (ne_eqb i j other)
-  taken-else i j f x (Some y ∷ fates) zero other e = open_undecided (Some y ∷ fates) zero y e refl
+  taken-else i j f x (Some y ∷ fates) zero other e = cc
   taken-else i j f x (None ∷ fates) (suc t) other e = taken-else i j (suc f) x fates t other e
   taken-else i j f x (Some y ∷ fates) (suc t) other e = ap (and_own i f y) (taken-else i j (suc f) x fates t other e)
 
-  -- where all tickets of a seat are below the first one, there is none
-  below_own : (i f b : ℕ) (x : ℕ × N) (rest : List (ℕ × N)) (own : Bool) → b ≤ f → rest ≡ []
-      → AllBelow b (cond own ((f, x.1) ∷ rest) rest) → cond own ((f, x.1) ∷ rest) rest ≡ []
-  below_own i f b x rest true past none below = absurd (omega (arith, past, below.0))
-  below_own i f b x rest false past none below = none
-
-  rest_below : (f b : ℕ) (x : ℕ × N) (rest : List (ℕ × N)) (own : Bool) → AllBelow b (cond own ((f, x.1) ∷ rest) rest) → AllBelow b rest
-  rest_below f b x rest true below = below.1
-  rest_below f b x rest false below = below
-
-  none_from : (i f b : ℕ) (fates : Fates N) → b ≤ f → AllBelow b (taken_by i f fates) → taken_by i f fates ≡ []
-  none_from i f b [] past below = refl
-  none_from i f b (None ∷ fates) past below = none_from i (suc f) b fates (omega (arith, past)) below
-  none_from i f b (Some x ∷ fates) past below = below_own i f b x (taken_by i (suc f) fates) (eqb i x.0) past
-      (none_from i (suc f) b fates (omega (arith, past)) (rest_below f b x (taken_by i (suc f) fates) (eqb i x.0) below)) below
+  -- a seat that finished no ticket took none
+  pub taken_none : (i f : ℕ) (fates : Fates N) → ((u : ℕ) (x : N) → get_elem? fates u ≢ some (Some (i, x))) → taken_by i f fates ≡ []
+  taken_none i f [] none = refl
+  taken_none i f (None ∷ fates) none = taken_none i (suc f) fates (λ u. none (suc u))
+  taken_none i f (Some y ∷ fates) none = ap (λ (b : Bool). cond b ((f, y.1) ∷ taken_by i (suc f) fates) (taken_by i (suc f) fates))
+      (ne_eqb i y.0 (λ own. none 0 y.1 (ap (λ (k : ℕ). some (Some (k, y.1))) (sym own)))) ∙ taken_none i (suc f) fates (λ u. none (suc u))
 
   own_more : (f : ℕ) (y : ℕ × N) (rest more last : List (ℕ × N)) (own : Bool) → more ≡ rest ++ last
       → cond own ((f, y.1) ∷ more) more ≡ cond own ((f, y.1) ∷ rest) rest ++ last
   own_more f y rest more last true e = ap (λ (l : List (ℕ × N)). (f, y.1) ∷ l) e
   own_more f y rest more last false e = e
 
-  -- one that the seat finishes itself comes last, where all that it got before are below it
+  -- one that the seat finishes itself comes last, where all that it finished before are below it
   taken-own_from : (i f b : ℕ) (x : N) (fates : Fates N) (t : ℕ) → b ≡ f + t → get_elem? fates t ≡ some None
-      → AllBelow b (taken_by i f fates) → taken_by i f (set fates t (Some (i, x))) ≡ taken_by i f fates ++ (b, x) ∷ []
-  taken-own_from i f b x [] t is e below = absurd (some-ne-none None (sym e))
+      → ((u : ℕ) (y : N) → get_elem? fates u ≡ some (Some (i, y)) → u < t)
+      → taken_by i f (set fates t (Some (i, x))) ≡ taken_by i f fates ++ (b, x) ∷ []
+  taken-own_from i f b x [] t is e below = cc
   taken-own_from i f b x (None ∷ fates) zero is e below =
-      let none = none_from i (suc f) b fates (omega (arith, is)) below in
-      let here : b ≡ f = omega (arith, is) in
+      let none = taken_none i (suc f) fates (λ u y done. let k = below (suc u) y done in omega arith) in
+      let here : f ≡ b = omega arith in
       ap (λ (own : Bool). cond own ((f, x) ∷ taken_by i (suc f) fates) (taken_by i (suc f) fates)) (eq-eqb i i refl)
-      ∙ ap (λ (l : List (ℕ × N)). (f, x) ∷ l) none ∙ ap (λ (k : ℕ). (k, x) ∷ []) (sym here)
+      ∙ ap (λ (l : List (ℕ × N)). (f, x) ∷ l) none ∙ ap (λ (k : ℕ). (k, x) ∷ []) here
       ∙ ap (λ (l : List (ℕ × N)). l ++ (b, x) ∷ []) (sym none)
-  taken-own_from i f b x (Some y ∷ fates) zero is e below = open_undecided (Some y ∷ fates) zero y e refl
-  taken-own_from i f b x (None ∷ fates) (suc t) is e below = taken-own_from i (suc f) b x fates t (omega (arith, is)) e below
+  taken-own_from i f b x (Some y ∷ fates) zero is e below = cc
+  taken-own_from i f b x (None ∷ fates) (suc t) is e below = taken-own_from i (suc f) b x fates t (omega arith) e
+      (λ u y done. let k = below (suc u) y done in omega arith)
   taken-own_from i f b x (Some y ∷ fates) (suc t) is e below = own_more f y (taken_by i (suc f) fates)
       (taken_by i (suc f) (set fates t (Some (i, x)))) ((b, x) ∷ []) (eqb i y.0)
-      (taken-own_from i (suc f) b x fates t (omega (arith, is)) e (rest_below f b y (taken_by i (suc f) fates) (eqb i y.0) below))
-
-  below_more : (b c : ℕ) (got : List (ℕ × N)) → b ≤ c → AllBelow b got → AllBelow c got
-  below_more b c [] le below = tt
-  below_more b c (x ∷ got) le below = (let first = below.0 in omega (arith, first, le), below_more b c got le below.1)
-
-  got_below : (low : ℕ) (log : List (Outcome N)) → RisesFrom low log → AllBelow (end_from low log) (got_of log)
-  got_below low [] rises = tt
-  got_below low (Lost g ∷ log) rises = got_below g log rises.1
-  got_below low (Got t x ∷ log) rises = (let up = low_to_end (t + 1) log rises.1 in omega (arith, up), got_below (t + 1) log rises.1)
+      (taken-own_from i (suc f) b x fates t (omega arith) e (λ u z done. let k = below (suc u) z done in omega arith))
 
   -- a ticket that a seat finishes comes last among its own
   pub taken-own : (i t : ℕ) (x : N) (fates : Fates N) (log : List (Outcome N)) → RisesFrom 0 log → end_from 0 log ≤ t
       → got_of log ≡ taken_by i 0 fates → get_elem? fates t ≡ some None
       → taken_by i 0 (set fates t (Some (i, x))) ≡ taken_by i 0 fates ++ (t, x) ∷ []
-  taken-own i t x fates log rises after got is_open =
-      taken-own_from i 0 t x fates t (omega arith) is_open (subst (AllBelow t) got
-      (below_more (end_from 0 log) t (got_of log) after (got_below 0 log rises)))
+  taken-own i t x fates log rises after got is_open = taken-own_from i 0 t x fates t (omega arith) is_open (λ u y done.
+      let took = taken_in i 0 fates u u y (omega arith) done in
+      let entry = got_from log took.0 u y (ap (λ (l : List (ℕ × N)). get_elem? l took.0) got ∙ took.1) in
+      let past : u + 1 ≤ end_from 0 log = within_end 0 log entry.0 (Got u y) rises entry.1 in
+      omega arith)

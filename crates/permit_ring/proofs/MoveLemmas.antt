@@ -1,5 +1,5 @@
 -- Moves lead from ring to ring, and each move is one of its actor alone.
-use Rattle.std.proofs.Common.{◌≡◌, ℕ, Bool, true, false, cond, List, [], ◌∷◌, ◌++◌, Some, refl, sym, ◌∙◌, ap, subst}
+use Rattle.std.proofs.Common.{◌≡◌, ℕ, true, false, List, [], ◌∷◌, Some, refl, sym, subst}
 use Rattle.std.proofs.lemmas.List.{append-nil}
 use Rattle.std.proofs.lemmas.List.Elements.{filter-append}
 use Rattle.ring_core.specs.Machine.{HasSizes, Machine, possible, after, next}
@@ -8,7 +8,7 @@ use Rattle.ring_core.proofs.RingLaws.{step_of_next}
 use Rattle.ring_core.proofs.Runs.{after_keeps}
 use Rattle.ring_core.proofs.Sizes.{after_sizes, same_sizes, sizes_on}
 use Rattle.permit_ring.specs.Names.{Step, Move}
-use Rattle.permit_ring.specs.Moves.{found_at, move, Leads, is_of_seat, is_of_keeper, by_seat, by_keeper}
+use Rattle.permit_ring.specs.Moves.{found_at, Leads, is_of_seat, is_of_keeper, by_seat, by_keeper}
 use Rattle.permit_ring.specs.Steps.{and_move}
 
 -- one step more
@@ -34,18 +34,14 @@ led_sizes start m (v ∷ vs) led = sizes_on start.positions start.limit (after s
 module _ (moves : List Move) (step : Step) (found : ℕ) where
   -- a move of seat i stands last among its moves
   pub by_seat-own : (i : ℕ) → is_of_seat i step ≡ true → by_seat i (and_move moves step found) ≡ and_move (by_seat i moves) step found
-  by_seat-own i own = filter-append (λ (v : Move). is_of_seat i v.step) moves (move step found ∷ [])
-      ∙ ap (λ (b : Bool). by_seat i moves ++ cond b (move step found ∷ []) []) own
+  by_seat-own i own = simp (filter-append, own)
 
   -- and another's move leaves them alone
   pub by_seat-else : (i : ℕ) → is_of_seat i step ≡ false → by_seat i (and_move moves step found) ≡ by_seat i moves
-  by_seat-else i other = filter-append (λ (v : Move). is_of_seat i v.step) moves (move step found ∷ [])
-      ∙ ap (λ (b : Bool). by_seat i moves ++ cond b (move step found ∷ []) []) other ∙ append-nil (by_seat i moves)
+  by_seat-else i other = simp (filter-append, other, append-nil)
 
   pub by_keeper-own : is_of_keeper step ≡ true → by_keeper (and_move moves step found) ≡ and_move (by_keeper moves) step found
-  by_keeper-own own = filter-append (λ (v : Move). is_of_keeper v.step) moves (move step found ∷ [])
-      ∙ ap (λ (b : Bool). by_keeper moves ++ cond b (move step found ∷ []) []) own
+  by_keeper-own own = simp (filter-append, own)
 
   pub by_keeper-else : is_of_keeper step ≡ false → by_keeper (and_move moves step found) ≡ by_keeper moves
-  by_keeper-else other = filter-append (λ (v : Move). is_of_keeper v.step) moves (move step found ∷ [])
-      ∙ ap (λ (b : Bool). by_keeper moves ++ cond b (move step found ∷ []) []) other ∙ append-nil (by_keeper moves)
+  by_keeper-else other = simp (filter-append, other, append-nil)

@@ -1,44 +1,35 @@
 -- What the rule says of a ring: of its tickets, its logs, its slots and its words.
 use Rattle.std.proofs.Common.{◌≡◌, ℕ, zero, suc, ◌+◌, ◌%◌, ◌<◌, ◌≤◌, ◌⊎◌, true, false, is_some, List, [], ◌∷◌, length, Option, Some, None, sym, ◌∙◌, ap, ap₂, subst, inl, inr, mod-eq_of_lt, arith}
 use Rattle.std.proofs.lemmas.Bool.{cases_eq, cases_lt, cases_order}
-use Rattle.std.proofs.lemmas.Option.{none-some, same_Some}
 use native.Mathlib.Nat.{add-mod_right}
-use mathlib.Core.Option.{some, none, some-injective, some-ne-none}
+use mathlib.Core.Option.{some}
 use lib.ListN.{get_elem?}
 use Rattle.atomic_table.specs.Table.{State}
 use Rattle.ring_core.specs.Machine.{new_seat, seat_at}
 use Rattle.ring_core.specs.Sound.{Holds}
 use Rattle.ring_core.proofs.SeatLemmas.{live_is_made, none_held}
-use Rattle.permit_ring.specs.Names.{SeatView, Key, KeeperMemo, Lost, Got, SeatMemo, Slot, Offered, Finished, View, Sits, Keeps}
+use Rattle.permit_ring.specs.Names.{SeatView, Key, KeeperMemo, Lost, Got, SeatMemo, Slot, Offered, Finished, View, Sits}
 use Rattle.permit_ring.specs.Places.{ShowsRing, SitsThere, CameBack, IsMemoThere, IsHeldOnce, IsLoggedOnce, HasOnePlace, IsNotedAs, IsInOrder, IsAdmittedSlot, IsOneSeats}
 use Rattle.permit_ring.specs.Rule.{Home, IsSlot, IsSeatMemo, IsSomewhere, Runs, HasFinished, HasOffered, IsOut}
-use Rattle.permit_ring.proofs.States.{one_memo, ring_of, one_turn_ahead, keeper_port, at_own_port, is_live, knows_it, not_ended}
+use Rattle.permit_ring.proofs.States.{ring_of, one_turn_ahead, keeper_port, at_own_port, is_live, knows_it, not_ended}
 use Rattle.permit_ring.proofs.ListLemmas.{at_length, there}
-use Rattle.permit_ring.proofs.LogLemmas.{got_in, got_from, taken_in, taken_from, rises_apart, within_end}
+use Rattle.permit_ring.proofs.LogLemmas.{open_undecided, got_in, got_from, taken_in, taken_from, rises_apart, within_end}
 
 -- each place of a turn is that of a ticket in it
 in_turn : (n from p : ℕ) → p < n → (t : ℕ) × (from ≤ t) × (t < from + n) × (t % n ≡ p)
-in_turn n zero p below = (p, omega arith, omega (arith, below), mod-eq_of_lt below)
-in_turn n (suc from) p below =
-    let q = in_turn n from p below in
-    let low = q.1 in
-    let high = q.2 in
-    elim (cases_eq from q.0) [
-      | inl here ↦ (from + n, omega (arith, below), omega arith, add-mod_right from n ∙ ap (λ (t : ℕ). t % n) here ∙ q.3)
-      | inr later ↦ (q.0, omega (arith, low, later), omega (arith, high), q.3)
-    ]
-
--- two elements at one place are one
-one_element : {A : Type 0} (l : List A) (i : ℕ) (a b : A) → get_elem? l i ≡ some a → get_elem? l i ≡ some b → a ≡ b
-one_element l i a b ea eb = some-injective a b (sym ea ∙ eb)
+in_turn n zero p below = (p, omega arith, omega arith, mod-eq_of_lt below)
+in_turn n (suc from) p below = let q = in_turn n from p below in elim (cases_eq from q.0) [
+  | inl here ↦ (from + n, omega arith, omega arith, add-mod_right from n ∙ ap (λ (t : ℕ). t % n) here ∙ q.3)
+  | inr later ↦ (q.0, omega arith, omega arith, q.3)
+]
 
 -- a seat that holds a ticket is one that was made
 made_if_holds : (made : ℕ) (seats : List SeatView) (i t : ℕ) → ((1 ≤ made) × (made ≡ length seats))
     ⊎ ((made ≡ 0) × (seats ≡ new_seat ∷ [])) → i < length seats → Holds (seat_at seats i) t → i < made
-made_if_holds made seats i t (inl all) less h = let same = all.1 in omega (arith, same, less)
+made_if_holds made seats i t (inl all) less h = omega arith
 made_if_holds made seats i t (inr first) less h =
     let one : length seats ≡ 1 = ap length first.1 in
-    let at_zero : i ≡ 0 = omega (arith, one, less) in
+    let at_zero : i ≡ 0 = omega arith in
     none_held (seat_at seats i).held t (ap (λ (v : SeatView). v.held) (ap₂ seat_at first.1 at_zero)) h
 
 module _ {O D T N : Type 0} {note : D → N} {Ao : T → O → Type 0} {An : T → N → Type 0} {key : Key T} {s : State (Slot O D) (View T N)}
@@ -66,139 +57,116 @@ module _ {O D T N : Type 0} {note : D → N} {Ao : T → O → Type 0} {An : T �
 
   -- a number has one memo
   one_each : (a b : SeatMemo N) → IsMemoThere s.views a → IsMemoThere s.views b → a.number ≡ b.number → a ≡ b
-  one_each a b (inl x) (inl y) e =
-      let same = one_port x.port y.port x.its_key y.its_key a b x.there y.there e in
-      one_memo x.its_key y.its_key a b (one_element s.views x.port (Sits x.its_key a) (Sits y.its_key b) x.there
-      (ap (get_elem? s.views) same ∙ y.there))
+  one_each a b (inl x) (inl y) e = let same = one_port x.port y.port x.its_key y.its_key a b x.there y.there e in cc (x.there, y.there)
   one_each a b (inl x) (inr y) e = let was = ended_known b y in not_ended r _ x.there b was.0 (sym e) was.1
   one_each a b (inr x) (inl y) e = let was = ended_known a x in not_ended r _ y.there a was.0 e was.1
-  one_each a b (inr x) (inr y) e = same_Some a b (one_element r.keeper.back a.number (Some a) (Some b) (back_there a x)
-      (ap (get_elem? r.keeper.back) e ∙ back_there b y))
+  one_each a b (inr x) (inr y) e = cc (back_there a x, back_there b y)
 
-  -- the memo of a seat by its number, and whether it is live
+  -- the memo of a seat by its number
   memo_from : (i : ℕ) (back : Option (SeatMemo N)) → get_elem? r.keeper.back i ≡ some back
       → IsSomewhere key r.machine r.moves r.fates r.keeper s.views r.owner i back → (memo : SeatMemo N) × (memo.number ≡ i)
-      × (SitsThere s.views memo ⊎ ((memo.view.live ≡ false) × CameBack s.views memo))
+      × IsMemoThere s.views memo
   memo_from i None e p = (p.0, p.1, inl (record { port = r.owner i; its_key = key; there = p.2 }))
   memo_from i (Some memo) e p = (
     memo,
     p.0,
-    inr (
-      p.1,
-      record {
-        port = 0;
-        its_key = key;
-        keeper = r.keeper;
-        there = r.keeper_there;
-        back_at = ap (get_elem? r.keeper.back) p.0 ∙ e;
-      },
-    ),
+    inr (record { port = 0; its_key = key; keeper = r.keeper; there = r.keeper_there; back_at = ap (get_elem? r.keeper.back) p.0 ∙ e }),
   )
-
-  -- each seat that was made has a memo
-  memo_of : (i : ℕ) → i < r.keeper.made → (memo : SeatMemo N) × (memo.number ≡ i)
-      × (SitsThere s.views memo ⊎ ((memo.view.live ≡ false) × CameBack s.views memo))
-  memo_of i less =
-      let all = r.knows.back_is in
-      let back = there r.keeper.back i (omega (arith, less, all)) in
-      memo_from i back.0 back.1 (r.each_seat i back.0 back.1)
-
-  there_of : (memo : SeatMemo N) → SitsThere s.views memo ⊎ ((memo.view.live ≡ false) × CameBack s.views memo) → IsMemoThere s.views memo
-  there_of memo (inl sits) = inl sits
-  there_of memo (inr back) = inr back.1
 
   -- each number is that of one seat
   pub each_number_is_one_seats : (i : ℕ) → i < r.keeper.made → IsOneSeats s.views i
   each_number_is_one_seats i less =
-      let one = memo_of i less in
-      let is = there_of one.0 one.2 in
-      record { memo = one.0; is_there = is; number_is = one.1; no_other = λ other there e. one_each other one.0 there is (e ∙ sym one.1) }
+      let back = there r.keeper.back i (omega (arith, r.knows.back_is)) in
+      let one = memo_from i back.0 back.1 (r.each_seat i back.0 back.1) in
+      record { memo = one.0; is_there = one.2; number_is = one.1; no_other = λ other is e. one_each other one.0 is one.2 (e ∙ sym one.1) }
 
-  -- a ticket in a log was finished by its seat
-  fate_of : (memo : SeatMemo N) (j t : ℕ) (x : N) → IsMemoThere s.views memo → get_elem? memo.log j ≡ some (Got t x)
-      → get_elem? r.fates t ≡ some (Some (memo.number, x))
-  fate_of memo j t x is e =
-      let got = got_in memo.log j t x e in
-      let took = taken_from memo.number 0 r.fates got.0 t x (ap (λ (l : List (ℕ × N)). get_elem? l got.0) (sym (memo_known memo is).got)
-      ∙ got.1) in
-      let is_there = took.1 in
-      let here : t ≡ took.0 = omega (arith, is_there) in
-      ap (get_elem? r.fates) here ∙ took.2
+  module _ (memo : SeatMemo N) (is : IsMemoThere s.views memo) where
+    -- a ticket in a log was finished by its seat
+    fate_of : (j t : ℕ) (x : N) → get_elem? memo.log j ≡ some (Got t x) → get_elem? r.fates t ≡ some (Some (memo.number, x))
+    fate_of j t x e =
+        let got = got_in memo.log j t x e in
+        let took = taken_from memo.number 0 r.fates got.0 t x (ap (λ (l : List (ℕ × N)). get_elem? l got.0) (sym (memo_known memo is).got)
+        ∙ got.1) in
+        let here : t ≡ took.0 = omega arith in
+        ap (get_elem? r.fates) here ∙ took.2
 
-  -- and one that a seat finished is in its log
-  log_of : (memo : SeatMemo N) (t : ℕ) (x : N) → IsMemoThere s.views memo → get_elem? r.fates t ≡ some (Some (memo.number, x)) → (j : ℕ)
-      × (get_elem? memo.log j ≡ some (Got t x))
-  log_of memo t x is e =
-      let took = taken_in memo.number 0 r.fates t t x (omega arith) e in
-      got_from memo.log took.0 t x (ap (λ (l : List (ℕ × N)). get_elem? l took.0) (memo_known memo is).got ∙ took.1)
+    -- and one that a seat finished is in its log
+    log_of : (t : ℕ) (x : N) → get_elem? r.fates t ≡ some (Some (memo.number, x)) → (j : ℕ) × (get_elem? memo.log j ≡ some (Got t x))
+    log_of t x e =
+        let took = taken_in memo.number 0 r.fates t t x (omega arith) e in
+        got_from memo.log took.0 t x (ap (λ (l : List (ℕ × N)). get_elem? l took.0) (memo_known memo is).got ∙ took.1)
 
-  -- with an admitted note
-  pub logged_is_admitted : (memo : SeatMemo N) (j t : ℕ) (x : N) → IsMemoThere s.views memo → get_elem? memo.log j ≡ some (Got t x)
-      → An key.terms x
-  logged_is_admitted memo j t x is e = (r.are_fates.finished t memo.number x (fate_of memo j t x is e)).1
+    -- with an admitted note
+    pub logged_is_admitted : (j t : ℕ) (x : N) → get_elem? memo.log j ≡ some (Got t x) → An key.terms x
+    logged_is_admitted j t x e = (r.are_fates.finished t memo.number x (fate_of j t x e)).1
 
-  -- and so is each note of the keeper
-  pub noted_is_admitted : (t : ℕ) (x : N) → get_elem? r.keeper.notes t ≡ some x → An key.terms x
-  noted_is_admitted t x e = let fate = r.knows.noted t x e in (r.are_fates.finished t fate.0 x fate.1).1
+    -- it was claimed
+    pub logged_is_claimed : (j t : ℕ) (x : N) → get_elem? memo.log j ≡ some (Got t x) → t < r.machine.word.claimed
+    logged_is_claimed j t x e = omega (arith, at_length r.fates t (Some (memo.number, x)) (fate_of j t x e), r.are_fates.each_claimed)
 
-  -- nothing became yet of a held ticket
-  open_of : (memo : SeatMemo N) (t : ℕ) → IsMemoThere s.views memo → Holds memo.view t → get_elem? r.fates t ≡ some None
-  open_of memo t is h = r.are_fates.held_is_open memo.number t (sym (ap (λ (v : SeatView). v.held) (memo_known memo is).shows) ∙ h)
+    -- and its slot holds its value, until it is reaped
+    pub slot_of_logged : (j t : ℕ) (x : N) → get_elem? memo.log j ≡ some (Got t x) → r.machine.reaped ≤ t
+        → HasFinished (get_elem? s.homes (t % key.positions)) note x
+    slot_of_logged j t x e from =
+        let out = logged_is_claimed j t x e in
+        let ring = ring_of r in
+        let turn = one_turn_ahead r in
+        (r.are_slots.each t from (omega arith)).finished_home memo.number x (fate_of j t x e)
 
-  -- a ticket is not both held and finished
-  not_both : {A : Type 0} (t : ℕ) (y : ℕ × N) → get_elem? r.fates t ≡ some None → get_elem? r.fates t ≡ some (Some y) → A
-  not_both t y undone done = absurd (none-some y (one_element r.fates t None (Some y) undone done))
+    -- the calls of a log are in order
+    pub records_rise : IsInOrder r.machine.word.claimed memo.log
+    records_rise = let known = memo_known memo is in record {
+      rises = λ j l a b less ea eb. rises_apart 0 memo.log j l a b known.ordered.rises less ea eb;
+      lost_within = λ j g e. omega (arith, within_end 0 memo.log j (Lost g) known.ordered.rises e, known.below_claims);
+    }
 
-  -- a ticket in a log was claimed, and no seat holds it
-  pub logged_is_done : (memo : SeatMemo N) (j t : ℕ) (x : N) → IsMemoThere s.views memo → get_elem? memo.log j ≡ some (Got t x)
-      → (t < r.machine.word.claimed) × ((other : SeatMemo N) → IsMemoThere s.views other → ¬ Holds other.view t)
-  logged_is_done memo j t x is e =
-      let done = fate_of memo j t x is e in
-      let less = at_length r.fates t (Some (memo.number, x)) done in
-      let all = r.are_fates.each_claimed in
-      (omega (arith, less, all), λ other there h. not_both t (memo.number, x) (open_of other t there h) done)
+    module _ (t : ℕ) (holds : Holds memo.view t) where
+      -- a seat holds in the machine what its memo says
+      machine_holds : Holds (seat_at r.machine.seats memo.number) t
+      machine_holds = sym (ap (λ (v : SeatView). v.held) (memo_known memo is).shows) ∙ holds
 
-  -- what its slot holds, until it is reaped
-  pub slot_of_logged : (memo : SeatMemo N) (j t : ℕ) (x : N) → IsMemoThere s.views memo → get_elem? memo.log j ≡ some (Got t x)
-      → r.machine.reaped ≤ t → HasFinished (get_elem? s.homes (t % key.positions)) note x
-  slot_of_logged memo j t x is e from =
-      let out = (logged_is_done memo j t x is e).0 in
-      let account = (ring_of r).permits.account in
-      let turn = one_turn_ahead r in
-      (r.are_slots.each t from (omega (arith, out, account, turn))).finished_home memo.number x (fate_of memo j t x is e)
+      -- nothing became yet of a held ticket
+      open_of : get_elem? r.fates t ≡ some None
+      open_of = r.are_fates.held_is_open memo.number t machine_holds
+
+      -- and its slot is out
+      pub slot_of_held : IsOut (get_elem? s.homes (t % key.positions))
+      slot_of_held =
+          let ring = ring_of r in
+          let out = (ring.seats.each memo.number).held_is_out t machine_holds in
+          let turn = one_turn_ahead r in
+          (r.are_slots.each t out.0 (omega arith)).held_out open_of
 
   -- what a free slot holds, and a vacant one
   pub slot_of_free : (t : ℕ) → r.machine.word.claimed ≤ t → t < r.machine.offered
       → HasOffered (get_elem? s.homes (t % key.positions)) (Ao key.terms)
   slot_of_free t past below =
-      let behind = (ring_of r).permits.reaped_claimed in
+      let ring = ring_of r in
       let turn = one_turn_ahead r in
-      (r.are_slots.each t (omega (arith, past, behind)) (omega (arith, below, turn))).offered_home past below
+      (r.are_slots.each t (omega arith) (omega arith)).offered_home past below
 
   pub slot_of_vacant : (t : ℕ) → r.machine.offered ≤ t → t < r.machine.reaped + key.positions
       → IsOut (get_elem? s.homes (t % key.positions))
-  slot_of_vacant t past below =
-      let account = (ring_of r).permits.account in
-      let behind = (ring_of r).permits.reaped_claimed in
-      (r.are_slots.each t (omega (arith, past, account, behind)) below).vacant_out past
+  slot_of_vacant t past below = let ring = ring_of r in (r.are_slots.each t (omega arith) below).vacant_out past
+
+  -- each note of the keeper is admitted
+  pub noted_is_admitted : (t : ℕ) (x : N) → get_elem? r.keeper.notes t ≡ some x → An key.terms x
+  noted_is_admitted t x e = let fate = r.knows.noted t x e in (r.are_fates.finished t fate.0 x fate.1).1
 
   -- in one log a ticket stands at one place
   one_place : (memo : SeatMemo N) (j l t : ℕ) (x y : N) → IsMemoThere s.views memo → get_elem? memo.log j ≡ some (Got t x)
       → get_elem? memo.log l ≡ some (Got t y) → j ≡ l
-  one_place memo j l t x y is ex ey = elim (cases_order j l) [
+  one_place memo j l t x y is ex ey = let rises = (records_rise memo is).rises in elim (cases_order j l) [
     | inl same ↦ same
-    | inr (inl less) ↦ let no : t + 1 ≤ t = rises_apart 0 memo.log j l (Got t x) (Got t y)
-        (memo_known memo is).ordered.rises less ex ey in absurd (omega (arith, no))
-    | inr (inr more) ↦ let no : t + 1 ≤ t = rises_apart 0 memo.log l j (Got t y) (Got t x)
-        (memo_known memo is).ordered.rises more ey ex in absurd (omega (arith, no))
+    | inr (inl less) ↦ let no : t + 1 ≤ t = rises j l (Got t x) (Got t y) less ex ey in absurd (omega arith)
+    | inr (inr more) ↦ let no : t + 1 ≤ t = rises l j (Got t y) (Got t x) more ey ex in absurd (omega arith)
   ]
 
   -- two places of one ticket in logs are one
   one_entry : (a b : SeatMemo N) (j l t : ℕ) (x y : N) → IsMemoThere s.views a → IsMemoThere s.views b
       → get_elem? a.log j ≡ some (Got t x) → get_elem? b.log l ≡ some (Got t y) → (a ≡ b) × (j ≡ l) × (x ≡ y)
   one_entry a b j l t x y is_a is_b ea eb =
-      let fate = same_Some (a.number, x) (b.number, y) (one_element r.fates t (Some (a.number, x)) (Some (b.number, y))
-      (fate_of a j t x is_a ea) (fate_of b l t y is_b eb)) in
+      let fate : (a.number, x) ≡ (b.number, y) = cc (fate_of a is_a j t x ea, fate_of b is_b l t y eb) in
       let one : a ≡ b = one_each a b is_a is_b (ap (λ (p : ℕ × N). p.0) fate) in
       (one, one_place a j l t x y is_a ea (ap (λ (memo : SeatMemo N). get_elem? memo.log l) one ∙ eb), ap (λ (p : ℕ × N). p.1) fate)
 
@@ -206,43 +174,12 @@ module _ {O D T N : Type 0} {note : D → N} {Ao : T → O → Type 0} {An : T �
   holder_lives : (i t : ℕ) → Holds (seat_at r.machine.seats i) t → (seat_at r.machine.seats i).live ≡ true
   holder_lives i t h = ((ring_of r).seats.each i).holder_is_live (ap is_some h)
 
-  -- and was made
-  holder_made : (i t : ℕ) → Holds (seat_at r.machine.seats i) t → i < r.keeper.made
-  holder_made i t h = made_if_holds r.keeper.made r.machine.seats i t r.knows.made_is
-      (live_is_made r.machine.seats i (holder_lives i t h)) h
-
-  -- a seat holds in the machine what its memo says
-  machine_holds : (memo : SeatMemo N) (t : ℕ) → IsMemoThere s.views memo → Holds memo.view t → Holds (seat_at r.machine.seats memo.number) t
-  machine_holds memo t is h = sym (ap (λ (v : SeatView). v.held) (memo_known memo is).shows) ∙ h
-
   -- so it sits at a port
   holder_sits : (memo : SeatMemo N) (t : ℕ) → IsMemoThere s.views memo → Holds memo.view t → SitsThere s.views memo
   holder_sits memo t (inl sits) h = sits
   holder_sits memo t (inr back) h =
       let was = ended_known memo back in
-      let c : false ≡ true = sym was.0 ∙ ap (λ (v : SeatView). v.live) was.1.shows
-      ∙ holder_lives memo.number t (machine_holds memo t (inr back) h) in
-      absurd cc
-
-  -- a held ticket was claimed, and is not reaped
-  pub held_is_claimed : (memo : SeatMemo N) (t : ℕ) → IsMemoThere s.views memo → Holds memo.view t → (r.machine.reaped ≤ t)
-      × (t < r.machine.word.claimed)
-  held_is_claimed memo t is h = ((ring_of r).seats.each memo.number).held_is_out t (machine_holds memo t is h)
-
-  -- and its slot is out
-  pub slot_of_held : (memo : SeatMemo N) (t : ℕ) → IsMemoThere s.views memo → Holds memo.view t
-      → IsOut (get_elem? s.homes (t % key.positions))
-  slot_of_held memo t is h =
-      let out = held_is_claimed memo t is h in
-      let below = out.1 in
-      let account = (ring_of r).permits.account in
-      let turn = one_turn_ahead r in
-      (r.are_slots.each t out.0 (omega (arith, below, account, turn))).held_out (open_of memo t is h)
-
-  -- two seats that hold one ticket are one
-  one_holder : (a b : SeatMemo N) (t : ℕ) → IsMemoThere s.views a → IsMemoThere s.views b → Holds a.view t → Holds b.view t → a ≡ b
-  one_holder a b t is_a is_b ha hb = one_each a b is_a is_b ((ring_of r).seats.apart a.number b.number t (machine_holds a t is_a ha)
-      (machine_holds b t is_b hb))
+      cc (was.0, was.1.shows, holder_lives memo.number t (machine_holds memo (inr back) t h))
 
   -- a ticket that a seat holds has this place alone
   held_by : (memo : SeatMemo N) (t : ℕ) → IsMemoThere s.views memo → Holds memo.view t → IsHeldOnce s.views t
@@ -251,25 +188,26 @@ module _ {O D T N : Type 0} {note : D → N} {Ao : T → O → Type 0} {An : T �
     sits = sits;
     is_live = is_live r _ sits.there;
     holds = h;
-    no_other = λ other there_too h_too. one_holder other memo t there_too is h_too h;
-    in_no_log = λ other j x there_too e. not_both t (other.number, x) (open_of memo t is h) (fate_of other j t x there_too e);
+    no_other = λ other is_too h_too. one_each other memo is_too is
+        ((ring_of r).seats.apart other.number memo.number t (machine_holds other is_too t h_too) (machine_holds memo is t h));
+    in_no_log = λ other j x is_too e. open_undecided r.fates t (other.number, x) (open_of memo is t h) (fate_of other is_too j t x e);
   }
 
   -- a ticket of which nothing became is held
   held_once : (t : ℕ) → get_elem? r.fates t ≡ some None → IsHeldOnce s.views t
   held_once t undone =
       let held = r.are_fates.open_is_held t undone in
-      let memo = memo_of held.0 (holder_made held.0 t held.1) in
-      let is = there_of memo.0 memo.2 in
-      held_by memo.0 t is (ap (λ (v : SeatView). v.held) ((memo_known memo.0 is).shows ∙ ap (seat_at r.machine.seats) memo.1) ∙ held.1)
+      let made = live_is_made r.machine.seats held.0 (holder_lives held.0 t held.1) in
+      let one = each_number_is_one_seats held.0 (made_if_holds r.keeper.made r.machine.seats held.0 t r.knows.made_is made held.1) in
+      held_by one.memo t one.is_there (ap (λ (v : SeatView). v.held) ((memo_known one.memo one.is_there).shows
+      ∙ ap (seat_at r.machine.seats) one.number_is) ∙ held.1)
 
   -- any other is in a log
   noted_as : (t : ℕ) (y : ℕ × N) → get_elem? r.fates t ≡ some (Some y) → IsNotedAs s.views t y.1
   noted_as t y done =
-      let memo = memo_of y.0 (r.are_fates.finished t y.0 y.1 done).0 in
-      let is = there_of memo.0 memo.2 in
-      let entry = log_of memo.0 t y.1 is (done ∙ ap (λ (i : ℕ). some (Some (i, y.1))) (sym memo.1)) in
-      record { taker = memo.0; is_there = is; place = entry.0; stands = entry.1 }
+      let one = each_number_is_one_seats y.0 (r.are_fates.finished t y.0 y.1 done).0 in
+      let entry = log_of one.memo one.is_there t y.1 (done ∙ ap (λ (i : ℕ). some (Some (i, y.1))) (sym one.number_is)) in
+      record { taker = one.memo; is_there = one.is_there; place = entry.0; stands = entry.1 }
 
   -- in one log alone, there once
   logged_once : (t : ℕ) (y : ℕ × N) → get_elem? r.fates t ≡ some (Some y) → IsLoggedOnce s.views t
@@ -279,8 +217,8 @@ module _ {O D T N : Type 0} {note : D → N} {Ao : T → O → Type 0} {An : T �
     place = noted.place;
     its_note = y.1;
     stands = noted.stands;
-    no_other = λ other j x there_too e. one_entry other noted.taker j noted.place t x y.1 there_too noted.is_there e noted.stands;
-    held_by_none = (logged_is_done noted.taker noted.place t y.1 noted.is_there noted.stands).1;
+    no_other = λ other j x is_too e. one_entry other noted.taker j noted.place t x y.1 is_too noted.is_there e noted.stands;
+    held_by_none = λ other is_too h. open_undecided r.fates t y (open_of other is_too t h) done;
   }
 
   -- a ticket has one place, whatever became of it
@@ -290,43 +228,23 @@ module _ {O D T N : Type 0} {note : D → N} {Ao : T → O → Type 0} {An : T �
 
   -- each claimed ticket has one place: a seat holds it, or a log has it
   pub each_ticket_has_one_place : (t : ℕ) → t < r.machine.word.claimed → HasOnePlace s.views t
-  each_ticket_has_one_place t less =
-      let all = r.are_fates.each_claimed in
-      let fate = there r.fates t (omega (arith, less, all)) in
-      place_from t fate.0 fate.1
+  each_ticket_has_one_place t less = let fate = there r.fates t (omega (arith, r.are_fates.each_claimed)) in place_from t fate.0 fate.1
 
   -- the keeper's note of a ticket is that of its log
-  pub note_of_a_ticket : (port t : ℕ) (its : Key T) (k : KeeperMemo N) (x : N) → get_elem? s.views port ≡ some (Keeps its k)
-      → get_elem? k.notes t ≡ some x → IsNotedAs s.views t x
-  note_of_a_ticket port t its k x at e =
-      let one = (keeper_port r at).1 in
-      let fate = r.knows.noted t x (ap (λ (h : KeeperMemo N). get_elem? h.notes t) (sym one) ∙ e) in
-      noted_as t (fate.0, x) fate.1
-
-  -- the calls of a log are in order
-  pub records_rise : (memo : SeatMemo N) → IsMemoThere s.views memo → IsInOrder r.machine.word.claimed memo.log
-  records_rise memo is = record {
-    rises = λ j l a b less ea eb. rises_apart 0 memo.log j l a b (memo_known memo is).ordered.rises less ea eb;
-    lost_within = λ j g e.
-        let below = within_end 0 memo.log j (Lost g) (memo_known memo is).ordered.rises e in
-        let claimed = (memo_known memo is).below_claims in
-        omega (arith, below, claimed);
-  }
+  pub note_of_a_ticket : (t : ℕ) (x : N) → get_elem? r.keeper.notes t ≡ some x → IsNotedAs s.views t x
+  note_of_a_ticket t x e = let fate = r.knows.noted t x e in noted_as t (fate.0, x) fate.1
 
   abbrev Admitted : Slot O D → Type 0
   Admitted = IsAdmittedSlot note Ao An key.terms
 
-  -- what is said of a place holds of the value that stands there
-  not_out : (x : Slot O D) (home : Home O D) → home ≡ some (some x) → IsOut home → Admitted x
-  not_out x home at out = absurd (some-ne-none x (some-injective (some x) none (sym at ∙ out)))
-
+  -- the value that stands at a place is the one that is said of it
   value_is : (x y : Slot O D) (home : Home O D) → home ≡ some (some x) → home ≡ some (some y) → Admitted y → Admitted x
-  value_is x y home at is = subst Admitted (sym (some-injective x y (some-injective (some x) (some y) (sym at ∙ is))))
+  value_is x y home at is = let same : y ≡ x = cc in subst Admitted same
 
   -- the value at home of a claimed ticket
   claimed_value : (t : ℕ) (x : Slot O D) (fate : Option (ℕ × N)) (home : Home O D) → IsSlot note (Ao key.terms) r.machine r.fates t home
       → get_elem? r.fates t ≡ some fate → home ≡ some (some x) → Admitted x
-  claimed_value t x None home is e at = not_out x home at (is.held_out e)
+  claimed_value t x None home is e at = cc (at, is.held_out e)
   claimed_value t x (Some y) home is e at =
       let done = is.finished_home y.0 y.1 e in
       value_is x (Finished done.0) home at done.2 (subst (An key.terms) (sym done.1) (r.are_fates.finished t y.0 y.1 e).1)
@@ -336,21 +254,19 @@ module _ {O D T N : Type 0} {note : D → N} {Ao : T → O → Type 0} {An : T �
       → r.machine.word.claimed ≤ t → home ≡ some (some x) → Admitted x
   later_value t x home is past at = elim (cases_lt t r.machine.offered) [
     | inl offered ↦ let y = is.offered_home past offered in value_is x (Offered y.0) home at y.2 y.1
-    | inr vacant ↦ not_out x home at (is.vacant_out vacant)
+    | inr vacant ↦ cc (at, is.vacant_out vacant)
   ]
 
   -- each value at home is admitted
-  pub values_at_home_are_admitted : (p : ℕ) (x : Slot O D) → get_elem? s.homes p ≡ some (some x) → IsAdmittedSlot note Ao An key.terms x
+  pub values_at_home_are_admitted : (p : ℕ) (x : Slot O D) → get_elem? s.homes p ≡ some (some x) → Admitted x
   values_at_home_are_admitted p x at =
-      let below = at_length s.homes p (some x) at in
-      let long = r.are_slots.a_slot_each in
-      let t = in_turn key.positions r.machine.reaped p (omega (arith, below, long)) in
+      let t = in_turn key.positions r.machine.reaped p (omega (arith, at_length s.homes p (some x) at, r.are_slots.a_slot_each)) in
       let is = r.are_slots.each t.0 t.1 t.2 in
       let home = get_elem? s.homes (t.0 % key.positions) in
       let here = ap (get_elem? s.homes) t.3 ∙ at in
       elim (cases_lt t.0 r.machine.word.claimed) [
-        | inl claimed ↦ let all = r.are_fates.each_claimed in let fate = there r.fates t.0
-            (omega (arith, claimed, all)) in claimed_value t.0 x fate.0 home is fate.1 here
+        | inl claimed ↦ let fate = there r.fates t.0 (omega (arith, r.are_fates.each_claimed)) in
+            claimed_value t.0 x fate.0 home is fate.1 here
         | inr past ↦ later_value t.0 x home is past here
       ]
 

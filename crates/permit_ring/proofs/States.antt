@@ -1,8 +1,8 @@
 -- What stays of the rule where one view changes.
-use Rattle.std.proofs.Common.{◌≡◌, ◌≢◌, ℕ, ◌+◌, ◌%◌, ◌<◌, ◌≤◌, Bool, true, false, List, length, set, Option, Some, None, refl, sym, ◌∙◌, ap, subst, inl, inr, mod-lt, arith}
+use Rattle.std.proofs.Common.{◌≡◌, ◌≢◌, ℕ, ◌+◌, ◌%◌, ◌<◌, ◌≤◌, true, false, List, length, set, Option, Some, None, refl, sym, ◌∙◌, ap, subst, inl, inr, mod-lt, arith}
 use Rattle.std.proofs.lemmas.Bool.{cases_eq}
 use Rattle.std.proofs.lemmas.List.{length-set}
-use mathlib.Core.Option.{some, some-injective, some-ne-none}
+use mathlib.Core.Option.{some, some-injective}
 use mathlib.Core.Option as maybe
 use lib.ListN.{get_elem?}
 use Rattle.atomic_table.proofs.Lists.{at_set, set_here, set_else}
@@ -12,38 +12,16 @@ use Rattle.ring_core.proofs.SeatLemmas.{SameHolders}
 use Rattle.ring_core.proofs.Turns.{same_position}
 use Rattle.ring_core.specs.Sound.{IsRing}
 use Rattle.ring_core.proofs.Opens.{opens}
-use Rattle.permit_ring.specs.Names.{SeatView, Key, KeeperMemo, Move, SeatMemo, Slot, View, Sits, Keeps, Spent}
+use Rattle.permit_ring.specs.Names.{Key, KeeperMemo, Move, SeatMemo, Slot, View, Sits, Keeps, Spent}
 use Rattle.permit_ring.specs.Logs.{taken_by}
 use Rattle.permit_ring.specs.Moves.{Leads, by_seat}
 use Rattle.permit_ring.specs.Rule.{words_of, StandsIn, AreFates, Home, IsSlot, AreSlots, IsSeatMemo, IsKeeperMemo, IsViewAt, IsSomewhere, Runs}
 use Rattle.permit_ring.proofs.ListLemmas.{at_length}
 use Rattle.permit_ring.proofs.MoveLemmas.{led_ring, led_sizes}
 
-module _ {T N : Type 0} where
-  sits : View T N → Bool
-  sits (Sits key memo) = true
-  sits (Keeps key k) = false
-  sits Spent = false
-
-  memo_or : SeatMemo N → View T N → SeatMemo N
-  memo_or d (Sits key memo) = memo
-  memo_or d (Keeps key k) = d
-  memo_or d Spent = d
-
-  keeper_or : KeeperMemo N → View T N → KeeperMemo N
-  keeper_or d (Sits key memo) = d
-  keeper_or d (Keeps key k) = k
-  keeper_or d Spent = d
-
-  -- one view has one memo
-  pub one_memo : (key its : Key T) (memo other : SeatMemo N) → Sits key memo ≡ Sits its other → memo ≡ other
-  one_memo key its memo other e = unfold memo_or in ap (memo_or memo) e
-
-  pub one_keeper : (key its : Key T) (k other : KeeperMemo N) → Keeps key k ≡ Keeps its other → k ≡ other
-  one_keeper key its k other e = unfold keeper_or in ap (keeper_or k) e
-
-  pub no_seat_keeps : {A : Type 0} (key its : Key T) (memo : SeatMemo N) (k : KeeperMemo N) → Sits key memo ≡ Keeps its k → A
-  no_seat_keeps key its memo k e = let c : true ≡ false = (unfold sits in ap sits e) in absurd cc
+-- one view has one memo
+pub one_memo : {T N : Type 0} (key its : Key T) (memo other : SeatMemo N) → Sits key memo ≡ Sits its other → memo ≡ other
+one_memo key its memo other e = cc
 
 module _ {N : Type 0} {m now : Machine} {fates later : List (Option (ℕ × N))} where
   -- a seat that a step leaves alone still knows what it knew
@@ -53,11 +31,11 @@ module _ {N : Type 0} {m now : Machine} {fates later : List (Option (ℕ × N))}
       → taken_by memo.number 0 later ≡ taken_by memo.number 0 fates → m.word.claimed ≤ now.word.claimed
       → ((g : ℕ) → StandsIn fronts g → StandsIn further g) → made ≤ more → IsSeatMemo now then later further more memo
   seat_stays k seat moved took claimed wider grown = record {
-    is_made = let is = k.is_made in omega (arith, is, grown);
+    is_made = omega arith;
     shows = k.shows ∙ sym seat;
     moved = k.moved ∙ sym moved;
     ordered = k.ordered;
-    below_claims = let is = k.below_claims in omega (arith, is, claimed);
+    below_claims = omega arith;
     got = k.got ∙ sym took;
     lost_at_front = λ j g e. wider g (k.lost_at_front j g e);
   }
@@ -70,7 +48,7 @@ module _ {N : Type 0} {m now : Machine} {fates : List (Option (ℕ × N))} where
     each_claimed = f.each_claimed ∙ sym claimed;
     held_is_open = λ i t h. f.held_is_open i t (sym (same i) ∙ h);
     open_is_held = λ t e. let h = f.open_is_held t e in (h.0, same h.0 ∙ h.1);
-    finished = λ t i x e. let done = f.finished t i x e in let less = done.0 in (omega (arith, less, grown), done.1);
+    finished = λ t i x e. let done = f.finished t i x e in (omega arith, done.1);
   }
 
   module _ {O D : Type 0} {note : D → N} {Admits : O → Type 0} {n : ℕ} {homes : List (maybe.Option (Slot O D))} where
@@ -79,11 +57,11 @@ module _ {N : Type 0} {m now : Machine} {fates : List (Option (ℕ × N))} where
         → AreSlots note Admits m fates n homes → AreSlots note Admits now fates n homes
     slots_stay reaped claimed offered a = record {
       a_slot_each = a.a_slot_each;
-      each = λ t from to. let is = a.each t (omega (arith, from, reaped)) (omega (arith, to, reaped)) in record {
+      each = λ t from to. let is = a.each t (omega arith) (omega arith) in record {
         finished_home = is.finished_home;
         held_out = is.held_out;
-        offered_home = λ past below. is.offered_home (omega (arith, past, claimed)) (omega (arith, below, offered));
-        vacant_out = λ past. is.vacant_out (omega (arith, past, offered));
+        offered_home = λ past below. is.offered_home (omega arith) (omega arith);
+        vacant_out = λ past. is.vacant_out (omega arith);
       };
     }
 
@@ -98,8 +76,8 @@ module _ {O D N : Type 0} {note : D → N} {Admits : O
   slots_set u v positive from_u to_u reaped was own others = record {
     a_slot_each = length-set homes (u % n) v ∙ was.a_slot_each;
     each = λ t from to.
-        let since : m.reaped ≤ t = omega (arith, from, reaped) in
-        let until : t < m.reaped + n = omega (arith, to, reaped) in
+        let since : m.reaped ≤ t = omega arith in
+        let until : t < m.reaped + n = omega arith in
         elim (cases_eq t u) [
           | inl here ↦
               let place : u % n < length homes = subst (λ (k : ℕ). u % n < k) (sym was.a_slot_each) (mod-lt u positive) in
@@ -130,17 +108,14 @@ module _ {O D T N : Type 0} {note : D → N} {Ao : T → O → Type 0} {An : T �
   -- the keeper sits at the first port
   pub keeper_port : {id : ℕ} {its : Key T} {k : KeeperMemo N} → get_elem? s.views id ≡ some (Keeps its k) → (id ≡ 0) × (k ≡ r.keeper)
   keeper_port {id = id} {its = its} {k = k} at =
-      let first : id ≡ 0 = r.each_view id (Keeps its k) at in (
-        first,
-        one_keeper its key k r.keeper (some-injective (Keeps its k) (Keeps key r.keeper)
-            (sym (ap (get_elem? s.views) (sym first) ∙ at) ∙ r.keeper_there)),
-      )
+      let first : id ≡ 0 = r.each_view id (Keeps its k) at in
+      let same : k ≡ r.keeper = cc r.keeper_there in
+      (first, same)
 
   module _ (id : ℕ) {its : Key T} {memo : SeatMemo N} (at : get_elem? s.views id ≡ some (Sits its memo)) where
     -- a seat sits elsewhere
     pub not_first : id ≢ 0
-    not_first e = no_seat_keeps its key memo r.keeper (some-injective (Sits its memo) (Keeps key r.keeper)
-        (sym at ∙ ap (get_elem? s.views) e ∙ r.keeper_there))
+    not_first e = cc r.keeper_there
 
     -- at its own port, live, and knows
     pub at_own_port : r.owner memo.number ≡ id
@@ -155,8 +130,32 @@ module _ {O D T N : Type 0} {note : D → N} {Ao : T → O → Type 0} {An : T �
     -- and is none that came back
     pub not_ended : {A : Type 0} (other : SeatMemo N) → other.view.live ≡ false → other.number ≡ memo.number
         → IsSeatMemo r.machine r.moves r.fates r.keeper.fronts r.keeper.made other → A
-    not_ended other off e k = let c : true ≡ false = sym is_live
-        ∙ ap (λ (v : SeatView). v.live) (knows_it.shows ∙ ap (seat_at r.machine.seats) (sym e) ∙ sym k.shows) ∙ off in absurd cc
+    not_ended other off e k = cc (is_live, knows_it.shows, k.shows)
+
+  -- the rule goes on in this state, where the keeper knows this, and views stand and seats sit so
+  module _ (now : Machine) (then : List Move) (later : List (Option (ℕ × N))) (k : KeeperMemo N) (views : List (View T N))
+      (owner : ℕ → ℕ) where
+    -- a view stays, where its seat has the port and knows what it knew
+    pub view_stays : {port : ℕ} {v : View T N} → get_elem? s.views port ≡ some v
+        → ((memo : SeatMemo N) → r.owner memo.number ≡ port → IsSeatMemo r.machine r.moves r.fates r.keeper.fronts r.keeper.made memo
+        → (owner memo.number ≡ port) × IsSeatMemo now then later k.fronts k.made memo)
+        → IsViewAt key now then later k views owner port v
+    view_stays {port = port} {v = Sits its memo} at on =
+        let p = r.each_view port (Sits its memo) at in
+        let q = on memo p.1 p.3 in
+        (p.0, q.0, p.2, q.1)
+    view_stays {port = port} {v = Keeps its other} at on = r.each_view port (Keeps its other) at
+    view_stays {v = Spent} at on = tt
+
+    -- a seat is where it was, or came back and knows what it knew
+    pub somewhere_stays : {i : ℕ} {back : Option (SeatMemo N)} → get_elem? r.keeper.back i ≡ some back
+        → ((memo : SeatMemo N) → memo.number ≡ i → get_elem? s.views (r.owner i) ≡ some (Sits key memo)
+        → IsSomewhere key now then later k views owner i None)
+        → ((memo : SeatMemo N) → memo.number ≡ i → memo.view.live ≡ false
+        → IsSeatMemo r.machine r.moves r.fates r.keeper.fronts r.keeper.made memo → IsSeatMemo now then later k.fronts k.made memo)
+        → IsSomewhere key now then later k views owner i back
+    somewhere_stays {i = i} {back = None} at there on = let p = r.each_seat i None at in there p.0 p.1 p.2
+    somewhere_stays {i = i} {back = Some memo} at there on = let p = r.each_seat i (Some memo) at in (p.0, p.1, on memo p.0 p.1 p.2)
 
   -- the machine, its moves and the fates go on
   module _ (now : Machine) (then : List Move) (later : List (Option (ℕ × N))) (words : List ℕ) (homes : List (maybe.Option (Slot O D)))
@@ -185,32 +184,24 @@ module _ {O D T N : Type 0} {note : D → N} {Ao : T → O → Type 0} {An : T �
       each_view = λ port v e. elim (at_set s.views id port (Sits key new) v e) [
         | inl here ↦ subst (IsViewAt key now then later r.keeper (set s.views id (Sits key new)) r.owner port) here.1
             (refl, ap r.owner same ∙ at_own_port id at ∙ sym here.0, live, mine)
-        | inr there ↦ still port v there.0 (r.each_view port v there.1)
+        | inr there ↦ view_stays now then later r.keeper (set s.views id (Sits key new)) r.owner there.1 (λ other port_is was. (
+          port_is,
+          others other (λ e. there.0 (sym port_is ∙ ap r.owner e ∙ at_own_port id at)) was,
+        ))
       ];
-      each_seat = λ i back e. somewhere i back (r.each_seat i back e);
+      each_seat = λ i back e. somewhere_stays now then later r.keeper (set s.views id (Sits key new)) r.owner e
+          (λ its_memo number_is there. elim (cases_eq (r.owner i) id) [
+            | inl here ↦
+                let one : memo ≡ its_memo = one_memo key key memo its_memo (some-injective _ _ (sym at ∙ ap (get_elem? s.views) (sym here) ∙ there)) in (
+                  new,
+                  same ∙ ap (λ (k : SeatMemo N). k.number) one ∙ number_is,
+                  ap (get_elem? (set s.views id (Sits key new))) here
+                      ∙ set_here s.views id (Sits key new) (at_length s.views id (Sits key memo) at),
+                )
+            | inr away ↦ (its_memo, number_is, set_else s.views id (r.owner i) (Sits key new) away ∙ there)
+          ])
+          (λ ended number_is off was. others ended (λ e. not_ended id at ended off e was) was);
     }
-      where
-        still : (port : ℕ) (v : View T N) → port ≢ id → IsViewAt key r.machine r.moves r.fates r.keeper s.views r.owner port v
-            → IsViewAt key now then later r.keeper (set s.views id (Sits key new)) r.owner port v
-        still port (Sits its other) away p = (p.0, p.1, p.2, others other (λ e. away (sym p.1 ∙ ap r.owner e ∙ at_own_port id at)) p.3)
-        still port (Keeps its k) away p = p
-        still port Spent away p = tt
-
-        somewhere : (i : ℕ) (back : Option (SeatMemo N)) → IsSomewhere key r.machine r.moves r.fates r.keeper s.views r.owner i back
-            → IsSomewhere key now then later r.keeper (set s.views id (Sits key new)) r.owner i back
-        somewhere i None p = elim (cases_eq (r.owner i) id) [
-          | inl here ↦
-              let one : memo ≡ p.0 = one_memo key key memo p.0
-              (some-injective (Sits key memo) (Sits key p.0) (sym at ∙ ap (get_elem? s.views) (sym here) ∙ p.2)) in
-              let long = at_length s.views id (Sits key memo) at in (
-                new,
-                same ∙ ap (λ (k : SeatMemo N). k.number) one ∙ p.1,
-                ap (get_elem? (set s.views id (Sits key new))) here
-                    ∙ set_here s.views id (Sits key new) long,
-              )
-          | inr away ↦ (p.0, p.1, set_else s.views id (r.owner i) (Sits key new) away ∙ p.2)
-        ]
-        somewhere i (Some ended) p = (p.0, p.1, others ended (λ e. not_ended id at ended p.1 e p.2) p.2)
 
     -- or the keeper knows more, and made no seat
     pub keeper_changes : {k : KeeperMemo N} → AreFates now (An key.terms) k.made later → IsKeeperMemo key.positions now then later k
@@ -233,18 +224,13 @@ module _ {O D T N : Type 0} {note : D → N} {Ao : T → O → Type 0} {An : T �
       owner = r.owner;
       each_view = λ port v e. elim (at_set s.views 0 port (Keeps key k) v e) [
         | inl here ↦ subst (IsViewAt key now then later k (set s.views 0 (Keeps key k)) r.owner port) here.1 here.0
-        | inr there ↦ still port v (r.each_view port v there.1)
+        | inr there ↦ view_stays now then later k (set s.views 0 (Keeps key k)) r.owner there.1 (λ other port_is was. (port_is, others other was))
       ];
-      each_seat = λ i was e. somewhere i was (r.each_seat i was (ap (λ (b : List (Option (SeatMemo N))). get_elem? b i) (sym back) ∙ e));
+      each_seat = λ i was e. somewhere_stays now then later k (set s.views 0 (Keeps key k)) r.owner (cc (back, e))
+          (λ memo number_is there. (
+            memo,
+            number_is,
+            set_else s.views 0 (r.owner i) (Keeps key k) (not_first (r.owner i) there) ∙ there,
+          ))
+          (λ ended number_is off was. others ended was);
     }
-      where
-        still : (port : ℕ) (v : View T N) → IsViewAt key r.machine r.moves r.fates r.keeper s.views r.owner port v
-            → IsViewAt key now then later k (set s.views 0 (Keeps key k)) r.owner port v
-        still port (Sits its other) p = (p.0, p.1, p.2, others other p.3)
-        still port (Keeps its other) p = p
-        still port Spent p = tt
-
-        somewhere : (i : ℕ) (was : Option (SeatMemo N)) → IsSomewhere key r.machine r.moves r.fates r.keeper s.views r.owner i was
-            → IsSomewhere key now then later k (set s.views 0 (Keeps key k)) r.owner i was
-        somewhere i None p = (p.0, p.1, set_else s.views 0 (r.owner i) (Keeps key k) (not_first (r.owner i) p.2) ∙ p.2)
-        somewhere i (Some ended) p = (p.0, p.1, others ended p.2)

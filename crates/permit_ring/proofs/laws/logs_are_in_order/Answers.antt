@@ -2,4 +2,4 @@ use Rattle.permit_ring.proofs.RuleLaws.{records_rise}
 use Rattle.permit_ring.proofs.laws.logs_are_in_order.Goals as goal
 
 pub returns : goal.returns
-returns g c = λ memo is. records_rise g.r.rule memo is
+returns g c = records_rise g.r.rule

@@ -2,4 +2,4 @@ use Rattle.permit_ring.proofs.RuleLaws.{values_at_home_are_admitted}
 use Rattle.permit_ring.proofs.laws.values_at_home_are_admitted.Goals as goal
 
 pub returns : goal.returns
-returns g c = λ x e. values_at_home_are_admitted g.r.rule c.args.position x e
+returns g c = values_at_home_are_admitted g.r.rule c.args.position
