@@ -1,5 +1,6 @@
 -- The numbers of a ring are small: each fits far below 64 bits.
 use Rattle.std.proofs.Common.{ℕ, suc, ◌+◌, ◌*◌, ◌^◌, ◌≤◌, List, [], ◌∷◌, length, sum_by, suc-mul, arith}
+use Rattle.std.proofs.lemmas.Grind.{common_steps}
 use Rattle.std.proofs.lemmas.List.Sums.{sum_by-cons}
 use Rattle.ring_core.specs.Names.{SeatView}
 use Rattle.ring_core.specs.Machine.{Machine, seat_at}
@@ -33,12 +34,4 @@ small m r =
     let calls = ring_sum_within m r (λ (s : SeatView). s.calls) (λ i. (r.seats.each i).calls_within) in
     let marks0 = ring_sum_within m r (λ (s : SeatView). s.marks0) (λ i. (r.seats.each i).marks0_within) in
     let marks1 = ring_sum_within m r (λ (s : SeatView). s.marks1) (λ i. (r.seats.each i).marks1_within) in
-    record {
-      claimed = omega arith;
-      over = omega arith;
-      free = omega arith;
-      reaped = omega arith;
-      offered = omega arith;
-      loss0 = omega arith;
-      loss1 = omega arith;
-    }
+    grind (arith, common_steps)

@@ -36,11 +36,5 @@ module _ (m : Machine) (r : IsRing m) (i : ℕ) (made : i < length m.seats) (now
     marks = λ p h. mark_same m.seats seats same (r.marks p h);
     loss0 = sum0;
     loss1 = sum1;
-    last = record {
-      field_falls = omega arith;
-      tries_rise = omega arith;
-      free_within = r.last.free_within;
-      over_within = r.last.over_within;
-      either = r.last.either;
-    };
+    last = let l = r.last in grind (arith, common_steps);
   }

@@ -51,15 +51,7 @@ module _ (m : Machine) (r : IsRing m) (i : ℕ) (is_armed : (seat_at m.seats i).
   served = record old { armed = false; held = Some (record { 0 = m.word.claimed }) }
 
   served_in_order : IsSeat m.reaped (m.word.claimed + 1) served
-  served_in_order = let s = r.seats.each i in record {
-    armed_is_live = λ e. absurd cc;
-    holder_is_live = λ _. s.armed_is_live is_armed;
-    armed_holds_none = λ e. absurd cc;
-    held_is_out = λ t h. let same = one_ticket m.word.claimed t h in (omega arith, omega arith);
-    calls_within = s.calls_within;
-    marks0_within = s.marks0_within;
-    marks1_within = s.marks1_within;
-  }
+  served_in_order = let s = r.seats.each i in grind (arith, common_steps)
 
   abbrev now : List SeatView
   now = set m.seats i served
@@ -103,27 +95,15 @@ module _ (m : Machine) (r : IsRing m) (i : ℕ) (is_armed : (seat_at m.seats i).
       let sums = sums_after m.seats i served made in
       let one = counted in
       let none = none_over some in
+      let wider = λ (j : ℕ). wider_seat m.reaped m.word.claimed (seat_at m.seats j) (r.seats.each j) in
       record {
         sizes = r.sizes;
-        permits = record {
-          account = omega arith;
-          free_within = omega arith;
-          either = inr none;
-          reaped_claimed = omega arith;
-          one_turn_ahead = r.permits.one_turn_ahead;
-        };
-        seats = seats_set m r i made served (λ j. wider_seat m.reaped m.word.claimed (seat_at m.seats j) (r.seats.each j)) served_in_order
-            apart (omega arith) (omega arith);
+        permits = let p = r.permits in grind (arith, common_steps);
+        seats = seats_set m r i made served wider served_in_order apart (omega arith) (omega arith);
         marks = λ p h. mark_stays (finished_before p) (finished_after p) (r.marks p h);
         loss0 = omega arith;
         loss1 = omega arith;
-        last = record {
-          field_falls = omega arith;
-          tries_rise = omega arith;
-          free_within = r.last.free_within;
-          over_within = r.last.over_within;
-          either = r.last.either;
-        };
+        last = let l = r.last in grind (arith, common_steps);
       }
 
   pub claim_keeps : IsRing (after m (Claim i))

@@ -1,5 +1,5 @@
 -- What holds of a ring holds of one whose positions are all free.
-use Rattle.std.proofs.Common.{ℕ, ◌≤◌, [], ◌∷◌, refl, sym, subst, inr, arith}
+use Rattle.std.proofs.Common.{ℕ, ◌≤◌, [], ◌∷◌, refl, sym, subst, arith}
 use Rattle.std.proofs.lemmas.Grind.{common_steps}
 use Rattle.std.proofs.lemmas.List.{get_or-replicate, length-replicate}
 use Rattle.ring_core.specs.Machine.{nobody, new_seat, opening}
@@ -16,13 +16,7 @@ fresh_mark n p = record { above_all = λ t f. f.claimed_before; just_above = λ 
 pub opens : (n limit : ℕ) → 1 ≤ n → n ≤ 1024 → 1 ≤ limit → limit ≤ 32 → IsRing (opening n limit)
 opens n limit some most one few = record {
   sizes = record { some_position = some; most_positions = most; most_seats = few; a_mark_each = length-replicate n 0 };
-  permits = record {
-    account = omega arith;
-    free_within = omega arith;
-    either = inr refl;
-    reaped_claimed = omega arith;
-    one_turn_ahead = omega arith;
-  };
+  permits = grind (arith, common_steps);
   seats = record {
     each = seat_at-push [] (IsSeat 0 0) (λ i. nobody_in_order) (new_in_order 0 0);
     apart = apart_same [] (new_seat ∷ []) (holders_stay_push []) (λ i j t hi hj. none_held nobody.held t refl hi);
@@ -33,5 +27,5 @@ opens n limit some most one few = record {
   marks = λ p h. subst (IsMark n 0 (new_seat ∷ []) p) (sym (get_or-replicate n p 0 0 h)) (fresh_mark n p);
   loss0 = refl;
   loss1 = refl;
-  last = record { field_falls = omega arith; tries_rise = refl; free_within = omega arith; over_within = omega arith; either = inr refl };
+  last = grind (arith, common_steps);
 }

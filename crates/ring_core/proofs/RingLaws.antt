@@ -1,6 +1,7 @@
 -- What the ring that threads share rests on, beside that each step keeps what holds of a ring.
 use Rattle.std.proofs.Common.{◌≡◌, ℕ, ◌+◌, ◌<◌, ◌≤◌, Bool, true, false, cond, Some, None, refl, ap, inl, inr, arith}
 use Rattle.std.proofs.lemmas.Bool.{cases_lt}
+use Rattle.std.proofs.lemmas.Grind.{common_steps}
 use Rattle.ring_core.specs.Names.{Step}
 use Rattle.ring_core.specs.Machine.{Machine, seat_at, same_word, possible, after, next}
 use Rattle.ring_core.specs.Sound.{IsRing}
@@ -12,21 +13,11 @@ use Rattle.ring_core.proofs.WordLemmas.{same_counts, one_word}
 module _ (m : Machine) (r : IsRing m) where
   -- the permit word can be packed
   pub word_packs : IsPackable m.limit m.word
-  word_packs = let low = small m r in record {
-    tries_fit = omega arith;
-    free_fits = omega arith;
-    over_fits = omega arith;
-    either = r.permits.either;
-  }
+  word_packs = let low = small m r in grind (arith, common_steps)
 
   -- and so can the word that the keeper last read or left
   pub seen_packs : IsPackable m.limit m.seen
-  seen_packs = let low = small m r in record {
-    tries_fit = omega arith;
-    free_fits = omega arith;
-    over_fits = r.last.over_within;
-    either = r.last.either;
-  }
+  seen_packs = let low = small m r in grind (arith, common_steps)
 
   -- an offer that misses found a word with a smaller field than the keeper's
   pub missed_field_falls : same_word m.word m.seen ≡ false → field_of m.limit m.word < field_of m.limit m.seen

@@ -1,26 +1,18 @@
 -- No step changes the sizes of a ring.
-use Rattle.std.proofs.Common.{◌≡◌, ℕ, ◌+◌, zero, suc, Bool, true, false, cond, Result, Ok, Err, refl, ◌∙◌, ap}
+use Rattle.std.proofs.Common.{◌≡◌, ℕ, zero, suc, Result, Ok, Err, refl, arith}
+use Rattle.std.proofs.lemmas.Grind.{common_steps}
 use Rattle.ring_core.specs.Names.{Step, Look, Claim, Finish, See, Read, Offer, Mark, Sweep, Split, Join}
-use Rattle.ring_core.specs.Machine.{Machine, HasSizes, StepAnswers, same_word, offered_to, after}
+use Rattle.ring_core.specs.Machine.{Machine, HasSizes, StepAnswers, after}
 use Rattle.ring_core.proofs.RingLaws.{step_of_next}
 
 pub same_sizes : (m now : Machine) → now ≡ m → HasSizes m.positions m.limit now
-same_sizes m now e = record { positions_are = ap (λ (k : Machine). k.positions) e; limit_is = ap (λ (k : Machine). k.limit) e }
+same_sizes m now e = record { positions_are = cc; limit_is = cc }
 
 pub sizes_on : (n limit : ℕ) (m now : Machine) → HasSizes n limit m → HasSizes m.positions m.limit now → HasSizes n limit now
-sizes_on n limit m now before after_it = record {
-  positions_are = after_it.positions_are
-      ∙ before.positions_are;
-  limit_is = after_it.limit_is ∙ before.limit_is;
-}
+sizes_on n limit m now before behind = record { positions_are = cc; limit_is = cc }
 
-offer_sizes : (m : Machine) (k : ℕ) (same : Bool) → HasSizes m.positions m.limit (cond same (record m {
-  word = offered_to m.word k;
-  offered = m.offered + k;
-  seen = offered_to m.word k;
-}) (record m { seen = m.word }))
-offer_sizes m k true = record { positions_are = refl; limit_is = refl }
-offer_sizes m k false = record { positions_are = refl; limit_is = refl }
+offer_sizes : (m : Machine) (k : ℕ) → HasSizes m.positions m.limit (after m (Offer k))
+offer_sizes m k = grind (arith, common_steps)
 
 pub after_sizes : (m : Machine) (step : Step) → HasSizes m.positions m.limit (after m step)
 after_sizes m (Look i) = record { positions_are = refl; limit_is = refl }
@@ -28,7 +20,7 @@ after_sizes m (Claim i) = record { positions_are = refl; limit_is = refl }
 after_sizes m (Finish i) = record { positions_are = refl; limit_is = refl }
 after_sizes m See = record { positions_are = refl; limit_is = refl }
 after_sizes m Read = record { positions_are = refl; limit_is = refl }
-after_sizes m (Offer k) = offer_sizes m k (same_word m.word m.seen)
+after_sizes m (Offer k) = offer_sizes m k
 after_sizes m (Mark i zero) = record { positions_are = refl; limit_is = refl }
 after_sizes m (Mark i (suc kind)) = record { positions_are = refl; limit_is = refl }
 after_sizes m (Sweep zero) = record { positions_are = refl; limit_is = refl }

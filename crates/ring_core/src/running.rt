@@ -5,7 +5,7 @@ ghost use Rattle.ring_core.specs.Sound.{IsRing};
 
 use crate::fault::RunFault;
 use crate::state::RingState;
-use crate::step::Step;
+use crate::step::{NotPossible, Step};
 use std::alloc::Global;
 
 /// Makes the steps in turn, from a ring whose positions are all free.
@@ -18,7 +18,7 @@ pub fn run(alloc: Global, n: u16, seats: u8, steps: &[Step]) -> Result<RingState
 {
     let mut ring = RingState::make(alloc, n, seats)?;
     for (at, step) in steps.iter().enumerate() {
-        if ring.step(step).is_err() {
+        if let Err(NotPossible) = ring.step(step) {
             return Err(RunFault::NotPossible { at });
         }
     }

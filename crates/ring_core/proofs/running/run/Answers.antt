@@ -1,6 +1,6 @@
 use Rattle.std.proofs.Common.{ap, sym, ◌∙◌, Some}
 use Rattle.ring_core.specs.Machine.{Machine, opening}
-use Rattle.ring_core.proofs.Runs.{run_on, run_stops, run_ends}
+use Rattle.ring_core.proofs.Runs.{one_more, run_stops, run_ends}
 use Rattle.ring_core.proofs.Sizes.{same_sizes, sizes_on}
 use Rattle.ring_core.proofs.running.run.Goals as goal
 
@@ -13,14 +13,15 @@ loop-at-init c = record {
 
 pub loop-at-preserved : goal.loop-at-preserved
 loop-at-preserved c = record {
-  reached = run_on (opening c.args.n c.args.seats) c.loop-at.ring c.step.new.self c.args.steps.now c.loop-at.at c.loop-at-test.true c.loop-at.invariant.reached c.step.result c.step.ensures.next (sym c.is_err.ensures.value ∙ c.if-is_err.false);
+  reached = one_more (opening c.args.n c.args.seats) c.loop-at.ring c.args.steps.now c.loop-at.at c.loop-at-test.true
+      c.loop-at.invariant.reached ∙ c.in_default.ensures.next;
   sizes = sizes_on c.args.n c.args.seats c.loop-at.ring c.step.new.self c.loop-at.invariant.sizes c.step.ensures.sizes;
   sound = c.step.ensures.sound;
 }
 
-pub returns-then-is_err-clause-answer : goal.returns-then-is_err-clause-answer
-returns-then-is_err-clause-answer c = run_stops
-    (opening c.args.n c.args.seats) c.loop-at.ring c.step.new.self c.args.steps.now c.loop-at.at c.loop-at-test.true c.loop-at.invariant.reached c.step.result c.step.ensures.next (sym c.is_err.ensures.value ∙ c.if-is_err.true)
+pub returns-in-Err-clause-answer : goal.returns-in-Err-clause-answer
+returns-in-Err-clause-answer c = run_stops (opening c.args.n c.args.seats) c.loop-at.ring c.args.steps.now c.loop-at.at
+    c.loop-at-test.true c.loop-at.invariant.reached c.in-Err.ensures.next
 
 pub returns-clause-answer : goal.returns-clause-answer
 returns-clause-answer c = run_ends
