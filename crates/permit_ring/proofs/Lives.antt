@@ -1,7 +1,7 @@
 -- Splits and joins keep the rule: the keeper makes one more seat, or takes one back.
-use Rattle.std.proofs.Common.{◌≡◌, ◌≢◌, ℕ, ◌+◌, ◌<◌, Bool, true, false, cond, eqb, List, [], ◌∷◌, ◌++◌, set, length, Option, Some, None, refl, sym, ◌∙◌, ap, ap₂, subst, subst₂, inl, inr, le_refl, eq-eqb, ne_eqb, arith}
+use Rattle.std.proofs.Common.{◌≡◌, ◌≢◌, ℕ, ◌+◌, ◌<◌, Bool, true, false, cond, eqb, List, [], ◌∷◌, ◌++◌, set, length, Option, Some, None, refl, sym, ◌∙◌, ap, ap₂, subst, inl, inr, le_refl, eq-eqb, ne_eqb, arith}
 use Rattle.std.proofs.lemmas.List.{length-append, length-set, get_or_append_left, get_or_push}
-use mathlib.Core.Option.{some, some-injective}
+use mathlib.Core.Option.{some}
 use lib.ListN.{get_elem?}
 use Rattle.atomic_table.specs.Table.{State, Joins, Splits}
 use Rattle.atomic_table.proofs.Lists.{at_set, set_here, set_else, at_longer, at_last}
@@ -17,7 +17,7 @@ use Rattle.permit_ring.specs.Steps.{and_move, ended, new_memo, makes, welcomes}
 use Rattle.permit_ring.proofs.ListLemmas.{at_end, at_length}
 use Rattle.permit_ring.proofs.MoveLemmas.{leads_on, by_seat-else, by_keeper-own}
 use Rattle.permit_ring.proofs.NewRings.{new_ordered}
-use Rattle.permit_ring.proofs.States.{one_memo, view_stays, somewhere_stays, seat_stays, fates_stay, slots_stay, keeper_port, not_first, at_own_port, knows_it, sizes_of}
+use Rattle.permit_ring.proofs.States.{view_stays, somewhere_stays, seat_stays, fates_stay, slots_stay, keeper_port, not_first, at_own_port, knows_it, sizes_of}
 
 -- the seats and the moves after the seat of this number was made
 record IsSplit (made : ℕ) (seats now : List SeatView) (moves then : List Move) : Type 0 where
@@ -255,7 +255,7 @@ module _ {O D T N : Type 0} {note : D → N} {Ao : T → O → Type 0} {An : T �
     | inr apart ↦ somewhere_stays r after_join further r.fates (welcomes memo r.keeper) joined r.owner apart.1
         (λ k number_is there.
           let elsewhere : r.owner i ≢ other = λ same.
-              let one : memo ≡ k = one_memo key key memo k (some-injective _ _ (sym at ∙ ap (get_elem? s.views) (sym same) ∙ there)) in
+              let one : memo ≡ k = cc (at, there) in
               apart.0 (sym number_is ∙ sym (ap (λ (h : SeatMemo N). h.number) one)) in (
             k,
             number_is,
@@ -307,17 +307,7 @@ module _ {O D T N : Type 0} (note : D → N) (Ao : T → O → Type 0) (An : T �
       → Splits (Runs note Ao An key) id v (split_left v) (split_right v)
   splits_allowed id v k is room s r at =
       let p = keeper_port r (at ∙ ap some is) in
-      subst (λ (w : View T N). Runs note Ao An key record {
-        words = s.words;
-        homes = s.homes;
-        views = set s.views id (split_left w) ++ split_right w ∷ [];
-      }) (sym is)
-      (subst₂ (λ (j : ℕ) (h : KeeperMemo N). Runs note Ao An key record {
-        words = s.words;
-        homes = s.homes;
-        views = set s.views j (Keeps key (makes h)) ++ Sits key (new_memo h.made) ∷ [];
-      }) (sym p.0) (sym p.1)
-      (splits r (subst (λ (h : KeeperMemo N). h.made < key.limit) p.1 room)))
+      rw (is, p.0, p.1) (splits r (subst (λ (h : KeeperMemo N). h.made < key.limit) p.1 room))
 
   -- the keeper may take an idle seat back
   pub joins_allowed : (id other : ℕ) (v w : View T N) (k : KeeperMemo N) (memo : SeatMemo N) → v ≡ Keeps key k → w ≡ Sits key memo
@@ -326,13 +316,4 @@ module _ {O D T N : Type 0} (note : D → N) (Ao : T → O → Type 0) (An : T �
       let p = keeper_port r (at ∙ ap some keeps) in
       let there : get_elem? s.views other ≡ some (Sits key memo) = sym (set_else s.views id other (join_both v w) apart) ∙ at_other
       ∙ ap some sits in
-      subst₂ (λ (x y : View T N). Runs note Ao An key record {
-        words = s.words;
-        homes = s.homes;
-        views = set (set s.views id (join_both x y)) other Spent;
-      }) (sym keeps) (sym sits)
-      (subst₂ (λ (j : ℕ) (h : KeeperMemo N). Runs note Ao An key record {
-        words = s.words;
-        homes = s.homes;
-        views = set (set s.views j (Keeps key (welcomes memo h))) other Spent;
-      }) (sym p.0) (sym p.1) (joins r other memo there idle))
+      rw (keeps, sits, p.0, p.1) (joins r other memo there idle)

@@ -9,7 +9,7 @@ use Rattle.ring_core.specs.Machine.{new_seat, seat_at}
 use Rattle.ring_core.specs.Sound.{Holds}
 use Rattle.ring_core.proofs.SeatLemmas.{live_is_made, none_held}
 use Rattle.permit_ring.specs.Names.{SeatView, Key, KeeperMemo, Lost, Got, SeatMemo, Slot, Offered, Finished, View, Sits}
-use Rattle.permit_ring.specs.Places.{ShowsRing, SitsThere, CameBack, IsMemoThere, IsHeldOnce, IsLoggedOnce, HasOnePlace, IsNotedAs, IsInOrder, IsAdmittedSlot, IsOneSeats}
+use Rattle.permit_ring.specs.Places.{SitsThere, CameBack, IsMemoThere, IsHeldOnce, IsLoggedOnce, HasOnePlace, IsNotedAs, IsInOrder, IsAdmittedSlot, IsOneSeats}
 use Rattle.permit_ring.specs.Rule.{Home, IsSlot, IsSeatMemo, IsSomewhere, Runs, HasFinished, HasOffered, IsOut}
 use Rattle.permit_ring.proofs.States.{ring_of, one_turn_ahead, keeper_port, at_own_port, is_live, knows_it, not_ended}
 use Rattle.permit_ring.proofs.ListLemmas.{at_length, there}
@@ -149,10 +149,6 @@ module _ {O D T N : Type 0} {note : D → N} {Ao : T → O → Type 0} {An : T �
       → IsOut (get_elem? s.homes (t % key.positions))
   slot_of_vacant t past below = let ring = ring_of r in (r.are_slots.each t (omega arith) below).vacant_out past
 
-  -- each note of the keeper is admitted
-  pub noted_is_admitted : (t : ℕ) (x : N) → get_elem? r.keeper.notes t ≡ some x → An key.terms x
-  noted_is_admitted t x e = let fate = r.knows.noted t x e in (r.are_fates.finished t fate.0 x fate.1).1
-
   -- in one log a ticket stands at one place
   one_place : (memo : SeatMemo N) (j l t : ℕ) (x y : N) → IsMemoThere s.views memo → get_elem? memo.log j ≡ some (Got t x)
       → get_elem? memo.log l ≡ some (Got t y) → j ≡ l
@@ -203,7 +199,7 @@ module _ {O D T N : Type 0} {note : D → N} {Ao : T → O → Type 0} {An : T �
       ∙ ap (seat_at r.machine.seats) one.number_is) ∙ held.1)
 
   -- any other is in a log
-  noted_as : (t : ℕ) (y : ℕ × N) → get_elem? r.fates t ≡ some (Some y) → IsNotedAs s.views t y.1
+  pub noted_as : (t : ℕ) (y : ℕ × N) → get_elem? r.fates t ≡ some (Some y) → IsNotedAs s.views t y.1
   noted_as t y done =
       let one = each_number_is_one_seats y.0 (r.are_fates.finished t y.0 y.1 done).0 in
       let entry = log_of one.memo one.is_there t y.1 (done ∙ ap (λ (i : ℕ). some (Some (i, y.1))) (sym one.number_is)) in
@@ -229,10 +225,6 @@ module _ {O D T N : Type 0} {note : D → N} {Ao : T → O → Type 0} {An : T �
   -- each claimed ticket has one place: a seat holds it, or a log has it
   pub each_ticket_has_one_place : (t : ℕ) → t < r.machine.word.claimed → HasOnePlace s.views t
   each_ticket_has_one_place t less = let fate = there r.fates t (omega (arith, r.are_fates.each_claimed)) in place_from t fate.0 fate.1
-
-  -- the keeper's note of a ticket is that of its log
-  pub note_of_a_ticket : (t : ℕ) (x : N) → get_elem? r.keeper.notes t ≡ some x → IsNotedAs s.views t x
-  note_of_a_ticket t x e = let fate = r.knows.noted t x e in noted_as t (fate.0, x) fate.1
 
   abbrev Admitted : Slot O D → Type 0
   Admitted = IsAdmittedSlot note Ao An key.terms
@@ -269,7 +261,3 @@ module _ {O D T N : Type 0} {note : D → N} {Ao : T → O → Type 0} {An : T �
             claimed_value t.0 x fate.0 home is fate.1 here
         | inr past ↦ later_value t.0 x home is past here
       ]
-
-  -- the words show the machine
-  pub words_show_the_machine : ShowsRing key s.words r.moves r.machine
-  words_show_the_machine = record { reached = r.reached; words_are = r.words_are; is_ring = ring_of r }

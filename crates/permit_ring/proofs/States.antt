@@ -1,5 +1,5 @@
 -- What stays of the rule where one view changes.
-use Rattle.std.proofs.Common.{◌≡◌, ◌≢◌, ℕ, ◌+◌, ◌%◌, ◌<◌, ◌≤◌, true, false, List, length, set, Option, Some, None, refl, sym, ◌∙◌, ap, subst, inl, inr, mod-lt, arith}
+use Rattle.std.proofs.Common.{◌≡◌, ◌≢◌, ℕ, ◌+◌, ◌%◌, ◌<◌, ◌≤◌, true, false, List, set, Option, Some, None, refl, sym, ◌∙◌, ap, subst, inl, inr, mod-lt, arith}
 use Rattle.std.proofs.lemmas.Bool.{cases_eq}
 use Rattle.std.proofs.lemmas.List.{length-set}
 use mathlib.Core.Option.{some, some-injective}
@@ -18,10 +18,6 @@ use Rattle.permit_ring.specs.Moves.{Leads, by_seat}
 use Rattle.permit_ring.specs.Rule.{words_of, StandsIn, AreFates, Home, IsSlot, AreSlots, IsSeatMemo, IsKeeperMemo, IsViewAt, IsSomewhere, Runs}
 use Rattle.permit_ring.proofs.ListLemmas.{at_length}
 use Rattle.permit_ring.proofs.MoveLemmas.{led_ring, led_sizes}
-
--- one view has one memo
-pub one_memo : {T N : Type 0} (key its : Key T) (memo other : SeatMemo N) → Sits key memo ≡ Sits its other → memo ≡ other
-one_memo key its memo other e = cc
 
 module _ {N : Type 0} {m now : Machine} {fates later : List (Option (ℕ × N))} where
   -- a seat that a step leaves alone still knows what it knew
@@ -79,13 +75,8 @@ module _ {O D N : Type 0} {note : D → N} {Admits : O
         let since : m.reaped ≤ t = omega arith in
         let until : t < m.reaped + n = omega arith in
         elim (cases_eq t u) [
-          | inl here ↦
-              let place : u % n < length homes = subst (λ (k : ℕ). u % n < k) (sym was.a_slot_each) (mod-lt u positive) in
-              let at = ap (λ (k : ℕ). get_elem? (set homes (u % n) v) (k % n)) here ∙ set_here homes (u % n) v place in
-              subst (IsSlot note Admits now later t) (sym at) (subst (λ (k : ℕ). IsSlot note Admits now later k (some v)) (sym here) own)
-          | inr away ↦
-              let apart : t % n ≢ u % n = λ e. away (same_position m.reaped n t u since until from_u to_u e) in
-              subst (IsSlot note Admits now later t) (sym (set_else homes (u % n) (t % n) v apart))
+          | inl here ↦ rw (here, set_here homes (u % n) v (rw was.a_slot_each (mod-lt u positive))) own
+          | inr away ↦ rw (set_else homes (u % n) (t % n) v (λ e. away (same_position m.reaped n t u since until from_u to_u e)))
               (others t (get_elem? homes (t % n)) away since until (was.each t since until))
         ];
   }
@@ -192,7 +183,7 @@ module _ {O D T N : Type 0} {note : D → N} {Ao : T → O → Type 0} {An : T �
       each_seat = λ i back e. somewhere_stays now then later r.keeper (set s.views id (Sits key new)) r.owner e
           (λ its_memo number_is there. elim (cases_eq (r.owner i) id) [
             | inl here ↦
-                let one : memo ≡ its_memo = one_memo key key memo its_memo (some-injective _ _ (sym at ∙ ap (get_elem? s.views) (sym here) ∙ there)) in (
+                let one : memo ≡ its_memo = cc (at, there) in (
                   new,
                   same ∙ ap (λ (k : SeatMemo N). k.number) one ∙ number_is,
                   ap (get_elem? (set s.views id (Sits key new))) here

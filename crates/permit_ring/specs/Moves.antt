@@ -2,20 +2,18 @@
 use Rattle.std.specs.Prelude.{◌≡◌, ℕ, ◌%◌, Bool, true, false, ◌==◌, List, [], ◌∷◌, filter}
 use Rattle.ring_core.specs.Machine.{Machine, possible, after, mark_at, loss_at}
 use Rattle.ring_core.specs.Words.{packed}
-use Rattle.permit_ring.specs.Names.{Step, Look, Claim, Finish, See, Read, Offer, Mark, Sweep, Split, Join, Move}
+use Rattle.permit_ring.specs.Names.{Step, Look, Claim, Finish, See, Read, Offer, Mark, Sweep, Move}
 
 -- the number that a step finds; a finish only writes, and splits and joins look at nothing that they find
 abbrev pub found_at : Machine → Step → ℕ
 found_at m (Look i) = packed m.limit m.word
 found_at m (Claim i) = packed m.limit m.word
-found_at m (Finish i) = 0
 found_at m See = mark_at m.marks (m.reaped % m.positions)
 found_at m Read = packed m.limit m.word
 found_at m (Offer k) = packed m.limit m.word
 found_at m (Mark i kind) = (loss_at m kind).value
 found_at m (Sweep kind) = (loss_at m kind).value
-found_at m Split = 0
-found_at m (Join i) = 0
+found_at m _ = 0
 
 -- a step with what it found
 abbrev pub move : Step → ℕ → Move
@@ -32,12 +30,7 @@ is_of_seat i (Look j) = i == j
 is_of_seat i (Claim j) = i == j
 is_of_seat i (Finish j) = i == j
 is_of_seat i (Mark j kind) = i == j
-is_of_seat i See = false
-is_of_seat i Read = false
-is_of_seat i (Offer k) = false
-is_of_seat i (Sweep kind) = false
-is_of_seat i Split = false
-is_of_seat i (Join j) = false
+is_of_seat i _ = false
 
 -- the step is one of the keeper, who makes the seats and takes them back
 abbrev pub is_of_keeper : Step → Bool
@@ -45,12 +38,7 @@ is_of_keeper (Look j) = false
 is_of_keeper (Claim j) = false
 is_of_keeper (Finish j) = false
 is_of_keeper (Mark j kind) = false
-is_of_keeper See = true
-is_of_keeper Read = true
-is_of_keeper (Offer k) = true
-is_of_keeper (Sweep kind) = true
-is_of_keeper Split = true
-is_of_keeper (Join j) = true
+is_of_keeper _ = true
 
 -- the moves of seat i among all
 abbrev pub by_seat : ℕ → List Move → List Move

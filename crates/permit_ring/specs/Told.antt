@@ -36,26 +36,22 @@ module _ {T N : Type 0} where
   -- what a seat knows
   abbrev pub seat_in : View T N → SeatMemo N
   seat_in (Sits key memo) = memo
-  seat_in (Keeps key k) = new_memo 0
-  seat_in Spent = new_memo 0
+  seat_in _ = new_memo 0
 
   -- what the keeper knows
   abbrev pub keeper_in : View T N → KeeperMemo N
-  keeper_in (Sits key memo) = first_memo 0
   keeper_in (Keeps key k) = k
-  keeper_in Spent = first_memo 0
+  keeper_in _ = first_memo 0
 
   -- a view whose seat knows more
   abbrev pub on_seat : (SeatMemo N → SeatMemo N) → View T N → View T N
   on_seat f (Sits key memo) = Sits key (f memo)
-  on_seat f (Keeps key k) = Keeps key k
-  on_seat f Spent = Spent
+  on_seat f v = v
 
   -- a view whose keeper knows more
   abbrev pub on_keeper : (KeeperMemo N → KeeperMemo N) → View T N → View T N
-  on_keeper f (Sits key memo) = Sits key memo
   on_keeper f (Keeps key k) = Keeps key (f k)
-  on_keeper f Spent = Spent
+  on_keeper f v = v
 
   -- a split makes a seat
   abbrev pub split_left : View T N → View T N
@@ -63,9 +59,8 @@ module _ {T N : Type 0} where
 
   -- which has the next number
   abbrev pub split_right : View T N → View T N
-  split_right (Sits key memo) = Spent
   split_right (Keeps key k) = Sits key (new_memo k.made)
-  split_right Spent = Spent
+  split_right _ = Spent
 
   -- a join takes it back
   abbrev pub join_both : View T N → View T N → View T N
@@ -80,9 +75,8 @@ Known O D T N = Me (Slot O D) (View T N)
 
 module _ {O D : Type 0} where
   abbrev counted : Slot O D → ℕ → ℕ
-  counted Empty k = 0
   counted (Offered y) k = suc k
-  counted (Finished d) k = 0
+  counted _ k = 0
 
   -- how many slots in hand have an offered value, before the first that has none
   abbrev pub ready : List (ℕ × Slot O D) → ℕ
@@ -146,9 +140,8 @@ module _ {O D T N : Type 0} where
 module _ {O D T N : Type 0} (note : D → N) where
   -- the view after a finish with the value of a slot
   abbrev pub finished_with : View T N → Slot O D → View T N
-  finished_with v Empty = v
-  finished_with v (Offered y) = v
   finished_with v (Finished d) = on_seat (finishes (note d)) v
+  finished_with v _ = v
 
   -- a finish gives the slot back
   abbrev pub finished_value : Step (Slot O D) → Known O D T N → ℕ → Known O D T N → Type 0
