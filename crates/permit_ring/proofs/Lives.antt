@@ -118,11 +118,12 @@ module _ {O D T N : Type 0} {note : D → N} {Ao : T → O → Type 0} {An : T �
   each_made : (i : ℕ) (back : Option (SeatMemo N)) → get_elem? (r.keeper.back ++ None ∷ []) i ≡ some back
       → IsSomewhere key after_it then r.fates (makes r.keeper) views owner i back
   each_made i back e = elim (at_end r.keeper.back None back i e) [
-    | inl before ↦ somewhere_stays r after_it then r.fates (makes r.keeper) views owner before
+    | inl before ↦ let less = at_length r.keeper.back i back before in let all = r.knows.back_is in
+        somewhere_stays r after_it then r.fates (makes r.keeper) views owner before
         (λ memo number_is there. (
           memo,
           number_is,
-          ap (get_elem? views) (port_of_old r.keeper.made (length s.views) r.owner i (omega (arith, at_length r.keeper.back i back before, r.knows.back_is)))
+          ap (get_elem? views) (port_of_old r.keeper.made (length s.views) r.owner i (omega arith))
               ∙ at_longer kept (Sits key (new_memo r.keeper.made) ∷ []) (r.owner i) (Sits key memo)
               (set_else s.views 0 (r.owner i) (Keeps key (makes r.keeper)) (not_first r (r.owner i) there) ∙ there),
         ))
@@ -164,27 +165,6 @@ module _ {O D T N : Type 0} {note : D → N} {Ao : T → O → Type 0} {An : T �
     each_view = each_after;
     each_seat = each_made;
   }
-
-module _ {O D T N : Type 0} {note : D → N} {Ao : T → O → Type 0} {An : T → N → Type 0} {key : Key T} {s : State (Slot O D) (View T N)}
-    (r : Runs note Ao An key s) (room : r.keeper.made < key.limit) where
-  splits : Runs note Ao An key record {
-    words = s.words;
-    homes = s.homes;
-    views = set s.views 0 (Keeps key (makes r.keeper)) ++ Sits key (new_memo r.keeper.made) ∷ [];
-  }
-  splits = elim r.knows.made_is [
-    | inl all ↦
-        let sizes = sizes_of r in
-        split_runs r (r.machine.seats ++ new_seat ∷ []) (and_move r.moves Split 0) (later_split r.keeper.made r.machine.seats r.moves all.1)
-        (leads_on (opening key.positions key.limit) r.machine
-        (record r.machine { seats = r.machine.seats ++ new_seat ∷ [] }) r.moves Split r.reached
-        (split_next r.machine (omega arith)))
-        (ap (λ (b : Bool). cond b r.keeper.moves (and_move r.keeper.moves Split 0))
-        (ne_eqb r.keeper.made 0 (λ e. omega arith))
-        ∙ ap (λ (l : List Move). and_move l Split 0) r.knows.moved ∙ sym (by_keeper-own r.moves Split 0 refl))
-    | inr first ↦ split_runs r r.machine.seats r.moves (first_split r.keeper.made r.machine.seats r.moves first.0 first.1) r.reached
-        (ap (λ (b : Bool). cond b r.keeper.moves (and_move r.keeper.moves Split 0)) (eq-eqb r.keeper.made 0 first.0) ∙ r.knows.moved)
-  ]
 
 module _ {O D T N : Type 0} {note : D → N} {Ao : T → O → Type 0} {An : T → N → Type 0} {key : Key T} {s : State (Slot O D) (View T N)}
     (r : Runs note Ao An key s) (other : ℕ) (memo : SeatMemo N) (at : get_elem? s.views other ≡ some (Sits key memo))
@@ -307,7 +287,18 @@ module _ {O D T N : Type 0} (note : D → N) (Ao : T → O → Type 0) (An : T �
       → Splits (Runs note Ao An key) id v (split_left v) (split_right v)
   splits_allowed id v k is room s r at =
       let p = keeper_port r (at ∙ ap some is) in
-      rw (is, p.0, p.1) (splits r (subst (λ (h : KeeperMemo N). h.made < key.limit) p.1 room))
+      let few : r.keeper.made < key.limit = subst (λ (h : KeeperMemo N). h.made < key.limit) p.1 room in
+      rw (is, p.0, p.1) (elim r.knows.made_is [
+        | inl all ↦
+            let sizes = sizes_of r in
+            split_runs r (r.machine.seats ++ new_seat ∷ []) (and_move r.moves Split 0)
+            (later_split r.keeper.made r.machine.seats r.moves all.1)
+            (leads_on (opening key.positions key.limit) r.machine (record r.machine { seats = r.machine.seats ++ new_seat ∷ [] })
+            r.moves Split r.reached (split_next r.machine (omega arith)))
+            (rw (ne_eqb r.keeper.made 0 (λ e. omega arith), by_keeper-own r.moves Split 0 refl, r.knows.moved) refl)
+        | inr first ↦ split_runs r r.machine.seats r.moves (first_split r.keeper.made r.machine.seats r.moves first.0 first.1) r.reached
+            (rw (eq-eqb r.keeper.made 0 first.0) r.knows.moved)
+      ])
 
   -- the keeper may take an idle seat back
   pub joins_allowed : (id other : ℕ) (v w : View T N) (k : KeeperMemo N) (memo : SeatMemo N) → v ≡ Keeps key k → w ≡ Sits key memo

@@ -148,8 +148,9 @@ module _ {N : Type 0} where
       → get_elem? log l ≡ some b → end_of a ≤ start_of b
   rises_apart low [] j l a b rises less ea eb = cc
   rises_apart low (r ∷ log) j zero a b rises less ea eb = absurd (omega arith)
-  rises_apart low (r ∷ log) zero (suc l) a b rises less ea eb = let same : r ≡ a = cc in subst (λ (o : Outcome N). end_of o ≤ start_of b) same
-      (above_low (end_of r) log l b rises.1 eb)
+  rises_apart low (r ∷ log) zero (suc l) a b rises less ea eb =
+      let same : r ≡ a = cc in
+      subst (λ (o : Outcome N). end_of o ≤ start_of b) same (above_low (end_of r) log l b rises.1 eb)
   rises_apart low (r ∷ log) (suc j) (suc l) a b rises less ea eb = rises_apart (end_of r) log j l a b rises.1 (omega arith) ea eb
 
   -- the end of the last is above where the log begins

@@ -215,7 +215,8 @@ module _ {O D T N : Type 0} {note : D → N} {Ao : T → O → Type 0} {An : T �
       owner = r.owner;
       each_view = λ port v e. elim (at_set s.views 0 port (Keeps key k) v e) [
         | inl here ↦ subst (IsViewAt key now then later k (set s.views 0 (Keeps key k)) r.owner port) here.1 here.0
-        | inr there ↦ view_stays now then later k (set s.views 0 (Keeps key k)) r.owner there.1 (λ other port_is was. (port_is, others other was))
+        | inr there ↦ view_stays now then later k (set s.views 0 (Keeps key k)) r.owner there.1
+            (λ other port_is was. (port_is, others other was))
       ];
       each_seat = λ i was e. somewhere_stays now then later k (set s.views 0 (Keeps key k)) r.owner (cc (back, e))
           (λ memo number_is there. (

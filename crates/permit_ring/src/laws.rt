@@ -3,18 +3,13 @@
 ghost use Rattle.std.specs.Prelude.{◌≡◌, ℕ, ◌+◌, ◌%◌, ◌<◌, ◌≤◌};
 ghost use mathlib.Core.Option.{some};
 ghost use lib.ListN.{get_elem?};
-ghost use Rattle.permit_ring.specs.declared.memo.SeatMemo.{SeatMemo};
-ghost use Rattle.permit_ring.specs.declared.memo.Slot.{Slot};
+ghost use Rattle.permit_ring.specs.Names.{SeatMemo, Slot, Key, KeeperMemo, Sits, Lost, Got};
 ghost use Rattle.permit_ring.specs.Places.{HasOnePlace, IsOneSeats, IsMemoThere, IsInOrder, IsNotedAs, IsAdmittedSlot, ShowsRing};
 ghost use Rattle.permit_ring.specs.Logs.{IsOrdered};
 ghost use Rattle.permit_ring.specs.Rule.{RunningRing, StandsIn, HasFinished, HasOffered, IsOut};
 ghost use Rattle.permit_ring.specs.Calls.{OfferTells};
 ghost use Rattle.permit_ring.specs.Closing.{AreAllBack, IsAllReaped, IsSettled};
 ghost use Rattle.ring_core.specs.Sound.{Holds};
-ghost use Rattle.permit_ring.specs.declared.memo.Key.{Key};
-ghost use Rattle.permit_ring.specs.declared.memo.KeeperMemo.{KeeperMemo};
-ghost use Rattle.permit_ring.specs.declared.memo.View.TheVariants.{Sits};
-ghost use Rattle.permit_ring.specs.declared.memo.Outcome.TheVariants.{Lost, Got};
 
 use crate::freight::Freight;
 

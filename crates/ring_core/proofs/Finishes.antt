@@ -45,7 +45,8 @@ module _ (m : Machine) (r : IsRing m) (i t : ℕ) (holds : Holds (seat_at m.seat
   finished_before p u other f = record {
     claimed_before = f.claimed_before;
     stands_at = f.stands_at;
-    held_by_none = λ j h. f.held_by_none j (holder_before m.seats i empty made j u (λ k. absurd (other (one_ticket t u (sym holds ∙ k)))) h);
+    held_by_none = λ j h. f.held_by_none j
+        (holder_before m.seats i empty made j u (λ was. absurd (other (one_ticket t u (sym holds ∙ was)))) h);
   }
 
   finished_after : (p u : ℕ) → IsFinished m.positions m.word.claimed m.seats p u → IsFinished m.positions m.word.claimed now p u
@@ -58,7 +59,10 @@ module _ (m : Machine) (r : IsRing m) (i t : ℕ) (holds : Holds (seat_at m.seat
   -- no finished ticket at t's position is above t, which stands in the last turn
   below_mark : (u : ℕ) → IsFinished m.positions m.word.claimed now (t % m.positions) u → u < t + 1
   below_mark u f = elim (cases_lt t u) [
-    | inl above ↦ let held = out in let same = one_turn t u m.positions (omega arith) (omega arith) (sym f.stands_at) in absurd (omega arith)
+    | inl above ↦
+        let held = out in
+        let same = one_turn t u m.positions (omega arith) (omega arith) (sym f.stands_at) in
+        absurd (omega arith)
     | inr below ↦ omega arith
   ]
 

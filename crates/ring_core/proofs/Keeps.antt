@@ -1,6 +1,6 @@
 -- The keeper's sees, reads and offers keep what holds of a ring.
-use Rattle.std.proofs.Common.{◌≡◌, ℕ, ◌+◌, ◌%◌, ◌≤◌, Bool, true, false, cond, nat_le, refl, arith, mod-lt}
-use Rattle.std.proofs.lemmas.Bool.{and_parts, eqb-true, leb-true}
+use Rattle.std.proofs.Common.{◌≡◌, ℕ, ◌+◌, ◌%◌, ◌≤◌, Bool, true, false, cond, nat_le, refl, arith, mod-lt, inl, inr}
+use Rattle.std.proofs.lemmas.Bool.{and_parts, leb-true, cases_eq, cases_Bool, eq-eqb, ne_eqb}
 use Rattle.std.proofs.lemmas.Grind.{common_steps}
 use Rattle.ring_core.specs.Names.{See, Read, Offer}
 use Rattle.ring_core.specs.Machine.{Machine, seat_at, mark_at, next_is_finished, same_word, offered_to, possible, after}
@@ -21,12 +21,11 @@ module _ (m : Machine) (r : IsRing m) where
       let each = seen_seat f in
       grind (arith, common_steps)
 
-  see_either : (finished : Bool) → next_is_finished m ≡ finished → IsRing (record m { reaped = cond finished (m.reaped + 1) m.reaped })
-  see_either true e = see_finished (eqb-true (mark_at m.marks (m.reaped % m.positions)) (m.reaped + 1) e)
-  see_either false e = r
-
   pub see_keeps : IsRing (after m See)
-  see_keeps = see_either (next_is_finished m) refl
+  see_keeps = elim (cases_eq (mark_at m.marks (m.reaped % m.positions)) (m.reaped + 1)) [
+    | inl ready ↦ rw (eq-eqb (mark_at m.marks (m.reaped % m.positions)) (m.reaped + 1) ready) (see_finished ready)
+    | inr waits ↦ rw (ne_eqb (mark_at m.marks (m.reaped % m.positions)) (m.reaped + 1) waits) r
+  ]
 
   pub read_keeps : IsRing (after m Read)
   read_keeps = grind (arith, common_steps)
@@ -38,10 +37,7 @@ module _ (m : Machine) (r : IsRing m) where
   offer_taken : (k : ℕ) → m.offered + k ≤ m.reaped + m.positions → IsRing (offered k)
   offer_taken k room = grind (arith, common_steps)
 
-  offer_either : (k : ℕ) → m.offered + k ≤ m.reaped + m.positions → (same : Bool) → IsRing (cond same (offered k) (record m { seen = m.word }))
-  offer_either k room true = offer_taken k room
-  offer_either k room false = read_keeps
-
   pub offer_keeps : (k : ℕ) → possible m (Offer k) ≡ true → IsRing (after m (Offer k))
-  offer_keeps k ok = offer_either k (leb-true (m.offered + k) (m.reaped + m.positions)
-      (and_parts (nat_le 1 k) (nat_le (m.offered + k) (m.reaped + m.positions)) ok).1) (same_word m.word m.seen)
+  offer_keeps k ok =
+      let room = leb-true (m.offered + k) (m.reaped + m.positions) (and_parts (nat_le 1 k) (nat_le (m.offered + k) (m.reaped + m.positions)) ok).1 in
+      elim (cases_Bool (same_word m.word m.seen)) [ | inl same ↦ rw same (offer_taken k room) | inr other ↦ rw other read_keeps ]

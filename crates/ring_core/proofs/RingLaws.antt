@@ -24,7 +24,8 @@ module _ (m : Machine) (r : IsRing m) where
   missed_field_falls missed = elim (cases_lt (field_of m.limit m.word) (field_of m.limit m.seen)) [
     | inl less ↦ less
     | inr not_less ↦
-        let counts = same_counts m.limit m.word m.seen r.permits.either word_packs.over_fits r.last.either r.last.over_within (omega arith) in
+        let packs = word_packs in
+        let counts = same_counts m.limit m.word m.seen packs.either packs.over_fits r.last.either r.last.over_within (omega arith) in
         let one = one_word m.word m.seen (omega arith) counts.free counts.over in
         absurd cc
   ]
