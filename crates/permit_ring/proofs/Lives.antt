@@ -1,11 +1,12 @@
 -- Splits and joins keep the rule: the keeper makes one more seat, or takes one back.
-use Rattle.std.proofs.Common.{◌≡◌, ◌≢◌, ℕ, ◌+◌, ◌<◌, Bool, true, false, cond, eqb, List, [], ◌∷◌, ◌++◌, set, length, Option, Some, None, refl, sym, ◌∙◌, ap, ap₂, subst, inl, inr, le_refl, eq-eqb, ne_eqb, arith}
-use Rattle.std.proofs.lemmas.List.{length-append, length-set, get_or_append_left, get_or_push}
+use Rattle.std.proofs.Common.{◌≡◌, ◌≢◌, ℕ, ◌+◌, ◌<◌, Bool, true, false, cond, eqb, List, [], ◌∷◌, ◌++◌, set, length, Option, Some, None, refl, sym, ◌∙◌, ap, subst, inl, inr, le_refl, eq-eqb, ne_eqb, arith}
+use Rattle.std.proofs.lemmas.Grind.{common_steps}
+use Rattle.std.proofs.lemmas.List.{length-append, length-set}
 use mathlib.Core.Option.{some}
 use lib.ListN.{get_elem?}
 use Rattle.atomic_table.specs.Table.{State, Joins, Splits}
 use Rattle.atomic_table.proofs.Lists.{at_set, set_here, set_else, at_longer, at_last}
-use Rattle.ring_core.specs.Machine.{Machine, opening, nobody, new_seat, seat_at, is_idle, with_seat}
+use Rattle.ring_core.specs.Machine.{Machine, opening, new_seat, seat_at, is_idle, with_seat}
 use Rattle.ring_core.proofs.Nexts.{split_next, join_next}
 use Rattle.ring_core.proofs.SeatLemmas.{SameHolders, holders_stay_push, idle_parts, live_is_made, holders_stay, seat_at-here, seat_at-else}
 use Rattle.permit_ring.specs.Names.{SeatView, Split, Join, Key, KeeperMemo, Move, SeatMemo, Slot, View, Sits, Keeps, Spent}
@@ -30,24 +31,15 @@ record IsSplit (made : ℕ) (seats now : List SeatView) (moves then : List Move)
 -- seat 0 is there from the start
 first_split : (made : ℕ) (seats : List SeatView) (moves : List Move) → made ≡ 0 → seats ≡ new_seat ∷ []
     → IsSplit made seats seats moves moves
-first_split made seats moves none one = record {
-  grown = omega (arith, ap length one);
-  old = λ i below. absurd (omega arith);
-  new = ap₂ seat_at one none;
-  holders = λ j. refl;
-  quiet = λ i. refl;
-}
+first_split made seats moves none one = grind (arith, common_steps)
 
 -- each later one is added
 later_split : (made : ℕ) (seats : List SeatView) (moves : List Move) → made ≡ length seats
     → IsSplit made seats (seats ++ new_seat ∷ []) moves (and_move moves Split 0)
-later_split made seats moves all = record {
-  grown = omega (arith, length-append seats (new_seat ∷ []));
-  old = λ i below. get_or_append_left seats (new_seat ∷ []) nobody i (omega arith);
-  new = get_or_push seats new_seat nobody made (sym all);
-  holders = holders_stay_push seats;
-  quiet = λ i. by_seat-else moves Split 0 i refl;
-}
+later_split made seats moves all =
+    let quiet = λ (i : ℕ). by_seat-else moves Split 0 i refl in
+    let holders = holders_stay_push seats in
+    grind (arith, common_steps)
 
 -- the port of each seat after a seat was made, which gets this port
 abbrev port_after : ℕ → ℕ → (ℕ → ℕ) → ℕ → ℕ
@@ -201,16 +193,11 @@ module _ {O D T N : Type 0} {note : D → N} {Ao : T → O → Type 0} {An : T �
 
   -- and so does this one, but that it is not live any more
   join_ended : IsSeatMemo after_join further r.fates r.keeper.fronts r.keeper.made (ended memo)
-  join_ended = record {
-    is_made = is.is_made;
-    shows = ap (λ (v : SeatView). record v { live = false }) is.shows
-        ∙ sym (seat_at-here r.machine.seats memo.number (record (seat_at r.machine.seats memo.number) { live = false }) join_made);
-    moved = is.moved ∙ sym (by_seat-else r.moves (Join memo.number) 0 memo.number refl);
-    ordered = record { decided = is.ordered.decided; rises = is.ordered.rises; below_ticket = is.ordered.below_ticket };
-    below_claims = is.below_claims;
-    got = is.got;
-    lost_at_front = is.lost_at_front;
-  }
+  join_ended =
+      let here = seat_at-here r.machine.seats memo.number (record (seat_at r.machine.seats memo.number) { live = false }) join_made in
+      let quiet = by_seat-else r.moves (Join memo.number) 0 memo.number refl in
+      let known = is in
+      grind (arith, common_steps)
 
   abbrev Stays : ℕ → View T N → Type 0
   Stays = IsViewAt key after_join further r.fates (welcomes memo r.keeper) joined r.owner

@@ -1,6 +1,7 @@
 -- The log of a seat and what became of tickets, with one call or one ticket more.
 use Rattle.std.proofs.Common.{◌≡◌, ◌≢◌, ℕ, zero, suc, ◌+◌, ◌<◌, ◌≤◌, ◌⊎◌, Bool, true, false, cond, List, [], ◌∷◌, ◌++◌, set, Option, Some, None, refl, sym, ◌∙◌, ap, subst, inl, inr, le_refl, eqb, eq-eqb, ne_eqb, eqb-true, arith}
 use Rattle.std.proofs.lemmas.Bool.{cases_lt, lt-ltb, le-ltb}
+use Rattle.std.proofs.lemmas.Grind.{common_steps}
 use Rattle.std.proofs.lemmas.List.{append-nil}
 use mathlib.Core.Option.{some, some-injective}
 use lib.ListN.{get_elem?}
@@ -204,8 +205,7 @@ module _ {N : Type 0} where
 
   own_more : (f : ℕ) (y : ℕ × N) (rest more last : List (ℕ × N)) (own : Bool) → more ≡ rest ++ last
       → cond own ((f, y.1) ∷ more) more ≡ cond own ((f, y.1) ∷ rest) rest ++ last
-  own_more f y rest more last true e = ap (λ (l : List (ℕ × N)). (f, y.1) ∷ l) e
-  own_more f y rest more last false e = e
+  own_more f y rest more last own e = grind (arith, common_steps)
 
   -- one that the seat finishes itself comes last, where all that it finished before are below it
   taken-own_from : (i f b : ℕ) (x : N) (fates : Fates N) (t : ℕ) → b ≡ f + t → get_elem? fates t ≡ some None

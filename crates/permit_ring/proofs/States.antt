@@ -1,6 +1,7 @@
 -- What stays of the rule where one view changes.
 use Rattle.std.proofs.Common.{◌≡◌, ◌≢◌, ℕ, ◌+◌, ◌%◌, ◌<◌, ◌≤◌, true, false, List, set, Option, Some, None, refl, sym, ◌∙◌, ap, subst, inl, inr, mod-lt, arith}
 use Rattle.std.proofs.lemmas.Bool.{cases_eq}
+use Rattle.std.proofs.lemmas.Grind.{common_steps}
 use Rattle.std.proofs.lemmas.List.{length-set}
 use mathlib.Core.Option.{some, some-injective}
 use mathlib.Core.Option as maybe
@@ -26,26 +27,13 @@ module _ {N : Type 0} {m now : Machine} {fates later : List (Option (ℕ × N))}
       → seat_at now.seats memo.number ≡ seat_at m.seats memo.number → by_seat memo.number then ≡ by_seat memo.number moves
       → taken_by memo.number 0 later ≡ taken_by memo.number 0 fates → m.word.claimed ≤ now.word.claimed
       → ((g : ℕ) → StandsIn fronts g → StandsIn further g) → made ≤ more → IsSeatMemo now then later further more memo
-  seat_stays k seat moved took claimed wider grown = record {
-    is_made = omega arith;
-    shows = k.shows ∙ sym seat;
-    moved = k.moved ∙ sym moved;
-    ordered = k.ordered;
-    below_claims = omega arith;
-    got = k.got ∙ sym took;
-    lost_at_front = λ j g e. wider g (k.lost_at_front j g e);
-  }
+  seat_stays k seat moved took claimed wider grown = grind (arith, common_steps)
 
 module _ {N : Type 0} {m now : Machine} {fates : List (Option (ℕ × N))} where
   -- where no ticket changes hands, the fates stay
   pub fates_stay : {Admits : N → Type 0} {made more : ℕ} → made ≤ more → SameHolders m.seats now.seats → now.word.claimed ≡ m.word.claimed
       → AreFates m Admits made fates → AreFates now Admits more fates
-  fates_stay grown same claimed f = record {
-    each_claimed = f.each_claimed ∙ sym claimed;
-    held_is_open = λ i t h. f.held_is_open i t (sym (same i) ∙ h);
-    open_is_held = λ t e. let h = f.open_is_held t e in (h.0, same h.0 ∙ h.1);
-    finished = λ t i x e. let done = f.finished t i x e in (omega arith, done.1);
-  }
+  fates_stay grown same claimed f = grind (arith, common_steps)
 
   module _ {O D : Type 0} {note : D → N} {Admits : O → Type 0} {n : ℕ} {homes : List (maybe.Option (Slot O D))} where
     -- where none is claimed, offered or reaped, the slots stay

@@ -29,12 +29,9 @@ module _ (m : Machine) (r : IsRing m) (i : ℕ) (made : i < length m.seats) (now
       → m.word.claimed + armed_count seats ≤ calls_sum seats → loss0.value + loss0.swept ≡ sum_by (λ seat. seat.marks0) seats
       → loss1.value + loss1.swept ≡ sum_by (λ seat. seat.marks1) seats
       → IsRing (record (with_seat m i now) { word = record m.word { over = over }; loss0 = loss0; loss1 = loss1 })
-  seat_sound in_order held over loss0 loss1 either more within had sum0 sum1 = let same = holders_stay m.seats i now made held in record {
-    sizes = r.sizes;
-    permits = let p = r.permits in grind (arith, common_steps);
-    seats = seats_set r.seats.each in_order (apart_same m.seats seats same r.seats.apart) within had;
-    marks = λ p h. mark_same m.seats seats same (r.marks p h);
-    loss0 = sum0;
-    loss1 = sum1;
-    last = let l = r.last in grind (arith, common_steps);
-  }
+  seat_sound in_order held over loss0 loss1 either more within had sum0 sum1 =
+      let same = holders_stay m.seats i now made held in
+      let changed : AreSeats m.limit m.reaped (record m.word { over = over }) seats = seats_set r.seats.each in_order
+          (apart_same m.seats seats same r.seats.apart) within had in
+      let marks = λ (p : ℕ) (h : p < m.positions). mark_same m.seats seats same (r.marks p h) in
+      grind (arith, common_steps)

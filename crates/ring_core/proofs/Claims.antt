@@ -4,7 +4,7 @@ use Rattle.std.proofs.lemmas.Bool.{lt-ltb, le-ltb, cases_lt, cases_eq}
 use Rattle.std.proofs.lemmas.Grind.{common_steps}
 use Rattle.ring_core.specs.Names.{SeatView, Claim}
 use Rattle.ring_core.specs.Machine.{Machine, seat_at, with_seat, after}
-use Rattle.ring_core.specs.Sound.{IsRing, IsSeat, IsFinished, Holds}
+use Rattle.ring_core.specs.Sound.{IsRing, IsSeat, AreSeats, IsFinished, Holds}
 use Rattle.ring_core.proofs.Changes.{seats_set, seat_sound}
 use Rattle.ring_core.proofs.SeatLemmas.{live_is_made, one_if, mark_stays, sums_after, holder_after, holder_before, seat_at-here, none_held, one_ticket}
 
@@ -96,15 +96,10 @@ module _ (m : Machine) (r : IsRing m) (i : ℕ) (is_armed : (seat_at m.seats i).
       let one = counted in
       let none = none_over some in
       let wider = λ (j : ℕ). wider_seat m.reaped m.word.claimed (seat_at m.seats j) (r.seats.each j) in
-      record {
-        sizes = r.sizes;
-        permits = let p = r.permits in grind (arith, common_steps);
-        seats = seats_set m r i made served wider served_in_order apart (omega arith) (omega arith);
-        marks = λ p h. mark_stays (finished_before p) (finished_after p) (r.marks p h);
-        loss0 = omega arith;
-        loss1 = omega arith;
-        last = let l = r.last in grind (arith, common_steps);
-      }
+      let seats : AreSeats m.limit m.reaped (record m.word { claimed = m.word.claimed + 1; free = m.word.free - 1 }) now =
+          seats_set m r i made served wider served_in_order apart (omega arith) (omega arith) in
+      let marks = λ (p : ℕ) (h : p < m.positions). mark_stays (finished_before p) (finished_after p) (r.marks p h) in
+      grind (arith, common_steps)
 
   pub claim_keeps : IsRing (after m (Claim i))
   claim_keeps = elim (cases_lt 0 m.word.free) [

@@ -5,7 +5,7 @@ use Rattle.std.proofs.lemmas.Grind.{common_steps}
 use Rattle.std.proofs.lemmas.List.{get_or-set_same, get_or-set_other}
 use Rattle.ring_core.specs.Names.{SeatView, Ticket0, Finish}
 use Rattle.ring_core.specs.Machine.{Machine, seat_at, with_seat, mark_at, finished, possible, after}
-use Rattle.ring_core.specs.Sound.{IsRing, IsSeat, IsMark, IsFinished, Holds}
+use Rattle.ring_core.specs.Sound.{IsRing, IsSeat, AreSeats, IsMark, IsFinished, Holds}
 use Rattle.ring_core.proofs.Changes.{seats_set}
 use Rattle.ring_core.proofs.SeatLemmas.{live_is_made, mark_stays, sums_after, holder_after, holder_before, none_held, one_ticket}
 use Rattle.ring_core.proofs.Turns.{one_turn}
@@ -81,16 +81,12 @@ module _ (m : Machine) (r : IsRing m) (i t : ℕ) (holds : Holds (seat_at m.seat
   ]
 
   finish_sound : IsRing (record (with_seat m i empty) { marks = set m.marks (t % m.positions) (t + 1) })
-  finish_sound = let sums = sums_after m.seats i empty made in record {
-    sizes = let s = r.sizes in grind (arith, common_steps);
-    permits = r.permits;
-    seats = seats_set m r i made empty r.seats.each empty_seat
-        (λ a b u ha hb. r.seats.apart a b u (held_else a u ha).1 (held_else b u hb).1) (omega arith) (omega arith);
-    marks = marks;
-    loss0 = omega arith;
-    loss1 = omega arith;
-    last = r.last;
-  }
+  finish_sound =
+      let sums = sums_after m.seats i empty made in
+      let seats : AreSeats m.limit m.reaped m.word now = seats_set m r i made empty r.seats.each empty_seat
+          (λ a b u ha hb. r.seats.apart a b u (held_else a u ha).1 (held_else b u hb).1) (omega arith) (omega arith) in
+      let marked = marks in
+      grind (arith, common_steps)
 
 -- the state after a finish, by what the seat holds
 abbrev emptied : Machine → ℕ → Option Ticket0 → Machine

@@ -1,9 +1,9 @@
 -- The keeper's sees, reads and offers keep what holds of a ring.
-use Rattle.std.proofs.Common.{◌≡◌, ℕ, ◌+◌, ◌%◌, ◌≤◌, Bool, true, false, cond, nat_le, refl, arith, mod-lt, inl, inr}
+use Rattle.std.proofs.Common.{◌≡◌, ℕ, ◌+◌, ◌%◌, ◌≤◌, true, nat_le, arith, mod-lt, inl, inr}
 use Rattle.std.proofs.lemmas.Bool.{and_parts, leb-true, cases_eq, cases_Bool, eq-eqb, ne_eqb}
 use Rattle.std.proofs.lemmas.Grind.{common_steps}
 use Rattle.ring_core.specs.Names.{See, Read, Offer}
-use Rattle.ring_core.specs.Machine.{Machine, seat_at, mark_at, next_is_finished, same_word, offered_to, possible, after}
+use Rattle.ring_core.specs.Machine.{Machine, seat_at, mark_at, same_word, offered_to, possible, after}
 use Rattle.ring_core.specs.Sound.{IsRing, IsSeat, IsFinished, Holds}
 
 module _ (m : Machine) (r : IsRing m) where

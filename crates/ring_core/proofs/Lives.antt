@@ -1,5 +1,5 @@
 -- Splits and joins keep what holds of a ring.
-use Rattle.std.proofs.Common.{◌≡◌, ℕ, true, false, List, [], ◌∷◌, ◌++◌, length, sum_by, refl, arith, le_refl}
+use Rattle.std.proofs.Common.{◌≡◌, ℕ, ◌<◌, true, false, List, [], ◌∷◌, ◌++◌, length, sum_by, refl, arith, le_refl}
 use Rattle.std.proofs.lemmas.Bool.{ltb-true}
 use Rattle.std.proofs.lemmas.Grind.{common_steps}
 use Rattle.std.proofs.lemmas.List.{length-append}
@@ -29,21 +29,11 @@ module _ (m : Machine) (r : IsRing m) where
       let calls = sum_as_before (λ (s : SeatView). s.calls) refl in
       let marks0 = sum_as_before (λ (s : SeatView). s.marks0) refl in
       let marks1 = sum_as_before (λ (s : SeatView). s.marks1) refl in
-      record {
-        sizes = r.sizes;
-        permits = r.permits;
-        seats = record {
-          each = seat_at-push m.seats (IsSeat m.reaped m.word.claimed) r.seats.each (new_in_order m.reaped m.word.claimed);
-          apart = apart_same m.seats one_more (holders_stay_push m.seats) r.seats.apart;
-          made_within = omega (arith, length-append m.seats (new_seat ∷ []));
-          armed_within = omega arith;
-          each_had_a_call = omega arith;
-        };
-        marks = λ p h. mark_same m.seats one_more (holders_stay_push m.seats) (r.marks p h);
-        loss0 = omega arith;
-        loss1 = omega arith;
-        last = r.last;
-      }
+      let grown = length-append m.seats (new_seat ∷ []) in
+      let each = seat_at-push m.seats (IsSeat m.reaped m.word.claimed) r.seats.each (new_in_order m.reaped m.word.claimed) in
+      let apart = apart_same m.seats one_more (holders_stay_push m.seats) r.seats.apart in
+      let marks = λ (p : ℕ) (h : p < m.positions). mark_same m.seats one_more (holders_stay_push m.seats) (r.marks p h) in
+      grind (arith, common_steps)
 
   pub join_keeps : (i : ℕ) → possible m (Join i) ≡ true → IsRing (after m (Join i))
   join_keeps i ok =
