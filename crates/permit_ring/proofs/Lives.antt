@@ -76,15 +76,13 @@ module _ {O D T N : Type 0} {note : D → N} {Ao : T → O → Type 0} {An : T �
 
   -- and the new one knows of no call
   known_new : IsSeatMemo (record r.machine { seats = seats }) then r.fates r.keeper.fronts (r.keeper.made + 1) (new_memo r.keeper.made)
-  known_new = record {
-    is_made = omega arith;
-    shows = sym split.new;
-    moved = sym (split.quiet r.keeper.made ∙ r.knows.unmade_rest r.keeper.made (le_refl r.keeper.made));
-    ordered = new_ordered r.keeper.made;
-    below_claims = omega arith;
-    got = sym (taken_none r.keeper.made 0 r.fates (λ t x e. let done = r.are_fates.finished t r.keeper.made x e in omega arith));
-    lost_at_front = λ j g e. cc;
-  }
+  known_new =
+      let shows = split.new in
+      let quiet = split.quiet r.keeper.made in
+      let unmade = r.knows.unmade_rest r.keeper.made (le_refl r.keeper.made) in
+      let ordered = new_ordered {N = N} r.keeper.made in
+      let none_taken = taken_none r.keeper.made 0 r.fates (λ t x e. let done = r.are_fates.finished t r.keeper.made x e in omega arith) in
+      grind (arith, common_steps)
 
   abbrev Plays : ℕ → View T N → Type 0
   Plays = IsViewAt key after_it then r.fates (makes r.keeper) views owner

@@ -1,13 +1,14 @@
 -- What the rule says of a ring: of its tickets, its logs, its slots and its words.
-use Rattle.std.proofs.Common.{◌≡◌, ℕ, zero, suc, ◌+◌, ◌%◌, ◌<◌, ◌≤◌, ◌⊎◌, true, false, is_some, List, [], ◌∷◌, length, Option, Some, None, sym, ◌∙◌, ap, ap₂, subst, inl, inr, mod-eq_of_lt, arith}
+use Rattle.std.proofs.Common.{◌≡◌, ℕ, zero, suc, ◌+◌, ◌%◌, ◌<◌, ◌≤◌, ◌⊎◌, true, false, is_some, List, [], ◌∷◌, length, Option, Some, None, sym, ◌∙◌, ap, subst, inl, inr, mod-eq_of_lt, arith}
 use Rattle.std.proofs.lemmas.Bool.{cases_eq, cases_lt, cases_order}
+use Rattle.std.proofs.lemmas.Grind.{common_steps}
 use native.Mathlib.Nat.{add-mod_right}
 use mathlib.Core.Option.{some}
 use lib.ListN.{get_elem?}
 use Rattle.atomic_table.specs.Table.{State}
 use Rattle.ring_core.specs.Machine.{new_seat, seat_at}
 use Rattle.ring_core.specs.Sound.{Holds}
-use Rattle.ring_core.proofs.SeatLemmas.{live_is_made, none_held}
+use Rattle.ring_core.proofs.SeatLemmas.{live_is_made}
 use Rattle.permit_ring.specs.Names.{SeatView, Key, KeeperMemo, Lost, Got, SeatMemo, Slot, Offered, Finished, View, Sits}
 use Rattle.permit_ring.specs.Places.{SitsThere, CameBack, IsMemoThere, IsHeldOnce, IsLoggedOnce, HasOnePlace, IsNotedAs, IsInOrder, IsAdmittedSlot, IsOneSeats}
 use Rattle.permit_ring.specs.Rule.{Home, IsSlot, IsSeatMemo, IsSomewhere, Runs, HasFinished, HasOffered, IsOut}
@@ -26,11 +27,7 @@ in_turn n (suc from) p below = let q = in_turn n from p below in elim (cases_eq 
 -- a seat that holds a ticket is one that was made
 made_if_holds : (made : ℕ) (seats : List SeatView) (i t : ℕ) → ((1 ≤ made) × (made ≡ length seats))
     ⊎ ((made ≡ 0) × (seats ≡ new_seat ∷ [])) → i < length seats → Holds (seat_at seats i) t → i < made
-made_if_holds made seats i t (inl all) less h = omega arith
-made_if_holds made seats i t (inr first) less h =
-    let one : length seats ≡ 1 = ap length first.1 in
-    let at_zero : i ≡ 0 = omega arith in
-    none_held (seat_at seats i).held t (ap (λ (v : SeatView). v.held) (ap₂ seat_at first.1 at_zero)) h
+made_if_holds made seats i t made_is less h = grind (arith, common_steps)
 
 module _ {O D T N : Type 0} {note : D → N} {Ao : T → O → Type 0} {An : T → N → Type 0} {key : Key T} {s : State (Slot O D) (View T N)}
     (r : Runs note Ao An key s) where

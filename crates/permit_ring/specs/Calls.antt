@@ -4,8 +4,7 @@ use Rattle.ids_types.specs.declared.names.Ticket.{Ticket}
 use Rattle.ring_core.specs.Machine.{offered_to}
 use Rattle.ring_core.specs.Words.{packed}
 use Rattle.permit_ring.specs.declared.answer.Look.{Look as Shown}
-use Rattle.permit_ring.specs.declared.answer.Unready.{Unready}
-use Rattle.permit_ring.specs.Names.{Offer, PermitWord, KeeperMemo, Move, SeatMemo}
+use Rattle.permit_ring.specs.Names.{Unready, Offer, PermitWord, KeeperMemo, Move, SeatMemo}
 use Rattle.permit_ring.specs.Moves.{move}
 use Rattle.permit_ring.specs.Steps.{looks, claims, waits, reaps, reads}
 

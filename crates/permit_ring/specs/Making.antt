@@ -2,10 +2,7 @@
 use Rattle.std.specs.Prelude.{◌≡◌, ℕ, zero, suc, List, length, None}
 use mathlib.Core.Option.{some}
 use lib.ListN.{get_elem?}
-use Rattle.permit_ring.specs.declared.keeper.Keeper.{Keeper}
-use Rattle.permit_ring.specs.Names.{KeeperMemo}
-use Rattle.permit_ring.specs.declared.ring.Ring.{Ring}
-use Rattle.permit_ring.specs.declared.seat.Seat.{Seat}
+use Rattle.permit_ring.specs.Names.{Keeper, KeeperMemo, Ring, Seat}
 use Rattle.permit_ring.specs.Seats.{IsSeatOf, IsKeeperOf, seat_memo, seat_number, seat_calls, seat_ticket, keeper_memo, ring_positions, ring_seats, ring_terms, vacant_of, filled_of}
 use Rattle.permit_ring.specs.Steps.{new_memo, first_memo, makes}
 

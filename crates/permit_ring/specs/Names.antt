@@ -1,9 +1,11 @@
--- The types of the ring machine, of what is known of a ring and of what is in its slots, under one name.
+-- The types of the ring machine and of a ring, under one name.
 pub use Rattle.ring_core.specs.declared.seat.SeatView.{SeatView}
 pub use Rattle.ring_core.specs.declared.seat.Ticket0.{Ticket0}
 pub use Rattle.ring_core.specs.declared.step.Step.{Step}
 pub use Rattle.ring_core.specs.declared.step.Step.TheVariants.{Look, Claim, Finish, See, Read, Offer, Mark, Sweep, Split, Join}
 pub use Rattle.ring_core.specs.declared.word.PermitWord.{PermitWord}
+pub use Rattle.permit_ring.specs.declared.answer.Unready.{Unready}
+pub use Rattle.permit_ring.specs.declared.keeper.Keeper.{Keeper}
 pub use Rattle.permit_ring.specs.declared.memo.Key.{Key}
 pub use Rattle.permit_ring.specs.declared.memo.KeeperMemo.{KeeperMemo}
 pub use Rattle.permit_ring.specs.declared.memo.Move.{Move}
@@ -14,3 +16,5 @@ pub use Rattle.permit_ring.specs.declared.memo.Slot.{Slot}
 pub use Rattle.permit_ring.specs.declared.memo.Slot.TheVariants.{Empty, Offered, Finished}
 pub use Rattle.permit_ring.specs.declared.memo.View.{View}
 pub use Rattle.permit_ring.specs.declared.memo.View.TheVariants.{Sits, Keeps, Spent}
+pub use Rattle.permit_ring.specs.declared.ring.Ring.{Ring}
+pub use Rattle.permit_ring.specs.declared.seat.Seat.{Seat}

@@ -2,10 +2,7 @@
 use Rattle.std.specs.Prelude.{◌≡◌, ℕ, ◌+◌, ◌%◌, ◌^◌, ◌≤◌, true, false, List, [], ◌∷◌, length, Option, Some, None}
 use Rattle.atomic_table.specs.declared.shared.Seat.{Seat as Token}
 use Rattle.ids_types.specs.declared.names.Ticket.{Ticket}
-use Rattle.permit_ring.specs.declared.keeper.Keeper.{Keeper}
-use Rattle.permit_ring.specs.Names.{Ticket0, KeeperMemo, SeatMemo, Slot, Offered, View, Sits, Keeps}
-use Rattle.permit_ring.specs.declared.ring.Ring.{Ring}
-use Rattle.permit_ring.specs.declared.seat.Seat.{Seat}
+use Rattle.permit_ring.specs.Names.{Keeper, Ticket0, KeeperMemo, SeatMemo, Slot, Offered, View, Sits, Keeps, Ring, Seat}
 use Rattle.permit_ring.specs.Hands.{hand_from, filled_then, AllAdmitted}
 use Rattle.permit_ring.specs.Told.{IsWord, seat_in, keeper_in}
 use Rattle.permit_ring.specs.Rule.{IsKey}

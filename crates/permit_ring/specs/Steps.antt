@@ -25,8 +25,7 @@ module _ {N : Type 0} where
 
   -- after a look that read the word
   abbrev pub looks : ℕ → PermitWord → SeatMemo N → SeatMemo N
-  looks limit word memo = record {
-    number = memo.number;
+  looks limit word memo = record memo {
     view = looked word memo.view;
     log = and_lost word memo.log;
     moves = and_move memo.moves (Look memo.number) (packed limit word);
@@ -34,8 +33,7 @@ module _ {N : Type 0} where
 
   -- after a claim that found the word
   abbrev pub claims : ℕ → PermitWord → SeatMemo N → SeatMemo N
-  claims limit word memo = record {
-    number = memo.number;
+  claims limit word memo = record memo {
     view = served word memo.view;
     log = and_lost word memo.log;
     moves = and_move memo.moves (Claim memo.number) (packed limit word);
@@ -43,8 +41,7 @@ module _ {N : Type 0} where
 
   -- after the finish of the held ticket, with a value of the note
   abbrev pub finishes : N → SeatMemo N → SeatMemo N
-  finishes x memo = record {
-    number = memo.number;
+  finishes x memo = record memo {
     view = record memo.view { held = None };
     log = memo.log ++ Got (ticket_in memo.view.held) x ∷ [];
     moves = and_move memo.moves (Finish memo.number) 0;
@@ -52,12 +49,7 @@ module _ {N : Type 0} where
 
   -- after a mark of a kind of loss
   abbrev pub adds_mark : ℕ → ℕ → SeatMemo N → SeatMemo N
-  adds_mark kind found memo = record {
-    number = memo.number;
-    view = marked kind memo.view;
-    log = memo.log;
-    moves = and_move memo.moves (Mark memo.number kind) found;
-  }
+  adds_mark kind found memo = record memo { view = marked kind memo.view; moves = and_move memo.moves (Mark memo.number kind) found }
 
   -- what the keeper knows at first
   abbrev pub first_memo : ℕ → KeeperMemo N

@@ -32,17 +32,13 @@ module _ (m : Machine) (r : IsRing m) (i : ℕ) (is_armed : (seat_at m.seats i).
   no_ticket : old.held ≡ None
   no_ticket = (r.seats.each i).armed_holds_none is_armed
 
-  -- the seat counted among the armed
-  counted : one_if old.armed ≡ 1
-  counted = ap one_if is_armed
-
   in_vain : IsSeat m.reaped m.word.claimed (record old { armed = false })
   in_vain = let s = r.seats.each i in grind (arith, common_steps)
 
   vain_sound : m.word.free ≡ 0 → IsRing (vain_after m i old)
   vain_sound full =
       let sums = sums_after m.seats i (record old { armed = false }) made in
-      let one = counted in
+      let one : one_if old.armed ≡ 1 = ap one_if is_armed in
       seat_sound m r i made (record old { armed = false }) in_vain refl (m.word.over + 1) m.loss0 m.loss1 (inl full) (omega arith)
       (omega arith) (omega arith) (omega arith) (omega arith)
 
@@ -87,14 +83,10 @@ module _ (m : Machine) (r : IsRing m) (i : ℕ) (is_armed : (seat_at m.seats i).
     held_by_none = λ j h. elim (held_after j t h) [ | inl new ↦ absurd (omega arith) | inr old ↦ f.held_by_none j old.0 ];
   }
 
-  none_over : 0 < m.word.free → m.word.over ≡ 0
-  none_over some = elim r.permits.either [ | inl full ↦ absurd (omega arith) | inr none ↦ none ]
-
   served_sound : 0 < m.word.free → IsRing (served_after m i old)
   served_sound some =
       let sums = sums_after m.seats i served made in
-      let one = counted in
-      let none = none_over some in
+      let one : one_if old.armed ≡ 1 = ap one_if is_armed in
       let wider = λ (j : ℕ). wider_seat m.reaped m.word.claimed (seat_at m.seats j) (r.seats.each j) in
       let seats : AreSeats m.limit m.reaped (record m.word { claimed = m.word.claimed + 1; free = m.word.free - 1 }) now =
           seats_set m r i made served wider served_in_order apart (omega arith) (omega arith) in

@@ -8,7 +8,7 @@ use Rattle.ring_core.specs.Sound.{IsRing}
 use Rattle.ring_core.specs.Words.{field_of, IsPackable}
 use Rattle.ring_core.proofs.Bounds.{small}
 use Rattle.ring_core.proofs.SeatLemmas.{live_is_made, one_if, sums_after}
-use Rattle.ring_core.proofs.WordLemmas.{same_counts, one_word}
+use Rattle.ring_core.proofs.WordLemmas.{one_word}
 
 module _ (m : Machine) (r : IsRing m) where
   -- the permit word can be packed
@@ -25,8 +25,11 @@ module _ (m : Machine) (r : IsRing m) where
     | inl less ↦ less
     | inr not_less ↦
         let packs = word_packs in
-        let counts = same_counts m.limit m.word m.seen packs.either packs.over_fits r.last.either r.last.over_within (omega arith) in
-        let one = one_word m.word m.seen (omega arith) counts.free counts.over in
+        let either = r.permits.either in
+        let last = r.last.either in
+        let free : m.word.free ≡ m.seen.free = omega arith in
+        let over : m.word.over ≡ m.seen.over = omega arith in
+        let one = one_word m.word m.seen (omega arith) free over in
         absurd cc
   ]
 

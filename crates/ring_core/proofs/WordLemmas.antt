@@ -7,15 +7,6 @@ use Rattle.ring_core.specs.Names.{PermitWord}
 use Rattle.ring_core.specs.Machine.{same_word, claimed_from}
 use Rattle.ring_core.specs.Words.{tries_of, field_of, packed, word_of, unpacked, FreeOrOver, IsPackable}
 
--- two words with the same field have the same free positions and vain claims
-pub record SameCounts (a b : PermitWord) : Type 0 where
-  pub free : a.free ≡ b.free
-  pub over : a.over ≡ b.over
-
-pub same_counts : (seats : ℕ) (a b : PermitWord) → FreeOrOver a → a.over ≤ seats → FreeOrOver b → b.over ≤ seats
-    → field_of seats a ≡ field_of seats b → SameCounts a b
-same_counts seats a b fa oa fb ob e = record { free = omega arith; over = omega arith }
-
 -- words that are equal in each number are one word
 pub one_word : (a b : PermitWord) → a.claimed ≡ b.claimed → a.free ≡ b.free → a.over ≡ b.over → same_word a b ≡ true
 one_word a b c f o = grind (arith, common_steps)
