@@ -1,5 +1,5 @@
 ghost use Rattle.std.specs.Prelude.{◌≡◌, ◌<◌, ◌≤◌, [], ◌∷◌, ◌++◌, length, IfOk, OnOk, OnErr, IsTrue, ◌↔◌};
-ghost use Rattle.ids_types.specs.Turns.{begun, with_entry, turn_at, entry_at, entries_of, HasRoom, room_after, wider_room, emptied};
+ghost use Rattle.ids_types.specs.Turns.{begun, with_entry, turn_at, entry_at, entries_of, context_bytes, HasRoom, room_after, wider_room, emptied};
 ghost use Rattle.ids_types.specs.Plain.{plain_entry, kept_bytes};
 
 use crate::entry::{Entry, TurnHead};
@@ -146,6 +146,15 @@ impl History {
     {
         let _rows = &self.rows;
         self.entries.len() as u64
+    }
+
+    /// How many bytes of context all entries keep.
+    pub fn bytes(&self) -> u64
+        ensures { result ≡ length (context_bytes self.now.turns) }
+    {
+        let _rows = &self.rows;
+        let _entries = &self.entries;
+        self.bytes.len() as u64
     }
 
     /// What a turn began with. Turns count from 0.

@@ -7,6 +7,7 @@
 
 mod class_spec;
 mod entry;
+mod event;
 mod history;
 mod internal;
 mod loss;
@@ -21,6 +22,7 @@ mod walk;
 
 pub use class_spec::ClassSpec;
 pub use entry::{Act, Carried, Entry, TurnHead};
+pub use event::Qualified;
 pub use history::History;
 pub use internal::Internal;
 pub use loss::Loss;
@@ -28,5 +30,5 @@ pub use memory::NoMemory;
 pub use mode::Mode;
 pub use names::{EventIndex, Stamp, Ticket};
 pub use numbers::Numbers;
-pub use parcel::Plain;
+pub use parcel::{Parcel, Plain};
 pub use walk::{EntryWalk, Walk};

@@ -1,3 +1,22 @@
+ghost use Rattle.std.specs.Prelude.{◌≡◌, ℕ, List};
+
+/// A holder of context bytes: a buffer of the manager's, or bytes that somebody lends.
+pub trait Parcel {
+    /// The bytes that it holds.
+    ghost held: { Self → List ℕ };
+
+    fn bytes(&self) -> &[u8]
+        ensures { result.now ≡ held self.now };
+}
+
 /// Context bytes that are lent for the time of a call.
 #[derive(Clone, Copy, Debug)]
 pub struct Plain<'a>(pub &'a [u8]);
+
+impl Parcel for Plain<'_> {
+    ghost held = { λ p. p.0.now };
+
+    fn bytes(&self) -> &[u8] {
+        self.0
+    }
+}

@@ -125,6 +125,14 @@ impl RingState {
         self.reaped
     }
 
+    /// The mark of a position: 1 plus the last ticket finished there, or 0.
+    pub fn mark(&self, position: u16) -> u64
+        requires { position < self.now.positions }
+        ensures { result ≡ mark_at self.now.marks position }
+    {
+        self.marks[position as usize]
+    }
+
     /// The loss word of a kind, 0 or 1.
     pub fn loss(&self, kind: u8) -> u64
         requires { kind < 2 }
@@ -139,6 +147,28 @@ impl RingState {
         ensures { result ≡ (loss_at self.now kind).swept }
     {
         self.loss_word(kind).swept
+    }
+
+    /// A seat that was made.
+    pub fn view(&self, seat: u8) -> SeatView
+        requires { seat < length self.now.seats }
+        ensures { result ≡ seat_at self.now.seats seat }
+    {
+        self.seat(seat)
+    }
+
+    /// The word that the keeper last read or left.
+    pub fn seen(&self) -> PermitWord
+        ensures { result ≡ self.now.seen }
+    {
+        self.seen
+    }
+
+    /// How many seats were made, ended ones included.
+    pub fn made(&self) -> u8
+        ensures { result ≡ length self.now.seats }
+    {
+        self.seats.len() as u8
     }
 
     // A number that was never given out is read as a seat that is not live.
