@@ -1,21 +1,15 @@
 -- How a caller stands after each of its calls.
 use Rattle.std.proofs.Common.{◌≡◌, ℕ, ◌+◌, ◌-◌, ◌<◌, ◌≤◌, ◌^◌, Bool, true, false, ◌||◌, is_some, is_none, if◌then◌else◌, List, [], ◌∷◌, ◌++◌, length, Option, Some, None, Result, Ok, Err, sym, ap, ap₂, ◌∙◌, subst, inl, inr, true≢false, arith}
-use Rattle.ids_types.specs.declared.names.Ticket.{Ticket}
+use Rattle.report_queue.specs.Names.{Ticket, Outcome, Lost, Got, SeatMemo, Item, Queue, QueueSeat}
 use Rattle.ring_core.specs.declared.seat.SeatView.{SeatView}
 use Rattle.ring_core.specs.declared.seat.Ticket0.{Ticket0}
 use Rattle.permit_ring.specs.declared.answer.Look.{Look}
-use Rattle.permit_ring.specs.declared.memo.Outcome.{Outcome}
-use Rattle.permit_ring.specs.declared.memo.Outcome.TheVariants.{Lost, Got}
-use Rattle.permit_ring.specs.declared.memo.SeatMemo.{SeatMemo}
 use Rattle.permit_ring.specs.Calls.{ClaimTells}
 use Rattle.permit_ring.specs.Logs.{IsOrdered, undecided}
 use Rattle.permit_ring.specs.Seats.{HasInHand, IsSeatOf, machine_ticket, ring_terms}
 use Rattle.permit_ring.specs.Steps.{and_lost, finishes, ticket_in}
 use Rattle.permit_ring.proofs.ListLemmas.{at_end}
 use Rattle.permit_ring.proofs.LogLemmas.{kept_log, lost_log}
-use Rattle.report_queue.specs.declared.cargo.Item.{Item}
-use Rattle.report_queue.specs.declared.seat.Queue.{Queue}
-use Rattle.report_queue.specs.declared.seat.QueueSeat.{QueueSeat}
 use Rattle.report_queue.specs.Calls.{and_answer, calls_once}
 use Rattle.report_queue.specs.Items.{admits_all}
 use Rattle.report_queue.specs.Parts.{IsCallerOf, caller_memo, caller_number, caller_view, calls_of, ticket_of}

@@ -5,16 +5,12 @@ use Rattle.std.proofs.lemmas.Option.{none-some}
 use mathlib.Core.Option.{some, some-injective, some-ne-none}
 use lib.ListN.{get_elem?}
 use Rattle.atomic_table.proofs.Lists.{at_longer, at_map}
-use Rattle.permit_ring.specs.declared.memo.KeeperMemo.{KeeperMemo}
-use Rattle.permit_ring.specs.declared.memo.Outcome.{Outcome}
-use Rattle.permit_ring.specs.declared.memo.Outcome.TheVariants.{Lost, Got}
-use Rattle.permit_ring.specs.declared.memo.SeatMemo.{SeatMemo}
+use Rattle.report_queue.specs.Names.{KeeperMemo, Outcome, Lost, Got, SeatMemo, Item}
 use Rattle.permit_ring.specs.Closing.{AreAllBack, IsSettled}
 use Rattle.permit_ring.specs.Logs.{end_from, got_of, taken_by}
 use Rattle.permit_ring.specs.Steps.{waits}
 use Rattle.permit_ring.proofs.ListLemmas.{there}
 use Rattle.permit_ring.proofs.LogLemmas.{got_from, taken_in}
-use Rattle.report_queue.specs.declared.cargo.Item.{Item}
 use Rattle.report_queue.specs.Closing as queue
 use Rattle.report_queue.specs.Closing.{IsAllTaken, IsWholeCaller, items_of}
 use Rattle.report_queue.specs.Calls.{GivesBack}

@@ -5,20 +5,14 @@ use Rattle.std.proofs.lemmas.Option.{none-some}
 use mathlib.Core.Option.{some, some-injective, some-ne-none}
 use lib.ListN.{get_elem?}
 use Rattle.atomic_table.proofs.Lists.{at_index}
-use Rattle.permit_ring.specs.declared.memo.KeeperMemo.{KeeperMemo}
-use Rattle.permit_ring.specs.declared.memo.Outcome.TheVariants.{Got}
-use Rattle.permit_ring.specs.declared.memo.SeatMemo.{SeatMemo}
+use Rattle.report_queue.specs.Names.{KeeperMemo, Got, SeatMemo, Item, Queue, QueueSeat, Taker}
 use Rattle.permit_ring.specs.declared.seat.Seat.{Seat}
 use Rattle.permit_ring.specs.Logs.{IsOrdered}
 use Rattle.permit_ring.specs.Making as ring
 use Rattle.permit_ring.specs.Seats.{seat_number}
 use Rattle.permit_ring.proofs.ListLemmas.{at_length}
 use Rattle.permit_ring.proofs.NewRings.{new_ordered}
-use Rattle.report_queue.specs.declared.cargo.Item.{Item}
 use Rattle.report_queue.specs.declared.cargo.Items.{Items}
-use Rattle.report_queue.specs.declared.seat.Queue.{Queue}
-use Rattle.report_queue.specs.declared.seat.QueueSeat.{QueueSeat}
-use Rattle.report_queue.specs.declared.taker.Taker.{Taker}
 use Rattle.report_queue.specs.Items.{admits_all}
 use Rattle.report_queue.specs.Making.{IsNewQueue, IsUnused, as_callers, new_caller, new_taker}
 use Rattle.report_queue.specs.Parts.{caller_number}

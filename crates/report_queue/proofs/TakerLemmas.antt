@@ -5,16 +5,11 @@ use Rattle.std.proofs.lemmas.List.Sums.{sum_by-cons}
 use mathlib.Core.Option.{some}
 use lib.ListN.{get_elem?}
 use Rattle.atomic_table.proofs.Lists.{at_map, at_set}
-use Rattle.permit_ring.specs.declared.memo.KeeperMemo.{KeeperMemo}
-use Rattle.permit_ring.specs.declared.memo.SeatMemo.{SeatMemo}
+use Rattle.report_queue.specs.Names.{KeeperMemo, SeatMemo, Item, Queue, QueueSeat, Taker}
 use Rattle.permit_ring.specs.Calls.{OfferTells}
 use Rattle.permit_ring.specs.Closing as ring
 use Rattle.permit_ring.specs.Seats.{IsKeeperOf, vacant_of}
 use Rattle.permit_ring.specs.Steps as step
-use Rattle.report_queue.specs.declared.cargo.Item.{Item}
-use Rattle.report_queue.specs.declared.seat.Queue.{Queue}
-use Rattle.report_queue.specs.declared.seat.QueueSeat.{QueueSeat}
-use Rattle.report_queue.specs.declared.taker.Taker.{Taker}
 use Rattle.report_queue.specs.Calls.{GivesBack, welcomes_caller}
 use Rattle.report_queue.specs.Closing.{AreCallersBack, AreAllSwept, IsAllTaken, events_back, contexts_back}
 use Rattle.report_queue.specs.Items.{admits_all}

@@ -2,12 +2,9 @@
 -- The words of the ring that clauses cite are named again here, for the crates above.
 pub use Rattle.permit_ring.specs.Calls.{ClaimTells, claimed_at, ticket_got, vacant_after}
 use Rattle.std.specs.Prelude.{◌≡◌, ◌≢◌, ℕ, ◌+◌, ◌≤◌, List, [], ◌∷◌, ◌++◌, length, slice_set, Some, Result, Ok, Err}
-use Rattle.ids_types.specs.declared.names.Ticket.{Ticket}
+use Rattle.report_queue.specs.Names.{Ticket, Outcome, Lost, Got, Item}
 use Rattle.permit_ring.specs.declared.answer.Look.{Look}
 use Rattle.permit_ring.specs.declared.answer.Unready.{Unready}
-use Rattle.permit_ring.specs.declared.memo.Outcome.{Outcome}
-use Rattle.permit_ring.specs.declared.memo.Outcome.TheVariants.{Lost, Got}
-use Rattle.report_queue.specs.declared.cargo.Item.{Item}
 use Rattle.report_queue.specs.Views.{CallerView, TakerView}
 
 module _ {N : Type 0} where

@@ -2,10 +2,9 @@
 use Rattle.std.specs.Prelude.{◌≡◌, ℕ, suc, ◌<◌, ◌≤◌, ◌==◌, if◌then◌else◌, true, is_some, List, [], ◌∷◌, length, sum, sum_by, Option, Some, None}
 use mathlib.Core.Option.{some}
 use lib.ListN.{get_elem?}
-use Rattle.permit_ring.specs.declared.memo.Outcome.TheVariants.{Lost}
+use Rattle.report_queue.specs.Names.{Lost, Item}
 pub use Rattle.permit_ring.specs.Logs.{RisesFrom, end_from, got_of}
 pub use Rattle.permit_ring.specs.Rule.{StandsIn}
-use Rattle.report_queue.specs.declared.cargo.Item.{Item}
 use Rattle.report_queue.specs.Views.{CallerView, TakerView, NamesItsCalls}
 
 module _ {N : Type 0} where

@@ -1,6 +1,6 @@
 -- What a queue carries, as a freight of its ring.
 use Rattle.std.specs.Prelude.{◌<◌, ◌^◌}
-use Rattle.report_queue.specs.declared.cargo.Item.{Item}
+use Rattle.report_queue.specs.Names.{Item}
 
 -- the item's note: its caller, its call and the note of its load
 abbrev pub item_note : {L N : Type 0} → (L → N) → Item L → Item N

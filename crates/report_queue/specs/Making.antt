@@ -3,11 +3,8 @@ use Rattle.std.specs.Prelude.{◌≡◌, ℕ, List, [], ◌∷◌, length, map, 
 use mathlib.Core.Option.{some}
 use lib.ListN.{get_elem?}
 use Rattle.permit_ring.specs.declared.seat.Seat.{Seat}
-use Rattle.report_queue.specs.declared.cargo.Item.{Item}
+use Rattle.report_queue.specs.Names.{Item, Queue, QueueSeat, Taker}
 use Rattle.report_queue.specs.declared.cargo.Items.{Items}
-use Rattle.report_queue.specs.declared.seat.Queue.{Queue}
-use Rattle.report_queue.specs.declared.seat.QueueSeat.{QueueSeat}
-use Rattle.report_queue.specs.declared.taker.Taker.{Taker}
 use Rattle.report_queue.specs.Parts.{IsCallerOf, IsTakerOf, calls_of, caller_number, caller_view, queue_positions, queue_seats, queue_terms, taker_view, ticket_of, to_give_back}
 use Rattle.report_queue.specs.Views.{CallerView, TakerView}
 

@@ -2,15 +2,9 @@
 use Rattle.std.specs.Prelude.{◌≡◌, ℕ, ◌+◌, ◌-◌, ◌<◌, ◌≤◌, ◌^◌, length, Option, Some, None}
 use mathlib.Core.Option.{some}
 use lib.ListN.{get_elem?}
-use Rattle.ids_types.specs.declared.names.Ticket.{Ticket}
-use Rattle.permit_ring.specs.declared.memo.KeeperMemo.{KeeperMemo}
-use Rattle.permit_ring.specs.declared.memo.SeatMemo.{SeatMemo}
+use Rattle.report_queue.specs.Names.{Ticket, KeeperMemo, SeatMemo, Item, Queue, QueueSeat, Taker}
 use Rattle.permit_ring.specs.Logs.{IsOrdered}
 use Rattle.permit_ring.specs.Seats.{IsKeeperOf, IsSeatOf, filled_of, keeper_memo, ring_positions, ring_seats, ring_terms, seat_calls, seat_memo, seat_number, seat_ticket, vacant_of}
-use Rattle.report_queue.specs.declared.cargo.Item.{Item}
-use Rattle.report_queue.specs.declared.seat.Queue.{Queue}
-use Rattle.report_queue.specs.declared.seat.QueueSeat.{QueueSeat}
-use Rattle.report_queue.specs.declared.taker.Taker.{Taker}
 use Rattle.report_queue.specs.Items.{admits_all}
 use Rattle.report_queue.specs.Views.{CallerView, NamesItsCalls, TakerView, caller_in, taker_in}
 
