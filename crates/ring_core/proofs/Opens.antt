@@ -1,5 +1,5 @@
 -- What holds of a ring holds of one whose positions are all free.
-use Rattle.std.proofs.Common.{ℕ, ◌≤◌, [], ◌∷◌, refl, sym, subst, arith}
+use Rattle.std.proofs.Common.{ℕ, ◌<◌, ◌≤◌, [], ◌∷◌, refl, sym, subst, arith}
 use Rattle.std.proofs.lemmas.Grind.{common_steps}
 use Rattle.std.proofs.lemmas.List.{get_or-replicate, length-replicate}
 use Rattle.ring_core.specs.Machine.{nobody, new_seat, opening}
@@ -14,18 +14,9 @@ fresh_mark : (n p : ℕ) → IsMark n 0 (new_seat ∷ []) p 0
 fresh_mark n p = record { above_all = λ t f. f.claimed_before; just_above = λ t e. absurd (omega arith) }
 
 pub opens : (n limit : ℕ) → 1 ≤ n → n ≤ 1024 → 1 ≤ limit → limit ≤ 32 → IsRing (opening n limit)
-opens n limit some most one few = record {
-  sizes = record { some_position = some; most_positions = most; most_seats = few; a_mark_each = length-replicate n 0 };
-  permits = grind (arith, common_steps);
-  seats = record {
-    each = seat_at-push [] (IsSeat 0 0) (λ i. nobody_in_order) (new_in_order 0 0);
-    apart = apart_same [] (new_seat ∷ []) (holders_stay_push []) (λ i j t hi hj. none_held nobody.held t refl hi);
-    made_within = one;
-    armed_within = omega arith;
-    each_had_a_call = omega arith;
-  };
-  marks = λ p h. subst (IsMark n 0 (new_seat ∷ []) p) (sym (get_or-replicate n p 0 0 h)) (fresh_mark n p);
-  loss0 = refl;
-  loss1 = refl;
-  last = grind (arith, common_steps);
-}
+opens n limit some most one few =
+    let each = seat_at-push [] (IsSeat 0 0) (λ i. nobody_in_order) (new_in_order 0 0) in
+    let apart = apart_same [] (new_seat ∷ []) (holders_stay_push []) (λ i j t hi hj. none_held nobody.held t refl hi) in
+    let marks = λ (p : ℕ) (h : p < n). subst (IsMark n 0 (new_seat ∷ []) p) (sym (get_or-replicate n p 0 0 h)) (fresh_mark n p) in
+    let long = length-replicate {A = ℕ} n 0 in
+    grind (arith, common_steps)
