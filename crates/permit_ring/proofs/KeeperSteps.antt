@@ -147,6 +147,7 @@ module _ {O D T N : Type 0} (note : D → N) (Ao : T → O → Type 0) (An : T �
     pub becomes : new ≡ packed key.limit (offered_to k.seen filled)
 
   module _ {s : State (Slot O D) (View T N)} (r : Runs note Ao An key s) where
+    -- the machine that the words show
     abbrev m : Machine
     m = r.machine
 
@@ -282,6 +283,7 @@ module _ {O D T N : Type 0} (note : D → N) (Ao : T → O → Type 0) (An : T �
     sweeps_loss slots (suc (suc kind)) hand low = absurd (omega (arith, low))
 
     module _ (slots old new filled vacant : ℕ) (hand : List (ℕ × Slot O D)) (can : CanOffer old new filled vacant hand r.keeper) where
+      -- what was filled is ready, and the ring has room for it
       ready_is : ready hand ≡ filled
       ready_is = rw can.in_hand.in_hand (ready_filled O D key.positions r.keeper.offered can.in_hand.values vacant ∙ can.in_hand.filled_are)
 

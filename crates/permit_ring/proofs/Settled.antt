@@ -40,6 +40,14 @@ all_noted {N} (fate ∷ fates) (x ∷ notes) long each =
     let rest = all_noted fates notes (omega arith) (λ t y e. each (suc t) y e) in
     ((here.0, x) ∷ rest.0, ap (λ (ys : List N). x ∷ ys) rest.1, cc (here.1, rest.2))
 
+-- where each has come back, each place has what came
+came : {A : Type 0} (back : List (Option A)) → ((i : ℕ) (b : Option A) → get_elem? back i ≡ some b → is_some b ≡ true)
+    → (i : ℕ) → i < length back → (a : A) × (get_elem? back i ≡ some (Some a))
+came [] all i low = absurd (omega arith)
+came (None ∷ back) all zero low = absurd (false≢true (all zero None refl))
+came (Some a ∷ back) all zero low = (a, refl)
+came (b ∷ back) all (suc i) low = came back (λ j. all (suc j)) i (omega arith)
+
 -- where no seat holds a ticket, and the next one is not finished, all that was claimed was reaped
 all_reaped : (m : Machine) → IsRing m → ((i t : ℕ) → Holds (seat_at m.seats i) t → ⊥)
     → mark_at m.marks (m.reaped % m.positions) ≢ m.reaped + 1 → m.reaped ≡ m.word.claimed
@@ -89,6 +97,7 @@ module _ {N : Type 0} where
   pub settled_is_reaped : (k : KeeperMemo N) → IsSettled k → IsAllReaped k
   settled_is_reaped k s i memo at = rw (s.notes_are, length-map) (s.logs_are i memo at).within
 
+  -- an offer changes nothing of what is settled but the fronts
   module _ (limit count tries : ℕ) (old new : KeeperMemo N) (tells : OfferTells limit count old tries new) where
     pub offer_keeps_back : AreAllBack old → AreAllBack new
     offer_keeps_back = subst AreAllBack (sym tells.1.3)
@@ -106,24 +115,9 @@ module _ {N : Type 0} where
 
 module _ {O D T N : Type 0} {note : D → N} {Ao : T → O → Type 0} {An : T → N → Type 0} {key : Key T} {s : State (Slot O D) (View T N)}
     (r : Runs note Ao An key s) where
-  -- once all seats are back, each that was made is known by the memo with which it came
-  came_back : AreAllBack r.keeper → (i : ℕ) → i < r.keeper.made → (memo : SeatMemo N) × (get_elem? r.keeper.back i ≡ some (Some memo))
-      × IsSomewhere key r.machine r.moves r.fates r.keeper s.views r.owner i (Some memo)
-  came_back back i made =
-      let long = r.knows.back_is in
-      let b = there r.keeper.back i (omega arith) in
-      by_case b.0 b.1 (back i b.0 b.1)
-    where
-      by_case : (b : Option (SeatMemo N)) → get_elem? r.keeper.back i ≡ some b → is_some b ≡ true
-          → (memo : SeatMemo N) × (get_elem? r.keeper.back i ≡ some (Some memo))
-          × IsSomewhere key r.machine r.moves r.fates r.keeper s.views r.owner i (Some memo)
-      by_case None at is = absurd (false≢true is)
-      by_case (Some memo) at is = (memo, at, r.each_seat i (Some memo) at)
-
-  -- its memo shows the machine's seat
-  shown : {i : ℕ} (memo : SeatMemo N) → IsSomewhere key r.machine r.moves r.fates r.keeper s.views r.owner i (Some memo)
-      → memo.view ≡ seat_at r.machine.seats i
-  shown memo p = p.2.shows ∙ ap (seat_at r.machine.seats) p.0
+  -- the memo with which a seat came back shows the machine's seat
+  shown : (i : ℕ) (memo : SeatMemo N) → get_elem? r.keeper.back i ≡ some (Some memo) → memo.view ≡ seat_at r.machine.seats i
+  shown i memo at = let p = r.each_seat i (Some memo) at in p.2.shows ∙ ap (seat_at r.machine.seats) p.0
 
   -- once all seats are back, none holds a ticket
   none_left : AreAllBack r.keeper → (i t : ℕ) → Holds (seat_at r.machine.seats i) t → ⊥
@@ -131,17 +125,20 @@ module _ {O D T N : Type 0} {note : D → N} {Ao : T → O → Type 0} {An : T �
     | inl made ↦
         let live = ((ring_of r).seats.each i).holder_is_live (ap is_some holds) in
         let below = live_is_made r.machine.seats i live in
-        let b = came_back back i (omega (arith, made.1)) in
-        false≢true (sym b.2.1 ∙ ap (λ (seat : SeatView). seat.live) (shown b.0 b.2) ∙ live)
+        let long = r.knows.back_is in
+        let b = came r.keeper.back back i (omega (arith, made.1)) in
+        let off = (r.each_seat i (Some b.0) b.1).1 in
+        false≢true (sym off ∙ ap (λ (seat : SeatView). seat.live) (shown i b.0 b.1) ∙ live)
     | inr start ↦ new_holds_none i t (rw start.1 at holds)
   ]
 
   -- the log of a seat that came back is whole, where something became of each ticket
   whole_log : (taken : List (ℕ × N)) → r.fates ≡ map Some taken → (i : ℕ) (memo : SeatMemo N)
-      → IsSomewhere key r.machine r.moves r.fates r.keeper s.views r.owner i (Some memo) → IsWholeLog r.keeper.fronts taken i memo
-  whole_log taken all i memo p =
+      → get_elem? r.keeper.back i ≡ some (Some memo) → IsWholeLog r.keeper.fronts taken i memo
+  whole_log taken all i memo at =
+      let p = r.each_seat i (Some memo) at in
       let its = p.2 in
-      let seat = rw (← shown memo p) at ((ring_of r).seats.each i) in
+      let seat = rw (← shown i memo at) at ((ring_of r).seats.each i) in
       let none = none_open memo.view.armed (is_some memo.view.held) seat.armed_is_live seat.holder_is_live p.1 in
       let decided = its.ordered.decided in
       let calls : memo.view.calls ≡ length memo.log = omega arith in
@@ -162,17 +159,20 @@ module _ {O D T N : Type 0} {note : D → N} {Ao : T → O → Type 0} {An : T �
         taken = all.0;
         notes_are = all.1;
         seats_are = λ t i x e. (r.are_fates.finished t i x (rw all.2 (at_map Some all.0 t (i, x) e))).0;
-        logs_are = λ i memo e. whole_log all.0 all.2 i memo (r.each_seat i (Some memo) e);
+        logs_are = whole_log all.0 all.2;
       }
 
   -- so once all seats are back, the next ticket is finished only where some was not reaped
   pub not_over : (i : ℕ) (x : N) → get_elem? r.fates r.machine.reaped ≡ some (Some (i, x)) → AreAllBack r.keeper → ¬ IsAllReaped r.keeper
   not_over i x e back reaped =
-      let b = came_back back i (r.are_fates.finished r.machine.reaped i x e).0 in
+      let made = (r.are_fates.finished r.machine.reaped i x e).0 in
+      let long = r.knows.back_is in
+      let b = came r.keeper.back back i (omega arith) in
+      let p = r.each_seat i (Some b.0) b.1 in
       let took = taken_in i 0 r.fates r.machine.reaped r.machine.reaped x (omega arith) e in
-      let own = b.2.2.got ∙ ap (λ (j : ℕ). taken_by j 0 r.fates) b.2.0 in
+      let own = p.2.got ∙ ap (λ (j : ℕ). taken_by j 0 r.fates) p.0 in
       let entry = got_from b.0.log took.0 r.machine.reaped x (ap (λ (l : List (ℕ × N)). get_elem? l took.0) own ∙ took.1) in
-      let above = within_end 0 b.0.log entry.0 (Got r.machine.reaped x) b.2.2.ordered.rises entry.1 in
+      let above = within_end 0 b.0.log entry.0 (Got r.machine.reaped x) p.2.ordered.rises entry.1 in
       let low = reaped i b.0 b.1 in
       let count = r.knows.counted.reaped_is in
       omega arith
@@ -182,8 +182,8 @@ module _ {O D T N : Type 0} {note : D → N} {Ao : T → O → Type 0} {An : T �
       → sum_by (λ (v : SeatView). marks_of v kind) r.machine.seats ≡ sum_by (marks_back kind) r.keeper.back
   all_marks back kind clean = elim r.knows.made_is [
     | inl made ↦ same_sums (λ (v : SeatView). marks_of v kind) (marks_back kind) nobody r.machine.seats r.keeper.back
-        (r.knows.back_is ∙ made.1) (λ i low. let b = came_back back i (rw (← r.knows.back_is) low) in
-        (Some b.0, b.1, ap (λ (v : SeatView). marks_of v kind) (sym (shown b.0 b.2))))
+        (r.knows.back_is ∙ made.1) (λ i low. let b = came r.keeper.back back i low in
+        (Some b.0, b.1, ap (λ (v : SeatView). marks_of v kind) (sym (shown i b.0 b.1))))
     | inr start ↦ ap (sum_by (λ (v : SeatView). marks_of v kind)) start.1 ∙ clean
         ∙ ap (sum_by (marks_back kind)) (sym (nil_from_length r.keeper.back (r.knows.back_is ∙ start.0)))
   ]
