@@ -1,5 +1,7 @@
 -- A line without a fault: what holds of it, and what it adds to the lines before it.
 use Rattle.text_spec.proofs.Names.{◌≡◌, ℕ, ◌<◌, ◌≤◌, true, List, [], ◌∷◌, ◌++◌, length, map, sym, ap, append_assoc, arith, Ok, slice_index, AllByRecursion, flat_map, list_all, and_parts, append-nil, flat_map_more, map-append, nil_from_length, Parts, is_sensor, Turn, begun, extended, with_entry, IsExactContext, a_number, AreExact, Past, is_claim, is_call, is_context, is_act, has_event, entry_fault, fault_of, next, entry_of, Carried, Absent, Kept, Missing, Act, Report, State, SetMode, Entry, Line, begins, enters, loses, act_fields, fields_of, turn_told, lines_told}
+use Rattle.std.proofs.lemmas.List.Elements.{recursion_from_All}
+use Rattle.std.proofs.lemmas.List.Sums.{AllPass-from_list_all}
 
 -- what holds of an entry without a fault
 pub record EntryPasses (config : Parts) (past : Past) (entry : Entry (List ℕ)) : Type 0 where
@@ -27,10 +29,9 @@ entry_passes config past entry none = record {
 -- ---- its numbers are told as they are
 
 small_claims : (numbers : List ℕ) → list_all is_claim numbers ≡ true → AllByRecursion a_number.Exact numbers
-small_claims [] all = tt
-small_claims (n ∷ numbers) all =
-    let parts = and_parts (is_claim n) (list_all is_claim numbers) all in
-    (grind (arith, parts.0), small_claims numbers parts.1)
+small_claims numbers all = recursion_from_All _ numbers (λ k d within.
+    let is = AllPass-from_list_all is_claim numbers all k d within in
+    grind (arith, is))
 
 exact_context : (context : Carried (List ℕ)) → is_context context ≡ true → IsExactContext context
 exact_context Absent is = tt

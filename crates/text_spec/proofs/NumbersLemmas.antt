@@ -13,8 +13,6 @@ use Rattle.std.proofs.lemmas.Option.{same_Some, none-some}
 use Rattle.std.proofs.lemmas.Str.{digit_value_digit}
 use Rattle.std.proofs.lemmas.Str.Parse.{IsNumeralModel, numerals_by_value}
 use Rattle.text_spec.specs.Numbers.{is_number, number_in, capped, greatest_told}
-use Rattle.text_spec.specs.Words.{Free}
-use Rattle.text_spec.proofs.WordsLemmas.{free_from_test}
 
 -- a word of digits
 abbrev pub Digits : List ℕ → Type 0
@@ -93,11 +91,6 @@ decimal-number_in word n read small = elim (cases_Bool (is_number word)) [
       sym (decimal-digits_value own_digits word parts.digits parts.some parts.first bound) ∙ ap decimal value
   | inr none ↦ cc (sym (cond-false _ (Some (digits_value 10 word)) None none) ∙ read)
 ]
-
--- the text of a number is free of each byte that is no digit
-pub decimal-free : (c n : ℕ) → is_ascii_digit c ≡ false → n < 2 ^ 64 → Free c (decimal n)
-decimal-free c n out small =
-    free_from_test is_ascii_digit c (decimal n) out (digits_decimal own_digits n small)
 
 -- ---- numbers as they are told
 

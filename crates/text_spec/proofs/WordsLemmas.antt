@@ -1,8 +1,7 @@
 -- Words and lines: the tests that their bytes pass, and the readings of a line and of a text against
 -- their texts.
-use Rattle.text_spec.proofs.Names.{◌≡◌, ℕ, ◌==◌, Bool, true, false, List, [], ◌∷◌, ◌++◌, refl, sym, ap, ◌∙◌, All, list_all, AllByRecursion, slice_split, join_with_byte, and_parts, and_from, eq-eqb, ne_eqb, both_ways, list_all-append, slice_split_none, slice_split_at, Free, line_feed, text_of}
-use Rattle.std.proofs.lemmas.List.Elements.{recursion_from_All}
-use Rattle.std.proofs.lemmas.List.Sums.{AllPass-from_list_all}
+use Rattle.text_spec.proofs.Names.{◌≡◌, ℕ, ◌==◌, Bool, true, false, List, [], ◌∷◌, ◌++◌, refl, sym, ap, ◌∙◌, All, list_all, AllByRecursion, slice_split, join_with_byte, and_parts, and_from, eq-eqb, ne_eqb, both_ways, list_all-append, slice_split_none, slice_split_at, line_feed, text_of}
+use Rattle.std.proofs.lemmas.List.Sums.{AllPass-from_list_all, list_all-from_AllPass}
 
 -- all bytes of each of these words pass a test
 abbrev pub Pass : (ℕ → Bool) → List (List ℕ) → Type 0
@@ -15,19 +14,12 @@ all_pass p Is (word ∷ words) each are = (each word are.0, all_pass p Is words 
 
 -- bytes that pass a test pass one that asks less
 pub weaker : (p q : ℕ → Bool) (bytes : List ℕ) → ((b : ℕ) → p b ≡ true → q b ≡ true) → list_all p bytes ≡ true → list_all q bytes ≡ true
-weaker p q [] less all = refl
-weaker p q (b ∷ bytes) less all =
-    let parts = and_parts (p b) (list_all p bytes) all in
-    and_from _ _ (less b parts.0) (weaker p q bytes less parts.1)
+weaker p q bytes less all = list_all-from_AllPass q bytes (λ k d within. less _ (AllPass-from_list_all p bytes all k d within))
 
 -- a byte that does not pass is not among those that do
 not_among : (p : ℕ → Bool) (c : ℕ) (bytes : List ℕ) → p c ≡ false → list_all p bytes ≡ true → All (λ b. (b == c) ≡ false) bytes
 not_among p c bytes out all = λ k d within.
     ne_eqb _ c (λ e. both_ways (p c) out (ap p (sym e) ∙ AllPass-from_list_all p bytes all k d within))
-
--- and are free of a byte that does not pass
-pub free_from_test : (p : ℕ → Bool) (c : ℕ) (bytes : List ℕ) → p c ≡ false → list_all p bytes ≡ true → Free c bytes
-free_from_test p c bytes out all = recursion_from_All _ bytes (not_among p c bytes out all)
 
 -- pieces joined by a byte that does not pass, and cut at it again
 pub split_joined : (p : ℕ → Bool) (c : ℕ) (piece : List ℕ) (pieces : List (List ℕ)) → p c ≡ false → Pass p (piece ∷ pieces)

@@ -11,4 +11,4 @@ pub use Rattle.text_spec.specs.JournalText.{Absent, Act, Carried, Entry, Kept, L
 pub use Rattle.text_spec.specs.Maybe.{or_else, ◌>>=◌}
 pub use Rattle.text_spec.specs.Modes.{all_modes, first_named, mode_name, mode_named}
 pub use Rattle.text_spec.specs.Stamps.{stamp_in, stamp_of_bytes, stamp_text}
-pub use Rattle.text_spec.specs.Words.{Free, absent, line_feed, line_of, pieces_of, space, text_of, words_of}
+pub use Rattle.text_spec.specs.Words.{absent, line_feed, line_of, pieces_of, space, text_of, words_of}

@@ -14,10 +14,6 @@ line_feed = 10
 abbrev pub absent : List ℕ
 absent = codes "-"
 
--- no byte of these is c
-abbrev pub Free : ℕ → List ℕ → Type 0
-Free c bytes = AllByRecursion (λ b. (b == c) ≡ false) bytes
-
 -- the pieces of a text between the bytes that are the separator
 abbrev pub pieces_of : ℕ → List ℕ → List (List ℕ)
 pieces_of separator text = slice_split (λ b. b == separator) text
