@@ -31,6 +31,7 @@ number_lower word is = weaker is_ascii_digit is_lower_digit word (λ b digit. gr
 lower_passes : (word : List ℕ) → list_all is_lower_digit word ≡ true → list_all in_word word ≡ true
 lower_passes word all = weaker is_lower_digit in_word word (λ b digit. grind (arith, digit)) all
 
+-- what holds of a word by whether it is a number
 number_is : (word : List ℕ) (is : Bool) → is_number word ≡ is → IsReading a_number word (option_map capped (if is then Some (digits_value 10 word) else None))
 number_is word true is = record {
   written = is;
@@ -48,6 +49,7 @@ number_lawful = record {
 
 -- ---- timestamps and bytes
 
+-- the text of an optional timestamp is a word
 stamp_passes : (stamp : Option Stamp) → list_all in_word (stamp_text stamp) ≡ true
 stamp_passes None = refl
 stamp_passes (Some stamp) = lower_passes (stamp_text (Some stamp)) (lower_text (to_be_bytes w64 stamp.0) (IsBytes-high_first 8 stamp.0))

@@ -101,6 +101,7 @@ then_read field fields makes word words x (Some a) told rest = record {
   are = λ exact. ap (λ w. w ∷ words) (told.takes exact.0) ∙ ap (λ ws. field.word x ∷ ws) (rest.are exact.1);
 }
 
+-- words that are read, by what the first of them is read as
 first_read : (A : Type 0) (field : Field) (fields : List Field) (makes : Makes (field ∷ fields) A) (word : List ℕ) (words : List (List ℕ)) (read : Option field.Value)
     → IsReading field word read → ((x : field.Value) → AreReading fields (makes x) words (read_by fields (makes x) words))
     → AreReading (field ∷ fields) makes (word ∷ words) (◌>>=◌ {A = field.Value × List (List ℕ)} (option_map (λ x. (x, words)) read) (λ x. read_by fields (makes x.0) x.1))
@@ -158,6 +159,7 @@ module _ {A : Type 0} (shows : A → List Filled) where
   IsTold forms words None = HasForm forms words → ⊥
   IsTold forms words (Some a) = Tells forms words (shows a)
 
+  -- what one form tells, or else what the others tell
   told_or : (form : Form A) (forms : List (Form A)) (words : List (List ℕ)) (one other : Option A) → IsForm form
       → AreReading (the form.letter ∷ form.fields) (λ _. form.makes) words one → IsTold forms words other → IsTold (form ∷ forms) words (or_else one other)
   told_or form forms words None None is none nor = λ written. elim written [ inl here ↦ none here | inr later ↦ nor later ]

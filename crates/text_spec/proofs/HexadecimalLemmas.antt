@@ -141,6 +141,7 @@ unfolding encode_with
 encode-push [] b = refl
 encode-push (c ∷ bytes) b = ap (λ (ds : List ℕ). slice_index lower_digits (c / 16) ∷ slice_index lower_digits (c % 16) ∷ ds) (encode-push bytes b)
 
+-- and so the text of the first bytes
 pub encode_more : (bytes : List ℕ) (i : ℕ) → i < length bytes
     → encode_lower (take (i + 1) bytes) ≡ encode_lower (take i bytes) ++ slice_index lower_digits (slice_index bytes i / 16) ∷ slice_index lower_digits (slice_index bytes i % 16) ∷ []
 encode_more bytes i inside = ap encode_lower (take_more bytes i 0 inside) ∙ encode-push (take i bytes) (slice_index bytes i)
@@ -222,6 +223,7 @@ hex_in-pairs word all even = elim (by_pairs word all) [
   | inr odd ↦ absurd (omega arith)
 ]
 
+-- which are some bytes, where there are digits
 pub some_hex-pairs : (word : List ℕ) → list_all is_lower_digit word ≡ true → length word % 2 ≡ 0 → 0 < length word → some_hex word ≡ Some (bytes_of word)
 some_hex-pairs word all even some =
     let read = hex_in-pairs word all even in

@@ -25,6 +25,7 @@ are_forms = (
 pub line_is : (words : List (List ℕ)) → IsTold fields_of line_forms words (told_by words)
 line_is words = forms_are fields_of line_forms words are_forms
 
+-- words tell something exactly where they have a form
 pub told_has_form : (words : List (List ℕ)) (line : Line) → told_by words ≡ Some line → HasForm line_forms words
 told_has_form words line read = (subst (IsTold fields_of line_forms words) read (line_is words)).written
 

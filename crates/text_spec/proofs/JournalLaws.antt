@@ -34,6 +34,7 @@ grouped (begins head ∷ lines) =
 grouped (enters entry ∷ lines) = record { entries = entry ∷ (grouped lines).entries; turns = (grouped lines).turns; losses = (grouped lines).losses }
 grouped (loses loss ∷ lines) = record { entries = (grouped lines).entries; turns = (grouped lines).turns; losses = loss ∷ (grouped lines).losses }
 
+-- losses alone, entries before other lines, and the lines of a whole journal
 grouped-losses : (losses : List Loss) → grouped (map loses losses) ≡ record { entries = []; turns = []; losses = losses }
 grouped-losses [] = refl
 grouped-losses (loss ∷ losses) = rw (grouped-losses losses) refl
