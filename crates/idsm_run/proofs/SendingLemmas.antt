@@ -1,6 +1,6 @@
 -- Messages that are sent: how long they are, and those of the first so many entries and turns.
-use Rattle.std.proofs.Common.{ℕ, ◌≤◌, List, length, Option, IfSome, refl, arith, length-append}
-use Rattle.idsm_run.specs.Words.{Carried, Absent, Kept, Missing, Stamp, MessageParts, spelling, Parts, IsShort, context_sent, message_of}
+use Rattle.std.proofs.Common.{ℕ, ◌≤◌, List, length, Option, IfSome, refl}
+use Rattle.idsm_run.specs.Words.{Carried, Absent, Kept, Missing, Stamp, spelling, Parts, IsShort, context_sent, message_of}
 use Rattle.ids_frame.proofs.SpellingLemmas.{unsigned_spelling_is_short}
 
 -- a context that fits has at most 1,024 bytes
@@ -17,7 +17,3 @@ pub message_is_short : (config : Parts) (k count : ℕ) (stamp : Option Stamp)
 message_is_short config k count stamp context fits =
     unsigned_spelling_is_short (message_of config k count stamp context) refl
     (context_is_short context fits)
-
--- every message has bytes
-pub spelling_has_bytes : (m : MessageParts) → 1 ≤ length (spelling m)
-spelling_has_bytes m = simp length-append (omega arith)

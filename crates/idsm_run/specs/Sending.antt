@@ -1,7 +1,7 @@
 -- The messages that the manager sends: one for each report, in the order of the reports.
 -- After the event message of the AUTOSAR PRS Intrusion Detection System; that every report is sent
 -- as it is, is this release's own.
-use Rattle.std.specs.Prelude.{ℕ, ◌<◌, ◌≤◌, List, [], length, sum_by, Option, Some, None, ⊤}
+use Rattle.std.specs.Prelude.{ℕ, ◌<◌, ◌≤◌, List, [], length, Option, Some, None, ⊤}
 use Rattle.idsm_run.specs.Names.{flat_map, AllByRecursion, Carried, Kept, Act, Report, Entry, Stamp, Turn, MessageParts, spelling, Parts, event_at}
 use Rattle.ids_frame.specs.Context.{ContextPart, context_of}
 
@@ -55,20 +55,3 @@ turn_messages config turn = flat_map (entry_messages config) turn.entries
 -- the bytes that all turns send
 abbrev pub messages_of : Parts → List Turn → List ℕ
 messages_of config turns = flat_map (turn_messages config) turns
-
--- how many messages an act sends: one for a report, and none for a control
-abbrev pub act_count : Act (List ℕ) → ℕ
-act_count (Report event count stamp context) = 1
-act_count other = 0
-
--- how many messages an entry sends
-abbrev pub entry_count : Entry (List ℕ) → ℕ
-entry_count entry = act_count entry.act
-
--- how many messages a turn sends
-abbrev pub turn_count : Turn → ℕ
-turn_count turn = sum_by entry_count turn.entries
-
--- how many messages all turns send
-abbrev pub count_of : List Turn → ℕ
-count_of turns = sum_by turn_count turns

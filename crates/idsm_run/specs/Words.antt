@@ -9,7 +9,7 @@ pub use Rattle.idsm_run.specs.FoldedJournal.{folded_in, held_back_line}
 pub use Rattle.idsm_run.specs.Judge.{Work, judge, file_of, config_judged, fold_work, journal_judged, without, decode_work}
 pub use Rattle.idsm_run.specs.Run.{WasDone, StopsFor, Ran, RanCommand, written_of, OneFails, EndsAs, WasRefused, PartWritten}
 pub use Rattle.idsm_run.specs.Saying.{Puts, Says, Tells, put_status}
-pub use Rattle.idsm_run.specs.Sending.{IsShort, CanSend, CanSendTurn, message_of, context_sent, entry_messages, messages_of, entry_count, count_of}
+pub use Rattle.idsm_run.specs.Sending.{IsShort, CanSend, CanSendTurn, message_of, context_sent, entry_messages, messages_of}
 pub use Rattle.idsm_run.specs.Stages.{plain_end, plain_stop, Judges, ReadStops, StopsAs}
 pub use Rattle.idsm_run.specs.Texts.{bad_config_text, bad_message_text, stop_status, stop_text, answer_text, answer_status}
 pub use Rattle.idsm_run.specs.Writing.{Cuts, StandsInPart, HoldsPart, WriteFails, AreWritten, StandUpTo, stop_of_write, Output, AreUntouched}

@@ -1,7 +1,7 @@
 //! The command `fold`: the messages and the event memory of a recorded history.
 
 ghost use Rattle.std.specs.Prelude.{◌≡◌, ◌≢◌, length, IsTrue, IfOk, OnOk, OnErr, IfErr};
-ghost use Rattle.idsm_run.specs.Words.{count_of, SameBut, written_by, fold as fold_command, files_of, fold_text as text_of, fold_line as line_of, fold_outputs, WasDone, StopsFor, OneFails, plain_stop, AreWritten, StandUpTo, Cuts};
+ghost use Rattle.idsm_run.specs.Words.{SameBut, written_by, fold as fold_command, files_of, fold_text as text_of, fold_line as line_of, fold_outputs, WasDone, StopsFor, OneFails, plain_stop, AreWritten, StandUpTo, Cuts};
 
 use crate::command::FoldNames;
 use crate::inputs::read_inputs;
@@ -31,7 +31,7 @@ pub(crate) fn fold<'a, H: Shelf>(
 {
     let inputs = read_inputs(alloc, names, shelf)?;
     let sent = messages_of_history(alloc, &inputs.config, &inputs.history)?;
-    let text = fold_text(alloc, &inputs.history, sent.messages)?;
+    let text = fold_text(alloc, &inputs.history)?;
     write_outputs(names, &sent, shelf)?;
     Ok(text)
 }
@@ -62,17 +62,17 @@ fn write_outputs<H: Shelf>(
     write_file(names.memory, &[], &[], shelf)
 }
 
-/// `turns T entries E messages M records 0`, and a line feed.
-fn fold_text(alloc: Global, history: &History, messages: u64) -> Result<Vec<u8>, NoMemory>
-    requires { messages ≡ count_of history.now.turns }
+/// `turns T entries E messages M records 0`, and a line feed. Each entry is a report, and sends a
+/// message.
+fn fold_text(alloc: Global, history: &History) -> Result<Vec<u8>, NoMemory>
     ensures { IfOk result (λ text. text.items ≡ text_of history.now.turns) }
 {
-    fold_line(alloc, history.turns(), history.total_entries(), messages)
+    fold_line(alloc, history.turns(), history.total_entries())
 }
 
-fn fold_line(alloc: Global, turns: u64, entries: u64, messages: u64) -> Result<Vec<u8>, NoMemory>
-    ensures { IfOk result (λ text. text.items ≡ line_of turns entries messages) }
+fn fold_line(alloc: Global, turns: u64, entries: u64) -> Result<Vec<u8>, NoMemory>
+    ensures { IfOk result (λ text. text.items ≡ line_of turns entries) }
 {
-    let text = format!(in alloc; "turns {turns} entries {entries} messages {messages} records 0\n")?;
+    let text = format!(in alloc; "turns {turns} entries {entries} messages {entries} records 0\n")?;
     Ok(text.into_bytes())
 }

@@ -1,6 +1,6 @@
 //! The messages of a history: one for each report.
-ghost use Rattle.std.specs.Prelude.{◌≡◌, ◌+◌, ◌≤◌, ◌<◌, ◌++◌, length, sum_by, IfOk, OnOk, vec_len};
-ghost use Rattle.idsm_run.specs.Words.{AllByRecursion, flat_map, plain_entry, plain_carried, event_at, spelling, Cuts, IsShort, CanSend, CanSendTurn, message_of, context_sent, entry_messages, messages_of, entry_count, count_of};
+ghost use Rattle.std.specs.Prelude.{◌≡◌, ◌+◌, ◌≤◌, ◌<◌, ◌++◌, length, IfOk, OnOk};
+ghost use Rattle.idsm_run.specs.Words.{AllByRecursion, flat_map, plain_entry, plain_carried, event_at, spelling, Cuts, IsShort, CanSend, CanSendTurn, message_of, context_sent, entry_messages, messages_of};
 
 use arrayvec::ArrayVec;
 use ids_config::Config;
@@ -8,13 +8,11 @@ use ids_frame::{Context, MAX_BYTES, Message, encode};
 use ids_types::{Act, Carried, Entry, EntryWalk, EventIndex, History, NoMemory, Plain, Stamp};
 use std::alloc::Global;
 
-/// What a history sends: its messages one after another, how many bytes there are after each turn,
-/// and how many messages.
+/// What a history sends: its messages one after another, and how many bytes there are after each turn.
 #[derive(Debug, Drop)]
 pub(crate) struct Sent {
     pub(crate) bytes: Vec<u8>,
     pub(crate) ends: Vec<usize>,
-    pub(crate) messages: u64,
 }
 
 /// The messages of a history of reports of configured events.
@@ -27,58 +25,46 @@ pub(crate) fn messages_of_history(
     ensures bytes { IfOk result
         (λ sent. sent.bytes.items ≡ messages_of config.now history.now.turns) }
     ensures cuts { IfOk result (λ sent. Cuts 0 sent.ends.items (length sent.bytes.items)) }
-    ensures messages { IfOk result (λ sent. sent.messages ≡ count_of history.now.turns) }
 {
     let mut bytes = Vec::new(alloc);
     let mut ends = Vec::with_capacity(alloc, history.turns() as usize)?;
-    let mut messages = 0;
     let mut room = ArrayVec::new();
     let mut turns = history.walk();
     while let Some((_, entries)) = turns.pop_front() {
-        messages += push_entries(config, entries, &mut room, &mut bytes)?;
+        push_entries(config, entries, &mut room, &mut bytes)?;
         ends.push(bytes.len())?;
     }
-    Ok(Sent {
-        bytes,
-        ends,
-        messages,
-    })
+    Ok(Sent { bytes, ends })
 }
 
-/// Appends the messages of the entries of a turn, and returns how many they are. A message is spelled
-/// in `room`.
+/// Appends the messages of the entries of a turn. A message is spelled in `room`.
 fn push_entries(
     config: &Config,
     entries: EntryWalk<'_>,
     room: &mut ArrayVec<u8, MAX_BYTES>,
     out: &mut Vec<u8>,
-) -> Result<u64, NoMemory>
+) -> Result<(), NoMemory>
     requires { AllByRecursion (λ e. CanSend (length config.now.events) e.act) entries }
-    ensures bytes { OnOk result (out.new.items
+    ensures { OnOk result (out.new.items
         ≡ out.old.items ++ flat_map (entry_messages config.now) entries.entry) }
-    ensures count { IfOk result (λ n. n ≡ sum_by entry_count entries.entry) }
-    ensures grows { IfOk result (λ n. vec_len out.old + n ≤ vec_len out.new) }
 {
-    let mut count = 0;
     let mut rest = entries;
     while let Some(entry) = rest.pop_front() {
-        count += push_entry(config, &entry, room, out)?;
+        push_entry(config, &entry, room, out)?;
     }
-    Ok(count)
+    Ok(())
 }
 
-/// Appends the message of an entry, and returns how many it is: 1 for a report, 0 for a control.
+/// Appends the message of an entry, where it is a report.
 fn push_entry(
     config: &Config,
     entry: &Entry<Plain<'_>>,
     room: &mut ArrayVec<u8, MAX_BYTES>,
     out: &mut Vec<u8>,
-) -> Result<u64, NoMemory>
+) -> Result<(), NoMemory>
     requires { CanSend (length config.now.events) (plain_entry entry.now).act }
-    ensures bytes { OnOk result
+    ensures { OnOk result
         (out.new.items ≡ out.old.items ++ entry_messages config.now (plain_entry entry.now)) }
-    ensures count { IfOk result (λ n. n ≡ entry_count (plain_entry entry.now)) }
-    ensures grows { IfOk result (λ n. vec_len out.old + n ≤ vec_len out.new) }
 {
     match &entry.act {
         Act::Report {
@@ -88,10 +74,9 @@ fn push_entry(
             context,
         } => {
             let message = message(config, *event, *count, *stamp, context);
-            push_message(&message, room, out)?;
-            Ok(1)
+            push_message(&message, room, out)
         }
-        Act::State(_) | Act::SetMode { .. } => Ok(0),
+        Act::State(_) | Act::SetMode { .. } => Ok(()),
     }
 }
 
@@ -164,15 +149,13 @@ fn context_of<'a>(context: &Carried<Plain<'a>>) -> Option<Context<'a>>
 }
 
 /// Appends a message's spelling.
-#[tactic(auto, using(crate::proofs::SendingLemmas::spelling_has_bytes))]
 fn push_message(
     message: &Message<'_>,
     room: &mut ArrayVec<u8, MAX_BYTES>,
     out: &mut Vec<u8>,
 ) -> Result<(), NoMemory>
     requires { length (spelling message.now) ≤ MAX_BYTES }
-    ensures bytes { OnOk result (out.new.items ≡ out.old.items ++ spelling message.now) }
-    ensures grows { OnOk result (vec_len out.old + 1 ≤ vec_len out.new) }
+    ensures { OnOk result (out.new.items ≡ out.old.items ++ spelling message.now) }
 {
     encode(message, room).unwrap();
     out.extend_from_slice(room)?;

@@ -11,6 +11,4 @@ loop-entries-preserved c =
       can = grind (arith, common_steps);
       bytes = grind (arith, common_steps);
       cuts = rw (c.in_ok-push.ensures.items, len) (cuts_go_on 0 _ _ _ c.loop-entries.invariant.cuts (grind (arith, common_steps)));
-      messages = grind (arith, common_steps);
-      grows = grind (arith, common_steps);
     }

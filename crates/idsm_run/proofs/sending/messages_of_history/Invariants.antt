@@ -1,5 +1,5 @@
-use Rattle.std.proofs.Common.{◌≡◌, ◌+◌, ◌≤◌, ◌++◌, length, vec_len}
-use Rattle.idsm_run.specs.Words.{AllByRecursion, CanSendTurn, messages_of, count_of, Cuts}
+use Rattle.std.proofs.Common.{◌≡◌, ◌+◌, ◌++◌, length}
+use Rattle.idsm_run.specs.Words.{AllByRecursion, CanSendTurn, messages_of, Cuts}
 use Rattle.idsm_run.proofs.sending.messages_of_history.Given as goal
 
 abbrev pub decreases-loop-entries : goal.decreases-loop-entries
@@ -11,6 +11,4 @@ invariant-loop-entries l = record {
   can : AllByRecursion (CanSendTurn (length l.config.events)) l.turns;
   bytes : l.bytes.items ++ messages_of l.config l.turns ≡ messages_of l.config l.history.turns;
   cuts : Cuts 0 l.ends.items (length l.bytes.items);
-  messages : l.messages + count_of l.turns ≡ count_of l.history.turns;
-  grows : l.messages ≤ vec_len l.bytes;
 }

@@ -1,5 +1,5 @@
-use Rattle.std.proofs.Common.{◌≡◌, ◌+◌, ◌≤◌, ◌++◌, length, sum_by, vec_len}
-use Rattle.idsm_run.specs.Words.{flat_map, AllByRecursion, CanSend, entry_count, entry_messages}
+use Rattle.std.proofs.Common.{◌≡◌, ◌+◌, ◌++◌, length}
+use Rattle.idsm_run.specs.Words.{flat_map, AllByRecursion, CanSend, entry_messages}
 use Rattle.idsm_run.proofs.sending.push_entries.Given as goal
 
 abbrev pub decreases-loop-entry : goal.decreases-loop-entry
@@ -11,6 +11,4 @@ invariant-loop-entry l = record {
   can : AllByRecursion (λ e. CanSend (length l.config.events) e.act) l.rest;
   bytes : l.out.items ++ flat_map (entry_messages l.config) l.rest
       ≡ l.initial.out.items ++ flat_map (entry_messages l.config) l.initial.rest;
-  count : l.count + sum_by entry_count l.rest ≡ sum_by entry_count l.initial.rest;
-  grows : vec_len l.initial.out + l.count ≤ vec_len l.out;
 }
