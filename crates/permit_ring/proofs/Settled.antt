@@ -23,8 +23,7 @@ use Rattle.permit_ring.specs.declared.memo.View.{View}
 use Rattle.permit_ring.specs.Calls.{OfferTells}
 use Rattle.permit_ring.specs.Closing.{AreAllBack, IsAllReaped, IsSettled, IsWholeLog, marks_back}
 use Rattle.permit_ring.specs.Logs.{end_from, taken_by}
-use Rattle.permit_ring.specs.Rule.{StandsIn, IsSomewhere, Runs}
-use Rattle.permit_ring.proofs.ListLemmas.{there}
+use Rattle.permit_ring.specs.Rule.{StandsIn, Runs}
 use Rattle.permit_ring.proofs.LogLemmas.{got_from, taken_in, within_end}
 use Rattle.permit_ring.proofs.States.{ring_of}
 
