@@ -1,5 +1,5 @@
 -- What holds of a ring is kept by each step, and by each list of steps.
-use Rattle.std.proofs.Common.{◌≡◌, ℕ, ◌+◌, ◌<◌, ◌≤◌, true, Option, Some, None, IfSome, is_some, List, [], ◌∷◌, ◌++◌, length, take, get_or, refl, sym, ◌∙◌, ap, subst}
+use Rattle.std.proofs.Common.{◌≡◌, ℕ, Bool, cond, ◌+◌, ◌<◌, ◌≤◌, true, Option, Some, None, IfSome, is_some, List, [], ◌∷◌, ◌++◌, length, take, get_or, refl, sym, ◌∙◌, ap, subst}
 use Rattle.std.specs.Option.{option_and_then}
 use Rattle.std.proofs.lemmas.List.{take_more, take_all}
 use Rattle.std.proofs.lemmas.Option.{option_and_then_some}
@@ -27,6 +27,10 @@ after_keeps m r (Mark i kind) ok = mark_keeps m r i kind ok
 after_keeps m r (Sweep kind) ok = sweep_keeps m r kind
 after_keeps m r Split ok = split_keeps m r ok
 after_keeps m r (Join i) ok = join_keeps m r i ok
+
+-- a step that is possible leads to the state after it
+pub next_of_possible : (m : Machine) (step : Step) → possible m step ≡ true → next m step ≡ Some (after m step)
+next_of_possible m step ok = ap (λ (b : Bool). cond b (Some (after m step)) None) ok
 
 -- what follows a ring by a step is a ring
 pub step_sound : {m now : Machine} → IsRing m → (step : Step) → next m step ≡ Some now → IsRing now

@@ -88,6 +88,10 @@ pub(crate) fn put_field(out: &mut Vec<u8>, number: u64)
     ensures capacity { vec_capacity out.new ≡ vec_capacity out.old }
 {
     out.push_reserved(b' ');
+    // Many numbers have one digit.
+    if number < 10 {
+        return put_digit(out, number);
+    }
     put_digits(out, number);
 }
 
@@ -95,7 +99,6 @@ pub(crate) fn put_field(out: &mut Vec<u8>, number: u64)
 const MOST_DIGITS: usize = 20;
 
 /// Writes a number into room that is there.
-#[inline]
 fn put_digits(out: &mut Vec<u8>, number: u64)
     requires { vec_len out.old + length (decimal number) ≤ vec_capacity out.old }
     ensures items { out.new.items ≡ out.old.items ++ decimal number }
@@ -103,11 +106,22 @@ fn put_digits(out: &mut Vec<u8>, number: u64)
     ensures capacity { vec_capacity out.new ≡ vec_capacity out.old }
 {
     if number < 10 {
-        out.push_reserved(b'0' + number as u8);
-        return;
+        return put_digit(out, number);
     }
     put_digits(out, number / 10);
     out.push_reserved(b'0' + (number % 10) as u8);
+}
+
+/// Writes a number of one digit.
+#[inline(always)]
+fn put_digit(out: &mut Vec<u8>, number: u64)
+    requires digit { number < 10 }
+    requires room { vec_len out.old + length (decimal number) ≤ vec_capacity out.old }
+    ensures items { out.new.items ≡ out.old.items ++ decimal number }
+    ensures len { vec_len out.new ≡ vec_len out.old + length (decimal number) }
+    ensures capacity { vec_capacity out.new ≡ vec_capacity out.old }
+{
+    out.push_reserved(b'0' + number as u8);
 }
 
 /// Appends a space and a number where there may be little room.
