@@ -3,14 +3,17 @@
 use ids_types::{Mode, Stamp};
 use std::test::Fail;
 use text_spec::{
-    HexText, Pieces, hex_into, mode, number, push_hex, push_mode, push_number, push_stamp, stamp,
+    HexText, Pieces, hex_into, mode, push_hex, push_mode, push_number, push_stamp, stamp,
 };
 
 #[test]
 fn reads_numbers(rt: HostRuntime) {
-    let rows: [(&[u8], Option<u64>); 10] = [
+    let rows: [(&[u8], Option<u64>); 15] = [
         (b"0", Some(0)),
         (b"907", Some(907)),
+        (b"7 3", Some(7)),
+        (b"12 3", Some(12)),
+        (b"10000000000", Some(10_000_000_000)),
         (b"18446744073709551615", Some(u64::MAX)),
         (b"18446744073709551616", Some(u64::MAX)),
         (b"100000000000000000000000000000", Some(u64::MAX)),
@@ -19,10 +22,18 @@ fn reads_numbers(rt: HostRuntime) {
         (b"+1", None),
         (b"", None),
         (b"1a", None),
+        (b" 3", None),
+        (b"07 3", None),
     ];
-    for (word, want) in rows {
-        assert_eq!(rt; number(word), want);
+    for (line, want) in rows {
+        assert_eq!(rt; first_number(line), want);
     }
+}
+
+/// The number that the first word of a line writes.
+fn first_number(line: &[u8]) -> Option<u64> {
+    let (number, _) = Pieces::of(line, b' ').any_number()?;
+    Some(number)
 }
 
 #[test]
