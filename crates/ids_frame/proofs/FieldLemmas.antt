@@ -3,14 +3,13 @@ use Rattle.std.proofs.Common.{◌≡◌, ℕ, ◌+◌, ◌-◌, ◌/◌, ◌%◌
 use Rattle.std.specs.Int.{w16, w32, w64, to_be_bytes}
 use Rattle.std.proofs.lemmas.Bool.{cases_lt, le-ltb, lt-ltb}
 use Rattle.std.proofs.lemmas.List.{append-nil}
-use Rattle.std.proofs.lemmas.List.Elements.{All-tail}
 use Rattle.ids_frame.specs.declared.context.Form.{Form}
 use Rattle.ids_frame.specs.declared.context.Form.TheVariants as forms
-use Rattle.ids_frame.specs.Bytes.{IsByte, AreBytes}
+use Rattle.ids_frame.specs.Bytes.{AreBytes}
 use Rattle.ids_frame.specs.Context.{FitsContext, most_bytes}
 use Rattle.ids_frame.specs.Spelling.{stamp_part, length_in, context_part, signature_part}
 use Rattle.ids_frame.specs.Reading.{Read, ◌>>=◌, number_at, stamp_at, length_at, context_at, signature_at}
-use Rattle.ids_frame.proofs.PartLemmas.{bind_some, bind_none, Takes, RunsOut, IsPart, made, part, parts_are_part}
+use Rattle.ids_frame.proofs.PartLemmas.{bind_some, bind_none, RunsOut, IsPart, made, part, parts_are_part}
 use Rattle.ids_frame.proofs.NumberLemmas.{bytes_are_part, wide16, wide32, wide64, number_is_part}
 
 -- a timestamp is a part
@@ -59,24 +58,24 @@ long_text a bytes n rest le e =
 
 -- a length that is read is spelled so
 length_takes : (bytes : List ℕ) (x : Form × ℕ) (rest : List ℕ) → AreBytes bytes → length_at bytes ≡ Some (x, rest)
-    → Takes bytes (length_text x) rest × LengthFits x
+    → (bytes ≡ length_text x ++ rest) × LengthFits x
 unfolding length_at
 length_takes [] x rest fits e = absurd cc
 length_takes (a ∷ bytes) x rest fits e =
-    let Told = λ (z : (Form × ℕ) × List ℕ). Takes (a ∷ bytes) (length_text z.0) z.1 × LengthFits z.0 in
+    let Told = λ (z : (Form × ℕ) × List ℕ). (a ∷ bytes ≡ length_text z.0 ++ z.1) × LengthFits z.0 in
     let found : (Form × ℕ) × List ℕ = (x, rest) in
     elim (cases_lt a 128) [
       | inl lt ↦
           let short : (Form × ℕ) × List ℕ = ((forms.Short, a), bytes) in
           let same : short ≡ found = cc (length_low a bytes lt) in
-          subst Told same (record { parts = refl; rest_fits = All-tail IsByte a bytes fits }, omega (arith, lt))
+          subst Told same (refl, omega (arith, lt))
       | inr le ↦
           let b = bind_some (number_at w32 (a ∷ bytes)) long_of found (sym (length_high a bytes le) ∙ e) in
           let t = four.takes (a ∷ bytes) b.0.0 b.0.1 fits b.1 in
           let long : (Form × ℕ) × List ℕ = ((forms.Long, b.0.0 - 2 ^ 31), b.0.1) in
           let same : long ≡ found = cc b.2 in
-          let text = long_text a bytes b.0.0 b.0.1 le t.0.parts in
-          subst Told same (subst (λ w. Takes (a ∷ bytes) w b.0.1) text t.0, omega (arith, t.1))
+          let text = long_text a bytes b.0.0 b.0.1 le t.0 in
+          subst Told same (t.0 ∙ ap (λ w. w ++ b.0.1) text, omega (arith, t.1))
     ]
 
 -- a length that is spelled so is read

@@ -184,7 +184,7 @@ told_behind : (first : ℕ) (bytes : List ℕ) → IsPlain first → AreBytes by
     → (read : Option (MessageParts × List ℕ)) → parts_at first bytes ≡ read → Begins (first ∷ bytes) (ok_or read Short)
 told_behind first bytes plain fits (Some x) e =
     let t = (message_is_part first plain).takes bytes x.0 x.1 fits e in
-    record { fits = t.1.fits; whole = ap (λ l. first ∷ l) t.0.parts ∙ ap (λ b. b ∷ (behind_first x.0 ++ x.1)) t.1.is }
+    record { fits = t.1.fits; whole = ap (λ l. first ∷ l) t.0 ∙ ap (λ b. b ∷ (behind_first x.0 ++ x.1)) t.1.is }
 told_behind first bytes plain fits None e =
     let r = (message_is_part first plain).cut bytes fits e in
     let whole = ap (λ l. first ∷ l) r.whole ∙ ap (λ b. b ∷ behind_first r.value) r.fits.is in

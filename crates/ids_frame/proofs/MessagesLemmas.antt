@@ -4,8 +4,7 @@ use Rattle.std.specs.Prelude.{◌↔◌}
 use Rattle.std.specs.Result.{result_ok}
 use Rattle.std.proofs.Math.Dec.{eqb-suc-zero}
 use Rattle.std.proofs.lemmas.Bool.{eqb-true}
-use Rattle.std.proofs.lemmas.List.{append-nil, length-append, drop_at}
-use Rattle.std.proofs.lemmas.List.Elements.{All-drop}
+use Rattle.std.proofs.lemmas.List.{append-nil, length-append}
 use Rattle.std.proofs.lemmas.Grind.{flat_map-append}
 use Rattle.ids_frame.specs.declared.fault.FrameFault.{FrameFault}
 use Rattle.ids_frame.specs.Bytes.{IsByte, AreBytes}
@@ -14,7 +13,7 @@ use Rattle.ids_frame.specs.Spelling.{spelling}
 use Rattle.ids_frame.specs.Reading.{Begun, message_at}
 use Rattle.ids_frame.specs.Decoding.{BeginsWith, Begins}
 use Rattle.ids_frame.specs.Messages.{joined, AreMessages, IsJoined, HasMessages, Held, Holds, before, held_in, messages_read, messages_of}
-use Rattle.ids_frame.proofs.PartLemmas.{one_answer}
+use Rattle.ids_frame.proofs.PartLemmas.{behind_bytes, one_answer}
 use Rattle.ids_frame.proofs.MessageLemmas.{again, told, read_of}
 
 -- ---- bytes that hold something
@@ -71,11 +70,6 @@ all_left bytes fits = record { front = []; fit = tt; whole = refl; are_bytes = f
 fit_more : (front : List MessageParts) (m : MessageParts) → AreMessages front → FitsMessage m → AreMessages (front ++ m ∷ [])
 fit_more [] m fit fits = (fits, tt)
 fit_more (x ∷ front) m fit fits = (fit.0, fit_more front m fit.1 fits)
-
--- what stands behind bytes are bytes
-behind_bytes : (front rest : List ℕ) → AreBytes (front ++ rest) → AreBytes rest
-behind_bytes front rest fits =
-    subst AreBytes (drop_at front rest (length front) refl) (All-drop IsByte (length front) (front ++ rest) fits)
 
 -- a message that was read stands at the front
 begins_of : (bytes : List ℕ) (m : MessageParts) (rest : List ℕ) → AreBytes bytes → message_at bytes ≡ Ok (m, rest) → BeginsWith bytes m rest

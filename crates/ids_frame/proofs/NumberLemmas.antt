@@ -3,11 +3,11 @@ use Rattle.std.proofs.Common.{◌≡◌, ℕ, suc, ◌-◌, ◌%◌, ◌^◌, �
 use Rattle.std.specs.Int.{Width, w16, w32, w64, byte_len, from_be_bytes, to_be_bytes}
 use Rattle.std.proofs.lemmas.Bool.{cases_lt, lt-ltb, le-ltb}
 use Rattle.std.proofs.lemmas.List.{append-nil, take_at, drop_at, take-append-drop, length-append, length-take, length-replicate, get_or_past}
-use Rattle.std.proofs.lemmas.List.Elements.{All-append, All-head, All-tail, All-take, All-drop, All-replicate, All-from_recursion}
+use Rattle.std.proofs.lemmas.List.Elements.{All-append, All-head, All-take, All-replicate, All-from_recursion}
 use Rattle.std.proofs.lemmas.Nat.{be_bytes_2, be_bytes_4, be_bytes_8, from_be_bytes-to_be_bytes_2, from_be_bytes-to_be_bytes_4, from_be_bytes-to_be_bytes_8}
 use Rattle.ids_frame.specs.Bytes.{IsByte, AreBytes}
 use Rattle.ids_frame.specs.Reading.{bytes_at, byte_at, number_at}
-use Rattle.ids_frame.proofs.PartLemmas.{one_answer, Takes, RunsOut, IsPart, made, part, parts_are_part}
+use Rattle.ids_frame.proofs.PartLemmas.{one_answer, RunsOut, IsPart, made, part, parts_are_part}
 
 -- ---- bytes
 
@@ -29,12 +29,11 @@ byte_is_part = record {
 }
   where
     byte_takes : (bytes : List ℕ) (b : ℕ) (rest : List ℕ) → AreBytes bytes → byte_at bytes ≡ Some (b, rest)
-        → Takes bytes (b ∷ []) rest × IsByte b
+        → (bytes ≡ b ∷ rest) × IsByte b
     byte_takes [] b rest fits e = absurd cc
     byte_takes (a ∷ bytes) b rest fits e =
         let same = one_answer e in
-        let rest_fits = subst AreBytes same.1 (All-tail IsByte a bytes fits) in
-        (record { parts = cc (same.0, same.1); rest_fits = rest_fits }, subst IsByte same.0 (All-head IsByte a bytes fits))
+        (cc (same.0, same.1), subst IsByte same.0 (All-head IsByte a bytes fits))
 
     byte_cut : (bytes : List ℕ) → AreBytes bytes → byte_at bytes ≡ None → RunsOut (λ b. b ∷ []) IsByte bytes
     byte_cut [] fits e = record { value = 0; fits = omega arith; next = 0; more = []; whole = refl }
@@ -55,16 +54,13 @@ enough count bytes le = rw (le-ltb _ _ le) refl
 
 -- bytes are spelled as they are
 bytes_take : (count : ℕ) (bytes x rest : List ℕ) → AreBytes bytes → bytes_at count bytes ≡ Some (x, rest)
-    → Takes bytes x rest × AreMany count x
+    → (bytes ≡ x ++ rest) × AreMany count x
 bytes_take count bytes x rest fits e =
     elim (cases_lt (length bytes) count) [
       | inl lt ↦ absurd (cc (too_few count bytes lt))
       | inr le ↦
           let same = one_answer (sym (enough count bytes le) ∙ e) in (
-            record {
-              parts = cc (take-append-drop count bytes, same.0, same.1);
-              rest_fits = subst AreBytes same.1 (All-drop IsByte count bytes fits);
-            },
+            cc (take-append-drop count bytes, same.0, same.1),
             record {
               len = omega (arith, length-take count bytes, ap (λ l. length l) same.0);
               are_bytes = subst AreBytes same.0 (All-take IsByte count bytes fits);

@@ -1,9 +1,10 @@
 -- What a reader of a part and the part's spelling have to do with each other, for one part and for
 -- several, one behind the other.
-use Rattle.std.proofs.Common.{◌≡◌, ℕ, ◌⊎◌, Bool, true, false, List, [], ◌∷◌, ◌++◌, Some, None, refl, sym, ap, subst, ◌∙◌, append_assoc, inl, inr}
+use Rattle.std.proofs.Common.{◌≡◌, ℕ, ◌⊎◌, Bool, true, false, List, [], ◌∷◌, ◌++◌, length, drop, Some, None, refl, sym, ap, subst, ◌∙◌, append_assoc, inl, inr}
 use Rattle.std.specs.Prelude.{Option, IfSome, is_some}
-use Rattle.std.proofs.lemmas.List.{append-nil}
-use Rattle.ids_frame.specs.Bytes.{AreBytes}
+use Rattle.std.proofs.lemmas.List.{append-nil, drop_at}
+use Rattle.std.proofs.lemmas.List.Elements.{All-drop}
+use Rattle.ids_frame.specs.Bytes.{IsByte, AreBytes}
 use Rattle.ids_frame.specs.Reading.{Read, ◌>>=◌, optional}
 
 -- ---- steps of a reader
@@ -28,10 +29,10 @@ one_answer {A} {p} {q} e =
 
 -- ---- a part
 
--- the bytes are this text, and then these bytes
-pub record Takes (bytes text rest : List ℕ) : Type 0 where
-  pub parts : bytes ≡ text ++ rest
-  pub rest_fits : AreBytes rest
+-- what stands behind bytes are bytes
+pub behind_bytes : (front rest : List ℕ) → AreBytes (front ++ rest) → AreBytes rest
+behind_bytes front rest fits =
+    subst AreBytes (drop_at front rest (length front) refl) (All-drop IsByte (length front) (front ++ rest) fits)
 
 -- the bytes are a proper prefix of a value's spelling
 pub record RunsOut {A : Type 0} (write : A → List ℕ) (Can : A → Type 0) (bytes : List ℕ) : Type 0 where
@@ -45,7 +46,7 @@ pub record RunsOut {A : Type 0} (write : A → List ℕ) (Can : A → Type 0) (b
 -- can be completed
 pub record IsPart {A : Type 0} (read : List ℕ → Read A) (write : A → List ℕ) (Can : A → Type 0) : Type 0 where
   pub takes : (bytes : List ℕ) (x : A) (rest : List ℕ) → AreBytes bytes → read bytes ≡ Some (x, rest)
-      → Takes bytes (write x) rest × Can x
+      → (bytes ≡ write x ++ rest) × Can x
   pub again : (x : A) (rest : List ℕ) → Can x → read (write x ++ rest) ≡ Some (x, rest)
   pub cut : (bytes : List ℕ) → AreBytes bytes → read bytes ≡ None → RunsOut write Can bytes
   pub one : (x : A) × Can x
@@ -89,32 +90,20 @@ pub record Makes {A : Type 0} (parts : Parts A) (x : A) : Type 0 where
   pub can : AllCan parts values
   pub is : value parts values ≡ x
 
--- the values that were read
-record Found {A : Type 0} (parts : Parts A) (bytes : List ℕ) (x : A) (rest : List ℕ) : Type 0 where
-  makes : Makes parts x
-  takes : Takes bytes (texts parts makes.values) rest
-
 -- what is read is spelled so
 all_take : {A : Type 0} (parts : Parts A) (bytes : List ℕ) (x : A) (rest : List ℕ) → AreBytes bytes
-    → reads parts bytes ≡ Some (x, rest) → Found parts bytes x rest
+    → reads parts bytes ≡ Some (x, rest) → (m : Makes parts x) × (bytes ≡ texts parts m.values ++ rest)
 all_take (made y) bytes x rest fits e =
     let same = one_answer e in
-    record {
-      makes = record { values = tt; can = tt; is = same.0 };
-      takes = record { parts = same.1; rest_fits = subst AreBytes same.1 fits };
-    }
+    (record { values = tt; can = tt; is = same.0 }, same.1)
 all_take (part {B} {read} {write} p more) bytes x rest fits e =
     let b = bind_some (read bytes) (λ y. reads (more y.0) y.1) (x, rest) e in
     let t = p.takes bytes b.0.0 b.0.1 fits b.1 in
-    let f = all_take (more b.0.0) b.0.1 x rest t.0.rest_fits b.2 in
-    let text = texts (more b.0.0) f.makes.values in
-    record {
-      makes = record { values = (b.0.0, f.makes.values); can = (t.1, f.makes.can); is = f.makes.is };
-      takes = record {
-        parts = t.0.parts ∙ ap (λ r. write b.0.0 ++ r) f.takes.parts ∙ sym (append_assoc (write b.0.0) text rest);
-        rest_fits = f.takes.rest_fits;
-      };
-    }
+    let front = write b.0.0 in
+    let f = all_take (more b.0.0) b.0.1 x rest (behind_bytes front b.0.1 (subst AreBytes t.0 fits)) b.2 in (
+      record { values = (b.0.0, f.0.values); can = (t.1, f.0.can); is = f.0.is },
+      t.0 ∙ ap (λ r. front ++ r) f.1 ∙ sym (append_assoc front (texts (more b.0.0) f.0.values) rest),
+    )
 
 -- what is spelled so is read
 all_again : {A : Type 0} (parts : Parts A) (v : Values parts) (rest : List ℕ) → AllCan parts v
@@ -150,15 +139,15 @@ all_cut (part {B} {read} {write} p more) bytes fits e =
           }
       | inr b ↦
           let t = p.takes bytes b.0.0 b.0.1 fits b.1 in
-          let r = all_cut (more b.0.0) b.0.1 t.0.rest_fits b.2 in
-          let left : List ℕ = r.next ∷ r.more in
           let front = write b.0.0 in
+          let r = all_cut (more b.0.0) b.0.1 (behind_bytes front b.0.1 (subst AreBytes t.0 fits)) b.2 in
+          let left : List ℕ = r.next ∷ r.more in
           record {
             value = (b.0.0, r.value);
             fits = (t.1, r.fits);
             next = r.next;
             more = r.more;
-            whole = ap (λ t. t ++ left) t.0.parts ∙ append_assoc front b.0.1 left ∙ ap (λ t. front ++ t) r.whole;
+            whole = ap (λ t. t ++ left) t.0 ∙ append_assoc front b.0.1 left ∙ ap (λ t. front ++ t) r.whole;
           }
     ]
 
@@ -174,8 +163,8 @@ pub parts_are_part : {A : Type 0} (parts : Parts A) (write : A → List ℕ) (Ca
 parts_are_part {A} parts write Can spelled makes = record {
   takes = λ bytes x rest fits e.
       let f = all_take parts bytes x rest fits e in
-      let s = spelled f.makes.values f.makes.can in
-      (subst (λ t. Takes bytes t rest) (s.text ∙ ap write f.makes.is) f.takes, subst Can f.makes.is s.can);
+      let s = spelled f.0.values f.0.can in
+      (f.1 ∙ ap (λ t. t ++ rest) (s.text ∙ ap write f.0.is), subst Can f.0.is s.can);
   again = λ x rest can.
       let m = makes x can in
       let text : write x ≡ texts parts m.values = ap write (sym m.is) ∙ sym (spelled m.values m.can).text in
