@@ -50,6 +50,7 @@ mark_stays before after old = record {
 abbrev pub SameHolders : List SeatView → List SeatView → Type 0
 SameHolders seats now = (j : ℕ) → (seat_at now j).held ≡ (seat_at seats j).held
 
+-- what is finished for the one list is finished for the other
 finished_same : {n claimed p : ℕ} (seats now : List SeatView) → SameHolders seats now → (t : ℕ) → IsFinished n claimed seats p t
     → IsFinished n claimed now p t
 finished_same seats now same t f = record {
@@ -92,6 +93,7 @@ module _ (seats : List SeatView) (i : ℕ) (seat : SeatView) (made : i < length 
   pub each_after : (P : SeatView → Type 0) → ((j : ℕ) → P (seat_at seats j)) → P seat → (j : ℕ) → P (seat_at (set seats i seat) j)
   each_after P old new j = elim (seat_at-set j) [ | inl e ↦ subst P (sym e.1) new | inr e ↦ subst P (sym e.1) (old j) ]
 
+  -- what the seats add up to after the change
   pub sums_after : AreSums seats (set seats i seat) (seat_at seats i) seat
   sums_after = record {
     armed = sum_by-set (λ (s : SeatView). one_if s.armed) seats i seat nobody made;
@@ -118,6 +120,7 @@ module _ (seats : List SeatView) (i : ℕ) (seat : SeatView) (made : i < length 
 
 -- one seat more, which no number had before
 module _ (seats : List SeatView) where
+  -- seat j is as before, or the new one
   pushed : (j : ℕ) → (seat_at (seats ++ new_seat ∷ []) j ≡ seat_at seats j)
       ⊎ ((seat_at (seats ++ new_seat ∷ []) j ≡ new_seat) × (seat_at seats j ≡ nobody))
   pushed j = elim (cases_lt j (length seats)) [
