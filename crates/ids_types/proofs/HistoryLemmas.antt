@@ -156,13 +156,14 @@ entries_of-with_entry (turn ∷ next ∷ turns) entry some =
 
 -- with a turn that has begun
 module _ (numbers bytes : List ℕ) (entries : List EntryRow) (rows : List TurnRow) (head : TurnHead)
-  (place : ℕ) (at_end : place ≡ length entries) where
+    (place : ℕ) (at_end : place ≡ length entries) where
   -- the row of the turn
   abbrev new : TurnRow
   new = record { head = head; start = place; end = place }
 
   -- no entry is new
-  entries_begun : entries_of (map (turn_of numbers bytes entries) (rows ++ new ∷ [])) ≡ entries_of (map (turn_of numbers bytes entries) rows)
+  entries_begun : entries_of (map (turn_of numbers bytes entries) (rows ++ new ∷ []))
+      ≡ entries_of (map (turn_of numbers bytes entries) rows)
   entries_begun =
       let none : place - place ≡ 0 = omega arith in
       let turns = map (turn_of numbers bytes entries) rows in
@@ -181,7 +182,7 @@ module _ (numbers bytes : List ℕ) (entries : List EntryRow) (rows : List TurnR
 
 -- with an entry more in the last turn
 module _ (numbers bytes : List ℕ) (entries : List EntryRow) (rows : List TurnRow) (lies : Lies numbers bytes entries rows)
-  (entry : Entry (List ℕ)) (last : ℕ) (row : TurnRow) (count : suc last ≡ length rows) (is : row ≡ get_or rows last row) where
+    (entry : Entry (List ℕ)) (last : ℕ) (row : TurnRow) (count : suc last ≡ length rows) (is : row ≡ get_or rows last row) where
   -- the numbers, the bytes and the rows with the entry
   abbrev own : List ℕ
   own = own_numbers (length bytes) entry
@@ -205,7 +206,8 @@ module _ (numbers bytes : List ℕ) (entries : List EntryRow) (rows : List TurnR
   entries_added : map (entry_of numbers' bytes') entries' ≡ map (entry_of numbers bytes) entries ++ entry ∷ []
   entries_added =
       map-append (entry_of numbers' bytes') entries (row_of (length numbers) entry ∷ [])
-      ∙ ap₂ ◌++◌ (map_same _ _ (EntryWithin numbers (length bytes)) (entry_same numbers own bytes (kept_bytes entry)) entries lies.entries_in)
+      ∙ ap₂ ◌++◌
+      (map_same _ _ (EntryWithin numbers (length bytes)) (entry_same numbers own bytes (kept_bytes entry)) entries lies.entries_in)
       (ap (λ e. e ∷ []) (act_back numbers bytes entry.caller entry.call entry.act))
 
   -- the last turn has it
@@ -227,13 +229,15 @@ module _ (numbers bytes : List ℕ) (entries : List EntryRow) (rows : List TurnR
       ap entries_of turns_added ∙ entries_of-with_entry turns entry some in
       let old_rows = All-from_recursion (RowWithin (length entries)) rows lies.rows_in in
       let in_range : RowWithin (length entries) row = subst (RowWithin (length entries)) (sym is) (old_rows last row (omega arith)) in
-      let more_rows = All-weaker (RowWithin (length entries)) (RowWithin (length entries + 1)) (λ r r_in. (r_in.0, omega (arith, r_in.1))) rows old_rows in
+      let more_rows = All-weaker (RowWithin (length entries)) (RowWithin (length entries + 1))
+      (λ r r_in. (r_in.0, omega (arith, r_in.1))) rows old_rows in
       let old_entries = All-from_recursion (EntryWithin numbers (length bytes)) entries lies.entries_in in
       record {
         rows_in = rw more_entries (recursion_from_All _ _
             (All-set (RowWithin (length entries + 1)) rows last _ (omega (arith, in_range.0), omega (arith, in_range.1)) more_rows));
         entries_in = recursion_from_All _ _ (All-push (EntryWithin numbers' (length bytes')) entries _
-            (All-weaker (EntryWithin numbers (length bytes)) _ (EntryWithin-more numbers own _ _ (omega arith)) entries old_entries) within);
+            (All-weaker (EntryWithin numbers (length bytes)) _ (EntryWithin-more numbers own _ _ (omega arith)) entries old_entries)
+            within);
         last = λ d rest. grind (arith, common_steps, length-set, get_or-set_same, more_entries, at_end);
         all = ap length flat ∙ length-append (entries_of turns) (entry ∷ []) ∙ ap (λ n. n + 1) lies.all ∙ sym more_entries;
         kept = ap (flat_map kept_bytes) flat ∙ flat_map-append kept_bytes (entries_of turns) (entry ∷ [])
@@ -241,6 +245,8 @@ module _ (numbers bytes : List ℕ) (entries : List EntryRow) (rows : List TurnR
       }
 
 -- no turns, and all that was held given back as room
-pub cleared : (old : Turns) (turns : List Turn) (t e b : ℕ) → turns ≡ [] → t ≡ length old.turns → e ≡ length (entries_of old.turns) → b ≡ length (context_bytes old.turns)
-    → record { turns = turns; room = record { turns = old.room.turns + t; entries = old.room.entries + e; bytes = old.room.bytes + b } } ≡ emptied old
+pub cleared : (old : Turns) (turns : List Turn) (t e b : ℕ) → turns ≡ []
+    → t ≡ length old.turns → e ≡ length (entries_of old.turns) → b ≡ length (context_bytes old.turns)
+    → record { turns = turns; room = record { turns = old.room.turns + t; entries = old.room.entries + e; bytes = old.room.bytes + b } }
+    ≡ emptied old
 cleared old turns t e b none rows entries bytes = rw (none, rows, entries, bytes) refl

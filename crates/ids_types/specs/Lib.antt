@@ -1,8 +1,6 @@
 pub mod Carries
-pub mod EntryWalkView
-pub mod HistoryView
 pub mod Names
 pub mod Plain
 pub mod Rows
 pub mod Turns
-pub mod WalkView
+pub mod Views

@@ -69,35 +69,24 @@ act_numbers start (SetMode event mode) = []
 abbrev pub own_numbers : ℕ → Entry (List ℕ) → List ℕ
 own_numbers start e = act_numbers start e.act
 
--- the row of an act of this caller by this call, whose numbers lie from a place on
-abbrev pub row_by : ℕ → ℕ → ℕ → Act (List ℕ) → EntryRow
-row_by at caller call (Report event count stamp context) = record {
+-- a row of this caller by this call, with these numbers of an event
+abbrev pub row_with : ℕ → ℕ → ℕ → ℕ → ℕ → Bool → RowKind → EntryRow
+row_with caller call place event count stamped kind = record {
   call = call;
-  place = at + length (stamp_numbers stamp);
-  event = event.0;
+  place = place;
+  event = event;
   count = count;
   caller = caller;
-  stamped = is_some stamp;
-  kind = kind_of context;
+  stamped = stamped;
+  kind = kind;
 }
-row_by at caller call (State state) = record {
-  call = call;
-  place = at;
-  event = 0;
-  count = 0;
-  caller = caller;
-  stamped = false;
-  kind = StateTo state;
-}
-row_by at caller call (SetMode event mode) = record {
-  call = call;
-  place = at;
-  event = event.0;
-  count = 0;
-  caller = caller;
-  stamped = false;
-  kind = ModeTo mode;
-}
+
+-- the row of an act of this caller by this call, whose numbers lie from a place on
+abbrev pub row_by : ℕ → ℕ → ℕ → Act (List ℕ) → EntryRow
+row_by at caller call (Report event count stamp context) =
+    row_with caller call (at + length (stamp_numbers stamp)) event.0 count (is_some stamp) (kind_of context)
+row_by at caller call (State state) = row_with caller call at 0 0 false (StateTo state)
+row_by at caller call (SetMode event mode) = row_with caller call at event.0 0 false (ModeTo mode)
 
 -- the row of an entry
 abbrev pub row_of : ℕ → Entry (List ℕ) → EntryRow

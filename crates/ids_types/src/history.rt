@@ -33,7 +33,7 @@ impl Model for History {
 
     ghost Value = { Turns };
 
-    ghost use Rattle.ids_types.specs.HistoryView.{turns_of, IsSound};
+    ghost use Rattle.ids_types.specs.Views.{turns_of, IsSound};
 
     ghost view = { turns_of };
 

@@ -111,8 +111,16 @@ pub(crate) fn row_of(entry: &Entry<Plain<'_>>, start: usize, numbers: &mut Vec<u
     ensures within { EntryWithin numbers.new.items
         (start + length (kept_bytes (plain_entry entry.now))) result }
 {
-    let Entry { caller, call, act } = entry;
-    match act {
+    let row = EntryRow {
+        call: entry.call,
+        place: numbers.len(),
+        event: 0,
+        count: 0,
+        caller: entry.caller,
+        stamped: false,
+        kind: RowKind::Bare,
+    };
+    match &entry.act {
         Act::Report {
             event,
             count,
@@ -123,32 +131,22 @@ pub(crate) fn row_of(entry: &Entry<Plain<'_>>, start: usize, numbers: &mut Vec<u
             let place = numbers.len();
             let kind = put_context(numbers, context, start);
             EntryRow {
-                call: *call,
                 place,
                 event: event.0,
                 count: *count,
-                caller: *caller,
                 stamped,
                 kind,
+                ..row
             }
         }
         Act::State(state) => EntryRow {
-            call: *call,
-            place: numbers.len(),
-            event: 0,
-            count: 0,
-            caller: *caller,
-            stamped: false,
             kind: RowKind::StateTo(*state),
+            ..row
         },
         Act::SetMode { event, mode } => EntryRow {
-            call: *call,
-            place: numbers.len(),
             event: event.0,
-            count: 0,
-            caller: *caller,
-            stamped: false,
             kind: RowKind::ModeTo(*mode),
+            ..row
         },
     }
 }

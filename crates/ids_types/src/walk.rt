@@ -24,7 +24,7 @@ impl<'a> Model for Walk<'a> {
 
     ghost Value = { List Turn };
 
-    ghost use Rattle.ids_types.specs.WalkView.{turns_left, IsWalk};
+    ghost use Rattle.ids_types.specs.Views.{turns_left, IsWalk};
 
     ghost view = { turns_left };
 
@@ -69,7 +69,7 @@ impl<'a> Model for EntryWalk<'a> {
 
     ghost Value = { List (Entry (List ℕ)) };
 
-    ghost use Rattle.ids_types.specs.EntryWalkView.{entries_left, IsEntryWalk};
+    ghost use Rattle.ids_types.specs.Views.{entries_left, IsEntryWalk};
 
     ghost view = { entries_left };
 

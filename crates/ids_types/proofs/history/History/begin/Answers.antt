@@ -8,6 +8,7 @@ invariant_of-self c =
     let at_end : c.len-place.result ≡ length h.entries.items = search rules in
     record {
       lies = rw c.push_reserved.ensures.items
-          (lies_begun h.numbers.items h.bytes.items h.entries.items h.rows.items c.args.head.now c.len-place.result at_end c.self.invariant.lies);
+          (lies_begun h.numbers.items h.bytes.items h.entries.items h.rows.items c.args.head.now c.len-place.result at_end
+          c.self.invariant.lies);
       memory = search rules;
     }
