@@ -17,7 +17,7 @@ use Rattle.config_json.specs.Kinds.{whole_in, elements, is_null, is_whole}
 use Rattle.config_json.specs.Members.{if_object, mode_named, last_named, window_in, aggregate_in, class_in, state_in, event_in, parts_in}
 use Rattle.config_json.specs.Printed.{whole, optional, mode_name, context_name, class_tree, window_tree, aggregate_tree, event_tree, internal_tree, config_tree}
 use Rattle.config_json.specs.Shape.{object_shape, class_shape, aggregate_shape, event_shape, event_shape_at, config_shape}
-use Rattle.config_json.specs.Tables.{rate_table, traffic_table, threshold_table, internal_table}
+use Rattle.config_json.specs.Tables.{window_table, internal_table}
 
 -- ---- names
 
@@ -139,7 +139,7 @@ event_fits event =
       optional_is IsPart (window_tree (codes "count")) refl (λ w. refl) event.threshold,
       mode_back event.mode,
       optional_is (Fits aggregate_shape) aggregate_tree refl (λ a. rw (context_back a.last) refl) event.aggregate,
-      optional_is (Fits (object_shape threshold_table)) (window_tree (codes "count")) refl (λ w. refl) event.threshold,
+      optional_is (Fits (object_shape (window_table (codes "count")))) (window_tree (codes "count")) refl (λ w. refl) event.threshold,
     ) refl
 
 -- the internal events
@@ -157,8 +157,8 @@ config_fits config =
       optional_is IsPart (window_tree (codes "bytes")) refl (λ w. refl) config.traffic,
       elements_back (map class_tree config.classes),
       each_fits class_shape class_tree (λ i c. refl) 0 config.classes,
-      optional_is (Fits (object_shape rate_table)) (window_tree (codes "events")) refl (λ w. refl) config.rate,
-      optional_is (Fits (object_shape traffic_table)) (window_tree (codes "bytes")) refl (λ w. refl) config.traffic,
+      optional_is (Fits (object_shape (window_table (codes "events")))) (window_tree (codes "events")) refl (λ w. refl) config.rate,
+      optional_is (Fits (object_shape (window_table (codes "bytes")))) (window_tree (codes "bytes")) refl (λ w. refl) config.traffic,
       elements_back (map event_tree config.events),
       each_fits event_shape_at event_tree (λ i e. rw (event_fits e) refl) 0 config.events,
       internal_fits config,

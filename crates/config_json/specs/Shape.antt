@@ -9,7 +9,7 @@ use Rattle.ids_config.specs.declared.fault.ConfigPlace.TheVariants as places
 use Rattle.ids_config.specs.Steps.{◌>>◌, asks, at, each, capped}
 use Rattle.config_json.specs.Kinds.{has_kind}
 use Rattle.config_json.specs.Members.{whole_at, text_at, list_at, object_at, mode_named, last_named}
-use Rattle.config_json.specs.Tables.{Row, top_table, class_table, rate_table, traffic_table, event_table, aggregate_table, threshold_table, internal_table}
+use Rattle.config_json.specs.Tables.{Row, top_table, class_table, window_table, event_table, aggregate_table, internal_table}
 
 -- ---- one object
 
@@ -69,7 +69,7 @@ event_shape tree =
     object_shape event_table tree
     >> asks 7 (is_known mode_named (codes "mode") tree)
     >> part_shape aggregate_shape (codes "aggregate") tree
-    >> part_shape (object_shape threshold_table) (codes "threshold") tree
+    >> part_shape (object_shape (window_table (codes "count"))) (codes "threshold") tree
 
 -- the event of this index
 abbrev pub event_shape_at : ℕ → Data → Result ⊤ ConfigFault
@@ -85,7 +85,7 @@ config_shape tree =
     at places.Top (object_shape top_table tree)
     >> at places.Top (asks 6 (is_first_form tree))
     >> each class_shape 0 (list_at (codes "classes") tree)
-    >> at places.Top (part_shape (object_shape rate_table) (codes "rate") tree)
-    >> at places.Top (part_shape (object_shape traffic_table) (codes "traffic") tree)
+    >> at places.Top (part_shape (object_shape (window_table (codes "events"))) (codes "rate") tree)
+    >> at places.Top (part_shape (object_shape (window_table (codes "bytes"))) (codes "traffic") tree)
     >> each event_shape_at 0 (list_at (codes "events") tree)
     >> at places.Top (part_shape (object_shape internal_table) (codes "internal") tree)

@@ -38,13 +38,9 @@ top_table =
 abbrev pub class_table : List Row
 class_table = must (codes "size") kinds.Whole ∷ must (codes "number") kinds.Whole ∷ []
 
--- a rate
-abbrev pub rate_table : List Row
-rate_table = must (codes "interval") kinds.Whole ∷ must (codes "events") kinds.Whole ∷ []
-
--- a limit of traffic
-abbrev pub traffic_table : List Row
-traffic_table = must (codes "interval") kinds.Whole ∷ must (codes "bytes") kinds.Whole ∷ []
+-- a window, whose number has this name
+abbrev pub window_table : List ℕ → List Row
+window_table name = must (codes "interval") kinds.Whole ∷ must name kinds.Whole ∷ []
 
 -- an event
 abbrev pub event_table : List Row
@@ -63,10 +59,6 @@ event_table =
 -- an aggregation
 abbrev pub aggregate_table : List Row
 aggregate_table = must (codes "interval") kinds.Whole ∷ must (codes "context") kinds.Text ∷ []
-
--- a threshold
-abbrev pub threshold_table : List Row
-threshold_table = must (codes "interval") kinds.Whole ∷ must (codes "count") kinds.Whole ∷ []
 
 -- the internal events
 abbrev pub internal_table : List Row

@@ -2,7 +2,7 @@
 
 ghost use Rattle.std.specs.Prelude.{◌≡◌, map, IfOk};
 ghost use Rattle.serde_json.specs.View.{view};
-ghost use Rattle.ids_config.specs.Classes.{class_of};
+ghost use Rattle.ids_config.specs.Parts.{class_of};
 ghost use Rattle.config_json.specs.Members.{whole_or as whole_unless, truth_or as truth_unless, window_in, aggregate_in, class_in, state_in, event_in, internal_at, parts_in};
 
 use crate::members::{find_list, find_object, find_text, find_whole, last_of, mode_of};

@@ -2,7 +2,7 @@
 
 ghost use Rattle.std.specs.Prelude.{◌≡◌, map, IfOk, string_bytes};
 ghost use Rattle.serde_json.specs.View.{view};
-ghost use Rattle.ids_config.specs.Classes.{class_of};
+ghost use Rattle.ids_config.specs.Parts.{class_of};
 ghost use Rattle.config_json.specs.Configured.{configuration};
 ghost use Rattle.config_json.specs.Printed.{whole, optional, list_tree, mode_name as name_of_mode, class_tree, window_tree, aggregate_tree, event_tree, internal_tree, config_tree, config_text};
 

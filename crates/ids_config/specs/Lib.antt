@@ -1,4 +1,3 @@
-pub mod Classes
 pub mod ConfigView
 pub mod EventView
 pub mod Parts

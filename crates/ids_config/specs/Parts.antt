@@ -22,6 +22,10 @@ pub record Event : Type 0 where
   pub aggregate : Option Aggregate
   pub threshold : Option Window
 
+-- the class of a size and a number of buffers
+abbrev pub class_of : ℕ × ℕ → ClassSpec
+class_of pair = record { size = pair.0; number = pair.1 }
+
 -- a configuration; the profile is that of its messages
 pub record Parts : Type 0 where
   pub profile : ℕ

@@ -1,8 +1,7 @@
 -- What contracts see of `ConfigParts`.
 use Rattle.std.specs.Prelude.{map}
 use Rattle.ids_config.specs.declared.parts.ConfigParts.TheInside.{Inside}
-use Rattle.ids_config.specs.Classes.{class_of}
-use Rattle.ids_config.specs.Parts.{Parts, first_profile}
+use Rattle.ids_config.specs.Parts.{Parts, class_of, first_profile}
 
 -- the configuration that the fields hold
 abbrev pub parts_of : Inside → Parts

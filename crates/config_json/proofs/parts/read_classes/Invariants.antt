@@ -1,6 +1,6 @@
 use Rattle.std.proofs.Common.{◌≡◌, ◌++◌, map, drop}
 use Rattle.serde_json.specs.View.{view}
-use Rattle.ids_config.specs.Classes.{class_of}
+use Rattle.ids_config.specs.Parts.{class_of}
 use Rattle.config_json.specs.Members.{class_in}
 use Rattle.config_json.proofs.parts.read_classes.Given as goal
 

@@ -1,6 +1,6 @@
 use Rattle.std.proofs.Common.{◌≡◌, ◌++◌, map, drop}
 use Rattle.serde_json.specs.View.{view}
-use Rattle.ids_config.specs.Classes.{class_of}
+use Rattle.ids_config.specs.Parts.{class_of}
 use Rattle.config_json.specs.Printed.{class_tree}
 use Rattle.config_json.proofs.printing.tree_of_classes.Given as goal
 

@@ -1,5 +1,5 @@
 use Rattle.std.proofs.Common.{◌≡◌, map, drop}
-use Rattle.ids_config.specs.Classes.{class_of}
+use Rattle.ids_config.specs.Parts.{class_of}
 use Rattle.ids_config.specs.Values.{each_class}
 use Rattle.ids_config.proofs.layout.check_classes.Given as goal
 
