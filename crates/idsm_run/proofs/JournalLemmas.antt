@@ -31,9 +31,10 @@ module _ (config : Parts) where
   act_can_send caller call (Report event count stamp context) is =
       let act : Act (List ℕ) = Report event count stamp context in
       let parts = and_parts (is_call caller call && is_act act) (has_event config act) is in
-      let own = and_parts (is_call caller call) (is_act act) parts.0 in
-      (sensor_is_there config event.0 parts.1,
-       short_context context (and_parts (nat_le 1 count && nat_le count 65535) (is_context context) own.1).1)
+      let own = and_parts (is_call caller call) (is_act act) parts.0 in (
+        sensor_is_there config event.0 parts.1,
+        short_context context (and_parts (nat_le 1 count && nat_le count 65535) (is_context context) own.1).1,
+      )
   act_can_send caller call (State state) is = tt
   act_can_send caller call (SetMode event mode) is = tt
 

@@ -4,7 +4,8 @@ ghost use Rattle.std.specs.Prelude.{◌≡◌, List, ℕ, Err, IfOk, string_byte
 ghost use Rattle.idsm_run.specs.Words.{Puts, Says, Tells, plain_end, bad_config_text, bad_message_text, Refused};
 
 use crate::status::{
-    BAD_CONFIG, BAD_JOURNAL, BAD_MESSAGE, CANNOT_READ, CANNOT_WRITE, DONE, NO_MEMORY, NOT_BUILT, TOO_LONG,
+    BAD_CONFIG, BAD_JOURNAL, BAD_MESSAGE, CANNOT_READ, CANNOT_WRITE, DONE, NO_MEMORY, NOT_BUILT,
+    TOO_LONG,
 };
 use crate::stop::{Refusal, Stop};
 use ids_config::{ConfigFault, ConfigPlace};
@@ -28,11 +29,7 @@ pub(crate) fn say<K: Sink>(text: &[u8], status: u8, out: &mut K) -> u8
 }
 
 /// Puts the text of a command that did its work, or tells why it stopped, and returns the status.
-pub(crate) fn tell<K: Sink>(
-    alloc: Global,
-    end: Result<Vec<u8>, Stop<&str>>,
-    out: &mut K,
-) -> u8
+pub(crate) fn tell<K: Sink>(alloc: Global, end: Result<Vec<u8>, Stop<&str>>, out: &mut K) -> u8
     ensures { Tells (plain_end end.entry) result (K.hears out.old) (K.hears out.new) }
 {
     match end {
