@@ -37,6 +37,9 @@ pub fn one_message()
         → spelling m ++ a ≡ spelling n ++ b → (m ≡ n) × (a ≡ b) }
 {}
 
+/// The message at the front, and the bytes behind it. Inlined, so that whoever wants only the bytes
+/// makes no message.
+#[inline(always)]
 #[tactic(auto, unfolding(crate::specs::Reading::message_at))]
 pub(crate) fn message_of(bytes: &[u8]) -> Result<(Message<'_>, &[u8]), FrameFault>
     ensures { message_at bytes.now
@@ -54,6 +57,7 @@ pub(crate) fn message_of(bytes: &[u8]) -> Result<(Message<'_>, &[u8]), FrameFaul
     parts_of(*first, rest).ok_or(FrameFault::Short)
 }
 
+#[inline(always)]
 #[tactic(auto, unfolding(crate::specs::Reading::parts_at))]
 fn parts_of(first: u8, bytes: &[u8]) -> Option<(Message<'_>, &[u8])>
     requires { IsKnown (first / 16) }

@@ -24,6 +24,7 @@ pub(crate) fn u16_of(bytes: &[u8]) -> Option<(u16, &[u8])>
     Some((u16::from_be_bytes(*front), rest))
 }
 
+#[inline(always)]
 #[tactic(auto, unfolding(crate::specs::Reading::stamp_at))]
 pub(crate) fn stamp_of(first: u8, bytes: &[u8]) -> Option<(Option<Stamp>, &[u8])>
     ensures { Gives (λ x. (x.0, x.1.now)) result (optional (has 2 first) stamp_at bytes.now) }
@@ -36,6 +37,7 @@ pub(crate) fn stamp_of(first: u8, bytes: &[u8]) -> Option<(Option<Stamp>, &[u8])
     }
 }
 
+#[inline(always)]
 #[tactic(auto, unfolding(crate::specs::Reading::context_at))]
 pub(crate) fn context_of(first: u8, bytes: &[u8]) -> Option<(Option<Context<'_>>, &[u8])>
     ensures { Gives (λ x. (x.0, x.1.now)) result (optional (has 1 first) context_at bytes.now) }
@@ -66,6 +68,7 @@ fn length_of(bytes: &[u8]) -> Option<((Form, usize), &[u8])>
     }
 }
 
+#[inline(always)]
 #[tactic(auto, unfolding(crate::specs::Reading::signature_at))]
 pub(crate) fn signature_of(first: u8, bytes: &[u8]) -> Option<(Option<&[u8]>, &[u8])>
     ensures gives { Gives (λ x. (option_copied x.0, x.1.now)) result

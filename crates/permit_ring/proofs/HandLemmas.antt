@@ -2,8 +2,7 @@
 use Rattle.std.proofs.Common.{◌≡◌, ℕ, zero, suc, ◌+◌, ◌-◌, ◌%◌, ◌<◌, ◌≤◌, List, [], ◌∷◌, ◌++◌, map, length, replicate, take, drop, get_or, refl, sym, ◌∙◌, ap, ap₂, subst, inl, inr, arith}
 use Rattle.std.proofs.lemmas.List.{append_assoc, length-map, length-append, length-replicate, replicate_more, map_push, take_at, drop_at, take_more, drop_more, length_push}
 use Rattle.atomic_table.specs.Table.{turned, rest}
-use Rattle.permit_ring.specs.declared.memo.Slot.{Slot}
-use Rattle.permit_ring.specs.declared.memo.Slot.TheVariants.{Empty, Offered}
+use Rattle.permit_ring.specs.Names.{Slot, Empty, Offered}
 use Rattle.permit_ring.specs.Hands.{hand_from, filled_then}
 use Rattle.permit_ring.specs.Told.{ready}
 use Rattle.atomic_table.proofs.Lists.{at_snoc}

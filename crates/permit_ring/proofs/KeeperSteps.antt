@@ -10,10 +10,7 @@ use lib.ListN.{get_elem?}
 use prog.Atomic.{either}
 use Rattle.atomic_table.proofs.Lists.{at_longer, exchanged, set_here, set_else}
 use Rattle.atomic_table.specs.Table.{State, Act, Valid, step, keeps, takes, gives, chain, put_back, rest, stepped, carried_after, homes_after, Allows}
-use Rattle.ring_core.specs.declared.seat.SeatView.{SeatView}
-use Rattle.ring_core.specs.declared.step.Step.{Step}
-use Rattle.ring_core.specs.declared.step.Step.TheVariants.{See, Read, Offer, Sweep}
-use Rattle.ring_core.specs.declared.word.PermitWord.{PermitWord}
+use Rattle.permit_ring.specs.Names.{SeatView, Step, See, Read, Offer, Sweep, PermitWord, Key, KeeperMemo, Move, Slot, Offered, Finished, View, Keeps}
 use Rattle.ring_core.specs.Machine.{HasSizes, Machine, opening, seat_at, mark_at, next, offered_to}
 use Rattle.ring_core.specs.Sound.{IsRing}
 use Rattle.ring_core.specs.Words.{packed}
@@ -23,13 +20,6 @@ use Rattle.ring_core.proofs.RingLaws.{word_packs, seen_packs, missed_field_falls
 use Rattle.ring_core.proofs.Runs.{next_keeps}
 use Rattle.ring_core.proofs.Turns.{same_position}
 use Rattle.ring_core.proofs.WordLemmas.{other_word, packed_apart}
-use Rattle.permit_ring.specs.declared.memo.Key.{Key}
-use Rattle.permit_ring.specs.declared.memo.KeeperMemo.{KeeperMemo}
-use Rattle.permit_ring.specs.declared.memo.Move.{Move}
-use Rattle.permit_ring.specs.declared.memo.Slot.{Slot}
-use Rattle.permit_ring.specs.declared.memo.Slot.TheVariants.{Offered, Finished}
-use Rattle.permit_ring.specs.declared.memo.View.{View}
-use Rattle.permit_ring.specs.declared.memo.View.TheVariants.{Keeps}
 use Rattle.permit_ring.specs.Hands.{hand_from, filled_then, AllAdmitted}
 use Rattle.permit_ring.specs.Moves.{found_at, is_of_seat, is_of_keeper, by_seat}
 use Rattle.permit_ring.specs.Seats.{KeepsInHand}
@@ -399,7 +389,3 @@ module _ {O D T N : Type 0} (note : D → N) (Ao : T → O → Type 0) (An : T �
 pub in_front : {A : Type 0} (hand tail : List (ℕ × A)) (at place : ℕ) (x : A) → hand ≡ (at, x) ∷ tail → at ≡ place
     → hand ≡ (place, x) ∷ rest hand
 in_front hand tail at place x e same = e ∙ (λ i. (same i, x) ∷ ap rest (sym e) i)
-
--- the mark of each position is a word
-pub mark_fits : (n words next reaped : ℕ) → 1 ≤ n → words ≡ n + 3 → next ≡ reaped % n → next + 3 < words
-mark_fits n words next reaped positive are is = let below = mod-lt reaped positive in omega (arith, below, are, is)

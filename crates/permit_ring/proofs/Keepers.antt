@@ -6,17 +6,9 @@ use mathlib.Core.Option.{none, some-ne-none}
 use prog.Atomic.{either}
 use Rattle.atomic_table.specs.Table.{step, Allows}
 use Rattle.atomic_table.specs.declared.shared.Seat.{Seat as Token}
-use Rattle.ring_core.specs.declared.word.PermitWord.{PermitWord}
+use Rattle.permit_ring.specs.Names.{PermitWord, Keeper, Key, KeeperMemo, Slot, Empty, View, Keeps, Ring}
 use Rattle.ring_core.specs.Machine.{offered_to}
 use Rattle.ring_core.specs.Words.{packed, unpacked, field_of}
-use Rattle.permit_ring.specs.declared.keeper.Keeper.{Keeper}
-use Rattle.permit_ring.specs.declared.memo.Key.{Key}
-use Rattle.permit_ring.specs.declared.memo.KeeperMemo.{KeeperMemo}
-use Rattle.permit_ring.specs.declared.memo.Slot.{Slot}
-use Rattle.permit_ring.specs.declared.memo.Slot.TheVariants.{Empty}
-use Rattle.permit_ring.specs.declared.memo.View.{View}
-use Rattle.permit_ring.specs.declared.memo.View.TheVariants.{Keeps}
-use Rattle.permit_ring.specs.declared.ring.Ring.{Ring}
 use Rattle.permit_ring.specs.Calls.{AreOthers, last_word, tried, TriesTell}
 use Rattle.permit_ring.specs.Told.{Known, keeper_in, limit_in, positions_in, ready, tried_offer}
 use Rattle.permit_ring.specs.Rule.{Runs}

@@ -11,10 +11,6 @@ use Rattle.permit_ring.specs.Logs.{start_of, end_of, RisesFrom, end_from, got_of
 use Rattle.permit_ring.specs.Rule.{StandsIn}
 use Rattle.permit_ring.specs.Steps.{and_lost}
 
--- a got call is no lost one
-pub no_loss : {A N : Type 0} (t g : ℕ) (x : N) → ◌≡◌ {A = Outcome N} (Got t x) (Lost g) → A
-no_loss t g x e = cc
-
 module _ {N : Type 0} where
   -- a call that does not stand before the last one's end
   pub rises_on : (low : ℕ) (log : List (Outcome N)) (x : Outcome N) → RisesFrom low log → end_from low log ≤ start_of x

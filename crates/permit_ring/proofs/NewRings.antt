@@ -5,12 +5,7 @@ use mathlib.Core.Option.{some-ne-none, some, some-injective}
 use native.Mathlib.Nat.{add-mod_right}
 use Rattle.atomic_table.specs.declared.shared.Seat.{Seat as Token}
 use Rattle.ring_core.specs.Machine.{all_free, opening}
-use Rattle.permit_ring.specs.declared.memo.KeeperMemo.{KeeperMemo}
-use Rattle.permit_ring.specs.declared.memo.Slot.{Slot}
-use Rattle.permit_ring.specs.declared.memo.View.{View}
-use Rattle.permit_ring.specs.declared.memo.View.TheVariants.{Sits, Keeps}
-use Rattle.permit_ring.specs.declared.ring.Ring.{Ring}
-use Rattle.permit_ring.specs.declared.seat.Seat.{Seat}
+use Rattle.permit_ring.specs.Names.{KeeperMemo, Slot, View, Sits, Keeps, Ring, Seat, Key, Offered}
 use Rattle.permit_ring.specs.Logs.{IsOrdered}
 use Rattle.permit_ring.specs.Making.{made_memo, IsNewSeat, AreNewSeats}
 use Rattle.permit_ring.specs.Told.{Known}
@@ -23,8 +18,6 @@ use Rattle.atomic_table.proofs.Lists.{at_map}
 use Rattle.ring_core.specs.Sound.{IsRing}
 use Rattle.ring_core.specs.Words.{packed}
 use Rattle.ring_core.proofs.Opens.{opens}
-use Rattle.permit_ring.specs.declared.memo.Key.{Key}
-use Rattle.permit_ring.specs.declared.memo.Slot.TheVariants.{Offered}
 use Rattle.permit_ring.specs.Hands.{AllAdmitted}
 use Rattle.permit_ring.specs.Rule.{IsKey, first_view, AreFates, AreSlots, IsKeeperMemo, IsViewAt, Runs}
 

@@ -7,12 +7,8 @@ use mathlib.Core.Option as maybe
 use lib.ListN.{get_elem?}
 use Rattle.atomic_table.proofs.Lists.{at_last, at_longer, at_set, at_snoc, set_else, set_here}
 use Rattle.atomic_table.specs.Table.{State, step, keeps, takes, gives, Allows}
-use Rattle.ring_core.specs.declared.seat.SeatView.{SeatView}
-use Rattle.ring_core.specs.declared.seat.Ticket0.{Ticket0}
-use Rattle.ring_core.specs.declared.step.Step.{Step}
-use Rattle.ring_core.specs.declared.step.Step.TheVariants.{Look, Claim, Finish, Mark}
-use Rattle.ring_core.specs.declared.word.PermitWord.{PermitWord}
-use Rattle.ring_core.specs.Machine.{Machine, opening, possible, after, finished, served, is_idle, looked, seat_at, loss_at, marks_of, marked, claimed_from, next}
+use Rattle.permit_ring.specs.Names.{SeatView, Ticket0, Step, Look, Claim, Finish, Mark, PermitWord, Key, KeeperMemo, Lost, Got, SeatMemo, Slot, Offered, Finished, View, Sits}
+use Rattle.ring_core.specs.Machine.{Machine, opening, possible, after, finished, served, is_idle, looked, seat_at, loss_at, marks_of, marked, claimed_from}
 use Rattle.ring_core.specs.Sound.{IsRing, Holds}
 use Rattle.ring_core.specs.Words.{packed, unpacked, field_of, FreeOrOver, IsPackable, IsReadable}
 use Rattle.ring_core.proofs.Bounds.{small}
@@ -20,14 +16,6 @@ use Rattle.ring_core.proofs.RingLaws.{word_packs, all_claimed, armed_leaves_fiel
 use Rattle.ring_core.proofs.Runs.{after_keeps, next_of_possible}
 use Rattle.ring_core.proofs.SeatLemmas.{SameHolders, idle_parts, live_is_made, seat_at-here, seat_at-else, holders_stay}
 use Rattle.ring_core.proofs.WordLemmas.{unpacked-packed, packed-claimed}
-use Rattle.permit_ring.specs.declared.memo.Key.{Key}
-use Rattle.permit_ring.specs.declared.memo.KeeperMemo.{KeeperMemo}
-use Rattle.permit_ring.specs.declared.memo.Outcome.TheVariants.{Lost, Got}
-use Rattle.permit_ring.specs.declared.memo.SeatMemo.{SeatMemo}
-use Rattle.permit_ring.specs.declared.memo.Slot.{Slot}
-use Rattle.permit_ring.specs.declared.memo.Slot.TheVariants.{Offered, Finished}
-use Rattle.permit_ring.specs.declared.memo.View.{View}
-use Rattle.permit_ring.specs.declared.memo.View.TheVariants.{Sits}
 use Rattle.permit_ring.specs.Logs.{IsOrdered, end_from, got_of, taken_by}
 use Rattle.permit_ring.specs.Moves.{found_at, is_of_seat, is_of_keeper}
 use Rattle.permit_ring.specs.Told.{Known, seat_in, saw_word, claimed_word, marked_loss, finished_value}

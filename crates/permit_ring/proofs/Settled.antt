@@ -8,18 +8,12 @@ use mathlib.Core.Option.{some}
 use lib.ListN.{get_elem?}
 use Rattle.atomic_table.proofs.Lists.{at_longer, at_map}
 use Rattle.atomic_table.specs.Table.{State}
-use Rattle.ring_core.specs.declared.seat.SeatView.{SeatView}
+use Rattle.permit_ring.specs.Names.{SeatView, Key, KeeperMemo, Got, SeatMemo, Slot, View}
 use Rattle.ring_core.specs.Machine.{Machine, marks_of, new_seat, nobody, mark_at, seat_at}
 use Rattle.ring_core.specs.Sound.{Holds, IsRing}
 use Rattle.ring_core.proofs.RingLaws.{all_but_a_turn_reaped}
 use Rattle.ring_core.proofs.SeatLemmas.{live_is_made}
 use Rattle.ring_core.proofs.Turns.{one_turn}
-use Rattle.permit_ring.specs.declared.memo.Key.{Key}
-use Rattle.permit_ring.specs.declared.memo.KeeperMemo.{KeeperMemo}
-use Rattle.permit_ring.specs.declared.memo.Outcome.TheVariants.{Got}
-use Rattle.permit_ring.specs.declared.memo.SeatMemo.{SeatMemo}
-use Rattle.permit_ring.specs.declared.memo.Slot.{Slot}
-use Rattle.permit_ring.specs.declared.memo.View.{View}
 use Rattle.permit_ring.specs.Calls.{OfferTells}
 use Rattle.permit_ring.specs.Closing.{AreAllBack, IsAllReaped, IsSettled, IsWholeLog, marks_back}
 use Rattle.permit_ring.specs.Logs.{end_from, taken_by}

@@ -1,32 +1,11 @@
 -- The next state of each kind of step, from what its caller knows.
 use Rattle.std.proofs.Common.{◌≡◌, ◌≢◌, ℕ, ◌+◌, ◌%◌, ◌^◌, ◌<◌, ◌≤◌, true, false, Some, None, [], ◌∷◌, ◌++◌, length, set, refl, arith}
 use Rattle.std.proofs.lemmas.Bool.{lt-ltb, le-ltb, le-leb, eq-eqb, ne_eqb}
-use Rattle.ring_core.specs.Names.{Look, Claim, Finish, See, Read, Offer, Mark, Sweep, Split, Join}
-use Rattle.ring_core.specs.Machine.{Machine, new_seat, seat_at, mark_at, marks_of, marked, loss_at, is_idle, looked, offered_to, with_seat, with_loss, one_more_lost, swept_clean, same_word, next}
-use Rattle.ring_core.specs.Sound.{Holds}
-use Rattle.ring_core.proofs.Claims.{vain_after, served_after}
+use Rattle.ring_core.specs.Names.{See, Read, Offer, Sweep, Split, Join}
+use Rattle.ring_core.specs.Machine.{Machine, new_seat, seat_at, mark_at, loss_at, is_idle, offered_to, with_seat, with_loss, swept_clean, same_word, next}
 use Rattle.ring_core.proofs.WordLemmas.{one_word, other_word}
 
 module _ (m : Machine) where
-  pub look_next : (i : ℕ) → is_idle (seat_at m.seats i) ≡ true → (seat_at m.seats i).calls < 2 ^ 40
-      → next m (Look i) ≡ Some (with_seat m i (looked m.word (seat_at m.seats i)))
-  look_next i idle few = rw (idle, lt-ltb (seat_at m.seats i).calls (2 ^ 40) few) refl
-
-  pub claim_served_next : (i : ℕ) → (seat_at m.seats i).armed ≡ true → 0 < m.word.free
-      → next m (Claim i) ≡ Some (served_after m i (seat_at m.seats i))
-  claim_served_next i armed some = rw (armed, lt-ltb 0 m.word.free some) refl
-
-  pub claim_vain_next : (i : ℕ) → (seat_at m.seats i).armed ≡ true → m.word.free ≡ 0
-      → next m (Claim i) ≡ Some (vain_after m i (seat_at m.seats i))
-  claim_vain_next i armed full = rw (armed, le-ltb 0 m.word.free (omega arith)) refl
-
-  pub finish_next : (i t : ℕ) → Holds (seat_at m.seats i) t
-      → next m (Finish i) ≡ Some (record (with_seat m i (record (seat_at m.seats i) { held = None })) {
-        marks = set m.marks
-            (t % m.positions) (t + 1);
-      })
-  finish_next i t holds = rw holds refl
-
   pub see_takes_next : mark_at m.marks (m.reaped % m.positions) ≡ m.reaped + 1 → next m See ≡ Some (record m { reaped = m.reaped + 1 })
   see_takes_next ready = rw (eq-eqb (mark_at m.marks (m.reaped % m.positions)) (m.reaped + 1) ready) refl
 
@@ -49,10 +28,6 @@ module _ (m : Machine) where
       → next m (Offer k) ≡ Some (record m { seen = m.word })
   offer_misses_next k some room other =
       rw (le-leb 1 k some, le-leb (m.offered + k) (m.reaped + m.positions) room, other_word m.word m.seen other) refl
-
-  pub mark_next : (i kind : ℕ) → kind < 2 → (seat_at m.seats i).live ≡ true → marks_of (seat_at m.seats i) kind < 2 ^ 40
-      → next m (Mark i kind) ≡ Some (with_loss (with_seat m i (marked kind (seat_at m.seats i))) kind (one_more_lost (loss_at m kind)))
-  mark_next i kind low live few = rw (lt-ltb kind 2 low, live, lt-ltb (marks_of (seat_at m.seats i) kind) (2 ^ 40) few) refl
 
   pub sweep_next : (kind : ℕ) → kind < 2 → next m (Sweep kind) ≡ Some (with_loss m kind (swept_clean (loss_at m kind)))
   sweep_next kind low = rw (lt-ltb kind 2 low) refl

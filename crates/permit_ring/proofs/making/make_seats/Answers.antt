@@ -1,5 +1,5 @@
 use Rattle.std.proofs.Common.{arith, rules, ℕ, ◌+◌, sym, ap, ◌∙◌, subst, []}
-use Rattle.permit_ring.specs.declared.memo.View.TheVariants.{Sits, Keeps}
+use Rattle.permit_ring.specs.Names.{Sits, Keeps}
 use Rattle.permit_ring.specs.Told.{keeper_in, split_left, split_right}
 use Rattle.permit_ring.specs.Making.{AreNewSeats, IsNewSeat}
 use Rattle.permit_ring.specs.Steps.{new_memo}

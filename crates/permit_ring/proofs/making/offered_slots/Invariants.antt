@@ -1,7 +1,7 @@
 use Rattle.std.proofs.Common.{◌≡◌, ◌+◌, ◌≤◌, ◌++◌, map, length}
 use Rattle.std.specs.Prelude.{vec_capacity}
 use Rattle.std.specs.Vec.Iter.{into_iter_items}
-use Rattle.permit_ring.specs.declared.memo.Slot.TheVariants.{Offered}
+use Rattle.permit_ring.specs.Names.{Offered}
 use Rattle.permit_ring.proofs.making.offered_slots.Given as goal
 
 abbrev pub invariant-loop-value : goal.invariant-loop-value

@@ -1,5 +1,5 @@
 use Rattle.std.proofs.Common.{arith, ℕ, ◌+◌, ◌%◌, sym, ap, ap₂, ◌∙◌}
-use Rattle.permit_ring.specs.declared.memo.Slot.TheVariants.{Finished}
+use Rattle.permit_ring.specs.Names.{Finished}
 use Rattle.permit_ring.proofs.KeeperSteps.{in_front, see_ready}
 use Rattle.permit_ring.proofs.ring.Ring.reap.Goals as goal
 

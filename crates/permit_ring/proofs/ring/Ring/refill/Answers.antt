@@ -1,5 +1,5 @@
 use Rattle.std.proofs.Common.{sym, ap, ◌∙◌}
-use Rattle.permit_ring.specs.declared.memo.Slot.TheVariants.{Empty}
+use Rattle.permit_ring.specs.Names.{Empty}
 use Rattle.permit_ring.specs.Told.{first_slot}
 use Rattle.permit_ring.proofs.HandLemmas.{filled_fit, one_more_filled, vacant_fit, vacant_in_front}
 use Rattle.permit_ring.proofs.ring.Ring.refill.Goals as goal
