@@ -7,7 +7,7 @@ use Rattle.std.proofs.lemmas.Bool.{eqb-true}
 use Rattle.std.proofs.lemmas.List.{append-nil, length-append}
 use Rattle.std.proofs.lemmas.Grind.{flat_map-append}
 use Rattle.ids_frame.specs.declared.fault.FrameFault.{FrameFault}
-use Rattle.ids_frame.specs.Bytes.{IsByte, AreBytes}
+use Rattle.ids_frame.specs.Bytes.{AreBytes}
 use Rattle.ids_frame.specs.Message.{MessageParts, FitsMessage}
 use Rattle.ids_frame.specs.Spelling.{spelling}
 use Rattle.ids_frame.specs.Reading.{Begun, message_at}

@@ -4,7 +4,6 @@ use Rattle.std.specs.Prelude.{Option, Some, None, option_map}
 use Rattle.std.proofs.lemmas.List.{take_more_set}
 use Rattle.text_spec.specs.Contexts.{numbers_in}
 use Rattle.text_spec.specs.Fields.{a_number, first_as}
-use Rattle.text_spec.specs.Maybe.{◌>>=◌}
 use Rattle.text_spec.proofs.FrontLemmas.{mapped_some, bind_again}
 
 -- numbers that were read, behind these

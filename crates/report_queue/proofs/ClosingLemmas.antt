@@ -1,13 +1,13 @@
 -- What was taken once all callers are back, from what the ring's keeper knows.
-use Rattle.std.proofs.Common.{◌≡◌, ℕ, zero, suc, ◌+◌, ◌<◌, ◌≤◌, ◌==◌, if◌then◌else◌, Bool, true, false, is_some, List, [], ◌∷◌, ◌++◌, map, length, Option, Some, None, refl, sym, ap, ap₂, ◌∙◌, subst, true≢false, arith, eq-eqb}
+use Rattle.std.proofs.Common.{◌≡◌, ℕ, zero, suc, ◌+◌, ◌<◌, ◌≤◌, ◌==◌, if◌then◌else◌, true, is_some, List, [], ◌∷◌, ◌++◌, map, length, Option, Some, None, refl, sym, ap, ap₂, ◌∙◌, subst, true≢false, arith}
 use Rattle.std.proofs.lemmas.List.{length-map}
 use Rattle.std.proofs.lemmas.Option.{none-some}
 use mathlib.Core.Option.{some, some-injective, some-ne-none}
 use lib.ListN.{get_elem?}
 use Rattle.atomic_table.proofs.Lists.{at_longer, at_map}
-use Rattle.report_queue.specs.Names.{KeeperMemo, Outcome, Lost, Got, SeatMemo, Item}
+use Rattle.report_queue.specs.Names.{KeeperMemo, SeatMemo, Item}
 use Rattle.permit_ring.specs.Closing.{AreAllBack, IsSettled}
-use Rattle.permit_ring.specs.Logs.{end_from, got_of, taken_by}
+use Rattle.permit_ring.specs.Logs.{end_from, taken_by}
 use Rattle.permit_ring.specs.Steps.{waits}
 use Rattle.permit_ring.proofs.ListLemmas.{there}
 use Rattle.permit_ring.proofs.LogLemmas.{got_from, taken_in}

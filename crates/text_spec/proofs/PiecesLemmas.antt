@@ -5,7 +5,7 @@ use Rattle.std.specs.Prelude.{Option, nat_lt, position, option_map, ◌&&◌}
 use Rattle.std.specs.Char.{is_ascii_digit}
 use Rattle.std.specs.List.{slice_split, position_or_len, list_all}
 use Rattle.std.specs.Str.Parse.{digits_value}
-use Rattle.std.proofs.lemmas.Bool.{cases_Bool, cond-true, cond-false, false_from_ne_true, ltb-true, ltb-false, both_ways, eq-eqb, eqb-true, ne_eqb}
+use Rattle.std.proofs.lemmas.Bool.{cases_Bool, cond-true, cond-false, false_from_ne_true, ltb-true, ltb-false, both_ways, eq-eqb, ne_eqb}
 use Rattle.std.proofs.lemmas.Option.{none-some, cond_some}
 use Rattle.std.proofs.lemmas.List.{take_all, length-take, get_or-take}
 use Rattle.std.proofs.lemmas.List.Elements.{All-from_get_or}

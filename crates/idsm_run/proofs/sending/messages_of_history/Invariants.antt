@@ -1,4 +1,4 @@
-use Rattle.std.proofs.Common.{◌≡◌, ◌+◌, ◌++◌, length}
+use Rattle.std.proofs.Common.{◌≡◌, ◌++◌, length}
 use Rattle.idsm_run.specs.Words.{AllByRecursion, CanSendTurn, messages_of, Cuts}
 use Rattle.idsm_run.proofs.sending.messages_of_history.Given as goal
 

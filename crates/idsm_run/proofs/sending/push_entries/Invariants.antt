@@ -1,4 +1,4 @@
-use Rattle.std.proofs.Common.{◌≡◌, ◌+◌, ◌++◌, length}
+use Rattle.std.proofs.Common.{◌≡◌, ◌++◌, length}
 use Rattle.idsm_run.specs.Words.{flat_map, AllByRecursion, CanSend, entry_messages}
 use Rattle.idsm_run.proofs.sending.push_entries.Given as goal
 

@@ -1,4 +1,4 @@
-use Rattle.std.proofs.Common.{◌≡◌, ap, sym, arith, length}
+use Rattle.std.proofs.Common.{ap, sym, arith, length}
 use Rattle.std.specs.Prelude.{option_map}
 use Rattle.text_spec.proofs.HexadecimalLemmas.{hex_in-odd, hex_upto-none, hex_upto-short, hex_upto-read}
 use Rattle.text_spec.proofs.hexadecimal.hex_into.Goals as goal

@@ -1,6 +1,5 @@
-use Rattle.std.proofs.Common.{◌<◌, ◌^◌, ◌++◌, List, ℕ, sym, ap, ◌∙◌, arith}
-use Rattle.std.proofs.lemmas.Fmt.{decimal_digit}
-use Rattle.text_spec.proofs.NumbersLemmas.{length_digit, length_last, decimal_last}
+use Rattle.std.proofs.Common.{◌<◌, ◌^◌, ◌∙◌, arith}
+use Rattle.text_spec.proofs.NumbersLemmas.{length_last, decimal_last}
 use Rattle.text_spec.proofs.numbers.+put_digits.Goals as goal
 
 pub put_digits-requires : goal.put_digits-requires

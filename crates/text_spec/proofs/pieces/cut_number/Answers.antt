@@ -1,4 +1,4 @@
-use Rattle.std.proofs.Common.{◌≡◌, Some, sym, ap, ◌∙◌}
+use Rattle.std.proofs.Common.{Some, sym, ap, ◌∙◌}
 use Rattle.std.proofs.lemmas.List.{take_rest}
 use Rattle.text_spec.proofs.NumbersLemmas.{told-digit}
 use Rattle.text_spec.proofs.PiecesLemmas.{number_first, short_piece}
