@@ -219,14 +219,14 @@ module _ {O D T N : Type 0} {note : D → N} {Ao : T → O → Type 0} {An : T �
         (sym here.0, refl, join_ended)
     | inr apart ↦ somewhere_stays r after_join further r.fates (welcomes memo r.keeper) joined r.owner apart.1
         (λ k number_is there.
-          let elsewhere : r.owner i ≢ other = λ same.
-              let one : memo ≡ k = cc (at, there) in
-              apart.0 (sym number_is ∙ sym (ap (λ (h : SeatMemo N). h.number) one)) in (
-            k,
-            number_is,
-            set_else kept_back other (r.owner i) Spent elsewhere
-                ∙ set_else s.views 0 (r.owner i) (Keeps key (welcomes memo r.keeper)) (not_first r (r.owner i) there) ∙ there,
-          ))
+        let elsewhere : r.owner i ≢ other = λ same.
+        let one : memo ≡ k = cc (at, there) in
+        apart.0 (sym number_is ∙ sym (ap (λ (h : SeatMemo N). h.number) one)) in (
+          k,
+          number_is,
+          set_else kept_back other (r.owner i) Spent elsewhere
+              ∙ set_else s.views 0 (r.owner i) (Keeps key (welcomes memo r.keeper)) (not_first r (r.owner i) there) ∙ there,
+        ))
         (λ k number_is off was. join_known k (λ same. apart.0 (sym number_is ∙ same)) was)
   ]
 

@@ -32,6 +32,6 @@ module _ (m : Machine) (r : IsRing m) (i : ℕ) (made : i < length m.seats) (now
   seat_sound in_order held over loss0 loss1 either more within had sum0 sum1 =
       let same = holders_stay m.seats i now made held in
       let changed : AreSeats m.limit m.reaped (record m.word { over = over }) seats = seats_set r.seats.each in_order
-          (apart_same m.seats seats same r.seats.apart) within had in
+      (apart_same m.seats seats same r.seats.apart) within had in
       let marks = λ (p : ℕ) (h : p < m.positions). mark_same m.seats seats same (r.marks p h) in
       grind (arith, common_steps)

@@ -61,8 +61,8 @@ module _ (m : Machine) (r : IsRing m) (i : ℕ) (is_armed : (seat_at m.seats i).
 
   apart : (a b t : ℕ) → Holds (seat_at now a) t → Holds (seat_at now b) t → a ≡ b
   apart a b t ha hb = elim (held_after a t ha) [
-    | inl x ↦ elim (held_after b t hb) [ | inl y ↦ x.0 ∙ sym y.0 | inr y ↦ absurd (omega arith) ]
-    | inr x ↦ elim (held_after b t hb) [ | inl y ↦ absurd (omega arith) | inr y ↦ r.seats.apart a b t x.0 y.0 ]
+    | inl x ↦ elim (held_after b t hb) [ inl y ↦ x.0 ∙ sym y.0 | inr y ↦ absurd (omega arith) ]
+    | inr x ↦ elim (held_after b t hb) [ inl y ↦ absurd (omega arith) | inr y ↦ r.seats.apart a b t x.0 y.0 ]
   ]
 
   finished_before : (p t : ℕ) → IsFinished m.positions (m.word.claimed + 1) now p t → IsFinished m.positions m.word.claimed m.seats p t
@@ -80,7 +80,7 @@ module _ (m : Machine) (r : IsRing m) (i : ℕ) (is_armed : (seat_at m.seats i).
   finished_after p t f = record {
     claimed_before = omega arith;
     stands_at = f.stands_at;
-    held_by_none = λ j h. elim (held_after j t h) [ | inl new ↦ absurd (omega arith) | inr old ↦ f.held_by_none j old.0 ];
+    held_by_none = λ j h. elim (held_after j t h) [ inl new ↦ absurd (omega arith) | inr old ↦ f.held_by_none j old.0 ];
   }
 
   served_sound : 0 < m.word.free → IsRing (served_after m i old)
@@ -89,7 +89,7 @@ module _ (m : Machine) (r : IsRing m) (i : ℕ) (is_armed : (seat_at m.seats i).
       let one : one_if old.armed ≡ 1 = ap one_if is_armed in
       let wider = λ (j : ℕ). wider_seat m.reaped m.word.claimed (seat_at m.seats j) (r.seats.each j) in
       let seats : AreSeats m.limit m.reaped (record m.word { claimed = m.word.claimed + 1; free = m.word.free - 1 }) now =
-          seats_set m r i made served wider served_in_order apart (omega arith) (omega arith) in
+      seats_set m r i made served wider served_in_order apart (omega arith) (omega arith) in
       let marks = λ (p : ℕ) (h : p < m.positions). mark_stays (finished_before p) (finished_after p) (r.marks p h) in
       grind (arith, common_steps)
 

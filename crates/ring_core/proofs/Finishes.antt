@@ -31,7 +31,7 @@ module _ (m : Machine) (r : IsRing m) (i t : ℕ) (holds : Holds (seat_at m.seat
 
   -- a ticket that is held after the finish was held before, by another seat
   held_else : (j u : ℕ) → Holds (seat_at now j) u → (j ≢ i) × Holds (seat_at m.seats j) u
-  held_else j u h = elim (holder_after m.seats i empty made j u h) [ | inl here ↦ none_held None u refl here.1 | inr other ↦ other ]
+  held_else j u h = elim (holder_after m.seats i empty made j u h) [ inl here ↦ none_held None u refl here.1 | inr other ↦ other ]
 
   -- t is finished now
   now_finished : IsFinished m.positions m.word.claimed now (t % m.positions) t
@@ -84,7 +84,7 @@ module _ (m : Machine) (r : IsRing m) (i t : ℕ) (holds : Holds (seat_at m.seat
   finish_sound =
       let sums = sums_after m.seats i empty made in
       let seats : AreSeats m.limit m.reaped m.word now = seats_set m r i made empty r.seats.each empty_seat
-          (λ a b u ha hb. r.seats.apart a b u (held_else a u ha).1 (held_else b u hb).1) (omega arith) (omega arith) in
+      (λ a b u ha hb. r.seats.apart a b u (held_else a u ha).1 (held_else b u hb).1) (omega arith) (omega arith) in
       let marked = marks in
       grind (arith, common_steps)
 

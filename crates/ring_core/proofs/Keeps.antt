@@ -41,4 +41,4 @@ module _ (m : Machine) (r : IsRing m) where
   offer_keeps k ok =
       let parts = and_parts (nat_le 1 k) (nat_le (m.offered + k) (m.reaped + m.positions)) ok in
       let room = leb-true (m.offered + k) (m.reaped + m.positions) parts.1 in
-      elim (cases_Bool (same_word m.word m.seen)) [ | inl same ↦ rw same (offer_taken k room) | inr other ↦ rw other read_keeps ]
+      elim (cases_Bool (same_word m.word m.seen)) [ inl same ↦ rw same (offer_taken k room) | inr other ↦ rw other read_keeps ]

@@ -72,15 +72,15 @@ pub record IsReached (start : Machine) (steps : List Step) (now : Machine) : Typ
   pub sound : IsRing now
 
 module _ (start m : Machine) (steps : List Step) (at : ℕ) (within : at < length steps) (so_far : after_all start (take at steps) ≡ Some m)
-    where
-  -- the step behind the ones that were made
-  pub one_more : after_all start (take (at + 1) steps) ≡ next m (get_or steps at (Look 0))
-  one_more = ap (after_all start) (take_more steps at (Look 0) within)
-      ∙ after_all-step start m (take at steps) (get_or steps at (Look 0)) so_far
+  where
+    -- the step behind the ones that were made
+    pub one_more : after_all start (take (at + 1) steps) ≡ next m (get_or steps at (Look 0))
+    one_more = ap (after_all start) (take_more steps at (Look 0) within)
+        ∙ after_all-step start m (take at steps) (get_or steps at (Look 0)) so_far
 
-  -- one that is not possible is the first
-  pub run_stops : next m (get_or steps at (Look 0)) ≡ None → StopsAt start steps at
-  run_stops none = record { within = within; before = ap is_some so_far; stops = one_more ∙ none }
+    -- one that is not possible is the first
+    pub run_stops : next m (get_or steps at (Look 0)) ≡ None → StopsAt start steps at
+    run_stops none = record { within = within; before = ap is_some so_far; stops = one_more ∙ none }
 
 -- all steps were made
 pub run_ends : (start now : Machine) (steps : List Step) (at : ℕ) → length steps ≤ at → after_all start (take at steps) ≡ Some now

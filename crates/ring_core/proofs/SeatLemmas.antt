@@ -91,7 +91,7 @@ module _ (seats : List SeatView) (i : ℕ) (seat : SeatView) (made : i < length 
 
   -- what holds of each seat and of the new one holds of each seat after
   pub each_after : (P : SeatView → Type 0) → ((j : ℕ) → P (seat_at seats j)) → P seat → (j : ℕ) → P (seat_at (set seats i seat) j)
-  each_after P old new j = elim (seat_at-set j) [ | inl e ↦ subst P (sym e.1) new | inr e ↦ subst P (sym e.1) (old j) ]
+  each_after P old new j = elim (seat_at-set j) [ inl e ↦ subst P (sym e.1) new | inr e ↦ subst P (sym e.1) (old j) ]
 
   -- what the seats add up to after the change
   pub sums_after : AreSums seats (set seats i seat) (seat_at seats i) seat
@@ -104,7 +104,7 @@ module _ (seats : List SeatView) (i : ℕ) (seat : SeatView) (made : i < length 
 
   -- who holds a ticket now is seat i, or held it before
   pub holder_after : (j t : ℕ) → Holds (seat_at (set seats i seat) j) t → ((j ≡ i) × Holds seat t) ⊎ ((j ≢ i) × Holds (seat_at seats j) t)
-  holder_after j t h = elim (seat_at-set j) [ | inl e ↦ inl (e.0, cc) | inr e ↦ inr (e.0, cc) ]
+  holder_after j t h = elim (seat_at-set j) [ inl e ↦ inl (e.0, cc) | inr e ↦ inr (e.0, cc) ]
 
   -- who held a ticket holds it now, unless seat i gave it up
   pub holder_before : (j t : ℕ) → (Holds (seat_at seats i) t → Holds seat t) → Holds (seat_at seats j) t
@@ -116,7 +116,7 @@ module _ (seats : List SeatView) (i : ℕ) (seat : SeatView) (made : i < length 
 
   -- a change that leaves the ticket alone leaves all tickets alone
   pub holders_stay : seat.held ≡ (seat_at seats i).held → SameHolders seats (set seats i seat)
-  holders_stay same j = elim (seat_at-set j) [ | inl e ↦ cc | inr e ↦ cc ]
+  holders_stay same j = elim (seat_at-set j) [ inl e ↦ cc | inr e ↦ cc ]
 
 -- one seat more, which no number had before
 module _ (seats : List SeatView) where
@@ -133,7 +133,7 @@ module _ (seats : List SeatView) where
 
   pub seat_at-push : (P : SeatView → Type 0) → ((j : ℕ) → P (seat_at seats j)) → P new_seat → (j : ℕ)
       → P (seat_at (seats ++ new_seat ∷ []) j)
-  seat_at-push P old new j = elim (pushed j) [ | inl e ↦ subst P (sym e) (old j) | inr e ↦ subst P (sym e.0) new ]
+  seat_at-push P old new j = elim (pushed j) [ inl e ↦ subst P (sym e) (old j) | inr e ↦ subst P (sym e.0) new ]
 
   pub holders_stay_push : SameHolders seats (seats ++ new_seat ∷ [])
-  holders_stay_push j = elim (pushed j) [ | inl e ↦ cc | inr e ↦ cc ]
+  holders_stay_push j = elim (pushed j) [ inl e ↦ cc | inr e ↦ cc ]

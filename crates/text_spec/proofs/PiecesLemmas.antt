@@ -91,9 +91,11 @@ no_number c text i inside before strange =
     let first : (ws : List (List ℕ)) × (slice_split (λ b. b == c) text ≡ take end text ∷ ws) = elim (cases_Bool (nat_lt end (length text))) [
       | inl ends ↦ (slice_split (λ b. b == c) (drop (end + 1) text), slice_split_first (λ b. b == c) text 0 (ltb-true end (length text) ends))
       | inr goes_on ↦
-          let far = ltb-false end (length text) goes_on in
-          ([], slice_split_none _ text (All-from_get_or (λ x. (x == c) ≡ false) text 0 (λ k below. fails_before_first (λ b. b == c) text k 0 (omega (arith, far))))
-              ∙ ap (λ w. w ∷ []) (sym (take_all end text (omega (arith, far)))))
+          let far = ltb-false end (length text) goes_on in (
+            [],
+            slice_split_none _ text (All-from_get_or (λ x. (x == c) ≡ false) text 0 (λ k below. fails_before_first (λ b. b == c) text k 0 (omega (arith, far))))
+                ∙ ap (λ w. w ∷ []) (sym (take_all end text (omega (arith, far)))),
+          )
     ] in
     let strange_there = list_all_at is_ascii_digit (take end text) i 0 (omega (arith, past, length-take end text)) (ap is_ascii_digit (get_or-take end text i 0 past) ∙ strange) in
     ap (first_as a_number) first.1 ∙ ap (λ (o : Option ℕ). option_map (λ x. (x, first.0)) o) (strange_word (take end text) strange_there)

@@ -1,6 +1,7 @@
 //! Decoded messages as lines.
 
-ghost use Rattle.text_spec.specs.Names.{◌≡◌, ◌+◌, ◌<◌, ◌≤◌, ◌++◌, ◌∷◌, [], OnOk, OnErr, option_copied, codes, decimal, length, IfSome, vec_len, vec_capacity, ◌^◌, line_feed, space, message_line, form_letter, shown_context, shown_signature};
+ghost use Rattle.std.specs.Prelude.{◌≡◌, ◌+◌, ◌<◌, ◌≤◌, ◌++◌, ◌∷◌, [], OnOk, OnErr, option_copied, codes, decimal, length, IfSome, vec_len, vec_capacity, ◌^◌};
+ghost use Rattle.text_spec.specs.Names.{line_feed, space, message_line, form_letter, shown_context, shown_signature};
 
 use crate::hexadecimal::put_hex;
 use crate::numbers::{digits_len, put_field};

@@ -1,4 +1,5 @@
-ghost use Rattle.text_spec.specs.Names.{◌≡◌, ◌≤◌, length, take, drop, some_hex};
+ghost use Rattle.std.specs.Prelude.{◌≡◌, ◌≤◌, length, take, drop};
+ghost use Rattle.text_spec.specs.Names.{some_hex};
 
 use crate::hexadecimal::{are_lower_digits, put_bytes};
 use std::marker::Model;

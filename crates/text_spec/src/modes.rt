@@ -1,4 +1,5 @@
-ghost use Rattle.text_spec.specs.Names.{◌≡◌, ℕ, List, Some, bytes_eq, ◌++◌, ◌+◌, ◌<◌, length, vec_len, vec_capacity, OnOk, OnErr, mode_name as name_of, mode_named as named, Mode};
+ghost use Rattle.std.specs.Prelude.{◌≡◌, ℕ, List, Some, bytes_eq, ◌++◌, ◌+◌, ◌<◌, length, vec_len, vec_capacity, OnOk, OnErr};
+ghost use Rattle.text_spec.specs.Names.{mode_name as name_of, mode_named as named, Mode};
 
 use ids_types::{Mode, NoMemory};
 

@@ -124,8 +124,7 @@ fn cut_number(text: &[u8], separator: u8) -> Option<(u64, Option<&[u8]>)>
 {
     match text {
         [digit, next, rest @ ..]
-            if digit.is_ascii_digit() && *digit != separator && *next == separator =>
-        {
+            if digit.is_ascii_digit() && *digit != separator && *next == separator => {
             Some((u64::from(*digit - b'0'), Some(rest)))
         }
         _ => cut_digits(text, separator),

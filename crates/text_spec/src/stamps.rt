@@ -1,4 +1,5 @@
-ghost use Rattle.text_spec.specs.Names.{◌≡◌, ℕ, ◌<◌, ◌^◌, ◌≤◌, List, Option, ◌++◌, OnOk, OnErr, ◌+◌, length, vec_len, vec_capacity, stamp_in, stamp_text, stamp_of_bytes, hex_in, option_and_then, Stamp};
+ghost use Rattle.std.specs.Prelude.{◌≡◌, ℕ, ◌<◌, ◌^◌, ◌≤◌, List, Option, ◌++◌, OnOk, OnErr, ◌+◌, length, vec_len, vec_capacity, option_and_then};
+ghost use Rattle.text_spec.specs.Names.{stamp_in, stamp_text, stamp_of_bytes, hex_in, Stamp};
 
 use crate::hexadecimal::{hex_into, push_hex, put_hex};
 use ids_types::{NoMemory, Stamp};

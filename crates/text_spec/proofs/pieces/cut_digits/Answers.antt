@@ -21,8 +21,8 @@ loop-i-preserved c =
 pub returns-then-not-is_ascii_digit : goal.returns-then-not-is_ascii_digit
 returns-then-not-is_ascii_digit c =
     sym (no_number c.args.separator c.args.text.now c.loop-i.i c.loop-i-test.true
-        (below_more (λ k. (get_or c.args.text.now k 0 == c.args.separator) ≡ false) c.loop-i.i c.loop-i.invariant.free (ne_eqb _ _ c.if-byte-separator.false))
-        (sym c.if-not-is_ascii_digit.ensures.value))
+    (below_more (λ k. (get_or c.args.text.now k 0 == c.args.separator) ≡ false) c.loop-i.i c.loop-i.invariant.free (ne_eqb _ _ c.if-byte-separator.false))
+    (sym c.if-not-is_ascii_digit.ensures.value))
 
 pub returns-in_err-number : goal.returns-in_err-number
 returns-in_err-number c =
@@ -33,7 +33,7 @@ pub returns-then-byte-separator : goal.returns-then-byte-separator
 returns-then-byte-separator c =
     let piece = first_piece c.args.separator c.args.text.now c.loop-i.i c.loop-i-test.true c.loop-i.invariant.free (eq-eqb _ _ c.if-byte-separator.true) in
     rw (take_rest c.args.text.now (c.loop-i.i + 1))
-        (number_first _ _ _ (Some c.in_ok-number.number) piece (sym c.in_ok-number.was ∙ c.number_of.ensures))
+    (number_first _ _ _ (Some c.in_ok-number.number) piece (sym c.in_ok-number.was ∙ c.number_of.ensures))
 
 pub returns-in_err-number-2 : goal.returns-in_err-number-2
 returns-in_err-number-2 c =

@@ -10,4 +10,4 @@ returns-in-len2-up c =
     let long = c.in-len2-up.len_at_least in
     let piece = short_piece c.args.separator text long c.if-digit-separator.true c.if-next-separator.true in
     rw (take_rest text 2)
-        (number_first _ _ _ (Some c.from.result) piece (ap Some c.from.ensures ∙ told-digit text long (sym c.if-is_ascii_digit.ensures.value)))
+    (number_first _ _ _ (Some c.from.result) piece (ap Some c.from.ensures ∙ told-digit text long (sym c.if-is_ascii_digit.ensures.value)))
