@@ -1,5 +1,6 @@
 -- Lists of fields: their reading against their words, both ways, for any fields that keep the laws.
-use Rattle.text_spec.proofs.Names.{◌≡◌, ℕ, Bool, true, List, [], ◌∷◌, refl, sym, ap, subst, ◌∙◌, inl, inr, Option, Some, None, option_map, nat_lt, list_all, none-some, Field, Filled, simple, put, the, words_of_fields, AreHeld, AreExact, AreWritten, HasForm, Makes, first_as, read_by, Form, told_in, told_in_one, ◌>>=◌, or_else, space}
+use Rattle.std.specs.Prelude.{◌≡◌, ◌∷◌}
+use Rattle.text_spec.proofs.Names.{ℕ, Bool, true, List, [], refl, sym, ap, subst, ◌∙◌, inl, inr, Option, Some, None, option_map, nat_lt, list_all, none-some, Field, Filled, simple, put, the, words_of_fields, AreHeld, AreExact, AreWritten, HasForm, Makes, first_as, read_by, Form, told_in, told_in_one, ◌>>=◌, or_else, space}
 use Rattle.text_spec.proofs.FrontLemmas.{bind_again}
 use Rattle.text_spec.proofs.WordsLemmas.{Pass}
 

@@ -1,5 +1,6 @@
 -- One line of a journal: its reading against its own text, both ways.
-use Rattle.text_spec.proofs.Names.{◌≡◌, ℕ, ◌==◌, not, true, Bool, List, [], ◌∷◌, refl, ap, subst, ◌∙◌, arith, Option, Some, None, codes, list_all, the, words_of_fields, AreHeld, AreExact, HasForm, Form, told_in, entry_of, turn_form, report_form, state_form, setting_form, loss_form, line_forms, told_by, Act, Report, State, SetMode, Line, begins, enters, loses, act_fields, fields_of, line_for, or_else, space, line_feed, words_of, line_of}
+use Rattle.std.specs.Prelude.{◌≡◌, ◌==◌, ◌∷◌}
+use Rattle.text_spec.proofs.Names.{ℕ, not, true, Bool, List, [], refl, ap, subst, ◌∙◌, arith, Option, Some, None, codes, list_all, the, words_of_fields, AreHeld, AreExact, HasForm, Form, told_in, entry_of, turn_form, report_form, state_form, setting_form, loss_form, line_forms, told_by, Act, Report, State, SetMode, Line, begins, enters, loses, act_fields, fields_of, line_for, or_else, space, line_feed, words_of, line_of}
 use Rattle.text_spec.proofs.ContextsLaws.{the_lawful, number_lawful, stamp_lawful, mode_lawful, context_lawful}
 use Rattle.text_spec.proofs.FieldsLaws.{AreLawful, AreForms, Values, IsTold, fill, made_of, fields_again, forms_are, forms_pass, in_word}
 use Rattle.text_spec.proofs.WordsLemmas.{all_pass, weaker, split_joined, join_passes}

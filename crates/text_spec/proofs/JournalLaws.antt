@@ -1,5 +1,6 @@
 -- All lines of a journal: what a text tells is a journal, and each journal is told by its own text.
-use Rattle.text_spec.proofs.Names.{◌≡◌, ℕ, suc, ◌<◌, ◌≤◌, ◌==◌, List, [], ◌∷◌, ◌++◌, length, map, refl, sym, ap, subst, ◌∙◌, append_assoc, arith, Option, Some, None, Result, Ok, Err, ⊤, AllByRecursion, flat_map, join_with_byte, eqb-true, append-nil, length-append, nil_from_length, join_with_byte-slice_split, length-slice_split, Parts, Turn, Past, fault_of, next, start, line_forms, told_by, AreFaultless, IsHeld, IsJournal, BadLine, at_line, past_with, after_line, journal_in, Entry, Loss, Told, Line, begins, enters, loses, fields_of, line_for, turn_told, lines_told, space, line_feed, pieces_of, words_of, line_of, text_of}
+use Rattle.std.specs.Prelude.{◌≡◌, ◌<◌, ◌≤◌, ◌==◌, ◌∷◌, ◌++◌}
+use Rattle.text_spec.proofs.Names.{ℕ, suc, List, [], length, map, refl, sym, ap, subst, ◌∙◌, append_assoc, arith, Option, Some, None, Result, Ok, Err, ⊤, AllByRecursion, flat_map, join_with_byte, eqb-true, append-nil, length-append, nil_from_length, join_with_byte-slice_split, length-slice_split, Parts, Turn, Past, fault_of, next, start, line_forms, told_by, AreFaultless, IsHeld, IsJournal, BadLine, at_line, past_with, after_line, journal_in, Entry, Loss, Told, Line, begins, enters, loses, fields_of, line_for, turn_told, lines_told, space, line_feed, pieces_of, words_of, line_of, text_of}
 use Rattle.ids_config.specs.Steps.{◌>>◌, asks}
 use Rattle.ids_config.proofs.StepLemmas.{both_ok, asked}
 use Rattle.text_spec.specs.JournalReading.{after_pieces, ◌>>=◌}

@@ -1,6 +1,7 @@
 -- Words and lines: the tests that their bytes pass, and the readings of a line and of a text against
 -- their texts.
-use Rattle.text_spec.proofs.Names.{◌≡◌, ℕ, ◌==◌, Bool, true, false, List, [], ◌∷◌, ◌++◌, refl, sym, ap, ◌∙◌, All, list_all, AllByRecursion, slice_split, join_with_byte, and_from, eq-eqb, ne_eqb, both_ways, list_all-append, slice_split_none, slice_split_at, line_feed, text_of}
+use Rattle.std.specs.Prelude.{◌≡◌, ◌==◌, ◌∷◌, ◌++◌}
+use Rattle.text_spec.proofs.Names.{ℕ, Bool, true, false, List, [], refl, sym, ap, ◌∙◌, All, list_all, AllByRecursion, slice_split, join_with_byte, and_from, eq-eqb, ne_eqb, both_ways, list_all-append, slice_split_none, slice_split_at, line_feed, text_of}
 use Rattle.std.proofs.lemmas.List.Sums.{AllPass-from_list_all, list_all-from_AllPass}
 
 -- all bytes of each of these words pass a test

@@ -1,6 +1,7 @@
 -- Decoded messages, a line for each.
 -- Source: the text formats of this project (docs/FORMATS.md).
-use Rattle.text_spec.specs.Below.{ℕ, List, [], ◌∷◌, ◌++◌, map, codes, decimal, Option, Some, None, encode_lower}
+use Rattle.std.specs.Prelude.{◌∷◌, ◌++◌}
+use Rattle.text_spec.specs.Below.{ℕ, List, [], map, codes, decimal, Option, Some, None, encode_lower}
 use Rattle.ids_frame.specs.declared.context.Form.{Form}
 use Rattle.ids_frame.specs.declared.context.Form.TheVariants.{Short, Long}
 use Rattle.ids_frame.specs.Context.{ContextPart}

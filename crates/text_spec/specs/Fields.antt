@@ -1,7 +1,8 @@
 -- Lines as lists of fields: what a field may hold, the word for each value, how a word is read, and
 -- how the words of a line are read as its fields, one after another.
 -- Source: the text formats of this project (docs/FORMATS.md).
-use Rattle.text_spec.specs.Below.{◌≡◌, ℕ, ◌<◌, ◌^◌, ◌≤◌, ◌⊎◌, true, bytes_eq, List, [], ◌∷◌, length, Option, Some, None, option_map, IfSome, ⊤, decimal, if◌then◌else◌, IsBytes, encode_lower, Mode, Stamp}
+use Rattle.std.specs.Prelude.{◌≡◌, ◌<◌, ◌^◌, ◌≤◌, ◌⊎◌, ◌∷◌, if◌then◌else◌}
+use Rattle.text_spec.specs.Below.{ℕ, true, bytes_eq, List, [], length, Option, Some, None, option_map, IfSome, ⊤, decimal, IsBytes, encode_lower, Mode, Stamp}
 use Rattle.text_spec.specs.Hexadecimal.{some_hex}
 use Rattle.text_spec.specs.Maybe.{◌>>=◌, first_of, ended, or_else}
 use Rattle.text_spec.specs.Modes.{mode_name, mode_named}

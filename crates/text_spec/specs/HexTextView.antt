@@ -1,5 +1,6 @@
 -- What contracts see of a `HexText`, and what holds of its digits.
-use Rattle.text_spec.specs.Below.{◌≡◌, ℕ, ◌≤◌, List, length, Some}
+use Rattle.std.specs.Prelude.{◌≡◌, ◌≤◌}
+use Rattle.text_spec.specs.Below.{ℕ, List, length, Some}
 use Rattle.text_spec.specs.declared.hex_text.HexText.TheInside.{Inside}
 use Rattle.text_spec.specs.Hexadecimal.{hex_in, bytes_of}
 

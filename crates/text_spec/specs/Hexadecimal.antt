@@ -1,7 +1,8 @@
 -- Bytes of a text, in lower-case hexadecimal: two digits each. The text of bytes is `encode_lower` of
 -- the crate hex.
 -- Source: the text formats of this project.
-use Rattle.text_spec.specs.Below.{◌≡◌, ℕ, ◌/◌, ◌%◌, ◌||◌, slice_index, nat_le, Bool, List, [], ◌∷◌, length, Option, Some, None, option_and_then, unwrap_or, if◌then◌else◌, is_in_range, list_all, decode_of, lower_digits}
+use Rattle.std.specs.Prelude.{◌≡◌, ◌/◌, ◌%◌, ◌||◌, ◌∷◌, if◌then◌else◌}
+use Rattle.text_spec.specs.Below.{ℕ, slice_index, nat_le, Bool, List, [], length, Option, Some, None, option_and_then, unwrap_or, is_in_range, list_all, decode_of, lower_digits}
 use Rattle.std.specs.Result.{result_ok}
 use Rattle.text_spec.specs.Maybe.{◌>>=◌}
 

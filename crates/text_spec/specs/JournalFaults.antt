@@ -1,7 +1,8 @@
 -- The faults of a journal's line, 2 to 7, behind what the lines before it tell. Fault 1 is a line that
 -- has no form.
 -- Source: the text formats of this project (docs/FORMATS.md).
-use Rattle.text_spec.specs.Below.{ℕ, ◌+◌, ◌*◌, ◌^◌, ◌==◌, ◌&&◌, not, nat_lt, nat_le, Bool, true, List, [], ◌∷◌, ◌++◌, length, replicate, slice_index, slice_set, Result, ⊤, list_all, list_any, Parts, is_sensor, ◌>>◌, asks, Turn, begun, with_entry, entries_of}
+use Rattle.std.specs.Prelude.{◌+◌, ◌*◌, ◌^◌, ◌==◌, ◌&&◌, ◌∷◌, ◌++◌}
+use Rattle.text_spec.specs.Below.{ℕ, not, nat_lt, nat_le, Bool, true, List, [], length, replicate, slice_index, slice_set, Result, ⊤, list_all, list_any, Parts, is_sensor, ◌>>◌, asks, Turn, begun, with_entry, entries_of}
 use Rattle.text_spec.specs.JournalText.{Carried, Absent, Kept, Missing, Act, Report, State, SetMode, Entry, TurnHead, Loss, Told, Line, begins, enters, loses}
 
 -- ---- fault 3: ranges

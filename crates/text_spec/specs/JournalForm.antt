@@ -1,7 +1,8 @@
 -- The forms of a journal's lines: what the words of a line tell, none where they have no form. A number
 -- of any length is one; whether it is in its range is not asked here.
 -- Source: the text formats of this project (docs/FORMATS.md).
-use Rattle.text_spec.specs.Below.{ℕ, List, [], ◌∷◌, Option, codes}
+use Rattle.std.specs.Prelude.{◌∷◌}
+use Rattle.text_spec.specs.Below.{ℕ, List, [], Option, codes}
 use Rattle.ids_types.specs.declared.names.EventIndex.{EventIndex}
 use Rattle.text_spec.specs.Contexts.{a_context}
 use Rattle.text_spec.specs.Fields.{Form, the, a_number, a_stamp, a_mode, told_in_one}

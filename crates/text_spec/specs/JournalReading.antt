@@ -1,6 +1,7 @@
 -- Which journal a text is, and where it has a fault: the first bad line and its first fault.
 -- Source: the text formats of this project (docs/FORMATS.md).
-use Rattle.text_spec.specs.Below.{◌≡◌, ◌≢◌, ℕ, suc, ◌<◌, ◌≤◌, ◌==◌, List, [], ◌∷◌, length, Option, Some, None, Result, Ok, Err, ⊤, AllByRecursion, Parts, ◌>>◌, asks}
+use Rattle.std.specs.Prelude.{◌≡◌, ◌≢◌, ◌<◌, ◌≤◌, ◌==◌, ◌∷◌}
+use Rattle.text_spec.specs.Below.{ℕ, suc, List, [], length, Option, Some, None, Result, Ok, Err, ⊤, AllByRecursion, Parts, ◌>>◌, asks}
 use Rattle.text_spec.specs.Fields.{AreHeld}
 use Rattle.text_spec.specs.JournalFaults.{Past, fault_of, next, start, pair_of}
 use Rattle.text_spec.specs.JournalForm.{told_by}

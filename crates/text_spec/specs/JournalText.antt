@@ -1,6 +1,7 @@
 -- The journal: the text of a history and its losses, a line for each turn, each entry and each loss.
 -- Source: the text formats of this project (docs/FORMATS.md).
-use Rattle.text_spec.specs.Below.{ℕ, List, [], ◌∷◌, ◌++◌, map, codes, flat_map, Turn}
+use Rattle.std.specs.Prelude.{◌∷◌, ◌++◌}
+use Rattle.text_spec.specs.Below.{ℕ, List, [], map, codes, flat_map, Turn}
 pub use Rattle.ids_types.specs.declared.entry.Act.TheVariants.{Report, State, SetMode}
 pub use Rattle.ids_types.specs.declared.entry.Act.{Act}
 pub use Rattle.ids_types.specs.declared.entry.Carried.TheVariants.{Absent, Kept, Missing}

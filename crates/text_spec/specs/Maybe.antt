@@ -1,5 +1,6 @@
 -- Steps that may find nothing.
-use Rattle.text_spec.specs.Below.{List, [], ◌∷◌, Option, Some, None}
+use Rattle.std.specs.Prelude.{◌∷◌}
+use Rattle.text_spec.specs.Below.{List, [], Option, Some, None}
 
 -- the second step, where the first found something
 infixl 10 ◌>>=◌

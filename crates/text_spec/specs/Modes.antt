@@ -1,6 +1,7 @@
 -- The names of the reporting modes.
 -- Source: the text formats of this project (docs/FORMATS.md).
-use Rattle.text_spec.specs.Below.{ℕ, List, [], ◌∷◌, bytes_eq, codes, Option, Some, None, if◌then◌else◌, Mode}
+use Rattle.std.specs.Prelude.{◌∷◌, if◌then◌else◌}
+use Rattle.text_spec.specs.Below.{ℕ, List, [], bytes_eq, codes, Option, Some, None, Mode}
 use Rattle.ids_types.specs.declared.mode.Mode.TheVariants.{Off, Brief, Detailed, BriefBypassing, DetailedBypassing}
 
 -- the name of a mode

@@ -1,7 +1,8 @@
 -- Numbers of a text, in decimal: `0`, or a digit 1 to 9 followed by digits. The text of a number n is
 -- `decimal n`.
 -- Source: the text formats of this project.
-use Rattle.text_spec.specs.Below.{ℕ, ◌-◌, ◌^◌, ◌==◌, ◌&&◌, ◌||◌, min, not, Bool, false, List, [], ◌∷◌, length, Option, Some, None, if◌then◌else◌, list_all}
+use Rattle.std.specs.Prelude.{◌-◌, ◌^◌, ◌==◌, ◌&&◌, ◌||◌, ◌∷◌, if◌then◌else◌}
+use Rattle.text_spec.specs.Below.{ℕ, min, not, Bool, false, List, [], length, Option, Some, None, list_all}
 use Rattle.std.specs.Char.{is_ascii_digit}
 use Rattle.std.specs.Str.Parse.{digits_value}
 

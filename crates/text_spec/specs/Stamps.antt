@@ -1,6 +1,7 @@
 -- The optional timestamp of a text: `-`, or 16 lower-case hexadecimal digits, the high ones first.
 -- Source: the text formats of this project.
-use Rattle.text_spec.specs.Below.{ℕ, ◌==◌, List, length, bytes_eq, Option, Some, None, option_and_then, if◌then◌else◌, w64, to_be_bytes, from_be_bytes, encode_lower, Stamp}
+use Rattle.std.specs.Prelude.{◌==◌, if◌then◌else◌}
+use Rattle.text_spec.specs.Below.{ℕ, List, length, bytes_eq, Option, Some, None, option_and_then, w64, to_be_bytes, from_be_bytes, encode_lower, Stamp}
 use Rattle.text_spec.specs.Hexadecimal.{hex_in}
 use Rattle.text_spec.specs.Words.{absent}
 

@@ -1,6 +1,7 @@
 -- Lines of a text, each ended by a line feed, and the words of a line, one space between each two.
 -- Source: the text formats of this project.
-use Rattle.text_spec.specs.Below.{ℕ, ◌==◌, List, [], ◌∷◌, ◌++◌, codes, slice_split, join_with_byte}
+use Rattle.std.specs.Prelude.{◌==◌, ◌∷◌, ◌++◌}
+use Rattle.text_spec.specs.Below.{ℕ, List, [], codes, slice_split, join_with_byte}
 
 -- the character between two words
 abbrev pub space : ℕ
