@@ -1,6 +1,6 @@
 -- The context of a message: some bytes, in a short or a long form.
 -- After the AUTOSAR PRS Intrusion Detection System; the limits are those of
--- "IDS message profile 1", which is this project's own.
+-- "IDS message profile 1" and "2", which are this project's own.
 use Rattle.std.specs.Prelude.{ℕ, ◌-◌, ◌^◌, ◌≤◌, List, length, nat_le, if◌then◌else◌}
 use Rattle.ids_frame.specs.Bytes.{AreBytes}
 use Rattle.ids_frame.specs.declared.context.Form.{Form}

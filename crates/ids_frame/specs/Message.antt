@@ -1,6 +1,6 @@
 -- The parts of a message, and what they may be.
 -- After the event message of the AUTOSAR PRS Intrusion Detection System; the limits are those of
--- "IDS message profile 1", which is this project's own.
+-- "IDS message profile 1" and "2", which are this project's own.
 use Rattle.std.specs.Prelude.{ℕ, ◌^◌, ◌<◌, ◌≤◌, List, length, Option, IfSome}
 use Rattle.ids_types.specs.declared.names.Stamp.{Stamp}
 use Rattle.ids_frame.specs.Bytes.{AreBytes}
@@ -8,13 +8,14 @@ use Rattle.ids_frame.specs.Context.{ContextPart, FitsContext}
 
 -- the latest version of the layout
 abbrev pub last_version : ℕ
-last_version = 1
+last_version = 2
 
 -- there is a layout of this version
 abbrev pub IsKnown : ℕ → Type 0
 IsKnown version = (1 ≤ version) × (version ≤ last_version)
 
--- a message without where its parts lie in memory
+-- a message without where its parts lie in memory; its reserved byte is the version of the context
+-- data where the layout is the second
 pub record MessageParts : Type 0 where
   pub version : ℕ
   pub instance : ℕ

@@ -1,5 +1,6 @@
--- The layout of a message: "IDS message profile 1", which is this project's own,
--- after the event message of the AUTOSAR PRS Intrusion Detection System.
+-- The layout of a message: "IDS message profile 1" and "2", which are this project's own, after the
+-- event message of the AUTOSAR PRS Intrusion Detection System. The two differ in the version that the
+-- first byte says, and in what the last byte of the event part is called.
 use Rattle.std.specs.Prelude.{ℕ, ◌+◌, ◌*◌, ◌^◌, List, [], ◌∷◌, ◌++◌, length, Option, Some, None}
 use Rattle.std.specs.Int.{w16, w32, w64, to_be_bytes}
 use Rattle.ids_types.specs.declared.names.Stamp.{Stamp}

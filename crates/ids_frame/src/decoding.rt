@@ -1,14 +1,14 @@
 //! The message that bytes begin with.
-ghost use Rattle.std.specs.Prelude.{◌≡◌, ℕ, ◌/◌, ◌↔◌, ◌++◌, List, IsTrue};
+ghost use Rattle.std.specs.Prelude.{◌≡◌, ℕ, ◌/◌, ◌↔◌, ◌++◌, List};
 ghost use Rattle.std.specs.Result.{result_map_both};
 ghost use Rattle.ids_frame.specs.Bytes.{AreBytes};
 ghost use Rattle.ids_frame.specs.Message.{MessageParts, IsKnown, FitsMessage};
 ghost use Rattle.ids_frame.specs.Spelling.{spelling};
-ghost use Rattle.ids_frame.specs.Reading.{Gives, has_layout, parts_at, Begun, message_at};
+ghost use Rattle.ids_frame.specs.Reading.{Gives, parts_at, Begun, message_at};
 ghost use Rattle.ids_frame.specs.Decoding.{Begins, decoded};
 
 use crate::fault::FrameFault;
-use crate::message::Message;
+use crate::message::{Message, is_known};
 use crate::reading::{context_of, signature_of, stamp_of, u8_of, u16_of};
 
 /// The message whose spelling the bytes begin with, and how many bytes that spelling has. What
@@ -72,14 +72,15 @@ fn parts_of(first: u8, bytes: &[u8]) -> Option<(Message<'_>, &[u8])>
     let (signature, rest) = signature_of(first, rest)?;
     let (instance, sensor) = (place / 64, (place % 64) as u8);
     let message = Message::make(
-        instance, sensor, event, count, reserved, stamp, context, signature,
+        first / 16,
+        instance,
+        sensor,
+        event,
+        count,
+        reserved,
+        stamp,
+        context,
+        signature,
     );
     Some((message.unwrap(), rest))
-}
-
-fn is_known(version: u8) -> bool
-    ensures value { result ≡ has_layout version }
-    ensures known { IsTrue result ↔ IsKnown version }
-{
-    version == 1
 }

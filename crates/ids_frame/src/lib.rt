@@ -3,8 +3,8 @@
 //!
 //! Layer 6, messages and memory. Stands on `ids_types`. The chain makes messages and `encode`
 //! writes them; `decode` reads the message at the front of bytes, and `Messages` those of a whole
-//! file. The layout is this project's own, "IDS message profile 1", after the event message of the
-//! AUTOSAR PRS Intrusion Detection System; `specs/Spelling.antt` states it, by the value.
+//! file. The layouts are this project's own, "IDS message profile 1" and "2", after the event message
+//! of the AUTOSAR PRS Intrusion Detection System; `specs/Spelling.antt` states them, by the value.
 //! `specs/Reading.antt` goes by the bytes, and the laws `what_bytes_begin_with` and
 //! `what_a_file_holds` tie the two. Contracts see a message as its parts, a context as its form and
 //! bytes, and `Messages` as the list of those to be taken.

@@ -2,7 +2,8 @@
 ghost use Rattle.std.specs.Prelude.{◌≡◌, ◌≤◌, ◌↔◌, length, IsTrue, IsSome, IfSome, option_copied};
 ghost use Rattle.ids_frame.specs.Bytes.{AreBytes};
 ghost use Rattle.ids_frame.specs.Context.{FitsContext};
-ghost use Rattle.ids_frame.specs.Message.{HasRoom, FitsMessage};
+ghost use Rattle.ids_frame.specs.Message.{IsKnown, HasRoom, FitsMessage};
+ghost use Rattle.ids_frame.specs.Reading.{has_layout};
 
 use crate::context::Context;
 use ids_types::Stamp;
@@ -36,9 +37,10 @@ impl<'a> Model for Message<'a> {
 }
 
 impl<'a> Message<'a> {
-    /// A message of version 1. `instance` is 0 to 1,023 and `sensor` 0 to 63, or else the answer is
-    /// `None`, as it is for a signature of more than 65,535 bytes.
+    /// A message. `version` is 1 or 2, `instance` 0 to 1,023 and `sensor` 0 to 63, or else the answer is
+    /// `None`, as it is for a signature of more than 65,535 bytes. `reserved` is any byte.
     pub fn make(
+        version: u8,
         instance: u16,
         sensor: u8,
         event: u16,
@@ -48,9 +50,10 @@ impl<'a> Message<'a> {
         context: Option<Context<'a>>,
         signature: Option<&'a [u8]>,
     ) -> Option<Message<'a>>
-        ensures room { IsSome result ↔ HasRoom instance sensor (option_copied signature.entry) }
+        ensures room { IsSome result
+            ↔ IsKnown version × HasRoom instance sensor (option_copied signature.entry) }
         ensures made { IfSome result (λ m. m ≡ record {
-          version = 1;
+          version = version;
           instance = instance;
           sensor = sensor;
           event = event;
@@ -62,11 +65,11 @@ impl<'a> Message<'a> {
         }) }
         ensures fits { IfSome result FitsMessage }
     {
-        if instance > 1023 || sensor > 63 || !has_room(&signature) {
+        if !is_known(version) || instance > 1023 || sensor > 63 || !has_room(&signature) {
             return None;
         }
         Some(Message {
-            version: 1,
+            version,
             instance,
             sensor,
             event,
@@ -78,7 +81,7 @@ impl<'a> Message<'a> {
         })
     }
 
-    /// The version of the layout that spells the message.
+    /// The version of the layout that spells the message, 1 or 2.
     pub fn version(&self) -> u8
         ensures value { result ≡ self.now.version }
         ensures fits { FitsMessage self.now }
@@ -116,7 +119,8 @@ impl<'a> Message<'a> {
         self.count
     }
 
-    /// The last byte of the event part, which the manager sends as 0.
+    /// The last byte of the event part: the reserved byte under version 1, which the manager sends as
+    /// 0, and the version of the context data under version 2.
     pub fn reserved(&self) -> u8
         ensures { result ≡ self.now.reserved }
     {
@@ -148,6 +152,14 @@ impl<'a> Message<'a> {
     {
         self.signature
     }
+}
+
+/// There is a layout of this version.
+pub(crate) fn is_known(version: u8) -> bool
+    ensures value { result ≡ has_layout version }
+    ensures known { IsTrue result ↔ IsKnown version }
+{
+    version == 1 || version == 2
 }
 
 fn has_room(signature: &Option<&[u8]>) -> bool
