@@ -1,6 +1,6 @@
 -- Decoded messages, a line for each.
 -- Source: the text formats of this project (docs/FORMATS.md).
-use Rattle.std.specs.Prelude.{◌∷◌, ◌++◌}
+use Rattle.std.specs.Prelude.{◌∷◌, ◌++◌, ◌==◌, if◌then◌else◌}
 use Rattle.text_spec.specs.Below.{ℕ, List, [], map, codes, decimal, Option, Some, None, encode_lower}
 use Rattle.ids_frame.specs.declared.context.Form.{Form}
 use Rattle.ids_frame.specs.declared.context.Form.TheVariants.{Short, Long}
@@ -24,10 +24,15 @@ abbrev pub shown_signature : Option (List ℕ) → List ℕ
 shown_signature None = absent
 shown_signature (Some bytes) = codes "=" ++ encode_lower bytes
 
--- the words of the line `M INSTANCE SENSOR EVENT COUNT RESERVED STAMP CONTEXT SIGNATURE`
+-- the first word of the line of a message: it tells the two layouts apart
+abbrev pub layout_word : ℕ → List ℕ
+layout_word version = if version == 2 then codes "M2" else codes "M"
+
+-- the words of the line `M INSTANCE SENSOR EVENT COUNT RESERVED STAMP CONTEXT SIGNATURE`, where `M2` is in
+-- place of `M` for a message of the second layout
 abbrev pub message_words : MessageParts → List (List ℕ)
 message_words m =
-    codes "M" ∷ decimal m.instance ∷ decimal m.sensor ∷ decimal m.event ∷ decimal m.count
+    layout_word m.version ∷ decimal m.instance ∷ decimal m.sensor ∷ decimal m.event ∷ decimal m.count
     ∷ decimal m.reserved ∷ stamp_text m.stamp ∷ shown_context m.context
     ∷ shown_signature m.signature ∷ []
 

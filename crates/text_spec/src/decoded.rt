@@ -1,7 +1,7 @@
 //! Decoded messages as lines.
 
 ghost use Rattle.std.specs.Prelude.{◌≡◌, ◌+◌, ◌<◌, ◌≤◌, ◌++◌, ◌∷◌, [], OnOk, OnErr, option_copied, codes, decimal, length, IfSome, vec_len, vec_capacity, ◌^◌};
-ghost use Rattle.text_spec.specs.Names.{line_feed, space, message_line, form_letter, shown_context, shown_signature};
+ghost use Rattle.text_spec.specs.Names.{line_feed, space, message_line, form_letter, layout_word, shown_context, shown_signature};
 
 use crate::hexadecimal::put_hex;
 use crate::numbers::{digits_len, put_field};
@@ -9,7 +9,8 @@ use crate::stamps::{put_stamp, stamp_len};
 use ids_frame::{Context, Form, Message};
 use ids_types::NoMemory;
 
-/// Appends the line of a message: `M INSTANCE SENSOR EVENT COUNT RESERVED STAMP CONTEXT SIGNATURE`.
+/// Appends the line of a message: `M INSTANCE SENSOR EVENT COUNT RESERVED STAMP CONTEXT SIGNATURE`, with
+/// `M2` in place of `M` for a message of version 2.
 #[tactic(auto, using(crate::proofs::DecodedLemmas::length_line))]
 pub fn push_message(out: &mut Vec<u8>, message: &Message<'_>) -> Result<(), NoMemory>
     ensures ok { OnOk result (out.new.items ≡ out.old.items ++ (message_line message.now ++ line_feed ∷ [])) }
@@ -18,7 +19,7 @@ pub fn push_message(out: &mut Vec<u8>, message: &Message<'_>) -> Result<(), NoMe
         OnErr result (vec_capacity out.old < vec_len out.old + length line) }
 {
     out.reserve(line_len(message) + 1)?;
-    out.push_reserved(b'M');
+    put_layout(out, message.version());
     put_field(out, u64::from(message.instance()));
     put_field(out, u64::from(message.sensor()));
     put_field(out, u64::from(message.event()));
@@ -43,7 +44,8 @@ fn line_len(message: &Message<'_>) -> usize
         + digits_len(u64::from(message.sensor()));
     let event = digits_len(u64::from(message.event())) + digits_len(u64::from(message.count()));
     let parts = stamp_len(message.stamp()) + context_len(&message.context());
-    9 + source
+    8 + layout_len(message.version())
+        + source
         + event
         + digits_len(u64::from(message.reserved()))
         + parts
@@ -58,6 +60,26 @@ fn context_len(context: &Option<Context<'_>>) -> usize
     match context {
         Some(context) => 2 + 2 * context.bytes().len(),
         None => 1,
+    }
+}
+
+fn layout_len(version: u8) -> usize
+    ensures value { result ≡ length (layout_word version) }
+    ensures small { result ≤ 2 }
+{
+    if version == 2 { 2 } else { 1 }
+}
+
+/// Writes the first word of a message's line.
+fn put_layout(out: &mut Vec<u8>, version: u8)
+    requires { vec_len out.old + length (layout_word version) ≤ vec_capacity out.old }
+    ensures items { out.new.items ≡ out.old.items ++ layout_word version }
+    ensures len { vec_len out.new ≡ vec_len out.old + length (layout_word version) }
+    ensures capacity { vec_capacity out.new ≡ vec_capacity out.old }
+{
+    out.push_reserved(b'M');
+    if version == 2 {
+        out.push_reserved(b'2');
     }
 }
 
