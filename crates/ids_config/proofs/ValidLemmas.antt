@@ -1,12 +1,12 @@
 -- A configuration without a fault of value is valid.
-use Rattle.std.proofs.Common.{◌≡◌, ◌^◌, ℕ, suc, List, [], ◌∷◌, Option, Some, None, IfSome, Ok, length}
+use Rattle.std.proofs.Common.{◌≡◌, ◌≤◌, ◌^◌, ℕ, suc, List, [], ◌∷◌, Option, Some, None, IfSome, Ok, length, arith}
 use Rattle.std.proofs.lemmas.Bool.{leb-true, ltb-true, and_parts}
 use Rattle.ids_types.specs.declared.class_spec.ClassSpec.{ClassSpec}
 use Rattle.ids_config.specs.declared.fault.ConfigPlace.TheVariants as places
 use Rattle.ids_config.specs.declared.parts.Aggregate.{Aggregate}
 use Rattle.ids_config.specs.declared.parts.Window.{Window}
 use Rattle.ids_config.specs.Parts.{Event, Parts}
-use Rattle.ids_config.specs.Steps.{capped}
+use Rattle.ids_config.specs.Steps.{in_range, capped}
 use Rattle.ids_config.specs.Valid.{IsInterval, IsWindow, AreClasses, IsEvent, AreInternal, IsValid}
 use Rattle.ids_config.specs.Values
 use Rattle.ids_config.proofs.StepLemmas.{both_ok, asks_ok, at_ok, in_range_ok, each_ok}
@@ -42,19 +42,31 @@ aggregate_ok : (aggregate : Option Aggregate)
 aggregate_ok None e = tt
 aggregate_ok (Some aggregate) e = in_range_ok 23 1 (2 ^ 62) aggregate.interval e
 
+-- a version without fault
+version_ok : (profile version : ℕ)
+    → in_range 26 0 (Values.most_version profile) version ≡ Ok tt
+    → (version ≤ 255) × (profile ≡ 1 → version ≡ 0)
+version_ok profile version e =
+    grind (arith, (in_range_ok 26 0 (Values.most_version profile) version e).most)
+
 -- an event without fault
-event_ok : (event : Event) → Values.event_value event ≡ Ok tt → IsEvent event
+event_ok : (profile : ℕ) (event : Event)
+    → Values.event_value profile event ≡ Ok tt → IsEvent profile event
 unfolding Values.event_value
-event_ok event e =
+event_ok profile event e =
     let (id, others) = both_ok _ _ _ e in
     let (sensor, others) = both_ok _ _ _ others in
+    let (version, others) = both_ok _ _ _ others in
     let (block, others) = both_ok _ _ _ others in
     let (nth, others) = both_ok _ _ _ others in
     let (aggregate, threshold) = both_ok _ _ _ others in
     let (few, states) = and_parts _ _ (asks_ok 22 _ block) in
+    let (most, no_version) = version_ok profile event.version version in
     record {
       id = (in_range_ok 20 0 65535 event.id id).most;
       sensor = (in_range_ok 21 0 63 event.sensor sensor).most;
+      version = most;
+      no_version = no_version;
       few_states = leb-true (length event.block) 16 few;
       states = states;
       nth = in_range_ok 23 1 65535 event.nth nth;
@@ -88,7 +100,8 @@ parts_ok config e =
     let (rate, others) = both_ok _ _ _ others in
     let (traffic, others) = both_ok _ _ _ others in
     let (events, internal) = both_ok _ _ _ others in
-    let (instance, numbers) = both_ok _ _ _ (at_ok places.Top _ numbers) in
+    let (profile, numbers) = both_ok _ _ _ (at_ok places.Top _ numbers) in
+    let (instance, numbers) = both_ok _ _ _ numbers in
     let (callers, numbers) = both_ok _ _ _ numbers in
     let (ring, numbers) = both_ok _ _ _ numbers in
     let (memory, state) = both_ok _ _ _ numbers in
@@ -96,6 +109,7 @@ parts_ok config e =
     let (count, events) = both_ok _ _ _ events in
     let (some, few) = and_parts _ _ (asks_ok 19 _ (at_ok places.Top _ count)) in
     record {
+      profile = in_range_ok 25 1 2 config.profile profile;
       instance = (in_range_ok 9 0 1023 config.instance instance).most;
       callers = in_range_ok 10 1 32 config.callers callers;
       ring = in_range_ok 11 1 1024 config.ring ring;
@@ -110,7 +124,7 @@ parts_ok config e =
         least = leb-true 1 (length config.events) some;
         most = leb-true (length config.events) 256 few;
       };
-      events = each_ok IsEvent _ 0 config.events
-          (λ i event found. event_ok event (at_ok (places.Event (capped i)) _ found)) events;
+      events = each_ok (IsEvent config.profile) _ 0 config.events
+          (λ i event found. event_ok config.profile event (at_ok (places.Event (capped i)) _ found)) events;
       internal = internal_ok config (at_ok places.Top _ internal);
     }

@@ -1,13 +1,13 @@
 -- What contracts see of `EventParts`.
 use Rattle.ids_config.specs.declared.parts.EventParts.TheInside.{Inside}
-use Rattle.ids_config.specs.Parts.{Event, first_version}
+use Rattle.ids_config.specs.Parts.{Event}
 
 -- the event that the fields hold
 abbrev pub event_of : Inside → Event
 event_of e = record {
   id = e.id;
   sensor = e.sensor;
-  version = first_version;
+  version = e.version;
   mode = e.mode;
   send = e.send;
   store = e.store;

@@ -42,20 +42,12 @@ pub record Parts : Type 0 where
   pub lost_contexts : Option ℕ
   pub limited : Option ℕ
 
--- the profile of a configuration of the first form
-abbrev pub first_profile : ℕ
-first_profile = 1
-
--- the version of each event of a configuration of the first form
-abbrev pub first_version : ℕ
-first_version = 0
-
 -- an event of this id by this sensor, and all else by default
 abbrev pub plain_event : ℕ → ℕ → Event
 plain_event id sensor = record {
   id = id;
   sensor = sensor;
-  version = first_version;
+  version = 0;
   mode = Detailed;
   send = true;
   store = false;

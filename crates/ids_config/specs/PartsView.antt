@@ -1,12 +1,12 @@
 -- What contracts see of `ConfigParts`.
 use Rattle.std.specs.Prelude.{map}
 use Rattle.ids_config.specs.declared.parts.ConfigParts.TheInside.{Inside}
-use Rattle.ids_config.specs.Parts.{Parts, class_of, first_profile}
+use Rattle.ids_config.specs.Parts.{Parts, class_of}
 
 -- the configuration that the fields hold
 abbrev pub parts_of : Inside → Parts
 parts_of c = record {
-  profile = first_profile;
+  profile = c.profile;
   instance = c.instance;
   callers = c.callers;
   ring = c.ring;

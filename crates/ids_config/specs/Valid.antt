@@ -4,7 +4,7 @@ use Rattle.std.specs.Prelude.{◌≡◌, ◌≤◌, ◌<◌, ℕ, ◌^◌, List,
 use Rattle.std.specs.List.{AllByRecursion}
 use Rattle.ids_types.specs.declared.class_spec.ClassSpec.{ClassSpec}
 use Rattle.ids_config.specs.declared.parts.Window.{Window}
-use Rattle.ids_config.specs.Parts.{Event, Parts, first_profile, first_version}
+use Rattle.ids_config.specs.Parts.{Event, Parts}
 use Rattle.ids_config.specs.Values.{rises, is_within, differ}
 
 -- the number is in the range
@@ -32,10 +32,12 @@ AreClasses above (class ∷ classes) =
     (above < class.size) × IsWithin 1 1024 class.size × IsWithin 1 1024 class.number
     × AreClasses class.size classes
 
--- the event is in range
-pub record IsEvent (event : Event) : Type 0 where
+-- the event is in range under this profile
+pub record IsEvent (profile : ℕ) (event : Event) : Type 0 where
   pub id : event.id ≤ 65535
   pub sensor : event.sensor ≤ 63
+  pub version : event.version ≤ 255
+  pub no_version : profile ≡ 1 → event.version ≡ 0
   pub few_states : length event.block ≤ 16
   pub states : rises 0 event.block ≡ true
   pub nth : IsWithin 1 65535 event.nth
@@ -53,6 +55,7 @@ pub record AreInternal (config : Parts) : Type 0 where
 
 -- the configuration is in range
 pub record IsValid (config : Parts) : Type 0 where
+  pub profile : IsWithin 1 2 config.profile
   pub instance : config.instance ≤ 1023
   pub callers : IsWithin 1 32 config.callers
   pub ring : IsWithin 1 1024 config.ring
@@ -63,14 +66,5 @@ pub record IsValid (config : Parts) : Type 0 where
   pub rate : IsLimit config.rate
   pub traffic : IsLimit config.traffic
   pub count : IsWithin 1 256 (length config.events)
-  pub events : AllByRecursion IsEvent config.events
+  pub events : AllByRecursion (IsEvent config.profile) config.events
   pub internal : AreInternal config
-
--- the event is one of the first form
-abbrev pub IsPlainEvent : Event → Type 0
-IsPlainEvent event = event.version ≡ first_version
-
--- the configuration is one of the first form
-pub record IsFirstForm (config : Parts) : Type 0 where
-  pub profile : config.profile ≡ first_profile
-  pub versions : AllByRecursion IsPlainEvent config.events

@@ -1,6 +1,6 @@
 -- The search for faults of value, in the order of the walk. The first fault found is the answer.
 -- Source: the configuration format of this project (docs/CONFIGURATION.md).
-use Rattle.std.specs.Prelude.{ℕ, suc, ◌^◌, ◌&&◌, ◌==◌, List, [], ◌∷◌, Bool, true, not, Option, Some, None, Result, Ok, length, nat_le, nat_lt, ⊤}
+use Rattle.std.specs.Prelude.{ℕ, suc, ◌^◌, ◌&&◌, ◌==◌, List, [], ◌∷◌, Bool, true, not, Option, Some, None, Result, Ok, if◌then◌else◌, length, nat_le, nat_lt, ⊤}
 use Rattle.ids_types.specs.declared.class_spec.ClassSpec.{ClassSpec}
 use Rattle.ids_config.specs.declared.fault.ConfigFault.{ConfigFault}
 use Rattle.ids_config.specs.declared.fault.ConfigPlace.TheVariants as places
@@ -26,7 +26,8 @@ limit_value limit = window_value 18 0 4294967295 limit
 -- the numbers at the top, before the classes
 abbrev pub numbers_value : Parts → Result ⊤ ℕ
 numbers_value config =
-    in_range 9 0 1023 config.instance
+    in_range 25 1 2 config.profile
+    >> in_range 9 0 1023 config.instance
     >> in_range 10 1 32 config.callers
     >> in_range 11 1 1024 config.ring
     >> in_range 12 0 256 config.memory
@@ -64,26 +65,31 @@ abbrev pub aggregate_value : Option Aggregate → Result ⊤ ℕ
 aggregate_value None = Ok tt
 aggregate_value (Some aggregate) = interval_value 23 aggregate.interval
 
--- an event
-unfoldable pub event_value : Event → Result ⊤ ℕ
-event_value event =
+-- the greatest version of an event under this profile
+abbrev pub most_version : ℕ → ℕ
+most_version profile = if profile == 1 then 0 else 255
+
+-- an event under this profile
+unfoldable pub event_value : ℕ → Event → Result ⊤ ℕ
+event_value profile event =
     in_range 20 0 65535 event.id
     >> in_range 21 0 63 event.sensor
+    >> in_range 26 0 (most_version profile) event.version
     >> block_value event.block
     >> in_range 23 1 65535 event.nth
     >> aggregate_value event.aggregate
     >> window_value 23 1 65535 event.threshold
 
--- events from this index on
-abbrev pub each_event : ℕ → List Event → Result ⊤ ConfigFault
-each_event index events =
-    each (λ i event. at (places.Event (capped i)) (event_value event)) index events
+-- events under this profile, from this index on
+abbrev pub each_event : ℕ → ℕ → List Event → Result ⊤ ConfigFault
+each_event profile index events =
+    each (λ i event. at (places.Event (capped i)) (event_value profile event)) index events
 
--- all events
-abbrev pub events_value : List Event → Result ⊤ ConfigFault
-events_value events =
+-- all events under this profile
+abbrev pub events_value : ℕ → List Event → Result ⊤ ConfigFault
+events_value profile events =
     at places.Top (asks 19 (nat_le 1 (length events) && nat_le (length events) 256))
-    >> each_event 0 events
+    >> each_event profile 0 events
 
 -- the index, where it is given, is that of one of so many events
 abbrev pub is_within : ℕ → Option ℕ → Bool
@@ -111,7 +117,7 @@ parts_value config =
     >> classes_value config.classes
     >> at places.Top (limit_value config.rate)
     >> at places.Top (limit_value config.traffic)
-    >> events_value config.events
+    >> events_value config.profile config.events
     >> at places.Top (internal_value config)
 
 -- the configuration, unless it has a fault of value

@@ -1,6 +1,6 @@
-ghost use Rattle.std.specs.Prelude.{◌≡◌, ◌<◌, Ok, OnOk, IfSome, option_map};
+ghost use Rattle.std.specs.Prelude.{◌≡◌, ◌<◌, Ok, IfSome, option_map};
 ghost use Rattle.ids_config.specs.Parts.{is_sensor, internal_of, index_of as index_name};
-ghost use Rattle.ids_config.specs.Valid.{IsFirstForm, IsValid};
+ghost use Rattle.ids_config.specs.Valid.{IsValid};
 ghost use Rattle.ids_config.specs.Values.{parts_value, checked};
 
 use crate::events::check_events;
@@ -30,7 +30,7 @@ impl Model for Config {
 }
 
 impl Config {
-    /// The configuration of these parts, or the first fault of value, 9 to 24. Takes no memory.
+    /// The configuration of these parts, or the first fault of value, 9 to 26. Takes no memory.
     pub fn check(parts: ConfigParts) -> Result<Config, ConfigFault>
         ensures { result ≡ checked parts }
     {
@@ -43,7 +43,6 @@ impl Config {
         ensures value { result.now ≡ self.now }
         ensures faultless { parts_value self.now ≡ Ok tt }
         ensures valid { IsValid self.now }
-        ensures form { IsFirstForm self.now }
     {
         &self.parts
     }
@@ -75,14 +74,13 @@ impl Config {
 
 #[tactic(auto, unfolding(crate::specs::Values::parts_value))]
 fn check_parts(parts: &ConfigParts) -> Result<(), ConfigFault>
-    ensures value { result ≡ parts_value parts.now }
-    ensures form { OnOk result (IsFirstForm parts.now) }
+    ensures { result ≡ parts_value parts.now }
 {
     at(ConfigPlace::Top, check_numbers(parts))?;
     check_classes(&parts.classes)?;
     at(ConfigPlace::Top, check_limit(parts.rate))?;
     at(ConfigPlace::Top, check_limit(parts.traffic))?;
-    check_events(&parts.events)?;
+    check_events(parts.profile, &parts.events)?;
     at(ConfigPlace::Top, check_internal(parts))
 }
 

@@ -1,43 +1,51 @@
 //! The faults of value in events.
 
-ghost use Rattle.std.specs.Prelude.{◌≡◌, ◌≤◌, OnOk};
-ghost use Rattle.std.specs.List.{AllByRecursion};
-ghost use Rattle.ids_config.specs.Valid.{IsPlainEvent};
-ghost use Rattle.ids_config.specs.Values.{event_value, events_value, block_value, aggregate_value, rises as rise};
+ghost use Rattle.std.specs.Prelude.{◌≡◌, ◌≤◌};
+ghost use Rattle.ids_config.specs.Values.{most_version, event_value, events_value, block_value, aggregate_value, rises as rise};
 
 use crate::fault::{ConfigFault, ConfigPlace};
 use crate::layout::{check_interval, check_window, in_range};
 use crate::limits::{
     MAX_BLOCK_STATES, MAX_EVENTS, MAX_ID, MAX_NTH, MAX_SENSOR, MAX_STATE, MAX_THRESHOLD,
+    MAX_VERSION,
 };
 use crate::parts::{Aggregate, EventParts};
 use crate::steps::{asks, at, capped};
 
-pub(crate) fn check_events(events: &[EventParts]) -> Result<(), ConfigFault>
-    ensures value { result ≡ events_value events.now }
-    ensures form { OnOk result (AllByRecursion IsPlainEvent events.now) }
+pub(crate) fn check_events(profile: u64, events: &[EventParts]) -> Result<(), ConfigFault>
+    ensures { result ≡ events_value profile events.now }
 {
     at(
         ConfigPlace::Top,
         asks(19, !events.is_empty() && events.len() <= MAX_EVENTS),
     )?;
     for (index, event) in events.iter().enumerate() {
-        at(ConfigPlace::Event(capped(index)), check_event(event))?;
+        at(
+            ConfigPlace::Event(capped(index)),
+            check_event(profile, event),
+        )?;
     }
     Ok(())
 }
 
 #[tactic(auto, unfolding(crate::specs::Values::event_value))]
-fn check_event(event: &EventParts) -> Result<(), u8>
-    ensures value { result ≡ event_value event.now }
-    ensures form { IsPlainEvent event.now }
+fn check_event(profile: u64, event: &EventParts) -> Result<(), u8>
+    ensures { result ≡ event_value profile event.now }
 {
     in_range(20, 0, MAX_ID, event.id)?;
     in_range(21, 0, MAX_SENSOR, event.sensor)?;
+    in_range(26, 0, max_version(profile), event.version)?;
     check_block(&event.block)?;
     in_range(23, 1, MAX_NTH, event.nth)?;
     check_aggregate(event.aggregate)?;
     check_window(23, 1, MAX_THRESHOLD, event.threshold)
+}
+
+/// The greatest version of an event under the profile.
+fn max_version(profile: u64) -> u64
+    ensures { result ≡ most_version profile }
+{
+    if profile == 1 { 0 } else { MAX_VERSION }
 }
 
 /// Blocking states.

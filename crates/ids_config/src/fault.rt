@@ -12,7 +12,7 @@ pub enum ConfigPlace {
 /// Why data are no configuration.
 #[derive(Clone, Copy, Debug, PartialEq, Eq)]
 pub struct ConfigFault {
-    /// 1 to 24; docs/CONFIGURATION.md lists them.
+    /// 1 to 26; docs/CONFIGURATION.md lists them.
     pub number: u8,
     pub place: ConfigPlace,
 }

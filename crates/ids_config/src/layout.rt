@@ -8,7 +8,7 @@ ghost use Rattle.ids_config.specs.Values.{numbers_value, class_value, classes_va
 use crate::fault::{ConfigFault, ConfigPlace};
 use crate::limits::{
     MAX_CALLERS, MAX_CLASS_NUMBER, MAX_CLASS_SIZE, MAX_CLASSES, MAX_INSTANCE, MAX_INTERVAL,
-    MAX_LIMIT, MAX_MEMORY, MAX_RING, MAX_STATE,
+    MAX_LIMIT, MAX_MEMORY, MAX_PROFILE, MAX_RING, MAX_STATE,
 };
 use crate::parts::{ConfigParts, Window};
 use crate::steps::{asks, at, capped};
@@ -53,6 +53,7 @@ pub(crate) fn check_limit(limit: Option<Window>) -> Result<(), u8>
 pub(crate) fn check_numbers(parts: &ConfigParts) -> Result<(), u8>
     ensures { result ≡ numbers_value parts.now }
 {
+    in_range(25, 1, MAX_PROFILE, parts.profile)?;
     in_range(9, 0, MAX_INSTANCE, parts.instance)?;
     in_range(10, 1, MAX_CALLERS, parts.callers)?;
     in_range(11, 1, MAX_RING, parts.ring)?;

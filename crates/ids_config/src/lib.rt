@@ -2,10 +2,9 @@
 //!
 //! Layer 3, configuration. Over `ids_types`; `config_json` reads and prints it, and the filters, the
 //! buffers and the chain take a `Config` and never test again what `Config::check` has tested.
-//! Contracts see the parts as plain data (`specs/Parts.antt`): each list as a list, with the profile
-//! and the versions of context data that a message of the first form has. `specs/Values.antt` has the
-//! faults of value in the order in which they are sought, `specs/Valid.antt` the ranges that a valid
-//! configuration keeps.
+//! Contracts see the parts as plain data, each list as a list (`specs/Parts.antt`). `specs/Values.antt`
+//! has the faults of value in the order in which they are sought, `specs/Valid.antt` the ranges that a
+//! valid configuration keeps.
 #![tactic(auto)]
 
 mod config;

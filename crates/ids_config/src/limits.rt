@@ -1,5 +1,7 @@
 //! The ranges of a configuration's numbers. All others begin at 0.
 
+pub(crate) const MAX_PROFILE: u64 = 2;
+
 pub(crate) const MAX_INSTANCE: u64 = 1023;
 
 pub(crate) const MAX_CALLERS: u64 = 32;
@@ -25,6 +27,8 @@ pub const MAX_EVENTS: usize = 256;
 pub(crate) const MAX_ID: u64 = 65_535;
 
 pub(crate) const MAX_SENSOR: u64 = 63;
+
+pub(crate) const MAX_VERSION: u64 = 255;
 
 pub(crate) const MAX_BLOCK_STATES: usize = 16;
 

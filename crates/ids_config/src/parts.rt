@@ -27,6 +27,8 @@ pub struct Aggregate {
 pub struct EventParts {
     pub id: u64,
     pub sensor: u64,
+    /// The version of its context data, 0 where the profile is 1.
+    pub version: u64,
     pub mode: Mode,
     /// Qualified events are sent to the reporter.
     pub send: bool,
@@ -53,6 +55,8 @@ impl Model for EventParts {
 /// The parts of a configuration.
 #[derive(Debug, Drop)]
 pub struct ConfigParts {
+    /// The version of the format of messages.
+    pub profile: u64,
     pub instance: u64,
     /// How many callers report.
     pub callers: u64,
