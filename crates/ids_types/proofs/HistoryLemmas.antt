@@ -145,7 +145,7 @@ turns_extended all entry (r ∷ s ∷ rows) (suc last) row count in_range is at_
     (turns_extended all entry (s ∷ rows) last row (omega arith) in_range.1 is at_end)
 
 -- the entries of turns with one entry more
-entries_of-with_entry : (turns : List Turn) (entry : Entry (List ℕ)) → 0 < length turns
+pub entries_of-with_entry : (turns : List Turn) (entry : Entry (List ℕ)) → 0 < length turns
     → entries_of (with_entry turns entry) ≡ entries_of turns ++ entry ∷ []
 entries_of-with_entry [] entry some = absurd (omega arith)
 entries_of-with_entry (turn ∷ []) entry some = rw (append-nil (turn.entries ++ entry ∷ []), append-nil turn.entries) refl

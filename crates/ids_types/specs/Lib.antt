@@ -1,5 +1,6 @@
 pub mod Carries
 pub mod Names
+pub mod Output
 pub mod Plain
 pub mod Rows
 pub mod Turns

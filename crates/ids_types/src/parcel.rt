@@ -1,7 +1,7 @@
 ghost use Rattle.std.specs.Prelude.{◌≡◌, ℕ, List};
 
-/// A holder of context bytes: a buffer of the manager's, or bytes that somebody lends.
-pub trait Parcel {
+/// A holder of context bytes: a buffer of the manager's, or bytes that somebody lends. It may be let go.
+pub trait Parcel: Drop {
     /// The bytes that it holds.
     ghost held: { Self → List ℕ };
 

@@ -1,0 +1,102 @@
+ghost use Rattle.std.specs.Prelude.{◌≡◌, ◌<◌, ◌≤◌, ◌-◌, ◌^◌, length, IfOk};
+ghost use Rattle.ids_types.specs.Plain.{plain_entry, kept_bytes};
+ghost use Rattle.ids_types.specs.Turns.{HasRoom};
+ghost use Rattle.ids_types.specs.Output.{empty_output, has_begun, has_logged, has_sent};
+
+use crate::entry::{Entry, TurnHead};
+use crate::history::History;
+use crate::memory::NoMemory;
+use crate::parcel::Plain;
+use crate::placing::put_bytes;
+use std::alloc::Global;
+use std::marker::Model;
+
+/// What one turn of the main function gives: the log of what it took, and the messages that it sent.
+///
+/// All memory is taken when it is made, and serves one turn after another.
+#[derive(Debug, Drop)]
+pub struct TurnOut {
+    log: History,
+    sent: Vec<u8>,
+    messages: u32,
+    sent_left: u64,
+}
+
+impl Model for TurnOut {
+    ghost use Rattle.ids_types.specs.Output.{Output};
+
+    ghost Value = { Output };
+
+    ghost use Rattle.ids_types.specs.Output.{output_of, IsSoundOutput};
+
+    ghost view = { output_of };
+
+    ghost invariant = { IsSoundOutput };
+}
+
+impl TurnOut {
+    /// An empty one with room for so many entries, bytes of context and bytes of messages.
+    pub fn make(alloc: Global, entries: u64, bytes: u64, sent: u64) -> Result<TurnOut, NoMemory>
+        ensures { IfOk result (λ out. out ≡ empty_output entries bytes sent) }
+    {
+        Ok(TurnOut {
+            log: History::make(alloc, 1, entries, bytes)?,
+            sent: Vec::with_capacity(alloc, sent as usize)?,
+            messages: 0,
+            sent_left: sent,
+        })
+    }
+
+    /// The turn with its entries, once it has begun.
+    pub fn log(&self) -> &History
+        ensures { result.now ≡ self.now.log }
+    {
+        &self.log
+    }
+
+    /// The messages that were sent, one behind the other.
+    pub fn sent(&self) -> &[u8]
+        ensures { result.now ≡ self.now.sent }
+    {
+        &self.sent
+    }
+
+    /// How many messages were sent.
+    pub fn messages(&self) -> u32
+        ensures { result ≡ self.now.messages }
+    {
+        self.messages
+    }
+
+    /// Empties it, keeps its room, and begins the log's one turn.
+    pub fn begin(&mut self, head: &TurnHead)
+        ensures { self.new ≡ has_begun head.now self.old }
+    {
+        self.log.clear();
+        self.log.begin(head);
+        self.sent_left += self.sent.len() as u64;
+        self.sent.clear();
+        self.messages = 0;
+    }
+
+    /// Adds an entry to the log.
+    #[tactic(auto, using(crate::proofs::OutputLemmas::length_with_entry))]
+    pub fn add(&mut self, entry: &Entry<Plain<'_>>)
+        requires begun { 0 < length self.old.log.turns }
+        requires room { HasRoom self.old.log.room 0 1 (length (kept_bytes (plain_entry entry.now))) }
+        ensures { self.new ≡ has_logged (plain_entry entry.now) self.old }
+    {
+        self.log.add(entry);
+    }
+
+    /// Adds a message.
+    pub fn send(&mut self, message: &[u8])
+        requires room { length message.now ≤ self.old.sent_left }
+        requires few { self.old.messages < 2 ^ 32 - 1 }
+        ensures { self.new ≡ has_sent message.now self.old }
+    {
+        put_bytes(&mut self.sent, message);
+        self.sent_left -= message.len() as u64;
+        self.messages += 1;
+    }
+}
