@@ -1,8 +1,7 @@
 -- A printed configuration is read back: it has no fault of shape and its own parts, nests little, and has no number with a fraction.
 use Rattle.std.proofs.Common.{◌≡◌, ◌≤◌, ℕ, suc, List, [], ◌∷◌, map, Bool, true, false, ◌||◌, Option, Some, None, option_map, unwrap_or, is_some, Ok, codes, refl, arith}
 use Rattle.std.specs.Prelude.{Result, ⊤}
-use Rattle.std.specs.List.{All, list_all}
-use Rattle.std.proofs.lemmas.List.Elements.{All-from_recursion, All-head, All-tail}
+use Rattle.std.specs.List.{list_all}
 use Rattle.serde_json.specs.Data.{Data, null, depth, items_depth}
 use Rattle.serde_json.specs.Find.{as_object}
 use Rattle.serde_json.specs.Read.{max_depth}
@@ -12,7 +11,7 @@ use Rattle.ids_types.specs.declared.mode.Mode.{Mode}
 use Rattle.ids_types.specs.declared.mode.Mode.TheVariants as modes
 use Rattle.ids_config.specs.Parts.{Event, Parts}
 use Rattle.ids_config.specs.Steps.{each}
-use Rattle.ids_config.specs.Valid.{IsPlainEvent, IsFirstForm}
+use Rattle.config_json.specs.declared.tables.Form.TheVariants as forms
 use Rattle.config_json.specs.Kinds.{whole_in, elements, is_null, is_whole}
 use Rattle.config_json.specs.Members.{if_object, mode_named, last_named, window_in, aggregate_in, class_in, state_in, event_in, parts_in}
 use Rattle.config_json.specs.Printed.{whole, optional, mode_name, context_name, class_tree, window_tree, aggregate_tree, event_tree, internal_tree, config_tree}
@@ -67,12 +66,10 @@ elements_back [] = refl
 elements_back (tree ∷ trees) = rw (elements_back trees) refl
 
 -- a list is read back where each element is
-map_back : {A : Type 0} (part : Data → A) (tree : A → Data) (xs : List A)
-    → All (λ x. part (tree x) ≡ x) xs → map part (elements (items_of (map tree xs))) ≡ xs
-map_back {A = A} part tree [] all = refl
-map_back {A = A} part tree (x ∷ xs) all =
-    let P = λ (y : A). part (tree y) ≡ y in
-    rw (All-head P x xs all, map_back part tree xs (All-tail P x xs all)) refl
+map_back : {A : Type 0} (part : Data → A) (tree : A → Data) → ((x : A) → part (tree x) ≡ x)
+    → (xs : List A) → map part (elements (items_of (map tree xs))) ≡ xs
+map_back part tree back [] = refl
+map_back part tree back (x ∷ xs) = rw (back x, map_back part tree back xs) refl
 
 -- states are whole numbers
 states_fit : (states : List ℕ) → list_all is_whole (elements (items_of (map whole states))) ≡ true
@@ -100,37 +97,34 @@ items_float tree each (x ∷ xs) = rw (each x, items_float tree each xs) refl
 -- ---- the parts
 
 -- an event
-event_back : (event : Event) → IsPlainEvent event → event_in (event_tree event) ≡ event
+event_back : (event : Event) → event_in (event_tree event) ≡ event
 unfolding event_in event_tree
-event_back event plain =
+event_back event =
     rw (
-      map_back state_in whole event.block (λ k d lt. refl),
+      map_back state_in whole (λ state. refl) event.block,
       mode_back event.mode,
       optional_back (part_in aggregate_in) aggregate_tree refl (λ a. rw (context_back a.last) refl) event.aggregate,
       optional_back (part_in (window_in (codes "count"))) (window_tree (codes "count")) refl (λ w. refl) event.threshold,
-      plain,
     ) refl
 
 -- the whole configuration
-pub parts_back : (config : Parts) → IsFirstForm config → parts_in (config_tree config) ≡ config
+pub parts_back : (config : Parts) → parts_in (config_tree config) ≡ config
 unfolding parts_in config_tree
-parts_back config form =
-    let plain = All-from_recursion IsPlainEvent config.events form.versions in
+parts_back config =
     rw (
-      map_back class_in class_tree config.classes (λ k d lt. refl),
+      map_back class_in class_tree (λ c. refl) config.classes,
       optional_back (part_in (window_in (codes "events"))) (window_tree (codes "events")) refl (λ w. refl) config.rate,
       optional_back (part_in (window_in (codes "bytes"))) (window_tree (codes "bytes")) refl (λ w. refl) config.traffic,
-      map_back event_in event_tree config.events (λ k d lt. event_back _ (plain k d lt)),
+      map_back event_in event_tree event_back config.events,
       optional_back whole_in whole refl (λ n. refl) config.lost_events,
       optional_back whole_in whole refl (λ n. refl) config.lost_contexts,
       optional_back whole_in whole refl (λ n. refl) config.limited,
-      form.profile,
     ) refl
 
 -- ---- the shape
 
 -- an event
-event_fits : (event : Event) → event_shape (event_tree event) ≡ Ok tt
+event_fits : (event : Event) → event_shape forms.Second (event_tree event) ≡ Ok tt
 unfolding event_shape event_tree
 event_fits event =
     rw (
@@ -160,7 +154,7 @@ config_fits config =
       optional_is (Fits (object_shape (window_table (codes "events")))) (window_tree (codes "events")) refl (λ w. refl) config.rate,
       optional_is (Fits (object_shape (window_table (codes "bytes")))) (window_tree (codes "bytes")) refl (λ w. refl) config.traffic,
       elements_back (map event_tree config.events),
-      each_fits event_shape_at event_tree (λ i e. rw (event_fits e) refl) 0 config.events,
+      each_fits (event_shape_at forms.Second) event_tree (λ i e. rw (event_fits e) refl) 0 config.events,
       internal_fits config,
     ) refl
 

@@ -3,13 +3,13 @@ use Rattle.std.proofs.Common.{◌≡◌, [], ◌∷◌, None, refl}
 use Rattle.std.specs.Prelude.{codes}
 use Rattle.std.specs.Fmt.{digits}
 use Rattle.serde_json.proofs.OnLiterals.{serde_json_on_literals}
-use Rattle.ids_config.specs.Parts.{Parts, first_profile, plain_event}
+use Rattle.ids_config.specs.Parts.{Parts, plain_event}
 use Rattle.config_json.specs.Printed.{config_text, config_tree, event_tree}
 
--- one event, with id 42 and sensor 3, of instance 18, and all else by default
+-- one event, with id 42 and sensor 3, of instance 18 and profile 1, and all else by default
 abbrev base : Parts
 base = record {
-  profile = first_profile;
+  profile = 1;
   instance = 18;
   callers = 1;
   ring = 64;
@@ -26,6 +26,6 @@ base = record {
 
 -- its text
 base_text : config_text base
-    ≡ codes "{\"callers\":1,\"classes\":[],\"events\":[{\"aggregate\":null,\"block\":[],\"id\":42,\"mode\":\"DETAILED\",\"nth\":1,\"send\":true,\"sensor\":3,\"store\":false,\"threshold\":null}],\"form\":1,\"instance\":18,\"internal\":{\"limited\":null,\"lost_contexts\":null,\"lost_events\":null},\"memory\":0,\"rate\":null,\"ring\":64,\"state\":0,\"traffic\":null}"
+    ≡ codes "{\"callers\":1,\"classes\":[],\"events\":[{\"aggregate\":null,\"block\":[],\"id\":42,\"mode\":\"DETAILED\",\"nth\":1,\"send\":true,\"sensor\":3,\"store\":false,\"threshold\":null,\"version\":0}],\"form\":2,\"instance\":18,\"internal\":{\"limited\":null,\"lost_contexts\":null,\"lost_events\":null},\"memory\":0,\"profile\":1,\"rate\":null,\"ring\":64,\"state\":0,\"traffic\":null}"
 unfolding serde_json_on_literals digits config_tree event_tree
 base_text = refl

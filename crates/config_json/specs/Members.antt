@@ -8,8 +8,11 @@ use Rattle.ids_types.specs.declared.mode.Mode.{Mode}
 use Rattle.ids_types.specs.declared.mode.Mode.TheVariants as modes
 use Rattle.ids_config.specs.declared.parts.Aggregate.{Aggregate}
 use Rattle.ids_config.specs.declared.parts.Window.{Window}
-use Rattle.ids_config.specs.Parts.{Event, Parts, first_profile, first_version}
+use Rattle.ids_config.specs.Parts.{Event, Parts}
+use Rattle.config_json.specs.declared.tables.Form.{Form}
+use Rattle.config_json.specs.declared.tables.Form.TheVariants as forms
 use Rattle.config_json.specs.Kinds.{whole_in, elements}
+use Rattle.config_json.specs.Tables.{form_numbered}
 
 -- ---- members by name
 
@@ -40,6 +43,16 @@ if_object tree = if is_some (as_object tree) then Some tree else None
 -- the object of this name, none where it is null or absent
 abbrev pub object_at : List ℕ → Data → Option Data
 object_at name tree = option_and_then if_object (get name tree)
+
+-- ---- the form
+
+-- the form that a tree says it has
+abbrev pub form_at : Data → Option Form
+form_at tree = option_and_then form_numbered (whole_at (codes "form") tree)
+
+-- the form by whose tables a tree is read
+abbrev pub form_of : Data → Form
+form_of tree = unwrap_or (form_at tree) forms.First
 
 -- ---- texts that are names
 
@@ -92,7 +105,7 @@ unfoldable pub event_in : Data → Event
 event_in tree = record {
   id = whole_or 0 (codes "id") tree;
   sensor = whole_or 0 (codes "sensor") tree;
-  version = first_version;
+  version = whole_or 0 (codes "version") tree;
   mode = unwrap_or (option_and_then mode_named (text_at (codes "mode") tree)) modes.Detailed;
   send = truth_or true (codes "send") tree;
   store = truth_or false (codes "store") tree;
@@ -106,10 +119,15 @@ event_in tree = record {
 abbrev pub internal_at : List ℕ → Data → Option ℕ
 internal_at name tree = option_and_then (whole_at name) (object_at (codes "internal") tree)
 
+-- the profile of a tree of this form
+abbrev pub profile_in : Form → Data → ℕ
+profile_in forms.First tree = 1
+profile_in forms.Second tree = whole_or 2 (codes "profile") tree
+
 -- the configuration of an object
 unfoldable pub parts_in : Data → Parts
 parts_in tree = record {
-  profile = first_profile;
+  profile = profile_in (form_of tree) tree;
   instance = whole_or 0 (codes "instance") tree;
   callers = whole_or 1 (codes "callers") tree;
   ring = whole_or 64 (codes "ring") tree;

@@ -1,6 +1,6 @@
--- The text of a configuration: compact JSON with every member written, in the byte order of their names.
+-- The text of a configuration: compact JSON in the second form, with every member written, in the byte order of their names.
 -- Source: the configuration format of this project (docs/CONFIGURATION.md).
-use Rattle.std.specs.Prelude.{ℕ, List, [], ◌∷◌, map, Bool, Option, Some, None, codes, if◌then◌else◌}
+use Rattle.std.specs.Prelude.{ℕ, List, [], ◌∷◌, ◌++◌, map, Bool, Option, Some, None, codes, if◌then◌else◌}
 use Rattle.serde_json.specs.Data.{unsigned, Data, Members, null, boolean, number, string, array, object, no_members, put}
 use Rattle.serde_json.specs.View.{items_of}
 use Rattle.serde_json.specs.Written.{compact_text}
@@ -61,20 +61,29 @@ aggregate_tree aggregate = object_of (
     ∷ []
     )
 
--- an event
-unfoldable pub event_tree : Event → Data
-event_tree event = object_of (
+-- what an event is and where it goes
+abbrev pub event_members : Event → List (List ℕ × Data)
+event_members event =
     (codes "id", whole event.id)
     ∷ (codes "sensor", whole event.sensor)
+    ∷ (codes "version", whole event.version)
     ∷ (codes "mode", string (mode_name event.mode))
     ∷ (codes "send", boolean event.send)
     ∷ (codes "store", boolean event.store)
-    ∷ (codes "block", list_tree whole event.block)
+    ∷ []
+
+-- what filters an event
+abbrev pub filter_members : Event → List (List ℕ × Data)
+filter_members event =
+    (codes "block", list_tree whole event.block)
     ∷ (codes "nth", whole event.nth)
     ∷ (codes "aggregate", optional aggregate_tree event.aggregate)
     ∷ (codes "threshold", optional (window_tree (codes "count")) event.threshold)
     ∷ []
-    )
+
+-- an event
+unfoldable pub event_tree : Event → Data
+event_tree event = object_of (event_members event ++ filter_members event)
 
 -- the internal events
 abbrev pub internal_tree : Parts → Data
@@ -85,22 +94,31 @@ internal_tree config = object_of (
     ∷ []
     )
 
--- the whole configuration
-unfoldable pub config_tree : Parts → Data
-config_tree config = object_of (
-    (codes "form", whole 1)
+-- the numbers at the top
+abbrev pub number_members : Parts → List (List ℕ × Data)
+number_members config =
+    (codes "form", whole 2)
+    ∷ (codes "profile", whole config.profile)
     ∷ (codes "instance", whole config.instance)
     ∷ (codes "callers", whole config.callers)
     ∷ (codes "ring", whole config.ring)
     ∷ (codes "memory", whole config.memory)
     ∷ (codes "state", whole config.state)
-    ∷ (codes "classes", list_tree class_tree config.classes)
+    ∷ []
+
+-- the lists and objects at the top
+abbrev pub inner_members : Parts → List (List ℕ × Data)
+inner_members config =
+    (codes "classes", list_tree class_tree config.classes)
     ∷ (codes "rate", optional (window_tree (codes "events")) config.rate)
     ∷ (codes "traffic", optional (window_tree (codes "bytes")) config.traffic)
     ∷ (codes "events", list_tree event_tree config.events)
     ∷ (codes "internal", internal_tree config)
     ∷ []
-    )
+
+-- the whole configuration
+unfoldable pub config_tree : Parts → Data
+config_tree config = object_of (number_members config ++ inner_members config)
 
 -- the text of a configuration
 abbrev pub config_text : Parts → List ℕ

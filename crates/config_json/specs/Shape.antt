@@ -1,14 +1,15 @@
 -- The search for faults of shape, in the order of the walk. The first fault found is the answer.
 -- Source: the configuration format of this project (docs/CONFIGURATION.md).
-use Rattle.std.specs.Prelude.{ℕ, List, [], ◌∷◌, Bool, true, false, not, ◌||◌, ◌==◌, Option, option_map, unwrap_or, is_some, bytes_eq, codes, Result, Ok, ⊤}
+use Rattle.std.specs.Prelude.{ℕ, List, [], ◌∷◌, Bool, true, not, ◌||◌, Option, option_map, unwrap_or, is_some, bytes_eq, codes, Result, Ok, ⊤}
 use Rattle.std.specs.List.{list_any, list_all}
 use Rattle.serde_json.specs.Data.{Data, Members, no_members, member}
 use Rattle.serde_json.specs.Find.{get, as_object}
 use Rattle.ids_config.specs.declared.fault.ConfigFault.{ConfigFault}
 use Rattle.ids_config.specs.declared.fault.ConfigPlace.TheVariants as places
 use Rattle.ids_config.specs.Steps.{◌>>◌, asks, at, each, capped}
+use Rattle.config_json.specs.declared.tables.Form.{Form}
 use Rattle.config_json.specs.Kinds.{has_kind}
-use Rattle.config_json.specs.Members.{whole_at, text_at, list_at, object_at, mode_named, last_named}
+use Rattle.config_json.specs.Members.{text_at, list_at, object_at, form_at, form_of, mode_named, last_named}
 use Rattle.config_json.specs.Tables.{Row, top_table, class_table, window_table, event_table, aggregate_table, internal_table}
 
 -- ---- one object
@@ -63,29 +64,25 @@ abbrev pub aggregate_shape : Data → Result ⊤ ℕ
 aggregate_shape tree =
     object_shape aggregate_table tree >> asks 8 (is_known last_named (codes "context") tree)
 
--- an event
-unfoldable pub event_shape : Data → Result ⊤ ℕ
-event_shape tree =
-    object_shape event_table tree
+-- an event of a file of this form
+unfoldable pub event_shape : Form → Data → Result ⊤ ℕ
+event_shape form tree =
+    object_shape (event_table form) tree
     >> asks 7 (is_known mode_named (codes "mode") tree)
     >> part_shape aggregate_shape (codes "aggregate") tree
     >> part_shape (object_shape (window_table (codes "count"))) (codes "threshold") tree
 
--- the event of this index
-abbrev pub event_shape_at : ℕ → Data → Result ⊤ ConfigFault
-event_shape_at index tree = at (places.Event (capped index)) (event_shape tree)
-
--- the form is the first
-abbrev pub is_first_form : Data → Bool
-is_first_form tree = unwrap_or (option_map (λ form. form == 1) (whole_at (codes "form") tree)) false
+-- the event of this index, of a file of this form
+abbrev pub event_shape_at : Form → ℕ → Data → Result ⊤ ConfigFault
+event_shape_at form index tree = at (places.Event (capped index)) (event_shape form tree)
 
 -- the whole configuration
 unfoldable pub config_shape : Data → Result ⊤ ConfigFault
 config_shape tree =
-    at places.Top (object_shape top_table tree)
-    >> at places.Top (asks 6 (is_first_form tree))
+    at places.Top (object_shape (top_table (form_of tree)) tree)
+    >> at places.Top (asks 6 (is_some (form_at tree)))
     >> each class_shape 0 (list_at (codes "classes") tree)
     >> at places.Top (part_shape (object_shape (window_table (codes "events"))) (codes "rate") tree)
     >> at places.Top (part_shape (object_shape (window_table (codes "bytes"))) (codes "traffic") tree)
-    >> each event_shape_at 0 (list_at (codes "events") tree)
+    >> each (event_shape_at (form_of tree)) 0 (list_at (codes "events") tree)
     >> at places.Top (part_shape (object_shape internal_table) (codes "internal") tree)

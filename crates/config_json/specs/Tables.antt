@@ -1,8 +1,15 @@
 -- The members of each object, in the order in which they are walked.
 -- Source: the configuration format of this project (docs/CONFIGURATION.md).
-use Rattle.std.specs.Prelude.{ℕ, List, [], ◌∷◌, Bool, true, false, codes}
+use Rattle.std.specs.Prelude.{ℕ, ◌==◌, List, [], ◌∷◌, Bool, true, false, Option, Some, None, codes, if◌then◌else◌}
 use Rattle.config_json.specs.declared.kind.Kind.{Kind}
 use Rattle.config_json.specs.declared.kind.Kind.TheVariants as kinds
+use Rattle.config_json.specs.declared.tables.Form.{Form}
+use Rattle.config_json.specs.declared.tables.Form.TheVariants as forms
+
+-- the form of this number
+abbrev pub form_numbered : ℕ → Option Form
+form_numbered number =
+    if number == 1 then Some forms.First else if number == 2 then Some forms.Second else None
 
 -- a member that an object may have
 pub record Row : Type 0 where
@@ -18,11 +25,17 @@ must name kind = record { name = name; kind = kind; required = true }
 abbrev pub may : List ℕ → Kind → Row
 may name kind = record { name = name; kind = kind; required = false }
 
+-- these rows, behind one that only the second form has
+abbrev pub since_second : Form → Row → List Row → List Row
+since_second forms.First row rows = rows
+since_second forms.Second row rows = row ∷ rows
+
 -- the whole configuration
-abbrev pub top_table : List Row
-top_table =
+abbrev pub top_table : Form → List Row
+top_table form =
     must (codes "form") kinds.Whole
-    ∷ must (codes "instance") kinds.Whole
+    ∷ since_second form (may (codes "profile") kinds.Whole) (
+    must (codes "instance") kinds.Whole
     ∷ may (codes "callers") kinds.Whole
     ∷ may (codes "ring") kinds.Whole
     ∷ may (codes "memory") kinds.Whole
@@ -33,6 +46,7 @@ top_table =
     ∷ must (codes "events") kinds.List
     ∷ may (codes "internal") kinds.Object
     ∷ []
+    )
 
 -- a class
 abbrev pub class_table : List Row
@@ -43,11 +57,12 @@ abbrev pub window_table : List ℕ → List Row
 window_table name = must (codes "interval") kinds.Whole ∷ must name kinds.Whole ∷ []
 
 -- an event
-abbrev pub event_table : List Row
-event_table =
+abbrev pub event_table : Form → List Row
+event_table form =
     must (codes "id") kinds.Whole
     ∷ must (codes "sensor") kinds.Whole
-    ∷ may (codes "mode") kinds.Text
+    ∷ since_second form (may (codes "version") kinds.Whole) (
+    may (codes "mode") kinds.Text
     ∷ may (codes "send") kinds.Truth
     ∷ may (codes "store") kinds.Truth
     ∷ may (codes "block") kinds.Wholes
@@ -55,6 +70,7 @@ event_table =
     ∷ may (codes "aggregate") kinds.ObjectOrNull
     ∷ may (codes "threshold") kinds.ObjectOrNull
     ∷ []
+    )
 
 -- an aggregation
 abbrev pub aggregate_table : List Row

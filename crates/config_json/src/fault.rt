@@ -7,7 +7,7 @@ use std::alloc::AllocError;
 /// Why no configuration was read.
 #[derive(Clone, Copy, Debug, PartialEq, Eq)]
 pub enum JsonFault {
-    /// The bytes have no configuration; this is the first fault, 1 to 24.
+    /// The bytes have no configuration; this is the first fault, 1 to 26.
     Config(ConfigFault),
     /// The allocator had no room.
     NoMemory,

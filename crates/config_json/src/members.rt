@@ -2,8 +2,9 @@
 
 ghost use Rattle.std.specs.Prelude.{◌≡◌, map, option_map};
 ghost use Rattle.serde_json.specs.View.{view};
-ghost use Rattle.config_json.specs.Members.{whole_at, text_at, list_at, object_at, mode_named, last_named};
+ghost use Rattle.config_json.specs.Members.{whole_at, text_at, list_at, object_at, form_at, mode_named, last_named};
 
+use crate::tables::Form;
 use ids_types::Mode;
 use serde_json::Value;
 
@@ -40,6 +41,13 @@ pub(crate) fn find_object<'a>(value: &'a Value, name: &str) -> Option<&'a Value>
     } else {
         None
     }
+}
+
+/// The form that the tree says it has, `None` where there is no such form.
+pub(crate) fn find_form(value: &Value) -> Option<Form>
+    ensures { result ≡ form_at (view value.now) }
+{
+    find_whole(value, "form").and_then(Form::numbered)
 }
 
 /// The reporting mode of this name.

@@ -3,9 +3,10 @@
 ghost use Rattle.std.specs.Prelude.{◌≡◌, map, IfOk};
 ghost use Rattle.serde_json.specs.View.{view};
 ghost use Rattle.ids_config.specs.Parts.{class_of};
-ghost use Rattle.config_json.specs.Members.{whole_or as whole_unless, truth_or as truth_unless, window_in, aggregate_in, class_in, state_in, event_in, internal_at, parts_in};
+ghost use Rattle.config_json.specs.Members.{whole_or as whole_unless, truth_or as truth_unless, window_in, aggregate_in, class_in, state_in, event_in, internal_at, profile_in, form_of, parts_in};
 
-use crate::members::{find_list, find_object, find_text, find_whole, last_of, mode_of};
+use crate::members::{find_form, find_list, find_object, find_text, find_whole, last_of, mode_of};
+use crate::tables::Form;
 use ids_config::{Aggregate, ConfigParts, EventParts, Window};
 use ids_types::Mode;
 use serde_json::Value;
@@ -17,6 +18,7 @@ pub(crate) fn read_parts(alloc: Global, value: &Value) -> Result<ConfigParts, Al
     ensures { IfOk result (λ parts. parts ≡ parts_in (view value.now)) }
 {
     Ok(ConfigParts {
+        profile: find_profile(value),
         instance: whole_or(0, value, "instance"),
         callers: whole_or(1, value, "callers"),
         ring: whole_or(64, value, "ring"),
@@ -30,6 +32,16 @@ pub(crate) fn read_parts(alloc: Global, value: &Value) -> Result<ConfigParts, Al
         lost_contexts: find_internal(value, "lost_contexts"),
         limited: find_internal(value, "limited"),
     })
+}
+
+/// The profile, 1 in the first form.
+fn find_profile(value: &Value) -> u64
+    ensures { result ≡ profile_in (form_of (view value.now)) (view value.now) }
+{
+    match find_form(value) {
+        Some(Form::Second) => whole_or(2, value, "profile"),
+        _ => 1,
+    }
 }
 
 fn read_classes(alloc: Global, values: &[Value]) -> Result<Vec<(u64, u64)>, AllocError>
@@ -59,6 +71,7 @@ fn read_event(alloc: Global, value: &Value) -> Result<EventParts, AllocError>
     Ok(EventParts {
         id: whole_or(0, value, "id"),
         sensor: whole_or(0, value, "sensor"),
+        version: whole_or(0, value, "version"),
         mode: find_text(value, "mode")
             .and_then(mode_of)
             .unwrap_or(Mode::Detailed),

@@ -1,17 +1,17 @@
 //! The text of a configuration, by the tree that it is.
 
-ghost use Rattle.std.specs.Prelude.{◌≡◌, map, IfOk, string_bytes};
-ghost use Rattle.serde_json.specs.View.{view};
+ghost use Rattle.std.specs.Prelude.{◌≡◌, map, IfOk, OnOk, string_bytes};
+ghost use Rattle.serde_json.specs.View.{view, members_view};
 ghost use Rattle.ids_config.specs.Parts.{class_of};
 ghost use Rattle.config_json.specs.Configured.{configuration};
-ghost use Rattle.config_json.specs.Printed.{whole, optional, list_tree, mode_name as name_of_mode, class_tree, window_tree, aggregate_tree, event_tree, internal_tree, config_tree, config_text};
+ghost use Rattle.config_json.specs.Printed.{whole, optional, list_tree, mode_name as name_of_mode, with_members, class_tree, window_tree, aggregate_tree, event_members, filter_members, event_tree, internal_tree, number_members, inner_members, config_tree, config_text};
 
 use ids_config::{Aggregate, Config, ConfigParts, EventParts, Window};
 use ids_types::{Mode, NoMemory};
-use serde_json::{Value, json};
+use serde_json::{Map, Value, json, put};
 use std::alloc::{AllocError, Global};
 
-/// The text of a configuration, which `read` reads back as the same.
+/// The text of a configuration in the second form, which `read` reads back as the same.
 pub fn print(alloc: Global, config: &Config) -> Result<String, NoMemory>
     ensures text { IfOk result (λ text. string_bytes text ≡ config_text config.now) }
     ensures reads_back { IfOk result (λ text. configuration (string_bytes text) ≡ Ok config.now) }
@@ -24,24 +24,64 @@ pub fn print(alloc: Global, config: &Config) -> Result<String, NoMemory>
 fn tree_of(alloc: Global, parts: &ConfigParts) -> Result<Value, AllocError>
     ensures { IfOk result (λ tree. view tree ≡ config_tree parts.now) }
 {
-    let classes = tree_of_classes(alloc, &parts.classes)?;
-    let rate = tree_of_window(alloc, "events", parts.rate)?;
-    let traffic = tree_of_window(alloc, "bytes", parts.traffic)?;
-    let events = tree_of_events(alloc, &parts.events)?;
-    let internal = tree_of_internal(alloc, parts)?;
-    json!(in alloc; {
-        "form": 1_u64,
-        "instance": parts.instance,
-        "callers": parts.callers,
-        "ring": parts.ring,
-        "memory": parts.memory,
-        "state": parts.state,
-        "classes": classes,
-        "rate": rate,
-        "traffic": traffic,
-        "events": events,
-        "internal": internal
-    })
+    let mut members = Map::new(alloc);
+    put_numbers(&mut members, alloc, parts)?;
+    put_inner(&mut members, alloc, parts)?;
+    Ok(Value::Object(members))
+}
+
+/// Puts the numbers at the top.
+fn put_numbers(
+    members: &mut Map<String, Value>,
+    alloc: Global,
+    parts: &ConfigParts,
+) -> Result<(), AllocError>
+    ensures { OnOk result (members_view members.new.entries
+        ≡ with_members (number_members parts.now) (members_view members.old.entries)) }
+{
+    put(members, alloc, "form", Value::from(2_u64))?;
+    put(members, alloc, "profile", Value::from(parts.profile))?;
+    put(members, alloc, "instance", Value::from(parts.instance))?;
+    put(members, alloc, "callers", Value::from(parts.callers))?;
+    put(members, alloc, "ring", Value::from(parts.ring))?;
+    put(members, alloc, "memory", Value::from(parts.memory))?;
+    put(members, alloc, "state", Value::from(parts.state))
+}
+
+/// Puts the lists and objects at the top.
+fn put_inner(
+    members: &mut Map<String, Value>,
+    alloc: Global,
+    parts: &ConfigParts,
+) -> Result<(), AllocError>
+    ensures { OnOk result (members_view members.new.entries
+        ≡ with_members (inner_members parts.now) (members_view members.old.entries)) }
+{
+    put(
+        members,
+        alloc,
+        "classes",
+        tree_of_classes(alloc, &parts.classes)?,
+    )?;
+    put(
+        members,
+        alloc,
+        "rate",
+        tree_of_window(alloc, "events", parts.rate)?,
+    )?;
+    put(
+        members,
+        alloc,
+        "traffic",
+        tree_of_window(alloc, "bytes", parts.traffic)?,
+    )?;
+    put(
+        members,
+        alloc,
+        "events",
+        tree_of_events(alloc, &parts.events)?,
+    )?;
+    put(members, alloc, "internal", tree_of_internal(alloc, parts)?)
 }
 
 fn tree_of_internal(alloc: Global, parts: &ConfigParts) -> Result<Value, AllocError>
@@ -97,20 +137,57 @@ fn tree_of_events(alloc: Global, events: &[EventParts]) -> Result<Value, AllocEr
 fn tree_of_event(alloc: Global, event: &EventParts) -> Result<Value, AllocError>
     ensures { IfOk result (λ tree. view tree ≡ event_tree event.now) }
 {
-    let block = tree_of_block(alloc, &event.block)?;
-    let aggregate = tree_of_aggregate(alloc, event.aggregate)?;
-    let threshold = tree_of_window(alloc, "count", event.threshold)?;
-    json!(in alloc; {
-        "id": event.id,
-        "sensor": event.sensor,
-        "mode": mode_name(event.mode),
-        "send": event.send,
-        "store": event.store,
-        "block": block,
-        "nth": event.nth,
-        "aggregate": aggregate,
-        "threshold": threshold
-    })
+    let mut members = Map::new(alloc);
+    put_event(&mut members, alloc, event)?;
+    put_filters(&mut members, alloc, event)?;
+    Ok(Value::Object(members))
+}
+
+/// Puts what the event is and where it goes.
+fn put_event(
+    members: &mut Map<String, Value>,
+    alloc: Global,
+    event: &EventParts,
+) -> Result<(), AllocError>
+    ensures { OnOk result (members_view members.new.entries
+        ≡ with_members (event_members event.now) (members_view members.old.entries)) }
+{
+    put(members, alloc, "id", Value::from(event.id))?;
+    put(members, alloc, "sensor", Value::from(event.sensor))?;
+    put(members, alloc, "version", Value::from(event.version))?;
+    put(
+        members,
+        alloc,
+        "mode",
+        json!(in alloc; mode_name(event.mode))?,
+    )?;
+    put(members, alloc, "send", Value::from(event.send))?;
+    put(members, alloc, "store", Value::from(event.store))
+}
+
+/// Puts what filters the event.
+fn put_filters(
+    members: &mut Map<String, Value>,
+    alloc: Global,
+    event: &EventParts,
+) -> Result<(), AllocError>
+    ensures { OnOk result (members_view members.new.entries
+        ≡ with_members (filter_members event.now) (members_view members.old.entries)) }
+{
+    put(members, alloc, "block", tree_of_block(alloc, &event.block)?)?;
+    put(members, alloc, "nth", Value::from(event.nth))?;
+    put(
+        members,
+        alloc,
+        "aggregate",
+        tree_of_aggregate(alloc, event.aggregate)?,
+    )?;
+    put(
+        members,
+        alloc,
+        "threshold",
+        tree_of_window(alloc, "count", event.threshold)?,
+    )
 }
 
 /// Blocking states.

@@ -7,11 +7,13 @@ ghost use Rattle.serde_json.specs.View.{view};
 ghost use Rattle.ids_config.specs.Steps.{each};
 ghost use Rattle.config_json.specs.Members.{mode_named, last_named};
 ghost use Rattle.config_json.specs.Rows.{row_of, is_among as among, members_shape};
-ghost use Rattle.config_json.specs.Shape.{object_shape, part_shape, class_shape, aggregate_shape, event_shape, event_shape_at, config_shape, is_there as there, is_of_kind as of_kind, is_known as known, is_first_form as first_form};
+ghost use Rattle.config_json.specs.Shape.{object_shape, part_shape, class_shape, aggregate_shape, event_shape, event_shape_at, config_shape, is_there as there, is_of_kind as of_kind, is_known as known};
 
 use crate::kind::has_kind;
-use crate::members::{find_list, find_object, find_text, find_whole, last_of, mode_of};
-use crate::tables::{AGGREGATE, CLASS, EVENT, INTERNAL, MemberRow, RATE, THRESHOLD, TOP, TRAFFIC};
+use crate::members::{find_form, find_list, find_object, find_text, last_of, mode_of};
+use crate::tables::{
+    AGGREGATE, CLASS, Form, INTERNAL, MemberRow, RATE, THRESHOLD, TRAFFIC, event_rows, top_rows,
+};
 use ids_config::{ConfigFault, ConfigPlace, asks, at, capped};
 use serde_json::{Map, Value};
 
@@ -20,22 +22,15 @@ use serde_json::{Map, Value};
 pub(crate) fn check_shape(value: &Value) -> Result<(), ConfigFault>
     ensures { result ≡ config_shape (view value.now) }
 {
-    at(ConfigPlace::Top, check_object(value, &TOP))?;
-    at(ConfigPlace::Top, asks(6, is_first_form(value)))?;
+    let named = find_form(value);
+    let form = named.unwrap_or(Form::First);
+    at(ConfigPlace::Top, check_object(value, top_rows(form)))?;
+    at(ConfigPlace::Top, asks(6, named.is_some()))?;
     check_classes(find_list(value, "classes"))?;
     at(ConfigPlace::Top, check_part(value, "rate", &RATE))?;
     at(ConfigPlace::Top, check_part(value, "traffic", &TRAFFIC))?;
-    check_events(find_list(value, "events"))?;
+    check_events(form, find_list(value, "events"))?;
     at(ConfigPlace::Top, check_part(value, "internal", &INTERNAL))
-}
-
-fn is_first_form(value: &Value) -> bool
-    ensures { result ≡ first_form (view value.now) }
-{
-    match find_whole(value, "form") {
-        Some(form) => form == 1,
-        None => false,
-    }
 }
 
 fn check_classes(values: &[Value]) -> Result<(), ConfigFault>
@@ -50,20 +45,20 @@ fn check_classes(values: &[Value]) -> Result<(), ConfigFault>
     Ok(())
 }
 
-fn check_events(values: &[Value]) -> Result<(), ConfigFault>
-    ensures { result ≡ each event_shape_at 0 (map view values.now) }
+fn check_events(form: Form, values: &[Value]) -> Result<(), ConfigFault>
+    ensures { result ≡ each (event_shape_at form) 0 (map view values.now) }
 {
     for (index, value) in values.iter().enumerate() {
-        at(ConfigPlace::Event(capped(index)), check_event(value))?;
+        at(ConfigPlace::Event(capped(index)), check_event(form, value))?;
     }
     Ok(())
 }
 
 #[tactic(auto, unfolding(crate::specs::Shape::event_shape))]
-fn check_event(value: &Value) -> Result<(), u8>
-    ensures { result ≡ event_shape (view value.now) }
+fn check_event(form: Form, value: &Value) -> Result<(), u8>
+    ensures { result ≡ event_shape form (view value.now) }
 {
-    check_object(value, &EVENT)?;
+    check_object(value, event_rows(form))?;
     asks(
         7,
         find_text(value, "mode").is_none_or(|name| mode_of(name).is_some()),

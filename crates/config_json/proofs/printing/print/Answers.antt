@@ -19,6 +19,6 @@ returns-clause-reads_back c =
     (IsUtf8-string_bytes c.in_ok-to_string.field-0) (rw (sym same) reads)
     ∙ rw (
       config_fits c.args.config.now,
-      parts_back c.args.config.now c.parts.ensures.form,
+      parts_back c.args.config.now,
       c.parts.ensures.faultless,
     ) refl

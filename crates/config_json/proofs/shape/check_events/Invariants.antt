@@ -7,4 +7,5 @@ use Rattle.config_json.proofs.shape.check_events.Given as goal
 -- the rest has the fault that all events have
 abbrev pub invariant-loop-index : goal.invariant-loop-index
 invariant-loop-index l =
-    each event_shape_at l.index (map view (drop l.index l.values)) ≡ each event_shape_at 0 (map view l.values)
+    each (event_shape_at l.form) l.index (map view (drop l.index l.values))
+    ≡ each (event_shape_at l.form) 0 (map view l.values)
