@@ -1,10 +1,13 @@
 -- What the input files of a command deserve, stage by stage.
-use Rattle.std.proofs.Common.{◌≡◌, ◌≢◌, ℕ, List, None, Ok, Err, IsTrue, refl, sym, subst, ◌∙◌, inl}
-use Rattle.std.specs.Prelude.{Result, Contains}
+use Rattle.std.proofs.Common.{◌≡◌, ◌≢◌, ℕ, List, length, Option, None, Some, Ok, Err, IsTrue, refl, sym, subst, ◌∙◌, inl, inr}
+use Rattle.std.specs.Prelude.{Result, Contains, nat_lt}
 use Rattle.std.specs.Str.{bytes_eq}
-use Rattle.std.proofs.lemmas.Bool.{false_from_ne_true}
+use Rattle.std.proofs.lemmas.Bool.{false_from_ne_true, cases_Bool}
 use Rattle.std.proofs.lemmas.Slice.Eq.{bytes_eq-Decides}
-use Rattle.idsm_run.specs.Words.{configuration, Parts, MessageParts, messages_read, BadMessage, CountsFault, Files, SameFiles, SameOthers, Shelved, Read, Turn, BadMessages, Stop, CannotRead, TooLong, Refused, CannotWrite, NoMemory, Command, FoldFiles, fold, decode, read_by, folded_in, file_of, without, config_judged, journal_judged, judge, fold_work, decode_work, StopsFor, ReadStops, StopsAs}
+use Rattle.idsm_run.specs.Words.{configuration, Parts, MessageParts, messages_read, BadMessage, CountsFault, Files, SameFiles, SameOthers, Shelved, Read, Turn, ConfigFault, BadConfig, BadMessages, Stop, CannotRead, TooLong, Refused, CannotWrite, NoMemory, Command, FoldFiles, MigrateFiles, fold, decode, migrate, read_by, folded_in, file_of, without, config_judged, journal_judged, judge, fold_work, decode_work, migrate_work, bytes_of, KeepsConfig, StopsFor, ReadStops, StopsAs, plain_stop, stop_of_config}
+use Rattle.config_json.specs.Configured.{Tells}
+use Rattle.config_json.specs.declared.fault.JsonFault.{JsonFault}
+use Rattle.config_json.specs.declared.fault.JsonFault.TheVariants as faults
 use Rattle.idsm_run.specs.Judge
 
 without-itself : (name : List ℕ) (files : Files) → without name files name ≡ None
@@ -95,6 +98,55 @@ module _ (names : FoldFiles) (files : Files) where
             → judge (fold names) files ≡ Ok (fold_work names config turns)
         unfolding Judge.judge
         inputs_found turns judged = rw (read, is, next, judged) refl
+
+-- `fold` stopped where its configuration was not read
+pub config_exit : (found : Result Parts ConfigFault) (fault : JsonFault) → Tells found (Err fault)
+    → StopsAs (config_judged found) (plain_stop (stop_of_config fault))
+config_exit found (faults.Config fault) is = (rw is refl, λ files. tt)
+config_exit found faults.NoMemory is = tt
+
+-- ---- the stages of `migrate`
+
+-- the bytes of a file that was read
+bytes_read : (limit : ℕ) (name bytes : List ℕ) (file : Option (List ℕ)) → bytes_of limit name file ≡ Ok bytes → file ≡ Some bytes
+bytes_read limit name bytes None is = absurd cc
+bytes_read limit name bytes (Some held) is = elim (cases_Bool (nat_lt limit (length held))) [
+  | inl long ↦ absurd (cc (rw long at is))
+  | inr short ↦ cc (rw short at is)
+]
+
+-- a new file whose bytes have the configuration of the old ones
+pub config_kept : (names : MigrateFiles) (old new : Files) (bytes text : List ℕ) (config : Parts)
+    → file_of 1048576 names.config old ≡ Ok bytes → configuration bytes ≡ Ok config
+    → new names.target ≡ Some text → configuration text ≡ Ok config → KeepsConfig (migrate names) old new
+config_kept names old new bytes text config read is written again =
+    rw (written, bytes_read 1048576 names.config bytes (old names.config) read, is, again) refl
+
+-- it stopped where its configuration was not read
+pub unread_config : (names : MigrateFiles) (found : Result Parts ConfigFault) (fault : JsonFault) (old new : Shelved)
+    → (IsTrue old.tells → (reason : ConfigFault) → found ≡ Err reason
+    → judge (migrate names) old.files ≡ Err (Refused (BadConfig reason)))
+    → new.faults ≡ old.faults → (IsTrue old.tells → SameFiles old.files new.files)
+    → Tells found (Err fault) → StopsFor (migrate names) (plain_stop (stop_of_config fault)) old new
+unread_config names found (faults.Config fault) old new judged no_fault same is =
+    record { may = tt; judged = λ told. judged told fault is; no_fault = no_fault; same = same }
+unread_config names found faults.NoMemory old new judged no_fault same is = inl same
+
+module _ (names : MigrateFiles) (files : Files) where
+  pub source_first : ComesTo (migrate names) 1048576 names.config files
+  unfolding Judge.judge
+  source_first other reason same is = rw is refl
+
+  module _ (text : List ℕ) (read : file_of 1048576 names.config files ≡ Ok text) where
+    pub source_refused : (fault : ConfigFault) → configuration text ≡ Err fault
+        → judge (migrate names) files ≡ Err (Refused (BadConfig fault))
+    unfolding Judge.judge
+    source_refused fault is = rw (read, is) refl
+
+    pub source_found : (config : Parts) → configuration text ≡ Ok config
+        → judge (migrate names) files ≡ Ok (migrate_work names config)
+    unfolding Judge.judge
+    source_found config is = rw (read, is) refl
 
 -- ---- the stages of `decode`
 

@@ -10,10 +10,16 @@ pub record FoldFiles : Type 0 where
   pub messages : List ℕ
   pub memory : List ℕ
 
+-- the files that `migrate` names: one that it reads, and one that it writes
+pub record MigrateFiles : Type 0 where
+  pub config : List ℕ
+  pub target : List ℕ
+
 -- what a run is asked to do
 pub data Command : Type 0 where
   fold : FoldFiles → Command
   decode : List ℕ → Command
+  migrate : MigrateFiles → Command
 
 -- a word that may be a name: it is not empty
 abbrev pub is_name : List ℕ → Bool
@@ -42,23 +48,32 @@ abbrev pub decode_of : List (List ℕ) → Option Command
 decode_of (messages ∷ []) = if is_name messages then Some (decode messages) else None
 decode_of names = None
 
+-- the command of the words behind `migrate`: the names of a configuration and of a new file
+abbrev pub migrate_of : List (List ℕ) → Option Command
+migrate_of (config ∷ target ∷ []) =
+    if are_names (config ∷ target ∷ []) then Some (migrate (record { config = config; target = target })) else None
+migrate_of names = None
+
 -- the command of the words behind the program's name, none where they are not in form
 abbrev pub command_of : List (List ℕ) → Option Command
 command_of [] = None
 command_of (word ∷ names) =
     if bytes_eq word (codes "fold") then fold_of names
     else if bytes_eq word (codes "decode") then decode_of names
+    else if bytes_eq word (codes "migrate") then migrate_of names
     else None
 
 -- the files that the command reads, in the order in which it reads them
 abbrev pub read_by : Command → List (List ℕ)
 read_by (fold files) = files.config ∷ files.journal ∷ []
 read_by (decode messages) = messages ∷ []
+read_by (migrate files) = files.config ∷ []
 
 -- the files that the command writes, in the order in which it writes them
 abbrev pub written_by : Command → List (List ℕ)
 written_by (fold files) = files.messages ∷ files.memory ∷ []
 written_by (decode messages) = []
+written_by (migrate files) = files.target ∷ []
 
 -- the name is none of these
 abbrev pub IsNoneOf : List (List ℕ) → List ℕ → Type 0

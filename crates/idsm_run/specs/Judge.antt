@@ -1,10 +1,10 @@
 -- What the input files of a command deserve: the work that they ask for, or why the command has to stop,
 -- in the order in which files are read and judged.
 -- Source: docs/COMMANDS.md, "Order of work".
-use Rattle.std.specs.Prelude.{ℕ, List, [], length, nat_lt, Option, Some, None, Result, Ok, Err, if◌then◌else◌, bytes_eq}
-use Rattle.idsm_run.specs.Names.{configuration, Parts, ConfigFault, MessageParts, messages_read, BadMessage, Files, Turn, decoded_text, BadLine, Told, BadConfig, NotBuilt, BadJournal, BadMessages, Stop, CannotRead, TooLong, Refused}
+use Rattle.std.specs.Prelude.{ℕ, List, [], ◌∷◌, codes, length, nat_lt, Option, Some, None, Result, Ok, Err, if◌then◌else◌, bytes_eq}
+use Rattle.idsm_run.specs.Names.{configuration, config_text, Parts, ConfigFault, MessageParts, messages_read, BadMessage, Files, Turn, decoded_text, BadLine, Told, BadConfig, NotBuilt, BadJournal, BadMessages, Stop, CannotRead, TooLong, Refused}
 use Rattle.idsm_run.specs.Built.{is_built, has_control}
-use Rattle.idsm_run.specs.Command.{Command, fold, decode, FoldFiles}
+use Rattle.idsm_run.specs.Command.{Command, fold, decode, migrate, FoldFiles, MigrateFiles}
 use Rattle.idsm_run.specs.Fold.{fold_outputs, fold_text}
 use Rattle.idsm_run.specs.FoldedJournal.{folded_in, ◌>>=◌}
 use Rattle.idsm_run.specs.Sending.{messages_of}
@@ -27,10 +27,15 @@ without name files other = if bytes_eq other name then None else files other
 
 -- ---- what they hold
 
--- a configuration that the chain can mean
+-- a configuration
+abbrev pub config_found : Result Parts ConfigFault → Result Parts (Stop (List ℕ))
+config_found (Ok config) = Ok config
+config_found (Err fault) = Err (Refused (BadConfig fault))
+
+-- one that the chain can mean
 abbrev pub config_judged : Result Parts ConfigFault → Result Parts (Stop (List ℕ))
-config_judged (Ok config) = if is_built config then Ok config else Err (Refused NotBuilt)
-config_judged (Err fault) = Err (Refused (BadConfig fault))
+config_judged found =
+    config_found found >>= λ config. if is_built config then Ok config else Err (Refused NotBuilt)
 
 -- the turns of a journal that the chain can mean
 abbrev pub journal_judged : Result Told BadLine → Result (List Turn) (Stop (List ℕ))
@@ -60,6 +65,13 @@ fold_work names config turns = record {
 abbrev pub decode_work : List MessageParts → Work
 decode_work messages = record { outputs = []; said = decoded_text messages }
 
+-- the configuration's text in the second form, by one file, and the line that says so
+abbrev pub migrate_work : MigrateFiles → Parts → Work
+migrate_work names config = record {
+  outputs = record { name = names.target; bytes = config_text config } ∷ [];
+  said = codes "form 2\n";
+}
+
 -- the work of a command over these files, or why they do not serve: each file is read and judged before
 -- the next, the journal under the configuration
 unfoldable pub judge : Command → Files → Result Work (Stop (List ℕ))
@@ -73,3 +85,7 @@ judge (decode name) files = do
   bytes ← file_of 67108864 name files
   messages ← messages_judged (messages_read bytes)
   Ok (decode_work messages)
+judge (migrate names) files = do
+  text ← file_of 1048576 names.config files
+  config ← config_found (configuration text)
+  Ok (migrate_work names config)

@@ -1,8 +1,9 @@
 -- The names of other crates and of stops that many files of this crate cite.
 pub use Rattle.config_json.specs.Configured.{configuration}
+pub use Rattle.config_json.specs.Printed.{config_text}
 pub use Rattle.ids_config.specs.Parts.{event_at, Event, Parts}
 pub use Rattle.ids_config.specs.declared.fault.ConfigFault.{ConfigFault}
-pub use Rattle.ids_frame.specs.Message.{MessageParts}
+pub use Rattle.ids_frame.specs.Message.{MessageParts, IsKnown}
 pub use Rattle.ids_frame.specs.Messages.{messages_read}
 pub use Rattle.ids_frame.specs.Spelling.{spelling}
 pub use Rattle.ids_frame.specs.declared.fault.BadMessage.{BadMessage}

@@ -1,9 +1,9 @@
 -- What a run does, by cases on its command: it did its command's work, or stopped, each with its status
 -- and its text.
 -- Source: docs/COMMANDS.md.
-use Rattle.std.specs.Prelude.{◌≡◌, ◌⊎◌, ℕ, List, [], IsTrue, Option, Some, None, Result, Ok, Err, Contains}
-use Rattle.idsm_run.specs.Names.{Faults, Rose, CountsFault, Files, SameFiles, Shelved, Heard, Read, WriteFault, Failed, Refusal, BadMessages, Stop, CannotRead, TooLong, Refused, CannotWrite, NoMemory}
-use Rattle.idsm_run.specs.Command.{Command, fold, decode, read_by, written_by}
+use Rattle.std.specs.Prelude.{◌≡◌, ◌⊎◌, ℕ, List, [], IsTrue, Option, Some, None, option_map, Result, Ok, Err, Contains}
+use Rattle.idsm_run.specs.Names.{configuration, Faults, Rose, CountsFault, Files, SameFiles, Shelved, Heard, Read, WriteFault, Failed, Refusal, BadConfig, BadMessages, Stop, CannotRead, TooLong, Refused, CannotWrite, NoMemory}
+use Rattle.idsm_run.specs.Command.{Command, fold, decode, migrate, read_by, written_by}
 use Rattle.idsm_run.specs.Judge.{Work, judge, without}
 use Rattle.idsm_run.specs.Saying.{Puts}
 use Rattle.idsm_run.specs.Texts.{usage, answer_text, answer_status}
@@ -17,6 +17,8 @@ MayRefuse (fold files) (BadMessages bad) = ⊥
 MayRefuse (fold files) refusal = Unit {0}
 MayRefuse (decode name) (BadMessages bad) = Unit {0}
 MayRefuse (decode name) refusal = ⊥
+MayRefuse (migrate files) (BadConfig fault) = Unit {0}
+MayRefuse (migrate files) refusal = ⊥
 
 -- the command may stop so at its input files, whatever they hold
 abbrev pub MayStop : Command → Stop (List ℕ) → Type 0
@@ -41,12 +43,19 @@ pub record WasRefused (command : Command) (reason : Stop (List ℕ)) (old new : 
 
 -- ---- what is written
 
+-- the configuration that `migrate` wrote is the one that it read, not only its text
+abbrev pub KeepsConfig : Command → Files → Files → Type 0
+KeepsConfig (migrate names) old new =
+    option_map configuration (new names.target) ≡ option_map configuration (old names.config)
+KeepsConfig other old new = Unit {0}
+
 -- the files hold what the work of their old contents asks for
 pub record AllWritten (command : Command) (old new : Files) (said : List ℕ) : Type 0 where
   pub work : Work
   pub judged : judge command old ≡ Ok work
   pub written : AreWritten work.outputs new
   pub text : said ≡ work.said
+  pub keeps : KeepsConfig command old new
 
 -- the work of their old contents was written up to some place
 pub record PartWritten (command : Command) (old new : Files) : Type 0 where

@@ -1,7 +1,7 @@
 -- The messages that the manager sends: one for each report, in the order of the reports.
 -- After the event message of the AUTOSAR PRS Intrusion Detection System; that every report is sent
 -- as it is, is this release's own.
-use Rattle.std.specs.Prelude.{ℕ, ◌<◌, ◌≤◌, List, [], length, Option, Some, None, ⊤}
+use Rattle.std.specs.Prelude.{ℕ, ◌<◌, ◌≤◌, ◌==◌, if◌then◌else◌, List, [], length, Option, Some, None, ⊤}
 use Rattle.idsm_run.specs.Names.{flat_map, AllByRecursion, Carried, Kept, Act, Report, Entry, Stamp, Turn, MessageParts, spelling, Parts, event_at}
 use Rattle.ids_frame.specs.Context.{ContextPart, context_of}
 
@@ -24,15 +24,21 @@ CanSend events other = ⊤
 abbrev pub CanSendTurn : ℕ → Turn → Type 0
 CanSendTurn events turn = AllByRecursion (λ entry. CanSend events entry.act) turn.entries
 
+-- the last byte of the event part: the version of the event's context data, where the second profile is
+-- configured and the message has a context
+abbrev pub last_byte : (profile version : ℕ) → Option ContextPart → ℕ
+last_byte profile version None = 0
+last_byte profile version (Some context) = if profile == 2 then version else 0
+
 -- the message of a report of event k of the configuration
 abbrev pub message_of : Parts → ℕ → ℕ → Option Stamp → Carried (List ℕ) → MessageParts
 message_of config k count stamp context = record {
-  version = 1;
+  version = config.profile;
   instance = config.instance;
   sensor = (event_at config k).sensor;
   event = (event_at config k).id;
   count = count;
-  reserved = 0;
+  reserved = last_byte config.profile (event_at config k).version (context_sent context);
   stamp = stamp;
   context = context_sent context;
   signature = None;

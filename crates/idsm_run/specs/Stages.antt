@@ -1,7 +1,9 @@
 -- What the stages of reading answer: what their bytes deserve, or want of memory.
 use Rattle.std.specs.Borrow.{Bor}
 use Rattle.std.specs.Prelude.{◌≡◌, ℕ, List, IsTrue, Result, Ok, Err, Vec, ⊤}
-use Rattle.idsm_run.specs.Names.{Global, CountsFault, Shelved, Read, Stop, CannotRead, TooLong, Refused, CannotWrite, NoMemory}
+use Rattle.idsm_run.specs.Names.{Global, CountsFault, Shelved, Read, BadConfig, Stop, CannotRead, TooLong, Refused, CannotWrite, NoMemory}
+use Rattle.config_json.specs.declared.fault.JsonFault.{JsonFault}
+use Rattle.config_json.specs.declared.fault.JsonFault.TheVariants as faults
 use Rattle.idsm_run.specs.Command.{FoldFiles, fold}
 use Rattle.idsm_run.specs.Judge.{file_of}
 use Rattle.idsm_run.specs.Run.{MayRefuse}
@@ -18,6 +20,11 @@ plain_stop NoMemory = NoMemory
 abbrev pub plain_end : Result (Vec ℕ Global) (Stop (Bor (List ℕ))) → Result (List ℕ) (Stop (List ℕ))
 plain_end (Ok said) = Ok said.items
 plain_end (Err reason) = Err (plain_stop reason)
+
+-- why a command stops whose configuration was not read so
+abbrev pub stop_of_config : {N : Type 0} → JsonFault → Stop N
+stop_of_config (faults.Config fault) = Refused (BadConfig fault)
+stop_of_config faults.NoMemory = NoMemory
 
 -- the refusal by `fold` that was found, or want of memory
 abbrev pub StopsAs : {A : Type 0} → Result A (Stop (List ℕ)) → Stop (List ℕ) → Type 0

@@ -1,4 +1,4 @@
--- The statuses and the texts of a run that did not do its work.
+-- The statuses and the texts of how a run ends.
 -- Source: docs/COMMANDS.md.
 use Rattle.std.specs.Prelude.{ℕ, ◌++◌, List, Result, Ok, Err, codes, decimal}
 use Rattle.idsm_run.specs.Names.{ConfigFault, BadMessage, Refusal, BadConfig, NotBuilt, BadJournal, BadMessages, Stop, CannotRead, TooLong, Refused, CannotWrite, NoMemory}
@@ -11,6 +11,7 @@ use Rattle.ids_frame.specs.declared.fault.FrameFault.TheVariants.{Short, Unknown
 abbrev pub usage : List ℕ
 usage =
     codes "usage: idsm fold CONFIG JOURNAL MESSAGES MEMORY\n" ++ codes "       idsm decode MESSAGES\n"
+    ++ codes "       idsm migrate CONFIG NEW\n"
 
 -- ---- the texts of refusals
 

@@ -1,7 +1,7 @@
 //! The words behind the program's name.
 
 ghost use Rattle.std.specs.Prelude.{◌≡◌, ◌&&◌, not, map, option_map, string_bytes, bytes_eq};
-ghost use Rattle.idsm_run.specs.Words.{list_any, command_of, fold_of, decode_of, is_name, are_names, asked};
+ghost use Rattle.idsm_run.specs.Words.{list_any, command_of, fold_of, decode_of, migrate_of, is_name, are_names, asked};
 
 /// The files of the command `fold`. The names are not empty and differ.
 #[derive(Clone, Copy, Debug)]
@@ -12,12 +12,20 @@ pub(crate) struct FoldNames<'a> {
     pub(crate) memory: &'a str,
 }
 
+/// The files of the command `migrate`. The names are not empty and differ.
+#[derive(Clone, Copy, Debug)]
+pub(crate) struct MigrateNames<'a> {
+    pub(crate) config: &'a str,
+    pub(crate) target: &'a str,
+}
+
 /// What a run is asked to do.
 #[derive(Clone, Copy, Debug)]
 pub(crate) enum Request<'a> {
     Fold(FoldNames<'a>),
     /// Prints the messages of a file.
     Decode(&'a str),
+    Migrate(MigrateNames<'a>),
 }
 
 /// The command that the words ask for, `None` where they are not in form.
@@ -28,6 +36,7 @@ pub(crate) fn parse(words: &[String]) -> Option<Request<'_>>
     match word.as_str() {
         "fold" => parse_fold(names),
         "decode" => parse_decode(names),
+        "migrate" => parse_migrate(names),
         _ => None,
     }
 }
@@ -58,6 +67,21 @@ fn parse_fold(words: &[String]) -> Option<Request<'_>>
         journal: journal.as_str(),
         messages: messages.as_str(),
         memory: memory.as_str(),
+    }))
+}
+
+fn parse_migrate(words: &[String]) -> Option<Request<'_>>
+    ensures { option_map asked result ≡ migrate_of (map string_bytes words.now) }
+{
+    let [config, target] = words else {
+        return None;
+    };
+    if !names_differ(words) {
+        return None;
+    }
+    Some(Request::Migrate(MigrateNames {
+        config: config.as_str(),
+        target: target.as_str(),
     }))
 }
 

@@ -8,7 +8,6 @@ use crate::command::FoldNames;
 use crate::journals::judge_journal;
 use crate::limits::{MAX_CONFIG_BYTES, MAX_JOURNAL_BYTES};
 use crate::stop::{Refusal, Stop};
-use config_json::JsonFault;
 use ids_config::Config;
 use ids_outside::{ReadFault, Shelf};
 use ids_types::History;
@@ -51,12 +50,11 @@ pub(crate) fn read_inputs<'a, H: Shelf>(
 fn judge_config<'a>(alloc: Global, text: &[u8]) -> Result<Config, Stop<&'a str>>
     ensures { Judges (λ c. c) (config_judged (configuration text.now)) result }
 {
-    match config_json::read(alloc, text) {
-        Ok(config) if is_built(config.parts()) => Ok(config),
-        Ok(_) => Err(Stop::Refused(Refusal::NotBuilt)),
-        Err(JsonFault::Config(fault)) => Err(Stop::Refused(Refusal::BadConfig(fault))),
-        Err(JsonFault::NoMemory) => Err(Stop::NoMemory),
+    let config = config_json::read(alloc, text)?;
+    if !is_built(config.parts()) {
+        return Err(Stop::Refused(Refusal::NotBuilt));
     }
+    Ok(config)
 }
 
 /// The bytes of a file, where it has at most so many.

@@ -2,8 +2,8 @@
 //!
 //! Layer 10, runs. Over `journal`, `text_spec`, `config_json`, `ids_frame` and `ids_outside`; the
 //! program `idsm` calls it with the host's files. For now the commands are `fold`, for configurations
-//! under which every report is sent as it is and for journals that tell no control, and `decode`; the
-//! chain that sends every report is private.
+//! under which every report is sent as it is and for journals that tell no control, `decode` and
+//! `migrate`; the chain that sends every report is private.
 //! Contracts see a shelf by what it tells: `specs/Judge.antt` says what the input files of a command
 //! deserve, `specs/Run.antt` how a run ends, and `run_plain` promises it. That memory suffices is not
 //! promised: `NO_MEMORY` is the one status without a cause.
@@ -16,6 +16,7 @@ mod fold;
 mod inputs;
 mod journals;
 mod limits;
+mod migrate;
 mod outputs;
 mod run;
 mod saying;

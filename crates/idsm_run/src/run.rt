@@ -4,20 +4,24 @@ ghost use Rattle.idsm_run.specs.Words.{Shelved, Heard, Stop, Command, command_of
 use crate::command::{Request, parse};
 use crate::decode::decode_file;
 use crate::fold::fold;
+use crate::migrate::migrate;
 use crate::saying::{say, tell};
 use crate::status::BAD_WORDS;
 use ids_outside::{Shelf, Sink};
 use std::alloc::Global;
 
 /// The usage, with the commands that are built.
-const USAGE: &[u8] =
-    b"usage: idsm fold CONFIG JOURNAL MESSAGES MEMORY\n       idsm decode MESSAGES\n";
+const USAGE: &[u8] = b"usage: idsm fold CONFIG JOURNAL MESSAGES MEMORY
+       idsm decode MESSAGES
+       idsm migrate CONFIG NEW
+";
 
 /// Runs the command that the words behind the program's name ask for, and returns its status: 0 where
 /// it was done, and else why not. It waits for nobody.
 ///
-/// `fold CONFIG JOURNAL MESSAGES MEMORY` writes the messages and the event memory of a journal, and
-/// `decode MESSAGES` puts a line for each message of a file.
+/// `fold CONFIG JOURNAL MESSAGES MEMORY` writes the messages and the event memory of a journal,
+/// `decode MESSAGES` puts a line for each message of a file, and `migrate CONFIG NEW` writes the text of
+/// a configuration in the second form.
 pub fn run_plain<H: Shelf, K: Sink>(
     alloc: Global,
     words: &[String],
@@ -37,6 +41,7 @@ pub fn run_plain<H: Shelf, K: Sink>(
         None => say(USAGE, BAD_WORDS, out),
         Some(Request::Fold(names)) => tell(alloc, fold(alloc, names, shelf), out),
         Some(Request::Decode(name)) => tell(alloc, decode_file(alloc, name, shelf), out),
+        Some(Request::Migrate(names)) => tell(alloc, migrate(alloc, names, shelf), out),
     }
 }
 

@@ -1,6 +1,6 @@
 //! The messages of a history: one for each report.
 ghost use Rattle.std.specs.Prelude.{◌≡◌, ◌+◌, ◌≤◌, ◌<◌, ◌++◌, length, IfOk, OnOk};
-ghost use Rattle.idsm_run.specs.Words.{AllByRecursion, flat_map, plain_entry, plain_carried, event_at, spelling, Cuts, IsShort, CanSend, CanSendTurn, message_of, context_sent, entry_messages, messages_of};
+ghost use Rattle.idsm_run.specs.Words.{AllByRecursion, flat_map, plain_entry, plain_carried, event_at, spelling, IsKnown, Cuts, IsShort, CanSend, CanSendTurn, message_of, last_byte as last_byte_of, context_sent, entry_messages, messages_of};
 
 use arrayvec::ArrayVec;
 use ids_config::Config;
@@ -97,11 +97,12 @@ fn message<'a>(
     let source = source_of(config, event);
     let context = context_of(context);
     Message::make(
+        source.profile,
         source.instance,
         source.sensor,
         source.id,
         count,
-        0,
+        last_byte(source, &context),
         stamp,
         context,
         None,
@@ -112,28 +113,48 @@ fn message<'a>(
 /// What a message tells of its source.
 #[derive(Clone, Copy, Debug)]
 struct Source {
+    /// The version of the message's layout, 1 or 2.
+    profile: u8,
     /// 0 to 1,023.
     instance: u16,
     /// 0 to 63.
     sensor: u8,
     id: u16,
+    /// The version of the event's context data.
+    version: u8,
 }
 
 /// The source of the messages of an event.
 fn source_of(config: &Config, event: EventIndex) -> Source
     requires { event.0 < length config.now.events }
+    ensures profile { result.profile ≡ config.now.profile }
+    ensures known { IsKnown result.profile }
     ensures instance { result.instance ≡ config.now.instance }
     ensures ten_bits { result.instance ≤ 1023 }
     ensures sensor { result.sensor ≡ (event_at config.now event.0).sensor }
     ensures six_bits { result.sensor ≤ 63 }
     ensures id { result.id ≡ (event_at config.now event.0).id }
+    ensures version { result.version ≡ (event_at config.now event.0).version }
 {
     let parts = config.parts();
     let event = &parts.events[event.0 as usize];
     Source {
+        profile: parts.profile as u8,
         instance: parts.instance as u16,
         sensor: event.sensor as u8,
         id: event.id as u16,
+        version: event.version as u8,
+    }
+}
+
+/// The last byte of the event part: the version of the context data, where the second profile is
+/// configured and there is a context.
+fn last_byte(source: Source, context: &Option<Context<'_>>) -> u8
+    ensures { result ≡ last_byte_of source.profile source.version context.now }
+{
+    match context {
+        Some(_) if source.profile == 2 => source.version,
+        _ => 0,
     }
 }
 

@@ -1,13 +1,16 @@
 //! Why a command ended before its work was done. `N` is what holds the names of files.
 
 ghost use Rattle.std.specs.Prelude.{◌≡◌};
+ghost use Rattle.idsm_run.specs.Stages.{stop_of_config};
 ghost use Rattle.idsm_run.specs.Writing.{stop_of_write};
 ghost use Rattle.idsm_run.specs.declared.stop.Stop.TheVariants as stops;
 
+use config_json::JsonFault;
 use ids_config::ConfigFault;
 use ids_frame::BadMessage;
 use ids_outside::WriteFault;
 use ids_types::NoMemory;
+use std::alloc::AllocError;
 
 /// Why what an input file holds does not serve.
 #[derive(Clone, Copy, Debug)]
@@ -42,6 +45,25 @@ impl<N> From<WriteFault> for Stop<N> {
             WriteFault::Failed => Stop::CannotWrite,
             WriteFault::NoMemory => Stop::NoMemory,
         }
+    }
+}
+
+impl<N> From<JsonFault> for Stop<N> {
+    ghost from_gives = { λ fault answer. answer ≡ stop_of_config fault };
+
+    fn from(fault: JsonFault) -> Self {
+        match fault {
+            JsonFault::Config(fault) => Stop::Refused(Refusal::BadConfig(fault)),
+            JsonFault::NoMemory => Stop::NoMemory,
+        }
+    }
+}
+
+impl<N> From<AllocError> for Stop<N> {
+    ghost from_gives = { λ _ answer. answer ≡ stops.NoMemory };
+
+    fn from(_: AllocError) -> Self {
+        Stop::NoMemory
     }
 }
 

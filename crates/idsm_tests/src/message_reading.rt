@@ -8,7 +8,10 @@ use std::test::Fail;
 /// Event 42 of sensor 3 in instance 18, counted once, with the context a1 b2.
 const FIRST: [u8; 11] = *b"\x11\x04\x83\x00\x2a\x00\x01\x00\x02\xa1\xb2";
 
-/// The same event with a timestamp.
+/// The same by the second layout, whose context data have version 7.
+const SECOND: [u8; 11] = *b"\x21\x04\x83\x00\x2a\x00\x01\x07\x02\xa1\xb2";
+
+/// The first with a timestamp, and no context.
 const STAMPED: [u8; 16] = *b"\x12\x04\x83\x00\x2a\x00\x01\x00\x80\x00\x00\x01\x00\x00\x0a\x00";
 
 fn fault_of(bytes: &[u8]) -> Option<FrameFault> {
@@ -52,6 +55,29 @@ fn the_parts_of_a_message_are_read(rt: HostRuntime) -> Result<(), Fail> {
 }
 
 #[test]
+fn the_second_layout_has_its_version_and_byte_7(rt: HostRuntime) -> Result<(), Fail> {
+    let (message, size) = decode(&SECOND).ok().ok_or("a message")?;
+    assert_eq!(rt; (message.version(), message.reserved(), size), (2, 7, 11));
+    assert_eq!(rt; (message.instance(), message.sensor()), (18, 3));
+    assert_eq!(rt; (message.event(), message.count()), (42, 1));
+    let context = message.context().ok_or("a context")?;
+    assert_eq!(rt; context.bytes(), b"\xa1\xb2".as_slice());
+
+    // Any byte 7 is read, with a context or without.
+    for byte in 0..=255 {
+        for first in [0x10, 0x20] {
+            let bytes = [first, 0x04, 0x83, 0x00, 0x2a, 0x00, 0x01, byte];
+            let (message, _) = decode(&bytes).ok().ok_or("a message")?;
+            assert_eq!(rt; (message.version(), message.reserved()), (first / 16, byte));
+            let bytes = [first + 1, 0x04, 0x83, 0x00, 0x2a, 0x00, 0x01, byte, 0x00];
+            let (message, _) = decode(&bytes).ok().ok_or("a message")?;
+            assert_eq!(rt; (message.version(), message.reserved()), (first / 16, byte));
+        }
+    }
+    Ok(())
+}
+
+#[test]
 fn a_long_form_of_two_bytes_stays_long(rt: HostRuntime) -> Result<(), Fail> {
     let bytes = b"\x11\x04\x83\x00\x2a\x00\x01\x00\x80\x00\x00\x02\xa1\xb2";
     let (message, size) = decode(bytes).ok().ok_or("a message")?;
@@ -67,11 +93,13 @@ fn a_long_form_of_two_bytes_stays_long(rt: HostRuntime) -> Result<(), Fail> {
 fn each_fault_has_its_bytes(rt: HostRuntime) {
     for count in 0..11 {
         assert_eq!(rt; fault_of(&FIRST[..count]), Some(FrameFault::Short));
+        assert_eq!(rt; fault_of(&SECOND[..count]), Some(FrameFault::Short));
     }
-    assert_eq!(rt; fault_of(b"\x21"), Some(FrameFault::UnknownVersion));
-    assert_eq!(rt; fault_of(b"\x29"), Some(FrameFault::UnknownVersion));
+    assert_eq!(rt; fault_of(b"\x31"), Some(FrameFault::UnknownVersion));
+    assert_eq!(rt; fault_of(b"\x39"), Some(FrameFault::UnknownVersion));
     assert_eq!(rt; fault_of(b"\x01"), Some(FrameFault::UnknownVersion));
     assert_eq!(rt; fault_of(b"\x19"), Some(FrameFault::UnknownPart));
+    assert_eq!(rt; fault_of(b"\x29"), Some(FrameFault::UnknownPart));
 }
 
 #[test]
@@ -89,14 +117,17 @@ fn what_is_read_is_spelled_so(rt: HostRuntime) {
 
 #[test]
 fn messages_are_taken_one_behind_the_other(rt: HostRuntime) -> Result<(), Fail> {
-    let mut bytes = [0; 27];
+    let mut bytes = [0; 38];
     bytes[..11].copy_from_slice(&FIRST);
-    bytes[11..].copy_from_slice(&STAMPED);
-    let mut messages = Messages::read(&bytes).ok().ok_or("two messages")?;
+    bytes[11..22].copy_from_slice(&SECOND);
+    bytes[22..].copy_from_slice(&STAMPED);
+    let mut messages = Messages::read(&bytes).ok().ok_or("three messages")?;
     let first = messages.pop_front().ok_or("the first")?;
-    assert!(rt; first.context().is_some());
+    assert!(rt; first.version() == 1 && first.context().is_some());
     let second = messages.pop_front().ok_or("the second")?;
-    assert_eq!(rt; second.stamp(), Some(Stamp(0x8000_0001_0000_0a00)));
+    assert!(rt; second.version() == 2 && second.context().is_some());
+    let third = messages.pop_front().ok_or("the third")?;
+    assert_eq!(rt; third.stamp(), Some(Stamp(0x8000_0001_0000_0a00)));
     assert!(rt; messages.pop_front().is_none());
 
     let mut none = Messages::read(b"").ok().ok_or("no messages")?;
@@ -110,7 +141,7 @@ fn the_first_bad_message_has_its_place(rt: HostRuntime) {
     let fault = FrameFault::Short;
     assert_eq!(rt; bad, Some(BadMessage { at: 11, fault }));
 
-    let bad = Messages::read(b"\x11\x04\x83\x00\x2a\x00\x01\x00\x02\xa1\xb2\x00\x21").err();
+    let bad = Messages::read(b"\x11\x04\x83\x00\x2a\x00\x01\x00\x02\xa1\xb2\x00\x31").err();
     let fault = FrameFault::UnknownVersion;
     assert_eq!(rt; bad, Some(BadMessage { at: 11, fault }));
 }

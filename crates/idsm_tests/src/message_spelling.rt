@@ -13,7 +13,7 @@ fn message<'a>(
     context: Option<Context<'a>>,
     signature: Option<&'a [u8]>,
 ) -> Option<Message<'a>> {
-    Message::make(18, 3, 42, 1, 0, stamp, context, signature)
+    Message::make(1, 18, 3, 42, 1, 0, stamp, context, signature)
 }
 
 /// Whether `encode` writes these bytes, over what was there.
@@ -55,8 +55,30 @@ fn messages_are_spelled_as_in_the_layout(rt: HostRuntime) {
         b"\x17\x04\x83\x00\x2a\x00\x01\x00\x80\x00\x00\x01\x00\x00\x0a\x00\x01\xa1\x00\x01\xc3";
     assert!(rt; is_spelled(whole, bytes));
 
-    let last = Message::make(1023, 63, 1, 1, 0, None, None, None);
+    let last = Message::make(1, 1023, 63, 1, 1, 0, None, None, None);
     assert!(rt; is_spelled(last, b"\x10\xff\xff\x00\x01\x00\x01\x00"));
+}
+
+#[test]
+fn the_second_layout_has_the_version_of_the_context_data(rt: HostRuntime) {
+    let context = Context::make(Form::Short, b"\xa1\xb2");
+    let second = Message::make(2, 18, 3, 42, 1, 7, None, context, None);
+    assert!(rt; is_spelled(second, b"\x21\x04\x83\x00\x2a\x00\x01\x07\x02\xa1\xb2"));
+
+    let whole = Message::make(
+        2,
+        1023,
+        63,
+        0xffff,
+        0xffff,
+        255,
+        Some(STAMP),
+        Context::make(Form::Long, b""),
+        Some(b""),
+    );
+    let bytes =
+        b"\x27\xff\xff\xff\xff\xff\xff\xff\x80\x00\x00\x01\x00\x00\x0a\x00\x80\x00\x00\x00\x00\x00";
+    assert!(rt; is_spelled(whole, bytes));
 }
 
 #[test]
@@ -89,8 +111,11 @@ fn a_spelling_has_at_most_1100_bytes(rt: HostRuntime) -> Result<(), Fail> {
 
 #[test]
 fn what_the_layout_has_no_room_for_is_refused(rt: HostRuntime) {
-    assert!(rt; Message::make(1024, 0, 1, 1, 0, None, None, None).is_none());
-    assert!(rt; Message::make(0, 64, 1, 1, 0, None, None, None).is_none());
+    assert!(rt; Message::make(0, 0, 0, 1, 1, 0, None, None, None).is_none());
+    assert!(rt; Message::make(3, 0, 0, 1, 1, 0, None, None, None).is_none());
+    assert!(rt; Message::make(255, 0, 0, 1, 1, 0, None, None, None).is_none());
+    assert!(rt; Message::make(1, 1024, 0, 1, 1, 0, None, None, None).is_none());
+    assert!(rt; Message::make(2, 0, 64, 1, 1, 0, None, None, None).is_none());
     assert!(rt; Context::make(Form::Short, &[7; 127]).is_some());
     assert!(rt; Context::make(Form::Short, &[7; 128]).is_none());
 }

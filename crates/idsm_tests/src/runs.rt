@@ -9,6 +9,7 @@
 mod calls;
 mod failing;
 mod folding;
+mod migrating;
 mod refusing;
 mod wanting;
 

@@ -38,6 +38,19 @@ fn decode_tells_its_faults(rt: HostRuntime) -> Result<(), Fail> {
     Ok(())
 }
 
+/// The command `migrate` reads once, creates `m` and appends to it once.
+const MIGRATES: &str = "migrate c m | . |  | 0 | - => 3 | cannot read c/ | - | -
+migrate c m | . |  | 1 | - => 7 | cannot write/ | - | -
+migrate c m | . |  | 2 | - => 7 | cannot write/ | # | -
+migrate c m | . |  | 2 | 0 => 7 |  | # | -
+migrate c m | {} |  | - | 0 => 7 |  | - | -";
+
+#[test]
+fn migrate_tells_its_faults(rt: HostRuntime) -> Result<(), Fail> {
+    assert_eq!(rt; first_wrong(rt.alloc(), MIGRATES)?, None);
+    Ok(())
+}
+
 /// The first put would fail.
 const EMPTY: &str = "decode c |  |  | - | 0 => 0 |  | - | -";
 

@@ -22,11 +22,29 @@ fn folds_journals_into_their_messages(rt: HostRuntime) -> Result<(), Fail> {
     Ok(())
 }
 
+/// The first journal above under both profiles: byte 7 is the version of the context data where the profile
+/// is 2 and the message has a context.
+const PROFILES: &str =
+    r##"fold c j m r | {"form":2,"instance":18,"events":[{"id":42,"sensor":3,"version":7}]} | T 5 0 0 0/R 0 0 0 1 - 0:0:a1b2/ => 0 | turns 1 entries 1 messages 1 records 0/ | #210483002a00010702a1b2 | #
+fold c j m r | {"form":2,"profile":2,"instance":18,"events":[{"id":42,"sensor":3,"version":255}]} | T 5 0 0 0/R 0 0 0 1 - 0:0:a1b2/ => 0 | turns 1 entries 1 messages 1 records 0/ | #210483002a0001ff02a1b2 | #
+fold c j m r | {"form":2,"instance":18,"events":[{"id":42,"sensor":3}]} | T 5 0 0 0/R 0 0 0 1 - 0:0:a1b2/ => 0 | turns 1 entries 1 messages 1 records 0/ | #210483002a00010002a1b2 | #
+fold c j m r | {"form":2,"instance":18,"events":[{"id":42,"sensor":3,"version":7}]} | T 5 0 1 0/R 0 0 0 1 - -/R 0 1 0 1 8000000100000a00 !0/ => 0 | turns 1 entries 2 messages 2 records 0/ | #200483002a000100220483002a0001008000000100000a00 | #
+fold c j m r | {"form":2,"profile":1,"instance":18,"events":[{"id":42,"sensor":3,"version":0}]} | T 5 0 0 0/R 0 0 0 1 - 0:0:a1b2/ => 0 | turns 1 entries 1 messages 1 records 0/ | #110483002a00010002a1b2 | #
+fold c j m r | {"form":2,"instance":18,"events":[{"id":42,"sensor":3,"version":7},{"id":43,"sensor":4,"version":1}]} | T 5 0 0 0/R 0 0 1 1 - 0:0:a1/R 0 1 0 1 - 0:1:b2/ => 0 | turns 1 entries 2 messages 2 records 0/ | #210484002b00010101a1210483002a00010701b2 | #"##;
+
+#[test]
+fn sends_by_the_configured_profile(rt: HostRuntime) -> Result<(), Fail> {
+    assert_eq!(rt; first_wrong(rt.alloc(), PROFILES)?, None);
+    Ok(())
+}
+
 /// Files of messages and their lines.
 const DECODED: &str =
     "decode c | #110483002a00010002a1b2 |  => 0 | M 18 3 42 1 0 - s:a1b2 -/ | - | -
 decode c |  |  => 0 |  | - | -
 decode c | #10ffff0001000100 |  => 0 | M 1023 63 1 1 0 - - -/ | - | -
+decode c | #210483002a00010702a1b2 |  => 0 | M2 18 3 42 1 7 - s:a1b2 -/ | - | -
+decode c | #200483002a0001ff110483002a00010702a1b2240483002a0001000000 |  => 0 | M2 18 3 42 1 255 - - -/M 18 3 42 1 7 - s:a1b2 -/M2 18 3 42 1 0 - - =/ | - | -
 decode c | #110483002a00010080000002a1b2 |  => 0 | M 18 3 42 1 0 - l:a1b2 -/ | - | -
 decode c | #160483002a000207000000000000010a0002beef |  => 0 | M 18 3 42 2 7 000000000000010a - =beef/ | - | -
 decode c | #100483002a000100100483002a000100100483002a000100 |  => 0 | M 18 3 42 1 0 - - -/M 18 3 42 1 0 - - -/M 18 3 42 1 0 - - -/ | - | -";

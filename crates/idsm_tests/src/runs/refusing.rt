@@ -1,26 +1,37 @@
 //! Runs that end with a status of their own although no call fails, and write nothing.
 
-use super::{bytes_of, first_wrong, run, shelf_over};
+use super::{bytes_of, first_wrong, run, shelf_of, shelf_over};
 use std::alloc::Global;
 use std::test::Fail;
 
-/// Words that are no command.
-const BAD_WORDS: &str =
-    " | . |  => 2 | usage: idsm fold CONFIG JOURNAL MESSAGES MEMORY/       idsm decode MESSAGES/ | - | -
-fold | . |  => 2 | usage: idsm fold CONFIG JOURNAL MESSAGES MEMORY/       idsm decode MESSAGES/ | - | -
-fold a b c c | . |  => 2 | usage: idsm fold CONFIG JOURNAL MESSAGES MEMORY/       idsm decode MESSAGES/ | - | -
-fold a b  c | . |  => 2 | usage: idsm fold CONFIG JOURNAL MESSAGES MEMORY/       idsm decode MESSAGES/ | - | -
-fold a b c d e | . |  => 2 | usage: idsm fold CONFIG JOURNAL MESSAGES MEMORY/       idsm decode MESSAGES/ | - | -
-Fold a b c d | . |  => 2 | usage: idsm fold CONFIG JOURNAL MESSAGES MEMORY/       idsm decode MESSAGES/ | - | -
-decode | . |  => 2 | usage: idsm fold CONFIG JOURNAL MESSAGES MEMORY/       idsm decode MESSAGES/ | - | -
-decode  | . |  => 2 | usage: idsm fold CONFIG JOURNAL MESSAGES MEMORY/       idsm decode MESSAGES/ | - | -
-decode c j | . |  => 2 | usage: idsm fold CONFIG JOURNAL MESSAGES MEMORY/       idsm decode MESSAGES/ | - | -
---help | . |  => 2 | usage: idsm fold CONFIG JOURNAL MESSAGES MEMORY/       idsm decode MESSAGES/ | - | -
-fold c j m | . |  => 2 | usage: idsm fold CONFIG JOURNAL MESSAGES MEMORY/       idsm decode MESSAGES/ | - | -";
+/// Words that are no command; the last two have an empty name.
+const BAD_WORDS: &str = "
+fold
+fold a b c c
+fold a b  c
+fold a b c d e
+fold c j m
+Fold a b c d
+decode
+decode c j
+migrate
+migrate c
+migrate c c
+migrate c m r
+--help
+migrate c 
+decode ";
+
+/// The usage, and no file.
+const USAGE: &[u8] = b"2 | usage: idsm fold CONFIG JOURNAL MESSAGES MEMORY/       idsm decode MESSAGES/       idsm migrate CONFIG NEW/ | - | -";
 
 #[test]
 fn words_that_are_no_command_end_with_the_usage(rt: HostRuntime) -> Result<(), Fail> {
-    assert_eq!(rt; first_wrong(rt.alloc(), BAD_WORDS)?, None);
+    for words in BAD_WORDS.lines() {
+        let shelf = shelf_of(rt.alloc(), ".", "", "-")?;
+        let told = run(rt.alloc(), words, shelf, "-")?;
+        assert!(rt; told.as_slice() == USAGE, "{words}");
+    }
     Ok(())
 }
 
@@ -31,6 +42,10 @@ decode - |  |  => 3 | cannot read -/ | - | -
 fold c x m r | {"form":2} |  => 5 | bad config 4 at top/ | - | -
 fold c j m r | {"form":2} | ? => 5 | bad config 4 at top/ | - | -
 fold c j m r |  |  => 5 | bad config 1 at top/ | - | -
+fold c x m r | {"form":3,"instance":18,"events":[{"id":42,"sensor":3}]} |  => 5 | bad config 6 at top/ | - | -
+migrate x m |  |  => 3 | cannot read x/ | - | -
+migrate c m | {} |  => 5 | bad config 4 at top/ | - | -
+migrate c m | {"form":2,"profile":1,"instance":18,"events":[{"id":42,"sensor":3,"version":1}]} |  => 5 | bad config 26 at event 0/ | - | -
 fold c x m r | {"form":1,"instance":18,"memory":1,"events":[{"id":42,"sensor":3}]} |  => 12 | not built/ | - | -
 fold c j m r | . | ? => 6 | bad journal line 1: 1/ | - | -
 fold c j m r | . | T 5 0 0 0 => 6 | bad journal line 1: 1/ | - | -
@@ -124,8 +139,10 @@ fn tells_the_first_bad_line_of_a_journal(rt: HostRuntime) -> Result<(), Fail> {
 const BAD_MESSAGES: &str =
     "decode c | #110483002a00010002a1 |  => 10 | bad message at 0: short/ | - | -
 decode c | #110483002a00010002a1b211 |  => 10 | bad message at 11: short/ | - | -
-decode c | #110483002a00010002a1b22100 |  => 10 | bad message at 11: version/ | - | -
-decode c | #110483002a00010002a1b219 |  => 10 | bad message at 11: part/ | - | -";
+decode c | #110483002a00010002a1b22100 |  => 10 | bad message at 11: short/ | - | -
+decode c | #110483002a00010002a1b23100 |  => 10 | bad message at 11: version/ | - | -
+decode c | #210483002a00010702a1b219 |  => 10 | bad message at 11: part/ | - | -
+decode c | #110483002a00010002a1b229 |  => 10 | bad message at 11: part/ | - | -";
 
 #[test]
 fn tells_the_first_bad_message(rt: HostRuntime) -> Result<(), Fail> {
@@ -148,6 +165,8 @@ fn told_of_long(alloc: Global, words: &str, byte: u8, len: usize) -> Result<Vec<
 #[test]
 fn a_configuration_has_at_most_1048576_bytes(rt: HostRuntime) -> Result<(), Fail> {
     let told = told_of_long(rt.alloc(), "fold c x m r", b' ', 1_048_577)?;
+    assert!(rt; told.as_slice() == b"4 | too long c/ | - | -".as_slice());
+    let told = told_of_long(rt.alloc(), "migrate c m", b' ', 1_048_577)?;
     assert!(rt; told.as_slice() == b"4 | too long c/ | - | -".as_slice());
     let told = told_of_long(rt.alloc(), "fold c x m r", b' ', 1_048_576)?;
     assert!(rt; told.as_slice() == b"5 | bad config 1 at top/ | - | -".as_slice());

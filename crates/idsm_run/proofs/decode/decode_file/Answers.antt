@@ -18,6 +18,7 @@ returns-in-Ok-clause-done g c = record {
         (rw c.deref.ensures.value (c.in_ok-bytes.ensures.found told)) _ (sym c.in-Ok.ensures.value);
     written = tt;
     text = c.in_ok-lines_of-in-Ok.ensures;
+    keeps = tt;
   };
   no_fault = c.in_ok-bytes.ensures.no_fault;
 }

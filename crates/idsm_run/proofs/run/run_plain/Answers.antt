@@ -11,3 +11,9 @@ returns-in-Some-Decode-clause-ran g c =
     rw (← c.parse.ensures, c.in-Some-Decode.is, c.in-Some-Decode.field-0-is)
     (end_ran _ _ _ _ _ _ c.decode_file.result c.decode_file.ensures.done c.decode_file.ensures.stops
     c.tell-in-Some-Decode.ensures)
+
+pub returns-in-Some-Migrate-clause-ran : goal.returns-in-Some-Migrate-clause-ran
+returns-in-Some-Migrate-clause-ran g c =
+    rw (← c.parse.ensures, c.in-Some-Migrate.is, c.in-Some-Migrate.field-0-is)
+    (end_ran _ _ _ _ _ _ c.migrate.result c.migrate.ensures.done c.migrate.ensures.stops
+    c.tell-in-Some-Migrate.ensures)

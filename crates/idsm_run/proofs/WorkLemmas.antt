@@ -1,0 +1,48 @@
+-- The work of a command, from its inputs to its outputs.
+use Rattle.std.proofs.Common.{◌≡◌, ℕ, List, Ok, IsTrue, sym, subst, inr}
+use Rattle.idsm_run.specs.Words.{WantsMemory, SameFiles, Shelved, WriteFault, Failed, MemoryRefused, Command, Work, judge, KeepsConfig, WasDone, StopsFor, OneFails, PartWritten, plain_stop, AreWritten, StandUpTo, stop_of_write}
+use Rattle.idsm_run.proofs.WritingLemmas.{StandUpTo-before}
+
+module _ (command : Command) (work : Work) (old middle new : Shelved)
+    (found : IsTrue old.tells → judge command old.files ≡ Ok work) (tells : middle.tells ≡ old.tells) where
+  -- all outputs were written
+  pub all_written : (said : List ℕ) → said ≡ work.said
+      → (IsTrue middle.tells → AreWritten work.outputs new.files)
+      → (IsTrue old.tells → KeepsConfig command old.files new.files)
+      → new.faults ≡ old.faults → WasDone command said old new
+  all_written said text written keeps faults = record {
+    written = λ told. record {
+      work = work;
+      judged = found told;
+      written = written (subst IsTrue (sym tells) told);
+      text = text;
+      keeps = keeps told;
+    };
+    no_fault = faults;
+  }
+
+  -- outputs that were written up to a place are those of the inputs
+  part_written : (IsTrue old.tells → SameFiles old.files middle.files)
+      → (IsTrue middle.tells → StandUpTo work.outputs middle.files new.files)
+      → IsTrue old.tells → PartWritten command old.files new.files
+  part_written same stands told = record {
+    work = work;
+    judged = found told;
+    place = StandUpTo-before work.outputs old.files middle.files new.files (same told)
+        (stands (subst IsTrue (sym tells) told));
+  }
+
+  -- where a write failed, or memory was refused to one
+  pub write_stopped : (fault : WriteFault) → (IsTrue old.tells → SameFiles old.files middle.files)
+      → middle.faults ≡ old.faults
+      → (IsTrue middle.tells → StandUpTo work.outputs middle.files new.files)
+      → OneFails command middle.faults new.faults fault
+      → StopsFor command (plain_stop (stop_of_write fault)) old new
+  write_stopped Failed same faults stands fails = record {
+    fails = subst (λ f. OneFails command f new.faults Failed) faults fails;
+    part = part_written same stands;
+  }
+  write_stopped MemoryRefused same faults stands fails =
+      let wants : WantsMemory old.faults new.faults =
+      subst (λ f. WantsMemory f new.faults) faults fails.fails in
+      inr (wants.rose, part_written same stands)
