@@ -2,7 +2,7 @@
 
 mod cases;
 
-use cases::{EVENT_MEMBERS, EVENTS, TOP_MEMBERS, WHOLE};
+use cases::{EVENT_MEMBERS, EVENTS, SECOND_FORM, TOP_MEMBERS, WHOLE};
 use config_json::{JsonFault, print, read};
 use ids_config::{ConfigFault, ConfigPlace};
 use ids_types::{EventIndex, Internal};
@@ -15,12 +15,23 @@ const BASE: &str = r#"{"form":1,"instance":18,"events":[{"id":42,"sensor":3}]}"#
 /// What is printed of it.
 const BASE_PRINTED: &str = concat!(
     r#"{"callers":1,"classes":[],"events":[{"aggregate":null,"block":[],"id":42,"mode":"DETAILED","#,
-    r#""nth":1,"send":true,"sensor":3,"store":false,"threshold":null}],"form":1,"instance":18,"#,
-    r#""internal":{"limited":null,"lost_contexts":null,"lost_events":null},"memory":0,"#,
-    r#""rate":null,"ring":64,"state":0,"traffic":null}"#
+    r#""nth":1,"send":true,"sensor":3,"store":false,"threshold":null,"version":0}],"form":2,"#,
+    r#""instance":18,"internal":{"limited":null,"lost_contexts":null,"lost_events":null},"#,
+    r#""memory":0,"profile":1,"rate":null,"ring":64,"state":0,"traffic":null}"#
 );
 
-/// A configuration that has every member, but the last of its events by default.
+/// A configuration of the second form, whose event has a version.
+const SECOND: &str = r#"{"form":2,"instance":18,"events":[{"id":42,"sensor":3,"version":7}]}"#;
+
+/// What is printed of it.
+const SECOND_PRINTED: &str = concat!(
+    r#"{"callers":1,"classes":[],"events":[{"aggregate":null,"block":[],"id":42,"mode":"DETAILED","#,
+    r#""nth":1,"send":true,"sensor":3,"store":false,"threshold":null,"version":7}],"form":2,"#,
+    r#""instance":18,"internal":{"limited":null,"lost_contexts":null,"lost_events":null},"#,
+    r#""memory":0,"profile":2,"rate":null,"ring":64,"state":0,"traffic":null}"#
+);
+
+/// A configuration that has every member of the first form, but the last of its events by default.
 const FULL: &str = concat!(
     r#"{"form":1,"instance":7,"callers":2,"ring":8,"memory":9,"state":3,"#,
     r#""classes":[{"size":16,"number":4},{"size":64,"number":5}],"#,
@@ -35,12 +46,12 @@ const FULL: &str = concat!(
 const FULL_PRINTED: &str = concat!(
     r#"{"callers":2,"classes":[{"number":4,"size":16},{"number":5,"size":64}],"events":["#,
     r#"{"aggregate":{"context":"LAST","interval":20},"block":[4,5],"id":1,"mode":"OFF","nth":6,"#,
-    r#""send":false,"sensor":2,"store":true,"threshold":{"count":22,"interval":21}},"#,
+    r#""send":false,"sensor":2,"store":true,"threshold":{"count":22,"interval":21},"version":0},"#,
     r#"{"aggregate":{"context":"FIRST","interval":23},"block":[],"id":3,"mode":"BRIEF","nth":1,"#,
-    r#""send":true,"sensor":4,"store":false,"threshold":null},"#,
+    r#""send":true,"sensor":4,"store":false,"threshold":null,"version":0},"#,
     r#"{"aggregate":null,"block":[],"id":5,"mode":"DETAILED","nth":1,"send":true,"sensor":6,"#,
-    r#""store":false,"threshold":null}],"form":1,"instance":7,"#,
-    r#""internal":{"limited":0,"lost_contexts":1,"lost_events":2},"memory":9,"#,
+    r#""store":false,"threshold":null,"version":0}],"form":2,"instance":7,"#,
+    r#""internal":{"limited":0,"lost_contexts":1,"lost_events":2},"memory":9,"profile":1,"#,
     r#""rate":{"events":11,"interval":10},"ring":8,"state":3,"#,
     r#""traffic":{"bytes":13,"interval":12}}"#
 );
@@ -85,6 +96,7 @@ fn first_wrong<'a>(
 #[test]
 fn whole_texts_have_their_answers(rt: HostRuntime) -> Result<(), Fail> {
     assert_eq!(rt; first_wrong(rt.alloc(), WHOLE, "", "")?, None);
+    assert_eq!(rt; first_wrong(rt.alloc(), SECOND_FORM, "", "")?, None);
     Ok(())
 }
 
@@ -155,6 +167,7 @@ fn printed(alloc: Global, text: &str) -> Result<String, Fail> {
 #[test]
 fn prints_compact_json_in_the_order_of_names(rt: HostRuntime) -> Result<(), Fail> {
     assert_eq!(rt; printed(rt.alloc(), BASE)?.as_str(), BASE_PRINTED);
+    assert_eq!(rt; printed(rt.alloc(), SECOND)?.as_str(), SECOND_PRINTED);
     assert_eq!(rt; printed(rt.alloc(), FULL)?.as_str(), FULL_PRINTED);
     assert_eq!(rt; printed(rt.alloc(), FULL_PRINTED)?.as_str(), FULL_PRINTED);
     Ok(())

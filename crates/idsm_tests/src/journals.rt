@@ -16,6 +16,7 @@ fn event(alloc: Global) -> EventParts {
     EventParts {
         id: 42,
         sensor: 3,
+        version: 0,
         mode: Mode::Detailed,
         send: true,
         store: false,
@@ -40,6 +41,7 @@ fn config(
     }
     let [lost_events, lost_contexts, limited] = internal;
     let parts = ConfigParts {
+        profile: 1,
         instance: 18,
         callers: buffers,
         ring: buffers,

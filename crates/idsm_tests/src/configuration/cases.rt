@@ -252,7 +252,7 @@ ok | {"form":1,"instance":18,"internal":{"lost_events":0,"lost_contexts":2,"limi
 2 at top | [[[[[[[[[[[[[[[[[[[[[[[[[[[[[[[[[[[[[[[[[[[[[[[[[[[[[[[[[[[[[[[[[[[[[[[[[[[[[[[[[[[[[[[[[[[[[[[[[[[[[[[[[[[[[[[[[[[[[[[[[[[[[[[]]]]]]]]]]]]]]]]]]]]]]]]]]]]]]]]]]]]]]]]]]]]]]]]]]]]]]]]]]]]]]]]]]]]]]]]]]]]]]]]]]]]]]]]]]]]]]]]]]]]]]]]]]]]]]]]]]]]]]]]]]]]]]]
 2 at class 0 | {"form":1,"instance":18,"events":[7],"classes":[7]}
 3 at top | {"Form":1,"instance":18,"events":[{"id":42,"sensor":3}]}
-3 at top | {"form":2,"profile":2,"instance":18,"events":[{"id":42,"sensor":3}]}
+3 at top | {"form":1,"profile":1,"instance":18,"events":[{"id":42,"sensor":3}]}
 3 at top | {"form":3,"profile":2,"instance":18,"events":[{"id":42,"sensor":3}]}
 3 at event 0 | {"form":1,"instance":1024,"events":[{"id":42,"sensor":3,"x":1}]}
 3 at top | {"x":1}
@@ -279,12 +279,12 @@ ok | {"form":1,"instance":18,"internal":{"lost_events":0,"lost_contexts":2,"limi
 5 at top | {"form":2,"instance":18,"ring":"x","events":[{"id":42,"sensor":3}]}
 5 at top | {"form":1,"instance":18,"internal":{"limited":true},"events":[{"id":65536,"sensor":3}]}
 6 at top | {"form":0,"instance":18,"events":[{"id":42,"sensor":3}]}
-6 at top | {"form":2,"instance":18,"events":[{"id":42,"sensor":3}]}
+6 at top | {"form":3,"instance":18,"events":[{"id":42,"sensor":3}]}
 6 at top | {"form":18446744073709551615,"instance":18,"events":[{"id":42,"sensor":3}]}
-6 at top | {"form":1,"instance":18,"events":[{"id":42,"sensor":3}],"\u0066orm":2}
-6 at top | {"form":2,"instance":18,"events":[7]}
-6 at top | {"form":2,"instance":18,"classes":[{"x":1}],"rate":{"x":1},"events":[{"x":1}]}
-6 at top | {"form":2,"instance":1024,"events":[{"id":42,"sensor":3}]}
+6 at top | {"form":1,"instance":18,"events":[{"id":42,"sensor":3}],"\u0066orm":3}
+6 at top | {"form":3,"instance":18,"events":[7]}
+6 at top | {"form":3,"instance":18,"classes":[{"x":1}],"rate":{"x":1},"events":[{"x":1}]}
+6 at top | {"form":3,"instance":1024,"events":[{"id":42,"sensor":3}]}
 7 at event 0 | {"form":1,"instance":18,"internal":{"x":0},"events":[{"id":1,"sensor":1,"mode":"ON"}]}
 8 at event 1 | {"form":1,"instance":1024,"events":[{"id":42,"sensor":3},{"id":1,"sensor":1,"aggregate":{"interval":0,"context":"x"}}]}
 9 at top | {"form":1,"instance":1024,"events":[{"id":42,"sensor":3}]}
@@ -299,3 +299,60 @@ ok | {"form":1,"instance":18,"internal":{"lost_events":0,"lost_contexts":2,"limi
 24 at top | {"form":1,"instance":18,"internal":{"limited":1,"lost_contexts":null,"lost_events":1},"events":[{"id":42,"sensor":3},{"id":42,"sensor":3}]}
 24 at top | {"form":1,"instance":18,"internal":{"lost_events":0,"lost_contexts":2,"limited":2},"events":[{"id":42,"sensor":3},{"id":42,"sensor":3},{"id":42,"sensor":3}]}
 24 at top | {"form":1,"instance":18,"internal":{"lost_events":1,"lost_contexts":0,"limited":1},"events":[{"id":42,"sensor":3},{"id":42,"sensor":3}]}"#;
+
+/// Whole texts of the second form, and of what is not it.
+pub(super) const SECOND_FORM: &str =
+    r#"ok | {"callers":1,"classes":[],"events":[{"aggregate":null,"block":[],"id":42,"mode":"DETAILED","nth":1,"send":true,"sensor":3,"store":false,"threshold":null,"version":0}],"form":2,"instance":18,"internal":{"limited":null,"lost_contexts":null,"lost_events":null},"memory":0,"profile":1,"rate":null,"ring":64,"state":0,"traffic":null}
+ok | {"form":2,"instance":18,"events":[{"id":42,"sensor":3}]}
+ok | {"form":2,"profile":1,"instance":18,"events":[{"id":42,"sensor":3}]}
+ok | {"form":2,"profile":2,"instance":18,"events":[{"id":42,"sensor":3}]}
+ok | {"form":2,"instance":18,"events":[{"id":42,"sensor":3,"version":255}]}
+ok | {"form":2,"profile":2,"instance":18,"events":[{"id":42,"sensor":3,"version":1},{"id":1,"sensor":1,"version":0}]}
+ok | {"form":2,"profile":1,"instance":18,"events":[{"id":42,"sensor":3,"version":0}]}
+ok | {"events":[{"version":7,"sensor":3,"id":42}],"profile":2,"instance":18,"form":2}
+ok | {"form":1,"instance":18,"events":[{"id":42,"sensor":3,"version":7}],"\u0066orm":2}
+ok | {"form":2,"profile":9,"instance":18,"events":[{"id":42,"sensor":3,"version":256,"version":7}],"profile":2}
+1 at top | {"form":2,"profile":02,"instance":18,"events":[{"id":42,"sensor":3}]}
+2 at event 0 | {"form":2,"profile":3,"instance":18,"events":[7]}
+3 at top | {"profile":2,"instance":18,"events":[{"id":42,"sensor":3}]}
+3 at top | {"form":2,"version":0,"instance":18,"events":[{"id":42,"sensor":3}]}
+3 at top | {"form":2.0,"profile":2,"instance":18,"events":[{"id":42,"sensor":3}]}
+3 at top | {"form":"2","profile":2,"instance":18,"events":[{"id":42,"sensor":3}]}
+3 at top | {"form":null,"profile":2,"instance":18,"events":[{"id":42,"sensor":3}]}
+3 at top | {"form":0,"profile":2,"instance":18,"events":[{"id":42,"sensor":3}]}
+3 at top | {"form":2,"profile":2,"instance":18,"events":[{"id":42,"sensor":3}],"form":1}
+3 at class 0 | {"form":2,"instance":18,"classes":[{"x":1}],"rate":{"x":1},"events":[{"x":1}]}
+3 at event 0 | {"form":1,"instance":18,"events":[{"id":42,"sensor":3,"version":1}]}
+3 at event 0 | {"form":1,"instance":18,"events":[{"id":42,"sensor":3,"version":0}]}
+3 at event 1 | {"form":2,"instance":18,"events":[{"id":42,"sensor":3},{"id":1,"sensor":1,"profile":2}]}
+4 at top | {"form":2,"profile":2,"events":[{"id":42,"sensor":3}]}
+4 at event 0 | {"form":2,"instance":18,"events":[{"id":42,"version":7}]}
+5 at top | {"form":"2","instance":18,"events":[{"id":42,"sensor":3}]}
+5 at top | {"form":2,"profile":null,"instance":18,"events":[{"id":42,"sensor":3}]}
+5 at top | {"form":2,"profile":"1","instance":18,"events":[{"id":42,"sensor":3}]}
+5 at top | {"form":2,"profile":2.0,"instance":18,"events":[{"id":42,"sensor":3}]}
+5 at event 0 | {"form":2,"instance":18,"events":[{"id":42,"sensor":3,"version":null}]}
+5 at event 0 | {"form":2,"instance":18,"events":[{"id":42,"sensor":3,"version":-1}]}
+5 at event 0 | {"form":2,"profile":3,"instance":18,"events":[{"id":42,"sensor":3,"version":"7"}]}
+6 at top | {"form":3,"instance":18,"events":[{"id":42,"sensor":3,"version":7}]}
+7 at event 0 | {"form":2,"profile":0,"instance":18,"events":[{"id":42,"sensor":3,"mode":"ON"}]}
+9 at top | {"form":2,"profile":1,"instance":1024,"events":[{"id":42,"sensor":3,"version":1}]}
+19 at top | {"form":2,"profile":1,"instance":18,"events":[]}
+20 at event 0 | {"form":2,"profile":1,"instance":18,"events":[{"id":65536,"sensor":3,"version":1}]}
+21 at event 0 | {"form":2,"instance":18,"events":[{"id":42,"sensor":64,"version":256}]}
+22 at event 0 | {"form":2,"instance":18,"events":[{"id":42,"sensor":3,"version":255,"block":[7,7]},{"id":1,"sensor":1,"version":256}]}
+24 at top | {"form":2,"profile":1,"instance":18,"internal":{"limited":1},"events":[{"id":42,"sensor":3}]}
+25 at top | {"form":2,"profile":0,"instance":18,"events":[{"id":42,"sensor":3}]}
+25 at top | {"form":2,"profile":3,"instance":18,"events":[{"id":42,"sensor":3}]}
+25 at top | {"form":2,"profile":18446744073709551615,"instance":18,"events":[{"id":42,"sensor":3}]}
+25 at top | {"instance":1024,"form":2,"profile":3,"events":[{"id":42,"sensor":3}]}
+25 at top | {"form":2,"profile":0,"instance":18,"events":[{"id":42,"sensor":3,"version":1}]}
+25 at top | {"form":2,"profile":3,"instance":18,"classes":[{"size":0,"number":0}],"events":[]}
+26 at event 0 | {"form":2,"profile":2,"instance":18,"events":[{"id":42,"sensor":3,"version":256}]}
+26 at event 0 | {"form":2,"instance":18,"events":[{"id":42,"sensor":3,"version":18446744073709551615}]}
+26 at event 0 | {"form":2,"profile":1,"instance":18,"events":[{"id":42,"sensor":3,"version":1}]}
+26 at event 0 | {"form":2,"profile":1,"instance":18,"events":[{"id":42,"sensor":3,"version":256}]}
+26 at event 0 | {"form":2,"instance":18,"events":[{"id":42,"sensor":3,"block":[256],"version":256}]}
+26 at event 0 | {"form":2,"profile":1,"instance":18,"events":[{"id":42,"sensor":3,"block":[7,7],"version":7}]}
+26 at event 1 | {"form":2,"profile":1,"instance":18,"internal":{"limited":9},"events":[{"id":42,"sensor":3},{"id":1,"sensor":1,"nth":0,"version":255}]}
+26 at event 1 | {"form":2,"instance":18,"events":[{"id":42,"sensor":3,"version":255},{"id":1,"sensor":1,"version":256}]}"#;
