@@ -9,12 +9,13 @@ use Rattle.serde_json.specs.View.{items_of}
 use Rattle.serde_json.specs.Written.{has_float, items_have_float}
 use Rattle.ids_types.specs.declared.mode.Mode.{Mode}
 use Rattle.ids_types.specs.declared.mode.Mode.TheVariants as modes
+use Rattle.ids_types.specs.ModeNames.{mode_name, mode_named}
 use Rattle.ids_config.specs.Parts.{Event, Parts}
 use Rattle.ids_config.specs.Steps.{each}
 use Rattle.config_json.specs.declared.tables.Form.TheVariants as forms
 use Rattle.config_json.specs.Kinds.{whole_in, elements, is_null, is_whole}
-use Rattle.config_json.specs.Members.{if_object, mode_named, last_named, window_in, aggregate_in, class_in, state_in, event_in, parts_in}
-use Rattle.config_json.specs.Printed.{whole, optional, mode_name, context_name, class_tree, window_tree, aggregate_tree, event_tree, internal_tree, config_tree}
+use Rattle.config_json.specs.Members.{if_object, last_named, window_in, aggregate_in, class_in, state_in, event_in, parts_in}
+use Rattle.config_json.specs.Printed.{whole, optional, context_name, class_tree, window_tree, aggregate_tree, event_tree, internal_tree, config_tree}
 use Rattle.config_json.specs.Shape.{object_shape, class_shape, aggregate_shape, event_shape, event_shape_at, config_shape}
 use Rattle.config_json.specs.Tables.{window_table, internal_table}
 

@@ -4,8 +4,8 @@ use Rattle.std.specs.Prelude.{ℕ, List, map, Bool, true, false, Option, Some, N
 use Rattle.serde_json.specs.Data.{Data, no_items}
 use Rattle.serde_json.specs.Find.{get, as_bool, as_str, as_array, as_object}
 use Rattle.ids_types.specs.declared.class_spec.ClassSpec.{ClassSpec}
-use Rattle.ids_types.specs.declared.mode.Mode.{Mode}
 use Rattle.ids_types.specs.declared.mode.Mode.TheVariants as modes
+use Rattle.ids_types.specs.ModeNames.{mode_named}
 use Rattle.ids_config.specs.declared.parts.Aggregate.{Aggregate}
 use Rattle.ids_config.specs.declared.parts.Window.{Window}
 use Rattle.ids_config.specs.Parts.{Event, Parts}
@@ -54,17 +54,7 @@ form_at tree = option_and_then form_numbered (whole_at (codes "form") tree)
 abbrev pub form_of : Data → Form
 form_of tree = unwrap_or (form_at tree) forms.First
 
--- ---- texts that are names
-
--- the reporting mode of this name
-abbrev pub mode_named : List ℕ → Option Mode
-mode_named name =
-    if bytes_eq name (codes "OFF") then Some modes.Off
-    else if bytes_eq name (codes "BRIEF") then Some modes.Brief
-    else if bytes_eq name (codes "DETAILED") then Some modes.Detailed
-    else if bytes_eq name (codes "BRIEF_BYPASSING_FILTERS") then Some modes.BriefBypassing
-    else if bytes_eq name (codes "DETAILED_BYPASSING_FILTERS") then Some modes.DetailedBypassing
-    else None
+-- ---- names
 
 -- the choice of a context of this name: whether the last one is kept
 abbrev pub last_named : List ℕ → Option Bool

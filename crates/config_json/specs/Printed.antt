@@ -5,8 +5,7 @@ use Rattle.serde_json.specs.Data.{unsigned, Data, Members, null, boolean, number
 use Rattle.serde_json.specs.View.{items_of}
 use Rattle.serde_json.specs.Written.{compact_text}
 use Rattle.ids_types.specs.declared.class_spec.ClassSpec.{ClassSpec}
-use Rattle.ids_types.specs.declared.mode.Mode.{Mode}
-use Rattle.ids_types.specs.declared.mode.Mode.TheVariants as modes
+use Rattle.ids_types.specs.ModeNames.{mode_name}
 use Rattle.ids_config.specs.declared.parts.Aggregate.{Aggregate}
 use Rattle.ids_config.specs.declared.parts.Window.{Window}
 use Rattle.ids_config.specs.Parts.{Event, Parts}
@@ -23,14 +22,6 @@ optional tree (Some x) = tree x
 -- a list of such trees
 abbrev pub list_tree : {A : Type 0} → (A → Data) → List A → Data
 list_tree tree xs = array (items_of (map tree xs))
-
--- the name of a reporting mode
-abbrev pub mode_name : Mode → List ℕ
-mode_name modes.Off = codes "OFF"
-mode_name modes.Brief = codes "BRIEF"
-mode_name modes.Detailed = codes "DETAILED"
-mode_name modes.BriefBypassing = codes "BRIEF_BYPASSING_FILTERS"
-mode_name modes.DetailedBypassing = codes "DETAILED_BYPASSING_FILTERS"
 
 -- the name of the context that an aggregation keeps
 abbrev pub context_name : Bool → List ℕ

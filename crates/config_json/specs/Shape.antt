@@ -4,12 +4,13 @@ use Rattle.std.specs.Prelude.{ℕ, List, [], ◌∷◌, Bool, true, not, ◌||�
 use Rattle.std.specs.List.{list_any, list_all}
 use Rattle.serde_json.specs.Data.{Data, Members, no_members, member}
 use Rattle.serde_json.specs.Find.{get, as_object}
+use Rattle.ids_types.specs.ModeNames.{mode_named}
 use Rattle.ids_config.specs.declared.fault.ConfigFault.{ConfigFault}
 use Rattle.ids_config.specs.declared.fault.ConfigPlace.TheVariants as places
 use Rattle.ids_config.specs.Steps.{◌>>◌, asks, at, each, capped}
 use Rattle.config_json.specs.declared.tables.Form.{Form}
 use Rattle.config_json.specs.Kinds.{has_kind}
-use Rattle.config_json.specs.Members.{text_at, list_at, object_at, form_at, form_of, mode_named, last_named}
+use Rattle.config_json.specs.Members.{text_at, list_at, object_at, form_at, form_of, last_named}
 use Rattle.config_json.specs.Tables.{Row, top_table, class_table, window_table, event_table, aggregate_table, internal_table}
 
 -- ---- one object

@@ -2,10 +2,9 @@
 
 ghost use Rattle.std.specs.Prelude.{◌≡◌, map, option_map};
 ghost use Rattle.serde_json.specs.View.{view};
-ghost use Rattle.config_json.specs.Members.{whole_at, text_at, list_at, object_at, form_at, mode_named, last_named};
+ghost use Rattle.config_json.specs.Members.{whole_at, text_at, list_at, object_at, form_at, last_named};
 
 use crate::tables::Form;
-use ids_types::Mode;
 use serde_json::Value;
 
 pub(crate) fn find_whole(value: &Value, name: &str) -> Option<u64>
@@ -48,20 +47,6 @@ pub(crate) fn find_form(value: &Value) -> Option<Form>
     ensures { result ≡ form_at (view value.now) }
 {
     find_whole(value, "form").and_then(Form::numbered)
-}
-
-/// The reporting mode of this name.
-pub(crate) fn mode_of(name: &str) -> Option<Mode>
-    ensures { result ≡ mode_named name.now }
-{
-    match name {
-        "OFF" => Some(Mode::Off),
-        "BRIEF" => Some(Mode::Brief),
-        "DETAILED" => Some(Mode::Detailed),
-        "BRIEF_BYPASSING_FILTERS" => Some(Mode::BriefBypassing),
-        "DETAILED_BYPASSING_FILTERS" => Some(Mode::DetailedBypassing),
-        _ => None,
-    }
 }
 
 /// Whether an aggregation of this choice keeps the last context of a window.

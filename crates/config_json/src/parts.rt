@@ -5,7 +5,7 @@ ghost use Rattle.serde_json.specs.View.{view};
 ghost use Rattle.ids_config.specs.Parts.{class_of};
 ghost use Rattle.config_json.specs.Members.{whole_or as whole_unless, truth_or as truth_unless, window_in, aggregate_in, class_in, state_in, event_in, internal_at, profile_in, form_of, parts_in};
 
-use crate::members::{find_form, find_list, find_object, find_text, find_whole, last_of, mode_of};
+use crate::members::{find_form, find_list, find_object, find_text, find_whole, last_of};
 use crate::tables::Form;
 use ids_config::{Aggregate, ConfigParts, EventParts, Window};
 use ids_types::Mode;
@@ -73,7 +73,7 @@ fn read_event(alloc: Global, value: &Value) -> Result<EventParts, AllocError>
         sensor: whole_or(0, value, "sensor"),
         version: whole_or(0, value, "version"),
         mode: find_text(value, "mode")
-            .and_then(mode_of)
+            .and_then(|name| Mode::named(name.as_bytes()))
             .unwrap_or(Mode::Detailed),
         send: truth_or(true, value, "send"),
         store: truth_or(false, value, "store"),

@@ -4,10 +4,10 @@ ghost use Rattle.std.specs.Prelude.{◌≡◌, map, IfOk, OnOk, string_bytes};
 ghost use Rattle.serde_json.specs.View.{view, members_view};
 ghost use Rattle.ids_config.specs.Parts.{class_of};
 ghost use Rattle.config_json.specs.Configured.{configuration};
-ghost use Rattle.config_json.specs.Printed.{whole, optional, list_tree, mode_name as name_of_mode, with_members, class_tree, window_tree, aggregate_tree, event_members, filter_members, event_tree, internal_tree, number_members, inner_members, config_tree, config_text};
+ghost use Rattle.config_json.specs.Printed.{whole, optional, list_tree, with_members, class_tree, window_tree, aggregate_tree, event_members, filter_members, event_tree, internal_tree, number_members, inner_members, config_tree, config_text};
 
 use ids_config::{Aggregate, Config, ConfigParts, EventParts, Window};
-use ids_types::{Mode, NoMemory};
+use ids_types::NoMemory;
 use serde_json::{Map, Value, json, put};
 use std::alloc::{AllocError, Global};
 
@@ -155,12 +155,7 @@ fn put_event(
     put(members, alloc, "id", Value::from(event.id))?;
     put(members, alloc, "sensor", Value::from(event.sensor))?;
     put(members, alloc, "version", Value::from(event.version))?;
-    put(
-        members,
-        alloc,
-        "mode",
-        json!(in alloc; mode_name(event.mode))?,
-    )?;
+    put(members, alloc, "mode", json!(in alloc; event.mode.name())?)?;
     put(members, alloc, "send", Value::from(event.send))?;
     put(members, alloc, "store", Value::from(event.store))
 }
@@ -209,16 +204,4 @@ fn tree_of_aggregate(alloc: Global, aggregate: Option<Aggregate>) -> Result<Valu
     };
     let context = if aggregate.last { "LAST" } else { "FIRST" };
     json!(in alloc; {"interval": aggregate.interval, "context": context})
-}
-
-fn mode_name(mode: Mode) -> &'static str
-    ensures { result.now ≡ name_of_mode mode }
-{
-    match mode {
-        Mode::Off => "OFF",
-        Mode::Brief => "BRIEF",
-        Mode::Detailed => "DETAILED",
-        Mode::BriefBypassing => "BRIEF_BYPASSING_FILTERS",
-        Mode::DetailedBypassing => "DETAILED_BYPASSING_FILTERS",
-    }
 }

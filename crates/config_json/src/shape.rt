@@ -5,16 +5,18 @@ ghost use Rattle.std.specs.List.{list_any, list_all};
 ghost use Rattle.std.specs.BTreeMap.{keys};
 ghost use Rattle.serde_json.specs.View.{view};
 ghost use Rattle.ids_config.specs.Steps.{each};
-ghost use Rattle.config_json.specs.Members.{mode_named, last_named};
+ghost use Rattle.ids_types.specs.ModeNames.{mode_named};
+ghost use Rattle.config_json.specs.Members.{last_named};
 ghost use Rattle.config_json.specs.Rows.{row_of, is_among as among, members_shape};
 ghost use Rattle.config_json.specs.Shape.{object_shape, part_shape, class_shape, aggregate_shape, event_shape, event_shape_at, config_shape, is_there as there, is_of_kind as of_kind, is_known as known};
 
 use crate::kind::has_kind;
-use crate::members::{find_form, find_list, find_object, find_text, last_of, mode_of};
+use crate::members::{find_form, find_list, find_object, find_text, last_of};
 use crate::tables::{
     AGGREGATE, CLASS, Form, INTERNAL, MemberRow, RATE, THRESHOLD, TRAFFIC, event_rows, top_rows,
 };
 use ids_config::{ConfigFault, ConfigPlace, asks, at, capped};
+use ids_types::Mode;
 use serde_json::{Map, Value};
 
 /// The first fault of shape of a whole configuration.
@@ -61,7 +63,7 @@ fn check_event(form: Form, value: &Value) -> Result<(), u8>
     check_object(value, event_rows(form))?;
     asks(
         7,
-        find_text(value, "mode").is_none_or(|name| mode_of(name).is_some()),
+        find_text(value, "mode").is_none_or(|name| Mode::named(name.as_bytes()).is_some()),
     )?;
     check_aggregate(value)?;
     check_part(value, "threshold", &THRESHOLD)

@@ -1,4 +1,5 @@
 pub mod Carries
+pub mod ModeNames
 pub mod Names
 pub mod Output
 pub mod Plain
