@@ -3,7 +3,7 @@
 use ids_types::{Mode, Stamp};
 use std::test::Fail;
 use text_spec::{
-    HexText, Pieces, hex_into, mode, push_hex, push_mode, push_number, push_stamp, stamp,
+    HexText, Pieces, hex_into, push_hex, push_mode, push_number, push_stamp, stamp,
 };
 
 #[test]
@@ -87,10 +87,10 @@ fn reads_and_prints_names_of_modes(rt: HostRuntime) -> Result<(), Fail> {
         b"DETAILED_BYPASSING_FILTERS",
     ] {
         let mut out = Vec::new(rt.alloc());
-        push_mode(&mut out, mode(name).unwrap_or(Mode::Off))?;
+        push_mode(&mut out, Mode::named(name).unwrap_or(Mode::Off))?;
         assert_eq!(rt; out.as_slice(), name);
     }
-    assert_eq!(rt; mode(b"off"), None);
+    assert_eq!(rt; Mode::named(b"off"), None);
     Ok(())
 }
 

@@ -12,7 +12,7 @@ ghost use Rattle.ids_types.specs.declared.entry.Carried.TheVariants.{Missing};
 
 use crate::line::{RawAct, RawContext, RawEntry, RawLine, RawLoss};
 use ids_types::{Mode, Numbers, TurnHead};
-use text_spec::{HexText, Pieces, mode};
+use text_spec::{HexText, Pieces};
 
 /// What a line of these words tells, `None` where it has no form.
 pub(crate) fn line_of(words: Pieces<'_>) -> Option<RawLine<'_>>
@@ -121,7 +121,7 @@ fn mode_first(words: Pieces<'_>) -> Option<(Mode, Pieces<'_>)>
     ensures { result ≡ first_as a_mode words.entry }
 {
     let (word, words) = words.first()?;
-    let mode = mode(word)?;
+    let mode = Mode::named(word)?;
     Some((mode, words))
 }
 

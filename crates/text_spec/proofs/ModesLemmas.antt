@@ -1,12 +1,12 @@
 -- The names of modes: the reading of a word against a mode's name.
 use Rattle.std.specs.Prelude.{◌≡◌, ◌∷◌}
-use Rattle.text_spec.proofs.Names.{ℕ, true, inl, inr, List, [], refl, ap, ◌∙◌, Some, bytes_eq, list_all, same_Some, none-some, bytes_eq-Decides, Mode, mode_name, first_named, mode_named}
+use Rattle.text_spec.proofs.Names.{ℕ, true, inl, inr, List, [], refl, ap, ◌∙◌, Some, bytes_eq, list_all, same_Some, none-some, bytes_eq-Decides, Mode, mode_name, find, mode_named}
 use Rattle.ids_types.specs.declared.mode.Mode.TheVariants.{Off, Brief, Detailed, BriefBypassing, DetailedBypassing}
 use Rattle.text_spec.proofs.FieldsLaws.{in_word}
 use Rattle.text_spec.proofs.FrontLemmas.{chosen}
 
 -- a name that was read is the mode's
-pub named_takes : (modes : List Mode) (word : List ℕ) (mode : Mode) → first_named modes word ≡ Some mode → word ≡ mode_name mode
+pub named_takes : (modes : List Mode) (word : List ℕ) (mode : Mode) → find (λ m. bytes_eq word (mode_name m)) modes ≡ Some mode → word ≡ mode_name mode
 named_takes [] word mode read = absurd (none-some mode read)
 named_takes (one ∷ modes) word mode read = elim (chosen (bytes_eq word (mode_name one)) (Some one) _ _ read) [
   | inl is ↦ (bytes_eq-Decides word (mode_name one)).0 is.0 ∙ ap mode_name (same_Some one mode is.1)

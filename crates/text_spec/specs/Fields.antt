@@ -5,7 +5,7 @@ use Rattle.std.specs.Prelude.{◌≡◌, ◌<◌, ◌^◌, ◌≤◌, ◌⊎◌,
 use Rattle.text_spec.specs.Below.{ℕ, true, bytes_eq, List, [], length, Option, Some, None, option_map, IfSome, ⊤, decimal, IsBytes, encode_lower, Mode, Stamp}
 use Rattle.text_spec.specs.Hexadecimal.{some_hex}
 use Rattle.text_spec.specs.Maybe.{◌>>=◌, first_of, ended, or_else}
-use Rattle.text_spec.specs.Modes.{mode_name, mode_named}
+use Rattle.ids_types.specs.ModeNames.{mode_name, mode_named}
 use Rattle.text_spec.specs.Numbers.{is_number, number_in, capped, greatest_told}
 use Rattle.text_spec.specs.Stamps.{stamp_in, stamp_text}
 

@@ -9,7 +9,6 @@ pub mod JournalForm
 pub mod JournalReading
 pub mod JournalText
 pub mod Maybe
-pub mod Modes
 pub mod Names
 pub mod Numbers
 pub mod PiecesView

@@ -1,5 +1,5 @@
 -- The names that the contracts and the proofs of this crate share, from where they are defined.
-pub use Rattle.text_spec.specs.Below.{All, AllByRecursion, Err, IfSome, IsBytes, List, Mode, None, Ok, OnErr, OnOk, Option, Parts, Result, Some, Stamp, Turn, [], begun, byte_at, bytes_eq, bytes_high_first, codes, decimal, decode_of, drop, encode_lower, entries_of, extended, flat_map, from_be_bytes, is_in_range, is_sensor, join_with_byte, length, list_all, list_any, lower_digits, nat_lt, option_and_then, option_copied, option_map, slice_split, take, to_be_bytes, true, vec_capacity, vec_len, w64, with_entry, ℕ, ⊤}
+pub use Rattle.text_spec.specs.Below.{All, AllByRecursion, Err, IfSome, IsBytes, List, Mode, None, Ok, OnErr, OnOk, Option, Parts, Result, Some, Stamp, Turn, [], all_modes, begun, byte_at, bytes_eq, bytes_high_first, codes, decimal, decode_of, drop, encode_lower, entries_of, extended, find, flat_map, from_be_bytes, is_in_range, is_sensor, join_with_byte, length, list_all, list_any, lower_digits, mode_name, mode_named, nat_lt, option_and_then, option_copied, option_map, slice_split, take, to_be_bytes, true, vec_capacity, vec_len, w64, with_entry, ℕ, ⊤}
 pub use Rattle.text_spec.specs.Contexts.{IsContext, IsContextWord, IsExactContext, a_context, claims_in, colon, context_in, context_word, kept_fields, kept_in, kept_places, mark, numbers_in, point}
 pub use Rattle.text_spec.specs.DecodedText.{form_letter, layout_word, message_line, shown_context, shown_signature}
 pub use Rattle.text_spec.specs.Fields.{AreExact, AreHeld, AreWritten, Field, Filled, Form, HasForm, Makes, a_mode, a_number, a_stamp, first_as, hex_bytes, put, read_by, simple, the, told_in, told_in_one, words_of_fields}
@@ -9,6 +9,5 @@ pub use Rattle.text_spec.specs.JournalForm.{entry_of, line_forms, loss_form, rep
 pub use Rattle.text_spec.specs.JournalReading.{AreFaultless, BadLine, Fits, Follows, IsHeld, IsJournal, after_line, at_line, journal_in, past_with}
 pub use Rattle.text_spec.specs.JournalText.{Absent, Act, Carried, Entry, Kept, Line, Loss, Missing, Report, SetMode, State, Told, act_fields, begins, enters, fields_of, line_for, lines_told, loses, turn_told}
 pub use Rattle.text_spec.specs.Maybe.{or_else, ◌>>=◌}
-pub use Rattle.text_spec.specs.Modes.{all_modes, first_named, mode_name, mode_named}
 pub use Rattle.text_spec.specs.Stamps.{stamp_in, stamp_of_bytes, stamp_text}
 pub use Rattle.text_spec.specs.Words.{absent, line_feed, line_of, pieces_of, space, text_of, words_of}
