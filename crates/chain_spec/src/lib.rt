@@ -1,0 +1,8 @@
+//! The filter chain over whole histories: what it qualifies, sends, holds back and keeps in memory.
+//!
+//! Layer 5, filters and limits. Over `ids_types`, `ids_config` and `ids_frame`; the filters, the event
+//! memory and the chain meet the definitions of `specs/`, each over its own calls.
+//! Definitions and laws, and no code that runs. A list has its newest element first, so that what came
+//! before an element is the rest of the list. `laws` says of the definitions what the AUTOSAR SWS Intrusion
+//! Detection System Manager's words say of them.
+#![tactic(auto)]
