@@ -1,1 +1,6 @@
+pub mod FilterLemmas
+pub mod GrowthLemmas
+pub mod LimitsLemmas
+pub mod StageLemmas
+pub mod WindowsLemmas
 mod WorkedHistories

@@ -6,3 +6,10 @@
 //! before an element is the rest of the list. `laws` says of the definitions what the AUTOSAR SWS Intrusion
 //! Detection System Manager's words say of them.
 #![tactic(auto)]
+
+mod laws;
+
+pub use laws::{
+    how_stages_compose, what_a_turn_more_keeps, what_each_filter_does,
+    where_qualified_events_stand, which_candidates_are_sent, which_items_open_a_window,
+};

@@ -1,0 +1,56 @@
+-- What is sent, in the words of the limits.
+use Rattle.std.proofs.Common.{◌≡◌, ◌+◌, ◌<◌, ◌≤◌, ◌&&◌, ◌↔◌, IsTrue, Bool, true, false, List, [], ◌∷◌, ◌++◌, length, map, sum_by, Option, Some, option_to_list, refl, ap, ◌∙◌, arith, le-leb, leb-true}
+use Rattle.std.proofs.lemmas.List.Sums.{sum_by-cons}
+use Rattle.ids_config.specs.Parts.{Parts}
+use Rattle.ids_config.specs.declared.parts.Window.{Window as Limit}
+use Rattle.chain_spec.specs.Chain.{candidates, sent_at, sent, is_out}
+use Rattle.chain_spec.specs.Items.{Item}
+use Rattle.chain_spec.specs.Limits.{Candidate, window_at, those_in, passes_rate, passes_traffic, sent_of, is_let_out}
+use Rattle.chain_spec.specs.Messages.{weighed}
+use Rattle.chain_spec.specs.Stages.{added, where_true}
+
+-- a sum of ones is how many there are
+sum_of_ones : {A : Type 0} (xs : List A) → sum_by (λ x. 1) xs ≡ length xs
+sum_of_ones [] = refl
+sum_of_ones {A} (x ∷ xs) = sum_by-cons (λ (y : A). 1) x xs ∙ omega (arith, sum_of_ones xs)
+
+pub fewer_before : (limit : Limit) (before : List Candidate) (candidate : Candidate)
+    → IsTrue (passes_rate (Some limit) before candidate)
+    ↔ (length (those_in limit.interval before (window_at limit.interval candidate.tick)) < limit.number)
+fewer_before limit before candidate =
+    let inside = those_in limit.interval before (window_at limit.interval candidate.tick) in
+    let ones = sum_of_ones inside in
+    (λ passes. omega (arith, leb-true _ _ passes, ones), λ fewer. le-leb _ _ (omega (arith, ones, fewer)))
+
+pub bytes_fit : (limit : Limit) (before : List Candidate) (candidate : Candidate)
+    → IsTrue (passes_traffic (Some limit) before candidate)
+    ↔ (sum_by (λ one. one.bytes) (those_in limit.interval before (window_at limit.interval candidate.tick)) + candidate.bytes ≤ limit.number)
+bytes_fit limit before candidate = (λ passes. leb-true _ _ passes, λ fit. le-leb _ _ fit)
+
+-- both tests hold
+both_hold : (a b : Bool) → IsTrue (a && b) ↔ (IsTrue a × IsTrue b)
+both_hold true true = (λ both. (refl, refl), λ both. refl)
+both_hold true false = (λ both. absurd (cc both), λ both. both.1)
+both_hold false b = (λ both. absurd (cc both), λ both. both.0)
+
+pub let_out_by_both : (rate traffic : Option Limit) (before : List Candidate) (candidate : Candidate)
+    → IsTrue (is_let_out rate traffic before candidate)
+    ↔ (IsTrue (passes_rate rate before candidate) × IsTrue (passes_traffic traffic (sent_of rate traffic before) candidate))
+let_out_by_both rate traffic before candidate = both_hold _ _
+
+-- the items that are sent are the candidates that the limits let out
+pub weighed_sent : (config : Parts) (items : List Item)
+    → map (weighed config) (added (sent_at config) items) ≡ sent_of config.rate config.traffic (map (weighed config) items)
+weighed_sent config [] = refl
+weighed_sent config (item ∷ before) =
+    let rest = weighed_sent config before in
+    elim (is_out config before item) as (λ (b : Bool). map (weighed config) (option_to_list (where_true b item) ++ added (sent_at config) before)
+    ≡ option_to_list (where_true b (weighed config item)) ++ sent_of config.rate config.traffic (map (weighed config) before))
+    [ true ↦ ap (λ (xs : List Candidate). weighed config item ∷ xs) rest | false ↦ rest ]
+
+pub weighed_sent_of : (config : Parts) (items : List Item)
+    → map (weighed config) (sent config items) ≡ sent_of config.rate config.traffic (map (weighed config) (candidates config items))
+weighed_sent_of config items = weighed_sent config (candidates config items)
+
+-- what is sent in the words of the limits
+pub ruleset limit_laws = (fewer_before, bytes_fit, let_out_by_both, weighed_sent_of)

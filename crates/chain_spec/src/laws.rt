@@ -1,0 +1,106 @@
+//! What the definitions say in other words: each function has a law as its contract, and no body.
+
+ghost use Rattle.std.specs.Prelude.{◌≡◌, ℕ, ◌+◌, ◌<◌, ◌≤◌, List, [], ◌∷◌, ◌++◌, Option, Some, None, IsTrue, ◌↔◌, length, map, filter, flat_map, sum_by};
+ghost use Rattle.ids_types.specs.Turns.{Turn};
+ghost use Rattle.ids_config.specs.Parts.{Parts, event_at};
+ghost use Rattle.ids_config.specs.declared.parts.Window.{Window as Limit};
+ghost use Rattle.chain_spec.specs.ByEvent.{every, closed_items, reaching};
+ghost use Rattle.chain_spec.specs.Chain.{candidates, sent, held, messages, ends, handed, qualified_of};
+ghost use Rattle.chain_spec.specs.Filtering.{gated, aggregated, thresholded, filtered_at, qualified_at, qualified};
+ghost use Rattle.chain_spec.specs.Gate.{arrivals, sampled, bypassing_at};
+ghost use Rattle.chain_spec.specs.Growth.{Grows, GrowsAtEnd};
+ghost use Rattle.chain_spec.specs.Items.{Item, is_of};
+ghost use Rattle.chain_spec.specs.Limits.{Candidate, window_at, those_in, passes_rate, passes_traffic, is_let_out, sent_of};
+ghost use Rattle.chain_spec.specs.Messages.{weighed};
+ghost use Rattle.chain_spec.specs.Moments.{Moment, moments};
+ghost use Rattle.chain_spec.specs.Openers.{openers, IsBeyond, AreApart};
+ghost use Rattle.chain_spec.specs.Places.{placed, HaveOwnPlaces};
+ghost use Rattle.chain_spec.specs.Stages.{Stage, added, behind};
+ghost use Rattle.chain_spec.specs.Storing.{stored};
+ghost use Rattle.chain_spec.specs.Windows.{opened, members, in_newest, windows_of};
+
+/// Two stages one behind the other add what the second adds to the list of the first.
+#[tactic(auto, using(crate::proofs::StageLemmas::added_behind))]
+pub fn how_stages_compose<A, B, C>()
+    ensures { (first : Stage A B) (second : Stage B C) (xs : List A) →
+        added (behind first second) xs ≡ added second (added first xs) }
+{}
+
+/// A turn more changes nothing of what a history told: each list of the chain only has newer elements
+/// beside the old ones, and the messages follow those that were sent.
+#[tactic(auto, using(crate::proofs::GrowthLemmas::growth_laws))]
+pub fn what_a_turn_more_keeps()
+    ensures arrivals { (config : Parts) (event : ℕ) → Grows (λ turns. arrivals config event (moments config turns)) }
+    ensures sampled { (config : Parts) (event : ℕ) → Grows (λ turns. sampled config event (moments config turns)) }
+    ensures gated { (config : Parts) → Grows (λ turns. gated config (moments config turns)) }
+    ensures aggregated { (config : Parts) → Grows (λ turns. aggregated config (moments config turns)) }
+    ensures thresholded { (config : Parts) → Grows (λ turns. thresholded config (moments config turns)) }
+    ensures qualified { (config : Parts) → Grows (qualified_of config) }
+    ensures candidates { (config : Parts) → Grows (λ turns. candidates config (qualified_of config turns)) }
+    ensures sent { (config : Parts) → Grows (λ turns. sent config (qualified_of config turns)) }
+    ensures held { (config : Parts) → Grows (λ turns. held config (qualified_of config turns)) }
+    ensures stored { (config : Parts) → Grows (λ turns. stored config (qualified_of config turns)) }
+    ensures messages { (config : Parts) → GrowsAtEnd (messages config) }
+    ensures ends { (config : Parts) → Grows (ends config) }
+    ensures handed { (config : Parts) → Grows (handed config) }
+{}
+
+/// No two qualified events have one place in the history.
+#[tactic(auto, using(crate::proofs::StageLemmas::place_laws))]
+pub fn where_qualified_events_stand()
+    ensures all { (config : Parts) (moments : List Moment) →
+        map (λ one. one.1) (placed (qualified_at config) moments) ≡ qualified config moments }
+    ensures own { (config : Parts) (moments : List Moment) → HaveOwnPlaces (placed (qualified_at config) moments) }
+{}
+
+/// Which items open a window, and which belong to one. An item beyond the windows of all earlier openers
+/// opens one, and every other item belongs to the newest; so the openers are apart, and each item lies in
+/// exactly one window.
+#[tactic(auto, using(crate::proofs::WindowsLemmas::window_laws))]
+pub fn which_items_open_a_window<A>()
+    ensures opens { (tick_of : A → ℕ) (interval : ℕ) (x : A) (before : List A) →
+        IsBeyond tick_of interval x (openers (windows_of tick_of interval before)) →
+        windows_of tick_of interval (x ∷ before) ≡ opened x ∷ windows_of tick_of interval before }
+    ensures belongs { (tick_of : A → ℕ) (interval : ℕ) (x : A) (before : List A) →
+        (IsBeyond tick_of interval x (openers (windows_of tick_of interval before)) → ⊥) →
+        windows_of tick_of interval (x ∷ before) ≡ in_newest x (windows_of tick_of interval before) }
+    ensures apart { (tick_of : A → ℕ) (interval : ℕ) (xs : List A) →
+        AreApart tick_of interval (openers (windows_of tick_of interval xs)) }
+    ensures all { (tick_of : A → ℕ) (interval : ℕ) (xs : List A) →
+        flat_map members (windows_of tick_of interval xs) ≡ xs }
+{}
+
+/// What is sent, in the words of the limits: a candidate passes the rate where fewer than the number stand
+/// before it in its window, and the traffic where the bytes sent in its window and its own are at most the
+/// number. It is sent where it passes both.
+#[tactic(auto, using(crate::proofs::LimitsLemmas::limit_laws))]
+pub fn which_candidates_are_sent()
+    ensures rate { (rate : Limit) (before : List Candidate) (candidate : Candidate) →
+        IsTrue (passes_rate (Some rate) before candidate)
+        ↔ (length (those_in rate.interval before (window_at rate.interval candidate.tick)) < rate.number) }
+    ensures traffic { (traffic : Limit) (sent : List Candidate) (candidate : Candidate) →
+        IsTrue (passes_traffic (Some traffic) sent candidate)
+        ↔ (sum_by (λ one. one.bytes) (those_in traffic.interval sent (window_at traffic.interval candidate.tick))
+        + candidate.bytes ≤ traffic.number) }
+    ensures both { (rate traffic : Option Limit) (before : List Candidate) (candidate : Candidate) →
+        IsTrue (is_let_out rate traffic before candidate)
+        ↔ (IsTrue (passes_rate rate before candidate)
+        × IsTrue (passes_traffic traffic (sent_of rate traffic before) candidate)) }
+    ensures items { (config : Parts) (items : List Item) → map (weighed config) (sent config items)
+        ≡ sent_of config.rate config.traffic (map (weighed config) (candidates config items)) }
+{}
+
+/// The filters of one event over its whole lists, one filter after another; and what bypasses the filters
+/// does not go through them.
+#[tactic(auto, using(crate::proofs::FilterLemmas::filter_laws))]
+pub fn what_each_filter_does()
+    ensures sampled { (config : Parts) (event : ℕ) (moments : List Moment) →
+        sampled config event moments ≡ every (event_at config event).nth (arrivals config event moments) }
+    ensures thresholded { (config : Parts) (event : ℕ) (moments : List Moment) →
+        filter (is_of event) (thresholded config moments)
+        ≡ reaching (event_at config event).threshold (filter (is_of event) (aggregated config moments)) }
+    ensures filtered { (config : Parts) (moments : List Moment) →
+        added (filtered_at config) moments ≡ thresholded config moments }
+    ensures bypassing { (config : Parts) (before : List Moment) (moment : Moment) (item : Item) →
+        bypassing_at config before moment ≡ Some item → filtered_at config before moment ≡ None }
+{}
