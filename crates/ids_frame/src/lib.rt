@@ -1,7 +1,7 @@
 //! Messages as bytes: what the manager sends, the one spelling that each message has, and how it
 //! is read back.
 //!
-//! Layer 6, messages and memory. Stands on `ids_types`. The chain makes messages and `encode`
+//! Layer 4, messages and texts. Stands on `ids_types`. The chain makes messages and `encode`
 //! writes them; `decode` reads the message at the front of bytes, and `Messages` those of a whole
 //! file. The layouts are this project's own, "IDS message profile 1" and "2", after the event message
 //! of the AUTOSAR PRS Intrusion Detection System; `specs/Spelling.antt` states them, by the value.

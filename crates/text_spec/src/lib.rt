@@ -1,7 +1,8 @@
 //! The fields of the project's texts: lines, words, numbers, lower-case hexadecimal and timestamps.
 //!
-//! Layer 9, texts. Over `ids_types`, `ids_config`, `ids_frame` and the kit's `hex`, `itoa` and `memchr`;
-//! the journal, decoded messages, the trace and the text of the memory are read or printed by it.
+//! Layer 4, messages and texts. Over `ids_types`, `ids_config`, `ids_frame` and the kit's `hex`, `itoa`
+//! and `memchr`; the journal, decoded messages, the trace and the text of the memory are read or printed
+//! by it.
 //! Contracts see a word by its bytes. `specs/` gives each field its text and its reading, and the
 //! functions with an empty body say that the two are inverse to one another.
 //! No clause says that memory suffices: an answer `NoMemory` is always true.
