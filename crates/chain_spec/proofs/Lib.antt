@@ -1,3 +1,4 @@
+pub mod CoverLemmas
 pub mod FilterLemmas
 pub mod GrowthLemmas
 pub mod LimitsLemmas
