@@ -1,5 +1,5 @@
 //! The one who takes what was finished and offers positions again.
-ghost use Rattle.std.specs.Prelude.{◌≡◌, ◌≢◌, ℕ, ◌+◌, ◌-◌, ◌%◌, ◌^◌, ◌<◌, ◌≤◌, IsTrue, IsFalse, None, length, sum, IfOk, IfErr};
+ghost use Rattle.std.specs.Prelude.{◌≡◌, ◌≢◌, ℕ, ◌+◌, ◌-◌, ◌%◌, ◌^◌, ◌<◌, ◌≤◌, ◌++◌, IsTrue, IsFalse, None, length, take, drop, sum, IfOk, IfErr};
 ghost use Rattle.ring_core.specs.Machine.{all_free as all_free_word};
 ghost use Rattle.ring_core.specs.Words.{field_of};
 ghost use Rattle.permit_ring.specs.Calls.{ReapTells, TriesTell, OfferTells, vacant_after};
@@ -8,9 +8,11 @@ ghost use Rattle.permit_ring.specs.Steps.{reads, offers_all, misses, sweeps, wel
 
 use crate::answer::Unready;
 use crate::freight::Freight;
-use crate::ring::{PERMITS, Place, Ring, all_free};
+use crate::memo::Slot;
+use crate::ring::{LOSSES, MARKS, PERMITS, Place, Ring, all_free};
 use crate::seat::Seat;
-use crate::told::{Offers, ReadsWord};
+use crate::told::{Lives, Offers, ReadsWord, SeesMark, Sweeps};
+use atomic_table::Seat as Token;
 use ring_core::PermitWord;
 
 /// The one who takes what was finished, in the order of its tickets, and offers positions again.
@@ -70,18 +72,25 @@ impl<F: Freight> Keeper<F> {
         ensures over { IfOk result (λ _. AreAllBack (keeper_memo self.old) → ¬ IsAllReaped (keeper_memo self.old)) }
         ensures settled { IfErr result (λ _. AreAllBack (keeper_memo self.old) → IsSettled (keeper_memo self.new)) }
     {
-        match ring.reap(&mut self.place, self.next, self.reaped) {
-            Ok(value) => {
-                self.reaped += 1;
-                self.vacant += 1;
-                self.next = ring.after(self.next);
-                Ok(value)
-            }
-            Err(mark) => Err(Unready { mark }),
+        let position = self.next as usize;
+        let words = &ring.table.shared;
+        let mark = words.load::<SeesMark<F>>(&mut self.place, position + MARKS);
+        if mark != self.reaped + 1 {
+            return Err(Unready { mark });
         }
+        let old = words.exchange(&mut self.place, position, Slot::Empty);
+        let Slot::Finished(value) = old else {
+            unreachable!()
+        };
+        self.place.turn();
+        self.reaped += 1;
+        self.vacant += 1;
+        self.next = ring.after(self.next);
+        Ok(value)
     }
 
-    /// Puts a value into the first reaped position that is not filled.
+    /// Puts a value into the first reaped position that is not filled. In hand the filled slots are
+    /// turned behind the vacant ones and back, which costs nothing: a token has no bytes.
     pub fn refill(&mut self, ring: &Ring<F>, value: F::Offered)
         requires mine { IsKeeperOf F.admits_offered ring.now self.old }
         requires vacant { 0 < vacant_of self.old }
@@ -90,13 +99,14 @@ impl<F: Freight> Keeper<F> {
         ensures told { keeper_memo self.new ≡ keeper_memo self.old }
         ensures counts { (vacant_of self.new + 1 ≡ vacant_of self.old) × (filled_of self.new ≡ filled_of self.old + 1) }
     {
-        ring.refill(
-            &mut self.place,
-            self.vacancy,
-            self.filled,
-            self.vacant,
-            value,
-        );
+        turn_hand(&mut self.place, self.filled);
+        let position = self.vacancy as usize;
+        let old = ring
+            .table
+            .shared
+            .exchange(&mut self.place, position, Slot::Offered(value));
+        let Slot::Empty = old else { unreachable!() };
+        turn_hand(&mut self.place, self.vacant);
         self.filled += 1;
         self.vacant -= 1;
         self.vacancy = ring.after(self.vacancy);
@@ -191,7 +201,8 @@ impl<F: Freight> Keeper<F> {
         ensures bound { sum (swept_of kind (keeper_memo self.new)) ≤ 2 ^ 45 }
         ensures swept { AreAllBack (keeper_memo self.old) → AreAllSwept kind (keeper_memo self.new) }
     {
-        ring.sweep(&mut self.place, kind)
+        let words = &ring.table.shared;
+        words.swap::<Sweeps>(&mut self.place, kind as usize + LOSSES, 0)
     }
 
     /// Takes a seat back, which makes no more calls. Once all seats are back, `reap` answers `Ok`
@@ -204,6 +215,18 @@ impl<F: Freight> Keeper<F> {
         ensures told { keeper_memo self.new ≡ welcomes (seat_memo seat) (keeper_memo self.old) }
         ensures counts { (vacant_of self.new ≡ vacant_of self.old) × (filled_of self.new ≡ filled_of self.old) }
     {
-        ring.join(&mut self.place, seat.into_place());
+        let words = &ring.table.shared;
+        words.join_seat::<Lives>(&mut self.place, seat.into_place());
+    }
+}
+
+// Turns the first slots in hand behind the others. Nothing of it is left when it runs.
+fn turn_hand<S, V>(place: &mut Token<S, V>, count: u16)
+    requires { count ≤ length place.old.me.1 }
+    ensures same { (place.new.table_id ≡ place.old.table_id) × (place.new.id ≡ place.old.id) }
+    ensures turned { place.new.me ≡ (place.old.me.0, drop count place.old.me.1 ++ take count place.old.me.1) }
+{
+    for _ in 0..count {
+        place.turn();
     }
 }

@@ -1,6 +1,6 @@
 use Rattle.std.proofs.Common.{arith}
 use Rattle.permit_ring.proofs.HandLemmas.{turned_more}
-use Rattle.permit_ring.proofs.ring.turn_hand.Goals as goal
+use Rattle.permit_ring.proofs.keeper.turn_hand.Goals as goal
 
 pub loop-preserved : goal.loop-preserved
 loop-preserved g c =

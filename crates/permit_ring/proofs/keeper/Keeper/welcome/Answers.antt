@@ -1,0 +1,21 @@
+use Rattle.std.proofs.Common.{◌≡◌, true, arith, rules}
+use Rattle.std.proofs.lemmas.Grind.{common_steps}
+use Rattle.ring_core.specs.Machine.{is_idle}
+use Rattle.permit_ring.specs.Seats.{seat_memo}
+use Rattle.permit_ring.proofs.Lives.{joins_allowed}
+use Rattle.permit_ring.proofs.keeper.Keeper.welcome.Goals as goal
+
+pub join_seat-requires : goal.join_seat-requires
+join_seat-requires g c =
+    let keeping = c.requires.mine.keeping in
+    let seat = c.requires.seat in
+    let place = c.into_place.ensures in
+    let none = c.requires.idle in
+    let idle : is_idle (seat_memo c.args.seat).view ≡ true = grind (arith, common_steps, seat, none) in
+    rw place (
+      keeping.at_table,
+      seat.sitting.at_table,
+      rw none at seat.in_hand,
+      search rules,
+      joins_allowed _ _ _ c.args.ring.now.table.shared.key _ _ _ _ _ _ keeping.keeps seat.sitting.sits idle,
+    )
