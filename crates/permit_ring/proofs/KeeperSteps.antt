@@ -26,7 +26,7 @@ use Rattle.permit_ring.specs.Seats.{KeepsInHand}
 use Rattle.permit_ring.specs.Told.{Known, IsWord, keeper_in, ready, saw_mark, read_word, tried_offer, swept_loss}
 use Rattle.permit_ring.specs.Rule.{words_of, StandsIn, AreSlots, Counts, Runs}
 use Rattle.permit_ring.specs.Steps.{and_move, waits, reaps, reads, offers_all, misses, sweeps}
-use Rattle.permit_ring.proofs.HandLemmas.{ready_filled}
+use Rattle.permit_ring.proofs.HandLemmas.{ready_is}
 use Rattle.permit_ring.proofs.ListLemmas.{at_end, at_length, there}
 use Rattle.permit_ring.proofs.MoveLemmas.{leads_on, by_seat-else, by_keeper-own}
 use Rattle.permit_ring.proofs.SeatSteps.{number_is, number_reads, read_back, word_packs_here}
@@ -273,15 +273,12 @@ module _ {O D T N : Type 0} (note : D → N) (Ao : T → O → Type 0) (An : T �
     sweeps_loss slots (suc (suc kind)) hand low = absurd (omega (arith, low))
 
     module _ (slots old new filled vacant : ℕ) (hand : List (ℕ × Slot O D)) (can : CanOffer old new filled vacant hand r.keeper) where
-      -- what was filled is ready, and the ring has room for it
-      ready_is : ready hand ≡ filled
-      ready_is = rw can.in_hand.in_hand (ready_filled O D key.positions r.keeper.offered can.in_hand.values vacant ∙ can.in_hand.filled_are)
-
+      -- the ring has room for what was filled
       has_room : (1 ≤ ready hand) × (m.offered + ready hand ≤ m.reaped + m.positions)
       has_room =
           let n = (sizes_of r).positions_are in
           let counted = r.knows.counted in
-          let is = ready_is in
+          let is = ready_is can.in_hand in
           (omega arith, omega arith)
 
       -- another word was found: only the word that the keeper knows changes
@@ -324,7 +321,7 @@ module _ {O D T N : Type 0} (note : D → N) (Ao : T → O → Type 0) (An : T �
           let room = has_room.1 in
           let positions = (sizes_of r).positions_are in
           let its = can.in_hand in
-          let long : ready hand ≡ length its.values = ready_is ∙ sym its.filled_are in
+          let long : ready hand ≡ length its.values = ready_is its ∙ sym its.filled_are in
           let offered : m.offered + count ≡ k.offered + count = ap (λ (o : ℕ). o + count) counted.offered_is in
           let first = at_longer k.fronts ((k.offered + count) ∷ []) 0 key.positions counted.first_front in
           let last : (earlier : List ℕ) × (k.fronts ++ (k.offered + count) ∷ [] ≡ earlier ++ (k.offered + count) ∷ []) = (k.fronts, refl) in
@@ -334,7 +331,7 @@ module _ {O D T N : Type 0} (note : D → N) (Ao : T → O → Type 0) (An : T �
             gives_valid count s.homes hand,
             keeper_steps (Offer count) leads (ap₂ packed (sym limit) (sym word))
                 (ap₂ (λ (ws : List ℕ) (n : ℕ). set ws 0 n) r.words_are
-                (can.becomes ∙ λ i. packed (sym limit i) (offered_to (sym word i) (sym ready_is i))))
+                (can.becomes ∙ λ i. packed (sym limit i) (offered_to (sym word i) (sym (ready_is its) i))))
                 (rw (long, its.in_hand, ← counted.offered_is) (slots_offered its.values vacant m s.homes refl refl refl its.admitted
                 permits.reaped_claimed (omega arith) (omega arith) r.are_fates.each_claimed r.are_slots))
                 (assumption (offered, first, last, seen, more_fronts k.fronts (k.offered + count))),
@@ -384,8 +381,3 @@ module _ {O D T N : Type 0} (note : D → N) (Ao : T → O → Type 0) (An : T �
         (λ s r known. let its = subst (CanOffer old new filled vacant me.1) known can in
         exchanged (slice_index s.words 0) old new (EndsAt 0 (tried_offer (step slots 0 old new none)) (Keeps key r.keeper, me.1) s 0)
         (offers_hitting r slots old new filled vacant me.1 its) (offers_missing r slots old new filled vacant me.1 its))
-
--- a slot in front is the first, and the rest is behind it
-pub in_front : {A : Type 0} (hand tail : List (ℕ × A)) (at place : ℕ) (x : A) → hand ≡ (at, x) ∷ tail → at ≡ place
-    → hand ≡ (place, x) ∷ rest hand
-in_front hand tail at place x e same = e ∙ (λ i. (same i, x) ∷ ap rest (sym e) i)

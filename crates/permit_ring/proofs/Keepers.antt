@@ -1,20 +1,19 @@
 -- A keeper between two calls, after each of them.
-use Rattle.std.proofs.Common.{ap₂, add_assoc, ◌≡◌, ◌≢◌, ℕ, eqb, ◌+◌, ◌-◌, ◌%◌, ◌^◌, ◌<◌, ◌≤◌, List, [], ◌∷◌, ◌++◌, length, drop, refl, sym, ◌∙◌, ap, subst, arith, map}
+use Rattle.std.proofs.Common.{ap₂, add_assoc, ◌≡◌, ◌≢◌, ℕ, eqb, ◌+◌, ◌%◌, ◌<◌, ◌≤◌, List, [], ◌∷◌, ◌++◌, length, drop, refl, sym, ◌∙◌, ap, subst, arith, map}
 use Rattle.std.proofs.lemmas.List.{append_assoc, length_push, map_push}
-use native.Mathlib.Nat.{add-mod_right, mod-add-mod}
-use mathlib.Core.Option.{none, some-ne-none}
+use mathlib.Core.Option.{none}
 use prog.Atomic.{either}
 use Rattle.atomic_table.specs.Table.{step, Allows}
 use Rattle.atomic_table.specs.declared.shared.Seat.{Seat as Token}
-use Rattle.permit_ring.specs.Names.{PermitWord, Keeper, Key, KeeperMemo, Slot, Empty, View, Keeps, Ring}
+use Rattle.permit_ring.specs.Names.{PermitWord, Keeper, Key, KeeperMemo, Slot, View, Keeps, Ring}
 use Rattle.ring_core.specs.Machine.{offered_to}
 use Rattle.ring_core.specs.Words.{packed, unpacked, field_of}
 use Rattle.permit_ring.specs.Calls.{AreOthers, last_word, tried, TriesTell}
-use Rattle.permit_ring.specs.Told.{Known, keeper_in, limit_in, positions_in, ready, tried_offer}
+use Rattle.permit_ring.specs.Told.{Known, keeper_in, limit_in, positions_in, tried_offer}
 use Rattle.permit_ring.specs.Rule.{Runs}
-use Rattle.permit_ring.specs.Seats.{IsKeeperOf, KeepsInHand, keeper_memo, ring_terms}
-use Rattle.permit_ring.specs.Steps.{reaps, offers_all, misses}
-use Rattle.permit_ring.proofs.HandLemmas.{hand-reaped, hand-offered, ready_filled}
+use Rattle.permit_ring.specs.Seats.{IsKeeperOf, keeper_memo}
+use Rattle.permit_ring.specs.Steps.{offers_all, misses}
+use Rattle.permit_ring.proofs.HandLemmas.{hand-offered, ready_is}
 use Rattle.permit_ring.proofs.KeeperSteps.{offer_ready}
 
 module _ {F O D T N : Type 0} (Ao : T → O → Type 0) (ring : Ring F O D T N) where
@@ -36,10 +35,6 @@ module _ {F O D T N : Type 0} (Ao : T → O → Type 0) (ring : Ring F O D T N) 
 
     abbrev me : Known O D T N
     me = keeper.place.me
-
-    -- as many are ready as were filled
-    all_ready : ready me.1 ≡ keeper.filled
-    all_ready = ap ready was.in_hand.in_hand ∙ ready_filled O D n memo.offered was.in_hand.values keeper.vacant ∙ was.in_hand.filled_are
 
     -- the ring's sizes are those that its view shows
     sizes_are : (limit_in me.0 ≡ ring.limit) × (positions_in me.0 ≡ n)
@@ -64,41 +59,6 @@ module _ {F O D T N : Type 0} (Ao : T → O → Type 0) (ring : Ring F O D T N) 
         }
 
     module _ (place : Token (Slot O D) (View T N)) (at_table : place.table_id ≡ ring.table.shared.table_id) where
-      -- after a reap
-      pub reaped_keeper : (x : N) (next : ℕ) → keeper.reaped + 1 ≤ memo.offered → keeper.reaped + 1 ≤ 2 ^ 45 → next ≡ (keeper.next + 1) % n
-          → place.me ≡ (Keeps key (reaps (keeper.reaped + 1) x memo), me.1 ++ (keeper.next, Empty) ∷ [])
-          → IsKeeperOf Ao ring (record keeper { place = place; reaped = keeper.reaped + 1; vacant = keeper.vacant + 1; next = next })
-      reaped_keeper x next within few next_is told =
-          let hand = was.in_hand in
-          let filled = hand.filled_are in
-          let account = was.account in
-          let turn : memo.offered + length hand.values + keeper.vacant ≡ keeper.reaped + n = omega arith in
-          let reaped : keeper.reaped + 1 ≡ length (memo.notes ++ x ∷ []) = omega (arith, length_push memo.notes x) in
-          let more : memo.offered + keeper.filled + (keeper.vacant + 1) ≡ keeper.reaped + 1 + n = omega arith in
-          let slots : KeepsInHand (Ao (ring_terms ring)) n memo.offered keeper.filled (keeper.vacant + 1)
-          (me.1 ++ (keeper.next, Empty) ∷ []) = record {
-            values = hand.values;
-            filled_are = filled;
-            admitted = hand.admitted;
-            in_hand = rw hand.in_hand (hand-reaped O D n memo.offered hand.values keeper.vacant keeper.next
-                (rw (turn, add-mod_right) was.next_is));
-          } in
-          let position = next_is ∙ ap (λ (t : ℕ). (t + 1) % n) was.next_is ∙ mod-add-mod keeper.reaped n 1 in
-          keeper_told _ told (assumption (was, reaped, more, slots, position))
-
-      -- after a refill
-      pub refilled_keeper : (vacancy : ℕ) → 0 < keeper.vacant → place.me.0 ≡ me.0 → vacancy ≡ (keeper.vacancy + 1) % n
-          → KeepsInHand (Ao (ring_terms ring)) n memo.offered (keeper.filled + 1) (keeper.vacant - 1) place.me.1
-          → IsKeeperOf Ao ring (record keeper { place = place; filled = keeper.filled + 1; vacant = keeper.vacant - 1; vacancy = vacancy })
-      refilled_keeper vacancy some_vacant same is hand =
-          let account = was.account in
-          let less : memo.offered + (keeper.filled + 1) + (keeper.vacant - 1) ≡ keeper.reaped + n = omega arith in
-          let sum : memo.offered + keeper.filled + 1 ≡ memo.offered + (keeper.filled + 1) = omega arith in
-          let told : place.me ≡ (me.0, place.me.1) = λ i. (same i, place.me.1) in
-          let position = is ∙ ap (λ (t : ℕ). (t + 1) % n) was.vacancy_is ∙ mod-add-mod (memo.offered + keeper.filled) n 1
-          ∙ ap (λ (t : ℕ). t % n) sum in
-          keeper_told _ told (assumption (was, less, hand, position))
-
       module _ (old found : ℕ) (told : tried_offer (step 0 0 old 0 none) me found place.me) where
         -- after a try that found another word
         pub missed_keeper : (word : PermitWord) → found ≢ old → word ≡ unpacked ring.limit found
@@ -106,7 +66,7 @@ module _ {F O D T N : Type 0} (Ao : T → O → Type 0) (ring : Ring F O D T N) 
             × ((keeper_in place.me.0 ≡ misses ring.limit keeper.filled (keeper_in place.me.0).seen memo) × (keeper.filled ≡ keeper.filled)
             × (field_of ring.limit (keeper_in place.me.0).seen < field_of ring.limit memo.seen))
         missed_keeper word other is =
-            let tells = (rw (sizes_are.0, sizes_are.1, all_ready, was.keeping.keeps, ← is) at told).1 other in
+            let tells = (rw (sizes_are.0, sizes_are.1, ready_is was.in_hand, was.keeping.keeps, ← is) at told).1 other in
             let now : place.me ≡ (Keeps key (misses ring.limit keeper.filled word memo), me.1) = tells.1 in
             (keeper_told _ now (assumption (was, tells)), rw now (refl, refl, tells.3))
 
@@ -115,7 +75,7 @@ module _ {F O D T N : Type 0} (Ao : T → O → Type 0) (ring : Ring F O D T N) 
             → IsKeeperOf Ao ring (record keeper { place = place; seen = offered_to keeper.seen keeper.filled; filled = 0 })
             × (keeper_in place.me.0 ≡ offers_all ring.limit keeper.filled memo)
         offered_keeper same =
-            let tells = (rw (sizes_are.0, sizes_are.1, all_ready, was.keeping.keeps) at told).0 same in
+            let tells = (rw (sizes_are.0, sizes_are.1, ready_is was.in_hand, was.keeping.keeps) at told).0 same in
             let now : place.me ≡ (Keeps key (offers_all ring.limit keeper.filled memo), drop keeper.filled me.1) = tells.0 in
             let account = was.account in
             let hand = was.in_hand in
@@ -124,13 +84,7 @@ module _ {F O D T N : Type 0} (Ao : T → O → Type 0) (ring : Ring F O D T N) 
             let reaped : keeper.reaped ≤ memo.offered + keeper.filled = let within = was.reaped_offered in omega arith in
             let all : memo.offered + keeper.filled + 0 + keeper.vacant ≡ keeper.reaped + n = omega arith in
             let none_more : memo.offered + keeper.filled ≡ memo.offered + keeper.filled + 0 = omega arith in
-            let slots : KeepsInHand (Ao (ring_terms ring)) n (memo.offered + keeper.filled) 0 keeper.vacant (drop keeper.filled me.1) =
-            record {
-              values = [];
-              filled_are = refl;
-              admitted = λ j y e. absurd (some-ne-none y (sym e));
-              in_hand = rw (hand.in_hand, ← filled) (hand-offered O D n memo.offered hand.values keeper.vacant);
-            } in
+            let slots = hand-offered hand in
             let packs = rw (← was.seen_is) at tells.1 in
             let position = was.vacancy_is ∙ ap (λ (t : ℕ). t % n) none_more in
             (keeper_told _ now (assumption (was, seen, packs, reaped, all, slots, position)), rw now refl)
