@@ -1,6 +1,5 @@
 pub mod HandLemmas
 pub mod KeeperSteps
-pub mod Keepers
 pub mod ListLemmas
 pub mod Lives
 pub mod LogLemmas

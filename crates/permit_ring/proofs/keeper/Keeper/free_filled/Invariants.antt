@@ -1,15 +1,18 @@
-use Rattle.std.proofs.Common.{◌≡◌, ◌+◌, ◌≤◌}
+use Rattle.std.proofs.Common.{◌≡◌, ℕ, ◌+◌, ◌≤◌}
 use Rattle.ring_core.specs.Words.{field_of}
-use Rattle.permit_ring.proofs.Keepers.{Missed}
+use Rattle.permit_ring.specs.Names.{KeeperMemo}
+use Rattle.permit_ring.specs.Calls.{TriesTell}
 use Rattle.permit_ring.specs.Seats.{IsKeeperOf, keeper_memo}
 use Rattle.permit_ring.proofs.keeper.Keeper.free_filled.Given as goal
 
+-- what further tries tell goes on from what those so far told
 abbrev pub invariant-loop-tries : goal.invariant-loop-tries
 invariant-loop-tries g l =
     IsKeeperOf g.F.Freight.admits_offered l.ring l.self
     × (l.self.filled ≡ l.initial.self.filled)
     × (l.self.vacant ≡ l.initial.self.vacant)
-    × Missed l.ring.limit l.initial.self.filled (keeper_memo l.initial.self) l.tries (keeper_memo l.self)
+    × ((more : ℕ) (new : KeeperMemo _) → TriesTell l.ring.limit l.initial.self.filled (keeper_memo l.self) (1 + more) new
+    → TriesTell l.ring.limit l.initial.self.filled (keeper_memo l.initial.self) (l.tries + more) new)
     × (l.tries + field_of l.ring.limit (keeper_memo l.self).seen ≤ l.ring.positions + l.ring.limit + 1)
 
 abbrev pub decreases-loop-tries : goal.decreases-loop-tries
