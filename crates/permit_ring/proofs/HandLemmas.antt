@@ -58,8 +58,8 @@ module _ {O D : Type 0} {Admits : O → Type 0} {n t filled vacant : ℕ} {hand 
   ready_is = rw keeps.in_hand (ready_filled n D t keeps.values vacant ∙ keeps.filled_are)
 
   -- one position more is vacant
-  pub hand-reaped : {at : ℕ} → at ≡ (t + filled + vacant) % n → KeepsInHand Admits n t filled (vacant + 1) (hand ++ (at, Empty) ∷ [])
-  hand-reaped {at} is =
+  pub hand_reaped : {at : ℕ} → at ≡ (t + filled + vacant) % n → KeepsInHand Admits n t filled (vacant + 1) (hand ++ (at, Empty) ∷ [])
+  hand_reaped {at} is =
       let empties : List (Slot O D) = replicate vacant Empty in
       let long : t + length (row ++ empties) ≡ t + filled + vacant = simp (length-append, length-map, length-replicate)
       (omega (arith, keeps.filled_are)) in
@@ -70,8 +70,8 @@ module _ {O D : Type 0} {Admits : O → Type 0} {n t filled vacant : ℕ} {hand 
       record { values = keeps.values; filled_are = keeps.filled_are; admitted = keeps.admitted; in_hand = one }
 
   -- what was filled is offered
-  pub hand-offered : KeepsInHand Admits n (t + filled) 0 vacant (drop filled hand)
-  hand-offered = record {
+  pub hand_offered : KeepsInHand Admits n (t + filled) 0 vacant (drop filled hand)
+  hand_offered = record {
     values = [];
     filled_are = refl;
     admitted = λ j y e. absurd (some-ne-none y (sym e));

@@ -3,7 +3,7 @@ use Rattle.std.proofs.lemmas.List.{length_push}
 use native.Mathlib.Nat.{add-mod_right, mod-add-mod}
 use Rattle.permit_ring.specs.Names.{Finished}
 use Rattle.permit_ring.specs.Seats.{keeper_memo}
-use Rattle.permit_ring.proofs.HandLemmas.{hand-reaped, in_front}
+use Rattle.permit_ring.proofs.HandLemmas.{hand_reaped, in_front}
 use Rattle.permit_ring.proofs.KeeperSteps.{see_ready}
 use Rattle.permit_ring.proofs.keeper.Keeper.reap.Goals as goal
 
@@ -36,6 +36,6 @@ returns-clause-mine g c =
     let hit = saw.2.0 (c.if-mark-self.false ∙ ap (λ (t : ℕ). t + 1) mine.reaped_is) in
     let account = mine.account in
     let past : (keeper_memo keeper).offered + keeper.filled + keeper.vacant ≡ keeper.reaped + n = omega arith in
-    let hand = hand-reaped mine.in_hand (mine.next_is ∙ sym (add-mod_right keeper.reaped n) ∙ ap (λ (t : ℕ). t % n) (sym past)) in
+    let hand = hand_reaped mine.in_hand (mine.next_is ∙ sym (add-mod_right keeper.reaped n) ∙ ap (λ (t : ℕ). t % n) (sym past)) in
     let next = c.after-self.ensures ∙ ap (λ (t : ℕ). (t + 1) % n) mine.next_is ∙ mod-add-mod keeper.reaped n 1 in
     grind (arith, mine, hit, put, turn, hand, next, length_push (keeper_memo keeper).notes (g.F.Freight.note hit.0))

@@ -1,5 +1,5 @@
 use Rattle.std.proofs.Common.{arith, rules}
-use Rattle.permit_ring.proofs.HandLemmas.{hand-offered, ready_is}
+use Rattle.permit_ring.proofs.HandLemmas.{hand_offered, ready_is}
 use Rattle.permit_ring.proofs.KeeperSteps.{offer_ready}
 use Rattle.permit_ring.proofs.keeper.Keeper.try_offer.Goals as goal
 
@@ -7,29 +7,22 @@ pub compare_exchange-found-requires : goal.compare_exchange-found-requires
 compare_exchange-found-requires g c =
     let f = g.F.Freight in
     let keeper = c.args.self.now in
-    let mine = c.requires.mine in
-    let some = c.requires.some in
-    let old = c.pack-old.ensures.number in
-    let new = c.pack-new.ensures.number in (
+    let mine = c.requires.mine in (
       mine.keeping.at_table,
       search rules,
       offer_ready f.note f.admits_offered f.admits_note c.args.ring.now.table.shared.key _ _ _ mine.keeping.keeps c.pack-old.result
-          c.pack-new.result keeper.filled keeper.vacant (grind (arith, mine, some, old, new)),
+          c.pack-new.result keeper.filled keeper.vacant
+          (grind (arith, mine, c.requires.some, c.pack-old.ensures.number, c.pack-new.ensures.number)),
     )
 
 pub returns-then-found-old : goal.returns-then-found-old
 returns-then-found-old g c =
     let mine = c.requires.mine in
     let tried = c.compare_exchange-found.ensures in
-    let ready = ready_is mine.in_hand in
-    let tells = tried.2.1 c.if-found-old.true in
-    grind (arith, mine, tried.0, tells, ready, c.unpack-self.ensures)
+    grind (arith, mine, tried.0, tried.2.1 c.if-found-old.true, ready_is mine.in_hand, c.unpack-self.ensures)
 
 pub returns : goal.returns
 returns g c =
     let mine = c.requires.mine in
     let tried = c.compare_exchange-found.ensures in
-    let ready = ready_is mine.in_hand in
-    let tells = tried.2.0 c.if-found-old.false in
-    let hand = hand-offered mine.in_hand in
-    grind (arith, mine, tried.0, tells, ready, hand)
+    grind (arith, mine, tried.0, tried.2.0 c.if-found-old.false, ready_is mine.in_hand, hand_offered mine.in_hand)
