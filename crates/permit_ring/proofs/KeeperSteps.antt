@@ -64,20 +64,16 @@ module _ {O D N : Type 0} {note : D → N} {Admits : O → Type 0} {n : ℕ} {fa
     a_slot_each = length-set homes (m.reaped % n) none ∙ slots.a_slot_each;
     each = λ t from to. elim (cases_eq t (m.reaped + n)) [
       | inl last ↦
-          let place : m.reaped % n < length homes = rw slots.a_slot_each (mod-lt m.reaped positive) in
-          let gone : get_elem? (set homes (m.reaped % n) none) (t % n) ≡ some none =
-          rw (last, add-mod_right) (set_here homes (m.reaped % n) none place) in
-          record {
-            finished_home = λ i x e. let low = at_length fates t (Some (i, x)) e in absurd (omega arith);
-            held_out = λ e. gone;
-            offered_home = λ past below. absurd (omega arith);
-            vacant_out = λ past. gone;
-          }
+          let gone = set_here homes (m.reaped % n) none (rw slots.a_slot_each (mod-lt m.reaped positive)) in
+          let low = λ (f : Option (ℕ × N)). at_length fates t f in
+          rw (last, add-mod_right) (grind (arith, gone, low))
       | inr before ↦
-          let until : t < m.reaped + n = omega arith in
-          let apart : t % n ≢ m.reaped % n = λ e. let here = same_position m.reaped n t m.reaped (omega arith) until
-          (le_refl m.reaped) (omega arith) e in omega arith in
-          rw (set_else homes (m.reaped % n) (t % n) none apart) (assumption (slots.each t (omega arith) until))
+          let apart : t % n ≢ m.reaped % n = λ e. omega (
+            arith,
+            same_position m.reaped n t m.reaped (omega arith) (omega arith)
+                (le_refl m.reaped) (omega arith) e,
+          ) in
+          rw (set_else homes (m.reaped % n) (t % n) none apart) (assumption (slots.each t (omega arith) (omega arith)))
     ];
   }
 
@@ -91,28 +87,15 @@ module _ {O D N : Type 0} {note : D → N} {Admits : O → Type 0} {n : ℕ} {fa
   slots_offered (y ∷ ys) vacant m homes reaped claimed offered all behind within room claims slots =
       slots_offered ys vacant (record m { offered = suc m.offered }) (set homes (m.offered % n) (some (Offered y))) reaped claimed
       (omega arith) (λ j z e. all (suc j) z e) behind (omega arith) room claims
-      (slots_set m.offered (some (Offered y)) (omega arith) (omega arith) (omega arith) refl slots record {
-        finished_home = λ i x e. let low = at_length fates m.offered (Some (i, x)) e in absurd (omega arith);
-        held_out = λ e. let low = at_length fates m.offered None e in absurd (omega arith);
-        offered_home = λ past below. (y, all zero y refl, refl);
-        vacant_out = λ past. absurd (omega arith);
-      } (λ t home away from to is. search (arith, is)))
+      (slots_set m.offered (some (Offered y)) (omega arith) (omega arith) (omega arith) refl slots
+      (let low = λ (f : Option (ℕ × N)). at_length fates m.offered f in let first = all zero y refl in grind (arith, low, first))
+      (λ t home away from to is. search (arith, is)))
 
 -- something became of a ticket that is not open
 decided : {N : Type 0} (fates : List (Option (ℕ × N))) (t : ℕ) (fate : Option (ℕ × N)) → get_elem? fates t ≡ some fate
     → (get_elem? fates t ≡ some None → ⊥) → (i : ℕ) × (x : N) × (get_elem? fates t ≡ some (Some (i, x)))
 decided fates t None e closed = absurd (closed e)
 decided fates t (Some x) e closed = (x.0, x.1, e)
-
--- each note is still that of its ticket, where one more is noted
-noted_more : {N : Type 0} (fates : List (Option (ℕ × N))) (notes : List N) (i : ℕ) (x : N)
-    → get_elem? fates (length notes) ≡ some (Some (i, x))
-    → ((t : ℕ) (y : N) → get_elem? notes t ≡ some y → (j : ℕ) × (get_elem? fates t ≡ some (Some (j, y))))
-    → (t : ℕ) (y : N) → get_elem? (notes ++ x ∷ []) t ≡ some y → (j : ℕ) × (get_elem? fates t ≡ some (Some (j, y)))
-noted_more fates notes i x last noted t y e = elim (at_end notes x y t e) [
-  | inl old ↦ noted t y old
-  | inr new ↦ (i, rw (new.0, ← new.1) last)
-]
 
 -- a number more of a kind of loss is swept: what is swept is at most 2^45, and all that was marked where all seats are back
 swept_more : {Back : Type 0} {swept value marks back found : ℕ} (taken : List ℕ) → swept ≡ sum taken → found ≡ value
@@ -163,23 +146,15 @@ module _ {O D T N : Type 0} (note : D → N) (Ao : T → O → Type 0) (An : T �
         let at : ℕ = found_at m step in
         let then : List Move = and_move r.moves step at in
         let else : (i : ℕ) → by_seat i then ≡ by_seat i r.moves = λ i. by_seat-else r.moves step at i (its.no_seats i) in
-        let made = its.made_stays in
-        let claimed = its.claims_stay in
+        let own = by_keeper-own r.moves step at its.own in
+        let seats : (i : ℕ) → seat_at now.seats i ≡ seat_at m.seats i = λ i. ap (λ (l : List SeatView). seat_at l i) its.seats_stay in
         keeper_changes r now then r.fates words homes
         (leads_on (opening key.positions key.limit) m now r.moves step r.reached leads) told slots
-        (fates_stay (omega arith) (λ i. ap (λ (seats : List SeatView). (seat_at seats i).held) its.seats_stay) claimed r.are_fates)
-        record {
-          moved = its.moved ∙ ap₂ (λ (vs : List Move) (n : ℕ). and_move vs step n) r.knows.moved read
-              ∙ sym (by_keeper-own r.moves step at its.own);
-          noted = its.noted;
-          counted = its.counts;
-          made_is = rw (its.made_stays, its.seats_stay) r.knows.made_is;
-          back_is = ap length its.back_stays ∙ r.knows.back_is ∙ sym made;
-          unmade_rest = λ i past. else i ∙ r.knows.unmade_rest i (omega arith);
-        }
+        (fates_stay (omega (arith, its.made_stays)) (λ i. ap (λ (v : SeatView). v.held) (seats i)) its.claims_stay r.are_fates)
+        (grind (arith, its, r.knows, read, else, own))
         its.back_stays
-        (λ other knew. seat_stays knew (ap (λ (seats : List SeatView). seat_at seats other.number) its.seats_stay)
-        (else other.number) refl (omega arith) its.fronts_stay (omega arith))
+        (λ other knew. seat_stays knew (seats other.number) (else other.number) refl (omega (arith, its.claims_stay)) its.fronts_stay
+        (omega (arith, its.made_stays)))
 
     -- the permit word is one of the ring's sizes
     word_in : IsWord key.positions key.limit m.word
@@ -195,15 +170,13 @@ module _ {O D T N : Type 0} (note : D → N) (Ao : T → O → Type 0) (An : T �
         × (get_elem? r.fates m.reaped ≡ some (Some (i, note d)))
         × (get_elem? s.homes (m.reaped % key.positions) ≡ some (some (Finished d)))
     next_value ready =
-        let positive = (ring_of r).sizes.some_position in
-        let over = ((ring_of r).marks (m.reaped % m.positions) (mod-lt m.reaped positive)).just_above m.reaped ready in
+        let mark = (ring_of r).marks (m.reaped % m.positions) (mod-lt m.reaped (ring_of r).sizes.some_position) in
+        let over = mark.just_above m.reaped ready in
         let out = over.claimed_before in
-        let long = r.are_fates.each_claimed in
-        let fate = there r.fates m.reaped (omega arith) in
+        let fate = there r.fates m.reaped (omega (arith, r.are_fates.each_claimed)) in
         let x = decided r.fates m.reaped fate.0 fate.1
         (λ e. let o = r.are_fates.open_is_held m.reaped e in over.held_by_none o.0 o.1) in
-        let some_position = r.sizes.some_position in
-        let home = (r.are_slots.each m.reaped (le_refl m.reaped) (omega arith)).finished_home x.0 x.1 x.2 in
+        let home = (r.are_slots.each m.reaped (le_refl m.reaped) (omega (arith, r.sizes.some_position))).finished_home x.0 x.1 x.2 in
         (out, x.0, home.0, rw home.1 x.2, home.2)
 
     -- the look at the mark of the next ticket: where it is finished its slot is taken, and else only the list of marks grows
@@ -219,21 +192,25 @@ module _ {O D T N : Type 0} (note : D → N) (Ao : T → O → Type 0) (An : T �
           | inl hit ↦
               let mark : mark_at m.marks (m.reaped % m.positions) ≡ m.reaped + 1 = omega arith in
               let x = next_value mark in
-              let fate = x.3 in
+              let note_is : N = note x.2 in
               let account = (ring_of r).permits.account in
-              let turn = one_turn_ahead r in
-              let claimed = (small m (ring_of r)).claimed in
-              let slots_now = slots_reaped m r.sizes.some_position (omega arith) turn r.are_fates.each_claimed x.0 r.are_slots in
-              let noted = noted_more r.fates r.keeper.notes x.1 (note x.2) (ap (get_elem? r.fates) (sym count) ∙ fate) r.knows.noted in
-              let admitted = (r.are_fates.finished m.reaped x.1 (note x.2) fate).1 in
-              let push = length_push r.keeper.notes (note x.2) in
-              let reaped : m.reaped + 1 ≡ length (r.keeper.notes ++ note x.2 ∷ []) = omega arith in
-              let home : length r.keeper.notes % slots ≡ m.reaped % key.positions = ap₂ ◌%◌ (sym count) wide in (
-                Keeps key (reaps (slice_index s.words word) (note x.2) r.keeper),
+              let slots_now = slots_reaped m r.sizes.some_position (omega arith) (one_turn_ahead r) r.are_fates.each_claimed x.0 r.are_slots in
+              let noted = λ (t : ℕ) (y : N) (e : get_elem? (r.keeper.notes ++ note_is ∷ []) t ≡ some y). elim (at_end r.keeper.notes note_is y t e) as
+              (λ _. (i : ℕ) × (get_elem? r.fates t ≡ some (Some (i, y)))) [
+                | inl old ↦ r.knows.noted t y old
+                | inr new ↦ (x.1, ap (get_elem? r.fates) (new.0 ∙ sym count) ∙ x.3 ∙ ap (λ (z : N). some (Some (x.1, z))) new.1)
+              ] in
+              let reaped : m.reaped + 1 ≡ length (r.keeper.notes ++ note_is ∷ []) = omega (arith, length_push r.keeper.notes note_is) in
+              let home : length r.keeper.notes % slots ≡ m.reaped % key.positions = ap₂ ◌%◌ (sym count) wide in
+              let claimed = (small m (ring_of r)).claimed in (
+                Keeps key (reaps (slice_index s.words word) note_is r.keeper),
                 takes (length r.keeper.notes % slots) (Finished x.2),
                 ap (get_elem? s.homes) home ∙ x.4,
                 keeper_steps See (see_takes_next m mark) read words (rw home slots_now) (assumption (reaped, noted)),
-                ((λ _. (x.2, admitted, refl, omega arith, omega arith, not_over r x.1 (note x.2) fate)), λ miss. absurd (miss hit)),
+                (
+                  λ _. (x.2, (r.are_fates.finished m.reaped x.1 note_is x.3).1, refl, omega arith, omega arith, not_over r x.1 note_is x.3),
+                  λ miss. absurd (miss hit),
+                ),
               )
           | inr miss ↦
               let other : mark_at m.marks (m.reaped % m.positions) ≢ m.reaped + 1 = λ hit. miss (omega arith) in (
