@@ -213,13 +213,10 @@ module _ {O D T N : Type 0} (note : D → N) (Ao : T → O → Type 0) (An : T �
                 ),
               )
           | inr miss ↦
-              let other : mark_at m.marks (m.reaped % m.positions) ≢ m.reaped + 1 = λ hit. miss (omega arith) in (
-                Keeps key (waits (slice_index s.words word) r.keeper),
-                keeps,
-                tt,
-                keeper_steps See (see_waits_next m other) read words r.are_slots (assumption),
-                ((λ hit. absurd (miss hit)), λ _. (refl, λ back. search (settled r other back))),
-              )
+              let other : mark_at m.marks (m.reaped % m.positions) ≢ m.reaped + 1 = λ hit. miss (omega arith) in
+              let k : KeeperMemo N = waits (slice_index s.words word) r.keeper in
+              let runs = keeper_steps See {k = k} (see_waits_next m other) read words r.are_slots (assumption) in
+              (Keeps key k, keeps, tt, runs, ((λ hit. absurd (miss hit)), λ _. (refl, λ back. search (settled r other back))))
         ]
 
     -- a sweep of a kind of loss
@@ -228,25 +225,19 @@ module _ {O D T N : Type 0} (note : D → N) (Ao : T → O → Type 0) (An : T �
     sweeps_loss slots zero hand low =
         let read : slice_index s.words 1 ≡ m.loss0.value = ap (λ (ws : List ℕ). slice_index ws 1) r.words_are in
         let swept = swept_more r.keeper.swept0 r.knows.counted.swept0_is read (small m (ring_of r)).loss0 (ring_of r).loss0
-        (λ back. all_marks r back 0 refl) in (
-          Keeps key (sweeps 0 (slice_index s.words 1) r.keeper),
-          keeps,
-          tt,
-          keeper_steps (Sweep 0) (sweep_next m 0 low) read (ap (λ (ws : List ℕ). set ws 1 0) r.words_are)
-              (slots_stay refl refl refl r.are_slots) (assumption swept.0),
-          (refl, swept.1, swept.2),
-        )
+        (λ back. all_marks r back 0 refl) in
+        let k : KeeperMemo N = sweeps 0 (slice_index s.words 1) r.keeper in
+        let runs = keeper_steps (Sweep 0) {k = k} (sweep_next m 0 low) read (ap (λ (ws : List ℕ). set ws 1 0) r.words_are)
+        (slots_stay refl refl refl r.are_slots) (assumption swept.0) in
+        (Keeps key k, keeps, tt, runs, (refl, swept.1, swept.2))
     sweeps_loss slots (suc zero) hand low =
         let read : slice_index s.words 2 ≡ m.loss1.value = ap (λ (ws : List ℕ). slice_index ws 2) r.words_are in
         let swept = swept_more r.keeper.swept1 r.knows.counted.swept1_is read (small m (ring_of r)).loss1 (ring_of r).loss1
-        (λ back. all_marks r back 1 refl) in (
-          Keeps key (sweeps 1 (slice_index s.words 2) r.keeper),
-          keeps,
-          tt,
-          keeper_steps (Sweep 1) (sweep_next m 1 low) read (ap (λ (ws : List ℕ). set ws 2 0) r.words_are)
-              (slots_stay refl refl refl r.are_slots) (assumption swept.0),
-          (refl, swept.1, swept.2),
-        )
+        (λ back. all_marks r back 1 refl) in
+        let k : KeeperMemo N = sweeps 1 (slice_index s.words 2) r.keeper in
+        let runs = keeper_steps (Sweep 1) {k = k} (sweep_next m 1 low) read (ap (λ (ws : List ℕ). set ws 2 0) r.words_are)
+        (slots_stay refl refl refl r.are_slots) (assumption swept.0) in
+        (Keeps key k, keeps, tt, runs, (refl, swept.1, swept.2))
     sweeps_loss slots (suc (suc kind)) hand low = absurd (omega (arith, low))
 
     module _ (slots old new filled vacant : ℕ) (hand : List (ℕ × Slot O D)) (can : CanOffer old new filled vacant hand r.keeper) where
@@ -264,56 +255,49 @@ module _ {O D T N : Type 0} (note : D → N) (Ao : T → O → Type 0) (An : T �
       offers_missing miss =
           let seen = r.knows.counted.seen_is in
           let other : m.word ≢ m.seen = λ same. miss (number_is r ∙ ap (packed key.limit) (same ∙ seen) ∙ sym can.was) in
-          let falls = missed_field_falls r.machine (ring_of r) (other_word m.word m.seen other) in (
-            Keeps key (misses key.limit (ready hand) m.word r.keeper),
-            keeps,
-            tt,
-            keeper_steps (Offer (ready hand)) (offer_misses_next m (ready hand) has_room.0 has_room.1 other) here
-                (set-get_or s.words 0 0 ∙ r.words_are) (slots_stay refl refl refl r.are_slots) (assumption),
-            (
-              (λ hit. absurd (miss hit)),
-              λ _. rw (read_back r) (number_reads r, refl, word_in, rw ((sizes_of r).limit_is, seen) at falls),
-            ),
-          )
+          let falls = rw ((sizes_of r).limit_is, seen) at (missed_field_falls r.machine (ring_of r) (other_word m.word m.seen other)) in
+          let k : KeeperMemo N = misses key.limit (ready hand) m.word r.keeper in
+          let runs = keeper_steps (Offer (ready hand)) {k = k} (offer_misses_next m (ready hand) has_room.0 has_room.1 other) here
+          (set-get_or s.words 0 0 ∙ r.words_are) (slots_stay refl refl refl r.are_slots) (assumption) in
+          (Keeps key k, keeps, tt, runs, ((λ hit. absurd (miss hit)), λ _. rw (read_back r) (number_reads r, refl, word_in, falls)))
 
       -- the keeper's word was found: all slots that are filled again are given back
       offers_hitting : slice_index s.words 0 ≡ old → EndsAt 0 (tried_offer (step slots 0 old new none)) (Keeps key r.keeper, hand) s 0 new
       offers_hitting hit =
           let m : Machine = r.machine in
-          let k : KeeperMemo N = r.keeper in
           let counted = r.knows.counted in
+          let its = can.in_hand in
           let count : ℕ = ready hand in
+          let positions = (sizes_of r).positions_are in
           let limit = (sizes_of r).limit_is in
-          let most = r.sizes.most_seats in
           let read = sym (number_is r) ∙ hit ∙ can.was ∙ ap (packed key.limit) (sym counted.seen_is) in
-          let same : m.word ≡ m.seen = packed_apart key.limit m.word m.seen (omega arith) (word_packs_here r)
-          (rw limit at (seen_packs m (ring_of r))) read in
-          let word : m.word ≡ k.seen = same ∙ counted.seen_is in
+          let same : m.word ≡ m.seen = packed_apart key.limit m.word m.seen (omega (arith, r.sizes.most_seats)) (word_packs_here r)
+          (rw limit at (seen_packs r.machine (ring_of r))) read in
+          let word : m.word ≡ r.keeper.seen = same ∙ counted.seen_is in
           let leads = offer_takes_next m count has_room.0 has_room.1 same in
           let now : Machine = record m { word = offered_to m.word count; offered = m.offered + count; seen = offered_to m.word count } in
-          let left = is_word key.positions key.limit now (rw leads at (next_keeps m (ring_of r) (Offer count)))
-          (record { positions_are = (sizes_of r).positions_are; limit_is = limit }) in
+          let left = is_word key.positions key.limit now (rw leads at (next_keeps r.machine (ring_of r) (Offer count)))
+          (record { positions_are = positions; limit_is = limit }) in
           let permits = (ring_of r).permits in
-          let account = permits.account in
-          let room = has_room.1 in
-          let positions = (sizes_of r).positions_are in
-          let its = can.in_hand in
           let long : ready hand ≡ length its.values = ready_is its ∙ sym its.filled_are in
-          let offered : m.offered + count ≡ k.offered + count = ap (λ (o : ℕ). o + count) counted.offered_is in
-          let first = at_longer k.fronts ((k.offered + count) ∷ []) 0 key.positions counted.first_front in
-          let last : (earlier : List ℕ) × (k.fronts ++ (k.offered + count) ∷ [] ≡ earlier ++ (k.offered + count) ∷ []) = (k.fronts, refl) in
-          let seen = ap (λ (w : PermitWord). offered_to w count) word in (
-            Keeps key (offers_all key.limit count k),
-            gives_all count,
-            gives_valid count s.homes hand,
-            keeper_steps (Offer count) leads (ap₂ packed (sym limit) (sym word))
-                (ap₂ (λ (ws : List ℕ) (n : ℕ). set ws 0 n) r.words_are
-                (can.becomes ∙ λ i. packed (sym limit i) (offered_to (sym word i) (sym (ready_is its) i))))
-                (rw (long, its.in_hand, ← counted.offered_is) (slots_offered its.values vacant m s.homes refl refl refl its.admitted
-                permits.reaped_claimed (omega arith) (omega arith) r.are_fates.each_claimed r.are_slots))
-                (assumption (offered, first, last, seen, more_fronts k.fronts (k.offered + count))),
-            ((λ _. (rw (gives_rest count hand) refl, rw word at left)), λ miss. absurd (miss hit)),
-          )
+          let room = has_room.1 in
+          let k : KeeperMemo N = offers_all key.limit count r.keeper in
+          let last : (earlier : List ℕ) × (k.fronts ≡ earlier ++ k.offered ∷ []) = (r.keeper.fronts, refl) in
+          let words = ap₂ (λ (ws : List ℕ) (n : ℕ). set ws 0 n) r.words_are (can.becomes ∙ λ i. packed (sym limit i)
+          (offered_to (sym word i) (sym (ready_is its) i))) in
+          let runs = keeper_steps (Offer count) {k = k} leads (ap₂ packed (sym limit) (sym word)) words
+          (rw (long, its.in_hand, ← counted.offered_is) (slots_offered its.values vacant m s.homes refl refl refl its.admitted
+          permits.reaped_claimed (omega (arith, permits.account)) (omega arith) r.are_fates.each_claimed r.are_slots))
+          (assumption (
+            ap (λ (o : ℕ). o + count) counted.offered_is,
+            at_longer r.keeper.fronts (k.offered ∷ []) 0 key.positions
+                counted.first_front,
+            last,
+            ap (λ (w : PermitWord). offered_to w count) word,
+            more_fronts r.keeper.fronts k.offered,
+          )) in
+          let valid = gives_valid count s.homes hand in
+          (Keeps key k, gives_all count, valid, runs, ((λ _. (rw (gives_rest count hand) refl, rw word at left)), λ miss. absurd (miss hit)))
 
   -- the steps of a token whose view is the keeper's
   module _ (slots id : ℕ) (me : Known O D T N) (keeps_it : me.0 ≡ Keeps key (keeper_in me.0)) where
