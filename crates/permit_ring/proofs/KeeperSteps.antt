@@ -1,5 +1,5 @@
 -- Each step of the keeper keeps the rule: no seat changes, and no claim.
-use Rattle.std.proofs.Common.{◌≡◌, ◌≢◌, ℕ, zero, suc, ◌+◌, ◌%◌, ◌^◌, ◌<◌, ◌≤◌, true, false, eqb, List, [], ◌∷◌, ◌++◌, set, length, drop, slice_index, sum, Option, Some, None, refl, sym, ◌∙◌, ap, ap₂, subst, inl, inr, le_refl, mod-lt, arith}
+use Rattle.std.proofs.Common.{◌≡◌, ◌≢◌, ℕ, zero, suc, ◌+◌, ◌%◌, ◌^◌, ◌<◌, ◌≤◌, true, false, eqb, List, [], ◌∷◌, ◌++◌, set, length, drop, slice_index, sum, Option, Some, refl, sym, ◌∙◌, ap, ap₂, subst, inl, inr, le_refl, mod-lt, arith}
 use Rattle.std.proofs.lemmas.Bool.{cases_eq}
 use Rattle.std.proofs.lemmas.List.{length-set, length_push, set-get_or}
 use Rattle.std.proofs.lemmas.List.Sums.{fold_push}
@@ -27,10 +27,10 @@ use Rattle.permit_ring.specs.Told.{Known, IsWord, keeper_in, ready, saw_mark, re
 use Rattle.permit_ring.specs.Rule.{words_of, StandsIn, AreSlots, Counts, Runs}
 use Rattle.permit_ring.specs.Steps.{and_move, waits, reaps, reads, offers_all, misses, sweeps}
 use Rattle.permit_ring.proofs.HandLemmas.{ready_is}
-use Rattle.permit_ring.proofs.ListLemmas.{at_end, at_length, there}
+use Rattle.permit_ring.proofs.ListLemmas.{at_end, at_length}
 use Rattle.permit_ring.proofs.MoveLemmas.{leads_on, by_seat-else, by_keeper-own}
 use Rattle.permit_ring.proofs.SeatSteps.{number_is, number_reads, read_back, word_packs_here}
-use Rattle.permit_ring.proofs.Settled.{all_marks, not_over, settled, more_fronts}
+use Rattle.permit_ring.proofs.Settled.{all_marks, not_over, settled, some_there, more_fronts}
 use Rattle.permit_ring.proofs.States.{ring_of, sizes_of, one_turn_ahead, keeper_changes, keeper_port, seat_stays, fates_stay, slots_stay, slots_set}
 
 -- a ring's permit word is one of its sizes
@@ -68,11 +68,8 @@ module _ {O D N : Type 0} {note : D → N} {Admits : O → Type 0} {n : ℕ} {fa
           let low = λ (f : Option (ℕ × N)). at_length fates t f in
           rw (last, add-mod_right) (grind (arith, gone, low))
       | inr before ↦
-          let apart : t % n ≢ m.reaped % n = λ e. omega (
-            arith,
-            same_position m.reaped n t m.reaped (omega arith) (omega arith)
-                (le_refl m.reaped) (omega arith) e,
-          ) in
+          let apart : t % n ≢ m.reaped % n = λ e. let here = same_position m.reaped n t m.reaped (omega arith) (omega arith)
+          (le_refl m.reaped) (omega arith) e in omega arith in
           rw (set_else homes (m.reaped % n) (t % n) none apart) (assumption (slots.each t (omega arith) (omega arith)))
     ];
   }
@@ -90,12 +87,6 @@ module _ {O D N : Type 0} {note : D → N} {Admits : O → Type 0} {n : ℕ} {fa
       (slots_set m.offered (some (Offered y)) (omega arith) (omega arith) (omega arith) refl slots
       (let low = λ (f : Option (ℕ × N)). at_length fates m.offered f in let first = all zero y refl in grind (arith, low, first))
       (λ t home away from to is. search (arith, is)))
-
--- something became of a ticket that is not open
-decided : {N : Type 0} (fates : List (Option (ℕ × N))) (t : ℕ) (fate : Option (ℕ × N)) → get_elem? fates t ≡ some fate
-    → (get_elem? fates t ≡ some None → ⊥) → (i : ℕ) × (x : N) × (get_elem? fates t ≡ some (Some (i, x)))
-decided fates t None e closed = absurd (closed e)
-decided fates t (Some x) e closed = (x.0, x.1, e)
 
 -- a number more of a kind of loss is swept: what is swept is at most 2^45, and all that was marked where all seats are back
 swept_more : {Back : Type 0} {swept value marks back found : ℕ} (taken : List ℕ) → swept ≡ sum taken → found ≡ value
@@ -173,11 +164,10 @@ module _ {O D T N : Type 0} (note : D → N) (Ao : T → O → Type 0) (An : T �
         let mark = (ring_of r).marks (m.reaped % m.positions) (mod-lt m.reaped (ring_of r).sizes.some_position) in
         let over = mark.just_above m.reaped ready in
         let out = over.claimed_before in
-        let fate = there r.fates m.reaped (omega (arith, r.are_fates.each_claimed)) in
-        let x = decided r.fates m.reaped fate.0 fate.1
+        let x = some_there r.fates m.reaped (omega (arith, r.are_fates.each_claimed))
         (λ e. let o = r.are_fates.open_is_held m.reaped e in over.held_by_none o.0 o.1) in
-        let home = (r.are_slots.each m.reaped (le_refl m.reaped) (omega (arith, r.sizes.some_position))).finished_home x.0 x.1 x.2 in
-        (out, x.0, home.0, rw home.1 x.2, home.2)
+        let home = (r.are_slots.each m.reaped (le_refl m.reaped) (omega (arith, r.sizes.some_position))).finished_home x.0.0 x.0.1 x.1 in
+        (out, x.0.0, home.0, rw home.1 x.1, home.2)
 
     -- the look at the mark of the next ticket: where it is finished its slot is taken, and else only the list of marks grows
     sees : (slots word : ℕ) (hand : List (ℕ × Slot O D)) → slots ≡ key.positions → word ≡ length r.keeper.notes % key.positions + 3
@@ -195,8 +185,8 @@ module _ {O D T N : Type 0} (note : D → N) (Ao : T → O → Type 0) (An : T �
               let note_is : N = note x.2 in
               let account = (ring_of r).permits.account in
               let slots_now = slots_reaped m r.sizes.some_position (omega arith) (one_turn_ahead r) r.are_fates.each_claimed x.0 r.are_slots in
-              let noted = λ (t : ℕ) (y : N) (e : get_elem? (r.keeper.notes ++ note_is ∷ []) t ≡ some y). elim (at_end r.keeper.notes note_is y t e) as
-              (λ _. (i : ℕ) × (get_elem? r.fates t ≡ some (Some (i, y)))) [
+              let noted = λ (t : ℕ) (y : N) (e : get_elem? (r.keeper.notes ++ note_is ∷ []) t ≡ some y).
+              elim (at_end r.keeper.notes note_is y t e) as (λ _. (i : ℕ) × (get_elem? r.fates t ≡ some (Some (i, y)))) [
                 | inl old ↦ r.knows.noted t y old
                 | inr new ↦ (x.1, ap (get_elem? r.fates) (new.0 ∙ sym count) ∙ x.3 ∙ ap (λ (z : N). some (Some (x.1, z))) new.1)
               ] in

@@ -1,9 +1,9 @@
 -- What is left once all seats are back, and that what is settled stays so.
-use Rattle.std.proofs.Common.{◌≡◌, ◌≢◌, ℕ, zero, suc, ◌+◌, ◌-◌, ◌%◌, ◌<◌, ◌≤◌, Bool, true, false, cond, ◌||◌, is_some, List, [], ◌∷◌, ◌++◌, map, length, get_or, sum_by, Option, Some, None, refl, sym, ◌∙◌, ap, ap₂, subst, inl, inr, mod-lt, arith}
+use Rattle.std.proofs.Common.{◌≡◌, ◌≢◌, ℕ, zero, suc, ◌+◌, ◌-◌, ◌%◌, ◌<◌, ◌≤◌, is_some, List, [], ◌∷◌, ◌++◌, map, length, get_or, sum_by, Option, Some, None, refl, sym, ◌∙◌, ap, ap₂, subst, inl, inr, mod-lt, arith}
 use Rattle.std.proofs.lemmas.Bool.{cases_lt, false≢true}
+use Rattle.std.proofs.lemmas.Grind.{common_steps}
 use Rattle.std.proofs.lemmas.List.{length-map, nil_from_length}
 use Rattle.std.proofs.lemmas.List.Sums.{sum_by-cons}
-use Rattle.std.proofs.lemmas.Option.{none-some}
 use mathlib.Core.Option.{some}
 use lib.ListN.{get_elem?}
 use Rattle.atomic_table.proofs.Lists.{at_longer, at_map}
@@ -33,13 +33,13 @@ all_noted {N} (fate ∷ fates) (x ∷ notes) long each =
     let rest = all_noted fates notes (omega arith) (λ t y e. each (suc t) y e) in
     ((here.0, x) ∷ rest.0, ap (λ (ys : List N). x ∷ ys) rest.1, cc (here.1, rest.2))
 
--- where each has come back, each place has what came
-came : {A : Type 0} (back : List (Option A)) → ((i : ℕ) (b : Option A) → get_elem? back i ≡ some b → is_some b ≡ true)
-    → (i : ℕ) → i < length back → (a : A) × (get_elem? back i ≡ some (Some a))
-came [] all i low = absurd (omega arith)
-came (None ∷ back) all zero low = absurd (false≢true (all zero None refl))
-came (Some a ∷ back) all zero low = (a, refl)
-came (b ∷ back) all (suc i) low = came back (λ j. all (suc j)) i (omega arith)
+-- a place of a list of options that is not open has something
+pub some_there : {A : Type 0} (xs : List (Option A)) (i : ℕ) → i < length xs → (get_elem? xs i ≡ some None → ⊥)
+    → (a : A) × (get_elem? xs i ≡ some (Some a))
+some_there [] i low closed = absurd (omega arith)
+some_there (None ∷ xs) zero low closed = absurd (closed refl)
+some_there (Some a ∷ xs) zero low closed = (a, refl)
+some_there (x ∷ xs) (suc i) low closed = some_there xs i (omega arith) closed
 
 -- where no seat holds a ticket, and the next one is not finished, all that was claimed was reaped
 all_reaped : (m : Machine) → IsRing m → ((i t : ℕ) → Holds (seat_at m.seats i) t → ⊥)
@@ -56,18 +56,6 @@ all_reaped m ring none_holds other = elim (cases_lt m.reaped m.word.claimed) [
       absurd (other (omega arith))
   | inr not_less ↦ let behind = ring.permits.reaped_claimed in omega arith
 ]
-
--- the seat that is there from the start holds no ticket
-new_holds_none : (i t : ℕ) → Holds (seat_at (new_seat ∷ []) i) t → ⊥
-new_holds_none zero t h = none-some (record { 0 = t }) h
-new_holds_none (suc i) t h = none-some (record { 0 = t }) h
-
--- a seat that is not live has no call that is not decided
-none_open : (armed holds : Bool) {live : Bool} → (armed ≡ true → live ≡ true) → (holds ≡ true → live ≡ true) → live ≡ false
-    → ◌≡◌ {A = ℕ} (cond (armed || holds) 1 0) 0
-none_open true holds armed held off = absurd (false≢true (sym off ∙ armed refl))
-none_open false true armed held off = absurd (false≢true (sym off ∙ held refl))
-none_open false false armed held off = refl
 
 -- two lists of the same length whose elements weigh the same weigh the same
 same_sums : {A B : Type 0} (f : A → ℕ) (g : B → ℕ) (d : A) (xs : List A) (ys : List B) → length ys ≡ length xs
@@ -119,10 +107,10 @@ module _ {O D T N : Type 0} {note : D → N} {Ao : T → O → Type 0} {An : T �
         let live = ((ring_of r).seats.each i).holder_is_live (ap is_some holds) in
         let below = live_is_made r.machine.seats i live in
         let long = r.knows.back_is in
-        let b = came r.keeper.back back i (omega (arith, made.1)) in
+        let b = some_there r.keeper.back i (omega (arith, made.1)) (λ e. false≢true (back i None e)) in
         let off = (r.each_seat i (Some b.0) b.1).1 in
         false≢true (sym off ∙ ap (λ (seat : SeatView). seat.live) (shown i b.0 b.1) ∙ live)
-    | inr start ↦ new_holds_none i t (rw start.1 at holds)
+    | inr start ↦ let one = start.1 in grind (arith, common_steps)
   ]
 
   -- the log of a seat that came back is whole, where something became of each ticket
@@ -132,9 +120,7 @@ module _ {O D T N : Type 0} {note : D → N} {Ao : T → O → Type 0} {An : T �
       let p = r.each_seat i (Some memo) at in
       let its = p.2 in
       let seat = rw (← shown i memo at) at ((ring_of r).seats.each i) in
-      let none = none_open memo.view.armed (is_some memo.view.held) seat.armed_is_live seat.holder_is_live p.1 in
-      let decided = its.ordered.decided in
-      let calls : memo.view.calls ≡ length memo.log = omega arith in
+      let calls : memo.view.calls ≡ length memo.log = grind (arith, common_steps, its.ordered.decided, seat, p.1) in
       let claimed = r.are_fates.each_claimed in
       let most = its.below_claims in
       let long : length r.fates ≡ length taken = rw (all, length-map) refl in
@@ -160,7 +146,7 @@ module _ {O D T N : Type 0} {note : D → N} {Ao : T → O → Type 0} {An : T �
   not_over i x e back reaped =
       let made = (r.are_fates.finished r.machine.reaped i x e).0 in
       let long = r.knows.back_is in
-      let b = came r.keeper.back back i (omega arith) in
+      let b = some_there r.keeper.back i (omega arith) (λ e. false≢true (back i None e)) in
       let p = r.each_seat i (Some b.0) b.1 in
       let took = taken_in i 0 r.fates r.machine.reaped r.machine.reaped x (omega arith) e in
       let own = p.2.got ∙ ap (λ (j : ℕ). taken_by j 0 r.fates) p.0 in
@@ -175,7 +161,7 @@ module _ {O D T N : Type 0} {note : D → N} {Ao : T → O → Type 0} {An : T �
       → sum_by (λ (v : SeatView). marks_of v kind) r.machine.seats ≡ sum_by (marks_back kind) r.keeper.back
   all_marks back kind clean = elim r.knows.made_is [
     | inl made ↦ same_sums (λ (v : SeatView). marks_of v kind) (marks_back kind) nobody r.machine.seats r.keeper.back
-        (r.knows.back_is ∙ made.1) (λ i low. let b = came r.keeper.back back i low in
+        (r.knows.back_is ∙ made.1) (λ i low. let b = some_there r.keeper.back i low (λ e. false≢true (back i None e)) in
         (Some b.0, b.1, ap (λ (v : SeatView). marks_of v kind) (sym (shown i b.0 b.1))))
     | inr start ↦ ap (sum_by (λ (v : SeatView). marks_of v kind)) start.1 ∙ clean
         ∙ ap (sum_by (marks_back kind)) (sym (nil_from_length r.keeper.back (r.knows.back_is ∙ start.0)))
