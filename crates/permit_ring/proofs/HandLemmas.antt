@@ -38,6 +38,11 @@ module _ {O : Type 0} (n : ℕ) where
   ready_filled D t [] (suc vacant) = refl
   ready_filled D t (y ∷ ys) vacant = ap suc (ready_filled D (suc t) ys vacant)
 
+-- a hand with no filled slot
+pub none_filled : {O D : Type 0} {Admits : O → Type 0} {n t vacant : ℕ} {hand : List (ℕ × Slot O D)}
+    → hand ≡ hand_from n t (replicate vacant Empty) → KeepsInHand Admits n t 0 vacant hand
+none_filled is = record { values = []; filled_are = refl; admitted = λ j y e. absurd (some-ne-none y (sym e)); in_hand = is }
+
 module _ {O D : Type 0} {Admits : O → Type 0} {n t filled vacant : ℕ} {hand : List (ℕ × Slot O D)}
     (keeps : KeepsInHand Admits n t filled vacant hand) where
   -- the filled slots, and the places of those behind them
@@ -71,12 +76,7 @@ module _ {O D : Type 0} {Admits : O → Type 0} {n t filled vacant : ℕ} {hand 
 
   -- what was filled is offered
   pub hand_offered : KeepsInHand Admits n (t + filled) 0 vacant (drop filled hand)
-  hand_offered = record {
-    values = [];
-    filled_are = refl;
-    admitted = λ j y e. absurd (some-ne-none y (sym e));
-    in_hand = rw (keeps.in_hand, two_rows (replicate vacant Empty)) (drop_at front _ filled length-front);
-  }
+  hand_offered = none_filled (rw (keeps.in_hand, two_rows (replicate vacant Empty)) (drop_at front _ filled length-front))
 
   -- while a vacant slot is filled, the hand is turned until that slot is in front, and back
   module _ (some_vacant : 0 < vacant) {vacancy : ℕ} (vacancy_is : vacancy ≡ (t + filled) % n) where

@@ -1,15 +1,14 @@
 -- A ring that has just been made: it keeps the rule, and its keeper and seats stand.
-use Rattle.std.proofs.Common.{◌≡◌, ℕ, zero, suc, ◌+◌, ◌%◌, ◌≤◌, List, [], ◌∷◌, ◌++◌, length, None, refl, sym, ◌∙◌, add-one, ap, subst, inl, inr, mod-eq_of_lt, arith, map, replicate}
+use Rattle.std.proofs.Common.{◌≡◌, ℕ, zero, suc, ◌+◌, ◌%◌, ◌<◌, List, [], ◌∷◌, ◌++◌, length, None, refl, sym, ◌∙◌, add-one, ap, subst, inl, inr, mod-eq_of_lt, arith, map, replicate}
 use Rattle.std.proofs.lemmas.List.{length_push, length-map}
 use mathlib.Core.Option.{some-ne-none, some, some-injective}
-use native.Mathlib.Nat.{add-mod_right}
 use Rattle.atomic_table.specs.declared.shared.Seat.{Seat as Token}
 use Rattle.ring_core.specs.Machine.{all_free, opening}
-use Rattle.permit_ring.specs.Names.{KeeperMemo, Slot, View, Sits, Keeps, Ring, Seat, Key, Offered}
+use Rattle.permit_ring.specs.Names.{KeeperMemo, Slot, View, Sits, Ring, Seat, Key, Offered}
 use Rattle.permit_ring.specs.Logs.{IsOrdered}
 use Rattle.permit_ring.specs.Making.{made_memo, IsNewSeat, AreNewSeats}
 use Rattle.permit_ring.specs.Told.{Known}
-use Rattle.permit_ring.specs.Seats.{IsSitting, IsKeeping, IsKeeperOf}
+use Rattle.permit_ring.specs.Seats.{IsSitting}
 use Rattle.permit_ring.specs.Steps.{new_memo, makes, first_memo}
 use Rattle.permit_ring.proofs.ListLemmas.{at_end, there}
 use lib.ListN.{get_elem?}
@@ -19,47 +18,31 @@ use Rattle.ring_core.specs.Sound.{IsRing}
 use Rattle.ring_core.specs.Words.{packed}
 use Rattle.ring_core.proofs.Opens.{opens}
 use Rattle.permit_ring.specs.Hands.{AllAdmitted}
-use Rattle.permit_ring.specs.Rule.{IsKey, first_view, AreFates, AreSlots, IsKeeperMemo, IsViewAt, Runs}
+use Rattle.permit_ring.specs.Rule.{HasOffered, IsKey, first_view, AreFates, AreSlots, IsKeeperMemo, IsViewAt, Runs}
 
 module _ {N : Type 0} (n limit : ℕ) where
   -- no ticket is claimed yet
   first_fates : (Admits : N → Type 0) → IsRing (opening n limit) → AreFates (opening n limit) Admits 0 []
-  first_fates Admits ring = record {
-    each_claimed = refl;
-    held_is_open = λ i t h. let out = (ring.seats.each i).held_is_out t h in absurd (omega (arith, out.1));
-    open_is_held = λ t e. absurd (some-ne-none _ (sym e));
-    finished = λ t i x e. absurd (some-ne-none _ (sym e));
-  }
+  first_fates Admits ring =
+      let out = λ (i : ℕ). (ring.seats.each i).held_is_out in
+      grind (arith, out)
 
   -- and the keeper knows of no step
   first_keeper : IsKeeperMemo {N = N} n (opening n limit) [] [] (first_memo n)
   first_keeper =
       let last : (earlier : List ℕ) × (n ∷ [] ≡ earlier ++ n ∷ []) = ([], refl) in
-      record {
-        moved = refl;
-        noted = λ t x e. absurd (some-ne-none _ (sym e));
-        counted = assumption last;
-        made_is = inr (refl, refl);
-        back_is = refl;
-        unmade_rest = λ i past. refl;
-      }
+      grind (arith, last)
 
 -- each slot has a value that may be claimed
 first_slots : {O D N : Type 0} (note : D → N) (Admits : O → Type 0) (n limit : ℕ) (ys : List O) → length ys ≡ n → AllAdmitted Admits ys
     → AreSlots note Admits (opening n limit) [] n (map some (map Offered ys))
-first_slots note Admits n limit ys long all = record {
+first_slots {D = D} note Admits n limit ys long all = record {
   a_slot_each = length-map (map Offered ys) some ∙ length-map ys Offered ∙ long;
-  each = λ t past below. record {
-    finished_home = λ i x e. absurd (some-ne-none _ (sym e));
-    held_out = λ e. absurd (some-ne-none _ (sym e));
-    offered_home = λ _ until.
-        let is = there ys t (omega (arith, until, long)) in (
-          is.0,
-          all t is.0 is.1,
-          rw mod-eq_of_lt (at_map some (map Offered ys) t (Offered is.0) (at_map Offered ys t is.0 is.1)),
-        );
-    vacant_out = λ from. absurd (omega (arith, from, below));
-  };
+  each = λ t past below.
+      let found : t < n → HasOffered {D = D} (get_elem? (map some (map Offered ys)) (t % n)) Admits = λ h.
+      let is = there ys t (omega (arith, h, long)) in
+      (is.0, all t is.0 is.1, rw (mod-eq_of_lt h) (at_map some (map Offered ys) t (Offered is.0) (at_map Offered ys t is.0 is.1))) in
+      grind (arith, found, past, below);
 }
 
 module _ {O D T N : Type 0} (note : D → N) (Ao : T → O → Type 0) (An : T → N → Type 0) (key : Key T) where
@@ -134,34 +117,6 @@ module _ {F O D T N : Type 0} (Ao : T → O → Type 0) (ring : Ring F O D T N) 
   new_seat_is i place sitting told =
       subst (λ (me : Known O D T N). IsNewSeat Ao ring i record { place = record place { me = me }; number = i; calls = 0; held = None })
       (sym told) (assumption sitting)
-
-  -- and the keeper has no slot in hand
-  pub new_keeper_is : (n made : ℕ) (place : Token (Slot O D) (View T N)) → 1 ≤ n → n ≤ 1024 → ring.limit ≤ 32 → ring.positions ≡ n
-      → IsKeeping ring place → place.me ≡ (Keeps ring.table.shared.key (made_memo n made), [])
-      → IsKeeperOf Ao ring record { place = place; reaped = 0; seen = all_free n; filled = 0; vacant = 0; next = 0; vacancy = 0 }
-  new_keeper_is n made place some_place most few positions keeping told =
-      let is : IsFresh {N = N} n made (made_memo n made) = fresh n made in
-      let offered = is.offered_is in
-      let first : 0 % n ≡ 0 = mod-eq_of_lt some_place in
-      let sum : (made_memo {N = N} n made).offered + 0 ≡ 0 + n = omega arith in
-      subst (λ (me : Known O D T N). IsKeeperOf Ao ring
-      (record { place = record place { me = me }; reaped = 0; seen = all_free n; filled = 0; vacant = 0; next = 0; vacancy = 0 }))
-      (sym told) record {
-        keeping = assumption keeping;
-        reaped_is = rw is.no_notes refl;
-        reaped_within = omega arith;
-        reaped_offered = omega arith;
-        seen_is = sym is.seen_is;
-        seen_packs = record {
-          packs = record { tries_fit = omega arith; free_fits = omega arith; over_fits = omega arith; either = inr refl };
-          free_within = omega arith;
-          few = omega arith;
-        };
-        account = omega arith;
-        next_is = rw positions (sym first);
-        vacancy_is = rw (sum, positions, add-mod_right) (sym first);
-        in_hand = record { values = []; filled_are = refl; admitted = λ j y e. absurd (some-ne-none y (sym e)); in_hand = refl };
-      }
 
 -- one seat more is made
 pub made_more : {N : Type 0} (n made : ℕ) → makes (made_memo {N = N} n made) ≡ made_memo n (made + 1)

@@ -1,5 +1,5 @@
 -- What is left once all seats are back, and that what is settled stays so.
-use Rattle.std.proofs.Common.{◌≡◌, ◌≢◌, ℕ, zero, suc, ◌+◌, ◌-◌, ◌%◌, ◌<◌, ◌≤◌, is_some, List, [], ◌∷◌, ◌++◌, map, length, get_or, sum_by, Option, Some, None, refl, sym, ◌∙◌, ap, ap₂, subst, inl, inr, mod-lt, arith}
+use Rattle.std.proofs.Common.{◌≡◌, ◌≢◌, ℕ, zero, suc, ◌+◌, ◌-◌, ◌%◌, ◌<◌, is_some, List, [], ◌∷◌, ◌++◌, map, length, get_or, sum_by, Option, Some, None, refl, sym, ◌∙◌, ap, ap₂, subst, inl, inr, mod-lt, arith}
 use Rattle.std.proofs.lemmas.Bool.{cases_lt, false≢true}
 use Rattle.std.proofs.lemmas.Grind.{common_steps}
 use Rattle.std.proofs.lemmas.List.{length-map, nil_from_length}
@@ -16,7 +16,7 @@ use Rattle.ring_core.proofs.SeatLemmas.{live_is_made}
 use Rattle.ring_core.proofs.Turns.{one_turn}
 use Rattle.permit_ring.specs.Calls.{OfferTells}
 use Rattle.permit_ring.specs.Closing.{AreAllBack, IsAllReaped, IsSettled, IsWholeLog, marks_back}
-use Rattle.permit_ring.specs.Logs.{end_from, taken_by}
+use Rattle.permit_ring.specs.Logs.{taken_by}
 use Rattle.permit_ring.specs.Rule.{StandsIn, Runs}
 use Rattle.permit_ring.proofs.LogLemmas.{got_from, taken_in, within_end}
 use Rattle.permit_ring.proofs.States.{ring_of}
@@ -118,14 +118,8 @@ module _ {O D T N : Type 0} {note : D → N} {Ao : T → O → Type 0} {An : T �
       → get_elem? r.keeper.back i ≡ some (Some memo) → IsWholeLog r.keeper.fronts taken i memo
   whole_log taken all i memo at =
       let p = r.each_seat i (Some memo) at in
-      let its = p.2 in
       let seat = rw (← shown i memo at) at ((ring_of r).seats.each i) in
-      let calls : memo.view.calls ≡ length memo.log = grind (arith, common_steps, its.ordered.decided, seat, p.1) in
-      let claimed = r.are_fates.each_claimed in
-      let most = its.below_claims in
-      let long : length r.fates ≡ length taken = rw (all, length-map) refl in
-      let within : end_from 0 memo.log ≤ length taken = omega arith in
-      assumption (calls, within, rw (all, p.0) at its.got, p)
+      grind (arith, common_steps, p, seat, r.are_fates.each_claimed, all, length-map taken Some)
 
   -- and where the next ticket is not finished, nothing is left
   pub settled : mark_at r.machine.marks (r.machine.reaped % r.machine.positions) ≢ r.machine.reaped + 1 → AreAllBack r.keeper
@@ -145,16 +139,13 @@ module _ {O D T N : Type 0} {note : D → N} {Ao : T → O → Type 0} {An : T �
   pub not_over : (i : ℕ) (x : N) → get_elem? r.fates r.machine.reaped ≡ some (Some (i, x)) → AreAllBack r.keeper → ¬ IsAllReaped r.keeper
   not_over i x e back reaped =
       let made = (r.are_fates.finished r.machine.reaped i x e).0 in
-      let long = r.knows.back_is in
-      let b = some_there r.keeper.back i (omega arith) (λ e. false≢true (back i None e)) in
+      let b = some_there r.keeper.back i (omega (arith, r.knows.back_is)) (λ e. false≢true (back i None e)) in
       let p = r.each_seat i (Some b.0) b.1 in
       let took = taken_in i 0 r.fates r.machine.reaped r.machine.reaped x (omega arith) e in
       let own = p.2.got ∙ ap (λ (j : ℕ). taken_by j 0 r.fates) p.0 in
       let entry = got_from b.0.log took.0 r.machine.reaped x (ap (λ (l : List (ℕ × N)). get_elem? l took.0) own ∙ took.1) in
       let above = within_end 0 b.0.log entry.0 (Got r.machine.reaped x) p.2.ordered.rises entry.1 in
-      let low = reaped i b.0 b.1 in
-      let count = r.knows.counted.reaped_is in
-      omega arith
+      omega (arith, reaped i b.0 b.1, r.knows.counted.reaped_is)
 
   -- so once all seats are back, their marks are those of all seats
   pub all_marks : AreAllBack r.keeper → (kind : ℕ) → sum_by (λ (v : SeatView). marks_of v kind) (new_seat ∷ []) ≡ 0

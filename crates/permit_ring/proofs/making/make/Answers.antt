@@ -1,5 +1,8 @@
-use Rattle.std.proofs.Common.{arith, refl, ◌∙◌}
-use Rattle.permit_ring.proofs.NewRings.{opens_running, new_keeper_is}
+use Rattle.std.proofs.Common.{arith, ◌∙◌, [], refl, mod-eq_of_lt}
+use native.Mathlib.Nat.{add-mod_right}
+use Rattle.permit_ring.specs.Seats.{KeepsInHand}
+use Rattle.permit_ring.proofs.HandLemmas.{none_filled}
+use Rattle.permit_ring.proofs.NewRings.{opens_running, fresh}
 use Rattle.permit_ring.proofs.making.make.Goals as goal
 
 pub new-requires : goal.new-requires
@@ -12,7 +15,9 @@ new-requires g c =
 pub returns : goal.returns
 returns g c =
     let made = c.in_ok-seats.ensures in
+    let n = c.args.n in
     let positions = c.requires.positions in
-    let is = new_keeper_is g.F.Freight.admits_offered _ c.args.n c.args.seats c.make_seats.new.place positions.0 positions.1
-    c.requires.seats.1 refl made.mine made.keeper in
-    grind (arith, made, c.of-keeper.ensures, is, c.in-Ok.ensures.ok, c.in-Ok.table-is)
+    let is = fresh {N = g.row.F-Note.Denot} n c.args.seats in
+    let hand : KeepsInHand {D = g.row.F-Finished.Denot} (g.F.Freight.admits_offered c.args.terms) n n 0 0 [] = none_filled refl in
+    let first = mod-eq_of_lt positions.0 in
+    grind (arith, made, c.of-keeper.ensures, is, hand, first, add-mod_right 0 n, c.requires, c.in-Ok.ensures.ok, c.in-Ok.table-is)
