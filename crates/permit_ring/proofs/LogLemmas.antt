@@ -1,5 +1,5 @@
 -- The log of a seat and what became of tickets, with one call or one ticket more.
-use Rattle.std.proofs.Common.{◌≡◌, ◌≢◌, ℕ, zero, suc, ◌+◌, ◌<◌, ◌≤◌, ◌⊎◌, Bool, true, false, cond, List, [], ◌∷◌, ◌++◌, set, Option, Some, None, refl, sym, ◌∙◌, ap, subst, inl, inr, le_refl, eqb, eq-eqb, ne_eqb, eqb-true, arith}
+use Rattle.std.proofs.Common.{◌≡◌, ◌≢◌, ℕ, zero, suc, ◌+◌, ◌<◌, ◌≤◌, ◌⊎◌, Bool, true, false, cond, List, [], ◌∷◌, ◌++◌, set, Option, Some, None, refl, sym, ◌∙◌, ap, inl, inr, le_refl, eqb, eq-eqb, ne_eqb, eqb-true, arith}
 use Rattle.std.proofs.lemmas.Bool.{cases_lt, lt-ltb, le-ltb}
 use Rattle.std.proofs.lemmas.Grind.{common_steps}
 use Rattle.std.proofs.lemmas.List.{append-nil}
@@ -23,13 +23,10 @@ module _ {N : Type 0} where
   end_on low (r ∷ log) x = end_on (end_of r) log x
 
   -- the tickets of more calls come behind
-  got_of-append : (log more : List (Outcome N)) → got_of (log ++ more) ≡ got_of log ++ got_of more
+  pub got_of-append : (log more : List (Outcome N)) → got_of (log ++ more) ≡ got_of log ++ got_of more
   got_of-append [] more = refl
   got_of-append (Lost h ∷ log) more = got_of-append log more
   got_of-append (Got t x ∷ log) more = ap (λ (l : List (ℕ × N)). (t, x) ∷ l) (got_of-append log more)
-
-  pub got_of-got : (log : List (Outcome N)) (t : ℕ) (x : N) → got_of (log ++ Got t x ∷ []) ≡ got_of log ++ (t, x) ∷ []
-  got_of-got log t x = got_of-append log (Got t x ∷ [])
 
   -- a step that found a position free lost no call
   pub kept_log : (word : PermitWord) (log : List (Outcome N)) → 0 < word.free → and_lost word log ≡ log
@@ -47,24 +44,17 @@ module _ {N : Type 0} (word : PermitWord) (log : List (Outcome N)) (fronts : Lis
     pub got : got_of after ≡ got_of log
     pub at_front : (j g : ℕ) → get_elem? after j ≡ some (Lost g) → StandsIn fronts g
 
-  module _ (rises : RisesFrom 0 log) (below : end_from 0 log ≤ word.claimed)
-      (at_front : (j g : ℕ) → get_elem? log j ≡ some (Lost g) → StandsIn fronts g) where
-    pub one_lost : StandsIn fronts word.claimed → IsOrderly (log ++ Lost word.claimed ∷ [])
-    one_lost full = record {
+  pub orderly : RisesFrom 0 log → end_from 0 log ≤ word.claimed → ((j g : ℕ) → get_elem? log j ≡ some (Lost g) → StandsIn fronts g)
+      → (word.free ≡ 0 → StandsIn fronts word.claimed) → IsOrderly (and_lost word log)
+  orderly rises below at_front full = elim (cases_lt 0 word.free) [
+    | inl free ↦ rw (kept_log word log free) (record { rises = rises; below = below; got = refl; at_front = at_front })
+    | inr past ↦ let none = full (omega arith) in rw (lost_log word log (omega arith)) (record {
       rises = rises_on 0 log (Lost word.claimed) rises below;
-      below = subst (λ (k : ℕ). k ≤ word.claimed) (sym (end_on 0 log (Lost word.claimed))) (le_refl word.claimed);
+      below = rw (end_on 0 log (Lost word.claimed)) (le_refl word.claimed);
       got = got_of-append log (Lost word.claimed ∷ []) ∙ append-nil (got_of log);
-      at_front = λ j g e. elim (at_snoc log (Lost word.claimed) (Lost g) j e) [
-        | inl old ↦ at_front j g old
-        | inr new ↦ let same : word.claimed ≡ g = cc in subst (StandsIn fronts) same full
-      ];
-    }
-
-    pub orderly : (word.free ≡ 0 → StandsIn fronts word.claimed) → IsOrderly (and_lost word log)
-    orderly full = elim (cases_lt 0 word.free) [
-      | inl free ↦ subst IsOrderly (sym (kept_log word log free)) (record { rises = rises; below = below; got = refl; at_front = at_front })
-      | inr past ↦ let none : word.free ≡ 0 = omega arith in subst IsOrderly (sym (lost_log word log none)) (one_lost (full none))
-    ]
+      at_front = λ j g e. let c = at_snoc log (Lost word.claimed) (Lost g) j e in grind (arith, at_front j g, none, c);
+    })
+  ]
 
 -- a list with or without one more element in front
 behind : {A : Type 0} (b : Bool) (x a : A) (l : List A) (k : ℕ) → get_elem? l k ≡ some a → (j : ℕ)
@@ -82,36 +72,28 @@ module _ {N : Type 0} where
   -- a call that got a ticket is among those that did
   pub got_in : (log : List (Outcome N)) (j t : ℕ) (x : N) → get_elem? log j ≡ some (Got t x) → (k : ℕ)
       × (get_elem? (got_of log) k ≡ some (t, x))
-  got_in [] j t x e = cc
-  got_in (Lost g ∷ log) zero t x e = cc
   got_in (Lost g ∷ log) (suc j) t x e = got_in log j t x e
   got_in (Got u y ∷ log) zero t x e = (0, cc)
   got_in (Got u y ∷ log) (suc j) t x e = let rest = got_in log j t x e in (suc rest.0, rest.1)
+  got_in _ _ t x e = cc
 
   -- and stands in the log
   pub got_from : (log : List (Outcome N)) (k t : ℕ) (x : N) → get_elem? (got_of log) k ≡ some (t, x) → (j : ℕ)
       × (get_elem? log j ≡ some (Got t x))
   got_from [] k t x e = cc
   got_from (Lost g ∷ log) k t x e = let rest = got_from log k t x e in (suc rest.0, rest.1)
-  got_from (Got u y ∷ log) zero t x e = (0, ap (λ (p : ℕ × N). some (Got p.0 p.1)) (some-injective (u, y) (t, x) e))
+  got_from (Got u y ∷ log) zero t x e = (0, grind arith)
   got_from (Got u y ∷ log) (suc k) t x e = let rest = got_from log k t x e in (suc rest.0, rest.1)
 
   -- a ticket that the seat finished is among those that it took
   pub taken_in : (i from : ℕ) (fates : List (Option (ℕ × N))) (u t : ℕ) (x : N) → t ≡ from + u → get_elem? fates u ≡ some (Some (i, x))
       → (k : ℕ) × (get_elem? (taken_by i from fates) k ≡ some (t, x))
-  taken_in i from [] u t x is e = cc
-  taken_in i from (None ∷ fates) zero t x is e = cc
   taken_in i from (None ∷ fates) (suc u) t x is e = taken_in i (suc from) fates u t x (omega arith) e
-  taken_in i from (Some y ∷ fates) zero t x is e =
-      let same : y ≡ (i, x) = cc in
-      let here : from ≡ t = omega arith in (
-        0,
-        ap (λ (b : Bool). get_elem? (cond b ((from, y.1) ∷ taken_by i (suc from) fates) (taken_by i (suc from) fates)) 0)
-            (eq-eqb i y.0 (ap (λ (p : ℕ × N). p.0) (sym same))) ∙ (λ k. some (here k, (same k).1)),
-      )
+  taken_in i from (Some y ∷ fates) zero t x is e = (0, grind (arith, common_steps))
   taken_in i from (Some y ∷ fates) (suc u) t x is e =
       let rest = taken_in i (suc from) fates u t x (omega arith) e in
       behind (eqb i y.0) (from, y.1) (t, x) (taken_by i (suc from) fates) rest.0 rest.1
+  taken_in i from _ _ t x is e = cc
 
   -- and what it took it finished
   pub taken_from : (i from : ℕ) (fates : List (Option (ℕ × N))) (k t : ℕ) (x : N) → get_elem? (taken_by i from fates) k ≡ some (t, x)
@@ -119,48 +101,37 @@ module _ {N : Type 0} where
   taken_from i from [] k t x e = cc
   taken_from i from (None ∷ fates) k t x e = let rest = taken_from i (suc from) fates k t x e in (suc rest.0, omega arith, rest.2)
   taken_from i from (Some y ∷ fates) k t x e = elim (first_or_behind (eqb i y.0) (from, y.1) (t, x) (taken_by i (suc from) fates) k e) [
-    | inl here ↦
-        let own : y.0 ≡ i = sym (eqb-true i y.0 here.0) in
-        let its_ticket : from ≡ t = ap (λ (p : ℕ × N). p.0) here.1 in
-        (0, omega arith, λ k. some (Some (own k, (here.1 k).1)))
+    | inl here ↦ (0, grind (arith, here), grind (arith, eqb-true, here))
     | inr later ↦ let rest = taken_from i (suc from) fates later.0 t x later.1 in (suc rest.0, omega arith, rest.2)
   ]
 
   -- no call ends before it starts
   start_end : (r : Outcome N) → start_of r ≤ end_of r
-  start_end (Lost g) = omega arith
-  start_end (Got t x) = omega arith
+  start_end r = grind arith
 
   -- no call stands below where its log begins
   above_low : (low : ℕ) (log : List (Outcome N)) (l : ℕ) (b : Outcome N) → RisesFrom low log → get_elem? log l ≡ some b → low ≤ start_of b
   above_low low [] l b rises e = cc
-  above_low low (r ∷ log) zero b rises e = let same : r ≡ b = cc in subst (λ (o : Outcome N). low ≤ start_of o) same rises.0
-  above_low low (r ∷ log) (suc l) b rises e =
-      let own = start_end r in
-      let rest = above_low (end_of r) log l b rises.1 e in
-      omega arith
+  above_low low (r ∷ log) zero b rises e = rw (← some-injective r b e) rises.0
+  above_low low (r ∷ log) (suc l) b rises e = omega (arith, start_end r, above_low (end_of r) log l b rises.1 e)
 
   -- nor before the end of one before it
   pub rises_apart : (low : ℕ) (log : List (Outcome N)) (j l : ℕ) (a b : Outcome N) → RisesFrom low log → j < l → get_elem? log j ≡ some a
       → get_elem? log l ≡ some b → end_of a ≤ start_of b
-  rises_apart low [] j l a b rises less ea eb = cc
-  rises_apart low (r ∷ log) j zero a b rises less ea eb = absurd (omega arith)
-  rises_apart low (r ∷ log) zero (suc l) a b rises less ea eb =
-      let same : r ≡ a = cc in
-      subst (λ (o : Outcome N). end_of o ≤ start_of b) same (above_low (end_of r) log l b rises.1 eb)
+  rises_apart low (r ∷ log) zero (suc l) a b rises less ea eb = rw (← some-injective r a ea) (above_low (end_of r) log l b rises.1 eb)
   rises_apart low (r ∷ log) (suc j) (suc l) a b rises less ea eb = rises_apart (end_of r) log j l a b rises.1 (omega arith) ea eb
+  rises_apart low _ _ _ a b rises less ea eb = grind arith
 
   -- the end of the last is above where the log begins
   low_to_end : (low : ℕ) (log : List (Outcome N)) → RisesFrom low log → low ≤ end_from low log
   low_to_end low [] rises = omega arith
-  low_to_end low (r ∷ log) rises = let own = start_end r in let rest = low_to_end (end_of r) log rises.1 in omega arith
+  low_to_end low (r ∷ log) rises = omega (arith, start_end r, low_to_end (end_of r) log rises.1)
 
   -- and above that of each
   pub within_end : (low : ℕ) (log : List (Outcome N)) (j : ℕ) (a : Outcome N) → RisesFrom low log → get_elem? log j ≡ some a
       → end_of a ≤ end_from low log
   within_end low [] j a rises e = cc
-  within_end low (r ∷ log) zero a rises e = let same : r ≡ a = cc in subst (λ (o : Outcome N). end_of o ≤ end_from (end_of r) log) same
-      (low_to_end (end_of r) log rises.1)
+  within_end low (r ∷ log) zero a rises e = rw (← some-injective r a e) (low_to_end (end_of r) log rises.1)
   within_end low (r ∷ log) (suc j) a rises e = within_end (end_of r) log j a rises.1 e
 
 abbrev Fates : Type 0 → Type 0
@@ -185,19 +156,17 @@ module _ {N : Type 0} where
   -- one that another seat finishes is none of this seat's
   pub taken-else : (i j f : ℕ) (x : N) (fates : Fates N) (t : ℕ) → i ≢ j → get_elem? fates t ≡ some None
       → taken_by i f (set fates t (Some (j, x))) ≡ taken_by i f fates
-  taken-else i j f x [] t other e = refl
-  taken-else i j f x (None ∷ fates) zero other e = ap (λ (b : Bool). cond b ((f, x) ∷ taken_by i (suc f) fates)
-      (taken_by i (suc f) fates)) (ne_eqb i j other)
-  taken-else i j f x (Some y ∷ fates) zero other e = cc
+  taken-else i j f x (None ∷ fates) zero other e = simp (ne_eqb i j other)
   taken-else i j f x (None ∷ fates) (suc t) other e = taken-else i j (suc f) x fates t other e
   taken-else i j f x (Some y ∷ fates) (suc t) other e = ap (and_own i f y) (taken-else i j (suc f) x fates t other e)
+  taken-else i j f x _ _ other e = cc
 
   -- a seat that finished no ticket took none
   pub taken_none : (i f : ℕ) (fates : Fates N) → ((u : ℕ) (x : N) → get_elem? fates u ≢ some (Some (i, x))) → taken_by i f fates ≡ []
   taken_none i f [] none = refl
   taken_none i f (None ∷ fates) none = taken_none i (suc f) fates (λ u. none (suc u))
-  taken_none i f (Some y ∷ fates) none = ap (λ (b : Bool). cond b ((f, y.1) ∷ taken_by i (suc f) fates) (taken_by i (suc f) fates))
-      (ne_eqb i y.0 (λ own. none 0 y.1 (ap (λ (k : ℕ). some (Some (k, y.1))) (sym own)))) ∙ taken_none i (suc f) fates (λ u. none (suc u))
+  taken_none i f (Some y ∷ fates) none =
+      simp (ne_eqb i y.0 (λ own. none 0 y.1 (ap (λ (k : ℕ). some (Some (k, y.1))) (sym own)))) (taken_none i (suc f) fates (λ u. none (suc u)))
 
   own_more : (f : ℕ) (y : ℕ × N) (rest more last : List (ℕ × N)) (own : Bool) → more ≡ rest ++ last
       → cond own ((f, y.1) ∷ more) more ≡ cond own ((f, y.1) ∷ rest) rest ++ last
@@ -207,19 +176,15 @@ module _ {N : Type 0} where
   taken-own_from : (i f b : ℕ) (x : N) (fates : Fates N) (t : ℕ) → b ≡ f + t → get_elem? fates t ≡ some None
       → ((u : ℕ) (y : N) → get_elem? fates u ≡ some (Some (i, y)) → u < t)
       → taken_by i f (set fates t (Some (i, x))) ≡ taken_by i f fates ++ (b, x) ∷ []
-  taken-own_from i f b x [] t is e below = cc
   taken-own_from i f b x (None ∷ fates) zero is e below =
       let none = taken_none i (suc f) fates (λ u y done. let k = below (suc u) y done in omega arith) in
-      let here : f ≡ b = omega arith in
-      ap (λ (own : Bool). cond own ((f, x) ∷ taken_by i (suc f) fates) (taken_by i (suc f) fates)) (eq-eqb i i refl)
-      ∙ ap (λ (l : List (ℕ × N)). (f, x) ∷ l) none ∙ ap (λ (k : ℕ). (k, x) ∷ []) here
-      ∙ ap (λ (l : List (ℕ × N)). l ++ (b, x) ∷ []) (sym none)
-  taken-own_from i f b x (Some y ∷ fates) zero is e below = cc
+      simp (eq-eqb i i refl, none) (let here : f ≡ b = omega arith in cc)
   taken-own_from i f b x (None ∷ fates) (suc t) is e below = taken-own_from i (suc f) b x fates t (omega arith) e
       (λ u y done. let k = below (suc u) y done in omega arith)
   taken-own_from i f b x (Some y ∷ fates) (suc t) is e below = own_more f y (taken_by i (suc f) fates)
       (taken_by i (suc f) (set fates t (Some (i, x)))) ((b, x) ∷ []) (eqb i y.0)
       (taken-own_from i (suc f) b x fates t (omega arith) e (λ u z done. let k = below (suc u) z done in omega arith))
+  taken-own_from i f b x _ _ is e below = cc
 
   -- a ticket that a seat finishes comes last among its own
   pub taken-own : (i t : ℕ) (x : N) (fates : Fates N) (log : List (Outcome N)) → RisesFrom 0 log → end_from 0 log ≤ t

@@ -10,7 +10,7 @@ use Rattle.atomic_table.specs.Table.{State, step, keeps, takes, gives, Allows}
 use Rattle.permit_ring.specs.Names.{SeatView, Ticket0, Step, Look, Claim, Finish, Mark, PermitWord, Key, KeeperMemo, Lost, Got, SeatMemo, Slot, Offered, Finished, View, Sits}
 use Rattle.ring_core.specs.Machine.{Machine, opening, possible, after, finished, served, is_idle, looked, seat_at, loss_at, marks_of, marked, claimed_from}
 use Rattle.ring_core.specs.Sound.{IsRing, Holds}
-use Rattle.ring_core.specs.Words.{packed, unpacked, field_of, FreeOrOver, IsPackable, IsReadable}
+use Rattle.ring_core.specs.Words.{packed, unpacked, IsPackable, IsReadable}
 use Rattle.ring_core.proofs.Bounds.{small}
 use Rattle.ring_core.proofs.RingLaws.{word_packs, all_claimed, armed_leaves_field}
 use Rattle.ring_core.proofs.Runs.{after_keeps, next_of_possible}
@@ -21,23 +21,10 @@ use Rattle.permit_ring.specs.Moves.{found_at, is_of_seat, is_of_keeper}
 use Rattle.permit_ring.specs.Told.{Known, seat_in, saw_word, claimed_word, marked_loss, finished_value}
 use Rattle.permit_ring.specs.Rule.{words_of, StandsIn, AreFates, AreSlots, Counts, IsSeatMemo, Runs}
 use Rattle.permit_ring.specs.Steps.{and_move, and_lost, looks, claims, adds_mark, finishes, ticket_in}
-use Rattle.permit_ring.proofs.LogLemmas.{open_undecided, taken-open, taken-else, taken-own, IsOrderly, orderly, rises_on, end_on, got_of-got}
+use Rattle.permit_ring.proofs.LogLemmas.{open_undecided, taken-open, taken-else, taken-own, IsOrderly, orderly, rises_on, end_on, got_of-append}
 use Rattle.permit_ring.proofs.ListLemmas.{at_end, at_length}
 use Rattle.permit_ring.proofs.MoveLemmas.{leads_on, by_seat-own, by_seat-else, by_keeper-else}
 use Rattle.permit_ring.proofs.States.{ring_of, sizes_of, one_turn_ahead, knows_it, is_live, fates_stay, slots_stay, slots_set, seat_changes}
-
--- the number of a word that can be packed can be read
-readable : (limit : ℕ) (word : PermitWord) → IsPackable limit word → IsReadable limit (packed limit word)
-readable limit word packs = let free = packs.free_fits in let over = packs.over_fits in omega arith
-
--- a claim adds to the number of the word, which does not wrap
-claimed_number : (limit : ℕ) (word : PermitWord) → FreeOrOver word → 0 < field_of limit word → IsPackable limit (claimed_from word)
-    → (packed limit word + 65535) % 2 ^ 64 ≡ packed limit (claimed_from word)
-claimed_number limit word either left packs =
-    let sum = packed-claimed limit word either left in
-    let tries = packs.tries_fit in
-    let free = packs.free_fits in
-    omega (arith, sum, tries, free)
 
 -- the fates after seat i changed
 module _ {N : Type 0} {m : Machine} {fates : List (Option (ℕ × N))} {Admits : N → Type 0} {known : ℕ} (was : AreFates m Admits known fates)
@@ -48,13 +35,8 @@ module _ {N : Type 0} {m : Machine} {fates : List (Option (ℕ × N))} {Admits :
   served_fates empty holds more =
       let here = seat_at-here m.seats i view made in
       let else = seat_at-else m.seats i view made in
-      record {
-        each_claimed = grind (arith, was, more, length_push fates None);
-        held_is_open = λ j t h.
-            grind (arith, was, h, holds, seats_are, here, else, at_longer fates (None ∷ []) t None, at_last fates None t);
-        open_is_held = λ t e. let c = at_end fates None None t e in grind (arith, was, c, empty, holds, seats_are, here, else);
-        finished = λ t j x e. let c = at_end fates None (Some (j, x)) t e in grind (arith, was, c);
-      }
+      let old = λ (t : ℕ). at_longer fates (None ∷ []) t None in
+      grind (arith, was, more, length_push fates None, empty, holds, seats_are, old, at_last fates None, at_end fates None)
 
   -- with ticket t decided, which it alone held
   finished_fates : (t : ℕ) (x : N) → ((j : ℕ) → Holds (seat_at m.seats j) t → j ≡ i) → Holds (seat_at m.seats i) t → view.held ≡ None
@@ -63,12 +45,7 @@ module _ {N : Type 0} {m : Machine} {fates : List (Option (ℕ × N))} {Admits :
       let here = seat_at-here m.seats i view made in
       let else = seat_at-else m.seats i view made in
       let fate : Option (ℕ × N) = Some (i, x) in
-      record {
-        each_claimed = length-set fates t fate ∙ was.each_claimed ∙ sym same;
-        held_is_open = λ j u h. grind (arith, was, alone, empty, h, set_else fates t u fate, seats_are, here, else);
-        open_is_held = λ u e. let c = at_set fates t u fate None e in grind (arith, was, c, holds, seats_are, else);
-        finished = λ u j y e. let c = at_set fates t u fate (Some (j, y)) e in grind (arith, was, c, is_known, admitted);
-      }
+      grind (arith, was, length-set fates t fate, same, alone, empty, holds, set_else fates t, at_set fates t, seats_are, is_known, admitted)
 
 module _ (N : Type 0) (m : Machine) (i : ℕ) where
   -- what a mark of a kind changes, and what it leaves alone
@@ -86,21 +63,15 @@ module _ (N : Type 0) (m : Machine) (i : ℕ) where
 
   mark_is : IsRing m → (kind : ℕ) → kind < 2 → IsMarked kind
   mark_is ring zero low =
-      let most = (small m ring).loss0 in
-      let risen : (m.loss0.value + 1) % 2 ^ 64 ≡ m.loss0.value + 1 = omega (arith, most) in
-      let told = ap (λ (n : ℕ). packed m.limit m.word ∷ n ∷ m.loss1.value ∷ m.marks) risen in
-      assumption
+      grind (arith, small m ring)
   mark_is ring (suc zero) low =
-      let most = (small m ring).loss1 in
-      let risen : (m.loss1.value + 1) % 2 ^ 64 ≡ m.loss1.value + 1 = omega (arith, most) in
-      let told = ap (λ (n : ℕ). packed m.limit m.word ∷ m.loss0.value ∷ n ∷ m.marks) risen in
-      assumption
+      grind (arith, small m ring)
   mark_is ring (suc (suc kind)) low = absurd (omega (arith, low))
 
 module _ {O D T N : Type 0} {note : D → N} {Ao : T → O → Type 0} {An : T → N → Type 0} {key : Key T} {s : State (Slot O D) (View T N)}
     (r : Runs note Ao An key s) where
   pub word_packs_here : IsPackable key.limit r.machine.word
-  word_packs_here = subst (λ (k : ℕ). IsPackable k r.machine.word) (sizes_of r).limit_is (word_packs r.machine (ring_of r))
+  word_packs_here = rw (sizes_of r).limit_is at (word_packs r.machine (ring_of r))
 
   -- word 0 is the machine's
   pub number_is : slice_index s.words 0 ≡ packed key.limit r.machine.word
@@ -111,7 +82,7 @@ module _ {O D T N : Type 0} {note : D → N} {Ao : T → O → Type 0} {An : T �
       ∙ unpacked-packed key.limit r.machine.word (omega (arith, most)) word_packs_here
 
   pub number_reads : IsReadable key.limit (slice_index s.words 0)
-  number_reads = subst (IsReadable key.limit) (sym number_is) (readable key.limit r.machine.word word_packs_here)
+  number_reads = rw number_is (omega (arith, word_packs_here))
 
   -- where none is free, the number of claims is the last front
   none_free_at_front : r.machine.word.free ≡ 0 → StandsIn r.keeper.fronts r.machine.word.claimed
@@ -224,9 +195,9 @@ module _ {O D T N : Type 0} {note : D → N} {Ao : T → O → Type 0} {An : T �
       claim_told =
           let packs = word_packs claim_now (after_keeps r.machine (ring_of r) (Claim memo.number) claim_possible) in
           let left = armed_leaves_field r.machine (ring_of r) memo.number claim_possible in
-          let number = claimed_number r.machine.limit r.machine.word (ring_of r).permits.either left packs in
-          ap (λ (words : List ℕ). set words 0 ((slice_index words 0 + 65535) % 2 ^ 64)) r.words_are
-          ∙ ap (λ (n : ℕ). set (words_of r.machine) 0 n) number
+          let sum = packed-claimed r.machine.limit r.machine.word (ring_of r).permits.either left in
+          let number : (packed r.machine.limit r.machine.word + 65535) % 2 ^ 64 ≡ packed r.machine.limit claim_now.word = omega (arith, sum, packs) in
+          rw (r.words_are, number)
 
       claim_step : {later : List (Option (ℕ × N))} → AreFates claim_now (An key.terms) r.keeper.made later
           → ((t j : ℕ) (x : N) → get_elem? r.fates t ≡ some (Some (j, x)) → get_elem? later t ≡ some (Some (j, x)))
@@ -331,7 +302,7 @@ module _ {O D T N : Type 0} {note : D → N} {Ao : T → O → Type 0} {An : T �
           let others = λ (j : ℕ) (other : j ≢ memo.number). taken-else j memo.number 0 (note d) r.fates t other is_open in
           let out = is_out.1 in
           let below : end_from 0 now.log ≤ r.machine.word.claimed = omega (arith, end_on 0 memo.log call, out) in
-          let got = got_of-got memo.log t (note d) ∙ ap (λ (l : List (ℕ × N)). l ++ (t, note d) ∷ []) its.got
+          let got = got_of-append memo.log (call ∷ []) ∙ ap (λ (l : List (ℕ × N)). l ++ (t, note d) ∷ []) its.got
           ∙ sym (taken-own memo.number t (note d) r.fates memo.log its.ordered.rises after_log its.got is_open) in
           let front : (j g : ℕ) → get_elem? now.log j ≡ some (Lost g) → StandsIn r.keeper.fronts g =
           λ j g e. let c = at_snoc memo.log call (Lost g) j e in grind (arith, its.lost_at_front j g, c) in

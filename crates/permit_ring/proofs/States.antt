@@ -1,5 +1,5 @@
 -- What stays of the rule where one view changes.
-use Rattle.std.proofs.Common.{◌≡◌, ◌≢◌, ℕ, ◌+◌, ◌%◌, ◌<◌, ◌≤◌, true, false, List, set, Option, Some, None, refl, sym, ◌∙◌, ap, subst, inl, inr, mod-lt, arith}
+use Rattle.std.proofs.Common.{◌≡◌, ◌≢◌, ℕ, ◌+◌, ◌%◌, ◌<◌, ◌≤◌, true, false, List, set, Option, sym, ◌∙◌, inl, inr, mod-lt, arith}
 use Rattle.std.proofs.lemmas.Bool.{cases_eq}
 use Rattle.std.proofs.lemmas.Grind.{common_steps}
 use Rattle.std.proofs.lemmas.List.{length-set}
@@ -13,10 +13,10 @@ use Rattle.ring_core.proofs.SeatLemmas.{SameHolders}
 use Rattle.ring_core.proofs.Turns.{same_position}
 use Rattle.ring_core.specs.Sound.{IsRing}
 use Rattle.ring_core.proofs.Opens.{opens}
-use Rattle.permit_ring.specs.Names.{Key, KeeperMemo, Move, SeatMemo, Slot, View, Sits, Keeps, Spent}
+use Rattle.permit_ring.specs.Names.{Key, KeeperMemo, Move, SeatMemo, Slot, View, Sits, Keeps}
 use Rattle.permit_ring.specs.Logs.{taken_by}
 use Rattle.permit_ring.specs.Moves.{Leads, by_seat}
-use Rattle.permit_ring.specs.Rule.{words_of, StandsIn, AreFates, Home, IsSlot, AreSlots, IsSeatMemo, IsKeeperMemo, IsViewAt, IsSomewhere, Runs}
+use Rattle.permit_ring.specs.Rule.{words_of, StandsIn, AreFates, Home, IsSlot, AreSlots, IsSeatMemo, IsKeeperMemo, Runs}
 use Rattle.permit_ring.proofs.ListLemmas.{at_length}
 use Rattle.permit_ring.proofs.MoveLemmas.{led_ring, led_sizes}
 
@@ -39,15 +39,10 @@ module _ {N : Type 0} {m now : Machine} {fates : List (Option (ℕ × N))} where
     -- where none is claimed, offered or reaped, the slots stay
     pub slots_stay : now.reaped ≡ m.reaped → now.word.claimed ≡ m.word.claimed → now.offered ≡ m.offered
         → AreSlots note Admits m fates n homes → AreSlots note Admits now fates n homes
-    slots_stay reaped claimed offered a = record {
-      a_slot_each = a.a_slot_each;
-      each = λ t from to. let is = a.each t (omega arith) (omega arith) in record {
-        finished_home = is.finished_home;
-        held_out = is.held_out;
-        offered_home = λ past below. is.offered_home (omega arith) (omega arith);
-        vacant_out = λ past. is.vacant_out (omega arith);
-      };
-    }
+    slots_stay reaped claimed offered a =
+        let each : (t : ℕ) → now.reaped ≤ t → t < now.reaped + n → IsSlot note Admits now fates t (get_elem? homes (t % n)) =
+        λ t from to. let is = a.each t (omega arith) (omega arith) in grind (arith, is) in
+        assumption
 
 module _ {O D N : Type 0} {note : D → N} {Admits : O
     → Type 0} {n : ℕ} {homes : List (maybe.Option (Slot O D))} {m now : Machine} {fates later : List (Option (ℕ × N))} where
@@ -59,14 +54,11 @@ module _ {O D N : Type 0} {note : D → N} {Admits : O
       → AreSlots note Admits now later n (set homes (u % n) v)
   slots_set u v positive from_u to_u reaped was own others = record {
     a_slot_each = length-set homes (u % n) v ∙ was.a_slot_each;
-    each = λ t from to.
-        let since : m.reaped ≤ t = omega arith in
-        let until : t < m.reaped + n = omega arith in
-        elim (cases_eq t u) [
-          | inl here ↦ rw (here, set_here homes (u % n) v (rw was.a_slot_each (mod-lt u positive))) own
-          | inr away ↦ rw (set_else homes (u % n) (t % n) v (λ e. away (same_position m.reaped n t u since until from_u to_u e)))
-              (others t (get_elem? homes (t % n)) away since until (was.each t since until))
-        ];
+    each = λ t from to. elim (cases_eq t u) [
+      | inl here ↦ rw (here, set_here homes (u % n) v (rw was.a_slot_each (mod-lt u positive))) own
+      | inr away ↦ rw (set_else homes (u % n) (t % n) v (λ e. away (same_position m.reaped n t u (omega arith) (omega arith) from_u to_u e)))
+          (others t (get_elem? homes (t % n)) away (omega arith) (omega arith) (was.each t (omega arith) (omega arith)))
+    ];
   }
 
 module _ {O D T N : Type 0} {note : D → N} {Ao : T → O → Type 0} {An : T → N → Type 0} {key : Key T} {s : State (Slot O D) (View T N)}
@@ -82,14 +74,11 @@ module _ {O D T N : Type 0} {note : D → N} {Ao : T → O → Type 0} {An : T �
 
   -- no ticket is a turn ahead
   pub one_turn_ahead : r.machine.offered ≤ r.machine.reaped + key.positions
-  one_turn_ahead = subst (λ (k : ℕ). r.machine.offered ≤ r.machine.reaped + k) sizes_of.positions_are ring_of.permits.one_turn_ahead
+  one_turn_ahead = rw sizes_of.positions_are at ring_of.permits.one_turn_ahead
 
   -- the keeper sits at the first port
   pub keeper_port : {id : ℕ} {its : Key T} {k : KeeperMemo N} → get_elem? s.views id ≡ some (Keeps its k) → (id ≡ 0) × (k ≡ r.keeper)
-  keeper_port {id = id} {its = its} {k = k} at =
-      let first : id ≡ 0 = r.each_view id (Keeps its k) at in
-      let same : k ≡ r.keeper = cc r.keeper_there in
-      (first, same)
+  keeper_port {id = id} {its = its} {k = k} at = let first : id ≡ 0 = r.each_view id (Keeps its k) at in (first, cc r.keeper_there)
 
   module _ (id : ℕ) {its : Key T} {memo : SeatMemo N} (at : get_elem? s.views id ≡ some (Sits its memo)) where
     -- a seat sits elsewhere
@@ -110,31 +99,6 @@ module _ {O D T N : Type 0} {note : D → N} {Ao : T → O → Type 0} {An : T �
     pub not_ended : {A : Type 0} (other : SeatMemo N) → other.view.live ≡ false → other.number ≡ memo.number
         → IsSeatMemo r.machine r.moves r.fates r.keeper.fronts r.keeper.made other → A
     not_ended other off e k = cc (is_live, knows_it.shows, k.shows)
-
-  -- the rule goes on in this state, where the keeper knows this, and views stand and seats sit so
-  module _ (now : Machine) (then : List Move) (later : List (Option (ℕ × N))) (k : KeeperMemo N) (views : List (View T N))
-      (owner : ℕ → ℕ) where
-    -- a view stays, where its seat has the port and knows what it knew
-    pub view_stays : {port : ℕ} {v : View T N} → get_elem? s.views port ≡ some v
-        → ((memo : SeatMemo N) → r.owner memo.number ≡ port → IsSeatMemo r.machine r.moves r.fates r.keeper.fronts r.keeper.made memo
-        → (owner memo.number ≡ port) × IsSeatMemo now then later k.fronts k.made memo)
-        → IsViewAt key now then later k views owner port v
-    view_stays {port = port} {v = Sits its memo} at on =
-        let p = r.each_view port (Sits its memo) at in
-        let q = on memo p.1 p.3 in
-        (p.0, q.0, p.2, q.1)
-    view_stays {port = port} {v = Keeps its other} at on = r.each_view port (Keeps its other) at
-    view_stays {v = Spent} at on = tt
-
-    -- a seat is where it was, or came back and knows what it knew
-    pub somewhere_stays : {i : ℕ} {back : Option (SeatMemo N)} → get_elem? r.keeper.back i ≡ some back
-        → ((memo : SeatMemo N) → memo.number ≡ i → get_elem? s.views (r.owner i) ≡ some (Sits key memo)
-        → IsSomewhere key now then later k views owner i None)
-        → ((memo : SeatMemo N) → memo.number ≡ i → memo.view.live ≡ false
-        → IsSeatMemo r.machine r.moves r.fates r.keeper.fronts r.keeper.made memo → IsSeatMemo now then later k.fronts k.made memo)
-        → IsSomewhere key now then later k views owner i back
-    somewhere_stays {i = i} {back = None} at there on = let p = r.each_seat i None at in there p.0 p.1 p.2
-    somewhere_stays {i = i} {back = Some memo} at there on = let p = r.each_seat i (Some memo) at in (p.0, p.1, on memo p.0 p.1 p.2)
 
   -- the machine, its moves and the fates go on
   module _ (now : Machine) (then : List Move) (later : List (Option (ℕ × N))) (words : List ℕ) (homes : List (maybe.Option (Slot O D)))
@@ -160,26 +124,12 @@ module _ {O D T N : Type 0} {note : D → N} {Ao : T → O → Type 0} {An : T �
       keeper_there = set_else s.views id 0 (Sits key new) (λ e. not_first id at (sym e)) ∙ r.keeper_there;
       knows = keeps;
       owner = r.owner;
-      each_view = λ port v e. elim (at_set s.views id port (Sits key new) v e) [
-        | inl here ↦ subst (IsViewAt key now then later r.keeper (set s.views id (Sits key new)) r.owner port) here.1
-            (refl, ap r.owner same ∙ at_own_port id at ∙ sym here.0, live, mine)
-        | inr there ↦ view_stays now then later r.keeper (set s.views id (Sits key new)) r.owner there.1 (λ other port_is was. (
-          port_is,
-          others other (λ e. there.0 (sym port_is ∙ ap r.owner e ∙ at_own_port id at)) was,
-        ))
-      ];
-      each_seat = λ i back e. somewhere_stays now then later r.keeper (set s.views id (Sits key new)) r.owner e
-          (λ its_memo number_is there. elim (cases_eq (r.owner i) id) [
-            | inl here ↦
-                let one : memo ≡ its_memo = cc (at, there) in (
-                  new,
-                  same ∙ ap (λ (k : SeatMemo N). k.number) one ∙ number_is,
-                  ap (get_elem? (set s.views id (Sits key new))) here
-                      ∙ set_here s.views id (Sits key new) (at_length s.views id (Sits key memo) at),
-                )
-            | inr away ↦ (its_memo, number_is, set_else s.views id (r.owner i) (Sits key new) away ∙ there)
-          ])
-          (λ ended number_is off was. others ended (λ e. not_ended id at ended off e was) was);
+      each_view = λ port v e. let c = at_set s.views id port (Sits key new) v e in
+          grind (arith, c, r.each_view port v, at_own_port id at, same, live, mine, others);
+      each_seat = λ i back e.
+          let else = set_else s.views id (r.owner i) (Sits key new) in
+          let here = set_here s.views id (Sits key new) (at_length s.views id (Sits key memo) at) in
+          grind (arith, r.each_seat i back, else, here, at, same, others, knows_it id at, is_live id at);
     }
 
     -- or the keeper knows more, and made no seat
@@ -201,16 +151,7 @@ module _ {O D T N : Type 0} {note : D → N} {Ao : T → O → Type 0} {An : T �
       keeper_there = set_here s.views 0 (Keeps key k) (at_length s.views 0 (Keeps key r.keeper) r.keeper_there);
       knows = keeps;
       owner = r.owner;
-      each_view = λ port v e. elim (at_set s.views 0 port (Keeps key k) v e) [
-        | inl here ↦ subst (IsViewAt key now then later k (set s.views 0 (Keeps key k)) r.owner port) here.1 here.0
-        | inr there ↦ view_stays now then later k (set s.views 0 (Keeps key k)) r.owner there.1
-            (λ other port_is was. (port_is, others other was))
-      ];
-      each_seat = λ i was e. somewhere_stays now then later k (set s.views 0 (Keeps key k)) r.owner (cc (back, e))
-          (λ memo number_is there. (
-            memo,
-            number_is,
-            set_else s.views 0 (r.owner i) (Keeps key k) (not_first (r.owner i) there) ∙ there,
-          ))
-          (λ ended number_is off was. others ended was);
+      each_view = λ port v e. let c = at_set s.views 0 port (Keeps key k) v e in grind (arith, c, r.each_view port v, others);
+      each_seat = λ i was e.
+          grind (arith, back, r.each_seat i was, set_else s.views 0 (r.owner i) (Keeps key k), not_first (r.owner i), others);
     }
