@@ -56,12 +56,7 @@ module _ {N : Type 0} (word : PermitWord) (log : List (Outcome N)) (fronts : Lis
     })
   ]
 
--- a list with or without one more element in front
-behind : {A : Type 0} (b : Bool) (x a : A) (l : List A) (k : ℕ) → get_elem? l k ≡ some a → (j : ℕ)
-    × (get_elem? (cond b (x ∷ l) l) j ≡ some a)
-behind true x a l k e = (suc k, e)
-behind false x a l k e = (k, e)
-
+-- an element of a list with or without one more in front
 first_or_behind : {A : Type 0} (b : Bool) (x a : A) (l : List A) (k : ℕ) → get_elem? (cond b (x ∷ l) l) k ≡ some a
     → ((b ≡ true) × (x ≡ a)) ⊎ ((j : ℕ) × (get_elem? l j ≡ some a))
 first_or_behind true x a l zero e = inl (refl, cc)
@@ -92,7 +87,7 @@ module _ {N : Type 0} where
   taken_in i from (Some y ∷ fates) zero t x is e = (0, grind (arith, common_steps))
   taken_in i from (Some y ∷ fates) (suc u) t x is e =
       let rest = taken_in i (suc from) fates u t x (omega arith) e in
-      behind (eqb i y.0) (from, y.1) (t, x) (taken_by i (suc from) fates) rest.0 rest.1
+      (cond (eqb i y.0) (suc rest.0) rest.0, grind (arith, common_steps, rest))
   taken_in i from _ _ t x is e = cc
 
   -- and what it took it finished

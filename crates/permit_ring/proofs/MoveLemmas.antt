@@ -2,7 +2,7 @@
 use Rattle.std.proofs.Common.{◌≡◌, ℕ, true, false, List, [], ◌∷◌, Some, refl, sym, subst}
 use Rattle.std.proofs.lemmas.List.{append-nil}
 use Rattle.std.proofs.lemmas.List.Elements.{filter-append}
-use Rattle.ring_core.specs.Machine.{HasSizes, Machine, possible, after, next}
+use Rattle.ring_core.specs.Machine.{HasSizes, Machine, after, next}
 use Rattle.ring_core.specs.Sound.{IsRing}
 use Rattle.ring_core.proofs.RingLaws.{step_of_next}
 use Rattle.ring_core.proofs.Runs.{after_keeps}
@@ -15,9 +15,7 @@ use Rattle.permit_ring.specs.Steps.{and_move}
 pub leads_on : (start m now : Machine) (moves : List Move) (step : Step) → Leads start moves m → next m step ≡ Some now
     → Leads start (and_move moves step (found_at m step)) now
 leads_on start m now [] step led e =
-    let is = step_of_next m now step e in
-    subst (λ (k : Machine). (possible k step ≡ true) × (found_at m step ≡ found_at k step) × (now ≡ after k step)) led
-    (is.possible_here, refl, is.is_after)
+    let is = step_of_next m now step e in rw (← led) (is.possible_here, refl, is.is_after)
 leads_on start m now (v ∷ vs) step led e = (led.0, led.1, leads_on (after start v.step) m now vs step led.2 e)
 
 -- moves lead from a ring to a ring

@@ -1,17 +1,18 @@
 -- What the rule says of a ring: of its tickets, its logs, its slots and its words.
-use Rattle.std.proofs.Common.{◌≡◌, ℕ, zero, suc, ◌+◌, ◌%◌, ◌<◌, ◌≤◌, ◌⊎◌, true, false, is_some, List, [], ◌∷◌, length, Option, Some, None, sym, ◌∙◌, ap, subst, inl, inr, mod-eq_of_lt, arith}
-use Rattle.std.proofs.lemmas.Bool.{cases_eq, cases_lt, cases_order}
+use Rattle.std.proofs.Common.{◌≡◌, ℕ, zero, suc, ◌+◌, ◌%◌, ◌<◌, ◌≤◌, true, false, is_some, Option, Some, None, refl, sym, ◌∙◌, ap, inl, inr, mod-eq_of_lt, arith}
+use Rattle.std.proofs.lemmas.Bool.{cases_eq}
 use Rattle.std.proofs.lemmas.Grind.{common_steps}
 use native.Mathlib.Nat.{add-mod_right}
 use mathlib.Core.Option.{some}
+use mathlib.Core.Option as maybe
 use lib.ListN.{get_elem?}
 use Rattle.atomic_table.specs.Table.{State}
-use Rattle.ring_core.specs.Machine.{new_seat, seat_at}
+use Rattle.ring_core.specs.Machine.{seat_at}
 use Rattle.ring_core.specs.Sound.{Holds}
 use Rattle.ring_core.proofs.SeatLemmas.{live_is_made}
-use Rattle.permit_ring.specs.Names.{SeatView, Key, KeeperMemo, Lost, Got, SeatMemo, Slot, Offered, Finished, View, Sits}
+use Rattle.permit_ring.specs.Names.{Key, Lost, Got, SeatMemo, Slot, View, Sits}
 use Rattle.permit_ring.specs.Places.{SitsThere, CameBack, IsMemoThere, IsHeldOnce, IsLoggedOnce, HasOnePlace, IsNotedAs, IsInOrder, IsAdmittedSlot, IsOneSeats}
-use Rattle.permit_ring.specs.Rule.{Home, IsSlot, IsSeatMemo, IsSomewhere, Runs, HasFinished, HasOffered, IsOut}
+use Rattle.permit_ring.specs.Rule.{Home, IsSlot, IsSeatMemo, IsSomewhere, Runs}
 use Rattle.permit_ring.proofs.States.{ring_of, one_turn_ahead, keeper_port, at_own_port, is_live, knows_it, not_ended}
 use Rattle.permit_ring.proofs.ListLemmas.{at_length, there}
 use Rattle.permit_ring.proofs.LogLemmas.{open_undecided, got_in, got_from, taken_in, taken_from, rises_apart, within_end}
@@ -24,11 +25,6 @@ in_turn n (suc from) p below = let q = in_turn n from p below in elim (cases_eq 
   | inr later ↦ (q.0, omega arith, omega arith, q.3)
 ]
 
--- a seat that holds a ticket is one that was made
-made_if_holds : (made : ℕ) (seats : List SeatView) (i t : ℕ) → ((1 ≤ made) × (made ≡ length seats))
-    ⊎ ((made ≡ 0) × (seats ≡ new_seat ∷ [])) → i < length seats → Holds (seat_at seats i) t → i < made
-made_if_holds made seats i t made_is less h = grind (arith, common_steps)
-
 module _ {O D T N : Type 0} {note : D → N} {Ao : T → O → Type 0} {An : T → N → Type 0} {key : Key T} {s : State (Slot O D) (View T N)}
     (r : Runs note Ao An key s) where
   abbrev Known : SeatMemo N → Type 0
@@ -36,7 +32,7 @@ module _ {O D T N : Type 0} {note : D → N} {Ao : T → O → Type 0} {An : T �
 
   -- the keeper has the memo
   back_there : (memo : SeatMemo N) → CameBack s.views memo → get_elem? r.keeper.back memo.number ≡ some (Some memo)
-  back_there memo c = ap (λ (k : KeeperMemo N). get_elem? k.back memo.number) (sym (keeper_port r c.there).1) ∙ c.back_at
+  back_there memo c = rw (keeper_port r c.there).1 at c.back_at
 
   -- who came back is not live, and knows what it knew
   ended_known : (memo : SeatMemo N) → CameBack s.views memo → (memo.view.live ≡ false) × Known memo
@@ -79,36 +75,21 @@ module _ {O D T N : Type 0} {note : D → N} {Ao : T → O → Type 0} {An : T �
 
   module _ (memo : SeatMemo N) (is : IsMemoThere s.views memo) where
     -- a ticket in a log was finished by its seat
-    fate_of : (j t : ℕ) (x : N) → get_elem? memo.log j ≡ some (Got t x) → get_elem? r.fates t ≡ some (Some (memo.number, x))
+    pub fate_of : (j t : ℕ) (x : N) → get_elem? memo.log j ≡ some (Got t x) → get_elem? r.fates t ≡ some (Some (memo.number, x))
     fate_of j t x e =
         let got = got_in memo.log j t x e in
-        let took = taken_from memo.number 0 r.fates got.0 t x (ap (λ (l : List (ℕ × N)). get_elem? l got.0) (sym (memo_known memo is).got)
-        ∙ got.1) in
-        let here : t ≡ took.0 = omega arith in
-        ap (get_elem? r.fates) here ∙ took.2
+        let took = taken_from memo.number 0 r.fates got.0 t x (rw (memo_known memo is).got at got.1) in
+        let here : t ≡ took.0 = omega arith in rw here took.2
 
     -- and one that a seat finished is in its log
     log_of : (t : ℕ) (x : N) → get_elem? r.fates t ≡ some (Some (memo.number, x)) → (j : ℕ) × (get_elem? memo.log j ≡ some (Got t x))
     log_of t x e =
         let took = taken_in memo.number 0 r.fates t t x (omega arith) e in
-        got_from memo.log took.0 t x (ap (λ (l : List (ℕ × N)). get_elem? l took.0) (memo_known memo is).got ∙ took.1)
-
-    -- with an admitted note
-    pub logged_is_admitted : (j t : ℕ) (x : N) → get_elem? memo.log j ≡ some (Got t x) → An key.terms x
-    logged_is_admitted j t x e = (r.are_fates.finished t memo.number x (fate_of j t x e)).1
+        got_from memo.log took.0 t x (rw (← (memo_known memo is).got) at took.1)
 
     -- it was claimed
     pub logged_is_claimed : (j t : ℕ) (x : N) → get_elem? memo.log j ≡ some (Got t x) → t < r.machine.word.claimed
     logged_is_claimed j t x e = omega (arith, at_length r.fates t (Some (memo.number, x)) (fate_of j t x e), r.are_fates.each_claimed)
-
-    -- and its slot holds its value, until it is reaped
-    pub slot_of_logged : (j t : ℕ) (x : N) → get_elem? memo.log j ≡ some (Got t x) → r.machine.reaped ≤ t
-        → HasFinished (get_elem? s.homes (t % key.positions)) note x
-    slot_of_logged j t x e from =
-        let out = logged_is_claimed j t x e in
-        let ring = ring_of r in
-        let turn = one_turn_ahead r in
-        (r.are_slots.each t from (omega arith)).finished_home memo.number x (fate_of j t x e)
 
     -- the calls of a log are in order
     pub records_rise : IsInOrder r.machine.word.claimed memo.log
@@ -119,41 +100,23 @@ module _ {O D T N : Type 0} {note : D → N} {Ao : T → O → Type 0} {An : T �
 
     module _ (t : ℕ) (holds : Holds memo.view t) where
       -- a seat holds in the machine what its memo says
-      machine_holds : Holds (seat_at r.machine.seats memo.number) t
-      machine_holds = sym (ap (λ (v : SeatView). v.held) (memo_known memo is).shows) ∙ holds
+      pub machine_holds : Holds (seat_at r.machine.seats memo.number) t
+      machine_holds = rw (memo_known memo is).shows at holds
 
       -- nothing became yet of a held ticket
-      open_of : get_elem? r.fates t ≡ some None
+      pub open_of : get_elem? r.fates t ≡ some None
       open_of = r.are_fates.held_is_open memo.number t machine_holds
 
-      -- and its slot is out
-      pub slot_of_held : IsOut (get_elem? s.homes (t % key.positions))
-      slot_of_held =
-          let ring = ring_of r in
-          let out = (ring.seats.each memo.number).held_is_out t machine_holds in
-          let turn = one_turn_ahead r in
-          (r.are_slots.each t out.0 (omega arith)).held_out open_of
-
-  -- what a free slot holds, and a vacant one
-  pub slot_of_free : (t : ℕ) → r.machine.word.claimed ≤ t → t < r.machine.offered
-      → HasOffered (get_elem? s.homes (t % key.positions)) (Ao key.terms)
-  slot_of_free t past below =
-      let ring = ring_of r in
-      let turn = one_turn_ahead r in
-      (r.are_slots.each t (omega arith) (omega arith)).offered_home past below
-
-  pub slot_of_vacant : (t : ℕ) → r.machine.offered ≤ t → t < r.machine.reaped + key.positions
-      → IsOut (get_elem? s.homes (t % key.positions))
-  slot_of_vacant t past below = let ring = ring_of r in (r.are_slots.each t (omega arith) below).vacant_out past
+  -- the slot of a ticket that was offered and is not reaped
+  pub slot_at : (t : ℕ) → r.machine.reaped ≤ t → t < r.machine.offered → IsSlot note (Ao key.terms) r.machine r.fates t
+      (get_elem? s.homes (t % key.positions))
+  slot_at t from below = r.are_slots.each t from (omega (arith, below, one_turn_ahead r))
 
   -- in one log a ticket stands at one place
   one_place : (memo : SeatMemo N) (j l t : ℕ) (x y : N) → IsMemoThere s.views memo → get_elem? memo.log j ≡ some (Got t x)
       → get_elem? memo.log l ≡ some (Got t y) → j ≡ l
-  one_place memo j l t x y is ex ey = let rises = (records_rise memo is).rises in elim (cases_order j l) [
-    | inl same ↦ same
-    | inr (inl less) ↦ let no : t + 1 ≤ t = rises j l (Got t x) (Got t y) less ex ey in absurd (omega arith)
-    | inr (inr more) ↦ let no : t + 1 ≤ t = rises l j (Got t y) (Got t x) more ey ex in absurd (omega arith)
-  ]
+  one_place memo j l t x y is ex ey =
+      let rises = (records_rise memo is).rises in grind (arith, rises j l (Got t x) (Got t y), rises l j (Got t y) (Got t x))
 
   -- two places of one ticket in logs are one
   one_entry : (a b : SeatMemo N) (j l t : ℕ) (x y : N) → IsMemoThere s.views a → IsMemoThere s.views b
@@ -174,32 +137,30 @@ module _ {O D T N : Type 0} {note : D → N} {Ao : T → O → Type 0} {An : T �
       let was = ended_known memo back in
       cc (was.0, was.1.shows, holder_lives memo.number t (machine_holds memo (inr back) t h))
 
-  -- a ticket that a seat holds has this place alone
-  held_by : (memo : SeatMemo N) (t : ℕ) → IsMemoThere s.views memo → Holds memo.view t → IsHeldOnce s.views t
-  held_by memo t is h = let sits = holder_sits memo t is h in record {
-    holder = memo;
-    sits = sits;
-    is_live = is_live r _ sits.there;
-    holds = h;
-    no_other = λ other is_too h_too. one_each other memo is_too is
-        ((ring_of r).seats.apart other.number memo.number t (machine_holds other is_too t h_too) (machine_holds memo is t h));
-    in_no_log = λ other j x is_too e. open_undecided r.fates t (other.number, x) (open_of memo is t h) (fate_of other is_too j t x e);
-  }
-
-  -- a ticket of which nothing became is held
+  -- a ticket of which nothing became is held, and has this place alone
   held_once : (t : ℕ) → get_elem? r.fates t ≡ some None → IsHeldOnce s.views t
   held_once t undone =
       let held = r.are_fates.open_is_held t undone in
       let made = live_is_made r.machine.seats held.0 (holder_lives held.0 t held.1) in
-      let one = each_number_is_one_seats held.0 (made_if_holds r.keeper.made r.machine.seats held.0 t r.knows.made_is made held.1) in
-      held_by one.memo t one.is_there (ap (λ (v : SeatView). v.held) ((memo_known one.memo one.is_there).shows
-      ∙ ap (seat_at r.machine.seats) one.number_is) ∙ held.1)
+      let one = each_number_is_one_seats held.0 (grind (arith, common_steps, r.knows.made_is, made, held.1)) in
+      let h : Holds one.memo.view t = rw ((memo_known one.memo one.is_there).shows, one.number_is) held.1 in
+      let sits = holder_sits one.memo t one.is_there h in
+      record {
+        holder = one.memo;
+        sits = sits;
+        is_live = is_live r _ sits.there;
+        holds = h;
+        no_other = λ other is h_too. let theirs = machine_holds other is t h_too in
+            one_each other one.memo is one.is_there ((ring_of r).seats.apart other.number one.memo.number t theirs
+            (machine_holds one.memo one.is_there t h));
+        in_no_log = λ other j x is e. open_undecided r.fates t (other.number, x) undone (fate_of other is j t x e);
+      }
 
   -- any other is in a log
   pub noted_as : (t : ℕ) (y : ℕ × N) → get_elem? r.fates t ≡ some (Some y) → IsNotedAs s.views t y.1
   noted_as t y done =
       let one = each_number_is_one_seats y.0 (r.are_fates.finished t y.0 y.1 done).0 in
-      let entry = log_of one.memo one.is_there t y.1 (done ∙ ap (λ (i : ℕ). some (Some (i, y.1))) (sym one.number_is)) in
+      let entry = log_of one.memo one.is_there t y.1 (rw one.number_is done) in
       record { taker = one.memo; is_there = one.is_there; place = entry.0; stands = entry.1 }
 
   -- in one log alone, there once
@@ -223,38 +184,16 @@ module _ {O D T N : Type 0} {note : D → N} {Ao : T → O → Type 0} {An : T �
   pub each_ticket_has_one_place : (t : ℕ) → t < r.machine.word.claimed → HasOnePlace s.views t
   each_ticket_has_one_place t less = let fate = there r.fates t (omega (arith, r.are_fates.each_claimed)) in place_from t fate.0 fate.1
 
-  abbrev Admitted : Slot O D → Type 0
-  Admitted = IsAdmittedSlot note Ao An key.terms
+  -- the value at home of a ticket is admitted, whatever became of it
+  value_at : (t : ℕ) (x : Slot O D) (home : Home O D) (fate : maybe.Option (Option (ℕ × N))) → get_elem? r.fates t ≡ fate
+      → IsSlot note (Ao key.terms) r.machine r.fates t home → home ≡ some (some x) → IsAdmittedSlot note Ao An key.terms x
+  value_at t x home (some (Some y)) e is at =
+      let done = is.finished_home y.0 y.1 e in grind (arith, at, done, r.are_fates.finished t y.0 y.1 e)
+  value_at t x home fate e is at = grind (arith, is, at, there r.fates t, r.are_fates.each_claimed)
 
-  -- the value that stands at a place is the one that is said of it
-  value_is : (x y : Slot O D) (home : Home O D) → home ≡ some (some x) → home ≡ some (some y) → Admitted y → Admitted x
-  value_is x y home at is = let same : y ≡ x = cc in subst Admitted same
-
-  -- the value at home of a claimed ticket
-  claimed_value : (t : ℕ) (x : Slot O D) (fate : Option (ℕ × N)) (home : Home O D) → IsSlot note (Ao key.terms) r.machine r.fates t home
-      → get_elem? r.fates t ≡ some fate → home ≡ some (some x) → Admitted x
-  claimed_value t x None home is e at = cc (at, is.held_out e)
-  claimed_value t x (Some y) home is e at =
-      let done = is.finished_home y.0 y.1 e in
-      value_is x (Finished done.0) home at done.2 (subst (An key.terms) (sym done.1) (r.are_fates.finished t y.0 y.1 e).1)
-
-  -- and of one that is not claimed yet
-  later_value : (t : ℕ) (x : Slot O D) (home : Home O D) → IsSlot note (Ao key.terms) r.machine r.fates t home
-      → r.machine.word.claimed ≤ t → home ≡ some (some x) → Admitted x
-  later_value t x home is past at = elim (cases_lt t r.machine.offered) [
-    | inl offered ↦ let y = is.offered_home past offered in value_is x (Offered y.0) home at y.2 y.1
-    | inr vacant ↦ cc (at, is.vacant_out vacant)
-  ]
-
-  -- each value at home is admitted
-  pub values_at_home_are_admitted : (p : ℕ) (x : Slot O D) → get_elem? s.homes p ≡ some (some x) → Admitted x
+  -- each value at home is that of a ticket of the turn
+  pub values_at_home_are_admitted : (p : ℕ) (x : Slot O D) → get_elem? s.homes p ≡ some (some x) → IsAdmittedSlot note Ao An key.terms x
   values_at_home_are_admitted p x at =
       let t = in_turn key.positions r.machine.reaped p (omega (arith, at_length s.homes p (some x) at, r.are_slots.a_slot_each)) in
-      let is = r.are_slots.each t.0 t.1 t.2 in
-      let home = get_elem? s.homes (t.0 % key.positions) in
-      let here = ap (get_elem? s.homes) t.3 ∙ at in
-      elim (cases_lt t.0 r.machine.word.claimed) [
-        | inl claimed ↦ let fate = there r.fates t.0 (omega (arith, r.are_fates.each_claimed)) in
-            claimed_value t.0 x fate.0 home is fate.1 here
-        | inr past ↦ later_value t.0 x home is past here
-      ]
+      value_at t.0 x (get_elem? s.homes (t.0 % key.positions)) (get_elem? r.fates t.0) refl (r.are_slots.each t.0 t.1 t.2)
+      (ap (get_elem? s.homes) t.3 ∙ at)

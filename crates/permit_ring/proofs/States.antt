@@ -1,5 +1,5 @@
 -- What stays of the rule where one view changes.
-use Rattle.std.proofs.Common.{◌≡◌, ◌≢◌, ℕ, ◌+◌, ◌%◌, ◌<◌, ◌≤◌, true, false, List, set, Option, sym, ◌∙◌, inl, inr, mod-lt, arith}
+use Rattle.std.proofs.Common.{◌≡◌, ◌≢◌, ℕ, ◌+◌, ◌%◌, ◌<◌, ◌≤◌, true, false, List, set, Option, ◌∙◌, inl, inr, mod-lt, arith}
 use Rattle.std.proofs.lemmas.Bool.{cases_eq}
 use Rattle.std.proofs.lemmas.Grind.{common_steps}
 use Rattle.std.proofs.lemmas.List.{length-set}
@@ -104,34 +104,6 @@ module _ {O D T N : Type 0} {note : D → N} {Ao : T → O → Type 0} {An : T �
   module _ (now : Machine) (then : List Move) (later : List (Option (ℕ × N))) (words : List ℕ) (homes : List (maybe.Option (Slot O D)))
       (led : Leads (opening key.positions key.limit) then now) (told : words ≡ words_of now)
       (slots : AreSlots note (Ao key.terms) now later key.positions homes) where
-    -- and one seat knows more
-    pub seat_changes : (id : ℕ) {memo new : SeatMemo N} → get_elem? s.views id ≡ some (Sits key memo) → new.number ≡ memo.number
-        → new.view.live ≡ true → AreFates now (An key.terms) r.keeper.made later → IsKeeperMemo key.positions now then later r.keeper
-        → IsSeatMemo now then later r.keeper.fronts r.keeper.made new
-        → ((other : SeatMemo N) → other.number ≢ memo.number → IsSeatMemo r.machine r.moves r.fates r.keeper.fronts r.keeper.made other
-        → IsSeatMemo now then later r.keeper.fronts r.keeper.made other)
-        → Runs note Ao An key record { words = words; homes = homes; views = set s.views id (Sits key new) }
-    seat_changes id {memo = memo} {new = new} at same live fates keeps mine others = record {
-      sizes = r.sizes;
-      machine = now;
-      moves = then;
-      reached = led;
-      words_are = told;
-      fates = later;
-      keeper = r.keeper;
-      are_fates = fates;
-      are_slots = slots;
-      keeper_there = set_else s.views id 0 (Sits key new) (λ e. not_first id at (sym e)) ∙ r.keeper_there;
-      knows = keeps;
-      owner = r.owner;
-      each_view = λ port v e. let c = at_set s.views id port (Sits key new) v e in
-          grind (arith, c, r.each_view port v, at_own_port id at, same, live, mine, others);
-      each_seat = λ i back e.
-          let else = set_else s.views id (r.owner i) (Sits key new) in
-          let here = set_here s.views id (Sits key new) (at_length s.views id (Sits key memo) at) in
-          grind (arith, r.each_seat i back, else, here, at, same, others, knows_it id at, is_live id at);
-    }
-
     -- or the keeper knows more, and made no seat
     pub keeper_changes : {k : KeeperMemo N} → AreFates now (An key.terms) k.made later → IsKeeperMemo key.positions now then later k
         → k.back ≡ r.keeper.back
