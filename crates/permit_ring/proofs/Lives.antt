@@ -1,12 +1,12 @@
 -- Splits and joins keep the rule: the keeper makes one more seat, or takes one back.
-use Rattle.std.proofs.Common.{◌≡◌, ◌≢◌, ℕ, ◌+◌, ◌<◌, true, false, cond, eqb, List, [], ◌∷◌, ◌++◌, set, length, Option, Some, None, refl, sym, ◌∙◌, ap, subst, inl, inr, le_refl, eq-eqb, ne_eqb, arith}
+use Rattle.std.proofs.Common.{◌≡◌, ◌≢◌, ℕ, ◌+◌, ◌<◌, true, false, cond, eqb, List, [], ◌∷◌, ◌++◌, set, length, Option, Some, None, refl, sym, ◌∙◌, ap, inl, inr, le_refl, eq-eqb, ne_eqb, arith}
 use Rattle.std.proofs.lemmas.Grind.{common_steps}
 use Rattle.std.proofs.lemmas.List.{length-append, length-set}
 use mathlib.Core.Option.{some}
 use lib.ListN.{get_elem?}
 use Rattle.atomic_table.specs.Table.{State, Joins, Splits}
 use Rattle.atomic_table.proofs.Lists.{at_set, set_here, set_else, at_longer, at_last}
-use Rattle.ring_core.specs.Machine.{Machine, opening, new_seat, seat_at, is_idle, with_seat}
+use Rattle.ring_core.specs.Machine.{Machine, opening, new_seat, after, seat_at, is_idle, with_seat}
 use Rattle.ring_core.proofs.Nexts.{split_next, join_next}
 use Rattle.ring_core.proofs.SeatLemmas.{SameHolders, holders_stay_push, live_is_made, holders_stay, seat_at-here, seat_at-else}
 use Rattle.permit_ring.specs.Names.{SeatView, Split, Join, Key, KeeperMemo, Move, SeatMemo, Slot, View, Sits, Keeps, Spent}
@@ -27,16 +27,6 @@ record IsSplit (made : ℕ) (seats now : List SeatView) (moves then : List Move)
   new : seat_at now made ≡ new_seat
   holders : SameHolders seats now
   quiet : (i : ℕ) → by_seat i then ≡ by_seat i moves
-
--- seat 0 is there from the start
-first_split : (made : ℕ) (seats : List SeatView) (moves : List Move) → made ≡ 0 → seats ≡ new_seat ∷ []
-    → IsSplit made seats seats moves moves
-first_split made seats moves none one = grind (arith, common_steps)
-
--- each later one is added
-later_split : (made : ℕ) (seats : List SeatView) (moves : List Move) → made ≡ length seats
-    → IsSplit made seats (seats ++ new_seat ∷ []) moves (and_move moves Split 0)
-later_split made seats moves all = grind (arith, common_steps, by_seat-else moves Split 0, holders_stay_push seats)
 
 module _ {O D T N : Type 0} {note : D → N} {Ao : T → O → Type 0} {An : T → N → Type 0} {key : Key T} {s : State (Slot O D) (View T N)}
     (r : Runs note Ao An key s) (seats : List SeatView) (then : List Move)
@@ -177,16 +167,15 @@ module _ {O D T N : Type 0} (note : D → N) (Ao : T → O → Type 0) (An : T �
       → Splits (Runs note Ao An key) id v (split_left v) (split_right v)
   splits_allowed id v k is room s r at =
       let p = keeper_port r (at ∙ ap some is) in
-      let few : r.keeper.made < key.limit = subst (λ (h : KeeperMemo N). h.made < key.limit) p.1 room in
+      let few : r.keeper.made < key.limit = rw p.1 at room in
       rw (is, p.0, p.1) (elim r.knows.made_is [
         | inl all ↦
-            let sizes = sizes_of r in
+            let can = split_next r.machine (omega (arith, sizes_of r)) in
             split_runs r (r.machine.seats ++ new_seat ∷ []) (and_move r.moves Split 0)
-            (later_split r.keeper.made r.machine.seats r.moves all.1)
-            (leads_on (opening key.positions key.limit) r.machine (record r.machine { seats = r.machine.seats ++ new_seat ∷ [] })
-            r.moves Split r.reached (split_next r.machine (omega arith)))
+            (grind (arith, common_steps, all, by_seat-else r.moves Split 0, holders_stay_push r.machine.seats))
+            (leads_on (opening key.positions key.limit) r.machine (after r.machine Split) r.moves Split r.reached can)
             (rw (ne_eqb r.keeper.made 0 (λ e. omega arith), by_keeper-own r.moves Split 0 refl, r.knows.moved) refl)
-        | inr first ↦ split_runs r r.machine.seats r.moves (first_split r.keeper.made r.machine.seats r.moves first.0 first.1) r.reached
+        | inr first ↦ split_runs r r.machine.seats r.moves (grind (arith, common_steps, first)) r.reached
             (rw (eq-eqb r.keeper.made 0 first.0) r.knows.moved)
       ])
 

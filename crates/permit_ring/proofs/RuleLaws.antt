@@ -13,7 +13,7 @@ use Rattle.ring_core.proofs.SeatLemmas.{live_is_made}
 use Rattle.permit_ring.specs.Names.{Key, Lost, Got, SeatMemo, Slot, View, Sits}
 use Rattle.permit_ring.specs.Places.{SitsThere, CameBack, IsMemoThere, IsHeldOnce, IsLoggedOnce, HasOnePlace, IsNotedAs, IsInOrder, IsAdmittedSlot, IsOneSeats}
 use Rattle.permit_ring.specs.Rule.{Home, IsSlot, IsSeatMemo, IsSomewhere, Runs}
-use Rattle.permit_ring.proofs.States.{ring_of, one_turn_ahead, keeper_port, at_own_port, is_live, knows_it, not_ended}
+use Rattle.permit_ring.proofs.States.{ring_of, one_turn_ahead, keeper_port, at_own_port, is_live, knows_it}
 use Rattle.permit_ring.proofs.ListLemmas.{at_length, there}
 use Rattle.permit_ring.proofs.LogLemmas.{open_undecided, got_in, got_from, taken_in, taken_from, rises_apart, within_end}
 
@@ -51,8 +51,8 @@ module _ {O D T N : Type 0} {note : D → N} {Ao : T → O → Type 0} {An : T �
   -- a number has one memo
   one_each : (a b : SeatMemo N) → IsMemoThere s.views a → IsMemoThere s.views b → a.number ≡ b.number → a ≡ b
   one_each a b (inl x) (inl y) e = let same = one_port x.port y.port x.its_key y.its_key a b x.there y.there e in cc (x.there, y.there)
-  one_each a b (inl x) (inr y) e = let was = ended_known b y in not_ended r _ x.there b was.0 (sym e) was.1
-  one_each a b (inr x) (inl y) e = let was = ended_known a x in not_ended r _ y.there a was.0 e was.1
+  one_each a b (inl x) (inr y) e = let was = ended_known b y in cc (is_live r _ x.there, (knows_it r _ x.there).shows, was.0, was.1.shows)
+  one_each a b (inr x) (inl y) e = let was = ended_known a x in cc (is_live r _ y.there, (knows_it r _ y.there).shows, was.0, was.1.shows)
   one_each a b (inr x) (inr y) e = cc (back_there a x, back_there b y)
 
   -- the memo of a seat by its number
@@ -112,19 +112,15 @@ module _ {O D T N : Type 0} {note : D → N} {Ao : T → O → Type 0} {An : T �
       (get_elem? s.homes (t % key.positions))
   slot_at t from below = r.are_slots.each t from (omega (arith, below, one_turn_ahead r))
 
-  -- in one log a ticket stands at one place
-  one_place : (memo : SeatMemo N) (j l t : ℕ) (x y : N) → IsMemoThere s.views memo → get_elem? memo.log j ≡ some (Got t x)
-      → get_elem? memo.log l ≡ some (Got t y) → j ≡ l
-  one_place memo j l t x y is ex ey =
-      let rises = (records_rise memo is).rises in grind (arith, rises j l (Got t x) (Got t y), rises l j (Got t y) (Got t x))
-
   -- two places of one ticket in logs are one
   one_entry : (a b : SeatMemo N) (j l t : ℕ) (x y : N) → IsMemoThere s.views a → IsMemoThere s.views b
       → get_elem? a.log j ≡ some (Got t x) → get_elem? b.log l ≡ some (Got t y) → (a ≡ b) × (j ≡ l) × (x ≡ y)
   one_entry a b j l t x y is_a is_b ea eb =
       let fate : (a.number, x) ≡ (b.number, y) = cc (fate_of a is_a j t x ea, fate_of b is_b l t y eb) in
       let one : a ≡ b = one_each a b is_a is_b (ap (λ (p : ℕ × N). p.0) fate) in
-      (one, one_place a j l t x y is_a ea (ap (λ (memo : SeatMemo N). get_elem? memo.log l) one ∙ eb), ap (λ (p : ℕ × N). p.1) fate)
+      let rises = (records_rise a is_a).rises in
+      let here : get_elem? a.log l ≡ some (Got t y) = rw one eb in
+      (one, grind (arith, here, rises j l (Got t x) (Got t y), rises l j (Got t y) (Got t x)), ap (λ (p : ℕ × N). p.1) fate)
 
   -- a seat that holds a ticket is live
   holder_lives : (i t : ℕ) → Holds (seat_at r.machine.seats i) t → (seat_at r.machine.seats i).live ≡ true
@@ -176,13 +172,9 @@ module _ {O D T N : Type 0} {note : D → N} {Ao : T → O → Type 0} {An : T �
   }
 
   -- a ticket has one place, whatever became of it
-  place_from : (t : ℕ) (fate : Option (ℕ × N)) → get_elem? r.fates t ≡ some fate → HasOnePlace s.views t
+  pub place_from : (t : ℕ) (fate : Option (ℕ × N)) → get_elem? r.fates t ≡ some fate → HasOnePlace s.views t
   place_from t None e = inl (held_once t e)
   place_from t (Some y) e = inr (logged_once t y e)
-
-  -- each claimed ticket has one place: a seat holds it, or a log has it
-  pub each_ticket_has_one_place : (t : ℕ) → t < r.machine.word.claimed → HasOnePlace s.views t
-  each_ticket_has_one_place t less = let fate = there r.fates t (omega (arith, r.are_fates.each_claimed)) in place_from t fate.0 fate.1
 
   -- the value at home of a ticket is admitted, whatever became of it
   value_at : (t : ℕ) (x : Slot O D) (home : Home O D) (fate : maybe.Option (Option (ℕ × N))) → get_elem? r.fates t ≡ fate

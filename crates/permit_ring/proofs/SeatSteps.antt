@@ -1,5 +1,5 @@
 -- Each step of a seat keeps the rule.
-use Rattle.std.proofs.Common.{◌≡◌, ◌≢◌, ℕ, suc, ◌+◌, ◌-◌, ◌%◌, ◌^◌, ◌<◌, ◌≤◌, ◌==◌, true, false, nat_lt, List, [], ◌∷◌, ◌++◌, set, length, Option, Some, None, refl, sym, ◌∙◌, ap, inl, inr, slice_index, arith, le_refl, eq-eqb, ne_eqb}
+use Rattle.std.proofs.Common.{◌≡◌, ◌≢◌, ℕ, suc, ◌+◌, ◌%◌, ◌^◌, ◌<◌, ◌≤◌, ◌==◌, true, false, nat_lt, List, [], ◌∷◌, ◌++◌, set, length, Option, Some, None, refl, sym, ◌∙◌, ap, inl, inr, slice_index, arith, le_refl, eq-eqb, ne_eqb}
 use Rattle.std.proofs.lemmas.Bool.{cases_lt, lt-ltb, le-ltb}
 use Rattle.std.proofs.lemmas.List.{length-set, length_push}
 use mathlib.Core.Option.{some, none}
@@ -7,7 +7,7 @@ use mathlib.Core.Option as maybe
 use lib.ListN.{get_elem?}
 use Rattle.atomic_table.proofs.Lists.{at_last, at_longer, at_set, at_snoc, set_else, set_here}
 use Rattle.atomic_table.specs.Table.{State, step, keeps, takes, gives, Allows}
-use Rattle.permit_ring.specs.Names.{SeatView, Step, Look, Claim, Finish, Mark, PermitWord, Key, KeeperMemo, Move, Lost, Got, SeatMemo, Slot, Offered, Finished, View, Sits}
+use Rattle.permit_ring.specs.Names.{SeatView, Step, Look, Claim, Finish, Mark, Key, KeeperMemo, Move, Lost, Got, SeatMemo, Slot, Offered, Finished, View, Sits}
 use Rattle.ring_core.specs.Machine.{Machine, opening, possible, after, served, is_idle, looked, seat_at, loss_at, marks_of, marked}
 use Rattle.ring_core.specs.Sound.{IsRing, Holds}
 use Rattle.ring_core.specs.Words.{packed, unpacked, IsPackable, IsReadable}
@@ -33,9 +33,8 @@ module _ (N : Type 0) (m : Machine) (i : ℕ) where
     number_is : slice_index (words_of m) (kind + 1) ≡ (loss_at m kind).value
     -- the number rises by one, and does not wrap
     told : set (words_of m) (kind + 1) ((slice_index (words_of m) (kind + 1) + 1) % 2 ^ 64) ≡ words_of (after m (Mark i kind))
-    same_word : (after m (Mark i kind)).word ≡ m.word
-    same_reaped : (after m (Mark i kind)).reaped ≡ m.reaped
-    same_offered : (after m (Mark i kind)).offered ≡ m.offered
+    same : ((after m (Mark i kind)).reaped ≡ m.reaped) × ((after m (Mark i kind)).word.claimed ≡ m.word.claimed)
+        × ((after m (Mark i kind)).offered ≡ m.offered)
     counts : (n : ℕ) (k : KeeperMemo N) → Counts n m k → Counts n (after m (Mark i kind)) k
     same_seat : (view : SeatView) → ((marked kind view).held ≡ view.held) × ((marked kind view).live ≡ view.live)
     ordered : (found : ℕ) (memo : SeatMemo N) → IsOrdered memo → IsOrdered (adds_mark kind found memo)
@@ -157,8 +156,7 @@ module _ {O D T N : Type 0} {note : D → N} {Ao : T → O → Type 0} {An : T �
         → IsStepTo memo (Look memo.number) r.fates (looks key.limit r.machine.word memo)
     look_step idle few =
         let fates = fates_same (after r.machine (Look memo.number)) (looked r.machine.word seat) refl refl refl in
-        let long = length_push memo.log (Lost r.machine.word.claimed) in
-        grind (arith, its, order_now, idle_parts memo.view idle, few, fates, sizes_of r, r.knows.counted, long)
+        grind (arith, its, order_now, idle_parts memo.view idle, sizes_of r, length_push memo.log (Lost r.machine.word.claimed))
 
     -- a claim of an armed seat
     module _ (armed : memo.view.armed ≡ true) where
@@ -174,16 +172,16 @@ module _ {O D T N : Type 0} {note : D → N} {Ao : T → O → Type 0} {An : T �
           let packs = word_packs claim_now (after_keeps r.machine (ring_of r) (Claim memo.number) (rw its.shows at armed)) in
           let left = armed_leaves_field r.machine (ring_of r) memo.number (rw its.shows at armed) in
           let sum = packed-claimed r.machine.limit r.machine.word (ring_of r).permits.either left in
-          let number : (packed r.machine.limit r.machine.word + 65535) % 2 ^ 64 ≡ packed r.machine.limit claim_now.word = omega (arith, sum, packs) in
-          rw (r.words_are, number)
+          let here : (packed r.machine.limit r.machine.word + 65535) % 2 ^ 64 ≡ packed r.machine.limit claim_now.word =
+          omega (arith, sum, packs) in
+          rw (r.words_are, here)
 
       claim_step : {later : List (Option (ℕ × N))} → AreFates claim_now (An key.terms) r.keeper.made later
           → ((t j : ℕ) (x : N) → get_elem? r.fates t ≡ some (Some (j, x)) → get_elem? later t ≡ some (Some (j, x)))
           → ((j : ℕ) → taken_by j 0 later ≡ taken_by j 0 r.fates)
           → IsStepTo memo (Claim memo.number) later (claims key.limit r.machine.word memo)
       claim_step fates on took =
-          let long = length_push memo.log (Lost r.machine.word.claimed) in
-          grind (arith, its, order_now, armed, no_ticket, fates, on, took, sizes_of r, r.knows.counted, long)
+          grind (arith, its, order_now, no_ticket, sizes_of r, length_push memo.log (Lost r.machine.word.claimed))
 
       -- where a position is free, the seat holds the next ticket
       module _ (free : 0 < r.machine.word.free) where
@@ -197,20 +195,17 @@ module _ {O D T N : Type 0} {note : D → N} {Ao : T → O → Type 0} {An : T �
         served_step =
             let here = seat_at-here r.machine.seats memo.number (served r.machine.word seat) made_there in
             let else = seat_at-else r.machine.seats memo.number (served r.machine.word seat) made_there in
-            let long = length_push r.fates None in
             let old = λ (t : ℕ). at_longer r.fates (None ∷ []) t None in
             let fates : AreFates claim_now (An key.terms) r.keeper.made (r.fates ++ None ∷ []) =
-            grind (arith, r.are_fates, one_more, free, its, no_ticket, here, else, long, old, at_last r.fates None, at_end r.fates None) in
+            grind (arith, its, one_more, no_ticket, length_push r.fates None, at_last r.fates None, at_end r.fates None) in
             claim_step fates (λ t j x e. at_longer r.fates (None ∷ []) t (Some (j, x)) e) (λ j. taken-open j 0 r.fates)
 
         served_slots : AreSlots note (Ao key.terms) claim_now
             (r.fates ++ None ∷ []) key.positions (set s.homes (r.machine.word.claimed % key.positions) none)
         served_slots =
-            let last = at_last r.fates None r.machine.word.claimed r.are_fates.each_claimed in
-            let more = one_more in
             slots_set r.machine.word.claimed none r.sizes.some_position (ring_of r).permits.reaped_claimed is_next.1 refl r.are_slots
-            (grind (arith, last, more))
-            (λ t home away from to is. grind (arith, is, away, from, more, r.are_fates.each_claimed, at_end r.fates))
+            (grind (arith, at_last r.fates None r.machine.word.claimed r.are_fates.each_claimed, one_more))
+            (λ t home away from to is. grind (arith, is, away, from, one_more, r.are_fates.each_claimed, at_end r.fates))
 
       -- and where none is, its call is lost
       module _ (full : r.machine.word.free ≡ 0) where
@@ -226,8 +221,7 @@ module _ {O D T N : Type 0} {note : D → N} {Ao : T → O → Type 0} {An : T �
       mark_step : IsStepTo memo (Mark memo.number kind) r.fates (adds_mark kind (slice_index s.words (kind + 1)) memo)
       mark_step =
           let is = mark_is N r.machine memo.number (ring_of r) kind low in
-          let fates = fates_same (after r.machine (Mark memo.number kind)) (marked kind seat) is.seats_are (is.same_seat seat).0
-          (ap (λ (w : PermitWord). w.claimed) is.same_word) in
+          let fates = fates_same (after r.machine (Mark memo.number kind)) (marked kind seat) is.seats_are (is.same_seat seat).0 is.same.1 in
           grind (arith, its, is, fates, r.words_are, r.knows.counted, low, few, live_there, lt-ltb)
 
     -- the finish of the held ticket with a value
@@ -256,15 +250,15 @@ module _ {O D T N : Type 0} {note : D → N} {Ao : T → O → Type 0} {An : T �
           let else = seat_at-else r.machine.seats memo.number (record seat { held = None }) made_there in
           let alone = λ (j : ℕ) (h : Holds (seat_at r.machine.seats j) t). (ring_of r).seats.apart j memo.number t h holds_there in
           let fates : AreFates finish_now (An key.terms) r.keeper.made (set r.fates t fate) =
-          grind (arith, r.are_fates, length-set r.fates t fate, alone, holds_there, its.is_made, admitted, set_else r.fates t, at_set r.fates t, here, else) in
+          grind (arith, its, holds_there, length-set r.fates t fate, set_else r.fates t, at_set r.fates t) in
           let rises = rises_on 0 memo.log call its.ordered.rises after_log in
           let own = taken-own memo.number t (note d) r.fates memo.log its.ordered.rises after_log its.got is_open in
           let others = λ (j : ℕ) (other : j ≢ memo.number). taken-else j memo.number 0 (note d) r.fates t other is_open in
+          let front = λ (j g : ℕ). at_snoc memo.log call (Lost g) j in
           let got = got_of-append memo.log (call ∷ []) in
           let end = end_on 0 memo.log call in
-          let front = λ (j g : ℕ). at_snoc memo.log call (Lost g) j in
           let long = length_push memo.log call in
-          grind (arith, its, holds, holds_there, no_ticket, fates, is_open, is_out, rises, own, others, got, end, front, long, set_else r.fates t, r.knows.counted)
+          grind (arith, its, holds_there, no_ticket, is_open, is_out, set_else r.fates t)
 
       finished_slots : AreSlots note (Ao key.terms) finish_now (set r.fates t fate) key.positions
           (set s.homes (t % key.positions) (some (Finished d)))
@@ -331,15 +325,13 @@ module _ {O D T N : Type 0} (note : D → N) (Ao : T → O → Type 0) (An : T �
   pub mark_ready : (kind : ℕ) → kind < 2 → marks_of memo.view kind < 2 ^ 40
       → Allowed me (kind + 1) (λ n. (n + 1) % 2 ^ 64) (marked_loss (step slots (kind + 1) 1 0 none) me)
   mark_ready kind low few = rw sits (λ s r wide at fits.
-      let same : kind ≡ kind + 1 - 1 = omega arith in
       let to = mark_step r id at kind low few in
       let is = mark_is N r.machine memo.number (ring_of r) kind low in (
         Sits key (adds_mark kind (slice_index s.words (kind + 1)) memo),
         keeps,
         tt,
-        seat_runs r id at to (rw r.words_are is.told)
-            (slots_stay is.same_reaped (ap (λ (w : PermitWord). w.claimed) is.same_word) is.same_offered r.are_slots),
-        (ap (λ (j : ℕ). (Sits key (adds_mark j (slice_index s.words (kind + 1)) memo), me.1)) same, to.ordered),
+        seat_runs r id at to (rw r.words_are is.told) (slots_stay is.same.0 is.same.1 is.same.2 r.are_slots),
+        grind (arith, to.ordered),
       ))
 
   -- a finish of a token that has just put a value into its slot

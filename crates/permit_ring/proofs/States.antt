@@ -1,5 +1,5 @@
 -- What stays of the rule where one view changes.
-use Rattle.std.proofs.Common.{◌≡◌, ◌≢◌, ℕ, ◌+◌, ◌%◌, ◌<◌, ◌≤◌, true, false, List, set, Option, ◌∙◌, inl, inr, mod-lt, arith}
+use Rattle.std.proofs.Common.{◌≡◌, ◌≢◌, ℕ, ◌+◌, ◌%◌, ◌<◌, ◌≤◌, true, List, set, Option, ◌∙◌, inl, inr, mod-lt, arith}
 use Rattle.std.proofs.lemmas.Bool.{cases_eq}
 use Rattle.std.proofs.lemmas.Grind.{common_steps}
 use Rattle.std.proofs.lemmas.List.{length-set}
@@ -94,11 +94,6 @@ module _ {O D T N : Type 0} {note : D → N} {Ao : T → O → Type 0} {An : T �
 
     pub knows_it : IsSeatMemo r.machine r.moves r.fates r.keeper.fronts r.keeper.made memo
     knows_it = (r.each_view id (Sits its memo) at).3
-
-    -- and is none that came back
-    pub not_ended : {A : Type 0} (other : SeatMemo N) → other.view.live ≡ false → other.number ≡ memo.number
-        → IsSeatMemo r.machine r.moves r.fates r.keeper.fronts r.keeper.made other → A
-    not_ended other off e k = cc (is_live, knows_it.shows, k.shows)
 
   -- the machine, its moves and the fates go on
   module _ (now : Machine) (then : List Move) (later : List (Option (ℕ × N))) (words : List ℕ) (homes : List (maybe.Option (Slot O D)))
