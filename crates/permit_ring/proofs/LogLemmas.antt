@@ -1,6 +1,6 @@
 -- The log of a seat and what became of tickets, with one call or one ticket more.
-use Rattle.std.proofs.Common.{◌≡◌, ◌≢◌, ℕ, zero, suc, ◌+◌, ◌<◌, ◌≤◌, ◌⊎◌, Bool, true, false, cond, List, [], ◌∷◌, ◌++◌, set, Option, Some, None, refl, sym, ◌∙◌, ap, inl, inr, le_refl, eqb, eq-eqb, ne_eqb, eqb-true, arith}
-use Rattle.std.proofs.lemmas.Bool.{cases_lt, lt-ltb, le-ltb}
+use Rattle.std.proofs.Common.{◌≡◌, ◌≢◌, ℕ, zero, suc, ◌+◌, ◌<◌, ◌≤◌, ◌⊎◌, Bool, true, false, cond, List, [], ◌∷◌, ◌++◌, set, Option, Some, None, refl, sym, ◌∙◌, ap, inl, inr, eqb, eq-eqb, ne_eqb, eqb-true, arith}
+use Rattle.std.proofs.lemmas.Bool.{lt-ltb, le-ltb}
 use Rattle.std.proofs.lemmas.Grind.{common_steps}
 use Rattle.std.proofs.lemmas.List.{append-nil}
 use mathlib.Core.Option.{some, some-injective}
@@ -46,15 +46,12 @@ module _ {N : Type 0} (word : PermitWord) (log : List (Outcome N)) (fronts : Lis
 
   pub orderly : RisesFrom 0 log → end_from 0 log ≤ word.claimed → ((j g : ℕ) → get_elem? log j ≡ some (Lost g) → StandsIn fronts g)
       → (word.free ≡ 0 → StandsIn fronts word.claimed) → IsOrderly (and_lost word log)
-  orderly rises below at_front full = elim (cases_lt 0 word.free) [
-    | inl free ↦ rw (kept_log word log free) (record { rises = rises; below = below; got = refl; at_front = at_front })
-    | inr past ↦ let none = full (omega arith) in rw (lost_log word log (omega arith)) (record {
-      rises = rises_on 0 log (Lost word.claimed) rises below;
-      below = rw (end_on 0 log (Lost word.claimed)) (le_refl word.claimed);
-      got = got_of-append log (Lost word.claimed ∷ []) ∙ append-nil (got_of log);
-      at_front = λ j g e. let c = at_snoc log (Lost word.claimed) (Lost g) j e in grind (arith, at_front j g, none, c);
-    })
-  ]
+  orderly rises below at_front full =
+      let on = rises_on 0 log (Lost word.claimed) rises below in
+      let end = end_on 0 log (Lost word.claimed) in
+      let got = got_of-append log (Lost word.claimed ∷ []) in
+      let last = λ (j g : ℕ). at_snoc log (Lost word.claimed) (Lost g) j in
+      grind (arith, append-nil (got_of log))
 
 -- an element of a list with or without one more in front
 first_or_behind : {A : Type 0} (b : Bool) (x a : A) (l : List A) (k : ℕ) → get_elem? (cond b (x ∷ l) l) k ≡ some a

@@ -104,16 +104,15 @@ module _ {O D T N : Type 0} {note : D → N} {Ao : T → O → Type 0} {An : T �
     seat_runs {step} {later} {new} {words} {homes} to told slots =
         let found : ℕ = found_at r.machine step in
         let moves : List Move = and_move r.moves step found in
+        let own = by_seat-own r.moves step found in
+        let none = by_seat-else r.moves step found in
+        let here = seat_at-here r.machine.seats memo.number new.view made_there in
+        let else = seat_at-else r.machine.seats memo.number new.view made_there in
+        let mine : IsSeatMemo (after r.machine step) moves later r.keeper.fronts r.keeper.made new = grind (arith, its, to, eq-eqb) in
         let others : (other : SeatMemo N) → other.number ≢ memo.number
         → IsSeatMemo r.machine r.moves r.fates r.keeper.fronts r.keeper.made other
         → IsSeatMemo (after r.machine step) moves later r.keeper.fronts r.keeper.made other =
-        λ other away knew.
-        let none = by_seat-else r.moves step found other.number (to.its_alone.0 other.number ∙ ne_eqb other.number memo.number away) in
-        let else = seat_at-else r.machine.seats memo.number new.view made_there other.number away in
-        grind (arith, knew, none, else, to) in
-        let own = by_seat-own r.moves step found memo.number (to.its_alone.0 memo.number ∙ eq-eqb memo.number memo.number refl) in
-        let here = seat_at-here r.machine.seats memo.number new.view made_there in
-        let mine : IsSeatMemo (after r.machine step) moves later r.keeper.fronts r.keeper.made new = grind (arith, its, own, here, to) in
+        λ other away knew. grind (arith, to, ne_eqb) in
         record {
           sizes = r.sizes;
           machine = after r.machine step;
@@ -127,9 +126,9 @@ module _ {O D T N : Type 0} {note : D → N} {Ao : T → O → Type 0} {An : T �
           are_slots = slots;
           keeper_there = set_else s.views id 0 (Sits key new) (λ e. not_first r id at (sym e)) ∙ r.keeper_there;
           knows =
-              let none = by_keeper-else r.moves step found to.its_alone.1 in
+              let rest = by_keeper-else r.moves step found in
               let long = length-set r.machine.seats memo.number new.view in
-              grind (arith, its.is_made, r.knows, none, long, by_seat-else r.moves step found, to, ne_eqb);
+              grind (arith, its.is_made, to, ne_eqb);
           owner = r.owner;
           each_view = λ port v e.
               let c = at_set s.views id port (Sits key new) v e in
@@ -254,7 +253,7 @@ module _ {O D T N : Type 0} {note : D → N} {Ao : T → O → Type 0} {An : T �
           let rises = rises_on 0 memo.log call its.ordered.rises after_log in
           let own = taken-own memo.number t (note d) r.fates memo.log its.ordered.rises after_log its.got is_open in
           let others = λ (j : ℕ) (other : j ≢ memo.number). taken-else j memo.number 0 (note d) r.fates t other is_open in
-          let front = λ (j g : ℕ). at_snoc memo.log call (Lost g) j in
+          let last = λ (j g : ℕ). at_snoc memo.log call (Lost g) j in
           let got = got_of-append memo.log (call ∷ []) in
           let end = end_on 0 memo.log call in
           let long = length_push memo.log call in

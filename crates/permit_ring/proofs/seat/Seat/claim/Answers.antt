@@ -6,24 +6,17 @@ use Rattle.permit_ring.proofs.seat.Seat.claim.Goals as goal
 pub load-number-requires : goal.load-number-requires
 load-number-requires g c =
     let mine = c.requires.mine in
-    let sits = mine.sitting.sits in
-    let idle = c.requires.idle in
-    let few = c.requires.few in (
-      mine.sitting.at_table,
-      search rules,
-      look_ready _ _ _ _ _ _ _ sits (grind (arith, common_steps, mine, idle)) (grind (arith, mine, few)),
-    )
+    let ready = look_ready _ _ _ _ _ _ _ mine.sitting.sits (grind (arith, common_steps, c.requires)) (grind (arith, c.requires)) in
+    (mine.sitting.at_table, search rules, ready)
 
 pub fetch_add-number-requires : goal.fetch_add-number-requires
 fetch_add-number-requires g c =
-    let sits = c.requires.mine.sitting.sits in
-    let ring = c.requires.mine.sitting.ring_is in
+    let sitting = c.requires.mine.sitting in
     let looked = c.load-number.ensures in
-    let saw = looked.2 in
-    let word = c.unpack-seen.ensures.word in
-    let some_free = c.if-seen-eq0.false in (
-      looked.0 ∙ c.requires.mine.sitting.at_table,
+    let ring = sitting.ring_is in
+    let word = c.unpack-seen.ensures.word in (
+      looked.0 ∙ sitting.at_table,
       search rules,
-      claim_ready _ _ _ _ _ _ _ (grind (arith, common_steps, sits, saw)) (ring.slots_are ∙ sym ring.positions_are)
-          (grind (arith, common_steps, sits, saw, ring, word, some_free)),
+      claim_ready _ _ _ _ _ _ _ (grind (arith, common_steps, sitting, looked)) (ring.slots_are ∙ sym ring.positions_are)
+          (grind (arith, common_steps, sitting, looked, word, c.if-seen-eq0.false)),
     )

@@ -13,9 +13,8 @@ exchange-old-requires g c =
 pub store-requires : goal.store-requires
 store-requires g c =
     let mine = c.requires.mine in
-    let put = c.exchange-old.ensures in (
-      put.0 ∙ mine.sitting.at_table,
-      search rules,
-      finish_ready _ _ _ _ _ _ c.args.self.now.place.me mine.sitting.sits put.3 c.position_of-position.ensures
-          mine.sitting.ring_is.positions_are (mine.ticket_is ∙ ap machine_ticket c.unwrap-ticket.ensures) c.requires.admitted,
-    )
+    let put = c.exchange-old.ensures in
+    let held = mine.ticket_is ∙ ap machine_ticket c.unwrap-ticket.ensures in
+    let ready = finish_ready _ _ _ _ _ _ c.args.self.now.place.me mine.sitting.sits put.3 c.position_of-position.ensures
+    mine.sitting.ring_is.positions_are held c.requires.admitted in
+    (put.0 ∙ mine.sitting.at_table, search rules, ready)
