@@ -1,5 +1,6 @@
 -- The filters of one event, said over whole lists.
-use Rattle.std.proofs.Common.{◌≡◌, ℕ, ◌+◌, ◌%◌, ◌==◌, ◌&&◌, not, Bool, true, false, List, [], ◌∷◌, ◌++◌, length, map, filter, Option, Some, None, option_to_list, option_and_then, option_map, IfSome, if◌then◌else◌, refl, sym, ap, subst, ◌∙◌, eqb-true}
+use Rattle.std.proofs.Common.{◌≡◌, ℕ, ◌+◌, ◌%◌, ◌==◌, ◌&&◌, not, Bool, true, false, List, [], ◌∷◌, ◌++◌, length, map, filter, Option, Some, None, option_to_list, option_and_then, option_map, IfSome, ◌↔◌, ◌⊎◌, inl, inr, if◌then◌else◌, refl, sym, ap, subst, ◌∙◌, eqb-true}
+use Rattle.std.specs.Option.{option_or}
 use Rattle.ids_types.specs.declared.mode.Mode.{Mode}
 use Rattle.ids_types.specs.declared.mode.Mode.TheVariants.{Off, Brief, Detailed, BriefBypassing, DetailedBypassing}
 use Rattle.ids_config.specs.Parts.{Parts, event_at}
@@ -7,7 +8,7 @@ use Rattle.ids_config.specs.declared.parts.Window.{Window as Setting}
 use Rattle.chain_spec.specs.ByEvent.{every, reaching}
 use Rattle.chain_spec.specs.Calls.{Call}
 use Rattle.chain_spec.specs.Counting.{Occurrence, among}
-use Rattle.chain_spec.specs.Filtering.{gated_at, aggregated_at, thresholded_at, filtered_at, counted, gated, aggregated, thresholded, arrival}
+use Rattle.chain_spec.specs.Filtering.{gated_at, aggregated_at, thresholded_at, filtered_at, qualified_at, counted, gated, aggregated, thresholded, arrival}
 use Rattle.chain_spec.specs.Gate.{is_filtered, is_bypassing, is_blocked, is_nth, mode_at, item_in, arrival_at, arrivals, sampled_at, sampled, bypassing_at}
 use Rattle.chain_spec.specs.Items.{Item, is_of}
 use Rattle.chain_spec.specs.Moments.{Moment, closes, comes, state_is, mode_is}
@@ -73,6 +74,17 @@ bypassing_alone config before (comes own) item is =
 bypassing_alone config before (state_is state) item is = cc
 bypassing_alone config before (mode_is event mode) item is = cc
 
+-- the first that is there, where the two are not there together, is either
+either_there : {A : Type 0} (o p : Option A) (x : A) → ((y : A) → o ≡ Some y → p ≡ None) → (option_or o p ≡ Some x) ↔ ((o ≡ Some x) ⊎ (p ≡ Some x))
+either_there None p x alone = (inr, λ either. elim either [ inl none ↦ cc | inr is ↦ is ])
+either_there (Some y) p x alone = (inl, λ either. elim either [ inl is ↦ is | inr is ↦ cc (alone y refl) ])
+
+-- a moment qualifies what bypasses the filters, and what passes them
+pub qualified_either : (config : Parts) (before : List Moment) (moment : Moment) (item : Item)
+    → (qualified_at config before moment ≡ Some item) ↔ ((bypassing_at config before moment ≡ Some item) ⊎ (filtered_at config before moment ≡ Some item))
+qualified_either config before moment item =
+    either_there (bypassing_at config before moment) (filtered_at config before moment) item (bypassing_alone config before moment)
+
 -- ---- one event's items
 
 -- an item of the event is kept among the event's
@@ -135,6 +147,3 @@ thresholded_reaching config event (item ∷ before) =
 pub thresholded_of_event : (config : Parts) (event : ℕ) (moments : List Moment)
     → filter (is_of event) (thresholded config moments) ≡ reaching (event_at config event).threshold (filter (is_of event) (aggregated config moments))
 thresholded_of_event config event moments = thresholded_reaching config event (aggregated config moments)
-
--- the filters of one event over its whole lists
-pub ruleset filter_laws = (sampled_every, thresholded_of_event, filtered_thresholded, bypassing_alone)

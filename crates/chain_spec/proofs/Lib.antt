@@ -1,3 +1,5 @@
+pub mod AggregationLemmas
+pub mod ByEventLemmas
 pub mod CoverLemmas
 pub mod FilterLemmas
 pub mod GrowthLemmas

@@ -70,11 +70,11 @@ module _ {A : Type 0} (tick_of : A → ℕ) (interval : ℕ) where
   OpenBy tick ws = EndBy (λ w. tick_of w.opener) tick ws
 
   -- they do by a later tick
-  open_later : (early late : ℕ) → early ≤ late → (ws : List (Window A)) → OpenBy early ws → OpenBy late ws
+  pub open_later : (early late : ℕ) → early ≤ late → (ws : List (Window A)) → OpenBy early ws → OpenBy late ws
   open_later early late le [] by = tt
   open_later early late le (w ∷ ws) by = (omega (arith, by.0), by.1)
 
-  open_with : (x : A) (ws : List (Window A)) → OpenBy (tick_of x) ws → OpenBy (tick_of x) (with_item tick_of interval x ws)
+  pub open_with : (x : A) (ws : List (Window A)) → OpenBy (tick_of x) ws → OpenBy (tick_of x) (with_item tick_of interval x ws)
   open_with x [] by = (omega arith, tt)
   open_with x (w ∷ ws) by =
       elim (list_any (covers tick_of interval (tick_of x)) (w ∷ ws)) as (λ (b : Bool). OpenBy (tick_of x) (if b then in_newest x (w ∷ ws) else opened x ∷ w ∷ ws))

@@ -2,6 +2,7 @@
 -- Public standard: AUTOSAR SWS Intrusion Detection System Manager, filter chain.
 use Rattle.std.specs.Prelude.{ℕ, ◌+◌, ◌%◌, ◌==◌, nat_le, List, [], ◌∷◌, length, map, filter_map, Option, Some, None, option_map}
 use Rattle.std.specs.Option.{option_or}
+use Rattle.ids_types.specs.Turns.{Turn}
 use Rattle.ids_config.specs.declared.parts.Aggregate.{Aggregate}
 use Rattle.ids_config.specs.declared.parts.Window.{Window as Setting}
 use Rattle.chain_spec.specs.Aggregation.{joined}
@@ -11,6 +12,10 @@ use Rattle.chain_spec.specs.Items.{Item, told_of, item_at}
 use Rattle.chain_spec.specs.Stages.{added, where_true}
 use Rattle.chain_spec.specs.Threshold.{verdict}
 use Rattle.chain_spec.specs.Windows.{Window, windows_of}
+
+-- the tick of a turn
+abbrev pub tick_of : Turn → ℕ
+tick_of turn = turn.head.tick
 
 -- every nth of the items: those whose rank, from 1, is a multiple of n
 abbrev pub every : ℕ → List Item → List Item

@@ -1,10 +1,10 @@
 //! What the definitions say in other words: each function has a law as its contract, and no body.
 
-ghost use Rattle.std.specs.Prelude.{◌≡◌, ℕ, ◌+◌, ◌<◌, ◌≤◌, List, [], ◌∷◌, ◌++◌, Option, Some, None, IsTrue, ◌↔◌, length, map, filter, flat_map, sum_by};
+ghost use Rattle.std.specs.Prelude.{◌≡◌, ℕ, ◌+◌, ◌<◌, ◌≤◌, List, [], ◌∷◌, ◌++◌, Option, Some, None, IfSome, IsTrue, ◌↔◌, ◌⊎◌, length, map, filter, flat_map, sum_by};
 ghost use Rattle.ids_types.specs.Turns.{Turn};
 ghost use Rattle.ids_config.specs.Parts.{Parts, event_at};
 ghost use Rattle.ids_config.specs.declared.parts.Window.{Window as Limit};
-ghost use Rattle.chain_spec.specs.ByEvent.{every, closed_items, reaching};
+ghost use Rattle.chain_spec.specs.ByEvent.{tick_of, every, closed_items, reaching};
 ghost use Rattle.chain_spec.specs.Chain.{candidates, sent, held, messages, ends, handed, qualified_of};
 ghost use Rattle.chain_spec.specs.Filtering.{gated, aggregated, thresholded, filtered_at, qualified_at, qualified};
 ghost use Rattle.chain_spec.specs.Gate.{arrivals, sampled, bypassing_at};
@@ -17,7 +17,7 @@ ghost use Rattle.chain_spec.specs.Openers.{openers, IsBeyond, AreApart};
 ghost use Rattle.chain_spec.specs.Places.{placed, HaveOwnPlaces};
 ghost use Rattle.chain_spec.specs.Stages.{Stage, added, behind};
 ghost use Rattle.chain_spec.specs.Storing.{stored};
-ghost use Rattle.chain_spec.specs.Windows.{opened, members, in_newest, windows_of};
+ghost use Rattle.chain_spec.specs.Windows.{EndBy, opened, members, in_newest, windows_of};
 
 /// Two stages one behind the other add what the second adds to the list of the first.
 #[tactic(auto, using(crate::proofs::StageLemmas::added_behind))]
@@ -90,17 +90,33 @@ pub fn which_candidates_are_sent()
         ≡ sent_of config.rate config.traffic (map (weighed config) (candidates config items)) }
 {}
 
-/// The filters of one event over its whole lists, one filter after another; and what bypasses the filters
-/// does not go through them.
-#[tactic(auto, using(crate::proofs::FilterLemmas::filter_laws))]
-pub fn what_each_filter_does()
+/// The filters of one event over its whole lists, one filter after another, where the ticks of turns do not
+/// fall: the items that reach its threshold, among one item for each aggregation window that closes, at the
+/// first turn at which it is due, over every nth of its arrivals.
+pub fn what_the_filters_give_of_an_event()
     ensures sampled { (config : Parts) (event : ℕ) (moments : List Moment) →
         sampled config event moments ≡ every (event_at config event).nth (arrivals config event moments) }
+    ensures aggregated { (config : Parts) (event : ℕ) (turns : List Turn) (tick : ℕ) → event < length config.events →
+        IfSome (event_at config event).aggregate (λ setting. 1 ≤ setting.interval) → EndBy tick_of tick turns →
+        filter (is_of event) (aggregated config (moments config turns))
+        ≡ closed_items (event_at config event).aggregate (map tick_of turns) (sampled config event (moments config turns)) }
     ensures thresholded { (config : Parts) (event : ℕ) (moments : List Moment) →
         filter (is_of event) (thresholded config moments)
         ≡ reaching (event_at config event).threshold (filter (is_of event) (aggregated config moments)) }
+    ensures all { (config : Parts) (event : ℕ) (turns : List Turn) (tick : ℕ) → event < length config.events →
+        IfSome (event_at config event).aggregate (λ setting. 1 ≤ setting.interval) → EndBy tick_of tick turns →
+        filter (is_of event) (thresholded config (moments config turns))
+        ≡ reaching (event_at config event).threshold (closed_items (event_at config event).aggregate (map tick_of turns)
+        (every (event_at config event).nth (arrivals config event (moments config turns)))) }
+{}
+
+/// The qualified events are what passes all filters together with what bypasses them, and no moment has both.
+pub fn which_events_are_qualified()
     ensures filtered { (config : Parts) (moments : List Moment) →
         added (filtered_at config) moments ≡ thresholded config moments }
-    ensures bypassing { (config : Parts) (before : List Moment) (moment : Moment) (item : Item) →
+    ensures either { (config : Parts) (before : List Moment) (moment : Moment) (item : Item) →
+        (qualified_at config before moment ≡ Some item)
+        ↔ ((bypassing_at config before moment ≡ Some item) ⊎ (filtered_at config before moment ≡ Some item)) }
+    ensures alone { (config : Parts) (before : List Moment) (moment : Moment) (item : Item) →
         bypassing_at config before moment ≡ Some item → filtered_at config before moment ≡ None }
 {}

@@ -10,6 +10,7 @@
 mod laws;
 
 pub use laws::{
-    how_stages_compose, what_a_turn_more_keeps, what_each_filter_does,
-    where_qualified_events_stand, which_candidates_are_sent, which_items_open_a_window,
+    how_stages_compose, what_a_turn_more_keeps, what_the_filters_give_of_an_event,
+    where_qualified_events_stand, which_candidates_are_sent, which_events_are_qualified,
+    which_items_open_a_window,
 };
