@@ -1,6 +1,6 @@
 -- The aggregated items of one event over its whole lists: one for each window that closes, at the first turn
 -- at which it is due.
-use Rattle.std.proofs.Common.{◌≡◌, ℕ, zero, suc, ◌+◌, ◌<◌, ◌≤◌, ◌==◌, ◌&&◌, not, Bool, true, false, List, [], ◌∷◌, ◌++◌, length, map, filter, filter_map, Option, Some, None, IfSome, option_to_list, option_and_then, option_map, if◌then◌else◌, refl, sym, ap, subst, ◌∙◌, arith, eq-eqb, eqb-true, ne_eqb, eq-or-lt_of_le, inl, inr}
+use Rattle.std.proofs.Common.{◌≡◌, ℕ, zero, suc, ◌+◌, ◌<◌, ◌≤◌, ◌==◌, ◌&&◌, Bool, true, false, List, [], ◌∷◌, ◌++◌, length, map, filter, filter_map, Option, Some, None, IfSome, option_to_list, option_map, if◌then◌else◌, refl, sym, ap, subst, ◌∙◌, arith, eq-eqb, eqb-true, ne_eqb, eq-or-lt_of_le, inl, inr}
 use Rattle.std.specs.List.{AllByRecursion, range_with_len, cons_option}
 use Rattle.std.proofs.lemmas.Bool.{eqb-false}
 use Rattle.std.proofs.lemmas.List.{map-append}
@@ -14,21 +14,21 @@ use Rattle.ids_config.specs.declared.parts.Aggregate.{Aggregate}
 use Rattle.chain_spec.specs.ByEvent.{tick_of, arrival_of, every, closed_item, closed_items, reaching}
 use Rattle.chain_spec.specs.Calls.{Call, Arrival, closes_due, arrives, arrived, closing_ticks}
 use Rattle.chain_spec.specs.Closing.{windows_in, closing_item}
-use Rattle.chain_spec.specs.Filtering.{gated_at, aggregated_at, gated, aggregated, thresholded, arrival, alone}
+use Rattle.chain_spec.specs.Filtering.{aggregated_at, gated, aggregated, thresholded, arrival, alone}
 use Rattle.chain_spec.specs.Gate.{is_nth, is_arriving, mode_at, item_in, arrivals, sampled_at, sampled}
 use Rattle.chain_spec.specs.Heads.{Head, heads_of}
 use Rattle.chain_spec.specs.Items.{Item, is_of, told_of, item_at}
 use Rattle.chain_spec.specs.Moments.{Moment, closes, comes, state_is, mode_is, closings, turn_moments, moments, head_moment, act_moment}
 use Rattle.chain_spec.specs.Stages.{added, where_true, with_all}
 use Rattle.chain_spec.specs.Windows.{Window, EndBy, with_item, windows_of}
-use Rattle.chain_spec.proofs.AggregationLemmas.{IsOwn, AreOlderClosed, closed_at, Keeps, closing_gives, older_more, arriving_keeps, by_later, arrived_own, windows_own, closing_item_of}
+use Rattle.chain_spec.proofs.AggregationLemmas.{ACall, AnArrival, AWindow, came_at, IsOwn, AreOlderClosed, closed_at, Keeps, closing_gives, older_more, arriving_keeps, by_later, arrived_own, windows_own, closing_item_of}
 use Rattle.chain_spec.proofs.FilterLemmas.{drops_other, keeps_own, sampled_every, thresholded_of_event}
 use Rattle.chain_spec.proofs.StageLemmas.{with_all-append}
 use Rattle.chain_spec.proofs.WindowsLemmas.{open_later, open_with}
 
 -- at a tick: the items of an event are those of its windows by the ticks of turns, none of which is later, and
 -- each window but the newest has closed
-record StandsBy (event : ℕ) (setting : Aggregate) (t : ℕ) (ticks : List ℕ) (ws : List (Window (Arrival (List ℕ)))) (items : List Item) : Type 0 where
+record StandsBy (event : ℕ) (setting : Aggregate) (t : ℕ) (ticks : List ℕ) (ws : List AWindow) (items : List Item) : Type 0 where
   same : filter (is_of event) items ≡ filter_map (closed_item setting ticks) ws
   below : AllByRecursion (λ tick. tick ≤ t) ticks
   opens : EndBy (λ w. w.opener.tick) t ws
@@ -36,11 +36,11 @@ record StandsBy (event : ℕ) (setting : Aggregate) (t : ℕ) (ticks : List ℕ)
 
 module _ (config : Parts) (event : ℕ) where
   -- a turn that closes the event's windows adds its tick
-  ticks_own : (tick : ℕ) (calls : List (Call (List ℕ))) → closing_ticks event (closes_due tick event ∷ calls) ≡ tick ∷ closing_ticks event calls
+  ticks_own : (tick : ℕ) (calls : List ACall) → closing_ticks event (closes_due tick event ∷ calls) ≡ tick ∷ closing_ticks event calls
   ticks_own tick calls = rw (eq-eqb event event refl) refl
 
   -- and one that closes another event's does not
-  ticks_other : (tick other : ℕ) (calls : List (Call (List ℕ))) → other == event ≡ false → closing_ticks event (closes_due tick other ∷ calls) ≡ closing_ticks event calls
+  ticks_other : (tick other : ℕ) (calls : List ACall) → other == event ≡ false → closing_ticks event (closes_due tick other ∷ calls) ≡ closing_ticks event calls
   ticks_other tick other calls is = rw is refl
 
   -- what is not an event's is another's
@@ -57,142 +57,6 @@ module _ (config : Parts) (event : ℕ) where
   alone_other : (setting : Option Aggregate) (item : Item) → is_of event item ≡ false → IfSome (alone setting item) (λ one. is_of event one ≡ false)
   alone_other None item is = is
   alone_other (Some setting) item is = tt
-
-  -- ---- an event that is aggregated
-
-  module _ (setting : Aggregate) (aggregates : (event_at config event).aggregate ≡ Some setting) (some : 1 ≤ setting.interval) where
-    -- it stands so after calls
-    abbrev Stands : ℕ → List (Call (List ℕ)) → Type 0
-    Stands t calls = StandsBy event setting t (closing_ticks event calls) (windows_in setting.interval event calls) (added (aggregated_at config) calls)
-
-    stands_later : (t tick : ℕ) (calls : List (Call (List ℕ))) → t ≤ tick → Stands t calls → Stands tick calls
-    stands_later t tick calls le h = record {
-      same = h.same;
-      below = by_later t tick (closing_ticks event calls) le h.below;
-      opens = open_later (λ (one : Arrival (List ℕ)). one.tick) setting.interval t tick le (windows_in setting.interval event calls) h.opens;
-      older = h.older;
-    }
-
-    closing_own : (t tick : ℕ) (calls : List (Call (List ℕ))) → t ≤ tick → Stands t calls → Stands tick (closes_due tick event ∷ calls)
-    closing_own t tick calls le h =
-        let ticks = closing_ticks event calls in
-        let ws = windows_in setting.interval event calls in
-        let items = added (aggregated_at config) calls in
-        let later = stands_later t tick calls le h in
-        let own : IsOwn event ws = windows_own event setting.interval (arrived event calls) (arrived_own event calls) in
-        let now : StandsBy event setting tick (tick ∷ ticks) ws (option_to_list (closed_at setting tick ticks ws) ++ items) = record {
-          same = closing_gives setting event tick ticks ws items own h.older h.same;
-          below = (omega arith, later.below);
-          opens = later.opens;
-          older = older_more setting tick ticks ws h.older;
-        } in
-        let given = subst (λ (agg : Option Aggregate). StandsBy event setting tick (tick ∷ ticks) ws (option_to_list (option_map (item_at tick) (closing_item agg event tick calls)) ++ items)) (sym aggregates) now in
-        subst (λ (all : List ℕ). StandsBy event setting tick all ws (added (aggregated_at config) (closes_due tick event ∷ calls))) (sym (ticks_own tick calls)) given
-
-    closing_other : (t tick other : ℕ) (calls : List (Call (List ℕ))) → t ≤ tick → other == event ≡ false → Stands t calls → Stands tick (closes_due tick other ∷ calls)
-    closing_other t tick other calls le is h =
-        let later = stands_later t tick calls le h in
-        let item = closing_item (event_at config other).aggregate other tick calls in
-        let now : StandsBy event setting tick (closing_ticks event calls) (windows_in setting.interval event calls) (added (aggregated_at config) (closes_due tick other ∷ calls)) = record {
-          same = drops_other event (option_map (item_at tick) item) (added (aggregated_at config) calls)
-              (closes_other item tick other is (closing_item_of (event_at config other).aggregate other tick calls)) ∙ h.same;
-          below = later.below;
-          opens = later.opens;
-          older = later.older;
-        } in
-        subst (λ (all : List ℕ). StandsBy event setting tick all (windows_in setting.interval event calls) (added (aggregated_at config) (closes_due tick other ∷ calls))) (sym (ticks_other tick other calls is)) now
-
-    closing : (t tick other : ℕ) (calls : List (Call (List ℕ))) → t ≤ tick → Stands t calls → Stands tick (closes_due tick other ∷ calls)
-    closing t tick other calls le h =
-        elim (other == event) as (λ (b : Bool). other == event ≡ b → Stands tick (closes_due tick other ∷ calls)) [
-          | true ↦ λ is. subst (λ n. Stands tick (closes_due tick n ∷ calls)) (sym (eqb-true other event is)) (closing_own t tick calls le h)
-          | false ↦ λ is. closing_other t tick other calls le is h
-        ] refl
-
-    -- this turn has closed the event's window, behind other turns
-    abbrev HasClosed : ℕ → List ℕ → List (Call (List ℕ)) → Type 0
-    HasClosed tick rest calls = closing_ticks event calls ≡ tick ∷ rest
-
-    arriving_own : (tick : ℕ) (rest : List ℕ) (told : Qualified (List ℕ)) (calls : List (Call (List ℕ))) → told.event.0 == event ≡ true
-        → HasClosed tick rest calls → Stands tick calls → Stands tick (arrives tick told ∷ calls)
-    arriving_own tick rest told calls is closed h =
-        let x : Arrival (List ℕ) = record { tick = tick; told = told } in
-        let ws = windows_in setting.interval event calls in
-        let items = added (aggregated_at config) calls in
-        let old : StandsBy event setting tick (tick ∷ rest) ws items = subst (λ (ticks : List ℕ). StandsBy event setting tick ticks ws items) closed h in
-        let kept : Keeps setting (tick ∷ rest) ws (with_item (λ one. one.tick) setting.interval x ws) = arriving_keeps setting x rest ws some old.below old.opens old.older in
-        let now : StandsBy event setting tick (tick ∷ rest) (with_item (λ one. one.tick) setting.interval x ws) items = record {
-          same = old.same ∙ sym kept.0;
-          below = old.below;
-          opens = open_with (λ (one : Arrival (List ℕ)). one.tick) setting.interval x ws old.opens;
-          older = kept.1;
-        } in
-        let none : added (aggregated_at config) (arrives tick told ∷ calls) ≡ items =
-        ap (λ (agg : Option Aggregate). option_to_list (alone agg (item_at tick told)) ++ items)
-        (ap (λ e. (event_at config e).aggregate) (eqb-true told.event.0 event is) ∙ aggregates) in
-        let arrives_too : arrived event (arrives tick told ∷ calls) ≡ x ∷ arrived event calls = rw is refl in
-        let with_items = subst (λ (all : List Item). StandsBy event setting tick (tick ∷ rest) (with_item (λ one. one.tick) setting.interval x ws) all) (sym none) now in
-        let with_ticks = subst (λ (all : List ℕ). StandsBy event setting tick all (with_item (λ one. one.tick) setting.interval x ws) (added (aggregated_at config) (arrives tick told ∷ calls))) (sym closed) with_items in
-        subst (λ (xs : List (Arrival (List ℕ))). StandsBy event setting tick (closing_ticks event calls) (windows_of (λ one. one.tick) setting.interval xs) (added (aggregated_at config) (arrives tick told ∷ calls)))
-        (sym arrives_too) with_ticks
-
-    arriving_other : (tick : ℕ) (told : Qualified (List ℕ)) (calls : List (Call (List ℕ))) → told.event.0 == event ≡ false
-        → Stands tick calls → Stands tick (arrives tick told ∷ calls)
-    arriving_other tick told calls is h =
-        let item = alone (event_at config told.event.0).aggregate (item_at tick told) in
-        let now : StandsBy event setting tick (closing_ticks event calls) (windows_in setting.interval event calls) (added (aggregated_at config) (arrives tick told ∷ calls)) = record {
-          same = drops_other event item (added (aggregated_at config) calls)
-              (alone_other (event_at config told.event.0).aggregate (item_at tick told) is) ∙ h.same;
-          below = h.below;
-          opens = h.opens;
-          older = h.older;
-        } in
-        let not_here : arrived event (arrives tick told ∷ calls) ≡ arrived event calls = rw is refl in
-        subst (λ (xs : List (Arrival (List ℕ))). StandsBy event setting tick (closing_ticks event calls) (windows_of (λ one. one.tick) setting.interval xs) (added (aggregated_at config) (arrives tick told ∷ calls)))
-        (sym not_here) now
-
-    -- ---- the moments of a turn
-
-    -- it stands so, and this turn has closed the event's window
-    abbrev Inside : ℕ → List ℕ → List (Call (List ℕ)) → Type 0
-    Inside tick rest calls = Stands tick calls × HasClosed tick rest calls
-
-    arriving : (tick at : ℕ) (rest : List ℕ) (told : Qualified (List ℕ)) (calls : List (Call (List ℕ))) → at ≡ tick → Inside tick rest calls → Inside tick rest (arrives at told ∷ calls)
-    arriving tick at rest told calls same h =
-        subst (λ n. Inside tick rest (arrives n told ∷ calls)) (sym same)
-        (elim (told.event.0 == event) as (λ (b : Bool). told.event.0 == event ≡ b → Inside tick rest (arrives tick told ∷ calls))
-        [ true ↦ λ is. (arriving_own tick rest told calls is h.1 h.0, h.1) | false ↦ λ is. (arriving_other tick told calls is h.0, h.1) ] refl)
-
-    -- an item comes at this tick, or a control
-    abbrev IsAt : ℕ → Moment → Type 0
-    IsAt tick (closes at other) = ⊥
-    IsAt tick (comes item) = item.tick ≡ tick
-    IsAt tick (state_is state) = Unit {0}
-    IsAt tick (mode_is other mode) = Unit {0}
-
-    happening : (tick : ℕ) (rest : List ℕ) (moment : Moment) (before : List Moment) → IsAt tick moment → Inside tick rest (gated config before) → Inside tick rest (gated config (moment ∷ before))
-    happening tick rest (closes at other) before is h = absurd is
-    happening tick rest (comes item) before is h =
-        let mode = mode_at config item.event before in
-        let kept = item_in mode item in
-        elim (is_nth config item.event before) as (λ (b : Bool). Inside tick rest (option_to_list (option_map arrival (if b then where_true (item.event == item.event && is_arriving config item.event before) kept else None)) ++ gated config before)) [
-          | true ↦ elim (item.event == item.event && is_arriving config item.event before) as (λ (c : Bool). Inside tick rest (option_to_list (option_map arrival (where_true c kept)) ++ gated config before))
-              [ true ↦ arriving tick item.tick rest (told_of kept) (gated config before) is h | false ↦ h ]
-          | false ↦ h
-        ]
-    happening tick rest (state_is state) before is h = h
-    happening tick rest (mode_is other mode) before is h = h
-
-    all_happen : (tick : ℕ) (rest : List ℕ) (all before : List Moment) → AllByRecursion (IsAt tick) all → Inside tick rest (gated config before) → Inside tick rest (gated config (with_all before all))
-    all_happen tick rest [] before are h = h
-    all_happen tick rest (moment ∷ all) before are h =
-        all_happen tick rest all (moment ∷ before) are.1 (happening tick rest moment before are.0 h)
-
-    after_closings : (n first t tick : ℕ) (before : List Moment) → t ≤ tick → Stands t (gated config before)
-        → Stands tick (gated config (with_all before (map (closes tick) (range_with_len first n))))
-    after_closings zero first t tick before le h = stands_later t tick (gated config before) le h
-    after_closings (suc n) first t tick before le h =
-        after_closings n (first + 1) tick tick (closes tick first ∷ before) (omega arith) (closing t tick first (gated config before) le h)
 
   -- the ticks of turns that closed the event's windows, after a turn that closes these
   abbrev ticks_after : ℕ → ℕ → ℕ → List Moment → List ℕ
@@ -222,10 +86,10 @@ module _ (config : Parts) (event : ℕ) where
   -- ---- an event that is not aggregated
 
   -- the item of an arrival
-  abbrev item_of : Arrival (List ℕ) → Item
+  abbrev item_of : AnArrival → Item
   item_of one = item_at one.tick one.told
 
-  alone_items : (calls : List (Call (List ℕ))) → (event_at config event).aggregate ≡ None
+  alone_items : (calls : List ACall) → (event_at config event).aggregate ≡ None
       → filter (is_of event) (added (aggregated_at config) calls) ≡ map item_of (arrived event calls)
   alone_items [] none = refl
   alone_items (closes_due tick other ∷ calls) none =
@@ -241,7 +105,7 @@ module _ (config : Parts) (event : ℕ) where
   alone_items (arrives tick told ∷ calls) none =
       let rest = alone_items calls none in
       let items = added (aggregated_at config) calls in
-      let x : Arrival (List ℕ) = record { tick = tick; told = told } in
+      let x : AnArrival = record { tick = tick; told = told } in
       let item = alone (event_at config told.event.0).aggregate (item_at tick told) in
       elim (told.event.0 == event) as (λ (b : Bool). told.event.0 == event ≡ b
       → filter (is_of event) (option_to_list item ++ items) ≡ map item_of (cons_option (where_true b x) (arrived event calls))) [
@@ -294,56 +158,194 @@ module _ (config : Parts) (event : ℕ) where
       let split = λ (o : Option Item). map-append arrival_of (option_to_list o) (sampled config event before) in
       elim (item.event == event) as (λ (d : Bool). item.event == event ≡ d → arrived event (gated config (comes item ∷ before)) ≡ all (sampled_at config event before (comes item))) [
         | true ↦ λ is. coming item before nth arriving true is
-            ∙ ap (λ (xs : List (Arrival (List ℕ))). map arrival_of (option_to_list own) ++ xs) rest ∙ sym (split own)
+            ∙ ap (λ (xs : List AnArrival). map arrival_of (option_to_list own) ++ xs) rest ∙ sym (split own)
             ∙ ap (λ e. all (sampled_at config e before (comes item))) (eqb-true item.event event is)
         | false ↦ λ is. coming item before nth arriving false is ∙ nothing_sampled before rest _ (not_sampled item before is)
       ] refl
 
-  -- ---- turns
+  -- an arrival tells its item
+  items_again : (items : List Item) → map item_of (map arrival_of items) ≡ items
+  items_again [] = refl
+  items_again (item ∷ items) = ap (λ (xs : List Item). item ∷ xs) (items_again items)
 
-  module _ (setting : Aggregate) (aggregates : (event_at config event).aggregate ≡ Some setting) (some : 1 ≤ setting.interval) (there : event < length config.events) where
-    heads_at : (tick : ℕ) (heads : List Head) → AllByRecursion (IsAt setting aggregates some tick) (map (head_moment tick) heads)
+  -- ---- an event that is aggregated
+
+  module _ (setting : Aggregate) (aggregates : (event_at config event).aggregate ≡ Some setting) (some : 1 ≤ setting.interval)
+      (there : event < length config.events) where
+    -- it stands so after calls
+    abbrev Stands : ℕ → List ACall → Type 0
+    Stands t calls = StandsBy event setting t (closing_ticks event calls) (windows_in setting.interval event calls) (added (aggregated_at config) calls)
+
+    stands_later : (t tick : ℕ) (calls : List ACall) → t ≤ tick → Stands t calls → Stands tick calls
+    stands_later t tick calls le h = record {
+      same = h.same;
+      below = by_later t tick (closing_ticks event calls) le h.below;
+      opens = open_later came_at setting.interval t tick le (windows_in setting.interval event calls) h.opens;
+      older = h.older;
+    }
+
+    closing_own : (t tick : ℕ) (calls : List ACall) → t ≤ tick → Stands t calls → Stands tick (closes_due tick event ∷ calls)
+    closing_own t tick calls le h =
+        let ticks = closing_ticks event calls in
+        let ws = windows_in setting.interval event calls in
+        let items = added (aggregated_at config) calls in
+        let later = stands_later t tick calls le h in
+        let own : IsOwn event ws = windows_own event setting.interval (arrived event calls) (arrived_own event calls) in
+        let now : StandsBy event setting tick (tick ∷ ticks) ws (option_to_list (closed_at setting tick ticks ws) ++ items) = record {
+          same = closing_gives setting event tick ticks ws items own h.older h.same;
+          below = (omega arith, later.below);
+          opens = later.opens;
+          older = older_more setting tick ticks ws h.older;
+        } in
+        let given = subst (λ (agg : Option Aggregate). StandsBy event setting tick (tick ∷ ticks) ws (option_to_list (option_map (item_at tick) (closing_item agg event tick calls)) ++ items)) (sym aggregates) now in
+        subst (λ (all : List ℕ). StandsBy event setting tick all ws (added (aggregated_at config) (closes_due tick event ∷ calls))) (sym (ticks_own tick calls)) given
+
+    closing_other : (t tick other : ℕ) (calls : List ACall) → t ≤ tick → other == event ≡ false → Stands t calls → Stands tick (closes_due tick other ∷ calls)
+    closing_other t tick other calls le is h =
+        let later = stands_later t tick calls le h in
+        let item = closing_item (event_at config other).aggregate other tick calls in
+        let now : StandsBy event setting tick (closing_ticks event calls) (windows_in setting.interval event calls) (added (aggregated_at config) (closes_due tick other ∷ calls)) = record {
+          same = drops_other event (option_map (item_at tick) item) (added (aggregated_at config) calls)
+              (closes_other item tick other is (closing_item_of (event_at config other).aggregate other tick calls)) ∙ h.same;
+          below = later.below;
+          opens = later.opens;
+          older = later.older;
+        } in
+        subst (λ (all : List ℕ). StandsBy event setting tick all (windows_in setting.interval event calls) (added (aggregated_at config) (closes_due tick other ∷ calls))) (sym (ticks_other tick other calls is)) now
+
+    closing : (t tick other : ℕ) (calls : List ACall) → t ≤ tick → Stands t calls → Stands tick (closes_due tick other ∷ calls)
+    closing t tick other calls le h =
+        elim (other == event) as (λ (b : Bool). other == event ≡ b → Stands tick (closes_due tick other ∷ calls)) [
+          | true ↦ λ is. subst (λ n. Stands tick (closes_due tick n ∷ calls)) (sym (eqb-true other event is)) (closing_own t tick calls le h)
+          | false ↦ λ is. closing_other t tick other calls le is h
+        ] refl
+
+    -- this turn has closed the event's window, behind other turns
+    abbrev HasClosed : ℕ → List ℕ → List ACall → Type 0
+    HasClosed tick rest calls = closing_ticks event calls ≡ tick ∷ rest
+
+    arriving_own : (tick : ℕ) (rest : List ℕ) (told : Qualified (List ℕ)) (calls : List ACall) → told.event.0 == event ≡ true
+        → HasClosed tick rest calls → Stands tick calls → Stands tick (arrives tick told ∷ calls)
+    arriving_own tick rest told calls is closed h =
+        let x : AnArrival = record { tick = tick; told = told } in
+        let ws = windows_in setting.interval event calls in
+        let items = added (aggregated_at config) calls in
+        let old : StandsBy event setting tick (tick ∷ rest) ws items = subst (λ (ticks : List ℕ). StandsBy event setting tick ticks ws items) closed h in
+        let kept : Keeps setting (tick ∷ rest) ws (with_item came_at setting.interval x ws) = arriving_keeps setting x rest ws some old.below old.opens old.older in
+        let now : StandsBy event setting tick (tick ∷ rest) (with_item came_at setting.interval x ws) items = record {
+          same = old.same ∙ sym kept.0;
+          below = old.below;
+          opens = open_with came_at setting.interval x ws old.opens;
+          older = kept.1;
+        } in
+        let none : added (aggregated_at config) (arrives tick told ∷ calls) ≡ items =
+        ap (λ (agg : Option Aggregate). option_to_list (alone agg (item_at tick told)) ++ items)
+        (ap (λ e. (event_at config e).aggregate) (eqb-true told.event.0 event is) ∙ aggregates) in
+        let arrives_too : arrived event (arrives tick told ∷ calls) ≡ x ∷ arrived event calls = rw is refl in
+        let with_items = subst (λ (all : List Item). StandsBy event setting tick (tick ∷ rest) (with_item came_at setting.interval x ws) all) (sym none) now in
+        let with_ticks = subst (λ (all : List ℕ). StandsBy event setting tick all (with_item came_at setting.interval x ws) (added (aggregated_at config) (arrives tick told ∷ calls))) (sym closed) with_items in
+        subst (λ (xs : List AnArrival). StandsBy event setting tick (closing_ticks event calls) (windows_of came_at setting.interval xs) (added (aggregated_at config) (arrives tick told ∷ calls)))
+        (sym arrives_too) with_ticks
+
+    arriving_other : (tick : ℕ) (told : Qualified (List ℕ)) (calls : List ACall) → told.event.0 == event ≡ false
+        → Stands tick calls → Stands tick (arrives tick told ∷ calls)
+    arriving_other tick told calls is h =
+        let item = alone (event_at config told.event.0).aggregate (item_at tick told) in
+        let now : StandsBy event setting tick (closing_ticks event calls) (windows_in setting.interval event calls) (added (aggregated_at config) (arrives tick told ∷ calls)) = record {
+          same = drops_other event item (added (aggregated_at config) calls)
+              (alone_other (event_at config told.event.0).aggregate (item_at tick told) is) ∙ h.same;
+          below = h.below;
+          opens = h.opens;
+          older = h.older;
+        } in
+        let not_here : arrived event (arrives tick told ∷ calls) ≡ arrived event calls = rw is refl in
+        subst (λ (xs : List AnArrival). StandsBy event setting tick (closing_ticks event calls) (windows_of came_at setting.interval xs) (added (aggregated_at config) (arrives tick told ∷ calls)))
+        (sym not_here) now
+
+    -- ---- the moments of a turn
+
+    -- it stands so, and this turn has closed the event's window
+    abbrev Inside : ℕ → List ℕ → List ACall → Type 0
+    Inside tick rest calls = Stands tick calls × HasClosed tick rest calls
+
+    arriving : (tick at : ℕ) (rest : List ℕ) (told : Qualified (List ℕ)) (calls : List ACall) → at ≡ tick → Inside tick rest calls → Inside tick rest (arrives at told ∷ calls)
+    arriving tick at rest told calls same h =
+        subst (λ n. Inside tick rest (arrives n told ∷ calls)) (sym same)
+        (elim (told.event.0 == event) as (λ (b : Bool). told.event.0 == event ≡ b → Inside tick rest (arrives tick told ∷ calls))
+        [ true ↦ λ is. (arriving_own tick rest told calls is h.1 h.0, h.1) | false ↦ λ is. (arriving_other tick told calls is h.0, h.1) ] refl)
+
+    -- an item comes at this tick, or a control
+    abbrev IsAt : ℕ → Moment → Type 0
+    IsAt tick (closes at other) = ⊥
+    IsAt tick (comes item) = item.tick ≡ tick
+    IsAt tick (state_is state) = Unit {0}
+    IsAt tick (mode_is other mode) = Unit {0}
+
+    happening : (tick : ℕ) (rest : List ℕ) (moment : Moment) (before : List Moment) → IsAt tick moment → Inside tick rest (gated config before) → Inside tick rest (gated config (moment ∷ before))
+    happening tick rest (closes at other) before is h = absurd is
+    happening tick rest (comes item) before is h =
+        let mode = mode_at config item.event before in
+        let kept = item_in mode item in
+        elim (is_nth config item.event before) as (λ (b : Bool). Inside tick rest (option_to_list (option_map arrival (if b then where_true (item.event == item.event && is_arriving config item.event before) kept else None)) ++ gated config before)) [
+          | true ↦ elim (item.event == item.event && is_arriving config item.event before) as (λ (c : Bool). Inside tick rest (option_to_list (option_map arrival (where_true c kept)) ++ gated config before))
+              [ true ↦ arriving tick item.tick rest (told_of kept) (gated config before) is h | false ↦ h ]
+          | false ↦ h
+        ]
+    happening tick rest (state_is state) before is h = h
+    happening tick rest (mode_is other mode) before is h = h
+
+    all_happen : (tick : ℕ) (rest : List ℕ) (all before : List Moment) → AllByRecursion (IsAt tick) all → Inside tick rest (gated config before) → Inside tick rest (gated config (with_all before all))
+    all_happen tick rest [] before are h = h
+    all_happen tick rest (moment ∷ all) before are h =
+        all_happen tick rest all (moment ∷ before) are.1 (happening tick rest moment before are.0 h)
+
+    after_closings : (n first t tick : ℕ) (before : List Moment) → t ≤ tick → Stands t (gated config before)
+        → Stands tick (gated config (with_all before (map (closes tick) (range_with_len first n))))
+    after_closings zero first t tick before le h = stands_later t tick (gated config before) le h
+    after_closings (suc n) first t tick before le h =
+        after_closings n (first + 1) tick tick (closes tick first ∷ before) (omega arith) (closing t tick first (gated config before) le h)
+
+    -- ---- turns
+
+    heads_at : (tick : ℕ) (heads : List Head) → AllByRecursion (IsAt tick) (map (head_moment tick) heads)
     heads_at tick [] = tt
     heads_at tick (head ∷ heads) = (refl, heads_at tick heads)
 
-    act_at : (tick : ℕ) (act : Act (List ℕ)) → IsAt setting aggregates some tick (act_moment tick act)
+    act_at : (tick : ℕ) (act : Act (List ℕ)) → IsAt tick (act_moment tick act)
     act_at tick (Report event count stamp context) = refl
     act_at tick (State state) = tt
     act_at tick (SetMode event mode) = tt
 
-    entries_at : (tick : ℕ) (entries : List (Entry (List ℕ))) → AllByRecursion (IsAt setting aggregates some tick) (map (λ entry. act_moment tick entry.act) entries)
+    entries_at : (tick : ℕ) (entries : List (Entry (List ℕ))) → AllByRecursion (IsAt tick) (map (λ entry. act_moment tick entry.act) entries)
     entries_at tick [] = tt
     entries_at tick (entry ∷ entries) = (act_at tick entry.act, entries_at tick entries)
 
-    turn_stands : (t : ℕ) (turn : Turn) (before : List Moment) → t ≤ tick_of turn → Stands setting aggregates some t (gated config before)
-        → Inside setting aggregates some (tick_of turn) (closing_ticks event (gated config before)) (gated config (with_all before (turn_moments config turn)))
+    turn_stands : (t : ℕ) (turn : Turn) (before : List Moment) → t ≤ tick_of turn → Stands t (gated config before)
+        → Inside (tick_of turn) (closing_ticks event (gated config before)) (gated config (with_all before (turn_moments config turn)))
     turn_stands t turn before le h =
         let tick = tick_of turn in
         let rest = closing_ticks event (gated config before) in
         let first = closings config tick in
         let heads = map (head_moment tick) (heads_of (internal_of config) turn.head) in
         let entries = map (λ (entry : Entry (List ℕ)). act_moment tick entry.act) turn.entries in
-        let closed : Inside setting aggregates some tick rest (gated config (with_all before first)) = (after_closings setting aggregates some (length config.events) 0 t tick before le h, ticks_with tick (length config.events) 0 before (omega arith) (omega arith)) in
-        let headed = all_happen setting aggregates some tick rest heads (with_all before first) (heads_at tick (heads_of (internal_of config) turn.head)) closed in
-        let entered = all_happen setting aggregates some tick rest entries (with_all (with_all before first) heads) (entries_at tick turn.entries) headed in
+        let closed : Inside tick rest (gated config (with_all before first)) = (after_closings (length config.events) 0 t tick before le h, ticks_with tick (length config.events) 0 before (omega arith) (omega arith)) in
+        let headed = all_happen tick rest heads (with_all before first) (heads_at tick (heads_of (internal_of config) turn.head)) closed in
+        let entered = all_happen tick rest entries (with_all (with_all before first) heads) (entries_at tick turn.entries) headed in
         let in_order : with_all before (turn_moments config turn) ≡ with_all (with_all (with_all before first) heads) entries =
         with_all-append before (first ++ heads) entries ∙ ap (λ (ms : List Moment). with_all ms entries) (with_all-append before first heads) in
-        subst (λ (ms : List Moment). Inside setting aggregates some tick rest (gated config ms)) (sym in_order) entered
+        subst (λ (ms : List Moment). Inside tick rest (gated config ms)) (sym in_order) entered
 
     turns_stand : (turns : List Turn) (t : ℕ) → EndBy tick_of t turns
-        → Stands setting aggregates some t (gated config (moments config turns)) × (closing_ticks event (gated config (moments config turns)) ≡ map tick_of turns)
+        → Stands t (gated config (moments config turns)) × (closing_ticks event (gated config (moments config turns)) ≡ map tick_of turns)
     turns_stand [] t by = (record { same = refl; below = tt; opens = tt; older = tt }, refl)
     turns_stand (turn ∷ before) t by =
         let old = turns_stand before (tick_of turn) by.1 in
         let now = turn_stands (tick_of turn) turn (moments config before) (omega arith) old.0 in (
-          stands_later setting aggregates some (tick_of turn) t (gated config (moments config (turn ∷ before))) by.0 now.0,
+          stands_later (tick_of turn) t (gated config (moments config (turn ∷ before))) by.0 now.0,
           now.1 ∙ ap (λ (ticks : List ℕ). tick_of turn ∷ ticks) old.1,
         )
 
-  -- an arrival tells its item
-  items_again : (items : List Item) → map item_of (map arrival_of items) ≡ items
-  items_again [] = refl
-  items_again (item ∷ items) = ap (λ (xs : List Item). item ∷ xs) (items_again items)
+  -- ---- all of it
 
   pub aggregated_of_event : (turns : List Turn) (tick : ℕ) → event < length config.events
       → IfSome (event_at config event).aggregate (λ setting. 1 ≤ setting.interval) → EndBy tick_of tick turns
@@ -359,7 +361,7 @@ module _ (config : Parts) (event : ℕ) where
             let stands = turns_stand setting aggregates some there turns tick by in
             stands.0.same
             ∙ ap (λ (ticks : List ℕ). filter_map (closed_item setting ticks) (windows_in setting.interval event calls)) stands.1
-            ∙ ap (λ (xs : List (Arrival (List ℕ))). filter_map (closed_item setting (map tick_of turns)) (windows_of (λ one. one.tick) setting.interval xs)) (arrived_sampled (moments config turns))
+            ∙ ap (λ (xs : List AnArrival). filter_map (closed_item setting (map tick_of turns)) (windows_of came_at setting.interval xs)) (arrived_sampled (moments config turns))
       ]
       refl some
 
