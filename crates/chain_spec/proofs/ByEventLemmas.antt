@@ -186,32 +186,27 @@ module _ (config : Parts) (event : ℕ) where
 
     closing_own : (t tick : ℕ) (calls : List ACall) → t ≤ tick → Stands t calls → Stands tick (closes_due tick event ∷ calls)
     closing_own t tick calls le h =
-        let ticks = closing_ticks event calls in
-        let ws = windows_in setting.interval event calls in
-        let items = added (aggregated_at config) calls in
         let later = stands_later t tick calls le h in
-        let own : IsOwn event ws = windows_own event setting.interval (arrived event calls) (arrived_own event calls) in
-        let now : StandsBy event setting tick (tick ∷ ticks) ws (option_to_list (closed_at setting tick ticks ws) ++ items) = record {
-          same = closing_gives setting event tick ticks ws items own h.older h.same;
+        let ws = windows_in setting.interval event calls in
+        let own = windows_own event setting.interval (arrived event calls) (arrived_own event calls) in
+        rw (eq-eqb event event refl, aggregates) (record {
+          same = closing_gives setting event tick (closing_ticks event calls) ws (added (aggregated_at config) calls) own h.older h.same;
           below = (omega arith, later.below);
           opens = later.opens;
-          older = older_more setting tick ticks ws h.older;
-        } in
-        let given = subst (λ (agg : Option Aggregate). StandsBy event setting tick (tick ∷ ticks) ws (option_to_list (option_map (item_at tick) (closing_item agg event tick calls)) ++ items)) (sym aggregates) now in
-        subst (λ (all : List ℕ). StandsBy event setting tick all ws (added (aggregated_at config) (closes_due tick event ∷ calls))) (sym (ticks_own tick calls)) given
+          older = older_more setting tick (closing_ticks event calls) ws h.older;
+        })
 
-    closing_other : (t tick other : ℕ) (calls : List ACall) → t ≤ tick → other == event ≡ false → Stands t calls → Stands tick (closes_due tick other ∷ calls)
+    closing_other : (t tick other : ℕ) (calls : List ACall) → t ≤ tick → other == event ≡ false → Stands t calls
+        → Stands tick (closes_due tick other ∷ calls)
     closing_other t tick other calls le is h =
         let later = stands_later t tick calls le h in
-        let item = closing_item (event_at config other).aggregate other tick calls in
-        let now : StandsBy event setting tick (closing_ticks event calls) (windows_in setting.interval event calls) (added (aggregated_at config) (closes_due tick other ∷ calls)) = record {
-          same = drops_other event (option_map (item_at tick) item) (added (aggregated_at config) calls)
-              (closes_other item tick other is (closing_item_of (event_at config other).aggregate other tick calls)) ∙ h.same;
+        rw is (record {
+          same = drops_other event _ (added (aggregated_at config) calls)
+              (closes_other _ tick other is (closing_item_of (event_at config other).aggregate other tick calls)) ∙ h.same;
           below = later.below;
           opens = later.opens;
           older = later.older;
-        } in
-        subst (λ (all : List ℕ). StandsBy event setting tick all (windows_in setting.interval event calls) (added (aggregated_at config) (closes_due tick other ∷ calls))) (sym (ticks_other tick other calls is)) now
+        })
 
     closing : (t tick other : ℕ) (calls : List ACall) → t ≤ tick → Stands t calls → Stands tick (closes_due tick other ∷ calls)
     closing t tick other calls le h =
@@ -229,38 +224,26 @@ module _ (config : Parts) (event : ℕ) where
     arriving_own tick rest told calls is closed h =
         let x : AnArrival = record { tick = tick; told = told } in
         let ws = windows_in setting.interval event calls in
-        let items = added (aggregated_at config) calls in
-        let old : StandsBy event setting tick (tick ∷ rest) ws items = subst (λ (ticks : List ℕ). StandsBy event setting tick ticks ws items) closed h in
-        let kept : Keeps setting (tick ∷ rest) ws (with_item came_at setting.interval x ws) = arriving_keeps setting x rest ws some old.below old.opens old.older in
-        let now : StandsBy event setting tick (tick ∷ rest) (with_item came_at setting.interval x ws) items = record {
+        let old = rw closed at h in
+        let kept = arriving_keeps setting x rest ws some old.below old.opens old.older in
+        let setting_is = ap (λ e. (event_at config e).aggregate) (eqb-true told.event.0 event is) ∙ aggregates in
+        rw (is, setting_is, closed) (record {
           same = old.same ∙ sym kept.0;
           below = old.below;
           opens = open_with came_at setting.interval x ws old.opens;
           older = kept.1;
-        } in
-        let none : added (aggregated_at config) (arrives tick told ∷ calls) ≡ items =
-        ap (λ (agg : Option Aggregate). option_to_list (alone agg (item_at tick told)) ++ items)
-        (ap (λ e. (event_at config e).aggregate) (eqb-true told.event.0 event is) ∙ aggregates) in
-        let arrives_too : arrived event (arrives tick told ∷ calls) ≡ x ∷ arrived event calls = rw is refl in
-        let with_items = subst (λ (all : List Item). StandsBy event setting tick (tick ∷ rest) (with_item came_at setting.interval x ws) all) (sym none) now in
-        let with_ticks = subst (λ (all : List ℕ). StandsBy event setting tick all (with_item came_at setting.interval x ws) (added (aggregated_at config) (arrives tick told ∷ calls))) (sym closed) with_items in
-        subst (λ (xs : List AnArrival). StandsBy event setting tick (closing_ticks event calls) (windows_of came_at setting.interval xs) (added (aggregated_at config) (arrives tick told ∷ calls)))
-        (sym arrives_too) with_ticks
+        })
 
     arriving_other : (tick : ℕ) (told : Qualified (List ℕ)) (calls : List ACall) → told.event.0 == event ≡ false
         → Stands tick calls → Stands tick (arrives tick told ∷ calls)
     arriving_other tick told calls is h =
-        let item = alone (event_at config told.event.0).aggregate (item_at tick told) in
-        let now : StandsBy event setting tick (closing_ticks event calls) (windows_in setting.interval event calls) (added (aggregated_at config) (arrives tick told ∷ calls)) = record {
-          same = drops_other event item (added (aggregated_at config) calls)
+        rw is (record {
+          same = drops_other event _ (added (aggregated_at config) calls)
               (alone_other (event_at config told.event.0).aggregate (item_at tick told) is) ∙ h.same;
           below = h.below;
           opens = h.opens;
           older = h.older;
-        } in
-        let not_here : arrived event (arrives tick told ∷ calls) ≡ arrived event calls = rw is refl in
-        subst (λ (xs : List AnArrival). StandsBy event setting tick (closing_ticks event calls) (windows_of came_at setting.interval xs) (added (aggregated_at config) (arrives tick told ∷ calls)))
-        (sym not_here) now
+        })
 
     -- ---- the moments of a turn
 
