@@ -70,4 +70,19 @@ module _ (config : Parts) where
   handed_grow turn before = ends_with_rest (handed_on config (turn ∷ before)) _ _ (ends_with_itself (handed config before))
 
 -- every list of the chain grows
-pub ruleset growth_laws = (moments_grow, arrivals_grow, sampled_grow, gated_grow, aggregated_grow, thresholded_grow, qualified_grow, candidates_grow, sent_grow, held_grow, stored_grow, messages_grow, ends_grow, handed_grow)
+pub ruleset growth_laws = (
+  moments_grow,
+  arrivals_grow,
+  sampled_grow,
+  gated_grow,
+  aggregated_grow,
+  thresholded_grow,
+  qualified_grow,
+  candidates_grow,
+  sent_grow,
+  held_grow,
+  stored_grow,
+  messages_grow,
+  ends_grow,
+  handed_grow,
+)

@@ -24,7 +24,8 @@ fewer_before limit before candidate =
 
 pub bytes_fit : (limit : Limit) (before : List Candidate) (candidate : Candidate)
     → IsTrue (passes_traffic (Some limit) before candidate)
-    ↔ (sum_by (λ one. one.bytes) (those_in limit.interval before (window_at limit.interval candidate.tick)) + candidate.bytes ≤ limit.number)
+    ↔ (sum_by (λ one. one.bytes) (those_in limit.interval before
+    (window_at limit.interval candidate.tick)) + candidate.bytes ≤ limit.number)
 bytes_fit limit before candidate = (λ passes. leb-true _ _ passes, λ fit. le-leb _ _ fit)
 
 -- both tests hold
@@ -44,7 +45,8 @@ pub weighed_sent : (config : Parts) (items : List Item)
 weighed_sent config [] = refl
 weighed_sent config (item ∷ before) =
     let rest = weighed_sent config before in
-    elim (is_out config before item) as (λ (b : Bool). map (weighed config) (option_to_list (where_true b item) ++ added (sent_at config) before)
+    elim (is_out config before item) as (λ (b : Bool). map (weighed config) (option_to_list (where_true b item)
+    ++ added (sent_at config) before)
     ≡ option_to_list (where_true b (weighed config item)) ++ sent_of config.rate config.traffic (map (weighed config) before))
     [ true ↦ ap (λ (xs : List Candidate). weighed config item ∷ xs) rest | false ↦ rest ]
 

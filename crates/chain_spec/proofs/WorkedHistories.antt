@@ -263,9 +263,17 @@ lost_contexts_are_told_where_configured : Sends (instance_18 (door ∷ [])) (tur
     Report (record { 0 = 0 }) 1 None (Missing (1 ∷ 1 ∷ [])) ∷ []) ∷ turn 5 [] ∷ []) (codes "110483002a00010004a1a2a3a4100483002a000100")
 lost_contexts_are_told_where_configured = refl
 
+-- three internal events, configured in the other order
+abbrev all_internal : Parts
+all_internal = record (instance_18 (plain_event 1 0 ∷ plain_event 2 0 ∷ plain_event 3 0 ∷ [])) {
+  lost_events = Some 2;
+  lost_contexts = Some 1;
+  limited = Some 0;
+}
+
 -- all three in their order, and none for 0
 internal_events_in_order :
-    Sends (record (instance_18 (plain_event 1 0 ∷ plain_event 2 0 ∷ plain_event 3 0 ∷ [])) { lost_events = Some 2; lost_contexts = Some 1; limited = Some 0 })
+    Sends all_internal
     (turn_with 5 4 5 6 [] ∷ turn_with 6 0 7 0 [] ∷ [])
     (codes "10048000030004001004800002000500100480000100060010048000020007" ++ codes "00")
 internal_events_in_order = refl
@@ -352,9 +360,16 @@ what_is_not_sent_is_no_message = refl
 occurrences_saturate : memory (three_stored 1) (reverse (turn 1 (seen 0 65535 ∷ seen 0 1 ∷ []) ∷ [])) ≡ row 0 65535 1 1 ∷ []
 occurrences_saturate = refl
 
+-- one event that is stored, and no message may be sent
+abbrev none_let_out : Parts
+none_let_out = record (instance_18 (record (plain_event 1 0) { store = true } ∷ [])) {
+  memory = 1;
+  rate = Some (record { interval = 10; number = 0 });
+}
+
 -- the last item's timestamp and context data are kept, though the limits hold it back
 a_record_of_what_is_held_back :
-    memory (record (instance_18 (record (plain_event 1 0) { store = true } ∷ [])) { memory = 1; rate = Some (record { interval = 10; number = 0 }) })
+    memory none_let_out
     (reverse (turn 1 (seen 0 1 ∷ Report (record { 0 = 0 }) 1 (Some (record { 0 = 7 })) (Kept 0 0 (161 ∷ [])) ∷ []) ∷ []))
     ≡ record (row 0 2 1 1) { stamp = Some (record { 0 = 7 }); context = 161 ∷ [] } ∷ []
 a_record_of_what_is_held_back = refl
