@@ -34,12 +34,12 @@ came_at one = one.tick
 any_is_first : (least : ℕ) (ticks : List ℕ) → list_any (λ tick. nat_le least tick) ticks ≡ is_some (first_from least ticks)
 any_is_first least [] = refl
 any_is_first least (tick ∷ before) =
-    elim (nat_le least tick) as (λ (b : Bool). (b || list_any (λ t. nat_le least t) before)
-    ≡ is_some (option_or (first_from least before) (where_true b tick))) [
-      | true ↦ elim (first_from least before) as (λ (o : Option ℕ). true
-          ≡ is_some (option_or o (Some tick))) [ None ↦ refl | Some t ↦ refl ]
-      | false ↦ any_is_first least before ∙ (elim (first_from least before) as (λ (o : Option ℕ). is_some o
-          ≡ is_some (option_or o None)) [ None ↦ refl | Some t ↦ refl ])
+    elim (nat_le least tick) as (λ (b : Bool). (b || list_any (λ t. nat_le least t) before) ≡ is_some
+    (option_or (first_from least before) (where_true b tick))) [
+      | true ↦ elim (first_from least before) as
+          (λ (o : Option ℕ). true ≡ is_some (option_or o (Some tick))) [ None ↦ refl | Some t ↦ refl ]
+      | false ↦ any_is_first least before ∙
+          (elim (first_from least before) as (λ (o : Option ℕ). is_some o ≡ is_some (option_or o None)) [ None ↦ refl | Some t ↦ refl ])
     ]
 
 -- none, where all ticks are too early
@@ -79,11 +79,11 @@ module _ (setting : Aggregate) where
   AreOlderClosed ticks (w ∷ older) = AreClosed ticks older
 
   -- what has closed is not closed again
-  closed_stays : (tick : ℕ) (ticks : List ℕ) (w : AWindow) → is_some (first_due ticks w) ≡ true
-      → first_due (tick ∷ ticks) w ≡ first_due ticks w
+  closed_stays : (tick : ℕ) (ticks : List ℕ) (w : AWindow) → is_some (first_due ticks w) ≡ true → first_due (tick ∷ ticks) w
+      ≡ first_due ticks w
   closed_stays tick ticks w is =
-      elim (first_due ticks w) as (λ (o : Option ℕ). is_some o ≡ true
-      → option_or o (where_true (nat_le (w.opener.tick + setting.interval) tick) tick) ≡ o)
+      elim (first_due ticks w) as (λ (o : Option ℕ). is_some o ≡ true → option_or o
+      (where_true (nat_le (w.opener.tick + setting.interval) tick) tick) ≡ o)
       [ None ↦ λ none. cc | Some t ↦ λ some. refl ] is
 
   closed_same : (tick : ℕ) (ticks : List ℕ) (ws : List AWindow) → AreClosed ticks ws
@@ -104,23 +104,23 @@ module _ (setting : Aggregate) where
   -- what a turn at a tick closes, where other turns were at these ticks
   abbrev pub closed_at : ℕ → List ℕ → List AWindow → Option Item
   closed_at tick ticks ws =
-      option_map (item_at tick) (option_and_then (due_item setting tick) (newest_where (λ w. not (list_any
-      (λ t. is_due setting.interval t w) ticks)) ws))
+      option_map (item_at tick) (option_and_then (due_item setting tick)
+      (newest_where (λ w. not (list_any (λ t. is_due setting.interval t w) ticks)) ws))
 
   -- the newest window, by whether it closed before
   closing_case : (event tick : ℕ) (w : AWindow) (items tail : List Item) (o : Option ℕ) → w.opener.told.event.0 == event ≡ true
       → filter (is_of event) items ≡ cons_option (option_map (λ t. item_at t (joined setting.last w)) o) tail
-      → filter (is_of event) (option_to_list (option_map (item_at tick) (option_and_then (due_item setting tick) (where_true (not
-      (is_some o)) w))) ++ items)
-      ≡ cons_option (option_map
-      (λ t. item_at t (joined setting.last w)) (option_or o (where_true (nat_le (w.opener.tick + setting.interval) tick) tick))) tail
+      → filter (is_of event) (option_to_list
+      (option_map (item_at tick) (option_and_then (due_item setting tick) (where_true (not (is_some o)) w))) ++ items)
+      ≡ cons_option (option_map (λ t. item_at t (joined setting.last w))
+      (option_or o (where_true (nat_le (w.opener.tick + setting.interval) tick) tick))) tail
   closing_case event tick w items tail (Some c) own same = same
   closing_case event tick w items tail None own same =
       elim (nat_le (w.opener.tick + setting.interval) tick) as (λ (b : Bool).
       filter (is_of event) (option_to_list (option_map (item_at tick) (where_true b (joined setting.last w))) ++ items)
       ≡ cons_option (option_map (λ t. item_at t (joined setting.last w)) (where_true b tick)) tail) [
-        | true ↦ keeps_own event (Some (item_at tick (joined setting.last w))) items own
-            ∙ ap (λ (xs : List Item). item_at tick (joined setting.last w) ∷ xs) same
+        | true ↦ keeps_own event (Some (item_at tick (joined setting.last w))) items own ∙ ap
+            (λ (xs : List Item). item_at tick (joined setting.last w) ∷ xs) same
         | false ↦ same
       ]
 
@@ -129,8 +129,8 @@ module _ (setting : Aggregate) where
       → filter (is_of event) (option_to_list (closed_at tick ticks ws) ++ items) ≡ filter_map (closed_item setting (tick ∷ ticks)) ws
   closing_gives event tick ticks [] items own older same = same
   closing_gives event tick ticks (w ∷ ws) items own older same =
-      ap (λ (b : Bool). filter (is_of event) (option_to_list (option_map (item_at tick) (option_and_then (due_item setting tick)
-      (where_true (not b) w))) ++ items))
+      ap (λ (b : Bool). filter (is_of event)
+      (option_to_list (option_map (item_at tick) (option_and_then (due_item setting tick) (where_true (not b) w))) ++ items))
       (any_is_first (w.opener.tick + setting.interval) ticks)
       ∙ closing_case event tick w items (filter_map (closed_item setting ticks) ws) (first_due ticks w) own same
       ∙ ap (λ (xs : List Item). cons_option (closed_item setting (tick ∷ ticks) w) xs) (sym (closed_same tick ticks ws older))
@@ -138,23 +138,23 @@ module _ (setting : Aggregate) where
   -- ---- an item arrives
 
   -- the window has closed by its end
-  closed_by : (tick : ℕ) (rest : List ℕ) (w : AWindow) → w.opener.tick + setting.interval ≤ tick
-      → is_some (first_due (tick ∷ rest) w) ≡ true
+  closed_by : (tick : ℕ) (rest : List ℕ) (w : AWindow) → w.opener.tick + setting.interval ≤ tick → is_some (first_due (tick ∷ rest) w)
+      ≡ true
   closed_by tick rest w le =
       rw (le-leb (w.opener.tick + setting.interval) tick le)
       (elim (first_due rest w) as (λ (o : Option ℕ). is_some (option_or o (Some tick)) ≡ true) [ None ↦ refl | Some t ↦ refl ])
 
   -- what holds when windows become others at a tick: no more items are given, and each but the newest has closed
   abbrev pub Keeps : List ℕ → List AWindow → List AWindow → Type 0
-  Keeps ticks before now = (filter_map (closed_item setting ticks) now
-      ≡ filter_map (closed_item setting ticks) before) × AreOlderClosed ticks now
+  Keeps ticks before now = (filter_map (closed_item setting ticks) now ≡ filter_map (closed_item setting ticks) before)
+      × AreOlderClosed ticks now
 
   pub arriving_keeps : (x : AnArrival) (rest : List ℕ) (ws : List AWindow) → 1 ≤ setting.interval
       → AllByRecursion (λ tick. tick ≤ x.tick) (x.tick ∷ rest) → EndBy (λ w. w.opener.tick) x.tick ws → AreOlderClosed (x.tick ∷ rest) ws
       → Keeps (x.tick ∷ rest) ws (with_item came_at setting.interval x ws)
   arriving_keeps x rest [] some early by older =
-      let none = none_first (x.tick + setting.interval) (x.tick ∷ rest) (before_later x.tick (x.tick + setting.interval) (x.tick ∷ rest)
-      (omega arith) early) in
+      let none = none_first (x.tick + setting.interval) (x.tick ∷ rest)
+      (before_later x.tick (x.tick + setting.interval) (x.tick ∷ rest) (omega arith) early) in
       (ap (λ (o : Option ℕ). cons_option (option_map (λ t. item_at t (joined setting.last (opened x))) o) []) none, tt)
   arriving_keeps x rest (w ∷ ws) some early by older =
       let ticks = x.tick ∷ rest in
@@ -165,16 +165,16 @@ module _ (setting : Aggregate) where
       → Keeps ticks (w ∷ ws) (if b then extended x w ∷ ws else opened x ∷ w ∷ ws)) [
         | true ↦ λ is.
             let covered : x.tick < w.opener.tick + setting.interval = ltb-true x.tick (w.opener.tick + setting.interval) is in
-            let not_due = none_first (w.opener.tick + setting.interval) ticks (before_later x.tick
-            (w.opener.tick + setting.interval) ticks covered early) in
+            let not_due = none_first (w.opener.tick + setting.interval) ticks
+            (before_later x.tick (w.opener.tick + setting.interval) ticks covered early) in
             let tail = filter_map (closed_item setting ticks) ws in (
               ap (λ (o : Option ℕ). cons_option (option_map (λ t. item_at t (joined setting.last (extended x w))) o) tail) not_due
                   ∙ sym (ap (λ (o : Option ℕ). cons_option (option_map (λ t. item_at t (joined setting.last w)) o) tail) not_due),
               older,
             )
         | false ↦ λ is. (
-          ap (λ (o : Option ℕ). cons_option (option_map
-              (λ t. item_at t (joined setting.last (opened x))) o) (filter_map (closed_item setting ticks) (w ∷ ws))) none,
+          ap (λ (o : Option ℕ). cons_option (option_map (λ t. item_at t (joined setting.last (opened x))) o)
+              (filter_map (closed_item setting ticks) (w ∷ ws))) none,
           (closed_by x.tick rest w (ltb-false x.tick (w.opener.tick + setting.interval) is), older),
         )
       ] refl)
@@ -195,10 +195,10 @@ due_of : (setting : Aggregate) (event tick : ℕ) (test : AWindow → Bool) (ws 
     → IfSome (option_and_then (due_item setting tick) (newest_where test ws)) (λ told. told.event.0 == event ≡ true)
 due_of setting event tick test [] own = tt
 due_of setting event tick test (w ∷ ws) own =
-    elim (test w) as (λ (b : Bool). IfSome (option_and_then (due_item setting tick) (where_true b w)) (λ told. told.event.0 == event
-    ≡ true)) [
-      | true ↦ (elim (is_due setting.interval tick w) as (λ (b : Bool). IfSome (where_true b (joined setting.last w))
-          (λ told. told.event.0 == event ≡ true)) [ true ↦ own | false ↦ tt ])
+    elim (test w) as (λ (b : Bool). IfSome (option_and_then (due_item setting tick) (where_true b w))
+    (λ told. told.event.0 == event ≡ true)) [
+      | true ↦ (elim (is_due setting.interval tick w) as
+          (λ (b : Bool). IfSome (where_true b (joined setting.last w)) (λ told. told.event.0 == event ≡ true)) [ true ↦ own | false ↦ tt ])
       | false ↦ tt
     ]
 
@@ -208,8 +208,8 @@ arrived_own event [] = tt
 arrived_own event (closes_due tick other ∷ calls) = arrived_own event calls
 arrived_own event (arrives tick told ∷ calls) =
     elim (told.event.0 == event) as (λ (b : Bool). told.event.0 == event ≡ b
-    → AllByRecursion (λ one. one.told.event.0 == event
-    ≡ true) (cons_option (where_true b (record { tick = tick; told = told })) (arrived event calls)))
+    → AllByRecursion (λ one. one.told.event.0 == event ≡ true)
+    (cons_option (where_true b (record { tick = tick; told = told })) (arrived event calls)))
     [ true ↦ λ is. (is, arrived_own event calls) | false ↦ λ is. arrived_own event calls ] refl
 
 -- the newest window's opener is, too

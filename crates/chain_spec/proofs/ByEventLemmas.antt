@@ -12,16 +12,16 @@ use Rattle.ids_types.specs.declared.event.Qualified.{Qualified}
 use Rattle.ids_config.specs.Parts.{Parts, event_at, internal_of}
 use Rattle.ids_config.specs.declared.parts.Aggregate.{Aggregate}
 use Rattle.chain_spec.specs.ByEvent.{tick_of, arrival_of, every, closed_item, closed_items, reaching}
-use Rattle.chain_spec.specs.Calls.{Call, Arrival, closes_due, arrives, arrived, closing_ticks}
-use Rattle.chain_spec.specs.Closing.{windows_in, closing_item}
+use Rattle.chain_spec.specs.Calls.{closes_due, arrives, arrived, closing_ticks}
+use Rattle.chain_spec.specs.Closing.{windows_in}
 use Rattle.chain_spec.specs.Filtering.{aggregated_at, gated, aggregated, thresholded, arrival, alone}
 use Rattle.chain_spec.specs.Gate.{is_nth, is_arriving, mode_at, item_in, arrivals, sampled_at, sampled}
 use Rattle.chain_spec.specs.Heads.{Head, heads_of}
 use Rattle.chain_spec.specs.Items.{Item, is_of, told_of, item_at}
 use Rattle.chain_spec.specs.Moments.{Moment, closes, comes, state_is, mode_is, closings, turn_moments, moments, head_moment, act_moment}
 use Rattle.chain_spec.specs.Stages.{added, where_true, with_all}
-use Rattle.chain_spec.specs.Windows.{Window, EndBy, with_item, windows_of}
-use Rattle.chain_spec.proofs.AggregationLemmas.{ACall, AnArrival, AWindow, came_at, IsOwn, AreOlderClosed, closed_at, Keeps, closing_gives, older_more, arriving_keeps, by_later, arrived_own, windows_own, closing_item_of}
+use Rattle.chain_spec.specs.Windows.{EndBy, windows_of}
+use Rattle.chain_spec.proofs.AggregationLemmas.{ACall, AnArrival, AWindow, came_at, AreOlderClosed, closing_gives, older_more, arriving_keeps, by_later, arrived_own, windows_own, closing_item_of}
 use Rattle.chain_spec.proofs.FilterLemmas.{drops_other, keeps_own, sampled_every, thresholded_of_event}
 use Rattle.chain_spec.proofs.StageLemmas.{with_all-append}
 use Rattle.chain_spec.proofs.WindowsLemmas.{open_later, open_with}
@@ -40,8 +40,8 @@ module _ (config : Parts) (event : ℕ) where
   ticks_own tick calls = rw (eq-eqb event event refl) refl
 
   -- and one that closes another event's does not
-  ticks_other : (tick other : ℕ) (calls : List ACall) → other == event ≡ false
-      → closing_ticks event (closes_due tick other ∷ calls) ≡ closing_ticks event calls
+  ticks_other : (tick other : ℕ) (calls : List ACall) → other == event ≡ false → closing_ticks event (closes_due tick other ∷ calls)
+      ≡ closing_ticks event calls
   ticks_other tick other calls is = rw is refl
 
   -- what is not an event's is another's
@@ -49,15 +49,15 @@ module _ (config : Parts) (event : ℕ) where
   other_is a b is other = subst (λ n. n == event ≡ false) (sym (eqb-true a b is)) other
 
   -- the item of another event's window is no item of this one
-  closes_other : (o : Option (Qualified (List ℕ))) (tick other : ℕ) → other == event ≡ false
-      → IfSome o (λ told. told.event.0 == other ≡ true)
+  closes_other : (o : Option (Qualified (List ℕ))) (tick other : ℕ) → other == event ≡ false → IfSome o
+      (λ told. told.event.0 == other ≡ true)
       → IfSome (option_map (item_at tick) o) (λ item. is_of event item ≡ false)
   closes_other None tick other is of = tt
   closes_other (Some told) tick other is of = other_is told.event.0 other of is
 
   -- nor is another event's own
-  alone_other : (setting : Option Aggregate) (item : Item) → is_of event item ≡ false
-      → IfSome (alone setting item) (λ one. is_of event one ≡ false)
+  alone_other : (setting : Option Aggregate) (item : Item) → is_of event item ≡ false → IfSome (alone setting item)
+      (λ one. is_of event one ≡ false)
   alone_other None item is = is
   alone_other (Some setting) item is = tt
 
@@ -65,24 +65,24 @@ module _ (config : Parts) (event : ℕ) where
   abbrev ticks_after : ℕ → ℕ → ℕ → List Moment → List ℕ
   ticks_after tick n first before = closing_ticks event (gated config (with_all before (map (closes tick) (range_with_len first n))))
 
-  ticks_beyond : (tick n first : ℕ) (before : List Moment) → event < first
-      → ticks_after tick n first before ≡ closing_ticks event (gated config before)
+  ticks_beyond : (tick n first : ℕ) (before : List Moment) → event < first → ticks_after tick n first before ≡ closing_ticks event
+      (gated config before)
   ticks_beyond tick zero first before less = refl
   ticks_beyond tick (suc n) first before less =
       ticks_beyond tick n (first + 1) (closes tick first ∷ before) (omega arith)
       ∙ ticks_other tick first (gated config before) (ne_eqb first event (λ same. absurd (omega arith)))
 
-  ticks_with : (tick n first : ℕ) (before : List Moment) → first ≤ event → event < first + n
-      → ticks_after tick n first before ≡ tick ∷ closing_ticks event (gated config before)
+  ticks_with : (tick n first : ℕ) (before : List Moment) → first ≤ event → event < first + n → ticks_after tick n first before
+      ≡ tick ∷ closing_ticks event (gated config before)
   ticks_with tick zero first before le less = absurd (omega arith)
   ticks_with tick (suc n) first before le less =
-      elim (first == event) as (λ (b : Bool). first == event ≡ b
-      → ticks_after tick (suc n) first before ≡ tick ∷ closing_ticks event (gated config before)) [
+      elim (first == event) as (λ (b : Bool). first == event ≡ b → ticks_after tick (suc n) first before ≡ tick ∷ closing_ticks event
+      (gated config before)) [
         | true ↦ λ is.
             let same : first ≡ event = eqb-true first event is in
             ticks_beyond tick n (first + 1) (closes tick first ∷ before) (omega arith)
-            ∙ subst (λ k. closing_ticks event (closes_due tick k ∷ gated config before)
-            ≡ tick ∷ closing_ticks event (gated config before)) (sym same) (ticks_own tick (gated config before))
+            ∙ subst (λ k. closing_ticks event (closes_due tick k ∷ gated config before) ≡ tick ∷ closing_ticks event
+            (gated config before)) (sym same) (ticks_own tick (gated config before))
         | false ↦ λ is.
             let other = eqb-false first event is in
             let later : first + 1 ≤ event = elim (eq-or-lt_of_le le) [ inl same ↦ absurd (other same) | inr below ↦ omega arith ] in
@@ -113,8 +113,8 @@ module _ (config : Parts) (event : ℕ) where
       let items = added (aggregated_at config) calls in
       let x : AnArrival = record { tick = tick; told = told } in
       elim (told.event.0 == event) as (λ (b : Bool). told.event.0 == event ≡ b
-      → filter (is_of event) (added (aggregated_at config) (arrives tick told ∷ calls))
-      ≡ map item_of (cons_option (where_true b x) (arrived event calls))) [
+      → filter (is_of event) (added (aggregated_at config) (arrives tick told ∷ calls)) ≡ map item_of
+      (cons_option (where_true b x) (arrived event calls))) [
         | true ↦ λ is.
             rw (ap (λ e. (event_at config e).aggregate) (eqb-true told.event.0 event is) ∙ none)
             (keeps_own event (Some (item_at tick told)) items is ∙ ap (λ (xs : List Item). item_at tick told ∷ xs) rest)
@@ -130,10 +130,10 @@ module _ (config : Parts) (event : ℕ) where
 
   -- where no item comes, none arrives and none is sampled
   nothing_sampled : (before : List Moment) → arrived event (gated config before) ≡ map arrival_of (sampled config event before)
-      → (o : Option Item) → o ≡ None
-      → arrived event (gated config before) ≡ map arrival_of (option_to_list o ++ sampled config event before)
-  nothing_sampled before rest o none = rest
-      ∙ ap (λ (o : Option Item). map arrival_of (option_to_list o ++ sampled config event before)) (sym none)
+      → (o : Option Item) → o ≡ None → arrived event (gated config before) ≡ map arrival_of
+      (option_to_list o ++ sampled config event before)
+  nothing_sampled before rest o none = rest ∙ ap (λ (o : Option Item). map arrival_of (option_to_list o ++ sampled config event before))
+      (sym none)
 
   -- an item of another event is not sampled
   not_sampled : (item : Item) (before : List Moment) → item.event == event ≡ false → sampled_at config event before (comes item) ≡ None
@@ -143,8 +143,8 @@ module _ (config : Parts) (event : ℕ) where
   coming : (item : Item) (before : List Moment) (b c d : Bool) → item.event == event ≡ d
       → let kept = item_in (mode_at config item.event before) item in
       let o = if b then where_true c kept else None in
-      arrived event (option_to_list (option_map arrival o) ++ gated config before)
-      ≡ map arrival_of (option_to_list (if d then o else None)) ++ arrived event (gated config before)
+      arrived event (option_to_list (option_map arrival o) ++ gated config before) ≡ map arrival_of
+      (option_to_list (if d then o else None)) ++ arrived event (gated config before)
   coming item before true true true is = rw is refl
   coming item before true true false is = rw is refl
   coming item before true false true is = refl
@@ -154,11 +154,11 @@ module _ (config : Parts) (event : ℕ) where
 
   arrived_sampled : (moments : List Moment) → arrived event (gated config moments) ≡ map arrival_of (sampled config event moments)
   arrived_sampled [] = refl
-  arrived_sampled (closes tick other ∷ before) = nothing_sampled before (arrived_sampled before) _ (none_either
-      (is_nth config event before))
+  arrived_sampled (closes tick other ∷ before) = nothing_sampled before (arrived_sampled before) _
+      (none_either (is_nth config event before))
   arrived_sampled (state_is state ∷ before) = nothing_sampled before (arrived_sampled before) _ (none_either (is_nth config event before))
-  arrived_sampled (mode_is other mode ∷ before) = nothing_sampled before (arrived_sampled before) _ (none_either
-      (is_nth config event before))
+  arrived_sampled (mode_is other mode ∷ before) = nothing_sampled before (arrived_sampled before) _
+      (none_either (is_nth config event before))
   arrived_sampled (comes item ∷ before) =
       let rest = arrived_sampled before in
       let own = sampled_at config item.event before (comes item) in
@@ -166,8 +166,8 @@ module _ (config : Parts) (event : ℕ) where
       let arriving = item.event == item.event && is_arriving config item.event before in
       let all = λ (o : Option Item). map arrival_of (option_to_list o ++ sampled config event before) in
       let split = λ (o : Option Item). map-append arrival_of (option_to_list o) (sampled config event before) in
-      elim (item.event == event) as (λ (d : Bool). item.event == event ≡ d
-      → arrived event (gated config (comes item ∷ before)) ≡ all (sampled_at config event before (comes item))) [
+      elim (item.event == event) as (λ (d : Bool). item.event == event ≡ d → arrived event (gated config (comes item ∷ before)) ≡ all
+      (sampled_at config event before (comes item))) [
         | true ↦ λ is. coming item before nth arriving true is
             ∙ ap (λ (xs : List AnArrival). map arrival_of (option_to_list own) ++ xs) rest ∙ sym (split own)
             ∙ ap (λ e. all (sampled_at config e before (comes item))) (eqb-true item.event event is)
@@ -185,8 +185,8 @@ module _ (config : Parts) (event : ℕ) where
       (there : event < length config.events) where
     -- it stands so after calls
     abbrev Stands : ℕ → List ACall → Type 0
-    Stands t calls = StandsBy event setting t (closing_ticks event calls) (windows_in setting.interval event calls) (added
-        (aggregated_at config) calls)
+    Stands t calls = StandsBy event setting t (closing_ticks event calls) (windows_in setting.interval event calls)
+        (added (aggregated_at config) calls)
 
     stands_later : (t tick : ℕ) (calls : List ACall) → t ≤ tick → Stands t calls → Stands tick calls
     stands_later t tick calls le h = record {
@@ -223,8 +223,8 @@ module _ (config : Parts) (event : ℕ) where
     closing : (t tick other : ℕ) (calls : List ACall) → t ≤ tick → Stands t calls → Stands tick (closes_due tick other ∷ calls)
     closing t tick other calls le h =
         elim (other == event) as (λ (b : Bool). other == event ≡ b → Stands tick (closes_due tick other ∷ calls)) [
-          | true ↦ λ is. subst
-              (λ n. Stands tick (closes_due tick n ∷ calls)) (sym (eqb-true other event is)) (closing_own t tick calls le h)
+          | true ↦ λ is. subst (λ n. Stands tick (closes_due tick n ∷ calls)) (sym (eqb-true other event is))
+              (closing_own t tick calls le h)
           | false ↦ λ is. closing_other t tick other calls le is h
         ] refl
 
@@ -270,8 +270,8 @@ module _ (config : Parts) (event : ℕ) where
         subst (λ n. Inside tick rest (arrives n told ∷ calls)) (sym same)
         (elim (told.event.0 == event) as (λ (b : Bool). told.event.0 == event ≡ b → Inside tick rest (arrives tick told ∷ calls)) [
           | true ↦ λ is. (arriving_own tick rest told calls is h.1 h.0, h.1)
-          | false ↦
-              λ is. (arriving_other tick told calls is h.0, h.1)
+          | false ↦ λ is.
+              (arriving_other tick told calls is h.0, h.1)
         ] refl)
 
     -- an item comes at this tick, or a control
@@ -281,15 +281,16 @@ module _ (config : Parts) (event : ℕ) where
     IsAt tick (state_is state) = Unit {0}
     IsAt tick (mode_is other mode) = Unit {0}
 
-    happening : (tick : ℕ) (rest : List ℕ) (moment : Moment) (before : List Moment) → IsAt tick moment
-        → Inside tick rest (gated config before) → Inside tick rest (gated config (moment ∷ before))
+    happening : (tick : ℕ) (rest : List ℕ) (moment : Moment) (before : List Moment) → IsAt tick moment → Inside tick rest
+        (gated config before) → Inside tick rest (gated config (moment ∷ before))
     happening tick rest (closes at other) before is h = absurd is
     happening tick rest (comes item) before is h =
         let mode = mode_at config item.event before in
         let kept = item_in mode item in
         elim (is_nth config item.event before) as
-        (λ (b : Bool). Inside tick rest (option_to_list (option_map arrival (if b then where_true
-        (item.event == item.event && is_arriving config item.event before) kept else None)) ++ gated config before)) [
+        (λ (b : Bool). Inside tick rest
+        (option_to_list (option_map arrival
+        (if b then where_true (item.event == item.event && is_arriving config item.event before) kept else None)) ++ gated config before)) [
           | true ↦ elim (item.event == item.event && is_arriving config item.event before) as
               (λ (c : Bool). Inside tick rest (option_to_list (option_map arrival (where_true c kept)) ++ gated config before))
               [ true ↦ arriving tick item.tick rest (told_of kept) (gated config before) is h | false ↦ h ]
@@ -298,8 +299,8 @@ module _ (config : Parts) (event : ℕ) where
     happening tick rest (state_is state) before is h = h
     happening tick rest (mode_is other mode) before is h = h
 
-    all_happen : (tick : ℕ) (rest : List ℕ) (all before : List Moment) → AllByRecursion (IsAt tick) all
-        → Inside tick rest (gated config before) → Inside tick rest (gated config (with_all before all))
+    all_happen : (tick : ℕ) (rest : List ℕ) (all before : List Moment) → AllByRecursion (IsAt tick) all → Inside tick rest
+        (gated config before) → Inside tick rest (gated config (with_all before all))
     all_happen tick rest [] before are h = h
     all_happen tick rest (moment ∷ all) before are h =
         all_happen tick rest all (moment ∷ before) are.1 (happening tick rest moment before are.0 h)
@@ -321,8 +322,8 @@ module _ (config : Parts) (event : ℕ) where
     act_at tick (State state) = tt
     act_at tick (SetMode event mode) = tt
 
-    entries_at : (tick : ℕ) (entries : List (Entry (List ℕ)))
-        → AllByRecursion (IsAt tick) (map (λ entry. act_moment tick entry.act) entries)
+    entries_at : (tick : ℕ) (entries : List (Entry (List ℕ))) → AllByRecursion (IsAt tick)
+        (map (λ entry. act_moment tick entry.act) entries)
     entries_at tick [] = tt
     entries_at tick (entry ∷ entries) = (act_at tick entry.act, entries_at tick entries)
 
@@ -335,15 +336,15 @@ module _ (config : Parts) (event : ℕ) where
         let heads = map (head_moment tick) (heads_of (internal_of config) turn.head) in
         let entries = map (λ (entry : Entry (List ℕ)). act_moment tick entry.act) turn.entries in
         let closed : Inside tick rest (gated config (with_all before first)) = (
-          after_closings
-              (length config.events) 0 t tick before le h,
-          ticks_with tick (length config.events) 0 before (omega arith) (omega arith),
+          after_closings (length config.events) 0 t tick before le h,
+          ticks_with tick (length config.events) 0 before (omega arith)
+              (omega arith),
         ) in
         let headed = all_happen tick rest heads (with_all before first) (heads_at tick (heads_of (internal_of config) turn.head)) closed in
         let entered = all_happen tick rest entries (with_all (with_all before first) heads) (entries_at tick turn.entries) headed in
         let in_order : with_all before (turn_moments config turn) ≡ with_all (with_all (with_all before first) heads) entries =
-        with_all-append before (first ++ heads) entries
-        ∙ ap (λ (ms : List Moment). with_all ms entries) (with_all-append before first heads) in
+        with_all-append before (first ++ heads) entries ∙ ap (λ (ms : List Moment). with_all ms entries)
+        (with_all-append before first heads) in
         subst (λ (ms : List Moment). Inside tick rest (gated config ms)) (sym in_order) entered
 
     turns_stand : (turns : List Turn) (t : ℕ) → EndBy tick_of t turns
@@ -365,16 +366,16 @@ module _ (config : Parts) (event : ℕ) where
   aggregated_of_event turns tick there some by =
       let calls = gated config (moments config turns) in
       let items = sampled config event (moments config turns) in
-      elim ((event_at config event).aggregate) as (λ (agg : Option Aggregate). (event_at config event).aggregate ≡ agg
-      → IfSome agg (λ setting. 1 ≤ setting.interval)
+      elim ((event_at config event).aggregate) as
+      (λ (agg : Option Aggregate). (event_at config event).aggregate ≡ agg → IfSome agg (λ setting. 1 ≤ setting.interval)
       → filter (is_of event) (aggregated config (moments config turns)) ≡ closed_items agg (map tick_of turns) items) [
         | None ↦ λ none some. alone_items calls none ∙ ap (map item_of) (arrived_sampled (moments config turns)) ∙ items_again items
         | Some setting ↦ λ aggregates some.
             let stands = turns_stand setting aggregates some there turns tick by in
             stands.0.same
             ∙ ap (λ (ticks : List ℕ). filter_map (closed_item setting ticks) (windows_in setting.interval event calls)) stands.1
-            ∙ ap (λ (xs : List AnArrival). filter_map (closed_item setting (map tick_of turns))
-            (windows_of came_at setting.interval xs)) (arrived_sampled (moments config turns))
+            ∙ ap (λ (xs : List AnArrival). filter_map (closed_item setting (map tick_of turns)) (windows_of came_at setting.interval xs))
+            (arrived_sampled (moments config turns))
       ]
       refl some
 

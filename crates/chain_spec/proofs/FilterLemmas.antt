@@ -64,13 +64,13 @@ bypassing_alone config before (closes tick event) item is = cc
 bypassing_alone config before (comes own) item is =
     let mode = mode_at config own.event before in
     let calls = gated config before in
-    let behind_gate = λ (call : Option (Call (List ℕ))). option_and_then (thresholded_at config (added (behind (gated_at config)
-    (aggregated_at config)) before))
+    let behind_gate = λ (call : Option (Call (List ℕ))). option_and_then
+    (thresholded_at config (added (behind (gated_at config) (aggregated_at config)) before))
     (option_and_then (aggregated_at config calls) call) in
     elim (is_bypassing mode) as (λ (b : Bool). is_bypassing mode ≡ b → where_true b (item_in mode own) ≡ Some item
     → filtered_at config before (comes own) ≡ None) [
-      | true ↦ λ bypasses is. ap behind_gate (none_arrives (is_of own.event own) (is_filtered mode) (not
-          (is_blocked config own.event before))
+      | true ↦ λ bypasses is. ap behind_gate
+          (none_arrives (is_of own.event own) (is_filtered mode) (not (is_blocked config own.event before))
           (is_nth config own.event before) (item_in mode own) (not_filtered mode bypasses))
       | false ↦ λ bypasses is. cc
     ] refl is
@@ -78,15 +78,15 @@ bypassing_alone config before (state_is state) item is = cc
 bypassing_alone config before (mode_is event mode) item is = cc
 
 -- the first that is there, where the two are not there together, is either
-either_there : {A : Type 0} (o p : Option A) (x : A) → ((y : A) → o ≡ Some y → p ≡ None)
-    → (option_or o p ≡ Some x) ↔ ((o ≡ Some x) ⊎ (p ≡ Some x))
+either_there : {A : Type 0} (o p : Option A) (x : A) → ((y : A) → o ≡ Some y → p ≡ None) → (option_or o p ≡ Some x) ↔
+    ((o ≡ Some x) ⊎ (p ≡ Some x))
 either_there None p x alone = (inr, λ either. elim either [ inl none ↦ cc | inr is ↦ is ])
 either_there (Some y) p x alone = (inl, λ either. elim either [ inl is ↦ is | inr is ↦ cc (alone y refl) ])
 
 -- a moment qualifies what bypasses the filters, and what passes them
 pub qualified_either : (config : Parts) (before : List Moment) (moment : Moment) (item : Item)
-    → (qualified_at config before moment ≡ Some item) ↔ ((bypassing_at config before moment
-    ≡ Some item) ⊎ (filtered_at config before moment ≡ Some item))
+    → (qualified_at config before moment ≡ Some item) ↔
+    ((bypassing_at config before moment ≡ Some item) ⊎ (filtered_at config before moment ≡ Some item))
 qualified_either config before moment item =
     either_there (bypassing_at config before moment) (filtered_at config before moment) item (bypassing_alone config before moment)
 
@@ -112,8 +112,8 @@ among_own event [] = refl
 among_own event (item ∷ items) =
     let rest = among_own event items in
     elim (item.event == event) as (λ (b : Bool). item.event == event ≡ b
-    → among event (map counted (if b then item ∷ filter (is_of event) items else filter (is_of event) items))
-    ≡ (if b then counted item ∷ among event (map counted items) else among event (map counted items)))
+    → among event (map counted (if b then item ∷ filter (is_of event) items else filter (is_of event) items)) ≡
+    (if b then counted item ∷ among event (map counted items) else among event (map counted items)))
     [ true ↦ λ is. rw is (ap (λ (xs : List Occurrence). counted item ∷ xs) rest) | false ↦ λ is. rest ] refl
 
 -- a verdict depends on the event's own alone
@@ -139,8 +139,8 @@ thresholded_reaching config event (item ∷ before) =
     ≡ reaching (event_at config event).threshold (if b then item ∷ own else own)) [
       | true ↦ λ is.
           let event_is : item.event ≡ event = eqb-true item.event event is in
-          let same : verdict (event_at config item.event).threshold (counted item) (map counted before)
-          ≡ verdict (event_at config event).threshold (counted item) (map counted own) =
+          let same : verdict (event_at config item.event).threshold (counted item) (map counted before) ≡ verdict
+          (event_at config event).threshold (counted item) (map counted own) =
           verdict_by_own (event_at config item.event).threshold (counted item) (map counted before) (map counted own)
           (subst (λ e. among e (map counted before) ≡ among e (map counted own)) (sym event_is) (sym (among_own event before)))
           ∙ ap (λ e. verdict (event_at config e).threshold (counted item) (map counted own)) event_is in
@@ -153,6 +153,6 @@ thresholded_reaching config event (item ∷ before) =
 
 -- the threshold, over moments
 pub thresholded_of_event : (config : Parts) (event : ℕ) (moments : List Moment)
-    → filter (is_of event) (thresholded config moments)
-    ≡ reaching (event_at config event).threshold (filter (is_of event) (aggregated config moments))
+    → filter (is_of event) (thresholded config moments) ≡ reaching (event_at config event).threshold
+    (filter (is_of event) (aggregated config moments))
 thresholded_of_event config event moments = thresholded_reaching config event (aggregated config moments)

@@ -1,8 +1,9 @@
 -- Each list of the chain for a history with one more turn only has newer elements beside those of the history.
-use Rattle.std.proofs.Common.{ℕ, List, [], ◌∷◌, ◌++◌, length, sym, ap, ◌∙◌, append_assoc, append-nil}
+use Rattle.std.proofs.Common.{◌+◌, ◌≡◌, ℕ, List, [], ◌∷◌, ◌++◌, length, sym, ap, ◌∙◌, append_assoc, append-nil, length-append, arith}
+use Rattle.ids_types.specs.Turns.{Turn}
 use Rattle.ids_config.specs.Parts.{Parts, event_at}
 use Rattle.ids_frame.specs.Spelling.{spelling}
-use Rattle.chain_spec.specs.Chain.{candidates, sent_at, held_at, sent, held, qualified_of, messages, ends, handed, handed_on}
+use Rattle.chain_spec.specs.Chain.{candidates, sent_at, held_at, sent, held, qualified_of, messages, ends, handed, handed_on, held_count}
 use Rattle.chain_spec.specs.Filtering.{gated_at, aggregated_at, thresholded_at, qualified_at, gated, aggregated, thresholded}
 use Rattle.chain_spec.specs.Gate.{arrival_at, sampled_at, arrivals, sampled}
 use Rattle.chain_spec.specs.Growth.{BeginsWith, Grows, GrowsAtEnd}
@@ -69,6 +70,12 @@ module _ (config : Parts) where
   pub handed_grow : Grows (handed config)
   handed_grow turn before = ends_with_rest (handed_on config (turn ∷ before)) _ _ (ends_with_itself (handed config before))
 
+  pub held_counted : (turn : Turn) (before : List Turn) → held_count config (turn ∷ before) ≡ held_count config before + handed_on config (turn ∷ before)
+  held_counted turn before =
+      let grows = held_grow turn before in
+      let counts = ap length grows.whole ∙ length-append grows.further (held config (qualified_of config before)) in
+      omega (arith, counts)
+
 -- every list of the chain grows
 pub ruleset growth_laws = (
   moments_grow,
@@ -85,4 +92,5 @@ pub ruleset growth_laws = (
   messages_grow,
   ends_grow,
   handed_grow,
+  held_counted,
 )

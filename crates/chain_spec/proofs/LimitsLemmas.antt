@@ -45,8 +45,8 @@ pub weighed_sent : (config : Parts) (items : List Item)
 weighed_sent config [] = refl
 weighed_sent config (item ∷ before) =
     let rest = weighed_sent config before in
-    elim (is_out config before item) as (λ (b : Bool). map (weighed config) (option_to_list (where_true b item)
-    ++ added (sent_at config) before)
+    elim (is_out config before item) as
+    (λ (b : Bool). map (weighed config) (option_to_list (where_true b item) ++ added (sent_at config) before)
     ≡ option_to_list (where_true b (weighed config item)) ++ sent_of config.rate config.traffic (map (weighed config) before))
     [ true ↦ ap (λ (xs : List Candidate). weighed config item ∷ xs) rest | false ↦ rest ]
 

@@ -14,8 +14,8 @@ pub added_behind : {A B C : Type 0} (first : Stage A B) (second : Stage B C) (xs
 added_behind first second [] = refl
 added_behind {A} {B} {C} first second (x ∷ before) =
     let rest = added_behind first second before in
-    elim (first before x) as (λ (y : Option B). option_to_list (option_and_then (second (added first before)) y)
-    ++ added (behind first second) before
+    elim (first before x) as (λ (y : Option B). option_to_list (option_and_then (second (added first before)) y) ++ added
+    (behind first second) before
     ≡ added second (option_to_list y ++ added first before))
     [ None ↦ rest | Some y ↦ ap (λ (zs : List C). option_to_list (second (added first before) y) ++ zs) rest ]
 
@@ -58,13 +58,13 @@ added-append stage (x ∷ further) xs =
       whole = ap (λ ys. own ++ ys) ends.whole ∙ sym (append_assoc own ends.further (added stage xs));
     }
 
-pub added_grows : {A B : Type 0} (stage : Stage A B) (longer shorter : List A) → EndsWith longer shorter
-    → EndsWith (added stage longer) (added stage shorter)
+pub added_grows : {A B : Type 0} (stage : Stage A B) (longer shorter : List A) → EndsWith longer shorter → EndsWith (added stage longer)
+    (added stage shorter)
 added_grows stage longer shorter ends = rw ends.whole (added-append stage ends.further shorter)
 
 -- what a test keeps of a longer list
-pub filter_grows : {A : Type 0} (test : A → Bool) (longer shorter : List A) → EndsWith longer shorter
-    → EndsWith (filter test longer) (filter test shorter)
+pub filter_grows : {A : Type 0} (test : A → Bool) (longer shorter : List A) → EndsWith longer shorter → EndsWith (filter test longer)
+    (filter test shorter)
 filter_grows test longer shorter ends =
     record { further = filter test ends.further; whole = ap (filter test) ends.whole ∙ filter-append test ends.further shorter }
 
@@ -80,8 +80,8 @@ pub placed_added : {A B : Type 0} (stage : Stage A B) (xs : List A) → map (λ 
 placed_added stage [] = refl
 placed_added {A} {B} stage (x ∷ before) =
     let rest = placed_added stage before in
-    elim (stage before x) as (λ (y : Option B). map (λ p. p.1) (option_to_list (option_map (λ z. (length before, z)) y)
-    ++ placed stage before)
+    elim (stage before x) as (λ (y : Option B). map (λ p. p.1)
+    (option_to_list (option_map (λ z. (length before, z)) y) ++ placed stage before)
     ≡ option_to_list y ++ added stage before)
     [ None ↦ rest | Some y ↦ ap (λ (zs : List B). y ∷ zs) rest ]
 

@@ -21,19 +21,19 @@ module _ {A : Type 0} (tick_of : A → ℕ) (interval : ℕ) where
   members_of_windows (x ∷ before) = members_with x (windows_of tick_of interval before) ∙ ap (λ ys. x ∷ ys) (members_of_windows before)
 
   -- no window covers the tick of an item beyond all openers
-  none_covers : (x : A) (ws : List (Window A)) → IsBeyond tick_of interval x (openers ws)
-      → list_any (covers tick_of interval (tick_of x)) ws ≡ false
+  none_covers : (x : A) (ws : List (Window A)) → IsBeyond tick_of interval x (openers ws) → list_any
+      (covers tick_of interval (tick_of x)) ws ≡ false
   none_covers x [] beyond = refl
   none_covers x (w ∷ ws) beyond =
       rw (le-ltb (tick_of x) (tick_of w.opener + interval) beyond.0, none_covers x ws beyond.1) refl
 
   -- and where none does, the item is beyond all openers
-  beyond_all : (x : A) (ws : List (Window A)) → list_any (covers tick_of interval (tick_of x)) ws ≡ false
-      → IsBeyond tick_of interval x (openers ws)
+  beyond_all : (x : A) (ws : List (Window A)) → list_any (covers tick_of interval (tick_of x)) ws ≡ false → IsBeyond tick_of interval x
+      (openers ws)
   beyond_all x [] none = tt
   beyond_all x (w ∷ ws) none =
-      elim (covers tick_of interval (tick_of x) w) as (λ (b : Bool). covers tick_of interval (tick_of x) w ≡ b
-      → (b || list_any (covers tick_of interval (tick_of x)) ws) ≡ false
+      elim (covers tick_of interval (tick_of x) w) as
+      (λ (b : Bool). covers tick_of interval (tick_of x) w ≡ b → (b || list_any (covers tick_of interval (tick_of x)) ws) ≡ false
       → IsBeyond tick_of interval x (openers (w ∷ ws)))
       [ true ↦ λ is none. cc | false ↦ λ is none. (ltb-false (tick_of x) (tick_of w.opener + interval) is, beyond_all x ws none) ] refl none
 
@@ -45,8 +45,8 @@ module _ {A : Type 0} (tick_of : A → ℕ) (interval : ℕ) where
       → windows_of tick_of interval (x ∷ before) ≡ in_newest x (windows_of tick_of interval before)
   other_belongs x before covered =
       let ws = windows_of tick_of interval before in
-      elim (list_any (covers tick_of interval (tick_of x)) ws) as (λ (b : Bool). list_any (covers tick_of interval (tick_of x)) ws ≡ b
-      → (if b then in_newest x ws else opened x ∷ ws) ≡ in_newest x ws)
+      elim (list_any (covers tick_of interval (tick_of x)) ws) as
+      (λ (b : Bool). list_any (covers tick_of interval (tick_of x)) ws ≡ b → (if b then in_newest x ws else opened x ∷ ws) ≡ in_newest x ws)
       [ true ↦ λ is. refl | false ↦ λ is. absurd (covered (beyond_all x ws is)) ] refl
 
   -- one window longer, and the openers are the same
@@ -55,8 +55,8 @@ module _ {A : Type 0} (tick_of : A → ℕ) (interval : ℕ) where
   openers_in_newest x (w ∷ ws) = refl
 
   -- an item more leaves the openers apart
-  apart_with : (x : A) (ws : List (Window A)) → AreApart tick_of interval (openers ws)
-      → AreApart tick_of interval (openers (with_item tick_of interval x ws))
+  apart_with : (x : A) (ws : List (Window A)) → AreApart tick_of interval (openers ws) → AreApart tick_of interval
+      (openers (with_item tick_of interval x ws))
   apart_with x ws apart =
       elim (list_any (covers tick_of interval (tick_of x)) ws) as (λ (b : Bool). list_any (covers tick_of interval (tick_of x)) ws ≡ b
       → AreApart tick_of interval (openers (if b then in_newest x ws else opened x ∷ ws))) [
@@ -95,21 +95,21 @@ module _ {A : Type 0} (tick_of : A → ℕ) (interval : ℕ) where
       (open_with x (windows_of tick_of interval before) (windows_open_by (tick_of x) before by.1))
 
   -- no earlier window covers what the newest does not
-  older_cover : (tick now : ℕ) (ws : List (Window A)) → OpenBy tick ws → tick + interval ≤ now
-      → list_any (covers tick_of interval now) ws ≡ false
+  older_cover : (tick now : ℕ) (ws : List (Window A)) → OpenBy tick ws → tick + interval ≤ now → list_any (covers tick_of interval now) ws
+      ≡ false
   older_cover tick now [] by far = refl
   older_cover tick now (w ∷ ws) by far =
       rw (
         le-ltb now (tick_of w.opener + interval) (omega (arith, by.0)),
-        older_cover (tick_of w.opener) now ws by.1 (omega
-            (arith, by.0)),
+        older_cover (tick_of w.opener) now ws by.1
+            (omega (arith, by.0)),
       ) refl
 
   pub newest_decides : (tick now : ℕ) (w : Window A) (ws : List (Window A)) → OpenBy tick (w ∷ ws)
       → list_any (covers tick_of interval now) (w ∷ ws) ≡ covers tick_of interval now w
   newest_decides tick now w ws by =
-      elim (covers tick_of interval now w) as (λ (b : Bool). covers tick_of interval now w ≡ b
-      → (b || list_any (covers tick_of interval now) ws) ≡ b)
+      elim (covers tick_of interval now w) as
+      (λ (b : Bool). covers tick_of interval now w ≡ b → (b || list_any (covers tick_of interval now) ws) ≡ b)
       [ true ↦ λ is. refl | false ↦ λ is. older_cover (tick_of w.opener) now ws by.1 (ltb-false now (tick_of w.opener + interval) is) ] refl
 
 -- which items open a window, and which belong to one

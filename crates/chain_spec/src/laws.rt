@@ -5,7 +5,7 @@ ghost use Rattle.ids_types.specs.Turns.{Turn};
 ghost use Rattle.ids_config.specs.Parts.{Parts, event_at};
 ghost use Rattle.ids_config.specs.declared.parts.Window.{Window as Limit};
 ghost use Rattle.chain_spec.specs.ByEvent.{tick_of, every, closed_items, reaching};
-ghost use Rattle.chain_spec.specs.Chain.{candidates, sent, held, messages, ends, handed, qualified_of};
+ghost use Rattle.chain_spec.specs.Chain.{candidates, sent, held, messages, ends, handed, handed_on, held_count, qualified_of};
 ghost use Rattle.chain_spec.specs.Filtering.{gated, aggregated, thresholded, filtered_at, qualified_at, qualified};
 ghost use Rattle.chain_spec.specs.Gate.{arrivals, sampled, bypassing_at};
 ghost use Rattle.chain_spec.specs.Growth.{Grows, GrowsAtEnd};
@@ -27,7 +27,7 @@ pub fn how_stages_compose<A, B, C>()
 {}
 
 /// A turn more changes nothing of what a history told: each list of the chain only has newer elements
-/// beside the old ones, and the messages follow those that were sent.
+/// beside the old ones, the messages follow those that were sent, and what is held back counts on.
 #[tactic(auto, using(crate::proofs::GrowthLemmas::growth_laws))]
 pub fn what_a_turn_more_keeps()
     ensures arrivals { (config : Parts) (event : ℕ) → Grows (λ turns. arrivals config event (moments config turns)) }
@@ -43,6 +43,8 @@ pub fn what_a_turn_more_keeps()
     ensures messages { (config : Parts) → GrowsAtEnd (messages config) }
     ensures ends { (config : Parts) → Grows (ends config) }
     ensures handed { (config : Parts) → Grows (handed config) }
+    ensures count { (config : Parts) (turn : Turn) (before : List Turn) →
+        held_count config (turn ∷ before) ≡ held_count config before + handed_on config (turn ∷ before) }
 {}
 
 /// No two qualified events have one place in the history.
