@@ -1,15 +1,12 @@
 -- A ring that has just been made: it keeps the rule, and its keeper and seats stand.
-use Rattle.std.proofs.Common.{◌≡◌, ℕ, zero, suc, ◌+◌, ◌%◌, ◌<◌, List, [], ◌∷◌, ◌++◌, length, None, refl, sym, ◌∙◌, add-one, ap, subst, inl, inr, mod-eq_of_lt, arith, map, replicate}
+use Rattle.std.proofs.Common.{◌≡◌, ℕ, zero, suc, ◌+◌, ◌%◌, ◌<◌, List, [], ◌∷◌, ◌++◌, length, refl, sym, ◌∙◌, ap, inl, inr, mod-eq_of_lt, arith, map, replicate}
 use Rattle.std.proofs.lemmas.List.{length_push, length-map}
 use mathlib.Core.Option.{some-ne-none, some, some-injective}
-use Rattle.atomic_table.specs.declared.shared.Seat.{Seat as Token}
 use Rattle.ring_core.specs.Machine.{all_free, opening}
-use Rattle.permit_ring.specs.Names.{KeeperMemo, Slot, View, Sits, Ring, Seat, Key, Offered}
+use Rattle.permit_ring.specs.Names.{Slot, View, Ring, Seat, Key, Offered}
 use Rattle.permit_ring.specs.Logs.{IsOrdered}
 use Rattle.permit_ring.specs.Making.{made_memo, IsNewSeat, AreNewSeats}
-use Rattle.permit_ring.specs.Told.{Known}
-use Rattle.permit_ring.specs.Seats.{IsSitting}
-use Rattle.permit_ring.specs.Steps.{new_memo, makes, first_memo}
+use Rattle.permit_ring.specs.Steps.{new_memo, first_memo}
 use Rattle.permit_ring.proofs.ListLemmas.{at_end, there}
 use lib.ListN.{get_elem?}
 use Rattle.atomic_table.specs.Table as table
@@ -76,48 +73,23 @@ module _ {O D T N : Type 0} (note : D → N) (Ao : T → O → Type 0) (An : T �
         each_seat = λ i back e. absurd (some-ne-none back (sym e));
       }
 
--- what making seats leaves as it was
-pub record IsFresh {N : Type 0} (n made : ℕ) (k : KeeperMemo N) : Type 0 where
-  pub no_notes : k.notes ≡ []
-  pub offered_is : k.offered ≡ n
-  pub seen_is : k.seen ≡ all_free n
-  pub made_is : k.made ≡ made
-
-pub fresh : {N : Type 0} (n made : ℕ) → IsFresh {N = N} n made (made_memo n made)
-fresh n zero = assumption
-fresh {N = N} n (suc made) =
-    let was = fresh {N = N} n made in
-    let made_now = was.made_is in
-    let more : (made_memo {N = N} n made).made + 1 ≡ suc made = omega arith in
-    assumption (was, more)
+-- what making seats leaves as it was, and how many it made
+pub fresh : {N : Type 0} (n made : ℕ) → ((made_memo {N = N} n made).notes ≡ []) × ((made_memo {N = N} n made).offered ≡ n)
+    × ((made_memo {N = N} n made).seen ≡ all_free n) × ((made_memo {N = N} n made).made ≡ made)
+fresh n zero = (refl, refl, refl, refl)
+fresh {N = N} n (suc made) = let was = fresh {N = N} n made in (was.0, was.1, was.2, omega (arith, was.3))
 
 -- the log of a seat that has just been made is in order
 pub new_ordered : {N : Type 0} (i : ℕ) → IsOrdered (new_memo {N = N} i)
 new_ordered i = record { decided = refl; rises = tt; below_ticket = λ t h. omega arith }
 
-module _ {F O D T N : Type 0} (Ao : T → O → Type 0) (ring : Ring F O D T N) where
-  pub no_seats : AreNewSeats Ao ring 0 []
-  no_seats = record { all_made = refl; each = λ i seat e. absurd (some-ne-none seat (sym e)) }
-
-  -- one seat more
-  pub one_seat_more : (made : ℕ) (seats : List (Seat F O D T N)) (seat : Seat F O D T N) → AreNewSeats Ao ring made seats
-      → IsNewSeat Ao ring made seat → AreNewSeats Ao ring (made + 1) (seats ++ seat ∷ [])
-  one_seat_more made seats seat were is = record {
-    all_made = length_push seats seat ∙ ap (λ (k : ℕ). k + 1) were.all_made;
-    each = λ i other e. elim (at_end seats seat other i e) [
-      | inl old ↦ were.each i other old
-      | inr last ↦ rw (last.0, were.all_made, ← last.1) is
-    ];
-  }
-
-  -- the token of a split is a new seat's
-  pub new_seat_is : (i : ℕ) (place : Token (Slot O D) (View T N)) → IsSitting ring place
-      → place.me ≡ (Sits ring.table.shared.key (new_memo i), [])
-      → IsNewSeat Ao ring i record { place = place; number = i; calls = 0; held = None }
-  new_seat_is i place sitting told =
-      subst (λ (me : Known O D T N). IsNewSeat Ao ring i record { place = record place { me = me }; number = i; calls = 0; held = None })
-      (sym told) (assumption sitting)
-
--- one seat more is made
-pub made_more : {N : Type 0} (n made : ℕ) → makes (made_memo {N = N} n made) ≡ made_memo n (made + 1)
-made_more n made = ap (made_memo n) (sym (add-one made))
+-- one seat more
+pub one_seat_more : {F O D T N : Type 0} (Ao : T → O → Type 0) (ring : Ring F O D T N) (made : ℕ) (seats : List (Seat F O D T N))
+    (seat : Seat F O D T N) → AreNewSeats Ao ring made seats → IsNewSeat Ao ring made seat → AreNewSeats Ao ring (made + 1) (seats ++ seat ∷ [])
+one_seat_more Ao ring made seats seat were is = record {
+  all_made = length_push seats seat ∙ ap (λ (k : ℕ). k + 1) were.all_made;
+  each = λ i other e. elim (at_end seats seat other i e) [
+    | inl old ↦ were.each i other old
+    | inr last ↦ rw (last.0, were.all_made, ← last.1) is
+  ];
+}
