@@ -1,21 +1,21 @@
 -- What was taken once all callers are back, from what the ring's keeper knows.
-use Rattle.std.proofs.Common.{◌≡◌, ℕ, zero, suc, ◌+◌, ◌<◌, ◌≤◌, ◌==◌, if◌then◌else◌, true, is_some, List, [], ◌∷◌, ◌++◌, map, length, Option, Some, None, refl, sym, ap, ap₂, ◌∙◌, subst, true≢false, arith}
+use Rattle.std.proofs.Common.{◌≡◌, ℕ, zero, suc, ◌<◌, ◌==◌, if◌then◌else◌, true, is_some, List, [], ◌∷◌, map, length, Option, Some, None, refl, sym, ap, ap₂, ◌∙◌, subst, true≢false, arith}
 use Rattle.std.proofs.lemmas.List.{length-map}
-use Rattle.std.proofs.lemmas.Option.{none-some}
 use mathlib.Core.Option.{some, some-injective, some-ne-none}
 use lib.ListN.{get_elem?}
-use Rattle.atomic_table.proofs.Lists.{at_longer, at_map}
+use Rattle.atomic_table.proofs.Lists.{at_map}
 use Rattle.report_queue.specs.Names.{KeeperMemo, SeatMemo, Item}
 use Rattle.permit_ring.specs.Closing.{AreAllBack, IsSettled}
-use Rattle.permit_ring.specs.Logs.{end_from, taken_by}
+use Rattle.permit_ring.specs.Logs.{taken_by}
 use Rattle.permit_ring.specs.Steps.{waits}
 use Rattle.permit_ring.proofs.ListLemmas.{there}
 use Rattle.permit_ring.proofs.LogLemmas.{got_from, taken_in}
+use Rattle.permit_ring.proofs.Settled.{more_fronts}
 use Rattle.report_queue.specs.Closing as queue
 use Rattle.report_queue.specs.Closing.{IsAllTaken, IsWholeCaller, items_of}
 use Rattle.report_queue.specs.Calls.{GivesBack}
-use Rattle.report_queue.specs.Views.{CallerView, NamesItsCalls, TakerView, back_in, caller_in, taker_in}
-use Rattle.report_queue.proofs.TakerLemmas.{NameTheirs, all_back, one_some}
+use Rattle.report_queue.specs.Views.{CallerView, TakerView, back_in, caller_in, taker_in}
+use Rattle.report_queue.proofs.TakerLemmas.{NameTheirs, all_back}
 
 -- an element of a mapped list is that of the list, mapped
 pub at_map_back : {A B : Type 0} (f : A → B) (l : List A) (i : ℕ) (b : B) → get_elem? (map f l) i ≡ some b → (a : A)
@@ -53,32 +53,20 @@ module _ {N : Type 0} where
     whole_caller : (i : ℕ) (memo : SeatMemo (Item N)) → get_elem? k.back i ≡ some (Some memo)
         → IsWholeCaller k.fronts k.notes i (caller_in memo)
     whole_caller i memo at =
-        let whole = s.logs_are i memo at in
-        let items = s.notes_are in
-        record {
-          number_is = whole.number_is;
-          calls_are = whole.calls_are;
-          names = subst (λ (n : ℕ). NamesItsCalls n memo.log) whole.number_is (names i memo at);
-          rises = whole.rises;
-          within = subst (λ (n : ℕ). end_from 0 memo.log ≤ n)
-              (sym (ap length items ∙ length-map s.taken (λ (x : ℕ × Item N). x.1))) whole.within;
-          accepted = whole.got ∙ same_items i 0 s.taken owner ∙ sym (ap (items_of i 0) items);
-          lost_at_front = whole.lost_at_front;
-        }
+        let own = same_items i 0 s.taken owner in
+        grind (arith, names i memo at, s.logs_are i memo at, s.notes_are, own, length-map s.taken (λ (x : ℕ × Item N). x.1))
 
     whole_back : (i : ℕ) (caller : CallerView N) (back : Option (SeatMemo (Item N))) → get_elem? k.back i ≡ some back
         → back_in back ≡ Some caller → IsWholeCaller k.fronts k.notes i caller
-    whole_back i caller None at e = absurd (none-some caller e)
-    whole_back i caller (Some memo) at e = subst (IsWholeCaller k.fronts k.notes i) (one_some (caller_in memo) caller e)
-        (whole_caller i memo at)
+    whole_back i caller None at e = cc
+    whole_back i caller (Some memo) at e = let whole = whole_caller i memo at in grind (arith, whole)
 
     of_caller : (t : ℕ) (item : Item N) → get_elem? k.notes t ≡ some item → item.caller < length k.back
     of_caller t item e =
         let found = at_map_back (λ (x : ℕ × Item N). x.1) s.taken t item
         (sym (ap (λ (l : List (Item N)). get_elem? l t) s.notes_are) ∙ e) in
         let p = found.0 in
-        let is = owner t p found.1 ∙ ap (λ (x : Item N). x.caller) found.2 in
-        subst (λ (n : ℕ). item.caller < n) made (subst (λ (c : ℕ). c < k.made) is (s.seats_are t p.0 p.1 found.1))
+        omega (arith, made, owner t p found.1, ap (λ (x : Item N). x.caller) found.2, s.seats_are t p.0 p.1 found.1)
 
     pub all_taken : IsAllTaken (taker_in k)
     all_taken = record {
@@ -90,36 +78,18 @@ module _ {N : Type 0} where
 pub taken_by_then : {N : Type 0} (k new : KeeperMemo (Item N)) (mark : ℕ) → new ≡ waits mark k → k.made ≡ length k.back
     → NameTheirs k.back → queue.AreCallersBack (taker_in k) → (AreAllBack k → IsSettled new) → IsAllTaken (taker_in new)
 taken_by_then k new mark told made names all settled =
-    let back = ap (λ m. m.back) told in
     let were = all_back k all in
-    all_taken new (ap (λ m. m.made) told ∙ made ∙ sym (ap length back)) (subst NameTheirs (sym back) names)
-    (subst AreAllBack (sym told) were) (settled were)
+    subst (λ (m : KeeperMemo _). IsAllTaken (taker_in m)) (sym told)
+    (all_taken (waits mark k) made names were (subst IsSettled told (settled were)))
 
 module _ {N : Type 0} (bound count : ℕ) (old new : TakerView N) (gave : GivesBack bound count old new) where
-  same_back : new.back ≡ old.back
-  same_back = ap (λ (v : TakerView N). v.back) gave.3
-
   -- giving back leaves who is back
   pub back_on : queue.AreCallersBack old → queue.AreCallersBack new
-  back_on all = subst (λ (l : List (Option (CallerView N))). (i : ℕ) (back : Option (CallerView N)) → get_elem? l i ≡ some back
-      → is_some back ≡ true) (sym same_back) all
-
-  same_caller : (i : ℕ) (caller : CallerView N) → IsWholeCaller old.fronts old.items i caller
-      → IsWholeCaller (old.fronts ++ (old.offered + count) ∷ []) old.items i caller
-  same_caller i caller w = record {
-    number_is = w.number_is;
-    calls_are = w.calls_are;
-    names = w.names;
-    rises = w.rises;
-    within = w.within;
-    accepted = w.accepted;
-    lost_at_front = λ j g e. let f = w.lost_at_front j g e in (f.0, at_longer old.fronts ((old.offered + count) ∷ []) f.0 g f.1);
-  }
+  back_on = subst queue.AreCallersBack (sym gave.3)
 
   -- and what was taken
   pub taken_on : IsAllTaken old → IsAllTaken new
   taken_on is = subst IsAllTaken (sym gave.3) record {
     of_callers = is.of_callers;
-    whole = λ i caller e. same_caller i caller
-        (is.whole i caller e);
+    whole = λ i caller e. let its = is.whole i caller e in search (more_fronts, its, its.lost_at_front);
   }

@@ -1,16 +1,18 @@
-use Rattle.std.proofs.Common.{ap, ℕ, ◌-◌, sym, ◌∙◌}
-use Rattle.report_queue.proofs.CallerLemmas.{filled_caller, held_is_small}
+use Rattle.std.proofs.Common.{arith, sym, ◌∙◌}
+use Rattle.std.proofs.lemmas.Grind.{common_steps}
+use Rattle.permit_ring.specs.Steps.{ticket_in}
+use Rattle.report_queue.specs.Parts.{caller_memo, caller_number, item_of}
+use Rattle.report_queue.proofs.CallerLemmas.{held_is_small, names-got}
 use Rattle.report_queue.proofs.seat.QueueSeat.fill.Goals as goal
 
 pub returns-clause-mine : goal.returns-clause-mine
 returns-clause-mine g c =
     let did = c.finish.ensures in
-    let call = ap (λ (k : ℕ). k - 1) c.calls.ensures in
-    filled_caller c.args.queue.now c.args.self.now record { seat = c.finish.new.self } record {
-      caller = c.number.result;
-      call = c.calls.result - 1;
-      payload = g.P.Cargo.note c.args.payload;
-    } c.requires.mine c.requires.busy c.number.ensures call did.mine did.told did.ordered
+    let was = c.requires.mine in
+    let old = caller_memo c.args.self.now in
+    let item = item_of c.args.self.now (g.P.Cargo.note c.args.payload) in
+    let last = names-got (caller_number c.args.self.now) old.log was.names (ticket_in old.view.held) item (grind (arith, was)) (grind (arith, common_steps, was, c.requires.busy)) in
+    grind (arith, was, did, last, c.number.ensures, c.calls.ensures)
 
 pub returns-clause-small : goal.returns-clause-small
 returns-clause-small g c = held_is_small c.args.queue.now c.args.self.now _ c.requires.mine (sym c.held.ensures ∙ c.unwrap-ticket.ensures)

@@ -1,15 +1,18 @@
-use Rattle.std.proofs.Common.{ap, ◌∙◌}
+use Rattle.std.proofs.Common.{Some, arith, ap, ◌∙◌}
+use Rattle.std.proofs.lemmas.List.{length-set}
+use Rattle.permit_ring.specs.Steps.{ended}
 use Rattle.report_queue.specs.Parts.{caller_memo, taker_memo}
 use Rattle.report_queue.specs.Views.{taker_in}
-use Rattle.report_queue.proofs.TakerLemmas.{welcome_shown, welcomed_taker}
+use Rattle.report_queue.proofs.TakerLemmas.{names-welcome, welcome_shown}
 use Rattle.report_queue.proofs.taker.Taker.welcome.Goals as goal
 
 pub returns-clause-mine : goal.returns-clause-mine
 returns-clause-mine g c =
-    let did = c.welcome.ensures in
     let was = c.requires.mine in
-    welcomed_taker c.args.queue.now c.args.self.now record { keeper = c.welcome.new.self } was did.mine
-    (did.counts.0 ∙ was.none_vacant) c.args.seat c.requires.seat did.told
+    let memo = caller_memo c.args.seat in
+    let back = (taker_memo c.args.self.now).back in
+    let names = names-welcome back memo was.names (grind (arith, c.requires.seat)) in
+    grind (arith, was, c.welcome.ensures, names, length-set back memo.number (Some (ended memo)))
 
 pub returns-clause-told : goal.returns-clause-told
 returns-clause-told g c = ap taker_in c.welcome.ensures.told ∙ welcome_shown (taker_memo c.args.self.now) (caller_memo c.args.seat)
