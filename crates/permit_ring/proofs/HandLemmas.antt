@@ -14,7 +14,8 @@ pub turned_more : {A : Type 0} (hand : List (ℕ × A)) (i : ℕ) → i < length
     → turned (drop i hand ++ take i hand) ≡ drop (i + 1) hand ++ take (i + 1) hand
 turned_more [] i h = absurd (omega (arith, h))
 turned_more (x ∷ hand) i h =
-    rw (drop_more (x ∷ hand) i x h, take_more (x ∷ hand) i x h) (append_assoc (drop (i + 1) (x ∷ hand)) (take i (x ∷ hand)) (get_or (x ∷ hand) i x ∷ []))
+    rw (drop_more (x ∷ hand) i x h, take_more (x ∷ hand) i x h)
+    (append_assoc (drop (i + 1) (x ∷ hand)) (take i (x ∷ hand)) (get_or (x ∷ hand) i x ∷ []))
 
 -- a slot in front is the first, and the rest is behind it
 pub in_front : {A : Type 0} {hand tail : List (ℕ × A)} {at place : ℕ} {x : A} → hand ≡ (at, x) ∷ tail → at ≡ place
@@ -27,7 +28,8 @@ module _ {O : Type 0} (n : ℕ) where
   length-hand t (x ∷ xs) = ap suc (length-hand (suc t) xs)
 
   -- two rows of slots, one behind the other
-  hand-append : {D : Type 0} (t : ℕ) (xs ys : List (Slot O D)) → hand_from n t (xs ++ ys) ≡ hand_from n t xs ++ hand_from n (t + length xs) ys
+  hand-append : {D : Type 0} (t : ℕ) (xs ys : List (Slot O D))
+      → hand_from n t (xs ++ ys) ≡ hand_from n t xs ++ hand_from n (t + length xs) ys
   hand-append t [] ys = let same : t ≡ t + 0 = omega arith in ap (λ (k : ℕ). hand_from n k ys) same
   hand-append t (x ∷ xs) ys =
       let same : suc t + length xs ≡ t + suc (length xs) = omega arith in

@@ -184,7 +184,8 @@ module _ {O D T N : Type 0} (note : D → N) (Ao : T → O → Type 0) (An : T �
               let x = next_value mark in
               let note_is : N = note x.2 in
               let account = (ring_of r).permits.account in
-              let slots_now = slots_reaped m r.sizes.some_position (omega arith) (one_turn_ahead r) r.are_fates.each_claimed x.0 r.are_slots in
+              let turn = one_turn_ahead r in
+              let slots_now = slots_reaped m r.sizes.some_position (omega arith) turn r.are_fates.each_claimed x.0 r.are_slots in
               let noted = λ (t : ℕ) (y : N) (e : get_elem? (r.keeper.notes ++ note_is ∷ []) t ≡ some y).
               elim (at_end r.keeper.notes note_is y t e) as (λ _. (i : ℕ) × (get_elem? r.fates t ≡ some (Some (i, y)))) [
                 | inl old ↦ r.knows.noted t y old
@@ -275,19 +276,15 @@ module _ {O D T N : Type 0} (note : D → N) (Ao : T → O → Type 0) (An : T �
           let last : (earlier : List ℕ) × (k.fronts ≡ earlier ++ k.offered ∷ []) = (r.keeper.fronts, refl) in
           let words = ap₂ (λ (ws : List ℕ) (n : ℕ). set ws 0 n) r.words_are (can.becomes ∙ λ i. packed (sym limit i)
           (offered_to (sym word i) (sym (ready_is its) i))) in
+          let offered = ap (λ (o : ℕ). o + count) counted.offered_is in
+          let first = at_longer r.keeper.fronts (k.offered ∷ []) 0 key.positions counted.first_front in
+          let seen = ap (λ (w : PermitWord). offered_to w count) word in
           let runs = keeper_steps (Offer count) {k = k} leads (ap₂ packed (sym limit) (sym word)) words
           (rw (long, its.in_hand, ← counted.offered_is) (slots_offered its.values vacant m s.homes refl refl refl its.admitted
           permits.reaped_claimed (omega (arith, permits.account)) (omega arith) r.are_fates.each_claimed r.are_slots))
-          (assumption (
-            ap (λ (o : ℕ). o + count) counted.offered_is,
-            at_longer r.keeper.fronts (k.offered ∷ []) 0 key.positions
-                counted.first_front,
-            last,
-            ap (λ (w : PermitWord). offered_to w count) word,
-            more_fronts r.keeper.fronts k.offered,
-          )) in
+          (assumption (offered, first, last, seen, more_fronts r.keeper.fronts k.offered)) in
           let valid = gives_valid count s.homes hand in
-          (Keeps key k, gives_all count, valid, runs, ((λ _. (rw (gives_rest count hand) refl, rw word at left)), λ miss. absurd (miss hit)))
+          (Keeps key k, gives_all count, valid, runs, ((λ _. (rw (gives_rest count hand) refl, rw word at left)), λ m. absurd (m hit)))
 
   -- the steps of a token whose view is the keeper's
   module _ (slots id : ℕ) (me : Known O D T N) (keeps_it : me.0 ≡ Keeps key (keeper_in me.0)) where

@@ -85,7 +85,8 @@ new_ordered i = record { decided = refl; rises = tt; below_ticket = λ t h. omeg
 
 -- one seat more
 pub one_seat_more : {F O D T N : Type 0} (Ao : T → O → Type 0) (ring : Ring F O D T N) (made : ℕ) (seats : List (Seat F O D T N))
-    (seat : Seat F O D T N) → AreNewSeats Ao ring made seats → IsNewSeat Ao ring made seat → AreNewSeats Ao ring (made + 1) (seats ++ seat ∷ [])
+    (seat : Seat F O D T N) → AreNewSeats Ao ring made seats → IsNewSeat Ao ring made seat
+    → AreNewSeats Ao ring (made + 1) (seats ++ seat ∷ [])
 one_seat_more Ao ring made seats seat were is = record {
   all_made = length_push seats seat ∙ ap (λ (k : ℕ). k + 1) were.all_made;
   each = λ i other e. elim (at_end seats seat other i e) [

@@ -15,7 +15,7 @@ use Rattle.permit_ring.proofs.NewRings.{new_ordered}
 use Rattle.report_queue.specs.declared.cargo.Items.{Items}
 use Rattle.report_queue.specs.Items.{admits_all}
 use Rattle.report_queue.specs.Making.{IsNewQueue, IsUnused, as_callers, new_caller, new_taker}
-use Rattle.report_queue.specs.Parts.{caller_number}
+use Rattle.report_queue.specs.Parts.{IsTakerOf, caller_number}
 use Rattle.report_queue.specs.Views.{CallerView, TakerView, back_in, caller_in, taker_in}
 use Rattle.report_queue.proofs.ClosingLemmas.{at_map_back}
 
@@ -25,8 +25,8 @@ map-replicate f (suc n) a = ap (λ l. f a ∷ l) (map-replicate f n a)
 
 -- a list of nothing has nothing
 none_there : {A C : Type 0} (n i : ℕ) (a : A) → get_elem? (replicate n None) i ≡ some (Some a) → C
-none_there zero i a e = absurd (some-ne-none (Some a) (sym e))
-none_there (suc n) zero a e = absurd (none-some a (some-injective None (Some a) e))
+none_there zero i a e = cc
+none_there (suc n) zero a e = cc
 none_there (suc n) (suc i) a e = none_there n i a e
 
 -- what the ring's keeper knows once so many seats are made
@@ -43,55 +43,28 @@ module _ {N : Type 0} where
       let one : seats + 1 ≡ suc seats = omega arith in
       let back = ap (λ (l : List (Option (SeatMemo (Item N)))). l ++ None ∷ []) was.back_is ∙ replicate_more seats None
       ∙ ap (λ (m : ℕ). replicate m None) one in
-      record {
-        shows = ap (λ (v : TakerView N). record v { back = map back_in ((ring.made_memo n seats).back ++ None ∷ []) }) was.shows
-            ∙ ap (λ (l : List (Option (CallerView N))). record (new_taker n seats) { back = l })
-            (ap (map back_in) back ∙ map-replicate back_in (suc seats) None);
-        back_is = back;
-        made_is = ap (λ (m : ℕ). m + 1) was.made_is ∙ one;
-      }
+      let shown = ap (map back_in) back ∙ map-replicate back_in (suc seats) None in
+      grind (arith, was, back, shown)
 
 module _ {P L T N : Type 0} (queue : Queue P L T N) where
   new_caller_is : (i : ℕ) (seat : Seat (Items P) (Unit {0}) (Item L) T (Item N)) → i < 32 → ring.IsNewSeat admits_all queue.ring i seat
       → IsUnused queue record { seat = seat } × (seat_number seat ≡ i)
-  new_caller_is i seat within is =
-      let none = is.no_calls in (
-        record {
-          is_caller = record {
-            is_seat = is.is_seat;
-            below_32 = subst (λ (m : ℕ). m < 32) (sym is.number_is) within;
-            calls_within = subst (λ (m : ℕ). m ≤ 2 ^ 40) (sym none) (omega arith);
-            number_is = is.is_seat.number_is;
-            calls_are = is.is_seat.calls_are;
-            in_order = subst IsOrdered (sym is.knows) (new_ordered i);
-            names = λ j t item e. absurd (some-ne-none (Got t item)
-                (sym (sym (ap (λ (m : SeatMemo (Item N)). get_elem? m.log j) is.knows) ∙ e)));
-          };
-          shows = ap caller_in is.knows ∙ ap new_caller (sym is.number_is);
-          no_calls = none;
-          is_idle = is.is_idle;
-        },
-        is.number_is,
-      )
+  new_caller_is i seat within is = let ordered = new_ordered {N = Item N} i in grind (arith, is, ordered)
 
   -- a new ring with a keeper and callers is a new queue
   pub new_queue_is : (n seats : ℕ) (terms : T) (taker : Taker P L T N) (ring_seats : List (Seat (Items P) (Unit {0}) (Item L) T (Item N)))
       (callers : List (QueueSeat P L T N)) → seats ≤ 32 → ring.IsNewRing admits_all n seats terms queue.ring taker.keeper ring_seats
       → callers ≡ as_callers ring_seats → IsNewQueue n seats terms queue taker callers
   new_queue_is n seats terms taker ring_seats callers within is are =
-      let made : IsMade {N = N} n seats (ring.made_memo n seats) = all_made n seats in
-      let back = ap (λ (k : KeeperMemo (Item N)). k.back) is.knows ∙ made.back_is in
+      let made = all_made {N = N} n seats in
       let count = is.seats_are.all_made in
+      let none = λ (i : ℕ) (memo : SeatMemo (Item N)). none_there {C = ⊥} seats i memo in
+      let taker_is : IsTakerOf queue taker = grind (arith, is, made, none, length-replicate {A = Option (SeatMemo (Item N))} seats None) in
       record {
         positions_are = is.positions_are;
         seats_may_be = is.seats_may_be;
         terms_are = is.terms_are;
-        is_taker = record {
-          is_keeper = is.is_keeper;
-          none_vacant = is.none_vacant;
-          made_are = ap (λ (k : KeeperMemo (Item N)). k.made) is.knows ∙ made.made_is ∙ sym (ap length back ∙ length-replicate seats None);
-          names = λ i memo e. none_there seats i memo (ap (λ (l : List (Option (SeatMemo (Item N)))). get_elem? l i) (sym back) ∙ e);
-        };
+        is_taker = taker_is;
         shows = ap taker_in is.knows ∙ made.shows;
         none_to_give_back = is.none_filled;
         all_made = ap length are ∙ length-map ring_seats (λ seat. record { seat = seat }) ∙ count;
@@ -103,9 +76,8 @@ module _ {P L T N : Type 0} (queue : Queue P L T N) where
             (new_caller_is i found.0 (omega (arith, low, count, within)) (is.seats_are.each i found.0 found.1));
       }
 
-  -- each caller of a new queue is unused
-  pub all_unused : (n seats : ℕ) (terms : T) (taker : Taker P L T N) (callers : List (QueueSeat P L T N))
-      → IsNewQueue n seats terms queue taker callers → All (IsUnused queue) callers
-  all_unused n seats terms taker callers is i d low =
-      let seat : QueueSeat P L T N = slice_index_or callers i d in
-      (is.each i seat (at_index callers i seat low (get_or_default callers i d seat low))).0
+-- each caller of a new queue is unused
+pub all_unused : {P L T N : Type 0} {n seats : ℕ} {terms : T} {queue : Queue P L T N} {taker : Taker P L T N}
+    {callers : List (QueueSeat P L T N)} → IsNewQueue n seats terms queue taker callers → All (IsUnused queue) callers
+all_unused {callers = callers} is i d low = let seat = slice_index_or callers i d in
+    (is.each i seat (at_index callers i seat low (get_or_default callers i d seat low))).0

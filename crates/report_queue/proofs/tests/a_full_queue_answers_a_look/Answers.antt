@@ -4,7 +4,7 @@ use Rattle.report_queue.proofs.MakingLemmas.{all_unused}
 use Rattle.report_queue.proofs.tests.a_full_queue_answers_a_look.Goals as goal
 
 pub last_of-requires : goal.last_of-requires
-last_of-requires g c = all_unused c.in_ok-queue.field-0.queue 2 1 tt c.in_ok-queue.field-0.taker c.in_ok-queue.field-0.seats.items c.in_ok-queue.ensures
+last_of-requires g c = all_unused c.in_ok-queue.ensures
 
 pub mark_lost_event-requires-clause-few : goal.mark_lost_event-requires-clause-few
 mark_lost_event-requires-clause-few g c κs =

@@ -2,4 +2,4 @@ use Rattle.report_queue.proofs.MakingLemmas.{all_unused}
 use Rattle.report_queue.proofs.tests.four_callers_put_beside_the_taker.Goals as goal
 
 pub last_of-requires : goal.last_of-requires
-last_of-requires g c = all_unused c.in_ok-queue.field-0.queue 16 4 tt c.in_ok-queue.field-0.taker c.in_ok-queue.field-0.seats.items c.in_ok-queue.ensures
+last_of-requires g c = all_unused c.in_ok-queue.ensures

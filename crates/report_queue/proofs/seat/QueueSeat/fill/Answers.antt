@@ -1,4 +1,4 @@
-use Rattle.std.proofs.Common.{arith, sym, ◌∙◌}
+use Rattle.std.proofs.Common.{◌≡◌, arith, length, refl, sym, ◌∙◌}
 use Rattle.std.proofs.lemmas.Grind.{common_steps}
 use Rattle.permit_ring.specs.Steps.{ticket_in}
 use Rattle.report_queue.specs.Parts.{caller_memo, caller_number, item_of}
@@ -11,7 +11,8 @@ returns-clause-mine g c =
     let was = c.requires.mine in
     let old = caller_memo c.args.self.now in
     let item = item_of c.args.self.now (g.P.Cargo.note c.args.payload) in
-    let last = names-got (caller_number c.args.self.now) old.log was.names (ticket_in old.view.held) item (grind (arith, was)) (grind (arith, common_steps, was, c.requires.busy)) in
+    let call : item.call ≡ length old.log = grind (arith, common_steps, was, c.requires.busy) in
+    let last = names-got (caller_number c.args.self.now) old.log was.names (ticket_in old.view.held) item refl call in
     grind (arith, was, did, last, c.number.ensures, c.calls.ensures)
 
 pub returns-clause-small : goal.returns-clause-small
