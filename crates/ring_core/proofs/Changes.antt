@@ -15,13 +15,10 @@ module _ (m : Machine) (r : IsRing m) (i : ℕ) (made : i < length m.seats) (now
   pub seats_set : {word : PermitWord} → ((j : ℕ) → IsSeat m.reaped word.claimed (seat_at m.seats j)) → IsSeat m.reaped word.claimed now
       → ((a b t : ℕ) → Holds (seat_at seats a) t → Holds (seat_at seats b) t → a ≡ b) → armed_count seats + word.over ≤ m.limit
       → word.claimed + armed_count seats ≤ calls_sum seats → AreSeats m.limit m.reaped word seats
-  seats_set {word = word} each in_order apart within had = record {
-    each = each_after m.seats i now made (IsSeat m.reaped word.claimed) each in_order;
-    apart = apart;
-    made_within = omega (arith, length-set m.seats i now);
-    armed_within = within;
-    each_had_a_call = had;
-  }
+  seats_set {word = word} each in_order apart within had =
+      let all = each_after m.seats i now made (IsSeat m.reaped word.claimed) each in_order in
+      let long = length-set m.seats i now in
+      grind arith
 
   -- the ring after it, with these vain claims and loss words
   pub seat_sound : IsSeat m.reaped m.word.claimed now → now.held ≡ (seat_at m.seats i).held → (over : ℕ) (loss0 loss1 : LossWord)

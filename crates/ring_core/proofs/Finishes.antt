@@ -1,6 +1,6 @@
 -- A finish keeps what holds of a ring.
 use Rattle.std.proofs.Common.{◌≡◌, ◌≢◌, ℕ, ◌+◌, ◌%◌, ◌<◌, ◌≤◌, true, is_some, Option, Some, None, List, length, set, refl, sym, ◌∙◌, ap, subst, inl, inr, arith}
-use Rattle.std.proofs.lemmas.Bool.{cases_eq, cases_lt}
+use Rattle.std.proofs.lemmas.Bool.{cases_eq}
 use Rattle.std.proofs.lemmas.Grind.{common_steps}
 use Rattle.std.proofs.lemmas.List.{get_or-set_same, get_or-set_other}
 use Rattle.ring_core.specs.Names.{SeatView, Ticket0, Finish}
@@ -35,36 +35,19 @@ module _ (m : Machine) (r : IsRing m) (i t : ℕ) (holds : Holds (seat_at m.seat
 
   -- t is finished now
   now_finished : IsFinished m.positions m.word.claimed now (t % m.positions) t
-  now_finished = record {
-    claimed_before = out.1;
-    stands_at = refl;
-    held_by_none = λ j h. let before = held_else j t h in before.0 (r.seats.apart j i t before.1 holds);
-  }
+  now_finished = let after = λ (j : ℕ). held_else j t in let alone = λ (j : ℕ). r.seats.apart j i t in grind (arith, out)
 
   finished_before : (p u : ℕ) → t ≢ u → IsFinished m.positions m.word.claimed now p u → IsFinished m.positions m.word.claimed m.seats p u
-  finished_before p u other f = record {
-    claimed_before = f.claimed_before;
-    stands_at = f.stands_at;
-    held_by_none = λ j h. f.held_by_none j
-        (holder_before m.seats i empty made j u (λ was. absurd (other (one_ticket t u (sym holds ∙ was)))) h);
-  }
+  finished_before p u other f =
+      let before = λ (j : ℕ). holder_before m.seats i empty made j u (λ was. absurd (other (one_ticket t u (sym holds ∙ was)))) in
+      grind arith
 
   finished_after : (p u : ℕ) → IsFinished m.positions m.word.claimed m.seats p u → IsFinished m.positions m.word.claimed now p u
-  finished_after p u f = record {
-    claimed_before = f.claimed_before;
-    stands_at = f.stands_at;
-    held_by_none = λ j h. f.held_by_none j (held_else j u h).1;
-  }
+  finished_after p u f = let else = λ (j : ℕ). held_else j u in grind arith
 
   -- no finished ticket at t's position is above t, which stands in the last turn
   below_mark : (u : ℕ) → IsFinished m.positions m.word.claimed now (t % m.positions) u → u < t + 1
-  below_mark u f = elim (cases_lt t u) [
-    | inl above ↦
-        let held = out in
-        let same = one_turn t u m.positions (omega arith) (omega arith) (sym f.stands_at) in
-        absurd (omega arith)
-    | inr below ↦ omega arith
-  ]
+  below_mark u f = grind (arith, out, one_turn t u m.positions, f)
 
   marks : (p : ℕ) → p < m.positions → IsMark m.positions m.word.claimed now p (mark_at (set m.marks (t % m.positions) (t + 1)) p)
   marks p h = elim (cases_eq p (t % m.positions)) [

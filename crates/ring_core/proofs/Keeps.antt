@@ -1,6 +1,6 @@
 -- The keeper's sees, reads and offers keep what holds of a ring.
-use Rattle.std.proofs.Common.{◌≡◌, ℕ, ◌+◌, ◌%◌, ◌≤◌, true, nat_le, arith, mod-lt, inl, inr}
-use Rattle.std.proofs.lemmas.Bool.{and_parts, leb-true, cases_eq, cases_Bool, eq-eqb, ne_eqb}
+use Rattle.std.proofs.Common.{◌≡◌, ℕ, ◌+◌, ◌%◌, ◌≤◌, true, arith, mod-lt, inl, inr}
+use Rattle.std.proofs.lemmas.Bool.{cases_Bool}
 use Rattle.std.proofs.lemmas.Grind.{common_steps}
 use Rattle.ring_core.specs.Names.{See, Read, Offer}
 use Rattle.ring_core.specs.Machine.{Machine, seat_at, mark_at, same_word, offered_to, possible, after}
@@ -22,23 +22,17 @@ module _ (m : Machine) (r : IsRing m) where
       grind (arith, common_steps)
 
   pub see_keeps : IsRing (after m See)
-  see_keeps = elim (cases_eq (mark_at m.marks (m.reaped % m.positions)) (m.reaped + 1)) [
-    | inl ready ↦ rw (eq-eqb (mark_at m.marks (m.reaped % m.positions)) (m.reaped + 1) ready) (see_finished ready)
-    | inr waits ↦ rw (ne_eqb (mark_at m.marks (m.reaped % m.positions)) (m.reaped + 1) waits) r
-  ]
+  see_keeps = let ready = see_finished in grind arith
 
   pub read_keeps : IsRing (after m Read)
   read_keeps = grind (arith, common_steps)
 
-  -- the state after an offer whose word was the keeper's
-  abbrev offered : ℕ → Machine
-  offered k = record m { word = offered_to m.word k; offered = m.offered + k; seen = offered_to m.word k }
-
-  offer_taken : (k : ℕ) → m.offered + k ≤ m.reaped + m.positions → IsRing (offered k)
+  -- an offer whose word was the keeper's
+  offer_taken : (k : ℕ) → m.offered + k ≤ m.reaped + m.positions
+      → IsRing (record m { word = offered_to m.word k; offered = m.offered + k; seen = offered_to m.word k })
   offer_taken k room = grind (arith, common_steps)
 
   pub offer_keeps : (k : ℕ) → possible m (Offer k) ≡ true → IsRing (after m (Offer k))
   offer_keeps k ok =
-      let parts = and_parts (nat_le 1 k) (nat_le (m.offered + k) (m.reaped + m.positions)) ok in
-      let room = leb-true (m.offered + k) (m.reaped + m.positions) parts.1 in
+      let room : m.offered + k ≤ m.reaped + m.positions = grind arith in
       elim (cases_Bool (same_word m.word m.seen)) [ inl same ↦ rw same (offer_taken k room) | inr other ↦ rw other read_keeps ]

@@ -2,17 +2,11 @@
 use Rattle.std.proofs.Common.{◌≡◌, ℕ, zero, suc, ◌^◌, ◌<◌, true, nat_lt, refl, le_refl, arith}
 use Rattle.std.proofs.lemmas.Bool.{and_parts, ltb-true}
 use Rattle.std.proofs.lemmas.Grind.{common_steps}
-use Rattle.ring_core.specs.Names.{SeatView, Mark, Sweep}
+use Rattle.ring_core.specs.Names.{Mark, Sweep}
 use Rattle.ring_core.specs.Machine.{Machine, seat_at, marks_of, marked, may_mark, one_more_lost, possible, after}
-use Rattle.ring_core.specs.Sound.{IsRing, IsSeat}
+use Rattle.ring_core.specs.Sound.{IsRing}
 use Rattle.ring_core.proofs.Changes.{seat_sound}
 use Rattle.ring_core.proofs.SeatLemmas.{live_is_made, sums_after}
-
--- the seat with one mark more stays in order
-marked_seat : (reaped claimed kind : ℕ) (seat : SeatView) → marks_of seat kind < 2 ^ 40 → IsSeat reaped claimed seat
-    → IsSeat reaped claimed (marked kind seat)
-marked_seat reaped claimed zero seat few s = grind (arith, common_steps)
-marked_seat reaped claimed (suc kind) seat few s = grind (arith, common_steps)
 
 mark_few : (m : Machine) → IsRing m → (i kind : ℕ) → (seat_at m.seats i).live ≡ true → marks_of (seat_at m.seats i) kind < 2 ^ 40
     → IsRing (after m (Mark i kind))
@@ -20,14 +14,14 @@ mark_few m r i zero live few =
     let made = live_is_made m.seats i live in
     let now = marked 0 (seat_at m.seats i) in
     let sums = sums_after m.seats i now made in
-    seat_sound m r i made now (marked_seat m.reaped m.word.claimed 0 (seat_at m.seats i) few (r.seats.each i)) refl m.word.over
-    (one_more_lost m.loss0) m.loss1 r.permits.either (le_refl m.word.over) (omega arith) (omega arith) (omega arith) (omega arith)
+    let s = r.seats.each i in
+    seat_sound m r i made now (grind (arith, common_steps)) refl m.word.over (one_more_lost m.loss0) m.loss1 r.permits.either (le_refl m.word.over) (omega arith) (omega arith) (omega arith) (omega arith)
 mark_few m r i (suc kind) live few =
     let made = live_is_made m.seats i live in
     let now = marked (suc kind) (seat_at m.seats i) in
     let sums = sums_after m.seats i now made in
-    seat_sound m r i made now (marked_seat m.reaped m.word.claimed (suc kind) (seat_at m.seats i) few (r.seats.each i)) refl m.word.over
-    m.loss0 (one_more_lost m.loss1) r.permits.either (le_refl m.word.over) (omega arith) (omega arith) (omega arith) (omega arith)
+    let s = r.seats.each i in
+    seat_sound m r i made now (grind (arith, common_steps)) refl m.word.over m.loss0 (one_more_lost m.loss1) r.permits.either (le_refl m.word.over) (omega arith) (omega arith) (omega arith) (omega arith)
 
 pub mark_keeps : (m : Machine) → IsRing m → (i kind : ℕ) → possible m (Mark i kind) ≡ true → IsRing (after m (Mark i kind))
 mark_keeps m r i kind ok =

@@ -1,6 +1,5 @@
 -- What the ring that threads share rests on, beside that each step keeps what holds of a ring.
-use Rattle.std.proofs.Common.{◌≡◌, ℕ, ◌+◌, ◌<◌, ◌≤◌, Bool, true, false, cond, Some, None, refl, ap, inl, inr, arith}
-use Rattle.std.proofs.lemmas.Bool.{cases_lt}
+use Rattle.std.proofs.Common.{◌≡◌, ℕ, ◌+◌, ◌<◌, ◌≤◌, true, false, Some, ap, arith}
 use Rattle.std.proofs.lemmas.Grind.{common_steps}
 use Rattle.ring_core.specs.Names.{Step}
 use Rattle.ring_core.specs.Machine.{Machine, seat_at, same_word, possible, after, next}
@@ -21,17 +20,7 @@ module _ (m : Machine) (r : IsRing m) where
 
   -- an offer that misses found a word with a smaller field than the keeper's
   pub missed_field_falls : same_word m.word m.seen ≡ false → field_of m.limit m.word < field_of m.limit m.seen
-  missed_field_falls missed = elim (cases_lt (field_of m.limit m.word) (field_of m.limit m.seen)) [
-    | inl less ↦ less
-    | inr not_less ↦
-        let packs = word_packs in
-        let either = r.permits.either in
-        let last = r.last.either in
-        let free : m.word.free ≡ m.seen.free = omega arith in
-        let over : m.word.over ≡ m.seen.over = omega arith in
-        let one = one_word m.word m.seen (omega arith) free over in
-        absurd cc
-  ]
+  missed_field_falls missed = let packs = word_packs in grind (arith, r.permits.either, r.last, one_word m.word m.seen)
 
   -- where none is free, all that was offered is claimed
   pub all_claimed : m.word.free ≡ 0 → m.word.claimed ≡ m.offered
@@ -54,10 +43,5 @@ pub record IsStep (m : Machine) (step : Step) (now : Machine) : Type 0 where
   pub possible_here : possible m step ≡ true
   pub is_after : now ≡ after m step
 
-step_from : (m now : Machine) (step : Step) (b : Bool) → possible m step ≡ b → cond b (Some (after m step)) None ≡ Some now
-    → IsStep m step now
-step_from m now step true ok e = record { possible_here = ok; is_after = cc }
-step_from m now step false ok e = absurd cc
-
 pub step_of_next : (m now : Machine) (step : Step) → next m step ≡ Some now → IsStep m step now
-step_of_next m now step e = step_from m now step (possible m step) refl e
+step_of_next m now step e = grind arith

@@ -41,10 +41,8 @@ pub mark_stays : {n claimed later p mark : ℕ} {seats now : List SeatView}
     → ((t : ℕ) → IsFinished n later now p t → IsFinished n claimed seats p t)
     → ((t : ℕ) → IsFinished n claimed seats p t → IsFinished n later now p t)
     → IsMark n claimed seats p mark → IsMark n later now p mark
-mark_stays before after old = record {
-  above_all = λ t f. old.above_all t (before t f);
-  just_above = λ t e. after t (old.just_above t e);
-}
+mark_stays before after old =
+    record { above_all = λ t f. old.above_all t (before t f); just_above = λ t e. after t (old.just_above t e) }
 
 -- after any change two lists of seats hold the same tickets, seat by seat
 abbrev pub SameHolders : List SeatView → List SeatView → Type 0
@@ -53,11 +51,7 @@ SameHolders seats now = (j : ℕ) → (seat_at now j).held ≡ (seat_at seats j)
 -- what is finished for the one list is finished for the other
 finished_same : {n claimed p : ℕ} (seats now : List SeatView) → SameHolders seats now → (t : ℕ) → IsFinished n claimed seats p t
     → IsFinished n claimed now p t
-finished_same seats now same t f = record {
-  claimed_before = f.claimed_before;
-  stands_at = f.stands_at;
-  held_by_none = λ i h. f.held_by_none i (sym (same i) ∙ h);
-}
+finished_same seats now same t f = grind arith
 
 module _ (seats now : List SeatView) (same : SameHolders seats now) where
   pub apart_same : ((i j t : ℕ) → Holds (seat_at seats i) t → Holds (seat_at seats j) t → i ≡ j) → (i j t : ℕ)

@@ -1,7 +1,6 @@
 -- No step changes the sizes of a ring.
-use Rattle.std.proofs.Common.{◌≡◌, ℕ, zero, suc, Result, Ok, Err, refl, arith}
-use Rattle.std.proofs.lemmas.Grind.{common_steps}
-use Rattle.ring_core.specs.Names.{Step, Look, Claim, Finish, See, Read, Offer, Mark, Sweep, Split, Join}
+use Rattle.std.proofs.Common.{◌≡◌, ℕ, Result, Ok, Err, arith}
+use Rattle.ring_core.specs.Names.{Step}
 use Rattle.ring_core.specs.Machine.{Machine, HasSizes, StepAnswers, after}
 use Rattle.ring_core.proofs.RingLaws.{step_of_next}
 
@@ -11,22 +10,8 @@ same_sizes m now e = record { positions_are = cc; limit_is = cc }
 pub sizes_on : (n limit : ℕ) (m now : Machine) → HasSizes n limit m → HasSizes m.positions m.limit now → HasSizes n limit now
 sizes_on n limit m now before behind = record { positions_are = cc; limit_is = cc }
 
-offer_sizes : (m : Machine) (k : ℕ) → HasSizes m.positions m.limit (after m (Offer k))
-offer_sizes m k = grind (arith, common_steps)
-
 pub after_sizes : (m : Machine) (step : Step) → HasSizes m.positions m.limit (after m step)
-after_sizes m (Look i) = record { positions_are = refl; limit_is = refl }
-after_sizes m (Claim i) = record { positions_are = refl; limit_is = refl }
-after_sizes m (Finish i) = record { positions_are = refl; limit_is = refl }
-after_sizes m See = record { positions_are = refl; limit_is = refl }
-after_sizes m Read = record { positions_are = refl; limit_is = refl }
-after_sizes m (Offer k) = offer_sizes m k
-after_sizes m (Mark i zero) = record { positions_are = refl; limit_is = refl }
-after_sizes m (Mark i (suc kind)) = record { positions_are = refl; limit_is = refl }
-after_sizes m (Sweep zero) = record { positions_are = refl; limit_is = refl }
-after_sizes m (Sweep (suc kind)) = record { positions_are = refl; limit_is = refl }
-after_sizes m Split = record { positions_are = refl; limit_is = refl }
-after_sizes m (Join i) = record { positions_are = refl; limit_is = refl }
+after_sizes m step = grind arith
 
 pub answer_sizes : {X E : Type 0} (m now : Machine) (step : Step) (result : Result X E) → StepAnswers m step result now
     → HasSizes m.positions m.limit now

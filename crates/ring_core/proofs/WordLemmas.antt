@@ -1,6 +1,5 @@
 -- The permit word as a number: what is packed can be told, and a claim adds one number to it.
-use Rattle.std.proofs.Common.{◌≡◌, ℕ, ◌+◌, ◌<◌, ◌≤◌, ◌≢◌, ◌^◌, true, false, sym, ◌∙◌, ap, ap₂, inl, inr, arith}
-use Rattle.std.proofs.lemmas.Bool.{cases_lt, lt-ltb, le-ltb}
+use Rattle.std.proofs.Common.{◌≡◌, ℕ, ◌+◌, ◌<◌, ◌≤◌, ◌≢◌, ◌^◌, true, false, sym, ◌∙◌, ap, ap₂, arith}
 use Rattle.std.proofs.lemmas.Grind.{common_steps}
 use Rattle.std.proofs.lemmas.Nat.{div-mul-add, mod-mul-add}
 use Rattle.ring_core.specs.Names.{PermitWord}
@@ -32,10 +31,7 @@ packed_apart seats a b few fa fb e = sym (unpacked-packed seats a few fa) ∙ ap
 -- a claim adds 2^16 and takes 1: that is one number, whatever the word shows
 pub packed-claimed : (seats : ℕ) (word : PermitWord) → FreeOrOver word → 0 < field_of seats word
     → packed seats (claimed_from word) ≡ packed seats word + 65535
-packed-claimed seats word either some = elim (cases_lt 0 word.free) [
-  | inl free ↦ rw (lt-ltb 0 word.free free) (omega arith)
-  | inr none ↦ rw (le-ltb 0 word.free none) (omega arith)
-]
+packed-claimed seats word either some = grind arith
 
 -- two words that are not one differ in a number
 pub other_word : (a b : PermitWord) → a ≢ b → same_word a b ≡ false
