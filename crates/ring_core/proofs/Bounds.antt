@@ -5,6 +5,8 @@ use Rattle.std.proofs.lemmas.List.Sums.{sum_by-cons}
 use Rattle.ring_core.specs.Names.{SeatView}
 use Rattle.ring_core.specs.Machine.{Machine, seat_at}
 use Rattle.ring_core.specs.Sound.{IsRing}
+use Rattle.ring_core.specs.StateView.{machine_of}
+use Rattle.ring_core.specs.declared.state.RingState.TheInside.{Inside}
 
 -- a sum over seats that each add at most `most`
 sum_within : (f : SeatView → ℕ) (most : ℕ) (seats : List SeatView) → ((i : ℕ) → f (seat_at seats i) ≤ most)
@@ -35,3 +37,8 @@ small m r =
     let marks0 = ring_sum_within m r (λ (s : SeatView). s.marks0) (λ i. (r.seats.each i).marks0_within) in
     let marks1 = ring_sum_within m r (λ (s : SeatView). s.marks1) (λ i. (r.seats.each i).marks1_within) in
     grind (arith, common_steps)
+
+-- and so those of a state
+pub state_small : (s : Inside) → IsRing (machine_of s) → (s.offered ≤ 2 ^ 45 + 1024) × (s.loss0.value + s.loss0.swept ≤ 2 ^ 45)
+    × (s.loss1.value + s.loss1.swept ≤ 2 ^ 45) × (s.reaped ≤ 2 ^ 45) × (s.word.free ≤ 1024)
+state_small s r = let all = small (machine_of s) r in assumption

@@ -4,7 +4,7 @@ use Rattle.std.proofs.lemmas.Bool.{cases_eq}
 use Rattle.std.proofs.lemmas.Grind.{common_steps}
 use Rattle.std.proofs.lemmas.List.{get_or-set_same, get_or-set_other}
 use Rattle.ring_core.specs.Names.{SeatView, Ticket0, Finish}
-use Rattle.ring_core.specs.Machine.{Machine, seat_at, with_seat, mark_at, finished, possible, after}
+use Rattle.ring_core.specs.Machine.{Machine, seat_at, with_seat, mark_at, possible, after}
 use Rattle.ring_core.specs.Sound.{IsRing, IsSeat, AreSeats, IsMark, IsFinished, Holds}
 use Rattle.ring_core.proofs.Changes.{seats_set}
 use Rattle.ring_core.proofs.SeatLemmas.{live_is_made, mark_stays, sums_after, holder_after, holder_before, none_held, one_ticket}
@@ -71,14 +71,10 @@ module _ (m : Machine) (r : IsRing m) (i t : ℕ) (holds : Holds (seat_at m.seat
       let marked = marks in
       grind (arith, common_steps)
 
--- the state after a finish, by what the seat holds
-abbrev emptied : Machine → ℕ → Option Ticket0 → Machine
-emptied m i held = record (with_seat m i (record (seat_at m.seats i) { held = None })) { marks = finished m.positions m.marks held }
-
-finish_holding : (m : Machine) → IsRing m → (i : ℕ) (held : Option Ticket0) → (seat_at m.seats i).held ≡ held → is_some held ≡ true
-    → IsRing (emptied m i held)
-finish_holding m r i None e some = absurd cc
-finish_holding m r i (Some ticket) e some = finish_sound m r i ticket.0 e
+-- what is some is some ticket
+some_ticket : (held : Option Ticket0) → is_some held ≡ true → (ticket : Ticket0) × (held ≡ Some ticket)
+some_ticket None some = absurd cc
+some_ticket (Some ticket) some = (ticket, refl)
 
 pub finish_keeps : (m : Machine) → IsRing m → (i : ℕ) → possible m (Finish i) ≡ true → IsRing (after m (Finish i))
-finish_keeps m r i ok = finish_holding m r i (seat_at m.seats i).held refl ok
+finish_keeps m r i ok = let t = some_ticket (seat_at m.seats i).held ok in rw t.1 (finish_sound m r i t.0.0 t.1)

@@ -4,21 +4,15 @@ use Rattle.std.proofs.lemmas.Bool.{cases_Bool}
 use Rattle.std.proofs.lemmas.Grind.{common_steps}
 use Rattle.ring_core.specs.Names.{See, Read, Offer}
 use Rattle.ring_core.specs.Machine.{Machine, seat_at, mark_at, same_word, offered_to, possible, after}
-use Rattle.ring_core.specs.Sound.{IsRing, IsSeat, IsFinished, Holds}
+use Rattle.ring_core.specs.Sound.{IsRing, IsSeat, Holds}
 
 module _ (m : Machine) (r : IsRing m) where
   -- the next ticket is finished, so no seat holds it
-  seen_seat : IsFinished m.positions m.word.claimed m.seats (m.reaped % m.positions) m.reaped → (i : ℕ)
-      → IsSeat (m.reaped + 1) m.word.claimed (seat_at m.seats i)
-  seen_seat f i =
-      let s = r.seats.each i in
-      let other : ¬ Holds (seat_at m.seats i) m.reaped = f.held_by_none i in
-      grind (arith, common_steps)
-
   see_finished : mark_at m.marks (m.reaped % m.positions) ≡ m.reaped + 1 → IsRing (record m { reaped = m.reaped + 1 })
   see_finished e =
       let f = (r.marks (m.reaped % m.positions) (mod-lt m.reaped (omega arith))).just_above m.reaped e in
-      let each = seen_seat f in
+      let each : (i : ℕ) → IsSeat (m.reaped + 1) m.word.claimed (seat_at m.seats i) = λ i.
+      let s = r.seats.each i in let other : ¬ Holds (seat_at m.seats i) m.reaped = f.held_by_none i in grind (arith, common_steps) in
       grind (arith, common_steps)
 
   pub see_keeps : IsRing (after m See)

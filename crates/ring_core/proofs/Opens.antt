@@ -7,15 +7,12 @@ use Rattle.ring_core.specs.Sound.{IsRing, IsSeat, IsMark}
 use Rattle.ring_core.proofs.Lives.{new_in_order}
 use Rattle.ring_core.proofs.SeatLemmas.{none_held, apart_same, seat_at-push, holders_stay_push}
 
-nobody_in_order : IsSeat 0 0 nobody
-nobody_in_order = grind (arith, common_steps)
-
 fresh_mark : (n p : ℕ) → IsMark n 0 (new_seat ∷ []) p 0
 fresh_mark n p = record { above_all = λ t f. f.claimed_before; just_above = λ t e. absurd (omega arith) }
 
 pub opens : (n limit : ℕ) → 1 ≤ n → n ≤ 1024 → 1 ≤ limit → limit ≤ 32 → IsRing (opening n limit)
 opens n limit some most one few =
-    let each = seat_at-push [] (IsSeat 0 0) (λ i. nobody_in_order) (new_in_order 0 0) in
+    let each = seat_at-push [] (IsSeat 0 0) (λ i. grind (arith, common_steps)) (new_in_order 0 0) in
     let apart = apart_same [] (new_seat ∷ []) (holders_stay_push []) (λ i j t hi hj. none_held nobody.held t refl hi) in
     let marks = λ (p : ℕ) (h : p < n). subst (IsMark n 0 (new_seat ∷ []) p) (sym (get_or-replicate n p 0 0 h)) (fresh_mark n p) in
     let long = length-replicate {A = ℕ} n 0 in

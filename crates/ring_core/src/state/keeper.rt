@@ -6,6 +6,7 @@ use crate::step::NotPossible;
 
 /// The steps of the keeper. Each answers the next state, or that there is none and that nothing changed.
 impl RingState {
+    #[tactic(auto, using(crate::proofs::Bounds::state_small))]
     pub(crate) fn see(&mut self) -> Result<(), NotPossible>
         ensures { StepAnswers self.old See result self.new }
     {
@@ -23,6 +24,7 @@ impl RingState {
         Ok(())
     }
 
+    #[tactic(auto, using(crate::proofs::Bounds::state_small))]
     pub(crate) fn offer(&mut self, count: u16) -> Result<(), NotPossible>
         ensures { StepAnswers self.old (Offer count) result self.new }
     {
@@ -39,6 +41,7 @@ impl RingState {
         Ok(())
     }
 
+    #[tactic(auto, using(crate::proofs::Bounds::state_small))]
     pub(crate) fn sweep(&mut self, kind: u8) -> Result<(), NotPossible>
         ensures { StepAnswers self.old (Sweep kind) result self.new }
     {

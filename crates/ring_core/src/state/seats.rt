@@ -64,6 +64,7 @@ impl RingState {
         Ok(())
     }
 
+    #[tactic(auto, using(crate::proofs::Bounds::state_small))]
     pub(crate) fn add_mark(&mut self, seat: u8, kind: u8) -> Result<(), NotPossible>
         ensures { StepAnswers self.old (Mark seat kind) result self.new }
     {
