@@ -5,22 +5,13 @@ use Rattle.std.specs.Prelude.{ℕ, ◌==◌, ◌||◌, not, min, nat_le, Bool, L
 use Rattle.std.specs.List.{list_any}
 use Rattle.ids_types.specs.declared.key.Key.{Key}
 use Rattle.ids_types.specs.declared.names.Stamp.{Stamp}
+pub use Rattle.ids_types.specs.MemoryRow.{Row}
 
 -- an item as it is stored; without context data the list is empty
 pub record Stored : Type 0 where
   pub tick : ℕ
   pub key : Key
   pub count : ℕ
-  pub stamp : Option Stamp
-  pub context : List ℕ
-
--- a record: the key of its event, how often it occurred, the ticks of its first and last item, and the last
--- item's timestamp and context data
-pub record Row : Type 0 where
-  pub key : Key
-  pub occurrences : ℕ
-  pub first : ℕ
-  pub last : ℕ
   pub stamp : Option Stamp
   pub context : List ℕ
 
