@@ -9,6 +9,7 @@ pub mod JournalForm
 pub mod JournalReading
 pub mod JournalText
 pub mod Maybe
+pub mod MemoryText
 pub mod Names
 pub mod Numbers
 pub mod PiecesView
