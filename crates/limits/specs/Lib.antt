@@ -1,0 +1,3 @@
+pub mod Limiting
+pub mod Meters
+pub mod StateView
