@@ -1,0 +1,75 @@
+-- A gate that stands for some moments, and one moment more.
+use Rattle.std.proofs.Common.{◌≡◌, ℕ, suc, ◌<◌, ◌+◌, ◌%◌, ◌==◌, Bool, true, false, List, ◌∷◌, ◌++◌, ◌≢◌, length, option_to_list, if◌then◌else◌, refl, sym, ap, subst, ◌∙◌, add-one, eq-eqb, eqb-true, arith}
+use Rattle.std.proofs.Math.Nat.{suc-mod}
+use Rattle.std.proofs.lemmas.List.{length-set, get_or-set_same, get_or-set_other}
+use Rattle.ids_types.specs.declared.mode.Mode.{Mode}
+use Rattle.ids_config.specs.Parts.{Event, Parts, event_at}
+use Rattle.chain_spec.specs.Gate.{mode_at, state_at, item_in, is_arriving, arrivals}
+use Rattle.chain_spec.specs.Items.{Item}
+use Rattle.chain_spec.specs.Moments.{Moment, closes, comes}
+use Rattle.chain_spec.specs.Stages.{where_true}
+use Rattle.filter_gate.specs.Gate.{Gate, row_at, row_with, after_asking, gate_asked}
+use Rattle.filter_gate.specs.Stands.{row_after, Stands}
+
+-- ---- forward every nth
+
+-- one arrival more, counted from the last nth one
+rank_after : (n nth : ℕ) → (n % nth + 1) % nth ≡ suc n % nth
+rank_after n nth = ap (λ k. k % nth) (add-one (n % nth)) ∙ sym (suc-mod n nth)
+
+pub rank : (n nth : ℕ) → (n % nth + 1) % nth ≡ (n + 1) % nth
+rank n nth = rank_after n nth ∙ ap (λ k. k % nth) (sym (add-one n))
+
+-- ---- one item more
+
+-- what arrived is counted, and nothing else
+counted : (event : Event) (mode : Mode) (arriving : Bool) (item : Item) (items : List Item)
+    → row_with event mode (length (option_to_list (where_true arriving item) ++ items) % event.nth)
+    ≡ (if arriving then row_with event mode ((length items % event.nth + 1) % event.nth)
+    else row_with event mode (length items % event.nth))
+counted event mode true item items = ap (row_with event mode) (sym (rank_after (length items) event.nth))
+counted event mode false item items = refl
+
+-- the row of the item's own event
+own_row : (config : Parts) (before : List Moment) (item : Item) (k : ℕ) → (item.event == k) ≡ true
+    → row_after config (comes item ∷ before) k ≡ after_asking (state_at config before) (row_after config before k)
+own_row config before item k own =
+    let mode = mode_at config k before in
+    rw own (counted (event_at config k) mode (is_arriving config k before) (item_in mode item) (arrivals config k before))
+
+-- the row of another event
+other_row : (config : Parts) (before : List Moment) (item : Item) (k : ℕ) → (item.event == k) ≡ false
+    → row_after config (comes item ∷ before) k ≡ row_after config before k
+other_row config before item k other = rw other refl
+
+pub stands_with_item : (config : Parts) (before : List Moment) (item : Item) (gate : Gate) (k : ℕ) → item.event ≡ k
+    → k < length gate.rows → Stands config before gate → Stands config (comes item ∷ before) (gate_asked k gate)
+stands_with_item config before item gate k is within stands =
+    let asked = after_asking gate.state (row_at gate k) in
+    let own : asked ≡ row_after config (comes item ∷ before) k =
+    ap (λ state. after_asking state (row_at gate k)) stands.state
+    ∙ ap (after_asking (state_at config before)) (stands.rows k within)
+    ∙ sym (own_row config before item k (eq-eqb item.event k is)) in
+    record {
+      state = stands.state;
+      events = length-set gate.rows k asked ∙ stands.events;
+      rows = λ j below. elim (item.event == j) as (λ (b : Bool). (item.event == j) ≡ b
+          → row_at (gate_asked k gate) j ≡ row_after config (comes item ∷ before) j) [
+            | true ↦ λ here.
+                subst (λ j. row_at (gate_asked k gate) j ≡ row_after config (comes item ∷ before) j)
+                (sym is ∙ eqb-true item.event j here) (get_or-set_same gate.rows k asked _ within ∙ own)
+            | false ↦ λ other.
+                let apart : j ≢ k = grind (arith, other, is) in
+                get_or-set_other gate.rows k j asked _ apart
+                ∙ stands.rows j (subst (λ n. j < n) (length-set gate.rows k asked) below)
+                ∙ sym (other_row config before item j other)
+          ] refl;
+    }
+
+-- ---- closings
+
+-- that windows close is nothing to a gate
+pub stands_with_closing : (config : Parts) (before : List Moment) (tick event : ℕ) (gate : Gate)
+    → Stands config before gate → Stands config (closes tick event ∷ before) gate
+stands_with_closing config before tick event gate stands =
+    record { state = stands.state; events = stands.events; rows = stands.rows }

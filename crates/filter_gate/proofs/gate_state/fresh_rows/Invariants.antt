@@ -1,0 +1,7 @@
+use Rattle.std.proofs.Common.{◌≡◌, map, take}
+use Rattle.filter_gate.specs.Gate.{fresh_row}
+use Rattle.filter_gate.proofs.gate_state.fresh_rows.Given as goal
+
+-- the rows so far are those of the events so far
+abbrev pub invariant-loop-event : goal.invariant-loop-event
+invariant-loop-event l = l.rows.items ≡ map fresh_row (take l.event-index l.events)

@@ -1,0 +1,4 @@
+pub mod Gate
+pub mod GateView
+pub mod RowView
+pub mod Stands

@@ -1,0 +1,109 @@
+ghost use Rattle.std.specs.Prelude.{◌≡◌, ◌<◌, ℕ, List, [], ◌∷◌, length, map, IfOk};
+ghost use Rattle.std.specs.List.{All};
+ghost use Rattle.ids_config.specs.Parts.{Parts};
+ghost use Rattle.chain_spec.specs.Gate.{sampled_at, bypassing_at};
+ghost use Rattle.chain_spec.specs.Items.{Item};
+ghost use Rattle.chain_spec.specs.Moments.{Moment, comes, state_is, mode_is};
+ghost use Rattle.filter_gate.specs.Gate.{fresh_row, row_at, verdict_on, gate_asked, gate_with_mode};
+ghost use Rattle.filter_gate.specs.Stands.{Stands, let_through, let_by};
+
+use crate::row::Row;
+use crate::verdict::Verdict;
+use ids_config::{Config, EventParts};
+use ids_types::{EventIndex, Mode, NoMemory};
+use std::alloc::Global;
+use std::marker::Model;
+
+/// The filters of reporting mode, block state, and forward every nth, for each event.
+#[derive(Debug, Drop)]
+pub struct GateState {
+    state: u64,
+    rows: Vec<Row>,
+}
+
+impl Model for GateState {
+    ghost use Rattle.filter_gate.specs.Gate.{Gate};
+
+    ghost Value = { Gate };
+
+    ghost use Rattle.filter_gate.specs.GateView.{gate_of};
+
+    ghost view = { gate_of };
+}
+
+impl GateState {
+    /// The gate of a configuration, before anything came.
+    pub fn make(alloc: Global, config: &Config) -> Result<GateState, NoMemory>
+        ensures { IfOk result (Stands config.now []) }
+    {
+        let parts = config.parts();
+        Ok(GateState {
+            state: parts.state,
+            rows: fresh_rows(alloc, &parts.events)?,
+        })
+    }
+
+    /// The verdict on an item of the event.
+    #[tactic(auto, using(crate::proofs::StandsLemmas::rank))]
+    pub fn gate(&mut self, event: EventIndex) -> Verdict
+        requires { event.0 < length self.old.rows }
+        // What it lets through is what is sampled of the item, and what it lets by is what bypasses.
+        ensures sampled { (config : Parts) (before : List Moment) (item : Item)
+            → item.event ≡ event.0 → Stands config before self.old
+            → let_through result item ≡ sampled_at config event.0 before (comes item) }
+        ensures bypassing { (config : Parts) (before : List Moment) (item : Item)
+            → item.event ≡ event.0 → Stands config before self.old
+            → let_by result item ≡ bypassing_at config before (comes item) }
+        ensures stands { (config : Parts) (before : List Moment) (item : Item)
+            → item.event ≡ event.0 → Stands config before self.old
+            → Stands config (comes item ∷ before) self.new }
+        ensures events { length self.new.rows ≡ length self.old.rows }
+    {
+        self.ask(event)
+    }
+
+    /// The state becomes this one.
+    pub fn state(&mut self, state: u8)
+        ensures stands { (config : Parts) (before : List Moment)
+            → Stands config before self.old → Stands config (state_is state ∷ before) self.new }
+        ensures events { length self.new.rows ≡ length self.old.rows }
+    {
+        self.state = u64::from(state);
+    }
+
+    /// The event's reporting mode becomes this one.
+    pub fn mode(&mut self, event: EventIndex, mode: Mode)
+        requires { event.0 < length self.old.rows }
+        ensures stands { (config : Parts) (before : List Moment)
+            → Stands config before self.old → Stands config (mode_is event.0 mode ∷ before) self.new }
+        ensures events { length self.new.rows ≡ length self.old.rows }
+    {
+        self.set_mode(event, mode);
+    }
+
+    fn ask(&mut self, event: EventIndex) -> Verdict
+        requires { event.0 < length self.old.rows }
+        ensures verdict { result ≡ verdict_on self.old.state (row_at self.old event.0) }
+        ensures gate { self.new ≡ gate_asked event.0 self.old }
+    {
+        self.rows[event.0 as usize].ask(self.state)
+    }
+
+    fn set_mode(&mut self, event: EventIndex, mode: Mode)
+        requires { event.0 < length self.old.rows }
+        ensures { self.new ≡ gate_with_mode event.0 mode self.old }
+    {
+        self.rows[event.0 as usize].set_mode(mode);
+    }
+}
+
+fn fresh_rows(alloc: Global, events: &[EventParts]) -> Result<Vec<Row>, NoMemory>
+    requires { All (λ event. 0 < event.nth) events.now }
+    ensures { IfOk result (λ rows. rows.items ≡ map fresh_row events.now) }
+{
+    let mut rows = Vec::with_capacity(alloc, events.len())?;
+    for event in events {
+        rows.push(Row::fresh(alloc, event)?)?;
+    }
+    Ok(rows)
+}
