@@ -44,11 +44,9 @@ fn offered_slots<O: Drop, D: Drop>(
 ) -> Result<Vec<Slot<O, D>>, AllocError>
     ensures { IfOk result (λ v. v.items ≡ map Offered load.items) }
 {
-    let mut slots = Vec::with_capacity(alloc, load.len())?;
-    for value in load {
-        slots.push(Slot::Offered(value)).unwrap();
-    }
-    Ok(slots)
+    load.into_iter()
+        .map(|value| Slot::Offered(value))
+        .collect(alloc)
 }
 
 // Makes all seats of a ring, by number.

@@ -1,22 +1,20 @@
 -- A queue that has just been made, from its ring.
-use Rattle.std.proofs.Common.{◌≡◌, ℕ, zero, suc, ◌+◌, ◌<◌, ◌≤◌, ◌^◌, List, [], ◌∷◌, ◌++◌, map, length, replicate, Option, Some, None, refl, sym, ap, ◌∙◌, subst, arith, All, slice_index_or}
+use Rattle.std.proofs.Common.{◌≡◌, ℕ, zero, suc, ◌+◌, ◌<◌, ◌≤◌, List, [], ◌∷◌, ◌++◌, map, length, replicate, Option, Some, None, refl, sym, ap, ◌∙◌, subst, arith, All, slice_index_or}
 use Rattle.std.proofs.lemmas.List.{get_or_default, length-map, length-replicate, replicate_more}
-use Rattle.std.proofs.lemmas.Option.{none-some}
-use mathlib.Core.Option.{some, some-injective, some-ne-none}
+use mathlib.Core.Option.{some}
 use lib.ListN.{get_elem?}
 use Rattle.atomic_table.proofs.Lists.{at_index}
-use Rattle.report_queue.specs.Names.{KeeperMemo, Got, SeatMemo, Item, Queue, QueueSeat, Taker}
+use Rattle.report_queue.specs.Names.{KeeperMemo, SeatMemo, Item, Queue, QueueSeat, Taker}
 use Rattle.permit_ring.specs.declared.seat.Seat.{Seat}
-use Rattle.permit_ring.specs.Logs.{IsOrdered}
 use Rattle.permit_ring.specs.Making as ring
 use Rattle.permit_ring.specs.Seats.{seat_number}
 use Rattle.permit_ring.proofs.ListLemmas.{at_length}
 use Rattle.permit_ring.proofs.NewRings.{new_ordered}
 use Rattle.report_queue.specs.declared.cargo.Items.{Items}
 use Rattle.report_queue.specs.Items.{admits_all}
-use Rattle.report_queue.specs.Making.{IsNewQueue, IsUnused, as_callers, new_caller, new_taker}
+use Rattle.report_queue.specs.Making.{IsNewQueue, IsUnused, as_callers, new_taker}
 use Rattle.report_queue.specs.Parts.{IsTakerOf, caller_number}
-use Rattle.report_queue.specs.Views.{CallerView, TakerView, back_in, caller_in, taker_in}
+use Rattle.report_queue.specs.Views.{back_in, taker_in}
 use Rattle.report_queue.proofs.ClosingLemmas.{at_map_back}
 
 map-replicate : {A B : Type 0} (f : A → B) (n : ℕ) (a : A) → map f (replicate n a) ≡ replicate n (f a)

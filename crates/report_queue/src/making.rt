@@ -24,11 +24,10 @@ fn callers_of<P: Cargo>(
 ) -> Result<Vec<QueueSeat<P>>, AllocError>
     ensures { IfOk result (λ v. v.items ≡ as_callers ring_seats.items) }
 {
-    let mut seats = Vec::with_capacity(alloc, ring_seats.len())?;
-    for seat in ring_seats {
-        seats.push(QueueSeat { seat }).unwrap();
-    }
-    Ok(seats)
+    ring_seats
+        .into_iter()
+        .map(|seat| QueueSeat { seat })
+        .collect(alloc)
 }
 
 /// Makes a queue of `n` positions, all free, its taker and as many idle callers as are asked for.
