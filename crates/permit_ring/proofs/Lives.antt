@@ -47,8 +47,7 @@ module _ {O D T N : Type 0} {note : D → N} {Ao : T → O → Type 0} {An : T �
   -- the seats that were made before know what they knew
   known : (memo : SeatMemo N) → IsSeatMemo r.machine r.moves r.fates r.keeper.fronts r.keeper.made memo
       → IsSeatMemo after_it then r.fates r.keeper.fronts (r.keeper.made + 1) memo
-  known memo is = seat_stays is (split.old memo.number is.is_made) (split.quiet memo.number) refl (le_refl r.machine.word.claimed)
-      (λ g stands. stands) (omega arith)
+  known memo is = grind (arith, split)
 
   -- and the new one knows of no call
   known_new : IsSeatMemo after_it then r.fates r.keeper.fronts (r.keeper.made + 1) (new_memo r.keeper.made)

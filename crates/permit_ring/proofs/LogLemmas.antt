@@ -158,11 +158,8 @@ module _ {N : Type 0} where
   taken_none i f [] none = refl
   taken_none i f (None ∷ fates) none = taken_none i (suc f) fates (λ u. none (suc u))
   taken_none i f (Some y ∷ fates) none =
-      simp (ne_eqb i y.0 (λ own. none 0 y.1 (ap (λ (k : ℕ). some (Some (k, y.1))) (sym own)))) (taken_none i (suc f) fates (λ u. none (suc u)))
-
-  own_more : (f : ℕ) (y : ℕ × N) (rest more last : List (ℕ × N)) (own : Bool) → more ≡ rest ++ last
-      → cond own ((f, y.1) ∷ more) more ≡ cond own ((f, y.1) ∷ rest) rest ++ last
-  own_more f y rest more last own e = grind (arith, common_steps)
+      let other = ne_eqb i y.0 (λ own. none 0 y.1 (ap (λ (k : ℕ). some (Some (k, y.1))) (sym own))) in
+      simp other (taken_none i (suc f) fates (λ u. none (suc u)))
 
   -- one that the seat finishes itself comes last, where all that it finished before are below it
   taken-own_from : (i f b : ℕ) (x : N) (fates : Fates N) (t : ℕ) → b ≡ f + t → get_elem? fates t ≡ some None
@@ -173,9 +170,9 @@ module _ {N : Type 0} where
       simp (eq-eqb i i refl, none) (let here : f ≡ b = omega arith in cc)
   taken-own_from i f b x (None ∷ fates) (suc t) is e below = taken-own_from i (suc f) b x fates t (omega arith) e
       (λ u y done. let k = below (suc u) y done in omega arith)
-  taken-own_from i f b x (Some y ∷ fates) (suc t) is e below = own_more f y (taken_by i (suc f) fates)
-      (taken_by i (suc f) (set fates t (Some (i, x)))) ((b, x) ∷ []) (eqb i y.0)
-      (taken-own_from i (suc f) b x fates t (omega arith) e (λ u z done. let k = below (suc u) z done in omega arith))
+  taken-own_from i f b x (Some y ∷ fates) (suc t) is e below =
+      let rest = taken-own_from i (suc f) b x fates t (omega arith) e (λ u z done. let k = below (suc u) z done in omega arith) in
+      grind (arith, common_steps)
   taken-own_from i f b x _ _ is e below = cc
 
   -- a ticket that a seat finishes comes last among its own

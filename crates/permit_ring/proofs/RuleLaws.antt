@@ -30,18 +30,16 @@ module _ {O D T N : Type 0} {note : D → N} {Ao : T → O → Type 0} {An : T �
   abbrev Known : SeatMemo N → Type 0
   Known memo = IsSeatMemo r.machine r.moves r.fates r.keeper.fronts r.keeper.made memo
 
-  -- the keeper has the memo
-  back_there : (memo : SeatMemo N) → CameBack s.views memo → get_elem? r.keeper.back memo.number ≡ some (Some memo)
-  back_there memo c = rw (keeper_port r c.there).1 at c.back_at
-
-  -- who came back is not live, and knows what it knew
-  ended_known : (memo : SeatMemo N) → CameBack s.views memo → (memo.view.live ≡ false) × Known memo
-  ended_known memo c = let p = r.each_seat memo.number (Some memo) (back_there memo c) in (p.1, p.2)
+  -- who came back is with the keeper and not live, and knows what it knew
+  came_back : (memo : SeatMemo N) → CameBack s.views memo
+      → (get_elem? r.keeper.back memo.number ≡ some (Some memo)) × (memo.view.live ≡ false) × Known memo
+  came_back memo c = let here = rw (keeper_port r c.there).1 at c.back_at in
+      let p = r.each_seat memo.number (Some memo) here in (here, p.1, p.2)
 
   -- what a seat that was made knows
   pub memo_known : (memo : SeatMemo N) → IsMemoThere s.views memo → Known memo
   memo_known memo (inl sits) = knows_it r _ sits.there
-  memo_known memo (inr back) = (ended_known memo back).1
+  memo_known memo (inr back) = (came_back memo back).2
 
   -- a number has one port
   pub one_port : (p q : ℕ) (its other : Key T) (a b : SeatMemo N) → get_elem? s.views p ≡ some (Sits its a)
@@ -51,9 +49,9 @@ module _ {O D T N : Type 0} {note : D → N} {Ao : T → O → Type 0} {An : T �
   -- a number has one memo
   one_each : (a b : SeatMemo N) → IsMemoThere s.views a → IsMemoThere s.views b → a.number ≡ b.number → a ≡ b
   one_each a b (inl x) (inl y) e = let same = one_port x.port y.port x.its_key y.its_key a b x.there y.there e in cc (x.there, y.there)
-  one_each a b (inl x) (inr y) e = let was = ended_known b y in cc (is_live r _ x.there, (knows_it r _ x.there).shows, was.0, was.1.shows)
-  one_each a b (inr x) (inl y) e = let was = ended_known a x in cc (is_live r _ y.there, (knows_it r _ y.there).shows, was.0, was.1.shows)
-  one_each a b (inr x) (inr y) e = cc (back_there a x, back_there b y)
+  one_each a b (inl x) (inr y) e = let was = came_back b y in cc (is_live r _ x.there, (knows_it r _ x.there).shows, was.1, was.2.shows)
+  one_each a b (inr x) (inl y) e = let was = came_back a x in cc (is_live r _ y.there, (knows_it r _ y.there).shows, was.1, was.2.shows)
+  one_each a b (inr x) (inr y) e = cc ((came_back a x).0, (came_back b y).0)
 
   -- the memo of a seat by its number
   memo_from : (i : ℕ) (back : Option (SeatMemo N)) → get_elem? r.keeper.back i ≡ some back
@@ -130,8 +128,8 @@ module _ {O D T N : Type 0} {note : D → N} {Ao : T → O → Type 0} {An : T �
   holder_sits : (memo : SeatMemo N) (t : ℕ) → IsMemoThere s.views memo → Holds memo.view t → SitsThere s.views memo
   holder_sits memo t (inl sits) h = sits
   holder_sits memo t (inr back) h =
-      let was = ended_known memo back in
-      cc (was.0, was.1.shows, holder_lives memo.number t (machine_holds memo (inr back) t h))
+      let was = came_back memo back in
+      cc (was.1, was.2.shows, holder_lives memo.number t (machine_holds memo (inr back) t h))
 
   -- a ticket of which nothing became is held, and has this place alone
   held_once : (t : ℕ) → get_elem? r.fates t ≡ some None → IsHeldOnce s.views t

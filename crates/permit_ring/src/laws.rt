@@ -49,12 +49,14 @@ pub fn slots_follow_their_tickets<F: Freight>(ticket: u64)
 {}
 
 /// What is settled is all reaped, so that no later reap answers `Ok`.
+#[tactic(auto, using(crate::proofs::Settled::settled_is_reaped))]
 pub fn what_is_settled_is_reaped<F: Freight>()
     ghost k: { KeeperMemo F.Note }
     ensures { IsSettled k → IsAllReaped k }
 {}
 
 /// One offer more changes nothing of what was settled.
+#[tactic(auto, using(crate::proofs::Settled::offer_keeps_back, crate::proofs::Settled::offer_keeps_reaped))]
 pub fn an_offer_keeps_what_is_settled<F: Freight>(seats: u8, count: u16, tries: u16)
     ghost k: { KeeperMemo F.Note × KeeperMemo F.Note }
     ensures back { OfferTells seats count k.0 tries k.1 → AreAllBack k.0 → AreAllBack k.1 }

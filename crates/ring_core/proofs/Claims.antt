@@ -8,16 +8,6 @@ use Rattle.ring_core.specs.Sound.{IsRing, IsSeat, AreSeats, IsFinished, Holds}
 use Rattle.ring_core.proofs.Changes.{seats_set, seat_sound}
 use Rattle.ring_core.proofs.SeatLemmas.{live_is_made, one_if, mark_stays, sums_after, holder_after, holder_before, seat_at-here, none_held, one_ticket}
 
--- the state after a claim that the seat makes in vain
-abbrev pub vain_after : Machine → ℕ → SeatView → Machine
-vain_after m i seat = record (with_seat m i (record seat { armed = false })) { word = record m.word { over = m.word.over + 1 } }
-
--- the state after a claim that gets the next ticket
-abbrev pub served_after : Machine → ℕ → SeatView → Machine
-served_after m i seat = record (with_seat m i (record seat { armed = false; held = Some (record { 0 = m.word.claimed }) })) {
-  word = record m.word { claimed = m.word.claimed + 1; free = m.word.free - 1 };
-}
-
 module _ (m : Machine) (r : IsRing m) (i : ℕ) (is_armed : (seat_at m.seats i).armed ≡ true) where
   abbrev old : SeatView
   old = seat_at m.seats i
@@ -31,7 +21,8 @@ module _ (m : Machine) (r : IsRing m) (i : ℕ) (is_armed : (seat_at m.seats i).
   in_vain : IsSeat m.reaped m.word.claimed (record old { armed = false })
   in_vain = let s = r.seats.each i in grind (arith, common_steps)
 
-  vain_sound : m.word.free ≡ 0 → IsRing (vain_after m i old)
+  vain_sound : m.word.free ≡ 0
+      → IsRing (record (with_seat m i (record old { armed = false })) { word = record m.word { over = m.word.over + 1 } })
   vain_sound full =
       let sums = sums_after m.seats i (record old { armed = false }) made in
       let one : one_if old.armed ≡ 1 = ap one_if is_armed in
@@ -64,7 +55,8 @@ module _ (m : Machine) (r : IsRing m) (i : ℕ) (is_armed : (seat_at m.seats i).
   finished_after : (p t : ℕ) → IsFinished m.positions m.word.claimed m.seats p t → IsFinished m.positions (m.word.claimed + 1) now p t
   finished_after p t f = let after = λ (j : ℕ). held_after j t in grind arith
 
-  served_sound : 0 < m.word.free → IsRing (served_after m i old)
+  served_sound : 0 < m.word.free
+      → IsRing (record (with_seat m i served) { word = record m.word { claimed = m.word.claimed + 1; free = m.word.free - 1 } })
   served_sound some =
       let sums = sums_after m.seats i served made in
       let one : one_if old.armed ≡ 1 = ap one_if is_armed in

@@ -15,6 +15,5 @@ after_sizes m step = grind arith
 
 pub answer_sizes : {X E : Type 0} (m now : Machine) (step : Step) (result : Result X E) → StepAnswers m step result now
     → HasSizes m.positions m.limit now
-answer_sizes m now step (Ok _) answer = sizes_on m.positions m.limit (after m step) now (after_sizes m step)
-    (same_sizes (after m step) now (step_of_next m now step answer).is_after)
+answer_sizes m now step (Ok _) answer = grind (arith, after_sizes m step, step_of_next m now step answer)
 answer_sizes m now step (Err _) answer = same_sizes m now answer.1
