@@ -14,13 +14,15 @@ use Rattle.chain_spec.specs.Windows.{Window, EndBy, opened, extended, covers, wi
 use Rattle.chain_spec.proofs.FilterLemmas.{keeps_own}
 use Rattle.chain_spec.proofs.WindowsLemmas.{newest_decides}
 
--- what comes to the aggregation filter, what arrived, and a window of it, over bytes of context data
+-- a call of the aggregation filter, over bytes of context data
 abbrev pub ACall : Type 0
 ACall = Call (List ℕ)
 
+-- what arrived by one
 abbrev pub AnArrival : Type 0
 AnArrival = Arrival (List ℕ)
 
+-- a window of such
 abbrev pub AWindow : Type 0
 AWindow = Window AnArrival
 
