@@ -10,7 +10,7 @@ use Rattle.chain_spec.specs.Closing.{closing_item}
 use Rattle.chain_spec.specs.Counting.{Occurrence}
 use Rattle.chain_spec.specs.Gate.{sampled_at, bypassing_at}
 use Rattle.chain_spec.specs.Items.{Item, told_of, item_at}
-use Rattle.chain_spec.specs.Moments.{Moment, closes, comes, state_is, mode_is}
+use Rattle.chain_spec.specs.Moments.{Moment, closes, comes}
 use Rattle.chain_spec.specs.Stages.{Stage, added, behind, where_true}
 use Rattle.chain_spec.specs.Threshold.{verdict}
 
@@ -22,8 +22,7 @@ arrival item = arrives item.tick (told_of item)
 abbrev pub gated_at : Parts → Stage Moment (Call (List ℕ))
 gated_at config before (closes tick event) = Some (closes_due tick event)
 gated_at config before (comes item) = option_map arrival (sampled_at config item.event before (comes item))
-gated_at config before (state_is state) = None
-gated_at config before (mode_is event mode) = None
+gated_at config before _ = None
 
 -- the item itself, where its event is not aggregated
 abbrev pub alone : Option Aggregate → Item → Option Item

@@ -3,44 +3,36 @@
 use Rattle.std.specs.Prelude.{ℕ, ◌+◌, ◌%◌, ◌==◌, ◌&&◌, not, Bool, true, false, List, length, filter_map, Option, Some, None, if◌then◌else◌}
 use Rattle.std.specs.List.{list_any}
 use Rattle.ids_types.specs.declared.mode.Mode.{Mode}
-use Rattle.ids_types.specs.declared.mode.Mode.TheVariants.{Off, Brief, Detailed, BriefBypassing, DetailedBypassing}
+use Rattle.ids_types.specs.declared.mode.Mode.TheVariants.{Brief, Detailed, BriefBypassing, DetailedBypassing}
 use Rattle.ids_config.specs.Parts.{Parts, event_at}
 use Rattle.chain_spec.specs.Items.{Item, is_of}
-use Rattle.chain_spec.specs.Moments.{Moment, closes, comes, state_is, mode_is}
+use Rattle.chain_spec.specs.Moments.{Moment, comes, state_is, mode_is}
 use Rattle.chain_spec.specs.Stages.{added, where_true, newest_else}
 
 -- ---- reporting mode and state
 
 -- the mode goes through the filters
 abbrev pub is_filtered : Mode → Bool
-is_filtered Off = false
 is_filtered Brief = true
 is_filtered Detailed = true
-is_filtered BriefBypassing = false
-is_filtered DetailedBypassing = false
+is_filtered _ = false
 
 -- the mode bypasses the filters
 abbrev pub is_bypassing : Mode → Bool
-is_bypassing Off = false
-is_bypassing Brief = false
-is_bypassing Detailed = false
 is_bypassing BriefBypassing = true
 is_bypassing DetailedBypassing = true
+is_bypassing _ = false
 
 -- the mode keeps context data
 abbrev pub is_detailed : Mode → Bool
-is_detailed Off = false
-is_detailed Brief = false
 is_detailed Detailed = true
-is_detailed BriefBypassing = false
 is_detailed DetailedBypassing = true
+is_detailed _ = false
 
 -- the mode that a moment gives an event
 abbrev pub mode_set : ℕ → Moment → Option Mode
-mode_set event (closes tick other) = None
-mode_set event (comes item) = None
-mode_set event (state_is state) = None
 mode_set event (mode_is other mode) = where_true (other == event) mode
+mode_set event _ = None
 
 -- the mode of an event after these moments: the one that was set last, or else the configured one
 abbrev pub mode_at : Parts → ℕ → List Moment → Mode
@@ -48,10 +40,8 @@ mode_at config event before = newest_else (event_at config event).mode (filter_m
 
 -- the state that a moment changes to
 abbrev pub state_set : Moment → Option ℕ
-state_set (closes tick event) = None
-state_set (comes item) = None
 state_set (state_is state) = Some state
-state_set (mode_is event mode) = None
+state_set _ = None
 
 -- the state after these moments: the one that was changed to last, or else the configured one
 abbrev pub state_at : Parts → List Moment → ℕ
@@ -81,9 +71,7 @@ is_arriving config event before = is_filtered (mode_at config event before) && n
 abbrev pub arrival_at : Parts → ℕ → List Moment → Moment → Option Item
 arrival_at config event before (comes item) =
     where_true (is_of event item && is_arriving config event before) (item_in (mode_at config event before) item)
-arrival_at config event before (closes tick other) = None
-arrival_at config event before (state_is state) = None
-arrival_at config event before (mode_is other mode) = None
+arrival_at config event before _ = None
 
 -- the arrivals of an event: its items that pass reporting mode and block state
 abbrev pub arrivals : Parts → ℕ → List Moment → List Item
@@ -110,6 +98,4 @@ abbrev pub bypassing_at : Parts → List Moment → Moment → Option Item
 bypassing_at config before (comes item) =
     let mode = mode_at config item.event before in
     where_true (is_bypassing mode) (item_in mode item)
-bypassing_at config before (closes tick event) = None
-bypassing_at config before (state_is state) = None
-bypassing_at config before (mode_is event mode) = None
+bypassing_at config before _ = None
