@@ -1,0 +1,4 @@
+pub mod AccountLemmas
+pub mod SlotLemmas
+pub mod StandsLemmas
+mod StepLemmas

@@ -1,0 +1,19 @@
+use Rattle.std.proofs.Common.{◌≡◌, List, [], map, sym, subst, rules}
+use Rattle.filter_aggregate.specs.declared.slot.Slot.{Slot}
+use Rattle.filter_aggregate.specs.Slots.{HaveIntervals, fresh_slot, slots_by}
+use Rattle.filter_aggregate.specs.Standing.{Stands}
+use Rattle.filter_aggregate.proofs.SlotLemmas.{intervals_fresh}
+use Rattle.filter_aggregate.proofs.StandsLemmas.{stands_fresh}
+use Rattle.filter_aggregate.proofs.windows.Windows.make.Goals as goal
+
+pub invariant_of-result : goal.invariant_of-result
+invariant_of-result g c =
+    let config = c.args.config.now in
+    let fresh : c.in_ok-slots.slots.items ≡ map (λ event. fresh_slot event.aggregate) config.events = search rules in
+    subst HaveIntervals (sym fresh) (intervals_fresh config.profile config.events c.parts.ensures.valid.events)
+
+pub returns-clause-stands_over : goal.returns-clause-stands_over
+returns-clause-stands_over g c =
+    let config = c.args.config.now in
+    let fresh : c.in_ok-slots.slots.items ≡ map (λ event. fresh_slot event.aggregate) config.events = search rules in
+    subst (λ (slots : List (Slot g.row.B.Denot)). Stands config [] (slots_by g.B.Parcel.held slots)) (sym fresh) (stands_fresh g.B.Parcel.held config)

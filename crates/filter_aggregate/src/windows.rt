@@ -1,0 +1,139 @@
+ghost use Rattle.std.specs.Prelude.{◌≡◌, ◌≢◌, ◌<◌, ℕ, List, [], ◌∷◌, length, map, option_map, option_and_then, option_to_list, is_some, IsSome, IfOk};
+ghost use Rattle.std.specs.Bool.{IsFalse};
+ghost use Rattle.std.specs.Option.{option_copied};
+ghost use Rattle.ids_config.specs.Parts.{Parts, event_at};
+ghost use Rattle.chain_spec.specs.Calls.{Call, closes_due, arrives, call_tick};
+ghost use Rattle.chain_spec.specs.Closing.{closing_item};
+ghost use Rattle.chain_spec.specs.Items.{told_by};
+ghost use Rattle.chain_spec.specs.Windows.{EndBy};
+ghost use Rattle.filter_aggregate.specs.Account.{Accounts, all_kept};
+ghost use Rattle.filter_aggregate.specs.Slots.{fresh_slot, slot_at, held_in, is_due, item_due, after_closing, keeps_last, spare_of, after_arrival, slots_by};
+ghost use Rattle.filter_aggregate.specs.Standing.{Stands};
+
+use crate::slot::Slot;
+use ids_config::{Config, EventParts};
+use ids_types::{EventIndex, NoMemory, Parcel, Qualified};
+use std::alloc::{AllocError, Global};
+use std::marker::Model;
+
+/// The aggregation windows of all events. No memory is taken but in `make`.
+#[derive(Debug, Drop)]
+pub struct Windows<B> {
+    slots: Vec<Slot<B>>,
+}
+
+impl<B> Model for Windows<B> {
+    ghost use Rattle.std.specs.Prelude.{List};
+    ghost use Rattle.filter_aggregate.specs.declared.slot.Slot.{Slot};
+
+    ghost Value = { List (Slot B) };
+
+    ghost use Rattle.filter_aggregate.specs.Slots.{HaveIntervals};
+
+    ghost view = { λ w. w.slots.items };
+
+    ghost invariant = { λ w. HaveIntervals w.slots.items };
+}
+
+impl<B: Parcel> Windows<B> {
+    /// The windows of a configuration, none of them open.
+    pub fn make(alloc: Global, config: &Config) -> Result<Windows<B>, NoMemory>
+        ensures slots { IfOk result (λ w. w ≡ map (λ event. fresh_slot event.aggregate) config.now.events) }
+        ensures stands_over { IfOk result (λ w. Stands config.now [] (slots_by B.held w)) }
+    {
+        let slots = fresh_slots(alloc, &config.parts().events)?;
+        Ok(Windows { slots })
+    }
+
+    /// Whether the event is aggregated.
+    pub fn aggregates(&self, event: EventIndex) -> bool
+        requires { event.0 < length self.now }
+        ensures slot { result ≡ is_some (slot_at self.now event.0).setting }
+        ensures configured { (config : Parts) (calls : List (Call (List ℕ))) → Stands config calls (slots_by B.held self.now)
+            → result ≡ is_some (event_at config event.0).aggregate }
+    {
+        self.slots[usize::from(event.0)].setting.is_some()
+    }
+
+    /// The parcel that the event's open window keeps, if it is open and keeps one.
+    pub fn holds(&self, event: EventIndex) -> Option<&B>
+        requires { event.0 < length self.now }
+        ensures { option_copied result ≡ held_in (slot_at self.now event.0) }
+    {
+        match &self.slots[usize::from(event.0)].window {
+            Some(window) => window.item.context.as_ref(),
+            None => None,
+        }
+    }
+
+    /// Closes the event's window where it is due at the tick, and gives its one item.
+    pub fn close_due(&mut self, event: EventIndex, tick: u64) -> Option<Qualified<B>>
+        requires { event.0 < length self.old }
+        // What it gives, and the slots and parcels then.
+        ensures slots { self.new ≡ after_closing event.0 tick self.old }
+        ensures item { result ≡ item_due tick (slot_at self.old event.0) }
+        ensures moved { Accounts [] (all_kept self.old) (option_to_list (option_and_then (λ item. item.context) result)) (all_kept self.new) }
+        ensures settled { IsFalse (is_due tick (slot_at self.new event.0)) }
+        ensures others { (k : ℕ) → k ≢ event.0 → slot_at self.new k ≡ slot_at self.old k }
+
+        // What that is over the parcels' bytes, after any calls.
+        ensures stands_over { (config : Parts) (calls : List (Call (List ℕ))) → Stands config calls (slots_by B.held self.old)
+            → Stands config (closes_due tick event.0 ∷ calls) (slots_by B.held self.new) }
+        ensures gives_over { (config : Parts) (calls : List (Call (List ℕ))) → Stands config calls (slots_by B.held self.old)
+            → option_map (told_by B.held) result ≡ closing_item (event_at config event.0).aggregate event.0 tick calls }
+    {
+        self.close_slot(event, tick)
+    }
+
+    /// An item arrives. Gives back the parcel that its window does not keep.
+    #[tactic(auto, using(crate::proofs::AccountLemmas::account_arriving, crate::proofs::SlotLemmas::settled_arriving))]
+    pub fn arrive(&mut self, tick: u64, item: Qualified<B>) -> Option<B>
+        requires exists { item.event.0 < length self.old }
+        requires aggregates { IsSome (slot_at self.old item.event.0).setting }
+        requires none_due { IsFalse (is_due tick (slot_at self.old item.event.0)) }
+        // What it gives back, and the slots and parcels then.
+        ensures slots { self.new ≡ after_arrival tick item self.old }
+        ensures back { let slot = slot_at self.old item.event.0 in
+            result ≡ spare_of (keeps_last slot.setting) (held_in slot) item.context }
+        ensures moved { Accounts (option_to_list item.context) (all_kept self.old) (option_to_list result) (all_kept self.new) }
+        ensures settled { IsFalse (is_due tick (slot_at self.new item.event.0)) }
+        ensures others { (k : ℕ) → k ≢ item.event.0 → slot_at self.new k ≡ slot_at self.old k }
+
+        // What that is over the parcels' bytes, after any calls whose ticks do not fall.
+        ensures stands_over { (config : Parts) (calls : List (Call (List ℕ))) → Stands config calls (slots_by B.held self.old)
+            → EndBy call_tick tick calls → Stands config (arrives tick (told_by B.held item) ∷ calls) (slots_by B.held self.new) }
+    {
+        let _slots = &self.slots;
+        self.arrive_slot(tick, item)
+    }
+
+    fn close_slot(&mut self, event: EventIndex, tick: u64) -> Option<Qualified<B>>
+        requires { event.0 < length self.old }
+        ensures slots { self.new ≡ after_closing event.0 tick self.old }
+        ensures item { result ≡ item_due tick (slot_at self.old event.0) }
+    {
+        self.slots[usize::from(event.0)].close_due(tick)
+    }
+
+    fn arrive_slot(&mut self, tick: u64, item: Qualified<B>) -> Option<B>
+        requires { item.event.0 < length self.old }
+        ensures slots { self.new ≡ after_arrival tick item self.old }
+        ensures back { let slot = slot_at self.old item.event.0 in
+            result ≡ spare_of (keeps_last slot.setting) (held_in slot) item.context }
+    {
+        self.slots[usize::from(item.event.0)].arrive(tick, item)
+    }
+}
+
+/// A slot for each event.
+fn fresh_slots<B: Parcel>(alloc: Global, events: &[EventParts]) -> Result<Vec<Slot<B>>, AllocError>
+    ensures { IfOk result (λ slots. slots.items ≡ map (λ event. fresh_slot event.aggregate) events.now) }
+{
+    events
+        .iter()
+        .map(|event| Slot {
+            setting: event.aggregate,
+            window: None,
+        })
+        .collect(alloc)
+}
