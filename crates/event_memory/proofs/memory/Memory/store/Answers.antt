@@ -1,0 +1,8 @@
+use Rattle.std.proofs.Common.{arith}
+use Rattle.event_memory.specs.Held.{stored}
+use Rattle.event_memory.proofs.StandsLemmas.{stands_after}
+use Rattle.event_memory.proofs.memory.Memory.store.Goals as goal
+
+pub returns-clause-stands : goal.returns-clause-stands
+returns-clause-stands c =
+    λ items stands. rw c.put.ensures (stands_after (stored c.args.tick c.args.key c.args.count c.args.stamp c.args.context.now) c.args.self.now items (omega arith) stands)

@@ -1,0 +1,5 @@
+pub mod Held
+pub mod MemoryView
+pub mod RowView
+pub mod SlotView
+pub mod Standing
