@@ -79,12 +79,6 @@ module _ {O D T N : Type 0} {note : D → N} {Ao : T → O → Type 0} {An : T �
         let took = taken_from memo.number 0 r.fates got.0 t x (rw (memo_known memo is).got at got.1) in
         let here : t ≡ took.0 = omega arith in rw here took.2
 
-    -- and one that a seat finished is in its log
-    log_of : (t : ℕ) (x : N) → get_elem? r.fates t ≡ some (Some (memo.number, x)) → (j : ℕ) × (get_elem? memo.log j ≡ some (Got t x))
-    log_of t x e =
-        let took = taken_in memo.number 0 r.fates t t x (omega arith) e in
-        got_from memo.log took.0 t x (rw (← (memo_known memo is).got) at took.1)
-
     -- it was claimed
     pub logged_is_claimed : (j t : ℕ) (x : N) → get_elem? memo.log j ≡ some (Got t x) → t < r.machine.word.claimed
     logged_is_claimed j t x e = omega (arith, at_length r.fates t (Some (memo.number, x)) (fate_of j t x e), r.are_fates.each_claimed)
@@ -96,14 +90,13 @@ module _ {O D T N : Type 0} {note : D → N} {Ao : T → O → Type 0} {An : T �
       lost_within = λ j g e. omega (arith, within_end 0 memo.log j (Lost g) known.ordered.rises e, known.below_claims);
     }
 
-    module _ (t : ℕ) (holds : Holds memo.view t) where
-      -- a seat holds in the machine what its memo says
-      pub machine_holds : Holds (seat_at r.machine.seats memo.number) t
-      machine_holds = rw (memo_known memo is).shows at holds
+    -- a seat holds in the machine what its memo says
+    pub machine_holds : (t : ℕ) → Holds memo.view t → Holds (seat_at r.machine.seats memo.number) t
+    machine_holds t holds = rw (memo_known memo is).shows at holds
 
-      -- nothing became yet of a held ticket
-      pub open_of : get_elem? r.fates t ≡ some None
-      open_of = r.are_fates.held_is_open memo.number t machine_holds
+    -- nothing became yet of a held ticket
+    pub open_of : (t : ℕ) → Holds memo.view t → get_elem? r.fates t ≡ some None
+    open_of t holds = r.are_fates.held_is_open memo.number t (machine_holds t holds)
 
   -- the slot of a ticket that was offered and is not reaped
   pub slot_at : (t : ℕ) → r.machine.reaped ≤ t → t < r.machine.offered → IsSlot note (Ao key.terms) r.machine r.fates t
@@ -154,7 +147,8 @@ module _ {O D T N : Type 0} {note : D → N} {Ao : T → O → Type 0} {An : T �
   pub noted_as : (t : ℕ) (y : ℕ × N) → get_elem? r.fates t ≡ some (Some y) → IsNotedAs s.views t y.1
   noted_as t y done =
       let one = each_number_is_one_seats y.0 (r.are_fates.finished t y.0 y.1 done).0 in
-      let entry = log_of one.memo one.is_there t y.1 (rw one.number_is done) in
+      let took = taken_in one.memo.number 0 r.fates t t y.1 (omega arith) (rw one.number_is done) in
+      let entry = got_from one.memo.log took.0 t y.1 (rw (← (memo_known one.memo one.is_there).got) at took.1) in
       record { taker = one.memo; is_there = one.is_there; place = entry.0; stands = entry.1 }
 
   -- in one log alone, there once

@@ -143,18 +143,11 @@ module _ {O D T N : Type 0} {note : D → N} {Ao : T → O → Type 0} {An : T �
     order_now : IsOrderly r.machine.word memo.log r.keeper.fronts (and_lost r.machine.word memo.log)
     order_now = orderly r.machine.word memo.log r.keeper.fronts its.ordered.rises its.below_claims its.lost_at_front none_free_at_front
 
-    -- the fates after a step where the seat keeps its ticket, or has none
-    fates_same : (now : Machine) (view : SeatView) → now.seats ≡ set r.machine.seats memo.number view → view.held ≡ seat.held
-        → now.word.claimed ≡ r.machine.word.claimed → AreFates now (An key.terms) r.keeper.made r.fates
-    fates_same now view seats_are held claimed =
-        let same = holders_stay r.machine.seats memo.number view made_there held in
-        fates_stay (le_refl r.keeper.made) (rw seats_are same) claimed r.are_fates
-
     -- a look of an idle seat: one call more, which is decided where none is free
     look_step : is_idle memo.view ≡ true → memo.view.calls < 2 ^ 40
         → IsStepTo memo (Look memo.number) r.fates (looks key.limit r.machine.word memo)
     look_step idle few =
-        let fates = fates_same (after r.machine (Look memo.number)) (looked r.machine.word seat) refl refl refl in
+        let same = holders_stay r.machine.seats memo.number (looked r.machine.word seat) made_there refl in
         grind (arith, its, order_now, idle_parts memo.view idle, sizes_of r, length_push memo.log (Lost r.machine.word.claimed))
 
     -- a claim of an armed seat
@@ -212,16 +205,17 @@ module _ {O D T N : Type 0} {note : D → N} {Ao : T → O → Type 0} {An : T �
         none_more = le-ltb 0 r.machine.word.free (omega (arith, full))
 
         vain_step : IsStepTo memo (Claim memo.number) r.fates (claims key.limit r.machine.word memo)
-        vain_step = claim_step (fates_same claim_now (served r.machine.word seat) refl (simp none_more) (simp none_more))
-            (λ t j x e. e) (λ j. refl)
+        vain_step =
+            let same = holders_stay r.machine.seats memo.number (served r.machine.word seat) made_there (simp none_more) in
+            claim_step (fates_stay (le_refl r.keeper.made) same (simp none_more) r.are_fates) (λ t j x e. e) (λ j. refl)
 
     -- a mark of a kind of loss
     module _ (kind : ℕ) (low : kind < 2) (few : marks_of memo.view kind < 2 ^ 40) where
       mark_step : IsStepTo memo (Mark memo.number kind) r.fates (adds_mark kind (slice_index s.words (kind + 1)) memo)
       mark_step =
           let is = mark_is N r.machine memo.number (ring_of r) kind low in
-          let fates = fates_same (after r.machine (Mark memo.number kind)) (marked kind seat) is.seats_are (is.same_seat seat).0 is.same.1 in
-          grind (arith, its, is, fates, r.words_are, r.knows.counted, low, few, live_there, lt-ltb)
+          let same = holders_stay r.machine.seats memo.number (marked kind seat) made_there (is.same_seat seat).0 in
+          grind (arith, its, is, r.words_are, live_there, lt-ltb)
 
     -- the finish of the held ticket with a value
     module _ (t : ℕ) (d : D) (holds : Holds memo.view t) (admitted : An key.terms (note d)) where

@@ -56,7 +56,9 @@ module _ {O D N : Type 0} {note : D → N} {Admits : O
     a_slot_each = length-set homes (u % n) v ∙ was.a_slot_each;
     each = λ t from to. elim (cases_eq t u) [
       | inl here ↦ rw (here, set_here homes (u % n) v (rw was.a_slot_each (mod-lt u positive))) own
-      | inr away ↦ rw (set_else homes (u % n) (t % n) v (λ e. away (same_position m.reaped n t u (omega arith) (omega arith) from_u to_u e)))
+      | inr away ↦
+          let apart : t % n ≢ u % n = λ e. away (same_position m.reaped n t u (omega arith) (omega arith) from_u to_u e) in
+          rw (set_else homes (u % n) (t % n) v apart)
           (others t (get_elem? homes (t % n)) away (omega arith) (omega arith) (was.each t (omega arith) (omega arith)))
     ];
   }

@@ -15,13 +15,15 @@ mark_few m r i zero live few =
     let now = marked 0 (seat_at m.seats i) in
     let sums = sums_after m.seats i now made in
     let s = r.seats.each i in
-    seat_sound m r i made now (grind (arith, common_steps)) refl m.word.over (one_more_lost m.loss0) m.loss1 r.permits.either (le_refl m.word.over) (omega arith) (omega arith) (omega arith) (omega arith)
+    seat_sound m r i made now (grind (arith, common_steps)) refl m.word.over (one_more_lost m.loss0) m.loss1 r.permits.either
+    (le_refl m.word.over) (omega arith) (omega arith) (omega arith) (omega arith)
 mark_few m r i (suc kind) live few =
     let made = live_is_made m.seats i live in
     let now = marked (suc kind) (seat_at m.seats i) in
     let sums = sums_after m.seats i now made in
     let s = r.seats.each i in
-    seat_sound m r i made now (grind (arith, common_steps)) refl m.word.over m.loss0 (one_more_lost m.loss1) r.permits.either (le_refl m.word.over) (omega arith) (omega arith) (omega arith) (omega arith)
+    seat_sound m r i made now (grind (arith, common_steps)) refl m.word.over m.loss0 (one_more_lost m.loss1) r.permits.either
+    (le_refl m.word.over) (omega arith) (omega arith) (omega arith) (omega arith)
 
 pub mark_keeps : (m : Machine) → IsRing m → (i kind : ℕ) → possible m (Mark i kind) ≡ true → IsRing (after m (Mark i kind))
 mark_keeps m r i kind ok =
