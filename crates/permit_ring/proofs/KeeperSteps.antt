@@ -234,11 +234,7 @@ module _ {O D T N : Type 0} (note : D → N) (Ao : T → O → Type 0) (An : T �
     module _ (slots old new filled vacant : ℕ) (hand : List (ℕ × Slot O D)) (can : CanOffer old new filled vacant hand r.keeper) where
       -- the ring has room for what was filled
       has_room : (1 ≤ ready hand) × (m.offered + ready hand ≤ m.reaped + m.positions)
-      has_room =
-          let n = (sizes_of r).positions_are in
-          let counted = r.knows.counted in
-          let is = ready_is can.in_hand in
-          (omega arith, omega arith)
+      has_room = grind (arith, can, sizes_of r, r.knows.counted, ready_is can.in_hand)
 
       -- another word was found: only the word that the keeper knows changes
       offers_missing : slice_index s.words 0 ≢ old

@@ -1,4 +1,4 @@
-//! The ring that threads share, and its atomic steps.
+//! The ring that threads share, and its positions.
 
 ghost use Rattle.std.specs.Prelude.{◌≡◌, ◌+◌, ◌%◌, ◌<◌};
 ghost use Rattle.ring_core.specs.Machine.{all_free as all_free_word};
