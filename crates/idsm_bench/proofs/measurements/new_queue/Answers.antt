@@ -6,4 +6,4 @@ pub returns-in-Ok-clause-callers : goal.returns-in-Ok-clause-callers
 returns-in-Ok-clause-callers c =
     let made = c.in-Ok.made in
     let new : IsNewQueue 1024 c.args.callers tt made.queue made.taker made.seats.items = c.in-Ok.ensures in
-    (new.all_made, all_unused made.queue 1024 c.args.callers tt made.taker made.seats.items new)
+    (new.all_made, all_unused new)
