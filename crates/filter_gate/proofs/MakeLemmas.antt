@@ -17,6 +17,7 @@ are_positive profile (event ∷ events) (first, others) =
     let least : 1 ≤ event.nth = first.nth.least in
     (omega (arith, least), are_positive profile events others)
 
+-- each n of a valid configuration is above 0
 pub all_positive : (config : Parts) → IsValid config → All (λ event. 0 < event.nth) config.events
 all_positive config valid =
     All-from_recursion (λ (event : Event). 0 < event.nth) config.events (are_positive config.profile config.events valid.events)
@@ -27,6 +28,7 @@ fresh_after config k =
     let event = event_at config k in
     ap (row_with event event.mode) (sym (zero-mod event.nth))
 
+-- fresh rows stand before anything came
 pub stands_before : (config : Parts) (rows : List Row) → rows ≡ map fresh_row config.events
     → Stands config [] (record { state = config.state; rows = rows })
 stands_before config rows is =

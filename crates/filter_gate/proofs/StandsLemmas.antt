@@ -17,6 +17,7 @@ use Rattle.filter_gate.specs.Stands.{row_after, Stands}
 rank_after : (n nth : ℕ) → (n % nth + 1) % nth ≡ suc n % nth
 rank_after n nth = ap (λ k. k % nth) (add-one (n % nth)) ∙ sym (suc-mod n nth)
 
+-- the same with a sum
 pub rank : (n nth : ℕ) → (n % nth + 1) % nth ≡ (n + 1) % nth
 rank n nth = rank_after n nth ∙ ap (λ k. k % nth) (sym (add-one n))
 
@@ -42,6 +43,7 @@ other_row : (config : Parts) (before : List Moment) (item : Item) (k : ℕ) → 
     → row_after config (comes item ∷ before) k ≡ row_after config before k
 other_row config before item k other = rw other refl
 
+-- the gate after an item of event k
 pub stands_with_item : (config : Parts) (before : List Moment) (item : Item) (gate : Gate) (k : ℕ) → item.event ≡ k
     → k < length gate.rows → Stands config before gate → Stands config (comes item ∷ before) (gate_asked k gate)
 stands_with_item config before item gate k is within stands =
