@@ -9,6 +9,8 @@
 #[cfg(test)]
 mod configuration;
 #[cfg(test)]
+mod gate_verdicts;
+#[cfg(test)]
 mod host_outside;
 #[cfg(test)]
 mod journals;
@@ -26,3 +28,5 @@ mod runs;
 mod shared_ring;
 #[cfg(test)]
 mod text_fields;
+#[cfg(test)]
+mod turn_heads;

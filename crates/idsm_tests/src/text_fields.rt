@@ -2,9 +2,7 @@
 
 use ids_types::{Mode, Stamp};
 use std::test::Fail;
-use text_spec::{
-    HexText, Pieces, hex_into, push_hex, push_mode, push_number, push_stamp, stamp,
-};
+use text_spec::{HexText, Pieces, hex_into, push_hex, push_mode, push_number, push_stamp, stamp};
 
 #[test]
 fn reads_numbers(rt: HostRuntime) {
