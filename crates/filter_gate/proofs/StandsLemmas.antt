@@ -1,15 +1,17 @@
 -- A gate that stands for some moments, and one moment more.
-use Rattle.std.proofs.Common.{◌≡◌, ℕ, suc, ◌<◌, ◌+◌, ◌%◌, ◌==◌, Bool, true, false, List, ◌∷◌, ◌++◌, ◌≢◌, length, option_to_list, if◌then◌else◌, refl, sym, ap, subst, ◌∙◌, add-one, eq-eqb, eqb-true, arith}
+use Rattle.std.proofs.Common.{◌≡◌, ℕ, suc, ◌<◌, ◌+◌, ◌%◌, ◌==◌, ◌&&◌, not, Bool, true, false, List, ◌∷◌, ◌++◌, ◌≢◌, None, length, option_to_list, if◌then◌else◌, refl, sym, ap, subst, ◌∙◌, add-one, eq-eqb, eqb-true, arith}
 use Rattle.std.proofs.Math.Nat.{suc-mod}
 use Rattle.std.proofs.lemmas.List.{length-set, get_or-set_same, get_or-set_other}
 use Rattle.ids_types.specs.declared.mode.Mode.{Mode}
+use Rattle.ids_types.specs.declared.mode.Mode.TheVariants.{Off, Brief, Detailed, BriefBypassing, DetailedBypassing}
 use Rattle.ids_config.specs.Parts.{Event, Parts, event_at}
-use Rattle.chain_spec.specs.Gate.{mode_at, state_at, item_in, is_arriving, arrivals}
+use Rattle.chain_spec.specs.Gate.{is_filtered, is_bypassing, is_detailed, mode_at, state_at, item_in, is_blocked, is_arriving, arrivals, is_nth, sampled_at}
 use Rattle.chain_spec.specs.Items.{Item}
 use Rattle.chain_spec.specs.Moments.{Moment, closes, comes}
 use Rattle.chain_spec.specs.Stages.{where_true}
-use Rattle.filter_gate.specs.Gate.{Gate, row_at, row_with, after_asking, gate_asked}
-use Rattle.filter_gate.specs.Stands.{row_after, Stands}
+use Rattle.filter_gate.specs.declared.verdict.Verdict.TheVariants.{Dropped, Bypass, Pass}
+use Rattle.filter_gate.specs.Gate.{Gate, row_at, row_with, verdict_on, after_asking, gate_asked}
+use Rattle.filter_gate.specs.Stands.{row_after, Stands, with_context, let_through}
 
 -- ---- forward every nth
 
@@ -18,8 +20,47 @@ rank_after : (n nth : ℕ) → (n % nth + 1) % nth ≡ suc n % nth
 rank_after n nth = ap (λ k. k % nth) (add-one (n % nth)) ∙ sym (suc-mod n nth)
 
 -- the same with a sum
-pub rank : (n nth : ℕ) → (n % nth + 1) % nth ≡ (n + 1) % nth
+rank : (n nth : ℕ) → (n % nth + 1) % nth ≡ (n + 1) % nth
 rank n nth = rank_after n nth ∙ ap (λ k. k % nth) (sym (add-one n))
+
+-- ---- the verdict on an item
+
+-- nothing is sampled where nothing arrives
+none_sampled : (nth : Bool) (item : Item) → None ≡ (if nth then where_true false item else None)
+none_sampled true item = refl
+none_sampled false item = refl
+
+-- an nth item that no state blocks passes
+passes : (context unblocked nth : Bool) (item : Item)
+    → let_through (if unblocked && nth then Pass context else Dropped) item
+    ≡ (if nth then where_true unblocked (with_context context item) else None)
+passes context true true item = refl
+passes context true false item = refl
+passes context false true item = refl
+passes context false false item = refl
+
+-- what is let through under each mode
+sampled_under : (mode : Mode) (unblocked nth : Bool) (item : Item)
+    → let_through (if is_bypassing mode then Bypass (is_detailed mode)
+    else if is_filtered mode && unblocked && nth then Pass (is_detailed mode) else Dropped) item
+    ≡ (if nth then where_true (is_filtered mode && unblocked) (item_in mode item) else None)
+sampled_under Off unblocked nth item = none_sampled nth (item_in Off item)
+sampled_under Brief unblocked nth item = passes false unblocked nth item
+sampled_under Detailed unblocked nth item = passes true unblocked nth item
+sampled_under BriefBypassing unblocked nth item = none_sampled nth (item_in BriefBypassing item)
+sampled_under DetailedBypassing unblocked nth item = none_sampled nth (item_in DetailedBypassing item)
+
+-- what the verdict lets through of an item of event k
+pub sampled_by : (config : Parts) (before : List Moment) (item : Item) (gate : Gate) (k : ℕ) → item.event ≡ k
+    → k < length gate.rows → Stands config before gate
+    → let_through (verdict_on gate.state (row_at gate k)) item ≡ sampled_at config k before (comes item)
+sampled_by config before item gate k is within stands =
+    let own : (item.event == k) ≡ true = eq-eqb item.event k is in
+    let mode = mode_at config k before in
+    ap (λ state. let_through (verdict_on state (row_at gate k)) item) stands.state
+    ∙ ap (λ row. let_through (verdict_on (state_at config before) row) item) (stands.rows k within)
+    ∙ rw (rank (length (arrivals config k before)) (event_at config k).nth, own)
+    (sampled_under mode (not (is_blocked config k before)) (is_nth config k before) item)
 
 -- ---- one item more
 

@@ -44,7 +44,6 @@ impl GateState {
     }
 
     /// The verdict on an item of the event.
-    #[tactic(auto, using(crate::proofs::StandsLemmas::rank))]
     pub fn gate(&mut self, event: EventIndex) -> Verdict
         requires { event.0 < length self.old.rows }
         // What it lets through is what is sampled of the item, and what it lets by is what bypasses.

@@ -1,8 +1,14 @@
-use Rattle.std.proofs.Common.{◌∷◌, sym, subst}
+use Rattle.std.proofs.Common.{◌≡◌, ◌∷◌, sym, subst}
+use Rattle.chain_spec.specs.Gate.{sampled_at}
 use Rattle.chain_spec.specs.Moments.{comes}
-use Rattle.filter_gate.specs.Stands.{Stands}
-use Rattle.filter_gate.proofs.StandsLemmas.{stands_with_item}
+use Rattle.filter_gate.specs.Stands.{Stands, let_through}
+use Rattle.filter_gate.proofs.StandsLemmas.{sampled_by, stands_with_item}
 use Rattle.filter_gate.proofs.gate_state.GateState.gate.Goals as goal
+
+pub returns-clause-sampled : goal.returns-clause-sampled
+returns-clause-sampled c config before item is stands =
+    subst (λ verdict. let_through verdict item ≡ sampled_at config c.args.event.0 before (comes item))
+    (sym c.ask.ensures.verdict) (sampled_by config before item c.args.self.now c.args.event.0 is c.requires stands)
 
 pub returns-clause-stands : goal.returns-clause-stands
 returns-clause-stands c config before item is stands =
