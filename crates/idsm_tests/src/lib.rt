@@ -15,6 +15,8 @@ mod host_outside;
 #[cfg(test)]
 mod journals;
 #[cfg(test)]
+mod limits_of_sending;
+#[cfg(test)]
 mod memory_outside;
 #[cfg(test)]
 mod message_reading;
@@ -28,5 +30,7 @@ mod runs;
 mod shared_ring;
 #[cfg(test)]
 mod text_fields;
+#[cfg(test)]
+mod thresholds;
 #[cfg(test)]
 mod turn_heads;
