@@ -20,14 +20,16 @@ module _ {B : Type 0} where
       (IsPermutation-append_left zs (xs ++ ys) (ys ++ xs) (IsPermutation-append_comm xs ys)))
 
   -- what stands behind both changes nothing
-  account_before : (came before handed now rest : List B) → Accounts came before handed now → Accounts came (before ++ rest) handed (now ++ rest)
+  account_before : (came before handed now rest : List B) → Accounts came before handed now
+      → Accounts came (before ++ rest) handed (now ++ rest)
   account_before came before handed now rest same =
       subst (λ (l : List B). IsPermutation l (handed ++ (now ++ rest))) (append_assoc came before rest)
       (subst (λ (l : List B). IsPermutation ((came ++ before) ++ rest) l) (append_assoc handed now rest)
       (IsPermutation-append_left rest (came ++ before) (handed ++ now) same))
 
   -- nor does what stands before both
-  account_behind : (came before handed now first : List B) → Accounts came before handed now → Accounts came (first ++ before) handed (first ++ now)
+  account_behind : (came before handed now first : List B) → Accounts came before handed now
+      → Accounts came (first ++ before) handed (first ++ now)
   account_behind came before handed now first same =
       IsPermutation-trans (came ++ (first ++ before)) (first ++ (came ++ before)) (handed ++ (first ++ now)) (swapped came first before)
       (IsPermutation-trans (first ++ (came ++ before)) (first ++ (handed ++ now)) (handed ++ (first ++ now))
@@ -61,12 +63,13 @@ module _ {B : Type 0} where
       let slot : Slot B = record { setting = setting; window = Some w } in
       elim (has_passed tick setting (Some w)) as (λ (b : Bool).
       Accounts [] (kept_in slot) (given_in (if b then Some w.item else None)) (kept_in (if b then fresh_slot setting else slot))) [
-        | true ↦ subst (λ (l : List B). IsPermutation (kept_in slot) l) (sym (append-nil (kept_in slot))) (IsPermutation-refl (kept_in slot))
+        | true ↦ subst (IsPermutation (kept_in slot)) (sym (append-nil (kept_in slot))) (IsPermutation-refl (kept_in slot))
         | false ↦ IsPermutation-refl (kept_in slot)
       ]
 
   keeping_one : (last : Bool) (held came : Option B)
-      → Accounts (option_to_list came) (option_to_list held) (option_to_list (spare_of last held came)) (option_to_list (kept_of last held came))
+      → Accounts (option_to_list came) (option_to_list held)
+      (option_to_list (spare_of last held came)) (option_to_list (kept_of last held came))
   keeping_one true None None = IsPermutation-refl []
   keeping_one false None None = IsPermutation-refl []
   keeping_one true None (Some c) = IsPermutation-refl (c ∷ [])
@@ -93,7 +96,8 @@ module _ {B : Type 0} where
       → Accounts [] (all_kept slots) (given_in item) (all_kept now)
   account_closing event tick slots now item there is given =
       let slot = slot_at slots event in
-      rw (is, given) (account_set [] (given_in (item_due tick slot)) slots event (slot_closed tick slot) there (closing_of tick slot.setting slot.window))
+      rw (is, given) (account_set [] (given_in (item_due tick slot)) slots event (slot_closed tick slot) there
+      (closing_of tick slot.setting slot.window))
 
   -- an item that arrives brings its parcel, and hands out the one that is not kept
   pub account_arriving : (tick : ℕ) (item : Qualified B) (slots now : List (Slot B)) (back : Option B) → item.event.0 < length slots
@@ -102,5 +106,6 @@ module _ {B : Type 0} where
       → Accounts (option_to_list item.context) (all_kept slots) (option_to_list back) (all_kept now)
   account_arriving tick item slots now back there is given =
       let slot = slot_at slots item.event.0 in
-      rw (is, given) (account_set (option_to_list item.context) (option_to_list (spare_of (keeps_last slot.setting) (held_in slot) item.context))
-      slots item.event.0 (slot_with tick item slot) there (arriving_of tick item slot.setting slot.window))
+      let spare = option_to_list (spare_of (keeps_last slot.setting) (held_in slot) item.context) in
+      rw (is, given) (account_set (option_to_list item.context) spare slots item.event.0 (slot_with tick item slot) there
+      (arriving_of tick item slot.setting slot.window))

@@ -1,8 +1,7 @@
--- Slots: what a closing turn and an item that arrives leave, and the same over another holder of context data.
-use Rattle.std.proofs.Common.{◌≡◌, ℕ, ◌+◌, ◌<◌, ◌≤◌, Bool, true, false, List, length, map, Option, Some, None, IfSome, option_map, if◌then◌else◌, refl, sym, ap, subst, ◌∙◌, arith}
+-- Slots: their intervals, and their steps over another holder of context data.
+use Rattle.std.proofs.Common.{◌≡◌, ℕ, ◌<◌, ◌≤◌, Bool, true, false, List, length, map, Option, Some, None, IfSome, option_map, if◌then◌else◌, refl, sym, ap, subst, ◌∙◌}
 use Rattle.std.specs.Prelude.{slice_set, slice_index_or}
-use Rattle.std.proofs.lemmas.Bool.{lt-leb}
-use Rattle.std.proofs.lemmas.List.{get_or-set_same, get_or-map, map-set}
+use Rattle.std.proofs.lemmas.List.{get_or-map, map-set}
 use Rattle.std.proofs.lemmas.List.Elements.{All-set, All-map, All-weaker, All-from_recursion}
 use Rattle.ids_types.specs.declared.event.Qualified.{Qualified}
 use Rattle.ids_config.specs.declared.parts.Aggregate.{Aggregate}
@@ -12,9 +11,9 @@ use Rattle.std.specs.List.{AllByRecursion}
 use Rattle.chain_spec.specs.Items.{told_by}
 use Rattle.filter_aggregate.specs.declared.open.Open.{Open}
 use Rattle.filter_aggregate.specs.declared.slot.Slot.{Slot}
-use Rattle.filter_aggregate.specs.Slots.{fresh_slot, slot_at, HaveIntervals, has_passed, is_due, item_due, slot_closed, after_closing, keeps_last, kept_of, window_with, slot_with, after_arrival, open_by, slot_by, slots_by}
+use Rattle.filter_aggregate.specs.Slots.{fresh_slot, slot_at, HaveIntervals, has_passed, is_due, slot_closed, after_closing, keeps_last, kept_of, window_with, slot_with, after_arrival, open_by, slot_by, slots_by}
 
--- ---- one slot
+-- ---- intervals
 
 -- an interval of a valid configuration has at least one tick
 interval_of : (profile : ℕ) (event : Event) → IsEvent profile event → IfSome event.aggregate (λ setting. 1 ≤ setting.interval)
@@ -23,33 +22,17 @@ interval_of profile event valid =
     [ None ↦ λ h. tt | Some a ↦ λ h. h.least ] valid.aggregate
 
 module _ {C : Type 0} where
-  settled_with : (tick : ℕ) (item : Qualified C) (setting : Option Aggregate) (window : Option (Open C))
-      → IfSome setting (λ setting. 1 ≤ setting.interval) → has_passed tick setting window ≡ false
-      → has_passed tick setting (Some (window_with (keeps_last setting) tick item window)) ≡ false
-  settled_with tick item None window some not_due = refl
-  settled_with tick item (Some setting) None some not_due = lt-leb (tick + setting.interval) tick (omega arith)
-  settled_with tick item (Some setting) (Some w) some not_due = not_due
-
-  -- ---- all slots
-
-  pub settled_arriving : (tick : ℕ) (item : Qualified C) (slots now : List (Slot C)) → item.event.0 < length slots → HaveIntervals slots
-      → is_due tick (slot_at slots item.event.0) ≡ false → now ≡ after_arrival tick item slots
-      → is_due tick (slot_at now item.event.0) ≡ false
-  settled_arriving tick item slots now there intervals not_due is =
-      let slot = slot_at slots item.event.0 in
-      ap (λ (xs : List (Slot C)). is_due tick (slot_at xs item.event.0)) is
-      ∙ ap (is_due tick) (get_or-set_same slots item.event.0 (slot_with tick item slot) (fresh_slot None) there)
-      ∙ settled_with tick item slot.setting slot.window (intervals item.event.0 (fresh_slot None) there) not_due
-
-  -- ---- intervals
-
   abbrev HasInterval : Slot C → Type 0
   HasInterval slot = IfSome slot.setting (λ setting. 1 ≤ setting.interval)
 
-  -- no turn that closes what is due changes how an event is aggregated
-  pub setting_closed : (tick : ℕ) (slot : Slot C) → (slot_closed tick slot).setting ≡ slot.setting
-  setting_closed tick slot =
-      elim (is_due tick slot) as (λ (b : Bool). (if b then fresh_slot slot.setting else slot).setting ≡ slot.setting) [ true ↦ refl | false ↦ refl ]
+  -- neither step changes how an event is aggregated
+  pub setting_closed : (tick : ℕ) (old now : Slot C) → now ≡ slot_closed tick old → now.setting ≡ old.setting
+  setting_closed tick old now is =
+      rw is (elim (is_due tick old) as (λ (b : Bool). (if b then fresh_slot old.setting else old).setting ≡ old.setting)
+      [ true ↦ refl | false ↦ refl ])
+
+  pub setting_with : (tick : ℕ) (item : Qualified C) (old now : Slot C) → now ≡ slot_with tick item old → now.setting ≡ old.setting
+  setting_with tick item old now is = rw is refl
 
   -- slots keep their intervals where one of them becomes another that is aggregated as it was
   pub intervals_set : (slots : List (Slot C)) (event : ℕ) (old now : Slot C) → event < length slots → old ≡ slice_index_or slots event old
@@ -69,7 +52,8 @@ module _ {C : Type 0} where
 -- ---- over another holder of context data
 
 module _ {A B : Type 0} (f : A → B) where
-  kept_by : (last : Bool) (held came : Option A) → option_map f (kept_of last held came) ≡ kept_of last (option_map f held) (option_map f came)
+  kept_by : (last : Bool) (held came : Option A)
+      → option_map f (kept_of last held came) ≡ kept_of last (option_map f held) (option_map f came)
   kept_by true held None = refl
   kept_by true held (Some c) = refl
   kept_by false None came = refl
@@ -80,11 +64,14 @@ module _ {A B : Type 0} (f : A → B) where
   window_with_by last tick item None = refl
   window_with_by last tick item (Some w) = rw (kept_by last w.item.context item.context) refl
 
-  slot_with_by : (tick : ℕ) (item : Qualified A) (slot : Slot A) → slot_by f (slot_with tick item slot) ≡ slot_with tick (told_by f item) (slot_by f slot)
+  slot_with_by : (tick : ℕ) (item : Qualified A) (slot : Slot A)
+      → slot_by f (slot_with tick item slot) ≡ slot_with tick (told_by f item) (slot_by f slot)
   slot_with_by tick item slot =
-      ap (λ (w : Open B). record { setting = slot.setting; window = Some w }) (window_with_by (keeps_last slot.setting) tick item slot.window)
+      ap (λ (w : Open B). record { setting = slot.setting; window = Some w })
+      (window_with_by (keeps_last slot.setting) tick item slot.window)
 
-  passed_by : (tick : ℕ) (setting : Option Aggregate) (window : Option (Open A)) → has_passed tick setting (option_map (open_by f) window) ≡ has_passed tick setting window
+  passed_by : (tick : ℕ) (setting : Option Aggregate) (window : Option (Open A))
+      → has_passed tick setting (option_map (open_by f) window) ≡ has_passed tick setting window
   passed_by tick None window = refl
   passed_by tick (Some setting) None = refl
   passed_by tick (Some setting) (Some w) = refl
@@ -94,22 +81,13 @@ module _ {A B : Type 0} (f : A → B) where
 
   slot_closed_by : (tick : ℕ) (slot : Slot A) → slot_by f (slot_closed tick slot) ≡ slot_closed tick (slot_by f slot)
   slot_closed_by tick slot =
-      (elim (is_due tick slot) as (λ (b : Bool). slot_by f (if b then fresh_slot slot.setting else slot) ≡ (if b then fresh_slot slot.setting else slot_by f slot))
+      let closed = λ (b : Bool). if b then fresh_slot slot.setting else slot_by f slot in
+      (elim (is_due tick slot) as (λ (b : Bool). slot_by f (if b then fresh_slot slot.setting else slot) ≡ closed b)
       [ true ↦ refl | false ↦ refl ])
-      ∙ ap (λ (b : Bool). if b then fresh_slot slot.setting else slot_by f slot) (sym (due_by tick slot))
+      ∙ ap closed (sym (due_by tick slot))
 
-  item_of : (window : Option (Open A)) → option_map (λ (w : Open B). w.item) (option_map (open_by f) window) ≡ option_map (told_by f) (option_map (λ (w : Open A). w.item) window)
-  item_of None = refl
-  item_of (Some w) = refl
-
-  pub item_due_by : (tick : ℕ) (slot : Slot A) → item_due tick (slot_by f slot) ≡ option_map (told_by f) (item_due tick slot)
-  item_due_by tick slot =
-      ap (λ (b : Bool). if b then option_map (λ (w : Open B). w.item) (slot_by f slot).window else None) (due_by tick slot)
-      ∙ (elim (is_due tick slot) as (λ (b : Bool). (if b then option_map (λ (w : Open B). w.item) (slot_by f slot).window else None)
-      ≡ option_map (told_by f) (if b then option_map (λ (w : Open A). w.item) slot.window else None))
-      [ true ↦ item_of slot.window | false ↦ refl ])
-
-  pub slot_at_by : (slots : List (Slot A)) (event : ℕ) → event < length slots → slot_at (slots_by f slots) event ≡ slot_by f (slot_at slots event)
+  pub slot_at_by : (slots : List (Slot A)) (event : ℕ) → event < length slots
+      → slot_at (slots_by f slots) event ≡ slot_by f (slot_at slots event)
   slot_at_by slots event there = get_or-map (slot_by f) slots event (fresh_slot None) (fresh_slot None) there
 
   pub arrival_by : (tick : ℕ) (item : Qualified A) (slots : List (Slot A)) → item.event.0 < length slots

@@ -19,6 +19,10 @@ use Rattle.filter_aggregate.proofs.StepLemmas.{arrival_slot, arrival_elsewhere, 
 abbrev setting_of : Parts → ℕ → Option Aggregate
 setting_of config event = (event_at config event).aggregate
 
+-- the slot of an event is what it is after these calls
+abbrev StandsAt : Parts → List (Call (List ℕ)) → List (Slot (List ℕ)) → ℕ → Type 0
+StandsAt config calls slots event = slot_at slots event ≡ slot_after (setting_of config event) event calls
+
 -- one slot becomes what it is after the calls, and the others are it already
 stands_set : (config : Parts) (before now : List (Call (List ℕ))) (slots : List (Slot (List ℕ))) (event : ℕ) (slot : Slot (List ℕ))
     → Stands config before slots → event < length slots → slot ≡ slot_after (setting_of config event) event now
@@ -28,74 +32,13 @@ stands_set config before now slots event slot stands there is others = record {
   events = length-set slots event slot ∙ stands.events;
   each = λ k within.
       let inside : k < length slots = omega (arith, length-set slots event slot) in
-      elim (event == k) as (λ (b : Bool). event == k ≡ b → slot_at (slice_set slots event slot) k ≡ slot_after (setting_of config k) k now) [
-        | true ↦ λ same. subst (λ (n : ℕ). slot_at (slice_set slots event slot) n ≡ slot_after (setting_of config n) n now) (eqb-true event k same)
+      elim (event == k) as (λ (b : Bool). event == k ≡ b → StandsAt config now (slice_set slots event slot) k) [
+        | true ↦ λ same. subst (StandsAt config now (slice_set slots event slot)) (eqb-true event k same)
             (get_or-set_same slots event slot (fresh_slot None) there ∙ is)
         | false ↦ λ other. get_or-set_other slots event k slot (fresh_slot None) (λ (e : k ≡ event). eqb-false event k other (sym e))
             ∙ stands.each k inside ∙ sym (others k other)
       ] refl;
 }
-
-module _ {B : Type 0} (f : B → List ℕ) where
-  fresh_over : (setting : Option Aggregate) (event : ℕ) → slot_by f (fresh_slot setting) ≡ slot_after setting event []
-  fresh_over None event = refl
-  fresh_over (Some setting) event = refl
-
-  -- the slots of a configuration stand for no calls
-  pub stands_fresh : (config : Parts) → Stands config [] (slots_by f (map (λ event. fresh_slot event.aggregate) config.events))
-  stands_fresh config =
-      let fresh = λ (event : Event). fresh_slot {C = B} event.aggregate in record {
-        events = length-map (map fresh config.events) (slot_by f) ∙ length-map config.events fresh;
-        each = λ k within.
-            let inside : k < length config.events = omega (arith, length-map (map fresh config.events) (slot_by f), length-map config.events fresh) in
-            let among : k < length (map fresh config.events) = omega (arith, length-map config.events fresh) in
-            slot_at_by f (map fresh config.events) k among
-            ∙ ap (slot_by f) (get_or-map fresh config.events k (plain_event 0 0) (fresh_slot None) inside)
-            ∙ fresh_over (setting_of config k) k;
-      }
-
-  -- a slot over bytes is its event's
-  slot_over : (config : Parts) (calls : List (Call (List ℕ))) (slots : List (Slot B)) (event : ℕ) → Stands config calls (slots_by f slots) → event < length slots
-      → slot_by f (slot_at slots event) ≡ slot_after (setting_of config event) event calls
-  slot_over config calls slots event stands there =
-      let inside : event < length (slots_by f slots) = omega (arith, length-map slots (slot_by f)) in
-      sym (slot_at_by f slots event there) ∙ stands.each event inside
-
-  -- slots are aggregated as it is configured
-  pub as_configured : (config : Parts) (calls : List (Call (List ℕ))) (slots : List (Slot B)) (event : ℕ) → Stands config calls (slots_by f slots) → event < length slots
-      → (slot_at slots event).setting ≡ (event_at config event).aggregate
-  as_configured config calls slots event stands there = ap (λ (slot : Slot (List ℕ)). slot.setting) (slot_over config calls slots event stands there)
-
-  -- a turn closes what is due
-  pub stands_closing : (event tick : ℕ) (slots now : List (Slot B)) → event < length slots → now ≡ after_closing event tick slots
-      → (config : Parts) (calls : List (Call (List ℕ))) → Stands config calls (slots_by f slots) → Stands config (closes_due tick event ∷ calls) (slots_by f now)
-  stands_closing event tick slots now there is config calls stands =
-      let inside : event < length (slots_by f slots) = omega (arith, length-map slots (slot_by f)) in
-      let old = slot_at (slots_by f slots) event in
-      subst (Stands config (closes_due tick event ∷ calls)) (sym (ap (slots_by f) is ∙ closing_by f event tick slots there))
-      (stands_set config calls (closes_due tick event ∷ calls) (slots_by f slots) event (slot_closed tick old) stands inside
-      (ap (slot_closed tick) (stands.each event inside) ∙ sym (closing_slot (setting_of config event) event tick calls))
-      (λ k other. closing_elsewhere (setting_of config k) k event tick calls other))
-
-  -- an item arrives
-  pub stands_arriving : (tick : ℕ) (item : Qualified B) (slots now : List (Slot B)) → item.event.0 < length slots → HaveIntervals slots
-      → IsSome (slot_at slots item.event.0).setting → is_due tick (slot_at slots item.event.0) ≡ false → item.count ≤ 65535 → now ≡ after_arrival tick item slots
-      → (config : Parts) (calls : List (Call (List ℕ))) → Stands config calls (slots_by f slots) → EndBy call_tick tick calls
-      → Stands config (arrives tick (told_by f item) ∷ calls) (slots_by f now)
-  stands_arriving tick item slots now there intervals aggregates not_due few is config calls stands by =
-      let event = item.event.0 in
-      let told = told_by f item in
-      let inside : event < length (slots_by f slots) = omega (arith, length-map slots (slot_by f)) in
-      let setting = setting_of config event in
-      let same = as_configured config calls slots event stands there in
-      let over = slot_over config calls slots event stands there in
-      let some : IsSome setting = subst (λ (o : Option Aggregate). IsSome o) same aggregates in
-      let long : IfSome setting (λ a. 1 ≤ a.interval) = subst (λ (o : Option Aggregate). IfSome o (λ a. 1 ≤ a.interval)) same (intervals event (fresh_slot None) there) in
-      let early : is_due tick (slot_after setting event calls) ≡ false = ap (is_due tick) (sym over) ∙ due_by f tick (slot_at slots event) ∙ not_due in
-      subst (Stands config (arrives tick told ∷ calls)) (sym (ap (slots_by f) is ∙ arrival_by f tick item slots there))
-      (stands_set config calls (arrives tick told ∷ calls) (slots_by f slots) event (slot_with tick told (slot_at (slots_by f slots) event)) stands inside
-      (ap (slot_with tick told) (stands.each event inside) ∙ sym (arrival_slot setting tick told calls some long few by early))
-      (λ k other. arrival_elsewhere (setting_of config k) k tick told calls other))
 
 -- an item of an event that is not aggregated leaves the slots as they are
 pub stands_alone : (config : Parts) (calls : List (Call (List ℕ))) (slots : List (Slot (List ℕ))) (tick : ℕ) (item : Qualified (List ℕ))
@@ -103,7 +46,7 @@ pub stands_alone : (config : Parts) (calls : List (Call (List ℕ))) (slots : Li
 stands_alone config calls slots tick item alone stands = record {
   events = stands.events;
   each = λ k within.
-      elim (item.event.0 == k) as (λ (b : Bool). item.event.0 == k ≡ b → slot_at slots k ≡ slot_after (setting_of config k) k (arrives tick item ∷ calls)) [
+      elim (item.event.0 == k) as (λ (b : Bool). item.event.0 == k ≡ b → StandsAt config (arrives tick item ∷ calls) slots k) [
         | true ↦ λ same.
             let none : setting_of config k ≡ None = ap (setting_of config) (sym (eqb-true item.event.0 k same)) ∙ alone in
             stands.each k within ∙ ap (λ (o : Option Aggregate). slot_after o k calls) none
@@ -111,3 +54,63 @@ stands_alone config calls slots tick item alone stands = record {
         | false ↦ λ other. stands.each k within ∙ sym (arrival_elsewhere (setting_of config k) k tick item calls other)
       ] refl;
 }
+
+module _ {B : Type 0} (f : B → List ℕ) (config : Parts) where
+  fresh_over : (setting : Option Aggregate) (event : ℕ) → slot_by f (fresh_slot setting) ≡ slot_after setting event []
+  fresh_over None event = refl
+  fresh_over (Some setting) event = refl
+
+  -- the slots of a configuration stand for no calls
+  pub stands_fresh : Stands config [] (slots_by f (map (λ event. fresh_slot event.aggregate) config.events))
+  stands_fresh =
+      let fresh = λ (event : Event). fresh_slot {C = B} event.aggregate in
+      let slots = map fresh config.events in record {
+        events = length-map slots (slot_by f) ∙ length-map config.events fresh;
+        each = λ k within.
+            let among : k < length slots = omega (arith, length-map slots (slot_by f)) in
+            let inside : k < length config.events = omega (arith, length-map config.events fresh) in
+            slot_at_by f slots k among
+            ∙ ap (slot_by f) (get_or-map fresh config.events k (plain_event 0 0) (fresh_slot None) inside)
+            ∙ fresh_over (setting_of config k) k;
+      }
+
+-- slots over bytes that stand for a list of calls, newest first
+module _ {B : Type 0} (f : B → List ℕ) (config : Parts) (calls : List (Call (List ℕ))) (slots : List (Slot B))
+    (stands : Stands config calls (slots_by f slots)) where
+  slot_over : (event : ℕ) → event < length slots → slot_by f (slot_at slots event) ≡ slot_after (setting_of config event) event calls
+  slot_over event there =
+      let inside : event < length (slots_by f slots) = omega (arith, length-map slots (slot_by f)) in
+      sym (slot_at_by f slots event there) ∙ stands.each event inside
+
+  -- a turn closes what is due
+  pub stands_closing : (event tick : ℕ) (now : List (Slot B)) → event < length slots → now ≡ after_closing event tick slots
+      → Stands config (closes_due tick event ∷ calls) (slots_by f now)
+  stands_closing event tick now there is =
+      let inside : event < length (slots_by f slots) = omega (arith, length-map slots (slot_by f)) in
+      let with_call = closes_due tick event ∷ calls in
+      subst (Stands config with_call) (sym (ap (slots_by f) is ∙ closing_by f event tick slots there))
+      (stands_set config calls with_call (slots_by f slots) event (slot_closed tick (slot_at (slots_by f slots) event)) stands inside
+      (ap (slot_closed tick) (stands.each event inside) ∙ sym (closing_slot (setting_of config event) event tick calls))
+      (λ k other. closing_elsewhere (setting_of config k) k event tick calls other))
+
+  -- an item arrives
+  pub stands_arriving : (tick : ℕ) (item : Qualified B) (now : List (Slot B)) → let slot = slot_at slots item.event.0 in
+      item.event.0 < length slots → HaveIntervals slots → IsSome slot.setting → is_due tick slot ≡ false → item.count ≤ 65535
+      → now ≡ after_arrival tick item slots → EndBy call_tick tick calls
+      → Stands config (arrives tick (told_by f item) ∷ calls) (slots_by f now)
+  stands_arriving tick item now there intervals aggregates not_due few is by =
+      let event = item.event.0 in
+      let slot = slot_at slots event in
+      let told = told_by f item in
+      let setting = setting_of config event in
+      let with_call = arrives tick told ∷ calls in
+      let inside : event < length (slots_by f slots) = omega (arith, length-map slots (slot_by f)) in
+      let over = slot_over event there in
+      let same : slot.setting ≡ setting = ap (λ (one : Slot (List ℕ)). one.setting) over in
+      let some : IsSome setting = subst (λ (o : Option Aggregate). IsSome o) same aggregates in
+      let long = subst (λ (o : Option Aggregate). IfSome o (λ a. 1 ≤ a.interval)) same (intervals event (fresh_slot None) there) in
+      let early = ap (is_due tick) (sym over) ∙ due_by f tick slot ∙ not_due in
+      subst (Stands config with_call) (sym (ap (slots_by f) is ∙ arrival_by f tick item slots there))
+      (stands_set config calls with_call (slots_by f slots) event (slot_with tick told (slot_at (slots_by f slots) event)) stands inside
+      (ap (slot_with tick told) (stands.each event inside) ∙ sym (arrival_slot setting tick told calls some long few by early))
+      (λ k other. arrival_elsewhere (setting_of config k) k tick told calls other))

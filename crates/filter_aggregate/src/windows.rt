@@ -72,7 +72,8 @@ impl<B: Parcel> Windows<B> {
         // What it gives, and the slots and parcels then.
         ensures slots { self.new ≡ after_closing event.0 tick self.old }
         ensures item { result ≡ item_due tick (slot_at self.old event.0) }
-        ensures moved { Accounts [] (all_kept self.old) (option_to_list (option_and_then (λ item. item.context) result)) (all_kept self.new) }
+        ensures moved { let parcel = option_and_then (λ item. item.context) result in
+            Accounts [] (all_kept self.old) (option_to_list parcel) (all_kept self.new) }
         ensures settled { IsFalse (is_due tick (slot_at self.new event.0)) }
         ensures others { (k : ℕ) → k ≢ event.0 → slot_at self.new k ≡ slot_at self.old k }
 
@@ -86,7 +87,7 @@ impl<B: Parcel> Windows<B> {
     }
 
     /// An item arrives. Gives back the parcel that its window does not keep.
-    #[tactic(auto, using(crate::proofs::AccountLemmas::account_arriving, crate::proofs::SlotLemmas::settled_arriving))]
+    #[tactic(auto, using(crate::proofs::AccountLemmas::account_arriving))]
     pub fn arrive(&mut self, tick: u64, item: Qualified<B>) -> Option<B>
         requires exists { item.event.0 < length self.old }
         requires aggregates { IsSome (slot_at self.old item.event.0).setting }

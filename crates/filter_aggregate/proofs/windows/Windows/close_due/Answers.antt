@@ -8,5 +8,6 @@ returns-clause-moved g c =
     c.close_slot.ensures.slots c.close_slot.ensures.item
 
 pub returns-clause-stands_over : goal.returns-clause-stands_over
-returns-clause-stands_over g c =
-    stands_closing g.B.Parcel.held c.args.event.0 c.args.tick c.args.self.now c.close_slot.new.self c.requires c.close_slot.ensures.slots
+returns-clause-stands_over g c = λ config calls stands.
+    stands_closing g.B.Parcel.held config calls c.args.self.now stands c.args.event.0 c.args.tick c.close_slot.new.self c.requires
+    c.close_slot.ensures.slots

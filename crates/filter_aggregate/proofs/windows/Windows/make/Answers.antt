@@ -16,4 +16,5 @@ pub returns-clause-stands_over : goal.returns-clause-stands_over
 returns-clause-stands_over g c =
     let config = c.args.config.now in
     let fresh : c.in_ok-slots.slots.items ≡ map (λ event. fresh_slot event.aggregate) config.events = search rules in
-    subst (λ (slots : List (Slot g.row.B.Denot)). Stands config [] (slots_by g.B.Parcel.held slots)) (sym fresh) (stands_fresh g.B.Parcel.held config)
+    let stands = λ (slots : List (Slot g.row.B.Denot)). Stands config [] (slots_by g.B.Parcel.held slots) in
+    subst stands (sym fresh) (stands_fresh g.B.Parcel.held config)
