@@ -7,6 +7,8 @@
 #![tactic(auto)]
 
 #[cfg(test)]
+mod aggregation;
+#[cfg(test)]
 mod configuration;
 #[cfg(test)]
 mod gate_verdicts;
