@@ -104,6 +104,7 @@ impl<B: Parcel> Windows<B> {
         ensures stands_over { (config : Parts) (calls : List (Call (List ℕ))) → Stands config calls (slots_by B.held self.old)
             → EndBy call_tick tick calls → Stands config (arrives tick (told_by B.held item) ∷ calls) (slots_by B.held self.new) }
     {
+        // Names a field, so that the proof knows the invariant.
         let _slots = &self.slots;
         self.arrive_slot(tick, item)
     }
