@@ -18,8 +18,8 @@ answer_to config before candidate =
     then (if passes_traffic config.traffic (sent_of config.rate config.traffic before) candidate then Sent else Traffic)
     else Rate
 
--- a meter after these candidates came, and these of them counted: what is left in its window, behind which none
--- lies that counted; and no candidate that may come next lies before it
+-- a meter, where these candidates came and these of them counted: it tells what is left in its window, none that
+-- counted lies in a later window, and none that may come next lies in an earlier one
 pub record Measures (weight : Candidate → ℕ) (before counted : List Candidate) (meter : Meter) : Type 0 where
   pub left : meter.left ≡ meter.limit.number - load meter.limit.interval weight counted meter.window
   pub so_far : AllByRecursion (λ one. window_at meter.limit.interval one.tick ≤ meter.window) counted
