@@ -22,7 +22,7 @@ use Rattle.chain_spec.specs.Moments.{Moment, closes, comes, state_is, mode_is, c
 use Rattle.chain_spec.specs.Stages.{added, where_true, with_all}
 use Rattle.chain_spec.specs.Windows.{EndBy, windows_of}
 use Rattle.chain_spec.proofs.AggregationLemmas.{ACall, AnArrival, AWindow, came_at, AreOlderClosed, closing_gives, older_more, arriving_keeps, by_later, arrived_own, windows_own, closing_item_of}
-use Rattle.chain_spec.proofs.FilterLemmas.{drops_other, keeps_own, sampled_every, thresholded_of_event}
+use Rattle.chain_spec.proofs.FilterLemmas.{drops_other, keeps_own, sampled_every, thresholded_reaching}
 use Rattle.chain_spec.proofs.StageLemmas.{with_all-append}
 use Rattle.chain_spec.proofs.WindowsLemmas.{open_later, open_with}
 
@@ -189,12 +189,10 @@ module _ (config : Parts) (event : ℕ) where
         (added (aggregated_at config) calls)
 
     stands_later : (t tick : ℕ) (calls : List ACall) → t ≤ tick → Stands t calls → Stands tick calls
-    stands_later t tick calls le h = record {
-      same = h.same;
-      below = by_later t tick (closing_ticks event calls) le h.below;
-      opens = open_later came_at setting.interval t tick le (windows_in setting.interval event calls) h.opens;
-      older = h.older;
-    }
+    stands_later t tick calls le h =
+        let below = by_later t tick (closing_ticks event calls) le h.below in
+        let opens = open_later came_at setting.interval t tick le (windows_in setting.interval event calls) h.opens in
+        assumption (h.same, below, opens, h.older)
 
     closing_own : (t tick : ℕ) (calls : List ACall) → t ≤ tick → Stands t calls → Stands tick (closes_due tick event ∷ calls)
     closing_own t tick calls le h =
@@ -212,13 +210,9 @@ module _ (config : Parts) (event : ℕ) where
         → Stands tick (closes_due tick other ∷ calls)
     closing_other t tick other calls le is h =
         let later = stands_later t tick calls le h in
-        rw is (record {
-          same = drops_other event _ (added (aggregated_at config) calls)
-              (closes_other _ tick other is (closing_item_of (event_at config other).aggregate other tick calls)) ∙ h.same;
-          below = later.below;
-          opens = later.opens;
-          older = later.older;
-        })
+        let same = drops_other event _ (added (aggregated_at config) calls)
+        (closes_other _ tick other is (closing_item_of (event_at config other).aggregate other tick calls)) ∙ h.same in
+        rw is (assumption (same, later.below, later.opens, later.older))
 
     closing : (t tick other : ℕ) (calls : List ACall) → t ≤ tick → Stands t calls → Stands tick (closes_due tick other ∷ calls)
     closing t tick other calls le h =
@@ -240,23 +234,16 @@ module _ (config : Parts) (event : ℕ) where
         let old = rw closed at h in
         let kept = arriving_keeps setting x rest ws some old.below old.opens old.older in
         let setting_is = ap (λ e. (event_at config e).aggregate) (eqb-true told.event.0 event is) ∙ aggregates in
-        rw (is, setting_is, closed) (record {
-          same = old.same ∙ sym kept.0;
-          below = old.below;
-          opens = open_with came_at setting.interval x ws old.opens;
-          older = kept.1;
-        })
+        let same = old.same ∙ sym kept.0 in
+        let opens = open_with came_at setting.interval x ws old.opens in
+        rw (is, setting_is, closed) (assumption (same, old.below, opens, kept.1))
 
     arriving_other : (tick : ℕ) (told : Qualified (List ℕ)) (calls : List ACall) → told.event.0 == event ≡ false
         → Stands tick calls → Stands tick (arrives tick told ∷ calls)
     arriving_other tick told calls is h =
-        rw is (record {
-          same = drops_other event _ (added (aggregated_at config) calls)
-              (alone_other (event_at config told.event.0).aggregate (item_at tick told) is) ∙ h.same;
-          below = h.below;
-          opens = h.opens;
-          older = h.older;
-        })
+        let same = drops_other event _ (added (aggregated_at config) calls)
+        (alone_other (event_at config told.event.0).aggregate (item_at tick told) is) ∙ h.same in
+        rw is (assumption (same, h.below, h.opens, h.older))
 
     -- ---- the moments of a turn
 
@@ -386,7 +373,7 @@ module _ (config : Parts) (event : ℕ) where
       (every (event_at config event).nth (arrivals config event (moments config turns))))
   filters_of_event turns tick there some by =
       let setting = event_at config event in
-      thresholded_of_event config event (moments config turns)
+      thresholded_reaching config event (aggregated config (moments config turns))
       ∙ ap (reaching setting.threshold) (aggregated_of_event turns tick there some by)
       ∙ ap (λ (items : List Item). reaching setting.threshold (closed_items setting.aggregate (map tick_of turns) items))
       (sampled_every config event (moments config turns))

@@ -1,5 +1,5 @@
 -- The filters of one event, said over whole lists.
-use Rattle.std.proofs.Common.{◌≡◌, ℕ, ◌+◌, ◌%◌, ◌==◌, ◌&&◌, not, Bool, true, false, List, [], ◌∷◌, ◌++◌, length, map, filter, Option, Some, None, option_to_list, option_and_then, option_map, IfSome, ◌↔◌, ◌⊎◌, inl, inr, if◌then◌else◌, refl, sym, ap, subst, ◌∙◌, eq-eqb, eqb-true}
+use Rattle.std.proofs.Common.{◌≡◌, ℕ, ◌+◌, ◌%◌, ◌==◌, ◌&&◌, not, Bool, true, false, List, [], ◌∷◌, ◌++◌, length, map, filter, Option, Some, None, option_to_list, option_and_then, option_map, IfSome, ◌↔◌, ◌⊎◌, inl, inr, if◌then◌else◌, refl, sym, ap, subst, ◌∙◌, eqb-true}
 use Rattle.std.specs.Option.{option_or}
 use Rattle.ids_types.specs.declared.mode.Mode.{Mode}
 use Rattle.ids_types.specs.declared.mode.Mode.TheVariants.{Off, Brief, Detailed, BriefBypassing, DetailedBypassing}
@@ -33,25 +33,6 @@ sampled_every config event moments =
     added_same (sampled_at config event) (behind (arrival_at config event) nth)
     (λ before moment. where_there (is_nth config event before) (arrival_at config event before moment)) moments
     ∙ added_behind (arrival_at config event) nth moments
-
--- ---- the gate
-
--- both tests hold, or none passes
-both_pass : (nth arriving : Bool) (item : Item)
-    → option_map arrival (if nth then where_true arriving item else None) ≡ where_true (arriving && nth) (arrival item)
-both_pass true true item = refl
-both_pass true false item = refl
-both_pass false true item = refl
-both_pass false false item = refl
-
--- an item is let through where it arrives and is an nth one, as its mode leaves it
-pub gated_item : (config : Parts) (before : List Moment) (item : Item)
-    → gated_at config before (comes item)
-    ≡ where_true (is_arriving config item.event before && is_nth config item.event before)
-    (arrival (item_in (mode_at config item.event before) item))
-gated_item config before item =
-    rw (eq-eqb item.event item.event refl)
-    (both_pass (is_nth config item.event before) (is_arriving config item.event before) (item_in (mode_at config item.event before) item))
 
 -- ---- all filters
 
@@ -169,9 +150,3 @@ thresholded_reaching config event (item ∷ before) =
       | false ↦ λ is. drops_other event (where_true passes item) (added (thresholded_at config) before)
           (own_where event passes false item is) ∙ rest
     ] refl
-
--- the threshold, over moments
-pub thresholded_of_event : (config : Parts) (event : ℕ) (moments : List Moment)
-    → filter (is_of event) (thresholded config moments) ≡ reaching (event_at config event).threshold
-    (filter (is_of event) (aggregated config moments))
-thresholded_of_event config event moments = thresholded_reaching config event (aggregated config moments)

@@ -1,5 +1,5 @@
 -- Each list of the chain for a history with one more turn only has newer elements beside those of the history.
-use Rattle.std.proofs.Common.{◌+◌, ◌≡◌, List, [], ◌∷◌, ◌++◌, length, sym, ap, ◌∙◌, append_assoc, append-nil, length-append, arith}
+use Rattle.std.proofs.Common.{◌+◌, ◌≡◌, List, [], ◌∷◌, ◌++◌, length, sym, ap, ◌∙◌, append_assoc, append-nil, length-append, refl, arith}
 use Rattle.ids_types.specs.Turns.{Turn}
 use Rattle.ids_config.specs.Parts.{Parts}
 use Rattle.ids_frame.specs.Spelling.{spelling}
@@ -8,7 +8,7 @@ use Rattle.chain_spec.specs.Growth.{BeginsWith, EndsWith, Grows, GrowsAtEnd}
 use Rattle.chain_spec.specs.Items.{Item}
 use Rattle.chain_spec.specs.Messages.{message_of, spelled}
 use Rattle.chain_spec.specs.Moments.{moments, turn_moments}
-use Rattle.chain_spec.proofs.StageLemmas.{ends_with_before, ends_with_itself, ends_with_rest, added_grows, filter_grows, map_grows}
+use Rattle.chain_spec.proofs.StageLemmas.{ends_with_before, added_grows, filter_grows, map_grows}
 
 -- the bytes of a longer list of items
 spelled-append : (config : Parts) (further items : List Item) → BeginsWith (spelled config (further ++ items)) (spelled config items)
@@ -32,12 +32,13 @@ module _ (config : Parts) where
       rw grows.whole (spelled-append config grows.further (sent config (qualified_of config before)))
 
   pub ends_grow : Grows (ends config)
-  ends_grow turn before = ends_with_rest (length (messages config (turn ∷ before))) _ _ (ends_with_itself (ends config before))
+  ends_grow turn before = record { further = length (messages config (turn ∷ before)) ∷ []; whole = refl }
 
   pub handed_grow : Grows (handed config)
-  handed_grow turn before = ends_with_rest (handed_on config (turn ∷ before)) _ _ (ends_with_itself (handed config before))
+  handed_grow turn before = record { further = handed_on config (turn ∷ before) ∷ []; whole = refl }
 
-  pub held_counted : (turn : Turn) (before : List Turn) → held_count config (turn ∷ before) ≡ held_count config before + handed_on config (turn ∷ before)
+  pub held_counted : (turn : Turn) (before : List Turn)
+      → held_count config (turn ∷ before) ≡ held_count config before + handed_on config (turn ∷ before)
   held_counted turn before =
       let grows : EndsWith (held config (qualified_of config (turn ∷ before))) (held config (qualified_of config before)) =
       search (moments_grow, added_grows, filter_grows) in

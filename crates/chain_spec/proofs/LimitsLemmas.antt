@@ -29,15 +29,10 @@ pub bytes_fit : (limit : Limit) (before : List Candidate) (candidate : Candidate
 bytes_fit limit before candidate = (λ passes. leb-true _ _ passes, λ fit. le-leb _ _ fit)
 
 -- both tests hold
-both_hold : (a b : Bool) → IsTrue (a && b) ↔ (IsTrue a × IsTrue b)
+pub both_hold : (a b : Bool) → IsTrue (a && b) ↔ (IsTrue a × IsTrue b)
 both_hold true true = (λ both. (refl, refl), λ both. refl)
 both_hold true false = (λ both. absurd (cc both), λ both. both.1)
 both_hold false b = (λ both. absurd (cc both), λ both. both.0)
-
-pub let_out_by_both : (rate traffic : Option Limit) (before : List Candidate) (candidate : Candidate)
-    → IsTrue (is_let_out rate traffic before candidate)
-    ↔ (IsTrue (passes_rate rate before candidate) × IsTrue (passes_traffic traffic (sent_of rate traffic before) candidate))
-let_out_by_both rate traffic before candidate = both_hold _ _
 
 -- the items that are sent are the candidates that the limits let out
 pub weighed_sent : (config : Parts) (items : List Item)
@@ -50,9 +45,5 @@ weighed_sent config (item ∷ before) =
     ≡ option_to_list (where_true b (weighed config item)) ++ sent_of config.rate config.traffic (map (weighed config) before))
     [ true ↦ ap (λ (xs : List Candidate). weighed config item ∷ xs) rest | false ↦ rest ]
 
-pub weighed_sent_of : (config : Parts) (items : List Item)
-    → map (weighed config) (sent config items) ≡ sent_of config.rate config.traffic (map (weighed config) (candidates config items))
-weighed_sent_of config items = weighed_sent config (candidates config items)
-
 -- what is sent in the words of the limits
-pub ruleset limit_laws = (fewer_before, bytes_fit, let_out_by_both, weighed_sent_of)
+pub ruleset limit_laws = (fewer_before, bytes_fit, both_hold, weighed_sent)

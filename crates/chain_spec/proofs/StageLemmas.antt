@@ -32,24 +32,16 @@ with_all-append before (x ∷ xs) ys = with_all-append (x ∷ before) xs ys
 
 -- ---- longer lists
 
--- a list ends with itself
-pub ends_with_itself : {A : Type 0} (xs : List A) → EndsWith xs xs
-ends_with_itself xs = record { further = []; whole = refl }
-
--- one element more
-pub ends_with_rest : {A : Type 0} (x : A) (xs ys : List A) → EndsWith xs ys → EndsWith (x ∷ xs) ys
-ends_with_rest x xs ys ends = record { further = x ∷ ends.further; whole = ap (λ zs. x ∷ zs) ends.whole }
-
 -- with elements that came one after another
 pub ends_with_before : {A : Type 0} (before xs : List A) → EndsWith (with_all before xs) before
-ends_with_before before [] = ends_with_itself before
+ends_with_before before [] = record { further = []; whole = refl }
 ends_with_before before (x ∷ xs) =
     let ends = ends_with_before (x ∷ before) xs in
     record { further = ends.further ++ x ∷ []; whole = ends.whole ∙ sym (append_assoc ends.further (x ∷ []) before) }
 
 -- what a stage adds to a longer list
 added-append : {A B : Type 0} (stage : Stage A B) (further xs : List A) → EndsWith (added stage (further ++ xs)) (added stage xs)
-added-append stage [] xs = ends_with_itself (added stage xs)
+added-append stage [] xs = record { further = []; whole = refl }
 added-append stage (x ∷ further) xs =
     let ends = added-append stage further xs in
     let own = option_to_list (stage (further ++ xs) x) in

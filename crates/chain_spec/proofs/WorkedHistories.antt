@@ -37,6 +37,10 @@ instance_18 events = record {
 abbrev door : Event
 door = plain_event 42 3
 
+-- that event alone
+abbrev just_door : Parts
+just_door = instance_18 (door ∷ [])
+
 -- ---- histories, here with the oldest turn first
 
 -- a report of an event, seen so often
@@ -46,6 +50,10 @@ seen event count = Report (record { 0 = event }) count None Absent
 -- a report of event 0, seen once, with these bytes of context data
 abbrev with_context : List ℕ → Act (List ℕ)
 with_context bytes = Report (record { 0 = 0 }) 1 None (Kept 0 0 bytes)
+
+-- the mode of event 0 becomes this one
+abbrev becomes : Mode → Act (List ℕ)
+becomes mode = SetMode (record { 0 = 0 }) mode
 
 -- a turn at a tick with its three numbers and these acts
 abbrev turn_with : ℕ → ℕ → ℕ → ℕ → List (Act (List ℕ)) → Turn
@@ -57,6 +65,14 @@ turn_with tick lost_events lost_contexts limited acts = record {
 -- a turn at a tick with these acts
 abbrev turn : ℕ → List (Act (List ℕ)) → Turn
 turn tick acts = turn_with tick 0 0 0 acts
+
+-- one report with two bytes of context data
+abbrev a_parcel : List Turn
+a_parcel = turn 5 (with_context (161 ∷ 178 ∷ []) ∷ []) ∷ []
+
+-- three reports in a turn, of which one is held back, and the turn behind it
+abbrev three_at_once : List Turn
+three_at_once = turn 0 (seen 0 1 ∷ seen 0 1 ∷ seen 0 1 ∷ []) ∷ turn_with 1 0 0 1 [] ∷ []
 
 -- ---- what is expected
 
@@ -158,110 +174,98 @@ none_let_out = record (instance_18 (record (plain_event 1 0) { store = true } �
 
 record AreWorkedOut : Type 0 where
   -- ---- messages
-  nothing_for_no_turns : Sends (instance_18 (door ∷ [])) [] []
-  a_report_with_context : Sends (instance_18 (door ∷ [])) (turn 5 (with_context (161 ∷ 178 ∷ []) ∷ []) ∷ []) (codes "110483002a00010002a1b2")
-  a_report_with_a_timestamp :
-      Sends (instance_18 (door ∷ []))
+  nothing_for_no_turns : Sends just_door [] []
+  a_report_with_context : Sends just_door a_parcel (codes "110483002a00010002a1b2")
+  a_report_with_a_timestamp : Sends just_door
       (turn 5 (Report (record { 0 = 0 }) 1 (Some (record { 0 = 9223372041149745664 })) Absent ∷ []) ∷ [])
       (codes "120483002a0001008000000100000a00")
   -- 127 bytes are told in the short form, and 128 in the long one
-  the_longest_short_context :
-      take 9 (messages (instance_18 (door ∷ [])) (turn 5 (with_context (replicate 127 161) ∷ []) ∷ []))
-      ≡ bytes_of (codes "110483002a0001007f")
-  the_shortest_long_context :
-      take 12 (messages (instance_18 (door ∷ [])) (turn 5 (with_context (replicate 128 161) ∷ []) ∷ []))
-      ≡ bytes_of (codes "110483002a00010080000080")
+  the_longest_short_context : take 9 (messages just_door (turn 5 (with_context (replicate 127 161) ∷ []) ∷ [])) ≡ bytes_of
+      (codes "110483002a0001007f")
+  the_shortest_long_context : take 12 (messages just_door (turn 5 (with_context (replicate 128 161) ∷ []) ∷ [])) ≡ bytes_of
+      (codes "110483002a00010080000080")
   version_of_context_data : Sends second_profile (turn 5 (with_context (161 ∷ 178 ∷ []) ∷ seen 0 1 ∷ []) ∷ [])
       (codes "210483002a00010502a1b2200483002a000100")
-  each_turn_ends_behind_its_messages :
-      ends (instance_18 (door ∷ [])) (reverse (turn 1 (seen 0 1 ∷ []) ∷ turn 2 [] ∷ turn 3 (seen 0 1 ∷ seen 0 2 ∷ []) ∷ []))
-      ≡ 24 ∷ 8 ∷ 8 ∷ []
+  each_turn_ends_behind_its_messages : ends just_door
+      (reverse (turn 1 (seen 0 1 ∷ []) ∷ turn 2 [] ∷ turn 3 (seen 0 1 ∷ seen 0 2 ∷ []) ∷ [])) ≡ 24 ∷ 8 ∷ 8 ∷ []
   -- ---- reporting mode and block state
-  off_drops : Sends (door_in Off) (turn 5 (with_context (161 ∷ 178 ∷ []) ∷ []) ∷ []) []
-  brief_removes_context : Sends (door_in Brief) (turn 5 (with_context (161 ∷ 178 ∷ []) ∷ []) ∷ []) (codes "100483002a000100")
+  off_drops : Sends (door_in Off) a_parcel []
+  brief_removes_context : Sends (door_in Brief) a_parcel (codes "100483002a000100")
   -- a mode counts for what comes after it, in later turns too
-  a_mode_is_set :
-      Sends (instance_18 (door ∷ []))
-      (turn 5 (seen 0 1 ∷ SetMode (record { 0 = 0 }) Off ∷ seen 0 2 ∷ [])
-      ∷ turn 6 (seen 0 3 ∷ SetMode (record { 0 = 0 }) Detailed ∷ seen 0 4 ∷ []) ∷ [])
+  a_mode_is_set : Sends just_door
+      (turn 5 (seen 0 1 ∷ becomes Off ∷ seen 0 2 ∷ []) ∷ turn 6 (seen 0 3 ∷ becomes Detailed ∷ seen 0 4 ∷ []) ∷ [])
       (codes "100483002a000100100483002a000400")
   blocked_items_have_no_rank : Sends (instance_18 (every_second ∷ [])) blocked_between (codes "100483002a000300")
   bypassing_items_pass_a_blocking_state : Sends (instance_18 (record every_second { mode = DetailedBypassing } ∷ [])) blocked_between
       (codes "100483002a000100100483002a000200100483002a000300")
-  brief_bypassing_removes_context :
-      Sends (door_in BriefBypassing) (turn 5 (with_context (161 ∷ 178 ∷ []) ∷ []) ∷ []) (codes "100483002a000100")
+  brief_bypassing_removes_context : Sends (door_in BriefBypassing) a_parcel (codes "100483002a000100")
   -- ---- forward every nth
   every_third_passes : Sends (instance_18 (record door { nth = 3 } ∷ []))
       (turn 5 (seen 0 1 ∷ seen 0 2 ∷ seen 0 3 ∷ seen 0 4 ∷ seen 0 5 ∷ seen 0 6 ∷ seen 0 7 ∷ []) ∷ [])
       (codes "100483002a000300100483002a000600")
   -- the rank goes on from turn to turn, and what bypasses the filters has none
   ranks_go_on : Sends (instance_18 (record door { nth = 2 } ∷ []))
-      (turn 5 (seen 0 1 ∷ SetMode (record { 0 = 0 }) DetailedBypassing ∷ seen 0 2 ∷ SetMode (record { 0 = 0 }) Detailed ∷ [])
-      ∷ turn 6 (seen 0 3 ∷ []) ∷ [])
+      (turn 5 (seen 0 1 ∷ becomes DetailedBypassing ∷ seen 0 2 ∷ becomes Detailed ∷ []) ∷ turn 6 (seen 0 3 ∷ []) ∷ [])
       (codes "100483002a000200100483002a000300")
   -- ---- aggregation
   -- due at the opener's tick plus the interval, before that turn's items, which open the next window
-  a_window_at_its_end :
-      Sends (aggregated_door false) (turn 100 (seen 0 2 ∷ []) ∷ turn 105 (seen 0 3 ∷ []) ∷ turn 110 (seen 0 1 ∷ []) ∷ [])
+  a_window_at_its_end : Sends (aggregated_door false) (turn 100 (seen 0 2 ∷ []) ∷ turn 105 (seen 0 3 ∷ []) ∷ turn 110 (seen 0 1 ∷ []) ∷ [])
       (codes "100483002a000500")
   a_window_before_its_end : Sends (aggregated_door false) (turn 100 (seen 0 2 ∷ []) ∷ turn 109 (seen 0 3 ∷ []) ∷ []) []
   -- a turn that comes late closes one window, and the next begins with that turn's first item
-  a_window_closes_late :
-      Sends (aggregated_door false) (turn 100 (seen 0 2 ∷ []) ∷ turn 125 (seen 0 3 ∷ []) ∷ turn 134 (seen 0 4 ∷ []) ∷ turn 135 [] ∷ [])
+  a_window_closes_late : Sends (aggregated_door false)
+      (turn 100 (seen 0 2 ∷ []) ∷ turn 125 (seen 0 3 ∷ []) ∷ turn 134 (seen 0 4 ∷ []) ∷ turn 135 [] ∷ [])
       (codes "100483002a000200100483002a000700")
   a_sum_saturates : Sends (aggregated_door false) (turn 0 (seen 0 65535 ∷ seen 0 1 ∷ []) ∷ turn 10 [] ∷ []) (codes "100483002affff00")
   the_first_context_is_kept : Sends (aggregated_door false) two_contexts (codes "110483002a00040001a1")
   the_last_context_is_kept : Sends (aggregated_door true) two_contexts (codes "110483002a00040001b2")
   -- a mode does not touch an open window
-  off_leaves_a_window_open :
-      Sends (aggregated_door false) (turn 0 (seen 0 2 ∷ SetMode (record { 0 = 0 }) Off ∷ seen 0 3 ∷ []) ∷ turn 10 [] ∷ [])
+  off_leaves_a_window_open : Sends (aggregated_door false) (turn 0 (seen 0 2 ∷ becomes Off ∷ seen 0 3 ∷ []) ∷ turn 10 [] ∷ [])
       (codes "100483002a000200")
   -- windows close in the order of the events, and before the items of the turn
-  windows_close_event_by_event : Sends (instance_18 (record door { aggregate = Some (record { interval = 10; last = false }) }
+  windows_close_event_by_event : Sends
+      (instance_18 (record door { aggregate = Some (record { interval = 10; last = false }) }
       ∷ record (plain_event 43 3) { aggregate = Some (record { interval = 5; last = false }) } ∷ plain_event 44 3 ∷ []))
       (turn 0 (seen 1 1 ∷ seen 0 1 ∷ []) ∷ turn 10 (seen 2 1 ∷ []) ∷ []) (codes "100483002a000100100483002b000100100483002c000100")
   -- ---- threshold
-  the_third_and_later_pass :
-      Sends door_above_3 (turn 0 (seen 0 1 ∷ seen 0 1 ∷ seen 0 1 ∷ seen 0 1 ∷ []) ∷ []) (codes "100483002a000100100483002a000100")
+  the_third_and_later_pass : Sends door_above_3 (turn 0 (seen 0 1 ∷ seen 0 1 ∷ seen 0 1 ∷ seen 0 1 ∷ []) ∷ [])
+      (codes "100483002a000100100483002a000100")
   -- a window covers no tick from its opener's plus the interval on
-  a_threshold_window_ends :
-      Sends door_above_3 (turn 0 (seen 0 2 ∷ []) ∷ turn 99 (seen 0 1 ∷ []) ∷ turn 100 (seen 0 2 ∷ []) ∷ []) (codes "100483002a000100")
+  a_threshold_window_ends : Sends door_above_3 (turn 0 (seen 0 2 ∷ []) ∷ turn 99 (seen 0 1 ∷ []) ∷ turn 100 (seen 0 2 ∷ []) ∷ [])
+      (codes "100483002a000100")
   -- a joined item is counted at the tick of the turn that closed its window
-  a_joined_item_is_counted_as_one : Sends (instance_18 (record door {
-    aggregate = Some (record { interval = 10; last = false });
-    threshold = Some (record { interval = 20; number = 5 });
-  } ∷ []))
+  a_joined_item_is_counted_as_one : Sends
+      (instance_18 (record door {
+        aggregate = Some (record { interval = 10; last = false });
+        threshold = Some (record { interval = 20; number = 5 });
+      } ∷ []))
       (turn 0 (seen 0 2 ∷ []) ∷ turn 10 (seen 0 3 ∷ []) ∷ turn 29 (seen 0 4 ∷ []) ∷ turn 39 [] ∷ []) (codes "100483002a000300")
   -- ---- internal events
   lost_events_are_told_first : Sends tells_lost_events (turn_with 5 1 0 0 (seen 0 1 ∷ seen 0 1 ∷ []) ∷ turn 5 [] ∷ [])
       (codes "1004800007000100100483002a000100100483002a000100")
-  a_number_of_losses_saturates :
-      Sends tells_lost_events (turn_with 5 70000 0 0 (seen 0 1 ∷ []) ∷ turn 5 [] ∷ []) (codes "1004800007ffff00100483002a000100")
-  lost_contexts_are_told_where_configured : Sends (instance_18 (door ∷ [])) (turn_with 5 0 1 0 (with_context (161 ∷ 162 ∷ 163 ∷ 164 ∷ []) ∷
-      Report (record { 0 = 0 }) 1 None (Missing (1 ∷ 1 ∷ [])) ∷ []) ∷ turn 5 [] ∷ []) (codes "110483002a00010004a1a2a3a4100483002a000100")
+  a_number_of_losses_saturates : Sends tells_lost_events (turn_with 5 70000 0 0 (seen 0 1 ∷ []) ∷ turn 5 [] ∷ [])
+      (codes "1004800007ffff00100483002a000100")
+  lost_contexts_are_told_where_configured : Sends just_door
+      (turn_with 5 0 1 0 (with_context (161 ∷ 162 ∷ 163 ∷ 164 ∷ [])
+      ∷ Report (record { 0 = 0 }) 1 None (Missing (1 ∷ 1 ∷ [])) ∷ []) ∷ turn 5 [] ∷ [])
+      (codes "110483002a00010004a1a2a3a4100483002a000100")
   -- all three in their order, and none for 0
-  internal_events_in_order :
-      Sends all_internal
-      (turn_with 5 4 5 6 [] ∷ turn_with 6 0 7 0 [] ∷ [])
+  internal_events_in_order : Sends all_internal (turn_with 5 4 5 6 [] ∷ turn_with 6 0 7 0 [] ∷ [])
       (codes "10048000030004001004800002000500100480000100060010048000020007" ++ codes "00")
   -- ---- limits
   the_rate_is_kept : Sends two_in_1000 third_held_back (codes "100483002a000100100483002a0001001004800009000100")
   the_number_held_back_is_handed_on : handed two_in_1000 (reverse third_held_back) ≡ 0 ∷ 1 ∷ []
   what_is_handed_on_is_told : IsCausal two_in_1000 (reverse third_held_back)
   -- a window begins with a multiple of the interval
-  a_rate_window_ends :
-      Sends two_in_1000 (turn 998 (seen 0 1 ∷ seen 0 2 ∷ []) ∷ turn 999 (seen 0 3 ∷ []) ∷ turn_with 1000 0 0 0 (seen 0 4 ∷ []) ∷ [])
+  a_rate_window_ends : Sends two_in_1000
+      (turn 998 (seen 0 1 ∷ seen 0 2 ∷ []) ∷ turn 999 (seen 0 3 ∷ []) ∷ turn_with 1000 0 0 0 (seen 0 4 ∷ []) ∷ [])
       (codes "100483002a000100100483002a000200100483002a000400")
   -- the internal event uses up the rate like others, and is itself not counted
-  held_back_items_of_the_internal_event :
-      handed two_in_1000 (reverse (turn 0 (seen 0 1 ∷ seen 0 1 ∷ seen 0 1 ∷ []) ∷ turn_with 1 0 0 1 [] ∷ [])) ≡ 0 ∷ 1 ∷ []
-  the_traffic_is_kept :
-      Sends twenty_bytes (turn 0 (seen 0 1 ∷ seen 0 1 ∷ seen 0 1 ∷ []) ∷ turn_with 1 0 0 1 [] ∷ []) (codes "100483002a000100100483002a000100")
-  what_traffic_holds_back_is_handed_on :
-      handed twenty_bytes (reverse (turn 0 (seen 0 1 ∷ seen 0 1 ∷ seen 0 1 ∷ []) ∷ turn_with 1 0 0 1 [] ∷ [])) ≡ 0 ∷ 1 ∷ []
+  held_back_items_of_the_internal_event : handed two_in_1000 (reverse three_at_once) ≡ 0 ∷ 1 ∷ []
+  the_traffic_is_kept : Sends twenty_bytes three_at_once (codes "100483002a000100100483002a000100")
+  what_traffic_holds_back_is_handed_on : handed twenty_bytes (reverse three_at_once) ≡ 0 ∷ 1 ∷ []
   -- what the traffic held back leaves its bytes to a shorter message: 8 bytes, 13 that do not fit, 8 again
-  a_shorter_message_still_fits :
-      Sends twenty_bytes (turn 0 (seen 0 1 ∷ with_context (1 ∷ 2 ∷ 3 ∷ 4 ∷ []) ∷ seen 0 2 ∷ []) ∷ [])
+  a_shorter_message_still_fits : Sends twenty_bytes (turn 0 (seen 0 1 ∷ with_context (1 ∷ 2 ∷ 3 ∷ 4 ∷ []) ∷ seen 0 2 ∷ []) ∷ [])
       (codes "100483002a000100100483002a000200")
   -- but it took its place in the rate
   traffic_holds_back_behind_the_rate : Sends (record twenty_bytes { rate = Some (record { interval = 1000; number = 2 }) })
@@ -275,10 +279,9 @@ record AreWorkedOut : Type 0 where
   what_is_not_sent_is_no_message : Sends (three_stored 2) five_turns []
   occurrences_saturate : memory (three_stored 1) (reverse (turn 1 (seen 0 65535 ∷ seen 0 1 ∷ []) ∷ [])) ≡ row 0 65535 1 1 ∷ []
   -- the last item's timestamp and context data are kept, though the limits hold it back
-  a_record_of_what_is_held_back :
-      memory none_let_out
-      (reverse (turn 1 (seen 0 1 ∷ Report (record { 0 = 0 }) 1 (Some (record { 0 = 7 })) (Kept 0 0 (161 ∷ [])) ∷ []) ∷ []))
-      ≡ record (row 0 2 1 1) { stamp = Some (record { 0 = 7 }); context = 161 ∷ [] } ∷ []
+  a_record_of_what_is_held_back : memory none_let_out
+      (reverse (turn 1 (seen 0 1 ∷ Report (record { 0 = 0 }) 1 (Some (record { 0 = 7 })) (Kept 0 0 (161 ∷ [])) ∷ []) ∷ [])) ≡ record
+      (row 0 2 1 1) { stamp = Some (record { 0 = 7 }); context = 161 ∷ [] } ∷ []
 
 histories : AreWorkedOut
 histories = assumption (refl)
