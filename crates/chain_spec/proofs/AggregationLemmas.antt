@@ -45,16 +45,12 @@ any_is_first least (tick ∷ before) =
     ]
 
 -- none, where all ticks are too early
-none_first : (least : ℕ) (ticks : List ℕ) → AllByRecursion (λ tick. tick < least) ticks → first_from least ticks ≡ None
-none_first least [] early = refl
-none_first least (tick ∷ before) early = rw (none_first least before early.1, lt-leb least tick early.0) refl
+none_first : (least n : ℕ) (ticks : List ℕ) → n < least → AllByRecursion (λ tick. tick ≤ n) ticks → first_from least ticks ≡ None
+none_first least n [] less by = refl
+none_first least n (tick ∷ before) less by =
+    rw (none_first least n before less by.1, lt-leb least tick (omega (arith, less, by.0))) refl
 
--- what comes by a tick comes before a later one
-before_later : (n m : ℕ) (ticks : List ℕ) → n < m → AllByRecursion (λ tick. tick ≤ n) ticks → AllByRecursion (λ tick. tick < m) ticks
-before_later n m [] less by = tt
-before_later n m (tick ∷ ticks) less by = (omega (arith, by.0), before_later n m ticks less by.1)
-
--- and by a later one
+-- what comes by a tick comes by a later one
 pub by_later : (n m : ℕ) (ticks : List ℕ) → n ≤ m → AllByRecursion (λ tick. tick ≤ n) ticks → AllByRecursion (λ tick. tick ≤ m) ticks
 by_later n m [] le by = tt
 by_later n m (tick ∷ ticks) le by = (omega (arith, by.0), by_later n m ticks le by.1)
@@ -155,20 +151,18 @@ module _ (setting : Aggregate) where
       → AllByRecursion (λ tick. tick ≤ x.tick) (x.tick ∷ rest) → EndBy (λ w. w.opener.tick) x.tick ws → AreOlderClosed (x.tick ∷ rest) ws
       → Keeps (x.tick ∷ rest) ws (with_item came_at setting.interval x ws)
   arriving_keeps x rest [] some early by older =
-      let none = none_first (x.tick + setting.interval) (x.tick ∷ rest)
-      (before_later x.tick (x.tick + setting.interval) (x.tick ∷ rest) (omega arith) early) in
+      let none = none_first (x.tick + setting.interval) x.tick (x.tick ∷ rest) (omega arith) early in
       (ap (λ (o : Option ℕ). cons_option (option_map (λ t. item_at t (joined setting.last (opened x))) o) []) none, tt)
   arriving_keeps x rest (w ∷ ws) some early by older =
       let ticks = x.tick ∷ rest in
-      let none = none_first (x.tick + setting.interval) ticks (before_later x.tick (x.tick + setting.interval) ticks (omega arith) early) in
+      let none = none_first (x.tick + setting.interval) x.tick ticks (omega arith) early in
       let decides = newest_decides came_at setting.interval x.tick x.tick w ws by in
       subst (λ (b : Bool). Keeps ticks (w ∷ ws) (if b then extended x w ∷ ws else opened x ∷ w ∷ ws)) (sym decides)
       (elim (covers came_at setting.interval x.tick w) as (λ (b : Bool). covers came_at setting.interval x.tick w ≡ b
       → Keeps ticks (w ∷ ws) (if b then extended x w ∷ ws else opened x ∷ w ∷ ws)) [
         | true ↦ λ is.
             let covered : x.tick < w.opener.tick + setting.interval = ltb-true x.tick (w.opener.tick + setting.interval) is in
-            let not_due = none_first (w.opener.tick + setting.interval) ticks
-            (before_later x.tick (w.opener.tick + setting.interval) ticks covered early) in
+            let not_due = none_first (w.opener.tick + setting.interval) x.tick ticks covered early in
             let tail = filter_map (closed_item setting ticks) ws in (
               ap (λ (o : Option ℕ). cons_option (option_map (λ t. item_at t (joined setting.last (extended x w))) o) tail) not_due
                   ∙ sym (ap (λ (o : Option ℕ). cons_option (option_map (λ t. item_at t (joined setting.last w)) o) tail) not_due),

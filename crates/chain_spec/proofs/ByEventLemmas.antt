@@ -35,25 +35,17 @@ record StandsBy (event : ℕ) (setting : Aggregate) (t : ℕ) (ticks : List ℕ)
   older : AreOlderClosed setting ticks ws
 
 module _ (config : Parts) (event : ℕ) where
-  -- a turn that closes the event's windows adds its tick
-  ticks_own : (tick : ℕ) (calls : List ACall) → closing_ticks event (closes_due tick event ∷ calls) ≡ tick ∷ closing_ticks event calls
-  ticks_own tick calls = rw (eq-eqb event event refl) refl
-
-  -- and one that closes another event's does not
+  -- a turn that closes another event's windows adds no tick
   ticks_other : (tick other : ℕ) (calls : List ACall) → other == event ≡ false → closing_ticks event (closes_due tick other ∷ calls)
       ≡ closing_ticks event calls
   ticks_other tick other calls is = rw is refl
-
-  -- what is not an event's is another's
-  other_is : (a b : ℕ) → a == b ≡ true → b == event ≡ false → a == event ≡ false
-  other_is a b is other = subst (λ n. n == event ≡ false) (sym (eqb-true a b is)) other
 
   -- the item of another event's window is no item of this one
   closes_other : (o : Option (Qualified (List ℕ))) (tick other : ℕ) → other == event ≡ false → IfSome o
       (λ told. told.event.0 == other ≡ true)
       → IfSome (option_map (item_at tick) o) (λ item. is_of event item ≡ false)
   closes_other None tick other is of = tt
-  closes_other (Some told) tick other is of = other_is told.event.0 other of is
+  closes_other (Some told) tick other is of = subst (λ n. n == event ≡ false) (sym (eqb-true told.event.0 other of)) is
 
   -- nor is another event's own
   alone_other : (setting : Option Aggregate) (item : Item) → is_of event item ≡ false → IfSome (alone setting item)
@@ -82,7 +74,7 @@ module _ (config : Parts) (event : ℕ) where
             let same : first ≡ event = eqb-true first event is in
             ticks_beyond tick n (first + 1) (closes tick first ∷ before) (omega arith)
             ∙ subst (λ k. closing_ticks event (closes_due tick k ∷ gated config before) ≡ tick ∷ closing_ticks event
-            (gated config before)) (sym same) (ticks_own tick (gated config before))
+            (gated config before)) (sym same) (rw (eq-eqb event event refl) refl)
         | false ↦ λ is.
             let other = eqb-false first event is in
             let later : first + 1 ≤ event = elim (eq-or-lt_of_le le) [ inl same ↦ absurd (other same) | inr below ↦ omega arith ] in
@@ -206,44 +198,21 @@ module _ (config : Parts) (event : ℕ) where
           older = older_more setting tick (closing_ticks event calls) ws h.older;
         })
 
-    closing_other : (t tick other : ℕ) (calls : List ACall) → t ≤ tick → other == event ≡ false → Stands t calls
-        → Stands tick (closes_due tick other ∷ calls)
-    closing_other t tick other calls le is h =
-        let later = stands_later t tick calls le h in
-        let same = drops_other event _ (added (aggregated_at config) calls)
-        (closes_other _ tick other is (closing_item_of (event_at config other).aggregate other tick calls)) ∙ h.same in
-        rw is (assumption (same, later.below, later.opens, later.older))
-
     closing : (t tick other : ℕ) (calls : List ACall) → t ≤ tick → Stands t calls → Stands tick (closes_due tick other ∷ calls)
     closing t tick other calls le h =
         elim (other == event) as (λ (b : Bool). other == event ≡ b → Stands tick (closes_due tick other ∷ calls)) [
           | true ↦ λ is. subst (λ n. Stands tick (closes_due tick n ∷ calls)) (sym (eqb-true other event is))
               (closing_own t tick calls le h)
-          | false ↦ λ is. closing_other t tick other calls le is h
+          | false ↦ λ is.
+              let later = stands_later t tick calls le h in
+              let same = drops_other event _ (added (aggregated_at config) calls)
+              (closes_other _ tick other is (closing_item_of (event_at config other).aggregate other tick calls)) ∙ h.same in
+              rw is (assumption (same, later.below, later.opens, later.older))
         ] refl
 
     -- this turn has closed the event's window, behind other turns
     abbrev HasClosed : ℕ → List ℕ → List ACall → Type 0
     HasClosed tick rest calls = closing_ticks event calls ≡ tick ∷ rest
-
-    arriving_own : (tick : ℕ) (rest : List ℕ) (told : Qualified (List ℕ)) (calls : List ACall) → told.event.0 == event ≡ true
-        → HasClosed tick rest calls → Stands tick calls → Stands tick (arrives tick told ∷ calls)
-    arriving_own tick rest told calls is closed h =
-        let x : AnArrival = record { tick = tick; told = told } in
-        let ws = windows_in setting.interval event calls in
-        let old = rw closed at h in
-        let kept = arriving_keeps setting x rest ws some old.below old.opens old.older in
-        let setting_is = ap (λ e. (event_at config e).aggregate) (eqb-true told.event.0 event is) ∙ aggregates in
-        let same = old.same ∙ sym kept.0 in
-        let opens = open_with came_at setting.interval x ws old.opens in
-        rw (is, setting_is, closed) (assumption (same, old.below, opens, kept.1))
-
-    arriving_other : (tick : ℕ) (told : Qualified (List ℕ)) (calls : List ACall) → told.event.0 == event ≡ false
-        → Stands tick calls → Stands tick (arrives tick told ∷ calls)
-    arriving_other tick told calls is h =
-        let same = drops_other event _ (added (aggregated_at config) calls)
-        (alone_other (event_at config told.event.0).aggregate (item_at tick told) is) ∙ h.same in
-        rw is (assumption (same, h.below, h.opens, h.older))
 
     -- ---- the moments of a turn
 
@@ -256,9 +225,18 @@ module _ (config : Parts) (event : ℕ) where
     arriving tick at rest told calls same h =
         subst (λ n. Inside tick rest (arrives n told ∷ calls)) (sym same)
         (elim (told.event.0 == event) as (λ (b : Bool). told.event.0 == event ≡ b → Inside tick rest (arrives tick told ∷ calls)) [
-          | true ↦ λ is. (arriving_own tick rest told calls is h.1 h.0, h.1)
+          | true ↦ λ is.
+              let ws = windows_in setting.interval event calls in
+              let old = rw h.1 at h.0 in
+              let kept = arriving_keeps setting (record { tick = tick; told = told }) rest ws some old.below old.opens old.older in
+              let same = old.same ∙ sym kept.0 in
+              let opens = open_with came_at setting.interval (record { tick = tick; told = told }) ws old.opens in
+              let setting_is = ap (λ e. (event_at config e).aggregate) (eqb-true told.event.0 event is) ∙ aggregates in
+              (rw (is, setting_is, h.1) (assumption (same, old.below, opens, kept.1)), h.1)
           | false ↦ λ is.
-              (arriving_other tick told calls is h.0, h.1)
+              let same = drops_other event _ (added (aggregated_at config) calls)
+              (alone_other (event_at config told.event.0).aggregate (item_at tick told) is) ∙ h.0.same in
+              rw is (assumption (same, h.0.below, h.0.opens, h.0.older), h.1)
         ] refl)
 
     -- an item comes at this tick, or a control

@@ -8,8 +8,8 @@ use Rattle.ids_config.specs.declared.parts.Window.{Window as Setting}
 use Rattle.chain_spec.specs.ByEvent.{every, reaching}
 use Rattle.chain_spec.specs.Calls.{Call}
 use Rattle.chain_spec.specs.Counting.{Occurrence, among}
-use Rattle.chain_spec.specs.Filtering.{gated_at, aggregated_at, thresholded_at, filtered_at, qualified_at, counted, gated, aggregated, thresholded, arrival}
-use Rattle.chain_spec.specs.Gate.{is_arriving, is_filtered, is_bypassing, is_blocked, is_nth, mode_at, item_in, arrival_at, arrivals, sampled_at, sampled, bypassing_at}
+use Rattle.chain_spec.specs.Filtering.{gated_at, aggregated_at, thresholded_at, filtered_at, qualified_at, counted, gated, thresholded, arrival}
+use Rattle.chain_spec.specs.Gate.{is_filtered, is_bypassing, is_blocked, is_nth, mode_at, item_in, arrival_at, arrivals, sampled_at, sampled, bypassing_at}
 use Rattle.chain_spec.specs.Items.{Item, is_of}
 use Rattle.chain_spec.specs.Moments.{Moment, closes, comes, state_is, mode_is}
 use Rattle.chain_spec.specs.Stages.{added, behind, where_true}
