@@ -1,7 +1,7 @@
--- The records that a memory holds, and what an item makes of them.
-use Rattle.std.specs.Prelude.{ℕ, ◌+◌, ◌==◌, ◌∷◌, ◌++◌, [], List, Bool, Option, Some, None, drop, min, slice_index_or, take}
+-- The records that a memory holds, what an item makes of them, and which they are of all items that were stored.
+use Rattle.std.specs.Prelude.{◌≡◌, ℕ, ◌+◌, ◌==◌, ◌∷◌, [], List, Bool, Option, Some, None, min, slice_index_or, take}
 use Rattle.std.specs.List.{position, remove}
-use Rattle.chain_spec.specs.Memory.{Stored, event_of, row_over}
+use Rattle.chain_spec.specs.Memory.{Stored, event_of, newest_rows, row_over}
 use Rattle.ids_types.specs.MemoryRow.{Row}
 use Rattle.ids_types.specs.declared.key.Key.{Key}
 use Rattle.ids_types.specs.declared.names.Stamp.{Stamp}
@@ -28,12 +28,12 @@ abbrev pub stored : ℕ → Key → ℕ → Option Stamp → List ℕ → Stored
 stored tick key count stamp context =
     record { tick = tick; key = key; count = count; stamp = stamp; context = context }
 
--- a record that tells an item as its last
-abbrev pub telling : Stored → Row → Row
-telling item row = record {
+-- a record whose last item is this one
+abbrev pub told : Stored → ℕ → ℕ → Row
+told item occurrences first = record {
   key = item.key;
-  occurrences = row.occurrences;
-  first = row.first;
+  occurrences = occurrences;
+  first = first;
   last = item.tick;
   stamp = item.stamp;
   context = item.context;
@@ -41,29 +41,11 @@ telling item row = record {
 
 -- the record that an item begins
 abbrev pub begun : Stored → Row
-begun item = record {
-  key = item.key;
-  occurrences = item.count;
-  first = item.tick;
-  last = item.tick;
-  stamp = item.stamp;
-  context = item.context;
-}
+begun item = told item item.count item.tick
 
 -- the record with an item more
 abbrev pub added : Stored → Row → Row
-added item row = record {
-  key = item.key;
-  occurrences = min (row.occurrences + item.count) 65535;
-  first = row.first;
-  last = item.tick;
-  stamp = item.stamp;
-  context = item.context;
-}
-
--- what is at a place stands before all that came before it
-abbrev pub brought_first : ℕ → List Row → List Row
-brought_first place rows = slice_index_or rows place no_row ∷ remove rows place
+added item row = told item (min (row.occurrences + item.count) 65535) row.first
 
 -- an item began a record: it is the newest, and the oldest goes where there is no more room
 abbrev pub after_beginning : Stored → Held → Held
@@ -84,3 +66,7 @@ after_storing_at item memory (Some place) = after_adding item place memory
 -- an item was stored
 abbrev pub after_storing : Stored → Held → Held
 after_storing item memory = after_storing_at item memory (position (is_of (event_of item)) memory.rows)
+
+-- the records are the newest of these items, as many as there may be
+abbrev pub Stands : Held → List Stored → Type 0
+Stands memory items = memory.rows ≡ newest_rows memory.room items

@@ -1,5 +1,3 @@
 pub mod Held
 pub mod MemoryView
-pub mod RowView
-pub mod SlotView
-pub mod Standing
+pub mod Views

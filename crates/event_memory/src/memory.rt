@@ -1,10 +1,8 @@
 ghost use Rattle.std.specs.Prelude.{◌≡◌, ◌<◌, ◌≤◌, ◌∷◌, [], List, length, reverse, slice_index_or, IfOk};
-ghost use Rattle.std.specs.List.{position};
+ghost use Rattle.std.specs.List.{position, remove};
 ghost use Rattle.chain_spec.specs.Memory.{Stored};
-ghost use Rattle.event_memory.specs.Held.{after_adding, after_beginning, after_storing, brought_first, is_of, no_row, no_rows, stored};
-ghost use Rattle.event_memory.specs.RowView.{plain_row};
-ghost use Rattle.event_memory.specs.SlotView.{plain_item};
-ghost use Rattle.event_memory.specs.Standing.{Stands};
+ghost use Rattle.event_memory.specs.Held.{Stands, after_adding, after_beginning, after_storing, is_of, no_row, no_rows, stored};
+ghost use Rattle.event_memory.specs.Views.{plain_item, plain_row};
 
 use crate::row::Row;
 use crate::slot::{Item, Slot};
@@ -127,7 +125,7 @@ impl Memory {
 /// Moves what is at a place before all that comes before it.
 fn bring_first(slots: &mut [Slot], place: usize)
     requires { place < length slots.old }
-    ensures { slots.new ≡ brought_first place slots.old }
+    ensures { slots.new ≡ slice_index_or slots.old place no_row ∷ remove slots.old place }
 {
     slots[..place + 1].rotate_right(1);
 }

@@ -1,9 +1,8 @@
 //! A record as it lies in the memory, with room for the longest context data.
 
 ghost use Rattle.std.specs.Prelude.{◌≡◌, ◌≤◌, length, vec_capacity, IfOk};
-ghost use Rattle.event_memory.specs.Held.{added, begun, is_of as is_row_of, no_row, telling};
-ghost use Rattle.event_memory.specs.RowView.{plain_row};
-ghost use Rattle.event_memory.specs.SlotView.{plain_item};
+ghost use Rattle.event_memory.specs.Held.{added, begun, is_of as is_row_of, no_row, told};
+ghost use Rattle.event_memory.specs.Views.{plain_item, plain_row};
 
 use crate::row::Row;
 use ids_types::{EventIndex, Key, NoMemory, Stamp};
@@ -39,7 +38,7 @@ impl Model for Slot {
 
     ghost Value = { MemoryRow };
 
-    ghost use Rattle.event_memory.specs.SlotView.{row_held, HasRoom};
+    ghost use Rattle.event_memory.specs.Views.{row_held, HasRoom};
 
     ghost view = { row_held };
 
@@ -87,7 +86,7 @@ impl Slot {
     /// The record tells this item as its last.
     fn tell(&mut self, item: &Item<'_>)
         requires { length item.now.context.now ≤ 1024 }
-        ensures { self.new ≡ telling (plain_item item.now) self.old }
+        ensures { self.new ≡ told (plain_item item.now) self.old.occurrences self.old.first }
     {
         self.key = item.key;
         self.last = item.tick;

@@ -5,4 +5,5 @@ use Rattle.event_memory.proofs.memory.Memory.store.Goals as goal
 
 pub returns-clause-stands : goal.returns-clause-stands
 returns-clause-stands c =
-    λ items stands. rw c.put.ensures (stands_after (stored c.args.tick c.args.key c.args.count c.args.stamp c.args.context.now) c.args.self.now items (omega arith) stands)
+    let item = stored c.args.tick c.args.key c.args.count c.args.stamp c.args.context.now in
+    λ items stands. rw c.put.ensures (stands_after item c.args.self.now items (omega arith) stands)
