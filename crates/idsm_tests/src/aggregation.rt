@@ -124,7 +124,10 @@ fn the_first_context_is_kept(rt: HostRuntime) -> Result<(), Fail> {
     assert_eq!(rt; arrive(&mut windows, 0, (1, Some(STAMP), None)), None);
     assert_eq!(rt; held(&windows), None);
     assert_eq!(rt; arrive(&mut windows, 1, (1, None, Some(b"\xa1"))), None);
-    assert_eq!(rt; arrive(&mut windows, 2, (1, None, Some(b"\xa2"))), Some(b"\xa2".as_slice()));
+    assert_eq!(rt;
+        arrive(&mut windows, 2, (1, None, Some(b"\xa2"))),
+        Some(b"\xa2".as_slice())
+    );
     assert_eq!(rt; arrive(&mut windows, 3, (1, None, None)), None);
     assert_eq!(rt; held(&windows), Some(b"\xa1".as_slice()));
     let joined = Some((4, Some(STAMP), Some(b"\xa1".as_slice())));
@@ -137,7 +140,10 @@ fn the_first_context_is_kept(rt: HostRuntime) -> Result<(), Fail> {
 fn the_last_context_is_kept(rt: HostRuntime) -> Result<(), Fail> {
     let mut windows = windows(rt.alloc(), LAST)?;
     assert_eq!(rt; arrive(&mut windows, 0, (1, None, Some(b"\xa1"))), None);
-    assert_eq!(rt; arrive(&mut windows, 1, (1, Some(STAMP), Some(b"\xa2"))), Some(b"\xa1".as_slice()));
+    assert_eq!(rt;
+        arrive(&mut windows, 1, (1, Some(STAMP), Some(b"\xa2"))),
+        Some(b"\xa1".as_slice())
+    );
     assert_eq!(rt; arrive(&mut windows, 2, (1, None, None)), None);
     assert_eq!(rt; held(&windows), Some(b"\xa2".as_slice()));
     let joined = Some((3, None, Some(b"\xa2".as_slice())));

@@ -31,6 +31,8 @@ mod runs;
 #[cfg(test)]
 mod shared_ring;
 #[cfg(test)]
+mod stored_events;
+#[cfg(test)]
 mod text_fields;
 #[cfg(test)]
 mod thresholds;

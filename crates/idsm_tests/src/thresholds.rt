@@ -14,7 +14,9 @@ const EVENTS: &str = concat!(
 );
 
 const FIVE: EventIndex = EventIndex(0);
+
 const FREE: EventIndex = EventIndex(1);
+
 const MOST: EventIndex = EventIndex(2);
 
 #[test]

@@ -23,7 +23,8 @@ migrate c
 decode ";
 
 /// The usage, and no file.
-const USAGE: &[u8] = b"2 | usage: idsm fold CONFIG JOURNAL MESSAGES MEMORY/       idsm decode MESSAGES/       idsm migrate CONFIG NEW/ | - | -";
+const USAGE: &[u8] =
+    b"2 | usage: idsm fold CONFIG JOURNAL MESSAGES MEMORY/       idsm decode MESSAGES/       idsm migrate CONFIG NEW/ | - | -";
 
 #[test]
 fn words_that_are_no_command_end_with_the_usage(rt: HostRuntime) -> Result<(), Fail> {
