@@ -1,0 +1,85 @@
+ghost use Rattle.std.specs.Prelude.{◌≡◌, ◌≤◌, ◌+◌, ◌^◌, ℕ, Bool, true, [], ◌∷◌, ◌++◌, List, length, reverse, vec_len, vec_capacity, OnOk};
+ghost use Rattle.std.specs.List.{All};
+ghost use Rattle.ids_types.specs.Output.{room_of};
+ghost use Rattle.ids_types.specs.Turns.{Turn};
+ghost use Rattle.ids_config.specs.Parts.{Parts};
+ghost use Rattle.chain.specs.History.{last_tick, handed_of, rows_of, Sends};
+ghost use Rattle.chain.specs.Parcels.{HandsBack, IsShort, all_parcels};
+ghost use Rattle.chain.specs.Turning.{FitsTurn, HasTurnRoom, bytes_in, turn_by};
+
+use event_memory::Memory;
+use ids_types::{Entry, NoMemory, Parcel, TurnHead, TurnOut};
+
+/// A filter chain, which takes one turn after another and never looks back.
+pub trait Chain<B: Parcel> {
+    /// The chain is that of the configuration after these turns, the first of them first.
+    ghost stands: { Self → Parts → List Turn → Type 0 };
+
+    /// How many events there are.
+    ghost events: { Self → ℕ };
+
+    /// The parcels that open windows keep.
+    ghost kept: { Self → List B };
+
+    /// There is room for one more turn of so many entries and bytes of context data.
+    ghost has_room: { Self → ℕ → ℕ → Bool };
+
+    /// Whether there is room for one more turn of so many entries and bytes of context data.
+    fn fits(&self, entries: u64, bytes: u64) -> bool
+        ensures { result ≡ has_room self.now entries bytes };
+
+    /// Makes that room.
+    fn reserve(&mut self, entries: u64, bytes: u64) -> Result<(), NoMemory>
+        ensures ok { OnOk result (has_room self.new entries bytes ≡ true) }
+        ensures stands { (config : Parts) (turns : List Turn) →
+            stands self.old config turns → stands self.new config turns }
+        ensures events { events self.new ≡ events self.old }
+        ensures kept { kept self.new ≡ kept self.old };
+
+    /// The number that the last turn hands on to the next, 0 before the first.
+    fn limited(&self) -> u64
+        ensures value { (config : Parts) (turns : List Turn) →
+            stands self.now config turns → result ≡ handed_of config turns }
+        ensures bound { result ≤ 2 ^ 45 };
+
+    /// The event memory behind the last turn.
+    fn memory(&self) -> &Memory
+        ensures { (config : Parts) (turns : List Turn) →
+            stands self.now config turns → reverse result.now.rows ≡ rows_of config turns };
+
+    /// Takes a turn: its head and its items, whose parcels it keeps or hands back. Takes no memory.
+    fn turn(
+        &mut self,
+        head: &TurnHead,
+        items: &mut Vec<Entry<B>>,
+        back: &mut Vec<B>,
+        out: &mut TurnOut,
+    )
+        requires fits { has_room self.old (length items.old.items) (bytes_in B.held items.old.items) ≡ true }
+        requires items { FitsTurn B.held (events self.old) items.old.items }
+        requires kept { All (IsShort B.held) (kept self.old) }
+        requires back { vec_len back.old + vec_len items.old + events self.old ≤ vec_capacity back.old }
+        requires out { HasTurnRoom B.held (events self.old) items.old.items out.old }
+        // It stands for the turns with this one, where this tick is no earlier than the last, and sends what
+        // these have more to send.
+        ensures stands { (config : Parts) (turns : List Turn) → stands self.old config turns →
+            last_tick turns ≤ head.now.tick →
+            stands self.new config (turns ++ turn_by B.held head.now items.old.items ∷ []) }
+        ensures sends { (config : Parts) (turns : List Turn) → stands self.old config turns →
+            last_tick turns ≤ head.now.tick →
+            Sends config turns (turn_by B.held head.now items.old.items) out.new }
+        ensures logs { out.new.log.turns ≡ turn_by B.held head.now items.old.items ∷ [] }
+        ensures events { events self.new ≡ events self.old }
+
+        // Each parcel is kept or handed back, and no room is lowered.
+        ensures parcels { HandsBack (all_parcels items.old.items) (kept self.old) (kept self.new)
+            back.old.items back.new.items }
+        ensures items { items.new.items ≡ [] }
+        ensures items_room { vec_capacity items.old ≤ vec_capacity items.new }
+        ensures back_room { vec_capacity back.old ≤ vec_capacity back.new }
+        ensures out_room { room_of out.new ≡ room_of out.old };
+
+    /// Where there is room for a turn, there is room for each smaller one.
+    ghost smaller: { (chain : Self) (entries bytes fewer less : ℕ) → fewer ≤ entries → less ≤ bytes →
+        has_room chain entries bytes ≡ true → has_room chain fewer less ≡ true };
+}

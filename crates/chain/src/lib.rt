@@ -1,0 +1,17 @@
+//! The filter chain as the main function sees it: a turn at a time, over moved parcels of context data.
+//!
+//! Layer 7, the chain. Over `ids_types`, `ids_config`, `chain_spec` and `event_memory`; each chain meets the
+//! trait, and the main function is written over it.
+//! Contracts say for which configuration and which turns, the first of them first, a chain stands
+//! (`specs/History.antt`), which turns it can take (`specs/Turning.antt`), and where each parcel is
+//! (`specs/Parcels.antt`). Beside the trait stands what every chain needs: `log_turn`, and a parcel on its way
+//! out of an entry and back to its owner.
+#![tactic(auto)]
+
+mod chain;
+mod logging;
+mod parcels;
+
+pub use chain::Chain;
+pub use logging::log_turn;
+pub use parcels::{give_back, kept, lent};

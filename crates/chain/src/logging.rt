@@ -1,0 +1,21 @@
+ghost use Rattle.std.specs.Prelude.{◌≡◌, ◌≤◌, [], ◌∷◌, length};
+ghost use Rattle.ids_types.specs.Output.{room_of};
+ghost use Rattle.chain.specs.Turning.{bytes_in, turn_by};
+
+use crate::parcels::lent;
+use ids_types::{Entry, Parcel, TurnHead, TurnOut};
+
+/// Empties the output, and logs the turn.
+pub fn log_turn<B: Parcel>(head: &TurnHead, items: &[Entry<B>], out: &mut TurnOut)
+    requires entries { length items.now ≤ (room_of out.old).entries }
+    requires bytes { bytes_in B.held items.now ≤ (room_of out.old).bytes }
+    ensures log { out.new.log.turns ≡ turn_by B.held head.now items.now ∷ [] }
+    ensures sent { out.new.sent ≡ [] }
+    ensures messages { out.new.messages ≡ 0 }
+    ensures room { room_of out.new ≡ room_of out.old }
+{
+    out.begin(head);
+    for entry in items {
+        out.add(&lent(entry));
+    }
+}
