@@ -1,0 +1,5 @@
+pub mod ReportView
+pub mod Sender
+pub mod SenderView
+pub mod Sending
+pub mod SourceView
