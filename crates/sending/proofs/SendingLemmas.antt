@@ -1,8 +1,7 @@
 -- One candidate more.
 use Rattle.std.proofs.Common.{◌≡◌, ℕ, ◌+◌, ◌<◌, ◌&&◌, Bool, true, false, List, [], ◌∷◌, ◌++◌, length, map, if◌then◌else◌, refl, sym, ap, subst, ◌∙◌, arith, append_assoc}
-use Rattle.std.proofs.lemmas.List.{get_or-map, length-map}
 use Rattle.ids_types.specs.Output.{Output, has_sent}
-use Rattle.ids_config.specs.Parts.{Parts, event_at, is_given, plain_event}
+use Rattle.ids_config.specs.Parts.{Parts, event_at, is_given}
 use Rattle.ids_frame.specs.Message.{MessageParts}
 use Rattle.ids_frame.specs.Spelling.{spelling}
 use Rattle.limits.specs.declared.admit.Admit.{Admit}
@@ -15,76 +14,9 @@ use Rattle.chain_spec.specs.Limits.{Candidate}
 use Rattle.chain_spec.specs.Messages.{weighed, message_of}
 use Rattle.chain_spec.specs.Windows.{EndBy}
 use Rattle.chain_spec.proofs.CoverLemmas.{end_of_some}
-use Rattle.sending.specs.Sender.{SenderParts, source_at, source_of, message_by, with_held, with_held_back, lets_out, after_answer, out_after}
+use Rattle.sending.specs.Sender.{SenderParts, source_at, message_by, with_held, with_held_back, lets_out, after_answer, out_after}
 use Rattle.sending.specs.Sending.{Stands, Start, IsSending}
-
--- ---- what the sender knows
-
-module _ (config : Parts) (items : List Item) (sender : SenderParts) (item : Item) (stands : Stands config items sender)
-    (within : item.event < length sender.sources) where
-  -- the source of an event is the configured one
-  knows_source : source_at sender item.event ≡ source_of (event_at config item.event)
-  knows_source =
-      let inside : item.event < length config.events =
-      omega (arith, within, ap length stands.sources, length-map config.events source_of) in
-      rw stands.sources (get_or-map source_of config.events item.event (plain_event 0 0) _ inside)
-
-  -- its messages are the configured ones
-  knows_message : message_by sender item ≡ message_of config item
-  knows_message = rw (knows_source, stands.profile, stands.instance) refl
-
--- ---- a candidate that was weighed
-
-module _ (config : Parts) (start : Start) (items : List Item) (item : Item) (sender : SenderParts) (limits : Meters) (out : Output)
-    (sending : IsSending config start items sender out) (sends : (event_at config item.event).send ≡ true)
-    (weighs : LimitsStand config (weighed config item ∷ map (weighed config) (candidates config items)) limits) where
-  -- the sender then
-  abbrev weighing : SenderParts
-  weighing = record sender { limits = limits }
-
-  -- whatever is counted
-  stands_with : (number : ℕ) → Stands config (item ∷ items) (with_held number weighing)
-  stands_with number = record {
-    profile = sending.stands.profile;
-    instance = sending.stands.instance;
-    sources = sending.stands.sources;
-    limited = sending.stands.limited;
-    limits = rw sends weighs;
-  }
-
-  -- it is sent
-  goes_out : is_out config (candidates config items) item ≡ true
-      → IsSending config start (item ∷ items) weighing (has_sent (spelling (message_of config item)) out)
-  goes_out is = record {
-    stands = stands_with sender.held;
-    counted = rw (sends, is) sending.counted;
-    bytes = rw (sends, is) (ap (λ bytes. bytes ++ spelling (message_of config item)) sending.bytes ∙ append_assoc start.bytes out.sent _);
-    number = rw (sends, is) (omega (arith, sending.number));
-  }
-
-  -- it is held back
-  stays_in : is_out config (candidates config items) item ≡ false
-      → IsSending config start (item ∷ items) (with_held_back item.event weighing) out
-  stays_in is =
-      let same : is_given sender.limited item.event ≡ is_given config.limited item.event =
-      ap (λ limited. is_given limited item.event) sending.stands.limited in
-      elim (is_given sender.limited item.event) as (λ (b : Bool). is_given sender.limited item.event ≡ b
-      → IsSending config start (item ∷ items) (if b then weighing else with_held (sender.held + 1) weighing) out) [
-        | true ↦ λ given. record {
-          stands = stands_with sender.held;
-          counted = rw (sends, is, sym same ∙ given) sending.counted;
-          bytes = rw (sends, is) sending.bytes;
-          number = rw (sends, is) sending.number;
-        }
-        | false ↦ λ other. record {
-          stands = stands_with (sender.held + 1);
-          counted = rw (sends, is, sym same ∙ other) (omega (arith, sending.counted));
-          bytes = rw (sends, is) sending.bytes;
-          number = rw (sends, is) sending.number;
-        }
-      ] refl
-
--- ---- what the limits say
+use Rattle.sending.proofs.MessageLemmas.{knows_source, knows_message}
 
 -- candidates end by a tick by which the items end
 weighed_end : (config : Parts) (tick : ℕ) (items : List Item) → EndBy (λ item. item.tick) tick items
@@ -115,27 +47,32 @@ pub record Offers (config : Parts) (start : Start) (items : List Item) (sender :
 
 -- this is what limits answer to a candidate, and what they are then
 pub record Answers (limits : Meters) (one : Candidate) (answer : Admit) (after : Meters) : Type 0 where
-  pub answer_is : (config : Parts) (before : List Candidate) → LimitsStand config before limits → EndBy (λ one. one.tick) one.tick before
-      → answer ≡ answer_to config before one
-  pub stands : (config : Parts) (before : List Candidate) → LimitsStand config before limits → EndBy (λ one. one.tick) one.tick before
-      → LimitsStand config (one ∷ before) after
+  pub answer_is : (config : Parts) (before : List Candidate) → LimitsStand config before limits
+      → EndBy (λ one. one.tick) one.tick before → answer ≡ answer_to config before one
+  pub stands : (config : Parts) (before : List Candidate) → LimitsStand config before limits
+      → EndBy (λ one. one.tick) one.tick before → LimitsStand config (one ∷ before) after
 
-module _ (config : Parts) (start : Start) (items : List Item) (sender : SenderParts) (item : Item) (out : Output) (message : MessageParts)
-    (bytes : ℕ) (answer : Admit) (limits : Meters) (offers : Offers config start items sender item out message)
-    (bytes_are : bytes ≡ length (spelling message))
+module _ (config : Parts) (start : Start) (items : List Item) (sender : SenderParts) (item : Item) (out : Output)
+    (message : MessageParts) (bytes : ℕ) (answer : Admit) (limits : Meters)
+    (offers : Offers config start items sender item out message) (bytes_are : bytes ≡ length (spelling message))
     (answers : Answers sender.limits (record { tick = item.tick; bytes = bytes }) answer limits) where
+  -- what was sent and held back before
+  sending : IsSending config start items sender out
+  sending = offers.sending
+
+  -- the event is configured to be sent
+  sends : (event_at config item.event).send ≡ true
+  sends = ap (λ source. source.send) (sym (knows_source config items sender item sending.stands offers.within)) ∙ offers.sends
+
   -- the message is the configured one
   message_is : message ≡ message_of config item
-  message_is = offers.message_is ∙ knows_message config items sender item offers.sending.stands offers.within
-
-  -- and the event is sent
-  sends : (event_at config item.event).send ≡ true
-  sends = ap (λ source. source.send) (sym (knows_source config items sender item offers.sending.stands offers.within)) ∙ offers.sends
+  message_is = offers.message_is ∙ knows_message config items sender item sending.stands offers.within
 
   -- the candidate is the item's
   weighed_is : record { tick = item.tick; bytes = bytes } ≡ weighed config item
   weighed_is =
-      ap (λ (n : ℕ). record { tick = item.tick; bytes = n }) (bytes_are ∙ ap (λ (m : MessageParts). length (spelling m)) message_is)
+      ap (λ (n : ℕ). record { tick = item.tick; bytes = n })
+      (bytes_are ∙ ap (λ (m : MessageParts). length (spelling m)) message_is)
 
   -- the candidates before it
   abbrev earlier : List Candidate
@@ -144,24 +81,63 @@ module _ (config : Parts) (start : Start) (items : List Item) (sender : SenderPa
   earlier_end : EndBy (λ one. one.tick) item.tick earlier
   earlier_end = candidates_end config item.tick items offers.by
 
-  -- it is sent where the answer lets it out
+  -- the limits let it out where the answer does
   out_is : is_out config (candidates config items) item ≡ lets_out answer
   out_is =
       sym (by_both _ _)
-      ∙ ap lets_out (sym (answers.answer_is config earlier offers.sending.stands.limits earlier_end
+      ∙ ap lets_out (sym (answers.answer_is config earlier sending.stands.limits earlier_end
       ∙ ap (answer_to config earlier) weighed_is))
 
-  weighs : LimitsStand config (weighed config item ∷ earlier) limits
-  weighs =
-      subst (λ (one : Candidate). LimitsStand config (one ∷ earlier) limits) weighed_is
-      (answers.stands config earlier offers.sending.stands.limits earlier_end)
+  -- the sender once it was weighed
+  abbrev weighing : SenderParts
+  weighing = record sender { limits = limits }
 
-  pub offered : IsSending config start (item ∷ items) (after_answer answer item.event (record sender { limits = limits }))
-      (out_after answer (spelling message) out)
+  -- it stands for the item too, whatever it counts
+  stands_with : (number : ℕ) → Stands config (item ∷ items) (with_held number weighing)
+  stands_with number = record {
+    profile = sending.stands.profile;
+    instance = sending.stands.instance;
+    sources = sending.stands.sources;
+    limited = sending.stands.limited;
+    limits = rw sends (subst (λ (one : Candidate). LimitsStand config (one ∷ earlier) limits) weighed_is
+        (answers.stands config earlier sending.stands.limits earlier_end));
+  }
+
+  -- the item is sent
+  goes_out : is_out config (candidates config items) item ≡ true
+      → IsSending config start (item ∷ items) weighing (has_sent (spelling (message_of config item)) out)
+  goes_out is = record {
+    stands = stands_with sender.held;
+    counted = rw (sends, is) sending.counted;
+    bytes = rw (sends, is)
+        (ap (λ bytes. bytes ++ spelling (message_of config item)) sending.bytes ∙ append_assoc start.bytes out.sent _);
+    number = rw (sends, is) (omega (arith, sending.number));
+  }
+
+  -- it is held back
+  stays_in : is_out config (candidates config items) item ≡ false
+      → IsSending config start (item ∷ items) (with_held_back item.event weighing) out
+  stays_in is =
+      let same : is_given sender.limited item.event ≡ is_given config.limited item.event =
+      ap (λ limited. is_given limited item.event) sending.stands.limited in
+      elim (is_given sender.limited item.event) as (λ (b : Bool). is_given sender.limited item.event ≡ b
+      → IsSending config start (item ∷ items) (if b then weighing else with_held (sender.held + 1) weighing) out) [
+        | true ↦ λ given. record {
+          stands = stands_with sender.held;
+          counted = rw (sends, is, sym same ∙ given) sending.counted;
+          bytes = rw (sends, is) sending.bytes;
+          number = rw (sends, is) sending.number;
+        }
+        | false ↦ λ other. record {
+          stands = stands_with (sender.held + 1);
+          counted = rw (sends, is, sym same ∙ other) (omega (arith, sending.counted));
+          bytes = rw (sends, is) sending.bytes;
+          number = rw (sends, is) sending.number;
+        }
+      ] refl
+
+  pub offered : IsSending config start (item ∷ items) (after_answer answer item.event weighing) (out_after answer (spelling message) out)
   offered =
       rw message_is (elim (lets_out answer) as (λ (b : Bool). is_out config (candidates config items) item ≡ b
-      → IsSending config start (item ∷ items) (if b then record sender { limits = limits } else with_held_back item.event (record sender { limits = limits }))
-      (if b then has_sent (spelling (message_of config item)) out else out)) [
-        | true ↦ goes_out config start items item sender limits out offers.sending sends weighs
-        | false ↦ stays_in config start items item sender limits out offers.sending sends weighs
-      ] out_is)
+      → IsSending config start (item ∷ items) (if b then weighing else with_held_back item.event weighing)
+      (if b then has_sent (spelling (message_of config item)) out else out)) [ true ↦ goes_out | false ↦ stays_in ] out_is)

@@ -2,4 +2,3 @@ pub mod ReportView
 pub mod Sender
 pub mod SenderView
 pub mod Sending
-pub mod SourceView

@@ -9,13 +9,7 @@ use Rattle.limits.specs.declared.admit.Admit.TheVariants.{Sent, Rate, Traffic}
 use Rattle.limits.specs.Meters.{Meters}
 use Rattle.chain_spec.specs.Items.{Item}
 use Rattle.chain_spec.specs.Messages.{byte_7}
-
--- what messages tell of an event, and whether it is sent
-pub record Source : Type 0 where
-  pub id : ℕ
-  pub sensor : ℕ
-  pub version : ℕ
-  pub send : Bool
+use Rattle.sending.specs.declared.source.Source.{Source}
 
 -- the names in all messages, a source for each event, the event that tells of what was held back, the limits,
 -- and how many were held back since the turn began
@@ -36,6 +30,10 @@ pub record IsNamed (event : Event) : Type 0 where
   pub id : event.id ≤ 65535
   pub sensor : event.sensor ≤ 63
   pub version : event.version ≤ 255
+
+-- the layout has room for the sensor
+abbrev pub HasSixBits : Source → Type 0
+HasSixBits source = source.sensor ≤ 63
 
 -- the source of event k
 abbrev pub source_at : SenderParts → ℕ → Source

@@ -1,8 +1,8 @@
 -- What contracts see of a `Sender`, and what holds of its fields.
-use Rattle.std.specs.Prelude.{◌≤◌, ◌^◌}
+use Rattle.std.specs.Prelude.{◌≤◌, ◌^◌, All}
 use Rattle.ids_frame.specs.Message.{IsKnown}
 use Rattle.sending.specs.declared.sender.Sender.TheInside.{Inside}
-use Rattle.sending.specs.Sender.{SenderParts}
+use Rattle.sending.specs.Sender.{SenderParts, HasSixBits}
 
 -- the sender that the fields hold
 abbrev pub sender_of : Inside → SenderParts
@@ -15,8 +15,9 @@ sender_of s = record {
   held = s.held;
 }
 
--- there is a layout of the profile, with room for the instance, and not too many are held back
+-- there is a layout of the profile, with room for the instance and for each sensor, and not too many are held back
 pub record IsSoundSender (s : Inside) : Type 0 where
   pub known : IsKnown s.profile
   pub ten_bits : s.instance ≤ 1023
+  pub six_bits : All HasSixBits s.sources.items
   pub few : s.held ≤ 2 ^ 45

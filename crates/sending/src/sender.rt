@@ -7,7 +7,7 @@ ghost use Rattle.chain_spec.specs.Chain.{held};
 ghost use Rattle.chain_spec.specs.Items.{Item};
 ghost use Rattle.chain_spec.specs.Messages.{byte_7};
 ghost use Rattle.chain_spec.specs.Windows.{EndBy};
-ghost use Rattle.sending.specs.Sender.{IsNamed, IsShort, CanQualify, source_of, source_at, message_by, with_held, with_held_back, after_answer, out_after};
+ghost use Rattle.sending.specs.Sender.{HasSixBits, IsNamed, IsShort, CanQualify, source_of, source_at, message_by, with_held, with_held_back, after_answer, out_after};
 ghost use Rattle.sending.specs.Sending.{Stands, Start, start_of, IsSending, TakesOne};
 
 use crate::report::Report;
@@ -173,7 +173,8 @@ impl Sender {
 
 fn sources_of(alloc: Global, events: &[EventParts]) -> Result<Vec<Source>, NoMemory>
     requires { All IsNamed events.now }
-    ensures { IfOk result (λ sources. sources.items ≡ map source_of events.now) }
+    ensures events { IfOk result (λ sources. sources.items ≡ map source_of events.now) }
+    ensures sensors { IfOk result (λ sources. All HasSixBits sources.items) }
 {
     Ok(events.iter().map(Source::of).collect(alloc)?)
 }

@@ -1,11 +1,10 @@
 ghost use Rattle.std.specs.Prelude.{◌≡◌};
-ghost use Rattle.sending.specs.Sender.{source_of, IsNamed};
+ghost use Rattle.sending.specs.Sender.{IsNamed, source_of};
 
 use ids_config::EventParts;
-use std::marker::Model;
 
 /// What messages tell of an event, and whether it is sent.
-#[derive(Debug, Drop)]
+#[derive(Clone, Copy, Debug)]
 pub(crate) struct Source {
     pub(crate) id: u16,
     /// 0 to 63.
@@ -13,18 +12,6 @@ pub(crate) struct Source {
     /// The version of its context data.
     pub(crate) version: u8,
     pub(crate) send: bool,
-}
-
-impl Model for Source {
-    ghost use Rattle.sending.specs.Sender.{Source as Told};
-
-    ghost Value = { Told };
-
-    ghost use Rattle.sending.specs.SourceView.{told_of, IsSoundSource};
-
-    ghost view = { told_of };
-
-    ghost invariant = { IsSoundSource };
 }
 
 impl Source {
