@@ -25,6 +25,8 @@ mod message_reading;
 #[cfg(test)]
 mod message_spelling;
 #[cfg(test)]
+mod messages_sent;
+#[cfg(test)]
 mod ring_machine;
 #[cfg(test)]
 mod runs;

@@ -1,8 +1,28 @@
 //! The event memory: what it shows and prints behind some items, worked out by hand.
 
+use config_json::read;
 use event_memory::{Memory, Row};
 use ids_types::{EventIndex, Key, Stamp};
+use std::alloc::Global;
 use std::test::Fail;
+
+/// Three events that are stored, and room for two records.
+const TWO: &str = concat!(
+    r#"{"form":1,"instance":18,"memory":2,"events":[{"id":1,"sensor":0,"store":true},"#,
+    r#"{"id":2,"sensor":0,"store":true},{"id":3,"sensor":0,"store":true}]}"#
+);
+
+/// The same with no room.
+const NO_ROOM: &str = concat!(
+    r#"{"form":1,"instance":18,"memory":0,"events":[{"id":1,"sensor":0,"store":true},"#,
+    r#"{"id":2,"sensor":0,"store":true},{"id":3,"sensor":0,"store":true}]}"#
+);
+
+/// The empty memory of a configuration.
+fn memory_of(alloc: Global, text: &str) -> Result<Memory, Fail> {
+    let config = read(alloc, text.as_bytes())?;
+    Ok(Memory::make(alloc, config.parts().memory as u16)?)
+}
 
 /// An event with an id of its own.
 fn key_of(event: u16) -> Key {
@@ -33,7 +53,7 @@ fn event_at(memory: &Memory, i: u16) -> Option<EventIndex> {
 
 #[test]
 fn a_displaced_event_begins_anew(rt: HostRuntime) -> Result<(), Fail> {
-    let mut memory = Memory::make(rt.alloc(), 2)?;
+    let mut memory = memory_of(rt.alloc(), TWO)?;
     for (tick, event) in [(1, 0), (2, 1), (3, 0), (4, 2), (5, 1)] {
         store_bare(&mut memory, tick, event);
     }
@@ -47,7 +67,7 @@ fn a_displaced_event_begins_anew(rt: HostRuntime) -> Result<(), Fail> {
 
 #[test]
 fn an_item_adds_to_its_record_and_moves_it_to_the_end(rt: HostRuntime) -> Result<(), Fail> {
-    let mut memory = Memory::make(rt.alloc(), 2)?;
+    let mut memory = memory_of(rt.alloc(), TWO)?;
     for (tick, event) in [(1, 0), (2, 1), (7, 0)] {
         store_bare(&mut memory, tick, event);
     }
@@ -100,7 +120,7 @@ fn occurrences_saturate(rt: HostRuntime) -> Result<(), Fail> {
 
 #[test]
 fn nothing_is_stored_where_there_is_no_room(rt: HostRuntime) -> Result<(), Fail> {
-    let mut memory = Memory::make(rt.alloc(), 0)?;
+    let mut memory = memory_of(rt.alloc(), NO_ROOM)?;
     store_bare(&mut memory, 1, 0);
     store_bare(&mut memory, 2, 0);
     assert_eq!(rt; memory.len(), 0);
