@@ -136,6 +136,7 @@ module _ (config : Parts) (start : Start) (items : List Item) (sender : SenderPa
         }
       ] refl
 
+  -- what is sent and held back with it, by the answer
   pub offered : IsSending config start (item ∷ items) (after_answer answer item.event weighing) (out_after answer (spelling message) out)
   offered =
       rw message_is (elim (lets_out answer) as (λ (b : Bool). is_out config (candidates config items) item ≡ b
