@@ -145,16 +145,3 @@ fn rows_go_from_the_one_stored_longest_ago_on(rt: HostRuntime) -> Result<(), Fai
     assert_eq!(rt; row_at(&memory, 255).map(|row| row.occurrences), Some(2));
     Ok(())
 }
-
-#[test]
-fn a_record_has_room_for_the_longest_context(rt: HostRuntime) -> Result<(), Fail> {
-    let mut memory = Memory::make(rt.alloc(), 1)?;
-    memory.store(1, key_of(0), 1, None, &[7; 1024]);
-    assert_eq!(rt; row_at(&memory, 0).map(|row| row.context.len()), Some(1024));
-    memory.store(2, key_of(1), 1, None, &[8]);
-    assert_eq!(rt;
-        row_at(&memory, 0).map(|row| row.context),
-        Some([8].as_slice())
-    );
-    Ok(())
-}
