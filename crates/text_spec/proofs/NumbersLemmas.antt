@@ -133,13 +133,25 @@ told-digit (d ∷ next ∷ rest) long is =
 pub few_digits : (n : ℕ) → n < 2 ^ 64 → length (decimal n) ≤ 20
 few_digits n small = length-decimal-le_wide 20 n (omega arith) (omega arith) (omega arith)
 
--- the last digit of a number follows those of its tenth
-pub decimal_last : (n : ℕ) (before : List ℕ) → 10 ≤ n → n < 2 ^ 64 → (before ++ decimal (n / 10)) ++ (48 + n % 10) ∷ [] ≡ before ++ decimal n
-decimal_last n before many small = rw (decimal_step n many small, append_assoc) refl
+-- a number of two digits
+pub decimal_two : (n : ℕ) → 10 ≤ n → n < 100 → decimal n ≡ (48 + n / 10) ∷ (48 + n % 10) ∷ []
+decimal_two n many few = rw (decimal_step n many (omega arith), decimal_digit (n / 10) (omega arith)) refl
 
--- the length of a number of one digit, and of one of more
+-- the two last digits of a number follow those of its hundredth
+pub decimal_pair : (n : ℕ) → 100 ≤ n → n < 2 ^ 64
+    → decimal n ≡ decimal (n / 100) ++ (48 + n % 100 / 10) ∷ (48 + n % 100 % 10) ∷ []
+decimal_pair n many small =
+    let tens : n / 10 / 10 ≡ n / 100 = omega arith in
+    let ten : n / 10 % 10 ≡ n % 100 / 10 = omega arith in
+    let one : n % 10 ≡ n % 100 % 10 = omega arith in
+    rw (decimal_step n (omega arith) small, decimal_step (n / 10) (omega arith) (omega arith), tens, ten, one, append_assoc) refl
+
+-- the length of a number of one digit, of two, and of more
 pub length_digit : (n : ℕ) → n < 10 → length (decimal n) ≡ 1
 length_digit n small = ap length (decimal_digit n small)
 
-pub length_last : (n : ℕ) → 10 ≤ n → n < 2 ^ 64 → length (decimal n) ≡ length (decimal (n / 10)) + 1
-length_last n many small = ap length (decimal_step n many small) ∙ length-append (decimal (n / 10)) ((48 + n % 10) ∷ [])
+pub length_two : (n : ℕ) → 10 ≤ n → n < 100 → length (decimal n) ≡ 2
+length_two n many few = ap length (decimal_two n many few)
+
+pub length_pair : (n : ℕ) → 100 ≤ n → n < 2 ^ 64 → length (decimal n) ≡ length (decimal (n / 100)) + 2
+length_pair n many small = ap length (decimal_pair n many small) ∙ length-append (decimal (n / 100)) ((48 + n % 100 / 10) ∷ (48 + n % 100 % 10) ∷ [])

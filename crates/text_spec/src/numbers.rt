@@ -1,9 +1,9 @@
-ghost use Rattle.std.specs.Prelude.{◌≡◌, ℕ, ◌<◌, ◌≤◌, ◌^◌, List, option_map, decimal, IsTrue, ◌++◌, ◌∷◌, OnOk, OnErr, ◌+◌, ◌*◌, length, vec_len, vec_capacity, if◌then◌else◌};
+ghost use Rattle.std.specs.Prelude.{◌≡◌, ℕ, ◌<◌, ◌≤◌, ◌^◌, List, option_map, decimal, IsTrue, ◌++◌, ◌∷◌, OnOk, OnErr, [], ◌+◌, ◌*◌, ◌/◌, ◌%◌, length, vec_len, vec_capacity, if◌then◌else◌};
 ghost use Rattle.std.specs.Char.{is_ascii_digit};
 ghost use Rattle.std.specs.List.{list_all};
 ghost use Rattle.std.specs.Str.Parse.{digits_value};
 ghost use Rattle.text_spec.specs.Words.{space};
-ghost use Rattle.text_spec.specs.Numbers.{capped, number_in, begins_number};
+ghost use Rattle.text_spec.specs.Numbers.{capped, number_in, begins_number, zero_digit};
 
 use ids_types::NoMemory;
 use itoa::Buffer;
@@ -77,7 +77,10 @@ pub(crate) fn digits_len(number: u64) -> usize
     if number < 10 {
         return 1;
     }
-    digits_len(number / 10) + 1
+    if number < 100 {
+        return 2;
+    }
+    digits_len(number / 100) + 2
 }
 
 /// Writes a space and a number into room that is there.
@@ -88,9 +91,12 @@ pub(crate) fn put_field(out: &mut Vec<u8>, number: u64)
     ensures capacity { vec_capacity out.new ≡ vec_capacity out.old }
 {
     out.push_reserved(b' ');
-    // Many numbers have one digit.
+    // Most numbers have one digit or two.
     if number < 10 {
         return put_digit(out, number);
+    }
+    if number < 100 {
+        return put_pair(out, number);
     }
     put_digits(out, number);
 }
@@ -108,8 +114,11 @@ fn put_digits(out: &mut Vec<u8>, number: u64)
     if number < 10 {
         return put_digit(out, number);
     }
-    put_digits(out, number / 10);
-    out.push_reserved(b'0' + (number % 10) as u8);
+    if number < 100 {
+        return put_pair(out, number);
+    }
+    put_digits(out, number / 100);
+    put_pair(out, number % 100);
 }
 
 /// Writes a number of one digit.
@@ -122,6 +131,20 @@ fn put_digit(out: &mut Vec<u8>, number: u64)
     ensures capacity { vec_capacity out.new ≡ vec_capacity out.old }
 {
     out.push_reserved(b'0' + number as u8);
+}
+
+/// Writes the two last digits of a number, `0` and `7` of 7.
+#[inline(always)]
+fn put_pair(out: &mut Vec<u8>, number: u64)
+    requires pair { number < 100 }
+    requires room { vec_len out.old + 2 ≤ vec_capacity out.old }
+    ensures items { out.new.items ≡
+        out.old.items ++ (zero_digit + number / 10) ∷ (zero_digit + number % 10) ∷ [] }
+    ensures len { vec_len out.new ≡ vec_len out.old + 2 }
+    ensures capacity { vec_capacity out.new ≡ vec_capacity out.old }
+{
+    out.push_reserved(b'0' + (number / 10) as u8);
+    out.push_reserved(b'0' + (number % 10) as u8);
 }
 
 /// Appends a space and a number where there may be little room.
