@@ -1,0 +1,132 @@
+-- One call of aggregation, and one moment, over what each filter tells of it.
+use Rattle.std.proofs.Common.{◌≡◌, ℕ, ◌≤◌, Bool, true, false, List, [], ◌∷◌, ◌++◌, length, Option, Some, None, IfSome, is_some, option_to_list, option_and_then, option_map, refl, sym, ap, subst, ◌∙◌, if◌then◌else◌}
+use Rattle.std.specs.List.{All}
+use Rattle.std.proofs.lemmas.List.Elements.{recursion_from_All}
+use Rattle.std.proofs.lemmas.List.Sorted.{All-permutation}
+use Rattle.ids_types.specs.Carries.{act_by}
+use Rattle.ids_types.specs.Output.{Output}
+use Rattle.ids_types.specs.declared.entry.Act.TheVariants.{Report}
+use Rattle.ids_types.specs.declared.entry.Carried.{Carried}
+use Rattle.ids_types.specs.declared.entry.Carried.TheVariants.{Absent, Kept, Missing}
+use Rattle.ids_types.specs.declared.event.Qualified.{Qualified}
+use Rattle.ids_types.specs.declared.names.EventIndex.{EventIndex}
+use Rattle.ids_types.specs.declared.names.Stamp.{Stamp}
+use Rattle.ids_config.specs.Parts.{Parts}
+use Rattle.ids_config.specs.declared.parts.Aggregate.{Aggregate}
+use Rattle.chain_spec.specs.Calls.{Call, call_tick}
+use Rattle.chain_spec.specs.Filtering.{alone, gated_at, aggregated_at, thresholded_at, gated, aggregated, qualified}
+use Rattle.chain_spec.specs.Gate.{bypassing_at}
+use Rattle.chain_spec.specs.Items.{Item, item_at, told_by, kept_parcel}
+use Rattle.chain_spec.specs.Moments.{Moment, act_moment, comes}
+use Rattle.chain_spec.specs.Stages.{added}
+use Rattle.chain.specs.Parcels.{IsShort}
+use Rattle.filter_aggregate.specs.Account.{Accounts}
+use Rattle.filter_aggregate.specs.Slots.{item_due, slots_by}
+use Rattle.filter_aggregate.specs.Standing.{Stands as WindowsStand}
+use Rattle.filter_aggregate.specs.declared.open.Open.{Open}
+use Rattle.filter_aggregate.specs.declared.slot.Slot.{Slot}
+use Rattle.filter_gate.specs.Gate.{Gate}
+use Rattle.filter_gate.specs.Stands.{with_context, Stands as GateStands}
+use Rattle.sending.specs.Sending.{Start}
+use Rattle.event_chain.specs.declared.counting.Counting.{Counting}
+use Rattle.event_chain.specs.Behind.{IsBehind, kept_told}
+use Rattle.event_chain.specs.Flow.{CountingStands, Flows, EndAt, joined_with, items_with}
+use Rattle.event_chain.proofs.FlowLemmas.{ends_with_call, ends_with_item, gated_same, qualified_same, gated_with, aggregated_with, qualified_with}
+
+-- an item of an event that is aggregated does not go on by itself
+pub alone_none : (setting : Option Aggregate) (item : Item) → is_some setting ≡ true → alone setting item ≡ None
+alone_none None item is = cc
+alone_none (Some setting) item is = refl
+
+-- what is not there is none
+pub none_of : {A : Type 0} (o : Option A) → is_some o ≡ false → o ≡ None
+none_of None is = refl
+none_of (Some x) is = cc
+
+module _ {B : Type 0} where
+  -- the item that a window gives is of the event that the window is of
+  due_of : (k : ℕ) (b : Bool) (window : Option (Open B)) (item : Qualified B) → IfSome window (λ w. w.item.event.0 ≡ k)
+      → Some item ≡ (if b then option_map (λ (w : Open B). w.item) window else None) → item.event.0 ≡ k
+  due_of k true None item own is = cc
+  due_of k true (Some w) item own is = (let same : item ≡ w.item = cc in ap (λ (i : Qualified B). i.event.0) same ∙ own)
+  due_of k false window item own is = cc
+
+  pub due_own : (k tick : ℕ) (slot : Slot B) (item : Qualified B) → IfSome slot.window (λ w. w.item.event.0 ≡ k)
+      → Some item ≡ item_due tick slot → item.event.0 ≡ k
+  due_own k tick slot item own is = due_of k _ slot.window item own is
+
+  -- a parcel that was kept and is handed out is as short as those that were kept
+  pub given_short : (P : B → Type 0) (context : Option B) (kept now : List B) → Accounts [] kept (option_to_list context) now
+      → All P kept → IfSome context P
+  given_short P None kept now same all = tt
+  given_short P (Some parcel) kept now same all = (recursion_from_All P (parcel ∷ now) (All-permutation P kept (parcel ∷ now) same all)).0
+
+  module _ (held : B → List ℕ) where
+    -- short context data have few bytes
+    pub short_by : (context : Option B) → IfSome context (IsShort held) → IfSome (option_map held context) (λ bytes. length bytes ≤ 1024)
+    short_by None short = tt
+    short_by (Some parcel) short = short
+
+    -- the item of a verdict, over the parcel's bytes
+    pub item_kept : (context : Bool) (tick : ℕ) (item : Qualified B)
+        → with_context context (item_at tick (told_by held item)) ≡ item_at tick (told_by held (kept_told context item))
+    item_kept true tick item = refl
+    item_kept false tick item = refl
+
+    -- the moment of a report
+    pub report_moment : (tick : ℕ) (event : EventIndex) (count : ℕ) (stamp : Option Stamp) (context : Carried B)
+        → comes (item_at tick (told_by held (record { event = event; count = count; stamp = stamp; context = kept_parcel context })))
+        ≡ act_moment tick (act_by held (Report event count stamp context))
+    report_moment tick event count stamp Absent = refl
+    report_moment tick event count stamp (Kept class claim parcel) = refl
+    report_moment tick event count stamp (Missing numbers) = refl
+
+    module _ (config : Parts) (start : Start) where
+      -- one call more, by what comes of it behind aggregation
+      pub flows_with : (calls : List (Call (List ℕ))) (joined items : List Item) (call : Call (List ℕ)) (o : Option Item)
+          (windows : List (Slot B)) (counting : Counting) (out : Output) → aggregated_at config calls call ≡ o
+          → WindowsStand config (call ∷ calls) (slots_by held windows)
+          → CountingStands config start (option_to_list o ++ joined) (option_to_list (option_and_then (thresholded_at config joined) o) ++ items) counting out
+          → Flows held config start (call ∷ calls) (joined_with config calls call joined) (items_with config calls call joined items) windows counting out
+      flows_with calls joined items call o windows counting out is stands counts = record {
+        stands = stands;
+        behind = subst (λ (p : Option Item). CountingStands config start (option_to_list p ++ joined)
+            (option_to_list (option_and_then (thresholded_at config joined) p) ++ items) counting out) (sym is) counts;
+      }
+
+      module _ (tick : ℕ) (before : List Moment) (moment : Moment) (gate : Gate) (windows : List (Slot B)) (counting : Counting) (out : Output)
+          (stands : GateStands config (moment ∷ before) gate)
+          (ends : EndAt tick (gated config before) (aggregated config before) (qualified config before)) where
+        -- one moment more, by which a call comes to aggregation
+        pub behind_call : (call : Call (List ℕ)) → gated_at config before moment ≡ Some call → bypassing_at config before moment ≡ None
+            → call_tick call ≡ tick
+            → Flows held config start (call ∷ gated config before) (joined_with config (gated config before) call (aggregated config before))
+            (items_with config (gated config before) call (aggregated config before) (qualified config before)) windows counting out
+            → IsBehind held config start tick (moment ∷ before) (record { gate = gate; windows = windows; counting = counting }) out
+        behind_call call is by at flows =
+            let calls = gated config before in
+            let all = ends_with_call config tick calls call (aggregated config before) (qualified config before) at ends in
+            let goal = λ (cs : List (Call (List ℕ))) (js is : List Item). Flows held config start cs js is windows counting out × EndAt tick cs js is in
+            let first = subst (λ (xs : List (Call (List ℕ))). goal xs (joined_with config calls call (aggregated config before))
+            (items_with config calls call (aggregated config before) (qualified config before))) (sym (gated_with config before moment call is)) (flows, all) in
+            let second = subst (λ (xs : List Item). goal (gated config (moment ∷ before)) xs
+            (items_with config calls call (aggregated config before) (qualified config before))) (sym (aggregated_with config before moment call is)) first in
+            let third = subst (λ (xs : List Item). goal (gated config (moment ∷ before)) (aggregated config (moment ∷ before)) xs)
+            (sym (qualified_with config before moment call is by)) second in
+            record { gate = stands; flows = third.0; ends = third.1 }
+
+        -- one moment more, by which none comes
+        pub behind_item : (o : Option Item) → gated_at config before moment ≡ None → bypassing_at config before moment ≡ o
+            → IfSome o (λ item. item.tick ≡ tick)
+            → Flows held config start (gated config before) (aggregated config before) (option_to_list o ++ qualified config before) windows counting out
+            → IsBehind held config start tick (moment ∷ before) (record { gate = gate; windows = windows; counting = counting }) out
+        behind_item o is by at flows =
+            let all = ends_with_item tick (gated config before) (aggregated config before) (qualified config before) o at ends in
+            let goal = λ (cs : List (Call (List ℕ))) (js is : List Item). Flows held config start cs js is windows counting out × EndAt tick cs js is in
+            let same = sym (gated_same config before moment is) in
+            let first = subst (λ (xs : List (Call (List ℕ))). goal xs (aggregated config before) (option_to_list o ++ qualified config before)) same (flows, all) in
+            let second = subst (λ (xs : List Item). goal (gated config (moment ∷ before)) xs (option_to_list o ++ qualified config before))
+            (ap (added (aggregated_at config)) same) first in
+            let third = subst (λ (xs : List Item). goal (gated config (moment ∷ before)) (aggregated config (moment ∷ before)) xs)
+            (sym (qualified_same config before moment o is by)) second in
+            record { gate = stands; flows = third.0; ends = third.1 }

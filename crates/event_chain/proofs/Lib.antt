@@ -1,0 +1,9 @@
+mod CallLemmas
+mod ClosingLemmas
+mod FlowLemmas
+mod Going
+mod HandsLemmas
+mod MadeLemmas
+mod SoundLemmas
+mod TurnLemmas
+mod WindowedLemmas

@@ -1,0 +1,83 @@
+-- A whole turn: how it begins, and what it leaves.
+use Rattle.std.proofs.Common.{◌≡◌, ℕ, ◌≤◌, List, [], ◌∷◌, ◌++◌, reverse, sym, ap, subst, ◌∙◌, arith}
+use Rattle.std.proofs.lemmas.List.{reverse-append}
+use Rattle.ids_types.specs.Output.{Output}
+use Rattle.ids_types.specs.Turns.{Turn}
+use Rattle.ids_types.specs.declared.internal.Internal.{Internal}
+use Rattle.ids_config.specs.Parts.{Parts, internal_of}
+use Rattle.chain_spec.specs.Chain.{messages, message_count, qualified_of}
+use Rattle.chain_spec.specs.Filtering.{gated, aggregated, qualified}
+use Rattle.chain_spec.specs.Moments.{Moment, moments}
+use Rattle.chain_spec.specs.Stages.{with_all}
+use Rattle.chain_spec.proofs.StageLemmas.{with_all-append}
+use Rattle.chain.specs.History.{Sends}
+use Rattle.sending.specs.Sender.{SenderParts}
+use Rattle.sending.specs.Sending.{start_of, IsSending}
+use Rattle.event_chain.specs.declared.filters.Filters.{Filters}
+use Rattle.event_chain.specs.Behind.{IsBehind}
+use Rattle.event_chain.specs.Standing.{Rests, Stands}
+use Rattle.event_chain.proofs.FlowLemmas.{ends_later}
+
+-- the filters with another sender
+abbrev pub with_sender : {B : Type 0} → SenderParts → Filters B → Filters B
+with_sender sender filters =
+    let outlet = record filters.counting.outlet { sender = sender } in
+    record filters { counting = record filters.counting { outlet = outlet } }
+
+module _ {B : Type 0} (held : B → List ℕ) (config : Parts) where
+  -- filters that rest are behind the same moments once the sender began a turn
+  pub begins : (tick now : ℕ) (before : List Moment) (filters : Filters B) (sender : SenderParts) (out : Output)
+      → Rests held config tick before filters → tick ≤ now
+      → IsSending config (start_of config (qualified config before)) (qualified config before) sender out
+      → IsBehind held config (start_of config (qualified config before)) now before (with_sender sender filters) out
+  begins tick now before filters sender out rests le sending = record {
+    gate = rests.gate;
+    flows = record {
+      stands = rests.windows;
+      behind = record {
+        thresholds = rests.thresholds;
+        outlet = record {
+          stores = record { names = rests.stores.names; room = rests.stores.room; memory = rests.stores.memory };
+          sending = sending;
+        };
+      };
+    };
+    ends = ends_later tick now (gated config before) (aggregated config before) (qualified config before) le rests.ends;
+  }
+
+  -- what is behind all moments of a turn stands for the turns with it, and the output has what it sends
+  pub turn_ends : (turns : List Turn) (turn : Turn) (filters : Filters B) (internal : Internal) (out : Output)
+      → internal ≡ internal_of config
+      → IsBehind held config (start_of config (qualified_of config (reverse turns))) turn.head.tick (moments config (turn ∷ reverse turns)) filters out
+      → Stands held config (reverse (turns ++ turn ∷ [])) (record { filters = filters; internal = internal }) × Sends config turns turn out
+  turn_ends turns turn filters internal out known behind =
+      let before = reverse turns in
+      let all = turn ∷ before in
+      let same : reverse (turns ++ turn ∷ []) ≡ all = reverse-append turns (turn ∷ []) in
+      let counting = behind.flows.behind in
+      let sending = counting.outlet.sending in
+      let stands : Stands held config all (record { filters = filters; internal = internal }) = record {
+        filters = record {
+          gate = behind.gate;
+          windows = behind.flows.stands;
+          thresholds = counting.thresholds;
+          stores = counting.outlet.stores;
+          sender = sending.stands;
+          ends = behind.ends;
+        };
+        limited = omega (arith, sending.counted);
+        internal = known;
+      } in (
+        subst (λ (ts : List Turn). Stands held config ts (record { filters = filters; internal = internal })) (sym same) stands,
+        record {
+          bytes = ap (messages config) same ∙ sending.bytes;
+          number = ap (message_count config) same ∙ sending.number;
+        },
+      )
+
+-- the moments of a turn come in three parts
+pub three_parts : (before closings heads entries : List Moment)
+    → with_all (with_all (with_all before closings) heads) entries ≡ with_all before (closings ++ heads ++ entries)
+three_parts before closings heads entries =
+    sym (with_all-append before (closings ++ heads) entries
+    ∙ ap (λ (ms : List Moment). with_all ms entries) (with_all-append before closings heads))

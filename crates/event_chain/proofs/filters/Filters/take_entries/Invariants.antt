@@ -1,0 +1,34 @@
+use Rattle.std.proofs.Common.{◌≡◌, ℕ, ◌+◌, ◌≤◌, ◌++◌, List, length, reverse, vec_len, vec_capacity}
+use Rattle.std.specs.List.{All}
+use Rattle.ids_config.specs.Parts.{Parts}
+use Rattle.chain_spec.specs.Moments.{Moment}
+use Rattle.chain_spec.specs.Stages.{with_all}
+use Rattle.chain.specs.Parcels.{HandsBack, all_parcels}
+use Rattle.chain.specs.Turning.{FitsAct}
+use Rattle.filter_aggregate.specs.Account.{all_kept}
+use Rattle.sending.specs.Sending.{Start}
+use Rattle.event_chain.specs.Behind.{IsBehind}
+use Rattle.event_chain.specs.Ready.{Stays}
+use Rattle.event_chain.proofs.Going.{Reaches, entry_moments}
+use Rattle.event_chain.proofs.filters.Filters.take_entries.Given as goal
+
+abbrev pub decreases-loop-entry : goal.decreases-loop-entry
+decreases-loop-entry g l = vec_len l.items
+
+-- the entries that are left stand in reverse
+abbrev pub invariant-loop-entry : goal.invariant-loop-entry
+invariant-loop-entry g l =
+    let held = g.B.Parcel.held in
+    let rest = reverse l.items.items in
+    record {
+      behind : (config : Parts) (start : Start) (moments : List Moment) → IsBehind held config start l.tick moments l.fn.self l.fn.out
+          → Reaches held config start l.tick l.self l.out (entry_moments held l.tick rest)
+          (with_all moments (entry_moments held l.tick l.fn.items.items));
+      came : (done : ℕ) → done + length rest ≡ length l.fn.items.items → Stays done l.tick l.fn.self l.self l.fn.out l.out;
+      few : length rest ≤ length l.fn.items.items;
+      acts : All (λ entry. FitsAct held (length l.fn.self.windows) entry.act) rest;
+      hands : HandsBack (all_parcels l.fn.items.items) (all_kept l.fn.self.windows) (all_parcels rest ++ all_kept l.self.windows)
+          l.fn.back.items l.back.items;
+      capacity : vec_capacity l.back ≡ vec_capacity l.fn.back;
+      room : vec_capacity l.items ≡ vec_capacity l.fn.items;
+    }

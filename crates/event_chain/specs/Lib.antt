@@ -1,0 +1,7 @@
+pub mod Aggregating
+pub mod Behind
+pub mod Chained
+pub mod Flow
+pub mod Outlets
+pub mod Ready
+pub mod Standing

@@ -1,0 +1,63 @@
+-- What keeps each call safe, whatever was before: as plain data.
+use Rattle.std.specs.Prelude.{◌≡◌, ℕ, ◌+◌, ◌*◌, ◌<◌, ◌-◌, ◌^◌, ◌≤◌, List, length, IfSome}
+use Rattle.std.specs.Bool.{IsFalse}
+use Rattle.ids_types.specs.Output.{Output, room_of}
+use Rattle.chain_spec.specs.Items.{Item}
+use Rattle.filter_aggregate.specs.declared.slot.Slot.{Slot}
+use Rattle.filter_aggregate.specs.Slots.{is_due, slot_at}
+use Rattle.sending.specs.Sender.{CanQualify}
+use Rattle.event_chain.specs.declared.counting.Counting.{Counting}
+use Rattle.event_chain.specs.declared.filters.Filters.{Filters}
+
+-- event k has its place in each list of the threshold filter and behind it
+pub record HasEvent (k : ℕ) (counting : Counting) : Type 0 where
+  pub threshold : k < length counting.thresholds
+  pub name : k < length counting.outlet.names.items
+  pub source : k < length counting.outlet.sender.sources
+
+-- an item can be counted
+pub record CanCount (counting : Counting) (item : Item) (out : Output) : Type 0 where
+  pub has : HasEvent item.event counting
+  pub can : CanQualify counting.outlet.sender item out
+
+-- no window is due at a tick
+abbrev pub SettledAt : {B : Type 0} → ℕ → List (Slot B) → Type 0
+SettledAt tick slots = (k : ℕ) → IsFalse (is_due tick (slot_at slots k))
+
+-- each open window is of items of its own event
+abbrev pub AreOwn : {B : Type 0} → List (Slot B) → Type 0
+AreOwn slots = (k : ℕ) → IfSome (slot_at slots k).window (λ w. w.item.event.0 ≡ k)
+
+-- windows that changed by one call at a tick: there are as many, each of its own event and aggregated as it was,
+-- and none more is due
+pub record Windowed {B : Type 0} (tick : ℕ) (old new : List (Slot B)) : Type 0 where
+  pub events : length new ≡ length old
+  pub own : AreOwn old → AreOwn new
+  pub settings : (k : ℕ) → (slot_at new k).setting ≡ (slot_at old k).setting
+  pub settled : (k : ℕ) → IsFalse (is_due tick (slot_at old k)) → IsFalse (is_due tick (slot_at new k))
+
+-- each event has its place in every list, and each open window is its event's own
+pub record HasPlaces {B : Type 0} (filters : Filters B) : Type 0 where
+  pub gate : (k : ℕ) → k < length filters.windows → k < length filters.gate.rows
+  pub has : (k : ℕ) → k < length filters.windows → HasEvent k filters.counting
+  pub own : AreOwn filters.windows
+
+-- there is room for so many messages more, and for as many that are held back
+pub record CanSend {B : Type 0} (n : ℕ) (filters : Filters B) (out : Output) : Type 0 where
+  pub few_held : filters.counting.outlet.sender.held + n ≤ 2 ^ 45
+  pub room : 1044 * n ≤ out.sent_left
+  pub few_messages : out.messages + n ≤ 2 ^ 32 - 1
+
+-- an act can enter at a tick: no window is due any more, and there is room
+pub record IsReady {B : Type 0} (tick : ℕ) (filters : Filters B) (out : Output) : Type 0 where
+  pub places : HasPlaces filters
+  pub settled : SettledAt tick filters.windows
+  pub can : CanSend 1 filters out
+
+-- what so many moments leave as it was, and how much room they take at most
+pub record Stays {B : Type 0} (moments tick : ℕ) (old new : Filters B) (before after : Output) : Type 0 where
+  pub places : HasPlaces old → HasPlaces new
+  pub windows : Windowed tick old.windows new.windows
+  pub can : (n : ℕ) → CanSend (n + moments) old before → CanSend n new after
+  pub log : after.log ≡ before.log
+  pub room : room_of after ≡ room_of before

@@ -1,0 +1,129 @@
+ghost use Rattle.std.specs.Prelude.{◌≡◌, ◌<◌, [], List, true, length, map, filter, refl, reverse, IfOk};
+ghost use Rattle.std.specs.List.{range_with_len};
+ghost use Rattle.ids_types.specs.Turns.{Turn};
+ghost use Rattle.ids_config.specs.Parts.{Parts};
+ghost use Rattle.chain_spec.specs.Items.{Item};
+ghost use Rattle.chain.specs.History.{rows_of};
+ghost use Rattle.filter_aggregate.specs.Account.{all_kept};
+ghost use Rattle.event_chain.specs.Aggregating.{aggregating_of};
+ghost use Rattle.event_chain.specs.Standing.{Stands};
+
+use crate::counting::Counting;
+use crate::filters::Filters;
+use chain::Chain;
+use event_memory::Memory;
+use filter_aggregate::Windows;
+use filter_gate::GateState;
+use ids_config::{Config, EventParts};
+use ids_types::{Entry, EventIndex, Internal, NoMemory, Parcel, TurnHead, TurnOut};
+use internal_events::heads;
+use std::alloc::Global;
+use std::marker::Model;
+
+/// The filter chain, one turn after another. It never holds the history, and takes no memory but in `make`.
+#[derive(Debug, Drop)]
+pub struct EventChain<B> {
+    filters: Filters<B>,
+    /// The events that are aggregated, in their order.
+    aggregating: Vec<EventIndex>,
+    internal: Internal,
+}
+
+impl<B> Model for EventChain<B> {
+    ghost use Rattle.event_chain.specs.Chained.{Chained};
+
+    ghost Value = { Chained B };
+
+    ghost use Rattle.event_chain.specs.Chained.{chained, IsSound};
+
+    ghost view = { chained };
+
+    ghost invariant = { IsSound };
+}
+
+impl<B: Parcel> EventChain<B> {
+    /// The chain of a configuration, before the first turn.
+    pub fn make(alloc: Global, config: &Config) -> Result<EventChain<B>, NoMemory>
+        ensures stands { IfOk result (Stands B.held config.now []) }
+        ensures events { IfOk result (λ chain. length chain.filters.windows ≡ length config.now.events) }
+        ensures kept { IfOk result (λ chain. all_kept chain.filters.windows ≡ []) }
+    {
+        let parts = config.parts();
+        Ok(EventChain {
+            filters: Filters {
+                gate: GateState::make(alloc, config)?,
+                windows: Windows::make(alloc, config)?,
+                counting: Counting::make(alloc, config)?,
+            },
+            aggregating: aggregating(alloc, &parts.events)?,
+            internal: config.internal(),
+        })
+    }
+
+    /// The event memory behind the last turn, once the chain has no more to take.
+    pub fn into_memory(self) -> Memory
+        ensures { (config : Parts) (turns : List Turn) → Stands B.held config (reverse turns) self →
+            reverse result.rows ≡ rows_of config turns }
+    {
+        let Filters { counting, .. } = self.filters;
+        let Counting { outlet, .. } = counting;
+        outlet.memory
+    }
+}
+
+impl<B: Parcel> Chain<B> for EventChain<B> {
+    ghost stands = { λ chain config turns. Stands B.held config (reverse turns) chain };
+
+    ghost events = { λ chain. length chain.filters.windows };
+
+    ghost kept = { λ chain. all_kept chain.filters.windows };
+
+    ghost has_room = { λ chain entries bytes. true };
+
+    fn fits(&self, _entries: u64, _bytes: u64) -> bool {
+        true
+    }
+
+    fn reserve(&mut self, _entries: u64, _bytes: u64) -> Result<(), NoMemory> {
+        Ok(())
+    }
+
+    fn limited(&self) -> u64 {
+        self.filters.counting.outlet.sender.limited()
+    }
+
+    fn memory(&self) -> &Memory {
+        &self.filters.counting.outlet.memory
+    }
+
+    fn turn(
+        &mut self,
+        head: &TurnHead,
+        items: &mut Vec<Entry<B>>,
+        back: &mut Vec<B>,
+        out: &mut TurnOut,
+    ) {
+        let tick = head.tick;
+        let filters = &mut self.filters;
+        filters.begin(head, items, out);
+        filters.close_all(&self.aggregating, tick, back, out);
+        filters.take_heads(&heads(&self.internal, head), tick, back, out);
+        filters.take_entries(items, tick, back, out);
+    }
+
+    ghost smaller = { λ chain entries bytes fewer less _ _ _. refl };
+}
+
+fn aggregating(alloc: Global, events: &[EventParts]) -> Result<Vec<EventIndex>, NoMemory>
+    requires { length events.now < 65536 }
+    ensures { IfOk result (λ found. map (λ event. event.0) found.items ≡ aggregating_of events.now) }
+{
+    let mut found = Vec::new(alloc);
+    for i in 0..events.len() {
+        let event = &events[i];
+        if event.aggregate.is_some() {
+            found.push(EventIndex(i as u16))?;
+        }
+    }
+    Ok(found)
+}

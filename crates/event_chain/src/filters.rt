@@ -1,0 +1,195 @@
+ghost use Rattle.std.specs.Prelude.{◌≡◌, ◌<◌, ◌≤◌, ◌+◌, ◌++◌, ℕ, List, [], ◌∷◌, length, option_to_list, vec_len, vec_capacity, IfOk, IfSome, if◌then◌else◌};
+ghost use Rattle.std.specs.Bool.{IsFalse};
+ghost use Rattle.std.specs.List.{All};
+ghost use Rattle.ids_types.specs.Carries.{act_by};
+ghost use Rattle.ids_types.specs.Output.{room_of};
+ghost use Rattle.ids_config.specs.Parts.{Parts};
+ghost use Rattle.chain_spec.specs.Filtering.{qualified};
+ghost use Rattle.chain_spec.specs.Items.{Item, item_at, told_by};
+ghost use Rattle.chain_spec.specs.Moments.{Moment, act_moment, closes, comes};
+ghost use Rattle.chain_spec.specs.Windows.{EndBy};
+ghost use Rattle.chain.specs.Parcels.{HandsBack, IsShort, parcel_of};
+ghost use Rattle.chain.specs.Turning.{FitsAct, HasTurnRoom, turn_by};
+ghost use Rattle.filter_aggregate.specs.Account.{all_kept};
+ghost use Rattle.filter_aggregate.specs.Slots.{is_due, slot_at};
+ghost use Rattle.sending.specs.Sending.{Start, TakesOne, start_of};
+ghost use Rattle.sending.specs.Sender.{CanQualify};
+ghost use Rattle.event_chain.specs.Behind.{IsBehind, kept_told};
+ghost use Rattle.event_chain.specs.Outlets.{OutletStands};
+ghost use Rattle.event_chain.specs.Standing.{Rests};
+ghost use Rattle.event_chain.specs.Ready.{HasPlaces, IsReady, SettledAt, Stays, AreOwn, CanSend};
+
+use crate::counting::Counting;
+use crate::joining::{go_on, lent, pass};
+use crate::outlet::Outlet;
+use chain::{give_back, kept, log_turn};
+use filter_aggregate::Windows;
+use filter_gate::{GateState, Verdict};
+use ids_types::{Act, Entry, EventIndex, Parcel, Qualified, TurnHead, TurnOut};
+
+/// All filters, one behind the other.
+#[derive(Debug, Drop)]
+pub(crate) struct Filters<B> {
+    pub(crate) gate: GateState,
+    pub(crate) windows: Windows<B>,
+    pub(crate) counting: Counting,
+}
+
+impl<B: Parcel> Filters<B> {
+    /// A turn begins: it is logged, and nothing is held back in it yet.
+    pub(crate) fn begin(&mut self, head: &TurnHead, items: &[Entry<B>], out: &mut TurnOut)
+        requires windows { length self.old.windows ≤ 256 }
+        requires items { length items.now ≤ 1024 }
+        requires out { HasTurnRoom B.held (length self.old.windows) items.now out.old }
+        ensures behind { (config : Parts) (tick : ℕ) (moments : List Moment)
+            → Rests B.held config tick moments self.old → tick ≤ head.now.tick
+            → IsBehind B.held config (start_of config (qualified config moments)) head.now.tick moments self.new out.new }
+        ensures logs { out.new.log.turns ≡ turn_by B.held head.now items.now ∷ [] }
+        ensures room { room_of out.new ≡ room_of out.old }
+        ensures can { CanSend (length items.now + length self.old.windows + 3) self.new out.new }
+        ensures places { HasPlaces self.old → HasPlaces self.new }
+        ensures windows { self.new.windows ≡ self.old.windows }
+    {
+        log_turn(head, items, out);
+        self.counting.outlet.sender.begin();
+    }
+
+    /// An event's window closes where it is due at the tick.
+    pub(crate) fn close(
+        &mut self,
+        event: EventIndex,
+        tick: u64,
+        back: &mut Vec<B>,
+        out: &mut TurnOut,
+    )
+        requires places { HasPlaces self.old }
+        requires event { event.0 < length self.old.windows }
+        requires can { CanSend 1 self.old out.old }
+        requires short { All (IsShort B.held) (all_kept self.old.windows) }
+        requires back { vec_len back.old + length (all_kept self.old.windows) ≤ vec_capacity back.old }
+        ensures behind { (config : Parts) (start : Start) (moments : List Moment)
+            → IsBehind B.held config start tick moments self.old out.old
+            → IsBehind B.held config start tick (closes tick event.0 ∷ moments) self.new out.new }
+        ensures parcels { HandsBack [] (all_kept self.old.windows)
+            (all_kept self.new.windows) back.old.items back.new.items }
+        ensures capacity { vec_capacity back.new ≡ vec_capacity back.old }
+        ensures stays { Stays 1 tick self.old self.new out.old out.new }
+        ensures settled { IsFalse (is_due tick (slot_at self.new.windows event.0)) }
+    {
+        match self.windows.close_due(event, tick) {
+            Some(item) => go_on(&mut self.counting, tick, item, back, out),
+            None => {}
+        }
+    }
+
+    /// An act enters: an item comes, or a control changes what comes after it.
+    pub(crate) fn enter(&mut self, tick: u64, act: Act<B>, back: &mut Vec<B>, out: &mut TurnOut)
+        requires ready { IsReady tick self.old out.old }
+        requires fits { FitsAct B.held (length self.old.windows) act }
+        requires back { vec_len back.old + length (option_to_list (parcel_of act))
+            + length (all_kept self.old.windows) ≤ vec_capacity back.old }
+        ensures behind { (config : Parts) (start : Start) (moments : List Moment)
+            → IsBehind B.held config start tick moments self.old out.old
+            → IsBehind B.held config start tick (act_moment tick (act_by B.held act) ∷ moments) self.new out.new }
+        ensures parcels { HandsBack (option_to_list (parcel_of act)) (all_kept self.old.windows)
+            (all_kept self.new.windows) back.old.items back.new.items }
+        ensures capacity { vec_capacity back.new ≡ vec_capacity back.old }
+        ensures stays { Stays 1 tick self.old self.new out.old out.new }
+    {
+        match act {
+            Act::Report {
+                event,
+                count,
+                stamp,
+                context,
+            } => {
+                let item = Qualified {
+                    event,
+                    count,
+                    stamp,
+                    context: kept(context),
+                };
+                self.take(tick, item, back, out);
+            }
+            Act::State(state) => self.gate.state(state),
+            Act::SetMode { event, mode } => self.gate.mode(event, mode),
+        }
+    }
+
+    /// An item comes.
+    pub(crate) fn take(
+        &mut self,
+        tick: u64,
+        item: Qualified<B>,
+        back: &mut Vec<B>,
+        out: &mut TurnOut,
+    )
+        requires ready { IsReady tick self.old out.old }
+        requires event { item.event.0 < length self.old.windows }
+        requires short { IfSome item.context (IsShort B.held) }
+        requires back { vec_len back.old + length (option_to_list item.context)
+            + length (all_kept self.old.windows) ≤ vec_capacity back.old }
+        ensures behind { (config : Parts) (start : Start) (moments : List Moment)
+            → IsBehind B.held config start tick moments self.old out.old
+            → IsBehind B.held config start tick (comes (item_at tick (told_by B.held item)) ∷ moments) self.new out.new }
+        ensures parcels { HandsBack (option_to_list item.context) (all_kept self.old.windows)
+            (all_kept self.new.windows) back.old.items back.new.items }
+        ensures capacity { vec_capacity back.new ≡ vec_capacity back.old }
+        ensures stays { Stays 1 tick self.old self.new out.old out.new }
+    {
+        match self.gate.gate(item.event) {
+            Verdict::Dropped => give_back(item.context, back),
+            Verdict::Bypass { context } => {
+                let item = let_through(item, context, back);
+                qualify(&mut self.counting.outlet, tick, item, back, out);
+            }
+            Verdict::Pass { context } => {
+                let item = let_through(item, context, back);
+                pass(&mut self.windows, &mut self.counting, tick, item, back, out);
+            }
+        }
+    }
+}
+
+/// The item with its context data, or without: then their parcel is handed back.
+fn let_through<B: Parcel>(item: Qualified<B>, context: bool, back: &mut Vec<B>) -> Qualified<B>
+    requires { vec_len back.old + length (option_to_list item.context) ≤ vec_capacity back.old }
+    ensures item { result ≡ kept_told context item }
+    ensures back { back.new.items ≡ back.old.items ++ (if context then [] else option_to_list item.context) }
+    ensures capacity { vec_capacity back.new ≡ vec_capacity back.old }
+{
+    if context {
+        return item;
+    }
+    give_back(item.context, back);
+    Qualified {
+        event: item.event,
+        count: item.count,
+        stamp: item.stamp,
+        context: None,
+    }
+}
+
+/// An item qualifies at once, and its parcel is handed back.
+fn qualify<B: Parcel>(
+    outlet: &mut Outlet,
+    tick: u64,
+    item: Qualified<B>,
+    back: &mut Vec<B>,
+    out: &mut TurnOut,
+)
+    requires name { item.event.0 < length outlet.old.names.items }
+    requires can { CanQualify outlet.old.sender (item_at tick (told_by B.held item)) out.old }
+    requires back { vec_len back.old + length (option_to_list item.context) ≤ vec_capacity back.old }
+    ensures stands { (config : Parts) (start : Start) (items : List Item)
+        → OutletStands config start items outlet.old out.old
+        → EndBy (λ item. item.tick) tick items
+        → OutletStands config start (item_at tick (told_by B.held item) ∷ items) outlet.new out.new }
+    ensures one { TakesOne outlet.old.sender outlet.new.sender out.old out.new }
+    ensures names { outlet.new.names ≡ outlet.old.names }
+    ensures back { back.new.items ≡ back.old.items ++ option_to_list item.context }
+    ensures capacity { vec_capacity back.new ≡ vec_capacity back.old }
+{
+    outlet.qualify(&lent(tick, &item), out);
+    give_back(item.context, back);
+}

@@ -1,0 +1,18 @@
+//! The filter chain: all filters, the event memory and the sender, one behind the other.
+//!
+//! Layer 7, the chain. Over `ids_types`, `ids_config`, `chain_spec`, `chain`, the filters, `event_memory`,
+//! `internal_events` and `sending`; the main function and the runs make one turn after another with it.
+//! Contracts are those of the trait `Chain`: an `EventChain` stands for a configuration and turns
+//! (`specs/Standing.antt`), and each of its parts for the lists that flow between them (`specs/Flow.antt`).
+//! It never holds a history, and takes memory only when it is made.
+#![tactic(auto)]
+
+mod counting;
+mod event_chain;
+mod filters;
+mod joining;
+mod naming;
+mod outlet;
+mod turns;
+
+pub use event_chain::EventChain;

@@ -1,0 +1,118 @@
+//! The three parts of a turn: windows close, the internal events come, and then the entries.
+
+ghost use Rattle.std.specs.Prelude.{◌≡◌, ◌<◌, ◌≤◌, ◌+◌, ℕ, List, [], length, map, filter, reverse, vec_len, vec_capacity};
+ghost use Rattle.std.specs.List.{All};
+ghost use Rattle.ids_types.specs.Carries.{entry_by};
+ghost use Rattle.ids_config.specs.Parts.{Parts};
+ghost use Rattle.chain_spec.specs.Moments.{Moment, act_moment, closes, head_moment};
+ghost use Rattle.chain_spec.specs.Stages.{with_all};
+ghost use Rattle.chain.specs.Parcels.{HandsBack, IsShort, all_parcels};
+ghost use Rattle.chain.specs.Turning.{FitsAct};
+ghost use Rattle.filter_aggregate.specs.Account.{all_kept};
+ghost use Rattle.internal_events.specs.HeadView.{head_told};
+ghost use Rattle.sending.specs.Sending.{Start};
+ghost use Rattle.event_chain.specs.Behind.{IsBehind, is_aggregated};
+ghost use Rattle.event_chain.specs.Aggregating.{aggregating_in};
+ghost use Rattle.event_chain.specs.Ready.{CanSend, HasPlaces, SettledAt, Stays};
+
+use crate::filters::Filters;
+use ids_types::{Entry, EventIndex, Parcel, Qualified, TurnOut};
+use internal_events::HeadList;
+
+impl<B: Parcel> Filters<B> {
+    /// The windows of these events close, each where it is due at the tick.
+    pub(crate) fn close_all(
+        &mut self,
+        events: &[EventIndex],
+        tick: u64,
+        back: &mut Vec<B>,
+        out: &mut TurnOut,
+    )
+        requires places { HasPlaces self.old }
+        requires events { All (λ event. event.0 < length self.old.windows) events.now }
+        requires can { CanSend (length events.now) self.old out.old }
+        requires short { All (IsShort B.held) (all_kept self.old.windows) }
+        requires back { vec_len back.old + length (all_kept self.old.windows) ≤ vec_capacity back.old }
+        // Where these are the events that are aggregated among some, it is as if each of those closed.
+        ensures behind { (config : Parts) (start : Start) (moments : List Moment) (some : List ℕ)
+            → filter (is_aggregated config) some ≡ map (λ event. event.0) events.now
+            → IsBehind B.held config start tick moments self.old out.old
+            → IsBehind B.held config start tick (with_all moments (map (closes tick) some)) self.new out.new }
+        ensures parcels { HandsBack [] (all_kept self.old.windows)
+            (all_kept self.new.windows) back.old.items back.new.items }
+        ensures capacity { vec_capacity back.new ≡ vec_capacity back.old }
+        ensures stays { Stays (length events.now) tick self.old self.new out.old out.new }
+        ensures settled { map (λ event. event.0) events.now ≡ aggregating_in self.old.windows
+            → SettledAt tick self.new.windows }
+    {
+        for event in events {
+            self.close(*event, tick, back, out);
+        }
+    }
+
+    /// The internal events of the turn come.
+    pub(crate) fn take_heads(
+        &mut self,
+        heads: &HeadList,
+        tick: u64,
+        back: &mut Vec<B>,
+        out: &mut TurnOut,
+    )
+        requires places { HasPlaces self.old }
+        requires settled { SettledAt tick self.old.windows }
+        requires events { All (λ head. head.event.0 < length self.old.windows) heads.now }
+        requires can { CanSend (length heads.now) self.old out.old }
+        requires back { vec_len back.old + length (all_kept self.old.windows) ≤ vec_capacity back.old }
+        ensures behind { (config : Parts) (start : Start) (moments : List Moment)
+            → IsBehind B.held config start tick moments self.old out.old
+            → IsBehind B.held config start tick
+            (with_all moments (map (head_moment tick) (map head_told heads.now))) self.new out.new }
+        ensures parcels { HandsBack [] (all_kept self.old.windows)
+            (all_kept self.new.windows) back.old.items back.new.items }
+        ensures capacity { vec_capacity back.new ≡ vec_capacity back.old }
+        ensures stays { Stays (length heads.now) tick self.old self.new out.old out.new }
+    {
+        for i in 0..heads.len() {
+            let head = heads.get(i).unwrap();
+            let item = Qualified {
+                event: head.event,
+                count: head.count,
+                stamp: None,
+                context: None,
+            };
+            self.take(tick, item, back, out);
+        }
+    }
+
+    /// The entries of the turn enter, and none is left.
+    pub(crate) fn take_entries(
+        &mut self,
+        items: &mut Vec<Entry<B>>,
+        tick: u64,
+        back: &mut Vec<B>,
+        out: &mut TurnOut,
+    )
+        requires places { HasPlaces self.old }
+        requires settled { SettledAt tick self.old.windows }
+        requires acts { All (λ entry. FitsAct B.held (length self.old.windows) entry.act) items.old.items }
+        requires can { CanSend (length items.old.items) self.old out.old }
+        requires back { vec_len back.old + (length (all_parcels items.old.items)
+            + length (all_kept self.old.windows)) ≤ vec_capacity back.old }
+        ensures behind { (config : Parts) (start : Start) (moments : List Moment)
+            → IsBehind B.held config start tick moments self.old out.old
+            → IsBehind B.held config start tick
+            (with_all moments (map (λ entry. act_moment tick entry.act) (map (entry_by B.held) items.old.items)))
+            self.new out.new }
+        ensures parcels { HandsBack (all_parcels items.old.items) (all_kept self.old.windows)
+            (all_kept self.new.windows) back.old.items back.new.items }
+        ensures capacity { vec_capacity back.new ≡ vec_capacity back.old }
+        ensures stays { Stays (length items.old.items) tick self.old self.new out.old out.new }
+        ensures items { items.new.items ≡ [] }
+        ensures items_room { vec_capacity items.new ≡ vec_capacity items.old }
+    {
+        items.reverse();
+        while let Some(entry) = items.pop() {
+            self.enter(tick, entry.act, back, out);
+        }
+    }
+}
