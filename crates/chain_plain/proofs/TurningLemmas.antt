@@ -1,0 +1,87 @@
+-- The entries of a recorded turn, lent to a chain.
+use Rattle.std.proofs.Common.{◌≡◌, ℕ, ◌*◌, ◌≤◌, List, [], ◌∷◌, ◌++◌, length, map, Option, Some, None, IfSome, subst, sym, ap, ◌∙◌, arith}
+use Rattle.std.specs.List.{All, AllByRecursion, cons_option}
+use Rattle.std.proofs.lemmas.List.{length-map}
+use Rattle.std.proofs.lemmas.List.Elements.{All-append, All-from_recursion, recursion_from_All}
+use Rattle.std.proofs.lemmas.List.Sorted.{All-permutation}
+use Rattle.std.proofs.lemmas.List.Sums.{sum_by-cons}
+use Rattle.ids_types.specs.Carries.{act_by, entry_by}
+use Rattle.ids_types.specs.declared.entry.Act.{Act}
+use Rattle.ids_types.specs.declared.entry.Act.TheVariants.{Report, State, SetMode}
+use Rattle.ids_types.specs.declared.entry.Carried.TheVariants.{Absent, Kept, Missing}
+use Rattle.ids_types.specs.declared.entry.Entry.{Entry}
+use Rattle.ids_types.specs.Plain.{act_bytes, kept_bytes}
+use Rattle.chain.specs.Parcels.{HandsBack, IsShort, all_parcels, parcel_of}
+use Rattle.chain.specs.Turning.{FitsAct, FitsTurn, bytes_in}
+
+module _ {B : Type 0} (held : B → List ℕ) (events : ℕ) where
+  -- an act fits where what it tells does
+  fits_act : (act : Act B) → FitsAct (λ bytes. bytes) events (act_by held act) → FitsAct held events act
+  fits_act (Report event count stamp Absent) fits = fits
+  fits_act (Report event count stamp (Kept class claim parcel)) fits = fits
+  fits_act (Report event count stamp (Missing numbers)) fits = fits
+  fits_act (State state) fits = fits
+  fits_act (SetMode event mode) fits = fits
+
+  acts_fit : (items : List (Entry B)) → AllByRecursion (λ e. FitsAct (λ bytes. bytes) events e.act) (map (entry_by held) items)
+      → AllByRecursion (λ e. FitsAct held events e.act) items
+  acts_fit [] fits = tt
+  acts_fit (e ∷ items) fits = (fits_act e.act fits.0, acts_fit items fits.1)
+
+  -- items fit where the entries do that they tell
+  pub items_fit : (items : List (Entry B)) (entries : List (Entry (List ℕ))) → map (entry_by held) items ≡ entries
+      → FitsTurn (λ bytes. bytes) events entries → FitsTurn held events items
+  items_fit items entries same fits =
+      let acts = subst (All (λ e. FitsAct (λ bytes. bytes) events e.act)) (sym same) fits.acts in
+      record {
+        few = subst (λ n. n ≤ 1024) (ap length (sym same) ∙ length-map items (entry_by held)) fits.few;
+        acts = All-from_recursion (λ e. FitsAct held events e.act) items (acts_fit items (recursion_from_All _ _ acts));
+      }
+
+  act_short : (act : Act B) → FitsAct held events act → length (act_bytes (act_by held act)) ≤ 1024
+  act_short (Report event count stamp Absent) fits = omega arith
+  act_short (Report event count stamp (Kept class claim parcel)) fits = fits.1
+  act_short (Report event count stamp (Missing numbers)) fits = omega arith
+  act_short (State state) fits = omega arith
+  act_short (SetMode event mode) fits = omega arith
+
+  bytes_short : (items : List (Entry B)) → AllByRecursion (λ e. FitsAct held events e.act) items → bytes_in held items ≤ 1024 * length items
+  bytes_short [] fits = omega arith
+  bytes_short (e ∷ items) fits =
+      let own = act_short e.act fits.0 in
+      let rest = bytes_short items fits.1 in
+      let whole = sum_by-cons (λ (entry : Entry B). length (kept_bytes (entry_by held entry))) e items in
+      omega (arith, own, rest, whole)
+
+  -- a turn has few bytes of context data
+  pub bytes_few : (items : List (Entry B)) → FitsTurn held events items → bytes_in held items ≤ 1024 * 1024
+  bytes_few items fits =
+      let few = fits.few in
+      let short = bytes_short items (recursion_from_All _ items fits.acts) in
+      omega (arith, few, short)
+
+  parcel_short : (act : Act B) → FitsAct held events act → IfSome (parcel_of act) (IsShort held)
+  parcel_short (Report event count stamp context) fits = fits.1
+  parcel_short (State state) fits = tt
+  parcel_short (SetMode event mode) fits = tt
+
+  with_parcel : (parcel : Option B) (parcels : List B) → IfSome parcel (IsShort held) → AllByRecursion (IsShort held) parcels
+      → AllByRecursion (IsShort held) (cons_option parcel parcels)
+  with_parcel None parcels short all = all
+  with_parcel (Some parcel) parcels short all = (short, all)
+
+  parcels_short : (items : List (Entry B)) → AllByRecursion (λ e. FitsAct held events e.act) items → AllByRecursion (IsShort held) (all_parcels items)
+  parcels_short [] fits = tt
+  parcels_short (e ∷ items) fits = with_parcel (parcel_of e.act) (all_parcels items) (parcel_short e.act fits.0) (parcels_short items fits.1)
+
+  rest_short : (xs ys : List B) → AllByRecursion (IsShort held) (xs ++ ys) → AllByRecursion (IsShort held) ys
+  rest_short [] ys short = short
+  rest_short (x ∷ xs) ys short = rest_short xs ys short.1
+
+  -- the parcels that a chain keeps are short, where those that came and those that it kept are
+  pub kept_short : (items : List (Entry B)) (before now back end : List B) → FitsTurn held events items → All (IsShort held) before
+      → HandsBack (all_parcels items) before now back end → All (IsShort held) now
+  kept_short items before now back end fits short hands =
+      let came = All-from_recursion (IsShort held) (all_parcels items) (parcels_short items (recursion_from_All _ items fits.acts)) in
+      let all = All-permutation (IsShort held) _ _ hands.same (All-append (IsShort held) (all_parcels items) before came short) in
+      All-from_recursion (IsShort held) now (rest_short hands.further now (recursion_from_All _ _ all))

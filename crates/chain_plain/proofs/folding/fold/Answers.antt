@@ -1,0 +1,46 @@
+use Rattle.std.proofs.Common.{◌≡◌, ℕ, [], ◌∷◌, ◌++◌, length, subst, sym, arith, append_assoc, ◌∙◌, ap}
+use Rattle.std.specs.List.{AllByRecursion}
+use Rattle.std.proofs.lemmas.Grind.{common_steps}
+use Rattle.chain.specs.History.{last_tick}
+use Rattle.chain_plain.specs.Recorded.{CanTake, RiseFrom, turn_with}
+use Rattle.chain_plain.specs.Telling.{IsReady, Tells, told_of}
+use Rattle.chain_plain.proofs.TellingLemmas.{last_of, tells_more, told_few}
+use Rattle.chain_plain.proofs.folding.fold.Goals as goal
+
+-- there are no more messages than bytes
+pub add-requires : goal.add-requires
+add-requires g c =
+    let config = c.args.config.now in
+    let before = c.loop-head.invariant in
+    let turn = turn_with c.in-Some.head c.in-Some.entries in
+    let left : c.loop-head.turns ≡ turn ∷ c.pop_front.new.self = grind (arith, common_steps) in
+    let rises : RiseFrom (last_tick before.taken) (turn ∷ c.pop_front.new.self) = subst (RiseFrom (last_tick before.taken)) left before.ticks in
+    let sends = c.in_ok-take.ensures.sends config before.taken before.stands rises.0 in
+    told_few config before.taken turn (told_of c.loop-head.tally) c.take.new.self.out before.tells sends
+
+-- one turn more was taken
+pub loop-head-preserved : goal.loop-head-preserved
+loop-head-preserved g c =
+    let config = c.args.config.now in
+    let many = length config.events in
+    let before = c.loop-head.invariant in
+    let turn = turn_with c.in-Some.head c.in-Some.entries in
+    let rest = c.pop_front.new.self in
+    let left : c.loop-head.turns ≡ turn ∷ rest = grind (arith, common_steps) in
+    let rises : RiseFrom (last_tick before.taken) (turn ∷ rest) = subst (RiseFrom (last_tick before.taken)) left before.ticks in
+    let fit : AllByRecursion (CanTake many) (turn ∷ rest) = subst (AllByRecursion (CanTake many)) left before.turns_fit in
+    let stands = c.in_ok-take.ensures.stands config before.taken before.stands rises.0 in
+    let sends = c.in_ok-take.ensures.sends config before.taken before.stands rises.0 in
+    let limited = c.limited.ensures.value config (before.taken ++ turn ∷ []) stands in
+    let told = tells_more config before.taken turn (told_of c.loop-head.tally) c.take.new.self.out c.limited.result limited before.tells sends in
+    record {
+      taken = before.taken ++ turn ∷ [];
+      whole = append_assoc before.taken (turn ∷ []) rest ∙ ap (λ ts. before.taken ++ ts) (sym left) ∙ before.whole;
+      stands = stands;
+      tells = subst (Tells config (before.taken ++ turn ∷ [])) (sym c.in_ok-add.ensures) told;
+      all_events = c.in_ok-take.ensures.events ∙ before.all_events;
+      kept = c.in_ok-take.ensures.kept;
+      ready = subst (λ (n : ℕ). IsReady n c.take.new.self) before.all_events c.in_ok-take.ensures.ready;
+      turns_fit = fit.1;
+      ticks = subst (λ (n : ℕ). RiseFrom n rest) (sym (last_of before.taken turn)) rises.1;
+    }

@@ -1,0 +1,27 @@
+use Rattle.std.proofs.Common.{◌≡◌, ◌++◌, List, length}
+use Rattle.std.specs.List.{All, AllByRecursion}
+use Rattle.ids_types.specs.Turns.{Turn}
+use Rattle.chain.specs.History.{last_tick}
+use Rattle.chain.specs.Parcels.{IsShort}
+use Rattle.chain_plain.specs.Recorded.{CanTake, RiseFrom}
+use Rattle.chain_plain.specs.Telling.{IsReady, Tells, told_of}
+use Rattle.chain_plain.proofs.folding.fold.Given as goal
+
+-- the chain stands for the turns that were taken, the tally tells of them, and what is left can be taken
+abbrev pub invariant-loop-head : goal.invariant-loop-head
+invariant-loop-head g l =
+    let many = length l.config.events in
+    record {
+      taken : List Turn;
+      whole : taken ++ l.turns ≡ l.history.turns;
+      stands : g.C.Chain.stands l.chain l.config taken;
+      tells : Tells l.config taken (told_of l.tally);
+      all_events : g.C.Chain.events l.chain ≡ many;
+      kept : All (IsShort (λ p. p.0.now)) (g.C.Chain.kept l.chain);
+      ready : IsReady many l.desk;
+      turns_fit : AllByRecursion (CanTake many) l.turns;
+      ticks : RiseFrom (last_tick taken) l.turns;
+    }
+
+abbrev pub decreases-loop-head : goal.decreases-loop-head
+decreases-loop-head g l = length l.turns

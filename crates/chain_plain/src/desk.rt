@@ -1,0 +1,94 @@
+//! What a chain is handed at each turn, made once.
+
+ghost use Rattle.std.specs.Prelude.{◌≡◌, ◌+◌, ◌≤◌, ◌∷◌, ◌++◌, [], ℕ, List, length, map, vec_len, vec_capacity, IfOk, OnOk};
+ghost use Rattle.std.specs.List.{All};
+ghost use Rattle.ids_types.specs.Plain.{plain_entry};
+ghost use Rattle.ids_types.specs.Turns.{Turn};
+ghost use Rattle.ids_config.specs.Parts.{Parts};
+ghost use Rattle.chain.specs.History.{last_tick, Sends};
+ghost use Rattle.chain.specs.Parcels.{IsShort};
+ghost use Rattle.chain_plain.specs.Recorded.{CanTake, turn_with};
+ghost use Rattle.chain_plain.specs.Telling.{IsReady};
+
+use chain::Chain;
+use ids_types::{Entry, EntryWalk, NoMemory, Plain, TurnHead, TurnOut};
+use std::alloc::Global;
+
+/// How many entries a turn has at most.
+const MOST_ENTRIES: u64 = 1024;
+
+/// How many bytes of context data a turn has at most: 1,024 for each entry.
+const MOST_BYTES: u64 = 1024 * MOST_ENTRIES;
+
+/// How many bytes a message has at most.
+const MOST_OF_A_MESSAGE: u64 = 1044;
+
+/// How many internal events a turn begins with at most.
+const MOST_HEADS: u64 = 3;
+
+/// Room for the entries of a turn, for the parcels that come back, and for what the turn gives.
+#[derive(Debug, Drop)]
+pub(crate) struct Desk<'h> {
+    pub(crate) items: Vec<Entry<Plain<'h>>>,
+    pub(crate) back: Vec<Plain<'h>>,
+    pub(crate) out: TurnOut,
+}
+
+impl<'h> Desk<'h> {
+    /// Room for each turn of a chain of so many events.
+    pub(crate) fn make(alloc: Global, events: u64) -> Result<Desk<'h>, NoMemory>
+        requires { events ≤ 256 }
+        ensures { IfOk result (IsReady events) }
+    {
+        let messages = MOST_ENTRIES + events + MOST_HEADS;
+        Ok(Desk {
+            items: Vec::with_capacity(alloc, MOST_ENTRIES as usize)?,
+            back: Vec::with_capacity(alloc, (MOST_ENTRIES + events) as usize)?,
+            out: TurnOut::make(
+                alloc,
+                MOST_ENTRIES,
+                MOST_BYTES,
+                MOST_OF_A_MESSAGE * messages,
+            )?,
+        })
+    }
+
+    /// Has the chain take a turn of these entries, for which it makes room before.
+    pub(crate) fn take<C: Chain<Plain<'h>>>(
+        &mut self,
+        chain: &mut C,
+        head: &TurnHead,
+        entries: EntryWalk<'h>,
+    ) -> Result<(), NoMemory>
+        requires ready { IsReady (C.events chain.old) self.old }
+        requires entries { CanTake (C.events chain.old) (turn_with head.now entries) }
+        requires kept { All (IsShort (λ p. p.0.now)) (C.kept chain.old) }
+        ensures stands { OnOk result ((config : Parts) (turns : List Turn) → C.stands chain.old config turns →
+            last_tick turns ≤ head.now.tick →
+            C.stands chain.new config (turns ++ turn_with head.now entries.entry ∷ [])) }
+        ensures sends { OnOk result ((config : Parts) (turns : List Turn) → C.stands chain.old config turns →
+            last_tick turns ≤ head.now.tick →
+            Sends config turns (turn_with head.now entries.entry) self.new.out) }
+        ensures events { OnOk result (C.events chain.new ≡ C.events chain.old) }
+        ensures kept { OnOk result (All (IsShort (λ p. p.0.now)) (C.kept chain.new)) }
+        ensures ready { OnOk result (IsReady (C.events chain.old) self.new) }
+    {
+        put_entries(entries, &mut self.items);
+        chain.reserve(MOST_ENTRIES, MOST_BYTES)?;
+        chain.turn(head, &mut self.items, &mut self.back, &mut self.out);
+        self.back.clear();
+        Ok(())
+    }
+}
+
+/// Puts the entries behind the items.
+fn put_entries<'h>(entries: EntryWalk<'h>, items: &mut Vec<Entry<Plain<'h>>>)
+    requires { vec_len items.old + length entries ≤ vec_capacity items.old }
+    ensures items { map plain_entry items.new.items ≡ map plain_entry items.old.items ++ entries.entry }
+    ensures capacity { vec_capacity items.new ≡ vec_capacity items.old }
+{
+    let mut rest = entries;
+    while let Some(entry) = rest.pop_front() {
+        items.push_reserved(entry);
+    }
+}

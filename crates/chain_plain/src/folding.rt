@@ -1,0 +1,36 @@
+ghost use Rattle.std.specs.Prelude.{◌≡◌, [], length, IfOk, OnOk};
+ghost use Rattle.std.specs.List.{All};
+ghost use Rattle.chain.specs.Parcels.{IsShort};
+ghost use Rattle.chain_plain.specs.Recorded.{CanFold};
+ghost use Rattle.chain_plain.specs.Telling.{told_of, Tells};
+
+use crate::desk::Desk;
+use crate::tally::Tally;
+use chain::Chain;
+use ids_config::Config;
+use ids_types::{History, NoMemory, Plain};
+use std::alloc::Global;
+
+/// Has a chain that took no turn yet take those of a history.
+pub(crate) fn fold<'h, C: Chain<Plain<'h>>>(
+    alloc: Global,
+    config: &Config,
+    history: &'h History,
+    chain: &mut C,
+) -> Result<Tally, NoMemory>
+    requires stands { C.stands chain.old config.now [] }
+    requires events { C.events chain.old ≡ length config.now.events }
+    requires kept { C.kept chain.old ≡ [] }
+    requires turns { CanFold (length config.now.events) history.now.turns }
+    ensures tells { IfOk result (λ tally. Tells config.now history.now.turns (told_of tally)) }
+    ensures stands { OnOk result (C.stands chain.new config.now history.now.turns) }
+{
+    let mut desk = Desk::make(alloc, config.parts().events.len() as u64)?;
+    let mut tally = Tally::make(alloc, history.turns())?;
+    let mut turns = history.walk();
+    while let Some((head, entries)) = turns.pop_front() {
+        desk.take(chain, &head, entries)?;
+        tally.add(&desk.out, chain.limited())?;
+    }
+    Ok(tally)
+}
