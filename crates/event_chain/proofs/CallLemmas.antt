@@ -29,6 +29,7 @@ use Rattle.filter_gate.specs.Gate.{Gate}
 use Rattle.filter_gate.specs.Stands.{with_context, Stands as GateStands}
 use Rattle.sending.specs.Sending.{Start}
 use Rattle.event_chain.specs.declared.counting.Counting.{Counting}
+use Rattle.event_chain.specs.declared.filters.Filters.{Filters}
 use Rattle.event_chain.specs.Behind.{IsBehind, kept_told}
 use Rattle.event_chain.specs.Flow.{CountingStands, Flows, EndAt, joined_with, items_with}
 use Rattle.event_chain.proofs.FlowLemmas.{ends_with_call, ends_with_item, gated_same, qualified_same, gated_with, aggregated_with, qualified_with}
@@ -56,10 +57,11 @@ module _ {B : Type 0} where
   due_own k tick slot item own is = due_of k _ slot.window item own is
 
   -- a parcel that was kept and is handed out is as short as those that were kept
-  pub given_short : (P : B → Type 0) (context : Option B) (kept now : List B) → Accounts [] kept (option_to_list context) now
-      → All P kept → IfSome context P
+  pub given_short : (P : B → Type 0) (context : Option B) (kept now : List B)
+      → Accounts [] kept (option_to_list context) now → All P kept → IfSome context P
   given_short P None kept now same all = tt
-  given_short P (Some parcel) kept now same all = (recursion_from_All P (parcel ∷ now) (All-permutation P kept (parcel ∷ now) same all)).0
+  given_short P (Some parcel) kept now same all =
+      (recursion_from_All P (parcel ∷ now) (All-permutation P kept (parcel ∷ now) same all)).0
 
   module _ (held : B → List ℕ) where
     -- short context data have few bytes
@@ -75,58 +77,59 @@ module _ {B : Type 0} where
 
     -- the moment of a report
     pub report_moment : (tick : ℕ) (event : EventIndex) (count : ℕ) (stamp : Option Stamp) (context : Carried B)
-        → comes (item_at tick (told_by held (record { event = event; count = count; stamp = stamp; context = kept_parcel context })))
-        ≡ act_moment tick (act_by held (Report event count stamp context))
+        → let item : Qualified B = record { event = event; count = count; stamp = stamp; context = kept_parcel context } in
+        comes (item_at tick (told_by held item)) ≡ act_moment tick (act_by held (Report event count stamp context))
     report_moment tick event count stamp Absent = refl
     report_moment tick event count stamp (Kept class claim parcel) = refl
     report_moment tick event count stamp (Missing numbers) = refl
 
-    module _ (config : Parts) (start : Start) where
-      -- one call more, by what comes of it behind aggregation
-      pub flows_with : (calls : List (Call (List ℕ))) (joined items : List Item) (call : Call (List ℕ)) (o : Option Item)
-          (windows : List (Slot B)) (counting : Counting) (out : Output) → aggregated_at config calls call ≡ o
-          → WindowsStand config (call ∷ calls) (slots_by held windows)
-          → CountingStands config start (option_to_list o ++ joined) (option_to_list (option_and_then (thresholded_at config joined) o) ++ items) counting out
-          → Flows held config start (call ∷ calls) (joined_with config calls call joined) (items_with config calls call joined items) windows counting out
-      flows_with calls joined items call o windows counting out is stands counts = record {
+  -- one call more, by what comes of it behind aggregation
+  pub flows_with : (call : Call (List ℕ)) (o : Option Item) {held : B → List ℕ} {config : Parts} {start : Start}
+      {calls : List (Call (List ℕ))} {joined items : List Item} {old windows : List (Slot B)}
+      {before counting : Counting} {was out : Output} → Flows held config start calls joined items old before was → aggregated_at config calls call ≡ o
+      → WindowsStand config (call ∷ calls) (slots_by held windows)
+      → CountingStands config start (option_to_list o ++ joined)
+      (option_to_list (option_and_then (thresholded_at config joined) o) ++ items) counting out
+      → Flows held config start (call ∷ calls) (joined_with config calls call joined) (items_with config calls call joined items)
+      windows counting out
+  flows_with call o {config = config} {start = start} {joined = joined} {items = items} {counting = counting} {out = out}
+      flows is stands counts =
+      record {
         stands = stands;
         behind = subst (λ (p : Option Item). CountingStands config start (option_to_list p ++ joined)
             (option_to_list (option_and_then (thresholded_at config joined) p) ++ items) counting out) (sym is) counts;
       }
 
-      module _ (tick : ℕ) (before : List Moment) (moment : Moment) (gate : Gate) (windows : List (Slot B)) (counting : Counting) (out : Output)
-          (stands : GateStands config (moment ∷ before) gate)
-          (ends : EndAt tick (gated config before) (aggregated config before) (qualified config before)) where
-        -- one moment more, by which a call comes to aggregation
-        pub behind_call : (call : Call (List ℕ)) → gated_at config before moment ≡ Some call → bypassing_at config before moment ≡ None
-            → call_tick call ≡ tick
-            → Flows held config start (call ∷ gated config before) (joined_with config (gated config before) call (aggregated config before))
-            (items_with config (gated config before) call (aggregated config before) (qualified config before)) windows counting out
-            → IsBehind held config start tick (moment ∷ before) (record { gate = gate; windows = windows; counting = counting }) out
-        behind_call call is by at flows =
-            let calls = gated config before in
-            let all = ends_with_call config tick calls call (aggregated config before) (qualified config before) at ends in
-            let goal = λ (cs : List (Call (List ℕ))) (js is : List Item). Flows held config start cs js is windows counting out × EndAt tick cs js is in
-            let first = subst (λ (xs : List (Call (List ℕ))). goal xs (joined_with config calls call (aggregated config before))
-            (items_with config calls call (aggregated config before) (qualified config before))) (sym (gated_with config before moment call is)) (flows, all) in
-            let second = subst (λ (xs : List Item). goal (gated config (moment ∷ before)) xs
-            (items_with config calls call (aggregated config before) (qualified config before))) (sym (aggregated_with config before moment call is)) first in
-            let third = subst (λ (xs : List Item). goal (gated config (moment ∷ before)) (aggregated config (moment ∷ before)) xs)
-            (sym (qualified_with config before moment call is by)) second in
-            record { gate = stands; flows = third.0; ends = third.1 }
+  module _ {held : B → List ℕ} {config : Parts} {start : Start} {tick : ℕ} where
+    -- the filters are behind moments of which these lists come
+    behind_by : (moments : List Moment) {gate : Gate} {windows : List (Slot B)} {counting : Counting} {out : Output}
+        {calls : List (Call (List ℕ))} {joined items : List Item} → gated config moments ≡ calls → aggregated config moments ≡ joined
+        → qualified config moments ≡ items → GateStands config moments gate
+        → Flows held config start calls joined items windows counting out → EndAt tick calls joined items
+        → IsBehind held config start tick moments (record { gate = gate; windows = windows; counting = counting }) out
+    behind_by moments first second third gate flows ends =
+        record { gate = gate; flows = rw (third, second, first) flows; ends = rw (third, second, first) ends }
 
-        -- one moment more, by which none comes
-        pub behind_item : (o : Option Item) → gated_at config before moment ≡ None → bypassing_at config before moment ≡ o
-            → IfSome o (λ item. item.tick ≡ tick)
-            → Flows held config start (gated config before) (aggregated config before) (option_to_list o ++ qualified config before) windows counting out
-            → IsBehind held config start tick (moment ∷ before) (record { gate = gate; windows = windows; counting = counting }) out
-        behind_item o is by at flows =
-            let all = ends_with_item tick (gated config before) (aggregated config before) (qualified config before) o at ends in
-            let goal = λ (cs : List (Call (List ℕ))) (js is : List Item). Flows held config start cs js is windows counting out × EndAt tick cs js is in
-            let same = sym (gated_same config before moment is) in
-            let first = subst (λ (xs : List (Call (List ℕ))). goal xs (aggregated config before) (option_to_list o ++ qualified config before)) same (flows, all) in
-            let second = subst (λ (xs : List Item). goal (gated config (moment ∷ before)) xs (option_to_list o ++ qualified config before))
-            (ap (added (aggregated_at config)) same) first in
-            let third = subst (λ (xs : List Item). goal (gated config (moment ∷ before)) (aggregated config (moment ∷ before)) xs)
-            (sym (qualified_same config before moment o is by)) second in
-            record { gate = stands; flows = third.0; ends = third.1 }
+    module _ {before : List Moment} {moment : Moment} {old : Filters B} {gate : Gate} {windows : List (Slot B)} {counting : Counting}
+        {was out : Output} (behind : IsBehind held config start tick before old was)
+        (stands : GateStands config (moment ∷ before) gate) where
+      -- one moment more, by which a call comes to aggregation
+      pub behind_call : (call : Call (List ℕ)) → gated_at config before moment ≡ Some call → bypassing_at config before moment ≡ None
+          → call_tick call ≡ tick
+          → Flows held config start (call ∷ gated config before) (joined_with config (gated config before) call (aggregated config before))
+          (items_with config (gated config before) call (aggregated config before) (qualified config before)) windows counting out
+          → IsBehind held config start tick (moment ∷ before) (record { gate = gate; windows = windows; counting = counting }) out
+      behind_call call is by at flows =
+          behind_by (moment ∷ before) (gated_with config before moment call is) (aggregated_with config before moment call is)
+          (qualified_with config before moment call is by) stands flows (ends_with_call config call at behind.ends)
+
+      -- one moment more, by which none comes
+      pub behind_item : (o : Option Item) → gated_at config before moment ≡ None → bypassing_at config before moment ≡ o
+          → IfSome o (λ item. item.tick ≡ tick)
+          → Flows held config start (gated config before) (aggregated config before) (option_to_list o ++ qualified config before)
+          windows counting out
+          → IsBehind held config start tick (moment ∷ before) (record { gate = gate; windows = windows; counting = counting }) out
+      behind_item o is by at flows =
+          let same = gated_same config before moment is in
+          behind_by (moment ∷ before) same (ap (added (aggregated_at config)) same) (qualified_same config before moment o is by)
+          stands flows (ends_with_item o at behind.ends)

@@ -33,10 +33,12 @@ end_with tick (Some item) items own by = (omega (arith, own), subst (λ n. EndBy
 aggregated_tick : (config : Parts) (calls : List (Call (List ℕ))) (call : Call (List ℕ))
     → IfSome (aggregated_at config calls call) (λ item. item.tick ≡ call_tick call)
 aggregated_tick config calls (closes_due tick event) =
-    elim (closing_item (event_at config event).aggregate event tick calls) as (λ o. IfSome (option_map (item_at tick) o) (λ item. item.tick ≡ tick))
+    elim (closing_item (event_at config event).aggregate event tick calls) as
+    (λ o. IfSome (option_map (item_at tick) o) (λ item. item.tick ≡ tick))
     [ None ↦ tt | Some told ↦ refl ]
 aggregated_tick config calls (arrives tick told) =
-    elim (event_at config told.event.0).aggregate as (λ (o : Option Aggregate). IfSome (alone o (item_at tick told)) (λ item. item.tick ≡ tick))
+    elim (event_at config told.event.0).aggregate as
+    (λ (o : Option Aggregate). IfSome (alone o (item_at tick told)) (λ item. item.tick ≡ tick))
     [ None ↦ refl | Some setting ↦ tt ]
 
 -- and so has what passes the threshold
@@ -47,37 +49,38 @@ thresholded_tick config joined tick (Some item) own =
     elim (verdict (event_at config item.event).threshold (counted item) (map counted joined)) as
     (λ (b : Bool). IfSome (where_true b item) (λ one. one.tick ≡ tick)) [ true ↦ own | false ↦ tt ]
 
--- with one call more of this tick no tick is later
-pub ends_with_call : (config : Parts) (tick : ℕ) (calls : List (Call (List ℕ))) (call : Call (List ℕ)) (joined items : List Item)
-    → call_tick call ≡ tick → EndAt tick calls joined items
-    → EndAt tick (call ∷ calls) (joined_with config calls call joined) (items_with config calls call joined items)
-ends_with_call config tick calls call joined items is ends =
-    let own = subst (λ n. IfSome (aggregated_at config calls call) (λ item. item.tick ≡ n)) is (aggregated_tick config calls call) in
-    record {
-      calls_end = (omega (arith, is), subst (λ n. EndBy call_tick n calls) (sym is) ends.calls_end);
-      joined_end = end_with tick (aggregated_at config calls call) joined own ends.joined_end;
-      items_end = end_with tick (option_and_then (thresholded_at config joined) (aggregated_at config calls call)) items
-          (thresholded_tick config joined tick (aggregated_at config calls call) own) ends.items_end;
-    }
-
--- nor with one item more that bypasses the filters
-pub ends_with_item : (tick : ℕ) (calls : List (Call (List ℕ))) (joined items : List Item) (o : Option Item)
-    → IfSome o (λ item. item.tick ≡ tick) → EndAt tick calls joined items → EndAt tick calls joined (option_to_list o ++ items)
-ends_with_item tick calls joined items o own ends =
-    record { calls_end = ends.calls_end; joined_end = ends.joined_end; items_end = end_with tick o items own ends.items_end }
-
--- a later tick ends it, too
+-- what ends by a tick ends by a later one
 later : {A : Type 0} (tick_of : A → ℕ) (tick more : ℕ) (xs : List A) → tick ≤ more → EndBy tick_of tick xs → EndBy tick_of more xs
 later tick_of tick more [] le by = tt
 later tick_of tick more (x ∷ xs) le by = (omega (arith, by.0), by.1)
 
-pub ends_later : (tick more : ℕ) (calls : List (Call (List ℕ))) (joined items : List Item) → tick ≤ more
-    → EndAt tick calls joined items → EndAt more calls joined items
-ends_later tick more calls joined items le ends = record {
-  calls_end = later call_tick tick more calls le ends.calls_end;
-  joined_end = later (λ (i : Item). i.tick) tick more joined le ends.joined_end;
-  items_end = later (λ (i : Item). i.tick) tick more items le ends.items_end;
-}
+module _ {tick : ℕ} {calls : List (Call (List ℕ))} {joined items : List Item} where
+  -- with one call more of this tick no tick is later
+  pub ends_with_call : (config : Parts) (call : Call (List ℕ)) → call_tick call ≡ tick → EndAt tick calls joined items
+      → EndAt tick (call ∷ calls) (joined_with config calls call joined) (items_with config calls call joined items)
+  ends_with_call config call is ends =
+      let o = aggregated_at config calls call in
+      let own = subst (λ n. IfSome o (λ item. item.tick ≡ n)) is (aggregated_tick config calls call) in
+      record {
+        calls_end = (omega (arith, is), subst (λ n. EndBy call_tick n calls) (sym is) ends.calls_end);
+        joined_end = end_with tick o joined own ends.joined_end;
+        items_end = end_with tick (option_and_then (thresholded_at config joined) o) items (thresholded_tick config joined tick o own)
+            ends.items_end;
+      }
+
+  -- nor with one item more that bypasses the filters
+  pub ends_with_item : (o : Option Item) → IfSome o (λ item. item.tick ≡ tick) → EndAt tick calls joined items
+      → EndAt tick calls joined (option_to_list o ++ items)
+  ends_with_item o own ends =
+      record { calls_end = ends.calls_end; joined_end = ends.joined_end; items_end = end_with tick o items own ends.items_end }
+
+  -- a later tick ends it, too
+  pub ends_later : (more : ℕ) → tick ≤ more → EndAt tick calls joined items → EndAt more calls joined items
+  ends_later more le ends = record {
+    calls_end = later call_tick tick more calls le ends.calls_end;
+    joined_end = later (λ (i : Item). i.tick) tick more joined le ends.joined_end;
+    items_end = later (λ (i : Item). i.tick) tick more items le ends.items_end;
+  }
 
 -- ---- the threshold
 
@@ -86,26 +89,17 @@ pub end_counted : (tick : ℕ) (items : List Item) → EndBy (λ item. item.tick
 end_counted tick [] by = tt
 end_counted tick (item ∷ items) by = (by.0, end_counted item.tick items by.1)
 
-module _ (config : Parts) (start : Start) (joined items : List Item) (item : Item) (thresholds : List (Option Threshold)) (outlet : Outlet) (out : Output) where
-  -- an item that passes is the newest qualified event
-  pub counts_through : verdict (event_at config item.event).threshold (counted item) (map counted joined) ≡ true
-      → ThresholdsStand config (counted item ∷ map counted joined) thresholds → OutletStands config start (item ∷ items) outlet out
-      → CountingStands config start (item ∷ joined) (option_to_list (thresholded_at config joined item) ++ items)
-      (record { thresholds = thresholds; outlet = outlet }) out
-  counts_through passes counts stands = record {
-    thresholds = counts;
-    outlet = subst (λ (b : Bool). OutletStands config start (option_to_list (where_true b item) ++ items) outlet out) (sym passes) stands;
-  }
-
-  -- and another changes nothing behind the filter
-  pub counts_nothing : verdict (event_at config item.event).threshold (counted item) (map counted joined) ≡ false
-      → ThresholdsStand config (counted item ∷ map counted joined) thresholds → OutletStands config start items outlet out
-      → CountingStands config start (item ∷ joined) (option_to_list (thresholded_at config joined item) ++ items)
-      (record { thresholds = thresholds; outlet = outlet }) out
-  counts_nothing not counts stands = record {
-    thresholds = counts;
-    outlet = subst (λ (b : Bool). OutletStands config start (option_to_list (where_true b item) ++ items) outlet out) (sym not) stands;
-  }
+-- an item that passes is the newest qualified event, and another changes nothing behind the filter
+pub counts : {config : Parts} {start : Start} {joined : List Item} (items : List Item) {item : Item} {thresholds : List (Option Threshold)}
+    {outlet : Outlet} {out : Output} (b : Bool) → verdict (event_at config item.event).threshold (counted item) (map counted joined) ≡ b
+    → ThresholdsStand config (counted item ∷ map counted joined) thresholds
+    → OutletStands config start (option_to_list (where_true b item) ++ items) outlet out
+    → CountingStands config start (item ∷ joined) (option_to_list (thresholded_at config joined item) ++ items)
+    (record { thresholds = thresholds; outlet = outlet }) out
+counts {config} {start} {joined} items {item} {thresholds} {outlet} {out} b is told stands = record {
+  thresholds = told;
+  outlet = subst (λ (b : Bool). OutletStands config start (option_to_list (where_true b item) ++ items) outlet out) (sym is) stands;
+}
 
 -- ---- moments
 
@@ -115,6 +109,11 @@ or_none None = refl
 or_none (Some item) = refl
 
 module _ (config : Parts) (before : List Moment) (moment : Moment) where
+  -- what passes the filters behind the gate
+  abbrev behind_gate : Option (Call (List ℕ)) → Option Item
+  behind_gate c = option_and_then (thresholded_at config (added (behind (gated_at config) (aggregated_at config)) before))
+      (option_and_then (aggregated_at config (gated config before)) c)
+
   -- a moment by which nothing comes to aggregation
   pub gated_same : gated_at config before moment ≡ None → gated config (moment ∷ before) ≡ gated config before
   gated_same is = ap (λ (o : Option (Call (List ℕ))). option_to_list o ++ gated config before) is
@@ -122,12 +121,10 @@ module _ (config : Parts) (before : List Moment) (moment : Moment) where
   pub qualified_same : (o : Option Item) → gated_at config before moment ≡ None → bypassing_at config before moment ≡ o
       → qualified config (moment ∷ before) ≡ option_to_list o ++ qualified config before
   qualified_same o is by =
-      let filtered : filtered_at config before moment ≡ None =
-      ap (λ (c : Option (Call (List ℕ))). option_and_then (thresholded_at config (added (behind (gated_at config) (aggregated_at config)) before))
-      (option_and_then (aggregated_at config (gated config before)) c)) is in
+      let filtered : filtered_at config before moment ≡ None = ap behind_gate is in
       ap (λ (p : Option Item). option_to_list p ++ qualified config before)
-      (ap (λ (p : Option Item). option_or (bypassing_at config before moment) p) filtered ∙ ap (λ (p : Option Item). option_or p None) by
-      ∙ or_none o)
+      (ap (λ (p : Option Item). option_or (bypassing_at config before moment) p) filtered
+      ∙ ap (λ (p : Option Item). option_or p None) by ∙ or_none o)
 
   module _ (call : Call (List ℕ)) (is : gated_at config before moment ≡ Some call) where
     pub gated_with : gated config (moment ∷ before) ≡ call ∷ gated config before
@@ -139,8 +136,7 @@ module _ (config : Parts) (before : List Moment) (moment : Moment) where
     filtered_with : filtered_at config before moment
         ≡ option_and_then (thresholded_at config (aggregated config before)) (aggregated_at config (gated config before) call)
     filtered_with =
-        ap (λ (c : Option (Call (List ℕ))). option_and_then (thresholded_at config (added (behind (gated_at config) (aggregated_at config)) before))
-        (option_and_then (aggregated_at config (gated config before)) c)) is
+        ap behind_gate is
         ∙ ap (λ (xs : List Item). option_and_then (thresholded_at config xs) (aggregated_at config (gated config before) call))
         (added_behind (gated_at config) (aggregated_at config) before)
 

@@ -1,9 +1,8 @@
 mod CallLemmas
-mod ClosingLemmas
 mod FlowLemmas
 mod Going
 mod HandsLemmas
-mod MadeLemmas
+mod HeadLemmas
 mod SoundLemmas
 mod TurnLemmas
 mod WindowedLemmas

@@ -6,7 +6,7 @@ use Rattle.ids_types.specs.Turns.{Turn}
 use Rattle.ids_types.specs.declared.internal.Internal.{Internal}
 use Rattle.ids_config.specs.Parts.{Parts, internal_of}
 use Rattle.chain_spec.specs.Chain.{messages, message_count, qualified_of}
-use Rattle.chain_spec.specs.Filtering.{gated, aggregated, qualified}
+use Rattle.chain_spec.specs.Filtering.{qualified}
 use Rattle.chain_spec.specs.Moments.{Moment, moments}
 use Rattle.chain_spec.specs.Stages.{with_all}
 use Rattle.chain_spec.proofs.StageLemmas.{with_all-append}
@@ -24,35 +24,37 @@ with_sender sender filters =
     let outlet = record filters.counting.outlet { sender = sender } in
     record filters { counting = record filters.counting { outlet = outlet } }
 
-module _ {B : Type 0} (held : B → List ℕ) (config : Parts) where
+module _ {B : Type 0} {held : B → List ℕ} {config : Parts} where
   -- filters that rest are behind the same moments once the sender began a turn
-  pub begins : (tick now : ℕ) (before : List Moment) (filters : Filters B) (sender : SenderParts) (out : Output)
+  pub begins : {tick now : ℕ} {before : List Moment} {filters : Filters B} {sender : SenderParts} {out : Output}
       → Rests held config tick before filters → tick ≤ now
       → IsSending config (start_of config (qualified config before)) (qualified config before) sender out
       → IsBehind held config (start_of config (qualified config before)) now before (with_sender sender filters) out
-  begins tick now before filters sender out rests le sending = record {
-    gate = rests.gate;
-    flows = record {
-      stands = rests.windows;
-      behind = record {
-        thresholds = rests.thresholds;
-        outlet = record {
-          stores = record { names = rests.stores.names; room = rests.stores.room; memory = rests.stores.memory };
-          sending = sending;
+  begins {now = now} rests le sending =
+      let stores = rests.stores in
+      record {
+        gate = rests.gate;
+        flows = record {
+          stands = rests.windows;
+          behind = record {
+            thresholds = rests.thresholds;
+            outlet = record {
+              stores = record { names = stores.names; room = stores.room; memory = stores.memory };
+              sending = sending;
+            };
+          };
         };
-      };
-    };
-    ends = ends_later tick now (gated config before) (aggregated config before) (qualified config before) le rests.ends;
-  }
+        ends = ends_later now le rests.ends;
+      }
 
   -- what is behind all moments of a turn stands for the turns with it, and the output has what it sends
-  pub turn_ends : (turns : List Turn) (turn : Turn) (filters : Filters B) (internal : Internal) (out : Output)
+  pub turn_ends : (turns : List Turn) (turn : Turn) {filters : Filters B} (internal : Internal) {out : Output}
       → internal ≡ internal_of config
-      → IsBehind held config (start_of config (qualified_of config (reverse turns))) turn.head.tick (moments config (turn ∷ reverse turns)) filters out
+      → IsBehind held config (start_of config (qualified_of config (reverse turns))) turn.head.tick
+      (moments config (turn ∷ reverse turns)) filters out
       → Stands held config (reverse (turns ++ turn ∷ [])) (record { filters = filters; internal = internal }) × Sends config turns turn out
-  turn_ends turns turn filters internal out known behind =
-      let before = reverse turns in
-      let all = turn ∷ before in
+  turn_ends turns turn {filters} internal known behind =
+      let all = turn ∷ reverse turns in
       let same : reverse (turns ++ turn ∷ []) ≡ all = reverse-append turns (turn ∷ []) in
       let counting = behind.flows.behind in
       let sending = counting.outlet.sending in
@@ -69,10 +71,7 @@ module _ {B : Type 0} (held : B → List ℕ) (config : Parts) where
         internal = known;
       } in (
         subst (λ (ts : List Turn). Stands held config ts (record { filters = filters; internal = internal })) (sym same) stands,
-        record {
-          bytes = ap (messages config) same ∙ sending.bytes;
-          number = ap (message_count config) same ∙ sending.number;
-        },
+        record { bytes = ap (messages config) same ∙ sending.bytes; number = ap (message_count config) same ∙ sending.number },
       )
 
 -- the moments of a turn come in three parts

@@ -1,12 +1,14 @@
 -- Windows of which one changed.
-use Rattle.std.proofs.Common.{◌≡◌, ℕ, ◌<◌, ◌==◌, Bool, true, false, List, length, Option, Some, None, IfSome, refl, sym, ap, subst, ◌∙◌, eqb-true, ◌≢◌, arith, if◌then◌else◌}
+use Rattle.std.proofs.Common.{◌≡◌, ℕ, ◌<◌, ◌==◌, Bool, true, false, List, length, Option, Some, None, IfSome, refl, sym, ap, subst, ◌∙◌, eqb-true, ◌≢◌, nat_lt, arith, if◌then◌else◌}
 use Rattle.std.specs.Prelude.{slice_set}
-use Rattle.std.proofs.lemmas.List.{length-set, get_or-set_same, get_or-set_other}
+use Rattle.std.specs.Bool.{IsFalse}
+use Rattle.std.proofs.lemmas.Bool.Decides.{nat_tests}
+use Rattle.std.proofs.lemmas.List.{length-set, get_or-set_same, get_or-set_other, get_or_past}
 use Rattle.ids_types.specs.declared.event.Qualified.{Qualified}
 use Rattle.filter_aggregate.specs.declared.open.Open.{Open}
 use Rattle.filter_aggregate.specs.declared.slot.Slot.{Slot}
 use Rattle.filter_aggregate.specs.Slots.{fresh_slot, slot_at, is_due, slot_closed, slot_with, keeps_last, window_with, after_arrival, after_closing}
-use Rattle.event_chain.specs.Ready.{Windowed}
+use Rattle.event_chain.specs.Ready.{SettledAt, Windowed}
 
 module _ {B : Type 0} where
   -- an open window is of this event's items
@@ -33,7 +35,8 @@ module _ {B : Type 0} where
     events = length-set slots event slot;
     own = λ all. each_slot (λ k s. IsOwn k s.window) slots event slot there (own (all event)) all;
     settings = each_slot (λ k s. s.setting ≡ (slot_at slots k).setting) slots event slot there setting (λ k. refl);
-    settled = each_slot (λ k s. is_due tick (slot_at slots k) ≡ false → is_due tick s ≡ false) slots event slot there (λ _. settled) (λ k h. h);
+    settled = each_slot (λ k s. is_due tick (slot_at slots k) ≡ false → is_due tick s ≡ false) slots event slot there
+        (λ _. settled) (λ k h. h);
   }
 
   -- the window that an item came into is of its event, where the window was
@@ -56,7 +59,8 @@ module _ {B : Type 0} where
   -- a slot that a turn closed is aggregated as it was, and of its own event
   closed_setting : (tick : ℕ) (slot : Slot B) → (slot_closed tick slot).setting ≡ slot.setting
   closed_setting tick slot =
-      elim (is_due tick slot) as (λ (b : Bool). (if b then fresh_slot slot.setting else slot).setting ≡ slot.setting) [ true ↦ refl | false ↦ refl ]
+      elim (is_due tick slot) as (λ (b : Bool). (if b then fresh_slot slot.setting else slot).setting ≡ slot.setting)
+      [ true ↦ refl | false ↦ refl ]
 
   closed_own : (tick k : ℕ) (slot : Slot B) → IsOwn k slot.window → IsOwn k (slot_closed tick slot).window
   closed_own tick k slot own =
@@ -71,3 +75,12 @@ module _ {B : Type 0} where
       subst (λ (xs : List (Slot B)). Windowed tick slots xs) (sym is)
       (windowed_set tick slots event slot there (closed_own tick event old) (closed_setting tick old)
       (sym (ap (is_due tick) same) ∙ settled))
+
+  -- past the last slot none is due
+  pub settled_all : (tick : ℕ) (slots : List (Slot B)) → ((k : ℕ) → k < length slots → IsFalse (is_due tick (slot_at slots k)))
+      → SettledAt tick slots
+  settled_all tick slots settled k =
+      elim (nat_lt k (length slots)) as (λ (b : Bool). nat_lt k (length slots) ≡ b → IsFalse (is_due tick (slot_at slots k))) [
+        | true ↦ λ less. settled k (grind (arith, nat_tests, less))
+        | false ↦ λ past. ap (is_due tick) (get_or_past slots k (fresh_slot None) (grind (arith, nat_tests, past)))
+      ] refl

@@ -1,8 +1,8 @@
 -- All filters, behind these moments of a turn and those before it.
-use Rattle.std.specs.Prelude.{ℕ, Bool, List, None, is_some, if◌then◌else◌}
+use Rattle.std.specs.Prelude.{ℕ, Bool, List, None, if◌then◌else◌}
 use Rattle.ids_types.specs.Output.{Output}
 use Rattle.ids_types.specs.declared.event.Qualified.{Qualified}
-use Rattle.ids_config.specs.Parts.{Parts, event_at}
+use Rattle.ids_config.specs.Parts.{Parts}
 use Rattle.chain_spec.specs.Filtering.{gated, aggregated, qualified}
 use Rattle.chain_spec.specs.Moments.{Moment}
 use Rattle.filter_gate.specs.Stands.{Stands as GateStands}
@@ -19,13 +19,10 @@ kept_told context item = record {
   context = if context then item.context else None;
 }
 
--- the event is aggregated
-abbrev pub is_aggregated : Parts → ℕ → Bool
-is_aggregated config event = is_some (event_at config event).aggregate
-
 -- the gate stands for the moments, and all else for what comes of them; none of it has a later tick
 pub record IsBehind {B : Type 0} (held : B → List ℕ) (config : Parts) (start : Start) (tick : ℕ) (moments : List Moment)
     (filters : Filters B) (out : Output) : Type 0 where
   pub gate : GateStands config moments filters.gate
-  pub flows : Flows held config start (gated config moments) (aggregated config moments) (qualified config moments) filters.windows filters.counting out
+  pub flows : Flows held config start (gated config moments) (aggregated config moments) (qualified config moments)
+      filters.windows filters.counting out
   pub ends : EndAt tick (gated config moments) (aggregated config moments) (qualified config moments)

@@ -1,4 +1,3 @@
-pub mod Aggregating
 pub mod Behind
 pub mod Chained
 pub mod Flow

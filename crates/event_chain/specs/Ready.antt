@@ -58,6 +58,8 @@ pub record IsReady {B : Type 0} (tick : ℕ) (filters : Filters B) (out : Output
 pub record Stays {B : Type 0} (moments tick : ℕ) (old new : Filters B) (before after : Output) : Type 0 where
   pub places : HasPlaces old → HasPlaces new
   pub windows : Windowed tick old.windows new.windows
-  pub can : (n : ℕ) → CanSend (n + moments) old before → CanSend n new after
+  pub counted : new.counting.outlet.sender.held ≤ old.counting.outlet.sender.held + moments
+  pub sent_left : before.sent_left ≤ after.sent_left + 1044 * moments
+  pub messages : after.messages ≤ before.messages + moments
   pub log : after.log ≡ before.log
   pub room : room_of after ≡ room_of before

@@ -1,11 +1,8 @@
-ghost use Rattle.std.specs.Prelude.{◌≡◌, ◌<◌, [], List, true, length, map, filter, refl, reverse, IfOk};
-ghost use Rattle.std.specs.List.{range_with_len};
+ghost use Rattle.std.specs.Prelude.{◌≡◌, [], List, true, length, refl, reverse, IfOk};
 ghost use Rattle.ids_types.specs.Turns.{Turn};
 ghost use Rattle.ids_config.specs.Parts.{Parts};
-ghost use Rattle.chain_spec.specs.Items.{Item};
 ghost use Rattle.chain.specs.History.{rows_of};
 ghost use Rattle.filter_aggregate.specs.Account.{all_kept};
-ghost use Rattle.event_chain.specs.Aggregating.{aggregating_of};
 ghost use Rattle.event_chain.specs.Standing.{Stands};
 
 use crate::counting::Counting;
@@ -14,8 +11,8 @@ use chain::Chain;
 use event_memory::Memory;
 use filter_aggregate::Windows;
 use filter_gate::GateState;
-use ids_config::{Config, EventParts};
-use ids_types::{Entry, EventIndex, Internal, NoMemory, Parcel, TurnHead, TurnOut};
+use ids_config::Config;
+use ids_types::{Entry, Internal, NoMemory, Parcel, TurnHead, TurnOut};
 use internal_events::heads;
 use std::alloc::Global;
 use std::marker::Model;
@@ -24,8 +21,6 @@ use std::marker::Model;
 #[derive(Debug, Drop)]
 pub struct EventChain<B> {
     filters: Filters<B>,
-    /// The events that are aggregated, in their order.
-    aggregating: Vec<EventIndex>,
     internal: Internal,
 }
 
@@ -48,14 +43,14 @@ impl<B: Parcel> EventChain<B> {
         ensures events { IfOk result (λ chain. length chain.filters.windows ≡ length config.now.events) }
         ensures kept { IfOk result (λ chain. all_kept chain.filters.windows ≡ []) }
     {
-        let parts = config.parts();
+        // Names the parts, so that the proof knows that they are valid.
+        let _parts = config.parts();
         Ok(EventChain {
             filters: Filters {
                 gate: GateState::make(alloc, config)?,
                 windows: Windows::make(alloc, config)?,
                 counting: Counting::make(alloc, config)?,
             },
-            aggregating: aggregating(alloc, &parts.events)?,
             internal: config.internal(),
         })
     }
@@ -106,24 +101,10 @@ impl<B: Parcel> Chain<B> for EventChain<B> {
         let tick = head.tick;
         let filters = &mut self.filters;
         filters.begin(head, items, out);
-        filters.close_all(&self.aggregating, tick, back, out);
+        filters.close_all(tick, back, out);
         filters.take_heads(&heads(&self.internal, head), tick, back, out);
         filters.take_entries(items, tick, back, out);
     }
 
     ghost smaller = { λ chain entries bytes fewer less _ _ _. refl };
-}
-
-fn aggregating(alloc: Global, events: &[EventParts]) -> Result<Vec<EventIndex>, NoMemory>
-    requires { length events.now < 65536 }
-    ensures { IfOk result (λ found. map (λ event. event.0) found.items ≡ aggregating_of events.now) }
-{
-    let mut found = Vec::new(alloc);
-    for i in 0..events.len() {
-        let event = &events[i];
-        if event.aggregate.is_some() {
-            found.push(EventIndex(i as u16))?;
-        }
-    }
-    Ok(found)
 }

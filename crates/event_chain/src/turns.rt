@@ -1,18 +1,17 @@
 //! The three parts of a turn: windows close, the internal events come, and then the entries.
 
-ghost use Rattle.std.specs.Prelude.{◌≡◌, ◌<◌, ◌≤◌, ◌+◌, ℕ, List, [], length, map, filter, reverse, vec_len, vec_capacity};
+ghost use Rattle.std.specs.Prelude.{◌≡◌, ◌<◌, ◌≤◌, ◌+◌, ℕ, List, [], length, map, reverse, vec_len, vec_capacity};
 ghost use Rattle.std.specs.List.{All};
 ghost use Rattle.ids_types.specs.Carries.{entry_by};
 ghost use Rattle.ids_config.specs.Parts.{Parts};
-ghost use Rattle.chain_spec.specs.Moments.{Moment, act_moment, closes, head_moment};
+ghost use Rattle.chain_spec.specs.Moments.{Moment, act_moment, closings, head_moment};
 ghost use Rattle.chain_spec.specs.Stages.{with_all};
 ghost use Rattle.chain.specs.Parcels.{HandsBack, IsShort, all_parcels};
 ghost use Rattle.chain.specs.Turning.{FitsAct};
 ghost use Rattle.filter_aggregate.specs.Account.{all_kept};
 ghost use Rattle.internal_events.specs.HeadView.{head_told};
 ghost use Rattle.sending.specs.Sending.{Start};
-ghost use Rattle.event_chain.specs.Behind.{IsBehind, is_aggregated};
-ghost use Rattle.event_chain.specs.Aggregating.{aggregating_in};
+ghost use Rattle.event_chain.specs.Behind.{IsBehind};
 ghost use Rattle.event_chain.specs.Ready.{CanSend, HasPlaces, SettledAt, Stays};
 
 use crate::filters::Filters;
@@ -20,33 +19,24 @@ use ids_types::{Entry, EventIndex, Parcel, Qualified, TurnOut};
 use internal_events::HeadList;
 
 impl<B: Parcel> Filters<B> {
-    /// The windows of these events close, each where it is due at the tick.
-    pub(crate) fn close_all(
-        &mut self,
-        events: &[EventIndex],
-        tick: u64,
-        back: &mut Vec<B>,
-        out: &mut TurnOut,
-    )
+    /// The windows of all events close, each where it is due at the tick.
+    pub(crate) fn close_all(&mut self, tick: u64, back: &mut Vec<B>, out: &mut TurnOut)
         requires places { HasPlaces self.old }
-        requires events { All (λ event. event.0 < length self.old.windows) events.now }
-        requires can { CanSend (length events.now) self.old out.old }
+        requires few { length self.old.windows ≤ 256 }
+        requires can { CanSend (length self.old.windows) self.old out.old }
         requires short { All (IsShort B.held) (all_kept self.old.windows) }
         requires back { vec_len back.old + length (all_kept self.old.windows) ≤ vec_capacity back.old }
-        // Where these are the events that are aggregated among some, it is as if each of those closed.
-        ensures behind { (config : Parts) (start : Start) (moments : List Moment) (some : List ℕ)
-            → filter (is_aggregated config) some ≡ map (λ event. event.0) events.now
+        ensures behind { (config : Parts) (start : Start) (moments : List Moment)
             → IsBehind B.held config start tick moments self.old out.old
-            → IsBehind B.held config start tick (with_all moments (map (closes tick) some)) self.new out.new }
+            → IsBehind B.held config start tick (with_all moments (closings config tick)) self.new out.new }
         ensures parcels { HandsBack [] (all_kept self.old.windows)
             (all_kept self.new.windows) back.old.items back.new.items }
         ensures capacity { vec_capacity back.new ≡ vec_capacity back.old }
-        ensures stays { Stays (length events.now) tick self.old self.new out.old out.new }
-        ensures settled { map (λ event. event.0) events.now ≡ aggregating_in self.old.windows
-            → SettledAt tick self.new.windows }
+        ensures stays { Stays (length self.old.windows) tick self.old self.new out.old out.new }
+        ensures settled { SettledAt tick self.new.windows }
     {
-        for event in events {
-            self.close(*event, tick, back, out);
+        for event in 0..self.windows.events() {
+            self.close(EventIndex(event as u16), tick, back, out);
         }
     }
 

@@ -45,6 +45,13 @@ impl<B: Parcel> Windows<B> {
         Ok(Windows { slots })
     }
 
+    /// How many events there are.
+    pub fn events(&self) -> usize
+        ensures { result ≡ length self.now }
+    {
+        self.slots.len()
+    }
+
     /// Whether the event is aggregated.
     pub fn aggregates(&self, event: EventIndex) -> bool
         requires { event.0 < length self.now }

@@ -10,20 +10,18 @@ use Rattle.event_chain.proofs.joining.pass.Goals as goal
 
 pub returns-then-aggregates-clause-flows : goal.returns-then-aggregates-clause-flows
 returns-then-aggregates-clause-flows g c config start calls joined items flows ends =
-    let held = g.B.Parcel.held in
-    let told = told_by held c.args.item in
+    let told = told_by g.B.Parcel.held c.args.item in
     let is = sym (c.aggregates.ensures.configured config calls flows.stands) ∙ c.if-aggregates.true in
-    flows_with held config start calls joined items (arrives c.args.tick told) None c.join.new.windows c.args.counting.now c.args.out.now
-    (alone_none (event_at config told.event.0).aggregate (item_at c.args.tick told) is)
+    flows_with (arrives c.args.tick told) None flows (alone_none (event_at config told.event.0).aggregate (item_at c.args.tick told) is)
     (c.join.ensures.stands config calls flows.stands ends.calls_end) flows.behind
 
 pub returns-else-aggregates-clause-flows : goal.returns-else-aggregates-clause-flows
 returns-else-aggregates-clause-flows g c config start calls joined items flows ends =
     let held = g.B.Parcel.held in
     let told = told_by held c.args.item in
+    let item = item_at c.args.tick told in
     let none = none_of (event_at config told.event.0).aggregate
     (sym (c.aggregates.ensures.configured config calls flows.stands) ∙ c.if-aggregates.false) in
-    flows_with held config start calls joined items (arrives c.args.tick told) (Some (item_at c.args.tick told)) c.args.windows.now c.go_on.new.counting c.go_on.new.out
-    (ap (λ setting. alone setting (item_at c.args.tick told)) none)
+    flows_with (arrives c.args.tick told) (Some item) flows (ap (λ setting. alone setting item) none)
     (stands_alone config calls (slots_by held c.args.windows.now) c.args.tick told none flows.stands)
     (c.go_on.ensures.stands config start joined items flows.behind ends.joined_end ends.items_end)

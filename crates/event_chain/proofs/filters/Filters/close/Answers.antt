@@ -1,10 +1,9 @@
-use Rattle.std.proofs.Common.{◌≡◌, Some, None, option_map, refl, sym, subst, ap, arith}
+use Rattle.std.proofs.Common.{Some, None, option_map, refl, sym, subst, ap, arith}
 use Rattle.std.proofs.lemmas.List.Sorted.{length_permutation}
 use Rattle.std.proofs.lemmas.Grind.{common_steps}
 use Rattle.chain_spec.specs.Calls.{closes_due}
-use Rattle.chain_spec.specs.Filtering.{gated, aggregated, qualified}
+use Rattle.chain_spec.specs.Filtering.{gated}
 use Rattle.chain_spec.specs.Items.{item_at, told_by}
-use Rattle.chain_spec.specs.Moments.{closes}
 use Rattle.filter_gate.proofs.StandsLemmas.{stands_with_closing}
 use Rattle.chain.specs.Parcels.{IsShort}
 use Rattle.filter_aggregate.specs.Account.{all_kept}
@@ -18,10 +17,11 @@ go_on-requires-clause-count g c =
     let item = c.in-Some.item in
     let event = c.args.event.0 in
     let windows = c.args.self.now.windows in
-    let can = c.requires.can in
-    let own : item.event.0 ≡ event = due_own event c.args.tick (slot_at windows event) item (c.requires.places.own event) c.in-Some.ensures.item in
-    let short = given_short (IsShort g.B.Parcel.held) item.context (all_kept windows) (all_kept c.close_due.new.self) c.in-Some.ensures.moved c.requires.short in
+    let own = due_own event c.args.tick (slot_at windows event) item (c.requires.places.own event) c.in-Some.ensures.item in
+    let short = given_short (IsShort g.B.Parcel.held) item.context (all_kept windows) (all_kept c.close_due.new.self)
+    c.in-Some.ensures.moved c.requires.short in
     let has = subst (λ k. HasEvent k c.args.self.now.counting) (sym own) (c.requires.places.has event c.requires.event) in
+    let can = c.requires.can in
     record {
       has = has;
       can = record {
@@ -40,29 +40,22 @@ go_on-requires-clause-back g c =
 
 pub returns-in-Some-clause-behind : goal.returns-in-Some-clause-behind
 returns-in-Some-clause-behind g c config start moments behind =
-    let held = g.B.Parcel.held in
     let tick = c.args.tick in
     let event = c.args.event.0 in
-    let gate = c.args.self.now.gate in
-    let calls = gated config moments in
-    let flows = flows_with held config start calls (aggregated config moments) (qualified config moments) (closes_due tick event)
-    (Some (item_at tick (told_by held c.in-Some.item))) c.close_due.new.self c.go_on.new.counting c.go_on.new.out
-    (ap (option_map (item_at tick)) (sym (c.in-Some.ensures.gives_over config calls behind.flows.stands)))
-    (c.in-Some.ensures.stands_over config calls behind.flows.stands)
-    (c.go_on.ensures.stands config start _ _ behind.flows.behind behind.ends.joined_end behind.ends.items_end) in
-    behind_call held config start tick moments (closes tick event) gate c.close_due.new.self c.go_on.new.counting c.go_on.new.out
-    (stands_with_closing config moments tick event gate behind.gate) behind.ends (closes_due tick event) refl refl refl flows
+    let call = closes_due tick event in
+    let gives = c.in-Some.ensures.gives_over config (gated config moments) behind.flows.stands in
+    behind_call behind (stands_with_closing config moments tick event c.args.self.now.gate behind.gate) call refl refl refl
+    (flows_with call (Some (item_at tick (told_by g.B.Parcel.held c.in-Some.item))) behind.flows
+    (ap (option_map (item_at tick)) (sym gives))
+    (c.in-Some.ensures.stands_over config (gated config moments) behind.flows.stands)
+    (c.go_on.ensures.stands config start _ _ behind.flows.behind behind.ends.joined_end behind.ends.items_end))
 
 pub returns-in-None-clause-behind : goal.returns-in-None-clause-behind
 returns-in-None-clause-behind g c config start moments behind =
-    let held = g.B.Parcel.held in
     let tick = c.args.tick in
     let event = c.args.event.0 in
-    let gate = c.args.self.now.gate in
-    let calls = gated config moments in
-    let flows = flows_with held config start calls (aggregated config moments) (qualified config moments) (closes_due tick event) None
-    c.close_due.new.self c.args.self.now.counting c.args.out.now
-    (ap (option_map (item_at tick)) (sym (c.in-None.ensures.gives_over config calls behind.flows.stands)))
-    (c.in-None.ensures.stands_over config calls behind.flows.stands) behind.flows.behind in
-    behind_call held config start tick moments (closes tick event) gate c.close_due.new.self c.args.self.now.counting c.args.out.now
-    (stands_with_closing config moments tick event gate behind.gate) behind.ends (closes_due tick event) refl refl refl flows
+    let call = closes_due tick event in
+    let gives = c.in-None.ensures.gives_over config (gated config moments) behind.flows.stands in
+    behind_call behind (stands_with_closing config moments tick event c.args.self.now.gate behind.gate) call refl refl refl
+    (flows_with call None behind.flows (ap (option_map (item_at tick)) (sym gives))
+    (c.in-None.ensures.stands_over config (gated config moments) behind.flows.stands) behind.flows.behind)

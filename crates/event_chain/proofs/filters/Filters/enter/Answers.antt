@@ -1,4 +1,4 @@
-use Rattle.std.proofs.Common.{◌≡◌, ◌∷◌, Option, sym, ap, subst, ◌∙◌}
+use Rattle.std.proofs.Common.{◌∷◌, Option, sym, ap, subst, ◌∙◌}
 use Rattle.ids_types.specs.Carries.{act_by}
 use Rattle.ids_types.specs.declared.entry.Act.{Act}
 use Rattle.chain_spec.specs.Items.{item_at, told_by}
@@ -12,9 +12,9 @@ returns-in-Report-clause-behind g c config start moments behind =
     let held = g.B.Parcel.held in
     let tick = c.args.tick in
     let r = c.in-Report in
-    let same : comes (item_at tick (told_by held (record { event = r.event; count = r.count; stamp = r.stamp; context = c.kept.result })))
-    ≡ act_moment tick (act_by held c.args.act) =
-    ap (λ (o : Option g.row.B.Denot). comes (item_at tick (told_by held (record { event = r.event; count = r.count; stamp = r.stamp; context = o })))) c.kept.ensures
-    ∙ report_moment held tick r.event r.count r.stamp r.context
+    let moment = λ (o : Option g.row.B.Denot).
+    comes (item_at tick (told_by held (record { event = r.event; count = r.count; stamp = r.stamp; context = o }))) in
+    let same = ap moment c.kept.ensures ∙ report_moment held tick r.event r.count r.stamp r.context
     ∙ ap (λ (a : Act g.row.B.Denot). act_moment tick (act_by held a)) (sym r.is) in
-    subst (λ (m : Moment). IsBehind held config start tick (m ∷ moments) c.take.new.self c.take.new.out) same (c.take.ensures.behind config start moments behind)
+    subst (λ (m : Moment). IsBehind held config start tick (m ∷ moments) c.take.new.self c.take.new.out) same
+    (c.take.ensures.behind config start moments behind)

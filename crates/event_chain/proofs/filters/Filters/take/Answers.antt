@@ -1,9 +1,8 @@
-use Rattle.std.proofs.Common.{◌≡◌, ◌∷◌, Some, None, option_map, option_to_list, refl, sym, ap, subst, ◌∙◌}
+use Rattle.std.proofs.Common.{◌∷◌, Some, None, option_map, option_to_list, refl, sym, ap, subst, ◌∙◌}
 use Rattle.ids_types.specs.declared.event.Qualified.{Qualified}
 use Rattle.chain_spec.specs.Calls.{arrives}
 use Rattle.chain_spec.specs.Filtering.{arrival, qualified}
 use Rattle.chain_spec.specs.Items.{Item, item_at, told_by}
-use Rattle.chain_spec.specs.Moments.{comes}
 use Rattle.chain.specs.Parcels.{HandsBack}
 use Rattle.filter_aggregate.specs.Account.{all_kept}
 use Rattle.filter_gate.specs.Stands.{with_context}
@@ -14,12 +13,11 @@ use Rattle.event_chain.proofs.filters.Filters.take.Goals as goal
 
 pub returns-in-Dropped-clause-behind : goal.returns-in-Dropped-clause-behind
 returns-in-Dropped-clause-behind g c config start moments behind =
-    let held = g.B.Parcel.held in
-    let item = item_at c.args.tick (told_by held c.args.item) in
-    let sampled = c.in-Dropped.ensures.sampled config moments item refl behind.gate in
-    behind_item held config start c.args.tick moments (comes item) c.gate.new.self c.args.self.now.windows c.args.self.now.counting c.args.out.now
-    (c.gate.ensures.stands config moments item refl behind.gate) behind.ends None (ap (option_map arrival) (sym sampled))
-    (sym (c.in-Dropped.ensures.bypassing config moments item refl behind.gate)) tt behind.flows
+    let item = item_at c.args.tick (told_by g.B.Parcel.held c.args.item) in
+    let told = c.in-Dropped.ensures in
+    behind_item behind (c.gate.ensures.stands config moments item refl behind.gate) None
+    (ap (option_map arrival) (sym (told.sampled config moments item refl behind.gate)))
+    (sym (told.bypassing config moments item refl behind.gate)) tt behind.flows
 
 pub returns-in-Bypass-clause-behind : goal.returns-in-Bypass-clause-behind
 returns-in-Bypass-clause-behind g c config start moments behind =
@@ -27,37 +25,33 @@ returns-in-Bypass-clause-behind g c config start moments behind =
     let tick = c.args.tick in
     let item = item_at tick (told_by held c.args.item) in
     let through = with_context c.in-Bypass.context item in
-    let sampled = c.in-Bypass.ensures.sampled config moments item refl behind.gate in
-    let same : item_at tick (told_by held c.let_through-item.result) ≡ through =
-    ap (λ (q : Qualified g.row.B.Denot). item_at tick (told_by held q)) c.let_through-item.ensures.item ∙ sym (item_kept held c.in-Bypass.context tick c.args.item) in
+    let told = c.in-Bypass.ensures in
+    let flows = behind.flows in
+    let same = ap (λ (q : Qualified g.row.B.Denot). item_at tick (told_by held q)) c.let_through-item.ensures.item
+    ∙ sym (item_kept held c.in-Bypass.context tick c.args.item) in
     let outlet = subst (λ (i : Item). OutletStands config start (i ∷ qualified config moments) c.qualify.new.outlet c.qualify.new.out) same
-    (c.qualify.ensures.stands config start (qualified config moments) behind.flows.behind.outlet behind.ends.items_end) in
-    behind_item held config start tick moments (comes item) c.gate.new.self c.args.self.now.windows _ c.qualify.new.out
-    (c.gate.ensures.stands config moments item refl behind.gate) behind.ends (Some through) (ap (option_map arrival) (sym sampled))
-    (sym (c.in-Bypass.ensures.bypassing config moments item refl behind.gate)) refl (record {
-      stands = behind.flows.stands;
-      behind = record { thresholds = behind.flows.behind.thresholds; outlet = outlet };
-    })
+    (c.qualify.ensures.stands config start (qualified config moments) flows.behind.outlet behind.ends.items_end) in
+    behind_item behind (c.gate.ensures.stands config moments item refl behind.gate) (Some through)
+    (ap (option_map arrival) (sym (told.sampled config moments item refl behind.gate)))
+    (sym (told.bypassing config moments item refl behind.gate)) refl
+    (record { stands = flows.stands; behind = record { thresholds = flows.behind.thresholds; outlet = outlet } })
 
 pub returns-in-Pass-clause-behind : goal.returns-in-Pass-clause-behind
 returns-in-Pass-clause-behind g c config start moments behind =
     let held = g.B.Parcel.held in
     let tick = c.args.tick in
     let item = item_at tick (told_by held c.args.item) in
-    let sampled = c.in-Pass.ensures.sampled config moments item refl behind.gate in
-    let same : item_at tick (told_by held c.let_through-item-in-Pass.result) ≡ with_context c.in-Pass.context item =
-    ap (λ (q : Qualified g.row.B.Denot). item_at tick (told_by held q)) c.let_through-item-in-Pass.ensures.item ∙ sym (item_kept held c.in-Pass.context tick c.args.item) in
-    behind_call held config start tick moments (comes item) c.gate.new.self c.pass.new.windows c.pass.new.counting c.pass.new.out
-    (c.gate.ensures.stands config moments item refl behind.gate) behind.ends (arrives tick (told_by held c.let_through-item-in-Pass.result))
-    (ap (option_map arrival) (sym sampled) ∙ ap (λ (i : Item). Some (arrival i)) (sym same))
-    (sym (c.in-Pass.ensures.bypassing config moments item refl behind.gate)) refl
-    (c.pass.ensures.flows config start _ _ _ behind.flows behind.ends)
+    let told = c.in-Pass.ensures in
+    let same = ap (λ (q : Qualified g.row.B.Denot). item_at tick (told_by held q)) c.let_through-item-in-Pass.ensures.item
+    ∙ sym (item_kept held c.in-Pass.context tick c.args.item) in
+    behind_call behind (c.gate.ensures.stands config moments item refl behind.gate)
+    (arrives tick (told_by held c.let_through-item-in-Pass.result))
+    (ap (option_map arrival) (sym (told.sampled config moments item refl behind.gate)) ∙ ap (λ (i : Item). Some (arrival i)) (sym same))
+    (sym (told.bypassing config moments item refl behind.gate)) refl (c.pass.ensures.flows config start _ _ _ behind.flows behind.ends)
 
 pub returns-in-Pass-clause-parcels : goal.returns-in-Pass-clause-parcels
 returns-in-Pass-clause-parcels g c =
-    let kept = all_kept c.args.self.now.windows in
-    let now = all_kept c.pass.new.windows in
-    hands_kept c.in-Pass.context c.args.item.context kept now c.args.back.now.items c.let_through-item-in-Pass.new.back.items c.pass.new.back.items
-    c.let_through-item-in-Pass.ensures.back
-    (subst (λ (q : Qualified g.row.B.Denot). HandsBack (option_to_list q.context) kept now c.let_through-item-in-Pass.new.back.items c.pass.new.back.items)
-    c.let_through-item-in-Pass.ensures.item c.pass.ensures.parcels)
+    let through = c.let_through-item-in-Pass in
+    hands_kept c.in-Pass.context c.args.item.context through.ensures.back
+    (subst (λ (q : Qualified g.row.B.Denot). HandsBack (option_to_list q.context) (all_kept c.args.self.now.windows)
+    (all_kept c.pass.new.windows) through.new.back.items c.pass.new.back.items) through.ensures.item c.pass.ensures.parcels)

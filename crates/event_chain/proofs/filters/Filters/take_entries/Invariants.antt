@@ -1,4 +1,4 @@
-use Rattle.std.proofs.Common.{◌≡◌, ℕ, ◌+◌, ◌≤◌, ◌++◌, List, length, reverse, vec_len, vec_capacity}
+use Rattle.std.proofs.Common.{◌≡◌, ◌-◌, ◌≤◌, ◌++◌, List, length, reverse, vec_len, vec_capacity}
 use Rattle.std.specs.List.{All}
 use Rattle.ids_config.specs.Parts.{Parts}
 use Rattle.chain_spec.specs.Moments.{Moment}
@@ -19,15 +19,16 @@ decreases-loop-entry g l = vec_len l.items
 abbrev pub invariant-loop-entry : goal.invariant-loop-entry
 invariant-loop-entry g l =
     let held = g.B.Parcel.held in
+    let items = l.fn.items.items in
     let rest = reverse l.items.items in
     record {
       behind : (config : Parts) (start : Start) (moments : List Moment) → IsBehind held config start l.tick moments l.fn.self l.fn.out
           → Reaches held config start l.tick l.self l.out (entry_moments held l.tick rest)
-          (with_all moments (entry_moments held l.tick l.fn.items.items));
-      came : (done : ℕ) → done + length rest ≡ length l.fn.items.items → Stays done l.tick l.fn.self l.self l.fn.out l.out;
-      few : length rest ≤ length l.fn.items.items;
+          (with_all moments (entry_moments held l.tick items));
+      few : length rest ≤ length items;
+      stays : Stays (length items - length rest) l.tick l.fn.self l.self l.fn.out l.out;
       acts : All (λ entry. FitsAct held (length l.fn.self.windows) entry.act) rest;
-      hands : HandsBack (all_parcels l.fn.items.items) (all_kept l.fn.self.windows) (all_parcels rest ++ all_kept l.self.windows)
+      hands : HandsBack (all_parcels items) (all_kept l.fn.self.windows) (all_parcels rest ++ all_kept l.self.windows)
           l.fn.back.items l.back.items;
       capacity : vec_capacity l.back ≡ vec_capacity l.fn.back;
       room : vec_capacity l.items ≡ vec_capacity l.fn.items;

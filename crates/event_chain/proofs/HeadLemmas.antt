@@ -1,0 +1,62 @@
+-- The internal events of a turn: each is an event, and there are three at most.
+use Rattle.std.proofs.Common.{◌≡◌, ℕ, ◌<◌, ◌≤◌, ◌==◌, min, Bool, true, false, List, [], ◌∷◌, ◌++◌, length, length-append, map, Option, Some, None, sym, ap, subst, arith, if◌then◌else◌}
+use Rattle.std.specs.List.{All, AllByRecursion}
+use Rattle.std.proofs.lemmas.List.{length-map}
+use Rattle.std.proofs.lemmas.List.Elements.{All-append, All-from_recursion, recursion_from_All}
+use Rattle.ids_types.specs.declared.entry.TurnHead.{TurnHead}
+use Rattle.ids_types.specs.declared.internal.Internal.{Internal}
+use Rattle.ids_types.specs.declared.names.EventIndex.{EventIndex}
+use Rattle.chain_spec.specs.Heads.{Head as Told, head_for, heads_of}
+use Rattle.internal_events.specs.HeadView.{head_told}
+use Rattle.internal_events.specs.declared.head_list.Head.{Head}
+use Rattle.event_chain.specs.Chained.{IsOneOf}
+
+-- one of them
+within : (n number : ℕ) (index : Option EventIndex) → IsOneOf n index → AllByRecursion (λ (h : Told). h.event.0 < n) (head_for index number)
+within n number None known = tt
+within n number (Some index) known =
+    let one : Told = record { event = index; count = min number 65535 } in
+    elim (number == 0) as (λ (b : Bool). AllByRecursion (λ (h : Told). h.event.0 < n) (if b then [] else one ∷ []))
+    [ true ↦ tt | false ↦ (known, tt) ]
+
+few : (number : ℕ) (index : Option EventIndex) → length (head_for index number) ≤ 1
+few number None = omega arith
+few number (Some index) =
+    let one : Told = record { event = index; count = min number 65535 } in
+    elim (number == 0) as (λ (b : Bool). length (if b then [] else one ∷ []) ≤ 1) [ true ↦ omega arith | false ↦ omega arith ]
+
+-- what is true of what heads tell is true of them
+unmapped : (n : ℕ) (heads : List Head) → AllByRecursion (λ (h : Told). h.event.0 < n) (map head_told heads)
+    → AllByRecursion (λ (h : Head). h.event.0 < n) heads
+unmapped n [] all = tt
+unmapped n (head ∷ heads) all = (all.0, unmapped n heads all.1)
+
+module _ (internal : Internal) (head : TurnHead) (heads : List Head) (is : map head_told heads ≡ heads_of internal head) where
+  pub heads_within : (n : ℕ) → IsOneOf n internal.lost_events → IsOneOf n internal.lost_contexts → IsOneOf n internal.limited
+      → All (λ head. head.event.0 < n) heads
+  heads_within n first second third =
+      let P = λ (h : Told). h.event.0 < n in
+      let all = λ (number : ℕ) (index : Option EventIndex) (known : IsOneOf n index).
+      All-from_recursion P (head_for index number) (within n number index known) in
+      let events = head_for internal.lost_events head.lost_events in
+      let contexts = head_for internal.lost_contexts head.lost_contexts in
+      let told = All-append P (events ++ contexts) (head_for internal.limited head.limited)
+      (All-append P events contexts (all head.lost_events internal.lost_events first)
+      (all head.lost_contexts internal.lost_contexts second)) (all head.limited internal.limited third) in
+      All-from_recursion (λ (h : Head). h.event.0 < n) heads
+      (unmapped n heads (recursion_from_All P (map head_told heads) (subst (All P) (sym is) told)))
+
+  pub heads_few : length heads ≤ 3
+  heads_few =
+      let first = head_for internal.lost_events head.lost_events in
+      let second = head_for internal.lost_contexts head.lost_contexts in
+      omega (
+        arith,
+        ap length is,
+        length-map heads head_told,
+        length-append (first ++ second) (head_for internal.limited head.limited),
+        length-append first second,
+        few head.lost_events internal.lost_events,
+        few head.lost_contexts internal.lost_contexts,
+        few head.limited internal.limited,
+      )
