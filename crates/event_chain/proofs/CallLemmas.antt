@@ -86,7 +86,8 @@ module _ {B : Type 0} where
   -- one call more, by what comes of it behind aggregation
   pub flows_with : (call : Call (List ℕ)) (o : Option Item) {held : B → List ℕ} {config : Parts} {start : Start}
       {calls : List (Call (List ℕ))} {joined items : List Item} {old windows : List (Slot B)}
-      {before counting : Counting} {was out : Output} → Flows held config start calls joined items old before was → aggregated_at config calls call ≡ o
+      {before counting : Counting} {was out : Output} → Flows held config start calls joined items old before was
+      → aggregated_at config calls call ≡ o
       → WindowsStand config (call ∷ calls) (slots_by held windows)
       → CountingStands config start (option_to_list o ++ joined)
       (option_to_list (option_and_then (thresholded_at config joined) o) ++ items) counting out

@@ -1,5 +1,5 @@
-use Rattle.std.proofs.Common.{◌≡◌, ◌≤◌, ◌++◌, List, [], ◌∷◌, length, map, reverse, Option, sym, ap, subst, ◌∙◌, arith, rules}
-use Rattle.std.specs.Prelude.{vec_len}
+use Rattle.std.proofs.Common.{◌≡◌, ◌≤◌, ◌++◌, List, [], ◌∷◌, length, map, reverse, Option, sym, ap, subst, ◌∙◌, arith}
+use Rattle.std.proofs.lemmas.Grind.{common_steps}
 use Rattle.ids_types.specs.Turns.{Turn}
 use Rattle.ids_types.specs.declared.internal.Internal.{Internal}
 use Rattle.ids_types.specs.declared.names.EventIndex.{EventIndex}
@@ -52,9 +52,7 @@ take_heads-requires-clause-back g c =
     let slots = c.begin.new.self.windows in
     let same = ap length c.begin.ensures.windows ∙ ap (λ (v : Chained g.row.B.Denot). length v.filters.windows) c.self.view_is in
     let first = hands_length c.close_all.ensures.parcels in
-    let before : vec_len c.args.back.now ≡ length c.args.back.now.items = search rules in
-    let now : vec_len c.close_all.new.back ≡ length c.close_all.new.back.items = search rules in
-    omega (arith, same, first, before, now, kept_few slots, c.close_all.ensures.capacity, c.requires.back)
+    grind (arith, common_steps, same, first, kept_few slots, c.close_all.ensures.capacity, c.requires.back)
 
 pub take_entries-requires-clause-can : goal.take_entries-requires-clause-can
 take_entries-requires-clause-can g c =
@@ -68,22 +66,8 @@ take_entries-requires-clause-back g c =
     let slots = c.begin.new.self.windows in
     let same = ap length c.begin.ensures.windows ∙ ap (λ (v : Chained g.row.B.Denot). length v.filters.windows) c.self.view_is in
     let lengths = hands_length (hands_then c.close_all.ensures.parcels c.take_heads.ensures.parcels) in
-    let before : vec_len c.args.back.now ≡ length c.args.back.now.items = search rules in
-    let now : vec_len c.take_heads.new.back ≡ length c.take_heads.new.back.items = search rules in
-    let items : vec_len c.args.items.now ≡ length c.args.items.now.items = search rules in
-    omega (
-      arith,
-      same,
-      lengths,
-      before,
-      now,
-      items,
-      kept_few slots,
-      parcels_few c.args.items.now.items,
-      c.close_all.ensures.capacity,
-      c.take_heads.ensures.capacity,
-      c.requires.back,
-    )
+    let capacity = c.take_heads.ensures.capacity ∙ c.close_all.ensures.capacity in
+    grind (arith, common_steps, same, lengths, kept_few slots, parcels_few c.args.items.now.items, capacity, c.requires.back)
 
 pub invariant_of-self : goal.invariant_of-self
 invariant_of-self g c =

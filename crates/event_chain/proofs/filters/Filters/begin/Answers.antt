@@ -1,5 +1,4 @@
 use Rattle.std.proofs.Common.{length, ap, arith}
-use Rattle.ids_types.specs.Output.{OutRoom}
 use Rattle.chain_spec.specs.Filtering.{qualified}
 use Rattle.sending.specs.Sender.{SenderParts}
 use Rattle.event_chain.proofs.TurnLemmas.{begins}
@@ -9,17 +8,6 @@ pub returns-clause-behind : goal.returns-clause-behind
 returns-clause-behind g c config tick moments rests le =
     let logged = c.log_turn.ensures in
     begins rests le (c.begin.ensures.sending config (qualified config moments) c.log_turn.new.out rests.sender logged.sent logged.messages)
-
-pub returns-clause-can : goal.returns-clause-can
-returns-clause-can g c =
-    let room = ap (λ (r : OutRoom). r.sent) c.log_turn.ensures.room in
-    let empty = ap length c.log_turn.ensures.sent in
-    let none = ap (λ (s : SenderParts). s.held) c.begin.ensures.none in
-    record {
-      few_held = omega (arith, none, c.requires.items, c.requires.windows);
-      room = omega (arith, room, empty, c.requires.out.sent);
-      few_messages = omega (arith, c.log_turn.ensures.messages, c.requires.items, c.requires.windows);
-    }
 
 pub returns-clause-places : goal.returns-clause-places
 returns-clause-places g c places =

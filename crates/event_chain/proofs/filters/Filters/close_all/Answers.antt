@@ -1,16 +1,15 @@
-use Rattle.std.proofs.Common.{◌≡◌, ℕ, List, length, map, refl, subst, ◌∙◌, arith, rules, below_more}
-use Rattle.std.specs.Prelude.{vec_len}
+use Rattle.std.proofs.Common.{◌≡◌, ℕ, List, length, map, refl, subst, ◌∙◌, arith, below_more}
 use Rattle.std.specs.Bool.{IsFalse}
 use Rattle.std.specs.List.{range_with_len}
 use Rattle.std.proofs.lemmas.List.{length-map}
+use Rattle.std.proofs.lemmas.Grind.{common_steps}
 use Rattle.chain_spec.specs.Moments.{Moment, closes}
 use Rattle.chain_spec.specs.Stages.{with_all}
 use Rattle.chain.specs.Parcels.{IsShort}
 use Rattle.filter_aggregate.specs.Account.{all_kept}
 use Rattle.filter_aggregate.specs.Slots.{is_due, slot_at, slot_by}
 use Rattle.event_chain.specs.Behind.{IsBehind}
-use Rattle.event_chain.specs.Ready.{Stays}
-use Rattle.event_chain.proofs.Going.{can_left, closing_more, stays_none, stays_more}
+use Rattle.event_chain.proofs.Going.{closing_more, stays_none, stays_more}
 use Rattle.event_chain.proofs.HandsLemmas.{hands_nothing, hands_then, hands_all, hands_length}
 use Rattle.event_chain.proofs.WindowedLemmas.{settled_all}
 use Rattle.event_chain.proofs.filters.Filters.close_all.Goals as goal
@@ -24,9 +23,6 @@ loop-event-init g c = record {
   settled = λ k less. absurd (omega arith);
 }
 
-pub close-requires-clause-can : goal.close-requires-clause-can
-close-requires-clause-can g c = can_left (omega arith) c.requires.can c.loop-event.invariant.stays
-
 pub close-requires-clause-short : goal.close-requires-clause-short
 close-requires-clause-short g c =
     hands_all (IsShort g.B.Parcel.held) c.loop-event.invariant.hands (λ k d less. absurd (omega arith)) c.requires.short
@@ -34,9 +30,7 @@ close-requires-clause-short g c =
 pub close-requires-clause-back : goal.close-requires-clause-back
 close-requires-clause-back g c =
     let lengths = hands_length c.loop-event.invariant.hands in
-    let before : vec_len c.args.back.now ≡ length c.args.back.now.items = search rules in
-    let now : vec_len c.loop-event.back ≡ length c.loop-event.back.items = search rules in
-    omega (arith, lengths, before, now, c.loop-event.invariant.capacity, c.requires.back)
+    grind (arith, common_steps, lengths, c.loop-event.invariant.capacity, c.requires.back)
 
 pub loop-event-preserved : goal.loop-event-preserved
 loop-event-preserved g c =
@@ -63,12 +57,6 @@ returns-clause-behind g c config start moments behind =
     let all : c.loop-event.event ≡ length config.events = omega (arith, count, behind.flows.stands.events) in
     subst (λ (n : ℕ). IsBehind held config start tick (with_all moments (map (closes tick) (range_with_len 0 n)))
     c.loop-event.self c.loop-event.out) all (c.loop-event.invariant.behind config start moments behind)
-
-pub returns-clause-stays : goal.returns-clause-stays
-returns-clause-stays g c =
-    let all : c.loop-event.event ≡ length c.args.self.now.windows = omega arith in
-    subst (λ (n : ℕ). Stays n c.args.tick c.args.self.now c.loop-event.self c.args.out.now c.loop-event.out) all
-    c.loop-event.invariant.stays
 
 pub returns-clause-settled : goal.returns-clause-settled
 returns-clause-settled g c =

@@ -1,7 +1,7 @@
 use Rattle.std.proofs.Common.{◌≡◌, ◌+◌, ◌-◌, suc, List, [], ◌∷◌, ◌++◌, length, reverse, option_to_list, sym, ap, subst, ◌∙◌, append_assoc, length-append, arith, rules}
-use Rattle.std.specs.Prelude.{vec_len}
 use Rattle.std.specs.List.{All}
 use Rattle.std.proofs.lemmas.List.Elements.{All-from_recursion, recursion_from_All}
+use Rattle.std.proofs.lemmas.Grind.{common_steps}
 use Rattle.ids_types.specs.declared.entry.Entry.{Entry}
 use Rattle.chain_spec.specs.Stages.{with_all}
 use Rattle.chain.specs.Parcels.{HandsBack, all_parcels, parcel_of}
@@ -37,9 +37,7 @@ enter-requires-clause-back g c =
     let lengths = hands_length c.loop-entry.invariant.hands in
     let parcels = ap length (ap all_parcels next ∙ parcels_cons c.in-Some.entry left) ∙ length-append parcel (all_parcels left) in
     let whole = length-append (all_parcels (reverse c.loop-entry.items.items)) (all_kept c.loop-entry.self.windows) in
-    let before : vec_len c.args.back.now ≡ length c.args.back.now.items = search rules in
-    let here : vec_len c.loop-entry.back ≡ length c.loop-entry.back.items = search rules in
-    omega (arith, lengths, parcels, whole, before, here, c.loop-entry.invariant.capacity, c.requires.back)
+    grind (arith, common_steps, lengths, parcels, whole, c.loop-entry.invariant.capacity, c.requires.back)
 
 pub loop-entry-preserved : goal.loop-entry-preserved
 loop-entry-preserved g c =
