@@ -1,6 +1,7 @@
 -- One call of aggregation, and one moment, over what each filter tells of it.
-use Rattle.std.proofs.Common.{◌≡◌, ℕ, ◌≤◌, Bool, true, false, List, [], ◌∷◌, ◌++◌, length, Option, Some, None, IfSome, is_some, option_to_list, option_and_then, option_map, refl, sym, ap, subst, ◌∙◌, if◌then◌else◌}
+use Rattle.std.proofs.Common.{◌≡◌, ℕ, ◌≤◌, Bool, true, false, List, [], ◌∷◌, ◌++◌, length, Option, Some, None, IfSome, is_some, option_to_list, option_and_then, option_map, refl, sym, ap, subst, arith}
 use Rattle.std.specs.List.{All}
+use Rattle.std.proofs.lemmas.Grind.{common_steps}
 use Rattle.std.proofs.lemmas.List.Elements.{recursion_from_All}
 use Rattle.std.proofs.lemmas.List.Sorted.{All-permutation}
 use Rattle.ids_types.specs.Carries.{act_by}
@@ -23,7 +24,6 @@ use Rattle.chain.specs.Parcels.{IsShort}
 use Rattle.filter_aggregate.specs.Account.{Accounts}
 use Rattle.filter_aggregate.specs.Slots.{item_due, slots_by}
 use Rattle.filter_aggregate.specs.Standing.{Stands as WindowsStand}
-use Rattle.filter_aggregate.specs.declared.open.Open.{Open}
 use Rattle.filter_aggregate.specs.declared.slot.Slot.{Slot}
 use Rattle.filter_gate.specs.Gate.{Gate}
 use Rattle.filter_gate.specs.Stands.{with_context, Stands as GateStands}
@@ -46,15 +46,9 @@ none_of (Some x) is = cc
 
 module _ {B : Type 0} where
   -- the item that a window gives is of the event that the window is of
-  due_of : (k : ℕ) (b : Bool) (window : Option (Open B)) (item : Qualified B) → IfSome window (λ w. w.item.event.0 ≡ k)
-      → Some item ≡ (if b then option_map (λ (w : Open B). w.item) window else None) → item.event.0 ≡ k
-  due_of k true None item own is = cc
-  due_of k true (Some w) item own is = (let same : item ≡ w.item = cc in ap (λ (i : Qualified B). i.event.0) same ∙ own)
-  due_of k false window item own is = cc
-
   pub due_own : (k tick : ℕ) (slot : Slot B) (item : Qualified B) → IfSome slot.window (λ w. w.item.event.0 ≡ k)
       → Some item ≡ item_due tick slot → item.event.0 ≡ k
-  due_own k tick slot item own is = due_of k _ slot.window item own is
+  due_own k tick slot item own is = grind (arith, common_steps, own, is)
 
   -- a parcel that was kept and is handed out is as short as those that were kept
   pub given_short : (P : B → Type 0) (context : Option B) (kept now : List B)

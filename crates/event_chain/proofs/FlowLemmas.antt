@@ -1,16 +1,15 @@
 -- One moment more, by the list that it adds to.
-use Rattle.std.proofs.Common.{◌≡◌, ℕ, ◌≤◌, Bool, true, false, List, [], ◌∷◌, ◌++◌, map, Option, Some, None, IfSome, option_to_list, option_and_then, option_map, refl, sym, ap, subst, ◌∙◌, arith}
+use Rattle.std.proofs.Common.{◌≡◌, ℕ, ◌≤◌, Bool, List, [], ◌∷◌, ◌++◌, map, Option, Some, None, IfSome, option_to_list, option_and_then, refl, arith, rules}
 use Rattle.std.specs.Option.{option_or}
+use Rattle.std.proofs.lemmas.Grind.{common_steps}
 use Rattle.ids_types.specs.Output.{Output}
 use Rattle.ids_config.specs.Parts.{Parts, event_at}
-use Rattle.ids_config.specs.declared.parts.Aggregate.{Aggregate}
 use Rattle.chain_spec.specs.Calls.{Call, call_tick, closes_due, arrives}
-use Rattle.chain_spec.specs.Closing.{closing_item}
-use Rattle.chain_spec.specs.Filtering.{alone, gated_at, aggregated_at, thresholded_at, filtered_at, counted, gated, aggregated, qualified}
+use Rattle.chain_spec.specs.Filtering.{gated_at, aggregated_at, thresholded_at, counted, gated, aggregated, qualified}
 use Rattle.chain_spec.specs.Gate.{bypassing_at}
-use Rattle.chain_spec.specs.Items.{Item, item_at}
+use Rattle.chain_spec.specs.Items.{Item}
 use Rattle.chain_spec.specs.Moments.{Moment}
-use Rattle.chain_spec.specs.Stages.{added, behind, where_true}
+use Rattle.chain_spec.specs.Stages.{where_true}
 use Rattle.chain_spec.specs.Threshold.{verdict}
 use Rattle.chain_spec.specs.Windows.{EndBy}
 use Rattle.chain_spec.proofs.StageLemmas.{added_behind}
@@ -27,60 +26,41 @@ use Rattle.event_chain.specs.Outlets.{OutletStands}
 end_with : (tick : ℕ) (o : Option Item) (items : List Item) → IfSome o (λ item. item.tick ≡ tick)
     → EndBy (λ item. item.tick) tick items → EndBy (λ item. item.tick) tick (option_to_list o ++ items)
 end_with tick None items own by = by
-end_with tick (Some item) items own by = (omega (arith, own), subst (λ n. EndBy (λ (i : Item). i.tick) n items) (sym own) by)
+end_with tick (Some item) items own by = search (rules, own, by)
 
 -- what is behind aggregation has the tick of the call
 aggregated_tick : (config : Parts) (calls : List (Call (List ℕ))) (call : Call (List ℕ))
     → IfSome (aggregated_at config calls call) (λ item. item.tick ≡ call_tick call)
-aggregated_tick config calls (closes_due tick event) =
-    elim (closing_item (event_at config event).aggregate event tick calls) as
-    (λ o. IfSome (option_map (item_at tick) o) (λ item. item.tick ≡ tick))
-    [ None ↦ tt | Some told ↦ refl ]
-aggregated_tick config calls (arrives tick told) =
-    elim (event_at config told.event.0).aggregate as
-    (λ (o : Option Aggregate). IfSome (alone o (item_at tick told)) (λ item. item.tick ≡ tick))
-    [ None ↦ refl | Some setting ↦ tt ]
+aggregated_tick config calls (closes_due tick event) = grind (arith, common_steps)
+aggregated_tick config calls (arrives tick told) = grind (arith, common_steps)
 
 -- and so has what passes the threshold
 thresholded_tick : (config : Parts) (joined : List Item) (tick : ℕ) (o : Option Item) → IfSome o (λ item. item.tick ≡ tick)
     → IfSome (option_and_then (thresholded_at config joined) o) (λ item. item.tick ≡ tick)
 thresholded_tick config joined tick None own = tt
-thresholded_tick config joined tick (Some item) own =
-    elim (verdict (event_at config item.event).threshold (counted item) (map counted joined)) as
-    (λ (b : Bool). IfSome (where_true b item) (λ one. one.tick ≡ tick)) [ true ↦ own | false ↦ tt ]
+thresholded_tick config joined tick (Some item) own = grind (arith, common_steps, own)
 
 -- what ends by a tick ends by a later one
 later : {A : Type 0} (tick_of : A → ℕ) (tick more : ℕ) (xs : List A) → tick ≤ more → EndBy tick_of tick xs → EndBy tick_of more xs
 later tick_of tick more [] le by = tt
-later tick_of tick more (x ∷ xs) le by = (omega (arith, by.0), by.1)
+later tick_of tick more (x ∷ xs) le by = search rules
 
 module _ {tick : ℕ} {calls : List (Call (List ℕ))} {joined items : List Item} where
   -- with one call more of this tick no tick is later
   pub ends_with_call : (config : Parts) (call : Call (List ℕ)) → call_tick call ≡ tick → EndAt tick calls joined items
       → EndAt tick (call ∷ calls) (joined_with config calls call joined) (items_with config calls call joined items)
   ends_with_call config call is ends =
-      let o = aggregated_at config calls call in
-      let own = subst (λ n. IfSome o (λ item. item.tick ≡ n)) is (aggregated_tick config calls call) in
-      record {
-        calls_end = (omega (arith, is), subst (λ n. EndBy call_tick n calls) (sym is) ends.calls_end);
-        joined_end = end_with tick o joined own ends.joined_end;
-        items_end = end_with tick (option_and_then (thresholded_at config joined) o) items (thresholded_tick config joined tick o own)
-            ends.items_end;
-      }
+      let own = aggregated_tick config calls call in
+      search (rules, end_with, thresholded_tick, is, own)
 
   -- nor with one item more that bypasses the filters
   pub ends_with_item : (o : Option Item) → IfSome o (λ item. item.tick ≡ tick) → EndAt tick calls joined items
       → EndAt tick calls joined (option_to_list o ++ items)
-  ends_with_item o own ends =
-      record { calls_end = ends.calls_end; joined_end = ends.joined_end; items_end = end_with tick o items own ends.items_end }
+  ends_with_item o own ends = search (rules, end_with)
 
   -- a later tick ends it, too
   pub ends_later : (more : ℕ) → tick ≤ more → EndAt tick calls joined items → EndAt more calls joined items
-  ends_later more le ends = record {
-    calls_end = later call_tick tick more calls le ends.calls_end;
-    joined_end = later (λ (i : Item). i.tick) tick more joined le ends.joined_end;
-    items_end = later (λ (i : Item). i.tick) tick more items le ends.items_end;
-  }
+  ends_later more le ends = search (rules, later)
 
 -- ---- the threshold
 
@@ -96,10 +76,7 @@ pub counts : {config : Parts} {start : Start} {joined : List Item} (items : List
     → OutletStands config start (option_to_list (where_true b item) ++ items) outlet out
     → CountingStands config start (item ∷ joined) (option_to_list (thresholded_at config joined item) ++ items)
     (record { thresholds = thresholds; outlet = outlet }) out
-counts {config} {start} {joined} items {item} {thresholds} {outlet} {out} b is told stands = record {
-  thresholds = told;
-  outlet = subst (λ (b : Bool). OutletStands config start (option_to_list (where_true b item) ++ items) outlet out) (sym is) stands;
-}
+counts items b is told stands = record { thresholds = told; outlet = rw is stands }
 
 -- ---- moments
 
@@ -109,39 +86,21 @@ or_none None = refl
 or_none (Some item) = refl
 
 module _ (config : Parts) (before : List Moment) (moment : Moment) where
-  -- what passes the filters behind the gate
-  abbrev behind_gate : Option (Call (List ℕ)) → Option Item
-  behind_gate c = option_and_then (thresholded_at config (added (behind (gated_at config) (aggregated_at config)) before))
-      (option_and_then (aggregated_at config (gated config before)) c)
-
   -- a moment by which nothing comes to aggregation
   pub gated_same : gated_at config before moment ≡ None → gated config (moment ∷ before) ≡ gated config before
-  gated_same is = ap (λ (o : Option (Call (List ℕ))). option_to_list o ++ gated config before) is
+  gated_same is = rw is refl
 
   pub qualified_same : (o : Option Item) → gated_at config before moment ≡ None → bypassing_at config before moment ≡ o
       → qualified config (moment ∷ before) ≡ option_to_list o ++ qualified config before
-  qualified_same o is by =
-      let filtered : filtered_at config before moment ≡ None = ap behind_gate is in
-      ap (λ (p : Option Item). option_to_list p ++ qualified config before)
-      (ap (λ (p : Option Item). option_or (bypassing_at config before moment) p) filtered
-      ∙ ap (λ (p : Option Item). option_or p None) by ∙ or_none o)
+  qualified_same o is by = rw (is, by, or_none) refl
 
   module _ (call : Call (List ℕ)) (is : gated_at config before moment ≡ Some call) where
     pub gated_with : gated config (moment ∷ before) ≡ call ∷ gated config before
-    gated_with = ap (λ (o : Option (Call (List ℕ))). option_to_list o ++ gated config before) is
+    gated_with = rw is refl
 
     pub aggregated_with : aggregated config (moment ∷ before) ≡ joined_with config (gated config before) call (aggregated config before)
-    aggregated_with = ap (added (aggregated_at config)) gated_with
-
-    filtered_with : filtered_at config before moment
-        ≡ option_and_then (thresholded_at config (aggregated config before)) (aggregated_at config (gated config before) call)
-    filtered_with =
-        ap behind_gate is
-        ∙ ap (λ (xs : List Item). option_and_then (thresholded_at config xs) (aggregated_at config (gated config before) call))
-        (added_behind (gated_at config) (aggregated_at config) before)
+    aggregated_with = rw is refl
 
     pub qualified_with : bypassing_at config before moment ≡ None → qualified config (moment ∷ before)
         ≡ items_with config (gated config before) call (aggregated config before) (qualified config before)
-    qualified_with by =
-        ap (λ (p : Option Item). option_to_list p ++ qualified config before)
-        (ap (λ (p : Option Item). option_or p (filtered_at config before moment)) by ∙ filtered_with)
+    qualified_with by = rw (by, is, added_behind (gated_at config) (aggregated_at config) before) refl

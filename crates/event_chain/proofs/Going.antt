@@ -1,5 +1,5 @@
 -- What lasts while moments come one after another.
-use Rattle.std.proofs.Common.{◌≡◌, ℕ, ◌+◌, ◌<◌, ◌≤◌, List, [], ◌∷◌, ◌++◌, map, drop, reverse, suc, Some, add-one, drop-cons, ap, refl, sym, subst, ◌∙◌, arith}
+use Rattle.std.proofs.Common.{◌≡◌, ℕ, ◌+◌, ◌<◌, ◌≤◌, List, [], ◌∷◌, ◌++◌, map, drop, reverse, suc, Some, add-one, drop-cons, ap, sym, subst, ◌∙◌, arith, rules}
 use Rattle.std.specs.List.{slice_get, range_with_len}
 use Rattle.std.proofs.lemmas.List.{reverse-append}
 use Rattle.std.proofs.lemmas.List.FromFn.{map-range_with_len_more}
@@ -70,44 +70,19 @@ module _ {B : Type 0} where
 
   -- no moment came yet
   pub stays_none : (tick : ℕ) (old : Filters B) (before : Output) → Stays 0 tick old old before before
-  stays_none tick old before = record {
-    places = λ h. h;
-    windows = record { events = refl; own = λ h. h; settings = λ k. refl; settled = λ k h. h };
-    counted = omega arith;
-    sent_left = omega arith;
-    messages = omega arith;
-    log = refl;
-    room = refl;
-  }
+  stays_none tick old before = search rules
 
   -- more moments came
   pub stays_more : {n m tick : ℕ} {old mid new : Filters B} {before between after : Output} → Stays n tick old mid before between
       → Stays m tick mid new between after → Stays (n + m) tick old new before after
-  stays_more first second = record {
-    places = λ h. second.places (first.places h);
-    windows = record {
-      events = second.windows.events ∙ first.windows.events;
-      own = λ h. second.windows.own (first.windows.own h);
-      settings = λ k. second.windows.settings k ∙ first.windows.settings k;
-      settled = λ k h. second.windows.settled k (first.windows.settled k h);
-    };
-    counted = omega arith;
-    sent_left = omega arith;
-    messages = omega arith;
-    log = second.log ∙ first.log;
-    room = second.room ∙ first.room;
-  }
+  stays_more first second = search rules
 
   -- there is room for what is left of so many
   pub can_left : {n m all tick : ℕ} {old new : Filters B} {before after : Output} → n + m ≤ all → CanSend all old before
       → Stays n tick old new before after → CanSend m new after
-  can_left le can stays = record { few_held = omega arith; room = omega arith; few_messages = omega arith }
+  can_left le can stays = search rules
 
   -- another can enter
   pub ready_next : {n all tick : ℕ} {old new : Filters B} {before after : Output} → n < all → HasPlaces old
       → SettledAt tick old.windows → CanSend all old before → Stays n tick old new before after → IsReady tick new after
-  ready_next less places settled can stays = record {
-    places = stays.places places;
-    settled = λ k. stays.windows.settled k (settled k);
-    can = can_left (omega arith) can stays;
-  }
+  ready_next less places settled can stays = search rules

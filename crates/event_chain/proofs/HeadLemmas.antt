@@ -1,6 +1,7 @@
 -- The internal events of a turn: each is an event, and there are three at most.
-use Rattle.std.proofs.Common.{◌≡◌, ℕ, ◌<◌, ◌≤◌, ◌==◌, min, Bool, true, false, List, [], ◌∷◌, ◌++◌, length, length-append, map, Option, Some, None, sym, ap, subst, arith, if◌then◌else◌}
+use Rattle.std.proofs.Common.{◌≡◌, ℕ, ◌<◌, ◌≤◌, List, [], ◌∷◌, ◌++◌, length, length-append, map, Option, Some, None, sym, ap, subst, arith}
 use Rattle.std.specs.List.{All, AllByRecursion}
+use Rattle.std.proofs.lemmas.Bool.Decides.{nat_tests}
 use Rattle.std.proofs.lemmas.List.{length-map}
 use Rattle.std.proofs.lemmas.List.Elements.{All-append, All-from_recursion, recursion_from_All}
 use Rattle.ids_types.specs.declared.entry.TurnHead.{TurnHead}
@@ -14,16 +15,11 @@ use Rattle.event_chain.specs.Chained.{IsOneOf}
 -- one of them
 within : (n number : ℕ) (index : Option EventIndex) → IsOneOf n index → AllByRecursion (λ (h : Told). h.event.0 < n) (head_for index number)
 within n number None known = tt
-within n number (Some index) known =
-    let one : Told = record { event = index; count = min number 65535 } in
-    elim (number == 0) as (λ (b : Bool). AllByRecursion (λ (h : Told). h.event.0 < n) (if b then [] else one ∷ []))
-    [ true ↦ tt | false ↦ (known, tt) ]
+within n number (Some index) known = grind (arith, nat_tests, known)
 
 few : (number : ℕ) (index : Option EventIndex) → length (head_for index number) ≤ 1
 few number None = omega arith
-few number (Some index) =
-    let one : Told = record { event = index; count = min number 65535 } in
-    elim (number == 0) as (λ (b : Bool). length (if b then [] else one ∷ []) ≤ 1) [ true ↦ omega arith | false ↦ omega arith ]
+few number (Some index) = grind (arith, nat_tests)
 
 -- what is true of what heads tell is true of them
 unmapped : (n : ℕ) (heads : List Head) → AllByRecursion (λ (h : Told). h.event.0 < n) (map head_told heads)

@@ -1,7 +1,7 @@
 -- How many parcels a chain keeps, and what holds of its fields when it is made and while it takes turns.
-use Rattle.std.proofs.Common.{◌≡◌, ℕ, suc, ◌≤◌, Bool, true, false, List, [], ◌∷◌, ◌++◌, length, map, Option, Some, None, IfSome, option_map, option_to_list, refl, sym, ap, subst, ◌∙◌, arith, nat_lt}
-use Rattle.std.specs.List.{cons_option}
+use Rattle.std.proofs.Common.{◌≡◌, ℕ, ◌≤◌, Bool, true, false, List, [], ◌∷◌, ◌++◌, length, map, Option, Some, None, IfSome, option_map, option_to_list, refl, sym, ap, subst, ◌∙◌, arith, nat_lt}
 use Rattle.std.proofs.lemmas.Bool.Decides.{nat_tests}
+use Rattle.std.proofs.lemmas.Grind.{common_steps}
 use Rattle.std.proofs.lemmas.List.{get_or-map, get_or_past, length-map}
 use Rattle.ids_types.specs.declared.entry.Entry.{Entry}
 use Rattle.ids_types.specs.declared.internal.Internal.{Internal}
@@ -12,7 +12,7 @@ use Rattle.ids_config.specs.Values.{is_within}
 use Rattle.chain.specs.Parcels.{all_parcels, parcel_of}
 use Rattle.filter_aggregate.specs.Account.{all_kept}
 use Rattle.filter_aggregate.specs.declared.slot.Slot.{Slot}
-use Rattle.filter_aggregate.specs.Slots.{fresh_slot, held_in, slot_at}
+use Rattle.filter_aggregate.specs.Slots.{fresh_slot, slot_at}
 use Rattle.filter_gate.specs.Stands.{Stands as GateStands}
 use Rattle.filter_threshold.specs.Counting.{Stands as ThresholdsStand}
 use Rattle.sending.specs.Sender.{source_of}
@@ -28,25 +28,17 @@ use Rattle.event_chain.specs.Ready.{AreOwn, HasPlaces}
 -- an event's window keeps one parcel at most
 pub kept_few : {B : Type 0} (slots : List (Slot B)) → length (all_kept slots) ≤ length slots
 kept_few [] = omega arith
-kept_few (slot ∷ slots) =
-    let rest = kept_few slots in
-    elim (held_in slot) as (λ o. length (option_to_list o ++ all_kept slots) ≤ suc (length slots))
-    [ None ↦ omega arith | Some p ↦ omega arith ]
+kept_few (slot ∷ slots) = let rest = kept_few slots in grind (arith, common_steps, rest)
 
 -- an entry keeps one parcel at most
 pub parcels_few : {B : Type 0} (items : List (Entry B)) → length (all_parcels items) ≤ length items
 parcels_few [] = omega arith
-parcels_few (entry ∷ items) =
-    let rest = parcels_few items in
-    elim (parcel_of entry.act) as (λ o. length (cons_option o (all_parcels items)) ≤ suc (length items))
-    [ None ↦ omega arith | Some p ↦ omega arith ]
+parcels_few (entry ∷ items) = let rest = parcels_few items in grind (arith, common_steps, rest)
 
 -- the parcels of entries are the first one's, and then the others'
 pub parcels_cons : {B : Type 0} (entry : Entry B) (items : List (Entry B))
     → all_parcels (entry ∷ items) ≡ option_to_list (parcel_of entry.act) ++ all_parcels items
-parcels_cons {B} entry items =
-    elim (parcel_of entry.act) as (λ (o : Option B). cons_option o (all_parcels items) ≡ option_to_list o ++ all_parcels items)
-    [ None ↦ refl | Some p ↦ refl ]
+parcels_cons entry items = grind (arith, common_steps)
 
 -- ---- the fields
 

@@ -1,52 +1,21 @@
 -- A whole turn: how it begins, and what it leaves.
-use Rattle.std.proofs.Common.{◌≡◌, ℕ, ◌≤◌, List, [], ◌∷◌, ◌++◌, reverse, sym, ap, subst, ◌∙◌, arith}
+use Rattle.std.proofs.Common.{◌≡◌, ℕ, List, [], ◌∷◌, ◌++◌, reverse, sym, ap, subst, ◌∙◌, rules}
 use Rattle.std.proofs.lemmas.List.{reverse-append}
 use Rattle.ids_types.specs.Output.{Output}
 use Rattle.ids_types.specs.Turns.{Turn}
 use Rattle.ids_types.specs.declared.internal.Internal.{Internal}
 use Rattle.ids_config.specs.Parts.{Parts, internal_of}
 use Rattle.chain_spec.specs.Chain.{messages, message_count, qualified_of}
-use Rattle.chain_spec.specs.Filtering.{qualified}
 use Rattle.chain_spec.specs.Moments.{Moment, moments}
 use Rattle.chain_spec.specs.Stages.{with_all}
 use Rattle.chain_spec.proofs.StageLemmas.{with_all-append}
 use Rattle.chain.specs.History.{Sends}
-use Rattle.sending.specs.Sender.{SenderParts}
-use Rattle.sending.specs.Sending.{start_of, IsSending}
+use Rattle.sending.specs.Sending.{start_of}
 use Rattle.event_chain.specs.declared.filters.Filters.{Filters}
 use Rattle.event_chain.specs.Behind.{IsBehind}
-use Rattle.event_chain.specs.Standing.{Rests, Stands}
-use Rattle.event_chain.proofs.FlowLemmas.{ends_later}
-
--- the filters with another sender
-abbrev pub with_sender : {B : Type 0} → SenderParts → Filters B → Filters B
-with_sender sender filters =
-    let outlet = record filters.counting.outlet { sender = sender } in
-    record filters { counting = record filters.counting { outlet = outlet } }
+use Rattle.event_chain.specs.Standing.{Stands}
 
 module _ {B : Type 0} {held : B → List ℕ} {config : Parts} where
-  -- filters that rest are behind the same moments once the sender began a turn
-  pub begins : {tick now : ℕ} {before : List Moment} {filters : Filters B} {sender : SenderParts} {out : Output}
-      → Rests held config tick before filters → tick ≤ now
-      → IsSending config (start_of config (qualified config before)) (qualified config before) sender out
-      → IsBehind held config (start_of config (qualified config before)) now before (with_sender sender filters) out
-  begins {now = now} rests le sending =
-      let stores = rests.stores in
-      record {
-        gate = rests.gate;
-        flows = record {
-          stands = rests.windows;
-          behind = record {
-            thresholds = rests.thresholds;
-            outlet = record {
-              stores = record { names = stores.names; room = stores.room; memory = stores.memory };
-              sending = sending;
-            };
-          };
-        };
-        ends = ends_later now le rests.ends;
-      }
-
   -- what is behind all moments of a turn stands for the turns with it, and the output has what it sends
   pub turn_ends : (turns : List Turn) (turn : Turn) {filters : Filters B} (internal : Internal) {out : Output}
       → internal ≡ internal_of config
@@ -56,20 +25,8 @@ module _ {B : Type 0} {held : B → List ℕ} {config : Parts} where
   turn_ends turns turn {filters} internal known behind =
       let all = turn ∷ reverse turns in
       let same : reverse (turns ++ turn ∷ []) ≡ all = reverse-append turns (turn ∷ []) in
-      let counting = behind.flows.behind in
-      let sending = counting.outlet.sending in
-      let stands : Stands held config all (record { filters = filters; internal = internal }) = record {
-        filters = record {
-          gate = behind.gate;
-          windows = behind.flows.stands;
-          thresholds = counting.thresholds;
-          stores = counting.outlet.stores;
-          sender = sending.stands;
-          ends = behind.ends;
-        };
-        limited = omega (arith, sending.counted);
-        internal = known;
-      } in (
+      let sending = behind.flows.behind.outlet.sending in
+      let stands : Stands held config all (record { filters = filters; internal = internal }) = search rules in (
         subst (λ (ts : List Turn). Stands held config ts (record { filters = filters; internal = internal })) (sym same) stands,
         record { bytes = ap (messages config) same ∙ sending.bytes; number = ap (message_count config) same ∙ sending.number },
       )

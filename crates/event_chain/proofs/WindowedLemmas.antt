@@ -1,8 +1,8 @@
 -- Windows of which one changed.
-use Rattle.std.proofs.Common.{◌≡◌, ℕ, ◌<◌, ◌==◌, Bool, true, false, List, length, Option, Some, None, IfSome, refl, sym, ap, subst, ◌∙◌, eqb-true, ◌≢◌, nat_lt, arith, if◌then◌else◌}
+use Rattle.std.proofs.Common.{◌≡◌, ℕ, ◌<◌, ◌==◌, Bool, true, false, List, length, Option, Some, None, IfSome, refl, sym, ap, subst, ◌∙◌, eqb-true, ◌≢◌, arith}
 use Rattle.std.specs.Prelude.{slice_set}
 use Rattle.std.specs.Bool.{IsFalse}
-use Rattle.std.proofs.lemmas.Bool.Decides.{nat_tests}
+use Rattle.std.proofs.lemmas.Grind.{common_steps}
 use Rattle.std.proofs.lemmas.List.{length-set, get_or-set_same, get_or-set_other, get_or_past}
 use Rattle.ids_types.specs.declared.event.Qualified.{Qualified}
 use Rattle.filter_aggregate.specs.declared.open.Open.{Open}
@@ -58,13 +58,10 @@ module _ {B : Type 0} where
 
   -- a slot that a turn closed is aggregated as it was, and of its own event
   closed_setting : (tick : ℕ) (slot : Slot B) → (slot_closed tick slot).setting ≡ slot.setting
-  closed_setting tick slot =
-      elim (is_due tick slot) as (λ (b : Bool). (if b then fresh_slot slot.setting else slot).setting ≡ slot.setting)
-      [ true ↦ refl | false ↦ refl ]
+  closed_setting tick slot = grind (arith, common_steps)
 
   closed_own : (tick k : ℕ) (slot : Slot B) → IsOwn k slot.window → IsOwn k (slot_closed tick slot).window
-  closed_own tick k slot own =
-      elim (is_due tick slot) as (λ (b : Bool). IsOwn k (if b then fresh_slot slot.setting else slot).window) [ true ↦ tt | false ↦ own ]
+  closed_own tick k slot own = grind (arith, common_steps, own)
 
   pub windowed_closing : (event tick : ℕ) (slots now : List (Slot B)) → event < length slots
       → now ≡ after_closing event tick slots → is_due tick (slot_at now event) ≡ false → Windowed tick slots now
@@ -79,8 +76,4 @@ module _ {B : Type 0} where
   -- past the last slot none is due
   pub settled_all : (tick : ℕ) (slots : List (Slot B)) → ((k : ℕ) → k < length slots → IsFalse (is_due tick (slot_at slots k)))
       → SettledAt tick slots
-  settled_all tick slots settled k =
-      elim (nat_lt k (length slots)) as (λ (b : Bool). nat_lt k (length slots) ≡ b → IsFalse (is_due tick (slot_at slots k))) [
-        | true ↦ λ less. settled k (grind (arith, nat_tests, less))
-        | false ↦ λ past. ap (is_due tick) (get_or_past slots k (fresh_slot None) (grind (arith, nat_tests, past)))
-      ] refl
+  settled_all tick slots settled k = grind (arith, common_steps, settled k, get_or_past slots k (fresh_slot None))

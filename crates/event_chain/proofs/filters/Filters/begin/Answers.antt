@@ -1,13 +1,14 @@
-use Rattle.std.proofs.Common.{length, ap, arith}
+use Rattle.std.proofs.Common.{length, ap, arith, rules}
 use Rattle.chain_spec.specs.Filtering.{qualified}
 use Rattle.sending.specs.Sender.{SenderParts}
-use Rattle.event_chain.proofs.TurnLemmas.{begins}
+use Rattle.event_chain.proofs.FlowLemmas.{ends_later}
 use Rattle.event_chain.proofs.filters.Filters.begin.Goals as goal
 
 pub returns-clause-behind : goal.returns-clause-behind
 returns-clause-behind g c config tick moments rests le =
     let logged = c.log_turn.ensures in
-    begins rests le (c.begin.ensures.sending config (qualified config moments) c.log_turn.new.out rests.sender logged.sent logged.messages)
+    let sending = c.begin.ensures.sending config (qualified config moments) c.log_turn.new.out rests.sender logged.sent logged.messages in
+    search (rules, ends_later, sending)
 
 pub returns-clause-places : goal.returns-clause-places
 returns-clause-places g c places =
