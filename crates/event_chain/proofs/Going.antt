@@ -38,7 +38,7 @@ dropped_one xs i x is =
 
 -- the last of a list that stands in reverse comes first
 pub popped : {A : Type 0} (old new : List A) (x : A) → old ≡ new ++ x ∷ [] → reverse old ≡ x ∷ reverse new
-popped old new x is = ap reverse is ∙ reverse-append new (x ∷ [])
+popped old new x is = rw is (reverse-append new (x ∷ []))
 
 module _ {B : Type 0} where
   -- the moments of entries

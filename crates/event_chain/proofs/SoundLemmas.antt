@@ -1,18 +1,17 @@
 -- How many parcels a chain keeps, and what holds of its fields when it is made and while it takes turns.
-use Rattle.std.proofs.Common.{◌≡◌, ℕ, ◌≤◌, Bool, true, false, List, [], ◌∷◌, ◌++◌, length, map, Option, Some, None, IfSome, option_map, option_to_list, refl, sym, ap, subst, ◌∙◌, arith, nat_lt}
+use Rattle.std.proofs.Common.{◌≡◌, ℕ, ◌≤◌, true, List, [], ◌∷◌, ◌++◌, length, map, Option, Some, None, option_map, option_to_list, refl, sym, ap, subst, ◌∙◌, arith}
 use Rattle.std.proofs.lemmas.Bool.Decides.{nat_tests}
 use Rattle.std.proofs.lemmas.Grind.{common_steps}
 use Rattle.std.proofs.lemmas.List.{get_or-map, get_or_past, length-map}
 use Rattle.ids_types.specs.declared.entry.Entry.{Entry}
 use Rattle.ids_types.specs.declared.internal.Internal.{Internal}
-use Rattle.ids_types.specs.declared.names.EventIndex.{EventIndex}
 use Rattle.ids_config.specs.Parts.{Event, Parts, index_of, internal_of, plain_event}
 use Rattle.ids_config.specs.Valid.{IsValid}
 use Rattle.ids_config.specs.Values.{is_within}
 use Rattle.chain.specs.Parcels.{all_parcels, parcel_of}
 use Rattle.filter_aggregate.specs.Account.{all_kept}
 use Rattle.filter_aggregate.specs.declared.slot.Slot.{Slot}
-use Rattle.filter_aggregate.specs.Slots.{fresh_slot, slot_at}
+use Rattle.filter_aggregate.specs.Slots.{fresh_slot}
 use Rattle.filter_gate.specs.Stands.{Stands as GateStands}
 use Rattle.filter_threshold.specs.Counting.{Stands as ThresholdsStand}
 use Rattle.sending.specs.Sender.{source_of}
@@ -59,13 +58,9 @@ kept_fresh {B} (event ∷ events) = kept_fresh {B = B} events
 own_fresh : (B : Type 0) (events : List Event) → AreOwn (fresh_slots {B = B} events)
 own_fresh B events k =
     let fresh = λ (event : Event). fresh_slot {C = B} event.aggregate in
-    let own = λ (s : Slot B). IfSome s.window (λ w. w.item.event.0 ≡ k) in
-    elim (nat_lt k (length events)) as (λ (b : Bool). nat_lt k (length events) ≡ b → own (slot_at (fresh_slots {B = B} events) k)) [
-      | true ↦ λ less. subst own (sym (get_or-map fresh events k (plain_event 0 0) (fresh_slot None) (grind (arith, nat_tests, less)))) tt
-      | false ↦ λ past.
-          let beyond : length (fresh_slots {B = B} events) ≤ k = rw (length-map events fresh) (grind (arith, nat_tests, past)) in
-          subst own (sym (get_or_past (fresh_slots {B = B} events) k (fresh_slot None) beyond)) tt
-    ] refl
+    let there = get_or-map fresh events k (plain_event 0 0) (fresh_slot None) in
+    let past = get_or_past (fresh_slots {B = B} events) k (fresh_slot None) in
+    grind (arith, common_steps, there, past)
 
 module _ {B : Type 0} where
   -- the fields of a chain that was made of a configuration
@@ -107,11 +102,10 @@ module _ {B : Type 0} where
   pub sound_kept : (c : Inside B) (new : Filters B) → IsSound c → HasPlaces new → length new.windows ≡ length c.filters.windows
       → IsSound (record { filters = new; internal = c.internal })
   sound_kept c new sound places count =
-      let one_of = λ (o : Option EventIndex). subst (λ n. IsOneOf n o) (sym count) in
       record {
         places = places;
         few = omega (arith, count, sound.few);
-        lost_events = one_of c.internal.lost_events sound.lost_events;
-        lost_contexts = one_of c.internal.lost_contexts sound.lost_contexts;
-        limited = one_of c.internal.limited sound.limited;
+        lost_events = rw count sound.lost_events;
+        lost_contexts = rw count sound.lost_contexts;
+        limited = rw count sound.limited;
       }

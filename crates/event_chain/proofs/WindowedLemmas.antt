@@ -28,16 +28,19 @@ module _ {B : Type 0} where
       ] refl
 
   -- one slot changed, which is aggregated as it was, of its own event, and not due
-  windowed_set : (tick : ℕ) (slots : List (Slot B)) (event : ℕ) (slot : Slot B) → event < length slots
-      → (IsOwn event (slot_at slots event).window → IsOwn event slot.window)
-      → slot.setting ≡ (slot_at slots event).setting → is_due tick slot ≡ false → Windowed tick slots (slice_set slots event slot)
-  windowed_set tick slots event slot there own setting settled = record {
-    events = length-set slots event slot;
-    own = λ all. each_slot (λ k s. IsOwn k s.window) slots event slot there (own (all event)) all;
-    settings = each_slot (λ k s. s.setting ≡ (slot_at slots k).setting) slots event slot there setting (λ k. refl);
-    settled = each_slot (λ k s. is_due tick (slot_at slots k) ≡ false → is_due tick s ≡ false) slots event slot there
-        (λ _. settled) (λ k h. h);
-  }
+  windowed_set : (tick : ℕ) (slots now : List (Slot B)) (event : ℕ) (slot : Slot B) → event < length slots → now ≡ slice_set slots event slot
+      → (IsOwn event (slot_at slots event).window → IsOwn event slot.window) → slot.setting ≡ (slot_at slots event).setting
+      → is_due tick (slot_at now event) ≡ false → Windowed tick slots now
+  windowed_set tick slots now event slot there is own setting settled =
+      let same = ap (λ (xs : List (Slot B)). slot_at xs event) is ∙ get_or-set_same slots event slot (fresh_slot None) there in
+      let not_due = sym (ap (is_due tick) same) ∙ settled in
+      subst (λ (xs : List (Slot B)). Windowed tick slots xs) (sym is) (record {
+        events = length-set slots event slot;
+        own = λ all. each_slot (λ k s. IsOwn k s.window) slots event slot there (own (all event)) all;
+        settings = each_slot (λ k s. s.setting ≡ (slot_at slots k).setting) slots event slot there setting (λ k. refl);
+        settled = each_slot (λ k s. is_due tick (slot_at slots k) ≡ false → is_due tick s ≡ false) slots event slot there
+            (λ _. not_due) (λ k h. h);
+      })
 
   -- the window that an item came into is of its event, where the window was
   own_with : (last : Bool) (tick : ℕ) (item : Qualified B) (window : Option (Open B)) → IsOwn item.event.0 window
@@ -48,30 +51,20 @@ module _ {B : Type 0} where
   pub windowed_arriving : (tick : ℕ) (item : Qualified B) (slots now : List (Slot B)) → item.event.0 < length slots
       → now ≡ after_arrival tick item slots → is_due tick (slot_at now item.event.0) ≡ false → Windowed tick slots now
   windowed_arriving tick item slots now there is settled =
-      let event = item.event.0 in
-      let old = slot_at slots event in
-      let slot = slot_with tick item old in
-      let same = ap (λ (xs : List (Slot B)). slot_at xs event) is ∙ get_or-set_same slots event slot (fresh_slot None) there in
-      subst (λ (xs : List (Slot B)). Windowed tick slots xs) (sym is)
-      (windowed_set tick slots event slot there (own_with (keeps_last old.setting) tick item old.window) refl
-      (sym (ap (is_due tick) same) ∙ settled))
+      let old = slot_at slots item.event.0 in
+      windowed_set tick slots now item.event.0 (slot_with tick item old) there is (own_with (keeps_last old.setting) tick item old.window)
+      refl settled
 
   -- a slot that a turn closed is aggregated as it was, and of its own event
-  closed_setting : (tick : ℕ) (slot : Slot B) → (slot_closed tick slot).setting ≡ slot.setting
-  closed_setting tick slot = grind (arith, common_steps)
-
-  closed_own : (tick k : ℕ) (slot : Slot B) → IsOwn k slot.window → IsOwn k (slot_closed tick slot).window
-  closed_own tick k slot own = grind (arith, common_steps, own)
+  closed : (tick k : ℕ) (slot : Slot B) → IsOwn k slot.window → IsOwn k (slot_closed tick slot).window
+  closed tick k slot own = grind (arith, common_steps, own)
 
   pub windowed_closing : (event tick : ℕ) (slots now : List (Slot B)) → event < length slots
       → now ≡ after_closing event tick slots → is_due tick (slot_at now event) ≡ false → Windowed tick slots now
   windowed_closing event tick slots now there is settled =
       let old = slot_at slots event in
-      let slot = slot_closed tick old in
-      let same = ap (λ (xs : List (Slot B)). slot_at xs event) is ∙ get_or-set_same slots event slot (fresh_slot None) there in
-      subst (λ (xs : List (Slot B)). Windowed tick slots xs) (sym is)
-      (windowed_set tick slots event slot there (closed_own tick event old) (closed_setting tick old)
-      (sym (ap (is_due tick) same) ∙ settled))
+      let setting : (slot_closed tick old).setting ≡ old.setting = grind (arith, common_steps) in
+      windowed_set tick slots now event (slot_closed tick old) there is (closed tick event old) setting settled
 
   -- past the last slot none is due
   pub settled_all : (tick : ℕ) (slots : List (Slot B)) → ((k : ℕ) → k < length slots → IsFalse (is_due tick (slot_at slots k)))

@@ -1,4 +1,4 @@
-use Rattle.std.proofs.Common.{length, ap, arith, rules}
+use Rattle.std.proofs.Common.{length, ap, rules}
 use Rattle.chain_spec.specs.Filtering.{qualified}
 use Rattle.sending.specs.Sender.{SenderParts}
 use Rattle.event_chain.proofs.FlowLemmas.{ends_later}
@@ -15,8 +15,6 @@ returns-clause-places g c places =
     let same = ap (λ (s : SenderParts). length s.sources) c.begin.ensures.none in
     record {
       gate = places.gate;
-      has = λ k less.
-          let has = places.has k less in
-          record { threshold = has.threshold; name = has.name; source = omega (arith, same, has.source) };
+      has = λ k less. let has = places.has k less in record { threshold = has.threshold; name = has.name; source = rw same has.source };
       own = places.own;
     }

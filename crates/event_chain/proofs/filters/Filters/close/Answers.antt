@@ -1,4 +1,4 @@
-use Rattle.std.proofs.Common.{Some, None, option_map, refl, sym, subst, ap, arith}
+use Rattle.std.proofs.Common.{Some, None, option_map, refl, sym, subst, ap, arith, rules}
 use Rattle.std.proofs.lemmas.List.Sorted.{length_permutation}
 use Rattle.std.proofs.lemmas.Grind.{common_steps}
 use Rattle.chain_spec.specs.Calls.{closes_due}
@@ -21,17 +21,8 @@ go_on-requires-clause-count g c =
     let short = given_short (IsShort g.B.Parcel.held) item.context (all_kept windows) (all_kept c.close_due.new.self)
     c.in-Some.ensures.moved c.requires.short in
     let has = subst (λ k. HasEvent k c.args.self.now.counting) (sym own) (c.requires.places.has event c.requires.event) in
-    let can = c.requires.can in
-    record {
-      has = has;
-      can = record {
-        event = has.source;
-        context = short_by g.B.Parcel.held item.context short;
-        few_held = omega (arith, can.few_held);
-        room = omega (arith, can.room);
-        few_messages = omega (arith, can.few_messages);
-      };
-    }
+    let bytes = short_by g.B.Parcel.held item.context short in
+    search (rules, has, bytes, c.requires.can)
 
 pub go_on-requires-clause-back : goal.go_on-requires-clause-back
 go_on-requires-clause-back g c =

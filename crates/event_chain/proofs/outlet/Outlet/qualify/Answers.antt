@@ -1,13 +1,9 @@
-use Rattle.std.proofs.Common.{sym, subst}
-use Rattle.sending.specs.Sender.{SenderParts}
-use Rattle.sending.specs.Sending.{IsSending}
+use Rattle.std.proofs.Common.{rules}
 use Rattle.event_chain.proofs.outlet.Outlet.qualify.Goals as goal
 
 pub returns-clause-stands : goal.returns-clause-stands
 returns-clause-stands c config start items stands by =
     let stores = c.store.ensures.stores config items stands.stores in
-    let sending = subst (λ (s : SenderParts). IsSending config start items s c.args.out.now) (sym c.store.ensures.sender) stands.sending in
-    record {
-      stores = record { names = stores.names; room = stores.room; memory = stores.memory };
-      sending = c.qualify.ensures.sending config start items sending by;
-    }
+    let sending = rw (← c.store.ensures.sender) at stands.sending in
+    let all = c.qualify.ensures.sending config start items sending by in
+    search (rules, stores, all)
