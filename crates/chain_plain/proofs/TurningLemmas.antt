@@ -70,9 +70,11 @@ module _ {B : Type 0} (held : B → List ℕ) (events : ℕ) where
   with_parcel None parcels short all = all
   with_parcel (Some parcel) parcels short all = (short, all)
 
-  parcels_short : (items : List (Entry B)) → AllByRecursion (λ e. FitsAct held events e.act) items → AllByRecursion (IsShort held) (all_parcels items)
+  parcels_short : (items : List (Entry B)) → AllByRecursion (λ e. FitsAct held events e.act) items
+      → AllByRecursion (IsShort held) (all_parcels items)
   parcels_short [] fits = tt
-  parcels_short (e ∷ items) fits = with_parcel (parcel_of e.act) (all_parcels items) (parcel_short e.act fits.0) (parcels_short items fits.1)
+  parcels_short (e ∷ items) fits =
+      with_parcel (parcel_of e.act) (all_parcels items) (parcel_short e.act fits.0) (parcels_short items fits.1)
 
   rest_short : (xs ys : List B) → AllByRecursion (IsShort held) (xs ++ ys) → AllByRecursion (IsShort held) ys
   rest_short [] ys short = short

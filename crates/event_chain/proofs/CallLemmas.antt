@@ -1,5 +1,5 @@
 -- One call of aggregation, and one moment, over what each filter tells of it.
-use Rattle.std.proofs.Common.{◌≡◌, ℕ, ◌≤◌, Bool, true, false, List, [], ◌∷◌, ◌++◌, length, Option, Some, None, IfSome, is_some, option_to_list, option_and_then, option_map, refl, sym, ap, subst, arith}
+use Rattle.std.proofs.Common.{◌≡◌, ℕ, ◌≤◌, Bool, true, false, List, [], ◌∷◌, ◌++◌, length, Option, Some, None, IfSome, is_some, option_to_list, option_and_then, option_map, refl, arith}
 use Rattle.std.specs.List.{All}
 use Rattle.std.proofs.lemmas.Grind.{common_steps}
 use Rattle.std.proofs.lemmas.List.Elements.{recursion_from_All}
@@ -13,13 +13,11 @@ use Rattle.ids_types.specs.declared.event.Qualified.{Qualified}
 use Rattle.ids_types.specs.declared.names.EventIndex.{EventIndex}
 use Rattle.ids_types.specs.declared.names.Stamp.{Stamp}
 use Rattle.ids_config.specs.Parts.{Parts}
-use Rattle.ids_config.specs.declared.parts.Aggregate.{Aggregate}
 use Rattle.chain_spec.specs.Calls.{Call, call_tick}
-use Rattle.chain_spec.specs.Filtering.{alone, gated_at, aggregated_at, thresholded_at, gated, aggregated, qualified}
+use Rattle.chain_spec.specs.Filtering.{gated_at, aggregated_at, thresholded_at, gated, aggregated, qualified}
 use Rattle.chain_spec.specs.Gate.{bypassing_at}
 use Rattle.chain_spec.specs.Items.{Item, item_at, told_by, kept_parcel}
 use Rattle.chain_spec.specs.Moments.{Moment, act_moment, comes}
-use Rattle.chain_spec.specs.Stages.{added}
 use Rattle.chain.specs.Parcels.{IsShort}
 use Rattle.filter_aggregate.specs.Account.{Accounts}
 use Rattle.filter_aggregate.specs.Slots.{item_due, slots_by}
@@ -28,16 +26,12 @@ use Rattle.filter_aggregate.specs.declared.slot.Slot.{Slot}
 use Rattle.filter_gate.specs.Gate.{Gate}
 use Rattle.filter_gate.specs.Stands.{with_context, Stands as GateStands}
 use Rattle.sending.specs.Sending.{Start}
+use Rattle.chain_spec.proofs.StageLemmas.{added_behind}
 use Rattle.event_chain.specs.declared.counting.Counting.{Counting}
 use Rattle.event_chain.specs.declared.filters.Filters.{Filters}
 use Rattle.event_chain.specs.Behind.{IsBehind, kept_told}
-use Rattle.event_chain.specs.Flow.{CountingStands, Flows, EndAt, joined_with, items_with}
-use Rattle.event_chain.proofs.FlowLemmas.{ends_with_call, ends_with_item, gated_same, qualified_same, gated_with, aggregated_with, qualified_with}
-
--- an item of an event that is aggregated does not go on by itself
-pub alone_none : (setting : Option Aggregate) (item : Item) → is_some setting ≡ true → alone setting item ≡ None
-alone_none None item is = cc
-alone_none (Some setting) item is = refl
+use Rattle.event_chain.specs.Flow.{CountingStands, Flows, joined_with, items_with}
+use Rattle.event_chain.proofs.FlowLemmas.{ends_with_call, ends_with_item, or_none}
 
 -- what is not there is none
 pub none_of : {A : Type 0} (o : Option A) → is_some o ≡ false → o ≡ None
@@ -87,44 +81,28 @@ module _ {B : Type 0} where
       (option_to_list (option_and_then (thresholded_at config joined) o) ++ items) counting out
       → Flows held config start (call ∷ calls) (joined_with config calls call joined) (items_with config calls call joined items)
       windows counting out
-  flows_with call o {config = config} {start = start} {joined = joined} {items = items} {counting = counting} {out = out}
-      flows is stands counts =
-      record {
-        stands = stands;
-        behind = subst (λ (p : Option Item). CountingStands config start (option_to_list p ++ joined)
-            (option_to_list (option_and_then (thresholded_at config joined) p) ++ items) counting out) (sym is) counts;
-      }
+  flows_with call o flows is stands counts = record { stands = stands; behind = rw is counts }
 
-  module _ {held : B → List ℕ} {config : Parts} {start : Start} {tick : ℕ} where
-    -- the filters are behind moments of which these lists come
-    behind_by : (moments : List Moment) {gate : Gate} {windows : List (Slot B)} {counting : Counting} {out : Output}
-        {calls : List (Call (List ℕ))} {joined items : List Item} → gated config moments ≡ calls → aggregated config moments ≡ joined
-        → qualified config moments ≡ items → GateStands config moments gate
-        → Flows held config start calls joined items windows counting out → EndAt tick calls joined items
-        → IsBehind held config start tick moments (record { gate = gate; windows = windows; counting = counting }) out
-    behind_by moments first second third gate flows ends =
-        record { gate = gate; flows = rw (third, second, first) flows; ends = rw (third, second, first) ends }
+  module _ {held : B → List ℕ} {config : Parts} {start : Start} {tick : ℕ} {before : List Moment} {moment : Moment} {old : Filters B}
+      {gate : Gate} {windows : List (Slot B)} {counting : Counting} {was out : Output}
+      (behind : IsBehind held config start tick before old was) (stands : GateStands config (moment ∷ before) gate) where
+    -- one moment more, by which a call comes to aggregation
+    pub behind_call : (call : Call (List ℕ)) → gated_at config before moment ≡ Some call → bypassing_at config before moment ≡ None
+        → call_tick call ≡ tick
+        → Flows held config start (call ∷ gated config before) (joined_with config (gated config before) call (aggregated config before))
+        (items_with config (gated config before) call (aggregated config before) (qualified config before)) windows counting out
+        → IsBehind held config start tick (moment ∷ before) (record { gate = gate; windows = windows; counting = counting }) out
+    behind_call call is by at flows =
+        let ends = ends_with_call config call at behind.ends in
+        let passed = added_behind (gated_at config) (aggregated_at config) before in
+        record { gate = stands; flows = rw (by, is, passed) flows; ends = rw (by, is, passed) ends }
 
-    module _ {before : List Moment} {moment : Moment} {old : Filters B} {gate : Gate} {windows : List (Slot B)} {counting : Counting}
-        {was out : Output} (behind : IsBehind held config start tick before old was)
-        (stands : GateStands config (moment ∷ before) gate) where
-      -- one moment more, by which a call comes to aggregation
-      pub behind_call : (call : Call (List ℕ)) → gated_at config before moment ≡ Some call → bypassing_at config before moment ≡ None
-          → call_tick call ≡ tick
-          → Flows held config start (call ∷ gated config before) (joined_with config (gated config before) call (aggregated config before))
-          (items_with config (gated config before) call (aggregated config before) (qualified config before)) windows counting out
-          → IsBehind held config start tick (moment ∷ before) (record { gate = gate; windows = windows; counting = counting }) out
-      behind_call call is by at flows =
-          behind_by (moment ∷ before) (gated_with config before moment call is) (aggregated_with config before moment call is)
-          (qualified_with config before moment call is by) stands flows (ends_with_call config call at behind.ends)
-
-      -- one moment more, by which none comes
-      pub behind_item : (o : Option Item) → gated_at config before moment ≡ None → bypassing_at config before moment ≡ o
-          → IfSome o (λ item. item.tick ≡ tick)
-          → Flows held config start (gated config before) (aggregated config before) (option_to_list o ++ qualified config before)
-          windows counting out
-          → IsBehind held config start tick (moment ∷ before) (record { gate = gate; windows = windows; counting = counting }) out
-      behind_item o is by at flows =
-          let same = gated_same config before moment is in
-          behind_by (moment ∷ before) same (ap (added (aggregated_at config)) same) (qualified_same config before moment o is by)
-          stands flows (ends_with_item o at behind.ends)
+    -- one moment more, by which none comes
+    pub behind_item : (o : Option Item) → gated_at config before moment ≡ None → bypassing_at config before moment ≡ o
+        → IfSome o (λ item. item.tick ≡ tick)
+        → Flows held config start (gated config before) (aggregated config before) (option_to_list o ++ qualified config before)
+        windows counting out
+        → IsBehind held config start tick (moment ∷ before) (record { gate = gate; windows = windows; counting = counting }) out
+    behind_item o is by at flows =
+        let ends = ends_with_item o at behind.ends in
+        record { gate = stands; flows = rw (is, by, or_none) flows; ends = rw (is, by, or_none) ends }

@@ -5,14 +5,11 @@ use Rattle.std.proofs.lemmas.Grind.{common_steps}
 use Rattle.ids_types.specs.Output.{Output}
 use Rattle.ids_config.specs.Parts.{Parts, event_at}
 use Rattle.chain_spec.specs.Calls.{Call, call_tick, closes_due, arrives}
-use Rattle.chain_spec.specs.Filtering.{gated_at, aggregated_at, thresholded_at, counted, gated, aggregated, qualified}
-use Rattle.chain_spec.specs.Gate.{bypassing_at}
+use Rattle.chain_spec.specs.Filtering.{aggregated_at, thresholded_at, counted}
 use Rattle.chain_spec.specs.Items.{Item}
-use Rattle.chain_spec.specs.Moments.{Moment}
 use Rattle.chain_spec.specs.Stages.{where_true}
 use Rattle.chain_spec.specs.Threshold.{verdict}
 use Rattle.chain_spec.specs.Windows.{EndBy}
-use Rattle.chain_spec.proofs.StageLemmas.{added_behind}
 use Rattle.filter_threshold.specs.Counting.{Stands as ThresholdsStand}
 use Rattle.filter_threshold.specs.declared.threshold.Threshold.{Threshold}
 use Rattle.sending.specs.Sending.{Start}
@@ -78,29 +75,7 @@ pub counts : {config : Parts} {start : Start} {joined : List Item} (items : List
     (record { thresholds = thresholds; outlet = outlet }) out
 counts items b is told stands = record { thresholds = told; outlet = rw is stands }
 
--- ---- moments
-
 -- the first that is there of two, where there is no second
-or_none : (o : Option Item) → option_or o None ≡ o
+pub or_none : (o : Option Item) → option_or o None ≡ o
 or_none None = refl
 or_none (Some item) = refl
-
-module _ (config : Parts) (before : List Moment) (moment : Moment) where
-  -- a moment by which nothing comes to aggregation
-  pub gated_same : gated_at config before moment ≡ None → gated config (moment ∷ before) ≡ gated config before
-  gated_same is = rw is refl
-
-  pub qualified_same : (o : Option Item) → gated_at config before moment ≡ None → bypassing_at config before moment ≡ o
-      → qualified config (moment ∷ before) ≡ option_to_list o ++ qualified config before
-  qualified_same o is by = rw (is, by, or_none) refl
-
-  module _ (call : Call (List ℕ)) (is : gated_at config before moment ≡ Some call) where
-    pub gated_with : gated config (moment ∷ before) ≡ call ∷ gated config before
-    gated_with = rw is refl
-
-    pub aggregated_with : aggregated config (moment ∷ before) ≡ joined_with config (gated config before) call (aggregated config before)
-    aggregated_with = rw is refl
-
-    pub qualified_with : bypassing_at config before moment ≡ None → qualified config (moment ∷ before)
-        ≡ items_with config (gated config before) call (aggregated config before) (qualified config before)
-    qualified_with by = rw (by, is, added_behind (gated_at config) (aggregated_at config) before) refl

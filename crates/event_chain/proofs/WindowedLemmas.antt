@@ -28,8 +28,9 @@ module _ {B : Type 0} where
       ] refl
 
   -- one slot changed, which is aggregated as it was, of its own event, and not due
-  windowed_set : (tick : ℕ) (slots now : List (Slot B)) (event : ℕ) (slot : Slot B) → event < length slots → now ≡ slice_set slots event slot
-      → (IsOwn event (slot_at slots event).window → IsOwn event slot.window) → slot.setting ≡ (slot_at slots event).setting
+  windowed_set : (tick : ℕ) (slots now : List (Slot B)) (event : ℕ) (slot : Slot B) → event < length slots
+      → now ≡ slice_set slots event slot → (IsOwn event (slot_at slots event).window → IsOwn event slot.window)
+      → slot.setting ≡ (slot_at slots event).setting
       → is_due tick (slot_at now event) ≡ false → Windowed tick slots now
   windowed_set tick slots now event slot there is own setting settled =
       let same = ap (λ (xs : List (Slot B)). slot_at xs event) is ∙ get_or-set_same slots event slot (fresh_slot None) there in

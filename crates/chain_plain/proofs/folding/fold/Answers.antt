@@ -14,7 +14,8 @@ add-requires g c =
     let before = c.loop-head.invariant in
     let turn = turn_with c.in-Some.head c.in-Some.entries in
     let left : c.loop-head.turns ≡ turn ∷ c.pop_front.new.self = grind (arith, common_steps) in
-    let rises : RiseFrom (last_tick before.taken) (turn ∷ c.pop_front.new.self) = subst (RiseFrom (last_tick before.taken)) left before.ticks in
+    let rises : RiseFrom (last_tick before.taken) (turn ∷ c.pop_front.new.self) =
+    subst (RiseFrom (last_tick before.taken)) left before.ticks in
     let sends = c.in_ok-take.ensures.sends config before.taken before.stands rises.0 in
     told_few config before.taken turn (told_of c.loop-head.tally) c.take.new.self.out before.tells sends
 
@@ -32,7 +33,8 @@ loop-head-preserved g c =
     let stands = c.in_ok-take.ensures.stands config before.taken before.stands rises.0 in
     let sends = c.in_ok-take.ensures.sends config before.taken before.stands rises.0 in
     let limited = c.limited.ensures.value config (before.taken ++ turn ∷ []) stands in
-    let told = tells_more config before.taken turn (told_of c.loop-head.tally) c.take.new.self.out c.limited.result limited before.tells sends in
+    let told = tells_more config before.taken turn (told_of c.loop-head.tally) c.take.new.self.out c.limited.result limited
+    before.tells sends in
     record {
       taken = before.taken ++ turn ∷ [];
       whole = append_assoc before.taken (turn ∷ []) rest ∙ ap (λ ts. before.taken ++ ts) (sym left) ∙ before.whole;

@@ -1,19 +1,20 @@
-use Rattle.std.proofs.Common.{Some, None, sym, ◌∙◌, ap}
+use Rattle.std.proofs.Common.{◌≡◌, Some, None, sym, ◌∙◌, ap, arith}
+use Rattle.std.proofs.lemmas.Grind.{common_steps}
 use Rattle.ids_config.specs.Parts.{event_at}
 use Rattle.chain_spec.specs.Calls.{arrives}
 use Rattle.chain_spec.specs.Filtering.{alone}
 use Rattle.chain_spec.specs.Items.{item_at, told_by}
 use Rattle.filter_aggregate.specs.Slots.{slots_by}
 use Rattle.filter_aggregate.proofs.StandsLemmas.{stands_alone}
-use Rattle.event_chain.proofs.CallLemmas.{alone_none, none_of, flows_with}
+use Rattle.event_chain.proofs.CallLemmas.{none_of, flows_with}
 use Rattle.event_chain.proofs.joining.pass.Goals as goal
 
 pub returns-then-aggregates-clause-flows : goal.returns-then-aggregates-clause-flows
 returns-then-aggregates-clause-flows g c config start calls joined items flows ends =
     let told = told_by g.B.Parcel.held c.args.item in
     let is = sym (c.aggregates.ensures.configured config calls flows.stands) ∙ c.if-aggregates.true in
-    flows_with (arrives c.args.tick told) None flows (alone_none (event_at config told.event.0).aggregate (item_at c.args.tick told) is)
-    (c.join.ensures.stands config calls flows.stands ends.calls_end) flows.behind
+    let none : alone (event_at config told.event.0).aggregate (item_at c.args.tick told) ≡ None = grind (arith, common_steps, is) in
+    flows_with (arrives c.args.tick told) None flows none (c.join.ensures.stands config calls flows.stands ends.calls_end) flows.behind
 
 pub returns-else-aggregates-clause-flows : goal.returns-else-aggregates-clause-flows
 returns-else-aggregates-clause-flows g c config start calls joined items flows ends =
