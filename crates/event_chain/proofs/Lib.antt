@@ -5,4 +5,3 @@ mod HandsLemmas
 mod HeadLemmas
 mod SoundLemmas
 mod TurnLemmas
-mod WindowedLemmas

@@ -1,5 +1,6 @@
 -- How many parcels a chain keeps, and what holds of its fields when it is made and while it takes turns.
-use Rattle.std.proofs.Common.{◌≡◌, ℕ, ◌≤◌, true, List, [], ◌∷◌, ◌++◌, length, map, Option, Some, None, option_map, option_to_list, refl, sym, ap, subst, ◌∙◌, arith}
+use Rattle.std.proofs.Common.{◌≡◌, ℕ, ◌<◌, ◌≤◌, true, List, [], ◌∷◌, ◌++◌, length, map, Option, Some, None, option_map, option_to_list, refl, sym, ap, subst, ◌∙◌, arith}
+use Rattle.std.specs.Bool.{IsFalse}
 use Rattle.std.proofs.lemmas.Bool.Decides.{nat_tests}
 use Rattle.std.proofs.lemmas.Grind.{common_steps}
 use Rattle.std.proofs.lemmas.List.{get_or-map, get_or_past, length-map}
@@ -11,7 +12,7 @@ use Rattle.ids_config.specs.Values.{is_within}
 use Rattle.chain.specs.Parcels.{all_parcels, parcel_of}
 use Rattle.filter_aggregate.specs.Account.{all_kept}
 use Rattle.filter_aggregate.specs.declared.slot.Slot.{Slot}
-use Rattle.filter_aggregate.specs.Slots.{fresh_slot}
+use Rattle.filter_aggregate.specs.Slots.{fresh_slot, is_due, slot_at}
 use Rattle.filter_gate.specs.Stands.{Stands as GateStands}
 use Rattle.filter_threshold.specs.Counting.{Stands as ThresholdsStand}
 use Rattle.sending.specs.Sender.{source_of}
@@ -20,7 +21,7 @@ use Rattle.event_chain.specs.declared.event_chain.EventChain.TheInside.{Inside}
 use Rattle.event_chain.specs.declared.filters.Filters.{Filters}
 use Rattle.event_chain.specs.Chained.{IsOneOf, IsSound}
 use Rattle.event_chain.specs.Outlets.{Stores, naming_of}
-use Rattle.event_chain.specs.Ready.{AreOwn, HasPlaces}
+use Rattle.event_chain.specs.Ready.{AreOwn, HasPlaces, SettledAt}
 
 -- ---- parcels
 
@@ -38,6 +39,11 @@ parcels_few (entry ∷ items) = let rest = parcels_few items in grind (arith, co
 pub parcels_cons : {B : Type 0} (entry : Entry B) (items : List (Entry B))
     → all_parcels (entry ∷ items) ≡ option_to_list (parcel_of entry.act) ++ all_parcels items
 parcels_cons entry items = grind (arith, common_steps)
+
+-- past the last slot no window is due
+pub settled_all : {B : Type 0} (tick : ℕ) (slots : List (Slot B))
+    → ((k : ℕ) → k < length slots → IsFalse (is_due tick (slot_at slots k))) → SettledAt tick slots
+settled_all tick slots settled k = grind (arith, common_steps, settled k, get_or_past slots k (fresh_slot None))
 
 -- ---- the fields
 

@@ -21,7 +21,6 @@ ghost use Rattle.event_chain.specs.Ready.{HasPlaces, IsReady, SettledAt, Stays, 
 
 use crate::counting::Counting;
 use crate::joining::{go_on, lent, pass};
-use crate::outlet::Outlet;
 use chain::{give_back, kept, log_turn};
 use filter_aggregate::Windows;
 use filter_gate::{GateState, Verdict};
@@ -141,7 +140,8 @@ impl<B: Parcel> Filters<B> {
             Verdict::Dropped => give_back(item.context, back),
             Verdict::Bypass { context } => {
                 let item = let_through(item, context, back);
-                qualify(&mut self.counting.outlet, tick, item, back, out);
+                self.counting.outlet.qualify(&lent(tick, &item), out);
+                give_back(item.context, back);
             }
             Verdict::Pass { context } => {
                 let item = let_through(item, context, back);
@@ -168,28 +168,4 @@ fn let_through<B: Parcel>(item: Qualified<B>, context: bool, back: &mut Vec<B>) 
         stamp: item.stamp,
         context: None,
     }
-}
-
-/// An item qualifies at once, and its parcel is handed back.
-fn qualify<B: Parcel>(
-    outlet: &mut Outlet,
-    tick: u64,
-    item: Qualified<B>,
-    back: &mut Vec<B>,
-    out: &mut TurnOut,
-)
-    requires name { item.event.0 < length outlet.old.names.items }
-    requires can { CanQualify outlet.old.sender (item_at tick (told_by B.held item)) out.old }
-    requires back { vec_len back.old + length (option_to_list item.context) ≤ vec_capacity back.old }
-    ensures stands { (config : Parts) (start : Start) (items : List Item)
-        → OutletStands config start items outlet.old out.old
-        → EndBy (λ item. item.tick) tick items
-        → OutletStands config start (item_at tick (told_by B.held item) ∷ items) outlet.new out.new }
-    ensures one { TakesOne outlet.old.sender outlet.new.sender out.old out.new }
-    ensures names { outlet.new.names ≡ outlet.old.names }
-    ensures back { back.new.items ≡ back.old.items ++ option_to_list item.context }
-    ensures capacity { vec_capacity back.new ≡ vec_capacity back.old }
-{
-    outlet.qualify(&lent(tick, &item), out);
-    give_back(item.context, back);
 }

@@ -11,7 +11,7 @@ use Rattle.filter_aggregate.specs.Slots.{is_due, slot_at, slot_by}
 use Rattle.event_chain.specs.Behind.{IsBehind}
 use Rattle.event_chain.proofs.Going.{closing_more, stays_none, stays_more}
 use Rattle.event_chain.proofs.HandsLemmas.{hands_nothing, hands_then, hands_all, hands_length}
-use Rattle.event_chain.proofs.WindowedLemmas.{settled_all}
+use Rattle.event_chain.proofs.SoundLemmas.{settled_all}
 use Rattle.event_chain.proofs.filters.Filters.close_all.Goals as goal
 
 pub loop-event-init : goal.loop-event-init

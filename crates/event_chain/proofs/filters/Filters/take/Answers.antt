@@ -1,4 +1,4 @@
-use Rattle.std.proofs.Common.{◌∷◌, Some, None, option_map, option_to_list, refl, sym, ap, subst, ◌∙◌}
+use Rattle.std.proofs.Common.{Some, None, option_map, option_to_list, refl, sym, ap, subst, ◌∙◌}
 use Rattle.ids_types.specs.declared.event.Qualified.{Qualified}
 use Rattle.chain_spec.specs.Calls.{arrives}
 use Rattle.chain_spec.specs.Filtering.{arrival, qualified}
@@ -6,7 +6,6 @@ use Rattle.chain_spec.specs.Items.{Item, item_at, told_by}
 use Rattle.chain.specs.Parcels.{HandsBack}
 use Rattle.filter_aggregate.specs.Account.{all_kept}
 use Rattle.filter_gate.specs.Stands.{with_context}
-use Rattle.event_chain.specs.Outlets.{OutletStands}
 use Rattle.event_chain.proofs.CallLemmas.{behind_call, behind_item, item_kept}
 use Rattle.event_chain.proofs.HandsLemmas.{hands_kept}
 use Rattle.event_chain.proofs.filters.Filters.take.Goals as goal
@@ -27,14 +26,13 @@ returns-in-Bypass-clause-behind g c config start moments behind =
     let through = with_context c.in-Bypass.context item in
     let told = c.in-Bypass.ensures in
     let flows = behind.flows in
-    let same = ap (λ (q : Qualified g.row.B.Denot). item_at tick (told_by held q)) c.let_through-item.ensures.item
+    let same = c.lent.ensures ∙ ap (λ (q : Qualified g.row.B.Denot). item_at tick (told_by held q)) c.let_through-item.ensures.item
     ∙ sym (item_kept held c.in-Bypass.context tick c.args.item) in
-    let outlet = subst (λ (i : Item). OutletStands config start (i ∷ qualified config moments) c.qualify.new.outlet c.qualify.new.out) same
-    (c.qualify.ensures.stands config start (qualified config moments) flows.behind.outlet behind.ends.items_end) in
+    let outlet = rw same at (c.qualify.ensures.stands config start (qualified config moments) flows.behind.outlet) in
     behind_item behind (c.gate.ensures.stands config moments item refl behind.gate) (Some through)
     (ap (option_map arrival) (sym (told.sampled config moments item refl behind.gate)))
     (sym (told.bypassing config moments item refl behind.gate)) refl
-    (record { stands = flows.stands; behind = record { thresholds = flows.behind.thresholds; outlet = outlet } })
+    (record { stands = flows.stands; behind = record { thresholds = flows.behind.thresholds; outlet = outlet behind.ends.items_end } })
 
 pub returns-in-Pass-clause-behind : goal.returns-in-Pass-clause-behind
 returns-in-Pass-clause-behind g c config start moments behind =
@@ -52,6 +50,6 @@ returns-in-Pass-clause-behind g c config start moments behind =
 pub returns-in-Pass-clause-parcels : goal.returns-in-Pass-clause-parcels
 returns-in-Pass-clause-parcels g c =
     let through = c.let_through-item-in-Pass in
-    hands_kept c.in-Pass.context c.args.item.context through.ensures.back
+    hands_kept c.in-Pass.context c.args.item.context {mid = c.let_through-item-in-Pass.new.back.items} through.ensures.back
     (subst (λ (q : Qualified g.row.B.Denot). HandsBack (option_to_list q.context) (all_kept c.args.self.now.windows)
     (all_kept c.pass.new.windows) through.new.back.items c.pass.new.back.items) through.ensures.item c.pass.ensures.parcels)

@@ -31,4 +31,5 @@ pub returns-clause-behind : goal.returns-clause-behind
 returns-clause-behind g c config start moments behind =
     let heads = c.args.heads.now in
     let past : length heads ≤ c.loop-i.i = omega (arith, c.loop-i-test.false, c.len-i-end.ensures) in
-    reaches_all (ap (head_moments c.args.tick) (drop_all c.loop-i.i heads past)) (c.loop-i.invariant.behind config start moments behind)
+    reaches_all {all = with_all moments (head_moments c.args.tick heads)} (ap (head_moments c.args.tick) (drop_all c.loop-i.i heads past))
+    (c.loop-i.invariant.behind config start moments behind)
