@@ -1,10 +1,15 @@
 -- What the input files of a command deserve, stage by stage.
-use Rattle.std.proofs.Common.{◌≡◌, ◌≢◌, ℕ, List, length, Option, None, Some, Ok, Err, IsTrue, refl, sym, subst, ◌∙◌, inl, inr}
+use Rattle.std.proofs.Common.{◌≡◌, ◌≢◌, ℕ, List, length, Option, None, Some, Ok, Err, IsTrue, refl, sym, subst, ◌∙◌, inl, inr, arith}
 use Rattle.std.specs.Prelude.{Result, Contains, nat_lt}
 use Rattle.std.specs.Str.{bytes_eq}
 use Rattle.std.proofs.lemmas.Bool.{false_from_ne_true, cases_Bool}
+use Rattle.std.proofs.lemmas.Option.{same_Some, none-some}
 use Rattle.std.proofs.lemmas.Slice.Eq.{bytes_eq-Decides}
-use Rattle.idsm_run.specs.Words.{configuration, Parts, MessageParts, messages_read, BadMessage, CountsFault, Files, SameFiles, SameOthers, Shelved, Read, Turn, ConfigFault, BadConfig, BadMessages, Stop, CannotRead, TooLong, Refused, CannotWrite, NoMemory, Command, FoldFiles, MigrateFiles, fold, decode, migrate, read_by, folded_in, file_of, without, config_judged, journal_judged, judge, fold_work, decode_work, migrate_work, bytes_of, KeepsConfig, StopsFor, ReadStops, StopsAs, plain_stop, stop_of_config}
+use Rattle.text_spec.specs.JournalReading.{BadLine}
+use Rattle.text_spec.specs.JournalText.{Told}
+use Rattle.idsm_run.specs.Names.{Refusal, messages_of}
+use Rattle.idsm_run.specs.Run.{MayRefuse}
+use Rattle.idsm_run.specs.Words.{configuration, Parts, MessageParts, messages_read, BadMessage, CountsFault, Files, SameFiles, SameOthers, Shelved, Read, Turn, ConfigFault, BadConfig, BadJournal, BadMessages, Stop, CannotRead, TooLong, Refused, CannotWrite, NoMemory, Command, Recording, recording_of, FoldFiles, CheckFiles, MigrateFiles, fold, check, decode, migrate, read_by, folded_in, file_of, without, config_found, journal_judged, judge, Work, Recorded, recorded_in, check_judged, fold_work, decode_work, migrate_work, bytes_of, KeepsConfig, StopsFor, ReadStops, StopsAs, plain_stop, stop_of_config}
 use Rattle.config_json.specs.Configured.{Tells}
 use Rattle.config_json.specs.declared.fault.JsonFault.{JsonFault}
 use Rattle.config_json.specs.declared.fault.JsonFault.TheVariants as faults
@@ -49,18 +54,19 @@ unread command limit name old middle new (Refused refusal) may comes tells fault
 unread command limit name old middle new CannotWrite may comes tells faults stays same why = absurd why
 unread command limit name old middle new NoMemory may comes tells faults stays same why = inl same
 
--- `fold` stopped where what a file holds was judged
-pub refused : {A : Type 0} (names : FoldFiles) (found : Result A (Stop (List ℕ))) (old new : Shelved)
+-- a command stopped where what a file holds was judged
+pub refused : {A : Type 0} (command : Command) (found : Result A (Stop (List ℕ))) (old new : Shelved)
     (reason : Stop (List ℕ))
-    → (IsTrue old.tells → found ≡ Err reason → judge (fold names) old.files ≡ Err reason)
+    → ((refusal : Refusal) → found ≡ Err (Refused refusal) → MayRefuse command refusal)
+    → (IsTrue old.tells → found ≡ Err reason → judge command old.files ≡ Err reason)
     → new.faults ≡ old.faults → (IsTrue old.tells → SameFiles old.files new.files)
-    → StopsAs found reason → StopsFor (fold names) reason old new
-refused names found old new (CannotRead name) judged faults same is = absurd is
-refused names found old new (TooLong name) judged faults same is = absurd is
-refused names found old new (Refused refusal) judged faults same is =
-    record { may = is.1 names; judged = λ told. judged told is.0; no_fault = faults; same = same }
-refused names found old new CannotWrite judged faults same is = absurd is
-refused names found old new NoMemory judged faults same is = inl same
+    → StopsAs found reason → StopsFor command reason old new
+refused command found old new (CannotRead name) may judged faults same is = absurd is
+refused command found old new (TooLong name) may judged faults same is = absurd is
+refused command found old new (Refused refusal) may judged faults same is =
+    record { may = may refusal is; judged = λ told. judged told is; no_fault = faults; same = same }
+refused command found old new CannotWrite may judged faults same is = absurd is
+refused command found old new NoMemory may judged faults same is = inl same
 
 -- what was read after other reads stood there before them
 pub read_since : (limit : ℕ) (name bytes : List ℕ) (old middle : Shelved) → middle.tells ≡ old.tells
@@ -70,40 +76,104 @@ pub read_since : (limit : ℕ) (name bytes : List ℕ) (old middle : Shelved) �
 read_since limit name bytes old middle tells same found told =
     rw (same told name) at (found (subst IsTrue (sym tells) told))
 
--- ---- the stages of `fold`
+-- ---- the stages of a recording, for each command that reads it
 
-module _ (names : FoldFiles) (files : Files) where
-  pub config_first : ComesTo (fold names) 1048576 names.config files
+module _ (names : Recording) (command : Command) (reads : recording_of command ≡ Some names) where
+  -- it is one of these two, with these names
+  by_command : (Q : Command → Recording → Type 0)
+      → ((files : FoldFiles) → Q (fold files) files.from) → ((files : CheckFiles) → Q (check files) files.from)
+      → Q command names
+  by_command Q folds checks = go command reads
+    where
+      go : (c : Command) → recording_of c ≡ Some names → Q c names
+      go (fold files) is = subst (Q (fold files)) (same_Some files.from names is) (folds files)
+      go (check files) is = subst (Q (check files)) (same_Some files.from names is) (checks files)
+      go (decode name) is = absurd (none-some names is)
+      go (migrate files) is = absurd (none-some names is)
+
+  pub reads_config : Contains (read_by command) names.config
+  reads_config = by_command (λ c n. Contains (read_by c) n.config) (λ f. (0, omega arith, refl)) (λ f. (0, omega arith, refl))
+
+  pub reads_journal : Contains (read_by command) names.journal
+  reads_journal = by_command (λ c n. Contains (read_by c) n.journal) (λ f. (1, omega arith, refl)) (λ f. (1, omega arith, refl))
+
+  pub may_config : (fault : ConfigFault) → MayRefuse command (BadConfig fault)
+  may_config fault = by_command (λ c n. MayRefuse c (BadConfig fault)) (λ f. tt) (λ f. tt)
+
+  pub may_journal : (line number : ℕ) → MayRefuse command (BadJournal line number)
+  may_journal line number = by_command (λ c n. MayRefuse c (BadJournal line number)) (λ f. tt) (λ f. tt)
+
+  -- it is refused as its recording is
+  recording_refused : (files : Files) (reason : Stop (List ℕ)) → recorded_in names files ≡ Err reason
+      → judge command files ≡ Err reason
   unfolding Judge.judge
-  config_first other reason same is = rw is refl
+  recording_refused files reason =
+      by_command (λ c n. recorded_in n files ≡ Err reason → judge c files ≡ Err reason)
+      (λ f is. rw is refl) (λ f is. rw is refl)
 
-  module _ (text : List ℕ) (read : file_of 1048576 names.config files ≡ Ok text) where
-    pub config_refused : (reason : Stop (List ℕ)) → config_judged (configuration text) ≡ Err reason
-        → judge (fold names) files ≡ Err reason
-    unfolding Judge.judge
-    config_refused reason is = rw (read, is) refl
+  -- the refusals of a journal
+  pub journal_may : (found : Result Told BadLine) (refusal : Refusal) → journal_judged found ≡ Err (Refused refusal)
+      → MayRefuse command refusal
+  journal_may (Ok told) refusal is = absurd cc
+  journal_may (Err bad) refusal is =
+      subst (MayRefuse command) (cc is) (may_journal bad.line bad.fault)
 
-    module _ (config : Parts) (is : config_judged (configuration text) ≡ Ok config) where
-      pub journal_next : names.config ≢ names.journal → ComesTo (fold names) 16777216 names.journal files
-      unfolding Judge.judge
-      journal_next differ other reason same next = rw (same names.config differ, read, is, next) refl
+  pub config_may : (found : Result Parts ConfigFault) (refusal : Refusal) → config_found found ≡ Err (Refused refusal)
+      → MayRefuse command refusal
+  config_may (Ok config) refusal is = absurd cc
+  config_may (Err fault) refusal is = subst (MayRefuse command) (cc is) (may_config fault)
 
-      module _ (journal : List ℕ) (next : file_of 16777216 names.journal files ≡ Ok journal) where
-        pub journal_refused : (reason : Stop (List ℕ)) → journal_judged (folded_in config journal) ≡ Err reason
-            → judge (fold names) files ≡ Err reason
-        unfolding Judge.judge
-        journal_refused reason judged = rw (read, is, next, judged) refl
+  module _ (files : Files) where
+    pub config_first : ComesTo command 1048576 names.config files
+    config_first other reason same is = recording_refused other reason (rw is refl)
 
-        pub inputs_found : (turns : List Turn) → journal_judged (folded_in config journal) ≡ Ok turns
-            → judge (fold names) files ≡ Ok (fold_work names config turns)
-        unfolding Judge.judge
-        inputs_found turns judged = rw (read, is, next, judged) refl
+    module _ (text : List ℕ) (read : file_of 1048576 names.config files ≡ Ok text) where
+      pub config_refused : (reason : Stop (List ℕ)) → config_found (configuration text) ≡ Err reason
+          → judge command files ≡ Err reason
+      config_refused reason is = recording_refused files reason (rw (read, is) refl)
 
--- `fold` stopped where its configuration was not read
+      module _ (config : Parts) (is : configuration text ≡ Ok config) where
+        pub journal_next : names.config ≢ names.journal → ComesTo command 16777216 names.journal files
+        journal_next differ other reason same next =
+            recording_refused other reason (rw (same names.config differ, read, is, next) refl)
+
+        module _ (journal : List ℕ) (next : file_of 16777216 names.journal files ≡ Ok journal) where
+          pub journal_refused : (reason : Stop (List ℕ)) → journal_judged (folded_in config journal) ≡ Err reason
+              → judge command files ≡ Err reason
+          journal_refused reason judged = recording_refused files reason (rw (read, is, next, judged) refl)
+
+-- what the files of a recording hold
+pub recording_found : (names : Recording) (files : Files) (text : List ℕ) (config : Parts) (journal : List ℕ) (turns : List Turn)
+    → file_of 1048576 names.config files ≡ Ok text → configuration text ≡ Ok config
+    → file_of 16777216 names.journal files ≡ Ok journal → journal_judged (folded_in config journal) ≡ Ok turns
+    → recorded_in names files ≡ Ok (record { config = config; turns = turns })
+recording_found names files text config journal turns read is next judged = rw (read, is, next, judged) refl
+
+-- the work of `fold` over it
+pub fold_found : (names : FoldFiles) (files : Files) (recorded : Recorded) → recorded_in names.from files ≡ Ok recorded
+    → judge (fold names) files ≡ Ok (fold_work names recorded.config recorded.turns)
+unfolding Judge.judge
+fold_found names files recorded is = rw is refl
+
+-- a command stopped where its configuration was not read
 pub config_exit : (found : Result Parts ConfigFault) (fault : JsonFault) → Tells found (Err fault)
-    → StopsAs (config_judged found) (plain_stop (stop_of_config fault))
-config_exit found (faults.Config fault) is = (rw is refl, λ files. tt)
+    → StopsAs (config_found found) (plain_stop (stop_of_config fault))
+config_exit found (faults.Config fault) is = rw is refl
 config_exit found faults.NoMemory is = tt
+
+-- ---- the stages of `check` behind its recording
+
+module _ (names : CheckFiles) (files : Files) (recorded : Recorded) (is : recorded_in names.from files ≡ Ok recorded) where
+  pub messages_next : names.from.config ≢ names.messages → names.from.journal ≢ names.messages
+      → ComesTo (check names) 67108864 names.messages files
+  unfolding Judge.judge
+  messages_next config journal other reason same next =
+      rw (same names.from.config config, same names.from.journal journal, is, next) refl
+
+  pub check_found : (bytes : List ℕ) (found : Result Work (Stop (List ℕ))) → file_of 67108864 names.messages files ≡ Ok bytes
+      → check_judged bytes (messages_of recorded.config recorded.turns) ≡ found → judge (check names) files ≡ found
+  unfolding Judge.judge
+  check_found bytes found read judged = rw (is, read) judged
 
 -- ---- the stages of `migrate`
 

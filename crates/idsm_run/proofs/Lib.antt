@@ -1,8 +1,9 @@
+pub mod CheckLemmas
 pub mod CommandLemmas
 pub mod ExitLemmas
+pub mod FoldLemmas
 pub mod JournalLemmas
 pub mod JudgeLemmas
 pub mod RunLemmas
-pub mod SendingLemmas
 pub mod WorkLemmas
 pub mod WritingLemmas

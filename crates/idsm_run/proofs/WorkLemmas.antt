@@ -1,6 +1,8 @@
 -- The work of a command, from its inputs to its outputs.
-use Rattle.std.proofs.Common.{◌≡◌, ℕ, List, Ok, IsTrue, sym, subst, inr}
-use Rattle.idsm_run.specs.Words.{WantsMemory, SameFiles, Shelved, WriteFault, Failed, MemoryRefused, Command, Work, judge, KeepsConfig, WasDone, StopsFor, OneFails, PartWritten, plain_stop, AreWritten, StandUpTo, stop_of_write}
+use Rattle.std.proofs.Common.{◌≡◌, ℕ, List, Ok, Err, IsTrue, sym, subst, inr}
+use Rattle.std.specs.Prelude.{Result, Contains, IfErr}
+use Rattle.idsm_run.specs.Names.{Faults}
+use Rattle.idsm_run.specs.Words.{written_by, WriteFails, WantsMemory, SameFiles, Shelved, WriteFault, Failed, MemoryRefused, Command, Work, judge, KeepsConfig, WasDone, StopsFor, OneFails, PartWritten, plain_stop, AreWritten, StandUpTo, stop_of_write}
 use Rattle.idsm_run.proofs.WritingLemmas.{StandUpTo-before}
 
 module _ (command : Command) (work : Work) (old middle new : Shelved)
@@ -46,3 +48,11 @@ module _ (command : Command) (work : Work) (old middle new : Shelved)
       let wants : WantsMemory old.faults new.faults =
       subst (λ f. WantsMemory f new.faults) faults fails.fails in
       inr (wants.rose, part_written same stands)
+
+-- the fault of a write of a file that the command writes
+pub fails_so : {T : Type 0} (command : Command) (name : List ℕ) (answer : Result T WriteFault) (old middle new : Faults)
+    → Contains (written_by command) name → middle ≡ old
+    → IfErr answer (WriteFails middle new name) → IfErr answer (OneFails command old new)
+fails_so command name (Ok done) old middle new is same fails = tt
+fails_so command name (Err fault) old middle new is same fails =
+    record { name = name; is_output = is; fails = subst (λ f. WriteFails f new name fault) same fails }

@@ -3,12 +3,21 @@
 use Rattle.std.specs.Prelude.{◌≡◌, ◌≢◌, ℕ, ◌&&◌, ◌==◌, not, bytes_eq, Bool, true, List, [], ◌∷◌, length, Option, Some, None, codes, if◌then◌else◌}
 use Rattle.idsm_run.specs.Names.{list_any, Files}
 
--- the files that `fold` names: two that it reads, and two that it writes
-pub record FoldFiles : Type 0 where
+-- the files of a recording: a configuration, and a journal of its events
+pub record Recording : Type 0 where
   pub config : List ℕ
   pub journal : List ℕ
+
+-- the files that `fold` names: the recording that it reads, and two that it writes
+pub record FoldFiles : Type 0 where
+  pub from : Recording
   pub messages : List ℕ
   pub memory : List ℕ
+
+-- the files that `check` names: the recording, and the messages that are compared with its own
+pub record CheckFiles : Type 0 where
+  pub from : Recording
+  pub messages : List ℕ
 
 -- the files that `migrate` names: one that it reads, and one that it writes
 pub record MigrateFiles : Type 0 where
@@ -18,6 +27,7 @@ pub record MigrateFiles : Type 0 where
 -- what a run is asked to do
 pub data Command : Type 0 where
   fold : FoldFiles → Command
+  check : CheckFiles → Command
   decode : List ℕ → Command
   migrate : MigrateFiles → Command
 
@@ -35,13 +45,20 @@ abbrev pub fold_of : List (List ℕ) → Option Command
 fold_of (config ∷ journal ∷ messages ∷ memory ∷ []) =
     if are_names (config ∷ journal ∷ messages ∷ memory ∷ []) then
     Some (fold (record {
-      config = config;
-      journal = journal;
+      from = record { config = config; journal = journal };
       messages = messages;
       memory = memory;
     }))
     else None
 fold_of names = None
+
+-- the command of the words behind `check`
+abbrev pub check_of : List (List ℕ) → Option Command
+check_of (config ∷ journal ∷ messages ∷ []) =
+    if are_names (config ∷ journal ∷ messages ∷ []) then
+    Some (check (record { from = record { config = config; journal = journal }; messages = messages }))
+    else None
+check_of names = None
 
 -- the command of the words behind `decode`: the name of a file of messages
 abbrev pub decode_of : List (List ℕ) → Option Command
@@ -59,19 +76,28 @@ abbrev pub command_of : List (List ℕ) → Option Command
 command_of [] = None
 command_of (word ∷ names) =
     if bytes_eq word (codes "fold") then fold_of names
+    else if bytes_eq word (codes "check") then check_of names
     else if bytes_eq word (codes "decode") then decode_of names
     else if bytes_eq word (codes "migrate") then migrate_of names
     else None
 
 -- the files that the command reads, in the order in which it reads them
 abbrev pub read_by : Command → List (List ℕ)
-read_by (fold files) = files.config ∷ files.journal ∷ []
+read_by (fold files) = files.from.config ∷ files.from.journal ∷ []
+read_by (check files) = files.from.config ∷ files.from.journal ∷ files.messages ∷ []
 read_by (decode messages) = messages ∷ []
 read_by (migrate files) = files.config ∷ []
+
+-- the recording that the command reads before all else, where it reads one
+abbrev pub recording_of : Command → Option Recording
+recording_of (fold files) = Some files.from
+recording_of (check files) = Some files.from
+recording_of other = None
 
 -- the files that the command writes, in the order in which it writes them
 abbrev pub written_by : Command → List (List ℕ)
 written_by (fold files) = files.messages ∷ files.memory ∷ []
+written_by (check files) = []
 written_by (decode messages) = []
 written_by (migrate files) = files.target ∷ []
 

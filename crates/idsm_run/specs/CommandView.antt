@@ -1,18 +1,27 @@
 -- A command as the program holds it, with its names lent from the words.
 use Rattle.idsm_run.specs.declared.command.FoldNames.{FoldNames}
+use Rattle.idsm_run.specs.declared.command.CheckNames.{CheckNames}
+use Rattle.idsm_run.specs.declared.command.RecordingNames.{RecordingNames}
 use Rattle.idsm_run.specs.declared.command.MigrateNames.{MigrateNames}
 use Rattle.idsm_run.specs.declared.command.Request.{Request}
-use Rattle.idsm_run.specs.declared.command.Request.TheVariants.{Fold, Decode, Migrate}
-use Rattle.idsm_run.specs.Command.{FoldFiles, MigrateFiles, Command, fold, decode, migrate}
+use Rattle.idsm_run.specs.declared.command.Request.TheVariants.{Fold, Check, Decode, Migrate}
+use Rattle.idsm_run.specs.Command.{Recording, FoldFiles, CheckFiles, MigrateFiles, Command, fold, check, decode, migrate}
 
--- the names as bytes
+-- the names of a recording as bytes
+abbrev pub recording : RecordingNames → Recording
+recording names = record { config = names.config.now; journal = names.journal.now }
+
+-- the names of `fold`
 abbrev pub files_of : FoldNames → FoldFiles
 files_of names = record {
-  config = names.config.now;
-  journal = names.journal.now;
+  from = recording names.from;
   messages = names.messages.now;
   memory = names.memory.now;
 }
+
+-- the same of `check`
+abbrev pub three_of : CheckNames → CheckFiles
+three_of names = record { from = recording names.from; messages = names.messages.now }
 
 -- the same of `migrate`
 abbrev pub pair_of : MigrateNames → MigrateFiles
@@ -21,5 +30,6 @@ pair_of names = record { config = names.config.now; target = names.target.now }
 -- the command that is asked for
 abbrev pub asked : Request → Command
 asked (Fold names) = fold (files_of names)
+asked (Check names) = check (three_of names)
 asked (Decode messages) = decode messages.now
 asked (Migrate names) = migrate (pair_of names)

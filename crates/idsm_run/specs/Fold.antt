@@ -1,24 +1,24 @@
 -- The command `fold`: the files that it writes, and its text.
 use Rattle.std.specs.Prelude.{ℕ, List, [], ◌∷◌, ◌++◌, length, codes, decimal}
-use Rattle.idsm_run.specs.Names.{Turn, entries_of}
+use Rattle.idsm_run.specs.Names.{Parts, Turn, entries_of, count_of, rows_of}
 use Rattle.idsm_run.specs.Command.{FoldFiles}
 use Rattle.idsm_run.specs.Writing.{Output}
 
--- the line `turns T entries E messages M records 0`, with its line feed: as many messages as entries, each
--- of which is a report
-abbrev pub fold_line : ℕ → ℕ → List ℕ
-fold_line turns entries =
+-- the line `turns T entries E messages M records K`, with its line feed
+abbrev pub fold_line : (turns entries messages records : ℕ) → List ℕ
+fold_line turns entries messages records =
     codes "turns " ++ (decimal turns
     ++ (codes " entries " ++ (decimal entries
-    ++ (codes " messages " ++ (decimal entries
-    ++ codes " records 0\n")))))
+    ++ (codes " messages " ++ (decimal messages
+    ++ (codes " records " ++ (decimal records ++ codes "\n")))))))
 
 -- the line that tells what was folded
-abbrev pub fold_text : List Turn → List ℕ
-fold_text turns = fold_line (length turns) (length (entries_of turns))
+abbrev pub fold_text : Parts → List Turn → List ℕ
+fold_text config turns =
+    fold_line (length turns) (length (entries_of turns)) (count_of config turns) (length (rows_of config turns))
 
--- the files that `fold` writes, in this order: these messages, and an empty event memory
-abbrev pub fold_outputs : FoldFiles → List ℕ → List Output
-fold_outputs names messages =
+-- the files that `fold` writes, in this order: these messages, and this text of the event memory
+abbrev pub fold_outputs : FoldFiles → (messages memory : List ℕ) → List Output
+fold_outputs names messages memory =
     record { name = names.messages; bytes = messages }
-    ∷ record { name = names.memory; bytes = [] } ∷ []
+    ∷ record { name = names.memory; bytes = memory } ∷ []

@@ -1,13 +1,12 @@
 -- What the input files of a command deserve: the work that they ask for, or why the command has to stop,
 -- in the order in which files are read and judged.
 -- Source: docs/COMMANDS.md, "Order of work".
-use Rattle.std.specs.Prelude.{ℕ, List, [], ◌∷◌, codes, length, nat_lt, Option, Some, None, Result, Ok, Err, if◌then◌else◌, bytes_eq}
-use Rattle.idsm_run.specs.Names.{configuration, config_text, Parts, ConfigFault, MessageParts, messages_read, BadMessage, Files, Turn, decoded_text, BadLine, Told, BadConfig, NotBuilt, BadJournal, BadMessages, Stop, CannotRead, TooLong, Refused}
-use Rattle.idsm_run.specs.Built.{is_built, has_control}
-use Rattle.idsm_run.specs.Command.{Command, fold, decode, migrate, FoldFiles, MigrateFiles}
+use Rattle.std.specs.Prelude.{ℕ, nat_eq, List, [], ◌∷◌, codes, length, nat_lt, Option, Some, None, Result, Ok, Err, if◌then◌else◌, bytes_eq}
+use Rattle.std.specs.List.{common_prefix_len}
+use Rattle.idsm_run.specs.Names.{configuration, config_text, Parts, ConfigFault, MessageParts, messages_read, BadMessage, Files, Turn, decoded_text, messages_of, rows_of, memory_text, BadLine, Told, BadConfig, BadJournal, BadMessages, Differ, Stop, CannotRead, TooLong, Refused}
+use Rattle.idsm_run.specs.Command.{Command, fold, check, decode, migrate, Recording, FoldFiles, MigrateFiles}
 use Rattle.idsm_run.specs.Fold.{fold_outputs, fold_text}
 use Rattle.idsm_run.specs.FoldedJournal.{folded_in, ◌>>=◌}
-use Rattle.idsm_run.specs.Sending.{messages_of}
 use Rattle.idsm_run.specs.Writing.{Output}
 
 -- ---- files
@@ -32,20 +31,29 @@ abbrev pub config_found : Result Parts ConfigFault → Result Parts (Stop (List 
 config_found (Ok config) = Ok config
 config_found (Err fault) = Err (Refused (BadConfig fault))
 
--- one that the chain can mean
-abbrev pub config_judged : Result Parts ConfigFault → Result Parts (Stop (List ℕ))
-config_judged found =
-    config_found found >>= λ config. if is_built config then Ok config else Err (Refused NotBuilt)
-
--- the turns of a journal that the chain can mean
+-- the turns of a journal
 abbrev pub journal_judged : Result Told BadLine → Result (List Turn) (Stop (List ℕ))
-journal_judged (Ok told) = if has_control told.turns then Err (Refused NotBuilt) else Ok told.turns
+journal_judged (Ok told) = Ok told.turns
 journal_judged (Err bad) = Err (Refused (BadJournal bad.line bad.fault))
 
 -- the messages of a file
 abbrev pub messages_judged : Result (List MessageParts) BadMessage → Result (List MessageParts) (Stop (List ℕ))
 messages_judged (Ok messages) = Ok messages
 messages_judged (Err bad) = Err (Refused (BadMessages bad))
+
+-- a configuration, and the turns of a journal under it
+pub record Recorded : Type 0 where
+  pub config : Parts
+  pub turns : List Turn
+
+-- what the files of a recording hold: each is judged before the next is read
+abbrev pub recorded_in : Recording → Files → Result Recorded (Stop (List ℕ))
+recorded_in names files = do
+  text ← file_of 1048576 names.config files
+  config ← config_found (configuration text)
+  journal ← file_of 16777216 names.journal files
+  turns ← journal_judged (folded_in config journal)
+  Ok (record { config = config; turns = turns })
 
 -- ---- the work of commands
 
@@ -54,12 +62,23 @@ pub record Work : Type 0 where
   pub outputs : List Output
   pub said : List ℕ
 
--- the messages of the turns, an empty event memory, and the line that counts them
+-- the messages that the chain sends for the turns, the text of its event memory, and the line that counts them
 abbrev pub fold_work : FoldFiles → Parts → List Turn → Work
 fold_work names config turns = record {
-  outputs = fold_outputs names (messages_of config turns);
-  said = fold_text turns;
+  outputs = fold_outputs names (messages_of config turns) (memory_text (rows_of config turns));
+  said = fold_text config turns;
 }
+
+-- no file, and a line
+abbrev pub compared : List ℕ → Work
+compared said = record { outputs = []; said = said }
+
+-- no file and a line that says so, where the bytes are those that were sent; else the first place at which they
+-- differ, which is the end of the shorter ones where these are a first part of the others
+abbrev pub check_judged : (bytes sent : List ℕ) → Result Work (Stop (List ℕ))
+check_judged bytes sent =
+    if bytes_eq bytes sent then Ok (compared (codes "same\n"))
+    else Err (Refused (Differ (common_prefix_len nat_eq bytes sent)))
 
 -- no file, and a line for each message
 abbrev pub decode_work : List MessageParts → Work
@@ -73,14 +92,15 @@ migrate_work names config = record {
 }
 
 -- the work of a command over these files, or why they do not serve: each file is read and judged before
--- the next, the journal under the configuration
+-- the next
 unfoldable pub judge : Command → Files → Result Work (Stop (List ℕ))
 judge (fold names) files = do
-  text ← file_of 1048576 names.config files
-  config ← config_judged (configuration text)
-  journal ← file_of 16777216 names.journal files
-  turns ← journal_judged (folded_in config journal)
-  Ok (fold_work names config turns)
+  recorded ← recorded_in names.from files
+  Ok (fold_work names recorded.config recorded.turns)
+judge (check names) files = do
+  recorded ← recorded_in names.from files
+  bytes ← file_of 67108864 names.messages files
+  check_judged bytes (messages_of recorded.config recorded.turns)
 judge (decode name) files = do
   bytes ← file_of 67108864 name files
   messages ← messages_judged (messages_read bytes)

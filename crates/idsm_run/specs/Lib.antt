@@ -1,4 +1,3 @@
-pub mod Built
 pub mod Command
 pub mod CommandView
 pub mod Deserts
@@ -6,9 +5,9 @@ pub mod Fold
 pub mod FoldedJournal
 pub mod Judge
 pub mod Names
+pub mod Outcome
 pub mod Run
 pub mod Saying
-pub mod Sending
 pub mod Stages
 pub mod Texts
 pub mod Words

@@ -2,8 +2,8 @@
 -- and its text.
 -- Source: docs/COMMANDS.md.
 use Rattle.std.specs.Prelude.{◌≡◌, ◌⊎◌, ℕ, List, [], IsTrue, Option, Some, None, option_map, Result, Ok, Err, Contains}
-use Rattle.idsm_run.specs.Names.{configuration, Faults, Rose, CountsFault, Files, SameFiles, Shelved, Heard, Read, WriteFault, Failed, Refusal, BadConfig, BadMessages, Stop, CannotRead, TooLong, Refused, CannotWrite, NoMemory}
-use Rattle.idsm_run.specs.Command.{Command, fold, decode, migrate, read_by, written_by}
+use Rattle.idsm_run.specs.Names.{configuration, Faults, Rose, CountsFault, Files, SameFiles, Shelved, Heard, Read, WriteFault, Failed, Refusal, BadConfig, BadMessages, Differ, Stop, CannotRead, TooLong, Refused, CannotWrite, NoMemory}
+use Rattle.idsm_run.specs.Command.{Command, fold, check, decode, migrate, read_by, written_by}
 use Rattle.idsm_run.specs.Judge.{Work, judge, without}
 use Rattle.idsm_run.specs.Saying.{Puts}
 use Rattle.idsm_run.specs.Texts.{usage, answer_text, answer_status}
@@ -14,7 +14,10 @@ use Rattle.idsm_run.specs.Writing.{AreWritten, StandUpTo, WriteFails}
 -- the command may refuse so
 abbrev pub MayRefuse : Command → Refusal → Type 0
 MayRefuse (fold files) (BadMessages bad) = ⊥
+MayRefuse (fold files) (Differ at) = ⊥
 MayRefuse (fold files) refusal = Unit {0}
+MayRefuse (check files) (BadMessages bad) = ⊥
+MayRefuse (check files) refusal = Unit {0}
 MayRefuse (decode name) (BadMessages bad) = Unit {0}
 MayRefuse (decode name) refusal = ⊥
 MayRefuse (migrate files) (BadConfig fault) = Unit {0}

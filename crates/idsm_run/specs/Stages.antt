@@ -4,9 +4,7 @@ use Rattle.std.specs.Prelude.{◌≡◌, ℕ, List, IsTrue, Result, Ok, Err, Vec
 use Rattle.idsm_run.specs.Names.{Global, CountsFault, Shelved, Read, BadConfig, Stop, CannotRead, TooLong, Refused, CannotWrite, NoMemory}
 use Rattle.config_json.specs.declared.fault.JsonFault.{JsonFault}
 use Rattle.config_json.specs.declared.fault.JsonFault.TheVariants as faults
-use Rattle.idsm_run.specs.Command.{FoldFiles, fold}
 use Rattle.idsm_run.specs.Judge.{file_of}
-use Rattle.idsm_run.specs.Run.{MayRefuse}
 
 -- a stop with the names of files as their bytes
 abbrev pub plain_stop : Stop (Bor (List ℕ)) → Stop (List ℕ)
@@ -26,9 +24,9 @@ abbrev pub stop_of_config : {N : Type 0} → JsonFault → Stop N
 stop_of_config (faults.Config fault) = Refused (BadConfig fault)
 stop_of_config faults.NoMemory = NoMemory
 
--- the refusal by `fold` that was found, or want of memory
+-- the refusal that was found, or want of memory
 abbrev pub StopsAs : {A : Type 0} → Result A (Stop (List ℕ)) → Stop (List ℕ) → Type 0
-StopsAs found (Refused refusal) = (found ≡ Err (Refused refusal)) × ((files : FoldFiles) → MayRefuse (fold files) refusal)
+StopsAs found (Refused refusal) = found ≡ Err (Refused refusal)
 StopsAs found NoMemory = ⊤
 StopsAs found other = ⊥
 

@@ -1,7 +1,7 @@
 -- The statuses and the texts of how a run ends.
 -- Source: docs/COMMANDS.md.
 use Rattle.std.specs.Prelude.{ℕ, ◌++◌, List, Result, Ok, Err, codes, decimal}
-use Rattle.idsm_run.specs.Names.{ConfigFault, BadMessage, Refusal, BadConfig, NotBuilt, BadJournal, BadMessages, Stop, CannotRead, TooLong, Refused, CannotWrite, NoMemory}
+use Rattle.idsm_run.specs.Names.{ConfigFault, BadMessage, Refusal, BadConfig, BadJournal, BadMessages, Differ, Stop, CannotRead, TooLong, Refused, CannotWrite, NoMemory}
 use Rattle.ids_config.specs.declared.fault.ConfigPlace.{ConfigPlace}
 use Rattle.ids_config.specs.declared.fault.ConfigPlace.TheVariants.{Top, Class, Event}
 use Rattle.ids_frame.specs.declared.fault.FrameFault.{FrameFault}
@@ -10,8 +10,8 @@ use Rattle.ids_frame.specs.declared.fault.FrameFault.TheVariants.{Short, Unknown
 -- the usage, with the commands that are built
 abbrev pub usage : List ℕ
 usage =
-    codes "usage: idsm fold CONFIG JOURNAL MESSAGES MEMORY\n" ++ codes "       idsm decode MESSAGES\n"
-    ++ codes "       idsm migrate CONFIG NEW\n"
+    codes "usage: idsm fold CONFIG JOURNAL MESSAGES MEMORY\n" ++ codes "       idsm check CONFIG JOURNAL MESSAGES\n"
+    ++ codes "       idsm decode MESSAGES\n" ++ codes "       idsm migrate CONFIG NEW\n"
 
 -- ---- the texts of refusals
 
@@ -43,18 +43,22 @@ abbrev pub bad_message_text : BadMessage → List ℕ
 bad_message_text bad =
     codes "bad message at " ++ (decimal bad.at ++ (codes ": " ++ (fault_word bad.fault ++ codes "\n")))
 
+-- the line `differs at K`
+abbrev pub differs_text : ℕ → List ℕ
+differs_text at = codes "differs at " ++ (decimal at ++ codes "\n")
+
 -- the text of a refusal
 abbrev pub refusal_text : Refusal → List ℕ
 refusal_text (BadConfig fault) = bad_config_text fault
-refusal_text NotBuilt = codes "not built\n"
 refusal_text (BadJournal line number) = bad_journal_text line number
 refusal_text (BadMessages bad) = bad_message_text bad
+refusal_text (Differ at) = differs_text at
 
 -- the status of a refusal
 abbrev pub refusal_status : Refusal → ℕ
 refusal_status (BadConfig fault) = 5
-refusal_status NotBuilt = 12
 refusal_status (BadJournal line number) = 6
+refusal_status (Differ at) = 9
 refusal_status (BadMessages bad) = 10
 
 -- ---- the texts of stops

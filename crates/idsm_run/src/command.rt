@@ -1,15 +1,28 @@
 //! The words behind the program's name.
 
 ghost use Rattle.std.specs.Prelude.{◌≡◌, ◌&&◌, not, map, option_map, string_bytes, bytes_eq};
-ghost use Rattle.idsm_run.specs.Words.{list_any, command_of, fold_of, decode_of, migrate_of, is_name, are_names, asked};
+ghost use Rattle.idsm_run.specs.Words.{list_any, command_of, fold_of, check_of, decode_of, migrate_of, is_name, are_names, asked};
+
+/// The files of a recording.
+#[derive(Clone, Copy, Debug)]
+pub(crate) struct RecordingNames<'a> {
+    pub(crate) config: &'a str,
+    pub(crate) journal: &'a str,
+}
 
 /// The files of the command `fold`. The names are not empty and differ.
 #[derive(Clone, Copy, Debug)]
 pub(crate) struct FoldNames<'a> {
-    pub(crate) config: &'a str,
-    pub(crate) journal: &'a str,
+    pub(crate) from: RecordingNames<'a>,
     pub(crate) messages: &'a str,
     pub(crate) memory: &'a str,
+}
+
+/// The files of the command `check`. The names are not empty and differ.
+#[derive(Clone, Copy, Debug)]
+pub(crate) struct CheckNames<'a> {
+    pub(crate) from: RecordingNames<'a>,
+    pub(crate) messages: &'a str,
 }
 
 /// The files of the command `migrate`. The names are not empty and differ.
@@ -23,6 +36,7 @@ pub(crate) struct MigrateNames<'a> {
 #[derive(Clone, Copy, Debug)]
 pub(crate) enum Request<'a> {
     Fold(FoldNames<'a>),
+    Check(CheckNames<'a>),
     /// Prints the messages of a file.
     Decode(&'a str),
     Migrate(MigrateNames<'a>),
@@ -35,6 +49,7 @@ pub(crate) fn parse(words: &[String]) -> Option<Request<'_>>
     let (word, names) = words.split_first()?;
     match word.as_str() {
         "fold" => parse_fold(names),
+        "check" => parse_check(names),
         "decode" => parse_decode(names),
         "migrate" => parse_migrate(names),
         _ => None,
@@ -63,10 +78,30 @@ fn parse_fold(words: &[String]) -> Option<Request<'_>>
         return None;
     }
     Some(Request::Fold(FoldNames {
-        config: config.as_str(),
-        journal: journal.as_str(),
+        from: RecordingNames {
+            config: config.as_str(),
+            journal: journal.as_str(),
+        },
         messages: messages.as_str(),
         memory: memory.as_str(),
+    }))
+}
+
+fn parse_check(words: &[String]) -> Option<Request<'_>>
+    ensures { option_map asked result ≡ check_of (map string_bytes words.now) }
+{
+    let [config, journal, messages] = words else {
+        return None;
+    };
+    if !names_differ(words) {
+        return None;
+    }
+    Some(Request::Check(CheckNames {
+        from: RecordingNames {
+            config: config.as_str(),
+            journal: journal.as_str(),
+        },
+        messages: messages.as_str(),
     }))
 }
 

@@ -4,7 +4,7 @@ ghost use Rattle.std.specs.Prelude.{◌≡◌, IsTrue, IfOk, IfErr};
 ghost use Rattle.idsm_run.specs.Words.{SameFiles, decoded_text, decode as decode_command, WasDone, StopsFor, plain_stop};
 
 use crate::inputs::read_file;
-use crate::limits::MAX_MESSAGES_BYTES;
+use crate::sizes::MAX_MESSAGES_BYTES;
 use crate::stop::{Refusal, Stop};
 use ids_frame::Messages;
 use ids_outside::Shelf;

@@ -1,12 +1,12 @@
-//! The journals that the chain of this release can mean: nothing is held back, and no entry is a
-//! control.
+//! Journals that are folded: what the chain gives for them, and whether they tell its own numbers.
 
-ghost use Rattle.std.specs.Prelude.{◌≡◌, ◌<◌, ◌+◌, ◌^◌, length, IfOk};
-ghost use Rattle.idsm_run.specs.Words.{list_any, AllByRecursion, plain_entry, entries_of, has_control as some_control, is_control as control, folded_in, held_back_line as line_held_back, journal_judged, CanSendTurn, Judges};
+ghost use Rattle.std.specs.Prelude.{◌≡◌, ◌<◌, ◌+◌, ◌^◌, ◌∷◌, length, IfOk};
+ghost use Rattle.idsm_run.specs.Words.{entries_of, folded_in, held_back_line as line_held_back, journal_judged, IsOutcome, Judges};
 
 use crate::stop::{Refusal, Stop};
+use chain_plain::{Folded, outcome};
 use ids_config::Config;
-use ids_types::{Act, Entry, EntryWalk, History, Plain};
+use ids_types::History;
 use journal::{JournalFault, read};
 use std::alloc::Global;
 use text_spec::what_a_fitting_journal_keeps;
@@ -14,16 +14,23 @@ use text_spec::what_a_fitting_journal_keeps;
 /// The fault of a turn whose number of held-back events is not the chain's.
 const HELD_BACK: u8 = 8;
 
-/// The history that the bytes are the journal of, where it is one that the chain can mean.
+/// A journal's history, and what the chain gives for it.
+#[derive(Debug, Drop)]
+pub(crate) struct Judged {
+    pub(crate) history: History,
+    pub(crate) folded: Folded,
+}
+
+/// The history that the bytes are the journal of, folded, where it tells the chain's own numbers.
 pub(crate) fn judge_journal<'a>(
     alloc: Global,
     text: &[u8],
     config: &Config,
-) -> Result<History, Stop<&'a str>>
-    ensures judges { Judges (λ h. h.turns) (journal_judged (folded_in config.now text.now)) result }
-    ensures fits { IfOk result (λ h. AllByRecursion (CanSendTurn (length config.now.events)) h.turns) }
+) -> Result<Judged, Stop<&'a str>>
+    ensures judges { Judges (λ j. j.history.turns) (journal_judged (folded_in config.now text.now)) result }
+    ensures folds { IfOk result (λ j. IsOutcome config.now j.history.turns j.folded) }
 {
-    // A journal that fits has its numbers in their ranges.
+    // A journal that fits has its numbers in their ranges, and its turns in their order.
     what_a_fitting_journal_keeps();
     let history = match read(alloc, text, config) {
         Ok(journal) => journal.history,
@@ -32,61 +39,34 @@ pub(crate) fn judge_journal<'a>(
         }
         Err(JournalFault::NoMemory) => return Err(Stop::NoMemory),
     };
-    if let Some(line) = held_back_line(&history) {
+    let folded = outcome(alloc, config, &history)?;
+    if let Some(line) = held_back_line(&history, &folded.limited) {
         return Err(Stop::Refused(Refusal::BadJournal {
             line,
             number: HELD_BACK,
         }));
     }
-    if has_control(&history) {
-        return Err(Stop::Refused(Refusal::NotBuilt));
-    }
-    Ok(history)
+    Ok(Judged { history, folded })
 }
 
-/// The line of the first turn that says that events were held back.
-fn held_back_line(history: &History) -> Option<u64>
+/// The line of the first turn that tells another number than the turn before it hands on, or than 0 where
+/// it is the first. `limited` has what each turn hands on.
+fn held_back_line(history: &History, limited: &[u64]) -> Option<u64>
     requires { length history.now.turns + length (entries_of history.now.turns) + 1 < 2 ^ 64 }
-    ensures { result ≡ line_held_back 1 history.now.turns }
+    ensures { result ≡ line_held_back 1 (0 ∷ limited.now) history.now.turns }
 {
     let mut line = 1;
+    let mut due = 0;
+    let mut numbers = limited;
     let mut turns = history.walk();
     while let Some((head, entries)) = turns.pop_front() {
-        if head.limited != 0 {
+        if head.limited != due {
             return Some(line);
         }
         line += 1 + entries.len() as u64;
+        let (handed_on, rest) = numbers.split_first()?;
+        due = *handed_on;
+        numbers = rest;
     }
     None
-}
-
-/// Some turn has a control.
-fn has_control(history: &History) -> bool
-    ensures { result ≡ some_control history.now.turns }
-{
-    let mut turns = history.walk();
-    while let Some((_, entries)) = turns.pop_front() {
-        if some_is_control(entries) {
-            return true;
-        }
-    }
-    false
-}
-
-fn some_is_control(entries: EntryWalk<'_>) -> bool
-    ensures { result ≡ list_any control entries.entry }
-{
-    let mut rest = entries;
-    while let Some(entry) = rest.pop_front() {
-        if is_control(&entry) {
-            return true;
-        }
-    }
-    false
-}
-
-fn is_control(entry: &Entry<Plain<'_>>) -> bool
-    ensures { result ≡ control (plain_entry entry.now) }
-{
-    !matches!(entry.act, Act::Report { .. })
 }

@@ -1,31 +1,29 @@
 //! The runs of the program: a command from its words over files and output, to its status.
 //!
-//! Layer 10, runs. Over `journal`, `text_spec`, `config_json`, `ids_frame` and `ids_outside`; the
-//! program `idsm` calls it with the host's files. For now the commands are `fold`, for configurations
-//! under which every report is sent as it is and for journals that tell no control, `decode` and
-//! `migrate`; the chain that sends every report is private.
+//! Layer 10, runs. Over `chain_plain`, `journal`, `text_spec`, `config_json`, `ids_frame` and
+//! `ids_outside`; the program `idsm` calls it with the host's files. The commands are `fold`, `check`,
+//! `decode` and `migrate`.
 //! Contracts see a shelf by what it tells: `specs/Judge.antt` says what the input files of a command
 //! deserve, `specs/Run.antt` how a run ends, and `run_plain` promises it. That memory suffices is not
 //! promised: `NO_MEMORY` is the one status without a cause.
 #![tactic(auto)]
 
-mod built;
+mod check;
 mod command;
 mod decode;
 mod fold;
 mod inputs;
 mod journals;
-mod limits;
 mod migrate;
 mod outputs;
 mod run;
 mod saying;
-mod sending;
+mod sizes;
 mod status;
 mod stop;
 
 pub use run::{files_decide_the_answer, run_plain};
 pub use status::{
-    BAD_CONFIG, BAD_JOURNAL, BAD_MESSAGE, BAD_WORDS, CANNOT_READ, CANNOT_WRITE, DONE, NO_MEMORY,
-    NOT_BUILT, TOO_LONG,
+    BAD_CONFIG, BAD_JOURNAL, BAD_MESSAGE, BAD_WORDS, CANNOT_READ, CANNOT_WRITE, DIFFERS, DONE,
+    NO_MEMORY, TOO_LONG,
 };

@@ -5,7 +5,7 @@ ghost use Rattle.idsm_run.specs.Words.{SameBut, written_by, migrate as migrate_c
 
 use crate::command::MigrateNames;
 use crate::inputs::read_file;
-use crate::limits::MAX_CONFIG_BYTES;
+use crate::sizes::MAX_CONFIG_BYTES;
 use crate::outputs::write_file;
 use crate::stop::Stop;
 use ids_outside::Shelf;
@@ -30,6 +30,6 @@ pub(crate) fn migrate<'a, H: Shelf>(
     let config = config_json::read(alloc, &bytes)?;
     let text = config_json::print(alloc, &config)?;
     let line = format!(in alloc; "form 2\n")?;
-    write_file(names.target, text.as_bytes(), &[text.len()], shelf)?;
+    write_file(names.target, text.as_bytes(), &[text.len() as u64], shelf)?;
     Ok(line.into_bytes())
 }

@@ -10,7 +10,7 @@ use ids_outside::{Shelf, WriteFault};
 pub(crate) fn write_file<H: Shelf>(
     name: &str,
     bytes: &[u8],
-    ends: &[usize],
+    ends: &[u64],
     shelf: &mut H,
 ) -> Result<(), WriteFault>
     requires { Cuts 0 ends.now (length bytes.now) }
@@ -34,7 +34,7 @@ pub(crate) fn write_file<H: Shelf>(
 fn append_pieces<H: Shelf>(
     name: &str,
     bytes: &[u8],
-    ends: &[usize],
+    ends: &[u64],
     shelf: &mut H,
 ) -> Result<(), WriteFault>
     requires cuts { Cuts 0 ends.now (length bytes.now) }
@@ -63,8 +63,8 @@ fn append_pieces<H: Shelf>(
 fn append_piece<H: Shelf>(
     name: &str,
     bytes: &[u8],
-    start: usize,
-    end: usize,
+    start: u64,
+    end: u64,
     shelf: &mut H,
 ) -> Result<(), WriteFault>
     requires ordered { start ≤ end }
@@ -85,5 +85,5 @@ fn append_piece<H: Shelf>(
     if start == end {
         return Ok(());
     }
-    shelf.append(name, &bytes[start..end])
+    shelf.append(name, &bytes[start as usize..end as usize])
 }

@@ -1,6 +1,7 @@
 ghost use Rattle.std.specs.Prelude.{◌≡◌, ℕ, List, Ok, Err, IsTrue, map, string_bytes};
 ghost use Rattle.idsm_run.specs.Words.{Shelved, Heard, Stop, Command, command_of, SameBut, EndsWith, EndsOrFails, Work, judge, Ran, RanCommand, written_of, stop_status};
 
+use crate::check::check;
 use crate::command::{Request, parse};
 use crate::decode::decode_file;
 use crate::fold::fold;
@@ -12,6 +13,7 @@ use std::alloc::Global;
 
 /// The usage, with the commands that are built.
 const USAGE: &[u8] = b"usage: idsm fold CONFIG JOURNAL MESSAGES MEMORY
+       idsm check CONFIG JOURNAL MESSAGES
        idsm decode MESSAGES
        idsm migrate CONFIG NEW
 ";
@@ -20,8 +22,9 @@ const USAGE: &[u8] = b"usage: idsm fold CONFIG JOURNAL MESSAGES MEMORY
 /// it was done, and else why not. It waits for nobody.
 ///
 /// `fold CONFIG JOURNAL MESSAGES MEMORY` writes the messages and the event memory of a journal,
-/// `decode MESSAGES` puts a line for each message of a file, and `migrate CONFIG NEW` writes the text of
-/// a configuration in the second form.
+/// `check CONFIG JOURNAL MESSAGES` compares a file with the journal's messages, `decode MESSAGES` puts a
+/// line for each message of a file, and `migrate CONFIG NEW` writes the text of a configuration in the
+/// second form.
 pub fn run_plain<H: Shelf, K: Sink>(
     alloc: Global,
     words: &[String],
@@ -40,6 +43,7 @@ pub fn run_plain<H: Shelf, K: Sink>(
     match parse(words) {
         None => say(USAGE, BAD_WORDS, out),
         Some(Request::Fold(names)) => tell(alloc, fold(alloc, names, shelf), out),
+        Some(Request::Check(names)) => tell(alloc, check(alloc, names, shelf), out),
         Some(Request::Decode(name)) => tell(alloc, decode_file(alloc, name, shelf), out),
         Some(Request::Migrate(names)) => tell(alloc, migrate(alloc, names, shelf), out),
     }

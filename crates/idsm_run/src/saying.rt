@@ -4,7 +4,7 @@ ghost use Rattle.std.specs.Prelude.{◌≡◌, List, ℕ, Err, IfOk, string_byte
 ghost use Rattle.idsm_run.specs.Words.{Puts, Says, Tells, plain_end, bad_config_text, bad_message_text, Refused};
 
 use crate::status::{
-    BAD_CONFIG, BAD_JOURNAL, BAD_MESSAGE, CANNOT_READ, CANNOT_WRITE, DONE, NO_MEMORY, NOT_BUILT,
+    BAD_CONFIG, BAD_JOURNAL, BAD_MESSAGE, CANNOT_READ, CANNOT_WRITE, DIFFERS, DONE, NO_MEMORY,
     TOO_LONG,
 };
 use crate::stop::{Refusal, Stop};
@@ -52,12 +52,12 @@ fn tell_refusal<K: Sink>(alloc: Global, refusal: Refusal, out: &mut K) -> u8
 {
     match refusal {
         Refusal::BadConfig(fault) => say_line(bad_config_line(alloc, fault), BAD_CONFIG, out),
-        Refusal::NotBuilt => say(b"not built\n", NOT_BUILT, out),
         Refusal::BadJournal { line, number } => {
             let told = format!(in alloc; "bad journal line {line}: {number}\n");
             say_line(told, BAD_JOURNAL, out)
         }
         Refusal::BadMessages(bad) => say_line(bad_message_line(alloc, bad), BAD_MESSAGE, out),
+        Refusal::Differ { at } => say_line(format!(in alloc; "differs at {at}\n"), DIFFERS, out),
     }
 }
 

@@ -24,8 +24,8 @@ pub const CANNOT_WRITE: u8 = 7;
 /// Memory was refused.
 pub const NO_MEMORY: u8 = 8;
 
+/// The bytes of a file of messages are not those that the journal's turns sent.
+pub const DIFFERS: u8 = 9;
+
 /// The bytes of a file of messages are no list of messages.
 pub const BAD_MESSAGE: u8 = 10;
-
-/// The configuration uses what is not built yet.
-pub const NOT_BUILT: u8 = 12;

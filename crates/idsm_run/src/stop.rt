@@ -17,12 +17,12 @@ use std::alloc::AllocError;
 pub(crate) enum Refusal {
     /// The configuration has this fault.
     BadConfig(ConfigFault),
-    /// The configuration or the journal uses what the chain cannot mean yet.
-    NotBuilt,
     /// The first bad line of the journal, from 1, and its first fault.
     BadJournal { line: u64, number: u8 },
     /// No message begins at this place of the file of messages.
     BadMessages(BadMessage),
+    /// The file of messages has other bytes from this place on than were sent, or ends there, or goes on.
+    Differ { at: u64 },
 }
 
 /// Why a command stopped.

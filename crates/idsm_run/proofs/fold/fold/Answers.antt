@@ -1,21 +1,41 @@
-use Rattle.std.proofs.Common.{rules}
-use Rattle.idsm_run.specs.Words.{fold, files_of, fold_work, stop_of_write}
+use Rattle.std.proofs.Common.{rules, refl, subst, ◌∙◌}
+use Rattle.idsm_run.specs.Words.{fold, files_of, fold_work, stop_of_write, StandUpTo, AreWritten}
 use Rattle.idsm_run.proofs.ExitLemmas.{left_by}
+use Rattle.idsm_run.proofs.FoldLemmas.{outputs_are, line_is}
+use Rattle.idsm_run.proofs.JudgeLemmas.{fold_found}
 use Rattle.idsm_run.proofs.WorkLemmas.{all_written, write_stopped}
 use Rattle.idsm_run.proofs.fold.fold.Goals as goal
 
+pub returns-in_err-inputs-clause-stops : goal.returns-in_err-inputs-clause-stops
+returns-in_err-inputs-clause-stops g c =
+    left_by _ c.in_err-inputs.field-0.0 _ c.from_residual.ensures.1
+    (c.in_err-inputs.ensures.stops (fold (files_of c.args.names)) refl)
+
 pub returns-in_err-write_outputs-clause-stops : goal.returns-in_err-write_outputs-clause-stops
 returns-in_err-write_outputs-clause-stops g c =
+    let inputs = c.in_ok-inputs.inputs in
+    let names = files_of c.args.names in
+    let outputs = outputs_are inputs.config inputs.journal.history.turns inputs.journal.folded
+    c.in_ok-inputs.ensures.folds names c.deref.result.now (c.deref.ensures.value ∙ c.in_ok-memory.ensures) in
     left_by _ (stop_of_write c.in_err-write_outputs.field-0.0) _ c.from_residual-in_err-write_outputs.ensures.1
-    (write_stopped (fold (files_of c.args.names)) (fold_work (files_of c.args.names) c.in_ok-inputs.inputs.config c.in_ok-inputs.inputs.history.turns) (g.H.Shelf.shows c.args.shelf.now)
-    (g.H.Shelf.shows c.read_inputs.new.shelf) _ c.in_ok-inputs.ensures.found c.read_inputs.ensures.tells
+    (write_stopped (fold names) (fold_work names inputs.config inputs.journal.history.turns)
+    (g.H.Shelf.shows c.args.shelf.now) (g.H.Shelf.shows c.read_inputs.new.shelf) _
+    (λ told. fold_found names _ _ (c.in_ok-inputs.ensures.found told)) c.read_inputs.ensures.tells
     c.in_err-write_outputs.field-0.0 c.read_inputs.ensures.same c.in_ok-inputs.ensures.no_fault
-    (λ told. rw c.in_ok-sent.ensures.bytes at (c.in_err-write_outputs.ensures.part told))
+    (λ told. subst (λ files. StandUpTo files (g.H.Shelf.shows c.read_inputs.new.shelf).files
+    (g.H.Shelf.shows c.write_outputs.new.shelf).files) outputs (c.in_err-write_outputs.ensures.part told))
     c.in_err-write_outputs.ensures.fails)
 
 pub returns-clause-done : goal.returns-clause-done
 returns-clause-done g c =
-    all_written (fold (files_of c.args.names)) (fold_work (files_of c.args.names) c.in_ok-inputs.inputs.config c.in_ok-inputs.inputs.history.turns) (g.H.Shelf.shows c.args.shelf.now)
-    (g.H.Shelf.shows c.read_inputs.new.shelf) _ c.in_ok-inputs.ensures.found c.read_inputs.ensures.tells
-    _ c.in_ok-text.ensures
-    (λ told. rw c.in_ok-sent.ensures.bytes at (c.in_ok-write_outputs.ensures.ok told)) (λ told. tt) (search rules)
+    let inputs = c.in_ok-inputs.inputs in
+    let names = files_of c.args.names in
+    let folds = c.in_ok-inputs.ensures.folds in
+    let outputs = outputs_are inputs.config inputs.journal.history.turns inputs.journal.folded folds names
+    c.deref.result.now (c.deref.ensures.value ∙ c.in_ok-memory.ensures) in
+    all_written (fold names) (fold_work names inputs.config inputs.journal.history.turns)
+    (g.H.Shelf.shows c.args.shelf.now) (g.H.Shelf.shows c.read_inputs.new.shelf) _
+    (λ told. fold_found names _ _ (c.in_ok-inputs.ensures.found told)) c.read_inputs.ensures.tells
+    _ (c.in_ok-text.ensures ∙ line_is inputs.config inputs.journal.history.turns inputs.journal.folded folds)
+    (λ told. subst (λ files. AreWritten files (g.H.Shelf.shows c.write_outputs.new.shelf).files) outputs
+    (c.in_ok-write_outputs.ensures.ok told)) (λ told. tt) (search rules)

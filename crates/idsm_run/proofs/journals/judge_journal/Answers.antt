@@ -1,18 +1,35 @@
 use Rattle.std.proofs.Common.{arith}
 use Rattle.std.proofs.lemmas.Grind.{common_steps}
 use Rattle.idsm_run.specs.Words.{told}
-use Rattle.idsm_run.proofs.JournalLemmas.{lines_are_few, can_send}
+use Rattle.idsm_run.proofs.JournalLemmas.{lines_are_few, can_fold, cut_at_ends}
 use Rattle.idsm_run.proofs.journals.judge_journal.Goals as goal
+
+-- the chain can take the turns of a journal
+pub outcome-requires : goal.outcome-requires
+outcome-requires c =
+    let config = c.args.config.now in
+    let turns = c.in-Ok.journal.history.turns in
+    let losses = c.in-Ok.journal.losses.items in
+    let fits = c.in-Ok.ensures.found.fits in
+    let keeps = c.what_a_fitting_journal_keeps.ensures in
+    can_fold config turns losses (keeps.ranges config (told turns losses) fits)
+    (λ before middle behind first last. keeps.order config (told turns losses) before middle behind first last fits)
+    (keeps.few config (told turns losses) fits)
 
 -- a journal has no more lines than bytes
 pub held_back_line-requires : goal.held_back_line-requires
 held_back_line-requires c =
-    let few = lines_are_few c.args.config.now c.args.text.now c.in-Ok.journal.history.turns c.in-Ok.journal.losses.items c.in-Ok.ensures.found in
+    let few = lines_are_few c.args.config.now c.args.text.now c.in-Ok.journal.history.turns
+    c.in-Ok.journal.losses.items c.in-Ok.ensures.found in
     grind (arith, common_steps)
 
--- the reports of the journal can be sent
-pub returns-clause-fits : goal.returns-clause-fits
-returns-clause-fits c =
-    can_send c.args.config.now c.in-Ok.journal.history.turns c.in-Ok.journal.losses.items
-    (c.what_a_fitting_journal_keeps.ensures.ranges c.args.config.now
-    (told c.in-Ok.journal.history.turns c.in-Ok.journal.losses.items) c.in-Ok.ensures.found.fits)
+-- the messages are cut at the ends of turns
+pub returns-clause-folds : goal.returns-clause-folds
+returns-clause-folds c =
+    let given = c.in_ok-folded.ensures in
+    record {
+      sent_bytes = given.sent;
+      turn_ends = rw (given.ends, given.sent) (cut_at_ends c.args.config.now c.in-Ok.journal.history.turns);
+      count = given.messages;
+      rows = given.memory;
+    }
