@@ -7,7 +7,9 @@
 //! `.` is the configuration of one event.
 
 mod calls;
+mod examples;
 mod failing;
+mod filtering;
 mod folding;
 mod migrating;
 mod refusing;

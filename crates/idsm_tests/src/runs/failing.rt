@@ -25,6 +25,22 @@ fn each_failing_call_leaves_a_first_part(rt: HostRuntime) -> Result<(), Fail> {
     Ok(())
 }
 
+/// One report that is stored. The shelf's calls are two reads, the creation of `m`, one append where the report
+/// is sent, the creation of `r`, and one append of the memory's text.
+const STORES: &str =
+    r##"fold c j m r | {"form":1,"instance":18,"memory":1,"events":[{"id":42,"sensor":3,"store":true}]} | T 1 0 0 0/R 0 0 0 1 - -/ | 4 => 7 | cannot write/ | #100483002a000100 | -
+fold c j m r | {"form":1,"instance":18,"memory":1,"events":[{"id":42,"sensor":3,"store":true}]} | T 1 0 0 0/R 0 0 0 1 - -/ | 5 => 7 | cannot write/ | #100483002a000100 | #
+fold c j m r | {"form":1,"instance":18,"memory":1,"events":[{"id":42,"sensor":3,"store":true}]} | T 1 0 0 0/R 0 0 0 1 - -/ | 6 => 0 | turns 1 entries 1 messages 1 records 1/ | #100483002a000100 | #5320302034322033203120312031202d202d0a
+fold c j m r | {"form":1,"instance":18,"memory":1,"events":[{"id":42,"sensor":3,"send":false,"store":true}]} | T 1 0 0 0/R 0 0 0 1 - -/ | 3 => 7 | cannot write/ | # | -
+fold c j m r | {"form":1,"instance":18,"memory":1,"events":[{"id":42,"sensor":3,"send":false,"store":true}]} | T 1 0 0 0/R 0 0 0 1 - -/ | 4 => 7 | cannot write/ | # | #
+fold c j m r | {"form":1,"instance":18,"memory":1,"events":[{"id":42,"sensor":3,"send":false,"store":true}]} | T 1 0 0 0/R 0 0 0 1 - -/ | 5 => 0 | turns 1 entries 1 messages 0 records 1/ | # | #5320302034322033203120312031202d202d0a"##;
+
+#[test]
+fn the_event_memory_is_written_last(rt: HostRuntime) -> Result<(), Fail> {
+    assert_eq!(rt; first_wrong(rt.alloc(), STORES)?, None);
+    Ok(())
+}
+
 /// The command `decode` calls the shelf once, and puts once.
 const DECODES: &str = "decode c | #110483002a00010002a1b2 |  | 0 | - => 3 | cannot read c/ | - | -
 decode c | #110483002a00010002a1b2 |  | 0 | 0 => 7 |  | - | -

@@ -1,0 +1,224 @@
+//! Runs of `fold` through the filters, the limits and the event memory. What is wanted was worked out from
+//! docs/CONFIGURATION.md, by hand and by a program that goes over whole lists of events.
+//!
+//! A table has a line for each run, as `TOP | EVENT | JOURNAL => WANTED`. TOP and EVENT are what the
+//! configuration of one event has besides, at its top and in its event; EVENT may go on with further events.
+//! `.` is nothing. Wanted are the status, the text, MESSAGES in hexadecimal digits behind `#`, and MEMORY
+//! behind `=`; `-` is a file that is not there. `/` is a line feed.
+
+use super::{bytes_of, push_file, shelf_over, sink_of, split_words};
+use idsm_run::run_plain;
+use std::alloc::Global;
+use std::test::Fail;
+use text_spec::push_number;
+
+/// Appends a part of a configuration.
+fn push_part(text: &mut Vec<u8>, part: &str) -> Result<(), Fail> {
+    if part != "." {
+        text.extend_from_slice(part.as_bytes())?;
+    }
+    Ok(())
+}
+
+/// The configuration of one event, with these parts at its top and in its event.
+fn config_with(alloc: Global, top: &str, event: &str) -> Result<Vec<u8>, Fail> {
+    let mut text = Vec::new(alloc);
+    push_part(&mut text, r#"{"form":1,"instance":18"#)?;
+    push_part(&mut text, top)?;
+    push_part(&mut text, r#","events":[{"id":42,"sensor":3"#)?;
+    push_part(&mut text, event)?;
+    push_part(&mut text, "}]}")?;
+    Ok(text)
+}
+
+/// Appends a text, as a table writes it.
+fn push_text(told: &mut Vec<u8>, text: &[u8]) -> Result<(), Fail> {
+    for &byte in text {
+        told.push(if byte == b'\n' { b'/' } else { byte })?;
+    }
+    Ok(())
+}
+
+/// Appends the text of an event memory, as a table writes it behind a bar.
+fn push_memory(told: &mut Vec<u8>, memory: Option<&[u8]>) -> Result<(), Fail> {
+    match memory {
+        None => told.extend_from_slice(b" | -")?,
+        Some(text) => {
+            told.extend_from_slice(b" | =")?;
+            push_text(told, text)?;
+        }
+    }
+    Ok(())
+}
+
+/// Folds what is given, and tells how the run ended.
+fn fold_given(alloc: Global, given: &str) -> Result<Vec<u8>, Fail> {
+    let mut columns = given.split(" | ");
+    let top = columns.next().unwrap_or(".");
+    let event = columns.next().unwrap_or(".");
+    let config = config_with(alloc, top, event)?;
+    let journal = bytes_of(alloc, columns.next().unwrap_or(""))?;
+    let mut shelf = shelf_over(alloc, config, journal, Vec::new(alloc))?;
+    let mut out = sink_of(alloc, "-")?;
+    let words = split_words(alloc, "fold c j m r")?;
+    let status = run_plain(alloc, &words, &mut shelf, &mut out);
+    let mut told = Vec::new(alloc);
+    push_number(&mut told, status as u64)?;
+    told.extend_from_slice(b" | ")?;
+    push_text(&mut told, out.taken())?;
+    push_file(&mut told, shelf.contents("m"))?;
+    push_memory(&mut told, shelf.contents("r"))?;
+    Ok(told)
+}
+
+/// The first line of the table whose run ends otherwise.
+fn first_unlike(alloc: Global, table: &'static str) -> Result<Option<&'static str>, Fail> {
+    for line in table.lines() {
+        let (given, wanted) = line.split_once(" => ").unwrap_or((line, ""));
+        if fold_given(alloc, given)?.as_slice() != wanted.as_bytes() {
+            return Ok(Some(line));
+        }
+    }
+    Ok(None)
+}
+
+/// Modes, block states and every nth. What a mode or a state drops, and what bypasses the filters, is not
+/// counted for the nth. A control takes effect for what stands behind it, and for its own event alone.
+const GATED: &str =
+    r##". | ,"mode":"BRIEF" | T 5 0 0 0/R 0 0 0 1 - 0:0:a1b2/ => 0 | turns 1 entries 1 messages 1 records 0/ | #100483002a000100 | =
+. | ,"mode":"OFF" | T 5 0 0 0/R 0 0 0 1 - 0:0:a1b2/ => 0 | turns 1 entries 1 messages 0 records 0/ | # | =
+. | ,"mode":"BRIEF_BYPASSING_FILTERS","block":[0],"nth":5 | T 5 0 0 0/R 0 0 0 1 8000000100000a00 0:0:a1b2/ => 0 | turns 1 entries 1 messages 1 records 0/ | #120483002a0001008000000100000a00 | =
+. | ,"mode":"DETAILED_BYPASSING_FILTERS","threshold":{"interval":9,"count":9} | T 5 0 0 0/R 0 0 0 1 - 0:0:a1b2/ => 0 | turns 1 entries 1 messages 1 records 0/ | #110483002a00010002a1b2 | =
+. | ,"nth":3 | T 5 0 0 0/R 0 0 0 1 - -/R 0 1 0 2 - -/R 0 2 0 3 - -/R 0 3 0 4 - -/R 0 4 0 5 - -/R 0 5 0 6 - -/R 0 6 0 7 - -/ => 0 | turns 1 entries 7 messages 2 records 0/ | #100483002a000300100483002a000600 | =
+. | ,"nth":2,"block":[1] | T 5 0 0 0/R 0 0 0 1 - -/C 0 1 S 1/R 0 2 0 2 - -/C 0 3 S 0/R 0 4 0 3 - -/ => 0 | turns 1 entries 5 messages 1 records 0/ | #100483002a000300 | =
+. | ,"nth":2,"block":[1],"mode":"DETAILED_BYPASSING_FILTERS" | T 5 0 0 0/R 0 0 0 1 - -/C 0 1 S 1/R 0 2 0 2 - -/C 0 3 S 0/R 0 4 0 3 - -/ => 0 | turns 1 entries 5 messages 3 records 0/ | #100483002a000100100483002a000200100483002a000300 | =
+. | ,"nth":2 | T 5 0 0 0/R 0 0 0 1 - -/C 0 1 M 0 BRIEF_BYPASSING_FILTERS/R 0 2 0 2 - -/C 0 3 M 0 BRIEF/R 0 4 0 3 - -/ => 0 | turns 1 entries 5 messages 2 records 0/ | #100483002a000200100483002a000300 | =
+. | ,"nth":2 | T 5 0 0 0/R 0 0 0 1 - -/C 0 1 M 0 OFF/R 0 2 0 2 - -/T 6 0 0 0/R 0 3 0 3 - -/C 0 4 M 0 DETAILED/R 0 5 0 4 - -/ => 0 | turns 2 entries 6 messages 1 records 0/ | #100483002a000400 | =
+,"state":1 | ,"block":[1,3] | T 5 0 0 0/R 0 0 0 1 - -/C 0 1 S 2/R 0 2 0 2 - -/C 0 3 S 3/T 6 0 0 0/R 0 4 0 3 - -/C 1 0 S 0/R 0 5 0 4 - -/ => 0 | turns 2 entries 7 messages 2 records 0/ | #100483002a000200100483002a000400 | =
+. | ,"nth":2},{"id":9,"sensor":0,"nth":2 | T 5 0 0 0/R 0 0 0 1 - -/R 0 1 1 2 - -/C 0 2 M 1 OFF/R 0 3 1 3 - -/R 0 4 0 4 - -/ => 0 | turns 1 entries 5 messages 1 records 0/ | #100483002a000400 | =
+. | . | T 5 0 0 0/C 0 0 S 1/C 0 1 M 0 OFF/ => 0 | turns 1 entries 2 messages 0 records 0/ | # | ="##;
+
+#[test]
+fn modes_states_and_every_nth_decide_first(rt: HostRuntime) -> Result<(), Fail> {
+    assert_eq!(rt; first_unlike(rt.alloc(), GATED)?, None);
+    Ok(())
+}
+
+/// Aggregation. A window closes at the first turn at which it is due, before that turn's items, and windows
+/// close in the order of their events. It gives the sum of the counts, the opener's timestamp, and the first
+/// or the last context. What a mode drops or lets bypass meanwhile does not touch it. One that is open at the
+/// end gives nothing.
+const JOINED: &str =
+    r##". | ,"aggregate":{"interval":10,"context":"FIRST"} | T 100 0 0 0/R 0 0 0 2 - -/T 105 0 0 0/R 0 1 0 3 - -/T 110 0 0 0/R 0 2 0 1 - -/ => 0 | turns 3 entries 3 messages 1 records 0/ | #100483002a000500 | =
+. | ,"aggregate":{"interval":10,"context":"FIRST"} | T 0 0 0 0/R 0 0 0 65535 - -/R 0 1 0 1 - -/T 10 0 0 0/ => 0 | turns 2 entries 2 messages 1 records 0/ | #100483002affff00 | =
+. | ,"aggregate":{"interval":10,"context":"FIRST"} | T 0 0 0 0/R 0 0 0 1 - -/T 9 0 0 0/R 0 1 0 2 - -/T 25 0 0 0/R 0 2 0 4 - -/T 34 0 0 0/T 35 0 0 0/ => 0 | turns 5 entries 3 messages 2 records 0/ | #100483002a000300100483002a000400 | =
+. | ,"aggregate":{"interval":10,"context":"FIRST"} | T 0 0 0 0/R 0 0 0 1 - -/R 0 1 0 1 - 0:0:a1/R 0 2 0 1 - 0:1:b2/T 10 0 0 0/ => 0 | turns 2 entries 3 messages 1 records 0/ | #110483002a00030001a1 | =
+. | ,"aggregate":{"interval":10,"context":"LAST"} | T 0 0 0 0/R 0 0 0 1 - 0:0:a1/R 0 1 0 1 - 0:1:b2/R 0 2 0 1 - -/T 10 0 0 0/ => 0 | turns 2 entries 3 messages 1 records 0/ | #110483002a00030001b2 | =
+. | ,"aggregate":{"interval":10,"context":"LAST"} | T 0 0 0 0/R 0 0 0 1 - -/R 0 1 0 1 8000000100000a00 -/T 10 0 0 0/ => 0 | turns 2 entries 2 messages 1 records 0/ | #100483002a000200 | =
+. | ,"aggregate":{"interval":10,"context":"LAST"} | T 0 0 0 0/R 0 0 0 1 8000000100000a00 -/R 0 1 0 1 0000000000000001 -/T 10 0 0 0/ => 0 | turns 2 entries 2 messages 1 records 0/ | #120483002a0002008000000100000a00 | =
+. | ,"aggregate":{"interval":1,"context":"FIRST"} | T 5 0 0 0/R 0 0 0 1 - -/T 5 0 0 0/R 0 1 0 1 - -/T 6 0 0 0/ => 0 | turns 3 entries 2 messages 1 records 0/ | #100483002a000200 | =
+. | ,"nth":2,"aggregate":{"interval":10,"context":"FIRST"} | T 0 0 0 0/R 0 0 0 1 - -/R 0 1 0 2 - -/R 0 2 0 3 - -/R 0 3 0 4 - -/T 10 0 0 0/ => 0 | turns 2 entries 4 messages 1 records 0/ | #100483002a000600 | =
+. | ,"aggregate":{"interval":10,"context":"FIRST"} | T 0 0 0 0/R 0 0 0 1 - -/C 0 1 M 0 OFF/R 0 2 0 2 - -/T 10 0 0 0/ => 0 | turns 2 entries 3 messages 1 records 0/ | #100483002a000100 | =
+. | ,"mode":"BRIEF","aggregate":{"interval":10,"context":"FIRST"} | T 0 0 0 0/R 0 0 0 1 - 0:0:a1/C 0 1 M 0 DETAILED/R 0 2 0 1 - 0:1:b2/T 10 0 0 0/ => 0 | turns 2 entries 3 messages 1 records 0/ | #110483002a00020001b2 | =
+. | ,"aggregate":{"interval":10,"context":"FIRST"} | T 0 0 0 0/R 0 0 0 1 - -/C 0 1 M 0 DETAILED_BYPASSING_FILTERS/R 0 2 0 2 - -/T 10 0 0 0/ => 0 | turns 2 entries 3 messages 2 records 0/ | #100483002a000200100483002a000100 | =
+. | ,"aggregate":{"interval":10,"context":"FIRST"}},{"id":9,"sensor":0,"aggregate":{"interval":5,"context":"LAST"}},{"id":8,"sensor":0 | T 0 0 0 0/R 0 0 1 1 - -/T 3 0 0 0/R 0 1 0 1 - -/T 20 0 0 0/R 0 2 2 3 - -/ => 0 | turns 3 entries 3 messages 3 records 0/ | #100483002a00010010048000090001001004800008000300 | ="##;
+
+#[test]
+fn a_window_gives_one_message(rt: HostRuntime) -> Result<(), Fail> {
+    assert_eq!(rt; first_unlike(rt.alloc(), JOINED)?, None);
+    Ok(())
+}
+
+/// Thresholds. An item passes from the sum on, in a window of its own event. The tick of a joined item is
+/// that of the turn that closed its window.
+const REACHING: &str =
+    r##". | ,"threshold":{"interval":100,"count":3} | T 0 0 0 0/R 0 0 0 1 - -/R 0 1 0 1 - -/R 0 2 0 1 - -/R 0 3 0 1 - -/ => 0 | turns 1 entries 4 messages 2 records 0/ | #100483002a000100100483002a000100 | =
+. | ,"threshold":{"interval":100,"count":3} | T 0 0 0 0/R 0 0 0 3 - -/R 0 1 0 1 - -/ => 0 | turns 1 entries 2 messages 2 records 0/ | #100483002a000300100483002a000100 | =
+. | ,"threshold":{"interval":100,"count":3} | T 7 0 0 0/R 0 0 0 2 - -/T 106 0 0 0/R 0 1 0 1 - -/T 107 0 0 0/R 0 2 0 2 - -/T 206 0 0 0/R 0 3 0 1 - -/T 207 0 0 0/R 0 4 0 2 - -/ => 0 | turns 5 entries 5 messages 2 records 0/ | #100483002a000100100483002a000100 | =
+. | ,"threshold":{"interval":100,"count":65535} | T 0 0 0 0/R 0 0 0 65534 - -/R 0 1 0 1 - -/R 0 2 0 65535 - -/ => 0 | turns 1 entries 3 messages 2 records 0/ | #100483002a000100100483002affff00 | =
+. | ,"threshold":{"interval":100,"count":3}},{"id":9,"sensor":0,"threshold":{"interval":100,"count":3} | T 0 0 0 0/R 0 0 0 2 - -/R 0 1 1 2 - -/R 0 2 0 1 - -/R 0 3 1 1 - -/ => 0 | turns 1 entries 4 messages 2 records 0/ | #100483002a0001001004800009000100 | =
+. | ,"aggregate":{"interval":10,"context":"FIRST"},"threshold":{"interval":20,"count":3} | T 0 0 0 0/R 0 0 0 2 - -/T 10 0 0 0/R 0 1 0 1 - -/T 20 0 0 0/R 0 2 0 2 - -/T 30 0 0 0/ => 0 | turns 4 entries 3 messages 1 records 0/ | #100483002a000100 | =
+. | ,"nth":2,"threshold":{"interval":100,"count":3} | T 0 0 0 0/R 0 0 0 9 - -/R 0 1 0 2 - -/R 0 2 0 9 - -/R 0 3 0 1 - -/ => 0 | turns 1 entries 4 messages 1 records 0/ | #100483002a000100 | ="##;
+
+#[test]
+fn items_pass_from_the_threshold_on(rt: HostRuntime) -> Result<(), Fail> {
+    assert_eq!(rt; first_unlike(rt.alloc(), REACHING)?, None);
+    Ok(())
+}
+
+/// Rate and traffic. Windows begin at multiples of the interval. What the traffic holds back has used up the
+/// rate; a shorter message may still have room. Bypassing modes do not pass by. What is not to be sent is not
+/// held back, and held-back items of the internal event that tells of them are not counted.
+const LIMITED: &str =
+    r##","rate":{"interval":1000,"events":2},"internal":{"limited":1} | },{"id":9,"sensor":0 | T 100 0 0 0/R 0 0 0 1 - -/R 0 1 0 1 - -/R 0 2 0 1 - -/T 1000 0 0 1/ => 0 | turns 2 entries 3 messages 3 records 0/ | #100483002a000100100483002a0001001004800009000100 | =
+,"traffic":{"interval":1000,"bytes":20} | . | T 0 0 0 0/R 0 0 0 1 - -/R 0 1 0 1 - -/R 0 2 0 1 - -/T 1 0 0 1/ => 0 | turns 2 entries 3 messages 2 records 0/ | #100483002a000100100483002a000100 | =
+,"rate":{"interval":10,"events":1} | . | T 9 0 0 0/R 0 0 0 1 - -/T 10 0 0 0/R 0 1 0 1 - -/T 19 0 0 0/R 0 2 0 1 - -/T 20 0 0 1/R 0 3 0 1 - -/ => 0 | turns 4 entries 4 messages 3 records 0/ | #100483002a000100100483002a000100100483002a000100 | =
+,"rate":{"interval":1000,"events":2},"traffic":{"interval":1000,"bytes":8} | . | T 0 0 0 0/R 0 0 0 1 - -/R 0 1 0 1 - -/R 0 2 0 1 - -/T 1 0 0 2/ => 0 | turns 2 entries 3 messages 1 records 0/ | #100483002a000100 | =
+,"rate":{"interval":1000,"events":2},"traffic":{"interval":10,"bytes":8} | . | T 0 0 0 0/R 0 0 0 1 - -/R 0 1 0 1 - -/T 10 0 0 1/R 0 2 0 1 - -/T 1000 0 0 1/R 0 3 0 1 - -/ => 0 | turns 3 entries 4 messages 2 records 0/ | #100483002a000100100483002a000100 | =
+,"traffic":{"interval":1000,"bytes":20} | . | T 0 0 0 0/R 0 0 0 1 - 0:0:a1a2a3/R 0 1 0 1 - 0:1:a1a2a3/R 0 2 0 1 - -/T 1 0 0 1/ => 0 | turns 2 entries 3 messages 2 records 0/ | #110483002a00010003a1a2a3100483002a000100 | =
+,"rate":{"interval":1,"events":0} | ,"mode":"DETAILED_BYPASSING_FILTERS"},{"id":9,"sensor":0,"send":false | T 0 0 0 0/R 0 0 0 1 - -/R 0 1 1 1 - -/T 0 0 0 1/ => 0 | turns 2 entries 2 messages 0 records 0/ | # | =
+,"rate":{"interval":1000,"events":2} | ,"send":false | T 0 0 0 0/R 0 0 0 1 - -/R 0 1 0 1 - -/R 0 2 0 1 - -/T 1 0 0 0/ => 0 | turns 2 entries 3 messages 0 records 0/ | # | =
+,"rate":{"interval":1000,"events":1},"internal":{"limited":1} | },{"id":9,"sensor":0 | T 1 0 0 0/R 0 0 0 1 - -/R 0 1 0 1 - -/T 2 0 0 1/T 3 0 0 0/T 1000 0 0 0/ => 0 | turns 4 entries 2 messages 1 records 0/ | #100483002a000100 | =
+,"rate":{"interval":1000,"events":1} | ,"aggregate":{"interval":10,"context":"FIRST"}},{"id":9,"sensor":0 | T 985 0 0 0/R 0 0 0 1 - -/T 990 0 0 0/R 0 1 1 1 - -/T 1000 0 0 0/ => 0 | turns 3 entries 2 messages 2 records 0/ | #1004800009000100100483002a000100 | ="##;
+
+#[test]
+fn limits_hold_messages_back_and_count_them(rt: HostRuntime) -> Result<(), Fail> {
+    assert_eq!(rt; first_unlike(rt.alloc(), LIMITED)?, None);
+    Ok(())
+}
+
+/// Internal events. They stand at the head of their turn, in the order lost events, lost contexts, limited,
+/// whatever their indexes; they tell at most 65,535, and pass the filters of their own event. A control of
+/// their turn comes behind them.
+const TOLD: &str =
+    r##","internal":{"lost_events":1} | },{"id":9,"sensor":0 | T 5 1 0 0/R 0 0 0 1 - -/R 0 1 0 1 - -/T 5 0 0 0/L 0 2 0/ => 0 | turns 2 entries 2 messages 3 records 0/ | #1004800009000100100483002a000100100483002a000100 | =
+,"internal":{"lost_events":1} | },{"id":9,"sensor":0 | T 5 70000 0 0/ => 0 | turns 1 entries 0 messages 1 records 0/ | #1004800009ffff00 | =
+. | },{"id":9,"sensor":0 | T 5 7 8 0/T 6 0 0 0/ => 0 | turns 2 entries 0 messages 0 records 0/ | # | =
+,"rate":{"interval":1000,"events":2},"internal":{"lost_events":3,"lost_contexts":2,"limited":1} | },{"id":9,"sensor":0},{"id":8,"sensor":0},{"id":7,"sensor":0 | T 5 2 0 0/R 0 0 0 1 - -/R 0 1 0 1 - -/T 1000 3 4 1/ => 0 | turns 2 entries 2 messages 4 records 0/ | #1004800007000200100483002a00010010048000070003001004800008000400 | =
+,"internal":{"lost_contexts":1} | },{"id":9,"sensor":0,"nth":2 | T 5 0 1 0/T 6 0 2 0/T 7 0 0 0/T 8 0 3 0/T 9 0 4 0/ => 0 | turns 5 entries 0 messages 2 records 0/ | #10048000090002001004800009000400 | =
+,"internal":{"lost_events":1} | },{"id":9,"sensor":0 | T 5 1 0 0/C 0 0 M 1 OFF/T 6 2 0 0/C 0 1 M 1 BRIEF/T 7 3 0 0/ => 0 | turns 3 entries 2 messages 2 records 0/ | #10048000090001001004800009000300 | =
+,"state":1,"internal":{"lost_events":1} | },{"id":9,"sensor":0,"block":[1] | T 5 1 0 0/C 0 0 S 0/T 6 2 0 0/ => 0 | turns 2 entries 1 messages 1 records 0/ | #1004800009000200 | =
+,"internal":{"lost_events":1} | },{"id":9,"sensor":0,"aggregate":{"interval":10,"context":"FIRST"} | T 0 3 0 0/T 5 4 0 0/T 10 5 0 0/ => 0 | turns 3 entries 0 messages 1 records 0/ | #1004800009000700 | ="##;
+
+#[test]
+fn internal_events_tell_what_was_lost(rt: HostRuntime) -> Result<(), Fail> {
+    assert_eq!(rt; first_unlike(rt.alloc(), TOLD)?, None);
+    Ok(())
+}
+
+/// The event memory. An event that was displaced begins anew. A record has the last timestamp and context, or
+/// none; its sum stays at 65,535. It is behind the filters, and the limits hold nothing back from it.
+const STORED: &str =
+    r##","memory":2 | ,"send":false,"store":true},{"id":9,"sensor":0,"send":false,"store":true},{"id":8,"sensor":0,"send":false,"store":true | T 1 0 0 0/R 0 0 0 1 - -/T 2 0 0 0/R 0 1 1 1 - -/T 3 0 0 0/R 0 2 0 1 - -/T 4 0 0 0/R 0 3 2 1 - -/T 5 0 0 0/R 0 4 1 1 - -/ => 0 | turns 5 entries 5 messages 0 records 2/ | # | =S 2 8 0 1 4 4 - -/S 1 9 0 1 5 5 - -/
+,"memory":0 | ,"send":false,"store":true},{"id":9,"sensor":0,"send":false,"store":true},{"id":8,"sensor":0,"send":false,"store":true | T 1 0 0 0/R 0 0 0 1 - -/T 2 0 0 0/R 0 1 1 1 - -/T 3 0 0 0/R 0 2 0 1 - -/T 4 0 0 0/R 0 3 2 1 - -/T 5 0 0 0/R 0 4 1 1 - -/ => 0 | turns 5 entries 5 messages 0 records 0/ | # | =
+,"memory":1 | ,"send":false,"store":true | T 1 0 0 0/R 0 0 0 2 8000000100000a00 0:0:a1b2/T 4 0 0 0/R 0 1 0 3 - -/ => 0 | turns 2 entries 2 messages 0 records 1/ | # | =S 0 42 3 5 1 4 - -/
+,"memory":1 | ,"send":false,"store":true | T 1 0 0 0/R 0 0 0 2 - -/T 4 0 0 0/R 0 1 0 3 8000000100000a00 0:0:a1b2/ => 0 | turns 2 entries 2 messages 0 records 1/ | # | =S 0 42 3 5 1 4 8000000100000a00 a1b2/
+,"memory":1 | ,"send":false,"store":true,"mode":"BRIEF" | T 1 0 0 0/R 0 0 0 1 - 0:0:a1b2/ => 0 | turns 1 entries 1 messages 0 records 1/ | # | =S 0 42 3 1 1 1 - -/
+,"memory":1 | ,"send":false,"store":true | T 1 0 0 0/R 0 0 0 65535 - -/R 0 1 0 1 - -/ => 0 | turns 1 entries 2 messages 0 records 1/ | # | =S 0 42 3 65535 1 1 - -/
+,"memory":1,"rate":{"interval":1000,"events":1} | ,"store":true | T 1 0 0 0/R 0 0 0 1 - -/R 0 1 0 1 - 0:0:a1/T 2 0 0 1/ => 0 | turns 2 entries 2 messages 1 records 1/ | #100483002a000100 | =S 0 42 3 2 1 1 - a1/
+,"memory":1 | ,"send":false,"store":true,"threshold":{"interval":100,"count":3} | T 1 0 0 0/R 0 0 0 2 - -/T 2 0 0 0/R 0 1 0 1 - -/R 0 2 0 5 - -/ => 0 | turns 2 entries 3 messages 0 records 1/ | # | =S 0 42 3 6 2 2 - -/
+,"memory":1 | ,"store":true,"aggregate":{"interval":10,"context":"FIRST"} | T 0 0 0 0/R 0 0 0 2 8000000100000a00 -/R 0 1 0 3 - 0:0:a1/T 12 0 0 0/ => 0 | turns 2 entries 2 messages 1 records 1/ | #130483002a0005008000000100000a0001a1 | =S 0 42 3 5 12 12 8000000100000a00 a1/
+,"memory":1,"internal":{"lost_events":1} | ,"store":true},{"id":9,"sensor":0,"store":true | T 1 0 0 0/R 0 0 0 1 - -/T 2 3 0 0/R 0 1 0 1 - -/ => 0 | turns 2 entries 2 messages 3 records 1/ | #100483002a0001001004800009000300100483002a000100 | =S 0 42 3 1 2 2 - -/
+,"memory":2 | ,"send":false,"store":true,"aggregate":{"interval":10,"context":"FIRST"}},{"id":9,"sensor":0,"send":false,"store":true | T 0 0 0 0/R 0 0 0 1 - -/T 5 0 0 0/R 0 1 1 1 - -/T 10 0 0 0/R 0 2 1 2 - -/ => 0 | turns 3 entries 3 messages 0 records 2/ | # | =S 0 42 3 1 10 10 - -/S 1 9 0 3 5 10 - -/"##;
+
+#[test]
+fn qualified_events_are_stored(rt: HostRuntime) -> Result<(), Fail> {
+    assert_eq!(rt; first_unlike(rt.alloc(), STORED)?, None);
+    Ok(())
+}
+
+/// Journals in which a turn tells another number of held-back events than the chain's. The first such turn is
+/// told, and only where no line has another fault.
+const MISCOUNTED: &str =
+    r##","rate":{"interval":1000,"events":2},"internal":{"limited":1} | },{"id":9,"sensor":0 | T 100 0 0 0/R 0 0 0 1 - -/R 0 1 0 1 - -/R 0 2 0 1 - -/T 1000 0 0 0/ => 6 | bad journal line 5: 8/ | - | -
+,"rate":{"interval":1000,"events":2},"internal":{"limited":1} | },{"id":9,"sensor":0 | T 100 0 0 0/R 0 0 0 1 - -/R 0 1 0 1 - -/R 0 2 0 1 - -/T 1000 0 0 2/ => 6 | bad journal line 5: 8/ | - | -
+,"rate":{"interval":1000,"events":2},"internal":{"limited":1} | },{"id":9,"sensor":0 | T 100 0 0 1/R 0 0 0 1 - -/ => 6 | bad journal line 1: 8/ | - | -
+,"rate":{"interval":1000,"events":2},"internal":{"limited":1} | },{"id":9,"sensor":0 | T 100 0 0 0/R 0 0 0 1 - -/R 0 1 0 1 - -/R 0 2 0 1 - -/T 200 0 0 1/T 300 0 0 1/T 400 0 0 1/ => 6 | bad journal line 6: 8/ | - | -
+,"rate":{"interval":1000,"events":2},"internal":{"limited":1} | },{"id":9,"sensor":0 | T 100 0 0 0/R 0 0 0 1 - -/R 0 1 0 1 - -/R 0 2 0 1 - -/T 200 0 0 0/T 300 0 0 9/x/ => 6 | bad journal line 7: 1/ | - | -
+. | . | T 5 0 0 0/C 0 0 S 1/T 6 0 0 1/ => 6 | bad journal line 3: 8/ | - | -"##;
+
+#[test]
+fn a_turn_that_tells_another_number_is_the_bad_line(rt: HostRuntime) -> Result<(), Fail> {
+    assert_eq!(rt; first_unlike(rt.alloc(), MISCOUNTED)?, None);
+    Ok(())
+}
