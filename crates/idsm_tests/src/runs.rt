@@ -7,6 +7,7 @@
 //! `.` is the configuration of one event.
 
 mod calls;
+mod checking;
 mod examples;
 mod failing;
 mod filtering;

@@ -25,7 +25,15 @@ fn shelf_with(alloc: Global, example: Example) -> Result<MemoryShelf, Fail> {
     shelf_over(alloc, config, journal, Vec::new(alloc))
 }
 
-/// Whether the example is folded to its messages and its memory, with its line.
+/// Whether `check` finds that the shelf's messages are what its journal gives.
+fn is_same(alloc: Global, shelf: &mut MemoryShelf) -> Result<bool, Fail> {
+    let mut out = sink_of(alloc, "-")?;
+    let words = split_words(alloc, "check c j m")?;
+    let status = run_plain(alloc, &words, shelf, &mut out);
+    Ok(status == 0 && out.taken() == b"same\n".as_slice())
+}
+
+/// Whether the example is folded to its messages and its memory, with its line, and is then the same.
 fn is_folded(alloc: Global, example: Example) -> Result<bool, Fail> {
     let mut shelf = shelf_with(alloc, example)?;
     let mut out = sink_of(alloc, "-")?;
@@ -34,7 +42,8 @@ fn is_folded(alloc: Global, example: Example) -> Result<bool, Fail> {
     let messages = bytes_of(alloc, example.messages)?;
     let sent = shelf.contents("m") == Some(messages.as_slice());
     let stored = shelf.contents("r") == Some(example.memory.as_bytes());
-    Ok(status == 0 && sent && stored && out.taken() == example.line.as_bytes())
+    let told = status == 0 && out.taken() == example.line.as_bytes();
+    Ok(told && sent && stored && is_same(alloc, &mut shelf)?)
 }
 
 const PORT_SCAN: Example = Example {

@@ -1,0 +1,126 @@
+//! Runs of `check`, which compares a file of messages with what the journal gives.
+//!
+//! A table has a line for each run, as `GIVEN => WANTED`: given are the files `c`, `j` and `m`, and then the
+//! calls of the shelf and the puts that fail. The making of `m` is call 0, so the reads are calls 1, 2 and 3.
+
+use super::{bytes_of, run, shelf_of, sink_of, split_words};
+use ids_outside::Shelf;
+use idsm_run::run_plain;
+use std::alloc::Global;
+use std::test::Fail;
+
+/// Checks what is given, and tells how the run ended.
+fn check_given(alloc: Global, given: &str) -> Result<Vec<u8>, Fail> {
+    let mut columns = given.split(" | ");
+    let config = columns.next().unwrap_or("");
+    let journal = columns.next().unwrap_or("");
+    let messages = columns.next().unwrap_or("");
+    let shelf_fails = columns.next().unwrap_or("-");
+    let put_fails = columns.next().unwrap_or("-");
+    let mut shelf = shelf_of(alloc, config, journal, shelf_fails)?;
+    shelf.append("m", &bytes_of(alloc, messages)?)?;
+    run(alloc, "check c j m", shelf, put_fails)
+}
+
+/// The first line of the table whose run ends otherwise.
+fn first_unlike(alloc: Global, table: &'static str) -> Result<Option<&'static str>, Fail> {
+    for line in table.lines() {
+        let (given, wanted) = line.split_once(" => ").unwrap_or((line, ""));
+        if check_given(alloc, given)?.as_slice() != wanted.as_bytes() {
+            return Ok(Some(line));
+        }
+    }
+    Ok(None)
+}
+
+/// Files that hold what the journal gives.
+const SAME: &str =
+    r##". | T 5 0 0 0/R 0 0 0 1 - 0:0:a1b2/ | #110483002a00010002a1b2 => 0 | same/ | #110483002a00010002a1b2 | -
+. |  | # => 0 | same/ | # | -
+. | T 5 0 0 0/ | # => 0 | same/ | # | -
+. | T 5 0 0 0/R 0 0 0 1 - 0:0:a1b2/T 6 0 0 0/R 0 1 0 2 - -/ | #110483002a00010002a1b2100483002a000200 => 0 | same/ | #110483002a00010002a1b2100483002a000200 | -
+{"form":2,"instance":18,"events":[{"id":42,"sensor":3,"version":7}]} | T 5 0 0 0/R 0 0 0 1 - 0:0:a1b2/ | #210483002a00010702a1b2 => 0 | same/ | #210483002a00010702a1b2 | -
+{"form":1,"instance":18,"rate":{"interval":1000,"events":2},"internal":{"limited":1},"events":[{"id":42,"sensor":3},{"id":9,"sensor":0}]} | T 100 0 0 0/R 0 0 0 1 - -/R 0 1 0 1 - -/R 0 2 0 1 - -/T 1000 0 0 1/ | #100483002a000100100483002a0001001004800009000100 => 0 | same/ | #100483002a000100100483002a0001001004800009000100 | -"##;
+
+#[test]
+fn what_the_journal_gives_is_the_same(rt: HostRuntime) -> Result<(), Fail> {
+    assert_eq!(rt; first_unlike(rt.alloc(), SAME)?, None);
+    Ok(())
+}
+
+/// Files that hold something else. The first place at which they differ is told, or the shorter length where
+/// one is a first part of the other. They need not be messages.
+const DIFFERENT: &str =
+    r##". | T 5 0 0 0/R 0 0 0 1 - 0:0:a1b2/ | #ff0483002a00010002a1b2 => 9 | differs at 0/ | #ff0483002a00010002a1b2 | -
+. | T 5 0 0 0/R 0 0 0 1 - 0:0:a1b2/ | #210483002a00010002a1b2 => 9 | differs at 0/ | #210483002a00010002a1b2 | -
+. | T 5 0 0 0/R 0 0 0 1 - 0:0:a1b2/ | #110483002a00020002a1b2 => 9 | differs at 6/ | #110483002a00020002a1b2 | -
+. | T 5 0 0 0/R 0 0 0 1 - 0:0:a1b2/ | #110483002a00010002a1b3 => 9 | differs at 10/ | #110483002a00010002a1b3 | -
+. | T 5 0 0 0/R 0 0 0 1 - 0:0:a1b2/ | # => 9 | differs at 0/ | # | -
+. | T 5 0 0 0/R 0 0 0 1 - 0:0:a1b2/ | #11 => 9 | differs at 1/ | #11 | -
+. | T 5 0 0 0/R 0 0 0 1 - 0:0:a1b2/ | #110483002a00010002a1 => 9 | differs at 10/ | #110483002a00010002a1 | -
+. | T 5 0 0 0/R 0 0 0 1 - 0:0:a1b2/ | #110483002a00010002a1b211 => 9 | differs at 11/ | #110483002a00010002a1b211 | -
+. | T 5 0 0 0/R 0 0 0 1 - 0:0:a1b2/ | #110483002a00010002a1b2110483002a00010002a1b2 => 9 | differs at 11/ | #110483002a00010002a1b2110483002a00010002a1b2 | -
+. |  | #00 => 9 | differs at 0/ | #00 | -
+. | T 5 0 0 0/R 0 0 0 1 - 0:0:a1b2/T 6 0 0 0/R 0 1 0 2 - -/ | #110483002a00010002a1b2 => 9 | differs at 11/ | #110483002a00010002a1b2 | -
+. | T 5 0 0 0/R 0 0 0 1 - 0:0:a1b2/T 6 0 0 0/R 0 1 0 2 - -/ | #110483002a00010002a1b2100483002a0001 => 9 | differs at 17/ | #110483002a00010002a1b2100483002a0001 | -
+. | T 5 0 0 0/R 0 0 0 1 - 0:0:a1b2/T 6 0 0 0/R 0 1 0 2 - -/ | #100483002a000200110483002a00010002a1b2 => 9 | differs at 0/ | #100483002a000200110483002a00010002a1b2 | -
+. | T 5 0 0 0/R 0 0 0 1 - 0:0:a1b2/ | #110483002a0002 => 9 | differs at 6/ | #110483002a0002 | -
+{"form":1,"instance":18,"rate":{"interval":1000,"events":2},"internal":{"limited":1},"events":[{"id":42,"sensor":3},{"id":9,"sensor":0}]} | T 100 0 0 0/R 0 0 0 1 - -/R 0 1 0 1 - -/R 0 2 0 1 - -/T 1000 0 0 1/ | #100483002a000100100483002a000100 => 9 | differs at 16/ | #100483002a000100100483002a000100 | -"##;
+
+#[test]
+fn the_first_place_that_differs_is_told(rt: HostRuntime) -> Result<(), Fail> {
+    assert_eq!(rt; first_unlike(rt.alloc(), DIFFERENT)?, None);
+    Ok(())
+}
+
+/// Runs that end before they compare, or whose text is not put. Each file is judged before the next is read,
+/// the numbers of held-back events included, and nothing is read behind the third.
+const REFUSED: &str = r##"{} | ? | # => 5 | bad config 4 at top/ | # | -
+. | ? | # => 6 | bad journal line 1: 1/ | # | -
+. | T 5 0 0 0 | # => 6 | bad journal line 1: 1/ | # | -
+. | T 5 0 0 1/ | # => 6 | bad journal line 1: 8/ | # | -
+{"form":1,"instance":18,"rate":{"interval":1000,"events":2},"internal":{"limited":1},"events":[{"id":42,"sensor":3},{"id":9,"sensor":0}]} | T 100 0 0 0/R 0 0 0 1 - -/R 0 1 0 1 - -/R 0 2 0 1 - -/T 1000 0 0 0/ | #100483002a000100100483002a0001001004800009000100 => 6 | bad journal line 5: 8/ | #100483002a000100100483002a0001001004800009000100 | -
+. | T 5 0 0 0/R 0 0 0 1 - 0:0:a1b2/ | #110483002a00010002a1b2 | 1 => 3 | cannot read c/ | #110483002a00010002a1b2 | -
+. | T 5 0 0 0/R 0 0 0 1 - 0:0:a1b2/ | #110483002a00010002a1b2 | 2 => 3 | cannot read j/ | #110483002a00010002a1b2 | -
+. | T 5 0 0 0/R 0 0 0 1 - 0:0:a1b2/ | #110483002a00010002a1b2 | 3 => 3 | cannot read m/ | #110483002a00010002a1b2 | -
+. | T 5 0 0 0/R 0 0 0 1 - 0:0:a1b2/ | #110483002a00010002a1b2 | 4 => 0 | same/ | #110483002a00010002a1b2 | -
+{} | T 5 0 0 0/R 0 0 0 1 - 0:0:a1b2/ | #110483002a00010002a1b2 | 2 => 5 | bad config 4 at top/ | #110483002a00010002a1b2 | -
+. | ? | #110483002a00010002a1b2 | 3 => 6 | bad journal line 1: 1/ | #110483002a00010002a1b2 | -
+. | T 5 0 0 0/R 0 0 0 1 - 0:0:a1b2/ | #110483002a00010002a1b2 | - | 0 => 7 |  | #110483002a00010002a1b2 | -
+. | T 5 0 0 0/R 0 0 0 1 - 0:0:a1b2/ | #110483002a00010002a1 | - | 0 => 7 |  | #110483002a00010002a1 | -"##;
+
+#[test]
+fn what_comes_first_is_told(rt: HostRuntime) -> Result<(), Fail> {
+    assert_eq!(rt; first_unlike(rt.alloc(), REFUSED)?, None);
+    Ok(())
+}
+
+#[test]
+fn a_file_that_is_not_there_cannot_be_read(rt: HostRuntime) -> Result<(), Fail> {
+    let shelf = shelf_of(rt.alloc(), ".", "", "-")?;
+    let told = run(rt.alloc(), "check c j m", shelf, "-")?;
+    assert!(rt; told.as_slice() == b"3 | cannot read m/ | - | -".as_slice());
+    Ok(())
+}
+
+/// Whether the check of so many zeros beside an empty journal ends with this status and this text.
+fn ends_so(alloc: Global, zeros: usize, status: u8, text: &[u8]) -> Result<bool, Fail> {
+    let mut shelf = shelf_of(alloc, ".", "", "-")?;
+    shelf.append("m", &vec![in alloc; 0u8; zeros]?)?;
+    let mut out = sink_of(alloc, "-")?;
+    let words = split_words(alloc, "check c j m")?;
+    let ended = run_plain(alloc, &words, &mut shelf, &mut out);
+    Ok(ended == status && out.taken() == text)
+}
+
+#[test]
+fn a_file_of_67108864_bytes_is_compared(rt: HostRuntime) -> Result<(), Fail> {
+    assert!(rt; ends_so(rt.alloc(), 67_108_864, 9, b"differs at 0\n")?);
+    Ok(())
+}
+
+#[test]
+fn a_file_of_67108865_bytes_is_too_long_for_check(rt: HostRuntime) -> Result<(), Fail> {
+    assert!(rt; ends_so(rt.alloc(), 67_108_865, 4, b"too long m\n")?);
+    Ok(())
+}
