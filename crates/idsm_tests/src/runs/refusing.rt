@@ -12,6 +12,10 @@ fold a b  c
 fold a b c d e
 fold c j m
 Fold a b c d
+check
+check c j
+check c j j
+check c j m r
 decode
 decode c j
 migrate
@@ -24,7 +28,7 @@ decode ";
 
 /// The usage, and no file.
 const USAGE: &[u8] =
-    b"2 | usage: idsm fold CONFIG JOURNAL MESSAGES MEMORY/       idsm decode MESSAGES/       idsm migrate CONFIG NEW/ | - | -";
+    b"2 | usage: idsm fold CONFIG JOURNAL MESSAGES MEMORY/       idsm check CONFIG JOURNAL MESSAGES/       idsm decode MESSAGES/       idsm migrate CONFIG NEW/ | - | -";
 
 #[test]
 fn words_that_are_no_command_end_with_the_usage(rt: HostRuntime) -> Result<(), Fail> {
