@@ -5,7 +5,7 @@ use Rattle.std.specs.List.{common_prefix_len}
 use Rattle.std.proofs.lemmas.Bool.{cases_Bool}
 use Rattle.idsm_run.specs.Names.{Refusal, messages_of}
 use Rattle.idsm_run.specs.Run.{MayRefuse}
-use Rattle.idsm_run.specs.Words.{Global, SameFiles, Shelved, Stop, Refused, Differ, Work, Recorded, recorded_in, file_of, CheckFiles, check, compared, check_judged, judge, Judges, StopsFor, WasDone, plain_stop}
+use Rattle.idsm_run.specs.Words.{Global, SameFiles, Shelved, Stop, Refused, Differ, Recorded, recorded_in, file_of, CheckFiles, check, compared, check_judged, judge, Judges, StopsFor, WasDone, plain_stop}
 use Rattle.idsm_run.proofs.JudgeLemmas.{refused, check_found}
 
 module _ (names : CheckFiles) (recorded : Recorded) (bytes sent : List ℕ) (old new : Shelved)

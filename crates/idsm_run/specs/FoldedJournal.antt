@@ -1,5 +1,5 @@
 -- Which journals `fold` folds: what they say of held-back events has to be the chain's own number.
-use Rattle.std.specs.Prelude.{ℕ, ◌+◌, ◌==◌, List, [], ◌∷◌, length, Option, Some, None, Result, Ok, Err, if◌then◌else◌}
+use Rattle.std.specs.Prelude.{ℕ, ◌+◌, ◌==◌, List, ◌∷◌, length, Option, Some, None, Result, Ok, Err, if◌then◌else◌}
 use Rattle.idsm_run.specs.Names.{Parts, Turn, Told, BadLine, journal_in, handed_by}
 
 -- the next step, where nothing was refused yet

@@ -5,8 +5,8 @@ ghost use Rattle.idsm_run.specs.Words.{SameBut, written_by, migrate as migrate_c
 
 use crate::command::MigrateNames;
 use crate::inputs::read_file;
-use crate::sizes::MAX_CONFIG_BYTES;
 use crate::outputs::write_file;
+use crate::sizes::MAX_CONFIG_BYTES;
 use crate::stop::Stop;
 use ids_outside::Shelf;
 use std::alloc::Global;

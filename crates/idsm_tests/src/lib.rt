@@ -27,6 +27,8 @@ mod message_spelling;
 #[cfg(test)]
 mod messages_sent;
 #[cfg(test)]
+mod outcomes;
+#[cfg(test)]
 mod ring_machine;
 #[cfg(test)]
 mod runs;
@@ -40,3 +42,5 @@ mod text_fields;
 mod thresholds;
 #[cfg(test)]
 mod turn_heads;
+#[cfg(test)]
+mod whole_chain;

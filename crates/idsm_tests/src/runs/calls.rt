@@ -42,7 +42,6 @@ const REFUSED: &str = "fold c j m | . |  => 2 0
 fold c j m r | {} |  => 5 1
 fold c x m r | {} |  => 5 1
 fold c j m r | . | ? => 6 2
-fold c j m r | . | T 5 0 0 0/C 0 0 S 1/ => 12 2
 decode c | #110483002a00010002a1b2 |  => 0 1
 decode c | ? |  => 10 1
 migrate c m | {} |  => 5 1

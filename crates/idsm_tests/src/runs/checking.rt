@@ -3,9 +3,8 @@
 //! A table has a line for each run, as `GIVEN => WANTED`: given are the files `c`, `j` and `m`, and then the
 //! calls of the shelf and the puts that fail. The making of `m` is call 0, so the reads are calls 1, 2 and 3.
 
-use super::{bytes_of, run, shelf_of, sink_of, split_words};
+use super::{bytes_of, run, shelf_of};
 use ids_outside::Shelf;
-use idsm_run::run_plain;
 use std::alloc::Global;
 use std::test::Fail;
 
@@ -100,27 +99,5 @@ fn a_file_that_is_not_there_cannot_be_read(rt: HostRuntime) -> Result<(), Fail> 
     let shelf = shelf_of(rt.alloc(), ".", "", "-")?;
     let told = run(rt.alloc(), "check c j m", shelf, "-")?;
     assert!(rt; told.as_slice() == b"3 | cannot read m/ | - | -".as_slice());
-    Ok(())
-}
-
-/// Whether the check of so many zeros beside an empty journal ends with this status and this text.
-fn ends_so(alloc: Global, zeros: usize, status: u8, text: &[u8]) -> Result<bool, Fail> {
-    let mut shelf = shelf_of(alloc, ".", "", "-")?;
-    shelf.append("m", &vec![in alloc; 0u8; zeros]?)?;
-    let mut out = sink_of(alloc, "-")?;
-    let words = split_words(alloc, "check c j m")?;
-    let ended = run_plain(alloc, &words, &mut shelf, &mut out);
-    Ok(ended == status && out.taken() == text)
-}
-
-#[test]
-fn a_file_of_67108864_bytes_is_compared(rt: HostRuntime) -> Result<(), Fail> {
-    assert!(rt; ends_so(rt.alloc(), 67_108_864, 9, b"differs at 0\n")?);
-    Ok(())
-}
-
-#[test]
-fn a_file_of_67108865_bytes_is_too_long_for_check(rt: HostRuntime) -> Result<(), Fail> {
-    assert!(rt; ends_so(rt.alloc(), 67_108_865, 4, b"too long m\n")?);
     Ok(())
 }
