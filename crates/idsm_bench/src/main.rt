@@ -1,8 +1,9 @@
-//! How long the calls of a report queue take, beside the atomic operations that they make.
+//! How long calls take: those of a report queue beside the atomic operations that they make, those of
+//! aggregation windows over 256 events beside those over one, and stores in an event memory.
 //!
-//! Layer 12, measuring. Over `report_queue`. With the word `count` it makes a few rounds and prints
-//! how many items were put and taken, which is the same each time; with no word it prints the table
-//! of times. No clause says how fast anything is.
+//! Layer 12, measuring. Over `report_queue`, `filter_aggregate` and `event_memory`. With the word `count`
+//! it makes a few rounds and prints how many calls went as they were to go, which is the same each time;
+//! with no word it prints the tables of times. No clause says how fast anything is.
 #![tactic(auto)]
 
 mod bare;
@@ -10,14 +11,20 @@ mod measurements;
 mod queued;
 mod rounds;
 mod samples;
+mod stores;
 mod table;
+mod windows;
 mod work;
 
 use measurements::{on_one_thread, with_four_callers, with_two_callers};
 use std::rt::{Clock, Env};
 use std::thread::Threads;
 use std::{env, io};
-use table::{print_counts, print_head, print_pair};
+use stores::store_in_turn;
+use table::{
+    print_calls, print_counts, print_head, print_pair, print_steps, print_store_time, print_stores,
+};
+use windows::many_and_one;
 
 /// How many rounds a count has.
 const FEW: u64 = 3;
@@ -27,6 +34,9 @@ const MANY: u64 = 20_000;
 
 const MANY_BESIDE: u64 = 4_000;
 
+/// How many stores a measurement of the event memory has.
+const MANY_STORES: u64 = 300_000;
+
 fn main(rt: HostRuntime) -> io::Result<()> {
     if env::args(&rt)?.skip(1).next().is_some() {
         count(&rt)
@@ -35,16 +45,20 @@ fn main(rt: HostRuntime) -> io::Result<()> {
     }
 }
 
-// A few rounds of each measurement, with how many items were put and taken.
+// A few rounds of each measurement, with how many calls went as they were to go.
 fn count<R: Print + Clock + AllocGlobal + Threads + Sync>(rt: &R) -> io::Result<()> {
     print_counts(rt, "one thread", &on_one_thread(rt, FEW)?)?;
     print_counts(rt, "two callers", &with_two_callers(rt, FEW)?)?;
-    print_counts(rt, "four callers", &with_four_callers(rt, FEW)?)
+    print_counts(rt, "four callers", &with_four_callers(rt, FEW)?)?;
+    let (many, one) = many_and_one(rt, FEW)?;
+    print_steps(rt, "256 events", &many)?;
+    print_steps(rt, "one event", &one)?;
+    print_stores(rt, &store_in_turn(rt, 256 * FEW)?)
 }
 
-// The table of times.
+// The tables of times.
 fn measure<R: Print + Clock + AllocGlobal + Threads + Sync>(rt: &R) -> io::Result<()> {
-    print_head(rt)?;
+    print_head(rt, "queue", "bare")?;
     print_pair(rt, "one thread", &mut on_one_thread(rt, MANY)?)?;
     print_pair(
         rt,
@@ -55,5 +69,9 @@ fn measure<R: Print + Clock + AllocGlobal + Threads + Sync>(rt: &R) -> io::Resul
         rt,
         "four callers beside a taker",
         &mut with_four_callers(rt, MANY_BESIDE)?,
-    )
+    )?;
+    print_head(rt, "256", "1")?;
+    let (mut many, mut one) = many_and_one(rt, MANY)?;
+    print_calls(rt, &mut many, &mut one)?;
+    print_store_time(rt, &store_in_turn(rt, MANY_STORES)?)
 }

@@ -32,7 +32,8 @@ pub struct Measured {
     pub takes: Samples,
 }
 
-fn nanos_since<R: Clock>(rt: &R, start: Instant) -> io::Result<u64> {
+/// How many nanoseconds have gone by.
+pub fn nanos_since<R: Clock>(rt: &R, start: Instant) -> io::Result<u64> {
     let nanos = start.elapsed(rt)?.as_nanos();
     Ok(u64::try_from(nanos).unwrap_or(u64::MAX))
 }

@@ -3,6 +3,8 @@ ghost use Rattle.std.specs.Prelude.{◌<◌};
 
 use crate::rounds::Measured;
 use crate::samples::Samples;
+use crate::stores::Stores;
+use crate::windows::{Calls, STEPS};
 use crate::work::{PUTS, TAKES};
 use std::alloc::{AllocError, Global};
 use std::io;
@@ -21,13 +23,13 @@ pub fn print_counts<R: Print>(rt: &R, title: &str, pair: &Pair) -> io::Result<()
     println!(rt; "{title}: {put} put, {taken} taken")
 }
 
-/// Prints the head of the table.
-pub fn print_head<R: Print>(rt: &R) -> io::Result<()> {
+/// Prints the head of a table of what is measured, and of what it stands beside.
+pub fn print_head<R: Print>(rt: &R, measured: &str, base: &str) -> io::Result<()> {
     println!(rt; "nanoseconds for one item, in the fastest batch and in the middle one")?;
     println!(rt; "{:<36}{:>22}{:>28}", "", "fastest", "middle")?;
     println!(rt;
-        "{:<36}{:>8}{:>8}{:>8}{:>12}{:>8}{:>8}",
-        "", "queue", "bare", "ratio", "queue", "bare", "ratio"
+        "{:<36}{measured:>8}{base:>8}{:>8}{measured:>12}{base:>8}{:>8}",
+        "", "ratio", "ratio"
     )
 }
 
@@ -50,34 +52,75 @@ pub fn print_pair<R: Print + AllocGlobal>(rt: &R, title: &str, pair: &mut Pair) 
     )
 }
 
+/// Prints a line with how many stores there were, and how many records there are then.
+pub fn print_stores<R: Print>(rt: &R, stores: &Stores) -> io::Result<()> {
+    println!(rt;
+        "event memory: {} stores, {} records",
+        stores.count, stores.records
+    )
+}
+
+/// Prints how long the stores took.
+pub fn print_store_time<R: Print + AllocGlobal>(rt: &R, stores: &Stores) -> io::Result<()> {
+    let count = stores.count;
+    let time = decimal(rt.alloc(), stores.nanos, 1_000_000)?;
+    println!(rt; "event memory: {count} stores in {time} milliseconds, in the worst order")
+}
+
+/// Prints a line with how many steps went as they were to go.
+pub fn print_steps<R: Print>(rt: &R, title: &str, calls: &Calls) -> io::Result<()> {
+    let pairs = calls.pairs.items;
+    let arrivals = calls.arrivals.items;
+    let looks = calls.looks.items;
+    println!(rt; "{title}: {pairs} windows, {arrivals} joined, {looks} looks")
+}
+
+/// Prints the lines of the calls over many events beside those over one.
+pub fn print_calls<R: Print + AllocGlobal>(
+    rt: &R,
+    many: &mut Calls,
+    one: &mut Calls,
+) -> io::Result<()> {
+    println!(rt; "aggregation windows")?;
+    print_line(rt, "  arrive", &mut many.arrivals, &mut one.arrivals, STEPS)?;
+    print_line(rt, "  close_due", &mut many.looks, &mut one.looks, STEPS)?;
+    print_line(
+        rt,
+        "  a whole window",
+        &mut many.pairs,
+        &mut one.pairs,
+        STEPS,
+    )
+}
+
 fn print_line<R: Print + AllocGlobal>(
     rt: &R,
     title: &str,
-    queue: &mut Samples,
-    bare: &mut Samples,
+    measured: &mut Samples,
+    base: &mut Samples,
     items: u64,
 ) -> io::Result<()>
     requires { 0 < items }
 {
-    let (queue_fastest, queue_middle) = queue.fastest_and_middle();
-    let (bare_fastest, bare_middle) = bare.fastest_and_middle();
+    let (measured_fastest, measured_middle) = measured.fastest_and_middle();
+    let (base_fastest, base_middle) = base.fastest_and_middle();
     print!(rt; "{title:<36}")?;
-    print_times(rt, queue_fastest, bare_fastest, items)?;
+    print_times(rt, measured_fastest, base_fastest, items)?;
     print!(rt; "    ")?;
-    print_times(rt, queue_middle, bare_middle, items)?;
+    print_times(rt, measured_middle, base_middle, items)?;
     println!(rt; "")
 }
 
-// The times of an item of a queue and of the bare operations, and their ratio.
-fn print_times<R: Print + AllocGlobal>(rt: &R, queue: u64, bare: u64, items: u64) -> io::Result<()>
+// The time of an item, of one that it stands beside, and their ratio.
+fn print_times<R: Print + AllocGlobal>(rt: &R, time: u64, base: u64, items: u64) -> io::Result<()>
     requires { 0 < items }
 {
-    let one = decimal(rt.alloc(), queue, items)?;
-    let other = decimal(rt.alloc(), bare, items)?;
-    let ratio = if bare == 0 {
+    let one = decimal(rt.alloc(), time, items)?;
+    let other = decimal(rt.alloc(), base, items)?;
+    let ratio = if base == 0 {
         decimal(rt.alloc(), 0, 1)?
     } else {
-        decimal(rt.alloc(), queue, bare)?
+        decimal(rt.alloc(), time, base)?
     };
     print!(rt; "{one:>8}{other:>8}{ratio:>8}")
 }
