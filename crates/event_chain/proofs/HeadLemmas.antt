@@ -28,6 +28,7 @@ unmapped n [] all = tt
 unmapped n (head ∷ heads) all = (all.0, unmapped n heads all.1)
 
 module _ (internal : Internal) (head : TurnHead) (heads : List Head) (is : map head_told heads ≡ heads_of internal head) where
+  -- each is an event where those that are configured are
   pub heads_within : (n : ℕ) → IsOneOf n internal.lost_events → IsOneOf n internal.lost_contexts → IsOneOf n internal.limited
       → All (λ head. head.event.0 < n) heads
   heads_within n first second third =
@@ -42,6 +43,7 @@ module _ (internal : Internal) (head : TurnHead) (heads : List Head) (is : map h
       All-from_recursion (λ (h : Head). h.event.0 < n) heads
       (unmapped n heads (recursion_from_All P (map head_told heads) (subst (All P) (sym is) told)))
 
+  -- there are three at most
   pub heads_few : length heads ≤ 3
   heads_few =
       let first = head_for internal.lost_events head.lost_events in
