@@ -1,4 +1,5 @@
 mod CallLemmas
+mod ClosingLemmas
 mod FlowLemmas
 mod Going
 mod HandsLemmas

@@ -1,6 +1,8 @@
 -- How many parcels a chain keeps, and what holds of its fields when it is made and while it takes turns.
-use Rattle.std.proofs.Common.{◌≡◌, ℕ, ◌<◌, ◌≤◌, true, List, [], ◌∷◌, ◌++◌, length, map, Option, Some, None, option_map, option_to_list, refl, sym, ap, subst, ◌∙◌, arith}
+use Rattle.std.proofs.Common.{◌≡◌, ℕ, ◌<◌, ◌≤◌, Bool, true, List, [], ◌∷◌, ◌++◌, length, map, filter, is_some, Option, Some, None, option_map, option_to_list, refl, sym, ap, subst, ◌∙◌, arith}
 use Rattle.std.specs.Bool.{IsFalse}
+use Rattle.std.specs.List.{range_with_len}
+use Rattle.std.proofs.Math.Path.{fun_ext}
 use Rattle.std.proofs.lemmas.Bool.Decides.{nat_tests}
 use Rattle.std.proofs.lemmas.Grind.{common_steps}
 use Rattle.std.proofs.lemmas.List.{get_or-map, get_or_past, length-map}
@@ -21,7 +23,7 @@ use Rattle.event_chain.specs.declared.event_chain.EventChain.TheInside.{Inside}
 use Rattle.event_chain.specs.declared.filters.Filters.{Filters}
 use Rattle.event_chain.specs.Chained.{IsOneOf, IsSound}
 use Rattle.event_chain.specs.Outlets.{Stores, naming_of}
-use Rattle.event_chain.specs.Ready.{AreOwn, HasPlaces, SettledAt}
+use Rattle.event_chain.specs.Ready.{AreOwn, HasPlaces, SettledAt, aggregating_in, is_aggregated}
 
 -- ---- parcels
 
@@ -73,8 +75,9 @@ module _ {B : Type 0} where
   pub sound_made : (config : Parts) (c : Inside B) → IsValid config → GateStands config [] c.filters.gate
       → c.filters.windows ≡ map (λ event. fresh_slot event.aggregate) config.events
       → ThresholdsStand config [] c.filters.counting.thresholds → Stores config [] c.filters.counting.outlet
-      → SenderStands config [] c.filters.counting.outlet.sender → c.internal ≡ internal_of config → IsSound c
-  sound_made config c valid gate slots thresholds stores sender known =
+      → SenderStands config [] c.filters.counting.outlet.sender
+      → map (λ event. event.0) c.aggregating.items ≡ aggregating_in c.filters.windows → c.internal ≡ internal_of config → IsSound c
+  sound_made config c valid gate slots thresholds stores sender aggregating known =
       let events = config.events in
       let internal = valid.internal in
       let count : length c.filters.windows ≡ length events =
@@ -99,18 +102,24 @@ module _ {B : Type 0} where
           own = subst (λ (ws : List (Slot B)). AreOwn ws) (sym slots) (own_fresh B events);
         };
         few = omega (arith, count, valid.count.most);
+        aggregating = aggregating;
         lost_events = all.0;
         lost_contexts = all.1;
         limited = all.2;
       }
 
-  -- its fields with other filters, over as many windows
+  -- its fields with other filters, over as many windows that are aggregated as they were
   pub sound_kept : (c : Inside B) (new : Filters B) → IsSound c → HasPlaces new → length new.windows ≡ length c.filters.windows
-      → IsSound (record { filters = new; internal = c.internal })
-  sound_kept c new sound places count =
+      → ((k : ℕ) → (slot_at new.windows k).setting ≡ (slot_at c.filters.windows k).setting)
+      → IsSound (record { filters = new; aggregating = c.aggregating; internal = c.internal })
+  sound_kept c new sound places count settings =
+      let among = λ (n : ℕ) (test : ℕ → Bool). filter test (range_with_len 0 n) in
+      let tests = ap (among (length new.windows)) (fun_ext (λ k. ap is_some (settings k))) in
+      let counts = ap (λ n. among n (is_aggregated c.filters.windows)) count in
       record {
         places = places;
         few = omega (arith, count, sound.few);
+        aggregating = sound.aggregating ∙ sym (tests ∙ counts);
         lost_events = rw count sound.lost_events;
         lost_contexts = rw count sound.lost_contexts;
         limited = rw count sound.limited;

@@ -1,10 +1,10 @@
 -- What contracts see of an `EventChain`, and what holds of its fields.
-use Rattle.std.specs.Prelude.{ℕ, ◌<◌, ◌≤◌, length, Option, IfSome}
+use Rattle.std.specs.Prelude.{◌≡◌, ℕ, ◌<◌, ◌≤◌, length, map, Option, IfSome}
 use Rattle.ids_types.specs.declared.internal.Internal.{Internal}
 use Rattle.ids_types.specs.declared.names.EventIndex.{EventIndex}
 use Rattle.event_chain.specs.declared.event_chain.EventChain.TheInside.{Inside}
 use Rattle.event_chain.specs.declared.filters.Filters.{Filters}
-use Rattle.event_chain.specs.Ready.{HasPlaces}
+use Rattle.event_chain.specs.Ready.{HasPlaces, aggregating_in}
 
 -- the filters, and the internal events
 pub record Chained (B : Type 0) : Type 0 where
@@ -19,10 +19,12 @@ chained c = record { filters = c.filters; internal = c.internal }
 abbrev pub IsOneOf : ℕ → Option EventIndex → Type 0
 IsOneOf events event = IfSome event (λ index. index.0 < events)
 
--- each event has its place, there are at most 256, and the internal events are events
+-- each event has its place, there are at most 256, the events that are aggregated are known, and the internal
+-- events are events
 pub record IsSound {B : Type 0} (c : Inside B) : Type 0 where
   pub places : HasPlaces c.filters
   pub few : length c.filters.windows ≤ 256
+  pub aggregating : map (λ event. event.0) c.aggregating.items ≡ aggregating_in c.filters.windows
   pub lost_events : IsOneOf (length c.filters.windows) c.internal.lost_events
   pub lost_contexts : IsOneOf (length c.filters.windows) c.internal.lost_contexts
   pub limited : IsOneOf (length c.filters.windows) c.internal.limited

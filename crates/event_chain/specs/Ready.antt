@@ -1,6 +1,7 @@
 -- What keeps each call safe, whatever was before: as plain data.
-use Rattle.std.specs.Prelude.{◌≡◌, ℕ, ◌+◌, ◌*◌, ◌<◌, ◌-◌, ◌^◌, ◌≤◌, List, length, IfSome}
+use Rattle.std.specs.Prelude.{◌≡◌, ℕ, ◌+◌, ◌*◌, ◌<◌, ◌-◌, ◌^◌, ◌≤◌, List, length, filter, Bool, is_some, IfSome}
 use Rattle.std.specs.Bool.{IsFalse}
+use Rattle.std.specs.List.{range_with_len}
 use Rattle.ids_types.specs.Output.{Output, room_of}
 use Rattle.chain_spec.specs.Items.{Item}
 use Rattle.filter_aggregate.specs.declared.slot.Slot.{Slot}
@@ -23,6 +24,14 @@ pub record CanCount (counting : Counting) (item : Item) (out : Output) : Type 0 
 -- no window is due at a tick
 abbrev pub SettledAt : {B : Type 0} → ℕ → List (Slot B) → Type 0
 SettledAt tick slots = (k : ℕ) → IsFalse (is_due tick (slot_at slots k))
+
+-- the event is aggregated
+abbrev pub is_aggregated : {B : Type 0} → List (Slot B) → ℕ → Bool
+is_aggregated slots k = is_some (slot_at slots k).setting
+
+-- the events that are aggregated, in their order
+abbrev pub aggregating_in : {B : Type 0} → List (Slot B) → List ℕ
+aggregating_in slots = filter (is_aggregated slots) (range_with_len 0 (length slots))
 
 -- each open window is of items of its own event
 abbrev pub AreOwn : {B : Type 0} → List (Slot B) → Type 0

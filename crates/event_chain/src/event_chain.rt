@@ -1,8 +1,9 @@
-ghost use Rattle.std.specs.Prelude.{◌≡◌, [], List, true, length, refl, reverse, IfOk};
+ghost use Rattle.std.specs.Prelude.{◌≡◌, ◌<◌, [], List, true, length, map, refl, reverse, IfOk};
 ghost use Rattle.ids_types.specs.Turns.{Turn};
 ghost use Rattle.ids_config.specs.Parts.{Parts};
 ghost use Rattle.chain.specs.History.{rows_of};
 ghost use Rattle.filter_aggregate.specs.Account.{all_kept};
+ghost use Rattle.event_chain.specs.Ready.{aggregating_in};
 ghost use Rattle.event_chain.specs.Standing.{Stands};
 
 use crate::counting::Counting;
@@ -12,7 +13,7 @@ use event_memory::Memory;
 use filter_aggregate::Windows;
 use filter_gate::GateState;
 use ids_config::Config;
-use ids_types::{Entry, Internal, NoMemory, Parcel, TurnHead, TurnOut};
+use ids_types::{Entry, EventIndex, Internal, NoMemory, Parcel, TurnHead, TurnOut};
 use internal_events::heads;
 use std::alloc::Global;
 use std::marker::Model;
@@ -21,6 +22,8 @@ use std::marker::Model;
 #[derive(Debug, Drop)]
 pub struct EventChain<B> {
     filters: Filters<B>,
+    /// The events that are aggregated, in their order.
+    aggregating: Vec<EventIndex>,
     internal: Internal,
 }
 
@@ -45,10 +48,12 @@ impl<B: Parcel> EventChain<B> {
     {
         // Names the parts, so that the proof knows that they are valid.
         let _parts = config.parts();
+        let windows = Windows::make(alloc, config)?;
         Ok(EventChain {
+            aggregating: aggregating(alloc, &windows)?,
             filters: Filters {
                 gate: GateState::make(alloc, config)?,
-                windows: Windows::make(alloc, config)?,
+                windows,
                 counting: Counting::make(alloc, config)?,
             },
             internal: config.internal(),
@@ -101,10 +106,24 @@ impl<B: Parcel> Chain<B> for EventChain<B> {
         let tick = head.tick;
         let filters = &mut self.filters;
         filters.begin(head, items, out);
-        filters.close_all(tick, back, out);
+        filters.close_all(&self.aggregating, tick, back, out);
         filters.take_heads(&heads(&self.internal, head), tick, back, out);
         filters.take_entries(items, tick, back, out);
     }
 
     ghost smaller = { λ chain entries bytes fewer less _ _ _. refl };
+}
+
+fn aggregating<B: Parcel>(alloc: Global, windows: &Windows<B>) -> Result<Vec<EventIndex>, NoMemory>
+    requires { length windows.now < 65536 }
+    ensures { IfOk result (λ found. map (λ event. event.0) found.items ≡ aggregating_in windows.now) }
+{
+    let mut found = Vec::new(alloc);
+    for i in 0..windows.events() {
+        let event = EventIndex(i as u16);
+        if windows.aggregates(event) {
+            found.push(event)?;
+        }
+    }
+    Ok(found)
 }

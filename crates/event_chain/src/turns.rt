@@ -12,31 +12,40 @@ ghost use Rattle.filter_aggregate.specs.Account.{all_kept};
 ghost use Rattle.internal_events.specs.HeadView.{head_told};
 ghost use Rattle.sending.specs.Sending.{Start};
 ghost use Rattle.event_chain.specs.Behind.{IsBehind};
-ghost use Rattle.event_chain.specs.Ready.{CanSend, HasPlaces, SettledAt, Stays};
+ghost use Rattle.event_chain.specs.Ready.{CanSend, HasPlaces, SettledAt, Stays, aggregating_in};
 
 use crate::filters::Filters;
 use ids_types::{Entry, EventIndex, Parcel, Qualified, TurnOut};
 use internal_events::HeadList;
 
 impl<B: Parcel> Filters<B> {
-    /// The windows of all events close, each where it is due at the tick.
-    pub(crate) fn close_all(&mut self, tick: u64, back: &mut Vec<B>, out: &mut TurnOut)
+    /// The windows of these events close, each where it is due at the tick.
+    pub(crate) fn close_all(
+        &mut self,
+        events: &[EventIndex],
+        tick: u64,
+        back: &mut Vec<B>,
+        out: &mut TurnOut,
+    )
         requires places { HasPlaces self.old }
-        requires few { length self.old.windows ≤ 256 }
-        requires can { CanSend (length self.old.windows) self.old out.old }
+        requires events { All (λ event. event.0 < length self.old.windows) events.now }
+        requires can { CanSend (length events.now) self.old out.old }
         requires short { All (IsShort B.held) (all_kept self.old.windows) }
         requires back { vec_len back.old + length (all_kept self.old.windows) ≤ vec_capacity back.old }
-        ensures behind { (config : Parts) (start : Start) (moments : List Moment)
+        // Where these are the events that are aggregated, it is as if each event closed.
+        ensures behind { map (λ event. event.0) events.now ≡ aggregating_in self.old.windows
+            → (config : Parts) (start : Start) (moments : List Moment)
             → IsBehind B.held config start tick moments self.old out.old
             → IsBehind B.held config start tick (with_all moments (closings config tick)) self.new out.new }
         ensures parcels { HandsBack [] (all_kept self.old.windows)
             (all_kept self.new.windows) back.old.items back.new.items }
         ensures capacity { vec_capacity back.new ≡ vec_capacity back.old }
-        ensures stays { Stays (length self.old.windows) tick self.old self.new out.old out.new }
-        ensures settled { SettledAt tick self.new.windows }
+        ensures stays { Stays (length events.now) tick self.old self.new out.old out.new }
+        ensures settled { map (λ event. event.0) events.now ≡ aggregating_in self.old.windows
+            → SettledAt tick self.new.windows }
     {
-        for event in 0..self.windows.events() {
-            self.close(EventIndex(event as u16), tick, back, out);
+        for event in events {
+            self.close(*event, tick, back, out);
         }
     }
 

@@ -1,13 +1,22 @@
-use Rattle.std.proofs.Common.{ap, ◌∙◌}
+use Rattle.std.proofs.Common.{length, sym, ap, ◌∙◌, arith}
+use Rattle.std.proofs.lemmas.List.{length-map}
 use Rattle.filter_aggregate.specs.Account.{all_kept}
+use Rattle.filter_aggregate.specs.Slots.{fresh_slot}
+use Rattle.event_chain.specs.Ready.{aggregating_in}
 use Rattle.event_chain.proofs.SoundLemmas.{kept_fresh, sound_made}
 use Rattle.event_chain.proofs.event_chain.EventChain.make.Goals as goal
 
-pub invariant_of-result : goal.invariant_of-result
-invariant_of-result g c =
-    let counting = c.in_ok-make-3.ensures in
-    sound_made c.args.config.now _ c.parts-parts.ensures.valid c.in_ok-make.ensures c.in_ok-make-2.ensures.slots
-    counting.thresholds counting.stores counting.sender c.internal.ensures
+pub invariant_of-result-2 : goal.invariant_of-result-2
+invariant_of-result-2 g c =
+    let counting = c.in_ok-make-2.ensures in
+    sound_made c.args.config.now _ c.parts-parts.ensures.valid c.in_ok-make.ensures (c.windows.view_is ∙ c.in_ok-windows.ensures.slots)
+    counting.thresholds counting.stores counting.sender
+    (c.in_ok-aggregating.ensures ∙ ap aggregating_in (sym c.windows.view_is)) c.internal.ensures
+
+pub aggregating-requires : goal.aggregating-requires
+aggregating-requires g c =
+    let count = length-map c.args.config.now.events (λ event. fresh_slot {C = g.row.B.Denot} event.aggregate) in
+    omega (arith, ap length c.in_ok-windows.ensures.slots, count, c.parts-parts.ensures.valid.count.most)
 
 pub returns-clause-kept : goal.returns-clause-kept
-returns-clause-kept g c = ap all_kept c.in_ok-make-2.ensures.slots ∙ kept_fresh c.args.config.now.events
+returns-clause-kept g c = ap all_kept (c.windows.view_is ∙ c.in_ok-windows.ensures.slots) ∙ kept_fresh c.args.config.now.events

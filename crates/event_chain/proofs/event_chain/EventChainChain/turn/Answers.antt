@@ -1,4 +1,4 @@
-use Rattle.std.proofs.Common.{◌≡◌, ◌≤◌, ◌++◌, List, [], ◌∷◌, length, map, reverse, Option, sym, ap, subst, ◌∙◌, arith}
+use Rattle.std.proofs.Common.{◌≡◌, ◌≤◌, ◌++◌, List, [], ◌∷◌, length, map, reverse, Option, sym, ap, subst, ◌∙◌, arith, rules}
 use Rattle.std.proofs.lemmas.Grind.{common_steps}
 use Rattle.ids_types.specs.Turns.{Turn}
 use Rattle.ids_types.specs.declared.internal.Internal.{Internal}
@@ -12,11 +12,14 @@ use Rattle.chain.specs.History.{Sends, last_tick, newest_tick}
 use Rattle.chain.specs.Parcels.{HandsBack, all_parcels}
 use Rattle.chain.specs.Turning.{turn_by}
 use Rattle.filter_aggregate.specs.Account.{all_kept}
+use Rattle.filter_aggregate.specs.Slots.{slot_at}
+use Rattle.filter_aggregate.specs.declared.slot.Slot.{Slot}
 use Rattle.internal_events.specs.HeadView.{head_told}
 use Rattle.sending.specs.Sending.{start_of}
 use Rattle.event_chain.specs.Behind.{IsBehind}
 use Rattle.event_chain.specs.Chained.{Chained, IsOneOf}
 use Rattle.event_chain.specs.Standing.{Stands}
+use Rattle.event_chain.proofs.ClosingLemmas.{asked}
 use Rattle.event_chain.proofs.Going.{can_left, entry_moments, stays_more}
 use Rattle.event_chain.proofs.HandsLemmas.{hands_last, hands_length, hands_then}
 use Rattle.event_chain.proofs.HeadLemmas.{heads_few, heads_within}
@@ -26,11 +29,23 @@ use Rattle.event_chain.proofs.event_chain.EventChainChain.turn.Given.{Over}
 use Rattle.event_chain.proofs.event_chain.EventChainChain.turn.Goals.{After-take_entries}
 use Rattle.event_chain.proofs.event_chain.EventChainChain.turn.Goals as goal
 
+pub close_all-requires-clause-events : goal.close_all-requires-clause-events
+close_all-requires-clause-events g c = (asked c.deref-2.ensures.value c.self.invariant.aggregating c.begin.ensures.windows).1.0
+
+pub close_all-requires-clause-can : goal.close_all-requires-clause-can
+close_all-requires-clause-can g c =
+    let few = (asked c.deref-2.ensures.value c.self.invariant.aggregating c.begin.ensures.windows).1.1 in
+    search (rules, c.begin.ensures.can, few)
+
 pub close_all-requires-clause-back : goal.close_all-requires-clause-back
 close_all-requires-clause-back g c =
     let slots = c.begin.new.self.windows in
     let same = ap length c.begin.ensures.windows ∙ ap (λ (v : Chained g.row.B.Denot). length v.filters.windows) c.self.view_is in
     omega (arith, same, kept_few slots, c.requires.back)
+
+pub take_heads-requires-clause-settled : goal.take_heads-requires-clause-settled
+take_heads-requires-clause-settled g c =
+    c.close_all.ensures.settled (asked c.deref-2.ensures.value c.self.invariant.aggregating c.begin.ensures.windows).0
 
 pub take_heads-requires-clause-events : goal.take_heads-requires-clause-events
 take_heads-requires-clause-events g c =
@@ -45,7 +60,8 @@ pub take_heads-requires-clause-can : goal.take_heads-requires-clause-can
 take_heads-requires-clause-can g c =
     let three = heads_few c.self.inside.internal c.args.head.now c.heads.result c.heads.ensures in
     let count = ap length c.begin.ensures.windows in
-    can_left (omega (arith, three, count)) c.begin.ensures.can c.close_all.ensures.stays
+    let few = (asked c.deref-2.ensures.value c.self.invariant.aggregating c.begin.ensures.windows).1.1 in
+    can_left (omega (arith, three, few, count)) c.begin.ensures.can c.close_all.ensures.stays
 
 pub take_heads-requires-clause-back : goal.take_heads-requires-clause-back
 take_heads-requires-clause-back g c =
@@ -54,12 +70,18 @@ take_heads-requires-clause-back g c =
     let first = hands_length c.close_all.ensures.parcels in
     grind (arith, common_steps, same, first, kept_few slots, c.close_all.ensures.capacity, c.requires.back)
 
+pub take_entries-requires-clause-settled : goal.take_entries-requires-clause-settled
+take_entries-requires-clause-settled g c k =
+    c.take_heads.ensures.stays.windows.settled k
+    (c.close_all.ensures.settled (asked c.deref-2.ensures.value c.self.invariant.aggregating c.begin.ensures.windows).0 k)
+
 pub take_entries-requires-clause-can : goal.take_entries-requires-clause-can
 take_entries-requires-clause-can g c =
     let three = heads_few c.self.inside.internal c.args.head.now c.heads.result c.heads.ensures in
     let same : length c.deref.result.now ≡ length c.args.items.now.items = ap length c.deref.ensures.value in
     let count = ap length c.begin.ensures.windows in
-    can_left (omega (arith, three, same, count)) c.begin.ensures.can (stays_more c.close_all.ensures.stays c.take_heads.ensures.stays)
+    let few = (asked c.deref-2.ensures.value c.self.invariant.aggregating c.begin.ensures.windows).1.1 in
+    can_left (omega (arith, three, few, same, count)) c.begin.ensures.can (stays_more c.close_all.ensures.stays c.take_heads.ensures.stays)
 
 pub take_entries-requires-clause-back : goal.take_entries-requires-clause-back
 take_entries-requires-clause-back g c =
@@ -74,6 +96,7 @@ invariant_of-self g c =
     let all = stays_more (stays_more c.close_all.ensures.stays c.take_heads.ensures.stays) c.take_entries.ensures.stays in
     sound_kept c.self.inside c.take_entries.new.self c.self.invariant (all.places (c.begin.ensures.places c.self.invariant.places))
     (all.windows.events ∙ ap length c.begin.ensures.windows)
+    (λ k. all.windows.settings k ∙ ap (λ (ws : List (Slot g.row.B.Denot)). (slot_at ws k).setting) c.begin.ensures.windows)
 
 -- the chain stands for the turns with this one, and sends what these have more to send
 turned : (g : Over) (c : After-take_entries g) (config : Parts) (turns : List Turn)
@@ -91,7 +114,8 @@ turned g c config turns stood le =
     let stands = subst (λ (v : Chained g.row.B.Denot). Stands held config before v) (sym c.self.view_is) stood in
     let start = start_of config (qualified_of config before) in
     let begun = c.begin.ensures.behind config (newest_tick before) (moments config before) stands.filters le in
-    let closed = c.close_all.ensures.behind config start (moments config before) begun in
+    let events = (asked c.deref-2.ensures.value c.self.invariant.aggregating c.begin.ensures.windows).0 in
+    let closed = c.close_all.ensures.behind events config start (moments config before) begun in
     let headed = c.take_heads.ensures.behind config start _ closed in
     let entered = c.take_entries.ensures.behind config start _ headed in
     let heads = c.heads.ensures ∙ ap (λ (i : Internal). heads_of i head) stands.internal in
