@@ -41,7 +41,7 @@ pub(crate) fn read_inputs<'a, H: Shelf>(
     let text = read_file(alloc, names.config, MAX_CONFIG_BYTES, shelf)?;
     let config = config_json::read(alloc, &text)?;
     let text = read_file(alloc, names.journal, MAX_JOURNAL_BYTES, shelf)?;
-    let journal = judge_journal(alloc, &text, &config)?;
+    let journal = judge_journal(alloc, text, &config)?;
     Ok(Inputs { config, journal })
 }
 

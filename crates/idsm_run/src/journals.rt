@@ -21,24 +21,26 @@ pub(crate) struct Judged {
     pub(crate) folded: Folded,
 }
 
-/// The history that the bytes are the journal of, folded, where it tells the chain's own numbers.
+/// The history that the bytes are the journal of, folded, where it tells the chain's own numbers. The
+/// bytes are given back before it is folded.
 pub(crate) fn judge_journal<'a>(
     alloc: Global,
-    text: &[u8],
+    text: Vec<u8>,
     config: &Config,
 ) -> Result<Judged, Stop<&'a str>>
-    ensures judges { Judges (λ j. j.history.turns) (journal_judged (folded_in config.now text.now)) result }
+    ensures judges { Judges (λ j. j.history.turns) (journal_judged (folded_in config.now text.items)) result }
     ensures folds { IfOk result (λ j. IsOutcome config.now j.history.turns j.folded) }
 {
     // A journal that fits has its numbers in their ranges, and its turns in their order.
     what_a_fitting_journal_keeps();
-    let history = match read(alloc, text, config) {
+    let history = match read(alloc, &text, config) {
         Ok(journal) => journal.history,
         Err(JournalFault::Line { line, number }) => {
             return Err(Stop::Refused(Refusal::BadJournal { line, number }));
         }
         Err(JournalFault::NoMemory) => return Err(Stop::NoMemory),
     };
+    drop(text);
     let folded = outcome(alloc, config, &history)?;
     if let Some(line) = held_back_line(&history, &folded.limited) {
         return Err(Stop::Refused(Refusal::BadJournal {

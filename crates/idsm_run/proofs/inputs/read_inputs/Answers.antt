@@ -41,18 +41,19 @@ returns-in_err-journal-clause-stops g c =
     refused command _ _ _ _ (journal_may (recording c.args.names) command reads _)
     (λ told. journal_refused (recording c.args.names) command reads _ c.deref.result.now
     (rw c.deref.ensures.value (c.in_ok-text.ensures.found told)) c.in_ok-config.config c.in_ok-config.ensures
-    c.deref-2.result.now
-    (read_since _ _ c.deref-2.result.now (g.H.Shelf.shows c.args.shelf.now)
+    c.in_ok-text-2.text.items
+    (read_since _ _ c.in_ok-text-2.text.items (g.H.Shelf.shows c.args.shelf.now)
     (g.H.Shelf.shows c.read_file.new.shelf) c.read_file.ensures.tells c.read_file.ensures.same
-    (λ t. rw c.deref-2.ensures.value (c.in_ok-text-2.ensures.found t)) told) _)
+    c.in_ok-text-2.ensures.found told) _)
     (search rules) (search rules) c.in_err-journal.ensures.judges)
 
 pub returns-clause-found : goal.returns-clause-found
 returns-clause-found g c told =
-    recording_found (recording c.args.names) (g.H.Shelf.shows c.args.shelf.now).files c.deref.result.now c.in_ok-config.config c.deref-2.result.now
+    recording_found (recording c.args.names) (g.H.Shelf.shows c.args.shelf.now).files c.deref.result.now
+    c.in_ok-config.config c.in_ok-text-2.text.items
     c.in_ok-journal.journal.history.turns
     (rw c.deref.ensures.value (c.in_ok-text.ensures.found told)) c.in_ok-config.ensures
-    (read_since _ _ c.deref-2.result.now (g.H.Shelf.shows c.args.shelf.now)
+    (read_since _ _ c.in_ok-text-2.text.items (g.H.Shelf.shows c.args.shelf.now)
     (g.H.Shelf.shows c.read_file.new.shelf) c.read_file.ensures.tells c.read_file.ensures.same
-    (λ t. rw c.deref-2.ensures.value (c.in_ok-text-2.ensures.found t)) told)
+    c.in_ok-text-2.ensures.found told)
     c.in_ok-journal.ensures.judges

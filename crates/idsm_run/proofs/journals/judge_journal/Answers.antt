@@ -19,7 +19,7 @@ outcome-requires c =
 -- a journal has no more lines than bytes
 pub held_back_line-requires : goal.held_back_line-requires
 held_back_line-requires c =
-    let few = lines_are_few c.args.config.now c.args.text.now c.in-Ok.journal.history.turns
+    let few = lines_are_few c.args.config.now c.deref.result.now c.in-Ok.journal.history.turns
     c.in-Ok.journal.losses.items c.in-Ok.ensures.found in
     grind (arith, common_steps)
 
