@@ -31,8 +31,6 @@ mod outcomes;
 #[cfg(test)]
 mod ring_machine;
 #[cfg(test)]
-mod runs;
-#[cfg(test)]
 mod shared_ring;
 #[cfg(test)]
 mod stored_events;

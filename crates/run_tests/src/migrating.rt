@@ -1,6 +1,6 @@
 //! Configurations that are written anew in the second form.
 
-use super::{shelf_of, sink_of, split_words};
+use crate::given::{shelf_of, sink_of, split_words};
 use idsm_run::run_plain;
 use std::alloc::Global;
 use std::test::Fail;

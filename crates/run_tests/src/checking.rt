@@ -3,7 +3,7 @@
 //! A table has a line for each run, as `GIVEN => WANTED`: given are the files `c`, `j` and `m`, and then the
 //! calls of the shelf and the puts that fail. The making of `m` is call 0, so the reads are calls 1, 2 and 3.
 
-use super::{bytes_of, run, shelf_of};
+use crate::given::{bytes_of, run, shelf_of};
 use ids_outside::Shelf;
 use std::alloc::Global;
 use std::test::Fail;

@@ -1,6 +1,6 @@
 //! Runs that end with a status of their own although no call fails, and write nothing.
 
-use super::{bytes_of, first_wrong, run, shelf_of, shelf_over};
+use crate::given::{bytes_of, first_wrong, run, shelf_of, shelf_over};
 use std::alloc::Global;
 use std::test::Fail;
 

@@ -1,6 +1,6 @@
 //! Runs that are done.
 
-use super::{bytes_of, first_wrong, split_words};
+use crate::given::{bytes_of, first_wrong, split_words};
 use ids_outside::{MemorySink, SteadyShelf};
 use idsm_run::run_plain;
 use std::test::Fail;

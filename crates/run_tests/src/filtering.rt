@@ -6,7 +6,7 @@
 //! `.` is nothing. Wanted are the status, the text, MESSAGES in hexadecimal digits behind `#`, and MEMORY
 //! behind `=`; `-` is a file that is not there. `/` is a line feed.
 
-use super::{bytes_of, push_file, shelf_over, sink_of, split_words};
+use crate::given::{bytes_of, push_file, shelf_over, sink_of, split_words};
 use idsm_run::run_plain;
 use std::alloc::Global;
 use std::test::Fail;

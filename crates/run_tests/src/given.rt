@@ -6,16 +6,6 @@
 //! one that is not there. In each `/` is a line feed, pairs of hexadecimal digits stand behind a `#`, and
 //! `.` is the configuration of one event.
 
-mod calls;
-mod checking;
-mod examples;
-mod failing;
-mod filtering;
-mod folding;
-mod migrating;
-mod refusing;
-mod wanting;
-
 use ids_outside::{MemoryShelf, MemorySink};
 use idsm_run::run_plain;
 use std::alloc::Global;
@@ -23,10 +13,10 @@ use std::test::Fail;
 use text_spec::{push_hex, push_number};
 
 /// One event, with id 42 and sensor 3, of instance 18.
-const CONFIG: &str = r#"{"form":1,"instance":18,"events":[{"id":42,"sensor":3}]}"#;
+pub(crate) const CONFIG: &str = r#"{"form":1,"instance":18,"events":[{"id":42,"sensor":3}]}"#;
 
 /// The bytes that a table writes so.
-fn bytes_of(alloc: Global, written: &str) -> Result<Vec<u8>, Fail> {
+pub(crate) fn bytes_of(alloc: Global, written: &str) -> Result<Vec<u8>, Fail> {
     if let Some(digits) = written.strip_prefix("#") {
         return Ok(hex::decode(alloc, digits)?);
     }
@@ -39,7 +29,7 @@ fn bytes_of(alloc: Global, written: &str) -> Result<Vec<u8>, Fail> {
 }
 
 /// The words of a line, between single spaces; no words of an empty line.
-fn split_words(alloc: Global, line: &str) -> Result<Vec<String>, Fail> {
+pub(crate) fn split_words(alloc: Global, line: &str) -> Result<Vec<String>, Fail> {
     let mut words = Vec::new(alloc);
     if !line.is_empty() {
         for word in line.split(" ") {
@@ -50,7 +40,7 @@ fn split_words(alloc: Global, line: &str) -> Result<Vec<String>, Fail> {
 }
 
 /// The numbers between commas; none of `-`.
-fn numbers(alloc: Global, written: &str) -> Result<Vec<u64>, Fail> {
+pub(crate) fn numbers(alloc: Global, written: &str) -> Result<Vec<u64>, Fail> {
     let mut numbers = Vec::new(alloc);
     for word in written.split(",") {
         if let Ok(number) = word.parse::<u64>() {
@@ -61,7 +51,7 @@ fn numbers(alloc: Global, written: &str) -> Result<Vec<u64>, Fail> {
 }
 
 /// A shelf of the files `c` and `j`, whose calls of these numbers fail.
-fn shelf_over(
+pub(crate) fn shelf_over(
     alloc: Global,
     config: Vec<u8>,
     journal: Vec<u8>,
@@ -75,18 +65,23 @@ fn shelf_over(
 }
 
 /// The same of what a table writes.
-fn shelf_of(alloc: Global, config: &str, journal: &str, fails: &str) -> Result<MemoryShelf, Fail> {
+pub(crate) fn shelf_of(
+    alloc: Global,
+    config: &str,
+    journal: &str,
+    fails: &str,
+) -> Result<MemoryShelf, Fail> {
     let config = bytes_of(alloc, config)?;
     let journal = bytes_of(alloc, journal)?;
     shelf_over(alloc, config, journal, numbers(alloc, fails)?)
 }
 
-fn sink_of(alloc: Global, fails: &str) -> Result<MemorySink, Fail> {
+pub(crate) fn sink_of(alloc: Global, fails: &str) -> Result<MemorySink, Fail> {
     Ok(MemorySink::make(alloc, numbers(alloc, fails)?)?)
 }
 
 /// Appends a file, as a table writes it behind a bar.
-fn push_file(told: &mut Vec<u8>, file: Option<&[u8]>) -> Result<(), Fail> {
+pub(crate) fn push_file(told: &mut Vec<u8>, file: Option<&[u8]>) -> Result<(), Fail> {
     match file {
         None => told.extend_from_slice(b" | -")?,
         Some(bytes) => {
@@ -98,7 +93,12 @@ fn push_file(told: &mut Vec<u8>, file: Option<&[u8]>) -> Result<(), Fail> {
 }
 
 /// How a run ended, as a table writes it.
-fn told(alloc: Global, status: u8, shelf: &MemoryShelf, out: &MemorySink) -> Result<Vec<u8>, Fail> {
+pub(crate) fn told(
+    alloc: Global,
+    status: u8,
+    shelf: &MemoryShelf,
+    out: &MemorySink,
+) -> Result<Vec<u8>, Fail> {
     let mut told = Vec::new(alloc);
     push_number(&mut told, status as u64)?;
     told.extend_from_slice(b" | ")?;
@@ -111,7 +111,12 @@ fn told(alloc: Global, status: u8, shelf: &MemoryShelf, out: &MemorySink) -> Res
 }
 
 /// Runs the words, and tells how the run ended.
-fn run(alloc: Global, words: &str, mut shelf: MemoryShelf, fails: &str) -> Result<Vec<u8>, Fail> {
+pub(crate) fn run(
+    alloc: Global,
+    words: &str,
+    mut shelf: MemoryShelf,
+    fails: &str,
+) -> Result<Vec<u8>, Fail> {
     let mut out = sink_of(alloc, fails)?;
     let words = split_words(alloc, words)?;
     let status = run_plain(alloc, &words, &mut shelf, &mut out);
@@ -119,7 +124,7 @@ fn run(alloc: Global, words: &str, mut shelf: MemoryShelf, fails: &str) -> Resul
 }
 
 /// Runs what is given.
-fn run_given(alloc: Global, given: &str) -> Result<Vec<u8>, Fail> {
+pub(crate) fn run_given(alloc: Global, given: &str) -> Result<Vec<u8>, Fail> {
     let mut columns = given.split(" | ");
     let words = columns.next().unwrap_or("");
     let config = columns.next().unwrap_or("");
@@ -131,7 +136,10 @@ fn run_given(alloc: Global, given: &str) -> Result<Vec<u8>, Fail> {
 }
 
 /// The first line of the table whose run ends otherwise.
-fn first_wrong(alloc: Global, table: &'static str) -> Result<Option<&'static str>, Fail> {
+pub(crate) fn first_wrong(
+    alloc: Global,
+    table: &'static str,
+) -> Result<Option<&'static str>, Fail> {
     for line in table.lines() {
         let (given, wanted) = line.split_once(" => ").unwrap_or((line, ""));
         if run_given(alloc, given)?.as_slice() != wanted.as_bytes() {

@@ -1,6 +1,6 @@
 //! Runs in which a call of the shelf or the sink fails.
 
-use super::first_wrong;
+use crate::given::first_wrong;
 use std::test::Fail;
 
 /// Three turns, each with a message of eight bytes. The shelf's calls are two reads, the creation of `m`,

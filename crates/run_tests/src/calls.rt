@@ -2,7 +2,7 @@
 //! the listed one fails: where a run leaves it to the test's own next call to fail, it made as many
 //! calls as that call's number.
 
-use super::{first_wrong, shelf_of, sink_of, split_words};
+use crate::given::{first_wrong, shelf_of, sink_of, split_words};
 use ids_outside::{MemoryShelf, Shelf};
 use idsm_run::run_plain;
 use std::alloc::Global;

@@ -4,7 +4,7 @@ ghost use Rattle.std.specs.Prelude.{◌-◌, ◌^◌, None};
 ghost use Rattle.ids_outside.specs.Shelved.{silent};
 ghost use Rattle.ids_outside.specs.Sinks.{deaf};
 
-use super::{shelf_of, sink_of, split_words, told};
+use crate::given::{shelf_of, sink_of, split_words, told};
 use ids_outside::{MemoryShelf, MemorySink, ReadFault, Shelf, Sink, WriteFault};
 use idsm_run::run_plain;
 use std::alloc::Global;

@@ -1,0 +1,28 @@
+//! The tests of the commands: runs over files in memory, by the public names of the crates below.
+//!
+//! Layer 10, runs. Over `idsm_run` and `ids_outside`. Each module runs tables of cases that were worked out
+//! by hand: what a run writes and puts through each filter and limit, the recorded runs of `examples/`, each
+//! refusal with its text, each call that fails, want of memory, and each limit at its last byte.
+//! Statuses, limits and ranges stand here as numbers.
+#![tactic(auto)]
+
+#[cfg(test)]
+mod calls;
+#[cfg(test)]
+mod checking;
+#[cfg(test)]
+mod examples;
+#[cfg(test)]
+mod failing;
+#[cfg(test)]
+mod filtering;
+#[cfg(test)]
+mod folding;
+#[cfg(test)]
+mod given;
+#[cfg(test)]
+mod migrating;
+#[cfg(test)]
+mod refusing;
+#[cfg(test)]
+mod wanting;
