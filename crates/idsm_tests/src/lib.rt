@@ -27,8 +27,6 @@ mod message_spelling;
 #[cfg(test)]
 mod messages_sent;
 #[cfg(test)]
-mod outcomes;
-#[cfg(test)]
 mod ring_machine;
 #[cfg(test)]
 mod shared_ring;
@@ -40,5 +38,3 @@ mod text_fields;
 mod thresholds;
 #[cfg(test)]
 mod turn_heads;
-#[cfg(test)]
-mod whole_chain;
