@@ -1,0 +1,11 @@
+pub mod Contexts
+pub mod Decided
+pub mod Fates
+pub mod Follows
+pub mod Fronts
+pub mod Losses
+pub mod Merge
+pub mod Names
+pub mod Orders
+pub mod Rounds
+pub mod Settled
