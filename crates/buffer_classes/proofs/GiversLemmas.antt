@@ -1,0 +1,58 @@
+-- What the givers of all classes keep where one of them changes.
+use Rattle.std.proofs.Common.{◌≡◌, ℕ, ◌<◌, length, get_or, set, subst, sym, ap, ◌∙◌, inl, inr, arith}
+use Rattle.std.proofs.lemmas.List.{length-map, length-set}
+use mathlib.Core.Option.{some, some-injective}
+use lib.ListN.{get_elem?}
+use Rattle.atomic_table.proofs.Lists.{at_index, at_map, at_set}
+use Rattle.permit_ring.specs.Seats.{ring_terms}
+use Rattle.permit_ring.proofs.ListLemmas.{at_length}
+use Rattle.buffer_classes.specs.Buffers.{Buffer, IsBufferOf}
+use Rattle.buffer_classes.specs.Classes.{class_sizes}
+use Rattle.buffer_classes.specs.declared.giver.Giver.{Giver}
+use Rattle.buffer_classes.specs.declared.givers.Givers.{Givers}
+use Rattle.buffer_classes.specs.Givers.{AreGiversOf, IsBufferIn, givers_of}
+use Rattle.buffer_classes.specs.Giving.{IsGiverOf}
+use Rattle.buffer_classes.specs.Names.{Class, Classes}
+
+module _ {classes : Classes} {givers : Givers} (are : AreGiversOf classes givers) (i : ℕ) (low : i < length (givers_of givers))
+    (class : Class) (its : class ≡ get_or classes.classes.items i class) where
+  -- the class at a place
+  pub class_there : get_elem? classes.classes.items i ≡ some class
+  class_there = at_index classes.classes.items i class (omega (arith, are.all)) its
+
+  -- the giver there is its
+  pub giver_there : (g : Giver) → g ≡ get_or (givers_of givers) i g → IsGiverOf class.ring g
+  giver_there g at = are.each i class g class_there (at_index (givers_of givers) i g low at)
+
+  -- with another giver there
+  pub givers_with : (g : Giver) (new : Givers) → givers_of new ≡ set (givers_of givers) i g → IsGiverOf class.ring g
+      → AreGiversOf classes new
+  givers_with g new is one = record {
+    are = are.are;
+    all = ap length is ∙ length-set (givers_of givers) i g ∙ are.all;
+    each = λ j other h of there. elim (at_set (givers_of givers) i j g h (rw is at there)) [
+      | inl here ↦
+          let same = some-injective class other (sym class_there ∙ rw here.0 at of) in
+          subst (λ (k : Class). IsGiverOf k.ring h) same (subst (IsGiverOf class.ring) here.1 one)
+      | inr away ↦ are.each j other h of away.1
+    ];
+  }
+
+  -- a buffer of the class's place and size is one of its own
+  pub buffer_there : (b : Buffer) → i ≡ b.class → IsBufferIn (class_sizes classes) b → IsBufferOf (ring_terms class.ring) b
+  buffer_there b here is =
+      let terms = are.are.terms i class class_there in
+      let size = at_map (λ (class : Class). class.size) classes.classes.items i class class_there in
+      let same = some-injective class.size b.size (sym size ∙ rw (← here) at is) in
+      rw terms record { class_is = sym here; size_is = sym same }
+
+-- a buffer's class has a giver
+pub class_of : {classes : Classes} {givers : Givers} → AreGiversOf classes givers → (i : ℕ) (b : Buffer) → i ≡ b.class
+    → IsBufferIn (class_sizes classes) b → i < length (givers_of givers)
+class_of {classes} are i b here is =
+    omega (
+      arith,
+      are.all,
+      at_length (class_sizes classes) b.class b.size is,
+      length-map classes.classes.items (λ (class : Class). class.size),
+    )

@@ -1,0 +1,9 @@
+use Rattle.buffer_classes.proofs.GiveLemmas.{admitted_more}
+use Rattle.std.proofs.Common.{arith}
+use Rattle.buffer_classes.proofs.giver.Giver.put.Goals as goal
+
+pub returns-then-len-self-clause-mine : goal.returns-then-len-self-clause-mine
+returns-then-len-self-clause-mine c =
+    let was = c.requires.mine in
+    let all = admitted_more _ c.args.self.now.late.items c.args.buf c.push_reserved.ensures.items was.late_are c.requires.buf in
+    grind (arith, all, was, c.push_reserved.ensures)

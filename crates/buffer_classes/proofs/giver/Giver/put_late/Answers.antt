@@ -1,0 +1,26 @@
+use Rattle.std.proofs.Common.{◌≡◌, ◌++◌, ◌∷◌, [], ◌∙◌, ap, arith, length}
+use Rattle.std.proofs.lemmas.List.{append_assoc, length_push}
+use Rattle.buffer_classes.proofs.GiveLemmas.{admitted_before, admitted_last}
+use Rattle.buffer_classes.proofs.giver.Giver.put_late.Goals as goal
+
+pub refill-requires-clause-admitted : goal.refill-requires-clause-admitted
+refill-requires-clause-admitted c = λ _.
+    let is : c.loop-self.self.late.items ≡ c.pop.new.self.items ++ c.in-Some.buf ∷ [] = rw c.in-Some.is at c.pop.ensures.items in
+    admitted_last _ c.pop.new.self.items c.in-Some.buf is c.loop-self.invariant.0.late_are
+
+pub loop-self-preserved : goal.loop-self-preserved
+loop-self-preserved c =
+    let is : c.loop-self.self.late.items ≡ c.pop.new.self.items ++ c.in-Some.buf ∷ [] = rw c.in-Some.is at c.pop.ensures.items in
+    let was = c.loop-self.invariant in
+    let did = c.refill.ensures in
+    let long = length_push c.pop.new.self.items c.in-Some.buf in
+    let late = admitted_before _ c.pop.new.self.items c.in-Some.buf is was.0.late_are in (
+      grind (arith, was.0, late, did, c.pop.ensures),
+      record {
+        memo_is = did.told ∙ was.1.memo_is;
+        account = omega (arith, did.counts, ap (λ k. k.offered) did.told, ap length is, long, was.1.account);
+        gone = c.in-Some.buf ∷ was.1.gone;
+        late_is = was.1.late_is ∙ ap (λ l. l ++ was.1.gone) is ∙ append_assoc c.pop.new.self.items (c.in-Some.buf ∷ []) was.1.gone;
+        number_is = was.1.number_is;
+      },
+    )

@@ -1,0 +1,9 @@
+use Rattle.std.proofs.Common.{arith}
+use Rattle.atomic_table.proofs.Lists.{at_index}
+use Rattle.buffer_classes.specs.Givers.{givers_of}
+use Rattle.buffer_classes.proofs.givers.Givers.late.Goals as goal
+
+pub returns : goal.returns
+returns c =
+    let there = at_index (givers_of c.args.self.now) c.args.class c.index.result.now c.requires c.index.ensures in
+    rw there (omega (arith, c.len.ensures))

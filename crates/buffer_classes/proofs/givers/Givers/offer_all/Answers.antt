@@ -1,0 +1,24 @@
+use Rattle.std.proofs.Common.{length, ◌<◌, refl, arith}
+use Rattle.buffer_classes.specs.Givers.{givers_of}
+use Rattle.buffer_classes.proofs.ByIndexLemmas.{all_below, below_more, one_set}
+use Rattle.buffer_classes.proofs.GiversLemmas.{giver_there, givers_with}
+use Rattle.buffer_classes.proofs.givers.Givers.offer_all.Goals as goal
+
+pub offer-requires : goal.offer-requires
+offer-requires c =
+    let are = c.loop-class.invariant.0 in
+    let class = c.index.result.now in
+    record { mine = giver_there are c.loop-class.class (omega arith) class c.index.ensures c.index_mut.result.now c.index_mut.ensures.value }
+
+pub loop-class-preserved : goal.loop-class-preserved
+loop-class-preserved c =
+    let i = c.loop-class.class in
+    let is = c.loop-class.invariant in
+    let givers = givers_of c.loop-class.self in
+    let low : i < length givers = omega arith in (
+      givers_with is.0 i low c.index.result.now c.index.ensures c.offer.new.self _ refl c.offer.ensures.mine,
+      below_more is.1 (one_set givers i c.offer.new.self low c.index_mut.ensures.value c.offer.ensures.did),
+    )
+
+pub returns-clause-did : goal.returns-clause-did
+returns-clause-did c = all_below c.loop-class.invariant.1 (omega arith)

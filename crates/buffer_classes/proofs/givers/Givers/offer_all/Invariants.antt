@@ -1,0 +1,8 @@
+use Rattle.buffer_classes.specs.ByIndex.{AllBelow}
+use Rattle.buffer_classes.specs.Givers.{AreGiversOf, givers_of}
+use Rattle.buffer_classes.specs.Giving.{Offers}
+use Rattle.buffer_classes.proofs.givers.Givers.offer_all.Given as goal
+
+abbrev pub invariant-loop-class : goal.invariant-loop-class
+invariant-loop-class l =
+    AreGiversOf l.classes l.self × AllBelow (λ i. Offers) l.class (givers_of l.initial.self) (givers_of l.self)

@@ -1,0 +1,17 @@
+use Rattle.std.proofs.Common.{◌≡◌, length}
+use Rattle.std.specs.Prelude.{vec_capacity}
+use Rattle.buffer_classes.specs.ByIndex.{AllOf}
+use Rattle.buffer_classes.specs.Classes.{class_sizes}
+use Rattle.buffer_classes.specs.Givers.{AreBuffersIn, AreGiversOf, givers_of}
+use Rattle.buffer_classes.proofs.PutLemmas.{PutsSome}
+use Rattle.buffer_classes.proofs.givers.Givers.put_all.Given as goal
+
+abbrev pub invariant-loop-buf : goal.invariant-loop-buf
+invariant-loop-buf l =
+    AreGiversOf l.classes l.self
+    × AreBuffersIn (class_sizes l.classes) l.back.items
+    × AllOf (PutsSome l.initial.back.items l.back.items) (givers_of l.initial.self) (givers_of l.self)
+    × (vec_capacity l.back ≡ vec_capacity l.initial.back)
+
+abbrev pub decreases-loop-buf : goal.decreases-loop-buf
+decreases-loop-buf l = length l.back.items

@@ -1,0 +1,14 @@
+use Rattle.std.proofs.Common.{◌≡◌, ◌++◌, List, length}
+use Rattle.buffer_classes.specs.ByIndex.{AllOf}
+use Rattle.buffer_classes.specs.Making.{GetsSeat}
+use Rattle.buffer_classes.specs.Names.{ClassSeat}
+use Rattle.buffer_classes.proofs.ByIndexLemmas.{FromOn}
+use Rattle.buffer_classes.proofs.making.hand_out.Given as goal
+
+abbrev pub invariant-loop-seat : goal.invariant-loop-seat
+invariant-loop-seat l =
+    ((more : List ClassSeat) × (l.initial.seats.items ≡ l.seats.items ++ more))
+    × AllOf (FromOn (GetsSeat l.initial.seats.items) (length l.seats.items)) l.initial.claimants.items l.claimants.items
+
+abbrev pub decreases-loop-seat : goal.decreases-loop-seat
+decreases-loop-seat l = length l.seats.items

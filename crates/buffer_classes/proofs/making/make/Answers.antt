@@ -1,0 +1,49 @@
+use Rattle.std.proofs.Common.{◌≡◌, ◌+◌, ◌∙◌, arith, get_or, length, take, subst, sym}
+use Rattle.std.proofs.lemmas.List.{get_or_default, length-take-le, take_more}
+use Rattle.atomic_table.proofs.Lists.{at_index}
+use Rattle.ids_types.specs.declared.class_spec.ClassSpec.{ClassSpec}
+use Rattle.buffer_classes.specs.Making.{IsNewClass}
+use Rattle.buffer_classes.proofs.MakingLemmas.{as_many, class_made, got_of, rise_taken}
+use Rattle.buffer_classes.proofs.making.make.Goals as goal
+
+pub make_class-requires-clause-spec : goal.make_class-requires-clause-spec
+make_class-requires-clause-spec c =
+    let specs = c.args.specs.now in
+    let i = c.loop-spec.spec-index in
+    c.requires.classes.each i _ (at_index specs i _ c.loop-spec-test.true (get_or_default specs i _ _ c.loop-spec-test.true))
+
+pub hand_out-requires-clause-room : goal.hand_out-requires-clause-room
+hand_out-requires-clause-room c = λ j seat at.
+    let was = c.loop-spec.invariant in
+    let done = as_many was.0 ∙ length-take-le c.loop-spec.spec-index c.args.specs.now (omega (arith, c.loop-spec-test.true)) in
+    omega (arith, (was.0.each j seat at).is_claimant.all, done, was.3 j seat at, c.loop-spec-test.true)
+
+pub push_reserved-requires : goal.push_reserved-requires
+push_reserved-requires c =
+    let was = c.loop-spec.invariant in
+    let done = as_many was.0 ∙ length-take-le c.loop-spec.spec-index c.args.specs.now (omega (arith, c.loop-spec-test.true)) in
+    omega (arith, was.0.givers_are.all, done, was.2, c.loop-spec-test.true)
+
+pub loop-spec-preserved : goal.loop-spec-preserved
+loop-spec-preserved c =
+    let was = c.loop-spec.invariant in
+    let specs = c.args.specs.now in
+    let i = c.loop-spec.spec-index in
+    let now = c.in_ok-new.new in
+    let low = c.loop-spec-test.true in
+    let long : length (take i specs) ≡ i = length-take-le i specs (omega (arith, low)) in
+    let spec : ClassSpec = get_or specs i (record { size = 0; number = 0 }) in
+    let more = take_more specs i (record { size = 0; number = 0 }) low in
+    let new : IsNewClass (length (take i specs)) spec c.args.seats now.class now.giver now.seats.items =
+    subst (λ k. IsNewClass k spec c.args.seats now.class now.giver now.seats.items) (omega (arith, c.len.ensures, as_many was.0)) c.in_ok-new.ensures in
+    let rise = rw more at (rise_taken 0 (i + 1) specs c.requires.classes.rise) in
+    let made = class_made was.0 new (omega (arith, long, low, c.requires.classes.few)) rise
+    (record { classes = c.push_reserved-in-loop-spec.new.self }) (record { givers = c.push_reserved.new.self }) c.hand_out.new.claimants.items
+    c.push_reserved-in-loop-spec.ensures.items c.push_reserved.ensures.items c.hand_out.ensures in (
+      rw more made,
+      c.push_reserved-in-loop-spec.ensures.capacity ∙ was.1,
+      c.push_reserved.ensures.capacity ∙ was.2,
+      λ j seat at.
+          let got = got_of now.seats.items c.hand_out.ensures (new.seats_are.all_made ∙ sym was.0.all_made) j seat at in
+          got.4.1 ∙ was.3 j got.0 got.2,
+    )

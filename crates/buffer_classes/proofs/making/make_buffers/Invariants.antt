@@ -1,0 +1,12 @@
+use Rattle.std.proofs.Common.{◌≡◌, length}
+use Rattle.std.specs.Prelude.{vec_capacity}
+use Rattle.permit_ring.specs.Hands.{AllAdmitted}
+use Rattle.buffer_classes.specs.Buffers.{IsBufferOf}
+use Rattle.buffer_classes.specs.Classes.{class_terms}
+use Rattle.buffer_classes.proofs.making.make_buffers.Given as goal
+
+abbrev pub invariant-loop : goal.invariant-loop
+invariant-loop l =
+    (length l.bufs.items ≡ l.counter)
+    × AllAdmitted (IsBufferOf (class_terms l.class l.spec.size)) l.bufs.items
+    × (vec_capacity l.bufs ≡ l.spec.number)

@@ -1,0 +1,58 @@
+-- What a claim does at each class: it asks the fitting ones from the smallest on, until one has a buffer free.
+use Rattle.std.specs.Prelude.{◌≡◌, ℕ, suc, ◌+◌, ◌≤◌, ◌==◌, if◌then◌else◌, List, [], ◌∷◌, length, Result, Ok, Err, ⊤, ◌^◌, All}
+use mathlib.Core.Option.{some}
+use lib.ListN.{get_elem?}
+use Rattle.ids_types.specs.declared.names.Ticket.{Ticket}
+use Rattle.permit_ring.specs.declared.answer.Look.{Look}
+use Rattle.permit_ring.specs.Calls as ring
+use Rattle.permit_ring.specs.Steps.{finishes}
+use Rattle.buffer_classes.specs.Buffers.{Buffer, found_full}
+use Rattle.buffer_classes.specs.Names.{Lost, Got, Outcome, SeatMemo}
+use Rattle.buffer_classes.specs.declared.seat.Claim.{Claim}
+use Rattle.buffer_classes.specs.declared.seat.Claim.TheVariants as claims
+
+-- the ticket of a number
+abbrev pub ticket : ℕ → Ticket
+ticket claim = record { 0 = claim }
+
+-- what a claim asked of class i, where its looks are those of the classes from this one on
+abbrev pub lost_at : ℕ → List ℕ → ℕ → List Outcome
+lost_at first [] i = []
+lost_at first (claimed ∷ looks) i = if i == first then Lost claimed ∷ [] else lost_at (suc first) looks i
+
+-- what became of the calls at class i of a claim that asked from this class on
+abbrev pub asked : ℕ → Claim → ℕ → List Outcome
+asked first (claims.Got buf skipped) i = if i == buf.class then Got buf.claim tt ∷ [] else lost_at first skipped i
+asked first (claims.NoneFree looks) i = lost_at first looks i
+
+-- what that did to the seat of a class: a call that was lost, or that got a ticket and finished it at once
+abbrev pub Asks : ℕ → SeatMemo → List Outcome → SeatMemo → Type 0
+Asks limit old [] new = new ≡ old
+Asks limit old (Lost g ∷ []) new = ring.ClaimTells limit old (Err (found_full g)) new
+Asks limit old (Got t x ∷ []) new = (mid : SeatMemo) × ring.ClaimTells limit old (Ok (ticket t)) mid × (new ≡ finishes x mid)
+Asks limit old (call ∷ next ∷ calls) new = ⊥
+
+-- what a call at one class gave, as the seat has it
+abbrev pub outcome_of : Result Buffer Look → List Outcome
+outcome_of (Ok buf) = Got buf.claim tt ∷ []
+outcome_of (Err look) = Lost look.claimed ∷ []
+
+-- one look for each fitting class that was asked in vain, and then a buffer of the next class, or none where no class is left
+abbrev pub ClaimTells : ℕ → List ℕ → Claim → Type 0
+ClaimTells first sizes (claims.Got buf skipped) = (first + length skipped ≡ buf.class) × (get_elem? sizes buf.class ≡ some buf.size)
+ClaimTells first sizes (claims.NoneFree looks) = first + length looks ≡ length sizes
+
+-- how many buffers had been claimed where a call at one class got this answer
+abbrev pub claimed_at : Result Buffer Look → ℕ
+claimed_at (Ok buf) = buf.claim
+claimed_at (Err look) = look.claimed
+
+-- no claim has a number above 2^45
+abbrev pub AreSmall : Claim → Type 0
+AreSmall (claims.Got buf skipped) = (buf.claim ≤ 2 ^ 45) × All (λ claimed. claimed ≤ 2 ^ 45) skipped
+AreSmall (claims.NoneFree looks) = All (λ claimed. claimed ≤ 2 ^ 45) looks
+
+-- a buffer that was got holds so many bytes
+abbrev pub HoldsSoMany : ℕ → Claim → Type 0
+HoldsSoMany bytes (claims.Got buf skipped) = bytes ≤ buf.size
+HoldsSoMany bytes (claims.NoneFree looks) = ⊤

@@ -1,0 +1,73 @@
+-- Those who give the buffers of all classes back.
+use Rattle.std.specs.Prelude.{◌≡◌, ℕ, ◌+◌, ◌<◌, ◌==◌, List, ◌++◌, count_by, length}
+use mathlib.Core.Option.{Option, some, none}
+use lib.ListN.{get_elem?}
+use Rattle.permit_ring.specs.Closing.{AreAllBack, IsSettled}
+use Rattle.permit_ring.specs.Hands.{AllAdmitted}
+use Rattle.buffer_classes.specs.declared.giver.Giver.{Giver}
+use Rattle.buffer_classes.specs.declared.givers.Givers.{Givers}
+use Rattle.buffer_classes.specs.Buffers.{Buffer}
+use Rattle.buffer_classes.specs.Classes.{AreClasses}
+use Rattle.buffer_classes.specs.Giving.{Accounts, ClassMemo, EndsUnready, IsFilledUp, IsGiverOf, OffersOnce, OnlyReaps, Takes, filled_count, giver_memo, late_count}
+use Rattle.buffer_classes.specs.Names.{Class, Classes, ClassSeat}
+use Rattle.buffer_classes.specs.declared.seat.ClaimSeat.{ClaimSeat}
+
+-- the giver of each class
+abbrev pub givers_of : Givers → List Giver
+givers_of givers = givers.givers.items
+
+-- each class has its giver
+pub record AreGiversOf (classes : Classes) (givers : Givers) : Type 0 where
+  pub are : AreClasses classes
+  pub all : length (givers_of givers) ≡ length classes.classes.items
+  pub each : (i : ℕ) (class : Class) (g : Giver) → get_elem? classes.classes.items i ≡ some class
+      → get_elem? (givers_of givers) i ≡ some g → IsGiverOf class.ring g
+
+-- the buffer is of one of the classes of these sizes
+abbrev pub IsBufferIn : List ℕ → Buffer → Type 0
+IsBufferIn sizes b = get_elem? sizes b.class ≡ some b.size
+
+-- and so is each of these
+abbrev pub AreBuffersIn : List ℕ → List Buffer → Type 0
+AreBuffersIn sizes bufs = AllAdmitted (IsBufferIn sizes) bufs
+
+-- how many of the buffers are of class i
+abbrev pub class_count : ℕ → List Buffer → ℕ
+class_count i bufs = count_by (λ (b : Buffer). b.class == i) bufs
+
+-- how many buffers are late where there is a giver
+abbrev pub late_at : Option Giver → ℕ
+late_at none = 0
+late_at (some g) = late_count g
+
+-- how many buffers of a class wait for a vacant position
+abbrev pub late_of : Givers → ℕ → ℕ
+late_of givers class = late_at (get_elem? (givers_of givers) class)
+
+-- the late buffers went first into the positions that were then offered: where some are still late, none that came now is among these
+pub record LateGoFirst (offered : ℕ) (old new : Giver) : Type 0 where
+  pub kept : List Buffer
+  pub gone : List Buffer
+  pub more : List Buffer
+  pub were : old.late.items ≡ kept ++ gone
+  pub are : new.late.items ≡ kept ++ more
+  pub first : 0 < length kept → offered ≡ filled_count old + length gone
+
+-- what a class did with the buffers that came back: it was reaped to its end, and what was filled then is offered in one step
+pub record GaveBack (bufs : List Buffer) (i : ℕ) (old new : Giver) : Type 0 where
+  pub reaped : ClassMemo
+  pub reaps : OnlyReaps (giver_memo old) reaped
+  pub unready : EndsUnready (giver_memo new)
+  pub settled : AreAllBack (giver_memo old) → IsSettled (giver_memo new)
+  pub account : Accounts (class_count i bufs) old new
+  pub filled_up : IsFilledUp new
+  pub offered : ℕ
+  pub late : LateGoFirst offered old new
+  pub told : OffersOnce new.number offered reaped (giver_memo new)
+  pub back_is : (giver_memo new).back ≡ (giver_memo old).back
+  pub none_filled : filled_count new ≡ 0
+  pub number_is : new.number ≡ old.number
+
+-- the claimant's seat of class i came back
+abbrev pub Welcomed : ClaimSeat → ℕ → Giver → Giver → Type 0
+Welcomed seat i old new = (s : ClassSeat) → get_elem? seat.seats.items i ≡ some s → Takes s old new

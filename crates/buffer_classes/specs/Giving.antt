@@ -1,0 +1,134 @@
+-- How the buffers of one class are given back.
+use Rattle.std.specs.Prelude.{◌≡◌, ◌≢◌, ℕ, ◌+◌, ◌<◌, ◌≤◌, ◌⊎◌, List, [], ◌∷◌, ◌++◌, length, vec_capacity}
+use mathlib.Core.Option.{some}
+use lib.ListN.{get_elem?}
+use Rattle.permit_ring.specs.declared.memo.Move.{Move}
+use Rattle.permit_ring.specs.declared.ring.Ring.{Ring}
+use Rattle.permit_ring.specs.Calls.{OfferTells}
+use Rattle.permit_ring.specs.Closing.{AreAllBack, IsSettled}
+use Rattle.permit_ring.specs.Hands.{AllAdmitted}
+use Rattle.permit_ring.specs.Seats.{IsKeeperOf, keeper_memo, seat_memo, vacant_of, filled_of, ring_positions, ring_seats, ring_terms}
+use Rattle.permit_ring.specs.Steps.{welcomes}
+use Rattle.buffer_classes.specs.declared.giver.Giver.{Giver}
+use Rattle.buffer_classes.specs.Buffers.{Buffer, IsBufferOf}
+use Rattle.buffer_classes.specs.Names.{ClassSeat, ClassTerms, KeeperMemo}
+
+-- what the keeper of a class remembers
+abbrev pub ClassMemo : Type 0
+ClassMemo = KeeperMemo (Unit {0})
+
+-- and so the giver
+abbrev pub giver_memo : Giver → ClassMemo
+giver_memo g = keeper_memo g.keeper
+
+-- how many positions of the class were reaped and not filled
+abbrev pub vacant_count : Giver → ℕ
+vacant_count g = vacant_of g.keeper
+
+-- and how many were filled and not offered
+abbrev pub filled_count : Giver → ℕ
+filled_count g = filled_of g.keeper
+
+-- how many buffers wait for a vacant position
+abbrev pub late_count : Giver → ℕ
+late_count g = length g.late.items
+
+-- all buffers that came back so far, with those that were there at first
+abbrev pub in_all : Giver → ℕ
+in_all g = (giver_memo g).offered + filled_count g + late_count g
+
+-- the giver is one of the class of this ring
+pub record IsGiverOf (ring : Ring _ Buffer (Unit {0}) ClassTerms (Unit {0})) (g : Giver) : Type 0 where
+  pub is_keeper : IsKeeperOf IsBufferOf ring g.keeper
+  pub number_is : g.number ≡ ring_positions ring
+  pub late_are : AllAdmitted (IsBufferOf (ring_terms ring)) g.late.items
+  pub few : late_count g ≤ g.number
+  pub room : g.number ≤ vec_capacity g.late
+  pub made_are : (giver_memo g).made ≡ length (giver_memo g).back
+  pub seats_are : (giver_memo g).made ≡ ring_seats ring
+  pub offered_from : g.number ≤ (giver_memo g).offered
+  pub fronts_from : (j front : ℕ) → get_elem? (giver_memo g).fronts j ≡ some front → g.number ≤ front
+
+-- all that was done between them was to look at marks and to reap
+pub record OnlyReaps (old new : ClassMemo) : Type 0 where
+  pub notes : List (Unit {0})
+  pub marks : List ℕ
+  pub moves : List Move
+  pub is : new ≡ record old { notes = old.notes ++ notes; marks = old.marks ++ marks; moves = old.moves ++ moves }
+
+-- the mark that was read last is not that of the next ticket
+pub record EndsUnready (k : ClassMemo) : Type 0 where
+  pub earlier : List ℕ
+  pub mark : ℕ
+  pub read : k.marks ≡ earlier ++ mark ∷ []
+  pub not_next : mark ≢ length k.notes + 1
+
+-- a buffer is late only where no position is vacant
+abbrev pub IsFilledUp : Giver → Type 0
+IsFilledUp g = 0 < late_count g → vacant_count g ≡ 0
+
+-- all that was finished is reaped, up to a ticket that was not
+pub record ReapsToEnd (old new : Giver) : Type 0 where
+  pub reaps : OnlyReaps (giver_memo old) (giver_memo new)
+  pub unready : EndsUnready (giver_memo new)
+  pub settled : AreAllBack (giver_memo old) → IsSettled (giver_memo new)
+  pub filled_is : filled_count new ≡ filled_count old
+  pub late_is : new.late ≡ old.late
+  pub number_is : new.number ≡ old.number
+
+-- some late buffers are put into vacant positions, the last first
+pub record FillsLate (old new : Giver) : Type 0 where
+  pub memo_is : giver_memo new ≡ giver_memo old
+  pub account : in_all new ≡ in_all old
+  -- those that stay late are the first
+  pub gone : List Buffer
+  pub late_is : old.late.items ≡ new.late.items ++ gone
+  pub number_is : new.number ≡ old.number
+
+-- the class is reaped to its end, and then late buffers go first
+pub record Begins (old new : Giver) : Type 0 where
+  pub reaps : OnlyReaps (giver_memo old) (giver_memo new)
+  pub unready : EndsUnready (giver_memo new)
+  pub settled : AreAllBack (giver_memo old) → IsSettled (giver_memo new)
+  pub account : in_all new ≡ in_all old
+  -- those that stay late are the first
+  pub gone : List Buffer
+  pub late_is : old.late.items ≡ new.late.items ++ gone
+  pub filled_up : IsFilledUp new
+  pub number_is : new.number ≡ old.number
+
+-- so many more are offered, filled or late; or else the late list is full, and they are no more than that
+abbrev pub Accounts : ℕ → Giver → Giver → Type 0
+Accounts count old new = (in_all new ≡ in_all old + count) ⊎ ((new.number ≤ late_count new) × (in_all new ≤ in_all old + count))
+
+-- so many buffers are put into vacant positions, or behind the late ones
+pub record Puts (count : ℕ) (old new : Giver) : Type 0 where
+  pub memo_is : giver_memo new ≡ giver_memo old
+  pub account : Accounts count old new
+  pub more : List Buffer
+  pub late_is : new.late.items ≡ old.late.items ++ more
+  pub filled_up : IsFilledUp old → IsFilledUp new
+  pub none_vacant : vacant_count old ≡ 0 → (vacant_count new ≡ 0) × (filled_count new ≡ filled_count old)
+  pub number_is : new.number ≡ old.number
+
+-- an offer of so many of n positions, or no step where there are none
+abbrev pub OffersOnce : ℕ → ℕ → ClassMemo → ClassMemo → Type 0
+OffersOnce n count old new = (count ≡ 0 → new ≡ old)
+    × (0 < count → (tries : ℕ) × (tries ≤ n + old.made + 1) × OfferTells old.made count old tries new)
+
+-- all that was filled is offered
+pub record Offers (old new : Giver) : Type 0 where
+  pub told : OffersOnce old.number (filled_count old) (giver_memo old) (giver_memo new)
+  pub none_filled : filled_count new ≡ 0
+  pub account : in_all new ≡ in_all old
+  pub vacant_is : vacant_count new ≡ vacant_count old
+  pub late_is : new.late ≡ old.late
+  pub number_is : new.number ≡ old.number
+
+-- a seat of the class came back
+pub record Takes (s : ClassSeat) (old new : Giver) : Type 0 where
+  pub told : giver_memo new ≡ welcomes (seat_memo s) (giver_memo old)
+  pub late_is : new.late ≡ old.late
+  pub filled_is : filled_count new ≡ filled_count old
+  pub vacant_is : vacant_count new ≡ vacant_count old
+  pub number_is : new.number ≡ old.number

@@ -1,0 +1,9 @@
+pub mod Buffers
+pub mod ByIndex
+pub mod Claims
+pub mod Classes
+pub mod Givers
+pub mod Giving
+pub mod Making
+pub mod Names
+pub mod Seats

@@ -1,0 +1,51 @@
+-- One who claims buffers: a seat at the ring of each class, idle between two claims.
+use Rattle.std.specs.Prelude.{◌≡◌, ℕ, ◌≤◌, List, length, None}
+use mathlib.Core.Option as maybe
+use mathlib.Core.Option.{some, none}
+use lib.ListN.{get_elem?}
+use Rattle.permit_ring.specs.Logs.{IsOrdered}
+use Rattle.permit_ring.specs.Seats.{IsSeatOf, seat_calls, seat_memo, seat_number, seat_ticket}
+use Rattle.permit_ring.specs.Steps.{new_memo}
+use Rattle.buffer_classes.specs.Buffers.{IsBufferOf}
+use Rattle.buffer_classes.specs.Classes.{AreClasses}
+use Rattle.buffer_classes.specs.Names.{Class, Classes, ClassSeat, Outcome, SeatMemo}
+use Rattle.buffer_classes.specs.declared.seat.ClaimSeat.{ClaimSeat}
+
+-- the claimant's number, and how many claims it has made
+abbrev pub claimant_of : ClaimSeat → ℕ
+claimant_of seat = seat.number
+
+abbrev pub claims_of : ClaimSeat → ℕ
+claims_of seat = seat.claims
+
+-- what a seat knows, where there is one
+abbrev pub memo_in : maybe.Option ClassSeat → SeatMemo
+memo_in none = new_memo 0
+memo_in (some seat) = seat_memo seat
+
+-- what the claimant knows of class i
+abbrev pub memo_at : ClaimSeat → ℕ → SeatMemo
+memo_at seat i = memo_in (get_elem? seat.seats.items i)
+
+-- what became of its calls at class i; none where there is no such class
+abbrev pub log_of : ClaimSeat → ℕ → List Outcome
+log_of seat i = (memo_at seat i).log
+
+-- a seat of the class's ring that holds no ticket
+pub record IsClassSeat (class : Class) (seat : ClassSeat) : Type 0 where
+  pub is_seat : IsSeatOf IsBufferOf class.ring seat
+  pub is_idle : seat_ticket seat ≡ None
+  pub ordered : IsOrdered (seat_memo seat)
+
+-- the seat of the claimant of a number, who has made so many claims
+pub record IsHisSeat (number claims : ℕ) (class : Class) (seat : ClassSeat) : Type 0 where
+  pub is_seat : IsClassSeat class seat
+  pub number_is : seat_number seat ≡ number
+  pub calls_within : seat_calls seat ≤ claims
+
+-- a claimant of these classes, between two claims
+pub record IsClaimSeatOf (classes : Classes) (seat : ClaimSeat) : Type 0 where
+  pub are : AreClasses classes
+  pub all : length seat.seats.items ≡ length classes.classes.items
+  pub each : (i : ℕ) (class : Class) (s : ClassSeat) → get_elem? classes.classes.items i ≡ some class
+      → get_elem? seat.seats.items i ≡ some s → IsHisSeat seat.number seat.claims class s

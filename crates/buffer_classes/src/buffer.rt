@@ -1,0 +1,89 @@
+//! A context data buffer.
+ghost use Rattle.std.specs.Prelude.{◌≡◌, ◌≤◌, length, IfOk};
+ghost use Rattle.buffer_classes.specs.Buffers.{filled_with, unused};
+
+use ids_types::Parcel;
+use std::alloc::{AllocError, Global};
+use std::marker::Model;
+
+/// A context data buffer of one class, with the number of the claim that got it. It is moved from its slot to
+/// the report, the chain and back; its bytes stay where they are.
+#[derive(Debug, Drop)]
+pub struct CtxBuf {
+    claim: u64,
+    size: u16,
+    class: u8,
+    bytes: Vec<u8>,
+}
+
+impl Model for CtxBuf {
+    ghost use Rattle.buffer_classes.specs.Buffers.{Buffer, buffer_of, HasItsRoom};
+
+    ghost Value = { Buffer };
+
+    ghost view = { buffer_of };
+
+    ghost invariant = { HasItsRoom };
+}
+
+impl CtxBuf {
+    /// An empty buffer of a class, which nobody has claimed yet.
+    pub(crate) fn make(alloc: Global, class: u8, size: u16) -> Result<CtxBuf, AllocError>
+        ensures { IfOk result (λ buf. buf ≡ unused class size) }
+    {
+        Ok(CtxBuf {
+            claim: 0,
+            size,
+            class,
+            bytes: Vec::with_capacity(alloc, size as usize)?,
+        })
+    }
+
+    /// The place of its class among the classes, from 0: the smallest class is the first.
+    pub fn class(&self) -> u8
+        ensures { result ≡ self.now.class }
+    {
+        self.class
+    }
+
+    /// The number of the claim that got it, from 0 for each class.
+    pub fn claim(&self) -> u64
+        ensures { result ≡ self.now.claim }
+    {
+        self.claim
+    }
+
+    /// How many bytes it can hold.
+    pub fn size(&self) -> u16
+        ensures { result ≡ self.now.size }
+    {
+        self.size
+    }
+
+    /// Holds these bytes, and no others, from now on.
+    pub fn fill(&mut self, bytes: &[u8])
+        requires { length bytes.now ≤ self.old.size }
+        ensures { self.new ≡ filled_with bytes.now self.old }
+    {
+        self.bytes.clear();
+        if !bytes.is_empty() {
+            self.bytes.extend_from_slice(bytes).unwrap();
+        }
+    }
+
+    /// The buffer as the claim of this number got it.
+    pub(crate) fn claimed(mut self, claim: u64) -> CtxBuf
+        ensures { result ≡ record self { claim = claim } }
+    {
+        self.claim = claim;
+        self
+    }
+}
+
+impl Parcel for CtxBuf {
+    ghost held = { λ b. b.bytes };
+
+    fn bytes(&self) -> &[u8] {
+        &self.bytes
+    }
+}

@@ -1,0 +1,89 @@
+//! One who claims context data buffers.
+ghost use Rattle.std.specs.Prelude.{◌≡◌, ℕ, ◌+◌, ◌++◌, ◌<◌, ◌≤◌, ◌^◌, length, IfOk};
+ghost use mathlib.Core.Option.{some};
+ghost use lib.ListN.{get_elem?};
+ghost use Rattle.permit_ring.specs.Seats.{ring_seats, ring_terms, seat_calls, seat_memo, seat_number};
+ghost use Rattle.buffer_classes.specs.Buffers.{IsBufferOf};
+ghost use Rattle.buffer_classes.specs.Claims.{AreSmall, Asks, asked, claimed_at, outcome_of, ClaimTells, HoldsSoMany};
+ghost use Rattle.buffer_classes.specs.Classes.{class_sizes, first_fitting};
+ghost use Rattle.buffer_classes.specs.Names.{Class as ClassValue};
+ghost use Rattle.buffer_classes.specs.Seats.{IsClassSeat, IsClaimSeatOf, claimant_of, claims_of, log_of, memo_at};
+
+use crate::buffer::CtxBuf;
+use crate::class::{Buffers, Class, Classes};
+use crate::looks::Looks;
+use permit_ring::{Look, Seat};
+
+/// What a claim gave.
+#[derive(Debug, Drop)]
+pub enum Claim {
+    /// A buffer, and a look for each smaller fitting class, none of which had one free.
+    Got { buf: CtxBuf, skipped: Looks },
+    /// A look for each fitting class, none of which had a buffer free. Where no class fits, there is no look.
+    NoneFree(Looks),
+}
+
+/// One who claims buffers: a caller, by its number, with a seat at the ring of each class.
+#[derive(Drop)]
+pub struct ClaimSeat {
+    pub(crate) seats: Vec<Seat<Buffers>>,
+    pub(crate) number: u8,
+    pub(crate) claims: u64,
+}
+
+impl ClaimSeat {
+    /// How many claims it has made.
+    pub fn claims(&self) -> u64
+        ensures { result ≡ claims_of self.now }
+    {
+        self.claims
+    }
+
+    /// Claims a buffer for so many bytes. The fitting classes are asked from the smallest on.
+    pub fn claim(&mut self, classes: &Classes, len: u64) -> Claim
+        requires mine { IsClaimSeatOf classes.now self.old }
+        requires some { 1 ≤ len }
+        requires few { claims_of self.old < 2 ^ 40 }
+        ensures mine { IsClaimSeatOf classes.now self.new }
+        // A buffer of the first fitting class that had one free.
+        ensures told { ClaimTells (first_fitting len (class_sizes classes.now)) (class_sizes classes.now) result }
+        ensures holds { HoldsSoMany len result }
+        ensures small { AreSmall result }
+        ensures counted { (claims_of self.new ≡ claims_of self.old + 1) × (claimant_of self.new ≡ claimant_of self.old) }
+
+        // Each look, and the claim, is the word of a step of this call at its class.
+        ensures steps { (i : ℕ) (class : ClassValue) → get_elem? classes.now.classes.items i ≡ some class
+            → Asks (ring_seats class.ring) (memo_at self.old i) (asked (first_fitting len (class_sizes classes.now)) result i) (memo_at self.new i) }
+        ensures logs { (i : ℕ) → log_of self.new i ≡ log_of self.old i ++ asked (first_fitting len (class_sizes classes.now)) result i }
+    {
+        self.claims += 1;
+        let mut looks = Looks::none();
+        for place in classes.first_fitting(len)..self.seats.len() {
+            match ask(&mut self.seats[place], &classes.classes[place]) {
+                Ok(buf) => {
+                    return Claim::Got {
+                        buf,
+                        skipped: looks,
+                    };
+                }
+                Err(look) => looks.push(look),
+            }
+        }
+        Claim::NoneFree(looks)
+    }
+}
+
+// Asks one class for a buffer, which then has the number of the claim that got it.
+fn ask(seat: &mut Seat<Buffers>, class: &Class) -> Result<CtxBuf, Look>
+    requires mine { IsClassSeat class.now seat.old }
+    requires few { seat_calls seat.old < 2 ^ 40 }
+    ensures mine { IsClassSeat class.now seat.new }
+    ensures told { Asks (ring_seats class.now.ring) (seat_memo seat.old) (outcome_of result) (seat_memo seat.new) }
+    ensures small { claimed_at result ≤ 2 ^ 45 }
+    ensures buffer { IfOk result (IsBufferOf (ring_terms class.now.ring)) }
+    ensures counted { (seat_calls seat.new ≡ seat_calls seat.old + 1) × (seat_number seat.new ≡ seat_number seat.old) }
+{
+    let ticket = seat.claim(&class.ring)?;
+    let buf = seat.finish(&class.ring, ());
+    Ok(buf.claimed(ticket.0))
+}
