@@ -22,7 +22,7 @@ map-replicate f zero a = refl
 map-replicate f (suc n) a = ap (λ l. f a ∷ l) (map-replicate f n a)
 
 -- a list of nothing has nothing
-none_there : {A C : Type 0} (n i : ℕ) (a : A) → get_elem? (replicate n None) i ≡ some (Some a) → C
+pub none_there : {A C : Type 0} (n i : ℕ) (a : A) → get_elem? (replicate n None) i ≡ some (Some a) → C
 none_there zero i a e = cc
 none_there (suc n) zero a e = cc
 none_there (suc n) (suc i) a e = none_there n i a e

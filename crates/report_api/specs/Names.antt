@@ -1,0 +1,29 @@
+-- The types that the definitions of this crate are about.
+use Rattle.ids_types.specs.declared.entry.Act.{Act as ActOver}
+use Rattle.buffer_classes.specs.Buffers.{Buffer}
+use Rattle.report_queue.specs.Views.{CallerView}
+use Rattle.report_queue.specs.declared.cargo.Item.{Item}
+use Rattle.permit_ring.specs.declared.memo.Outcome.{Outcome as OutcomeOf}
+use Rattle.permit_ring.specs.declared.memo.SeatMemo.{SeatMemo}
+pub use Rattle.ids_types.specs.declared.entry.Act.TheVariants.{Report, State, SetMode}
+pub use Rattle.ids_types.specs.declared.entry.Carried.{Carried}
+pub use Rattle.ids_types.specs.declared.entry.Carried.TheVariants.{Absent, Kept, Missing}
+pub use Rattle.ids_types.specs.declared.names.EventIndex.{EventIndex}
+pub use Rattle.ids_types.specs.declared.names.Stamp.{Stamp}
+pub use Rattle.permit_ring.specs.declared.memo.Outcome.TheVariants.{Lost, Got}
+
+-- an act whose context lies in a buffer
+abbrev pub Act : Type 0
+Act = ActOver Buffer
+
+-- what became of a call: it was lost, or its item stands under a ticket
+abbrev pub Outcome : Type 0
+Outcome = OutcomeOf (Item Act)
+
+-- what a pass shows: its number, its calls and what became of each, and the losses that it marked
+abbrev pub PassView : Type 0
+PassView = CallerView Act
+
+-- what a pass knows of the report ring
+abbrev pub PassMemo : Type 0
+PassMemo = SeatMemo (Item Act)

@@ -1,0 +1,135 @@
+//! Reports of security events.
+ghost use Rattle.std.specs.Prelude.{◌≡◌, [], None, is_none, false};
+ghost use Rattle.report_queue.specs.Parts.{caller_memo, queue_seats, ticket_of};
+ghost use Rattle.report_api.specs.Answers.{IsUnder, PutTells, ReportAsks, ReportSteps, ReportTells};
+ghost use Rattle.report_api.specs.Passes.{IsPassAt, IsPassOf, pass_view};
+ghost use Rattle.report_api.specs.Terms.{IsReported};
+
+use crate::answer::Report;
+use crate::pass::Pass;
+use crate::request::{Context, Request};
+use crate::shared::Shared;
+use buffer_classes::Claim;
+use ids_types::{EventIndex, Stamp};
+
+/// How many calls a pass may make.
+pub(crate) const MOST_CALLS: u64 = 1 << 40;
+
+impl Pass {
+    /// Reports a security event, seen `count` times, with its context data. No bytes are no context.
+    pub fn report(
+        &mut self,
+        shared: &Shared,
+        event: EventIndex,
+        count: u16,
+        stamp: Option<Stamp>,
+        context: &[u8],
+    ) -> Report
+        requires mine { IsPassOf shared.now self.old }
+        ensures mine { IsPassOf shared.now self.new }
+        ensures told { ReportTells shared.now (record { event = event; count = count; stamp = stamp; bytes = context.now }) (pass_view self.old) result (pass_view self.new) }
+        ensures steps { ReportSteps (queue_seats shared.now.queue) (caller_memo self.old.seat) result }
+        ensures classes { ReportAsks shared.now context.now self.old.claimant result self.new.claimant }
+    {
+        if !shared.terms.is_sensor(event) {
+            return Report::UnknownEvent;
+        }
+        if count == 0 {
+            return Report::ZeroCount;
+        }
+        if self.seat.calls() == MOST_CALLS {
+            return Report::PassSpent;
+        }
+        match self.seat.claim(&shared.queue) {
+            Ok(_) => self.put_report(shared, event, count, stamp, context),
+            Err(look) => {
+                self.seat.mark_lost_event(&shared.queue);
+                Report::LostEvent(look)
+            }
+        }
+    }
+
+    /// Reports a security event, seen once, without a timestamp and without context.
+    pub fn report_event(&mut self, shared: &Shared, event: EventIndex) -> Report
+        requires mine { IsPassOf shared.now self.old }
+        ensures mine { IsPassOf shared.now self.new }
+        ensures told { ReportTells shared.now (record { event = event; count = 1; stamp = None; bytes = [] }) (pass_view self.old) result (pass_view self.new) }
+        ensures steps { ReportSteps (queue_seats shared.now.queue) (caller_memo self.old.seat) result }
+        ensures classes { ReportAsks shared.now [] self.old.claimant result self.new.claimant }
+    {
+        self.report(shared, event, 1, None, &[])
+    }
+
+    /// Reports a security event, seen `count` times, without a timestamp and without context.
+    pub fn report_count(&mut self, shared: &Shared, event: EventIndex, count: u16) -> Report
+        requires mine { IsPassOf shared.now self.old }
+        ensures mine { IsPassOf shared.now self.new }
+        ensures told { ReportTells shared.now (record { event = event; count = count; stamp = None; bytes = [] }) (pass_view self.old) result (pass_view self.new) }
+        ensures steps { ReportSteps (queue_seats shared.now.queue) (caller_memo self.old.seat) result }
+        ensures classes { ReportAsks shared.now [] self.old.claimant result self.new.claimant }
+    {
+        self.report(shared, event, count, None, &[])
+    }
+
+    /// Reports a security event, seen once, with its context data and without a timestamp.
+    pub fn report_context(&mut self, shared: &Shared, event: EventIndex, context: &[u8]) -> Report
+        requires mine { IsPassOf shared.now self.old }
+        ensures mine { IsPassOf shared.now self.new }
+        ensures told { ReportTells shared.now (record { event = event; count = 1; stamp = None; bytes = context.now }) (pass_view self.old) result (pass_view self.new) }
+        ensures steps { ReportSteps (queue_seats shared.now.queue) (caller_memo self.old.seat) result }
+        ensures classes { ReportAsks shared.now context.now self.old.claimant result self.new.claimant }
+    {
+        self.report(shared, event, 1, None, context)
+    }
+
+    // Puts a report under the ticket that the pass holds.
+    fn put_report(
+        &mut self,
+        shared: &Shared,
+        event: EventIndex,
+        count: u16,
+        stamp: Option<Stamp>,
+        context: &[u8],
+    ) -> Report
+        requires at { IsPassAt shared.now self.old }
+        requires busy { is_none (ticket_of self.old.seat) ≡ false }
+        requires reported { IsReported shared.now.terms event.0 count }
+        ensures mine { IsPassOf shared.now self.new }
+        ensures ticket { IsUnder (ticket_of self.old.seat) result }
+        ensures told { PutTells shared.now (record { event = event; count = count; stamp = stamp; bytes = context.now }) (pass_view self.old) result (pass_view self.new) }
+        ensures classes { ReportAsks shared.now context.now self.old.claimant result self.new.claimant }
+    {
+        if context.is_empty() {
+            let request = Request::Report {
+                event,
+                count,
+                stamp,
+                context: Context::Absent,
+            };
+            return Report::Accepted(self.seat.fill(&shared.queue, request));
+        }
+        match self.claimant.claim(&shared.classes, context.len() as u64) {
+            Claim::Got { mut buf, .. } => {
+                buf.fill(context);
+                let request = Request::Report {
+                    event,
+                    count,
+                    stamp,
+                    context: Context::Kept(buf),
+                };
+                Report::Accepted(self.seat.fill(&shared.queue, request))
+            }
+            Claim::NoneFree(looks) => {
+                let request = Request::Report {
+                    event,
+                    count,
+                    stamp,
+                    context: Context::Missing(looks.claimed()),
+                };
+                let ticket = self.seat.fill(&shared.queue, request);
+                self.seat.mark_lost_context(&shared.queue);
+                Report::WithoutContext(ticket, looks)
+            }
+        }
+    }
+}
