@@ -1,0 +1,42 @@
+-- The items of a caller as the entries of its calls.
+use Rattle.std.proofs.Common.{◌≡◌, ◌≢◌, ℕ, suc, ◌+◌, List, [], ◌∷◌, map, refl, sym, ap, ◌∙◌, ne_eqb, arith}
+use mathlib.Core.Option.{some}
+use lib.ListN.{get_elem?}
+use Rattle.merge_spec.specs.Losses.{entries_by}
+use Rattle.merge_spec.specs.Settled.{entries_from}
+use Rattle.report_queue.specs.Closing.{IsWholeCaller, got_of, items_of}
+use Rattle.report_queue.specs.declared.cargo.Item.{Item}
+use Rattle.report_api.specs.Names.{Act, Outcome, PassView, Lost, Got}
+use Rattle.report_api.specs.Passes.{calls_in}
+use Rattle.class_closing.specs.Closed.{plain_item}
+
+-- the entries of a caller are its items
+pub entries_as : (i t : ℕ) (items : List (Item Act)) → entries_by i (map plain_item items) ≡ map (λ x. plain_item x.1) (items_of i t items)
+entries_as i t [] = refl
+entries_as i t (item ∷ items) = let rest = entries_as i (suc t) items in grind (arith, rest)
+
+-- an item that a call got is the entry of this call
+pub got_entries : (i call : ℕ) (log : List Outcome)
+    → ((j t : ℕ) (item : Item Act) → get_elem? log j ≡ some (Got t item) → (item.caller ≡ i) × (item.call ≡ call + j))
+    → map (λ x. plain_item x.1) (got_of log) ≡ entries_from i call (calls_in log)
+got_entries i call [] names = refl
+got_entries i call (Lost g ∷ log) names =
+    got_entries i (suc call) log (λ j t item at. let its = names (suc j) t item at in (its.0, omega (arith, its.1)))
+got_entries i call (Got t item ∷ log) names =
+    let rest = got_entries i (suc call) log (λ j t item at. let its = names (suc j) t item at in (its.0, omega (arith, its.1))) in
+    let its = names 0 t item refl in
+    let here : item.call ≡ call = omega (arith, its.1) in
+    cc (rest, its.0, here)
+
+-- who has none of the items has no entry
+pub no_entries : (i : ℕ) (items : List (Item Act)) → ((j : ℕ) (item : Item Act) → get_elem? items j ≡ some item → i ≢ item.caller)
+    → entries_by i (map plain_item items) ≡ []
+no_entries i [] other = refl
+no_entries i (item ∷ items) other = rw (ne_eqb i item.caller (other 0 item refl)) (no_entries i items (λ j. other (suc j)))
+
+-- the entries of a caller that came back are its accepted calls
+pub whole_entries : {i : ℕ} {fronts : List ℕ} {items : List (Item Act)} {pass : PassView} → IsWholeCaller fronts items i pass
+    → entries_by i (map plain_item items) ≡ entries_from i 0 (calls_in pass.log)
+whole_entries {i = i} {items = items} {pass = pass} whole =
+    entries_as i 0 items ∙ ap (map (λ x. plain_item x.1)) (sym whole.accepted)
+    ∙ got_entries i 0 pass.log (λ j t item at. let its = whole.names j t item at in (its.0, omega (arith, its.1)))

@@ -1,0 +1,4 @@
+pub mod ClosedLemmas
+pub mod EntryLemmas
+pub mod FateLemmas
+pub mod SizeLemmas

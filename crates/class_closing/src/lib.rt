@@ -1,0 +1,12 @@
+//! From a desk whose rings are closed to legal contexts.
+//!
+//! Layer 8, reporting. Over `report_api` and `merge_spec`; the main function cites it once all its passes are back.
+//! Laws over what contracts show, and no code that runs.
+#![tactic(auto)]
+
+mod laws;
+
+pub use laws::{
+    closed_rings_make_legal_contexts, rings_have_their_givers_numbers,
+    the_first_fitting_class_counts_the_small_ones,
+};
