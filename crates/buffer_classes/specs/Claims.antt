@@ -3,7 +3,6 @@ use Rattle.std.specs.Prelude.{◌≡◌, ℕ, suc, ◌+◌, ◌≤◌, ◌==◌,
 use mathlib.Core.Option.{some}
 use lib.ListN.{get_elem?}
 use Rattle.ids_types.specs.declared.names.Ticket.{Ticket}
-use Rattle.permit_ring.specs.declared.answer.Look.{Look}
 use Rattle.permit_ring.specs.Calls as ring
 use Rattle.permit_ring.specs.Steps.{finishes}
 use Rattle.buffer_classes.specs.Buffers.{Buffer, found_full}
@@ -33,9 +32,9 @@ Asks limit old (Got t x ∷ []) new = (mid : SeatMemo) × ring.ClaimTells limit 
 Asks limit old (call ∷ next ∷ calls) new = ⊥
 
 -- what a call at one class gave, as the seat has it
-abbrev pub outcome_of : Result Buffer Look → List Outcome
+abbrev pub outcome_of : Result Buffer ℕ → List Outcome
 outcome_of (Ok buf) = Got buf.claim tt ∷ []
-outcome_of (Err look) = Lost look.claimed ∷ []
+outcome_of (Err claimed) = Lost claimed ∷ []
 
 -- one look for each fitting class that was asked in vain, and then a buffer of the next class, or none where no class is left
 abbrev pub ClaimTells : ℕ → List ℕ → Claim → Type 0
@@ -43,9 +42,9 @@ ClaimTells first sizes (claims.Got buf skipped) = (first + length skipped ≡ bu
 ClaimTells first sizes (claims.NoneFree looks) = first + length looks ≡ length sizes
 
 -- how many buffers had been claimed where a call at one class got this answer
-abbrev pub claimed_at : Result Buffer Look → ℕ
+abbrev pub claimed_at : Result Buffer ℕ → ℕ
 claimed_at (Ok buf) = buf.claim
-claimed_at (Err look) = look.claimed
+claimed_at (Err claimed) = claimed
 
 -- no claim has a number above 2^45
 abbrev pub AreSmall : Claim → Type 0

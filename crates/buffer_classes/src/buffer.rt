@@ -71,12 +71,11 @@ impl CtxBuf {
         }
     }
 
-    /// The buffer as the claim of this number got it.
-    pub(crate) fn claimed(mut self, claim: u64) -> CtxBuf
-        ensures { result ≡ record self { claim = claim } }
+    /// The claim of this number got it.
+    pub(crate) fn set_claim(&mut self, claim: u64)
+        ensures { self.new ≡ record self.old { claim = claim } }
     {
         self.claim = claim;
-        self
     }
 }
 

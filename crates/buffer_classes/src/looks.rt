@@ -35,12 +35,12 @@ impl Looks {
         }
     }
 
-    /// One look more.
-    pub(crate) fn push(&mut self, look: Look)
+    /// One look more, when so many had been claimed.
+    pub(crate) fn push(&mut self, claimed: u64)
         requires { length self.old < 4 }
-        ensures { self.new ≡ self.old ++ look.claimed ∷ [] }
+        ensures { self.new ≡ self.old ++ claimed ∷ [] }
     {
-        self.claimed[self.len] = look.claimed;
+        self.claimed[self.len] = claimed;
         self.len += 1;
     }
 

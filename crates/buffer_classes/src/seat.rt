@@ -12,7 +12,7 @@ ghost use Rattle.buffer_classes.specs.Seats.{IsClassSeat, IsClaimSeatOf, claiman
 use crate::buffer::CtxBuf;
 use crate::class::{Buffers, Class, Classes};
 use crate::looks::Looks;
-use permit_ring::{Look, Seat};
+use permit_ring::Seat;
 
 /// What a claim gave.
 #[derive(Debug, Drop)]
@@ -66,15 +66,16 @@ impl ClaimSeat {
                         skipped: looks,
                     };
                 }
-                Err(look) => looks.push(look),
+                Err(claimed) => looks.push(claimed),
             }
         }
         Claim::NoneFree(looks)
     }
 }
 
-// Asks one class for a buffer, which then has the number of the claim that got it.
-fn ask(seat: &mut Seat<Buffers>, class: &Class) -> Result<CtxBuf, Look>
+// Asks one class for a buffer, which then has the number of the claim that got it; or else tells how many had been
+// claimed. A whole look as the other answer would move the buffer in odd pieces.
+fn ask(seat: &mut Seat<Buffers>, class: &Class) -> Result<CtxBuf, u64>
     requires mine { IsClassSeat class.now seat.old }
     requires few { seat_calls seat.old < 2 ^ 40 }
     ensures mine { IsClassSeat class.now seat.new }
@@ -83,7 +84,12 @@ fn ask(seat: &mut Seat<Buffers>, class: &Class) -> Result<CtxBuf, Look>
     ensures buffer { IfOk result (IsBufferOf (ring_terms class.now.ring)) }
     ensures counted { (seat_calls seat.new ≡ seat_calls seat.old + 1) × (seat_number seat.new ≡ seat_number seat.old) }
 {
-    let ticket = seat.claim(&class.ring)?;
-    let buf = seat.finish(&class.ring, ());
-    Ok(buf.claimed(ticket.0))
+    match seat.claim(&class.ring) {
+        Ok(ticket) => {
+            let mut buf = seat.finish(&class.ring, ());
+            buf.set_claim(ticket.0);
+            Ok(buf)
+        }
+        Err(look) => Err(look.claimed),
+    }
 }

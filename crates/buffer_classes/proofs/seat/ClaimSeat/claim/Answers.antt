@@ -52,10 +52,10 @@ loop-place-preserved c =
     let below : l.place < length l.self.seats.items = omega (arith, full, l.auto.place-end, c.loop-place-test.true, c.len-place-end.ensures, c.requires.mine.all, l.invariant.asked.as_many) in
     let asks = in_vain c.requires.mine first l.looks l.place l.self.seats.items l.invariant.many l.invariant.asked l.invariant.rest below
     c.index.result.now c.index.ensures c.index_mut.result.now c.index_mut.ensures.value
-    c.ask.new.seat c.ask.ensures.mine c.ask.ensures.counted.0 c.ask.ensures.counted.1 c.in-Err.look.claimed c.in-Err.ensures.told in
+    c.ask.new.seat c.ask.ensures.mine c.ask.ensures.counted.0 c.ask.ensures.counted.1 c.in-Err.claimed c.in-Err.ensures.told in
     record {
-      many = omega (arith, l.invariant.many, ap length c.push.ensures, length_push l.looks c.in-Err.look.claimed);
-      small = rw c.push.ensures (All-push (λ (claimed : ℕ). claimed ≤ 2 ^ 45) l.looks c.in-Err.look.claimed l.invariant.small c.in-Err.ensures.small);
+      many = omega (arith, l.invariant.many, ap length c.push.ensures, length_push l.looks c.in-Err.claimed);
+      small = rw c.push.ensures (All-push (λ (claimed : ℕ). claimed ≤ 2 ^ 45) l.looks c.in-Err.claimed l.invariant.small c.in-Err.ensures.small);
       number = l.invariant.number;
       claims = l.invariant.claims;
       asked = rw c.push.ensures asks;
