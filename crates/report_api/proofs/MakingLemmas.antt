@@ -1,5 +1,5 @@
 -- What reports and takes, just made.
-use Rattle.std.proofs.Common.{◌≡◌, ℕ, zero, suc, ◌≤◌, ◌<◌, None, List, [], ◌∷◌, get_or, length, map, replicate, subst, refl, sym, ap, ◌∙◌, arith}
+use Rattle.std.proofs.Common.{◌≡◌, ℕ, zero, suc, ◌≤◌, ◌<◌, None, List, [], ◌∷◌, get_or, length, map, replicate, subst, refl, sym, ap, ◌∙◌, arith, All, slice_index_or}
 use Rattle.std.proofs.lemmas.List.{get_or_default, length-map, length-replicate}
 use Rattle.std.proofs.lemmas.Slice.Zip.{length-zip}
 use Rattle.std.specs.List.{zip}
@@ -24,7 +24,7 @@ use Rattle.report_queue.proofs.ClosingLemmas.{at_map_back}
 use Rattle.report_queue.proofs.MakingLemmas.{none_there}
 use Rattle.report_api.specs.Desks.{AreTied, desk_view}
 use Rattle.report_api.specs.Making.{Caller, IsNewMaking, IsNewPass, IsOfConfig, as_passes, pass_of}
-use Rattle.report_api.specs.Passes.{IsShared, missing_in, pass_view, sizes_of}
+use Rattle.report_api.specs.Passes.{IsPassOf, IsShared, missing_in, pass_view, sizes_of}
 use Rattle.report_api.specs.declared.desk.Desk.{Desk}
 use Rattle.report_api.specs.declared.pass.Pass.{Pass}
 use Rattle.report_api.specs.declared.shared.Shared.{Shared}
@@ -127,3 +127,10 @@ new_making config shared desk callers claimants of queue classes =
           subst (IsNewPass shared i) from.2
           (new_pass shared is_shared i (pass_of from.0) caller.0 caller.1 (classes.each i from.0.1 both.1));
     }
+
+-- each pass that was made is one of it
+pub all_passes : {config : Parts} {shared : Shared} {passes : List Pass} {desk : Desk} → IsNewMaking config shared passes desk
+    → All (IsPassOf shared) passes
+all_passes {passes = passes} new i d low =
+    let pass = slice_index_or passes i d in
+    (new.each i pass (at_index passes i pass low (get_or_default passes i d pass low))).is_pass

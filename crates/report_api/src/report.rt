@@ -1,5 +1,5 @@
 //! Reports of security events.
-ghost use Rattle.std.specs.Prelude.{◌≡◌, [], None, is_none, false};
+ghost use Rattle.std.specs.Prelude.{◌≡◌, ◌<◌, [], None, is_none, false, length};
 ghost use Rattle.report_queue.specs.Parts.{caller_memo, queue_seats, ticket_of};
 ghost use Rattle.report_api.specs.Answers.{IsUnder, PutTells, ReportAsks, ReportSteps, ReportTells};
 ghost use Rattle.report_api.specs.Passes.{IsPassAt, IsPassOf, pass_view};
@@ -99,15 +99,37 @@ impl Pass {
         ensures told { PutTells shared.now (record { event = event; count = count; stamp = stamp; bytes = context.now }) (pass_view self.old) result (pass_view self.new) }
         ensures classes { ReportAsks shared.now context.now self.old.claimant result self.new.claimant }
     {
-        if context.is_empty() {
-            let request = Request::Report {
-                event,
-                count,
-                stamp,
-                context: Context::Absent,
-            };
-            return Report::Accepted(self.seat.fill(&shared.queue, request));
+        if !context.is_empty() {
+            return self.put_with_context(shared, event, count, stamp, context);
         }
+        let request = Request::Report {
+            event,
+            count,
+            stamp,
+            context: Context::Absent,
+        };
+        Report::Accepted(self.seat.fill(&shared.queue, request))
+    }
+
+    // The same where there is context. It stands apart so that a report without context pays for none of it.
+    #[inline(never)]
+    fn put_with_context(
+        &mut self,
+        shared: &Shared,
+        event: EventIndex,
+        count: u16,
+        stamp: Option<Stamp>,
+        context: &[u8],
+    ) -> Report
+        requires at { IsPassAt shared.now self.old }
+        requires busy { is_none (ticket_of self.old.seat) ≡ false }
+        requires reported { IsReported shared.now.terms event.0 count }
+        requires some { 0 < length context.now }
+        ensures mine { IsPassOf shared.now self.new }
+        ensures ticket { IsUnder (ticket_of self.old.seat) result }
+        ensures told { PutTells shared.now (record { event = event; count = count; stamp = stamp; bytes = context.now }) (pass_view self.old) result (pass_view self.new) }
+        ensures classes { ReportAsks shared.now context.now self.old.claimant result self.new.claimant }
+    {
         match self.claimant.claim(&shared.classes, context.len() as u64) {
             Claim::Got { mut buf, .. } => {
                 buf.fill(context);
