@@ -44,15 +44,23 @@ impl Words {
     }
 }
 
-/// One who makes the operations of claims with their fills.
+/// One who makes the operations of claims with their fills, on the words of one ring or of two.
 #[derive(Drop)]
 pub struct BareCaller<'w> {
     words: &'w Words,
+    more: Option<&'w Words>,
+    // What the slots of positions hold: a number each.
+    slots: Vec<u64>,
 }
 
 impl<'w> BareCaller<'w> {
-    pub fn new(words: &'w Words) -> BareCaller<'w> {
-        BareCaller { words }
+    pub fn new(
+        alloc: Global,
+        words: &'w Words,
+        more: Option<&'w Words>,
+    ) -> Result<BareCaller<'w>, AllocError> {
+        let slots = Vec::from_elem(alloc, 0, 1024)?;
+        Ok(BareCaller { words, more, slots })
     }
 }
 
@@ -62,7 +70,7 @@ impl Caller for BareCaller<'_> {
     fn put_batch(&mut self) -> u64 {
         let mut count: u64 = 0;
         for _ in 0..PUTS {
-            if put(self.words) {
+            if put_on_all(self.words, self.more, &mut self.slots) {
                 count = count.wrapping_add(1);
             }
         }
@@ -70,28 +78,46 @@ impl Caller for BareCaller<'_> {
     }
 }
 
-// What a claim with its fill does: it looks, adds its claim, and marks the position of its ticket.
-fn put(words: &Words) -> bool {
+// A put on one ring, and on a second one where there is one.
+fn put_on_all(words: &Words, more: Option<&Words>, slots: &mut [u64]) -> bool {
+    if !put(words, slots) {
+        return false;
+    }
+    match more {
+        Some(more) => put(more, slots),
+        None => true,
+    }
+}
+
+// What a claim with its fill does: it looks, adds its claim, writes the slot of its ticket's position and marks it.
+fn put(words: &Words, slots: &mut [u64]) -> bool {
     let permits = words.permits();
     if permits.load(Ordering::SeqCst) % 65536 == 0 {
         return false;
     }
     let ticket = permits.fetch_add(ONE_CLAIM, Ordering::SeqCst) / 65536;
-    let mark = words.mark_of(ticket);
-    mark.store(ticket + 1, Ordering::SeqCst);
+    if let Some(slot) = slots.get_mut((ticket % 1024) as usize) {
+        *slot = ticket;
+    }
+    words.mark_of(ticket).store(ticket + 1, Ordering::SeqCst);
     true
 }
 
-/// One who makes the operations of takes and of giving back.
+/// One who makes the operations of takes and of giving back, on the words of one ring or of two.
 #[derive(Drop)]
 pub struct BareTaker<'w> {
     words: &'w Words,
+    more: Option<&'w Words>,
     next: u64,
 }
 
 impl<'w> BareTaker<'w> {
-    pub fn new(words: &'w Words) -> BareTaker<'w> {
-        BareTaker { words, next: 0 }
+    pub fn new(words: &'w Words, more: Option<&'w Words>) -> BareTaker<'w> {
+        BareTaker {
+            words,
+            more,
+            next: 0,
+        }
     }
 }
 
@@ -99,19 +125,27 @@ impl Taker for BareTaker<'_> {
     ghost is_ready = { λ _. Unit {0} };
 
     fn take_batch(&mut self) -> u64 {
-        let mut count: u64 = 0;
-        for _ in 0..TAKES {
-            let mark = self.words.mark_of(self.next);
-            let after = self.next.wrapping_add(1);
-            if mark.load(Ordering::SeqCst) != after {
-                break;
-            }
-            self.next = after;
-            count = count.wrapping_add(1);
-        }
+        let count = count_ready(self.words, self.next);
         give_back(self.words, count);
+        if let Some(more) = self.more {
+            give_back(more, count_ready(more, self.next));
+        }
+        self.next = self.next.wrapping_add(count);
         count
     }
+}
+
+// How many tickets from this one on are finished, at most a batch.
+fn count_ready(words: &Words, next: u64) -> u64 {
+    let mut count: u64 = 0;
+    for _ in 0..TAKES {
+        let ticket = next.wrapping_add(count);
+        if words.mark_of(ticket).load(Ordering::SeqCst) != ticket.wrapping_add(1) {
+            break;
+        }
+        count = count.wrapping_add(1);
+    }
+    count
 }
 
 // What giving back does: it looks, and adds the positions by a compare-exchange that it tries again

@@ -1,14 +1,16 @@
-//! How long calls take: those of a report queue beside the atomic operations that they make, those of
+//! How long calls take: those of a report queue, and reports, beside the atomic operations that they make, those of
 //! aggregation windows over 256 events beside those over one, and stores in an event memory.
 //!
-//! Layer 12, measuring. Over `report_queue`, `filter_aggregate` and `event_memory`. With the word `count`
+//! Layer 12, measuring. Over `report_queue`, `report_api`, `filter_aggregate` and `event_memory`. With the word `count`
 //! it makes a few rounds and prints how many calls went as they were to go, which is the same each time;
 //! with no word it prints the tables of times. No clause says how fast anything is.
 #![tactic(auto)]
 
 mod bare;
+mod configured;
 mod measurements;
 mod queued;
+mod reports;
 mod rounds;
 mod samples;
 mod stores;
@@ -16,7 +18,7 @@ mod table;
 mod windows;
 mod work;
 
-use measurements::{on_one_thread, with_four_callers, with_two_callers};
+use measurements::{on_one_thread, reports, with_four_callers, with_two_callers};
 use std::rt::{Clock, Env};
 use std::thread::Threads;
 use std::{env, io};
@@ -50,6 +52,8 @@ fn count<R: Print + Clock + AllocGlobal + Threads + Sync>(rt: &R) -> io::Result<
     print_counts(rt, "one thread", &on_one_thread(rt, FEW)?)?;
     print_counts(rt, "two callers", &with_two_callers(rt, FEW)?)?;
     print_counts(rt, "four callers", &with_four_callers(rt, FEW)?)?;
+    print_counts(rt, "reports", &reports(rt, FEW, &[])?)?;
+    print_counts(rt, "reports with context", &reports(rt, FEW, &[7; 16])?)?;
     let (many, one) = many_and_one(rt, FEW)?;
     print_steps(rt, "256 events", &many)?;
     print_steps(rt, "one event", &one)?;
@@ -69,6 +73,13 @@ fn measure<R: Print + Clock + AllocGlobal + Threads + Sync>(rt: &R) -> io::Resul
         rt,
         "four callers beside a taker",
         &mut with_four_callers(rt, MANY_BESIDE)?,
+    )?;
+    print_head(rt, "reports", "bare")?;
+    print_pair(rt, "reports", &mut reports(rt, MANY, &[])?)?;
+    print_pair(
+        rt,
+        "reports with 16 bytes",
+        &mut reports(rt, MANY, &[7; 16])?,
     )?;
     print_head(rt, "256", "1")?;
     let (mut many, mut one) = many_and_one(rt, MANY)?;

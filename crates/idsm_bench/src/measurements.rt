@@ -1,13 +1,19 @@
-//! What is measured of a queue and of the bare operations: on one thread, and by two and four callers.
+//! What is measured of a queue, of reports, and of the bare operations: on one thread, and of a queue also by two and
+//! by four callers.
 ghost use Rattle.std.specs.Prelude.{◌≡◌, ◌+◌, ◌<◌, ◌≤◌, All, IfOk, length};
 ghost use Rattle.report_queue.specs.Making.{IsNewQueue, IsUnused};
 ghost use Rattle.report_queue.specs.Parts.{IsTakerOf};
-ghost use Rattle.idsm_bench.specs.Ready.{IsReadyCaller};
+ghost use Rattle.report_api.specs.Desks.{IsDeskOf};
+ghost use Rattle.report_api.specs.Passes.{IsPassOf};
+ghost use Rattle.idsm_bench.specs.Ready.{IsReadyCaller, IsReadyPass};
 
 use crate::bare::{BareCaller, BareTaker, Words};
+use crate::configured::reporting;
 use crate::queued::{Numbers, QueueCaller, QueueTaker};
+use crate::reports::{DeskTaker, ReportCaller};
 use crate::rounds::{Measured, alone, by_four, by_two};
 use crate::table::Pair;
+use report_api::{Parts, Pass, Shared};
 use report_queue::{MadeQueue, Queue, QueueSeat, make};
 use std::alloc::{AllocError, Global};
 use std::io;
@@ -29,11 +35,56 @@ pub fn on_one_thread<R: Clock + AllocGlobal>(rt: &R, rounds: u64) -> io::Result<
     let bare = alone(
         rt,
         alloc,
-        BareCaller::new(&words),
-        BareTaker::new(&words),
+        BareCaller::new(alloc, &words, None)?,
+        BareTaker::new(&words, None),
         rounds,
     )?;
     Ok(Pair { queued, bare })
+}
+
+/// Reports with this context, at most 16 bytes, by a pass in turn with the desk: beside the bare operations of the
+/// report ring, and of a class's where there is context.
+pub fn reports<R: Clock + AllocGlobal>(rt: &R, rounds: u64, context: &[u8]) -> io::Result<Pair> {
+    let alloc = rt.alloc();
+    let Parts {
+        shared,
+        passes,
+        desk,
+    } = new_parts(alloc)?;
+    let caller = only_caller(&shared, passes, context);
+    let taker = DeskTaker::new(&shared, desk, Vec::with_capacity(alloc, 64)?);
+    let queued = alone(rt, alloc, caller, taker, rounds)?;
+    let words = Words::new(alloc)?;
+    let class = Words::new(alloc)?;
+    let more = if context.is_empty() {
+        None
+    } else {
+        Some(&class)
+    };
+    let caller = BareCaller::new(alloc, &words, more)?;
+    let taker = BareTaker::new(&words, more);
+    let bare = alone(rt, alloc, caller, taker, rounds)?;
+    Ok(Pair { queued, bare })
+}
+
+// A pass and a desk of 256 event buffers and as many context data buffers of 16 bytes.
+fn new_parts(alloc: Global) -> Result<Parts, AllocError>
+    ensures desk { IfOk result (λ made. IsDeskOf made.shared made.desk) }
+    ensures passes { IfOk result (λ made. (length made.passes.items ≡ 1) × All (IsPassOf made.shared) made.passes.items) }
+{
+    let config = reporting(alloc)?;
+    match report_api::make(alloc, &config) {
+        Ok(made) => Ok(made),
+        Err(_) => Err(AllocError),
+    }
+}
+
+// The caller of the one pass, which reports with this context.
+fn only_caller<'s>(shared: &'s Shared, mut passes: Vec<Pass>, context: &'s [u8]) -> ReportCaller<'s>
+    requires passes { (length passes.items ≡ 1) × All (IsPassOf shared.now) passes.items }
+    ensures ready { IsReadyPass result }
+{
+    ReportCaller::new(shared, passes.pop().unwrap(), context)
 }
 
 /// Two callers beside a taker, each in a thread of its own.
@@ -52,8 +103,11 @@ pub fn with_two_callers<R: Clock + AllocGlobal + Threads + Sync>(
     let taker = QueueTaker::new(&queue, taker);
     let queued = by_two(rt, alloc, (first, second), taker, rounds)?;
     let words = Words::new(alloc)?;
-    let callers = (BareCaller::new(&words), BareCaller::new(&words));
-    let bare = by_two(rt, alloc, callers, BareTaker::new(&words), rounds)?;
+    let callers = (
+        BareCaller::new(alloc, &words, None)?,
+        BareCaller::new(alloc, &words, None)?,
+    );
+    let bare = by_two(rt, alloc, callers, BareTaker::new(&words, None), rounds)?;
     Ok(Pair { queued, bare })
 }
 
@@ -76,9 +130,21 @@ pub fn with_four_callers<R: Clock + AllocGlobal + Threads + Sync>(
     let callers = ((first, second), (third, fourth));
     let queued = by_four(rt, alloc, callers, taker, rounds)?;
     let words = Words::new(alloc)?;
-    let front = (BareCaller::new(&words), BareCaller::new(&words));
-    let back = (BareCaller::new(&words), BareCaller::new(&words));
-    let bare = by_four(rt, alloc, (front, back), BareTaker::new(&words), rounds)?;
+    let front = (
+        BareCaller::new(alloc, &words, None)?,
+        BareCaller::new(alloc, &words, None)?,
+    );
+    let back = (
+        BareCaller::new(alloc, &words, None)?,
+        BareCaller::new(alloc, &words, None)?,
+    );
+    let bare = by_four(
+        rt,
+        alloc,
+        (front, back),
+        BareTaker::new(&words, None),
+        rounds,
+    )?;
     Ok(Pair { queued, bare })
 }
 

@@ -4,11 +4,12 @@ ghost use Rattle.filter_aggregate.specs.Slots.{held_in, slot_at};
 ghost use Rattle.idsm_bench.specs.Windows.{AreAlike, setting};
 ghost use Rattle.idsm_bench.specs.declared.windows.Step.TheVariants.{Arrival, Look};
 
+use crate::configured::{config, event};
 use crate::rounds::nanos_since;
 use crate::samples::Samples;
 use filter_aggregate::Windows;
-use ids_config::{Aggregate, Config, ConfigParts, EventParts};
-use ids_types::{EventIndex, Mode, Plain, Qualified};
+use ids_config::Aggregate;
+use ids_types::{EventIndex, Plain, Qualified};
 use std::alloc::{AllocError, Global};
 use std::io;
 use std::rt::Clock;
@@ -134,50 +135,17 @@ fn call(windows: &mut Windows<Plain<'static>>, event: EventIndex, step: Step) ->
 fn fresh_windows(alloc: Global, events: u16) -> Result<Windows<Plain<'static>>, AllocError>
     ensures { IfOk result (λ windows. AreAlike events windows) }
 {
+    let aggregate = Aggregate {
+        interval: INTERVAL,
+        last: false,
+    };
     let mut all = Vec::new(alloc);
     for made in 0..events {
-        all.push(aggregated(alloc))?;
+        all.push(event(alloc, Some(aggregate)))?;
     }
-    let parts = ConfigParts {
-        profile: 1,
-        instance: 0,
-        callers: 1,
-        ring: 1,
-        memory: 0,
-        state: 0,
-        classes: Vec::new(alloc),
-        rate: None,
-        traffic: None,
-        events: all,
-        lost_events: None,
-        lost_contexts: None,
-        limited: None,
-    };
-    let Ok(config) = Config::check(parts) else {
-        return Err(AllocError);
-    };
+    let config = config(Vec::new(alloc), all)?;
     match Windows::make(alloc, &config) {
         Ok(windows) => Ok(windows),
         Err(_) => Err(AllocError),
-    }
-}
-
-fn aggregated(alloc: Global) -> EventParts
-    ensures { result.aggregate ≡ setting }
-{
-    EventParts {
-        id: 0,
-        sensor: 0,
-        version: 0,
-        mode: Mode::Detailed,
-        send: true,
-        store: false,
-        block: Vec::new(alloc),
-        nth: 1,
-        aggregate: Some(Aggregate {
-            interval: INTERVAL,
-            last: false,
-        }),
-        threshold: None,
     }
 }

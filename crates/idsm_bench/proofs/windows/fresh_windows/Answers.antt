@@ -2,6 +2,7 @@ use Rattle.std.proofs.Common.{arith}
 use Rattle.idsm_bench.proofs.WindowLemmas.{alike_fresh}
 use Rattle.idsm_bench.proofs.windows.fresh_windows.Goals as goal
 
-pub returns-in-Ok-make : goal.returns-in-Ok-make
-returns-in-Ok-make c =
-    alike_fresh _ c.in-Ok.config c.in-Ok-make.windows c.in-Ok.ensures c.in-Ok-make.ensures.slots c.loop-made.invariant.1 (omega arith)
+pub returns-in-Ok : goal.returns-in-Ok
+returns-in-Ok c =
+    alike_fresh c.loop-made.all.items _ c.in-Ok.windows c.in_ok-config.ensures.events c.in-Ok.ensures.slots c.loop-made.invariant.1
+    (omega (arith, c.loop-made.invariant.0))
