@@ -1,0 +1,99 @@
+-- What is known of items that the desk admits.
+use Rattle.std.proofs.Common.{◌≡◌, ℕ, zero, suc, ◌+◌, ◌*◌, ◌≤◌, ◌<◌, true, List, [], ◌∷◌, ◌++◌, length, Option, Some, None, IfSome, subst, sym, arith, rules}
+use mathlib.Core.Option.{some}
+use lib.ListN.{get_elem?}
+use Rattle.std.specs.List.{All, AllByRecursion, cons_option}
+use Rattle.std.proofs.lemmas.Grind.{common_steps}
+use Rattle.std.proofs.lemmas.List.Elements.{All-append, All-from_recursion, All-weaker, recursion_from_All}
+use Rattle.std.proofs.lemmas.List.Sorted.{All-permutation}
+use Rattle.std.proofs.lemmas.List.Sums.{sum_by-cons}
+use Rattle.std.specs.List.Sorted.{IsPermutation}
+use Rattle.ids_types.specs.Carries.{act_by, entry_by}
+use Rattle.ids_types.specs.Plain.{act_bytes, kept_bytes}
+use Rattle.ids_types.specs.declared.entry.Entry.{Entry}
+use Rattle.permit_ring.specs.Hands.{AllAdmitted}
+use Rattle.chain.specs.Parcels.{IsShort, all_parcels, parcel_of}
+use Rattle.chain.specs.Turning.{FitsAct, FitsTurn, bytes_in}
+use Rattle.buffer_classes.specs.Buffers.{Buffer}
+use Rattle.buffer_classes.specs.Givers.{AreBuffersIn, IsBufferIn}
+use Rattle.report_api.specs.Names.{Act, Report, State, SetMode, Absent, Kept, Missing}
+use Rattle.report_api.specs.Terms.{AdmitsAct, AdmitsItem, is_sensor, term_sizes}
+use Rattle.report_api.specs.declared.terms.ReportTerms.{ReportTerms}
+use Rattle.main_function.specs.Buffers.{IsHeld}
+use Rattle.main_function.specs.Reports.{held}
+use Rattle.main_function.specs.Taking.{items_of}
+
+-- a sensor's event is configured
+known : (terms : ReportTerms) (event : ℕ) → is_sensor terms event ≡ true → event < terms.events
+known terms event is = search rules
+
+module _ (terms : ReportTerms) (most : ℕ) (within : AllAdmitted (λ size. size ≤ most) (term_sizes terms)) (short : most ≤ 1024) where
+  -- an act fits, its buffer is one of the classes, and its bytes are few
+  act_facts : (act : Act) → AdmitsAct terms act
+      → FitsAct held terms.events act × IfSome (parcel_of act) (IsHeld (term_sizes terms)) × (length (act_bytes (act_by held act)) ≤ most)
+  act_facts (Report event count stamp Absent) fits = ((known terms event.0 fits.0.sensor, tt), tt, omega arith)
+  act_facts (Report event count stamp (Kept class claim buf)) fits =
+      let size = within class buf.size fits.1.size_is in
+      let bytes = fits.1.fits in
+      let is_held : IsHeld (term_sizes terms) buf = record {
+        size_is = subst (λ (k : ℕ). get_elem? (term_sizes terms) k ≡ some buf.size) (sym fits.1.class_is) fits.1.size_is;
+        fits = bytes;
+      } in
+      ((known terms event.0 fits.0.sensor, omega (arith, size, bytes, short)), is_held, omega (arith, size, bytes))
+  act_facts (Report event count stamp (Missing numbers)) fits = ((known terms event.0 fits.0.sensor, tt), tt, omega arith)
+  act_facts (State state) fits = (tt, tt, omega arith)
+  act_facts (SetMode event mode) fits = (fits, tt, omega arith)
+
+  with_parcel : (parcel : Option Buffer) (parcels : List Buffer) → IfSome parcel (IsHeld (term_sizes terms))
+      → AllByRecursion (IsHeld (term_sizes terms)) parcels → AllByRecursion (IsHeld (term_sizes terms)) (cons_option parcel parcels)
+  with_parcel None parcels is all = all
+  with_parcel (Some parcel) parcels is all = (is, all)
+
+  facts : (items : List (Entry Buffer)) → AllByRecursion (AdmitsItem terms) (items_of items)
+      → AllByRecursion (λ e. FitsAct held terms.events e.act) items × AllByRecursion (IsHeld (term_sizes terms)) (all_parcels items)
+      × (bytes_in held items ≤ length items * most)
+  facts [] fits = (tt, tt, omega arith)
+  facts (e ∷ items) fits =
+      let own = act_facts e.act fits.0.act in
+      let rest = facts items fits.1 in
+      let whole = sum_by-cons (λ (entry : Entry Buffer). length (kept_bytes (entry_by held entry))) e items in
+      ((own.0, rest.0), with_parcel (parcel_of e.act) (all_parcels items) own.1 rest.1, search (rules, whole, own.2, rest.2))
+
+  -- a chain of so many events can take the items
+  pub items_fit : (events : ℕ) (items : List (Entry Buffer)) → events ≡ terms.events → length items ≤ 1024 → All (AdmitsItem terms) (items_of items)
+      → FitsTurn held events items
+  items_fit events items are few admitted =
+      let fit : FitsTurn held terms.events items = record {
+        few = few;
+        acts = All-from_recursion (λ e. FitsAct held terms.events e.act) items (facts items (recursion_from_All _ _ admitted)).0;
+      } in
+      subst (λ (n : ℕ). FitsTurn held n items) (sym are) fit
+
+  -- they have no more bytes than the largest buffers
+  pub bytes_fit : (items : List (Entry Buffer)) → All (AdmitsItem terms) (items_of items) → bytes_in held items ≤ length items * most
+  bytes_fit items admitted = (facts items (recursion_from_All _ _ admitted)).2
+
+  -- what is held is short
+  pub held_short : (bufs : List Buffer) → All (IsHeld (term_sizes terms)) bufs → All (IsShort held) bufs
+  held_short bufs are = All-weaker (IsHeld (term_sizes terms)) (IsShort held)
+      (λ buf is. let size = within buf.class buf.size is.size_is in let bytes = is.fits in omega (arith, size, bytes, short)) bufs are
+
+  -- each buffer that comes out of a turn is one of the classes, where those that came with items do
+  pub come_out : (items : List (Entry Buffer)) (before back now : List Buffer) → All (AdmitsItem terms) (items_of items)
+      → All (IsHeld (term_sizes terms)) before → IsPermutation (all_parcels items ++ before) (back ++ now)
+      → AllByRecursion (IsHeld (term_sizes terms)) (back ++ now)
+  come_out items before back now admitted were same =
+      let came = All-from_recursion (IsHeld (term_sizes terms)) (all_parcels items) (facts items (recursion_from_All _ _ admitted)).1 in
+      recursion_from_All _ _ (All-permutation (IsHeld (term_sizes terms)) _ _ same (All-append (IsHeld (term_sizes terms)) (all_parcels items) before came were))
+
+module _ (sizes : List ℕ) where
+  -- of buffers that are given back and kept, those that are given back are of the classes
+  pub first_back : (back now : List Buffer) → AllByRecursion (IsHeld sizes) (back ++ now) → AreBuffersIn sizes back
+  first_back (buf ∷ back) now are zero b is = search (rules, are.0.size_is)
+  first_back (buf ∷ back) now are (suc j) b is = first_back back now are.1 j b is
+  first_back [] now are j b is = search rules
+
+  -- and those that are kept
+  pub rest_held : (back now : List Buffer) → AllByRecursion (IsHeld sizes) (back ++ now) → All (IsHeld sizes) now
+  rest_held [] now are = All-from_recursion (IsHeld sizes) now are
+  rest_held (buf ∷ back) now are = rest_held back now are.1

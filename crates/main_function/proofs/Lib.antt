@@ -1,0 +1,6 @@
+pub mod FittingLemmas
+pub mod PassesLemmas
+pub mod ReportLemmas
+pub mod StepLemmas
+pub mod TakingLemmas
+pub mod TurnedLemmas

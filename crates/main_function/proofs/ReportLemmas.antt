@@ -1,0 +1,91 @@
+-- What a turn adds to the desk, and to what it shows of a history.
+use Rattle.std.proofs.Common.{◌≡◌, ℕ, ◌+◌, ◌≤◌, ◌<◌, ◌⊎◌, inl, inr, List, [], ◌∷◌, ◌++◌, length, map, refl, subst, sym, ap, ◌∙◌, arith, rules}
+use Rattle.std.specs.List.{All}
+use Rattle.std.proofs.lemmas.Grind.{common_steps, flat_map-append}
+use Rattle.std.proofs.lemmas.List.{length-map, map-append}
+use Rattle.std.proofs.lemmas.List.Sums.{sum_by_push}
+use Rattle.ids_types.specs.Carries.{entry_by}
+use Rattle.ids_types.specs.declared.entry.Entry.{Entry}
+use Rattle.ids_types.specs.declared.entry.TurnHead.{TurnHead}
+use Rattle.ids_types.specs.Turns.{Turn, entries_of}
+use Rattle.chain.specs.Turning.{turn_by}
+use Rattle.buffer_classes.specs.Buffers.{Buffer}
+use Rattle.merge_spec.specs.Fronts.{and_front, fronts_from}
+use Rattle.merge_spec.proofs.FrontLemmas.{fronts_more}
+use Rattle.report_queue.specs.Calls.{GivesBack, sweeps_both}
+use Rattle.report_queue.specs.Views.{TakerView}
+use Rattle.report_api.specs.Names.{Act}
+use Rattle.report_api.specs.declared.terms.ReportTerms.{ReportTerms}
+use Rattle.main_function.specs.Reports.{MakesTurn, ShowsHistory, entry_of, held}
+use Rattle.main_function.specs.Taking.{EndsUnready, Took, item_of, items_of}
+use Rattle.main_function.specs.Standing.{AreTotals}
+use Rattle.main_function.specs.declared.rest.Totals.{Totals}
+
+-- the entries of a turn are the items that were taken
+entries_same : (taken : List (Entry Buffer)) → map entry_of (items_of taken) ≡ map (entry_by held) taken
+entries_same [] = refl
+entries_same (e ∷ taken) = ap (λ es. entry_of (record { caller = e.caller; call = e.call; payload = e.act }) ∷ es) (entries_same taken)
+
+module _ (terms : ReportTerms) (positions bound : ℕ) (old mid new : TakerView Act) (head : TurnHead) where
+  makes : (taken : List (Entry Buffer)) → Took terms positions (sweeps_both (head.lost_events, head.lost_contexts) old) taken mid
+      → (length taken ≡ 0 → new ≡ mid) → (0 < length taken → GivesBack bound (length taken) mid new)
+      → MakesTurn positions old taken (turn_by held head taken) new
+  makes [] took none some = record {
+    marks = took.marks;
+    tries = 0;
+    is = grind (arith, common_steps, none refl, took.is);
+    entries_are = refl;
+    few = took.few;
+    all = subst (λ (taker : TakerView Act). (0 ≡ positions) ⊎ EndsUnready took.marks (length taker.items + 1)) (sym (none refl)) took.all;
+  }
+  makes (e ∷ taken) took none some =
+      let gave = some (omega arith) in
+      record {
+        marks = took.marks;
+        tries = gave.0;
+        is = grind (arith, common_steps, gave.3, took.is, length-map taken (entry_by held));
+        entries_are = refl;
+        few = took.few;
+        all = subst (λ (taker : TakerView Act). (length (e ∷ taken) ≡ positions) ⊎ EndsUnready took.marks (length taker.items + 1)) (sym gave.3) took.all;
+      }
+
+  -- what is swept, taken and given back is a turn
+  pub makes_turn : (swept : TakerView Act) (taken : List (Entry Buffer)) (before count : ℕ) → swept ≡ sweeps_both (head.lost_events, head.lost_contexts) old
+      → Took terms positions swept taken mid → before ≡ 0 → count ≡ before + length taken
+      → (count ≡ 0 → new ≡ mid) → (0 < count → GivesBack bound count mid new)
+      → MakesTurn positions old taken (turn_by held head taken) new
+  makes_turn swept taken before count is took none_before are none some =
+      let same : count ≡ length taken = omega (arith, none_before, are) in
+      makes taken (subst (λ (taker : TakerView Act). Took terms positions taker taken mid) is took)
+      (subst (λ n. n ≡ 0 → new ≡ mid) same none) (subst (λ n. 0 < n → GivesBack bound n mid new) same some)
+
+module _ (positions : ℕ) (old new : TakerView Act) (turn : Turn) (taken : List (Entry Buffer)) where
+  -- a desk that shows turns shows one turn more
+  pub shows_more : (turns : List Turn) → old.offered ≡ positions + length old.items → ShowsHistory positions old turns → MakesTurn positions old taken turn new
+      → ShowsHistory positions new (turns ++ turn ∷ [])
+  shows_more turns offered shows makes =
+      let items = map-append entry_of old.items (items_of taken) in
+      let more = flat_map-append (λ (t : Turn). t.entries) turns (turn ∷ []) in
+      let count = length-map old.items entry_of in
+      let fronts = fronts_more positions turns turn (positions ∷ []) in
+      record {
+        items_are = grind (arith, common_steps, makes.is, makes.entries_are, entries_same taken, items, more, shows.items_are);
+        lost_events_are = grind (arith, common_steps, makes.is, shows.lost_events_are, map-append (λ (t : Turn). t.head.lost_events) turns (turn ∷ []));
+        lost_contexts_are = grind (arith, common_steps, makes.is, shows.lost_contexts_are, map-append (λ (t : Turn). t.head.lost_contexts) turns (turn ∷ []));
+        fronts_are = grind (arith, common_steps, makes.is, shows.fronts_are, fronts, shows.items_are, count, offered);
+      }
+
+  -- the totals of all turns with it
+  pub totals_more : (before after : Totals) → AreTotals old before → MakesTurn positions old taken turn new
+      → after.entries ≡ before.entries + length taken → after.lost_events ≡ before.lost_events + turn.head.lost_events
+      → after.lost_contexts ≡ before.lost_contexts + turn.head.lost_contexts → AreTotals new after
+  totals_more before after are makes entries events contexts = record {
+    entries_are = grind (arith, common_steps, are.entries_are, entries, makes.is, length-map taken item_of);
+    lost_events_are = grind (arith, common_steps, are.lost_events_are, events, makes.is, sum_by_push (λ n. n) old.lost_events turn.head.lost_events);
+    lost_contexts_are = grind (arith, common_steps, are.lost_contexts_are, contexts, makes.is, sum_by_push (λ n. n) old.lost_contexts turn.head.lost_contexts);
+  }
+
+  -- and what was offered
+  pub offered_more : old.offered ≡ positions + length old.items → MakesTurn positions old taken turn new → new.offered ≡ positions + length new.items
+  offered_more offered makes =
+      grind (arith, common_steps, offered, makes.is, makes.entries_are, length-map taken item_of, length-map taken (entry_by held))

@@ -1,0 +1,72 @@
+-- What a manager between two calls can do, and what it is after a turn.
+use Rattle.std.proofs.Common.{◌≡◌, ℕ, ◌+◌, ◌*◌, ◌≤◌, List, [], ◌∷◌, ◌++◌, length, subst, sym, arith, rules}
+use Rattle.std.specs.List.{All}
+use Rattle.std.proofs.lemmas.Grind.{common_steps}
+use Rattle.std.specs.List.Sorted.{IsPermutation}
+use Rattle.ids_types.specs.declared.entry.Entry.{Entry}
+use Rattle.permit_ring.specs.Hands.{AllAdmitted}
+use Rattle.chain.specs.Parcels.{HandsBack, IsShort, all_parcels}
+use Rattle.chain.specs.Turning.{FitsTurn, HasTurnRoom, bytes_in}
+use Rattle.buffer_classes.specs.Buffers.{Buffer}
+use Rattle.buffer_classes.specs.Givers.{AreBuffersIn}
+use Rattle.report_queue.specs.Views.{TakerView}
+use Rattle.report_api.specs.Names.{Act}
+use Rattle.report_api.specs.Passes.{sizes_of}
+use Rattle.report_api.specs.Terms.{term_sizes}
+use Rattle.report_api.specs.declared.shared.Shared.{Shared}
+use Rattle.main_function.specs.Buffers.{IsHeld}
+use Rattle.main_function.specs.Reports.{held}
+use Rattle.main_function.specs.Standing.{IsManagerOf}
+use Rattle.main_function.specs.Taking.{Took, items_of}
+use Rattle.main_function.specs.declared.manager.Manager.{Manager}
+use Rattle.main_function.proofs.FittingLemmas.{bytes_fit, come_out, first_back, held_short, items_fit, rest_held}
+
+module _ {C : Type 0} (events : C → ℕ) (kept : C → List Buffer) (shared : Shared) (m : Manager C) (mine : IsManagerOf events kept shared m) where
+  within : AllAdmitted (λ size. size ≤ m.largest) (term_sizes shared.terms)
+  within = subst (AllAdmitted (λ size. size ≤ m.largest)) mine.desk_is.is_shared.sizes_are mine.sizes_within
+
+  are_held : All (IsHeld (term_sizes shared.terms)) (kept m.chain)
+  are_held = subst (λ sizes. All (IsHeld sizes) (kept m.chain)) mine.desk_is.is_shared.sizes_are mine.kept_are
+
+  -- what the chain keeps is short
+  pub kept_short : All (IsShort held) (kept m.chain)
+  kept_short = held_short shared.terms m.largest within mine.roomy.short (kept m.chain) are_held
+
+  module _ (old new : TakerView Act) (taken : List (Entry Buffer)) (took : Took shared.terms m.positions old taken new) where
+    -- the chain can take what was taken
+    pub can_take : FitsTurn held (events m.chain) taken
+    can_take =
+        let few = took.few in
+        let positions = mine.roomy.few_positions in
+        items_fit shared.terms m.largest within mine.roomy.short (events m.chain) taken mine.events_are (omega (arith, few, positions)) took.admitted
+
+    -- and it is no more than the room is for
+    pub few_bytes : bytes_in held taken ≤ m.most_bytes
+    few_bytes =
+        let few = took.few in
+        let bytes = bytes_fit shared.terms m.largest within mine.roomy.short taken took.admitted in
+        let are = mine.roomy.bytes_are in
+        search (rules, few, bytes, are)
+
+    pub has_room : HasTurnRoom held (events m.chain) taken m.out
+    has_room =
+        let few = took.few in
+        let room = mine.roomy.out_room in
+        record {
+          entries = search (rules, few, room.entries_room);
+          bytes = search (rules, few_bytes, room.bytes_room);
+          sent = grind (arith, common_steps, few, room.sent_room);
+        }
+
+    module _ (now back_before back : List Buffer) (hands : HandsBack (all_parcels taken) (kept m.chain) now back_before back) where
+      -- what comes out of the turn is given back or kept
+      pub come_back : back_before ≡ [] → AreBuffersIn (sizes_of shared) back × All (IsHeld (sizes_of shared)) now
+          × IsPermutation (all_parcels taken ++ kept m.chain) (back ++ now)
+      come_back empty =
+          let are = come_out shared.terms m.largest within mine.roomy.short taken (kept m.chain) hands.further now took.admitted are_held hands.same in
+          let same : hands.further ≡ back = grind (arith, common_steps, hands.back, empty) in
+          let sizes = sym mine.desk_is.is_shared.sizes_are in (
+            subst (λ bufs. AreBuffersIn (sizes_of shared) bufs) same (subst (λ sizes. AreBuffersIn sizes hands.further) sizes (first_back _ hands.further now are)),
+            subst (λ sizes. All (IsHeld sizes) now) sizes (rest_held _ hands.further now are),
+            subst (λ bufs. IsPermutation (all_parcels taken ++ kept m.chain) (bufs ++ now)) same hands.same,
+          )

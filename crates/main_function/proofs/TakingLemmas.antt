@@ -1,0 +1,57 @@
+-- A run of takes, one more at a time.
+use Rattle.std.proofs.Common.{◌≡◌, ◌≢◌, ℕ, ◌+◌, ◌≤◌, ◌<◌, ◌⊎◌, inl, inr, List, [], ◌∷◌, ◌++◌, length, map, Result, Ok, Err, refl, subst, sym, ap, ◌∙◌, arith, rules}
+use Rattle.std.specs.List.{All}
+use Rattle.std.proofs.lemmas.Grind.{common_steps}
+use Rattle.std.proofs.lemmas.List.{map-append}
+use Rattle.std.proofs.lemmas.List.Elements.{All-push}
+use Rattle.ids_types.specs.declared.entry.Entry.{Entry}
+use Rattle.buffer_classes.specs.Buffers.{Buffer}
+use Rattle.permit_ring.specs.declared.answer.Unready.{Unready}
+use Rattle.report_queue.specs.Calls.{TakeTells}
+use Rattle.report_queue.specs.Views.{TakerView}
+use Rattle.report_queue.specs.declared.cargo.Item.{Item}
+use Rattle.report_api.specs.Desks.{same_item}
+use Rattle.report_api.specs.Names.{Act}
+use Rattle.report_api.specs.Terms.{AdmitsItem}
+use Rattle.report_api.specs.declared.terms.ReportTerms.{ReportTerms}
+use Rattle.main_function.specs.Taking.{EndsUnready, Took, has_taken, item_of, items_of}
+
+-- so far each take had an item
+pub record TakesOn (terms : ReportTerms) (most : ℕ) (old : TakerView Act) (taken : List (Entry Buffer)) (new : TakerView Act) : Type 0 where
+  pub marks : List ℕ
+  pub is : new ≡ has_taken (items_of taken) marks old
+  pub few : length taken ≤ most
+  pub admitted : All (AdmitsItem terms) (items_of taken)
+
+module _ (terms : ReportTerms) (most : ℕ) (old mid new : TakerView Act) (taken : List (Entry Buffer)) (on : TakesOn terms most old taken mid) where
+  -- one item more
+  pub took_one : (entry : Entry Buffer) → length taken < most → AdmitsItem terms (item_of entry)
+      → TakeTells same_item mid (Ok (item_of entry)) new → TakesOn terms most old (taken ++ entry ∷ []) new
+  took_one entry more admitted told =
+      let items : items_of (taken ++ entry ∷ []) ≡ items_of taken ++ item_of entry ∷ [] = map-append item_of taken (entry ∷ []) in
+      record {
+        marks = on.marks ++ (length mid.items + 1) ∷ [];
+        is = grind (arith, common_steps, items, told, on.is);
+        few = grind (arith, common_steps, more);
+        admitted = subst (All (AdmitsItem terms)) (sym items) (All-push (AdmitsItem terms) (items_of taken) (item_of entry) on.admitted admitted);
+      }
+
+  -- as many as could be
+  pub took_most : most ≤ length taken → Took terms most old taken mid
+  took_most full = record {
+    marks = on.marks;
+    is = on.is;
+    few = on.few;
+    all = inl (omega (arith, on.few, full));
+    admitted = on.admitted;
+  }
+
+  -- one was not ready
+  pub took_till : (unready : Unready) → TakeTells same_item mid (Err unready) new → Took terms most old taken new
+  took_till unready told = record {
+    marks = on.marks ++ unready.mark ∷ [];
+    is = grind (arith, common_steps, told.1, on.is);
+    few = on.few;
+    all = inr (on.marks, unready.mark, refl, subst (λ (taker : TakerView Act). unready.mark ≢ length taker.items + 1) (sym told.1) told.0);
+    admitted = on.admitted;
+  }

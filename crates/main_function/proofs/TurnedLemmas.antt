@@ -1,0 +1,34 @@
+-- For which turns a manager stands after one more.
+use Rattle.std.proofs.Common.{◌≡◌, ℕ, ◌+◌, ◌≤◌, List, [], ◌∷◌, ◌++◌, length, subst, sym, arith, rules}
+use Rattle.std.proofs.lemmas.Grind.{common_steps}
+use Rattle.ids_types.specs.declared.entry.Entry.{Entry}
+use Rattle.ids_types.specs.Turns.{Turn}
+use Rattle.ids_config.specs.Parts.{Parts}
+use Rattle.chain.specs.History.{last_tick}
+use Rattle.buffer_classes.specs.Buffers.{Buffer}
+use Rattle.report_api.specs.Desks.{desk_view}
+use Rattle.main_function.specs.Reports.{MakesTurn}
+use Rattle.main_function.specs.Standing.{Stands}
+use Rattle.main_function.specs.declared.manager.Manager.{Manager}
+use Rattle.main_function.proofs.ReportLemmas.{shows_more}
+
+-- the tick of turns with one more
+tick_more : (turns : List Turn) (turn : Turn) → last_tick (turns ++ turn ∷ []) ≡ turn.head.tick
+tick_more turns turn = grind (arith, common_steps)
+
+module _ {C : Type 0} (stands : C → Parts → List Turn → Type 0) (config : Parts) (turns : List Turn) where
+  -- the manager stands for one turn more where its chain does
+  pub stands_more : (old new : Manager C) (turn : Turn) (taken : List (Entry Buffer)) → Stands stands config old turns
+      → (last_tick turns ≤ turn.head.tick → stands new.chain config (turns ++ turn ∷ [])) → old.last ≤ turn.head.tick
+      → MakesTurn old.positions (desk_view old.desk) taken turn (desk_view new.desk)
+      → (desk_view old.desk).offered ≡ old.positions + length (desk_view old.desk).items
+      → new.positions ≡ old.positions → new.last ≡ turn.head.tick → new.turns ≡ old.turns + 1
+      → Stands stands config new (turns ++ turn ∷ [])
+  stands_more old new turn taken is chain later makes offered positions last count =
+      let before = is.tick_is in
+      record {
+        chain_stands = chain (omega (arith, before, later));
+        reports_show = search (rules, positions, shows_more old.positions (desk_view old.desk) (desk_view new.desk) turn taken turns offered is.reports_show makes);
+        tick_is = grind (arith, common_steps, last, tick_more turns turn);
+        count_is = grind (arith, common_steps, count, is.count_is);
+      }

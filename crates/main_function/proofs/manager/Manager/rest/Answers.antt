@@ -1,0 +1,8 @@
+use Rattle.main_function.proofs.PassesLemmas.{few_calls, few_passes}
+use Rattle.main_function.proofs.manager.Manager.rest.Goals as goal
+
+pub all_calls-calls-requires-clause-few : goal.all_calls-calls-requires-clause-few
+all_calls-calls-requires-clause-few g c = few_passes _ _ _ c.requires.passes.passes_are
+
+pub all_calls-calls-requires-clause-within : goal.all_calls-calls-requires-clause-within
+all_calls-calls-requires-clause-within g c = few_calls _ _ _ c.requires.passes.passes_are

@@ -1,0 +1,88 @@
+use Rattle.std.proofs.Common.{rules, ◌≡◌, refl, ◌∙◌}
+use Rattle.ids_types.specs.declared.entry.TurnHead.{TurnHead}
+use Rattle.chain.specs.Turning.{turn_by}
+use Rattle.report_queue.specs.Parts.{most_tries}
+use Rattle.report_api.specs.Desks.{desk_view, to_give_back}
+use Rattle.main_function.specs.Reports.{MakesTurn, held}
+use Rattle.main_function.proofs.ReportLemmas.{makes_turn, offered_more, totals_more}
+use Rattle.main_function.proofs.StepLemmas.{can_take, come_back, few_bytes, has_room, kept_short}
+use Rattle.main_function.proofs.TurnedLemmas.{stands_more}
+use Rattle.main_function.proofs.manager.Manager.step.Goals as goal
+
+pub turn-requires-clause-fits : goal.turn-requires-clause-fits
+turn-requires-clause-fits g c =
+    let few = c.take_ready.ensures.took.few in
+    let bytes = few_bytes g.C.Chain.events g.C.Chain.kept _ _ c.requires.mine _ _ _ c.take_ready.ensures.took in
+    g.met.C.Chain.smaller _ _ _ _ _ few bytes c.requires.fits
+
+pub turn-requires-clause-items : goal.turn-requires-clause-items
+turn-requires-clause-items g c = can_take g.C.Chain.events g.C.Chain.kept _ _ c.requires.mine _ _ _ c.take_ready.ensures.took
+
+pub turn-requires-clause-kept : goal.turn-requires-clause-kept
+turn-requires-clause-kept g c = kept_short g.C.Chain.events g.C.Chain.kept _ _ c.requires.mine
+
+pub turn-requires-clause-out : goal.turn-requires-clause-out
+turn-requires-clause-out g c = has_room g.C.Chain.events g.C.Chain.kept _ _ c.requires.mine _ _ _ c.take_ready.ensures.took
+
+pub give_back-requires-clause-back : goal.give_back-requires-clause-back
+give_back-requires-clause-back g c =
+    (come_back g.C.Chain.events g.C.Chain.kept _ _ c.requires.mine _ _ _ c.take_ready.ensures.took _ _ _ c.turn.ensures.parcels c.requires.mine.roomy.no_back).0
+
+pub returns-clause-turned : goal.returns-clause-turned
+returns-clause-turned g c =
+    let mine = c.requires.mine in
+    let head : TurnHead = record { tick = c.args.tick; lost_events = c.sweep-lost_events.result.0; lost_contexts = c.sweep-lost_events.result.1; limited = c.limited.result } in
+    let taken = c.take_ready.new.items.items in
+    let none_before : to_give_back c.sweep-lost_events.new.self ≡ 0 = c.sweep-lost_events.ensures.same.0 ∙ mine.none_taken in
+    let makes : MakesTurn c.args.self.now.positions (desk_view c.args.self.now.desk) taken (turn_by held head taken) (desk_view c.give_back.new.self) =
+    makes_turn c.args.shared.now.terms c.args.self.now.positions (most_tries c.args.shared.now.queue) (desk_view c.args.self.now.desk) (desk_view c.take_ready.new.desk) (desk_view c.give_back.new.self) head
+    (desk_view c.sweep-lost_events.new.self) taken _ _ c.sweep-lost_events.ensures.told c.take_ready.ensures.took none_before c.take_ready.ensures.counts c.give_back.ensures.none c.give_back.ensures.told in
+    let out = come_back g.C.Chain.events g.C.Chain.kept _ _ mine _ _ _ c.take_ready.ensures.took _ _ _ c.turn.ensures.parcels mine.roomy.no_back in
+    record {
+      turn = turn_by held head taken;
+      taken = taken;
+      log_is = c.turn.ensures.logs;
+      tick_is = refl;
+      makes = makes;
+      buffers = record {
+        back = c.turn.new.back.items;
+        same = out.2;
+        gave = search (rules, c.give_back.ensures.gave, c.take_ready.ensures.same, c.sweep-lost_events.ensures.same.1);
+      };
+      stands_then = λ config turns is. stands_more g.C.Chain.stands config turns _ _ _ taken is
+          (c.turn.ensures.stands config turns is.chain_stands) c.requires.later makes mine.offered_is refl refl refl;
+      limited_is = λ config turns is. c.limited.ensures.value config turns is.chain_stands;
+      sends = λ config turns is. search (rules, is.tick_is, c.requires.later, c.turn.ensures.sends config turns is.chain_stands);
+      rests_are = refl;
+      turns_are = refl;
+    }
+
+-- between two calls it is the one of this making again
+pub returns-clause-mine : goal.returns-clause-mine
+unfolding returns-clause-turned
+returns-clause-mine g c =
+    let mine = c.requires.mine in
+    let turned = returns-clause-turned g c in
+    let out = come_back g.C.Chain.events g.C.Chain.kept _ _ mine _ _ _ c.take_ready.ensures.took _ _ _ c.turn.ensures.parcels mine.roomy.no_back in
+    let room = mine.roomy in
+    record {
+      desk_is = c.give_back.ensures.mine;
+      none_taken = c.give_back.ensures.counts;
+      offered_is = offered_more _ _ _ _ _ mine.offered_is turned.makes;
+      items_within = search rules;
+      totals_are = totals_more _ _ _ _ _ _ _ mine.totals_are turned.makes (search (rules, c.with-self.ensures.entries)) c.with-self.ensures.lost_events c.with-self.ensures.lost_contexts;
+      events_are = c.turn.ensures.events ∙ mine.events_are;
+      sizes_within = mine.sizes_within;
+      kept_are = out.1;
+      tick_within = c.requires.within;
+      roomy = record {
+        no_items = c.turn.ensures.items;
+        items_room = search rules;
+        no_back = c.give_back.ensures.empty;
+        back_room = search rules;
+        out_room = search rules;
+        bytes_are = room.bytes_are;
+        few_positions = room.few_positions;
+        short = room.short;
+      };
+    }

@@ -1,0 +1,5 @@
+pub mod Buffers
+pub mod Reports
+pub mod Standing
+pub mod Taking
+pub mod Turning

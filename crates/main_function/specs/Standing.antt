@@ -1,0 +1,115 @@
+-- For which turns a manager stands, and what holds of it between two calls.
+use Rattle.std.specs.Prelude.{◌≡◌, ℕ, ◌+◌, ◌*◌, ◌≤◌, ◌<◌, ◌^◌, Bool, List, [], ◌∷◌, length, sum, sum_by, vec_capacity}
+use mathlib.Core.Option.{some}
+use lib.ListN.{get_elem?}
+use Rattle.std.specs.List.{All}
+use Rattle.ids_types.specs.Output.{Output, OutRoom, room_of}
+use Rattle.ids_types.specs.Turns.{Turn}
+use Rattle.ids_config.specs.Parts.{Parts}
+use Rattle.chain.specs.History.{last_tick}
+use Rattle.permit_ring.specs.Hands.{AllAdmitted}
+use Rattle.buffer_classes.specs.Buffers.{Buffer}
+use Rattle.report_queue.specs.Parts.{calls_of}
+use Rattle.report_queue.specs.Views.{TakerView}
+use Rattle.report_api.specs.Desks.{IsDeskOf, desk_view, to_give_back}
+use Rattle.report_api.specs.Names.{Act}
+use Rattle.report_api.specs.Passes.{IsPassOf, pass_view, sizes_of}
+use Rattle.report_api.specs.declared.pass.Pass.{Pass}
+use Rattle.report_api.specs.declared.shared.Shared.{Shared}
+use Rattle.main_function.specs.Buffers.{IsHeld}
+use Rattle.main_function.specs.Reports.{ShowsHistory}
+use Rattle.main_function.specs.declared.manager.Manager.{Manager}
+use Rattle.main_function.specs.declared.rest.Rest.{Rest}
+use Rattle.main_function.specs.declared.rest.Totals.{Totals}
+
+-- the totals are those of what was taken and swept
+pub record AreTotals (reports : TakerView Act) (totals : Totals) : Type 0 where
+  pub entries_are : totals.entries ≡ length reports.items
+  pub lost_events_are : totals.lost_events ≡ sum reports.lost_events
+  pub lost_contexts_are : totals.lost_contexts ≡ sum reports.lost_contexts
+
+-- an output has room for so many entries with so many bytes, and for the messages of a turn of so many events
+pub record HasRoomFor (entries bytes events : ℕ) (out : Output) : Type 0 where
+  pub entries_room : entries ≤ (room_of out).entries
+  pub bytes_room : bytes ≤ (room_of out).bytes
+  pub sent_room : 1044 * (entries + events + 3) ≤ (room_of out).sent
+
+-- these are all passes of the making, caller 0 first
+pub record AreAllPasses (shared : Shared) (reports : TakerView Act) (passes : List Pass) : Type 0 where
+  pub all : length passes ≡ length reports.back
+  pub each : (i : ℕ) (pass : Pass) → get_elem? passes i ≡ some pass → IsPassOf shared pass × ((pass_view pass).caller ≡ i)
+
+-- the pass made as many calls as it counts, and those are few
+pub record HasFewCalls (pass : Pass) : Type 0 where
+  pub calls_are : calls_of pass.seat ≡ (pass_view pass).calls
+  pub calls_within : (pass_view pass).calls ≤ 2 ^ 40
+
+-- how many calls they made
+abbrev pub all_calls : List Pass → ℕ
+all_calls passes = sum_by (λ pass. (pass_view pass).calls) passes
+
+module _ {C : Type 0} where
+  -- how many turns the manager made
+  abbrev pub turns_of : Manager C → ℕ
+  turns_of m = m.turns
+
+  -- the tick of the last
+  abbrev pub last_of : Manager C → ℕ
+  last_of m = m.last
+
+  -- the rests that it recorded
+  abbrev pub rests_of : Manager C → List Rest
+  rests_of m = m.rests.items
+
+  -- there is room for the largest turn
+  abbrev pub fits_turn : (C → ℕ → ℕ → Bool) → Manager C → Bool
+  fits_turn has_room m = has_room m.chain m.positions m.most_bytes
+
+  -- the manager stands for these turns of the configuration, the first of them first
+  pub record Stands (stands : C → Parts → List Turn → Type 0) (config : Parts) (m : Manager C) (turns : List Turn) : Type 0 where
+    pub chain_stands : stands m.chain config turns
+    pub reports_show : ShowsHistory m.positions (desk_view m.desk) turns
+    pub tick_is : m.last ≡ last_tick turns
+    pub count_is : m.turns ≡ length turns
+
+  -- a turn of all positions, with the largest context data, finds room
+  pub record IsRoomy (events : C → ℕ) (m : Manager C) : Type 0 where
+    pub no_items : m.items.items ≡ []
+    pub items_room : m.positions ≤ vec_capacity m.items
+    pub no_back : m.back.items ≡ []
+    pub back_room : m.positions + events m.chain ≤ vec_capacity m.back
+    pub out_room : HasRoomFor m.positions m.most_bytes (events m.chain) m.out
+    pub bytes_are : m.most_bytes ≡ m.positions * m.largest
+    pub few_positions : m.positions ≤ 1024
+    pub short : m.largest ≤ 1024
+
+  -- the manager is the one of this making, between two calls
+  pub record IsManagerOf (events : C → ℕ) (kept : C → List Buffer) (shared : Shared) (m : Manager C) : Type 0 where
+    pub desk_is : IsDeskOf shared m.desk
+    pub none_taken : to_give_back m.desk ≡ 0
+    pub offered_is : (desk_view m.desk).offered ≡ m.positions + length (desk_view m.desk).items
+    pub items_within : length (desk_view m.desk).items ≤ 2 ^ 45
+    pub totals_are : AreTotals (desk_view m.desk) m.totals
+    pub events_are : events m.chain ≡ shared.terms.events
+    pub sizes_within : AllAdmitted (λ size. size ≤ m.largest) (sizes_of shared)
+    pub kept_are : All (IsHeld (sizes_of shared)) (kept m.chain)
+    pub tick_within : m.last ≤ 2 ^ 62
+    pub roomy : IsRoomy events m
+
+  -- the manager is one of some making
+  pub record IsManager (events : C → ℕ) (kept : C → List Buffer) (m : Manager C) : Type 0 where
+    pub shared : Shared
+    pub is_manager : IsManagerOf events kept shared m
+
+  -- and these are all passes of that making
+  pub record HasPasses (events : C → ℕ) (kept : C → List Buffer) (passes : List Pass) (m : Manager C) : Type 0 where
+    pub shared : Shared
+    pub is_manager : IsManagerOf events kept shared m
+    pub passes_are : AreAllPasses shared (desk_view m.desk) passes
+
+  -- nothing but the chain's room or the rests is changed: the manager stands for the same turns, and is of the same making
+  pub record StaysSo (stands : C → Parts → List Turn → Type 0) (events : C → ℕ) (kept : C → List Buffer) (old new : Manager C) : Type 0 where
+    pub is_manager : (shared : Shared) → IsManagerOf events kept shared old → IsManagerOf events kept shared new
+    pub stands_then : (config : Parts) (turns : List Turn) → Stands stands config old turns → Stands stands config new turns
+    pub turns_are : turns_of new ≡ turns_of old
+    pub last_is : last_of new ≡ last_of old

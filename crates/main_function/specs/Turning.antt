@@ -1,0 +1,51 @@
+-- A turn of the manager.
+use Rattle.std.specs.Borrow.{Bor}
+use Rattle.std.specs.Prelude.{◌≡◌, ℕ, ◌+◌, ◌≤◌, ◌<◌, ◌^◌, List, [], ◌∷◌, ◌++◌, Result, Ok, Err}
+use Rattle.ids_types.specs.declared.entry.Entry.{Entry}
+use Rattle.ids_types.specs.Output.{Output}
+use Rattle.ids_types.specs.Turns.{Turn}
+use Rattle.ids_config.specs.Parts.{Parts}
+use Rattle.chain.specs.History.{Sends, handed_of}
+use Rattle.chain.specs.Parcels.{all_parcels}
+use Rattle.buffer_classes.specs.Buffers.{Buffer}
+use Rattle.buffer_classes.specs.Givers.{givers_of}
+use Rattle.report_api.specs.Desks.{desk_view}
+use Rattle.report_api.specs.declared.shared.Shared.{Shared}
+use Rattle.main_function.specs.Buffers.{ReturnsBuffers}
+use Rattle.main_function.specs.Reports.{MakesTurn}
+use Rattle.main_function.specs.Standing.{IsManagerOf, Stands}
+use Rattle.main_function.specs.declared.manager.Manager.{Manager}
+use Rattle.main_function.specs.declared.rest.TurnFault.{TurnFault}
+use Rattle.main_function.specs.declared.rest.TurnFault.TheVariants.{TickBack, TickTooLarge}
+
+module _ {C : Type 0} (stands : C → Parts → List Turn → Type 0) (kept : C → List Buffer) where
+  -- a turn of this tick was made
+  pub record Turned (tick : ℕ) (old new : Manager C) : Type 0 where
+    pub turn : Turn
+    pub taken : List (Entry Buffer)
+    pub log_is : new.out.log.turns ≡ turn ∷ []
+    pub tick_is : turn.head.tick ≡ tick
+    pub makes : MakesTurn old.positions (desk_view old.desk) taken turn (desk_view new.desk)
+    pub buffers : ReturnsBuffers (all_parcels taken) (kept old.chain) (kept new.chain) (givers_of old.desk.givers) (givers_of new.desk.givers)
+    -- for each history that it stood for, it stands for that with this turn, and sends what that has more to send
+    pub stands_then : (config : Parts) (turns : List Turn) → Stands stands config old turns → Stands stands config new (turns ++ turn ∷ [])
+    pub limited_is : (config : Parts) (turns : List Turn) → Stands stands config old turns → turn.head.limited ≡ handed_of config turns
+    pub sends : (config : Parts) (turns : List Turn) → Stands stands config old turns → Sends config turns turn new.out
+    pub rests_are : new.rests ≡ old.rests
+    pub turns_are : new.turns ≡ old.turns + 1
+
+-- the output logged one turn, of this tick
+abbrev pub LogsOne : ℕ → Output → Type 0
+LogsOne tick out = (turn : Turn) × (out.log.turns ≡ turn ∷ []) × (turn.head.tick ≡ tick)
+
+-- a refusal comes exactly where the tick is below the last or too large
+abbrev pub TurnFails : {A : Type 0} → ℕ → ℕ → Result A TurnFault → Type 0
+TurnFails last tick (Ok out) = (last ≤ tick) × (tick ≤ 2 ^ 62)
+TurnFails last tick (Err TickBack) = tick < last
+TurnFails last tick (Err TickTooLarge) = (last ≤ tick) × (2 ^ 62 < tick)
+
+module _ {C : Type 0} (stands : C → Parts → List Turn → Type 0) (events : C → ℕ) (kept : C → List Buffer) (shared : Shared) where
+  -- what a call of this tick leaves: a turn made, whose output is lent; or nothing changed
+  abbrev pub TurnLeaves : ℕ → Manager C → Result (Bor Output) TurnFault → Manager C → Type 0
+  TurnLeaves tick old (Ok out) new = IsManagerOf events kept shared new × (out.now ≡ new.out) × Turned stands kept tick old new
+  TurnLeaves tick old (Err fault) new = new ≡ old

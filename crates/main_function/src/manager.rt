@@ -1,0 +1,164 @@
+//! The manager.
+ghost use Rattle.std.specs.Prelude.{◌≡◌, ◌≤◌, ◌<◌, ◌^◌, ◌++◌, ◌∷◌, [], true, List, length, reverse, IfOk, OnErr, OnOk};
+ghost use Rattle.ids_types.specs.Turns.{Turn};
+ghost use Rattle.ids_config.specs.Parts.{Parts};
+ghost use Rattle.chain.specs.History.{rows_of};
+ghost use Rattle.buffer_classes.specs.Givers.{givers_of, late_of};
+ghost use Rattle.main_function.specs.Standing.{HasPasses, IsManager, IsManagerOf, Stands, StaysSo, all_calls, fits_turn, last_of, rests_of, turns_of};
+ghost use Rattle.main_function.specs.Turning.{LogsOne, TurnFails, TurnLeaves, Turned};
+
+use crate::rest::{Rest, Totals, TurnFault, all_calls};
+use crate::taking::take_ready;
+use chain::Chain;
+use event_memory::Memory;
+use ids_types::{Entry, NoMemory, TurnHead, TurnOut};
+use report_api::{CtxBuf, Desk, Pass, Shared};
+
+/// Takes what callers reported, a turn at a time, and has its chain judge it.
+///
+/// Contracts say for which turns it stands (`Stands`), and of which making it is (`IsManagerOf`).
+#[derive(Drop)]
+pub struct Manager<C> {
+    pub(crate) desk: Desk,
+    pub(crate) chain: C,
+    // What a turn takes, and the buffers that come back from it: both empty between two calls.
+    pub(crate) items: Vec<Entry<CtxBuf>>,
+    pub(crate) back: Vec<CtxBuf>,
+    pub(crate) out: TurnOut,
+    pub(crate) rests: Vec<Rest>,
+    pub(crate) totals: Totals,
+    // The tick of the last turn.
+    pub(crate) last: u64,
+    pub(crate) turns: u64,
+    // How many event buffers there are.
+    pub(crate) positions: u64,
+    // How many bytes a buffer of the largest class can hold, and all context data of a turn.
+    pub(crate) largest: u64,
+    pub(crate) most_bytes: u64,
+}
+
+/// The largest tick.
+const MAX_TICK: u64 = 1 << 62;
+
+impl<C: Chain<CtxBuf>> Manager<C> {
+    ghost use Rattle.std.specs.Borrow.{sem};
+    ghost use Rattle.std.specs.Io.BufRead.{Rests};
+    ghost use Rattle.main_function.specs.contracts.manager.Manager.{the_row};
+
+    /// Makes a turn: what was lost since the turn before is swept, the items that are ready are taken, up to as many
+    /// as there are event buffers, the chain judges them, and all buffers that nothing holds are given back. Its
+    /// output is lent. A refusal makes no step and changes nothing. It takes no memory.
+    pub fn turn(&mut self, shared: &Shared, tick: u64) -> Result<&TurnOut, TurnFault>
+        requires mine { IsManagerOf C.events C.kept shared.now self.old }
+        requires fits { fits_turn C.has_room self.old ≡ true }
+        requires few { turns_of self.old < 2 ^ 62 }
+        ensures fault { TurnFails (last_of self.old) tick result }
+        ensures lent { IfOk result (λ out. LogsOne tick out.now) }
+        // Once the output is given back, all holds that the turn leaves.
+        ensures* after_borrow { sem 𝓛 (Rests (the_row C.row) self.entry (λ new.
+            TurnLeaves C.stands C.events C.kept shared.now tick self.old result new)) }
+    {
+        if tick < self.last {
+            return Err(TurnFault::TickBack);
+        }
+        if tick > MAX_TICK {
+            return Err(TurnFault::TickTooLarge);
+        }
+        self.step(shared, tick);
+        Ok(&self.out)
+    }
+
+    /// How many turns were made.
+    pub fn turns(&self) -> u64
+        ensures { result ≡ turns_of self.now }
+    {
+        self.turns
+    }
+
+    /// The rests in order.
+    pub fn rests(&self) -> &[Rest]
+        ensures { result.now ≡ rests_of self.now }
+    {
+        &self.rests
+    }
+
+    /// Records a rest: how many turns were made, and how many calls by these passes. No call is under way, since the
+    /// passes are all lent to it.
+    pub fn rest(&mut self, passes: &[Pass]) -> Result<(), NoMemory>
+        requires passes { HasPasses C.events C.kept passes.now self.old }
+        ensures ok { OnOk result (rests_of self.new ≡
+            rests_of self.old ++ record { turns = turns_of self.old; calls = all_calls passes.now } ∷ []) }
+        ensures err { OnErr result (rests_of self.new ≡ rests_of self.old) }
+        ensures same { StaysSo C.stands C.events C.kept self.old self.new }
+    {
+        let calls = all_calls(passes);
+        self.rests.reserve(1)?;
+        self.rests.push_reserved(Rest {
+            turns: self.turns,
+            calls,
+        });
+        Ok(())
+    }
+
+    /// Whether there is room for the largest turn: as many entries as there are event buffers, each with as much
+    /// context data as a buffer of the largest class can hold.
+    pub fn fits(&self) -> bool
+        ensures { result ≡ fits_turn C.has_room self.now }
+    {
+        self.chain.fits(self.positions, self.most_bytes)
+    }
+
+    /// Makes that room.
+    pub fn reserve(&mut self) -> Result<(), NoMemory>
+        ensures ok { OnOk result (fits_turn C.has_room self.new ≡ true) }
+        ensures same { StaysSo C.stands C.events C.kept self.old self.new }
+        ensures rests { rests_of self.new ≡ rests_of self.old }
+    {
+        self.chain.reserve(self.positions, self.most_bytes)
+    }
+
+    /// The event memory behind the last turn.
+    pub fn memory(&self) -> &Memory
+        ensures { (config : Parts) (turns : List Turn) →
+            Stands C.stands config self.now turns → reverse result.now.rows ≡ rows_of config turns }
+    {
+        self.chain.memory()
+    }
+
+    /// How many buffers of a class wait for a free position.
+    #[tactic(auto, using(crate::proofs::PassesLemmas::few_late))]
+    pub fn late(&self, class: u8) -> u16
+        requires mine { IsManager C.events C.kept self.now }
+        requires class { class < length (givers_of self.now.desk.givers) }
+        ensures { result ≡ late_of self.now.desk.givers class }
+    {
+        self.desk.late(class) as u16
+    }
+
+    // Makes a turn of a tick that may be.
+    fn step(&mut self, shared: &Shared, tick: u64)
+        requires mine { IsManagerOf C.events C.kept shared.now self.old }
+        requires fits { fits_turn C.has_room self.old ≡ true }
+        requires few { turns_of self.old < 2 ^ 62 }
+        requires later { last_of self.old ≤ tick }
+        requires within { tick ≤ 2 ^ 62 }
+        ensures mine { IsManagerOf C.events C.kept shared.now self.new }
+        ensures turned { Turned C.stands C.kept tick self.old self.new }
+    {
+        let (lost_events, lost_contexts) = self.desk.sweep(shared);
+        let head = TurnHead {
+            tick,
+            lost_events,
+            lost_contexts,
+            limited: self.chain.limited(),
+        };
+        take_ready(&mut self.desk, shared, self.positions, &mut self.items);
+        let taken = self.items.len() as u64;
+        self.totals = self.totals.with(taken, lost_events, lost_contexts);
+        self.chain
+            .turn(&head, &mut self.items, &mut self.back, &mut self.out);
+        self.desk.give_back(shared, &mut self.back);
+        self.last = tick;
+        self.turns += 1;
+    }
+}

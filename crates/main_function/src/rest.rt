@@ -1,0 +1,64 @@
+//! What a turn refuses, what a rest records, and what closing tells.
+ghost use Rattle.std.specs.Prelude.{◌≡◌, ◌+◌, ◌≤◌, ◌^◌, length};
+ghost use Rattle.std.specs.List.{All};
+ghost use Rattle.report_api.specs.Passes.{pass_view};
+ghost use Rattle.main_function.specs.Standing.{HasFewCalls, all_calls};
+
+use report_api::Pass;
+
+/// Why a turn is refused.
+#[derive(Clone, Copy, Debug, PartialEq, Eq)]
+pub enum TurnFault {
+    /// The tick is below that of the last turn.
+    TickBack = 1,
+    /// The tick is above 2^62.
+    TickTooLarge = 2,
+}
+
+/// A time at which no call was under way.
+#[derive(Clone, Copy, Debug, PartialEq, Eq)]
+pub struct Rest {
+    /// How many turns had been made.
+    pub turns: u64,
+    /// How many calls the passes had made.
+    pub calls: u64,
+}
+
+/// What all turns together took and lost.
+#[derive(Clone, Copy, Debug, PartialEq, Eq)]
+pub struct Totals {
+    pub entries: u64,
+    pub lost_events: u64,
+    pub lost_contexts: u64,
+}
+
+impl Totals {
+    /// With what one turn more took and lost.
+    pub(crate) fn with(&self, entries: u64, lost_events: u64, lost_contexts: u64) -> Totals
+        requires entries { self.now.entries + entries ≤ 2 ^ 45 }
+        requires lost_events { self.now.lost_events + lost_events ≤ 2 ^ 45 }
+        requires lost_contexts { self.now.lost_contexts + lost_contexts ≤ 2 ^ 45 }
+        ensures entries { result.entries ≡ self.now.entries + entries }
+        ensures lost_events { result.lost_events ≡ self.now.lost_events + lost_events }
+        ensures lost_contexts { result.lost_contexts ≡ self.now.lost_contexts + lost_contexts }
+    {
+        Totals {
+            entries: self.entries + entries,
+            lost_events: self.lost_events + lost_events,
+            lost_contexts: self.lost_contexts + lost_contexts,
+        }
+    }
+}
+
+/// How many calls these passes made.
+pub(crate) fn all_calls(passes: &[Pass]) -> u64
+    requires few { length passes.now ≤ 32 }
+    requires within { All HasFewCalls passes.now }
+    ensures { result ≡ all_calls passes.now }
+{
+    let mut calls = 0;
+    for pass in passes {
+        calls += pass.calls();
+    }
+    calls
+}

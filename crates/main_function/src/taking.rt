@@ -1,0 +1,45 @@
+//! What a turn takes from the desk.
+ghost use Rattle.std.specs.Prelude.{◌≡◌, ◌≤◌, ◌+◌, ◌^◌, [], length, vec_capacity};
+ghost use Rattle.report_api.specs.Desks.{IsDeskOf, desk_view, to_give_back};
+ghost use Rattle.main_function.specs.Taking.{Took, item_of};
+
+use ids_types::{Act, Entry};
+use report_api::{CtxBuf, Desk, Item, Shared};
+
+/// An item as an entry of the history.
+fn entry_of(item: Item<Act<CtxBuf>>) -> Entry<CtxBuf>
+    ensures { item_of result ≡ item }
+{
+    Entry {
+        caller: item.caller,
+        call: item.call,
+        act: item.payload,
+    }
+}
+
+/// Takes what is ready, up to so many items.
+#[tactic(auto, using(crate::proofs::TakingLemmas::took_one, crate::proofs::TakingLemmas::took_most, crate::proofs::TakingLemmas::took_till))]
+pub(crate) fn take_ready(
+    desk: &mut Desk,
+    shared: &Shared,
+    most: u64,
+    items: &mut Vec<Entry<CtxBuf>>,
+)
+    requires mine { IsDeskOf shared.now desk.old }
+    requires within { length (desk_view desk.old).items ≤ 2 ^ 45 }
+    requires empty { items.old.items ≡ [] }
+    requires room { most ≤ vec_capacity items.old }
+    ensures mine { IsDeskOf shared.now desk.new }
+    ensures took { Took shared.now.terms most (desk_view desk.old) items.new.items (desk_view desk.new) }
+    ensures counts { to_give_back desk.new ≡ to_give_back desk.old + length items.new.items }
+    ensures within { length (desk_view desk.new).items ≤ 2 ^ 45 }
+    ensures same { desk.new.givers ≡ desk.old.givers }
+    ensures room { vec_capacity items.new ≡ vec_capacity items.old }
+{
+    while (items.len() as u64) < most {
+        match desk.take(shared) {
+            Ok(item) => items.push_reserved(entry_of(item)),
+            Err(_) => return,
+        }
+    }
+}
