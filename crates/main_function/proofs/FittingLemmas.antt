@@ -1,9 +1,8 @@
 -- What is known of items that the desk admits.
-use Rattle.std.proofs.Common.{◌≡◌, ℕ, zero, suc, ◌+◌, ◌*◌, ◌≤◌, ◌<◌, true, List, [], ◌∷◌, ◌++◌, length, Option, Some, None, IfSome, subst, sym, arith, rules}
+use Rattle.std.proofs.Common.{◌≡◌, ℕ, zero, suc, ◌*◌, ◌≤◌, ◌<◌, true, List, [], ◌∷◌, ◌++◌, length, Option, Some, None, IfSome, subst, sym, arith, rules}
 use mathlib.Core.Option.{some}
 use lib.ListN.{get_elem?}
 use Rattle.std.specs.List.{All, AllByRecursion, cons_option}
-use Rattle.std.proofs.lemmas.Grind.{common_steps}
 use Rattle.std.proofs.lemmas.List.Elements.{All-append, All-from_recursion, All-weaker, recursion_from_All}
 use Rattle.std.proofs.lemmas.List.Sorted.{All-permutation}
 use Rattle.std.proofs.lemmas.List.Sums.{sum_by-cons}
@@ -15,7 +14,7 @@ use Rattle.permit_ring.specs.Hands.{AllAdmitted}
 use Rattle.chain.specs.Parcels.{IsShort, all_parcels, parcel_of}
 use Rattle.chain.specs.Turning.{FitsAct, FitsTurn, bytes_in}
 use Rattle.buffer_classes.specs.Buffers.{Buffer}
-use Rattle.buffer_classes.specs.Givers.{AreBuffersIn, IsBufferIn}
+use Rattle.buffer_classes.specs.Givers.{AreBuffersIn}
 use Rattle.report_api.specs.Names.{Act, Report, State, SetMode, Absent, Kept, Missing}
 use Rattle.report_api.specs.Terms.{AdmitsAct, AdmitsItem, is_sensor, term_sizes}
 use Rattle.report_api.specs.declared.terms.ReportTerms.{ReportTerms}

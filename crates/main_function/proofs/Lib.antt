@@ -1,4 +1,5 @@
 pub mod FittingLemmas
+pub mod MakingLemmas
 pub mod PassesLemmas
 pub mod ReportLemmas
 pub mod StepLemmas

@@ -1,16 +1,14 @@
 -- What a turn adds to the desk, and to what it shows of a history.
-use Rattle.std.proofs.Common.{◌≡◌, ℕ, ◌+◌, ◌≤◌, ◌<◌, ◌⊎◌, inl, inr, List, [], ◌∷◌, ◌++◌, length, map, refl, subst, sym, ap, ◌∙◌, arith, rules}
-use Rattle.std.specs.List.{All}
+use Rattle.std.proofs.Common.{◌≡◌, ℕ, ◌+◌, ◌<◌, ◌⊎◌, List, [], ◌∷◌, ◌++◌, length, map, refl, subst, sym, ap, arith}
 use Rattle.std.proofs.lemmas.Grind.{common_steps, flat_map-append}
 use Rattle.std.proofs.lemmas.List.{length-map, map-append}
 use Rattle.std.proofs.lemmas.List.Sums.{sum_by_push}
 use Rattle.ids_types.specs.Carries.{entry_by}
 use Rattle.ids_types.specs.declared.entry.Entry.{Entry}
 use Rattle.ids_types.specs.declared.entry.TurnHead.{TurnHead}
-use Rattle.ids_types.specs.Turns.{Turn, entries_of}
+use Rattle.ids_types.specs.Turns.{Turn}
 use Rattle.chain.specs.Turning.{turn_by}
 use Rattle.buffer_classes.specs.Buffers.{Buffer}
-use Rattle.merge_spec.specs.Fronts.{and_front, fronts_from}
 use Rattle.merge_spec.proofs.FrontLemmas.{fronts_more}
 use Rattle.report_queue.specs.Calls.{GivesBack, sweeps_both}
 use Rattle.report_queue.specs.Views.{TakerView}

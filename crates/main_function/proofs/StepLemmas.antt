@@ -1,5 +1,5 @@
 -- What a manager between two calls can do, and what it is after a turn.
-use Rattle.std.proofs.Common.{◌≡◌, ℕ, ◌+◌, ◌*◌, ◌≤◌, List, [], ◌∷◌, ◌++◌, length, subst, sym, arith, rules}
+use Rattle.std.proofs.Common.{◌≡◌, ℕ, ◌≤◌, List, [], ◌++◌, subst, sym, arith, rules}
 use Rattle.std.specs.List.{All}
 use Rattle.std.proofs.lemmas.Grind.{common_steps}
 use Rattle.std.specs.List.Sorted.{IsPermutation}
@@ -17,7 +17,7 @@ use Rattle.report_api.specs.declared.shared.Shared.{Shared}
 use Rattle.main_function.specs.Buffers.{IsHeld}
 use Rattle.main_function.specs.Reports.{held}
 use Rattle.main_function.specs.Standing.{IsManagerOf}
-use Rattle.main_function.specs.Taking.{Took, items_of}
+use Rattle.main_function.specs.Taking.{Took}
 use Rattle.main_function.specs.declared.manager.Manager.{Manager}
 use Rattle.main_function.proofs.FittingLemmas.{bytes_fit, come_out, first_back, held_short, items_fit, rest_held}
 

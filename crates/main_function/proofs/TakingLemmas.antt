@@ -1,5 +1,5 @@
 -- A run of takes, one more at a time.
-use Rattle.std.proofs.Common.{◌≡◌, ◌≢◌, ℕ, ◌+◌, ◌≤◌, ◌<◌, ◌⊎◌, inl, inr, List, [], ◌∷◌, ◌++◌, length, map, Result, Ok, Err, refl, subst, sym, ap, ◌∙◌, arith, rules}
+use Rattle.std.proofs.Common.{◌≡◌, ◌≢◌, ℕ, ◌+◌, ◌≤◌, ◌<◌, inl, inr, List, [], ◌∷◌, ◌++◌, length, Ok, Err, refl, subst, sym, arith}
 use Rattle.std.specs.List.{All}
 use Rattle.std.proofs.lemmas.Grind.{common_steps}
 use Rattle.std.proofs.lemmas.List.{map-append}
@@ -9,12 +9,11 @@ use Rattle.buffer_classes.specs.Buffers.{Buffer}
 use Rattle.permit_ring.specs.declared.answer.Unready.{Unready}
 use Rattle.report_queue.specs.Calls.{TakeTells}
 use Rattle.report_queue.specs.Views.{TakerView}
-use Rattle.report_queue.specs.declared.cargo.Item.{Item}
 use Rattle.report_api.specs.Desks.{same_item}
 use Rattle.report_api.specs.Names.{Act}
 use Rattle.report_api.specs.Terms.{AdmitsItem}
 use Rattle.report_api.specs.declared.terms.ReportTerms.{ReportTerms}
-use Rattle.main_function.specs.Taking.{EndsUnready, Took, has_taken, item_of, items_of}
+use Rattle.main_function.specs.Taking.{Took, has_taken, item_of, items_of}
 
 -- so far each take had an item
 pub record TakesOn (terms : ReportTerms) (most : ℕ) (old : TakerView Act) (taken : List (Entry Buffer)) (new : TakerView Act) : Type 0 where

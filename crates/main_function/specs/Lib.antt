@@ -1,4 +1,5 @@
 pub mod Buffers
+pub mod Making
 pub mod Reports
 pub mod Standing
 pub mod Taking

@@ -1,9 +1,9 @@
 -- For which turns a manager stands, and what holds of it between two calls.
-use Rattle.std.specs.Prelude.{◌≡◌, ℕ, ◌+◌, ◌*◌, ◌≤◌, ◌<◌, ◌^◌, Bool, List, [], ◌∷◌, length, sum, sum_by, vec_capacity}
+use Rattle.std.specs.Prelude.{◌≡◌, ℕ, ◌+◌, ◌*◌, ◌≤◌, ◌^◌, Bool, List, [], length, sum, sum_by, vec_capacity}
 use mathlib.Core.Option.{some}
 use lib.ListN.{get_elem?}
 use Rattle.std.specs.List.{All}
-use Rattle.ids_types.specs.Output.{Output, OutRoom, room_of}
+use Rattle.ids_types.specs.Output.{Output, room_of}
 use Rattle.ids_types.specs.Turns.{Turn}
 use Rattle.ids_config.specs.Parts.{Parts}
 use Rattle.chain.specs.History.{last_tick}

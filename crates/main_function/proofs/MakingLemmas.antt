@@ -1,0 +1,130 @@
+-- A manager that has just been made.
+use Rattle.std.proofs.Common.{◌≡◌, ℕ, zero, suc, ◌+◌, ◌≤◌, ◌<◌, max, None, Some, List, [], ◌∷◌, ◌++◌, get_or, length, map, take, refl, subst, sym, ap, ◌∙◌, arith, rules}
+use Rattle.std.specs.List.{All, AllByRecursion}
+use Rattle.std.proofs.Math.Nat.{le-max_left, le-max_right, max-le}
+use Rattle.std.proofs.lemmas.Grind.{common_steps}
+use Rattle.std.proofs.lemmas.List.{length-replicate, map-append, take_more}
+use Rattle.std.proofs.lemmas.List.Elements.{All-cons, All-nil, All-pop, All-push, All-weaker, recursion_from_All}
+use Rattle.ids_types.specs.Turns.{Turn}
+use Rattle.ids_config.specs.Parts.{Parts, class_of}
+use Rattle.permit_ring.specs.Hands.{AllAdmitted}
+use Rattle.buffer_classes.specs.Buffers.{Buffer}
+use Rattle.buffer_classes.specs.Making.{IsSpec, spec_sizes}
+use Rattle.ids_types.specs.declared.class_spec.ClassSpec.{ClassSpec}
+use Rattle.std.specs.Prelude.{vec_capacity}
+use Rattle.main_function.specs.Buffers.{IsHeld}
+use Rattle.report_api.specs.Desks.{desk_view, to_give_back}
+use Rattle.report_api.specs.Making.{IsNewMaking}
+use Rattle.report_api.specs.Passes.{sizes_of}
+use Rattle.report_api.specs.declared.desk.Desk.{Desk}
+use Rattle.report_api.specs.declared.pass.Pass.{Pass}
+use Rattle.report_api.specs.declared.shared.Shared.{Shared}
+use Rattle.main_function.specs.Making.{IsBuilt, IsLargest, IsNewManager}
+use Rattle.main_function.specs.Standing.{AreAllPasses}
+use Rattle.main_function.specs.declared.manager.Manager.{Manager}
+
+-- the largest of one size more
+larger : (sizes : List ℕ) (largest size : ℕ) → IsLargest sizes largest → IsLargest (sizes ++ size ∷ []) (max largest size)
+larger sizes largest size is = record {
+  within = All-push (λ s. s ≤ max largest size) sizes size
+      (All-weaker (λ s. s ≤ largest) (λ s. s ≤ max largest size) (λ s few. let left = le-max_left largest size in omega (arith, few, left)) sizes is.within)
+      (le-max_right largest size);
+  least = λ bound all. let both = All-pop (λ s. s ≤ bound) (sizes ++ size ∷ []) sizes (Some size) refl all in max-le (is.least bound both.0) both.1;
+}
+
+-- of one class more
+pub larger_class : (classes : List (ℕ × ℕ)) (i largest : ℕ) (class : ℕ × ℕ) → i < length classes
+    → IsLargest (spec_sizes (map class_of (take i classes))) largest
+    → IsLargest (spec_sizes (map class_of (take (i + 1) classes))) (max largest (get_or classes i class).0)
+larger_class classes i largest class below is =
+    let more = take_more classes i class below in
+    let inner = map-append class_of (take i classes) (get_or classes i class ∷ []) in
+    let outer = map-append (λ spec. spec.size) (map class_of (take i classes)) (class_of (get_or classes i class) ∷ []) in
+    let same : spec_sizes (map class_of (take (i + 1) classes)) ≡ spec_sizes (map class_of (take i classes)) ++ (get_or classes i class).0 ∷ [] =
+    ap (λ pairs. spec_sizes (map class_of pairs)) more ∙ ap spec_sizes inner ∙ outer in
+    subst (λ sizes. IsLargest sizes (max largest (get_or classes i class).0)) (sym same) (larger _ largest (get_or classes i class).0 is)
+
+admitted_at : (P : ℕ → Type 0) (xs : List ℕ) → AllByRecursion P xs → AllAdmitted P xs
+admitted_at P (x ∷ xs) all zero y is = search (rules, all.0)
+admitted_at P (x ∷ xs) all (suc j) y is = admitted_at P xs all.1 j y is
+admitted_at P [] all j y is = search rules
+
+-- no class is larger than 1,024
+pub sizes_short : (specs : List ClassSpec) → AllAdmitted IsSpec specs → All (λ size. size ≤ 1024) (spec_sizes specs)
+sizes_short [] are = All-nil (λ size. size ≤ 1024)
+sizes_short (spec ∷ specs) are = All-cons (λ size. size ≤ 1024) spec.size (spec_sizes specs) (are 0 spec refl).size (sizes_short specs (λ i x is. are (suc i) x is))
+
+module _ {C : Type 0} (stands : C → Parts → List Turn → Type 0) (events : C → ℕ) (kept : C → List Buffer) (config : Parts) (shared : Shared)
+    (passes : List Pass) (m : Manager C) (making : IsNewMaking config shared passes m.desk) where
+  -- nothing is to be given back
+  none_taken : to_give_back m.desk ≡ 0
+  none_taken =
+      let account = making.is_desk.taker.is_keeper.account in
+      let reaped = making.is_desk.taker.is_keeper.reaped_is in
+      let vacant = making.is_desk.taker.none_vacant in
+      let positions = making.positions_are in
+      let items = ap (λ view. length view.items) making.shows in
+      let offered = ap (λ view. view.offered) making.shows in
+      omega (arith, account, reaped, vacant, positions, items, offered)
+
+  -- the passes are all
+  all_passes : AreAllPasses shared (desk_view m.desk) passes
+  all_passes = record {
+    all = making.all_made ∙ sym (ap (λ view. length view.back) making.shows ∙ length-replicate config.callers None);
+    each = λ i pass is. let new = making.each i pass is in (new.is_pass, ap (λ view. view.caller) new.shows);
+  }
+
+  -- all is new
+  pub new_manager : (desk : Desk) (chain : C) (largest : ℕ) → IsBuilt desk chain config.ring (length config.events) largest m → IsLargest (spec_sizes config.classes) largest
+      → largest ≤ 1024 → config.ring ≤ 1024 → stands chain config [] → events chain ≡ length config.events → kept chain ≡ []
+      → IsNewManager stands events kept config shared passes m
+  new_manager desk chain largest built is short few fresh are none =
+      let sizes : sizes_of shared ≡ spec_sizes config.classes = making.is_shared.sizes_are ∙ making.is_config.sizes in
+      let number : events m.chain ≡ length config.events = ap events built.chain_is ∙ are in
+      let within = admitted_at (λ size. size ≤ largest) (spec_sizes config.classes) (recursion_from_All _ _ is.within) in
+      let kept_none : [] ≡ kept m.chain = sym (ap kept built.chain_is ∙ none) in
+      let offered = ap (λ view. view.offered) making.shows in
+      let items = ap (λ view. view.items) making.shows in
+      record {
+        making = making;
+        is_manager = record {
+          desk_is = making.is_desk;
+          none_taken = none_taken;
+          offered_is = grind (arith, common_steps, making.shows, built.positions_are);
+          items_within = grind (arith, common_steps, items);
+          totals_are = record {
+            entries_are = grind (arith, common_steps, making.shows, built.totals_are);
+            lost_events_are = grind (arith, common_steps, making.shows, built.totals_are);
+            lost_contexts_are = grind (arith, common_steps, making.shows, built.totals_are);
+          };
+          events_are = number ∙ sym making.is_config.events;
+          sizes_within = rw (sizes, built.largest_is) within;
+          kept_are = subst (All (IsHeld (sizes_of shared))) kept_none (All-nil (IsHeld (sizes_of shared)));
+          tick_within = grind (arith, common_steps, built.last_is);
+          roomy = record {
+            no_items = built.no_items;
+            items_room = subst (λ n. n ≤ vec_capacity m.items) (sym built.positions_are) built.items_room;
+            no_back = built.no_back;
+            back_room = rw (built.positions_are, number) built.back_room;
+            out_room = rw (built.positions_are, built.bytes_are, number) built.out_room;
+            bytes_are = rw (built.bytes_are, built.positions_are, built.largest_is) refl;
+            few_positions = rw built.positions_are few;
+            short = rw built.largest_is short;
+          };
+        };
+        stands_for_none = record {
+          chain_stands = subst (λ c. stands c config []) (sym built.chain_is) fresh;
+          reports_show = record {
+            items_are = grind (arith, common_steps, making.shows);
+            lost_events_are = grind (arith, common_steps, making.shows);
+            lost_contexts_are = grind (arith, common_steps, making.shows);
+            fronts_are = grind (arith, common_steps, making.shows, built.positions_are);
+          };
+          tick_is = built.last_is;
+          count_is = built.turns_are;
+        };
+        passes_are = all_passes;
+        no_rests = built.no_rests;
+        positions_are = built.positions_are;
+        largest_is = subst (IsLargest (spec_sizes config.classes)) (sym built.largest_is) is;
+      }

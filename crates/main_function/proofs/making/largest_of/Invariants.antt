@@ -1,0 +1,9 @@
+use Rattle.std.proofs.Common.{map, take}
+use Rattle.ids_config.specs.Parts.{class_of}
+use Rattle.buffer_classes.specs.Making.{spec_sizes}
+use Rattle.main_function.specs.Making.{IsLargest}
+use Rattle.main_function.proofs.making.largest_of.Given as goal
+
+-- it is the largest of the first classes
+abbrev pub invariant-loop-class : goal.invariant-loop-class
+invariant-loop-class l = IsLargest (spec_sizes (map class_of (take l.class-index l.classes))) l.largest

@@ -1,0 +1,36 @@
+use Rattle.std.proofs.Common.{◌≡◌, ◌∙◌, map, length, refl, subst, sym, rules}
+use Rattle.ids_config.specs.Parts.{Parts, class_of}
+use Rattle.ids_config.specs.PartsView.{parts_of}
+use Rattle.ids_config.specs.Valid.{IsValid}
+use Rattle.buffer_classes.specs.Making.{AreSpecs, spec_sizes}
+use Rattle.report_api.specs.Making.{IsNewMaking}
+use Rattle.report_api.proofs.MakingLemmas.{valid_specs}
+use Rattle.main_function.specs.Making.{IsBuilt, IsLargest, IsNewManager}
+use Rattle.main_function.proofs.MakingLemmas.{new_manager, sizes_short}
+use Rattle.main_function.proofs.making.make.Goals as goal
+
+pub build-requires-clause-short : goal.build-requires-clause-short
+build-requires-clause-short g c =
+    let valid : IsValid (parts_of c.read.inside) = subst IsValid (sym (c.read.view_is ∙ c.parts-read.ensures.value)) c.parts-read.ensures.valid in
+    let specs : AreSpecs (map class_of c.deref.result.now) = rw c.deref.ensures.value (valid_specs (parts_of c.read.inside) valid) in
+    c.largest_of-largest.ensures.least 1024 (sizes_short _ specs.each)
+
+pub returns : goal.returns
+returns g c =
+    let same = c.read.view_is ∙ c.parts-read.ensures.value in
+    let config = parts_of c.read.inside in
+    let valid : IsValid config = subst IsValid (sym same) c.parts-read.ensures.valid in
+    let specs : AreSpecs (map class_of c.deref.result.now) = rw c.deref.ensures.value (valid_specs config valid) in
+    let classes : map class_of c.deref.result.now ≡ config.classes = rw c.deref.ensures.value refl in
+    let largest : IsLargest (spec_sizes config.classes) c.largest_of-largest.result =
+    subst (λ specs. IsLargest (spec_sizes specs) c.largest_of-largest.result) classes c.largest_of-largest.ensures in
+    let short = c.largest_of-largest.ensures.least 1024 (sizes_short _ specs.each) in
+    let made : IsNewMaking config c.in_ok-parts.parts.shared c.in_ok-parts.parts.passes.items c.in_ok-manager.manager.desk =
+    subst (λ desk. IsNewMaking config c.in_ok-parts.parts.shared c.in_ok-parts.parts.passes.items desk) (sym c.in_ok-manager.ensures.desk_is)
+    (subst (λ (config : Parts). IsNewMaking config c.in_ok-parts.parts.shared c.in_ok-parts.parts.passes.items c.in_ok-parts.parts.desk) (sym same) c.in_ok-parts.ensures) in
+    let built : IsBuilt c.in_ok-parts.parts.desk c.args.chain config.ring (length config.events) c.largest_of-largest.result c.in_ok-manager.manager = search rules in
+    subst (λ (config : Parts). IsNewManager g.C.Chain.stands g.C.Chain.events g.C.Chain.kept config c.in_ok-parts.parts.shared c.in_ok-parts.parts.passes.items c.in_ok-manager.manager) same
+    (new_manager g.C.Chain.stands g.C.Chain.events g.C.Chain.kept config c.in_ok-parts.parts.shared c.in_ok-parts.parts.passes.items c.in_ok-manager.manager made
+    c.in_ok-parts.parts.desk c.args.chain c.largest_of-largest.result built largest short valid.ring.most
+    (subst (λ (config : Parts). g.C.Chain.stands c.args.chain config _) (sym same) c.requires.fresh)
+    (subst (λ (config : Parts). g.C.Chain.events c.args.chain ≡ length config.events) (sym same) c.requires.events) c.requires.kept)

@@ -1,0 +1,48 @@
+-- A manager that has just been made.
+use Rattle.std.specs.Prelude.{◌≡◌, ℕ, ◌+◌, ◌*◌, ◌≤◌, List, [], vec_capacity}
+use Rattle.std.specs.List.{All}
+use Rattle.ids_types.specs.Turns.{Turn}
+use Rattle.ids_config.specs.Parts.{Parts}
+use Rattle.buffer_classes.specs.Buffers.{Buffer}
+use Rattle.buffer_classes.specs.Making.{spec_sizes}
+use Rattle.report_api.specs.Desks.{desk_view}
+use Rattle.report_api.specs.Making.{IsNewMaking}
+use Rattle.report_api.specs.declared.desk.Desk.{Desk}
+use Rattle.report_api.specs.declared.pass.Pass.{Pass}
+use Rattle.report_api.specs.declared.shared.Shared.{Shared}
+use Rattle.main_function.specs.Standing.{AreAllPasses, HasRoomFor, IsManagerOf, Stands, rests_of}
+use Rattle.main_function.specs.declared.manager.Manager.{Manager}
+
+-- the number is that of the largest size, 0 where there is none
+pub record IsLargest (sizes : List ℕ) (largest : ℕ) : Type 0 where
+  pub within : All (λ size. size ≤ largest) sizes
+  pub least : (bound : ℕ) → All (λ size. size ≤ bound) sizes → largest ≤ bound
+
+module _ {C : Type 0} where
+  -- the manager made no turn, and has room for one of all positions
+  pub record IsBuilt (desk : Desk) (chain : C) (positions events largest : ℕ) (m : Manager C) : Type 0 where
+    pub desk_is : m.desk ≡ desk
+    pub chain_is : m.chain ≡ chain
+    pub no_items : m.items.items ≡ []
+    pub items_room : positions ≤ vec_capacity m.items
+    pub no_back : m.back.items ≡ []
+    pub back_room : positions + events ≤ vec_capacity m.back
+    pub out_room : HasRoomFor positions (positions * largest) events m.out
+    pub no_rests : rests_of m ≡ []
+    pub totals_are : m.totals ≡ record { entries = 0; lost_events = 0; lost_contexts = 0 }
+    pub last_is : m.last ≡ 0
+    pub turns_are : m.turns ≡ 0
+    pub positions_are : m.positions ≡ positions
+    pub largest_is : m.largest ≡ largest
+    pub bytes_are : m.most_bytes ≡ positions * largest
+
+  -- nothing was reported or taken: the manager stands for no turns, and these are its passes
+  pub record IsNewManager (stands : C → Parts → List Turn → Type 0) (events : C → ℕ) (kept : C → List Buffer)
+      (config : Parts) (shared : Shared) (passes : List Pass) (m : Manager C) : Type 0 where
+    pub making : IsNewMaking config shared passes m.desk
+    pub is_manager : IsManagerOf events kept shared m
+    pub stands_for_none : Stands stands config m []
+    pub passes_are : AreAllPasses shared (desk_view m.desk) passes
+    pub no_rests : rests_of m ≡ []
+    pub positions_are : m.positions ≡ config.ring
+    pub largest_is : IsLargest (spec_sizes config.classes) m.largest

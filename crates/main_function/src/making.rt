@@ -1,0 +1,97 @@
+//! How a manager is made, for one configuration and its chain.
+ghost use Rattle.std.specs.Prelude.{◌≡◌, ℕ, ◌+◌, ◌*◌, ◌≤◌, [], length, map, vec_capacity, IfOk};
+ghost use Rattle.ids_config.specs.Parts.{class_of};
+ghost use Rattle.buffer_classes.specs.Making.{AreSpecs, spec_sizes};
+ghost use Rattle.main_function.specs.Making.{IsBuilt, IsLargest, IsNewManager};
+
+use crate::manager::Manager;
+use crate::rest::Totals;
+use chain::Chain;
+use ids_config::Config;
+use ids_types::{NoMemory, TurnOut};
+use report_api::{CtxBuf, Desk, Pass, Shared};
+use std::alloc::Global;
+
+/// How many bytes a message has at most.
+const MOST_OF_A_MESSAGE: u64 = 1044;
+
+/// How many internal events a turn begins with at most.
+const MOST_HEADS: u64 = 3;
+
+/// What callers and the manager share, the manager, and the passes by their callers' numbers.
+pub struct Made<C> {
+    pub shared: Shared,
+    pub manager: Manager<C>,
+    pub passes: Vec<Pass>,
+}
+
+// The size of the largest class, 0 where there is none.
+fn largest_of(classes: &[(u64, u64)]) -> u64
+    ensures { IsLargest (spec_sizes (map class_of classes.now)) result }
+{
+    let mut largest = 0;
+    for class in classes {
+        largest = largest.max(class.0);
+    }
+    largest
+}
+
+// A manager with room for a turn of all positions.
+fn build<C: Drop>(
+    alloc: Global,
+    desk: Desk,
+    chain: C,
+    positions: u64,
+    events: u64,
+    largest: u64,
+) -> Result<Manager<C>, NoMemory>
+    requires few { positions ≤ 1024 }
+    requires few_events { events ≤ 65536 }
+    requires short { largest ≤ 1024 }
+    ensures { IfOk result (IsBuilt desk chain positions events largest) }
+{
+    let most_bytes = positions * largest;
+    let messages = positions + events + MOST_HEADS;
+    Ok(Manager {
+        desk,
+        chain,
+        items: Vec::with_capacity(alloc, positions as usize)?,
+        back: Vec::with_capacity(alloc, (positions + events) as usize)?,
+        out: TurnOut::make(alloc, positions, most_bytes, MOST_OF_A_MESSAGE * messages)?,
+        rests: Vec::new(alloc),
+        totals: Totals {
+            entries: 0,
+            lost_events: 0,
+            lost_contexts: 0,
+        },
+        last: 0,
+        turns: 0,
+        positions,
+        largest,
+        most_bytes,
+    })
+}
+
+/// Makes all that one manager needs: what is shared, a pass for each caller, and the manager over its chain, which
+/// has taken no turn and is of this configuration. No other call of this crate takes memory, but `reserve` and `rest`.
+pub fn make<C: Chain<CtxBuf> + Drop>(
+    alloc: Global,
+    config: &Config,
+    chain: C,
+) -> Result<Made<C>, NoMemory>
+    requires fresh { C.stands chain config.now [] }
+    requires events { C.events chain ≡ length config.now.events }
+    requires kept { C.kept chain ≡ [] }
+    ensures { IfOk result (λ made. IsNewManager C.stands C.events C.kept config.now made.shared made.passes.items made.manager) }
+{
+    let parts = report_api::make(alloc, config)?;
+    let read = config.parts();
+    let largest = largest_of(&read.classes);
+    let events = read.events.len() as u64;
+    let manager = build(alloc, parts.desk, chain, read.ring, events, largest)?;
+    Ok(Made {
+        shared: parts.shared,
+        manager,
+        passes: parts.passes,
+    })
+}
