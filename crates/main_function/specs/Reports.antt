@@ -39,7 +39,8 @@ after_turn turn items marks tries reports = record reports {
 }
 
 -- the turn has what was taken: the items of the next tickets, in order, as many as there are positions or up to one that was not ready
-pub record MakesTurn (positions : ℕ) (old : TakerView Act) (taken : List (Entry Buffer)) (turn : Turn) (new : TakerView Act) : Type 0 where
+pub record MakesTurn (positions : ℕ) (old : TakerView Act) (taken : List (Entry Buffer)) (turn : Turn)
+    (new : TakerView Act) : Type 0 where
   pub marks : List ℕ
   pub tries : ℕ
   pub is : new ≡ after_turn turn (items_of taken) marks tries old

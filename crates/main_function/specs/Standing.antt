@@ -108,7 +108,8 @@ module _ {C : Type 0} where
     pub passes_are : AreAllPasses shared (desk_view m.desk) passes
 
   -- nothing but the chain's room or the rests is changed: the manager stands for the same turns, and is of the same making
-  pub record StaysSo (stands : C → Parts → List Turn → Type 0) (events : C → ℕ) (kept : C → List Buffer) (old new : Manager C) : Type 0 where
+  pub record StaysSo (stands : C → Parts → List Turn → Type 0) (events : C → ℕ) (kept : C → List Buffer)
+      (old new : Manager C) : Type 0 where
     pub is_manager : (shared : Shared) → IsManagerOf events kept shared old → IsManagerOf events kept shared new
     pub stands_then : (config : Parts) (turns : List Turn) → Stands stands config old turns → Stands stands config new turns
     pub turns_are : turns_of new ≡ turns_of old

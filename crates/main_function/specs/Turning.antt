@@ -26,10 +26,13 @@ module _ {C : Type 0} (stands : C → Parts → List Turn → Type 0) (kept : C 
     pub log_is : new.out.log.turns ≡ turn ∷ []
     pub tick_is : turn.head.tick ≡ tick
     pub makes : MakesTurn old.positions (desk_view old.desk) taken turn (desk_view new.desk)
-    pub buffers : ReturnsBuffers (all_parcels taken) (kept old.chain) (kept new.chain) (givers_of old.desk.givers) (givers_of new.desk.givers)
+    pub buffers : ReturnsBuffers (all_parcels taken) (kept old.chain) (kept new.chain)
+        (givers_of old.desk.givers) (givers_of new.desk.givers)
     -- for each history that it stood for, it stands for that with this turn, and sends what that has more to send
-    pub stands_then : (config : Parts) (turns : List Turn) → Stands stands config old turns → Stands stands config new (turns ++ turn ∷ [])
-    pub limited_is : (config : Parts) (turns : List Turn) → Stands stands config old turns → turn.head.limited ≡ handed_of config turns
+    pub stands_then : (config : Parts) (turns : List Turn) → Stands stands config old turns
+        → Stands stands config new (turns ++ turn ∷ [])
+    pub limited_is : (config : Parts) (turns : List Turn) → Stands stands config old turns
+        → turn.head.limited ≡ handed_of config turns
     pub sends : (config : Parts) (turns : List Turn) → Stands stands config old turns → Sends config turns turn new.out
     pub rests_are : new.rests ≡ old.rests
     pub turns_are : new.turns ≡ old.turns + 1

@@ -5,6 +5,8 @@ ghost use Rattle.ids_config.specs.Parts.{Parts};
 ghost use Rattle.chain.specs.History.{rows_of};
 ghost use Rattle.buffer_classes.specs.Givers.{givers_of, late_of};
 ghost use Rattle.main_function.specs.Standing.{HasPasses, IsManager, IsManagerOf, Stands, StaysSo, all_calls, fits_turn, last_of, rests_of, turns_of};
+ghost use Rattle.report_queue.specs.Closing.{AreAllSwept, AreCallersBack};
+ghost use Rattle.report_api.specs.Desks.{EachSettled, desk_view};
 ghost use Rattle.main_function.specs.Turning.{LogsOne, TurnFails, TurnLeaves, Turned};
 
 use crate::rest::{Rest, Totals, TurnFault, all_calls};
@@ -144,6 +146,9 @@ impl<C: Chain<CtxBuf>> Manager<C> {
         requires within { tick ≤ 2 ^ 62 }
         ensures mine { IsManagerOf C.events C.kept shared.now self.new }
         ensures turned { Turned C.stands C.kept tick self.old self.new }
+        // Once all passes are back, it sweeps all that was marked, and settles each class.
+        ensures swept { AreCallersBack (desk_view self.old.desk) → AreAllSwept (desk_view self.new.desk) }
+        ensures settled { AreCallersBack (desk_view self.old.desk) → EachSettled self.new.desk }
     {
         let (lost_events, lost_contexts) = self.desk.sweep(shared);
         let head = TurnHead {

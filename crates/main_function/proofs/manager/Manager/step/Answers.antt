@@ -1,4 +1,4 @@
-use Rattle.std.proofs.Common.{rules, ◌≡◌, refl, ◌∙◌}
+use Rattle.std.proofs.Common.{rules, ◌≡◌, refl, ◌∙◌, ℕ, List, Option, true, is_some, ap, sym, subst}
 use Rattle.ids_types.specs.declared.entry.TurnHead.{TurnHead}
 use Rattle.chain.specs.Turning.{turn_by}
 use Rattle.report_queue.specs.Parts.{most_tries}
@@ -8,6 +8,14 @@ use Rattle.main_function.proofs.ReportLemmas.{makes_turn, offered_more, totals_m
 use Rattle.main_function.proofs.StepLemmas.{can_take, come_back, few_bytes, has_room, kept_short}
 use Rattle.main_function.proofs.TurnedLemmas.{stands_more}
 use Rattle.main_function.proofs.manager.Manager.step.Goals as goal
+use Rattle.report_queue.specs.Views.{CallerView, TakerView}
+use Rattle.report_api.specs.Names.{Act}
+use mathlib.Core.Option.{some}
+use lib.ListN.{get_elem?}
+
+-- each pass came back
+abbrev AreBack : List (Option (CallerView Act)) → Type 0
+AreBack back = (i : ℕ) (b : Option (CallerView Act)) → get_elem? back i ≡ some b → is_some b ≡ true
 
 pub turn-requires-clause-fits : goal.turn-requires-clause-fits
 turn-requires-clause-fits g c =
@@ -86,3 +94,10 @@ returns-clause-mine g c =
         short = room.short;
       };
     }
+
+-- no take and no sweep brings a pass back
+pub returns-clause-settled : goal.returns-clause-settled
+returns-clause-settled g c =
+    let same = ap (λ (view : TakerView Act). view.back) (c.take_ready.ensures.took.is)
+    ∙ ap (λ (view : TakerView Act). view.back) c.sweep-lost_events.ensures.told in
+    λ all. c.give_back.ensures.settled (subst AreBack (sym same) all)
