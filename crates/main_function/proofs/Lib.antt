@@ -1,7 +1,9 @@
-pub mod FittingLemmas
-pub mod MakingLemmas
-pub mod PassesLemmas
-pub mod ReportLemmas
-pub mod StepLemmas
-pub mod TakingLemmas
-pub mod TurnedLemmas
+mod ClosingLemmas
+mod FittingLemmas
+mod MakingLemmas
+mod PassesLemmas
+mod ReportLemmas
+mod StepLemmas
+mod TakingLemmas
+mod TurnedLemmas
+mod WelcomeLemmas

@@ -3,7 +3,7 @@ use Rattle.std.proofs.Common.{◌≡◌, ℕ, zero, suc, ◌+◌, ◌≤◌, ◌
 use Rattle.std.specs.List.{All, AllByRecursion}
 use Rattle.std.proofs.Math.Nat.{le-max_left, le-max_right, max-le}
 use Rattle.std.proofs.lemmas.Grind.{common_steps}
-use Rattle.std.proofs.lemmas.List.{length-replicate, map-append, take_more}
+use Rattle.std.proofs.lemmas.List.{length-map, length-replicate, map-append, take_more}
 use Rattle.std.proofs.lemmas.List.Elements.{All-cons, All-nil, All-pop, All-push, All-weaker, recursion_from_All}
 use Rattle.ids_types.specs.Turns.{Turn}
 use Rattle.ids_config.specs.Parts.{Parts, class_of}
@@ -19,6 +19,12 @@ use Rattle.report_api.specs.Passes.{sizes_of}
 use Rattle.report_api.specs.declared.desk.Desk.{Desk}
 use Rattle.report_api.specs.declared.pass.Pass.{Pass}
 use Rattle.report_api.specs.declared.shared.Shared.{Shared}
+use Rattle.permit_ring.proofs.ListLemmas.{at_length, there}
+use Rattle.buffer_classes.specs.Givers.{givers_of}
+use Rattle.buffer_classes.specs.declared.class.Class.{Class}
+use Rattle.desk_closing.specs.Closed.{IsMadeFor}
+use Rattle.desk_closing.proofs.ClosedLemmas.{rings_have}
+use Rattle.desk_closing.proofs.PlaceLemmas.{or_at}
 use Rattle.main_function.specs.Making.{IsBuilt, IsLargest, IsNewManager}
 use Rattle.main_function.specs.Standing.{AreAllPasses}
 use Rattle.main_function.specs.declared.manager.Manager.{Manager}
@@ -74,6 +80,21 @@ module _ {C : Type 0} (stands : C → Parts → List Turn → Type 0) (events : 
     each = λ i pass is. let new = making.each i pass is in (new.is_pass, ap (λ view. view.caller) new.shows);
   }
 
+  -- the ring and the classes are those of the configuration
+  made_for : IsMadeFor config shared
+  made_for =
+      let sizes = making.is_shared.sizes_are ∙ making.is_config.sizes in
+      let all : length (givers_of m.desk.givers) ≡ length config.classes = making.is_desk.givers.all
+      ∙ sym (length-map shared.classes.classes.items (λ (class : Class). class.size)) ∙ ap length sizes
+      ∙ length-map config.classes (λ (spec : ClassSpec). spec.size) in
+      record {
+        positions_are = making.positions_are;
+        sizes = sizes;
+        numbers = rings_have config shared.classes m.desk.givers making.is_desk.givers (λ i giver at.
+            let spec = there config.classes i (omega (arith, all, at_length (givers_of m.desk.givers) i giver at)) in
+            (making.givers_are i spec.0 giver spec.1 at).number_is ∙ ap (λ spec. spec.number) (sym (or_at config.classes i _ spec.0 spec.1)));
+      }
+
   -- all is new
   pub new_manager : (desk : Desk) (chain : C) (largest : ℕ) → IsBuilt desk chain config.ring (length config.events) largest m → IsLargest (spec_sizes config.classes) largest
       → largest ≤ 1024 → config.ring ≤ 1024 → stands chain config [] → events chain ≡ length config.events → kept chain ≡ []
@@ -87,8 +108,10 @@ module _ {C : Type 0} (stands : C → Parts → List Turn → Type 0) (events : 
       let items = ap (λ view. view.items) making.shows in
       record {
         making = making;
+        made_for = made_for;
         is_manager = record {
           desk_is = making.is_desk;
+          positions_are = built.positions_are ∙ sym making.positions_are;
           none_taken = none_taken;
           offered_is = grind (arith, common_steps, making.shows, built.positions_are);
           items_within = grind (arith, common_steps, items);

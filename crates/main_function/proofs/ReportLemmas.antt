@@ -1,5 +1,5 @@
 -- What a turn adds to the desk, and to what it shows of a history.
-use Rattle.std.proofs.Common.{◌≡◌, ℕ, ◌+◌, ◌<◌, ◌⊎◌, List, [], ◌∷◌, ◌++◌, length, map, refl, subst, sym, ap, arith}
+use Rattle.std.proofs.Common.{◌≡◌, ℕ, ◌+◌, ◌<◌, List, [], ◌∷◌, ◌++◌, length, map, refl, subst, sym, ap, arith}
 use Rattle.std.proofs.lemmas.Grind.{common_steps, flat_map-append}
 use Rattle.std.proofs.lemmas.List.{length-map, map-append}
 use Rattle.std.proofs.lemmas.List.Sums.{sum_by_push}
@@ -14,15 +14,16 @@ use Rattle.report_queue.specs.Calls.{GivesBack, sweeps_both}
 use Rattle.report_queue.specs.Views.{TakerView}
 use Rattle.report_api.specs.Names.{Act}
 use Rattle.report_api.specs.declared.terms.ReportTerms.{ReportTerms}
-use Rattle.main_function.specs.Reports.{MakesTurn, ShowsHistory, entry_of, held}
+use Rattle.main_function.specs.Reports.{MakesTurn, ShowsHistory, held}
+use Rattle.desk_closing.specs.Closed.{plain_item}
 use Rattle.main_function.specs.Taking.{EndsUnready, Took, item_of, items_of}
 use Rattle.main_function.specs.Standing.{AreTotals}
 use Rattle.main_function.specs.declared.rest.Totals.{Totals}
 
 -- the entries of a turn are the items that were taken
-entries_same : (taken : List (Entry Buffer)) → map entry_of (items_of taken) ≡ map (entry_by held) taken
+entries_same : (taken : List (Entry Buffer)) → map plain_item (items_of taken) ≡ map (entry_by held) taken
 entries_same [] = refl
-entries_same (e ∷ taken) = ap (λ es. entry_of (record { caller = e.caller; call = e.call; payload = e.act }) ∷ es) (entries_same taken)
+entries_same (e ∷ taken) = ap (λ es. plain_item (record { caller = e.caller; call = e.call; payload = e.act }) ∷ es) (entries_same taken)
 
 module _ (terms : ReportTerms) (positions bound : ℕ) (old mid new : TakerView Act) (head : TurnHead) where
   makes : (taken : List (Entry Buffer)) → Took terms positions (sweeps_both (head.lost_events, head.lost_contexts) old) taken mid
@@ -34,7 +35,7 @@ module _ (terms : ReportTerms) (positions bound : ℕ) (old mid new : TakerView 
     is = grind (arith, common_steps, none refl, took.is);
     entries_are = refl;
     few = took.few;
-    all = subst (λ (taker : TakerView Act). (0 ≡ positions) ⊎ EndsUnready took.marks (length taker.items + 1)) (sym (none refl)) took.all;
+    unready = subst (λ (taker : TakerView Act). EndsUnready took.marks (length taker.items + 1)) (sym (none refl)) took.unready;
   }
   makes (e ∷ taken) took none some =
       let gave = some (omega arith) in
@@ -44,16 +45,15 @@ module _ (terms : ReportTerms) (positions bound : ℕ) (old mid new : TakerView 
         is = grind (arith, common_steps, gave.3, took.is, length-map taken (entry_by held));
         entries_are = refl;
         few = took.few;
-        all = subst (λ (taker : TakerView Act). (length (e ∷ taken) ≡ positions) ⊎ EndsUnready took.marks (length taker.items + 1)) (sym gave.3) took.all;
+        unready = subst (λ (taker : TakerView Act). EndsUnready took.marks (length taker.items + 1)) (sym gave.3) took.unready;
       }
 
   -- what is swept, taken and given back is a turn
-  pub makes_turn : (swept : TakerView Act) (taken : List (Entry Buffer)) (before count : ℕ) → swept ≡ sweeps_both (head.lost_events, head.lost_contexts) old
-      → Took terms positions swept taken mid → before ≡ 0 → count ≡ before + length taken
+  pub makes_turn : (swept : TakerView Act) (taken : List (Entry Buffer)) (count : ℕ) → swept ≡ sweeps_both (head.lost_events, head.lost_contexts) old
+      → Took terms positions swept taken mid → count ≡ length taken
       → (count ≡ 0 → new ≡ mid) → (0 < count → GivesBack bound count mid new)
       → MakesTurn positions old taken (turn_by held head taken) new
-  makes_turn swept taken before count is took none_before are none some =
-      let same : count ≡ length taken = omega (arith, none_before, are) in
+  makes_turn swept taken count is took same none some =
       makes taken (subst (λ (taker : TakerView Act). Took terms positions taker taken mid) is took)
       (subst (λ n. n ≡ 0 → new ≡ mid) same none) (subst (λ n. 0 < n → GivesBack bound n mid new) same some)
 
@@ -62,9 +62,9 @@ module _ (positions : ℕ) (old new : TakerView Act) (turn : Turn) (taken : List
   pub shows_more : (turns : List Turn) → old.offered ≡ positions + length old.items → ShowsHistory positions old turns → MakesTurn positions old taken turn new
       → ShowsHistory positions new (turns ++ turn ∷ [])
   shows_more turns offered shows makes =
-      let items = map-append entry_of old.items (items_of taken) in
+      let items = map-append plain_item old.items (items_of taken) in
       let more = flat_map-append (λ (t : Turn). t.entries) turns (turn ∷ []) in
-      let count = length-map old.items entry_of in
+      let count = length-map old.items plain_item in
       let fronts = fronts_more positions turns turn (positions ∷ []) in
       record {
         items_are = grind (arith, common_steps, makes.is, makes.entries_are, entries_same taken, items, more, shows.items_are);

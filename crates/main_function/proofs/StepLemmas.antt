@@ -1,5 +1,5 @@
 -- What a manager between two calls can do, and what it is after a turn.
-use Rattle.std.proofs.Common.{◌≡◌, ℕ, ◌≤◌, List, [], ◌++◌, subst, sym, arith, rules}
+use Rattle.std.proofs.Common.{◌≡◌, ℕ, ◌≤◌, List, [], ◌++◌, length, subst, sym, arith, rules}
 use Rattle.std.specs.List.{All}
 use Rattle.std.proofs.lemmas.Grind.{common_steps}
 use Rattle.std.specs.List.Sorted.{IsPermutation}
@@ -9,6 +9,7 @@ use Rattle.chain.specs.Parcels.{HandsBack, IsShort, all_parcels}
 use Rattle.chain.specs.Turning.{FitsTurn, HasTurnRoom, bytes_in}
 use Rattle.buffer_classes.specs.Buffers.{Buffer}
 use Rattle.buffer_classes.specs.Givers.{AreBuffersIn}
+use Rattle.report_queue.specs.Parts.{queue_positions}
 use Rattle.report_queue.specs.Views.{TakerView}
 use Rattle.report_api.specs.Names.{Act}
 use Rattle.report_api.specs.Passes.{sizes_of}
@@ -32,25 +33,28 @@ module _ {C : Type 0} (events : C → ℕ) (kept : C → List Buffer) (shared : 
   pub kept_short : All (IsShort held) (kept m.chain)
   kept_short = held_short shared.terms m.largest within mine.roomy.short (kept m.chain) are_held
 
-  module _ (old new : TakerView Act) (taken : List (Entry Buffer)) (took : Took shared.terms m.positions old taken new) where
+  module _ (old new : TakerView Act) (taken : List (Entry Buffer)) (took : Took shared.terms (queue_positions shared.queue) old taken new) where
+    few_taken : length taken ≤ m.positions
+    few_taken = omega (arith, took.few, mine.positions_are)
+
     -- the chain can take what was taken
     pub can_take : FitsTurn held (events m.chain) taken
     can_take =
-        let few = took.few in
+        let few = few_taken in
         let positions = mine.roomy.few_positions in
         items_fit shared.terms m.largest within mine.roomy.short (events m.chain) taken mine.events_are (omega (arith, few, positions)) took.admitted
 
     -- and it is no more than the room is for
     pub few_bytes : bytes_in held taken ≤ m.most_bytes
     few_bytes =
-        let few = took.few in
+        let few = few_taken in
         let bytes = bytes_fit shared.terms m.largest within mine.roomy.short taken took.admitted in
         let are = mine.roomy.bytes_are in
         search (rules, few, bytes, are)
 
     pub has_room : HasTurnRoom held (events m.chain) taken m.out
     has_room =
-        let few = took.few in
+        let few = few_taken in
         let room = mine.roomy.out_room in
         record {
           entries = search (rules, few, room.entries_room);

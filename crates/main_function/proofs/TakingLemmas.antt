@@ -1,5 +1,5 @@
 -- A run of takes, one more at a time.
-use Rattle.std.proofs.Common.{◌≡◌, ◌≢◌, ℕ, ◌+◌, ◌≤◌, ◌<◌, inl, inr, List, [], ◌∷◌, ◌++◌, length, Ok, Err, refl, subst, sym, arith}
+use Rattle.std.proofs.Common.{◌≡◌, ◌≢◌, ℕ, ◌+◌, ◌≤◌, ◌<◌, List, [], ◌∷◌, ◌++◌, length, Ok, Err, refl, subst, sym, arith}
 use Rattle.std.specs.List.{All}
 use Rattle.std.proofs.lemmas.Grind.{common_steps}
 use Rattle.std.proofs.lemmas.List.{map-append}
@@ -35,22 +35,12 @@ module _ (terms : ReportTerms) (most : ℕ) (old mid new : TakerView Act) (taken
         admitted = subst (All (AdmitsItem terms)) (sym items) (All-push (AdmitsItem terms) (items_of taken) (item_of entry) on.admitted admitted);
       }
 
-  -- as many as could be
-  pub took_most : most ≤ length taken → Took terms most old taken mid
-  took_most full = record {
-    marks = on.marks;
-    is = on.is;
-    few = on.few;
-    all = inl (omega (arith, on.few, full));
-    admitted = on.admitted;
-  }
-
   -- one was not ready
   pub took_till : (unready : Unready) → TakeTells same_item mid (Err unready) new → Took terms most old taken new
   took_till unready told = record {
     marks = on.marks ++ unready.mark ∷ [];
     is = grind (arith, common_steps, told.1, on.is);
     few = on.few;
-    all = inr (on.marks, unready.mark, refl, subst (λ (taker : TakerView Act). unready.mark ≢ length taker.items + 1) (sym told.1) told.0);
+    unready = (on.marks, unready.mark, refl, subst (λ (taker : TakerView Act). unready.mark ≢ length taker.items + 1) (sym told.1) told.0);
     admitted = on.admitted;
   }

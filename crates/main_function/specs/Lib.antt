@@ -1,4 +1,5 @@
 pub mod Buffers
+pub mod Closing
 pub mod Making
 pub mod Reports
 pub mod Standing

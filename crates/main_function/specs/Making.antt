@@ -10,6 +10,7 @@ use Rattle.report_api.specs.Making.{IsNewMaking}
 use Rattle.report_api.specs.declared.desk.Desk.{Desk}
 use Rattle.report_api.specs.declared.pass.Pass.{Pass}
 use Rattle.report_api.specs.declared.shared.Shared.{Shared}
+use Rattle.desk_closing.specs.Closed.{IsMadeFor}
 use Rattle.main_function.specs.Standing.{AreAllPasses, HasRoomFor, IsManagerOf, Stands, rests_of}
 use Rattle.main_function.specs.declared.manager.Manager.{Manager}
 
@@ -40,6 +41,7 @@ module _ {C : Type 0} where
   pub record IsNewManager (stands : C → Parts → List Turn → Type 0) (events : C → ℕ) (kept : C → List Buffer)
       (config : Parts) (shared : Shared) (passes : List Pass) (m : Manager C) : Type 0 where
     pub making : IsNewMaking config shared passes m.desk
+    pub made_for : IsMadeFor config shared
     pub is_manager : IsManagerOf events kept shared m
     pub stands_for_none : Stands stands config m []
     pub passes_are : AreAllPasses shared (desk_view m.desk) passes

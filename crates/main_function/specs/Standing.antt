@@ -9,7 +9,7 @@ use Rattle.ids_config.specs.Parts.{Parts}
 use Rattle.chain.specs.History.{last_tick}
 use Rattle.permit_ring.specs.Hands.{AllAdmitted}
 use Rattle.buffer_classes.specs.Buffers.{Buffer}
-use Rattle.report_queue.specs.Parts.{calls_of}
+use Rattle.report_queue.specs.Parts.{calls_of, queue_positions}
 use Rattle.report_queue.specs.Views.{TakerView}
 use Rattle.report_api.specs.Desks.{IsDeskOf, desk_view, to_give_back}
 use Rattle.report_api.specs.Names.{Act}
@@ -86,6 +86,7 @@ module _ {C : Type 0} where
   -- the manager is the one of this making, between two calls
   pub record IsManagerOf (events : C → ℕ) (kept : C → List Buffer) (shared : Shared) (m : Manager C) : Type 0 where
     pub desk_is : IsDeskOf shared m.desk
+    pub positions_are : m.positions ≡ queue_positions shared.queue
     pub none_taken : to_give_back m.desk ≡ 0
     pub offered_is : (desk_view m.desk).offered ≡ m.positions + length (desk_view m.desk).items
     pub items_within : length (desk_view m.desk).items ≤ 2 ^ 45
@@ -112,5 +113,6 @@ module _ {C : Type 0} where
       (old new : Manager C) : Type 0 where
     pub is_manager : (shared : Shared) → IsManagerOf events kept shared old → IsManagerOf events kept shared new
     pub stands_then : (config : Parts) (turns : List Turn) → Stands stands config old turns → Stands stands config new turns
+    pub desk_is : new.desk ≡ old.desk
     pub turns_are : turns_of new ≡ turns_of old
     pub last_is : last_of new ≡ last_of old

@@ -1,5 +1,5 @@
 -- What a turn takes from the desk.
-use Rattle.std.specs.Prelude.{◌≡◌, ◌≢◌, ℕ, ◌+◌, ◌≤◌, ◌⊎◌, List, [], ◌∷◌, ◌++◌, length, map}
+use Rattle.std.specs.Prelude.{◌≡◌, ◌≢◌, ℕ, ◌+◌, ◌≤◌, List, [], ◌∷◌, ◌++◌, length, map}
 use Rattle.std.specs.List.{All}
 use Rattle.ids_types.specs.declared.entry.Entry.{Entry}
 use Rattle.buffer_classes.specs.Buffers.{Buffer}
@@ -25,10 +25,10 @@ EndsUnready marks next = (earlier : List ℕ) × (mark : ℕ) × (marks ≡ earl
 abbrev pub has_taken : List (Item Act) → List ℕ → TakerView Act → TakerView Act
 has_taken items marks taker = record taker { items = taker.items ++ items; marks = taker.marks ++ marks }
 
--- the items of the next tickets were taken, in order: as many as could be, or up to one that was not ready
+-- the items of the next tickets were taken, in order, up to one that was not ready
 pub record Took (terms : ReportTerms) (most : ℕ) (old : TakerView Act) (taken : List (Entry Buffer)) (new : TakerView Act) : Type 0 where
   pub marks : List ℕ
   pub is : new ≡ has_taken (items_of taken) marks old
   pub few : length taken ≤ most
-  pub all : (length taken ≡ most) ⊎ EndsUnready marks (length new.items + 1)
+  pub unready : EndsUnready marks (length new.items + 1)
   pub admitted : All (AdmitsItem terms) (items_of taken)

@@ -9,7 +9,10 @@ use Rattle.chain.specs.History.{Sends, handed_of}
 use Rattle.chain.specs.Parcels.{all_parcels}
 use Rattle.buffer_classes.specs.Buffers.{Buffer}
 use Rattle.buffer_classes.specs.Givers.{givers_of}
+use Rattle.buffer_classes.specs.declared.giver.Giver.{Giver}
+use Rattle.report_queue.specs.Views.{TakerView}
 use Rattle.report_api.specs.Desks.{desk_view}
+use Rattle.report_api.specs.Names.{Act}
 use Rattle.report_api.specs.declared.shared.Shared.{Shared}
 use Rattle.main_function.specs.Buffers.{ReturnsBuffers}
 use Rattle.main_function.specs.Reports.{MakesTurn}
@@ -19,15 +22,15 @@ use Rattle.main_function.specs.declared.rest.TurnFault.{TurnFault}
 use Rattle.main_function.specs.declared.rest.TurnFault.TheVariants.{TickBack, TickTooLarge}
 
 module _ {C : Type 0} (stands : C → Parts → List Turn → Type 0) (kept : C → List Buffer) where
-  -- a turn of this tick was made
-  pub record Turned (tick : ℕ) (old new : Manager C) : Type 0 where
+  -- a turn of this tick was made, of a desk that showed these reports, with these givers
+  pub record Turned (tick : ℕ) (reports : TakerView Act) (givers : List Giver) (old new : Manager C) : Type 0 where
     pub turn : Turn
     pub taken : List (Entry Buffer)
     pub log_is : new.out.log.turns ≡ turn ∷ []
     pub tick_is : turn.head.tick ≡ tick
-    pub makes : MakesTurn old.positions (desk_view old.desk) taken turn (desk_view new.desk)
+    pub makes : MakesTurn old.positions reports taken turn (desk_view new.desk)
     pub buffers : ReturnsBuffers (all_parcels taken) (kept old.chain) (kept new.chain)
-        (givers_of old.desk.givers) (givers_of new.desk.givers)
+        givers (givers_of new.desk.givers)
     -- for each history that it stood for, it stands for that with this turn, and sends what that has more to send
     pub stands_then : (config : Parts) (turns : List Turn) → Stands stands config old turns
         → Stands stands config new (turns ++ turn ∷ [])
@@ -50,5 +53,6 @@ TurnFails last tick (Err TickTooLarge) = (last ≤ tick) × (2 ^ 62 < tick)
 module _ {C : Type 0} (stands : C → Parts → List Turn → Type 0) (events : C → ℕ) (kept : C → List Buffer) (shared : Shared) where
   -- what a call of this tick leaves: a turn made, whose output is lent; or nothing changed
   abbrev pub TurnLeaves : ℕ → Manager C → Result (Bor Output) TurnFault → Manager C → Type 0
-  TurnLeaves tick old (Ok out) new = IsManagerOf events kept shared new × (out.now ≡ new.out) × Turned stands kept tick old new
+  TurnLeaves tick old (Ok out) new = IsManagerOf events kept shared new × (out.now ≡ new.out)
+      × Turned stands kept tick (desk_view old.desk) (givers_of old.desk.givers) old new
   TurnLeaves tick old (Err fault) new = new ≡ old

@@ -1,14 +1,17 @@
 //! The manager.
-ghost use Rattle.std.specs.Prelude.{◌≡◌, ◌≤◌, ◌<◌, ◌^◌, ◌++◌, ◌∷◌, [], true, List, length, reverse, IfOk, OnErr, OnOk};
+ghost use Rattle.std.specs.Prelude.{◌≡◌, ◌≤◌, ◌<◌, ◌^◌, ◌++◌, ◌∷◌, [], true, List, length, map, reverse, IfOk, OnErr, OnOk};
 ghost use Rattle.ids_types.specs.Turns.{Turn};
 ghost use Rattle.ids_config.specs.Parts.{Parts};
 ghost use Rattle.chain.specs.History.{rows_of};
 ghost use Rattle.buffer_classes.specs.Givers.{givers_of, late_of};
-ghost use Rattle.main_function.specs.Standing.{HasPasses, IsManager, IsManagerOf, Stands, StaysSo, all_calls, fits_turn, last_of, rests_of, turns_of};
-ghost use Rattle.report_queue.specs.Closing.{AreAllSwept, AreCallersBack};
+ghost use Rattle.main_function.specs.Closing.{AreCountsOf, CloseLeaves, Closed};
+ghost use Rattle.main_function.specs.Standing.{AreAllPasses, HasPasses, IsManager, IsManagerOf, Stands, StaysSo, all_calls, fits_turn, last_of, rests_of, turns_of};
+ghost use Rattle.report_queue.specs.Closing.{AreAllSwept, AreCallersBack, IsAllTaken};
 ghost use Rattle.report_api.specs.Desks.{EachSettled, desk_view};
+ghost use Rattle.report_api.specs.Passes.{pass_view};
 ghost use Rattle.main_function.specs.Turning.{LogsOne, TurnFails, TurnLeaves, Turned};
 
+use crate::closing::welcome_all;
 use crate::rest::{Rest, Totals, TurnFault, all_calls};
 use crate::taking::take_ready;
 use chain::Chain;
@@ -60,14 +63,37 @@ impl<C: Chain<CtxBuf>> Manager<C> {
         ensures* after_borrow { sem 𝓛 (Rests (the_row C.row) self.entry (λ new.
             TurnLeaves C.stands C.events C.kept shared.now tick self.old result new)) }
     {
-        if tick < self.last {
-            return Err(TurnFault::TickBack);
-        }
-        if tick > MAX_TICK {
-            return Err(TurnFault::TickTooLarge);
-        }
+        self.check(tick)?;
         self.step(shared, tick);
         Ok(&self.out)
+    }
+
+    /// Closes the manager: all passes come back, and a last turn of this tick takes all that was accepted and is not
+    /// taken yet. It answers the turn's output, lent, and what all turns took and lost. A refusal is that of a turn,
+    /// and leaves the passes in place. It takes no memory.
+    pub fn close(
+        &mut self,
+        shared: &Shared,
+        passes: &mut Vec<Pass>,
+        tick: u64,
+    ) -> Result<(&TurnOut, Totals), TurnFault>
+        requires mine { IsManagerOf C.events C.kept shared.now self.old }
+        requires fits { fits_turn C.has_room self.old ≡ true }
+        requires few { turns_of self.old < 2 ^ 62 }
+        requires passes { AreAllPasses shared.now (desk_view self.old.desk) passes.old.items }
+        ensures fault { TurnFails (last_of self.old) tick result }
+        ensures lent { IfOk result (λ closed. LogsOne tick closed.0.now) }
+        ensures counts { IfOk result (λ closed. AreCountsOf (map pass_view passes.old.items) closed.1) }
+        ensures ok { OnOk result (passes.new.items ≡ []) }
+        ensures err { OnErr result (passes.new ≡ passes.old) }
+        // Once the output is given back, all holds that the close leaves.
+        ensures* after_borrow { sem 𝓛 (Rests (the_row C.row) self.entry (λ new.
+            CloseLeaves C.stands C.events C.kept shared.now tick (map pass_view passes.old.items) self.old result new)) }
+    {
+        self.check(tick)?;
+        self.finish(shared, passes, tick);
+        let totals = self.totals;
+        Ok((&self.out, totals))
     }
 
     /// How many turns were made.
@@ -137,6 +163,35 @@ impl<C: Chain<CtxBuf>> Manager<C> {
         self.desk.late(class) as u16
     }
 
+    // Whether a turn may have this tick.
+    fn check(&self, tick: u64) -> Result<(), TurnFault>
+        ensures { TurnFails (last_of self.now) tick result }
+    {
+        if tick < self.last {
+            return Err(TurnFault::TickBack);
+        }
+        if tick > MAX_TICK {
+            return Err(TurnFault::TickTooLarge);
+        }
+        Ok(())
+    }
+
+    // Takes all passes back, and all that is left in a last turn of a tick that may be.
+    fn finish(&mut self, shared: &Shared, passes: &mut Vec<Pass>, tick: u64)
+        requires mine { IsManagerOf C.events C.kept shared.now self.old }
+        requires fits { fits_turn C.has_room self.old ≡ true }
+        requires few { turns_of self.old < 2 ^ 62 }
+        requires later { last_of self.old ≤ tick }
+        requires within { tick ≤ 2 ^ 62 }
+        requires passes { AreAllPasses shared.now (desk_view self.old.desk) passes.old.items }
+        ensures mine { IsManagerOf C.events C.kept shared.now self.new }
+        ensures closed { Closed C.stands C.kept shared.now tick (map pass_view passes.old.items) self.old self.new }
+        ensures empty { passes.new.items ≡ [] }
+    {
+        welcome_all(&mut self.desk, shared, passes);
+        self.step(shared, tick);
+    }
+
     // Makes a turn of a tick that may be.
     fn step(&mut self, shared: &Shared, tick: u64)
         requires mine { IsManagerOf C.events C.kept shared.now self.old }
@@ -145,8 +200,9 @@ impl<C: Chain<CtxBuf>> Manager<C> {
         requires later { last_of self.old ≤ tick }
         requires within { tick ≤ 2 ^ 62 }
         ensures mine { IsManagerOf C.events C.kept shared.now self.new }
-        ensures turned { Turned C.stands C.kept tick self.old self.new }
-        // Once all passes are back, it sweeps all that was marked, and settles each class.
+        ensures turned { Turned C.stands C.kept tick (desk_view self.old.desk) (givers_of self.old.desk.givers) self.old self.new }
+        // Once all passes are back, it takes all that was accepted, sweeps all that was marked, and settles each class.
+        ensures all_taken { AreCallersBack (desk_view self.old.desk) → IsAllTaken (desk_view self.new.desk) }
         ensures swept { AreCallersBack (desk_view self.old.desk) → AreAllSwept (desk_view self.new.desk) }
         ensures settled { AreCallersBack (desk_view self.old.desk) → EachSettled self.new.desk }
     {
@@ -157,7 +213,7 @@ impl<C: Chain<CtxBuf>> Manager<C> {
             lost_contexts,
             limited: self.chain.limited(),
         };
-        take_ready(&mut self.desk, shared, self.positions, &mut self.items);
+        take_ready(&mut self.desk, shared, &mut self.items);
         let taken = self.items.len() as u64;
         self.totals = self.totals.with(taken, lost_events, lost_contexts);
         self.chain

@@ -1,5 +1,7 @@
 //! What a turn takes from the desk.
-ghost use Rattle.std.specs.Prelude.{◌≡◌, ◌≤◌, ◌+◌, ◌^◌, [], length, vec_capacity};
+ghost use Rattle.std.specs.Prelude.{◌≡◌, ◌≤◌, ◌^◌, [], length, vec_capacity};
+ghost use Rattle.report_queue.specs.Closing.{AreCallersBack, IsAllTaken};
+ghost use Rattle.report_queue.specs.Parts.{queue_positions};
 ghost use Rattle.report_api.specs.Desks.{IsDeskOf, desk_view, to_give_back};
 ghost use Rattle.main_function.specs.Taking.{Took, item_of};
 
@@ -17,29 +19,24 @@ fn entry_of(item: Item<Act<CtxBuf>>) -> Entry<CtxBuf>
     }
 }
 
-/// Takes what is ready, up to so many items.
-#[tactic(auto, using(crate::proofs::TakingLemmas::took_one, crate::proofs::TakingLemmas::took_most, crate::proofs::TakingLemmas::took_till))]
-pub(crate) fn take_ready(
-    desk: &mut Desk,
-    shared: &Shared,
-    most: u64,
-    items: &mut Vec<Entry<CtxBuf>>,
-)
+/// Takes what is ready, up to an item that is not: at most as many items as there are event buffers, since the
+/// positions of those that were taken are not free. Once all passes are back it takes all that is left.
+#[tactic(auto, using(crate::proofs::TakingLemmas::took_one, crate::proofs::TakingLemmas::took_till))]
+pub(crate) fn take_ready(desk: &mut Desk, shared: &Shared, items: &mut Vec<Entry<CtxBuf>>)
     requires mine { IsDeskOf shared.now desk.old }
+    requires none { to_give_back desk.old ≡ 0 }
     requires within { length (desk_view desk.old).items ≤ 2 ^ 45 }
     requires empty { items.old.items ≡ [] }
-    requires room { most ≤ vec_capacity items.old }
+    requires room { queue_positions shared.now.queue ≤ vec_capacity items.old }
     ensures mine { IsDeskOf shared.now desk.new }
-    ensures took { Took shared.now.terms most (desk_view desk.old) items.new.items (desk_view desk.new) }
-    ensures counts { to_give_back desk.new ≡ to_give_back desk.old + length items.new.items }
+    ensures took { Took shared.now.terms (queue_positions shared.now.queue) (desk_view desk.old) items.new.items (desk_view desk.new) }
+    ensures counts { to_give_back desk.new ≡ length items.new.items }
     ensures within { length (desk_view desk.new).items ≤ 2 ^ 45 }
+    ensures all_taken { AreCallersBack (desk_view desk.old) → IsAllTaken (desk_view desk.new) }
     ensures same { desk.new.givers ≡ desk.old.givers }
     ensures room { vec_capacity items.new ≡ vec_capacity items.old }
 {
-    while (items.len() as u64) < most {
-        match desk.take(shared) {
-            Ok(item) => items.push_reserved(entry_of(item)),
-            Err(_) => return,
-        }
+    while let Ok(item) = desk.take(shared) {
+        items.push_reserved(entry_of(item));
     }
 }

@@ -5,8 +5,8 @@ use Rattle.ids_types.specs.declared.entry.Act.{Act as ActOver}
 use Rattle.merge_spec.specs.Fates.{Fate, lost, accepted}
 use Rattle.merge_spec.specs.Follows.{Calls, Follows}
 use Rattle.buffer_classes.specs.Classes.{class_sizes}
-use Rattle.buffer_classes.specs.Names as classes
 use Rattle.buffer_classes.specs.Seats.{IsClaimSeatOf, claimant_of, claims_of, log_of}
+use Rattle.permit_ring.specs.declared.memo.Outcome.{Outcome as OutcomeOf}
 use Rattle.report_queue.specs.Parts.{IsCallerOf, caller_number, caller_view, queue_terms, ticket_of}
 use Rattle.report_api.specs.Names.{Act, Report, Missing, Outcome, PassView, Lost, Got}
 use Rattle.report_api.specs.Terms.{term_sizes}
@@ -39,8 +39,8 @@ call_of (Got ticket item) = Some (plain_act item.payload)
 abbrev pub calls_in : List Outcome → Calls
 calls_in log = map call_of log
 
--- what became of a call at the ring of a class
-abbrev pub fate_of : classes.Outcome → Fate
+-- what became of a call at a ring
+abbrev pub fate_of : {N : Type 0} → OutcomeOf N → Fate
 fate_of (Lost claimed) = lost claimed
 fate_of (Got ticket note) = accepted ticket
 

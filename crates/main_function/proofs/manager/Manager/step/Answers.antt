@@ -1,25 +1,21 @@
-use Rattle.std.proofs.Common.{rules, ◌≡◌, refl, ◌∙◌, ℕ, List, Option, true, is_some, ap, sym, subst}
+use Rattle.std.proofs.Common.{rules, ◌≤◌, refl, ◌∙◌, length, ap, sym, subst, arith}
 use Rattle.ids_types.specs.declared.entry.TurnHead.{TurnHead}
 use Rattle.chain.specs.Turning.{turn_by}
 use Rattle.report_queue.specs.Parts.{most_tries}
-use Rattle.report_api.specs.Desks.{desk_view, to_give_back}
+use Rattle.report_api.specs.Desks.{desk_view}
 use Rattle.main_function.specs.Reports.{MakesTurn, held}
+use Rattle.main_function.specs.Taking.{Took}
+use Rattle.main_function.proofs.ClosingLemmas.{same_back, still_swept, still_taken}
 use Rattle.main_function.proofs.ReportLemmas.{makes_turn, offered_more, totals_more}
 use Rattle.main_function.proofs.StepLemmas.{can_take, come_back, few_bytes, has_room, kept_short}
 use Rattle.main_function.proofs.TurnedLemmas.{stands_more}
 use Rattle.main_function.proofs.manager.Manager.step.Goals as goal
-use Rattle.report_queue.specs.Views.{CallerView, TakerView}
+use Rattle.report_queue.specs.Views.{TakerView}
 use Rattle.report_api.specs.Names.{Act}
-use mathlib.Core.Option.{some}
-use lib.ListN.{get_elem?}
-
--- each pass came back
-abbrev AreBack : List (Option (CallerView Act)) → Type 0
-AreBack back = (i : ℕ) (b : Option (CallerView Act)) → get_elem? back i ≡ some b → is_some b ≡ true
 
 pub turn-requires-clause-fits : goal.turn-requires-clause-fits
 turn-requires-clause-fits g c =
-    let few = c.take_ready.ensures.took.few in
+    let few : length c.take_ready.new.items.items ≤ c.args.self.now.positions = omega (arith, c.take_ready.ensures.took.few, c.requires.mine.positions_are) in
     let bytes = few_bytes g.C.Chain.events g.C.Chain.kept _ _ c.requires.mine _ _ _ c.take_ready.ensures.took in
     g.met.C.Chain.smaller _ _ _ _ _ few bytes c.requires.fits
 
@@ -41,10 +37,10 @@ returns-clause-turned g c =
     let mine = c.requires.mine in
     let head : TurnHead = record { tick = c.args.tick; lost_events = c.sweep-lost_events.result.0; lost_contexts = c.sweep-lost_events.result.1; limited = c.limited.result } in
     let taken = c.take_ready.new.items.items in
-    let none_before : to_give_back c.sweep-lost_events.new.self ≡ 0 = c.sweep-lost_events.ensures.same.0 ∙ mine.none_taken in
+    let took = subst (λ n. Took c.args.shared.now.terms n (desk_view c.sweep-lost_events.new.self) taken (desk_view c.take_ready.new.desk)) (sym mine.positions_are) c.take_ready.ensures.took in
     let makes : MakesTurn c.args.self.now.positions (desk_view c.args.self.now.desk) taken (turn_by held head taken) (desk_view c.give_back.new.self) =
     makes_turn c.args.shared.now.terms c.args.self.now.positions (most_tries c.args.shared.now.queue) (desk_view c.args.self.now.desk) (desk_view c.take_ready.new.desk) (desk_view c.give_back.new.self) head
-    (desk_view c.sweep-lost_events.new.self) taken _ _ c.sweep-lost_events.ensures.told c.take_ready.ensures.took none_before c.take_ready.ensures.counts c.give_back.ensures.none c.give_back.ensures.told in
+    (desk_view c.sweep-lost_events.new.self) taken _ c.sweep-lost_events.ensures.told took c.take_ready.ensures.counts c.give_back.ensures.none c.give_back.ensures.told in
     let out = come_back g.C.Chain.events g.C.Chain.kept _ _ mine _ _ _ c.take_ready.ensures.took _ _ _ c.turn.ensures.parcels mine.roomy.no_back in
     record {
       turn = turn_by held head taken;
@@ -75,6 +71,7 @@ returns-clause-mine g c =
     let room = mine.roomy in
     record {
       desk_is = c.give_back.ensures.mine;
+      positions_are = mine.positions_are;
       none_taken = c.give_back.ensures.counts;
       offered_is = offered_more _ _ _ _ _ mine.offered_is turned.makes;
       items_within = search rules;
@@ -95,9 +92,19 @@ returns-clause-mine g c =
       };
     }
 
--- no take and no sweep brings a pass back
+-- no sweep and no take brings a pass back
+pub returns-clause-all_taken : goal.returns-clause-all_taken
+returns-clause-all_taken g c = λ all.
+    let same = ap (λ (view : TakerView Act). view.back) c.sweep-lost_events.ensures.told in
+    still_taken _ _ _ _ c.give_back.ensures.none c.give_back.ensures.told
+    (c.take_ready.ensures.all_taken (same_back (desk_view c.sweep-lost_events.new.self) (desk_view c.args.self.now.desk) same all))
+
+pub returns-clause-swept : goal.returns-clause-swept
+returns-clause-swept g c = λ all.
+    still_swept _ _ _ _ _ _ _ c.take_ready.ensures.took.is c.give_back.ensures.none c.give_back.ensures.told (c.sweep-lost_events.ensures.all_swept all)
+
 pub returns-clause-settled : goal.returns-clause-settled
-returns-clause-settled g c =
+returns-clause-settled g c = λ all.
     let same = ap (λ (view : TakerView Act). view.back) (c.take_ready.ensures.took.is)
     ∙ ap (λ (view : TakerView Act). view.back) c.sweep-lost_events.ensures.told in
-    λ all. c.give_back.ensures.settled (subst AreBack (sym same) all)
+    c.give_back.ensures.settled (same_back (desk_view c.take_ready.new.desk) (desk_view c.args.self.now.desk) same all)

@@ -1,4 +1,4 @@
-//! From a desk whose rings are closed to legal contexts.
+//! From a desk whose rings are closed to the history of all calls.
 //!
 //! Layer 8, reporting. Over `report_api` and `merge_spec`; the main function cites it once all its passes are back.
 //! Laws over what contracts show, and no code that runs.
@@ -7,6 +7,6 @@
 mod laws;
 
 pub use laws::{
-    closed_rings_make_legal_contexts, rings_have_their_givers_numbers,
+    as_many_items_as_accepted_calls, closed_desks_have_all_calls, rings_have_their_givers_numbers,
     the_first_fitting_class_counts_the_small_ones,
 };

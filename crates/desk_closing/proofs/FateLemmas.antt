@@ -1,4 +1,4 @@
--- The logs of class rings as plain data.
+-- The logs of rings as plain data.
 use Rattle.std.proofs.Common.{◌≡◌, ◌≢◌, ℕ, zero, suc, ◌+◌, ◌≤◌, Some, List, [], ◌∷◌, map, refl, sym, ap, ◌∙◌, ne_eqb, arith}
 use mathlib.Core.Option.{some}
 use lib.ListN.{get_elem?}
@@ -8,30 +8,33 @@ use Rattle.std.proofs.lemmas.List.{length-map}
 use Rattle.merge_spec.specs.Settled.{IsSettledLog, claims_by}
 use Rattle.permit_ring.specs.Closing.{IsWholeLog}
 use Rattle.permit_ring.specs.Logs.{RisesFrom, end_from, got_of, taken_by}
-use Rattle.buffer_classes.specs.Names.{Outcome, SeatMemo, Lost, Got}
+use Rattle.permit_ring.specs.declared.memo.Outcome.{Outcome}
+use Rattle.permit_ring.specs.declared.memo.Outcome.TheVariants.{Lost, Got}
+use Rattle.buffer_classes.specs.Names.{SeatMemo}
 use Rattle.report_api.specs.Passes.{fate_of}
 
--- what became of each call stands as it stood
-pub rises_as : (low : ℕ) (log : List Outcome) → RisesFrom low log → FatesFrom low (map fate_of log)
-rises_as low [] rises = tt
-rises_as low (Lost g ∷ log) rises = (rises.0, rises_as g log rises.1)
-rises_as low (Got t x ∷ log) rises = (rises.0, rises_as (t + 1) log rises.1)
+module _ {N : Type 0} where
+  -- what became of each call stands as it stood
+  pub rises_as : (low : ℕ) (log : List (Outcome N)) → RisesFrom low log → FatesFrom low (map fate_of log)
+  rises_as low [] rises = tt
+  rises_as low (Lost g ∷ log) rises = (rises.0, rises_as g log rises.1)
+  rises_as low (Got t x ∷ log) rises = (rises.0, rises_as (t + 1) log rises.1)
 
-pub end_as : (low : ℕ) (log : List Outcome) → fates.end_from low (map fate_of log) ≡ end_from low log
-end_as low [] = refl
-end_as low (Lost g ∷ log) = end_as g log
-end_as low (Got t x ∷ log) = end_as (t + 1) log
+  pub end_as : (low : ℕ) (log : List (Outcome N)) → fates.end_from low (map fate_of log) ≡ end_from low log
+  end_as low [] = refl
+  end_as low (Lost g ∷ log) = end_as g log
+  end_as low (Got t x ∷ log) = end_as (t + 1) log
 
-pub got_as : (log : List Outcome) → claims_got (map fate_of log) ≡ map (λ x. x.0) (got_of log)
-got_as [] = refl
-got_as (Lost g ∷ log) = got_as log
-got_as (Got t x ∷ log) = ap (λ ts. t ∷ ts) (got_as log)
+  pub got_as : (log : List (Outcome N)) → claims_got (map fate_of log) ≡ map (λ x. x.0) (got_of log)
+  got_as [] = refl
+  got_as (Lost g ∷ log) = got_as log
+  got_as (Got t x ∷ log) = ap (λ ts. t ∷ ts) (got_as log)
 
-pub lost_as : (log : List Outcome) (j g : ℕ) → get_elem? (map fate_of log) j ≡ some (lost g) → get_elem? log j ≡ some (Lost g)
-lost_as [] j g at = cc
-lost_as (Lost its ∷ log) zero g at = cc
-lost_as (Got t x ∷ log) zero g at = cc
-lost_as (r ∷ log) (suc j) g at = lost_as log j g at
+  pub lost_as : (log : List (Outcome N)) (j g : ℕ) → get_elem? (map fate_of log) j ≡ some (lost g) → get_elem? log j ≡ some (Lost g)
+  lost_as [] j g at = cc
+  lost_as (Lost its ∷ log) zero g at = cc
+  lost_as (Got t x ∷ log) zero g at = cc
+  lost_as (r ∷ log) (suc j) g at = lost_as log j g at
 
 -- the seats of the tickets that were taken are the claimants
 pub claimed_as : (i t : ℕ) (taken : List (ℕ × Unit {0}))

@@ -5,7 +5,7 @@ use Rattle.ids_types.specs.declared.class_spec.ClassSpec.{ClassSpec}
 use Rattle.merge_spec.specs.Contexts.{too_small}
 use Rattle.buffer_classes.specs.Classes.{AreClasses, RiseFrom, class_sizes, first_fitting}
 use Rattle.buffer_classes.specs.declared.class.Classes.{Classes}
-use Rattle.class_closing.specs.Closed.{HaveSizes}
+use Rattle.desk_closing.specs.Closed.{HaveSizes}
 
 abbrev sizes_in : List ClassSpec → List ℕ
 sizes_in specs = map (λ (class : ClassSpec). class.size) specs

@@ -1,21 +1,31 @@
 //! What closed rings make of a history: each function has a law as its contract, and no body.
 
-ghost use Rattle.std.specs.Prelude.{◌≡◌, ℕ};
+ghost use Rattle.std.specs.Prelude.{◌≡◌, ℕ, Some, List, length, map, sum_by};
 ghost use Rattle.ids_config.specs.Parts.{Parts};
 ghost use Rattle.merge_spec.specs.Contexts.{too_small};
-ghost use Rattle.merge_spec.specs.Settled.{AreLegalContexts};
 ghost use Rattle.buffer_classes.specs.Classes.{AreClasses, class_sizes, first_fitting};
 ghost use Rattle.buffer_classes.specs.Givers.{AreGiversOf, givers_of};
 ghost use Rattle.buffer_classes.specs.declared.class.Classes.{Classes};
 ghost use Rattle.buffer_classes.specs.declared.givers.Givers.{Givers};
-ghost use Rattle.class_closing.specs.Closed.{ClosedDesk, GiversHaveNumbers, HaveNumbers, HaveSizes};
+ghost use Rattle.report_queue.specs.Closing.{IsAllTaken};
+ghost use Rattle.report_queue.specs.Views.{TakerView};
+ghost use Rattle.report_api.specs.Names.{Act, PassView};
+ghost use Rattle.desk_closing.specs.Calls.{HaveAllCalls, accepted_in};
+ghost use Rattle.desk_closing.specs.Closed.{ClosedDesk, GiversHaveNumbers, HaveNumbers, HaveSizes};
 
-/// Once all passes are back and the report ring and the ring of each class is settled, the claims of the history are
-/// legal: those of each class are 0, 1, 2 and so on, each once, and a caller's rise. And so is each missing context
-/// with a number for each class that would have held it: none of these classes had a buffer free at its call.
-pub fn closed_rings_make_legal_contexts()
+/// Once all passes are back and the report ring and the ring of each class is settled, the turns have all calls of
+/// the passes, and nothing else. The entries of each caller are its accepted calls, in order and with what they
+/// carried; each lost call found no place free; the claims of each class are 0, 1, 2 and so on, each once; and where
+/// a context is missing with a number for each class that would have held it, none of these had a buffer free.
+pub fn closed_desks_have_all_calls()
     ghost closed: { ClosedDesk }
-    ensures { AreLegalContexts closed.config closed.turns }
+    ensures { HaveAllCalls closed.config closed.passes closed.turns }
+{}
+
+/// What was taken is as many items as calls of the passes were accepted.
+pub fn as_many_items_as_accepted_calls()
+    ensures { (taker : TakerView Act) (passes : List PassView) → IsAllTaken taker → taker.back ≡ map Some passes →
+        length taker.items ≡ sum_by accepted_in passes }
 {}
 
 /// The ring of each class has as many positions as its giver has buffers to give.

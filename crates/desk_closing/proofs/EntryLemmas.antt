@@ -1,14 +1,15 @@
--- The items of a caller as the entries of its calls.
+-- The items of a caller as the entries of its calls, and their tickets.
 use Rattle.std.proofs.Common.{◌≡◌, ◌≢◌, ℕ, suc, ◌+◌, List, [], ◌∷◌, map, refl, sym, ap, ◌∙◌, ne_eqb, arith}
 use mathlib.Core.Option.{some}
 use lib.ListN.{get_elem?}
+use Rattle.merge_spec.specs.Decided.{tickets_from, tickets_of}
 use Rattle.merge_spec.specs.Losses.{entries_by}
 use Rattle.merge_spec.specs.Settled.{entries_from}
 use Rattle.report_queue.specs.Closing.{IsWholeCaller, got_of, items_of}
 use Rattle.report_queue.specs.declared.cargo.Item.{Item}
 use Rattle.report_api.specs.Names.{Act, Outcome, PassView, Lost, Got}
-use Rattle.report_api.specs.Passes.{calls_in}
-use Rattle.class_closing.specs.Closed.{plain_item}
+use Rattle.report_api.specs.Passes.{calls_in, fate_of}
+use Rattle.desk_closing.specs.Closed.{plain_item}
 
 -- the entries of a caller are its items
 pub entries_as : (i t : ℕ) (items : List (Item Act)) → entries_by i (map plain_item items) ≡ map (λ x. plain_item x.1) (items_of i t items)
@@ -40,3 +41,33 @@ pub whole_entries : {i : ℕ} {fronts : List ℕ} {items : List (Item Act)} {pas
 whole_entries {i = i} {items = items} {pass = pass} whole =
     entries_as i 0 items ∙ ap (map (λ x. plain_item x.1)) (sym whole.accepted)
     ∙ got_entries i 0 pass.log (λ j t item at. let its = whole.names j t item at in (its.0, omega (arith, its.1)))
+
+-- the calls of a caller's items, each with its ticket
+tickets_as : (i t : ℕ) (items : List (Item Act))
+    → tickets_of i t (map plain_item items) ≡ map (λ x. (x.1.call, x.0)) (items_of i t items)
+tickets_as i t [] = refl
+tickets_as i t (item ∷ items) = let rest = tickets_as i (suc t) items in grind (arith, rest)
+
+-- who has none of the items has no ticket
+pub no_tickets : (i t : ℕ) (items : List (Item Act)) → ((j : ℕ) (item : Item Act) → get_elem? items j ≡ some item → i ≢ item.caller)
+    → tickets_of i t (map plain_item items) ≡ []
+no_tickets i t [] other = refl
+no_tickets i t (item ∷ items) other = rw (ne_eqb i item.caller (other 0 item refl)) (no_tickets i (suc t) items (λ j. other (suc j)))
+
+-- and those that its calls got
+tickets_got : (i call : ℕ) (log : List Outcome)
+    → ((j t : ℕ) (item : Item Act) → get_elem? log j ≡ some (Got t item) → (item.caller ≡ i) × (item.call ≡ call + j))
+    → tickets_from call (map fate_of log) ≡ map (λ x. (x.1.call, x.0)) (got_of log)
+tickets_got i call [] names = refl
+tickets_got i call (Lost g ∷ log) names =
+    tickets_got i (suc call) log (λ j t item at. let its = names (suc j) t item at in (its.0, omega (arith, its.1)))
+tickets_got i call (Got t item ∷ log) names =
+    let rest = tickets_got i (suc call) log (λ j t item at. let its = names (suc j) t item at in (its.0, omega (arith, its.1))) in
+    let here : item.call ≡ call = omega (arith, (names 0 t item refl).1) in
+    cc (rest, here)
+
+pub whole_tickets : {i : ℕ} {fronts : List ℕ} {items : List (Item Act)} {pass : PassView} → IsWholeCaller fronts items i pass
+    → tickets_from 0 (map fate_of pass.log) ≡ tickets_of i 0 (map plain_item items)
+whole_tickets {i = i} {items = items} {pass = pass} whole =
+    tickets_got i 0 pass.log (λ j t item at. let its = whole.names j t item at in (its.0, omega (arith, its.1)))
+    ∙ ap (map (λ x. (x.1.call, x.0))) whole.accepted ∙ sym (tickets_as i 0 items)

@@ -1,0 +1,39 @@
+-- What the calls of all passes make of a history.
+use Rattle.std.specs.Prelude.{◌≡◌, ℕ, List, [], length, map, slice_index_or}
+use Rattle.ids_types.specs.Turns.{Turn, entries_of}
+use Rattle.ids_config.specs.Parts.{Parts}
+use Rattle.merge_spec.specs.Decided.{all_losses}
+use Rattle.merge_spec.specs.Fates.{Fate}
+use Rattle.merge_spec.specs.Follows.{Calls}
+use Rattle.merge_spec.specs.Losses.{entries_by}
+use Rattle.merge_spec.specs.Merge.{AreMerged}
+use Rattle.merge_spec.specs.Names.{Loss}
+use Rattle.merge_spec.specs.Settled.{AreLegalContexts, entries_from}
+use Rattle.report_queue.specs.Closing.{got_of}
+use Rattle.report_api.specs.Names.{PassView}
+use Rattle.report_api.specs.Passes.{calls_in, fate_of}
+
+-- what became of the calls of a pass at the report ring
+abbrev pub fates_in : PassView → List Fate
+fates_in pass = map fate_of pass.log
+
+-- how many of them were accepted
+abbrev pub accepted_in : PassView → ℕ
+accepted_in pass = length (got_of pass.log)
+
+-- the calls of a caller; who has no pass made none
+abbrev pub calls_by : List PassView → ℕ → Calls
+calls_by passes caller = slice_index_or (map (λ pass. calls_in pass.log) passes) caller []
+
+-- the losses of all passes, by caller and then by call, over a report ring of n places
+abbrev pub losses_in : ℕ → List PassView → List Loss
+losses_in n passes = all_losses n 0 (map fates_in passes)
+
+-- the turns have all calls of the passes, and nothing else
+pub record HaveAllCalls (config : Parts) (passes : List PassView) (turns : List Turn) : Type 0 where
+  -- the entries of each caller are its accepted calls, in their order and with what they carried
+  pub accepted : (caller : ℕ) → entries_by caller (entries_of turns) ≡ entries_from caller 0 (calls_by passes caller)
+  -- each call is one entry or one loss, and each loss is legal
+  pub merged : AreMerged config.ring (λ caller. length (calls_by passes caller)) turns (losses_in config.ring passes)
+  -- the claims are legal, and so is each missing context
+  pub contexts : AreLegalContexts config turns

@@ -1,0 +1,216 @@
+-- What a close leaves.
+use Rattle.std.proofs.Common.{◌≡◌, ℕ, zero, suc, ◌+◌, ◌<◌, ◌≤◌, ◌^◌, true, is_some, Option, Some, List, [], ◌∷◌, ◌++◌, length, map, refl, sym, subst, ap, ◌∙◌, sum, sum_by, arith}
+use Rattle.std.proofs.lemmas.List.{length-map}
+use Rattle.std.proofs.lemmas.List.Sums.{sum_by-cons}
+use mathlib.Core.Option.{some}
+use lib.ListN.{get_elem?}
+use Rattle.ids_types.specs.Turns.{Turn}
+use Rattle.ids_config.specs.Parts.{Parts}
+use Rattle.buffer_classes.specs.Buffers.{Buffer}
+use Rattle.buffer_classes.specs.ByIndex.{AllOf}
+use Rattle.buffer_classes.specs.Givers.{givers_of}
+use Rattle.merge_spec.specs.Fronts.{fronts_from}
+use Rattle.merge_spec.proofs.PlaceLemmas.{stands_left}
+use Rattle.report_queue.specs.Calls.{GivesBack}
+use Rattle.report_queue.specs.Closing.{AreAllSwept, AreCallersBack, IsAllTaken, contexts_back, events_back}
+use Rattle.report_queue.specs.Views.{TakerView}
+use Rattle.report_queue.specs.declared.cargo.Item.{Item}
+use Rattle.report_api.specs.Desks.{EachSettled, IsDeskOf, desk_view, to_give_back}
+use Rattle.report_api.specs.Names.{Act, PassView}
+use Rattle.report_api.specs.Passes.{missing_in}
+use Rattle.report_api.specs.declared.desk.Desk.{Desk}
+use Rattle.report_api.specs.declared.shared.Shared.{Shared}
+use Rattle.desk_closing.specs.Calls.{HaveAllCalls}
+use Rattle.desk_closing.specs.Closed.{ClosedDesk, IsMadeFor, plain_item}
+use Rattle.desk_closing.proofs.ClosedLemmas.{all_calls}
+use Rattle.desk_closing.proofs.CountLemmas.{all_accepted}
+use Rattle.desk_closing.proofs.PlaceLemmas.{map_at}
+use Rattle.main_function.specs.Closing.{AreCountsOf, AreSumsOf, Closed, OnlyWelcomes, all_back}
+use Rattle.main_function.specs.Reports.{MakesTurn, ShowsHistory}
+use Rattle.main_function.specs.Standing.{AreTotals, IsManagerOf, Stands}
+use Rattle.main_function.specs.Taking.{has_taken}
+use Rattle.main_function.specs.Turning.{Turned}
+use Rattle.main_function.specs.declared.manager.Manager.{Manager}
+use Rattle.main_function.specs.declared.rest.Totals.{Totals}
+
+-- what was all taken stays so when positions are given back
+gave_back : (mid new : TakerView Act) (bound count : ℕ) → GivesBack bound count mid new → IsAllTaken mid → IsAllTaken new
+gave_back mid new bound count gave all = subst IsAllTaken (sym gave.3) record {
+  of_callers = all.of_callers;
+  whole = λ i caller at. let whole = all.whole i caller at in record {
+    number_is = whole.number_is;
+    calls_are = whole.calls_are;
+    names = whole.names;
+    rises = whole.rises;
+    within = whole.within;
+    accepted = whole.accepted;
+    lost_at_front = λ j g lost. stands_left mid.fronts _ g (whole.lost_at_front j g lost);
+  };
+}
+
+pub still_taken : (mid new : TakerView Act) (bound count : ℕ) → (count ≡ 0 → new ≡ mid) → (0 < count → GivesBack bound count mid new)
+    → IsAllTaken mid → IsAllTaken new
+still_taken mid new bound zero same gave all = subst IsAllTaken (sym (same refl)) all
+still_taken mid new bound (suc n) same gave all = gave_back mid new bound (suc n) (gave (omega arith)) all
+
+-- and what was all swept, when items are taken besides
+taken_swept : (swept mid : TakerView Act) (items : List (Item Act)) (marks : List ℕ) → mid ≡ has_taken items marks swept
+    → AreAllSwept swept → AreAllSwept mid
+taken_swept swept mid items marks is all = subst AreAllSwept (sym is) record { events = all.events; contexts = all.contexts }
+
+pub still_swept : (swept mid new : TakerView Act) (items : List (Item Act)) (marks : List ℕ) (bound count : ℕ)
+    → mid ≡ has_taken items marks swept → (count ≡ 0 → new ≡ mid) → (0 < count → GivesBack bound count mid new)
+    → AreAllSwept swept → AreAllSwept new
+still_swept swept mid new items marks bound zero is same gave all =
+    subst AreAllSwept (sym (same refl)) (taken_swept swept mid items marks is all)
+still_swept swept mid new items marks bound (suc n) is same gave all =
+    let swept_still = taken_swept swept mid items marks is all in
+    subst AreAllSwept (sym (gave (omega arith)).3) record { events = swept_still.events; contexts = swept_still.contexts }
+
+-- who is back is back where the same passes are
+pub same_back : (now before : TakerView Act) → now.back ≡ before.back → AreCallersBack before → AreCallersBack now
+same_back now before same all i came at = all i came (rw (← same) at)
+
+-- passes that all came back did so
+some_back : (passes : List PassView) (i : ℕ) (back : Option PassView) → get_elem? (map Some passes) i ≡ some back → is_some back ≡ true
+some_back [] i back at = cc
+some_back (pass ∷ passes) zero back at = cc
+some_back (pass ∷ passes) (suc i) back at = some_back passes i back at
+
+pub all_came : (taker : TakerView Act) (passes : List PassView) → taker.back ≡ map Some passes → AreCallersBack taker
+all_came taker passes is i back at = some_back passes i back (rw (← is) at)
+
+events_of : (passes : List PassView) → sum_by events_back (map Some passes) ≡ sum_by (λ (pass : PassView). pass.lost_events) passes
+events_of [] = refl
+events_of (pass ∷ passes) =
+    let rest = events_of passes in
+    omega (arith, rest, sum_by-cons events_back (Some pass) (map Some passes), sum_by-cons (λ (p : PassView). p.lost_events) pass passes)
+
+contexts_of : (passes : List PassView) → ((i : ℕ) (pass : PassView) → get_elem? passes i ≡ some pass → pass.lost_contexts ≡ missing_in pass.log)
+    → sum_by contexts_back (map Some passes) ≡ sum_by (λ (pass : PassView). missing_in pass.log) passes
+contexts_of [] each = refl
+contexts_of (pass ∷ passes) each =
+    let rest = contexts_of passes (λ i. each (suc i)) in
+    omega (arith, each 0 pass refl, rest, sum_by-cons contexts_back (Some pass) (map Some passes), sum_by-cons (λ (p : PassView). missing_in p.log) pass passes)
+
+-- the totals are the passes' counts, once all is taken and swept
+pub counts_all : (shared : Shared) (desk : Desk) (totals : Totals) (passes : List PassView) → IsDeskOf shared desk
+    → (desk_view desk).back ≡ map Some passes → IsAllTaken (desk_view desk) → AreAllSwept (desk_view desk) → AreTotals (desk_view desk) totals
+    → AreCountsOf passes totals
+counts_all shared desk totals passes mine came taken swept are = record {
+  entries_are = are.entries_are ∙ all_accepted (desk_view desk) passes taken came;
+  lost_events_are = are.lost_events_are ∙ swept.events ∙ ap (sum_by events_back) came ∙ events_of passes;
+  lost_contexts_are = are.lost_contexts_are ∙ swept.contexts ∙ ap (sum_by contexts_back) came
+      ∙ contexts_of passes (λ i pass at. mine.tied.missing i pass (rw came (map_at Some passes i pass at)));
+}
+
+-- and the sums over the turns that the desk shows
+pub sums_of : (positions : ℕ) (reports : TakerView Act) (turns : List Turn) (totals : Totals) → ShowsHistory positions reports turns
+    → AreTotals reports totals → AreSumsOf turns totals
+sums_of positions reports turns totals shows are = record {
+  entries_are = are.entries_are ∙ sym (length-map reports.items plain_item) ∙ ap length shows.items_are;
+  lost_events_are = are.lost_events_are ∙ ap sum shows.lost_events_are;
+  lost_contexts_are = are.lost_contexts_are ∙ ap sum shows.lost_contexts_are;
+}
+
+-- a closed manager stands for turns that have all calls of the passes
+pub whole_history : {C : Type 0} (stands : C → Parts → List Turn → Type 0) (events : C → ℕ) (kept : C → List Buffer) (shared : Shared)
+    (m : Manager C) (passes : List PassView) → IsManagerOf events kept shared m → (desk_view m.desk).back ≡ map Some passes
+    → IsAllTaken (desk_view m.desk) → EachSettled m.desk → (config : Parts) (turns : List Turn) → IsMadeFor config shared
+    → Stands stands config m turns → HaveAllCalls config passes turns
+whole_history stands events kept shared m passes mine came taken settled config turns made_for is =
+    let closed : ClosedDesk = record {
+      config = config;
+      passes = passes;
+      turns = turns;
+      shared = shared;
+      desk = m.desk;
+      made_for = made_for;
+      is_desk = mine.desk_is;
+      are_back = came;
+      all_taken = taken;
+      settled = settled;
+      shows = sym is.reports_show.items_are;
+      fronts_are = is.reports_show.fronts_are ∙ ap (λ n. fronts_from n turns (n ∷ [])) (mine.positions_are ∙ made_for.positions_are);
+    } in
+    all_calls closed
+
+module _ {C : Type 0} (stands : C → Parts → List Turn → Type 0) (events : C → ℕ) (kept : C → List Buffer) (shared : Shared)
+    (old : Manager C) (desk : Desk) (passes : List PassView) (told : desk_view desk ≡ all_back passes (desk_view old.desk)) where
+  -- a manager to which all passes came back is the one that it was
+  pub mine_back : IsManagerOf events kept shared old → IsDeskOf shared desk → to_give_back desk ≡ to_give_back old.desk
+      → IsManagerOf events kept shared (record old { desk = desk })
+  mine_back mine is_desk same = record {
+    desk_is = is_desk;
+    positions_are = mine.positions_are;
+    none_taken = same ∙ mine.none_taken;
+    offered_is = subst (λ reports. reports.offered ≡ old.positions + length reports.items) (sym told) mine.offered_is;
+    items_within = subst (λ reports. length reports.items ≤ 2 ^ 45) (sym told) mine.items_within;
+    totals_are = subst (λ reports. AreTotals reports old.totals) (sym told) record { entries_are = mine.totals_are.entries_are; lost_events_are = mine.totals_are.lost_events_are; lost_contexts_are = mine.totals_are.lost_contexts_are };
+    events_are = mine.events_are;
+    sizes_within = mine.sizes_within;
+    kept_are = mine.kept_are;
+    tick_within = mine.tick_within;
+    roomy = let room = mine.roomy in record {
+      no_items = room.no_items;
+      items_room = room.items_room;
+      no_back = room.no_back;
+      back_room = room.back_room;
+      out_room = room.out_room;
+      bytes_are = room.bytes_are;
+      few_positions = room.few_positions;
+      short = room.short;
+    };
+  }
+
+  -- and stands for the same turns
+  pub stands_back : (config : Parts) (turns : List Turn) → Stands stands config old turns → Stands stands config (record old { desk = desk }) turns
+  stands_back config turns is = record {
+    chain_stands = is.chain_stands;
+    reports_show = subst (λ reports. ShowsHistory old.positions reports turns) (sym told) record {
+      items_are = is.reports_show.items_are;
+      lost_events_are = is.reports_show.lost_events_are;
+      lost_contexts_are = is.reports_show.lost_contexts_are;
+      fronts_are = is.reports_show.fronts_are;
+    };
+    tick_is = is.tick_is;
+    count_is = is.count_is;
+  }
+
+  -- so a turn that it makes then is one of the manager that it was
+  turned_from : (tick : ℕ) (new : Manager C) → Turned stands kept tick (desk_view desk) (givers_of desk.givers) (record old { desk = desk }) new
+      → Turned stands kept tick (all_back passes (desk_view old.desk)) (givers_of desk.givers) old new
+  turned_from tick new turned = record {
+    turn = turned.turn;
+    taken = turned.taken;
+    log_is = turned.log_is;
+    tick_is = turned.tick_is;
+    makes = subst (λ reports. MakesTurn old.positions reports turned.taken turned.turn (desk_view new.desk)) told turned.makes;
+    buffers = turned.buffers;
+    stands_then = λ config turns is. turned.stands_then config turns (stands_back config turns is);
+    limited_is = λ config turns is. turned.limited_is config turns (stands_back config turns is);
+    sends = λ config turns is. turned.sends config turns (stands_back config turns is);
+    rests_are = turned.rests_are;
+    turns_are = turned.turns_are;
+  }
+
+  -- and it is closed by it
+  pub closed_by : (tick : ℕ) (new : Manager C) → AllOf (λ i. OnlyWelcomes) (givers_of old.desk.givers) (givers_of desk.givers)
+      → Turned stands kept tick (desk_view desk) (givers_of desk.givers) (record old { desk = desk }) new → IsManagerOf events kept shared new
+      → (AreCallersBack (desk_view desk) → IsAllTaken (desk_view new.desk)) → (AreCallersBack (desk_view desk) → AreAllSwept (desk_view new.desk))
+      → (AreCallersBack (desk_view desk) → EachSettled new.desk) → Closed stands kept shared tick passes old new
+  unfolding turned_from
+  closed_by tick new givers turned mine taken swept settled =
+      let back = all_came (desk_view desk) passes (ap (λ (view : TakerView Act). view.back) told) in
+      let came : (desk_view new.desk).back ≡ map Some passes =
+      ap (λ (view : TakerView Act). view.back) turned.makes.is ∙ ap (λ (view : TakerView Act). view.back) told in
+      record {
+        givers = givers_of desk.givers;
+        welcomed = givers;
+        turned = turned_from tick new turned;
+        all_calls = λ config turns made_for is. whole_history stands events kept shared new passes mine came (taken back) (settled back)
+            config (turns ++ turned.turn ∷ []) made_for (turned.stands_then config turns (stands_back config turns is));
+        sums = λ config turns is. sums_of new.positions (desk_view new.desk) (turns ++ turned.turn ∷ []) new.totals
+            (turned.stands_then config turns (stands_back config turns is)).reports_show mine.totals_are;
+        counts = counts_all shared new.desk new.totals passes mine.desk_is came (taken back) (swept back) mine.totals_are;
+      }

@@ -1,0 +1,19 @@
+use Rattle.std.proofs.Common.{◌≡◌, length}
+use Rattle.buffer_classes.specs.ByIndex.{AllOf}
+use Rattle.buffer_classes.specs.Givers.{givers_of}
+use Rattle.report_api.specs.Desks.{IsDeskOf, desk_view, to_give_back}
+use Rattle.main_function.specs.Closing.{OnlyWelcomes}
+use Rattle.main_function.proofs.WelcomeLemmas.{WelcomesSo}
+use Rattle.main_function.proofs.closing.welcome_all.Given as goal
+
+-- the last of the passes came back, those that are left did not
+abbrev pub invariant-loop-pass : goal.invariant-loop-pass
+invariant-loop-pass l = record {
+  mine : IsDeskOf l.shared l.desk;
+  so_far : WelcomesSo l.initial.passes.items l.passes.items (desk_view l.initial.desk) (desk_view l.desk);
+  counts : to_give_back l.desk ≡ to_give_back l.initial.desk;
+  givers : AllOf (λ i. OnlyWelcomes) (givers_of l.initial.desk.givers) (givers_of l.desk.givers);
+}
+
+abbrev pub decreases-loop-pass : goal.decreases-loop-pass
+decreases-loop-pass l = length l.passes.items

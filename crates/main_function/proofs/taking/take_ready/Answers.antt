@@ -1,0 +1,12 @@
+use Rattle.std.proofs.Common.{ap}
+use Rattle.report_queue.specs.Views.{TakerView}
+use Rattle.report_api.specs.Desks.{desk_view}
+use Rattle.report_api.specs.Names.{Act}
+use Rattle.main_function.proofs.ClosingLemmas.{same_back}
+use Rattle.main_function.proofs.taking.take_ready.Goals as goal
+
+-- no take brings a pass back
+pub returns-clause-all_taken : goal.returns-clause-all_taken
+returns-clause-all_taken c = λ all.
+    c.in_default.ensures.all_taken (same_back (desk_view c.loop-item.desk) (desk_view c.args.desk.now)
+    (ap (λ (view : TakerView Act). view.back) c.loop-item.invariant.took.is) all)

@@ -1,0 +1,67 @@
+-- The close: all passes come back, and a last turn takes what is left.
+use Rattle.std.specs.Borrow.{Bor}
+use Rattle.std.specs.Prelude.{◌≡◌, ℕ, Some, List, [], ◌∷◌, ◌++◌, length, map, sum, sum_by, Result, Ok, Err}
+use Rattle.ids_types.specs.Output.{Output}
+use Rattle.ids_types.specs.Turns.{Turn, entries_of}
+use Rattle.ids_config.specs.Parts.{Parts}
+use Rattle.buffer_classes.specs.Buffers.{Buffer}
+use Rattle.buffer_classes.specs.ByIndex.{AllOf}
+use Rattle.buffer_classes.specs.Givers.{givers_of}
+use Rattle.buffer_classes.specs.Giving.{filled_count, giver_memo, vacant_count}
+use Rattle.buffer_classes.specs.declared.giver.Giver.{Giver}
+use Rattle.report_queue.specs.Views.{TakerView}
+use Rattle.report_api.specs.Desks.{desk_view}
+use Rattle.report_api.specs.Names.{Act, PassView}
+use Rattle.report_api.specs.Passes.{missing_in}
+use Rattle.report_api.specs.declared.shared.Shared.{Shared}
+use Rattle.desk_closing.specs.Calls.{HaveAllCalls, accepted_in}
+use Rattle.desk_closing.specs.Closed.{IsMadeFor}
+use Rattle.main_function.specs.Standing.{IsManagerOf, Stands}
+use Rattle.main_function.specs.Turning.{Turned}
+use Rattle.main_function.specs.declared.manager.Manager.{Manager}
+use Rattle.main_function.specs.declared.rest.Totals.{Totals}
+use Rattle.main_function.specs.declared.rest.TurnFault.{TurnFault}
+
+-- what the desk shows, with all these passes back
+abbrev pub all_back : List PassView → TakerView Act → TakerView Act
+all_back passes reports = record reports { back = map Some passes }
+
+-- the giver has claimants back; no buffer came or went
+pub record OnlyWelcomes (old new : Giver) : Type 0 where
+  pub memo_is : giver_memo new ≡ record (giver_memo old) { back = (giver_memo new).back; moves = (giver_memo new).moves }
+  pub late_is : new.late ≡ old.late
+  pub filled_is : filled_count new ≡ filled_count old
+  pub vacant_is : vacant_count new ≡ vacant_count old
+  pub number_is : new.number ≡ old.number
+
+-- the totals are the sums over these turns
+pub record AreSumsOf (turns : List Turn) (totals : Totals) : Type 0 where
+  pub entries_are : totals.entries ≡ length (entries_of turns)
+  pub lost_events_are : totals.lost_events ≡ sum (map (λ turn. turn.head.lost_events) turns)
+  pub lost_contexts_are : totals.lost_contexts ≡ sum (map (λ turn. turn.head.lost_contexts) turns)
+
+-- the totals are the numbers of the passes' accepted calls, lost reports and missing contexts
+pub record AreCountsOf (passes : List PassView) (totals : Totals) : Type 0 where
+  pub entries_are : totals.entries ≡ sum_by accepted_in passes
+  pub lost_events_are : totals.lost_events ≡ sum_by (λ pass. pass.lost_events) passes
+  pub lost_contexts_are : totals.lost_contexts ≡ sum_by (λ pass. missing_in pass.log) passes
+
+module _ {C : Type 0} (stands : C → Parts → List Turn → Type 0) (kept : C → List Buffer) (shared : Shared) where
+  -- these passes came back, and a last turn of this tick took all that was left
+  pub record Closed (tick : ℕ) (passes : List PassView) (old new : Manager C) : Type 0 where
+    pub givers : List Giver
+    pub welcomed : AllOf (λ i. OnlyWelcomes) (givers_of old.desk.givers) givers
+    pub turned : Turned stands kept tick (all_back passes (desk_view old.desk)) givers old new
+    -- for each history that it stood for, that with this turn has all calls of the passes, and nothing else
+    pub all_calls : (config : Parts) (turns : List Turn) → IsMadeFor config shared → Stands stands config old turns
+        → HaveAllCalls config passes (turns ++ turned.turn ∷ [])
+    pub sums : (config : Parts) (turns : List Turn) → Stands stands config old turns
+        → AreSumsOf (turns ++ turned.turn ∷ []) new.totals
+    pub counts : AreCountsOf passes new.totals
+
+module _ {C : Type 0} (stands : C → Parts → List Turn → Type 0) (events : C → ℕ) (kept : C → List Buffer) (shared : Shared) where
+  -- what a close of this tick leaves: all closed, with the output lent and the totals told; or nothing changed
+  abbrev pub CloseLeaves : ℕ → List PassView → Manager C → Result (Bor Output × Totals) TurnFault → Manager C → Type 0
+  CloseLeaves tick passes old (Ok closed) new = IsManagerOf events kept shared new × (closed.0.now ≡ new.out) × (closed.1 ≡ new.totals)
+      × Closed stands kept shared tick passes old new
+  CloseLeaves tick passes old (Err fault) new = new ≡ old

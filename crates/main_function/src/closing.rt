@@ -1,0 +1,25 @@
+//! How all passes come back to the desk.
+ghost use Rattle.std.specs.Prelude.{◌≡◌, [], map};
+ghost use Rattle.buffer_classes.specs.ByIndex.{AllOf};
+ghost use Rattle.buffer_classes.specs.Givers.{givers_of};
+ghost use Rattle.report_api.specs.Desks.{IsDeskOf, desk_view, to_give_back};
+ghost use Rattle.report_api.specs.Passes.{pass_view};
+ghost use Rattle.main_function.specs.Closing.{OnlyWelcomes, all_back};
+ghost use Rattle.main_function.specs.Standing.{AreAllPasses};
+
+use report_api::{Desk, Pass, Shared};
+
+/// Takes all passes back, the last first.
+pub(crate) fn welcome_all(desk: &mut Desk, shared: &Shared, passes: &mut Vec<Pass>)
+    requires mine { IsDeskOf shared.now desk.old }
+    requires passes { AreAllPasses shared.now (desk_view desk.old) passes.old.items }
+    ensures mine { IsDeskOf shared.now desk.new }
+    ensures told { desk_view desk.new ≡ all_back (map pass_view passes.old.items) (desk_view desk.old) }
+    ensures counts { to_give_back desk.new ≡ to_give_back desk.old }
+    ensures givers { AllOf (λ i. OnlyWelcomes) (givers_of desk.old.givers) (givers_of desk.new.givers) }
+    ensures empty { passes.new.items ≡ [] }
+{
+    while let Some(pass) = passes.pop() {
+        desk.welcome(shared, pass);
+    }
+}
