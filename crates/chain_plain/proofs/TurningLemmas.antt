@@ -1,9 +1,8 @@
 -- The entries of a recorded turn, lent to a chain.
-use Rattle.std.proofs.Common.{◌≡◌, ℕ, ◌*◌, ◌≤◌, List, [], ◌∷◌, ◌++◌, length, map, Option, Some, None, IfSome, subst, sym, ap, ◌∙◌, arith}
-use Rattle.std.specs.List.{All, AllByRecursion, cons_option}
+use Rattle.std.proofs.Common.{◌≡◌, ℕ, ◌*◌, ◌≤◌, List, [], ◌∷◌, length, map, IfSome, subst, sym, ap, ◌∙◌, arith}
+use Rattle.std.specs.List.{All, AllByRecursion}
 use Rattle.std.proofs.lemmas.List.{length-map}
-use Rattle.std.proofs.lemmas.List.Elements.{All-append, All-from_recursion, recursion_from_All}
-use Rattle.std.proofs.lemmas.List.Sorted.{All-permutation}
+use Rattle.std.proofs.lemmas.List.Elements.{All-from_recursion, All-weaker, recursion_from_All}
 use Rattle.std.proofs.lemmas.List.Sums.{sum_by-cons}
 use Rattle.ids_types.specs.Carries.{act_by, entry_by}
 use Rattle.ids_types.specs.declared.entry.Act.{Act}
@@ -13,6 +12,7 @@ use Rattle.ids_types.specs.declared.entry.Entry.{Entry}
 use Rattle.ids_types.specs.Plain.{act_bytes, kept_bytes}
 use Rattle.chain.specs.Parcels.{HandsBack, IsShort, all_parcels, parcel_of}
 use Rattle.chain.specs.Turning.{FitsAct, FitsTurn, bytes_in}
+use Rattle.chain.proofs.ParcelLemmas.{parcels_keep}
 
 module _ {B : Type 0} (held : B → List ℕ) (events : ℕ) where
   -- an act fits where what it tells does
@@ -65,25 +65,10 @@ module _ {B : Type 0} (held : B → List ℕ) (events : ℕ) where
   parcel_short (State state) fits = tt
   parcel_short (SetMode event mode) fits = tt
 
-  with_parcel : (parcel : Option B) (parcels : List B) → IfSome parcel (IsShort held) → AllByRecursion (IsShort held) parcels
-      → AllByRecursion (IsShort held) (cons_option parcel parcels)
-  with_parcel None parcels short all = all
-  with_parcel (Some parcel) parcels short all = (short, all)
-
-  parcels_short : (items : List (Entry B)) → AllByRecursion (λ e. FitsAct held events e.act) items
-      → AllByRecursion (IsShort held) (all_parcels items)
-  parcels_short [] fits = tt
-  parcels_short (e ∷ items) fits =
-      with_parcel (parcel_of e.act) (all_parcels items) (parcel_short e.act fits.0) (parcels_short items fits.1)
-
-  rest_short : (xs ys : List B) → AllByRecursion (IsShort held) (xs ++ ys) → AllByRecursion (IsShort held) ys
-  rest_short [] ys short = short
-  rest_short (x ∷ xs) ys short = rest_short xs ys short.1
-
   -- the parcels that a chain keeps are short, where those that came and those that it kept are
   pub kept_short : (items : List (Entry B)) (before now back end : List B) → FitsTurn held events items → All (IsShort held) before
       → HandsBack (all_parcels items) before now back end → All (IsShort held) now
   kept_short items before now back end fits short hands =
-      let came = All-from_recursion (IsShort held) (all_parcels items) (parcels_short items (recursion_from_All _ items fits.acts)) in
-      let all = All-permutation (IsShort held) _ _ hands.same (All-append (IsShort held) (all_parcels items) before came short) in
-      All-from_recursion (IsShort held) now (rest_short hands.further now (recursion_from_All _ _ all))
+      let came = All-weaker (λ (e : Entry B). FitsAct held events e.act) (λ (e : Entry B). IfSome (parcel_of e.act) (IsShort held))
+      (λ e. parcel_short e.act) items fits.acts in
+      (parcels_keep (IsShort held) items before now back end came short hands).1

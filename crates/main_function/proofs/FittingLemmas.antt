@@ -1,18 +1,17 @@
 -- What is known of items that the desk admits.
-use Rattle.std.proofs.Common.{◌≡◌, ℕ, zero, suc, ◌*◌, ◌≤◌, ◌<◌, true, List, [], ◌∷◌, ◌++◌, length, Option, Some, None, IfSome, subst, sym, arith, rules}
+use Rattle.std.proofs.Common.{◌≡◌, ℕ, zero, suc, ◌*◌, ◌≤◌, ◌<◌, true, List, [], ◌∷◌, length, IfSome, subst, sym, arith, rules}
 use mathlib.Core.Option.{some}
 use lib.ListN.{get_elem?}
-use Rattle.std.specs.List.{All, AllByRecursion, cons_option}
-use Rattle.std.proofs.lemmas.List.Elements.{All-append, All-from_recursion, All-weaker, recursion_from_All}
-use Rattle.std.proofs.lemmas.List.Sorted.{All-permutation}
+use Rattle.std.specs.List.{All, AllByRecursion}
+use Rattle.std.proofs.lemmas.List.Elements.{All-from_recursion, All-weaker, recursion_from_All}
 use Rattle.std.proofs.lemmas.List.Sums.{sum_by-cons}
-use Rattle.std.specs.List.Sorted.{IsPermutation}
 use Rattle.ids_types.specs.Carries.{act_by, entry_by}
 use Rattle.ids_types.specs.Plain.{act_bytes, kept_bytes}
 use Rattle.ids_types.specs.declared.entry.Entry.{Entry}
 use Rattle.permit_ring.specs.Hands.{AllAdmitted}
-use Rattle.chain.specs.Parcels.{IsShort, all_parcels, parcel_of}
+use Rattle.chain.specs.Parcels.{HandsBack, IsShort, all_parcels, parcel_of}
 use Rattle.chain.specs.Turning.{FitsAct, FitsTurn, bytes_in}
+use Rattle.chain.proofs.ParcelLemmas.{parcels_keep}
 use Rattle.buffer_classes.specs.Buffers.{Buffer}
 use Rattle.buffer_classes.specs.Givers.{AreBuffersIn}
 use Rattle.report_api.specs.Names.{Act, Report, State, SetMode, Absent, Kept, Missing}
@@ -43,20 +42,15 @@ module _ (terms : ReportTerms) (most : ℕ) (within : AllAdmitted (λ size. size
   act_facts (State state) fits = (tt, tt, omega arith)
   act_facts (SetMode event mode) fits = (fits, tt, omega arith)
 
-  with_parcel : (parcel : Option Buffer) (parcels : List Buffer) → IfSome parcel (IsHeld (term_sizes terms))
-      → AllByRecursion (IsHeld (term_sizes terms)) parcels → AllByRecursion (IsHeld (term_sizes terms)) (cons_option parcel parcels)
-  with_parcel None parcels is all = all
-  with_parcel (Some parcel) parcels is all = (is, all)
-
   facts : (items : List (Entry Buffer)) → AllByRecursion (AdmitsItem terms) (items_of items)
-      → AllByRecursion (λ e. FitsAct held terms.events e.act) items × AllByRecursion (IsHeld (term_sizes terms)) (all_parcels items)
+      → AllByRecursion (λ e. FitsAct held terms.events e.act) items × AllByRecursion (λ e. IfSome (parcel_of e.act) (IsHeld (term_sizes terms))) items
       × (bytes_in held items ≤ length items * most)
   facts [] fits = (tt, tt, omega arith)
   facts (e ∷ items) fits =
       let own = act_facts e.act fits.0.act in
       let rest = facts items fits.1 in
       let whole = sum_by-cons (λ (entry : Entry Buffer). length (kept_bytes (entry_by held entry))) e items in
-      ((own.0, rest.0), with_parcel (parcel_of e.act) (all_parcels items) own.1 rest.1, search (rules, whole, own.2, rest.2))
+      ((own.0, rest.0), (own.1, rest.1), search (rules, whole, own.2, rest.2))
 
   -- a chain of so many events can take the items
   pub items_fit : (events : ℕ) (items : List (Entry Buffer)) → events ≡ terms.events → length items ≤ 1024 → All (AdmitsItem terms) (items_of items)
@@ -78,21 +72,16 @@ module _ (terms : ReportTerms) (most : ℕ) (within : AllAdmitted (λ size. size
       (λ buf is. let size = within buf.class buf.size is.size_is in let bytes = is.fits in omega (arith, size, bytes, short)) bufs are
 
   -- each buffer that comes out of a turn is one of the classes, where those that came with items do
-  pub come_out : (items : List (Entry Buffer)) (before back now : List Buffer) → All (AdmitsItem terms) (items_of items)
-      → All (IsHeld (term_sizes terms)) before → IsPermutation (all_parcels items ++ before) (back ++ now)
-      → AllByRecursion (IsHeld (term_sizes terms)) (back ++ now)
-  come_out items before back now admitted were same =
-      let came = All-from_recursion (IsHeld (term_sizes terms)) (all_parcels items) (facts items (recursion_from_All _ _ admitted)).1 in
-      recursion_from_All _ _ (All-permutation (IsHeld (term_sizes terms)) _ _ same (All-append (IsHeld (term_sizes terms)) (all_parcels items) before came were))
+  pub come_out : (items : List (Entry Buffer)) (before now back end : List Buffer) → All (AdmitsItem terms) (items_of items)
+      → All (IsHeld (term_sizes terms)) before → (hands : HandsBack (all_parcels items) before now back end)
+      → All (IsHeld (term_sizes terms)) hands.further × All (IsHeld (term_sizes terms)) now
+  come_out items before now back end admitted were hands =
+      let came = All-from_recursion (λ (e : Entry Buffer). IfSome (parcel_of e.act) (IsHeld (term_sizes terms))) items
+      (facts items (recursion_from_All _ _ admitted)).1 in
+      parcels_keep (IsHeld (term_sizes terms)) items before now back end came were hands
 
-module _ (sizes : List ℕ) where
-  -- of buffers that are given back and kept, those that are given back are of the classes
-  pub first_back : (back now : List Buffer) → AllByRecursion (IsHeld sizes) (back ++ now) → AreBuffersIn sizes back
-  first_back (buf ∷ back) now are zero b is = search (rules, are.0.size_is)
-  first_back (buf ∷ back) now are (suc j) b is = first_back back now are.1 j b is
-  first_back [] now are j b is = search rules
-
-  -- and those that are kept
-  pub rest_held : (back now : List Buffer) → AllByRecursion (IsHeld sizes) (back ++ now) → All (IsHeld sizes) now
-  rest_held [] now are = All-from_recursion (IsHeld sizes) now are
-  rest_held (buf ∷ back) now are = rest_held back now are.1
+-- buffers of the classes, by their places
+pub held_in : (sizes : List ℕ) (bufs : List Buffer) → AllByRecursion (IsHeld sizes) bufs → AreBuffersIn sizes bufs
+held_in sizes (buf ∷ bufs) are zero b is = search (rules, are.0.size_is)
+held_in sizes (buf ∷ bufs) are (suc j) b is = held_in sizes bufs are.1 j b is
+held_in sizes [] are j b is = search rules

@@ -3,6 +3,7 @@ use Rattle.std.proofs.Common.{◌≡◌, ℕ, ◌≤◌, List, [], ◌++◌, len
 use Rattle.std.specs.List.{All}
 use Rattle.std.proofs.lemmas.Grind.{common_steps}
 use Rattle.std.specs.List.Sorted.{IsPermutation}
+use Rattle.std.proofs.lemmas.List.Elements.{recursion_from_All}
 use Rattle.ids_types.specs.declared.entry.Entry.{Entry}
 use Rattle.permit_ring.specs.Hands.{AllAdmitted}
 use Rattle.chain.specs.Parcels.{HandsBack, IsShort, all_parcels}
@@ -20,7 +21,7 @@ use Rattle.main_function.specs.Reports.{held}
 use Rattle.main_function.specs.Standing.{IsManagerOf}
 use Rattle.main_function.specs.Taking.{Took}
 use Rattle.main_function.specs.declared.manager.Manager.{Manager}
-use Rattle.main_function.proofs.FittingLemmas.{bytes_fit, come_out, first_back, held_short, items_fit, rest_held}
+use Rattle.main_function.proofs.FittingLemmas.{bytes_fit, come_out, held_in, held_short, items_fit}
 
 module _ {C : Type 0} (events : C → ℕ) (kept : C → List Buffer) (shared : Shared) (m : Manager C) (mine : IsManagerOf events kept shared m) where
   within : AllAdmitted (λ size. size ≤ m.largest) (term_sizes shared.terms)
@@ -67,10 +68,11 @@ module _ {C : Type 0} (events : C → ℕ) (kept : C → List Buffer) (shared : 
       pub come_back : back_before ≡ [] → AreBuffersIn (sizes_of shared) back × All (IsHeld (sizes_of shared)) now
           × IsPermutation (all_parcels taken ++ kept m.chain) (back ++ now)
       come_back empty =
-          let are = come_out shared.terms m.largest within mine.roomy.short taken (kept m.chain) hands.further now took.admitted are_held hands.same in
+          let are = come_out shared.terms m.largest within mine.roomy.short taken (kept m.chain) now back_before back took.admitted are_held hands in
           let same : hands.further ≡ back = grind (arith, common_steps, hands.back, empty) in
           let sizes = sym mine.desk_is.is_shared.sizes_are in (
-            subst (λ bufs. AreBuffersIn (sizes_of shared) bufs) same (subst (λ sizes. AreBuffersIn sizes hands.further) sizes (first_back _ hands.further now are)),
-            subst (λ sizes. All (IsHeld sizes) now) sizes (rest_held _ hands.further now are),
+            subst (λ bufs. AreBuffersIn (sizes_of shared) bufs) same
+                (subst (λ sizes. AreBuffersIn sizes hands.further) sizes (held_in _ hands.further (recursion_from_All _ _ are.0))),
+            subst (λ sizes. All (IsHeld sizes) now) sizes are.1,
             subst (λ bufs. IsPermutation (all_parcels taken ++ kept m.chain) (bufs ++ now)) same hands.same,
           )
