@@ -6,10 +6,16 @@
 #![tactic(auto)]
 
 #[cfg(test)]
+mod beside_desk;
+#[cfg(test)]
+mod beside_manager;
+#[cfg(test)]
 mod callers;
 #[cfg(test)]
-mod configured;
+mod calls;
 #[cfg(test)]
-mod one_pass;
+mod reporting;
 #[cfg(test)]
-mod taking;
+mod steps;
+#[cfg(test)]
+mod turning;
