@@ -6,6 +6,6 @@ mod manager;
 mod rest;
 mod taking;
 
-pub use making::Made;
+pub use making::{Made, make};
 pub use manager::Manager;
 pub use rest::{Rest, Totals, TurnFault};
