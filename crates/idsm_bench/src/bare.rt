@@ -1,7 +1,7 @@
 //! The atomic operations of a queue's calls alone, on words that lie as those of its ring do.
 ghost use Rattle.std.specs.Prelude.{◌≡◌, ◌+◌, ◌<◌, ◌≤◌, length, IfOk};
 
-use crate::work::{Caller, PUTS, TAKES, Taker};
+use crate::work::{Caller, Taker};
 use std::alloc::{AllocError, Global};
 use std::sync::atomic::{AtomicU64, Ordering};
 
@@ -51,6 +51,7 @@ pub struct BareCaller<'w> {
     more: Option<&'w Words>,
     // What the slots of positions hold: a number each.
     slots: Vec<u64>,
+    batch: u64,
 }
 
 impl<'w> BareCaller<'w> {
@@ -58,18 +59,28 @@ impl<'w> BareCaller<'w> {
         alloc: Global,
         words: &'w Words,
         more: Option<&'w Words>,
+        batch: u64,
     ) -> Result<BareCaller<'w>, AllocError> {
         let slots = Vec::from_elem(alloc, 0, 1024)?;
-        Ok(BareCaller { words, more, slots })
+        Ok(BareCaller {
+            words,
+            more,
+            slots,
+            batch,
+        })
     }
 }
 
 impl Caller for BareCaller<'_> {
     ghost is_ready = { λ _. Unit {0} };
 
+    fn batch(&self) -> u64 {
+        self.batch
+    }
+
     fn put_batch(&mut self) -> u64 {
         let mut count: u64 = 0;
-        for _ in 0..PUTS {
+        for _ in 0..self.batch {
             if put_on_all(self.words, self.more, &mut self.slots) {
                 count = count.wrapping_add(1);
             }
@@ -108,14 +119,16 @@ fn put(words: &Words, slots: &mut [u64]) -> bool {
 pub struct BareTaker<'w> {
     words: &'w Words,
     more: Option<&'w Words>,
+    batch: u64,
     next: u64,
 }
 
 impl<'w> BareTaker<'w> {
-    pub fn new(words: &'w Words, more: Option<&'w Words>) -> BareTaker<'w> {
+    pub fn new(words: &'w Words, more: Option<&'w Words>, batch: u64) -> BareTaker<'w> {
         BareTaker {
             words,
             more,
+            batch,
             next: 0,
         }
     }
@@ -124,21 +137,25 @@ impl<'w> BareTaker<'w> {
 impl Taker for BareTaker<'_> {
     ghost is_ready = { λ _. Unit {0} };
 
+    fn batch(&self) -> u64 {
+        self.batch
+    }
+
     fn take_batch(&mut self) -> u64 {
-        let count = count_ready(self.words, self.next);
+        let count = count_ready(self.words, self.next, self.batch);
         give_back(self.words, count);
         if let Some(more) = self.more {
-            give_back(more, count_ready(more, self.next));
+            give_back(more, count_ready(more, self.next, self.batch));
         }
         self.next = self.next.wrapping_add(count);
         count
     }
 }
 
-// How many tickets from this one on are finished, at most a batch.
-fn count_ready(words: &Words, next: u64) -> u64 {
+// How many tickets from this one on are finished, at most so many.
+fn count_ready(words: &Words, next: u64, most: u64) -> u64 {
     let mut count: u64 = 0;
-    for _ in 0..TAKES {
+    for _ in 0..most {
         let ticket = next.wrapping_add(count);
         if words.mark_of(ticket).load(Ordering::SeqCst) != ticket.wrapping_add(1) {
             break;

@@ -1,7 +1,9 @@
-//! How long calls take: those of a report queue, and reports, beside the atomic operations that they make, those of
-//! aggregation windows over 256 events beside those over one, and stores in an event memory.
+//! How long calls take: those of a report queue, reports, and turns, beside the atomic operations that they make, empty
+//! turns over many event buffers beside those over few, those of aggregation windows over 256 events beside those over
+//! one, and stores in an event memory.
 //!
-//! Layer 12, measuring. Over `report_queue`, `report_api`, `filter_aggregate` and `event_memory`. With the word `count`
+//! Layer 12, measuring. Over `report_queue`, `report_api`, `main_function`, `event_chain`, `filter_aggregate` and
+//! `event_memory`. With the word `count`
 //! it makes a few rounds and prints how many calls went as they were to go, which is the same each time;
 //! with no word it prints the tables of times. No clause says how fast anything is.
 #![tactic(auto)]
@@ -15,16 +17,20 @@ mod rounds;
 mod samples;
 mod stores;
 mod table;
+mod turns;
 mod windows;
 mod work;
 
-use measurements::{on_one_thread, reports, with_four_callers, with_two_callers};
+use measurements::{
+    empty_turns, filtered_turns, on_one_thread, reports, turns, with_four_callers, with_two_callers,
+};
 use std::rt::{Clock, Env};
 use std::thread::Threads;
 use std::{env, io};
 use stores::store_in_turn;
 use table::{
-    print_calls, print_counts, print_head, print_pair, print_steps, print_store_time, print_stores,
+    print_calls, print_counts, print_empty, print_empty_turns, print_head, print_pair, print_steps,
+    print_store_time, print_stores, print_turns,
 };
 use windows::many_and_one;
 
@@ -35,6 +41,12 @@ const FEW: u64 = 3;
 const MANY: u64 = 20_000;
 
 const MANY_BESIDE: u64 = 4_000;
+
+/// How many rounds a measurement of turns has.
+const MANY_TURNS: u64 = 5_000;
+
+/// The context data of reports that have some.
+const CONTEXT: [u8; 16] = [7; 16];
 
 /// How many stores a measurement of the event memory has.
 const MANY_STORES: u64 = 300_000;
@@ -53,7 +65,11 @@ fn count<R: Print + Clock + AllocGlobal + Threads + Sync>(rt: &R) -> io::Result<
     print_counts(rt, "two callers", &with_two_callers(rt, FEW)?)?;
     print_counts(rt, "four callers", &with_four_callers(rt, FEW)?)?;
     print_counts(rt, "reports", &reports(rt, FEW, &[])?)?;
-    print_counts(rt, "reports with context", &reports(rt, FEW, &[7; 16])?)?;
+    print_counts(rt, "reports with context", &reports(rt, FEW, &CONTEXT)?)?;
+    print_counts(rt, "turns", &turns(rt, FEW, &[])?)?;
+    print_counts(rt, "turns with context", &turns(rt, FEW, &CONTEXT)?)?;
+    print_counts(rt, "filtered turns", &filtered_turns(rt, FEW, &CONTEXT)?)?;
+    print_empty(rt, &empty_turns(rt, FEW)?)?;
     let (many, one) = many_and_one(rt, FEW)?;
     print_steps(rt, "256 events", &many)?;
     print_steps(rt, "one event", &one)?;
@@ -79,10 +95,26 @@ fn measure<R: Print + Clock + AllocGlobal + Threads + Sync>(rt: &R) -> io::Resul
     print_pair(
         rt,
         "reports with 16 bytes",
-        &mut reports(rt, MANY, &[7; 16])?,
+        &mut reports(rt, MANY, &CONTEXT)?,
     )?;
+    measure_turns(rt)?;
     print_head(rt, "256", "1")?;
     let (mut many, mut one) = many_and_one(rt, MANY)?;
     print_calls(rt, &mut many, &mut one)?;
     print_store_time(rt, &store_in_turn(rt, MANY_STORES)?)
+}
+
+// The tables of turns.
+fn measure_turns<R: Print + Clock + AllocGlobal>(rt: &R) -> io::Result<()> {
+    print_head(rt, "turns", "bare")?;
+    let mut plain = turns(rt, MANY_TURNS, &[])?;
+    print_turns(rt, "a report's share of a turn", &mut plain)?;
+    let mut with_context = turns(rt, MANY_TURNS, &CONTEXT)?;
+    print_turns(rt, "  with 16 bytes", &mut with_context)?;
+    let mut filtered = filtered_turns(rt, MANY_TURNS, &[])?;
+    print_turns(rt, "  through all filters", &mut filtered)?;
+    let mut filtered = filtered_turns(rt, MANY_TURNS, &CONTEXT)?;
+    print_turns(rt, "  with 16 bytes through all filters", &mut filtered)?;
+    print_head(rt, "1024", "16")?;
+    print_empty_turns(rt, &mut empty_turns(rt, MANY_TURNS)?)
 }

@@ -46,6 +46,10 @@ impl Caller for QueueCaller<'_> {
 
     ghost is_ready = { IsReadyCaller };
 
+    fn batch(&self) -> u64 {
+        PUTS
+    }
+
     fn put_batch(&mut self) -> u64 {
         if self.seat.calls() < MANY_CALLS {
             put_all(self.queue, &mut self.seat)
@@ -94,6 +98,10 @@ impl Taker for QueueTaker<'_> {
     ghost use Rattle.idsm_bench.specs.Ready.{IsReadyTaker};
 
     ghost is_ready = { IsReadyTaker };
+
+    fn batch(&self) -> u64 {
+        TAKES
+    }
 
     fn take_batch(&mut self) -> u64 {
         take_ready(self.queue, &mut self.taker)

@@ -5,7 +5,7 @@ ghost use Rattle.report_api.specs.Desks.{IsDeskOf};
 ghost use Rattle.report_api.specs.Passes.{IsPassOf, IsShared, sizes_of};
 ghost use Rattle.report_api.specs.Terms.{AdmitsItem};
 
-use crate::work::{Caller, PUTS, TAKES, Taker};
+use crate::work::{Caller, TAKES, Taker};
 use ids_types::{Act, Carried, EventIndex};
 use report_api::{CtxBuf, Desk, Item, Pass, Report, Shared};
 
@@ -15,12 +15,13 @@ pub struct ReportCaller<'s> {
     shared: &'s Shared,
     pass: Pass,
     context: &'s [u8],
+    batch: u64,
 }
 
 impl<'s> ReportCaller<'s> {
     ghost use Rattle.idsm_bench.specs.Ready.{IsReadyPass};
 
-    pub fn new(shared: &'s Shared, pass: Pass, context: &'s [u8]) -> ReportCaller<'s>
+    pub fn new(shared: &'s Shared, pass: Pass, context: &'s [u8], batch: u64) -> ReportCaller<'s>
         requires { IsPassOf shared.now pass }
         ensures { IsReadyPass result }
     {
@@ -28,6 +29,7 @@ impl<'s> ReportCaller<'s> {
             shared,
             pass,
             context,
+            batch,
         }
     }
 }
@@ -37,19 +39,23 @@ impl Caller for ReportCaller<'_> {
 
     ghost is_ready = { IsReadyPass };
 
+    fn batch(&self) -> u64 {
+        self.batch
+    }
+
     fn put_batch(&mut self) -> u64 {
-        report_all(self.shared, &mut self.pass, self.context)
+        report_all(self.shared, &mut self.pass, self.context, self.batch)
     }
 }
 
-// Reports as often as a batch has items, and counts what is accepted whole.
-fn report_all(shared: &Shared, pass: &mut Pass, context: &[u8]) -> u64
+// Makes so many reports, and counts what is accepted whole.
+fn report_all(shared: &Shared, pass: &mut Pass, context: &[u8], batch: u64) -> u64
     requires { IsPassOf shared.now pass.old }
     ensures mine { IsPassOf shared.now pass.new }
-    ensures count { result ≤ 256 }
+    ensures count { result ≤ batch }
 {
     let mut count = 0;
-    for _ in 0..PUTS {
+    for _ in 0..batch {
         if let Report::Accepted(_) = pass.report(shared, EventIndex(0), 1, None, context) {
             count += 1;
         }
@@ -81,6 +87,10 @@ impl Taker for DeskTaker<'_> {
     ghost use Rattle.idsm_bench.specs.Ready.{IsReadyDesk};
 
     ghost is_ready = { IsReadyDesk };
+
+    fn batch(&self) -> u64 {
+        TAKES
+    }
 
     fn take_batch(&mut self) -> u64 {
         take_ready(self.shared, &mut self.desk, &mut self.back)

@@ -1,7 +1,7 @@
 //! Rounds of batches: on one thread, and by callers in threads of their own beside a taker.
 
 use crate::samples::Samples;
-use crate::work::{Caller, PUTS, TAKES, Taker};
+use crate::work::{Caller, Taker};
 use std::alloc::Global;
 use std::hint::spin_loop;
 use std::rt::Clock;
@@ -45,7 +45,7 @@ fn time_puts<R: Clock, C: Caller>(rt: &R, caller: &mut C, puts: &mut Samples) ->
     let start = Instant::now(rt)?;
     let count = caller.put_batch();
     let nanos = nanos_since(rt, start)?;
-    puts.add(nanos, count, PUTS)?;
+    puts.add(nanos, count)?;
     Ok(())
 }
 
@@ -56,7 +56,7 @@ fn time_takes<R: Clock, T: Taker>(rt: &R, taker: &mut T, takes: &mut Samples) ->
     let start = Instant::now(rt)?;
     let count = taker.take_batch();
     let nanos = nanos_since(rt, start)?;
-    takes.add(nanos, count, TAKES)?;
+    takes.add(nanos, count)?;
     Ok(count)
 }
 
@@ -71,17 +71,36 @@ pub fn alone<R: Clock, C: Caller, T: Taker>(
     requires caller { C.is_ready caller }
     requires taker { T.is_ready taker }
 {
-    let mut puts = Samples::new(alloc);
-    let mut takes = Samples::new(alloc);
+    let mut puts = Samples::new(alloc, caller.batch());
+    let mut takes = Samples::new(alloc, taker.batch());
     for _ in 0..rounds {
         time_puts(rt, &mut caller, &mut puts)?;
-        for _ in 0..=PUTS / TAKES {
+        for _ in 0..puts.batch {
             if time_takes(rt, &mut taker, &mut takes)? == 0 {
                 break;
             }
         }
     }
     Ok(Measured { puts, takes })
+}
+
+/// On one thread: in each round a batch of takes of the first taker, and one of the second.
+pub fn takes_beside<R: Clock, T: Taker>(
+    rt: &R,
+    alloc: Global,
+    takers: (T, T),
+    rounds: u64,
+) -> io::Result<(Samples, Samples)>
+    requires { T.is_ready takers.0 × T.is_ready takers.1 }
+{
+    let (mut first, mut second) = takers;
+    let mut of_first = Samples::new(alloc, first.batch());
+    let mut of_second = Samples::new(alloc, second.batch());
+    for _ in 0..rounds {
+        time_takes(rt, &mut first, &mut of_first)?;
+        time_takes(rt, &mut second, &mut of_second)?;
+    }
+    Ok((of_first, of_second))
 }
 
 /// Where callers and their taker meet between two rounds.
@@ -128,7 +147,7 @@ fn call<R: Clock, C: Caller>(
 ) -> io::Result<Samples>
     requires { C.is_ready caller }
 {
-    let mut puts = Samples::new(alloc);
+    let mut puts = Samples::new(alloc, caller.batch());
     for round in 0..rounds {
         if !meeting.wait_for(round) {
             break;
@@ -151,7 +170,7 @@ fn serve<R: Clock, T: Taker>(
 ) -> io::Result<Samples>
     requires { T.is_ready taker }
 {
-    let mut takes = Samples::new(alloc);
+    let mut takes = Samples::new(alloc, taker.batch());
     let begun = Instant::now(rt)?;
     let mut open: u64 = 0;
     for _ in 0..LOOKS {
@@ -167,7 +186,7 @@ fn serve<R: Clock, T: Taker>(
             open = open.wrapping_add(1);
             meeting.open.store(open, Ordering::SeqCst);
         }
-        if count < TAKES {
+        if count < takes.batch {
             pause();
         }
     }

@@ -8,26 +8,30 @@ use std::alloc::{AllocError, Global};
 pub struct Samples {
     pub nanos: Vec<u64>,
     pub items: u64,
+    /// How many items a whole batch has.
+    pub batch: u64,
 }
 
 impl Samples {
-    pub fn new(alloc: Global) -> Samples
-        ensures { (result.nanos.items ≡ []) × (result.items ≡ 0) }
+    pub fn new(alloc: Global, batch: u64) -> Samples
+        ensures { (result.nanos.items ≡ []) × (result.items ≡ 0) × (result.batch ≡ batch) }
     {
         Samples {
             nanos: Vec::new(alloc),
             items: 0,
+            batch,
         }
     }
 
-    /// Adds a batch of so many items. Only one as large as it was to be counts for its time.
-    pub fn add(&mut self, nanos: u64, items: u64, whole: u64) -> Result<(), AllocError>
+    /// Adds a batch of so many items. Only a whole one counts for its time.
+    pub fn add(&mut self, nanos: u64, items: u64) -> Result<(), AllocError>
         ensures items { self.new.items ≡ (self.old.items + items) % 2 ^ 64 }
-        ensures whole { items ≡ whole → OnOk result (self.new.nanos.items ≡ self.old.nanos.items ++ nanos ∷ []) }
-        ensures part { items ≢ whole → self.new.nanos.items ≡ self.old.nanos.items }
+        ensures whole { items ≡ self.old.batch → OnOk result (self.new.nanos.items ≡ self.old.nanos.items ++ nanos ∷ []) }
+        ensures part { items ≢ self.old.batch → self.new.nanos.items ≡ self.old.nanos.items }
+        ensures batch { self.new.batch ≡ self.old.batch }
     {
         self.items = self.items.wrapping_add(items);
-        if items == whole {
+        if items == self.batch {
             self.nanos.push(nanos)?;
         }
         Ok(())
@@ -37,6 +41,7 @@ impl Samples {
     pub fn join(&mut self, other: &Samples) -> Result<(), AllocError>
         ensures items { self.new.items ≡ (self.old.items + other.now.items) % 2 ^ 64 }
         ensures nanos { OnOk result (self.new.nanos.items ≡ self.old.nanos.items ++ other.now.nanos.items) }
+        ensures batch { self.new.batch ≡ self.old.batch }
     {
         self.items = self.items.wrapping_add(other.items);
         self.nanos.extend_from_slice(other.nanos.as_slice())
@@ -45,7 +50,7 @@ impl Samples {
     /// The time of the fastest batch, and of the middle one by their order: 0 where there is none.
     pub fn fastest_and_middle(&mut self) -> (u64, u64)
         ensures fastest { All (λ nanos. result.0 ≤ nanos) self.new.nanos.items }
-        ensures items { self.new.items ≡ self.old.items }
+        ensures same { (self.new.items ≡ self.old.items) × (self.new.batch ≡ self.old.batch) }
     {
         self.nanos.sort_unstable();
         let middle = self.nanos.len() / 2;

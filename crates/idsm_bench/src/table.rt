@@ -4,8 +4,7 @@ ghost use Rattle.std.specs.Prelude.{◌<◌};
 use crate::rounds::Measured;
 use crate::samples::Samples;
 use crate::stores::Stores;
-use crate::windows::{Calls, STEPS};
-use crate::work::{PUTS, TAKES};
+use crate::windows::Calls;
 use std::alloc::{AllocError, Global};
 use std::io;
 
@@ -41,15 +40,32 @@ pub fn print_pair<R: Print + AllocGlobal>(rt: &R, title: &str, pair: &mut Pair) 
         "  claim and fill",
         &mut pair.queued.puts,
         &mut pair.bare.puts,
-        PUTS,
     )?;
     print_line(
         rt,
         "  take and its share of giving back",
         &mut pair.queued.takes,
         &mut pair.bare.takes,
-        TAKES,
     )
+}
+
+/// Prints the line of turns: what each of their reports costs.
+pub fn print_turns<R: Print + AllocGlobal>(rt: &R, title: &str, pair: &mut Pair) -> io::Result<()> {
+    print_line(rt, title, &mut pair.queued.takes, &mut pair.bare.takes)
+}
+
+/// Prints a line with how many empty turns there were over many buffers, and over few.
+pub fn print_empty<R: Print>(rt: &R, turns: &(Samples, Samples)) -> io::Result<()> {
+    let (many, few) = (turns.0.items, turns.1.items);
+    println!(rt; "empty turns: {many} over 1024 buffers, {few} over 16")
+}
+
+/// Prints the line of empty turns over many buffers beside those over few.
+pub fn print_empty_turns<R: Print + AllocGlobal>(
+    rt: &R,
+    turns: &mut (Samples, Samples),
+) -> io::Result<()> {
+    print_line(rt, "an empty turn", &mut turns.0, &mut turns.1)
 }
 
 /// Prints a line with how many stores there were, and how many records there are then.
@@ -82,15 +98,9 @@ pub fn print_calls<R: Print + AllocGlobal>(
     one: &mut Calls,
 ) -> io::Result<()> {
     println!(rt; "aggregation windows")?;
-    print_line(rt, "  arrive", &mut many.arrivals, &mut one.arrivals, STEPS)?;
-    print_line(rt, "  close_due", &mut many.looks, &mut one.looks, STEPS)?;
-    print_line(
-        rt,
-        "  a whole window",
-        &mut many.pairs,
-        &mut one.pairs,
-        STEPS,
-    )
+    print_line(rt, "  arrive", &mut many.arrivals, &mut one.arrivals)?;
+    print_line(rt, "  close_due", &mut many.looks, &mut one.looks)?;
+    print_line(rt, "  a whole window", &mut many.pairs, &mut one.pairs)
 }
 
 fn print_line<R: Print + AllocGlobal>(
@@ -98,10 +108,8 @@ fn print_line<R: Print + AllocGlobal>(
     title: &str,
     measured: &mut Samples,
     base: &mut Samples,
-    items: u64,
-) -> io::Result<()>
-    requires { 0 < items }
-{
+) -> io::Result<()> {
+    let items = measured.batch.max(1);
     let (measured_fastest, measured_middle) = measured.fastest_and_middle();
     let (base_fastest, base_middle) = base.fastest_and_middle();
     print!(rt; "{title:<36}")?;

@@ -16,7 +16,7 @@ use std::rt::Clock;
 use std::time::Instant;
 
 /// How many steps a batch has.
-pub const STEPS: u64 = 256;
+const STEPS: u64 = 256;
 
 /// How long a window stays open, in ticks.
 const INTERVAL: u64 = 1_000;
@@ -43,9 +43,9 @@ enum Step {
 impl Calls {
     fn new(alloc: Global) -> Calls {
         Calls {
-            pairs: Samples::new(alloc),
-            arrivals: Samples::new(alloc),
-            looks: Samples::new(alloc),
+            pairs: Samples::new(alloc, STEPS),
+            arrivals: Samples::new(alloc, STEPS),
+            looks: Samples::new(alloc, STEPS),
         }
     }
 }
@@ -84,7 +84,7 @@ fn time<R: Clock>(
     let start = Instant::now(rt)?;
     let count = call_all(windows, events, step);
     let nanos = nanos_since(rt, start)?;
-    times.add(nanos, count, STEPS)?;
+    times.add(nanos, count)?;
     Ok(())
 }
 
