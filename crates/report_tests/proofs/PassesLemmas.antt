@@ -1,5 +1,5 @@
 -- Passes that tests keep, one by one.
-use Rattle.std.proofs.Common.{◌≡◌, ℕ, ◌<◌, ◌⊎◌, ⊎_elim, inl, inr, List, [], length, set, slice_index_or, subst, sym, ◌∙◌, arith, All}
+use Rattle.std.proofs.Common.{◌≡◌, ℕ, ◌<◌, ⊎_elim, List, length, set, slice_index_or, subst, sym, ap, ◌∙◌, arith, All}
 use Rattle.std.proofs.lemmas.List.{get_or_default, length-set}
 use mathlib.Core.Option.{some, some-injective}
 use lib.ListN.{get_elem?}
@@ -38,18 +38,19 @@ module _ {shared : Shared} {reports : TakerView Act} {passes : List Pass} where
         (at_set passes i j pass other at);
   }
 
-  -- all of them made calls
-  pub all_called : AreAllPasses shared reports passes → (news : List Pass) → AreSamePasses shared passes news → AreAllPasses shared reports news
-  all_called are news same = record {
-    all = same.as_many ∙ are.all;
+  -- all of them made calls, and none came back meanwhile
+  pub all_called : AreAllPasses shared reports passes → (now : TakerView Act) (news : List Pass) → now.back ≡ reports.back
+      → AreSamePasses shared passes news → AreAllPasses shared now news
+  all_called are now news back same = record {
+    all = same.as_many ∙ (are.all ∙ ap length (sym back));
     each = λ i pass at.
         let low = at_length news i pass at in
         let here = same.each i pass low in
-        let now : slice_index_or news i pass ≡ pass = some-injective _ _ (sym (at_place news i pass low) ∙ at) in
+        let is : slice_index_or news i pass ≡ pass = some-injective _ _ (sym (at_place news i pass low) ∙ at) in
         let was = are.each i _ (at_place passes i pass (subst (λ (n : ℕ). i < n) same.as_many low)) in
-        subst (λ (p : Pass). IsPassOf shared p × ((pass_view p).caller ≡ i)) now (here.is_pass, here.same ∙ was.1);
+        subst (λ (p : Pass). IsPassOf shared p × ((pass_view p).caller ≡ i)) is (here.is_pass, here.same ∙ was.1);
   }
 
--- and are passes of the making
+-- passes that made calls are of the making
 pub same_all : {shared : Shared} {olds news : List Pass} → AreSamePasses shared olds news → All (IsPassOf shared) news
 same_all same = λ i d low. (same.each i d low).is_pass

@@ -4,7 +4,7 @@ use Rattle.buffer_classes.specs.Buffers.{Buffer}
 use Rattle.report_queue.specs.Views.{TakerView}
 use Rattle.report_api.specs.Desks.{desk_view}
 use Rattle.report_api.specs.Names.{Act}
-use Rattle.report_api.specs.Passes.{IsPassOf, pass_view}
+use Rattle.report_api.specs.Passes.{IsPassOf, pass_view, sizes_of}
 use Rattle.report_api.specs.declared.pass.Pass.{Pass}
 use Rattle.report_api.specs.declared.shared.Shared.{Shared}
 use Rattle.main_function.specs.Standing.{AreAllPasses, IsManagerOf}
@@ -24,7 +24,14 @@ pub record AreSamePasses (shared : Shared) (old new : List Pass) : Type 0 where
 abbrev pub ArePassesLeft : Shared → TakerView Act → List Pass → Type 0
 ArePassesLeft shared reports passes = (passes ≡ []) ⊎ AreAllPasses shared reports passes
 
--- the manager is the one of its making, between two calls
-pub record IsRunning {C : Type 0} (events : C → ℕ) (kept : C → List Buffer) (shared : Shared) (passes : List Pass) (m : Manager C) : Type 0 where
-  pub manager_is : IsManagerOf events kept shared m
-  pub passes_are : ArePassesLeft shared (desk_view m.desk) passes
+module _ {C : Type 0} (events : C → ℕ) (kept : C → List Buffer) (shared : Shared) where
+  -- the manager is the one of its making, between two calls, with so many classes
+  pub record IsRunning (classes : ℕ) (passes : List Pass) (m : Manager C) : Type 0 where
+    pub manager_is : IsManagerOf events kept shared m
+    pub classes_are : classes ≡ length (sizes_of shared)
+    pub passes_are : ArePassesLeft shared (desk_view m.desk) passes
+
+  -- it is that still, and took no pass back meanwhile
+  pub record IsSameManager (old new : Manager C) : Type 0 where
+    pub manager_is : IsManagerOf events kept shared new
+    pub none_back : (desk_view new.desk).back ≡ (desk_view old.desk).back

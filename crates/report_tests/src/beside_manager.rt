@@ -1,16 +1,17 @@
 //! Callers in threads of their own, beside turns of a manager.
 ghost use Rattle.std.specs.Prelude.{◌≡◌, true, All, OnOk};
 ghost use Rattle.std.specs.Thread.{IsSync};
+ghost use Rattle.report_api.specs.Desks.{desk_view};
 ghost use Rattle.report_api.specs.Passes.{IsPassOf};
-ghost use Rattle.report_tests.specs.Running.{AreSamePasses};
-ghost use Rattle.main_function.specs.Standing.{IsManagerOf};
+ghost use Rattle.report_tests.specs.Running.{AreSamePasses, IsSameManager};
+ghost use Rattle.main_function.specs.Standing.{AreAllPasses, IsManagerOf};
 
 use crate::callers::{Answers, FOUR_CALLERS, Tally, report_beside};
 use chain::Chain;
 use config_json::read;
 use event_chain::EventChain;
 use ids_types::TurnOut;
-use main_function::{Made, Manager, make};
+use main_function::{Made, Manager, Totals, make};
 use report_api::{CtxBuf, Pass, Shared};
 use std::sync::atomic::{AtomicU64, Ordering};
 use std::test::*;
@@ -44,7 +45,7 @@ impl Told {
 // Makes a turn, of a tick that never falls.
 fn make_turn<C: Chain<CtxBuf>>(shared: &Shared, manager: &mut Manager<C>, told: &mut Told)
     requires { IsManagerOf C.events C.kept shared.now manager.old }
-    ensures { IsManagerOf C.events C.kept shared.now manager.new }
+    ensures { IsSameManager C.events C.kept shared.now manager.old manager.new }
 {
     let tick = manager.turns();
     if !manager.fits() || tick > MOST_TURNS {
@@ -63,7 +64,7 @@ fn make_turns<C: Chain<CtxBuf>>(
     done: &AtomicU64,
 )
     requires { IsManagerOf C.events C.kept shared.now manager.old }
-    ensures { IsManagerOf C.events C.kept shared.now manager.new }
+    ensures { IsSameManager C.events C.kept shared.now manager.old manager.new }
 {
     for turn in 1..MOST_TURNS {
         let all = done.load(Ordering::SeqCst) == 4;
@@ -86,7 +87,7 @@ fn run<R: Threads + Sync, C: Chain<CtxBuf>>(
 )
     requires manager { IsManagerOf C.events C.kept shared.now manager.old }
     requires passes { All (IsPassOf shared.now) passes.old }
-    ensures manager { IsManagerOf C.events C.kept shared.now manager.new }
+    ensures manager { IsSameManager C.events C.kept shared.now manager.old manager.new }
     ensures passes { AreSamePasses shared.now passes.old passes.new }
 {
     let count = AtomicU64::new(0);
@@ -99,9 +100,32 @@ fn run<R: Threads + Sync, C: Chain<CtxBuf>>(
         { report_beside(rt, shared, passes, answers, done) },
         &mut || -> ()
             requires { IsManagerOf C.events C.kept shared.now manager.now }
-            ensures { IsManagerOf C.events C.kept shared.entry.now manager.exit.now }
+            ensures { IsSameManager C.events C.kept shared.entry.now manager.entry.now manager.exit.now }
         { make_turns(shared, manager, told, done) },
     );
+}
+
+// Closes the manager, and answers what all its turns took and lost.
+fn close<C: Chain<CtxBuf>>(
+    shared: &Shared,
+    manager: &mut Manager<C>,
+    passes: &mut Vec<Pass>,
+    told: &mut Told,
+) -> Option<Totals>
+    requires manager { IsManagerOf C.events C.kept shared.now manager.old }
+    requires passes { AreAllPasses shared.now (desk_view manager.old.desk) passes.old.items }
+{
+    let tick = manager.turns();
+    if !manager.fits() || tick > MOST_TURNS {
+        return None;
+    }
+    match manager.close(shared, passes, tick) {
+        Ok((out, totals)) => {
+            told.add(out);
+            Some(totals)
+        }
+        Err(_) => None,
+    }
 }
 
 #[test]
@@ -120,7 +144,9 @@ fn four_callers_report_beside_turns(rt: HostRuntime) -> Result<(), Fail> {
         lost_contexts: 0,
     };
     run(&rt, &shared, &mut manager, &mut told, &mut passes, &answers);
+    let totals = close(&shared, &mut manager, &mut passes, &mut told).expect(&rt, "totals");
+    assert_eq!(rt; told.tally.totals(&answers), Some(totals));
     let swept = (told.lost_events, told.lost_contexts);
-    assert_eq!(rt; Some(swept), told.tally.agree(&answers));
+    assert_eq!(rt; swept, (totals.lost_events, totals.lost_contexts));
     Ok(())
 }

@@ -4,6 +4,7 @@ ghost use Rattle.report_api.specs.Passes.{IsPassOf};
 ghost use Rattle.report_tests.specs.Running.{AreSamePasses, IsSamePass};
 
 use ids_types::{Act, Carried, EventIndex, Parcel};
+use main_function::Totals;
 use report_api::{Pass, Report, Shared};
 use std::sync::atomic::{AtomicU64, Ordering};
 use std::thread;
@@ -126,26 +127,34 @@ impl Tally {
         }
     }
 
-    /// How many calls were lost, and how many miss their context, where each call of each caller is found or was
-    /// answered as lost; `None` where one is not, or did not come as it was to come.
-    pub fn agree(&self, answers: &[Answers; 4]) -> Option<(u64, u64)> {
-        let (mut lost, mut missing) = (0u64, 0u64);
+    /// How many calls were found, were lost, and miss their context, where each call of each caller was found or
+    /// was answered as lost; `None` where one was not, or did not come as it was to come.
+    pub fn totals(&self, answers: &[Answers; 4]) -> Option<Totals> {
+        let (mut entries, mut lost_events, mut lost_contexts) = (0u64, 0u64, 0u64);
         for caller in 0..4 {
             let told = &answers[caller];
             let whole = told.whole.load(Ordering::SeqCst);
             let without = told.without.load(Ordering::SeqCst);
-            let gone = told.lost.load(Ordering::SeqCst);
+            let lost = told.lost.load(Ordering::SeqCst);
             let accepted = whole.wrapping_add(without);
-            if accepted.wrapping_add(gone) != REPORTS
+            if accepted.wrapping_add(lost) != REPORTS
                 || self.found[caller] != accepted
                 || self.without[caller] != without
             {
                 return None;
             }
-            lost = lost.wrapping_add(gone);
-            missing = missing.wrapping_add(without);
+            entries = entries.wrapping_add(accepted);
+            lost_events = lost_events.wrapping_add(lost);
+            lost_contexts = lost_contexts.wrapping_add(without);
         }
-        if self.fair { Some((lost, missing)) } else { None }
+        if !self.fair {
+            return None;
+        }
+        Some(Totals {
+            entries,
+            lost_events,
+            lost_contexts,
+        })
     }
 }
 

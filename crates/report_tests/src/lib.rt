@@ -14,6 +14,8 @@ mod callers;
 #[cfg(test)]
 mod calls;
 #[cfg(test)]
+mod closing;
+#[cfg(test)]
 mod reporting;
 #[cfg(test)]
 mod steps;

@@ -10,18 +10,19 @@ use chain::Chain;
 use config_json::read;
 use event_chain::EventChain;
 use ids_types::{NoMemory, TurnOut};
-use main_function::{Made, Manager, TurnFault, make};
+use main_function::{Made, Manager, Totals, TurnFault, make};
 use report_api::{CtxBuf, Pass, Shared};
 use std::alloc::Global;
 use std::test::Fail;
 use text_spec::{push_field, push_hex, push_number};
 
-/// A manager, what it shares with its callers, and the passes that are not back.
+// A manager, what it shares with its callers, how many classes that has, and the passes that are not back.
 #[derive(Drop)]
-pub struct Run<C> {
-    pub shared: Shared,
-    pub manager: Manager<C>,
-    pub passes: Vec<Pass>,
+struct Run<C> {
+    shared: Shared,
+    classes: usize,
+    manager: Manager<C>,
+    passes: Vec<Pass>,
 }
 
 impl<C: Chain<CtxBuf>> Run<C> {
@@ -31,7 +32,7 @@ impl<C: Chain<CtxBuf>> Run<C> {
         alloc: Global,
         table: &'static str,
     ) -> Result<Option<&'static str>, NoMemory>
-        requires { IsRunning C.events C.kept self.old.shared self.old.passes.items self.old.manager }
+        requires { IsRunning C.events C.kept self.old.shared self.old.classes self.old.passes.items self.old.manager }
     {
         for line in table.lines() {
             let (step, wanted) = line.split_once(" => ").unwrap_or((line, ""));
@@ -46,11 +47,12 @@ impl<C: Chain<CtxBuf>> Run<C> {
 
     // Makes a step, and tells its answer.
     fn answer(&mut self, alloc: Global, step: &str, told: &mut Vec<u8>) -> Result<(), NoMemory>
-        requires { IsRunning C.events C.kept self.old.shared self.old.passes.items self.old.manager }
-        ensures { IsRunning C.events C.kept self.new.shared self.new.passes.items self.new.manager }
+        requires { IsRunning C.events C.kept self.old.shared self.old.classes self.old.passes.items self.old.manager }
+        ensures { IsRunning C.events C.kept self.new.shared self.new.classes self.new.passes.items self.new.manager }
     {
         match word(step, 0) {
             "turn" => self.turn(alloc, number(step, 1), told),
+            "close" => self.close(alloc, number(step, 1), told),
             "rest" => self.rest(told),
             "reserve" => self.reserve(told),
             "tell" => self.tell(alloc, step, told),
@@ -59,8 +61,8 @@ impl<C: Chain<CtxBuf>> Run<C> {
     }
 
     fn call(&mut self, step: &str, told: &mut Vec<u8>) -> Result<(), NoMemory>
-        requires { IsRunning C.events C.kept self.old.shared self.old.passes.items self.old.manager }
-        ensures { IsRunning C.events C.kept self.new.shared self.new.passes.items self.new.manager }
+        requires { IsRunning C.events C.kept self.old.shared self.old.classes self.old.passes.items self.old.manager }
+        ensures { IsRunning C.events C.kept self.new.shared self.new.classes self.new.passes.items self.new.manager }
     {
         let caller = number(step, 1) as usize;
         if caller >= self.passes.len() {
@@ -70,8 +72,8 @@ impl<C: Chain<CtxBuf>> Run<C> {
     }
 
     fn turn(&mut self, alloc: Global, tick: u64, told: &mut Vec<u8>) -> Result<(), NoMemory>
-        requires { IsRunning C.events C.kept self.old.shared self.old.passes.items self.old.manager }
-        ensures { IsRunning C.events C.kept self.new.shared self.new.passes.items self.new.manager }
+        requires { IsRunning C.events C.kept self.old.shared self.old.classes self.old.passes.items self.old.manager }
+        ensures { IsRunning C.events C.kept self.new.shared self.new.classes self.new.passes.items self.new.manager }
     {
         if !self.manager.fits() || self.manager.turns() >= 1000 {
             return Ok(told.extend_from_slice(b"no room")?);
@@ -82,9 +84,25 @@ impl<C: Chain<CtxBuf>> Run<C> {
         }
     }
 
+    fn close(&mut self, alloc: Global, tick: u64, told: &mut Vec<u8>) -> Result<(), NoMemory>
+        requires { IsRunning C.events C.kept self.old.shared self.old.classes self.old.passes.items self.old.manager }
+        ensures { IsRunning C.events C.kept self.new.shared self.new.classes self.new.passes.items self.new.manager }
+    {
+        if self.passes.is_empty() || !self.manager.fits() || self.manager.turns() >= 1000 {
+            return Ok(told.extend_from_slice(b"no room")?);
+        }
+        match self.manager.close(&self.shared, &mut self.passes, tick) {
+            Ok((out, totals)) => {
+                tell_turn(alloc, out, told)?;
+                tell_totals(told, &totals)
+            }
+            Err(fault) => tell_fault(told, fault),
+        }
+    }
+
     fn rest(&mut self, told: &mut Vec<u8>) -> Result<(), NoMemory>
-        requires { IsRunning C.events C.kept self.old.shared self.old.passes.items self.old.manager }
-        ensures { IsRunning C.events C.kept self.new.shared self.new.passes.items self.new.manager }
+        requires { IsRunning C.events C.kept self.old.shared self.old.classes self.old.passes.items self.old.manager }
+        ensures { IsRunning C.events C.kept self.new.shared self.new.classes self.new.passes.items self.new.manager }
     {
         if self.passes.is_empty() {
             return Ok(told.extend_from_slice(b"no pass")?);
@@ -94,18 +112,33 @@ impl<C: Chain<CtxBuf>> Run<C> {
     }
 
     fn reserve(&mut self, told: &mut Vec<u8>) -> Result<(), NoMemory>
-        requires { IsRunning C.events C.kept self.old.shared self.old.passes.items self.old.manager }
-        ensures { IsRunning C.events C.kept self.new.shared self.new.passes.items self.new.manager }
+        requires { IsRunning C.events C.kept self.old.shared self.old.classes self.old.passes.items self.old.manager }
+        ensures { IsRunning C.events C.kept self.new.shared self.new.classes self.new.passes.items self.new.manager }
     {
         self.manager.reserve()?;
         Ok(told.extend_from_slice(b"reserved")?)
     }
 
+    // How many buffers of a class are late, the largest number where there is no such class.
+    fn late(&self, class: u64) -> u16
+        requires { IsRunning C.events C.kept self.now.shared self.now.classes self.now.passes.items self.now.manager }
+    {
+        let class = class as usize;
+        if class < self.classes && class < 4 {
+            self.manager.late(class as u8)
+        } else {
+            u16::MAX
+        }
+    }
+
     // Tells what the manager shows.
-    fn tell(&self, alloc: Global, step: &str, told: &mut Vec<u8>) -> Result<(), NoMemory> {
+    fn tell(&self, alloc: Global, step: &str, told: &mut Vec<u8>) -> Result<(), NoMemory>
+        requires { IsRunning C.events C.kept self.now.shared self.now.classes self.now.passes.items self.now.manager }
+    {
         match word(step, 1) {
             "turns" => push_number(told, self.manager.turns()),
             "passes" => push_number(told, self.passes.len() as u64),
+            "late" => push_number(told, u64::from(self.late(number(step, 2)))),
             "fits" => push_number(told, u64::from(self.manager.fits())),
             "rests" => {
                 push_number(told, self.manager.rests().len() as u64)?;
@@ -143,6 +176,13 @@ fn tell_turn(alloc: Global, out: &TurnOut, told: &mut Vec<u8>) -> Result<(), NoM
     push_hex(told, out.sent())
 }
 
+fn tell_totals(told: &mut Vec<u8>, totals: &Totals) -> Result<(), NoMemory> {
+    told.extend_from_slice(b" totals")?;
+    push_field(told, totals.entries)?;
+    push_field(told, totals.lost_events)?;
+    push_field(told, totals.lost_contexts)
+}
+
 fn tell_fault(told: &mut Vec<u8>, fault: TurnFault) -> Result<(), NoMemory> {
     let text = match fault {
         TurnFault::TickBack => "tick back",
@@ -166,6 +206,7 @@ pub fn first_wrong(
     } = make(alloc, &config, chain)?;
     let mut run = Run {
         shared,
+        classes: config.parts().classes.len(),
         manager,
         passes,
     };

@@ -12,5 +12,6 @@ returns g c =
     let all = all_left c.requires.passes_are c.number-caller.result (search rules) in
     record {
       manager_is = c.requires.manager_is;
+      classes_are = c.requires.classes_are;
       passes_are = inr (one_called all c.number-caller.result c.index_mut.result.now c.call.new.pass (search rules) (search (rules, c.call.ensures)));
     }
