@@ -4,6 +4,10 @@ ghost use Rattle.ring_core.specs.Machine.{all_free as all_free_word};
 ghost use Rattle.ring_core.specs.Words.{field_of};
 ghost use Rattle.permit_ring.specs.Calls.{ReapTells, TriesTell, OfferTells, vacant_after};
 ghost use Rattle.permit_ring.specs.Closing.{AreAllBack, IsAllReaped, IsSettled, AreAllSwept, swept_of};
+ghost use Rattle.permit_ring.specs.Names.{Empty};
+ghost use Rattle.permit_ring.specs.Told.{saw_mark};
+ghost use Rattle.atomic_table.specs.Table.{step};
+ghost use mathlib.Core.Option.{none};
 ghost use Rattle.permit_ring.specs.Steps.{reads, offers_all, misses, sweeps, welcomes};
 
 use crate::answer::Unready;
@@ -73,12 +77,12 @@ impl<F: Freight> Keeper<F> {
         ensures settled { IfErr result (λ _. AreAllBack (keeper_memo self.old) → IsSettled (keeper_memo self.new)) }
     {
         let position = self.next as usize;
-        let words = &ring.table.shared;
-        let mark = words.load::<SeesMark<F>>(&mut self.place, position + MARKS);
+        let mark = self.read_mark(ring);
         if mark != self.reaped + 1 {
             return Err(Unready { mark });
         }
-        let old = words.exchange(&mut self.place, position, Slot::Empty);
+        let words = &ring.table.shared;
+        let old = words.exchange(&mut self.place, position, empty());
         let Slot::Finished(value) = old else {
             unreachable!()
         };
@@ -87,6 +91,20 @@ impl<F: Freight> Keeper<F> {
         self.vacant += 1;
         self.next = ring.after(self.next);
         Ok(value)
+    }
+
+    // Reads the mark of the next ticket. It is not inlined: a load in a function of its own does not stop the compiler
+    // from leaving out copies of items that stand around it.
+    #[inline(never)]
+    fn read_mark(&mut self, ring: &Ring<F>) -> u64
+        requires mine { IsKeeperOf F.admits_offered ring.now self.old }
+        ensures saw { saw_mark F.note F.admits_note (step ring.now.table.shared.table_id.slots (self.old.next + 3) 0 0 none) self.old.place.me result self.new.place.me }
+        ensures place { (self.new.place.table_id ≡ self.old.place.table_id) × (self.new.place.id ≡ self.old.place.id) }
+        ensures same { self.new ≡ record self.old { place = self.new.place } }
+    {
+        ring.table
+            .shared
+            .load::<SeesMark<F>>(&mut self.place, self.next as usize + MARKS)
     }
 
     /// Puts a value into the first reaped position that is not filled. In hand the filled slots are
@@ -218,6 +236,13 @@ impl<F: Freight> Keeper<F> {
         let words = &ring.table.shared;
         words.join_seat::<Lives>(&mut self.place, seat.into_place());
     }
+}
+
+// The slot of a position that was reaped.
+fn empty<O, D>() -> Slot<O, D>
+    ensures { result ≡ Empty }
+{
+    Slot::Empty
 }
 
 // Turns the first slots in hand behind the others. Nothing of it is left when it runs.
