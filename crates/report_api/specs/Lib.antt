@@ -1,7 +1,7 @@
 pub mod Answers
+pub mod Controls
 pub mod Desks
 pub mod Making
 pub mod Names
 pub mod Passes
-pub mod Requests
 pub mod Terms

@@ -18,7 +18,6 @@ use Rattle.report_api.specs.Passes.{IsPassOf, IsShared, pass_view}
 use Rattle.report_api.specs.Terms.{is_sensor, term_sizes}
 use Rattle.report_api.specs.declared.desk.Desk.{Desk}
 use Rattle.report_api.specs.declared.pass.Pass.{Pass}
-use Rattle.report_api.specs.declared.request.Request.{Request}
 use Rattle.report_api.specs.declared.shared.Reports.{Reports}
 use Rattle.report_api.specs.declared.shared.Shared.{Shared}
 use Rattle.report_api.specs.declared.terms.ReportTerms.{ReportTerms}
@@ -32,7 +31,7 @@ pub record IsOfConfig (config : Parts) (terms : ReportTerms) : Type 0 where
 
 -- a caller at the queue of reports
 abbrev pub Caller : Type 0
-Caller = QueueSeat Reports Request ReportTerms Act
+Caller = QueueSeat Reports Act ReportTerms Act
 
 -- the pass of a caller and a claimant
 abbrev pub pass_of : Caller × ClaimSeat → Pass

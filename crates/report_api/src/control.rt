@@ -4,15 +4,15 @@ ghost use Rattle.report_queue.specs.Parts.{caller_memo, queue_seats};
 ghost use Rattle.report_api.specs.Answers.{ControlSteps, ControlTells, ModeTells};
 ghost use Rattle.report_api.specs.Passes.{IsPassOf, pass_view};
 ghost use Rattle.report_api.specs.Names.{State};
-ghost use Rattle.report_api.specs.Requests.{IsControl, act_in};
+ghost use Rattle.report_api.specs.Controls.{IsControl};
 ghost use Rattle.report_api.specs.Terms.{AdmitsAct};
 
 use crate::answer::Control;
 use crate::pass::Pass;
 use crate::report::MOST_CALLS;
-use crate::request::Request;
 use crate::shared::Shared;
-use ids_types::{EventIndex, Mode};
+use buffer_classes::CtxBuf;
+use ids_types::{Act, EventIndex, Mode};
 
 impl Pass {
     /// Tells the block state filter that the state changed.
@@ -22,7 +22,7 @@ impl Pass {
         ensures told { ControlTells (State state) (pass_view self.old) result (pass_view self.new) }
         ensures steps { ControlSteps (queue_seats shared.now.queue) (caller_memo self.old.seat) result }
     {
-        self.control(shared, Request::State(state))
+        self.control(shared, Act::State(state))
     }
 
     /// Sets the reporting mode of an event, of an internal one too.
@@ -35,23 +35,23 @@ impl Pass {
         if !shared.terms.has_event(event) {
             return Control::UnknownEvent;
         }
-        self.control(shared, Request::SetMode { event, mode })
+        self.control(shared, Act::SetMode { event, mode })
     }
 
     // Puts a control into an event buffer, if one is free. One that is lost is not marked.
-    fn control(&mut self, shared: &Shared, request: Request) -> Control
+    fn control(&mut self, shared: &Shared, act: Act<CtxBuf>) -> Control
         requires mine { IsPassOf shared.now self.old }
-        requires admitted { AdmitsAct shared.now.terms (act_in request) }
-        requires control { IsControl request }
+        requires admitted { AdmitsAct shared.now.terms act }
+        requires control { IsControl act }
         ensures mine { IsPassOf shared.now self.new }
-        ensures told { ControlTells (act_in request) (pass_view self.old) result (pass_view self.new) }
+        ensures told { ControlTells act (pass_view self.old) result (pass_view self.new) }
         ensures steps { ControlSteps (queue_seats shared.now.queue) (caller_memo self.old.seat) result }
     {
         if self.seat.calls() == MOST_CALLS {
             return Control::PassSpent;
         }
         match self.seat.claim(&shared.queue) {
-            Ok(_) => Control::Accepted(self.seat.fill(&shared.queue, request)),
+            Ok(_) => Control::Accepted(self.seat.fill(&shared.queue, act)),
             Err(look) => Control::LostEvent(look),
         }
     }

@@ -57,14 +57,7 @@ impl Desk {
         ensures all_taken { IfErr result (λ _. AreCallersBack (desk_view self.old) → IsAllTaken (desk_view self.new)) }
         ensures same { self.new.givers ≡ self.old.givers }
     {
-        match self.taker.take(&shared.queue) {
-            Ok(item) => Ok(Item {
-                caller: item.caller,
-                call: item.call,
-                payload: item.payload.into_act(),
-            }),
-            Err(unready) => Err(unready),
-        }
+        self.taker.take(&shared.queue)
     }
 
     /// Makes the positions of all items that were taken free again, in one step, and gives the buffers of `back` to

@@ -7,10 +7,9 @@ ghost use Rattle.report_api.specs.Terms.{IsReported};
 
 use crate::answer::Report;
 use crate::pass::Pass;
-use crate::request::{Context, Request};
 use crate::shared::Shared;
 use buffer_classes::Claim;
-use ids_types::{EventIndex, Stamp};
+use ids_types::{Act, Carried, EventIndex, Stamp};
 
 /// How many calls a pass may make.
 pub(crate) const MOST_CALLS: u64 = 1 << 40;
@@ -102,17 +101,16 @@ impl Pass {
         if !context.is_empty() {
             return self.put_with_context(shared, event, count, stamp, context);
         }
-        let request = Request::Report {
+        let act = Act::Report {
             event,
             count,
             stamp,
-            context: Context::Absent,
+            context: Carried::Absent,
         };
-        Report::Accepted(self.seat.fill(&shared.queue, request))
+        Report::Accepted(self.seat.fill(&shared.queue, act))
     }
 
-    // The same where there is context. It stands apart so that a report without context pays for none of it.
-    #[inline(never)]
+    // The same where there is context.
     fn put_with_context(
         &mut self,
         shared: &Shared,
@@ -133,22 +131,26 @@ impl Pass {
         match self.claimant.claim(&shared.classes, context.len() as u64) {
             Claim::Got { mut buf, .. } => {
                 buf.fill(context);
-                let request = Request::Report {
+                let act = Act::Report {
                     event,
                     count,
                     stamp,
-                    context: Context::Kept(buf),
+                    context: Carried::Kept {
+                        class: buf.class(),
+                        claim: buf.claim(),
+                        parcel: buf,
+                    },
                 };
-                Report::Accepted(self.seat.fill(&shared.queue, request))
+                Report::Accepted(self.seat.fill(&shared.queue, act))
             }
             Claim::NoneFree(looks) => {
-                let request = Request::Report {
+                let act = Act::Report {
                     event,
                     count,
                     stamp,
-                    context: Context::Missing(looks.claimed()),
+                    context: Carried::Missing(looks.claimed()),
                 };
-                let ticket = self.seat.fill(&shared.queue, request);
+                let ticket = self.seat.fill(&shared.queue, act);
                 self.seat.mark_lost_context(&shared.queue);
                 Report::WithoutContext(ticket, looks)
             }

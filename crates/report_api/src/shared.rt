@@ -1,6 +1,5 @@
 //! What all passes and the desk share.
 
-use crate::request::Request;
 use crate::terms::ReportTerms;
 use buffer_classes::{Classes, CtxBuf};
 use ids_types::Act;
@@ -10,16 +9,15 @@ use report_queue::{Cargo, Queue};
 pub struct Reports;
 
 impl Cargo for Reports {
-    ghost use Rattle.report_api.specs.Requests.{act_in};
     ghost use Rattle.report_api.specs.Terms.{AdmitsAct};
 
-    type Load = Request;
+    type Load = Act<CtxBuf>;
 
     type Terms = ReportTerms;
 
     type Note = Act<CtxBuf>;
 
-    ghost note = { act_in };
+    ghost note = { λ act. act };
 
     ghost admits_note = { AdmitsAct };
 }

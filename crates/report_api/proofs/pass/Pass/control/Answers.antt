@@ -5,7 +5,6 @@ use Rattle.report_queue.specs.Parts.{caller_memo, item_of, queue_seats, ticket_o
 use Rattle.report_api.specs.Answers.{StepsTell}
 use Rattle.report_api.specs.Names.{Lost}
 use Rattle.report_api.specs.Passes.{sizes_of}
-use Rattle.report_api.specs.Requests.{act_in}
 use Rattle.report_api.specs.declared.pass.Pass.{Pass}
 use Rattle.report_api.proofs.ControlLemmas.{control_asks, control_misses}
 use Rattle.report_api.proofs.PassLemmas.{pass_after, same_logs}
@@ -17,9 +16,9 @@ returns-in-Ok-clause-mine c =
     let now : Pass = record { seat = c.fill.new.self; claimant = c.args.self.now.claimant } in
     record {
       at = pass_after c.requires.mine.at now c.fill.ensures.mine c.requires.mine.at.claimant refl (omega arith) _ (λ i. []) (same_logs now)
-          (λ i. control_asks (length (sizes_of c.args.shared.now)) i c.args.request c.requires.control)
-          _ (c.fill.ensures.told ∙ ap (puts c.fill.result.0 (item_of c.claim.new.self (act_in c.args.request))) c.in-Ok.ensures.told) refl refl (omega arith)
-          (omega (arith, control_misses c.args.request c.requires.control));
+          (λ i. control_asks (length (sizes_of c.args.shared.now)) i c.args.act c.requires.control)
+          _ (c.fill.ensures.told ∙ ap (puts c.fill.result.0 (item_of c.claim.new.self c.args.act)) c.in-Ok.ensures.told) refl refl (omega arith)
+          (omega (arith, control_misses c.args.act c.requires.control));
       is_idle = c.fill.ensures.held;
     }
 

@@ -19,7 +19,8 @@ returns-in-Got-clause-mine c =
     let first = first_fitting (length c.args.context.now) (sizes_of c.args.shared.now) in
     record {
       at = pass_after c.requires.at now c.fill-in-Got.ensures.mine c.claim.ensures.mine c.claim.ensures.counted.1 (omega (arith, c.claim.ensures.counted.0)) _ _
-          c.in-Got.ensures.logs (λ i. kept_asks first i c.in-Got.skipped c.args.context.now c.in-Got.buf c.fill.new.self c.fill.ensures c.in-Got.ensures.told.0)
+          c.in-Got.ensures.logs (λ i. rw (c.class.ensures, c.claim-in-Got.ensures)
+          (kept_asks first i c.in-Got.skipped c.args.context.now c.in-Got.buf c.fill.new.self c.fill.ensures c.in-Got.ensures.told.0))
           _ c.fill-in-Got.ensures.told refl refl (omega arith) (omega arith);
       is_idle = c.fill-in-Got.ensures.held;
     }
