@@ -1,1 +1,2 @@
+pub mod PassesLemmas
 pub mod TakingLemmas

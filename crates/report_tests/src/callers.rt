@@ -1,282 +1,191 @@
-//! Callers in threads of their own, beside the desk.
-ghost use Rattle.std.specs.Prelude.{All, IfOk, IfSome, OnOk};
-ghost use Rattle.std.specs.Thread.{IsSync};
-ghost use Rattle.buffer_classes.specs.Givers.{AreBuffersIn};
-ghost use Rattle.report_api.specs.Desks.{IsDeskOf};
-ghost use Rattle.report_api.specs.Passes.{IsPassOf, sizes_of};
+//! Callers in threads of their own, and what is found of their calls.
+ghost use Rattle.std.specs.Prelude.{All};
+ghost use Rattle.report_api.specs.Passes.{IsPassOf};
+ghost use Rattle.report_tests.specs.Running.{AreSamePasses, IsSamePass};
 
-use crate::configured::config;
-use crate::taking::{Seen, Taken, last_of, take_one};
-use ids_types::{EventIndex, NoMemory};
-use report_api::{CtxBuf, Desk, Parts, Pass, Report, Shared, make};
-use std::alloc::{AllocError, Global};
+use ids_types::{Act, Carried, EventIndex, Parcel};
+use main_function::Totals;
+use report_api::{Pass, Report, Shared};
 use std::sync::atomic::{AtomicU64, Ordering};
-use std::test::*;
 use std::thread;
 use std::thread::Threads;
+
+/// A configuration of four callers, with few buffers for what they report.
+pub const FOUR_CALLERS: &str = concat!(
+    r#"{"form":1,"instance":18,"callers":4,"ring":16,"classes":[{"size":16,"number":8}],"#,
+    r#""events":[{"id":42,"sensor":3}]}"#
+);
 
 /// How many reports each caller makes.
 const REPORTS: u64 = 1000;
 
-/// How often the desk looks for items at most.
-const LOOKS: u64 = 100_000_000;
-
-/// A pass, and how many of its reports were accepted whole, without their context, and lost.
+/// How many reports of a caller were accepted whole, without their context, and lost.
 #[derive(Drop)]
-struct Caller {
-    pass: Pass,
-    whole: u64,
-    without: u64,
-    lost: u64,
+pub struct Answers {
+    whole: AtomicU64,
+    without: AtomicU64,
+    lost: AtomicU64,
 }
 
-impl Caller {
-    // Reports an event, with 16 bytes of context at every other call, each of which is the caller's number.
-    fn report(&mut self, shared: &Shared, call: u64)
-        requires { IsPassOf shared.now self.old.pass }
-        ensures { IsPassOf shared.now self.new.pass }
-    {
-        let bytes = [self.pass.caller(); 16];
-        let context: &[u8] = if call % 2 == 0 { &bytes } else { &[] };
-        match self.pass.report(shared, EventIndex(0), 1, None, context) {
-            Report::Accepted(_) => self.whole = self.whole.wrapping_add(1),
-            Report::WithoutContext(_, _) => self.without = self.without.wrapping_add(1),
-            Report::LostEvent(_) => self.lost = self.lost.wrapping_add(1),
+fn count(counter: &AtomicU64) {
+    counter.fetch_add(1, Ordering::SeqCst);
+}
+
+impl Answers {
+    /// Nothing was answered yet.
+    pub fn none() -> Answers {
+        Answers {
+            whole: AtomicU64::new(0),
+            without: AtomicU64::new(0),
+            lost: AtomicU64::new(0),
+        }
+    }
+
+    fn add(&self, report: &Report) {
+        match report {
+            Report::Accepted(_) => count(&self.whole),
+            Report::WithoutContext(_, _) => count(&self.without),
+            Report::LostEvent(_) => count(&self.lost),
             Report::UnknownEvent | Report::ZeroCount | Report::PassSpent => {}
         }
     }
+}
 
-    fn report_all(&mut self, shared: &Shared)
-        requires { IsPassOf shared.now self.old.pass }
-        ensures { IsPassOf shared.now self.new.pass }
-    {
-        for call in 0..REPORTS {
-            self.report(shared, call);
-        }
+// Reports an event, with 16 bytes of context at every other call, each of which is the caller's number.
+fn report(shared: &Shared, pass: &mut Pass, call: u64) -> Report
+    requires { IsPassOf shared.now pass.old }
+    ensures { IsSamePass shared.now pass.old pass.new }
+{
+    let bytes = [pass.caller(); 16];
+    let context: &[u8] = if call % 2 == 0 { &bytes } else { &[] };
+    pass.report(shared, EventIndex(0), 1, None, context)
+}
+
+fn report_all(shared: &Shared, pass: &mut Pass, answers: &Answers)
+    requires { IsPassOf shared.now pass.old }
+    ensures { IsSamePass shared.now pass.old pass.new }
+{
+    for call in 0..REPORTS {
+        answers.add(&report(shared, pass, call));
     }
 }
 
-/// What the desk counts of each of four callers: its items, those that miss their context, and the least call that
-/// its next item may have; and whether all came as they were to come.
+/// All callers report, each in a thread of its own, and count when they are done.
+pub fn report_beside<R: Threads + Sync>(
+    rt: &R,
+    shared: &Shared,
+    passes: &mut [Pass],
+    answers: &[Answers; 4],
+    done: &AtomicU64,
+)
+    requires { All (IsPassOf shared.now) passes.old }
+    ensures { AreSamePasses shared.now passes.old passes.new }
+{
+    thread::for_each_mut(
+        rt,
+        passes,
+        4,
+        &|caller, pass: &mut Pass|
+            requires { IsPassOf shared.now pass.old }
+            ensures { IsSamePass shared.entry.now pass.old pass.new }
+        {
+            report_all(shared, pass, &answers[caller % 4]);
+            count(done);
+        },
+    );
+}
+
+/// What is found of the calls of each of four callers: how many are there, how many of these miss their context,
+/// and the least call that may come next; and whether all came as they were to come.
 #[derive(Drop)]
-struct Tally {
-    taken: [u64; 4],
+pub struct Tally {
+    found: [u64; 4],
     without: [u64; 4],
     next: [u64; 4],
     fair: bool,
 }
 
 impl Tally {
-    fn new() -> Tally {
+    /// Nothing was found yet.
+    pub fn new() -> Tally {
         Tally {
-            taken: [0; 4],
+            found: [0; 4],
             without: [0; 4],
             next: [0; 4],
             fair: true,
         }
     }
 
-    fn add(&mut self, item: &Taken) {
-        let at = (item.caller % 4) as usize;
-        self.fair = self.fair && item.caller < 4 && self.next[at] <= item.call && is_whole(item);
-        self.next[at] = item.call.wrapping_add(1);
-        self.taken[at] = self.taken[at].wrapping_add(1);
-        if let Seen::Missing(_) = item.context {
+    /// Counts a call that is found.
+    pub fn add<B: Parcel>(&mut self, caller: u8, call: u64, act: &Act<B>) {
+        let at = (caller % 4) as usize;
+        self.fair = self.fair && caller < 4 && self.next[at] <= call && is_whole(caller, call, act);
+        self.next[at] = call.wrapping_add(1);
+        self.found[at] = self.found[at].wrapping_add(1);
+        if misses_context(act) {
             self.without[at] = self.without[at].wrapping_add(1);
         }
     }
-}
 
-// Whether the context is that of the item's call.
-fn is_whole(item: &Taken) -> bool {
-    match item.context {
-        Seen::Nothing => item.call % 2 == 1,
-        Seen::Kept { len, first, .. } => { item.call % 2 == 0 && len == 16 && first == item.caller }
-        Seen::Missing(looks) => item.call % 2 == 0 && looks == 1,
-    }
-}
-
-// A turn at the desk: at most 16 items are taken, and their buffers given back.
-fn take_some(
-    shared: &Shared,
-    desk: &mut Desk,
-    back: &mut Vec<CtxBuf>,
-    tally: &mut Tally,
-) -> Result<bool, NoMemory>
-    requires desk { IsDeskOf shared.now desk.old }
-    requires back { AreBuffersIn (sizes_of shared.now) back.old.items }
-    ensures desk { IsDeskOf shared.now desk.new }
-    ensures back { OnOk result (AreBuffersIn (sizes_of shared.now) back.new.items) }
-{
-    let mut more = true;
-    for _ in 0..16 {
-        match take_one(shared, desk, back)? {
-            Some(item) => tally.add(&item),
-            None => {
-                more = false;
-                break;
+    /// How many calls were found, were lost, and miss their context, where each call of each caller was found or
+    /// was answered as lost; `None` where one was not, or did not come as it was to come.
+    pub fn totals(&self, answers: &[Answers; 4]) -> Option<Totals> {
+        let (mut entries, mut lost_events, mut lost_contexts) = (0u64, 0u64, 0u64);
+        for caller in 0..4 {
+            let told = &answers[caller];
+            let whole = told.whole.load(Ordering::SeqCst);
+            let without = told.without.load(Ordering::SeqCst);
+            let lost = told.lost.load(Ordering::SeqCst);
+            let accepted = whole.wrapping_add(without);
+            if accepted.wrapping_add(lost) != REPORTS
+                || self.found[caller] != accepted
+                || self.without[caller] != without
+            {
+                return None;
             }
+            entries = entries.wrapping_add(accepted);
+            lost_events = lost_events.wrapping_add(lost);
+            lost_contexts = lost_contexts.wrapping_add(without);
         }
-    }
-    desk.give_back(shared, back);
-    Ok(more)
-}
-
-// Turns until all callers are done.
-fn serve(
-    shared: &Shared,
-    desk: &mut Desk,
-    back: &mut Vec<CtxBuf>,
-    tally: &mut Tally,
-    done: &AtomicU64,
-) -> Result<(), NoMemory>
-    requires desk { IsDeskOf shared.now desk.old }
-    requires back { AreBuffersIn (sizes_of shared.now) back.old.items }
-    ensures desk { IsDeskOf shared.now desk.new }
-    ensures back { OnOk result (AreBuffersIn (sizes_of shared.now) back.new.items) }
-{
-    for _ in 0..LOOKS {
-        let all = done.load(Ordering::SeqCst) == 4;
-        if !take_some(shared, desk, back, tally)? && all {
-            break;
+        if !self.fair {
+            return None;
         }
-        thread::yield_now();
+        Some(Totals {
+            entries,
+            lost_events,
+            lost_contexts,
+        })
     }
-    Ok(())
 }
 
-// All callers report, each in a thread of its own.
-fn report_beside<R: Threads + Sync>(
-    rt: &R,
-    shared: &Shared,
-    done: &AtomicU64,
-    callers: &mut [Caller],
-)
-    requires { All (λ c. IsPassOf shared.now c.pass) callers.old }
-    ensures { All (λ c. IsPassOf shared.now c.pass) callers.new }
-{
-    thread::for_each_mut(
-        rt,
-        callers,
-        4,
-        &|_, caller: &mut Caller|
-            requires { IsPassOf shared.now caller.old.pass }
-            ensures { IsPassOf shared.entry.now caller.new.pass }
-        {
-            caller.report_all(shared);
-            done.fetch_add(1, Ordering::SeqCst);
-        },
-    );
+// Whether it is a report as its caller makes it at this call.
+fn is_whole<B: Parcel>(caller: u8, call: u64, act: &Act<B>) -> bool {
+    let Act::Report {
+        event,
+        count,
+        stamp,
+        context,
+    } = act
+    else {
+        return false;
+    };
+    let bare = call % 2 == 1;
+    let told = match context {
+        Carried::Absent => bare,
+        Carried::Kept { class, parcel, .. } => {
+            !bare && *class == 0 && parcel.bytes() == [caller; 16].as_slice()
+        }
+        Carried::Missing(looks) => !bare && looks.len() == 1,
+    };
+    told && *event == EventIndex(0) && *count == 1 && stamp.is_none()
 }
 
-// The desk serves beside the callers.
-fn run<R: Threads + Sync>(
-    rt: &R,
-    shared: &Shared,
-    desk: &mut Desk,
-    back: &mut Vec<CtxBuf>,
-    tally: &mut Tally,
-    callers: &mut [Caller],
-) -> Result<(), NoMemory>
-    requires desk { IsDeskOf shared.now desk.old }
-    requires back { AreBuffersIn (sizes_of shared.now) back.old.items }
-    requires callers { All (λ c. IsPassOf shared.now c.pass) callers.old }
-    ensures desk { IsDeskOf shared.now desk.new }
-    ensures back { OnOk result (AreBuffersIn (sizes_of shared.now) back.new.items) }
-    ensures callers { All (λ c. IsPassOf shared.now c.pass) callers.new }
-{
-    let count = AtomicU64::new(0);
-    let done = &count;
-    let (served, ()) = thread::join_mut(
-        rt,
-        &mut || -> Result<(), NoMemory>
-            requires { IsDeskOf shared.now desk.now × AreBuffersIn (sizes_of shared.now) back.now.items }
-            ensures desk { IsDeskOf shared.entry.now desk.exit.now }
-            ensures back { OnOk result (AreBuffersIn (sizes_of shared.entry.now) back.exit.now.items) }
-        { serve(shared, desk, back, tally, done) },
-        &mut || -> ()
-            requires { IsSync R.row × All (λ c. IsPassOf shared.now c.pass) callers.now }
-            ensures { All (λ c. IsPassOf shared.entry.now c.pass) callers.exit.now }
-        { report_beside(rt, shared, done, callers) },
-    );
-    served
-}
-
-// The passes of a making, each with nothing counted.
-fn callers_of(
-    alloc: Global,
-    shared: &Shared,
-    passes: &mut Vec<Pass>,
-) -> Result<Vec<Caller>, AllocError>
-    requires { All (IsPassOf shared.now) passes.old.items }
-    ensures { IfOk result (λ callers. All (λ c. IsPassOf shared.now c.pass) callers.items) }
-{
-    let mut callers = Vec::new(alloc);
-    for _ in 0..4 {
-        let Some(pass) = last_of(shared, passes) else {
-            break;
-        };
-        callers.push(Caller {
-            pass,
-            whole: 0,
-            without: 0,
-            lost: 0,
-        })?;
+fn misses_context<B: Parcel>(act: &Act<B>) -> bool {
+    match act {
+        Act::Report {
+            context: Carried::Missing(_),
+            ..
+        } => true,
+        _ => false,
     }
-    Ok(callers)
-}
-
-// The last of the callers that are left.
-fn last_caller(shared: &Shared, callers: &mut Vec<Caller>) -> Option<Caller>
-    requires { All (λ c. IsPassOf shared.now c.pass) callers.old.items }
-    ensures rest { All (λ c. IsPassOf shared.now c.pass) callers.new.items }
-    ensures last { IfSome result (λ c. IsPassOf shared.now c.pass) }
-{
-    callers.pop()
-}
-
-// Takes all callers back, and answers what each of them counted, by its number.
-fn welcome_all(shared: &Shared, desk: &mut Desk, mut callers: Vec<Caller>) -> [(u64, u64, u64); 4]
-    requires desk { IsDeskOf shared.now desk.old }
-    requires callers { All (λ c. IsPassOf shared.now c.pass) callers.items }
-    ensures desk { IsDeskOf shared.now desk.new }
-{
-    let mut counts = [(0, 0, 0); 4];
-    for _ in 0..4 {
-        let Some(caller) = last_caller(shared, &mut callers) else {
-            break;
-        };
-        let at = (caller.pass.caller() % 4) as usize;
-        counts[at] = (caller.whole, caller.without, caller.lost);
-        desk.welcome(shared, caller.pass);
-    }
-    counts
-}
-
-#[test]
-fn four_callers_report_beside_the_desk(rt: HostRuntime) -> Result<(), Fail> {
-    let Parts {
-        shared,
-        mut passes,
-        mut desk,
-    } = make(rt.alloc(), &config(rt.alloc(), 4, 16, &[(16, 8)])?)?;
-    let mut callers = callers_of(rt.alloc(), &shared, &mut passes)?;
-    let mut back = Vec::new(rt.alloc());
-    let mut tally = Tally::new();
-    run(&rt, &shared, &mut desk, &mut back, &mut tally, &mut callers)?;
-    let counts = welcome_all(&shared, &mut desk, callers);
-    let rest = take_some(&shared, &mut desk, &mut back, &mut tally)?;
-    assert!(rt; !rest);
-    assert!(rt; tally.fair);
-    let (mut missing, mut lost) = (0u64, 0u64);
-    for caller in 0..4 {
-        let (whole, without, gone) = counts[caller];
-        assert_eq!(rt; whole.wrapping_add(without).wrapping_add(gone), 1000);
-        assert_eq!(rt; tally.taken[caller], whole.wrapping_add(without));
-        assert_eq!(rt; tally.without[caller], without);
-        missing = missing.wrapping_add(without);
-        lost = lost.wrapping_add(gone);
-    }
-    assert_eq!(rt; desk.sweep(&shared), (lost, missing));
-    Ok(())
 }

@@ -1,5 +1,0 @@
-use Rattle.report_api.proofs.MakingLemmas.{all_passes}
-use Rattle.report_tests.proofs.one_pass.refusals_come_by_number_and_are_no_calls.Goals as goal
-
-pub last_of-requires : goal.last_of-requires
-last_of-requires g c = all_passes c.in_ok-shared.ensures

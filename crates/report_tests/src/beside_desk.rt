@@ -1,0 +1,184 @@
+//! Callers in threads of their own, beside the desk.
+ghost use Rattle.std.specs.Prelude.{All, OnOk};
+ghost use Rattle.std.specs.Thread.{IsSync};
+ghost use Rattle.buffer_classes.specs.Givers.{AreBuffersIn};
+ghost use Rattle.report_api.specs.Desks.{IsDeskOf};
+ghost use Rattle.report_api.specs.Passes.{IsPassOf, IsShared, sizes_of};
+ghost use Rattle.report_api.specs.Terms.{AdmitsAct};
+ghost use Rattle.report_tests.specs.Running.{AreSamePasses};
+
+use crate::callers::{Answers, FOUR_CALLERS, Tally, report_beside};
+use config_json::read;
+use ids_types::{Act, Carried, NoMemory};
+use report_api::{CtxBuf, Desk, Parts, Pass, Shared, make};
+use std::sync::atomic::{AtomicU64, Ordering};
+use std::test::*;
+use std::thread;
+use std::thread::Threads;
+
+/// How often the desk looks for items at most.
+const LOOKS: u64 = 100_000_000;
+
+// Puts the buffer of an act behind those that are to be given back.
+fn keep(shared: &Shared, act: Act<CtxBuf>, back: &mut Vec<CtxBuf>) -> Result<(), NoMemory>
+    requires shared { IsShared shared.now }
+    requires act { AdmitsAct shared.now.terms act }
+    requires back { AreBuffersIn (sizes_of shared.now) back.old.items }
+    ensures back { OnOk result (AreBuffersIn (sizes_of shared.now) back.new.items) }
+{
+    let Act::Report { context, .. } = act else {
+        return Ok(());
+    };
+    match context {
+        Carried::Kept { parcel, .. } => Ok(back.push(parcel)?),
+        Carried::Absent | Carried::Missing(_) => Ok(()),
+    }
+}
+
+// Takes the next item, if it is finished, and counts it.
+fn take_one(
+    shared: &Shared,
+    desk: &mut Desk,
+    back: &mut Vec<CtxBuf>,
+    tally: &mut Tally,
+) -> Result<bool, NoMemory>
+    requires desk { IsDeskOf shared.now desk.old }
+    requires back { AreBuffersIn (sizes_of shared.now) back.old.items }
+    ensures desk { IsDeskOf shared.now desk.new }
+    ensures back { OnOk result (AreBuffersIn (sizes_of shared.now) back.new.items) }
+{
+    match desk.take(shared) {
+        Ok(item) => {
+            tally.add(item.caller, item.call, &item.payload);
+            keep(shared, item.payload, back)?;
+            Ok(true)
+        }
+        Err(_) => Ok(false),
+    }
+}
+
+// A turn at the desk: at most 16 items are taken, and their buffers given back.
+fn take_some(
+    shared: &Shared,
+    desk: &mut Desk,
+    back: &mut Vec<CtxBuf>,
+    tally: &mut Tally,
+) -> Result<bool, NoMemory>
+    requires desk { IsDeskOf shared.now desk.old }
+    requires back { AreBuffersIn (sizes_of shared.now) back.old.items }
+    ensures desk { IsDeskOf shared.now desk.new }
+    ensures back { OnOk result (AreBuffersIn (sizes_of shared.now) back.new.items) }
+{
+    let mut more = true;
+    for _ in 0..16 {
+        if !take_one(shared, desk, back, tally)? {
+            more = false;
+            break;
+        }
+    }
+    desk.give_back(shared, back);
+    Ok(more)
+}
+
+// Turns until all callers are done.
+fn serve(
+    shared: &Shared,
+    desk: &mut Desk,
+    back: &mut Vec<CtxBuf>,
+    tally: &mut Tally,
+    done: &AtomicU64,
+) -> Result<(), NoMemory>
+    requires desk { IsDeskOf shared.now desk.old }
+    requires back { AreBuffersIn (sizes_of shared.now) back.old.items }
+    ensures desk { IsDeskOf shared.now desk.new }
+    ensures back { OnOk result (AreBuffersIn (sizes_of shared.now) back.new.items) }
+{
+    for _ in 0..LOOKS {
+        let all = done.load(Ordering::SeqCst) == 4;
+        if !take_some(shared, desk, back, tally)? && all {
+            break;
+        }
+        thread::yield_now();
+    }
+    Ok(())
+}
+
+// The desk serves beside the callers.
+fn run<R: Threads + Sync>(
+    rt: &R,
+    shared: &Shared,
+    desk: &mut Desk,
+    back: &mut Vec<CtxBuf>,
+    tally: &mut Tally,
+    passes: &mut [Pass],
+    answers: &[Answers; 4],
+) -> Result<(), NoMemory>
+    requires desk { IsDeskOf shared.now desk.old }
+    requires back { AreBuffersIn (sizes_of shared.now) back.old.items }
+    requires passes { All (IsPassOf shared.now) passes.old }
+    ensures desk { IsDeskOf shared.now desk.new }
+    ensures back { OnOk result (AreBuffersIn (sizes_of shared.now) back.new.items) }
+    ensures passes { AreSamePasses shared.now passes.old passes.new }
+{
+    let count = AtomicU64::new(0);
+    let done = &count;
+    let (served, ()) = thread::join_mut(
+        rt,
+        &mut || -> Result<(), NoMemory>
+            requires { IsDeskOf shared.now desk.now × AreBuffersIn (sizes_of shared.now) back.now.items }
+            ensures desk { IsDeskOf shared.entry.now desk.exit.now }
+            ensures back { OnOk result (AreBuffersIn (sizes_of shared.entry.now) back.exit.now.items) }
+        { serve(shared, desk, back, tally, done) },
+        &mut || -> ()
+            requires { IsSync R.row × All (IsPassOf shared.now) passes.now }
+            ensures { AreSamePasses shared.entry.now passes.entry.now passes.exit.now }
+        { report_beside(rt, shared, passes, answers, done) },
+    );
+    served
+}
+
+// Takes the passes back.
+fn welcome_all(shared: &Shared, desk: &mut Desk, passes: &mut Vec<Pass>)
+    requires desk { IsDeskOf shared.now desk.old }
+    requires passes { All (IsPassOf shared.now) passes.old.items }
+    ensures desk { IsDeskOf shared.now desk.new }
+{
+    while let Some(pass) = passes.pop() {
+        desk.welcome(shared, pass);
+    }
+}
+
+#[test]
+fn four_callers_report_beside_the_desk(rt: HostRuntime) -> Result<(), Fail> {
+    let Parts {
+        shared,
+        mut passes,
+        mut desk,
+    } = make(rt.alloc(), &read(rt.alloc(), FOUR_CALLERS.as_bytes())?)?;
+    let answers = [
+        Answers::none(),
+        Answers::none(),
+        Answers::none(),
+        Answers::none(),
+    ];
+    let mut back = Vec::new(rt.alloc());
+    let mut tally = Tally::new();
+    run(
+        &rt,
+        &shared,
+        &mut desk,
+        &mut back,
+        &mut tally,
+        &mut passes,
+        &answers,
+    )?;
+    welcome_all(&shared, &mut desk, &mut passes);
+    let rest = take_some(&shared, &mut desk, &mut back, &mut tally)?;
+    assert!(rt; !rest);
+    let totals = tally.totals(&answers).expect(&rt, "each call");
+    assert_eq!(rt;
+        desk.sweep(&shared),
+        (totals.lost_events, totals.lost_contexts)
+    );
+    Ok(())
+}
