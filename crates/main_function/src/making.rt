@@ -19,6 +19,7 @@ const MOST_OF_A_MESSAGE: u64 = 1044;
 const MOST_HEADS: u64 = 3;
 
 /// What callers and the manager share, the manager, and the passes by their callers' numbers.
+#[derive(Drop)]
 pub struct Made<C> {
     pub shared: Shared,
     pub manager: Manager<C>,

@@ -33,7 +33,7 @@ module _ {shared : Shared} {reports : TakerView Act} {passes : List Pass} where
     all = length-set passes i pass ∙ are.all;
     each = λ j other at. ⊎_elim
         (λ here. subst (λ (p : Pass). IsPassOf shared p × ((pass_view p).caller ≡ j)) here.1
-            (same.is_pass, same.same ∙ ((are.each i _ (at_place passes i d low)).1 ∙ sym here.0)))
+        (same.is_pass, same.same ∙ ((are.each i _ (at_place passes i d low)).1 ∙ sym here.0)))
         (λ else. are.each j other else.1)
         (at_set passes i j pass other at);
   }

@@ -8,6 +8,7 @@ use Rattle.report_api.specs.Passes.{IsPassOf, pass_view, sizes_of}
 use Rattle.report_api.specs.declared.pass.Pass.{Pass}
 use Rattle.report_api.specs.declared.shared.Shared.{Shared}
 use Rattle.main_function.specs.Standing.{AreAllPasses, IsManagerOf}
+use Rattle.main_function.specs.declared.making.Made.{Made}
 use Rattle.main_function.specs.declared.manager.Manager.{Manager}
 
 -- the pass is of the making, and of the same caller
@@ -24,14 +25,14 @@ pub record AreSamePasses (shared : Shared) (old new : List Pass) : Type 0 where
 abbrev pub ArePassesLeft : Shared → TakerView Act → List Pass → Type 0
 ArePassesLeft shared reports passes = (passes ≡ []) ⊎ AreAllPasses shared reports passes
 
-module _ {C : Type 0} (events : C → ℕ) (kept : C → List Buffer) (shared : Shared) where
+module _ {C : Type 0} (events : C → ℕ) (kept : C → List Buffer) where
   -- the manager is the one of its making, between two calls, with so many classes
-  pub record IsRunning (classes : ℕ) (passes : List Pass) (m : Manager C) : Type 0 where
-    pub manager_is : IsManagerOf events kept shared m
-    pub classes_are : classes ≡ length (sizes_of shared)
-    pub passes_are : ArePassesLeft shared (desk_view m.desk) passes
+  pub record IsRunning (classes : ℕ) (made : Made C) : Type 0 where
+    pub manager_is : IsManagerOf events kept made.shared made.manager
+    pub classes_are : classes ≡ length (sizes_of made.shared)
+    pub passes_are : ArePassesLeft made.shared (desk_view made.manager.desk) made.passes.items
 
   -- it is that still, and took no pass back meanwhile
-  pub record IsSameManager (old new : Manager C) : Type 0 where
+  pub record IsSameManager (shared : Shared) (old new : Manager C) : Type 0 where
     pub manager_is : IsManagerOf events kept shared new
     pub none_back : (desk_view new.desk).back ≡ (desk_view old.desk).back

@@ -155,14 +155,30 @@ fn four_callers_report_beside_the_desk(rt: HostRuntime) -> Result<(), Fail> {
         mut passes,
         mut desk,
     } = make(rt.alloc(), &read(rt.alloc(), FOUR_CALLERS.as_bytes())?)?;
-    let answers = [Answers::none(), Answers::none(), Answers::none(), Answers::none()];
+    let answers = [
+        Answers::none(),
+        Answers::none(),
+        Answers::none(),
+        Answers::none(),
+    ];
     let mut back = Vec::new(rt.alloc());
     let mut tally = Tally::new();
-    run(&rt, &shared, &mut desk, &mut back, &mut tally, &mut passes, &answers)?;
+    run(
+        &rt,
+        &shared,
+        &mut desk,
+        &mut back,
+        &mut tally,
+        &mut passes,
+        &answers,
+    )?;
     welcome_all(&shared, &mut desk, &mut passes);
     let rest = take_some(&shared, &mut desk, &mut back, &mut tally)?;
     assert!(rt; !rest);
     let totals = tally.totals(&answers).expect(&rt, "each call");
-    assert_eq!(rt; desk.sweep(&shared), (totals.lost_events, totals.lost_contexts));
+    assert_eq!(rt;
+        desk.sweep(&shared),
+        (totals.lost_events, totals.lost_contexts)
+    );
     Ok(())
 }

@@ -1,4 +1,9 @@
 //! Calls of a pass and their answers, as a table of steps writes them.
+//!
+//! A call is `event CALLER EVENT`, `count CALLER EVENT COUNT`, `context CALLER EVENT BYTES`,
+//! `report CALLER EVENT COUNT BYTES STAMP`, `state CALLER STATE` or `mode CALLER EVENT MODE`. Its context has so
+//! many bytes, up to 1,025, each of which is the number of calls that the pass had made. `calls CALLER` makes none.
+//! An answer tells its ticket, or the number that each of its looks showed.
 ghost use Rattle.report_api.specs.Passes.{IsPassOf};
 ghost use Rattle.report_tests.specs.Running.{IsSamePass};
 

@@ -64,7 +64,10 @@ close 9 => T 9 0 0 0/R 0 1 0 1 - -/ 0 # totals 2 0 0";
 
 #[test]
 fn a_close_takes_and_counts_all_that_is_left(rt: HostRuntime) -> Result<(), Fail> {
-    assert_eq!(rt; first_wrong(rt.alloc(), TWO_POSITIONS, BEHIND_A_TURN)?, None);
+    assert_eq!(rt;
+        first_wrong(rt.alloc(), TWO_POSITIONS, BEHIND_A_TURN)?,
+        None
+    );
     assert_eq!(rt; first_wrong(rt.alloc(), TWO_POSITIONS, FULL)?, None);
     assert_eq!(rt; first_wrong(rt.alloc(), SMALL_CLASSES, CONTEXTS)?, None);
     assert_eq!(rt; first_wrong(rt.alloc(), WINDOWS, OPEN)?, None);

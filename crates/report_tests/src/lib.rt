@@ -1,8 +1,9 @@
-//! The tests of the report calls and of their desk, over public names.
+//! The tests of the report calls, of their desk and of the main function, over public names.
 //!
-//! Layer 10, runs. Over `report_api` and the crates below it. They show what no contract says: that reports are
-//! accepted while buffers are free, the answers of examples that were worked out by hand, and that callers in
-//! threads of their own report beside the desk. Limits stand here as numbers.
+//! Layer 10, runs. Over `report_api`, `main_function`, `event_chain` and the crates below them. They show what no
+//! contract says: that reports are accepted while buffers are free, that a turn takes what is there, the answers
+//! and messages of examples that were worked out by hand, and that callers in threads of their own report beside
+//! the desk and beside turns. Limits stand here as numbers.
 #![tactic(auto)]
 
 #[cfg(test)]

@@ -1,8 +1,10 @@
 //! Tables of steps: what callers and their manager answer, one step after another.
 //!
 //! A table is a text with a line for each step, as `STEP => ANSWER`. The steps go to one manager over the filter
-//! chain of a configuration, and to its passes, each of which is named by its caller's number.
-ghost use Rattle.std.specs.Prelude.{◌≡◌};
+//! chain of a configuration, and to its passes. `turn TICK` answers the journal of the turn, with a bar for each
+//! line feed, how many messages it sent, and their bytes; `close TICK` adds the totals. `rest` and `reserve` are
+//! the calls of these names. `tell` with `turns`, `passes`, `fits`, `late CLASS`, `rests` or `memory` answers what
+//! the manager shows: rests and records with their number first. All other steps are calls of a pass (`calls.rt`).
 ghost use Rattle.report_tests.specs.Running.{IsRunning};
 
 use crate::calls::{call, number, word};
@@ -10,19 +12,17 @@ use chain::Chain;
 use config_json::read;
 use event_chain::EventChain;
 use ids_types::{NoMemory, TurnOut};
-use main_function::{Made, Manager, Totals, TurnFault, make};
-use report_api::{CtxBuf, Pass, Shared};
+use main_function::{Made, Totals, TurnFault, make};
+use report_api::CtxBuf;
 use std::alloc::Global;
 use std::test::Fail;
 use text_spec::{push_field, push_hex, push_number};
 
-// A manager, what it shares with its callers, how many classes that has, and the passes that are not back.
+// A manager with its passes, as long as they are not back, and how many classes there are.
 #[derive(Drop)]
 struct Run<C> {
-    shared: Shared,
+    made: Made<C>,
     classes: usize,
-    manager: Manager<C>,
-    passes: Vec<Pass>,
 }
 
 impl<C: Chain<CtxBuf>> Run<C> {
@@ -32,7 +32,7 @@ impl<C: Chain<CtxBuf>> Run<C> {
         alloc: Global,
         table: &'static str,
     ) -> Result<Option<&'static str>, NoMemory>
-        requires { IsRunning C.events C.kept self.old.shared self.old.classes self.old.passes.items self.old.manager }
+        requires { IsRunning C.events C.kept self.old.classes self.old.made }
     {
         for line in table.lines() {
             let (step, wanted) = line.split_once(" => ").unwrap_or((line, ""));
@@ -47,8 +47,8 @@ impl<C: Chain<CtxBuf>> Run<C> {
 
     // Makes a step, and tells its answer.
     fn answer(&mut self, alloc: Global, step: &str, told: &mut Vec<u8>) -> Result<(), NoMemory>
-        requires { IsRunning C.events C.kept self.old.shared self.old.classes self.old.passes.items self.old.manager }
-        ensures { IsRunning C.events C.kept self.new.shared self.new.classes self.new.passes.items self.new.manager }
+        requires { IsRunning C.events C.kept self.old.classes self.old.made }
+        ensures { IsRunning C.events C.kept self.new.classes self.new.made }
     {
         match word(step, 0) {
             "turn" => self.turn(alloc, number(step, 1), told),
@@ -61,37 +61,44 @@ impl<C: Chain<CtxBuf>> Run<C> {
     }
 
     fn call(&mut self, step: &str, told: &mut Vec<u8>) -> Result<(), NoMemory>
-        requires { IsRunning C.events C.kept self.old.shared self.old.classes self.old.passes.items self.old.manager }
-        ensures { IsRunning C.events C.kept self.new.shared self.new.classes self.new.passes.items self.new.manager }
+        requires { IsRunning C.events C.kept self.old.classes self.old.made }
+        ensures { IsRunning C.events C.kept self.new.classes self.new.made }
     {
         let caller = number(step, 1) as usize;
-        if caller >= self.passes.len() {
+        if caller >= self.made.passes.len() {
             return Ok(told.extend_from_slice(b"no pass")?);
         }
-        call(&self.shared, &mut self.passes[caller], step, told)
+        call(&self.made.shared, &mut self.made.passes[caller], step, told)
     }
 
     fn turn(&mut self, alloc: Global, tick: u64, told: &mut Vec<u8>) -> Result<(), NoMemory>
-        requires { IsRunning C.events C.kept self.old.shared self.old.classes self.old.passes.items self.old.manager }
-        ensures { IsRunning C.events C.kept self.new.shared self.new.classes self.new.passes.items self.new.manager }
+        requires { IsRunning C.events C.kept self.old.classes self.old.made }
+        ensures { IsRunning C.events C.kept self.new.classes self.new.made }
     {
-        if !self.manager.fits() || self.manager.turns() >= 1000 {
+        if !self.made.manager.fits() || self.made.manager.turns() >= 1000 {
             return Ok(told.extend_from_slice(b"no room")?);
         }
-        match self.manager.turn(&self.shared, tick) {
+        match self.made.manager.turn(&self.made.shared, tick) {
             Ok(out) => tell_turn(alloc, out, told),
             Err(fault) => tell_fault(told, fault),
         }
     }
 
     fn close(&mut self, alloc: Global, tick: u64, told: &mut Vec<u8>) -> Result<(), NoMemory>
-        requires { IsRunning C.events C.kept self.old.shared self.old.classes self.old.passes.items self.old.manager }
-        ensures { IsRunning C.events C.kept self.new.shared self.new.classes self.new.passes.items self.new.manager }
+        requires { IsRunning C.events C.kept self.old.classes self.old.made }
+        ensures { IsRunning C.events C.kept self.new.classes self.new.made }
     {
-        if self.passes.is_empty() || !self.manager.fits() || self.manager.turns() >= 1000 {
+        if self.made.passes.is_empty()
+            || !self.made.manager.fits()
+            || self.made.manager.turns() >= 1000
+        {
             return Ok(told.extend_from_slice(b"no room")?);
         }
-        match self.manager.close(&self.shared, &mut self.passes, tick) {
+        match self
+            .made
+            .manager
+            .close(&self.made.shared, &mut self.made.passes, tick)
+        {
             Ok((out, totals)) => {
                 tell_turn(alloc, out, told)?;
                 tell_totals(told, &totals)
@@ -101,31 +108,31 @@ impl<C: Chain<CtxBuf>> Run<C> {
     }
 
     fn rest(&mut self, told: &mut Vec<u8>) -> Result<(), NoMemory>
-        requires { IsRunning C.events C.kept self.old.shared self.old.classes self.old.passes.items self.old.manager }
-        ensures { IsRunning C.events C.kept self.new.shared self.new.classes self.new.passes.items self.new.manager }
+        requires { IsRunning C.events C.kept self.old.classes self.old.made }
+        ensures { IsRunning C.events C.kept self.new.classes self.new.made }
     {
-        if self.passes.is_empty() {
+        if self.made.passes.is_empty() {
             return Ok(told.extend_from_slice(b"no pass")?);
         }
-        self.manager.rest(&self.passes)?;
+        self.made.manager.rest(&self.made.passes)?;
         Ok(told.extend_from_slice(b"rested")?)
     }
 
     fn reserve(&mut self, told: &mut Vec<u8>) -> Result<(), NoMemory>
-        requires { IsRunning C.events C.kept self.old.shared self.old.classes self.old.passes.items self.old.manager }
-        ensures { IsRunning C.events C.kept self.new.shared self.new.classes self.new.passes.items self.new.manager }
+        requires { IsRunning C.events C.kept self.old.classes self.old.made }
+        ensures { IsRunning C.events C.kept self.new.classes self.new.made }
     {
-        self.manager.reserve()?;
+        self.made.manager.reserve()?;
         Ok(told.extend_from_slice(b"reserved")?)
     }
 
     // How many buffers of a class are late, the largest number where there is no such class.
     fn late(&self, class: u64) -> u16
-        requires { IsRunning C.events C.kept self.now.shared self.now.classes self.now.passes.items self.now.manager }
+        requires { IsRunning C.events C.kept self.now.classes self.now.made }
     {
         let class = class as usize;
         if class < self.classes && class < 4 {
-            self.manager.late(class as u8)
+            self.made.manager.late(class as u8)
         } else {
             u16::MAX
         }
@@ -133,23 +140,23 @@ impl<C: Chain<CtxBuf>> Run<C> {
 
     // Tells what the manager shows.
     fn tell(&self, alloc: Global, step: &str, told: &mut Vec<u8>) -> Result<(), NoMemory>
-        requires { IsRunning C.events C.kept self.now.shared self.now.classes self.now.passes.items self.now.manager }
+        requires { IsRunning C.events C.kept self.now.classes self.now.made }
     {
         match word(step, 1) {
-            "turns" => push_number(told, self.manager.turns()),
-            "passes" => push_number(told, self.passes.len() as u64),
+            "turns" => push_number(told, self.made.manager.turns()),
+            "passes" => push_number(told, self.made.passes.len() as u64),
             "late" => push_number(told, u64::from(self.late(number(step, 2)))),
-            "fits" => push_number(told, u64::from(self.manager.fits())),
+            "fits" => push_number(told, u64::from(self.made.manager.fits())),
             "rests" => {
-                push_number(told, self.manager.rests().len() as u64)?;
-                for rest in self.manager.rests() {
+                push_number(told, self.made.manager.rests().len() as u64)?;
+                for rest in self.made.manager.rests() {
                     push_field(told, rest.turns)?;
                     push_field(told, rest.calls)?;
                 }
                 Ok(())
             }
             "memory" => {
-                let memory = self.manager.memory();
+                let memory = self.made.manager.memory();
                 push_number(told, u64::from(memory.len()))?;
                 told.push(b'/')?;
                 push_text(told, &memory.print(alloc)?)
@@ -199,16 +206,9 @@ pub fn first_wrong(
 ) -> Result<Option<&'static str>, Fail> {
     let config = read(alloc, config.as_bytes())?;
     let chain = EventChain::make(alloc, &config)?;
-    let Made {
-        shared,
-        manager,
-        passes,
-    } = make(alloc, &config, chain)?;
     let mut run = Run {
-        shared,
+        made: make(alloc, &config, chain)?,
         classes: config.parts().classes.len(),
-        manager,
-        passes,
     };
     Ok(run.first_unlike(alloc, table)?)
 }

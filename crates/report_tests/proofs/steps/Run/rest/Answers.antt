@@ -5,7 +5,7 @@ use Rattle.report_tests.proofs.steps.Run.rest.Goals as goal
 pub rest-requires : goal.rest-requires
 rest-requires g c = record {
   passes = record {
-    shared = c.args.self.now.shared;
+    shared = c.args.self.now.made.shared;
     is_manager = c.requires.manager_is;
     passes_are = rw c.deref.ensures.value (all_left c.requires.passes_are 0 (search rules));
   };
