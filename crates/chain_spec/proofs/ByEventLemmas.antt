@@ -41,14 +41,14 @@ module _ (config : Parts) (event : ℕ) where
   ticks_other tick other calls is = rw is refl
 
   -- the item of another event's window is no item of this one
-  closes_other : (o : Option (Qualified (List ℕ))) (tick other : ℕ) → other == event ≡ false → IfSome o
+  pub closes_other : (o : Option (Qualified (List ℕ))) (tick other : ℕ) → other == event ≡ false → IfSome o
       (λ told. told.event.0 == other ≡ true)
       → IfSome (option_map (item_at tick) o) (λ item. is_of event item ≡ false)
   closes_other None tick other is of = tt
   closes_other (Some told) tick other is of = subst (λ n. n == event ≡ false) (sym (eqb-true told.event.0 other of)) is
 
   -- nor is another event's own
-  alone_other : (setting : Option Aggregate) (item : Item) → is_of event item ≡ false → IfSome (alone setting item)
+  pub alone_other : (setting : Option Aggregate) (item : Item) → is_of event item ≡ false → IfSome (alone setting item)
       (λ one. is_of event one ≡ false)
   alone_other None item is = is
   alone_other (Some setting) item is = tt
