@@ -10,6 +10,7 @@ pub mod JournalLaws
 pub mod LinesLaws
 pub mod ModesLemmas
 pub mod Names
+pub mod NumberLists
 pub mod NumbersLemmas
 pub mod PiecesLemmas
 pub mod StampsLemmas

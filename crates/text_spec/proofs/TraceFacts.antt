@@ -1,12 +1,14 @@
 -- Rounds in lists: the last one, its tick, and the ticks of all.
 use Rattle.std.specs.Prelude.{◌≡◌, ◌≤◌, ◌^◌, ◌∷◌, ◌++◌}
-use Rattle.text_spec.proofs.Names.{ℕ, zero, suc, true, List, [], set, get_or, refl, sym, ap, subst, ◌∙◌, append_assoc, arith, AllByRecursion, flat_map, list_all, and_from, and_parts, le-leb}
+use Rattle.text_spec.proofs.Names.{ℕ, zero, suc, true, List, [], length, set, get_or, refl, sym, ap, subst, ◌∙◌, append_assoc, arith, AllByRecursion, flat_map, list_all, and_from, and_parts, le-leb}
 use Rattle.std.proofs.lemmas.Bool.{leb-true}
 use Rattle.std.specs.Prelude.{nat_le, replicate}
 use Rattle.merge_spec.specs.Orders.{KeepUpFrom}
 use Rattle.merge_spec.specs.Rounds.{Round, last_tick, round_ticks}
 use Rattle.text_spec.specs.JournalFaults.{is_tick}
-use Rattle.text_spec.specs.TraceFaults.{ended_at, keep_up, last_from, with_last}
+use Rattle.text_spec.specs.TraceFaults.{asked_more, begun_round, ended_at, keep_up, last_from, with_last}
+use Rattle.text_spec.specs.TraceReading.{AreTicks}
+use Rattle.text_spec.specs.TraceText.{Asked}
 use Rattle.text_spec.proofs.JournalFacts.{flat_map-push}
 
 -- ---- facts of each element
@@ -44,6 +46,11 @@ pub last_tick-push : (done : List Round) (round : Round) → last_tick (done ++ 
 last_tick-push [] round = refl
 last_tick-push (one ∷ []) round = refl
 last_tick-push (one ∷ next ∷ done) round = last_tick-push (next ∷ done) round
+
+pub length_with_last : (change : Round → Round) (rounds : List Round) → length (with_last change rounds) ≡ length rounds
+length_with_last change [] = refl
+length_with_last change (one ∷ []) = refl
+length_with_last change (one ∷ next ∷ rounds) = ap suc (length_with_last change (next ∷ rounds))
 
 pub all_with_last : (P : Round → Type 0) (change : Round → Round) (rounds : List Round) → ((round : Round) → P round → P (change round)) → AllByRecursion P rounds → AllByRecursion P (with_last change rounds)
 all_with_last P change [] keeps all = tt
@@ -144,3 +151,47 @@ small_all (tick ∷ ticks) all = and_from _ _ (le-leb tick (2 ^ 62) all.0) (smal
 pub small_last : (tick : ℕ) (ticks : List ℕ) → IsSmall tick → AllByRecursion IsSmall ticks → IsSmall (last_from tick ticks)
 small_last tick [] is all = is
 small_last tick (next ∷ ticks) is all = small_last next ticks all.0 all.1
+
+-- ---- the ticks of rounds
+
+-- a round more
+pub ticks_pushed : (rounds : List Round) (callers : ℕ) (beside : List ℕ) (after : ℕ) → AreTicks rounds → AllByRecursion IsSmall (beside ++ after ∷ []) → KeepUpFrom (last_tick rounds) (beside ++ after ∷ [])
+    → AreTicks (rounds ++ begun_round callers beside after ∷ [])
+ticks_pushed rounds callers beside after are small keeps =
+    let round = begun_round callers beside after in
+    let parts = keep_split (last_tick rounds) beside (after ∷ []) keeps in
+    record {
+      small = subst (AllByRecursion IsSmall) (sym (flat_map-push round_ticks rounds round)) (all_append IsSmall (flat_map round_ticks rounds) (round_ticks round) are.small small);
+      keep_up = round_added rounds round are.keep_up parts.0 parts.1.0;
+    }
+
+-- a line more of a caller
+pub ticks_asked : (rounds : List Round) (caller : ℕ) (asked : Asked) → AreTicks rounds → AreTicks (with_last (asked_more caller asked) rounds)
+ticks_asked rounds caller asked are =
+    let same = ticks_with_last (asked_more caller asked) rounds (λ round. refl) in
+    record { small = subst (AllByRecursion IsSmall) (sym same) are.small; keep_up = subst (KeepUpFrom 0) (sym same) are.keep_up }
+
+-- the last round ends later
+ended_small : (rounds : List Round) (tick : ℕ) → IsSmall tick → AllByRecursion IsSmall (flat_map round_ticks rounds) → AllByRecursion IsSmall (flat_map round_ticks (with_last (ended_at tick) rounds))
+ended_small [] tick is small = tt
+ended_small (round ∷ []) tick is small =
+    let parts = all_split IsSmall round.beside (round.after ∷ []) (all_split IsSmall (round_ticks round) [] small).0 in
+    all_append IsSmall (round.beside ++ tick ∷ []) [] (all_append IsSmall round.beside (tick ∷ []) parts.0 (is, tt)) tt
+ended_small (round ∷ next ∷ rounds) tick is small =
+    let parts = all_split IsSmall (round_ticks round) (flat_map round_ticks (next ∷ rounds)) small in
+    all_append IsSmall (round_ticks round) (flat_map round_ticks (with_last (ended_at tick) (next ∷ rounds))) parts.0 (ended_small (next ∷ rounds) tick is parts.1)
+
+pub ticks_ended : (rounds : List Round) (tick : ℕ) → AreTicks rounds → last_tick rounds ≤ tick → IsSmall tick → AreTicks (with_last (ended_at tick) rounds)
+ticks_ended rounds tick are later small = record { small = ended_small rounds tick small are.small; keep_up = later_end 0 rounds tick are.keep_up later }
+
+-- the last tick is small
+pub last_small : (rounds : List Round) → AreTicks rounds → IsSmall (last_tick rounds)
+last_small rounds are = subst IsSmall (last_of_all rounds) (small_last 0 (flat_map round_ticks rounds) (omega arith) are.small)
+
+-- the ticks of a line that opens a round, behind these rounds, and the last of them once more
+pub opening_small : (rounds : List Round) (ticks : List ℕ) → AreTicks rounds → list_all is_tick ticks ≡ true → AllByRecursion IsSmall (ticks ++ last_from (last_tick rounds) ticks ∷ [])
+opening_small rounds ticks are small =
+    all_append IsSmall ticks (last_from (last_tick rounds) ticks ∷ []) (all_small ticks small) (small_last (last_tick rounds) ticks (last_small rounds are) (all_small ticks small), tt)
+
+pub opening_keeps_up : (least : ℕ) (ticks : List ℕ) → keep_up least ticks ≡ true → KeepUpFrom least (ticks ++ last_from least ticks ∷ [])
+opening_keeps_up least ticks is = keep_append least ticks (last_from least ticks ∷ []) (keep_up-true least ticks is) (omega arith, tt)

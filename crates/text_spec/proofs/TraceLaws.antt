@@ -11,14 +11,14 @@ use Rattle.merge_spec.specs.Orders.{KeepUpFrom}
 use Rattle.merge_spec.specs.Rounds.{lines_at, last_tick, round_ticks}
 use Rattle.text_spec.specs.JournalFaults.{is_tick, is_act, has_event}
 use Rattle.text_spec.specs.Lines.{AreFaultless, at_end, ◌>>=◌}
-use Rattle.text_spec.specs.TraceFaults.{act_asked, keep_up, PastRounds, no_rounds, last_from, begun_round, asked_more, ended_at, with_last, next_rounds, asked_fault, trace_fault_of}
+use Rattle.text_spec.specs.TraceFaults.{act_asked, keep_up, PastRounds, no_rounds, last_from, begun_round, asked_more, ended_at, next_rounds, asked_fault, trace_fault_of}
 use Rattle.text_spec.specs.TraceForm.{trace_told_by}
 use Rattle.text_spec.specs.TraceReading.{trace_grammar, trace_in, IsHeldAsked, MayAsk, IsAllowedRound, AreRounds}
 use Rattle.text_spec.specs.TraceText.{Asked, reports, changes, sets, Round, TraceLine, opens, calls, closes, number_fields, asked_fields, trace_fields, trace_line_for, callers_told, round_told, rounds_told, trace_text}
 use Rattle.text_spec.proofs.FieldsLaws.{in_line}
-use Rattle.text_spec.proofs.JournalFacts.{sensor_is_there, flat_map-push}
+use Rattle.text_spec.proofs.JournalFacts.{sensor_is_there}
 use Rattle.text_spec.proofs.LinesLaws.{Leaves, bind_ok, kept_behind, leave_more, leave_one, text_adds}
-use Rattle.text_spec.proofs.TraceFacts.{IsSmall, all_append, all_at, all_replicate, all_set, all_small, all_split, all_with_last, keep_up-true, last_of_all, last_tick-push, later_end, round_added, round_keeps_up, small_all, small_last, ticks_with_last, true-keep_up, with_last-push}
+use Rattle.text_spec.proofs.TraceFacts.{IsSmall, all_append, all_at, all_replicate, all_set, all_small, all_split, all_with_last, last_tick-push, opening_keeps_up, opening_small, round_keeps_up, small_all, ticks_asked, ticks_ended, ticks_pushed, true-keep_up, with_last-push}
 use Rattle.text_spec.proofs.TraceForms.{trace_line_again, trace_line_free, trace_line_held, trace_line_words}
 use Rattle.text_spec.proofs.WordsLemmas.{Pass}
 
@@ -193,16 +193,10 @@ module _ (config : Parts) where
       let small : list_all is_tick ticks ≡ true = grind (arith, none) in
       let keeps : keep_up (last_tick past.rounds) ticks ≡ true = grind (arith, none) in
       let tick = last_from (last_tick past.rounds) ticks in
-      let round = begun_round config.callers ticks tick in
-      let last_small = subst IsSmall (last_of_all past.rounds) (small_last 0 (flat_map round_ticks past.rounds) (omega arith) fits.ticks.small) in
-      let its_small = all_append IsSmall ticks (tick ∷ []) (all_small ticks small) (small_last (last_tick past.rounds) ticks last_small (all_small ticks small), tt) in
       record {
-        allowed = all_append (IsAllowedRound config) past.rounds (round ∷ []) fits.allowed
+        allowed = all_append (IsAllowedRound config) past.rounds (begun_round config.callers ticks tick ∷ []) fits.allowed
             (record { callers = length-replicate config.callers []; asked = all_replicate (AllByRecursion (MayAsk config)) config.callers [] tt }, tt);
-        ticks = record {
-          small = subst (AllByRecursion IsSmall) (sym (flat_map-push round_ticks past.rounds round)) (all_append IsSmall (flat_map round_ticks past.rounds) (round_ticks round) fits.ticks.small its_small);
-          keep_up = round_added past.rounds round fits.ticks.keep_up (keep_up-true (last_tick past.rounds) ticks keeps) (omega arith);
-        };
+        ticks = ticks_pushed past.rounds config.callers ticks tick fits.ticks (opening_small past.rounds ticks fits.ticks small) (opening_keeps_up (last_tick past.rounds) ticks keeps);
       }
 
   -- a line more of a caller
@@ -218,32 +212,19 @@ module _ (config : Parts) where
   asked_fits past caller asked none held fits =
       let acts : is_act (act_asked asked) ≡ true = grind (arith, none) in
       let known : has_event config (act_asked asked) ≡ true = grind (arith, none) in
-      let same = ticks_with_last (asked_more caller asked) past.rounds (λ round. refl) in
       record {
         allowed = all_with_last (IsAllowedRound config) (asked_more caller asked) past.rounds (asked_allowed caller asked (held, and_from _ _ acts known)) fits.allowed;
-        ticks = record { small = subst (AllByRecursion IsSmall) (sym same) fits.ticks.small; keep_up = subst (KeepUpFrom 0) (sym same) fits.ticks.keep_up };
+        ticks = ticks_asked past.rounds caller asked fits.ticks;
       }
 
   -- a round that ends
-  closed_small : (rounds : List Round) (tick : ℕ) → IsSmall tick → AllByRecursion IsSmall (flat_map round_ticks rounds) → AllByRecursion IsSmall (flat_map round_ticks (with_last (ended_at tick) rounds))
-  closed_small [] tick is small = tt
-  closed_small (round ∷ []) tick is small =
-      let parts = all_split IsSmall round.beside (round.after ∷ []) (all_split IsSmall (round_ticks round) [] small).0 in
-      all_append IsSmall (round.beside ++ tick ∷ []) [] (all_append IsSmall round.beside (tick ∷ []) parts.0 (is, tt)) tt
-  closed_small (round ∷ next ∷ rounds) tick is small =
-      let parts = all_split IsSmall (round_ticks round) (flat_map round_ticks (next ∷ rounds)) small in
-      all_append IsSmall (round_ticks round) (flat_map round_ticks (with_last (ended_at tick) (next ∷ rounds))) parts.0 (closed_small (next ∷ rounds) tick is parts.1)
-
   closed_fits : (past : PastRounds) (tick : ℕ) → trace_fault_of config past (closes tick) ≡ Ok tt → AreRounds config past.rounds → AreRounds config (next_rounds config past (closes tick)).rounds
   closed_fits past tick none fits =
       let small : is_tick tick ≡ true = grind (arith, none) in
       let later : nat_le (last_tick past.rounds) tick ≡ true = grind (arith, none) in
       record {
         allowed = all_with_last (IsAllowedRound config) (ended_at tick) past.rounds (λ round is. record { callers = is.callers; asked = is.asked }) fits.allowed;
-        ticks = record {
-          small = closed_small past.rounds tick (leb-true tick (2 ^ 62) small) fits.ticks.small;
-          keep_up = later_end 0 past.rounds tick fits.ticks.keep_up (leb-true (last_tick past.rounds) tick later);
-        };
+        ticks = ticks_ended past.rounds tick fits.ticks (leb-true (last_tick past.rounds) tick later) (leb-true tick (2 ^ 62) small);
       }
 
   next_fits : (past : PastRounds) (line : TraceLine) → trace_fault_of config past line ≡ Ok tt → IsHeldLine line → AreRounds config past.rounds → AreRounds config (next_rounds config past line).rounds

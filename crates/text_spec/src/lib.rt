@@ -9,6 +9,7 @@
 #![tactic(auto)]
 
 mod decoded;
+mod events;
 mod fault;
 mod hex_text;
 mod hexadecimal;
@@ -20,6 +21,7 @@ mod stamps;
 mod trace;
 
 pub use decoded::push_message;
+pub use events::is_sensor;
 pub use fault::LineFault;
 pub use hex_text::HexText;
 pub use hexadecimal::{hex_into, one_text_for_bytes, push_bytes, push_hex};

@@ -9,6 +9,7 @@ use Rattle.std.proofs.Math.Seq.{drop-append_seam, set-append_seam}
 use Rattle.ids_types.proofs.HistoryLemmas.{range_of_front}
 use Rattle.merge_spec.specs.Rounds.{last_tick, lines_at}
 use Rattle.text_spec.specs.TraceFaults.{asked_more, begun_round, ended_at, with_last}
+use Rattle.text_spec.specs.TraceReading.{AreTicks}
 use Rattle.text_spec.specs.TraceText.{Asked, Round, changes}
 use Rattle.trace_text.specs.Lines.{line_at}
 use Rattle.text_spec.proofs.TraceFacts.{all_at, all_replicate, with_last-push}
@@ -364,6 +365,9 @@ whole_start beside callers ends n no_ticks empty none =
 
 pub ends_start : (beside : List ℕ) (callers : List (List Asked)) (ends : List RoundEnd) → ends ≡ [] → AreEnds beside callers at_start ends
 ends_start beside callers ends none = subst (AreEnds beside callers at_start) (sym none) tt
+
+pub ticks_start : (beside : List ℕ) (callers : List (List Asked)) (ends : List RoundEnd) → ends ≡ [] → AreTicks (rounds_behind beside callers at_start ends)
+ticks_start beside callers ends none = subst (λ (es : List RoundEnd). AreTicks (rounds_behind beside callers at_start es)) (sym none) (record { small = tt; keep_up = tt })
 
 -- ---- the same of the lists behind a change
 

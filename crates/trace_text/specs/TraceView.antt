@@ -2,6 +2,7 @@
 -- each round end.
 use Rattle.std.specs.Prelude.{◌≡◌, ℕ, suc, ◌-◌, ◌<◌, ◌≤◌, ◌^◌, ◌==◌, if◌then◌else◌, List, [], ◌∷◌, ◌++◌, length, slice_index, slice_index_or, slice_range, replicate}
 use Rattle.text_spec.specs.TraceFaults.{asked_more, begun_round, with_last}
+use Rattle.text_spec.specs.TraceReading.{AreTicks}
 use Rattle.text_spec.specs.TraceText.{Asked, Round}
 use Rattle.trace_text.specs.declared.trace.RoundEnd.{RoundEnd}
 use Rattle.trace_text.specs.declared.trace.Trace.TheInside.{Inside}
@@ -83,9 +84,10 @@ pub record IsWhole (beside : List ℕ) (callers : List (List Asked)) (end : Roun
   pub beside_is : end.beside ≡ length beside
   pub lines_are : (caller : ℕ) → slice_index end.lines caller ≡ length (slice_index_or callers caller [])
 
--- the ends of a trace's rounds
+-- the ends of a trace's rounds, whose ticks never fall
 pub record IsSound (t : Inside) : Type 0 where
   pub few : length t.rows ≤ 32
   pub few_lines : (caller : ℕ) → length (slice_index_or t.rows caller []) < 2 ^ 32
   pub ends : AreEnds t.beside.items t.rows at_start t.ends.items
   pub whole : IsWhole t.beside.items t.rows (last_end at_start t.ends.items)
+  pub ticks : AreTicks (rounds_behind t.beside.items t.rows at_start t.ends.items)

@@ -7,12 +7,18 @@
 //! No clause says that memory suffices: an answer `NoMemory` is always true.
 #![tactic(auto)]
 
+mod fault;
+mod form;
 mod line;
 mod printing;
+mod ranges;
+mod reader;
 mod row;
 mod rows;
+mod taking;
 mod trace;
 
+pub use fault::TraceFault;
 pub use line::{Line, TraceAct};
 pub use printing::print;
 pub use trace::Trace;

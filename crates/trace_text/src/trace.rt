@@ -3,6 +3,7 @@ ghost use Rattle.std.specs.List.{AllByRecursion};
 ghost use Rattle.merge_spec.specs.Orders.{KeepUpFrom};
 ghost use Rattle.merge_spec.specs.Rounds.{last_tick, lines_at};
 ghost use Rattle.text_spec.specs.TraceFaults.{ended_at, with_last};
+ghost use Rattle.text_spec.specs.TraceReading.{AreTicks};
 ghost use Rattle.trace_text.specs.Lines.{line_asked, line_at};
 ghost use Rattle.trace_text.specs.TraceView.{Traced, no_rounds_of, with_line, with_round, round_at, at_start, end_before, last_end};
 
@@ -88,6 +89,7 @@ impl Trace {
         requires round { 0 < length self.old.rounds }
         ensures ok { OnOk result (self.new ≡ with_line caller (line_asked line.now) self.old) }
         ensures err { OnErr result (self.new ≡ self.old) }
+        ensures count { length self.new.rounds ≡ length self.old.rounds }
     {
         let (caller, last) = (caller as usize, self.ends.len() - 1);
         let count = self.ends[last].lines[caller];
@@ -109,10 +111,12 @@ impl Trace {
         self.rows.callers() as u8
     }
 
-    /// How many rounds there are. Each has a list of lines for each caller.
+    /// How many rounds there are. Each has a list of lines for each caller, and no tick is below the one
+    /// before it.
     pub fn rounds(&self) -> u64
         ensures count { result ≡ length self.now.rounds }
         ensures callers { AllByRecursion (λ round. length round.lines ≡ self.now.callers) self.now.rounds }
+        ensures ticks { AreTicks self.now.rounds }
     {
         self.ends.len() as u64
     }
@@ -160,14 +164,17 @@ impl Trace {
 
     /// The last tick of all, 0 where there are no rounds.
     pub(crate) fn last_tick(&self) -> u64
-        ensures { result ≡ last_tick self.now.rounds }
+        ensures tick { result ≡ last_tick self.now.rounds }
+        ensures ticks { AreTicks self.now.rounds }
     {
         last_of(&self.ends).after
     }
 
-    /// Ends the last round at another tick.
+    /// Ends the last round at a later tick.
     pub(crate) fn end_round(&mut self, tick: u64)
-        requires { 0 < length self.old.rounds }
+        requires round { 0 < length self.old.rounds }
+        requires later { last_tick self.old.rounds ≤ tick }
+        requires small { tick ≤ 2 ^ 62 }
         ensures callers { self.new.callers ≡ self.old.callers }
         ensures rounds { self.new.rounds ≡ with_last (ended_at tick) self.old.rounds }
     {

@@ -2,6 +2,8 @@ use Rattle.std.proofs.Common.{◌≡◌, ℕ, ◌^◌, ◌<◌, ◌+◌, ◌-◌
 use Rattle.std.specs.Prelude.{slice_index}
 use Rattle.text_spec.specs.TraceFaults.{asked_more, with_last}
 use Rattle.text_spec.specs.TraceText.{Asked, Round}
+use Rattle.text_spec.proofs.TraceFacts.{length_with_last, ticks_asked}
+use Rattle.text_spec.specs.TraceReading.{AreTicks}
 use Rattle.trace_text.specs.Lines.{line_asked}
 use Rattle.trace_text.specs.TraceView.{Traced, at_start, last_end, rounds_behind, with_line}
 use Rattle.trace_text.specs.declared.trace.RoundEnd.{RoundEnd}
@@ -54,11 +56,19 @@ invariant_of-self-2 c = record {
   few_lines = λ k. few c k;
   ends = (stands c).are_ends;
   whole = (stands c).is_whole;
+  ticks = subst AreTicks (sym (stands c).rounds_are) (ticks_asked (rounds_behind c.self.inside.beside.items c.self.inside.rows at_start c.self.inside.ends.items) c.args.caller (line_asked c.args.line.now) c.self.invariant.ticks);
 }
 
-pub returns-clause-ok : goal.returns-clause-ok
-returns-clause-ok c =
+-- the trace with the line
+became : (c : goal.After-self-1) → record { callers = length c.push.new.self; rounds = rounds_behind c.self.inside.beside.items c.push.new.self at_start (set c.self.inside.ends.items (c.len.result - 1) (record c.index_mut.result.now { lines = set c.index_mut.result.now.lines c.args.caller c.in_ok-more.more })) } ≡ with_line c.args.caller (line_asked c.args.line.now) c.args.self.now
+became c =
     let many : length c.push.new.self ≡ length c.self.inside.rows = ap (λ (cs : List (List Asked)). length cs) (pushed c) ∙ length-set c.self.inside.rows c.args.caller (get_or c.self.inside.rows c.args.caller [] ++ line_asked c.args.line.now ∷ []) in
     ap (λ n. record { callers = n; rounds = rounds_behind c.self.inside.beside.items c.push.new.self at_start (set c.self.inside.ends.items (c.len.result - 1) (record c.index_mut.result.now { lines = set c.index_mut.result.now.lines c.args.caller c.in_ok-more.more })) }) many
     ∙ ap (λ (rs : List Round). record { callers = length c.self.inside.rows; rounds = rs }) (stands c).rounds_are
     ∙ ap (with_line c.args.caller (line_asked c.args.line.now)) c.self.view_is
+
+pub returns-clause-ok : goal.returns-clause-ok
+returns-clause-ok c = became c
+
+pub returns-clause-count : goal.returns-clause-count
+returns-clause-count c = ap (λ (v : Traced). length v.rounds) (became c) ∙ length_with_last (asked_more c.args.caller (line_asked c.args.line.now)) c.args.self.now.rounds

@@ -1,7 +1,11 @@
-use Rattle.std.proofs.Common.{◌≡◌, ◌++◌, ◌∷◌, [], length, List, rules, ap, ◌∙◌}
+use Rattle.std.proofs.Common.{◌≡◌, ◌++◌, ◌∷◌, [], length, List, rules, sym, ap, subst, ◌∙◌}
+use Rattle.merge_spec.specs.Orders.{KeepUpFrom}
+use Rattle.merge_spec.specs.Rounds.{last_tick}
+use Rattle.text_spec.proofs.TraceFacts.{ticks_pushed}
+use Rattle.text_spec.specs.TraceReading.{AreTicks}
 use Rattle.text_spec.specs.TraceFaults.{begun_round}
 use Rattle.text_spec.specs.TraceText.{Round}
-use Rattle.trace_text.specs.TraceView.{at_start, rounds_behind, with_round}
+use Rattle.trace_text.specs.TraceView.{Traced, at_start, rounds_behind, with_round}
 use Rattle.trace_text.proofs.EndsLemmas.{Stands, round_pushed}
 use Rattle.trace_text.proofs.trace.Trace.push_round.Goals as goal
 
@@ -15,8 +19,16 @@ stands c =
     round_pushed t.beside.items c.args.beside.now c.extend_from_slice.new.self.items t.rows t.ends.items c.push_reserved.new.self.items (record { beside = c.len.result; lines = c.last_of.result.lines; after = c.args.after })
     c.self.invariant.ends c.self.invariant.whole beside ends (search rules) (search rules)
 
+ticks : (c : goal.After-push_reserved) → AreTicks (rounds_behind c.extend_from_slice.new.self.items c.self.inside.rows at_start c.push_reserved.new.self.items)
+ticks c =
+    let t = c.self.inside in
+    let rounds = rounds_behind t.beside.items t.rows at_start t.ends.items in
+    let from : last_tick c.args.self.now.rounds ≡ last_tick rounds = ap (λ (v : Traced). last_tick v.rounds) (sym c.self.view_is) in
+    subst AreTicks (sym (stands c).rounds_are)
+    (ticks_pushed rounds (length t.rows) c.args.beside.now c.args.after c.self.invariant.ticks c.requires.small (subst (λ n. KeepUpFrom n (c.args.beside.now ++ c.args.after ∷ [])) from c.requires.keeps_up))
+
 pub invariant_of-self-2 : goal.invariant_of-self-2
-invariant_of-self-2 c = record { few = c.self.invariant.few; few_lines = c.self.invariant.few_lines; ends = (stands c).are_ends; whole = (stands c).is_whole }
+invariant_of-self-2 c = record { few = c.self.invariant.few; few_lines = c.self.invariant.few_lines; ends = (stands c).are_ends; whole = (stands c).is_whole; ticks = ticks c }
 
 pub returns-clause-ok : goal.returns-clause-ok
 returns-clause-ok c =

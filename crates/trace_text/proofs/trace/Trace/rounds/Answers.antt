@@ -1,4 +1,5 @@
-use Rattle.std.proofs.Common.{◌≡◌, length, rules, sym, ap, ◌∙◌}
+use Rattle.std.proofs.Common.{◌≡◌, length, rules, sym, ap, subst, ◌∙◌}
+use Rattle.text_spec.specs.TraceReading.{AreTicks}
 use Rattle.trace_text.specs.TraceView.{Traced, at_start}
 use Rattle.trace_text.proofs.EndsLemmas.{all_callers_have, length_rounds}
 use Rattle.trace_text.proofs.trace.Trace.rounds.Goals as goal
@@ -11,3 +12,6 @@ returns-clause-count c =
 
 pub returns-clause-callers : goal.returns-clause-callers
 returns-clause-callers c = all_callers_have c.self.inside.beside.items c.self.inside.rows c.self.inside.ends.items c.args.self.now c.self.view_is
+
+pub returns-clause-ticks : goal.returns-clause-ticks
+returns-clause-ticks c = subst (λ (v : Traced). AreTicks v.rounds) c.self.view_is c.self.invariant.ticks
