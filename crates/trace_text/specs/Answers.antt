@@ -1,7 +1,7 @@
 -- What the answers of the reader say, by cases.
-use Rattle.std.specs.Prelude.{◌≡◌, ℕ, Result, Ok, Err, ⊤}
+use Rattle.std.specs.Prelude.{◌≡◌, ◌==◌, ℕ, Bool, not, List, length, Result, Ok, Err, ⊤}
 use Rattle.ids_config.specs.Parts.{Parts}
-use Rattle.ids_config.specs.Steps.{◌>>◌}
+use Rattle.ids_config.specs.Steps.{◌>>◌, asks}
 use Rattle.text_spec.specs.Lines.{BadLine}
 use Rattle.text_spec.specs.TraceFaults.{PastRounds, next_rounds}
 use Rattle.text_spec.specs.TraceText.{TraceLine}
@@ -28,3 +28,7 @@ Reads view expected (Err fault) = Fails expected fault
 abbrev pub fault_at : ℕ → LineFault → TraceFault
 fault_at line (line_faults.Fault number) = faults.Line line number
 fault_at line line_faults.NoMemory = faults.NoMemory
+
+-- the fault of a text that ends in this piece, behind a round that is open or not
+abbrev pub end_fault : List ℕ → Bool → Result ⊤ ℕ
+end_fault rest is_open = asks 1 (length rest == 0) >> asks 2 (not is_open)
