@@ -108,21 +108,12 @@ fn setting_of(caller: u64, call: u64, words: Pieces<'_>) -> Option<RawLine<'_>>
         (λ event mode. enters (entry_of caller call (SetMode (index event) mode))) words.entry }
 {
     let (event, words) = words.any_number()?;
-    let (mode, words) = mode_first(words)?;
+    let (mode, words) = words.mode()?;
     words.ended(RawLine::Entry(RawEntry {
         caller,
         call,
         act: RawAct::SetMode { event, mode },
     }))
-}
-
-/// The mode at the front, and the words behind it.
-fn mode_first(words: Pieces<'_>) -> Option<(Mode, Pieces<'_>)>
-    ensures { result ≡ first_as a_mode words.entry }
-{
-    let (word, words) = words.first()?;
-    let mode = Mode::named(word)?;
-    Some((mode, words))
 }
 
 /// The words behind `L`.

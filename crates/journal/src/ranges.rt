@@ -3,12 +3,12 @@
 ghost use Rattle.std.specs.Prelude.{◌≡◌, ◌<◌, ◌≤◌, ◌^◌, List, ℕ, length, slice_index};
 ghost use Rattle.std.specs.List.{list_all};
 ghost use Rattle.text_spec.specs.JournalFaults.{is_claim as claim_is, is_count_lost as lost_is, is_call as call_is, is_context as context_is, is_act as act_is, is_head as head_is, has_event as event_is};
-ghost use Rattle.ids_config.specs.Parts.{is_sensor as sensor_is};
 ghost use Rattle.journal.specs.RawLines.{context_told, act_told};
 
 use crate::line::{RawAct, RawContext};
 use ids_config::Config;
-use ids_types::{EventIndex, Numbers, TurnHead};
+use ids_types::{Numbers, TurnHead};
+use text_spec::is_sensor;
 
 /// The greatest tick.
 const MAX_TICK: u64 = 1 << 62;
@@ -114,12 +114,4 @@ pub(crate) fn has_event(config: &Config, act: &RawAct<'_>) -> bool
         RawAct::State(_) => true,
         RawAct::SetMode { event, .. } => *event < events,
     }
-}
-
-fn is_sensor(config: &Config, events: u64, event: u64) -> bool
-    requires number { events ≡ length config.now.events }
-    requires few { events ≤ 256 }
-    ensures { result ≡ sensor_is config.now event }
-{
-    event < events && config.is_sensor(EventIndex(event as u16))
 }

@@ -7,9 +7,15 @@ pub mod JournalFacts
 pub mod JournalFits
 pub mod JournalForms
 pub mod JournalLaws
+pub mod LinesLaws
 pub mod ModesLemmas
 pub mod Names
+pub mod NumberLists
 pub mod NumbersLemmas
 pub mod PiecesLemmas
 pub mod StampsLemmas
+pub mod TraceFacts
+pub mod TraceForms
+pub mod TraceLaws
 pub mod WordsLemmas
+pub mod WorkedTrace

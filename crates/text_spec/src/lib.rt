@@ -9,6 +9,8 @@
 #![tactic(auto)]
 
 mod decoded;
+mod events;
+mod fault;
 mod hex_text;
 mod hexadecimal;
 mod journal;
@@ -16,12 +18,16 @@ mod modes;
 mod numbers;
 mod pieces;
 mod stamps;
+mod trace;
 
 pub use decoded::push_message;
+pub use events::is_sensor;
+pub use fault::LineFault;
 pub use hex_text::HexText;
-pub use hexadecimal::{hex_into, one_text_for_bytes, push_hex};
+pub use hexadecimal::{hex_into, one_text_for_bytes, push_bytes, push_hex};
 pub use journal::{one_journal_for_a_text, what_a_fitting_journal_keeps, which_lines_have_a_form};
 pub use modes::{one_name_for_a_mode, push_mode};
 pub use numbers::{one_text_for_a_number, push_field, push_number};
 pub use pieces::{Pieces, cut};
 pub use stamps::{one_text_for_a_stamp, push_stamp, stamp};
+pub use trace::a_trace_is_read_as_its_rounds;

@@ -1,12 +1,12 @@
 ghost use Rattle.std.specs.Prelude.{◌≡◌, ◌==◌, ℕ, ◌<◌, List, ◌∷◌, length, option_map, IfSome, position};
-ghost use Rattle.text_spec.specs.Fields.{a_number, a_stamp, first_as};
+ghost use Rattle.text_spec.specs.Fields.{a_mode, a_number, a_stamp, first_as};
 ghost use Rattle.text_spec.specs.Maybe.{first_of, ended as ended_of};
 ghost use Rattle.text_spec.specs.PiecesView.{pieces_left};
 ghost use Rattle.text_spec.specs.Words.{pieces_of};
 
 use crate::numbers::{number_of, with_digit};
 use crate::stamps::stamp;
-use ids_types::Stamp;
+use ids_types::{Mode, Stamp};
 use memchr::memchr;
 use std::marker::Model;
 
@@ -63,6 +63,15 @@ impl<'a> Pieces<'a> {
         let (word, rest) = self.first()?;
         let stamp = stamp(word)?;
         Some((stamp, rest))
+    }
+
+    /// The mode at the front, and the pieces behind it.
+    pub fn mode(self) -> Option<(Mode, Pieces<'a>)>
+        ensures { result ≡ first_as a_mode self.entry }
+    {
+        let (word, rest) = self.first()?;
+        let mode = Mode::named(word)?;
+        Some((mode, rest))
     }
 
     /// Whether no piece is left.

@@ -1,6 +1,6 @@
 use Rattle.std.proofs.Common.{◌≡◌, ◌-◌, take, length}
 use Rattle.text_spec.specs.Contexts.{numbers_in}
-use Rattle.journal.proofs.FormLemmas.{with_front}
+use Rattle.text_spec.proofs.NumberLists.{with_front}
 use Rattle.journal.proofs.form.numbers_of.Given as goal
 
 -- the numbers so far and those of the pieces that are left are those of all pieces

@@ -1,0 +1,6 @@
+pub mod EndsLemmas
+pub mod PrintingLemmas
+pub mod ReaderLemmas
+pub mod ReadingLemmas
+pub mod RowsLemmas
+pub mod TicksLemmas

@@ -1,0 +1,44 @@
+-- What a line tells, by its first word.
+use Rattle.std.proofs.Common.{◌≡◌, ℕ, false, List, [], ◌∷◌, length, refl, sym, ap, ◌∙◌}
+use Rattle.std.specs.Prelude.{Option, Some, None, bytes_eq, codes, option_map, if◌then◌else◌}
+use Rattle.std.proofs.lemmas.Option.{same_Some}
+use Rattle.ids_config.specs.Parts.{Parts}
+use Rattle.text_spec.specs.Contexts.{numbers_in}
+use Rattle.text_spec.specs.Fields.{told_in_one}
+use Rattle.text_spec.specs.Lines.{after_line, past_with}
+use Rattle.text_spec.specs.Maybe.{first_of, or_else, ◌>>=◌}
+use Rattle.text_spec.specs.TraceFaults.{PastRounds}
+use Rattle.text_spec.specs.TraceForm.{opening_in, trace_forms, trace_told_by}
+use Rattle.text_spec.specs.TraceReading.{trace_grammar}
+use Rattle.text_spec.specs.TraceText.{TraceLine, opens}
+use Rattle.text_spec.specs.Words.{words_of}
+
+or_none : (o : Option TraceLine) → or_else o None ≡ o
+or_none None = refl
+or_none (Some x) = refl
+
+-- the words that were read first
+pub front_words : (words rest : List (List ℕ)) (kind : List ℕ) → first_of words ≡ Some (kind, rest) → words ≡ kind ∷ rest
+front_words [] rest kind is = cc is
+front_words (word ∷ words) rest kind is =
+    let same : (word, words) ≡ (kind, rest) = same_Some (word, words) (kind, rest) is in
+    ap (λ (w : List ℕ × List (List ℕ)). w.0 ∷ w.1) same
+
+-- a line of another letter opens no round
+no_opening : (kind : List ℕ) (words : List (List ℕ)) → bytes_eq kind (codes "N") ≡ false → opening_in (kind ∷ words) ≡ None
+no_opening kind words other =
+    ap (λ b. ◌>>=◌ {A = Unit {0} × List (List ℕ)} (option_map (λ x. (x, words)) (if b then Some tt else None)) (λ w. option_map opens (numbers_in (length w.1) w.1))) other
+
+module _ (config : Parts) (past : PastRounds) (line kind : List ℕ) (words : List (List ℕ)) (are : words_of line ≡ kind ∷ words) where
+  -- a line that opens a round
+  pub opening_told : kind ≡ codes "N" → after_line (trace_grammar config) past line ≡ past_with (trace_grammar config) past (option_map opens (numbers_in (length words) words))
+  opening_told is =
+      ap (λ ws. past_with (trace_grammar config) past (trace_told_by ws)) (are ∙ ap (λ w. w ∷ words) is)
+      ∙ ap (past_with (trace_grammar config) past) (or_none (option_map opens (numbers_in (length words) words)))
+
+  -- another line
+  pub other_told : (told : Option TraceLine) → bytes_eq kind (codes "N") ≡ false → told ≡ told_in_one trace_forms (kind ∷ words) → after_line (trace_grammar config) past line ≡ past_with (trace_grammar config) past told
+  other_told told other is =
+      ap (λ ws. past_with (trace_grammar config) past (trace_told_by ws)) are
+      ∙ ap (λ (o : Option TraceLine). past_with (trace_grammar config) past (or_else o (told_in_one trace_forms (kind ∷ words)))) (no_opening kind words other)
+      ∙ ap (past_with (trace_grammar config) past) (sym is)

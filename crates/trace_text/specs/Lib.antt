@@ -1,0 +1,7 @@
+pub mod Answers
+pub mod Lines
+pub mod Printing
+pub mod RawLines
+pub mod ReaderView
+pub mod TraceView
+pub mod Typed

@@ -1,0 +1,7 @@
+-- What a `Reader` stands for.
+use Rattle.text_spec.specs.TraceFaults.{PastRounds}
+use Rattle.trace_text.specs.declared.reader.Reader.{Reader}
+
+-- the lines that were read
+abbrev pub past_of : Reader → PastRounds
+past_of r = record { rounds = r.trace.rounds; is_open = r.is_open }

@@ -1,0 +1,143 @@
+//! The forms of a trace's lines.
+
+ghost use Rattle.std.specs.Prelude.{◌≡◌, ◌∷◌, length, option_map, IfOk};
+ghost use Rattle.text_spec.specs.Contexts.{numbers_in};
+ghost use Rattle.text_spec.specs.Fields.{any_bytes, bytes_in, behind, first_as, told_in_one};
+ghost use Rattle.text_spec.specs.TraceForm.{asked_mode_form, asked_report_form, asked_state_form, round_end_form, trace_forms};
+ghost use Rattle.trace_text.specs.RawLines.{context_told, line_told, where_all};
+
+use ids_types::{Mode, NoMemory, Stamp};
+use text_spec::{HexText, Pieces};
+
+/// What a caller asks for, its numbers not yet in their ranges and its context's bytes still as text.
+#[derive(Debug, Drop)]
+pub(crate) enum RawAct<'a> {
+    Report {
+        event: u64,
+        count: u64,
+        stamp: Option<Stamp>,
+        context: Option<HexText<'a>>,
+    },
+    State(u64),
+    SetMode {
+        event: u64,
+        mode: Mode,
+    },
+}
+
+/// A line, but for one that opens a round.
+#[derive(Debug, Drop)]
+pub(crate) enum RawLine<'a> {
+    Call { caller: u64, act: RawAct<'a> },
+    Close(u64),
+}
+
+/// What a line of this first word and these behind it tells, `None` where it has no form.
+pub(crate) fn line_of<'a>(kind: &[u8], words: Pieces<'a>) -> Option<RawLine<'a>>
+    ensures { option_map line_told result ≡ told_in_one trace_forms (kind.now ∷ words.entry) }
+{
+    if kind == b"R".as_slice() {
+        return report_of(words);
+    }
+    if kind == b"S".as_slice() {
+        return state_of(words);
+    }
+    if kind == b"M".as_slice() {
+        return setting_of(words);
+    }
+    if kind == b"E".as_slice() {
+        return end_of(words);
+    }
+    None
+}
+
+/// The words behind `R`.
+fn report_of(words: Pieces<'_>) -> Option<RawLine<'_>>
+    ensures { option_map line_told result ≡ behind asked_report_form words.entry }
+{
+    let (caller, words) = words.any_number()?;
+    let (event, words) = words.any_number()?;
+    let (count, words) = words.any_number()?;
+    let (stamp, words) = words.stamp()?;
+    let (context, words) = context_first(words)?;
+    words.ended(RawLine::Call {
+        caller,
+        act: RawAct::Report {
+            event,
+            count,
+            stamp,
+            context,
+        },
+    })
+}
+
+/// The words behind `S`.
+fn state_of(words: Pieces<'_>) -> Option<RawLine<'_>>
+    ensures { option_map line_told result ≡ behind asked_state_form words.entry }
+{
+    let (caller, words) = words.any_number()?;
+    let (state, words) = words.any_number()?;
+    words.ended(RawLine::Call {
+        caller,
+        act: RawAct::State(state),
+    })
+}
+
+/// The words behind `M`.
+fn setting_of(words: Pieces<'_>) -> Option<RawLine<'_>>
+    ensures { option_map line_told result ≡ behind asked_mode_form words.entry }
+{
+    let (caller, words) = words.any_number()?;
+    let (event, words) = words.any_number()?;
+    let (mode, words) = words.mode()?;
+    words.ended(RawLine::Call {
+        caller,
+        act: RawAct::SetMode { event, mode },
+    })
+}
+
+/// The words behind `E`.
+fn end_of(words: Pieces<'_>) -> Option<RawLine<'_>>
+    ensures { option_map line_told result ≡ behind round_end_form words.entry }
+{
+    let (tick, words) = words.any_number()?;
+    words.ended(RawLine::Close(tick))
+}
+
+/// The context at the front, and the words behind it.
+#[inline(always)]
+fn context_first(words: Pieces<'_>) -> Option<(Option<HexText<'_>>, Pieces<'_>)>
+    ensures { option_map (λ x. (context_told x.0, x.1)) result ≡ first_as any_bytes words.entry }
+{
+    let (word, words) = words.first()?;
+    let context = context_of(word)?;
+    Some((context, words))
+}
+
+/// `-`, or a byte or more.
+#[inline(always)]
+fn context_of(word: &[u8]) -> Option<Option<HexText<'_>>>
+    ensures { option_map context_told result ≡ bytes_in word.now }
+{
+    if word == b"-".as_slice() {
+        return Some(None);
+    }
+    Some(Some(HexText::of(word)?))
+}
+
+/// Reads words as ticks, and tells whether all of them are numbers.
+pub(crate) fn read_ticks(words: Pieces<'_>, ticks: &mut Vec<u64>) -> Result<bool, NoMemory>
+    ensures { IfOk result (λ all.
+        where_all all ticks.new.items ≡ numbers_in (length words.entry) words.entry) }
+{
+    ticks.clear();
+    let mut rest = words;
+    while !rest.is_empty() {
+        let Some((tick, next)) = rest.any_number() else {
+            return Ok(false);
+        };
+        ticks.push(tick)?;
+        rest = next;
+    }
+    Ok(true)
+}
