@@ -2,7 +2,8 @@
 
 ghost use Rattle.std.specs.Prelude.{◌≡◌, ◌++◌, ◌∷◌, [], IfOk, OnOk, codes, decimal, reverse};
 ghost use Rattle.event_memory.specs.Views.{plain_row};
-ghost use Rattle.text_spec.specs.MemoryText.{bytes_word, memory_text, row_line};
+ghost use Rattle.text_spec.specs.Fields.{bytes_word};
+ghost use Rattle.text_spec.specs.MemoryText.{memory_text, row_line};
 ghost use Rattle.text_spec.specs.Stamps.{stamp_text};
 ghost use Rattle.text_spec.specs.Words.{line_feed, space};
 

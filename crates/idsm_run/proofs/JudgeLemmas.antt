@@ -5,7 +5,7 @@ use Rattle.std.specs.Str.{bytes_eq}
 use Rattle.std.proofs.lemmas.Bool.{false_from_ne_true, cases_Bool}
 use Rattle.std.proofs.lemmas.Option.{same_Some, none-some}
 use Rattle.std.proofs.lemmas.Slice.Eq.{bytes_eq-Decides}
-use Rattle.text_spec.specs.JournalReading.{BadLine}
+use Rattle.text_spec.specs.Lines.{BadLine}
 use Rattle.text_spec.specs.JournalText.{Told}
 use Rattle.idsm_run.specs.Names.{Refusal, messages_of}
 use Rattle.idsm_run.specs.Run.{MayRefuse}

@@ -31,5 +31,6 @@ pub use Rattle.std.specs.List.{AllByRecursion, flat_map, list_any}
 pub use Rattle.std.specs.declared.alloc.Global.{Global}
 pub use Rattle.text_spec.specs.DecodedText.{decoded_text}
 pub use Rattle.text_spec.specs.MemoryText.{memory_text}
-pub use Rattle.text_spec.specs.JournalReading.{BadLine, journal_in, IsJournal}
+pub use Rattle.text_spec.specs.JournalReading.{journal_in, IsJournal}
+pub use Rattle.text_spec.specs.Lines.{BadLine}
 pub use Rattle.text_spec.specs.JournalText.{Told, Line, begins, enters, loses, turn_told, lines_told, line_for}

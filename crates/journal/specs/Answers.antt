@@ -3,27 +3,18 @@ use Rattle.std.specs.Prelude.{◌≡◌, ℕ, List, Result, Ok, Err, ⊤}
 use Rattle.ids_config.specs.Parts.{Parts}
 use Rattle.ids_config.specs.Steps.{◌>>◌}
 use Rattle.ids_types.specs.Turns.{Turn}
-use Rattle.text_spec.specs.JournalReading.{BadLine, IsJournal, journal_in}
+use Rattle.text_spec.specs.JournalReading.{IsJournal, journal_in}
 use Rattle.text_spec.specs.JournalFaults.{Past, next}
 use Rattle.text_spec.specs.JournalText.{Loss, Told, Line}
+use Rattle.text_spec.specs.Lines.{BadLine}
+use Rattle.text_spec.specs.declared.fault.LineFault.{LineFault}
+use Rattle.text_spec.specs.declared.fault.LineFault.TheVariants as line_faults
 use Rattle.journal.specs.declared.fault.JournalFault.{JournalFault}
 use Rattle.journal.specs.declared.fault.JournalFault.TheVariants as faults
-use Rattle.journal.specs.declared.fault.LineFault.{LineFault}
-use Rattle.journal.specs.declared.fault.LineFault.TheVariants as line_faults
 
 -- turns and losses
 abbrev pub told : List Turn → List Loss → Told
 told turns losses = record { turns = turns; losses = losses }
-
--- the line's first fault, or want of memory
-abbrev pub RefusedFor : Result Past ℕ → LineFault → Type 0
-RefusedFor expected (line_faults.Fault number) = expected ≡ Err number
-RefusedFor expected line_faults.NoMemory = ⊤
-
--- the line was taken, and these are the lines so far, or refused as it was expected, or memory was refused
-abbrev pub Took : Past → Result Past ℕ → Result ⊤ LineFault → Type 0
-Took now expected (Ok done) = expected ≡ Ok now
-Took now expected (Err fault) = RefusedFor expected fault
 
 -- where a line is bad the text is no journal
 abbrev pub HasNone : Parts → List ℕ → JournalFault → Type 0

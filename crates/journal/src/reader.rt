@@ -3,7 +3,6 @@ ghost use Rattle.std.specs.Ordering.{nat_cmp};
 ghost use Rattle.std.specs.BTreeSet.{contains as set_contains};
 ghost use Rattle.text_spec.specs.JournalFaults.{has_pair, start};
 
-use crate::fault::LineFault;
 use crate::form::line_of;
 use crate::line::{RawEntry, RawLine, RawLoss};
 use crate::pairs::{is_free, pairs_of};
@@ -14,7 +13,7 @@ use ids_config::{Config, asks};
 use ids_types::{History, Loss, NoMemory, TurnHead};
 use std::alloc::Global;
 use std::collections::BTreeSet;
-use text_spec::Pieces;
+use text_spec::{LineFault, Pieces};
 
 /// The most entries of a turn.
 const MAX_ENTRIES: u64 = 1024;
@@ -42,10 +41,12 @@ pub(crate) struct Reader {
 impl Reader {
     ghost use Rattle.std.specs.Prelude.{◌≡◌, ◌<◌, ◌≤◌, length, IfOk, OnOk};
     ghost use Rattle.text_spec.specs.JournalFaults.{start, head_fault, entry_fault, loss_fault};
-    ghost use Rattle.text_spec.specs.JournalReading.{after_line};
+    ghost use Rattle.text_spec.specs.JournalReading.{journal_grammar};
     ghost use Rattle.text_spec.specs.JournalText.{begins, enters, loses};
+    ghost use Rattle.text_spec.specs.LineAnswers.{Took};
+    ghost use Rattle.text_spec.specs.Lines.{after_line};
     ghost use Rattle.journal.specs.RawLines.{entry_told, loss_told};
-    ghost use Rattle.journal.specs.Answers.{Took, added};
+    ghost use Rattle.journal.specs.Answers.{added};
     ghost use Rattle.journal.specs.ReaderView.{past_of, Knows};
 
     pub(crate) fn new(alloc: Global) -> Result<Reader, NoMemory>
@@ -70,7 +71,7 @@ impl Reader {
         config: &Config,
         line: &[u8],
     ) -> Result<(), LineFault>
-        ensures { Took (past_of self.new) (after_line config.now (past_of self.old) line.now) result }
+        ensures { Took (past_of self.new) (after_line (journal_grammar config.now) (past_of self.old) line.now) result }
     {
         match line_of(Pieces::of(line, b' ')) {
             None => Err(LineFault::Fault(1)),

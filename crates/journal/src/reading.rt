@@ -1,17 +1,17 @@
 ghost use Rattle.std.specs.Prelude.{◌≡◌, Ok, IfOk, IfErr};
 ghost use Rattle.text_spec.specs.JournalFaults.{start};
-ghost use Rattle.text_spec.specs.JournalReading.{IsJournal, journal_in, after_pieces};
+ghost use Rattle.text_spec.specs.JournalReading.{IsJournal, journal_grammar, journal_in};
 ghost use Rattle.text_spec.specs.JournalText.{Told};
-ghost use Rattle.text_spec.specs.Words.{line_feed, pieces_of};
+ghost use Rattle.text_spec.specs.Lines.{past_in};
 ghost use Rattle.journal.specs.Answers.{told, fault_at, IsFirstBad, HasNone, Reads};
 ghost use Rattle.journal.specs.ReaderView.{past_of};
 
-use crate::fault::{JournalFault, LineFault};
+use crate::fault::JournalFault;
 use crate::reader::Reader;
 use ids_config::Config;
 use ids_types::{History, Loss};
 use std::alloc::Global;
-use text_spec::cut;
+use text_spec::{LineFault, cut};
 
 /// What a journal tells.
 #[derive(Debug, Drop)]
@@ -55,7 +55,7 @@ fn read_lines(alloc: Global, text: &[u8], config: &Config) -> Result<Journal, Jo
 
 /// The reader behind the lines of a text, each of which is ended.
 fn read_all(alloc: Global, text: &[u8], config: &Config) -> Result<Reader, JournalFault>
-    ensures { Reads past_of (after_pieces config.now 1 start (pieces_of line_feed text.now)) result }
+    ensures { Reads past_of (past_in (journal_grammar config.now) start text.now) result }
 {
     let mut reader = Reader::new(alloc)?;
     let mut number = 1u64;

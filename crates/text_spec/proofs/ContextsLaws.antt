@@ -3,6 +3,11 @@ use Rattle.std.specs.Prelude.{◌≡◌, ◌<◌, ◌≤◌, ◌==◌, ◌∷◌
 use Rattle.text_spec.proofs.Names.{ℕ, zero, suc, Bool, true, false, inl, inr, List, [], length, map, refl, sym, ap, subst, ◌∙◌, arith, Option, Some, None, IfSome, option_map, decimal, bytes_eq, ⊤, w64, to_be_bytes, AllByRecursion, slice_split, join_with_byte, list_all, and_left, and_parts, both_ways, cond-true, cond-false, eqb-true, ne_eqb, join_with_byte-slice_split, same_Some, none-some, cond_some, bytes_eq-Decides, IsBytes, encode_lower, Carried, Absent, Kept, Missing, Stamp, colon, point, mark, kept_fields, kept_places, context_word, IsContextWord, IsContext, IsExactContext, kept_in, numbers_in, claims_in, context_in, a_context, the, a_number, a_stamp, a_mode, hex_bytes, words_of_fields, AreWritten, is_lower_digit, some_hex, mode_name, mode_named, all_modes, stamp_in, stamp_text, absent}
 use Rattle.std.specs.Char.{is_ascii_digit}
 use Rattle.std.specs.Str.Parse.{digits_value}
+use Rattle.std.specs.Prelude.{◌/◌}
+use Rattle.hex.specs.Hex.{encode_with}
+use Rattle.std.proofs.lemmas.Bool.{and_right}
+use Rattle.text_spec.proofs.Names.{slice_index, lower_digits}
+use Rattle.text_spec.specs.Fields.{any_bytes, bytes_in, bytes_word}
 use Rattle.text_spec.specs.Numbers.{is_number, capped}
 use Rattle.text_spec.proofs.FieldsLaws.{Told, IsReading, Lawful, AreLawful, in_word, lawful, simple_lawful, AreReading, reads, fields_are, fields_again, fields_pass}
 use Rattle.text_spec.proofs.FrontLemmas.{bind_some, bind_again, chosen, is_some, mapped_some}
@@ -63,6 +68,37 @@ bytes_lawful = simple_lawful (λ bytes. IsBytes bytes × (1 ≤ length bytes)) e
     (λ word bytes read. let is = some_hex_takes word bytes read in ((is.0.are_bytes, is.1), sym is.0.text))
     (λ bytes held. some_hex_again (encode_lower bytes) bytes held.1 (hex_in-encode_lower bytes held.0))
     (λ bytes held. lower_passes (encode_lower bytes) (lower_text bytes held.0))
+
+-- the word of some bytes is not `-`
+hex_not_absent : (byte : ℕ) (bytes : List ℕ) → bytes_eq (encode_lower (byte ∷ bytes)) absent ≡ false
+unfolding encode_with
+hex_not_absent byte bytes = and_right (slice_index lower_digits (byte / 16) == 45) false refl
+
+-- a byte or more has its text as its word
+some_word : (bytes : List ℕ) → 1 ≤ length bytes → encode_lower bytes ≡ bytes_word bytes
+some_word [] some = absurd (omega arith)
+some_word (byte ∷ bytes) some = refl
+
+any_takes : (word bytes : List ℕ) → bytes_in word ≡ Some bytes → IsBytes bytes × (word ≡ bytes_word bytes)
+any_takes word bytes read = elim (chosen (bytes_eq word absent) (Some []) (some_hex word) _ read) [
+  | inl none ↦
+      subst (λ bs. IsBytes bs × (word ≡ bytes_word bs)) (same_Some [] bytes none.1) (λ k. omega arith, (bytes_eq-Decides word absent).0 none.0)
+  | inr some ↦
+      let is = some_hex_takes word bytes some.1 in
+      (is.0.are_bytes, sym is.0.text ∙ some_word bytes is.1)
+]
+
+any_again : (bytes : List ℕ) → IsBytes bytes → bytes_in (bytes_word bytes) ≡ Some bytes
+any_again [] held = refl
+any_again (byte ∷ bytes) held =
+    cond-false _ (Some []) _ (hex_not_absent byte bytes) ∙ some_hex_again (encode_lower (byte ∷ bytes)) (byte ∷ bytes) (omega arith) (hex_in-encode_lower (byte ∷ bytes) held)
+
+any_passes : (bytes : List ℕ) → IsBytes bytes → list_all in_word (bytes_word bytes) ≡ true
+any_passes [] held = refl
+any_passes (byte ∷ bytes) held = lower_passes (encode_lower (byte ∷ bytes)) (lower_text (byte ∷ bytes) held)
+
+pub any_lawful : Lawful any_bytes
+any_lawful = simple_lawful IsBytes bytes_word bytes_in any_takes any_again any_passes
 
 -- ---- a kept context
 
@@ -128,7 +164,7 @@ numbers_take (suc most) (piece ∷ pieces) numbers read =
       takes = λ exact. ap (λ w. w ∷ pieces) (told.takes exact.0) ∙ ap (λ ws. decimal first.0 ∷ ws) (more.takes exact.1);
     })
 
-numbers_again : (most : ℕ) (numbers : List ℕ) → AllByRecursion a_number.Exact numbers → length numbers ≤ most → numbers_in most (map decimal numbers) ≡ Some numbers
+pub numbers_again : (most : ℕ) (numbers : List ℕ) → AllByRecursion a_number.Exact numbers → length numbers ≤ most → numbers_in most (map decimal numbers) ≡ Some numbers
 numbers_again most [] exact few = refl
 numbers_again zero (n ∷ numbers) exact few = absurd (omega arith)
 numbers_again (suc most) (n ∷ numbers) exact few =

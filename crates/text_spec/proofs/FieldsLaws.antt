@@ -1,8 +1,8 @@
 -- Lists of fields: their reading against their words, both ways, for any fields that keep the laws.
-use Rattle.std.specs.Prelude.{◌≡◌, ◌∷◌}
-use Rattle.text_spec.proofs.Names.{ℕ, Bool, true, List, [], refl, sym, ap, subst, ◌∙◌, inl, inr, Option, Some, None, option_map, nat_lt, list_all, none-some, Field, Filled, simple, put, the, words_of_fields, AreHeld, AreExact, AreWritten, HasForm, Makes, first_as, read_by, Form, told_in, told_in_one, ◌>>=◌, or_else, space}
+use Rattle.std.specs.Prelude.{◌≡◌, ◌==◌, ◌∷◌}
+use Rattle.text_spec.proofs.Names.{ℕ, not, Bool, true, List, [], refl, sym, ap, subst, ◌∙◌, arith, inl, inr, Option, Some, None, option_map, nat_lt, list_all, none-some, Field, Filled, simple, put, the, words_of_fields, AreHeld, AreExact, AreWritten, HasForm, Makes, first_as, read_by, Form, told_in, told_in_one, ◌>>=◌, or_else, space, line_feed, words_of, line_of}
 use Rattle.text_spec.proofs.FrontLemmas.{bind_again}
-use Rattle.text_spec.proofs.WordsLemmas.{Pass}
+use Rattle.text_spec.proofs.WordsLemmas.{Pass, all_pass, weaker, split_joined, join_passes}
 
 -- ---- the laws of a field
 
@@ -130,12 +130,50 @@ fields_again (field ∷ fields) makes values laws held exact =
     bind_again (first_as field (field.word values.0 ∷ rest)) (λ x. read_by fields (makes x.0) x.1) (values.0, rest) (ap (option_map (λ x. (x, rest))) (laws.0.again values.0 held.0 exact.0))
     ∙ fields_again fields (makes values.0) values.1 laws.1 held.1 exact.1
 
+-- the word of a value is one that the field may be
+pub word_written : (field : Field) (x : field.Value) → Lawful field → field.Held x → field.Exact x → field.Writes (field.word x)
+word_written field x laws held exact = (subst (IsReading field (field.word x)) (laws.again x held exact) (laws.is (field.word x))).written
+
 -- words that fields may be have only bytes that words have
 pub fields_pass : (fields : List Field) (words : List (List ℕ)) → AreLawful fields → AreWritten fields words → Pass in_word words
 fields_pass [] [] laws written = tt
 fields_pass [] (word ∷ words) laws written = absurd written
 fields_pass (field ∷ fields) [] laws written = absurd written
 fields_pass (field ∷ fields) (word ∷ words) laws written = (laws.0.passes word written.0, fields_pass fields words laws.1 written.1)
+
+-- a form is read where it is the first
+pub first_form : {A : Type 0} (form : Form A) (values : Values form.fields) (others : Option A) → AreLawful (the form.letter ∷ form.fields)
+    → AreHeld (fill form.fields values) → AreExact (fill form.fields values)
+    → or_else (told_in form (form.letter ∷ words_of_fields (fill form.fields values))) others ≡ Some (made_of form.fields form.makes values)
+first_form form values others laws held exact =
+    ap (λ o. or_else o others) (fields_again (the form.letter ∷ form.fields) (λ _. form.makes) (tt, values) laws (tt, held) (tt, exact))
+
+-- values of fields have words that pass
+filled_pass : (fields : List Field) (values : Values fields) → AreLawful fields → AreHeld (fill fields values) → AreExact (fill fields values) → Pass in_word (words_of_fields (fill fields values))
+filled_pass [] values laws held exact = tt
+filled_pass (field ∷ fields) values laws held exact =
+    (laws.0.passes (field.word values.0) (word_written field values.0 laws.0 held.0 exact.0), filled_pass fields values.1 laws.1 held.1 exact.1)
+
+-- the words of a form and its values
+pub form_pass : {A : Type 0} (form : Form A) (values : Values form.fields) → AreLawful (the form.letter ∷ form.fields)
+    → AreHeld (fill (the form.letter ∷ form.fields) (tt, values)) → AreExact (fill (the form.letter ∷ form.fields) (tt, values))
+    → Pass in_word (form.letter ∷ words_of_fields (fill form.fields values))
+form_pass form values laws held exact = filled_pass (the form.letter ∷ form.fields) (tt, values) laws held exact
+
+-- ---- the line of some words
+
+-- a byte that lines have
+abbrev pub in_line : ℕ → Bool
+in_line b = not (b == line_feed)
+
+-- words are cut again
+pub words_again : (word : List ℕ) (words : List (List ℕ)) → Pass in_word (word ∷ words) → words_of (line_of (word ∷ words)) ≡ word ∷ words
+words_again word words pass = split_joined in_word space word words refl pass
+
+-- their line has no line feed
+pub line_free : (words : List (List ℕ)) → Pass in_word words → list_all in_line (line_of words) ≡ true
+line_free words pass =
+    join_passes in_line space words refl (all_pass in_line (λ word. list_all in_word word ≡ true) words (λ word is. weaker in_word in_line word (λ b above. grind (arith, above)) is) pass)
 
 module _ {A : Type 0} (shows : A → List Filled) where
   -- ---- forms

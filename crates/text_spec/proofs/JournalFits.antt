@@ -1,6 +1,6 @@
 -- What turns and losses that fit a configuration keep.
 use Rattle.std.specs.Prelude.{◌≡◌, ◌+◌, ◌<◌, ◌≤◌, ◌||◌, ◌∷◌, ◌++◌}
-use Rattle.text_spec.proofs.Names.{ℕ, true, false, inl, inr, List, [], length, map, get_or, length-set, get_or-set_same, get_or-set_other, set, refl, sym, ap, subst, ◌∙◌, append_assoc, arith, Ok, AllByRecursion, flat_map, list_any, and_from, both_ways, cases_eq, eq-eqb, append-nil, length-append, list_any-append, Parts, Turn, begun, with_entry, entries_of, Past, is_in_ranges, loss_fault, fault_of, next, is_pair, has_pair, pair_of, AreFaultless, Follows, Loss, Entry, Line, begins, enters, loses, turn_told}
+use Rattle.text_spec.proofs.Names.{ℕ, true, false, inl, inr, List, [], length, map, get_or, length-set, get_or-set_same, get_or-set_other, set, refl, sym, ap, subst, ◌∙◌, append_assoc, arith, Ok, AllByRecursion, flat_map, list_any, and_from, both_ways, cases_eq, eq-eqb, append-nil, length-append, list_any-append, Parts, Turn, begun, with_entry, entries_of, Past, is_in_ranges, loss_fault, fault_of, next, is_pair, has_pair, pair_of, AreFaultless, journal_grammar, Follows, Loss, Entry, Line, begins, enters, loses, turn_told}
 use Rattle.text_spec.proofs.JournalFacts.{entry_passes, flat_map-push, flat_map-with_entry}
 
 -- what the lines so far keep of one of them
@@ -33,7 +33,7 @@ module _ (config : Parts) where
       and_from _ _ (and_from _ _ passes.call passes.act) passes.event
   in_ranges_of past (loses loss) none = grind (arith, none)
 
-  pub all_in_ranges : (past : Past) (lines : List Line) → AreFaultless config past lines → AllByRecursion (λ line. is_in_ranges config line ≡ true) lines
+  pub all_in_ranges : (past : Past) (lines : List Line) → AreFaultless (journal_grammar config) past lines → AllByRecursion (λ line. is_in_ranges config line ≡ true) lines
   all_in_ranges past [] none = tt
   all_in_ranges past (line ∷ lines) none = (in_ranges_of past line none.0, all_in_ranges (next past line) lines none.1)
 
@@ -81,29 +81,29 @@ module _ (config : Parts) where
   kept_on past (loses one) (loses loss) keeps none = ((grind (arith, keeps.0, none), rw length-append (omega arith)), grind (arith, keeps.0, none))
 
   -- each line follows one that is kept
-  later_follows : (past : Past) (first : Line) (middle : List Line) (last : Line) (behind : List Line) → Keeps past first → AreFaultless config past (middle ++ last ∷ behind) → Follows first last
+  later_follows : (past : Past) (first : Line) (middle : List Line) (last : Line) (behind : List Line) → Keeps past first → AreFaultless (journal_grammar config) past (middle ++ last ∷ behind) → Follows first last
   later_follows past first [] last behind keeps none = (kept_on past first last keeps none.0).1
   later_follows past first (line ∷ middle) last behind keeps none = later_follows (next past line) first middle last behind (kept_on past first line keeps none.0).0 none.1
 
   pub in_order : (past : Past) (before : List Line) (first : Line) (middle : List Line) (last : Line) (behind : List Line) → length past.calls ≡ 32
-      → AreFaultless config past (before ++ first ∷ (middle ++ last ∷ behind)) → Follows first last
+      → AreFaultless (journal_grammar config) past (before ++ first ∷ (middle ++ last ∷ behind)) → Follows first last
   in_order past [] first middle last behind calls none = later_follows (next past first) first middle last behind (kept_now past first calls none.0) none.1
   in_order past (line ∷ before) first middle last behind calls none = in_order (next past line) before first middle last behind (calls_stay past line calls) none.1
 
   -- ---- number
 
   -- entries without a fault are few, and the lines behind them have none
-  few_more : (past : Past) (entries : List (Entry (List ℕ))) (rest : List Line) → past.entries ≤ 1024 → AreFaultless config past (map enters entries ++ rest)
-      → (past.entries + length entries ≤ 1024) × (later : Past) × AreFaultless config later rest
+  few_more : (past : Past) (entries : List (Entry (List ℕ))) (rest : List Line) → past.entries ≤ 1024 → AreFaultless (journal_grammar config) past (map enters entries ++ rest)
+      → (past.entries + length entries ≤ 1024) × (later : Past) × AreFaultless (journal_grammar config) later rest
   few_more past [] rest few none = (omega arith, past, none)
   few_more past (entry ∷ entries) rest few none =
       let here = (entry_passes config past entry none.0).few in
       let more = few_more (next past (enters entry)) entries rest (omega arith) none.1 in
       (omega (arith, more.0), more.1, more.2)
 
-  pub turns_few : (past : Past) (turns : List Turn) (rest : List Line) → AreFaultless config past (flat_map turn_told turns ++ rest) → AllByRecursion (λ turn. length turn.entries ≤ 1024) turns
+  pub turns_few : (past : Past) (turns : List Turn) (rest : List Line) → AreFaultless (journal_grammar config) past (flat_map turn_told turns ++ rest) → AllByRecursion (λ turn. length turn.entries ≤ 1024) turns
   turns_few past [] rest none = tt
   turns_few past (turn ∷ turns) rest none =
       let lines : (map enters turn.entries ++ flat_map turn_told turns) ++ rest ≡ map enters turn.entries ++ (flat_map turn_told turns ++ rest) = append_assoc (map enters turn.entries) (flat_map turn_told turns) rest in
-      let more = few_more (next past (begins turn.head)) turn.entries (flat_map turn_told turns ++ rest) (omega arith) (subst (AreFaultless config (next past (begins turn.head))) lines none.1) in
+      let more = few_more (next past (begins turn.head)) turn.entries (flat_map turn_told turns ++ rest) (omega arith) (subst (AreFaultless (journal_grammar config) (next past (begins turn.head))) lines none.1) in
       (omega (arith, more.0), turns_few more.1 turns rest more.2)

@@ -1,9 +1,9 @@
 -- One line of a journal: its reading against its own text, both ways.
-use Rattle.std.specs.Prelude.{◌≡◌, ◌==◌, ◌∷◌}
-use Rattle.text_spec.proofs.Names.{ℕ, not, true, Bool, List, [], refl, ap, subst, ◌∙◌, arith, Option, Some, None, codes, list_all, the, words_of_fields, AreHeld, AreExact, HasForm, Form, told_in, entry_of, turn_form, report_form, state_form, setting_form, loss_form, line_forms, told_by, Act, Report, State, SetMode, Line, begins, enters, loses, act_fields, fields_of, line_for, or_else, space, line_feed, words_of, line_of}
+use Rattle.std.specs.Prelude.{◌≡◌, ◌∷◌}
+use Rattle.text_spec.proofs.Names.{ℕ, true, List, [], refl, ap, subst, ◌∙◌, Some, None, codes, list_all, words_of_fields, AreHeld, AreExact, HasForm, told_in, entry_of, turn_form, report_form, state_form, setting_form, loss_form, line_forms, told_by, Act, Report, State, SetMode, Line, begins, enters, loses, act_fields, fields_of, line_for, or_else, words_of, line_of}
 use Rattle.text_spec.proofs.ContextsLaws.{the_lawful, number_lawful, stamp_lawful, mode_lawful, context_lawful}
-use Rattle.text_spec.proofs.FieldsLaws.{AreLawful, AreForms, Values, IsTold, fill, made_of, fields_again, forms_are, forms_pass, in_word}
-use Rattle.text_spec.proofs.WordsLemmas.{all_pass, weaker, split_joined, join_passes}
+use Rattle.text_spec.proofs.FieldsLaws.{AreForms, IsTold, first_form, forms_are, forms_pass, in_word, in_line, words_again, line_free}
+use Rattle.text_spec.proofs.WordsLemmas.{Pass}
 
 -- ---- the forms of a journal
 
@@ -35,13 +35,6 @@ none_has_none words none = subst (IsTold fields_of line_forms words) none (line_
 
 -- ---- from a line's words to the line
 
--- a form is read where it is the first
-first_form : {A : Type 0} (form : Form A) (values : Values form.fields) (others : Option A) → AreLawful (the form.letter ∷ form.fields)
-    → AreHeld (fill form.fields values) → AreExact (fill form.fields values)
-    → or_else (told_in form (form.letter ∷ words_of_fields (fill form.fields values))) others ≡ Some (made_of form.fields form.makes values)
-first_form form values others laws held exact =
-    ap (λ o. or_else o others) (fields_again (the form.letter ∷ form.fields) (λ _. form.makes) (tt, values) laws (tt, held) (tt, exact))
-
 act_again : (caller call : ℕ) (act : Act (List ℕ)) → AreHeld (act_fields caller call act) → AreExact (act_fields caller call act)
     → told_by (words_of_fields (act_fields caller call act)) ≡ Some (enters (entry_of caller call act))
 act_again caller call (Report event count stamp context) held exact =
@@ -62,19 +55,19 @@ line_again (loses loss) held exact = first_form loss_form (loss.caller, (loss.ca
 
 -- ---- from a line to its words
 
--- a byte that lines have
-abbrev pub in_line : ℕ → Bool
-in_line b = not (b == line_feed)
-
 -- the words of a line have a form
 has_form : (line : Line) → AreHeld (fields_of line) → AreExact (fields_of line) → HasForm line_forms (words_of_fields (fields_of line))
 has_form line held exact =
     told_has_form (words_of_fields (fields_of line)) line (line_again line held exact)
 
--- words that have a form are cut again
+-- the words of a line have only bytes that words have
+words_pass : (line : Line) → AreHeld (fields_of line) → AreExact (fields_of line) → Pass in_word (words_of_fields (fields_of line))
+words_pass line held exact = forms_pass fields_of line_forms (words_of_fields (fields_of line)) are_forms (has_form line held exact)
+
+-- words that are told are cut again
 cut_again : (words : List (List ℕ)) → HasForm line_forms words → words_of (line_of words) ≡ words
 cut_again [] written = absurd (none_has_none [] refl written)
-cut_again (word ∷ words) written = split_joined in_word space word words refl (forms_pass fields_of line_forms (word ∷ words) are_forms written)
+cut_again (word ∷ words) written = words_again word words (forms_pass fields_of line_forms (word ∷ words) are_forms written)
 
 -- a line is read as its words
 pub line_words : (line : Line) → AreHeld (fields_of line) → AreExact (fields_of line) → words_of (line_for line) ≡ words_of_fields (fields_of line)
@@ -82,7 +75,4 @@ line_words line held exact = cut_again (words_of_fields (fields_of line)) (has_f
 
 -- a line has no line feed
 pub line_passes : (line : Line) → AreHeld (fields_of line) → AreExact (fields_of line) → list_all in_line (line_for line) ≡ true
-line_passes line held exact =
-    let words = words_of_fields (fields_of line) in
-    let pass = forms_pass fields_of line_forms words are_forms (has_form line held exact) in
-    join_passes in_line space words refl (all_pass in_line (λ word. list_all in_word word ≡ true) words (λ word is. weaker in_word in_line word (λ b above. grind (arith, above)) is) pass)
+line_passes line held exact = line_free (words_of_fields (fields_of line)) (words_pass line held exact)

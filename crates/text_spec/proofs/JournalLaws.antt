@@ -1,23 +1,15 @@
 -- All lines of a journal: what a text tells is a journal, and each journal is told by its own text.
 use Rattle.std.specs.Prelude.{◌≡◌, ◌<◌, ◌≤◌, ◌==◌, ◌∷◌, ◌++◌}
-use Rattle.text_spec.proofs.Names.{ℕ, suc, List, [], length, map, refl, sym, ap, subst, ◌∙◌, append_assoc, arith, Option, Some, None, Result, Ok, Err, ⊤, AllByRecursion, flat_map, join_with_byte, eqb-true, append-nil, length-append, nil_from_length, join_with_byte-slice_split, length-slice_split, Parts, Turn, Past, fault_of, next, start, line_forms, told_by, AreFaultless, IsHeld, IsJournal, BadLine, at_line, past_with, after_line, journal_in, Entry, Loss, Told, Line, begins, enters, loses, fields_of, line_for, turn_told, lines_told, space, line_feed, pieces_of, words_of, line_of, text_of}
-use Rattle.ids_config.specs.Steps.{◌>>◌, asks}
+use Rattle.text_spec.proofs.Names.{ℕ, suc, List, [], length, map, refl, sym, ap, subst, ◌∙◌, append_assoc, arith, Option, Some, None, Result, Ok, Err, ⊤, AllByRecursion, flat_map, join_with_byte, eqb-true, append-nil, nil_from_length, join_with_byte-slice_split, length-slice_split, Parts, Turn, Past, fault_of, next, start, line_forms, told_by, AreFaultless, IsHeld, IsJournal, journal_grammar, BadLine, at_line, past_with, after_line, journal_in, Entry, Loss, Told, Line, begins, enters, loses, fields_of, line_for, turn_told, lines_told, space, line_feed, pieces_of, words_of, line_of, text_of}
+use Rattle.ids_config.specs.Steps.{◌>>◌}
 use Rattle.ids_config.proofs.StepLemmas.{both_ok, asked}
-use Rattle.text_spec.specs.JournalReading.{after_pieces, ◌>>=◌}
+use Rattle.text_spec.specs.Lines.{at_end, after_pieces, ◌>>=◌}
 use Rattle.text_spec.proofs.FieldsLaws.{IsTold}
+use Rattle.text_spec.proofs.FieldsLaws.{in_line}
 use Rattle.text_spec.proofs.JournalFacts.{line_exact, line_grows}
-use Rattle.text_spec.proofs.JournalForms.{line_is, line_again, line_words, in_line, line_passes}
-use Rattle.text_spec.proofs.WordsLemmas.{Pass, split_text, join_ended}
-
--- ---- steps that found no fault
-
-bind_ok : {A B : Type 0} (r : Result A BadLine) (f : A → Result B BadLine) (y : B) → (r >>= f) ≡ Ok y → (x : A) × (r ≡ Ok x) × (f x ≡ Ok y)
-bind_ok (Ok x) f y h = (x, refl, h)
-bind_ok (Err bad) f y h = cc h
-
-at_line_ok : {A : Type 0} (n : ℕ) (r : Result A ℕ) (x : A) → at_line n r ≡ Ok x → r ≡ Ok x
-at_line_ok n (Ok y) x h = cc h
-at_line_ok n (Err fault) x h = cc h
+use Rattle.text_spec.proofs.JournalForms.{line_is, line_again, line_words, line_passes}
+use Rattle.text_spec.proofs.LinesLaws.{bind_ok, at_line_ok, all_next, text_adds}
+use Rattle.text_spec.proofs.WordsLemmas.{Pass, join_ended}
 
 -- ---- what lines tell
 
@@ -68,7 +60,7 @@ module _ (config : Parts) where
     is_text : line_for line ≡ text
 
   one_more : (past now : Past) (text : List ℕ) (read : Option Line) → length config.events ≤ 256 → IsTold fields_of line_forms (words_of text) read
-      → past_with config past read ≡ Ok now → OneMore past now text
+      → past_with (journal_grammar config) past read ≡ Ok now → OneMore past now text
   one_more past now text None few is step = cc step
   one_more past now text (Some line) few is step =
       let parts = both_ok (fault_of config past line) (Ok (next past line)) now step in
@@ -78,15 +70,15 @@ module _ (config : Parts) where
   -- lines that were read, behind the lines before them
   record AllMore (past now : Past) (pieces : List (List ℕ)) : Type 0 where
     lines : List Line
-    none : AreFaultless config past lines
+    none : AreFaultless (journal_grammar config) past lines
     held : AllByRecursion IsHeld lines
     are_told : lines_told now.told ≡ lines_told past.told ++ lines
     are_pieces : map line_for lines ++ [] ∷ [] ≡ pieces
 
-  all_more : (n : ℕ) (past now : Past) (piece : List ℕ) (pieces : List (List ℕ)) → length config.events ≤ 256 → after_pieces config n past (piece ∷ pieces) ≡ Ok now → AllMore past now (piece ∷ pieces)
+  all_more : (n : ℕ) (past now : Past) (piece : List ℕ) (pieces : List (List ℕ)) → length config.events ≤ 256 → after_pieces (journal_grammar config) n past (piece ∷ pieces) ≡ Ok now → AllMore past now (piece ∷ pieces)
   unfolding after_pieces
   all_more n past now piece [] few read =
-      let end = asked 1 (length piece == 0) (Ok past) now (at_line_ok n (asks 1 (length piece == 0) >> Ok past) now read) in
+      let end = asked 1 (length piece == 0) (Ok past) now (at_line_ok n (at_end (journal_grammar config) past piece) now read) in
       let same : past ≡ now = cc end.1 in
       record {
         lines = [];
@@ -96,12 +88,12 @@ module _ (config : Parts) where
         are_pieces = ap (λ p. p ∷ []) (sym (nil_from_length piece (eqb-true (length piece) 0 end.0)));
       }
   all_more n past now piece (another ∷ pieces) few read =
-      let step = bind_ok (at_line n (after_line config past piece)) (λ then. after_pieces config (suc n) then (another ∷ pieces)) now read in
-      let one = one_more past step.0 piece (told_by (words_of piece)) few (line_is (words_of piece)) (at_line_ok n (after_line config past piece) step.0 step.1) in
+      let step = bind_ok (at_line n (after_line (journal_grammar config) past piece)) (λ then. after_pieces (journal_grammar config) (suc n) then (another ∷ pieces)) now read in
+      let one = one_more past step.0 piece (told_by (words_of piece)) few (line_is (words_of piece)) (at_line_ok n (after_line (journal_grammar config) past piece) step.0 step.1) in
       let more = all_more (suc n) step.0 now another pieces few step.2 in
       record {
         lines = one.line ∷ more.lines;
-        none = (one.none, subst (λ (p : Past). AreFaultless config p more.lines) (sym one.is) more.none);
+        none = (one.none, subst (λ (p : Past). AreFaultless (journal_grammar config) p more.lines) (sym one.is) more.none);
         held = (one.held, more.held);
         are_told =
             more.are_told
@@ -111,7 +103,7 @@ module _ (config : Parts) where
       }
 
   -- pieces of a text that was read; there is one at least
-  text_read : (now : Past) (pieces : List (List ℕ)) → 0 < length pieces → length config.events ≤ 256 → after_pieces config 1 start pieces ≡ Ok now → AllMore start now pieces
+  text_read : (now : Past) (pieces : List (List ℕ)) → 0 < length pieces → length config.events ≤ 256 → after_pieces (journal_grammar config) 1 start pieces ≡ Ok now → AllMore start now pieces
   text_read now [] some few read = absurd (omega arith)
   text_read now (piece ∷ pieces) some few read = all_more 1 start now piece pieces few read
 
@@ -119,13 +111,13 @@ module _ (config : Parts) where
   pub told_is_journal : (text : List ℕ) (told : Told) → length config.events ≤ 256 → journal_in config text ≡ Ok told → IsJournal config text told
   told_is_journal text told few read =
       let pieces = pieces_of line_feed text in
-      let step = bind_ok (after_pieces config 1 start pieces) (λ past. Ok past.told) told read in
+      let step = bind_ok (after_pieces (journal_grammar config) 1 start pieces) (λ past. Ok past.told) told read in
       let same : step.0.told ≡ told = cc step.2 in
       let some : 0 < length pieces = omega (arith, length-slice_split (λ b. b == line_feed) text) in
       let all = text_read step.0 pieces some few step.1 in
       let texts = map line_for all.lines in
       subst (IsJournal config text) same (record {
-        fits = record { held = subst (AllByRecursion IsHeld) (sym all.are_told) all.held; faultless = subst (AreFaultless config start) (sym all.are_told) all.none };
+        fits = record { held = subst (AllByRecursion IsHeld) (sym all.are_told) all.held; faultless = subst (AreFaultless (journal_grammar config) start) (sym all.are_told) all.none };
         is_text =
             sym (join_with_byte-slice_split line_feed text)
             ∙ ap (join_with_byte line_feed) (sym all.are_pieces)
@@ -136,35 +128,23 @@ module _ (config : Parts) where
   -- ---- from what is told to its text
 
   -- the line of what can be told without a fault adds it
-  line_adds : (past : Past) (line : Line) → length config.events ≤ 256 → fault_of config past line ≡ Ok tt → IsHeld line → after_line config past (line_for line) ≡ Ok (next past line)
+  line_adds : (past : Past) (line : Line) → length config.events ≤ 256 → fault_of config past line ≡ Ok tt → IsHeld line → after_line (journal_grammar config) past (line_for line) ≡ Ok (next past line)
   line_adds past line few none held =
       let exact = line_exact config past line few none in
-      ap (λ ws. past_with config past (told_by ws)) (line_words line held exact)
-      ∙ ap (past_with config past) (line_again line held exact)
+      ap (λ ws. past_with (journal_grammar config) past (told_by ws)) (line_words line held exact)
+      ∙ ap (past_with (journal_grammar config) past) (line_again line held exact)
       ∙ ap (λ (r : Result ⊤ ℕ). r >> Ok (next past line)) none
 
-  -- a piece with others behind it
-  more_pieces : (n : ℕ) (past : Past) (piece : List ℕ) (pieces : List (List ℕ)) → 0 < length pieces
-      → after_pieces config n past (piece ∷ pieces) ≡ (at_line n (after_line config past piece) >>= λ now. after_pieces config (suc n) now pieces)
-  unfolding after_pieces
-  more_pieces n past piece [] some = absurd (omega arith)
-  more_pieces n past piece (another ∷ pieces) some = refl
-
-  lines_add : (n : ℕ) (past : Past) (lines : List Line) → length config.events ≤ 256 → AreFaultless config past lines → AllByRecursion IsHeld lines
-      → (now : Past) × (after_pieces config n past (map line_for lines ++ [] ∷ []) ≡ Ok now) × (lines_told now.told ≡ lines_told past.told ++ lines)
-  unfolding after_pieces
-  lines_add n past [] few none held = (past, refl, sym (append-nil (lines_told past.told)))
-  lines_add n past (line ∷ lines) few none held =
-      let rest = lines_add (suc n) (next past line) lines few none.1 held.1 in
-      let step = more_pieces n past (line_for line) (map line_for lines ++ [] ∷ []) (omega (arith, length-append (map line_for lines) ([] ∷ []))) in
-      let adds = ap (at_line n) (line_adds past line few none.0 held.0) in (
-        rest.0,
-        step ∙ ap (λ r. r >>= λ now. after_pieces config (suc n) now (map line_for lines ++ [] ∷ [])) adds ∙ rest.1,
-        rest.2 ∙ ap (λ (ls : List Line). ls ++ lines) (line_grows config past line none.0) ∙ append_assoc (lines_told past.told) (line ∷ []) lines,
-      )
+  -- what lines without a fault tell behind others
+  lines_told_behind : (past : Past) (lines : List Line) → AreFaultless (journal_grammar config) past lines → lines_told (all_next (journal_grammar config) past lines).told ≡ lines_told past.told ++ lines
+  lines_told_behind past [] none = sym (append-nil (lines_told past.told))
+  lines_told_behind past (line ∷ lines) none =
+      lines_told_behind (next past line) lines none.1
+      ∙ ap (λ (ls : List Line). ls ++ lines) (line_grows config past line none.0)
+      ∙ append_assoc (lines_told past.told) (line ∷ []) lines
 
   -- no line has a line feed
-  lines_free : (past : Past) (lines : List Line) → length config.events ≤ 256 → AreFaultless config past lines → AllByRecursion IsHeld lines → Pass in_line (map line_for lines)
+  lines_free : (past : Past) (lines : List Line) → length config.events ≤ 256 → AreFaultless (journal_grammar config) past lines → AllByRecursion IsHeld lines → Pass in_line (map line_for lines)
   lines_free past [] few none held = tt
   lines_free past (line ∷ lines) few none held = (line_passes line held.0 (line_exact config past line few none.0), lines_free (next past line) lines few none.1 held.1)
 
@@ -172,12 +152,12 @@ module _ (config : Parts) where
   pub journal_is_told : (text : List ℕ) (told : Told) → length config.events ≤ 256 → IsJournal config text told → journal_in config text ≡ Ok told
   journal_is_told text told few journal =
       let lines = lines_told told in
-      let pieces : pieces_of line_feed (text_of (map line_for lines)) ≡ map line_for lines ++ [] ∷ [] = split_text in_line (map line_for lines) refl (lines_free start lines few journal.fits.faultless journal.fits.held) in
-      let added = lines_add 1 start lines few journal.fits.faultless journal.fits.held in
+      let none = journal.fits.faultless in
+      let free = lines_free start lines few none journal.fits.held in
+      let all = text_adds (journal_grammar config) line_for IsHeld (λ past line without held. line_adds past line few without held) start lines in_line refl free none journal.fits.held in
       ap (journal_in config) journal.is_text
-      ∙ ap (λ (ps : List (List ℕ)). after_pieces config 1 start ps >>= λ past. Ok past.told) pieces
-      ∙ ap (λ r. r >>= λ past. Ok past.told) added.1
-      ∙ ap Ok (same_told added.0.told told added.2)
+      ∙ ap (λ (r : Result Past BadLine). r >>= λ past. Ok past.told) all.1
+      ∙ ap Ok (same_told (all_next (journal_grammar config) start lines).told told (lines_told_behind start lines none))
 
   -- a text is the journal of one history and its losses at most
   pub one_reading : (text : List ℕ) (a b : Told) → length config.events ≤ 256 → IsJournal config text a → IsJournal config text b → a ≡ b

@@ -7,9 +7,12 @@ pub mod JournalFacts
 pub mod JournalFits
 pub mod JournalForms
 pub mod JournalLaws
+pub mod LinesLaws
 pub mod ModesLemmas
 pub mod Names
 pub mod NumbersLemmas
 pub mod PiecesLemmas
 pub mod StampsLemmas
+pub mod TraceForms
 pub mod WordsLemmas
+pub mod WorkedTrace

@@ -8,6 +8,7 @@ use Rattle.text_spec.specs.Maybe.{◌>>=◌, first_of, ended, or_else}
 use Rattle.ids_types.specs.ModeNames.{mode_name, mode_named}
 use Rattle.text_spec.specs.Numbers.{is_number, number_in, capped, greatest_told}
 use Rattle.text_spec.specs.Stamps.{stamp_in, stamp_text}
+use Rattle.text_spec.specs.Words.{absent}
 
 -- a field of a line
 pub record Field : Type 1 where
@@ -60,6 +61,19 @@ a_mode = simple Mode (λ _. ⊤) mode_name mode_named
 -- a byte or more
 abbrev pub hex_bytes : Field
 hex_bytes = simple (List ℕ) (λ bytes. IsBytes bytes × (1 ≤ length bytes)) encode_lower some_hex
+
+-- the word of bytes: `-` where there are none, or else hexadecimal
+abbrev pub bytes_word : List ℕ → List ℕ
+bytes_word [] = absent
+bytes_word (byte ∷ bytes) = encode_lower (byte ∷ bytes)
+
+-- the bytes that such a word writes
+abbrev pub bytes_in : List ℕ → Option (List ℕ)
+bytes_in word = if bytes_eq word absent then Some [] else some_hex word
+
+-- any number of bytes
+abbrev pub any_bytes : Field
+any_bytes = simple (List ℕ) IsBytes bytes_word bytes_in
 
 -- ---- fields with their values
 

@@ -31,9 +31,13 @@ is_act (Report event count stamp context) = nat_le 1 count && nat_le count 65535
 is_act (State state) = nat_le state 255
 is_act (SetMode event mode) = true
 
+-- the tick of a turn
+abbrev pub is_tick : ℕ → Bool
+is_tick n = nat_le n (2 ^ 62)
+
 -- the numbers of a turn's head
 abbrev pub is_head : TurnHead → Bool
-is_head head = nat_le head.tick (2 ^ 62) && is_count_lost head.lost_events && is_count_lost head.lost_contexts && is_count_lost head.limited
+is_head head = is_tick head.tick && is_count_lost head.lost_events && is_count_lost head.lost_contexts && is_count_lost head.limited
 
 -- ---- fault 4: events
 

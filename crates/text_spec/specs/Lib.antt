@@ -8,10 +8,16 @@ pub mod JournalFaults
 pub mod JournalForm
 pub mod JournalReading
 pub mod JournalText
+pub mod LineAnswers
+pub mod Lines
 pub mod Maybe
 pub mod MemoryText
 pub mod Names
 pub mod Numbers
 pub mod PiecesView
 pub mod Stamps
+pub mod TraceFaults
+pub mod TraceForm
+pub mod TraceReading
+pub mod TraceText
 pub mod Words

@@ -1,25 +1,11 @@
 -- The text of the event memory: a line for each record, the one stored last at the end.
 -- Source: the text formats of this project (docs/FORMATS.md).
-use Rattle.std.specs.Prelude.{◌∷◌, if◌then◌else◌}
-use Rattle.text_spec.specs.Below.{ℕ, List, [], map, codes, bytes_eq, Option, Some, IsBytes, encode_lower}
+use Rattle.std.specs.Prelude.{◌∷◌}
+use Rattle.text_spec.specs.Below.{ℕ, List, [], map, codes}
 use Rattle.ids_types.specs.MemoryRow.{Row}
-use Rattle.text_spec.specs.Fields.{Field, Filled, simple, the, a_number, a_stamp, put}
-use Rattle.text_spec.specs.Hexadecimal.{some_hex}
+use Rattle.text_spec.specs.Fields.{Filled, the, a_number, a_stamp, any_bytes, put}
 use Rattle.text_spec.specs.JournalText.{line_with}
-use Rattle.text_spec.specs.Words.{absent, text_of}
-
--- the word of bytes: `-` where there are none, or else hexadecimal
-abbrev pub bytes_word : List ℕ → List ℕ
-bytes_word [] = absent
-bytes_word (byte ∷ bytes) = encode_lower (byte ∷ bytes)
-
--- the bytes that such a word writes
-abbrev pub bytes_in : List ℕ → Option (List ℕ)
-bytes_in word = if bytes_eq word absent then Some [] else some_hex word
-
--- any number of bytes
-abbrev pub any_bytes : Field
-any_bytes = simple (List ℕ) IsBytes bytes_word bytes_in
+use Rattle.text_spec.specs.Words.{text_of}
 
 -- the fields of the line `S INDEX ID SENSOR OCCURRENCES FIRST LAST STAMP CONTEXT`
 abbrev pub row_fields : Row → List Filled

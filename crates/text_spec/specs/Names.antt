@@ -6,8 +6,9 @@ pub use Rattle.text_spec.specs.Fields.{AreExact, AreHeld, AreWritten, Field, Fil
 pub use Rattle.text_spec.specs.Hexadecimal.{IsWritten, bytes_of, fitting, hex_in, hex_upto, is_lower_digit, some_bytes, some_hex}
 pub use Rattle.text_spec.specs.JournalFaults.{Past, entry_fault, fault_of, has_event, has_pair, is_act, is_call, is_claim, is_context, is_in_ranges, is_pair, loss_fault, next, pair_of, start}
 pub use Rattle.text_spec.specs.JournalForm.{entry_of, line_forms, loss_form, report_form, setting_form, state_form, told_by, turn_form}
-pub use Rattle.text_spec.specs.JournalReading.{AreFaultless, BadLine, Fits, Follows, IsHeld, IsJournal, after_line, at_line, journal_in, past_with}
+pub use Rattle.text_spec.specs.JournalReading.{Fits, Follows, IsHeld, IsJournal, journal_grammar, journal_in}
 pub use Rattle.text_spec.specs.JournalText.{Absent, Act, Carried, Entry, Kept, Line, Loss, Missing, Report, SetMode, State, Told, act_fields, begins, enters, fields_of, line_for, lines_told, loses, turn_told}
+pub use Rattle.text_spec.specs.Lines.{AreFaultless, BadLine, Grammar, after_line, at_line, past_in, past_with}
 pub use Rattle.text_spec.specs.Maybe.{or_else, ◌>>=◌}
 pub use Rattle.text_spec.specs.Stamps.{stamp_in, stamp_of_bytes, stamp_text}
 pub use Rattle.text_spec.specs.Words.{absent, line_feed, line_of, pieces_of, space, text_of, words_of}

@@ -9,6 +9,7 @@
 #![tactic(auto)]
 
 mod decoded;
+mod fault;
 mod hex_text;
 mod hexadecimal;
 mod journal;
@@ -18,6 +19,7 @@ mod pieces;
 mod stamps;
 
 pub use decoded::push_message;
+pub use fault::LineFault;
 pub use hex_text::HexText;
 pub use hexadecimal::{hex_into, one_text_for_bytes, push_hex};
 pub use journal::{one_journal_for_a_text, what_a_fitting_journal_keeps, which_lines_have_a_form};

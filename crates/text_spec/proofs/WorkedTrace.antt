@@ -1,0 +1,51 @@
+-- A small trace, and its text as it stands in a file.
+use Rattle.std.specs.Prelude.{◌≡◌, ◌∷◌}
+use Rattle.text_spec.proofs.Names.{List, [], refl, Ok, Err, codes, None}
+use Rattle.ids_config.specs.Parts.{Parts, plain_event}
+use Rattle.ids_types.specs.declared.mode.Mode.TheVariants.{Off}
+use Rattle.std.specs.Fmt.{digits}
+use Rattle.hex.specs.Hex.{decode_pairs, encode_with}
+use Rattle.text_spec.specs.Lines.{after_pieces}
+use Rattle.text_spec.specs.TraceReading.{trace_in}
+use Rattle.text_spec.specs.TraceText.{Round, reports, changes, sets, trace_text}
+
+-- two callers, and one event that a sensor reports
+abbrev config : Parts
+config = record {
+  profile = 1;
+  instance = 18;
+  callers = 2;
+  ring = 64;
+  memory = 0;
+  state = 0;
+  classes = [];
+  rate = None;
+  traffic = None;
+  events = plain_event 42 3 ∷ [];
+  lost_events = None;
+  lost_contexts = None;
+  limited = None;
+}
+
+-- a round with two ticks beside its calls, and one without any call
+abbrev rounds : List Round
+rounds =
+    record {
+      beside = 4 ∷ 5 ∷ [];
+      lines = (reports (record { 0 = 0 }) 1 None (161 ∷ 178 ∷ []) ∷ changes 7 ∷ []) ∷ (sets (record { 0 = 0 }) Off ∷ []) ∷ [];
+      after = 9;
+    }
+    ∷ record { beside = []; lines = [] ∷ [] ∷ []; after = 9 }
+    ∷ []
+
+its_text : trace_text rounds ≡ codes "N 4 5\nR 0 0 1 - a1b2\nS 0 7\nM 1 0 OFF\nE 9\nN\nE 9\n"
+unfolding digits encode_with
+its_text = refl
+
+its_reading : trace_in config (codes "N 4 5\nR 0 0 1 - a1b2\nM 1 0 OFF\nS 0 7\nE 9\nN\nE 9\n") ≡ Ok rounds
+unfolding after_pieces decode_pairs
+its_reading = refl
+
+an_open_round : trace_in config (codes "N\n") ≡ Err (record { line = 2; fault = 2 })
+unfolding after_pieces
+an_open_round = refl
