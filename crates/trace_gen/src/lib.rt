@@ -8,4 +8,8 @@
 #![tactic(auto)]
 
 mod config;
+mod counts;
 mod draws;
+mod entries;
+mod line;
+mod recorder;
