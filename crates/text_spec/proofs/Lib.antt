@@ -13,6 +13,8 @@ pub mod Names
 pub mod NumbersLemmas
 pub mod PiecesLemmas
 pub mod StampsLemmas
+pub mod TraceFacts
 pub mod TraceForms
+pub mod TraceLaws
 pub mod WordsLemmas
 pub mod WorkedTrace

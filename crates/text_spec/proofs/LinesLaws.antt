@@ -82,6 +82,29 @@ module _ {Past Line : Type 0} (grammar : Grammar Past Line) where
   all_next past [] = past
   all_next past (line ∷ lines) = all_next (grammar.next past line) lines
 
+  all_next-append : (past : Past) (lines more : List Line) → all_next past (lines ++ more) ≡ all_next (all_next past lines) more
+  all_next-append past [] more = refl
+  all_next-append past (line ∷ lines) more = all_next-append (grammar.next past line) lines more
+
+  -- lines without a fault that leave these lines so far
+  pub record Leaves (past : Past) (lines : List Line) (now : Past) : Type 0 where
+    pub faultless : AreFaultless grammar past lines
+    pub leaves : all_next past lines ≡ now
+
+  faultless_append : (past : Past) (lines more : List Line) → AreFaultless grammar past lines → AreFaultless grammar (all_next past lines) more → AreFaultless grammar past (lines ++ more)
+  faultless_append past [] more none later = later
+  faultless_append past (line ∷ lines) more none later = (none.0, faultless_append (grammar.next past line) lines more none.1 later)
+
+  -- one line, and some behind it
+  pub leave_one : (past now : Past) (line : Line) (lines : List Line) → grammar.fault_of past line ≡ Ok tt → Leaves (grammar.next past line) lines now → Leaves past (line ∷ lines) now
+  leave_one past now line lines none rest = record { faultless = (none, rest.faultless); leaves = rest.leaves }
+
+  -- some lines, and some behind them
+  pub leave_more : (past middle now : Past) (lines more : List Line) → Leaves past lines middle → Leaves middle more now → Leaves past (lines ++ more) now
+  leave_more past middle now lines more one other =
+      let then = subst (λ p. Leaves p more now) (sym one.leaves) other in
+      record { faultless = faultless_append past lines more one.faultless then.faultless; leaves = all_next-append past lines more ∙ then.leaves }
+
   module _ (line_for : Line → List ℕ) (IsHeld : Line → Type 0)
       (adds : (past : Past) (line : Line) → grammar.fault_of past line ≡ Ok tt → IsHeld line → after_line grammar past (line_for line) ≡ Ok (grammar.next past line)) where
     -- lines without a fault, one after another

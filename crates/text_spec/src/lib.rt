@@ -17,6 +17,7 @@ mod modes;
 mod numbers;
 mod pieces;
 mod stamps;
+mod trace;
 
 pub use decoded::push_message;
 pub use fault::LineFault;
@@ -27,3 +28,4 @@ pub use modes::{one_name_for_a_mode, push_mode};
 pub use numbers::{one_text_for_a_number, push_field, push_number};
 pub use pieces::{Pieces, cut};
 pub use stamps::{one_text_for_a_stamp, push_stamp, stamp};
+pub use trace::a_trace_is_read_as_its_rounds;

@@ -1,0 +1,16 @@
+//! The trace: what a replay is asked to do, round by round, read under a configuration and printed.
+//!
+//! Layer 4, messages and texts. Over `ids_types`, `ids_config`, `merge_spec` and `text_spec`; the replay reads
+//! traces by it, and the generator prints them. Contracts see a `Trace` as its rounds, which merge_spec defines;
+//! text_spec's `specs/TraceText.antt` has their text, `TraceForm.antt` and `TraceFaults.antt` the faults of a line,
+//! and `TraceReading.antt` which text is read as which rounds.
+//! No clause says that memory suffices: an answer `NoMemory` is always true.
+#![tactic(auto)]
+
+mod line;
+mod row;
+mod rows;
+mod trace;
+
+pub use line::{Line, TraceAct};
+pub use trace::Trace;

@@ -1,0 +1,26 @@
+use ids_types::{EventIndex, Mode, Stamp};
+
+/// A line of a caller: what it asks for.
+#[derive(Clone, Copy, Debug)]
+pub struct Line<'a> {
+    pub act: TraceAct<'a>,
+}
+
+/// What a caller asks for.
+#[derive(Clone, Copy, Debug)]
+pub enum TraceAct<'a> {
+    /// A report of a security event, seen `count` times, with no bytes where it has no context.
+    Report {
+        event: EventIndex,
+        count: u16,
+        stamp: Option<Stamp>,
+        context: &'a [u8],
+    },
+    /// A change of the state that the block state filter asks.
+    State(u8),
+    /// A setting of an event's reporting mode.
+    SetMode {
+        event: EventIndex,
+        mode: Mode,
+    },
+}

@@ -1,0 +1,219 @@
+ghost use Rattle.std.specs.Prelude.{◌≡◌, ◌<◌, ◌≤◌, ◌^◌, ◌∷◌, ◌++◌, [], length, slice_index, slice_range, IfOk, OnOk, OnErr};
+ghost use Rattle.std.specs.List.{AllByRecursion};
+ghost use Rattle.merge_spec.specs.Orders.{KeepUpFrom};
+ghost use Rattle.merge_spec.specs.Rounds.{last_tick, lines_at};
+ghost use Rattle.text_spec.specs.TraceFaults.{ended_at, with_last};
+ghost use Rattle.trace_text.specs.Lines.{line_asked, line_at};
+ghost use Rattle.trace_text.specs.TraceView.{Traced, no_rounds_of, with_line, with_round, round_at, at_start, end_before, last_end};
+
+use crate::line::Line;
+use crate::row::Row;
+use crate::rows::CallerRows;
+use ids_config::Config;
+use ids_types::NoMemory;
+use std::alloc::Global;
+use std::marker::Model;
+
+/// Where a round ends among all ticks beside calls and among each caller's lines, and the tick after it.
+#[derive(Clone, Copy, Debug)]
+pub(crate) struct RoundEnd {
+    beside: usize,
+    lines: [u32; 32],
+    after: u64,
+}
+
+/// Where the first round begins.
+const START: RoundEnd = RoundEnd {
+    beside: 0,
+    lines: [0; 32],
+    after: 0,
+};
+
+/// What a replay is asked to do: rounds, each with the lines of each caller and the ticks of its turns.
+#[derive(Debug, Drop)]
+pub struct Trace {
+    alloc: Global,
+    beside: Vec<u64>,
+    rows: CallerRows,
+    ends: Vec<RoundEnd>,
+}
+
+impl Model for Trace {
+    ghost use Rattle.trace_text.specs.TraceView.{Traced};
+
+    ghost Value = { Traced };
+
+    ghost use Rattle.trace_text.specs.TraceView.{traced, IsSound};
+
+    ghost view = { traced };
+
+    ghost invariant = { IsSound };
+}
+
+impl Trace {
+    /// A trace of the configuration's callers, without rounds.
+    pub fn make(alloc: Global, config: &Config) -> Result<Trace, NoMemory>
+        ensures { IfOk result (λ t. t ≡ no_rounds_of config.now.callers) }
+    {
+        let callers = config.parts().callers as usize;
+        Ok(Trace {
+            alloc,
+            beside: Vec::new(alloc),
+            rows: CallerRows::make(alloc, callers)?,
+            ends: Vec::new(alloc),
+        })
+    }
+
+    /// Adds a round without lines.
+    pub fn push_round(&mut self, beside: &[u64], after: u64) -> Result<(), NoMemory>
+        requires small { AllByRecursion (λ tick. tick ≤ 2 ^ 62) (beside.now ++ after ∷ []) }
+        requires keeps_up { KeepUpFrom (last_tick self.old.rounds) (beside.now ++ after ∷ []) }
+        ensures ok { OnOk result (self.new ≡ with_round beside.now after self.old) }
+        ensures err { OnErr result (self.new ≡ self.old) }
+    {
+        let lines = last_of(&self.ends).lines;
+        self.ends.reserve(1)?;
+        self.beside.extend_from_slice(beside)?;
+        self.ends.push_reserved(RoundEnd {
+            beside: self.beside.len(),
+            lines,
+            after,
+        });
+        Ok(())
+    }
+
+    /// Adds a caller's line to the last round.
+    pub fn push_line(&mut self, caller: u8, line: &Line<'_>) -> Result<(), NoMemory>
+        requires caller { caller < self.old.callers }
+        requires round { 0 < length self.old.rounds }
+        ensures ok { OnOk result (self.new ≡ with_line caller (line_asked line.now) self.old) }
+        ensures err { OnErr result (self.new ≡ self.old) }
+    {
+        let (caller, last) = (caller as usize, self.ends.len() - 1);
+        let count = self.ends[last].lines[caller];
+        let more = count.checked_add(1).ok_or(NoMemory)?;
+        let row = Row::of(self.alloc, line)?;
+        self.rows.push(caller, row)?;
+        self.ends[last].lines[caller] = more;
+        Ok(())
+    }
+}
+
+impl Trace {
+    /// How many callers there are.
+    pub fn callers(&self) -> u8
+        ensures callers { result ≡ self.now.callers }
+        ensures few { result ≤ 32 }
+    {
+        let _ends = &self.ends;
+        self.rows.callers() as u8
+    }
+
+    /// How many rounds there are.
+    pub fn rounds(&self) -> u64
+        ensures { result ≡ length self.now.rounds }
+    {
+        self.ends.len() as u64
+    }
+
+    /// The ticks of the turns beside the calls of a round, from 0.
+    pub fn beside(&self, round: u64) -> &[u64]
+        requires { round < length self.now.rounds }
+        ensures { result.now ≡ (round_at self.now.rounds round).beside }
+    {
+        let round = round as usize;
+        let start = ticks_before(&self.ends, round);
+        part(&self.beside, start, self.ends[round].beside)
+    }
+
+    /// The tick of the turn after the calls of a round.
+    pub fn after(&self, round: u64) -> u64
+        requires { round < length self.now.rounds }
+        ensures { result ≡ (round_at self.now.rounds round).after }
+    {
+        self.ends[round as usize].after
+    }
+
+    /// How many lines a caller has in a round.
+    pub fn lines(&self, round: u64, caller: u8) -> u64
+        requires round { round < length self.now.rounds }
+        requires caller { caller < self.now.callers }
+        ensures { result ≡ length (lines_at caller (round_at self.now.rounds round)) }
+    {
+        let (round, caller) = (round as usize, caller as usize);
+        let start = lines_before(&self.ends, round, caller);
+        u64::from(self.ends[round].lines[caller]) - start
+    }
+
+    /// Line `i` of a caller in a round, from 0, with its context lent.
+    pub fn line(&self, round: u64, caller: u8, i: u64) -> Line<'_>
+        requires round { round < length self.now.rounds }
+        requires caller { caller < self.now.callers }
+        requires line { i < length (lines_at caller (round_at self.now.rounds round)) }
+        ensures { line_asked result ≡ line_at (lines_at caller (round_at self.now.rounds round)) i }
+    {
+        let (round, caller) = (round as usize, caller as usize);
+        let start = lines_before(&self.ends, round, caller);
+        self.rows.line(caller, (start + i) as usize)
+    }
+
+    /// The last tick of all, 0 where there are no rounds.
+    pub(crate) fn last_tick(&self) -> u64
+        ensures { result ≡ last_tick self.now.rounds }
+    {
+        last_of(&self.ends).after
+    }
+
+    /// Ends the last round at another tick.
+    pub(crate) fn end_round(&mut self, tick: u64)
+        requires { 0 < length self.old.rounds }
+        ensures callers { self.new.callers ≡ self.old.callers }
+        ensures rounds { self.new.rounds ≡ with_last (ended_at tick) self.old.rounds }
+    {
+        let last = self.ends.len() - 1;
+        self.ends[last].after = tick;
+    }
+}
+
+/// The ticks between two places.
+fn part(ticks: &[u64], start: usize, end: usize) -> &[u64]
+    requires start { start ≤ end }
+    requires end { end ≤ length ticks.now }
+    ensures { result.now ≡ slice_range ticks.now start end }
+{
+    &ticks[start..end]
+}
+
+/// Where the ticks beside the calls of a round begin.
+fn ticks_before(ends: &[RoundEnd], round: usize) -> usize
+    requires { round < length ends.now }
+    ensures { result ≡ (end_before ends.now round).beside }
+{
+    if round == 0 {
+        return 0;
+    }
+    ends[round - 1].beside
+}
+
+/// Where a caller's lines of a round begin.
+fn lines_before(ends: &[RoundEnd], round: usize, caller: usize) -> u64
+    requires round { round < length ends.now }
+    requires caller { caller < 32 }
+    ensures { result ≡ slice_index (end_before ends.now round).lines caller }
+{
+    if round == 0 {
+        return 0;
+    }
+    u64::from(ends[round - 1].lines[caller])
+}
+
+/// Where the last round ends.
+#[tactic(auto, using(crate::proofs::EndsLemmas::last_end_at))]
+fn last_of(ends: &[RoundEnd]) -> RoundEnd
+    ensures { result ≡ last_end at_start ends.now }
+{
+    if ends.is_empty() {
+        return START;
+    }
+    ends[ends.len() - 1]
+}
