@@ -1,4 +1,3 @@
-pub mod Asking
 pub mod Counted
 pub mod Draws
 pub mod Generated

@@ -6,12 +6,12 @@ ghost use Rattle.ids_types.specs.Plain.{plain_carried, plain_entry};
 ghost use Rattle.ids_config.specs.Parts.{class_of};
 ghost use Rattle.merge_spec.specs.Names.{ClassSpec, EventIndex, Stamp};
 ghost use Rattle.merge_spec.specs.Rounds.{reports};
-ghost use Rattle.trace_gen.specs.Asking.{line_asked};
+ghost use Rattle.trace_text.specs.Lines.{line_asked};
 ghost use Rattle.trace_gen.specs.Counted.{AreClaims, AreCounts, HasClass, HasClassFor};
 ghost use Rattle.trace_gen.specs.Quiet.{Call, act_of, carried, entry_of};
 
 use crate::counts::{Counts, count};
-use crate::line::{Line, TraceAct};
+use trace_text::{Line, TraceAct};
 use ids_config::Config;
 use ids_types::{Act, Carried, Entry, NoMemory, Plain};
 

@@ -11,5 +11,4 @@ mod config;
 mod counts;
 mod draws;
 mod entries;
-mod line;
 mod recorder;

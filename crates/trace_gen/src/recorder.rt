@@ -5,14 +5,14 @@ ghost use Rattle.std.specs.List.{All};
 ghost use Rattle.ids_types.specs.Plain.{kept_bytes, plain_entry};
 ghost use Rattle.chain.specs.History.{last_tick};
 ghost use Rattle.chain.specs.Turning.{FitsAct, turn_by};
-ghost use Rattle.trace_gen.specs.Asking.{line_asked};
+ghost use Rattle.trace_text.specs.Lines.{line_asked};
 ghost use Rattle.trace_gen.specs.Counted.{HasClass};
 ghost use Rattle.trace_gen.specs.Quiet.{Call, Plan};
 ghost use Rattle.trace_gen.specs.Recording.{CanAsk, IsAt, IsRecording};
 
 use crate::counts::Counts;
 use crate::entries::make_entry;
-use crate::line::Line;
+use trace_text::Line;
 use chain::Chain;
 use chain_plain::{Desk, Tally};
 use event_chain::EventChain;

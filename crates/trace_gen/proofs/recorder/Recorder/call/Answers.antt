@@ -7,7 +7,7 @@ use Rattle.merge_spec.specs.Names.{Entry}
 use Rattle.ids_types.specs.declared.parcel.Plain.{Plain}
 use Rattle.chain.specs.Turning.{FitsAct, FitsTurn}
 use Rattle.chain_plain.proofs.TurningLemmas.{fits_act}
-use Rattle.trace_gen.specs.Asking.{line_asked}
+use Rattle.trace_text.specs.Lines.{line_asked}
 use Rattle.trace_gen.specs.Counted.{AreCounts}
 use Rattle.trace_gen.specs.Quiet.{Call, calls_of, entries_of, entry_of, act_of}
 use Rattle.trace_gen.specs.Recording.{held}
