@@ -4,5 +4,6 @@ pub mod Generated
 pub mod GeneratedConfig
 pub mod GeneratedTrace
 pub mod Quiet
+pub mod Recordable
 pub mod Recording
 pub mod Reports

@@ -90,11 +90,14 @@ turns_of config (plan ∷ before) =
 
 -- ---- rounds
 
+-- a caller's call
+abbrev pub call_by : ℕ → Asked → Call
+call_by caller asked = record { caller = caller; asked = asked }
+
 -- the calls of callers from this one on, one caller after the other
 abbrev pub calls_from : ℕ → List (List Asked) → List Call
 calls_from caller [] = []
-calls_from caller (lines ∷ others) =
-    map (λ asked. record { caller = caller; asked = asked }) lines ++ calls_from (suc caller) others
+calls_from caller (lines ∷ others) = map (call_by caller) lines ++ calls_from (suc caller) others
 
 -- a turn that takes nothing
 abbrev pub idle : ℕ → Plan

@@ -11,4 +11,5 @@ mod config;
 mod counts;
 mod draws;
 mod entries;
+mod quiet;
 mod recorder;

@@ -54,8 +54,9 @@ impl<'t> Recorder<'t> {
         requires recording { IsRecording config.now self.old }
         requires few { length self.old.desk.items.items < 1024 }
         requires line { CanAsk config.now caller (line_asked line) }
-        ensures { OnOk result ((before : List Plan) (calls : List Call) → IsAt config.now before calls self.old →
+        ensures at { OnOk result ((before : List Plan) (calls : List Call) → IsAt config.now before calls self.old →
             IsAt config.now before (calls ++ record { caller = caller; asked = line_asked line.entry } ∷ []) self.new) }
+        ensures history { OnOk result (self.new.history ≡ self.old.history) }
     {
         let entry = make_entry(config, caller, line, &mut self.counts)?;
         self.desk.items.push_reserved(entry);
@@ -66,8 +67,9 @@ impl<'t> Recorder<'t> {
     pub(crate) fn turn(&mut self, config: &Config, tick: u64) -> Result<(), NoMemory>
         requires recording { IsRecording config.now self.old }
         requires tick { last_tick self.old.history.turns ≤ tick }
-        ensures { OnOk result ((before : List Plan) (calls : List Call) → IsAt config.now before calls self.old →
+        ensures at { OnOk result ((before : List Plan) (calls : List Call) → IsAt config.now before calls self.old →
             IsAt config.now (record { tick = tick; calls = calls } ∷ before) [] self.new) }
+        ensures tick { OnOk result (last_tick self.new.history.turns ≡ tick) }
     {
         let head = TurnHead {
             tick,

@@ -14,8 +14,8 @@ use Rattle.trace_gen.specs.Recording.{held}
 use Rattle.trace_gen.proofs.RecordingLemmas.{ask_fits, entries_more, reversed_more}
 use Rattle.trace_gen.proofs.recorder.Recorder.call.Goals as goal
 
-pub returns : goal.returns
-returns c before calls at =
+pub returns-clause-at : goal.returns-clause-at
+returns-clause-at c before calls at =
     let config = c.args.config.now in
     let call : Call = record { caller = c.args.caller; asked = line_asked c.args.line } in
     let past = reverse calls ++ calls_of before in

@@ -28,8 +28,8 @@ add-requires c =
     told_few config c.args.self.now.history.turns _ (told_of c.args.self.now.tally) c.turn.new.self.out at.tells sends
 
 -- the turn that was planned was made
-pub returns : goal.returns
-returns c = on_ok_weaker c.add.result (λ told before calls at.
+pub returns-clause-at : goal.returns-clause-at
+returns-clause-at c = on_ok_weaker c.add.result (λ told before calls at.
     let config = c.args.config.now in
     let history = c.args.self.now.history.turns in
     let head : TurnHead = record { tick = c.args.tick; lost_events = 0; lost_contexts = 0; limited = c.limited.result } in
