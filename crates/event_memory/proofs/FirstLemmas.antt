@@ -1,5 +1,5 @@
 -- The elements of a list before the first one that passes a test, and the list without that one.
-use Rattle.std.proofs.Common.{◌≡◌, ◌+◌, ◌||◌, ℕ, zero, suc, Bool, true, false, not, List, [], ◌∷◌, filter, map, take, Option, Some, option_map, if◌then◌else◌, refl, ap, arith}
+use Rattle.std.proofs.Common.{◌≡◌, ◌+◌, ◌||◌, ℕ, zero, suc, Bool, true, false, not, List, [], ◌∷◌, filter, map, take, Some, option_map, if◌then◌else◌, refl, ap, arith}
 use Rattle.std.specs.List.{find, list_any, position_or_len, remove}
 
 -- the elements before the first one that passes

@@ -6,7 +6,7 @@ use Rattle.std.proofs.lemmas.List.Edits.{length-remove}
 use Rattle.std.specs.List.{remove}
 use Rattle.ids_types.specs.MemoryRow.{Row}
 use Rattle.chain_spec.specs.Memory.{Stored}
-use Rattle.event_memory.specs.Held.{Held, added, after_adding, no_row}
+use Rattle.event_memory.specs.Held.{added, after_adding, no_row}
 
 remove-nil : {A : Type 0} (i : ℕ) → remove {X = A} [] i ≡ []
 remove-nil zero = refl

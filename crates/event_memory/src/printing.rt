@@ -11,7 +11,7 @@ use crate::memory::Memory;
 use crate::row::Row;
 use ids_types::{Key, NoMemory};
 use std::alloc::Global;
-use text_spec::{push_field, push_hex, push_stamp};
+use text_spec::{push_bytes, push_field, push_stamp};
 
 impl Memory {
     /// The text of the records, the one stored longest ago first.
@@ -66,15 +66,5 @@ fn push_last(out: &mut Vec<u8>, row: &Row<'_>) -> Result<(), NoMemory>
     out.push(b' ')?;
     push_stamp(out, row.stamp)?;
     out.push(b' ')?;
-    push_context(out, row.context)
-}
-
-/// Appends the word of context data.
-fn push_context(out: &mut Vec<u8>, context: &[u8]) -> Result<(), NoMemory>
-    ensures { OnOk result (out.new.items ≡ out.old.items ++ bytes_word context.now) }
-{
-    match context {
-        [] => Ok(out.push(b'-')?),
-        _ => push_hex(out, context),
-    }
+    push_bytes(out, row.context)
 }

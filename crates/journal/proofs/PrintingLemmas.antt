@@ -9,15 +9,15 @@ use Rattle.ids_types.specs.declared.entry.Act.TheVariants.{State}
 use Rattle.ids_types.specs.Turns.{Turn, begun, turn_at, entry_at}
 use Rattle.text_spec.specs.Contexts.{point}
 use Rattle.text_spec.specs.JournalText.{Entry, Loss, Line, begins, enters, loses, line_for, fields_of, turn_told}
-use Rattle.text_spec.specs.Words.{line_feed}
+use Rattle.text_spec.specs.Words.{line_feed, text_of}
 use Rattle.text_spec.proofs.JournalFacts.{flat_map-push}
-use Rattle.journal.specs.Printing.{ended_line, lines_text, pointed}
+use Rattle.text_spec.specs.Fields.{ended_line}
+use Rattle.text_spec.proofs.WordsLemmas.{text_of-append}
+use Rattle.journal.specs.Printing.{lines_text, pointed}
 
 -- lines behind lines
 pub lines_text-append : (xs ys : List Line) → lines_text (xs ++ ys) ≡ lines_text xs ++ lines_text ys
-lines_text-append [] ys = refl
-lines_text-append (x ∷ xs) ys =
-    ap (λ bs. line_for x ++ line_feed ∷ bs) (lines_text-append xs ys) ∙ sym (append_assoc (line_for x) (line_feed ∷ lines_text xs) (lines_text ys))
+lines_text-append xs ys = ap text_of (map-append line_for xs ys) ∙ text_of-append (map line_for xs) (map line_for ys)
 
 -- the entries of a turn, and one more
 pub entries_more : (before : List ℕ) (entries : List (Entry (List ℕ))) (i : ℕ) (d : Entry (List ℕ)) → i < length entries

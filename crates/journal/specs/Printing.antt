@@ -1,13 +1,8 @@
 -- The text of some lines.
-use Rattle.std.specs.Prelude.{ℕ, ◌==◌, List, [], ◌∷◌, ◌++◌, map, decimal, if◌then◌else◌}
+use Rattle.std.specs.Prelude.{ℕ, ◌==◌, List, ◌∷◌, map, decimal, if◌then◌else◌}
 use Rattle.text_spec.specs.Contexts.{point}
-use Rattle.text_spec.specs.Fields.{Filled}
-use Rattle.text_spec.specs.JournalText.{Line, line_with, line_for}
-use Rattle.text_spec.specs.Words.{line_feed, text_of}
-
--- a line of these fields, with its line feed
-abbrev pub ended_line : List Filled → List ℕ
-ended_line fields = line_with fields ++ line_feed ∷ []
+use Rattle.text_spec.specs.JournalText.{Line, line_for}
+use Rattle.text_spec.specs.Words.{text_of}
 
 -- the text of lines
 abbrev pub lines_text : List Line → List ℕ

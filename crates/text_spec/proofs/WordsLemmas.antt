@@ -1,7 +1,7 @@
 -- Words and lines: the tests that their bytes pass, and the readings of a line and of a text against
 -- their texts.
 use Rattle.std.specs.Prelude.{◌≡◌, ◌==◌, ◌∷◌, ◌++◌}
-use Rattle.text_spec.proofs.Names.{ℕ, Bool, true, false, List, [], refl, sym, ap, ◌∙◌, All, list_all, AllByRecursion, slice_split, join_with_byte, and_from, eq-eqb, ne_eqb, both_ways, list_all-append, slice_split_none, slice_split_at, line_feed, text_of}
+use Rattle.text_spec.proofs.Names.{ℕ, Bool, true, false, List, [], refl, sym, ap, ◌∙◌, append_assoc, All, list_all, AllByRecursion, slice_split, join_with_byte, and_from, eq-eqb, ne_eqb, both_ways, list_all-append, slice_split_none, slice_split_at, line_feed, text_of}
 use Rattle.std.proofs.lemmas.List.Sums.{AllPass-from_list_all, list_all-from_AllPass}
 
 -- all bytes of each of these words pass a test
@@ -48,3 +48,9 @@ pub join_ended : (lines : List (List ℕ)) → join_with_byte line_feed (lines +
 join_ended [] = refl
 join_ended (line ∷ []) = refl
 join_ended (line ∷ next ∷ lines) = ap (λ text. line ++ line_feed ∷ text) (join_ended (next ∷ lines))
+
+-- the text of some lines and more
+pub text_of-append : (lines more : List (List ℕ)) → text_of (lines ++ more) ≡ text_of lines ++ text_of more
+text_of-append [] more = refl
+text_of-append (line ∷ lines) more =
+    ap (λ text. line ++ line_feed ∷ text) (text_of-append lines more) ∙ sym (append_assoc line (line_feed ∷ text_of lines) (text_of more))

@@ -1,14 +1,14 @@
 -- Lines as lists of fields: what a field may hold, the word for each value, how a word is read, and
 -- how the words of a line are read as its fields, one after another.
 -- Source: the text formats of this project (docs/FORMATS.md).
-use Rattle.std.specs.Prelude.{◌≡◌, ◌<◌, ◌^◌, ◌≤◌, ◌⊎◌, ◌∷◌, if◌then◌else◌}
+use Rattle.std.specs.Prelude.{◌≡◌, ◌<◌, ◌^◌, ◌≤◌, ◌⊎◌, ◌∷◌, ◌++◌, if◌then◌else◌}
 use Rattle.text_spec.specs.Below.{ℕ, true, bytes_eq, List, [], length, Option, Some, None, option_map, IfSome, ⊤, decimal, IsBytes, encode_lower, Mode, Stamp}
 use Rattle.text_spec.specs.Hexadecimal.{some_hex}
 use Rattle.text_spec.specs.Maybe.{◌>>=◌, first_of, ended, or_else}
 use Rattle.ids_types.specs.ModeNames.{mode_name, mode_named}
 use Rattle.text_spec.specs.Numbers.{is_number, number_in, capped, greatest_told}
 use Rattle.text_spec.specs.Stamps.{stamp_in, stamp_text}
-use Rattle.text_spec.specs.Words.{absent}
+use Rattle.text_spec.specs.Words.{absent, line_feed, line_of}
 
 -- a field of a line
 pub record Field : Type 1 where
@@ -90,6 +90,14 @@ put field value = record { field = field; value = value }
 abbrev pub words_of_fields : List Filled → List (List ℕ)
 words_of_fields [] = []
 words_of_fields (one ∷ more) = one.field.word one.value ∷ words_of_fields more
+
+-- the line of some fields, without its line feed
+abbrev pub line_with : List Filled → List ℕ
+line_with fields = line_of (words_of_fields fields)
+
+-- the same with its line feed
+abbrev pub ended_line : List Filled → List ℕ
+ended_line fields = line_with fields ++ line_feed ∷ []
 
 -- all values are ones that there are
 abbrev pub AreHeld : List Filled → Type 0

@@ -10,8 +10,8 @@ pub use Rattle.ids_types.specs.declared.entry.Entry.{Entry}
 pub use Rattle.ids_types.specs.declared.entry.TurnHead.{TurnHead}
 pub use Rattle.ids_types.specs.declared.loss.Loss.{Loss}
 use Rattle.text_spec.specs.Contexts.{a_context}
-use Rattle.text_spec.specs.Fields.{Filled, the, a_number, a_stamp, a_mode, put, words_of_fields}
-use Rattle.text_spec.specs.Words.{line_of, text_of}
+use Rattle.text_spec.specs.Fields.{Filled, the, a_number, a_stamp, a_mode, put, line_with}
+use Rattle.text_spec.specs.Words.{text_of}
 
 -- what a journal tells: the turns, and the calls that found no event buffer
 pub record Told : Type 0 where
@@ -41,10 +41,6 @@ fields_of (begins head) =
     ∷ put a_number head.limited ∷ []
 fields_of (enters entry) = act_fields entry.caller entry.call entry.act
 fields_of (loses loss) = put (the (codes "L")) tt ∷ put a_number loss.caller ∷ put a_number loss.call ∷ put a_number loss.given ∷ []
-
--- the line of some fields, without its line feed
-abbrev pub line_with : List Filled → List ℕ
-line_with fields = line_of (words_of_fields fields)
 
 -- the line that tells this, without its line feed
 abbrev pub line_for : Line → List ℕ

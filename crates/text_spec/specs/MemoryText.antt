@@ -3,8 +3,7 @@
 use Rattle.std.specs.Prelude.{◌∷◌}
 use Rattle.text_spec.specs.Below.{ℕ, List, [], map, codes}
 use Rattle.ids_types.specs.MemoryRow.{Row}
-use Rattle.text_spec.specs.Fields.{Filled, the, a_number, a_stamp, any_bytes, put}
-use Rattle.text_spec.specs.JournalText.{line_with}
+use Rattle.text_spec.specs.Fields.{Filled, the, a_number, a_stamp, any_bytes, put, line_with}
 use Rattle.text_spec.specs.Words.{text_of}
 
 -- the fields of the line `S INDEX ID SENSOR OCCURRENCES FIRST LAST STAMP CONTEXT`

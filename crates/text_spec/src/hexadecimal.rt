@@ -1,6 +1,7 @@
 ghost use Rattle.std.specs.Prelude.{◌≡◌, ℕ, ◌/◌, ◌%◌, ◌<◌, ◌≤◌, List, length, take, drop, option_map, IfSome, IfNone, IsTrue, ◌++◌, ◌*◌, OnOk, OnErr, ◌+◌, vec_len, vec_capacity, slice_index};
 ghost use Rattle.std.specs.List.{list_all};
 ghost use Rattle.hex.specs.Hex.{IsBytes, encode_lower, lower_digits};
+ghost use Rattle.text_spec.specs.Fields.{bytes_word};
 ghost use Rattle.text_spec.specs.Hexadecimal.{hex_in, hex_upto, is_lower_digit as writes_digit, IsWritten};
 
 use ids_types::NoMemory;
@@ -71,6 +72,16 @@ pub fn push_hex(out: &mut Vec<u8>, bytes: &[u8]) -> Result<(), NoMemory>
     out.reserve(2 * bytes.len())?;
     put_hex(out, bytes);
     Ok(())
+}
+
+/// Appends the word of the bytes: `-` where there are none.
+pub fn push_bytes(out: &mut Vec<u8>, bytes: &[u8]) -> Result<(), NoMemory>
+    ensures { OnOk result (out.new.items ≡ out.old.items ++ bytes_word bytes.now) }
+{
+    match bytes {
+        [] => Ok(out.push(b'-')?),
+        _ => push_hex(out, bytes),
+    }
 }
 
 /// The digits, by their values.

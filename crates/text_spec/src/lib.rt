@@ -22,7 +22,7 @@ mod trace;
 pub use decoded::push_message;
 pub use fault::LineFault;
 pub use hex_text::HexText;
-pub use hexadecimal::{hex_into, one_text_for_bytes, push_hex};
+pub use hexadecimal::{hex_into, one_text_for_bytes, push_bytes, push_hex};
 pub use journal::{one_journal_for_a_text, what_a_fitting_journal_keeps, which_lines_have_a_form};
 pub use modes::{one_name_for_a_mode, push_mode};
 pub use numbers::{one_text_for_a_number, push_field, push_number};

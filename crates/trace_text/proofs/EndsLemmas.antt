@@ -1,5 +1,6 @@
 -- Where rounds end, one after another.
 use Rattle.std.proofs.Common.{◌≡◌, ℕ, zero, suc, ◌+◌, ◌-◌, ◌<◌, ◌≤◌, ◌==◌, List, [], ◌∷◌, ◌++◌, length, take, drop, set, get_or, refl, sym, ap, subst, ◌∙◌, inl, inr, arith, length-append, length-set, length-drop, get_or-set_same, get_or-set_other}
+use Rattle.std.specs.List.{AllByRecursion}
 use Rattle.std.specs.Prelude.{replicate, slice_index, slice_range}
 use Rattle.std.proofs.lemmas.Bool.{cases_eq, cond-false, ne_eqb}
 use Rattle.std.proofs.lemmas.List.{ext_get_or, get_or-drop, get_or-take, get_or_default, length-take-le}
@@ -458,6 +459,10 @@ round_is beside callers ends k within =
 pub between_is : (beside : List ℕ) (callers : List (List Asked)) (ends : List RoundEnd) (k : ℕ) → k < length ends → AreEnds beside callers at_start ends → IsBetween beside callers (end_before ends k) (get_or ends k at_start)
 between_is beside callers ends k within are = subst (λ (e : RoundEnd). IsBetween beside callers e (get_or ends k at_start)) (before_is ends k) (between_behind beside callers at_start ends k within are)
 
+lists_for_all : (beside : List ℕ) (callers : List (List Asked)) (before : RoundEnd) (ends : List RoundEnd) → AllByRecursion (λ (round : Round). length round.lines ≡ length callers) (rounds_behind beside callers before ends)
+lists_for_all beside callers before [] = tt
+lists_for_all beside callers before (end ∷ ends) = (length-between 0 callers before.lines end.lines, lists_for_all beside callers end ends)
+
 -- the same, of a trace that is these rounds
 module _ (beside : List ℕ) (callers : List (List Asked)) (ends : List RoundEnd) (trace : Traced) (is : record { callers = length callers; rounds = rounds_behind beside callers at_start ends } ≡ trace) where
   pub place : (k : ℕ) → k < length trace.rounds → k < length ends
@@ -499,6 +504,10 @@ module _ (beside : List ℕ) (callers : List (List Asked)) (ends : List RoundEnd
       let count = count_of_round k caller within there are in
       let lines = get_or callers caller [] in
       (omega (arith, count, inside, is.1), sym (ap (λ (ls : List Asked). line_at ls i) (lines_of_round k caller within there) ∙ range_at lines _ _ i (changes 0) (omega (arith, count, inside)) is.1))
+
+  -- each round has a list of lines for each caller
+  pub all_callers_have : AllByRecursion (λ (round : Round). length round.lines ≡ trace.callers) trace.rounds
+  all_callers_have = subst (λ (t : Traced). AllByRecursion (λ (round : Round). length round.lines ≡ t.callers) t.rounds) is (lists_for_all beside callers at_start ends)
 
 -- an end that was read
 pub end_read : (ends : List RoundEnd) (k : ℕ) (end : RoundEnd) → k < length ends → end ≡ get_or ends k end → end ≡ get_or ends k at_start

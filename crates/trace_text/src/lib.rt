@@ -8,9 +8,11 @@
 #![tactic(auto)]
 
 mod line;
+mod printing;
 mod row;
 mod rows;
 mod trace;
 
 pub use line::{Line, TraceAct};
+pub use printing::print;
 pub use trace::Trace;

@@ -109,9 +109,10 @@ impl Trace {
         self.rows.callers() as u8
     }
 
-    /// How many rounds there are.
+    /// How many rounds there are. Each has a list of lines for each caller.
     pub fn rounds(&self) -> u64
-        ensures { result ≡ length self.now.rounds }
+        ensures count { result ≡ length self.now.rounds }
+        ensures callers { AllByRecursion (λ round. length round.lines ≡ self.now.callers) self.now.rounds }
     {
         self.ends.len() as u64
     }

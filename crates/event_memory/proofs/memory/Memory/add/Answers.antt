@@ -1,4 +1,4 @@
-use Rattle.std.proofs.Common.{◌≡◌, ◌≤◌, ◌<◌, ◌∷◌, get_or, length, arith, rules}
+use Rattle.std.proofs.Common.{◌≡◌, ◌≤◌, ◌<◌, ◌∷◌, get_or, length, rules}
 use Rattle.std.specs.Prelude.{vec_len}
 use Rattle.std.specs.List.{remove}
 use Rattle.event_memory.specs.Held.{no_row}

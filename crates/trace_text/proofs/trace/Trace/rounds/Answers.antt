@@ -1,10 +1,13 @@
 use Rattle.std.proofs.Common.{◌≡◌, length, rules, sym, ap, ◌∙◌}
 use Rattle.trace_text.specs.TraceView.{Traced, at_start}
-use Rattle.trace_text.proofs.EndsLemmas.{length_rounds}
+use Rattle.trace_text.proofs.EndsLemmas.{all_callers_have, length_rounds}
 use Rattle.trace_text.proofs.trace.Trace.rounds.Goals as goal
 
-pub returns : goal.returns
-returns c =
+pub returns-clause-count : goal.returns-clause-count
+returns-clause-count c =
     let t = c.self.inside in
     let many : c.len.result ≡ length t.ends.items = search rules in
     many ∙ sym (length_rounds t.beside.items t.rows at_start t.ends.items) ∙ ap (λ (v : Traced). length v.rounds) c.self.view_is
+
+pub returns-clause-callers : goal.returns-clause-callers
+returns-clause-callers c = all_callers_have c.self.inside.beside.items c.self.inside.rows c.self.inside.ends.items c.args.self.now c.self.view_is

@@ -1,0 +1,16 @@
+use Rattle.std.proofs.Common.{◌≡◌, ◌∷◌, ◌++◌, [], rules, sym, ap, ◌∙◌, append_assoc}
+use Rattle.std.specs.Prelude.{codes}
+use Rattle.text_spec.specs.Words.{line_feed}
+use Rattle.trace_text.specs.Printing.{ticks_text}
+use Rattle.trace_text.proofs.PrintingLemmas.{opening_text}
+use Rattle.trace_text.proofs.printing.push_opening.Goals as goal
+
+pub returns : goal.returns
+returns c =
+    let before = c.args.out.now.items in
+    let ticks = c.args.ticks.now in
+    let written : c.push-2.new.self.items ≡ ((before ++ codes "N") ++ ticks_text ticks) ++ line_feed ∷ [] = search rules in
+    written
+    ∙ ap (λ bs. bs ++ line_feed ∷ []) (append_assoc before (codes "N") (ticks_text ticks))
+    ∙ append_assoc before (codes "N" ++ ticks_text ticks) (line_feed ∷ [])
+    ∙ ap (λ bs. before ++ (bs ++ line_feed ∷ [])) (sym (opening_text (codes "N") ticks))

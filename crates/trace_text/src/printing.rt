@@ -1,0 +1,143 @@
+//! The text of a trace.
+
+ghost use Rattle.std.specs.Prelude.{◌≡◌, ◌<◌, ◌≤◌, ◌++◌, ◌∷◌, [], length, codes, decimal, IfOk, OnOk};
+ghost use Rattle.std.specs.List.{AllByRecursion};
+ghost use Rattle.ids_config.specs.Parts.{Parts};
+ghost use Rattle.merge_spec.specs.Rounds.{lines_at};
+ghost use Rattle.text_spec.specs.Fields.{bytes_word, ended_line};
+ghost use Rattle.text_spec.specs.Stamps.{stamp_text};
+ghost use Rattle.text_spec.specs.TraceReading.{AreRounds, trace_in};
+ghost use Rattle.text_spec.specs.TraceText.{asked_fields, calls, closes, opens, round_told, trace_fields, trace_text};
+ghost use Rattle.text_spec.specs.Words.{space};
+ghost use Rattle.trace_text.specs.Lines.{line_asked};
+ghost use Rattle.trace_text.specs.Printing.{caller_text, lines_text, ticks_text};
+ghost use Rattle.trace_text.specs.TraceView.{round_at};
+
+use crate::line::{Line, TraceAct};
+use crate::trace::Trace;
+use ids_types::{EventIndex, NoMemory, Stamp};
+use std::alloc::Global;
+use text_spec::{push_bytes, push_field, push_mode, push_stamp};
+
+/// The text of a trace: its rounds, the lines of each by caller.
+pub fn print(alloc: Global, trace: &Trace) -> Result<Vec<u8>, NoMemory>
+    ensures { IfOk result (λ text. text.items ≡ trace_text trace.now.rounds) }
+{
+    let mut text = Vec::new(alloc);
+    for round in 0..trace.rounds() {
+        push_round(&mut text, trace, round)?;
+    }
+    Ok(text)
+}
+
+/// Appends the lines of a round.
+fn push_round(out: &mut Vec<u8>, trace: &Trace, round: u64) -> Result<(), NoMemory>
+    requires round { round < length trace.now.rounds }
+    requires callers { length (round_at trace.now.rounds round).lines ≡ trace.now.callers }
+    ensures { OnOk result (out.new.items ≡
+        out.old.items ++ lines_text (round_told (round_at trace.now.rounds round))) }
+{
+    push_opening(out, trace.beside(round))?;
+    for caller in 0..trace.callers() {
+        push_caller(out, trace, round, caller)?;
+    }
+    push_closing(out, trace.after(round))
+}
+
+/// Appends `N` and the ticks as a line.
+fn push_opening(out: &mut Vec<u8>, ticks: &[u64]) -> Result<(), NoMemory>
+    ensures { OnOk result (out.new.items ≡ out.old.items ++ ended_line (trace_fields (opens ticks.now))) }
+{
+    out.push(b'N')?;
+    push_ticks(out, ticks)?;
+    Ok(out.push(b'\n')?)
+}
+
+/// Appends each tick behind a space.
+fn push_ticks(out: &mut Vec<u8>, ticks: &[u64]) -> Result<(), NoMemory>
+    ensures { OnOk result (out.new.items ≡ out.old.items ++ ticks_text ticks.now) }
+{
+    for tick in ticks {
+        push_field(out, *tick)?;
+    }
+    Ok(())
+}
+
+/// Appends `E TICK` as a line.
+fn push_closing(out: &mut Vec<u8>, tick: u64) -> Result<(), NoMemory>
+    ensures { OnOk result (out.new.items ≡ out.old.items ++ ended_line (trace_fields (closes tick))) }
+{
+    out.push(b'E')?;
+    push_field(out, tick)?;
+    Ok(out.push(b'\n')?)
+}
+
+/// Appends the lines of a caller in a round.
+fn push_caller(out: &mut Vec<u8>, trace: &Trace, round: u64, caller: u8) -> Result<(), NoMemory>
+    requires round { round < length trace.now.rounds }
+    requires caller { caller < trace.now.callers }
+    ensures { OnOk result (out.new.items ≡
+        out.old.items ++ caller_text caller (lines_at caller (round_at trace.now.rounds round))) }
+{
+    for i in 0..trace.lines(round, caller) {
+        push_line(out, caller, &trace.line(round, caller, i))?;
+    }
+    Ok(())
+}
+
+/// Appends `R CALLER EVENT COUNT STAMP CONTEXT`, `S CALLER STATE` or `M CALLER EVENT MODE` as a line.
+fn push_line(out: &mut Vec<u8>, caller: u8, line: &Line<'_>) -> Result<(), NoMemory>
+    ensures { OnOk result (out.new.items ≡
+        out.old.items ++ ended_line (asked_fields caller (line_asked line.now))) }
+{
+    match line.act {
+        TraceAct::Report {
+            event,
+            count,
+            stamp,
+            context,
+        } => {
+            push_head(out, b'R', caller)?;
+            push_report(out, event, count, stamp, context)?;
+        }
+        TraceAct::State(state) => {
+            push_head(out, b'S', caller)?;
+            push_field(out, u64::from(state))?;
+        }
+        TraceAct::SetMode { event, mode } => {
+            push_head(out, b'M', caller)?;
+            push_field(out, u64::from(event.0))?;
+            out.push(b' ')?;
+            push_mode(out, mode)?;
+        }
+    }
+    Ok(out.push(b'\n')?)
+}
+
+/// Appends a line's letter and its caller.
+fn push_head(out: &mut Vec<u8>, letter: u8, caller: u8) -> Result<(), NoMemory>
+    ensures { OnOk result (out.new.items ≡ out.old.items ++ (letter ∷ (space ∷ decimal caller))) }
+{
+    out.push(letter)?;
+    push_field(out, u64::from(caller))
+}
+
+/// Appends ` EVENT COUNT STAMP CONTEXT`.
+fn push_report(
+    out: &mut Vec<u8>,
+    event: EventIndex,
+    count: u16,
+    stamp: Option<Stamp>,
+    context: &[u8],
+) -> Result<(), NoMemory>
+    ensures { OnOk result (out.new.items ≡ out.old.items ++ ((space ∷ decimal event.0)
+        ++ ((space ∷ decimal count) ++ ((space ∷ stamp_text stamp)
+        ++ (space ∷ bytes_word context.now))))) }
+{
+    push_field(out, u64::from(event.0))?;
+    push_field(out, u64::from(count))?;
+    out.push(b' ')?;
+    push_stamp(out, stamp)?;
+    out.push(b' ')?;
+    push_bytes(out, context)
+}
