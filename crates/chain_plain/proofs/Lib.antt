@@ -1,2 +1,2 @@
-mod TellingLemmas
-mod TurningLemmas
+pub mod TellingLemmas
+pub mod TurningLemmas

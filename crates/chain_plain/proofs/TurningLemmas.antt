@@ -16,7 +16,7 @@ use Rattle.chain.proofs.ParcelLemmas.{parcels_keep}
 
 module _ {B : Type 0} (held : B → List ℕ) (events : ℕ) where
   -- an act fits where what it tells does
-  fits_act : (act : Act B) → FitsAct (λ bytes. bytes) events (act_by held act) → FitsAct held events act
+  pub fits_act : (act : Act B) → FitsAct (λ bytes. bytes) events (act_by held act) → FitsAct held events act
   fits_act (Report event count stamp Absent) fits = fits
   fits_act (Report event count stamp (Kept class claim parcel)) fits = fits
   fits_act (Report event count stamp (Missing numbers)) fits = fits

@@ -48,12 +48,16 @@ pub record Tells (config : Parts) (turns : List Turn) (told : Told) : Type 0 whe
   pub numbers : told.limited ≡ handed_by config turns
   pub count : told.messages ≡ count_of config turns
 
--- a desk with room for each turn of a chain of so many events, and nothing on it
-pub record IsReady (events : ℕ) (desk : Desk) : Type 0 where
-  pub no_items : desk.items.items ≡ []
+-- a desk with room for each turn of a chain of so many events
+pub record HasDeskRoom (events : ℕ) (desk : Desk) : Type 0 where
   pub nothing_back : desk.back.items ≡ []
   pub items_room : 1024 ≤ vec_capacity desk.items
   pub back_room : 1024 + events ≤ vec_capacity desk.back
   pub entries_room : 1024 ≤ (room_of desk.out).entries
   pub bytes_room : 1024 * 1024 ≤ (room_of desk.out).bytes
   pub sent_room : 1044 * (1024 + events + 3) ≤ (room_of desk.out).sent
+
+-- nothing on it, and such room
+pub record IsReady (events : ℕ) (desk : Desk) : Type 0 where
+  pub no_items : desk.items.items ≡ []
+  pub room : HasDeskRoom events desk

@@ -7,8 +7,9 @@ ghost use Rattle.ids_types.specs.Turns.{Turn};
 ghost use Rattle.ids_config.specs.Parts.{Parts};
 ghost use Rattle.chain.specs.History.{last_tick, Sends};
 ghost use Rattle.chain.specs.Parcels.{IsShort};
+ghost use Rattle.chain.specs.Turning.{FitsTurn, turn_by};
 ghost use Rattle.chain_plain.specs.Recorded.{CanTake, turn_with};
-ghost use Rattle.chain_plain.specs.Telling.{IsReady};
+ghost use Rattle.chain_plain.specs.Telling.{HasDeskRoom, IsReady};
 
 use chain::Chain;
 use ids_types::{Entry, EntryWalk, NoMemory, Plain, TurnHead, TurnOut};
@@ -28,15 +29,17 @@ const MOST_HEADS: u64 = 3;
 
 /// Room for the entries of a turn, for the parcels that come back, and for what the turn gives.
 #[derive(Debug, Drop)]
-pub(crate) struct Desk<'h> {
-    pub(crate) items: Vec<Entry<Plain<'h>>>,
-    pub(crate) back: Vec<Plain<'h>>,
-    pub(crate) out: TurnOut,
+pub struct Desk<'h> {
+    /// The entries of the next turn.
+    pub items: Vec<Entry<Plain<'h>>>,
+    pub back: Vec<Plain<'h>>,
+    /// What the last turn gave.
+    pub out: TurnOut,
 }
 
 impl<'h> Desk<'h> {
     /// Room for each turn of a chain of so many events.
-    pub(crate) fn make(alloc: Global, events: u64) -> Result<Desk<'h>, NoMemory>
+    pub fn make(alloc: Global, events: u64) -> Result<Desk<'h>, NoMemory>
         requires { events ≤ 256 }
         ensures { IfOk result (IsReady events) }
     {
@@ -53,7 +56,7 @@ impl<'h> Desk<'h> {
         })
     }
 
-    /// Has the chain take a turn of these entries, for which it makes room before.
+    /// Has the chain take a turn of these entries.
     pub(crate) fn take<C: Chain<Plain<'h>>>(
         &mut self,
         chain: &mut C,
@@ -74,6 +77,28 @@ impl<'h> Desk<'h> {
         ensures ready { OnOk result (IsReady (C.events chain.old) self.new) }
     {
         put_entries(entries, &mut self.items);
+        self.turn(chain, head)
+    }
+
+    /// Has the chain take a turn of the items, for which it makes room before.
+    pub fn turn<C: Chain<Plain<'h>>>(
+        &mut self,
+        chain: &mut C,
+        head: &TurnHead,
+    ) -> Result<(), NoMemory>
+        requires room { HasDeskRoom (C.events chain.old) self.old }
+        requires items { FitsTurn (λ p. p.0.now) (C.events chain.old) self.old.items.items }
+        requires kept { All (IsShort (λ p. p.0.now)) (C.kept chain.old) }
+        ensures stands { OnOk result ((config : Parts) (turns : List Turn) → C.stands chain.old config turns →
+            last_tick turns ≤ head.now.tick →
+            C.stands chain.new config (turns ++ turn_by (λ p. p.0.now) head.now self.old.items.items ∷ [])) }
+        ensures sends { OnOk result ((config : Parts) (turns : List Turn) → C.stands chain.old config turns →
+            last_tick turns ≤ head.now.tick →
+            Sends config turns (turn_by (λ p. p.0.now) head.now self.old.items.items) self.new.out) }
+        ensures events { OnOk result (C.events chain.new ≡ C.events chain.old) }
+        ensures kept { OnOk result (All (IsShort (λ p. p.0.now)) (C.kept chain.new)) }
+        ensures ready { OnOk result (IsReady (C.events chain.old) self.new) }
+    {
         chain.reserve(MOST_ENTRIES, MOST_BYTES)?;
         chain.turn(head, &mut self.items, &mut self.back, &mut self.out);
         self.back.clear();

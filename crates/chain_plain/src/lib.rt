@@ -11,4 +11,6 @@ mod folded;
 mod folding;
 mod tally;
 
+pub use desk::Desk;
 pub use folded::{Folded, outcome};
+pub use tally::Tally;

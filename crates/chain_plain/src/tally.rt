@@ -6,16 +6,16 @@ use std::alloc::Global;
 
 /// What turns sent, where each of them ends in it, and what each hands on.
 #[derive(Debug, Drop)]
-pub(crate) struct Tally {
-    pub(crate) sent: Vec<u8>,
-    pub(crate) ends: Vec<u64>,
-    pub(crate) limited: Vec<u64>,
-    pub(crate) messages: u64,
+pub struct Tally {
+    pub sent: Vec<u8>,
+    pub ends: Vec<u64>,
+    pub limited: Vec<u64>,
+    pub messages: u64,
 }
 
 impl Tally {
     /// Before the first turn, with room for the numbers of so many.
-    pub(crate) fn make(alloc: Global, turns: u64) -> Result<Tally, NoMemory>
+    pub fn make(alloc: Global, turns: u64) -> Result<Tally, NoMemory>
         ensures { IfOk result (λ tally. told_of tally ≡ no_turns) }
     {
         Ok(Tally {
@@ -27,7 +27,7 @@ impl Tally {
     }
 
     /// Adds a turn: its output, and the number that it hands on.
-    pub(crate) fn add(&mut self, out: &TurnOut, limited: u64) -> Result<(), NoMemory>
+    pub fn add(&mut self, out: &TurnOut, limited: u64) -> Result<(), NoMemory>
         requires { self.old.messages + out.now.messages ≤ length (self.old.sent.items ++ out.now.sent) }
         ensures { OnOk result (told_of self.new ≡ has_taken out.now limited (told_of self.old)) }
     {

@@ -1,0 +1,9 @@
+use Rattle.std.specs.Str.Parse.{ExplainsUnsignedError, HasUnsignedDigitsIfOk, ParsesUnsigned}
+use Rattle.clap.specs.Words.{found_of}
+use Rattle.gen_options.proofs.ReadingLemmas.{number_read}
+use Rattle.gen_options.proofs.reading.number.Goals as goal
+
+pub returns : goal.returns
+returns c =
+    number_read (λ text r. ParsesUnsigned 64 10 text r × ExplainsUnsignedError 10 text r × HasUnsignedDigitsIfOk text r)
+    (λ text r gives. gives.0) (found_of c.args.matches.now) c.args.id.now c.get_one.result c.get_one.ensures.none c.get_one.ensures.value

@@ -1,0 +1,4 @@
+pub mod CommandLine
+pub mod Given
+pub mod Ranges
+pub mod Words

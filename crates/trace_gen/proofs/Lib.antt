@@ -1,0 +1,4 @@
+mod ConfigLemmas
+mod CountLemmas
+mod DrawLemmas
+mod RecordingLemmas

@@ -1,0 +1,12 @@
+use Rattle.std.proofs.Common.{◌≡◌, Ok, refl}
+use Rattle.ids_config.specs.Values.{checked}
+use Rattle.trace_gen.specs.GeneratedConfig.{config_of}
+use Rattle.trace_gen.proofs.ConfigLemmas.{config_faultless}
+use Rattle.trace_gen.proofs.config.make_config.Goals as goal
+
+-- the configuration has no fault
+pub unreachable-requires : goal.unreachable-requires
+unreachable-requires c =
+    let none = config_faultless c.args.options.now c.requires in
+    let checks : checked (config_of c.args.options.now) ≡ Ok (config_of c.args.options.now) = rw none refl in
+    absurd (cc (c.in-Err.ensures, c.in_ok-make_parts.ensures, checks))

@@ -1,0 +1,11 @@
+use Rattle.std.proofs.Common.{arith}
+use Rattle.std.proofs.lemmas.Grind.{common_steps}
+use Rattle.std.proofs.lemmas.List.FromFn.{map-range_with_len_more}
+use Rattle.trace_gen.specs.GeneratedConfig.{sensor_event}
+use Rattle.trace_gen.proofs.config.make_events.Goals as goal
+
+pub loop-e-preserved : goal.loop-e-preserved
+loop-e-preserved c =
+    let e = c.loop-e.e in
+    let more = map-range_with_len_more sensor_event 0 e e (omega arith) in
+    grind (arith, common_steps, more)

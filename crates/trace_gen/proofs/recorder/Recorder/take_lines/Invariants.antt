@@ -1,0 +1,16 @@
+use Rattle.std.proofs.Common.{◌≡◌, ◌+◌, ◌++◌, List, length, map, take}
+use Rattle.merge_spec.specs.Rounds.{lines_at}
+use Rattle.trace_text.specs.TraceView.{round_at}
+use Rattle.trace_gen.specs.Quiet.{Call, Plan, call_by}
+use Rattle.trace_gen.specs.Recording.{IsAt}
+use Rattle.trace_gen.proofs.recorder.Recorder.take_lines.Given as goal
+
+-- the first lines became calls
+abbrev pub invariant-loop-i : goal.invariant-loop-i
+invariant-loop-i l =
+    let lines = lines_at l.caller (round_at l.trace.rounds l.round) in
+    record {
+      at : (before : List Plan) (calls : List Call) → IsAt l.config before calls l.initial.self
+          → IsAt l.config before (calls ++ map (call_by l.caller) (take l.i lines)) l.self;
+      history : l.self.history ≡ l.initial.self.history;
+    }

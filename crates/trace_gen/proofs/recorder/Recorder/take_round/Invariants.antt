@@ -1,0 +1,27 @@
+use Rattle.std.proofs.Common.{◌≡◌, ◌+◌, ◌++◌, ◌∷◌, [], List, length, map, reverse, take, drop}
+use Rattle.chain.specs.History.{last_tick}
+use Rattle.merge_spec.specs.Orders.{KeepUpFrom}
+use Rattle.trace_text.specs.TraceView.{round_at}
+use Rattle.trace_gen.specs.Quiet.{Plan, calls_from, idle}
+use Rattle.trace_gen.specs.Recording.{IsAt}
+use Rattle.trace_gen.proofs.recorder.Recorder.take_round.Given as goal
+
+-- the first turns beside the calls were made
+abbrev pub invariant-loop-tick : goal.invariant-loop-tick
+invariant-loop-tick l =
+    let round = round_at l.trace.rounds l.round in
+    record {
+      at : (before : List Plan) → IsAt l.config before [] l.initial.self
+          → IsAt l.config (reverse (map idle (take l.tick-index round.beside)) ++ before) [] l.self;
+      ticks : KeepUpFrom (last_tick l.self.history.turns) (drop l.tick-index round.beside ++ round.after ∷ []);
+    }
+
+-- the first callers made their calls
+abbrev pub invariant-loop-caller : goal.invariant-loop-caller
+invariant-loop-caller l =
+    let round = round_at l.trace.rounds l.round in
+    record {
+      at : (before : List Plan) → IsAt l.config before [] l.initial.self
+          → IsAt l.config before (calls_from 0 (take l.caller round.lines)) l.self;
+      history : l.self.history ≡ l.initial.self.history;
+    }

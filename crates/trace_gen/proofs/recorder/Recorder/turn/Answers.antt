@@ -1,0 +1,66 @@
+use Rattle.std.proofs.Common.{◌≡◌, ◌≤◌, ◌<◌, ℕ, List, [], ◌∷◌, ◌++◌, length, map, reverse, sym, subst, ap, ap₂, ◌∙◌, rules, arith}
+use Rattle.std.proofs.lemmas.Grind.{common_steps}
+use Rattle.std.proofs.lemmas.Result.{on_ok_weaker}
+use Rattle.std.proofs.lemmas.List.{reverse-append}
+use Rattle.ids_types.specs.declared.entry.TurnHead.{TurnHead}
+use Rattle.ids_types.specs.Plain.{plain_entry}
+use Rattle.chain_spec.specs.Chain.{handed_on}
+use Rattle.ids_types.specs.declared.parcel.Plain.{Plain}
+use Rattle.merge_spec.specs.Names.{Entry}
+use Rattle.chain.specs.Turning.{FitsAct, FitsTurn, turn_by}
+use Rattle.std.proofs.lemmas.List.Elements.{All-nil}
+use Rattle.chain_plain.specs.Telling.{HasDeskRoom, Tells, told_of}
+use Rattle.chain_plain.proofs.TellingLemmas.{tells_more, told_few}
+use Rattle.event_chain.specs.Standing.{Stands}
+use Rattle.trace_gen.specs.Quiet.{calls_of, turns_of, turn_of}
+use Rattle.trace_gen.specs.Recording.{held}
+use Rattle.trace_gen.proofs.RecordingLemmas.{turn_is}
+use Rattle.trace_gen.proofs.recorder.Recorder.turn.Goals as goal
+
+-- there are no more messages than bytes
+pub add-requires : goal.add-requires
+add-requires c =
+    let at = c.requires.recording.at in
+    let config = c.args.config.now in
+    let stands : Stands held config (reverse c.args.self.now.history.turns) c.args.self.now.chain =
+    subst (λ ts. Stands held config ts c.args.self.now.chain) (sym at.turns) at.stands in
+    let sends = c.in_ok-turn.ensures.sends config c.args.self.now.history.turns stands c.requires.tick in
+    told_few config c.args.self.now.history.turns _ (told_of c.args.self.now.tally) c.turn.new.self.out at.tells sends
+
+-- the turn that was planned was made
+pub returns-clause-at : goal.returns-clause-at
+returns-clause-at c = on_ok_weaker c.add.result (λ told before calls at.
+    let config = c.args.config.now in
+    let history = c.args.self.now.history.turns in
+    let head : TurnHead = record { tick = c.args.tick; lost_events = 0; lost_contexts = 0; limited = c.limited.result } in
+    let turn = turn_by held head c.args.self.now.desk.items.items in
+    let stands : Stands held config (reverse history) c.args.self.now.chain =
+    subst (λ ts. Stands held config ts c.args.self.now.chain) (sym at.turns) at.stands in
+    let limited : c.limited.result ≡ handed_on config (turns_of config before) =
+    c.limited.ensures.value config history stands ∙ ap (handed_on config) at.turns in
+    let is : turn ≡ turn_of config (turns_of config before) (calls_of before) (record { tick = c.args.tick; calls = calls }) =
+    turn_is config before calls c.args.tick c.limited.result c.args.self.now.desk.items.items at.entries limited in
+    let logged : c.log_turn.new.history.turns ≡ history ++ turn ∷ [] =
+    c.in_ok-log_turn.ensures ∙ ap (λ items. history ++ turn_by held head items ∷ []) c.deref.ensures.value in
+    let newest : reverse (history ++ turn ∷ []) ≡ turns_of config (record { tick = c.args.tick; calls = calls } ∷ before) =
+    reverse-append history (turn ∷ []) ∙ ap₂ (λ t ts. t ∷ ts) is at.turns in
+    let now = c.in_ok-turn.ensures.stands config history stands c.requires.tick in
+    let sends = c.in_ok-turn.ensures.sends config history stands c.requires.tick in
+    let handed = c.limited-2.ensures.value config (history ++ turn ∷ []) now in
+    let tells = tells_more config history turn (told_of c.args.self.now.tally) c.turn.new.self.out c.limited-2.result handed
+    at.tells sends in
+    record {
+      turns = ap reverse logged ∙ newest;
+      stands = subst (λ ts. Stands held config ts c.turn.new.chain) newest now;
+      tells = subst (λ ts. Tells config ts (told_of c.add.new.self)) (sym logged)
+          (subst (Tells config (history ++ turn ∷ [])) (sym told) tells);
+      counts = at.counts;
+      entries = ap (map plain_entry) c.in_ok-turn.ensures.ready.no_items;
+      fits = subst (FitsTurn held (length config.events)) (sym c.in_ok-turn.ensures.ready.no_items) (record {
+        few = omega arith;
+        acts = All-nil (λ (e : Entry Plain). FitsAct held (length config.events) e.act);
+      });
+      kept = c.in_ok-turn.ensures.kept;
+      events = c.in_ok-turn.ensures.events ∙ at.events;
+      room = subst (λ n. HasDeskRoom n c.turn.new.self) at.events c.in_ok-turn.ensures.ready.room;
+    }) c.add.ensures

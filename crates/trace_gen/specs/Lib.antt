@@ -1,0 +1,9 @@
+pub mod Counted
+pub mod Draws
+pub mod Generated
+pub mod GeneratedConfig
+pub mod GeneratedTrace
+pub mod Quiet
+pub mod Recordable
+pub mod Recording
+pub mod Reports

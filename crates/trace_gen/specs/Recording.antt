@@ -1,0 +1,46 @@
+-- A recording in the making.
+use Rattle.std.specs.Prelude.{◌≡◌, ℕ, ◌<◌, ◌≤◌, List, ◌++◌, length, map, reverse}
+use Rattle.std.specs.List.{All}
+use Rattle.ids_types.specs.declared.parcel.Plain.{Plain}
+use Rattle.ids_types.specs.Plain.{plain_entry}
+use Rattle.ids_config.specs.Parts.{Parts}
+use Rattle.chain.specs.Parcels.{IsShort}
+use Rattle.chain.specs.Turning.{FitsTurn}
+use Rattle.chain_plain.specs.Telling.{HasDeskRoom, Tells, told_of}
+use Rattle.event_chain.specs.Standing.{Stands}
+use Rattle.filter_aggregate.specs.Account.{all_kept}
+use Rattle.merge_spec.specs.Rounds.{Asked, reports, changes, sets}
+use Rattle.trace_gen.specs.Counted.{AreCounts, HasClassFor}
+use Rattle.trace_gen.specs.Quiet.{Call, Plan, calls_of, entries_of, turns_of}
+use Rattle.trace_gen.specs.declared.recorder.Recorder.{Recorder}
+
+-- the bytes that a parcel lends
+abbrev pub held : Plain → List ℕ
+held parcel = parcel.0.now
+
+-- the recorder behind turns as they were planned, the newest of which stands first, and these calls for the next one, the
+-- first of them first
+pub record IsAt (config : Parts) (before : List Plan) (calls : List Call) (r : Recorder) : Type 0 where
+  pub turns : reverse r.history.turns ≡ turns_of config before
+  pub stands : Stands held config (turns_of config before) r.chain
+  pub tells : Tells config r.history.turns (told_of r.tally)
+  pub counts : AreCounts config (reverse calls ++ calls_of before) r.counts
+  pub entries : map plain_entry r.desk.items.items ≡ entries_of config (calls_of before) calls
+  pub fits : FitsTurn held (length config.events) r.desk.items.items
+  pub kept : All (IsShort held) (all_kept r.chain.filters.windows)
+  pub events : length r.chain.filters.windows ≡ length config.events
+  pub room : HasDeskRoom (length config.events) r.desk
+
+-- it is behind some turns
+pub record IsRecording (config : Parts) (r : Recorder) : Type 0 where
+  pub before : List Plan
+  pub calls : List Call
+  pub at : IsAt config before calls r
+
+-- a line that the caller may ask by: it is one of so many, an event is one of the configuration's, and a class has buffers
+-- that are large enough
+abbrev pub CanAsk : Parts → ℕ → Asked → Type 0
+CanAsk config caller (reports event count stamp bytes) =
+    (caller < config.callers) × (event.0 < length config.events) × (length bytes ≤ 1024) × HasClassFor config bytes
+CanAsk config caller (changes state) = caller < config.callers
+CanAsk config caller (sets event mode) = (caller < config.callers) × (event.0 < length config.events)
