@@ -16,8 +16,9 @@ use Rattle.ids_types.specs.declared.names.Stamp.{Stamp}
 use Rattle.ids_config.specs.Parts.{Parts, internal_of}
 use Rattle.text_spec.specs.Below.{decimal, encode_lower, to_be_bytes, w64}
 use Rattle.text_spec.specs.Contexts.{context_word, colon}
+use Rattle.text_spec.specs.JournalForm.{entry_of}
 use Rattle.text_spec.specs.JournalReading.{IsJournal}
-use Rattle.text_spec.specs.JournalText.{Told, Line, begins, enters, loses, act_fields, line_with, line_for, turn_told, lines_told, journal_text}
+use Rattle.text_spec.specs.JournalText.{Told, Line, begins, enters, loses, line_for, turn_told, lines_told, journal_text}
 use Rattle.text_spec.specs.Stamps.{stamp_text}
 use Rattle.text_spec.specs.Words.{line_feed, text_of}
 use Rattle.text_spec.proofs.HexadecimalLemmas.{length_hex}
@@ -76,7 +77,7 @@ size line = 1 + length (line_for line)
 
 -- the line of an entry is as long as what comes by it weighs
 act_is_long : (tick caller call : ℕ) (act : Act (List ℕ))
-    → moment_weight (act_moment tick act) ≤ 1 + length (line_with (act_fields caller call act))
+    → moment_weight (act_moment tick act) ≤ size (enters (entry_of caller call act))
 act_is_long tick caller call (Report event count stamp context) =
     simp length-append (omega (
       arith,
