@@ -1,4 +1,7 @@
 mod ConfigLemmas
 mod CountLemmas
 mod DrawLemmas
+mod FitLemmas
+mod GenerateLemmas
 mod RecordingLemmas
+mod TraceLemmas

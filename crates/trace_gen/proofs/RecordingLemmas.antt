@@ -160,15 +160,19 @@ plans_all round i k before all_ticks all_lines =
 
 -- ---- rounds, one after another
 
+-- the ticks of a round, and those behind it
+pub ticks_apart : (round : Round) (rounds : List Round) (end : ℕ)
+    → flat_map round_ticks (round ∷ rounds) ++ end ∷ [] ≡ round.beside ++ round.after ∷ (flat_map round_ticks rounds ++ end ∷ [])
+ticks_apart round rounds end =
+    append_assoc (round_ticks round) (flat_map round_ticks rounds) (end ∷ [])
+    ∙ append_assoc round.beside (round.after ∷ []) (flat_map round_ticks rounds ++ end ∷ [])
+
 round_keeps : (least : ℕ) (round : Round) (rounds : List Round) (end : ℕ)
     → KeepUpFrom least (flat_map round_ticks (round ∷ rounds) ++ end ∷ [])
     → KeepUpFrom least (round_ticks round) × KeepUpFrom round.after (flat_map round_ticks rounds ++ end ∷ [])
 round_keeps least round rounds end keeps =
-    let others = flat_map round_ticks rounds ++ end ∷ [] in
-    let same : flat_map round_ticks (round ∷ rounds) ++ end ∷ [] ≡ round.beside ++ round.after ∷ others =
-    append_assoc (round_ticks round) (flat_map round_ticks rounds) (end ∷ [])
-    ∙ append_assoc round.beside (round.after ∷ []) others in
-    keep_split least round.beside round.after others (subst (KeepUpFrom least) same keeps)
+    keep_split least round.beside round.after (flat_map round_ticks rounds ++ end ∷ [])
+    (subst (KeepUpFrom least) (ticks_apart round rounds end) keeps)
 
 -- the ticks of the next round keep up, and those behind it
 pub next_keeps : (least : ℕ) (rounds : List Round) (k end : ℕ) → k < length rounds

@@ -4,7 +4,10 @@ use Rattle.std.specs.Prelude.{ℕ, ◌*◌, List, [], ◌++◌, length, codes, d
 use Rattle.hex.specs.Hex.{encode_lower}
 use Rattle.sha2.specs.Sha256.{sha256}
 use Rattle.ids_types.specs.Turns.{Turn}
-use Rattle.ids_config.specs.Parts.{Parts}
+use Rattle.config_json.specs.Printed.{config_text}
+use Rattle.journal.specs.Answers.{told}
+use Rattle.text_spec.specs.JournalText.{journal_text}
+use Rattle.text_spec.specs.TraceText.{trace_text}
 use Rattle.chain.specs.History.{count_of, messages_of, rows_of}
 use Rattle.gen_options.specs.declared.options.Options.{Options}
 use Rattle.trace_gen.specs.GeneratedConfig.{config_of}
@@ -15,17 +18,38 @@ use Rattle.trace_gen.specs.Quiet.{history_of}
 abbrev pub turns_for : Options → List Turn
 turns_for o = history_of (config_of o) (rounds_of o)
 
--- the line `reports R messages M records K sha256 H`
-abbrev pub line_of : (reports messages records : ℕ) → List ℕ → List ℕ
-line_of reports messages records digest =
+-- ---- the three files
+
+-- the configuration's text
+unfoldable pub config_for : Options → List ℕ
+config_for o = config_text (config_of o)
+
+-- the trace's text
+unfoldable pub trace_for : Options → List ℕ
+trace_for o = trace_text (rounds_of o)
+
+-- the journal's text, in which no call is lost
+unfoldable pub journal_for : Options → List ℕ
+journal_for o = journal_text (told (turns_for o) [])
+
+-- ---- the line
+
+-- the SHA-256 digest of bytes
+unfoldable pub digest_of : List ℕ → List ℕ
+digest_of bytes = sha256 bytes
+
+-- the line `reports R messages M records K sha256 H`, with its line feed
+abbrev pub gen_line : (reports messages records : ℕ) → List ℕ → List ℕ
+gen_line reports messages records digest =
     codes "reports " ++ (decimal reports
     ++ (codes " messages " ++ (decimal messages
     ++ (codes " records " ++ (decimal records
     ++ (codes " sha256 " ++ (encode_lower digest ++ codes "\n")))))))
 
--- it tells how many reports there are, and of the journal's messages how many and their digest
-abbrev pub line_for : Options → List ℕ
+-- it tells how many reports there are, and of the journal how many messages it gives, how many records its event memory
+-- has, and the digest of the messages
+unfoldable pub line_for : Options → List ℕ
 line_for o =
     let config = config_of o in
     let turns = turns_for o in
-    line_of (4 * (o.callers * o.rounds)) (count_of config turns) (length (rows_of config turns)) (sha256 (messages_of config turns))
+    gen_line (4 * (o.callers * o.rounds)) (count_of config turns) (length (rows_of config turns)) (digest_of (messages_of config turns))

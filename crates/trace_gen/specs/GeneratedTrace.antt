@@ -24,8 +24,8 @@ lines_by o r caller =
     changes_by r caller ++ map (report_at o (tick_after r)) (range_with_len (4 * (r * o.callers + caller)) 4)
 
 -- round r, from 0
-abbrev pub round_at : Options → ℕ → Round
-round_at o r = record {
+abbrev pub generated_round : Options → ℕ → Round
+generated_round o r = record {
   beside = ticks_beside r;
   lines = map (lines_by o r) (range_with_len 0 o.callers);
   after = tick_after r;
@@ -33,4 +33,8 @@ round_at o r = record {
 
 -- all rounds
 abbrev pub rounds_of : Options → List Round
-rounds_of o = map (round_at o) (range_with_len 0 o.rounds)
+rounds_of o = map (generated_round o) (range_with_len 0 o.rounds)
+
+-- how many draws come before the lines of a caller in round r
+abbrev pub draws_before : Options → ℕ → ℕ → ℕ
+draws_before o r caller = 16 * (r * o.callers + caller)

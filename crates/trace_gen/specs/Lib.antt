@@ -1,4 +1,5 @@
 pub mod Counted
+pub mod Drawing
 pub mod Draws
 pub mod Generated
 pub mod GeneratedConfig

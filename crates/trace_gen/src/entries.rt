@@ -11,9 +11,9 @@ ghost use Rattle.trace_gen.specs.Counted.{AreClaims, AreCounts, HasClass, HasCla
 ghost use Rattle.trace_gen.specs.Quiet.{Call, act_of, carried, entry_of};
 
 use crate::counts::{Counts, count};
-use trace_text::{Line, TraceAct};
 use ids_config::Config;
 use ids_types::{Act, Carried, Entry, NoMemory, Plain};
+use trace_text::{Line, TraceAct};
 
 /// The entry of a caller's line, with the next numbers of its call and of the buffer that keeps its context.
 pub(crate) fn make_entry<'t>(

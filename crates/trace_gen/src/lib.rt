@@ -9,7 +9,11 @@
 
 mod config;
 mod counts;
+mod drawing;
 mod draws;
 mod entries;
+mod generated;
 mod quiet;
 mod recorder;
+
+pub use generated::{Generated, generate};

@@ -30,12 +30,7 @@ impl<'t> Recorder<'t> {
     }
 
     /// Takes the turns of a round.
-    fn take_round(
-        &mut self,
-        config: &Config,
-        trace: &'t Trace,
-        round: u64,
-    ) -> Result<(), NoMemory>
+    fn take_round(&mut self, config: &Config, trace: &'t Trace, round: u64) -> Result<(), NoMemory>
         requires between { IsBetween config.now self.old }
         requires there { round < length trace.now.rounds }
         requires callers { trace.now.callers ≡ config.now.callers }

@@ -12,13 +12,13 @@ ghost use Rattle.trace_gen.specs.Recording.{CanAsk, IsAt, IsRecording};
 
 use crate::counts::Counts;
 use crate::entries::make_entry;
-use trace_text::Line;
 use chain::Chain;
 use chain_plain::{Desk, Tally};
 use event_chain::EventChain;
 use ids_config::Config;
 use ids_types::{Entry, History, NoMemory, Plain, TurnHead};
 use std::alloc::Global;
+use trace_text::Line;
 
 /// A history in the making, and what the filter chain gives for it.
 #[derive(Debug, Drop)]

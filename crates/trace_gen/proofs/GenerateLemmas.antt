@@ -1,0 +1,34 @@
+-- What a recorder of the generated trace tells.
+use Rattle.std.proofs.Common.{◌≡◌, ◌*◌, ℕ, List, [], refl, ap, ap₂, sym, ◌∙◌, reverse, length}
+use Rattle.std.proofs.lemmas.List.{reverse-reverse}
+use Rattle.ids_config.specs.Parts.{Parts}
+use Rattle.chain.specs.History.{count_of, messages_of, rows_of}
+use Rattle.gen_options.specs.declared.options.Options.{Options}
+use Rattle.trace_text.specs.TraceView.{Traced}
+use Rattle.trace_gen.specs.Generated.{digest_of, gen_line, turns_for}
+use Rattle.trace_gen.specs.GeneratedConfig.{config_of}
+use Rattle.trace_gen.specs.GeneratedTrace.{rounds_of}
+use Rattle.trace_gen.specs.Quiet.{history_of, plans_of}
+use Rattle.trace_gen.specs.Recording.{IsAt}
+use Rattle.trace_gen.specs.declared.recorder.Recorder.{Recorder}
+
+-- the same numbers and digest make the same line
+pub same_line : (reports m n k j : ℕ) (d e : List ℕ) → m ≡ n → k ≡ j → d ≡ e → gen_line reports m k d ≡ gen_line reports n j e
+same_line reports m n k j d e messages records digest = rw (messages, records, digest) refl
+
+module _ (o : Options) (config : Parts) (trace : Traced) (r : Recorder) (configured : config ≡ config_of o)
+    (traced : trace ≡ record { callers = o.callers; rounds = rounds_of o })
+    (at : IsAt config (reverse (plans_of trace.rounds)) [] r) where
+  -- its history is that of the trace
+  pub recorded : r.history.turns ≡ turns_for o
+  recorded =
+      sym (reverse-reverse r.history.turns) ∙ ap reverse at.turns
+      ∙ ap₂ (λ (c : Parts) (t : Traced). history_of c t.rounds) configured traced
+
+  -- and so are the numbers and the messages
+  pub line_is : (n m : ℕ) → n ≡ m
+      → gen_line n (count_of config r.history.turns) (length (rows_of config r.history.turns)) (digest_of (messages_of config r.history.turns))
+      ≡ gen_line m (count_of (config_of o) (turns_for o)) (length (rows_of (config_of o) (turns_for o))) (digest_of (messages_of (config_of o) (turns_for o)))
+  line_is n m same =
+      ap (λ k. gen_line k (count_of config r.history.turns) (length (rows_of config r.history.turns)) (digest_of (messages_of config r.history.turns))) same
+      ∙ ap₂ (λ c turns. gen_line m (count_of c turns) (length (rows_of c turns)) (digest_of (messages_of c turns))) configured recorded

@@ -1,0 +1,12 @@
+use Rattle.std.proofs.Common.{◌≡◌, ◌+◌, length, ap, ◌∙◌, arith}
+use Rattle.std.specs.List.{slice_range}
+use Rattle.trace_gen.proofs.DrawLemmas.{cut_ramp, length-ramp}
+use Rattle.trace_gen.proofs.drawing.cut_context.Goals as goal
+
+pub slice_bounds-result-end : goal.slice_bounds-result-end
+slice_bounds-result-end c = omega (arith, length-ramp, ap length c.requires.ramp, c.requires.few)
+
+pub returns : goal.returns
+returns c =
+    ap (λ xs. slice_range xs c.args.event (c.args.event + c.args.size)) c.requires.ramp
+    ∙ cut_ramp c.args.event c.args.size c.requires.few

@@ -1,0 +1,15 @@
+use Rattle.std.proofs.Common.{◌≡◌, ◌+◌, ◌*◌, ◌++◌, map}
+use Rattle.std.specs.List.{range_with_len}
+use Rattle.trace_gen.specs.Drawing.{with_lines}
+use Rattle.trace_gen.specs.Draws.{number_after}
+use Rattle.trace_gen.specs.GeneratedTrace.{changes_by, draws_before, tick_after}
+use Rattle.trace_gen.specs.Reports.{report_at}
+use Rattle.trace_gen.proofs.drawing.draw_lines.Given as goal
+
+-- the first reports were drawn
+abbrev pub invariant-loop : goal.invariant-loop
+invariant-loop l = record {
+  trace : l.trace ≡ with_lines l.caller (changes_by l.round l.caller
+      ++ map (report_at l.options (tick_after l.round)) (range_with_len (4 * (l.round * l.options.callers + l.caller)) l.counter)) l.fn.trace;
+  number : l.draws.number ≡ number_after l.options.start (draws_before l.options l.round l.caller + 4 * l.counter);
+}

@@ -1,0 +1,12 @@
+use Rattle.std.proofs.Common.{◌≡◌, sym, ◌∙◌, arith}
+use Rattle.std.proofs.lemmas.Grind.{common_steps}
+use Rattle.trace_gen.proofs.DrawLemmas.{ramp_is, range_more}
+use Rattle.trace_gen.proofs.drawing.make_ramp.Goals as goal
+
+pub loop-byte-preserved : goal.loop-byte-preserved
+loop-byte-preserved c =
+    let more = range_more 0 c.loop-byte.byte in
+    grind (arith, common_steps, more)
+
+pub returns : goal.returns
+returns c = c.loop-byte.invariant ∙ sym (ramp_is c.loop-byte.byte (omega arith))

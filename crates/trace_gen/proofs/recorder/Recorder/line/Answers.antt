@@ -1,0 +1,20 @@
+use Rattle.std.proofs.Common.{◌≡◌, reverse, ap, sym, subst, ◌∙◌}
+use Rattle.std.proofs.lemmas.Result.{IfOk-weaker}
+use Rattle.std.proofs.lemmas.List.{length-reverse}
+use Rattle.std.specs.Prelude.{length}
+use Rattle.event_chain.specs.Standing.{Stands}
+use Rattle.trace_gen.specs.Generated.{digest_of}
+use Rattle.trace_gen.specs.Recording.{held}
+use Rattle.trace_gen.proofs.GenerateLemmas.{same_line}
+use Rattle.trace_gen.proofs.recorder.Recorder.line.Goals as goal
+
+-- the tally and the event memory tell of its history
+pub returns : goal.returns
+returns c = IfOk-weaker c.make_line.result _ _ (λ line is config before at.
+    let turns = c.args.self.now.history.turns in
+    let stands : Stands held config (reverse turns) c.args.self.now.chain =
+    subst (λ ts. Stands held config ts c.args.self.now.chain) (sym at.turns) at.stands in
+    let rows = c.memory.ensures config turns stands in
+    is ∙ same_line c.args.reports _ _ _ _ _ _ at.tells.count
+    (c.len-records.ensures ∙ sym (length-reverse c.memory.result.now.rows) ∙ ap length rows)
+    (c.digest-digest.ensures ∙ ap digest_of (c.deref.ensures.value ∙ at.tells.sent_bytes))) c.make_line.ensures

@@ -1,0 +1,85 @@
+//! What is generated.
+
+ghost use Rattle.std.specs.Prelude.{◌≡◌, [], List, IfOk, IsTrue, length, string_bytes};
+ghost use Rattle.ids_config.specs.Parts.{Parts};
+ghost use Rattle.chain.specs.History.{count_of, messages_of, rows_of};
+ghost use Rattle.gen_options.specs.Ranges.{is_in_range};
+ghost use Rattle.trace_gen.specs.Generated.{config_for, digest_of, gen_line as line_of, journal_for, line_for, trace_for};
+ghost use Rattle.trace_gen.specs.Quiet.{Plan};
+ghost use Rattle.trace_gen.specs.Recording.{IsAt};
+
+use crate::config::make_config;
+use crate::drawing::draw_trace;
+use crate::recorder::Recorder;
+use chain::Chain;
+use gen_options::Options;
+use ids_types::NoMemory;
+use sha2::{Digest, Sha256};
+use std::alloc::Global;
+
+/// A generated recording: the texts of its three files, and the line that tells of it.
+#[derive(Debug, Drop)]
+pub struct Generated {
+    pub config: String,
+    pub trace: Vec<u8>,
+    pub journal: Vec<u8>,
+    pub line: Vec<u8>,
+}
+
+/// The recording of these options.
+pub fn generate(alloc: Global, options: &Options) -> Result<Generated, NoMemory>
+    requires { IsTrue (is_in_range options.now) }
+    ensures config { IfOk result (λ g. string_bytes g.config ≡ config_for options.now) }
+    ensures trace { IfOk result (λ g. g.trace.items ≡ trace_for options.now) }
+    ensures journal { IfOk result (λ g. g.journal.items ≡ journal_for options.now) }
+    ensures line { IfOk result (λ g. g.line.items ≡ line_for options.now) }
+{
+    let config = make_config(alloc, options)?;
+    let trace = draw_trace(alloc, options, &config)?;
+    let mut recorder = Recorder::make(alloc, &config)?;
+    recorder.take_all(&config, &trace)?;
+    Ok(Generated {
+        config: config_json::print(alloc, &config)?,
+        trace: trace_text::print(alloc, &trace)?,
+        journal: journal::print(alloc, &recorder.history, &[])?,
+        line: recorder.line(alloc, 4 * options.callers * options.rounds)?,
+    })
+}
+
+impl<'t> Recorder<'t> {
+    /// The line that tells of so many reports, and of what the filter chain gave for them.
+    fn line(&self, alloc: Global, reports: u64) -> Result<Vec<u8>, NoMemory>
+        ensures { IfOk result (λ line. (config : Parts) (before : List Plan) → IsAt config before [] self.now →
+            let turns = self.now.history.turns in line.items ≡ line_of reports
+            (count_of config turns) (length (rows_of config turns)) (digest_of (messages_of config turns))) }
+    {
+        let records = self.chain.memory().len();
+        let digest = digest(&self.tally.sent);
+        make_line(alloc, reports, self.tally.messages, records, &digest)
+    }
+}
+
+/// The SHA-256 digest of the bytes.
+#[tactic(auto, unfolding(crate::specs::Generated::digest_of))]
+fn digest(bytes: &[u8]) -> [u8; 32]
+    ensures { result ≡ digest_of bytes.now }
+{
+    Sha256::digest(bytes)
+}
+
+/// `reports R messages M records K sha256 H`, and a line feed.
+fn make_line(
+    alloc: Global,
+    reports: u64,
+    messages: u64,
+    records: u16,
+    digest: &[u8],
+) -> Result<Vec<u8>, NoMemory>
+    ensures { IfOk result (λ line. line.items ≡ line_of reports messages records digest.now) }
+{
+    let digest = hex::encode(alloc, digest)?;
+    let text = format!(in alloc;
+        "reports {reports} messages {messages} records {records} sha256 {digest}\n"
+    )?;
+    Ok(text.into_bytes())
+}
