@@ -33,8 +33,12 @@ mod shared_ring;
 #[cfg(test)]
 mod stored_events;
 #[cfg(test)]
+mod tables;
+#[cfg(test)]
 mod text_fields;
 #[cfg(test)]
 mod thresholds;
+#[cfg(test)]
+mod traces;
 #[cfg(test)]
 mod turn_heads;

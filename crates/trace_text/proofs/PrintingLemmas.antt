@@ -1,10 +1,16 @@
 -- The text of a trace, one line after another.
-use Rattle.std.proofs.Common.{◌≡◌, ℕ, suc, ◌+◌, ◌<◌, List, [], ◌∷◌, ◌++◌, length, map, take, get_or, sym, ap, ◌∙◌, append_assoc, arith}
+use Rattle.std.proofs.Common.{◌≡◌, ℕ, suc, ◌+◌, ◌<◌, ◌≤◌, List, [], ◌∷◌, ◌++◌, length, map, take, get_or, sym, ap, ◌∙◌, append_assoc, arith}
 use Rattle.std.specs.Prelude.{decimal}
 use Rattle.std.proofs.lemmas.List.{append-nil, length-take-le, map-append, take_all, take_more}
+use Rattle.std.specs.List.{AllByRecursion}
+use Rattle.std.specs.Prelude.{Result, Ok, Err, IfOk}
+use Rattle.ids_config.specs.Parts.{Parts}
+use Rattle.ids_types.specs.declared.memory.NoMemory.{NoMemory}
+use Rattle.text_spec.specs.TraceReading.{AreTicks, IsAllowedRound, MayAsk, trace_in}
+use Rattle.text_spec.proofs.TraceLaws.{trace_again}
 use Rattle.merge_spec.specs.Rounds.{lines_at}
 use Rattle.text_spec.specs.Fields.{ended_line, words_of_fields}
-use Rattle.text_spec.specs.TraceText.{Asked, Round, TraceLine, asked_fields, calls, callers_told, closes, number_fields, opens, round_told, rounds_told, trace_fields, trace_line_for}
+use Rattle.text_spec.specs.TraceText.{Asked, Round, TraceLine, asked_fields, calls, callers_told, closes, number_fields, opens, round_told, rounds_told, trace_fields, trace_line_for, trace_text}
 use Rattle.text_spec.specs.Words.{line_of, space, text_of}
 use Rattle.text_spec.proofs.JournalFacts.{flat_map-push}
 use Rattle.text_spec.proofs.WordsLemmas.{text_of-append}
@@ -97,3 +103,19 @@ rounds_printed now next rounds i within was step =
     ∙ sym (ap (λ (rs : List Round). lines_text (rounds_told rs)) (take_more rounds i (begun_round 0 [] 0) within)
     ∙ ap lines_text (flat_map-push round_told (take i rounds) (round_at rounds i))
     ∙ lines_text-append (rounds_told (take i rounds)) (round_told (round_at rounds i)))
+
+-- ---- the text is read again
+
+all_allowed : (config : Parts) (callers : ℕ) (rounds : List Round) → config.callers ≡ callers → AllByRecursion (λ (round : Round). length round.lines ≡ callers) rounds
+    → AllByRecursion (λ (round : Round). AllByRecursion (AllByRecursion (MayAsk config)) round.lines) rounds → AllByRecursion (IsAllowedRound config) rounds
+all_allowed config callers [] same wide may = tt
+all_allowed config callers (round ∷ rounds) same wide may = (record { callers = wide.0 ∙ sym same; asked = may.0 }, all_allowed config callers rounds same wide.1 may.1)
+
+-- a text that was printed, or none
+pub read_again : {X : Type 0} (text_of : X → List ℕ) (printed : Result X NoMemory) (callers : ℕ) (rounds : List Round) → AllByRecursion (λ (round : Round). length round.lines ≡ callers) rounds → AreTicks rounds
+    → IfOk printed (λ x. text_of x ≡ trace_text rounds)
+    → IfOk printed (λ x. (config : Parts) → config.callers ≤ 32 → length config.events ≤ 256 → config.callers ≡ callers
+    → AllByRecursion (λ (round : Round). AllByRecursion (AllByRecursion (MayAsk config)) round.lines) rounds → trace_in config (text_of x) ≡ Ok rounds)
+read_again text_of (Ok x) callers rounds wide ticks is = λ config few events same may.
+    ap (trace_in config) is ∙ trace_again config rounds few events (record { allowed = all_allowed config callers rounds same wide may; ticks = ticks })
+read_again text_of (Err refused) callers rounds wide ticks is = tt

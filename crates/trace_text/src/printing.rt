@@ -1,12 +1,12 @@
 //! The text of a trace.
 
-ghost use Rattle.std.specs.Prelude.{◌≡◌, ◌<◌, ◌≤◌, ◌++◌, ◌∷◌, [], length, codes, decimal, IfOk, OnOk};
+ghost use Rattle.std.specs.Prelude.{◌≡◌, ◌<◌, ◌≤◌, ◌++◌, ◌∷◌, [], length, codes, decimal, Ok, IfOk, OnOk};
 ghost use Rattle.std.specs.List.{AllByRecursion};
 ghost use Rattle.ids_config.specs.Parts.{Parts};
 ghost use Rattle.merge_spec.specs.Rounds.{lines_at};
 ghost use Rattle.text_spec.specs.Fields.{bytes_word, ended_line};
 ghost use Rattle.text_spec.specs.Stamps.{stamp_text};
-ghost use Rattle.text_spec.specs.TraceReading.{AreRounds, trace_in};
+ghost use Rattle.text_spec.specs.TraceReading.{MayAsk, trace_in};
 ghost use Rattle.text_spec.specs.TraceText.{asked_fields, calls, closes, opens, round_told, trace_fields, trace_text};
 ghost use Rattle.text_spec.specs.Words.{space};
 ghost use Rattle.trace_text.specs.Lines.{line_asked};
@@ -21,6 +21,19 @@ use text_spec::{push_bytes, push_field, push_mode, push_stamp};
 
 /// The text of a trace: its rounds, the lines of each by caller.
 pub fn print(alloc: Global, trace: &Trace) -> Result<Vec<u8>, NoMemory>
+    ensures text { IfOk result (λ text. text.items ≡ trace_text trace.now.rounds) }
+    // Under each configuration that has its callers and allows each of its lines, the text is read as it.
+    ensures again { IfOk result (λ text. (config : Parts) → config.callers ≤ 32 →
+        length config.events ≤ 256 → config.callers ≡ trace.now.callers →
+        AllByRecursion (λ round. AllByRecursion (AllByRecursion (MayAsk config)) round.lines) trace.now.rounds →
+        trace_in config text.items ≡ Ok trace.now.rounds) }
+{
+    // No tick of a trace is below the one before it.
+    let _rounds = trace.rounds();
+    print_rounds(alloc, trace)
+}
+
+fn print_rounds(alloc: Global, trace: &Trace) -> Result<Vec<u8>, NoMemory>
     ensures { IfOk result (λ text. text.items ≡ trace_text trace.now.rounds) }
 {
     let mut text = Vec::new(alloc);

@@ -1,9 +1,6 @@
-use Rattle.std.proofs.Common.{◌<◌, length, arith}
-use Rattle.trace_text.proofs.PrintingLemmas.{rounds_printed}
+use Rattle.trace_text.proofs.PrintingLemmas.{read_again}
 use Rattle.trace_text.proofs.printing.print.Goals as goal
 
-pub loop-round-preserved : goal.loop-round-preserved
-loop-round-preserved c =
-    let rounds = c.args.trace.now.rounds in
-    let within : c.loop-round.round < length rounds = omega (arith, c.loop-round-test.true, c.rounds-round-end.ensures.count) in
-    rounds_printed c.loop-round.text.items c.push_round.new.out.items rounds c.loop-round.round within c.loop-round.invariant c.in_ok-push_round.ensures
+pub returns-clause-again : goal.returns-clause-again
+returns-clause-again c =
+    read_again (λ text. text.items) c.print_rounds.result c.args.trace.now.callers c.args.trace.now.rounds c.rounds-rounds.ensures.callers c.rounds-rounds.ensures.ticks c.print_rounds.ensures

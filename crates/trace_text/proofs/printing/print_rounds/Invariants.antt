@@ -1,7 +1,7 @@
 use Rattle.std.proofs.Common.{◌≡◌, take}
 use Rattle.text_spec.specs.TraceText.{rounds_told}
 use Rattle.trace_text.specs.Printing.{lines_text}
-use Rattle.trace_text.proofs.printing.print.Given as goal
+use Rattle.trace_text.proofs.printing.print_rounds.Given as goal
 
 -- the first rounds have been printed
 abbrev pub invariant-loop-round : goal.invariant-loop-round
