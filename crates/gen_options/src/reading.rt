@@ -1,8 +1,9 @@
 //! Words, read.
 
-ghost use Rattle.std.specs.Prelude.{◌≡◌, IfOk, map, option_map, string_bytes, codes};
+ghost use Rattle.std.specs.Prelude.{◌≡◌, IfOk, IfSome, IsTrue, map, option_map, string_bytes, codes};
 ghost use Rattle.clap.specs.Words.{first_of, found_of, rows_of};
 ghost use Rattle.gen_options.specs.Given.{given_of};
+ghost use Rattle.gen_options.specs.Ranges.{is_in_range};
 ghost use Rattle.gen_options.specs.Words.{given_by, number_by, options_by, words_give};
 
 use crate::command::command;
@@ -14,7 +15,8 @@ use std::alloc::{AllocError, Global};
 /// What the words give, the first of which is the command's own; `None` where clap refuses them, or a number
 /// is out of its range.
 pub fn read<'a>(alloc: Global, words: &'a [String]) -> Result<Option<Given<'a>>, AllocError>
-    ensures { IfOk result (λ given. option_map given_of given ≡ words_give (map string_bytes words.entry.now)) }
+    ensures given { IfOk result (λ given. option_map given_of given ≡ words_give (map string_bytes words.entry.now)) }
+    ensures range { IfOk result (λ given. IfSome given (λ g. IsTrue (is_in_range g.options))) }
 {
     match command(alloc)?.try_get_matches_from(words) {
         Ok(matches) => Ok(given(&matches)),
@@ -27,7 +29,8 @@ pub fn read<'a>(alloc: Global, words: &'a [String]) -> Result<Option<Given<'a>>,
 
 /// What the matches give, if the numbers are in their ranges.
 fn given<'a>(matches: &ArgMatches<'a>) -> Option<Given<'a>>
-    ensures { option_map given_of result ≡ given_by (rows_of (found_of matches.now)) }
+    ensures given { option_map given_of result ≡ given_by (rows_of (found_of matches.now)) }
+    ensures range { IfSome result (λ g. IsTrue (is_in_range g.options)) }
 {
     Some(Given {
         options: options(matches)?,
@@ -39,7 +42,8 @@ fn given<'a>(matches: &ArgMatches<'a>) -> Option<Given<'a>>
 
 /// The numbers, if they are in their ranges.
 fn options(matches: &ArgMatches<'_>) -> Option<Options>
-    ensures { result ≡ options_by (rows_of (found_of matches.now)) }
+    ensures options { result ≡ options_by (rows_of (found_of matches.now)) }
+    ensures range { IfSome result (λ o. IsTrue (is_in_range o)) }
 {
     let options = Options {
         start: number(matches, "start")?,
