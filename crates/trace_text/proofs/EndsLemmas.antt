@@ -7,7 +7,7 @@ use Rattle.std.proofs.lemmas.List.{ext_get_or, get_or-drop, get_or-take, get_or_
 use Rattle.std.proofs.lemmas.List.{drop-append-le, take_all}
 use Rattle.std.proofs.Math.Seq.{drop-append_seam, set-append_seam}
 use Rattle.ids_types.proofs.HistoryLemmas.{range_of_front}
-use Rattle.merge_spec.specs.Rounds.{last_tick, lines_at}
+use Rattle.merge_spec.specs.Rounds.{last_tick, lines_at, lines_of}
 use Rattle.text_spec.specs.TraceFaults.{asked_more, begun_round, ended_at, with_last}
 use Rattle.text_spec.specs.TraceReading.{AreTicks}
 use Rattle.text_spec.specs.TraceText.{Asked, Round, changes}
@@ -467,6 +467,19 @@ lists_for_all : (beside : List ℕ) (callers : List (List Asked)) (before : Roun
 lists_for_all beside callers before [] = tt
 lists_for_all beside callers before (end ∷ ends) = (length-between 0 callers before.lines end.lines, lists_for_all beside callers end ends)
 
+-- how many lines a caller has in all rounds
+lines_in_all : (beside : List ℕ) (callers : List (List Asked)) (before : RoundEnd) (ends : List RoundEnd) (caller : ℕ) → caller < length callers → AreEnds beside callers before ends
+    → length (lines_of caller (rounds_behind beside callers before ends)) + slice_index before.lines caller ≡ slice_index (last_end before ends).lines caller
+lines_in_all beside callers before [] caller there are = omega arith
+lines_in_all beside callers before (end ∷ ends) caller there are =
+    let same : 0 + caller ≡ caller = omega arith in
+    let lines = lines_at caller (round_between beside callers before end) in
+    let its : length lines ≡ slice_index end.lines caller - slice_index before.lines caller =
+    ap (λ (ls : List Asked). length ls) (between_at 0 caller callers before.lines end.lines there ∙ ap (λ c. slice_range (get_or callers caller []) (slice_index before.lines c) (slice_index end.lines c)) same)
+    ∙ range_length (get_or callers caller []) (slice_index before.lines caller) (slice_index end.lines caller) (are.0.lines_rise caller) (are.0.lines_there caller) in
+    let rest = lines_in_all beside callers end ends caller there are.1 in
+    omega (arith, its, rest, are.0.lines_rise caller, length-append lines (lines_of caller (rounds_behind beside callers end ends)))
+
 -- the same, of a trace that is these rounds
 module _ (beside : List ℕ) (callers : List (List Asked)) (ends : List RoundEnd) (trace : Traced) (is : record { callers = length callers; rounds = rounds_behind beside callers at_start ends } ≡ trace) where
   pub place : (k : ℕ) → k < length trace.rounds → k < length ends
@@ -508,6 +521,14 @@ module _ (beside : List ℕ) (callers : List (List Asked)) (ends : List RoundEnd
       let count = count_of_round k caller within there are in
       let lines = get_or callers caller [] in
       (omega (arith, count, inside, is.1), sym (ap (λ (ls : List Asked). line_at ls i) (lines_of_round k caller within there) ∙ range_at lines _ _ i (changes 0) (omega (arith, count, inside)) is.1))
+
+  -- a caller has few lines in all rounds
+  pub few_in_all : (most : ℕ) → AreEnds beside callers at_start ends → IsWhole beside callers (last_end at_start ends) → ((c : ℕ) → length (get_or callers c []) < most)
+      → (caller : ℕ) → caller < trace.callers → length (lines_of caller trace.rounds) < most
+  few_in_all most are whole few caller there =
+      let all = lines_in_all beside callers at_start ends caller (caller_there caller there) are in
+      let same = ap (λ (t : Traced). length (lines_of caller t.rounds)) is in
+      omega (arith, all, same, whole.lines_are caller, few caller)
 
   -- each round has a list of lines for each caller
   pub all_callers_have : AllByRecursion (λ (round : Round). length round.lines ≡ trace.callers) trace.rounds

@@ -1,7 +1,7 @@
-ghost use Rattle.std.specs.Prelude.{◌≡◌, ◌<◌, ◌≤◌, ◌^◌, ◌∷◌, ◌++◌, [], length, slice_index, slice_range, IfOk, OnOk, OnErr};
+ghost use Rattle.std.specs.Prelude.{◌≡◌, ℕ, ◌<◌, ◌≤◌, ◌^◌, ◌∷◌, ◌++◌, [], length, slice_index, slice_range, IfOk, OnOk, OnErr};
 ghost use Rattle.std.specs.List.{AllByRecursion};
 ghost use Rattle.merge_spec.specs.Orders.{KeepUpFrom};
-ghost use Rattle.merge_spec.specs.Rounds.{last_tick, lines_at};
+ghost use Rattle.merge_spec.specs.Rounds.{last_tick, lines_at, lines_of};
 ghost use Rattle.text_spec.specs.TraceFaults.{ended_at, with_last};
 ghost use Rattle.text_spec.specs.TraceReading.{AreTicks};
 ghost use Rattle.trace_text.specs.Lines.{line_asked, line_at};
@@ -111,12 +111,14 @@ impl Trace {
         self.rows.callers() as u8
     }
 
-    /// How many rounds there are. Each has a list of lines for each caller, and no tick is below the one
-    /// before it.
+    /// How many rounds there are. Each has a list of lines for each caller, no tick is below the one before
+    /// it, and a caller's lines of all rounds are fewer than 2^32.
     pub fn rounds(&self) -> u64
         ensures count { result ≡ length self.now.rounds }
         ensures callers { AllByRecursion (λ round. length round.lines ≡ self.now.callers) self.now.rounds }
         ensures ticks { AreTicks self.now.rounds }
+        ensures few { (caller : ℕ) → caller < self.now.callers →
+            length (lines_of caller self.now.rounds) < 2 ^ 32 }
     {
         self.ends.len() as u64
     }

@@ -1,7 +1,7 @@
-use Rattle.std.proofs.Common.{◌≡◌, length, rules, sym, ap, subst, ◌∙◌}
+use Rattle.std.proofs.Common.{◌≡◌, ◌^◌, length, rules, sym, ap, subst, ◌∙◌}
 use Rattle.text_spec.specs.TraceReading.{AreTicks}
 use Rattle.trace_text.specs.TraceView.{Traced, at_start}
-use Rattle.trace_text.proofs.EndsLemmas.{all_callers_have, length_rounds}
+use Rattle.trace_text.proofs.EndsLemmas.{all_callers_have, few_in_all, length_rounds}
 use Rattle.trace_text.proofs.trace.Trace.rounds.Goals as goal
 
 pub returns-clause-count : goal.returns-clause-count
@@ -15,3 +15,7 @@ returns-clause-callers c = all_callers_have c.self.inside.beside.items c.self.in
 
 pub returns-clause-ticks : goal.returns-clause-ticks
 returns-clause-ticks c = subst (λ (v : Traced). AreTicks v.rounds) c.self.view_is c.self.invariant.ticks
+
+pub returns-clause-few : goal.returns-clause-few
+returns-clause-few c =
+    few_in_all c.self.inside.beside.items c.self.inside.rows c.self.inside.ends.items c.args.self.now c.self.view_is (2 ^ 32) c.self.invariant.ends c.self.invariant.whole c.self.invariant.few_lines
