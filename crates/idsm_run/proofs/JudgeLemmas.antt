@@ -6,10 +6,11 @@ use Rattle.std.proofs.lemmas.Bool.{false_from_ne_true, cases_Bool}
 use Rattle.std.proofs.lemmas.Option.{same_Some, none-some}
 use Rattle.std.proofs.lemmas.Slice.Eq.{bytes_eq-Decides}
 use Rattle.text_spec.specs.Lines.{BadLine}
+use Rattle.gen_options.specs.Given.{Wanted}
 use Rattle.text_spec.specs.JournalText.{Told}
 use Rattle.idsm_run.specs.Names.{Refusal, messages_of}
 use Rattle.idsm_run.specs.Run.{MayRefuse}
-use Rattle.idsm_run.specs.Words.{configuration, Parts, MessageParts, messages_read, BadMessage, CountsFault, Files, SameFiles, SameOthers, Shelved, Read, Turn, ConfigFault, BadConfig, BadJournal, BadMessages, Stop, CannotRead, TooLong, Refused, CannotWrite, NoMemory, Command, Recording, recording_of, FoldFiles, CheckFiles, MigrateFiles, fold, check, decode, migrate, read_by, folded_in, file_of, without, config_found, journal_judged, judge, Work, Recorded, recorded_in, check_judged, fold_work, decode_work, migrate_work, bytes_of, KeepsConfig, StopsFor, ReadStops, StopsAs, plain_stop, stop_of_config}
+use Rattle.idsm_run.specs.Words.{configuration, Parts, MessageParts, messages_read, BadMessage, CountsFault, Files, SameFiles, SameOthers, Shelved, Read, Turn, ConfigFault, BadConfig, BadJournal, BadMessages, Stop, CannotRead, TooLong, Refused, CannotWrite, NoMemory, Command, Recording, recording_of, FoldFiles, CheckFiles, MigrateFiles, fold, check, decode, gen, migrate, read_by, folded_in, file_of, without, config_found, journal_judged, judge, Work, Recorded, recorded_in, check_judged, fold_work, decode_work, gen_work, migrate_work, bytes_of, KeepsConfig, StopsFor, ReadStops, StopsAs, plain_stop, stop_of_config}
 use Rattle.config_json.specs.Configured.{Tells}
 use Rattle.config_json.specs.declared.fault.JsonFault.{JsonFault}
 use Rattle.config_json.specs.declared.fault.JsonFault.TheVariants as faults
@@ -89,6 +90,7 @@ module _ (names : Recording) (command : Command) (reads : recording_of command �
       go (fold files) is = subst (Q (fold files)) (same_Some files.from names is) (folds files)
       go (check files) is = subst (Q (check files)) (same_Some files.from names is) (checks files)
       go (decode name) is = absurd (none-some names is)
+      go (gen wanted) is = absurd (none-some names is)
       go (migrate files) is = absurd (none-some names is)
 
   pub reads_config : Contains (read_by command) names.config
@@ -235,3 +237,10 @@ module _ (name : List ℕ) (files : Files) where
         → judge (decode name) files ≡ Ok (decode_work messages)
     unfolding Judge.judge
     messages_found messages is = rw (read, is) refl
+
+-- ---- generation
+
+-- options have their work, whatever the files hold
+pub gen_found : (wanted : Wanted) (files : Files) → judge (gen wanted) files ≡ Ok (gen_work wanted)
+unfolding Judge.judge
+gen_found wanted files = refl

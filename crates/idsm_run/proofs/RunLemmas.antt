@@ -1,7 +1,8 @@
 -- How a command ended, how that was told, and what the files deserve.
-use Rattle.std.proofs.Common.{◌≡◌, ℕ, List, Ok, Err, Bor, IsTrue, subst, inl, inr}
+use Rattle.std.proofs.Common.{◌≡◌, ℕ, Bool, true, false, List, Option, None, Some, Ok, Err, Bor, IsTrue, refl, sym, subst, inl, inr}
+use Rattle.idsm_run.specs.Texts.{no_memory_text}
 use Rattle.std.specs.Prelude.{Result, IfOk, IfErr, Vec, ⊤}
-use Rattle.idsm_run.specs.Words.{Global, SameFiles, Shelved, Heard, PutCause, WriteFault, Failed, MemoryRefused, Stop, CannotRead, TooLong, Refused, CannotWrite, NoMemory, Command, EndsWith, EndsOrFails, Work, judge, RanCommand, EndsAs, StopsFor, WasDone, WasRefused, OneFails, Puts, Says, Tells, put_status, plain_stop, plain_end, stop_text, stop_status, answer_text, answer_status}
+use Rattle.idsm_run.specs.Words.{Global, SameFiles, Shelved, Heard, PutCause, WriteFault, Failed, MemoryRefused, Stop, CannotRead, TooLong, Refused, CannotWrite, NoMemory, Command, EndsWith, EndsOrFails, Work, judge, Ran, RanCommand, EndsAs, StopsFor, WasDone, WasRefused, OneFails, Puts, Says, Tells, put_status, plain_stop, plain_end, stop_text, stop_status, answer_text, answer_status}
 
 module _ (command : Command) (status : ℕ) (old new : Shelved) (before after : Heard) where
   -- where there was no memory to tell that the inputs do not serve, memory was wanted
@@ -88,3 +89,20 @@ module _ (command : Command) (status : ℕ) (old new : Shelved) (before after : 
     served_ends (Err (Refused refusal)) work serves ends puts = absurd (cc (ends.judged told, serves))
     served_ends (Err CannotWrite) work serves ends puts = unwritten ends.fails (put_ends 7 _ puts)
     served_ends (Err NoMemory) work serves ends puts = inl (starved 0 (put_ends 8 _ puts))
+
+-- where memory was wanted to read the words
+pub words_starved : (command : Option Command) (by_clap : Bool) (status : ℕ) (old : Shelved) (before after : Heard) → IsTrue by_clap
+    → Puts no_memory_text 8 status before after → Ran command by_clap status old old before after
+words_starved None true status old before after clap puts =
+    record { files = λ name. refl; no_fault = refl; puts = inr puts }
+words_starved None false status old before after clap puts = absurd (cc)
+words_starved (Some command) by_clap status old before after clap puts =
+    record { answer = Err NoMemory; ends = inl (λ told name. refl); puts = puts }
+
+-- what the words ask for ran
+pub asked_ran : (command : Option Command) (by_clap : Bool) (own run : Command) (status : ℕ) (old new : Shelved) (before after : Heard)
+    → Some own ≡ command → own ≡ run → RanCommand run status old new before after
+    → Ran command by_clap status old new before after
+asked_ran command by_clap own run status old new before after asks is ran =
+    subst (λ c. Ran c by_clap status old new before after) asks
+    (subst (λ c. RanCommand c status old new before after) (sym is) ran)

@@ -1,6 +1,8 @@
 -- The commands of the program, as its words give them.
 -- Source: docs/COMMANDS.md.
-use Rattle.std.specs.Prelude.{◌≡◌, ◌≢◌, ℕ, ◌&&◌, ◌==◌, not, bytes_eq, Bool, true, List, [], ◌∷◌, length, Option, Some, None, codes, if◌then◌else◌}
+use Rattle.std.specs.Prelude.{◌≡◌, ◌≢◌, ℕ, ◌&&◌, ◌==◌, not, bytes_eq, Bool, true, false, List, [], ◌∷◌, length, Option, Some, None, codes, if◌then◌else◌}
+use Rattle.gen_options.specs.Given.{Wanted}
+use Rattle.gen_options.specs.Words.{words_give}
 use Rattle.idsm_run.specs.Names.{list_any, Files}
 
 -- the files of a recording: a configuration, and a journal of its events
@@ -29,6 +31,7 @@ pub data Command : Type 0 where
   fold : FoldFiles → Command
   check : CheckFiles → Command
   decode : List ℕ → Command
+  gen : Wanted → Command
   migrate : MigrateFiles → Command
 
 -- a word that may be a name: it is not empty
@@ -65,6 +68,25 @@ abbrev pub decode_of : List (List ℕ) → Option Command
 decode_of (messages ∷ []) = if is_name messages then Some (decode messages) else None
 decode_of names = None
 
+-- generation into these files, if they are names of different files
+abbrev pub gen_into : Wanted → Option Command
+gen_into wanted =
+    if are_names (wanted.config ∷ wanted.trace ∷ wanted.journal ∷ []) then Some (gen wanted) else None
+
+-- generation, where something is wanted
+abbrev pub gen_for : Option Wanted → Option Command
+gen_for None = None
+gen_for (Some wanted) = gen_into wanted
+
+-- the command of words of which `gen` is the first: clap reads them
+abbrev pub gen_of : List (List ℕ) → Option Command
+gen_of words = gen_for (words_give words)
+
+-- clap reads the words, for which it takes memory
+abbrev pub are_read_by_clap : List (List ℕ) → Bool
+are_read_by_clap [] = false
+are_read_by_clap (word ∷ names) = bytes_eq word (codes "gen")
+
 -- the command of the words behind `migrate`: the names of a configuration and of a new file
 abbrev pub migrate_of : List (List ℕ) → Option Command
 migrate_of (config ∷ target ∷ []) =
@@ -78,6 +100,7 @@ command_of (word ∷ names) =
     if bytes_eq word (codes "fold") then fold_of names
     else if bytes_eq word (codes "check") then check_of names
     else if bytes_eq word (codes "decode") then decode_of names
+    else if bytes_eq word (codes "gen") then gen_of (word ∷ names)
     else if bytes_eq word (codes "migrate") then migrate_of names
     else None
 
@@ -86,6 +109,7 @@ abbrev pub read_by : Command → List (List ℕ)
 read_by (fold files) = files.from.config ∷ files.from.journal ∷ []
 read_by (check files) = files.from.config ∷ files.from.journal ∷ files.messages ∷ []
 read_by (decode messages) = messages ∷ []
+read_by (gen wanted) = []
 read_by (migrate files) = files.config ∷ []
 
 -- the recording that the command reads before all else, where it reads one
@@ -99,6 +123,7 @@ abbrev pub written_by : Command → List (List ℕ)
 written_by (fold files) = files.messages ∷ files.memory ∷ []
 written_by (check files) = []
 written_by (decode messages) = []
+written_by (gen wanted) = wanted.config ∷ wanted.trace ∷ wanted.journal ∷ []
 written_by (migrate files) = files.target ∷ []
 
 -- the name is none of these

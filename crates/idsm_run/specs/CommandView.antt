@@ -1,11 +1,14 @@
 -- A command as the program holds it, with its names lent from the words.
+use Rattle.std.specs.Prelude.{◌≢◌, IsTrue, ⊤}
+use Rattle.gen_options.specs.Given.{given_of}
+use Rattle.gen_options.specs.Ranges.{is_in_range}
 use Rattle.idsm_run.specs.declared.command.FoldNames.{FoldNames}
 use Rattle.idsm_run.specs.declared.command.CheckNames.{CheckNames}
 use Rattle.idsm_run.specs.declared.command.RecordingNames.{RecordingNames}
 use Rattle.idsm_run.specs.declared.command.MigrateNames.{MigrateNames}
 use Rattle.idsm_run.specs.declared.command.Request.{Request}
-use Rattle.idsm_run.specs.declared.command.Request.TheVariants.{Fold, Check, Decode, Migrate}
-use Rattle.idsm_run.specs.Command.{Recording, FoldFiles, CheckFiles, MigrateFiles, Command, fold, check, decode, migrate}
+use Rattle.idsm_run.specs.declared.command.Request.TheVariants.{Fold, Check, Decode, Gen, Migrate}
+use Rattle.idsm_run.specs.Command.{Recording, FoldFiles, CheckFiles, MigrateFiles, Command, fold, check, decode, gen, migrate}
 
 -- the names of a recording as bytes
 abbrev pub recording : RecordingNames → Recording
@@ -32,4 +35,16 @@ abbrev pub asked : Request → Command
 asked (Fold names) = fold (files_of names)
 asked (Check names) = check (three_of names)
 asked (Decode messages) = decode messages.now
+asked (Gen given) = gen (given_of given)
 asked (Migrate names) = migrate (pair_of names)
+
+-- what is asked for can be done: names that have to differ do, and options are in their ranges
+abbrev pub CanRun : Request → Type 0
+CanRun (Fold names) = (names.from.config.now ≢ names.from.journal.now) × (names.messages.now ≢ names.memory.now)
+CanRun (Check names) =
+    (names.from.config.now ≢ names.from.journal.now) × (names.from.config.now ≢ names.messages.now)
+    × (names.from.journal.now ≢ names.messages.now)
+CanRun (Gen given) =
+    IsTrue (is_in_range given.options) × (given.config.now ≢ given.trace.now)
+    × (given.config.now ≢ given.journal.now) × (given.trace.now ≢ given.journal.now)
+CanRun other = ⊤

@@ -4,7 +4,9 @@
 use Rattle.std.specs.Prelude.{ℕ, nat_eq, List, [], ◌∷◌, codes, length, nat_lt, Option, Some, None, Result, Ok, Err, if◌then◌else◌, bytes_eq}
 use Rattle.std.specs.List.{common_prefix_len}
 use Rattle.idsm_run.specs.Names.{configuration, config_text, Parts, ConfigFault, MessageParts, messages_read, BadMessage, Files, Turn, decoded_text, messages_of, rows_of, memory_text, BadLine, Told, BadConfig, BadJournal, BadMessages, Differ, Stop, CannotRead, TooLong, Refused}
-use Rattle.idsm_run.specs.Command.{Command, fold, check, decode, migrate, Recording, FoldFiles, MigrateFiles}
+use Rattle.gen_options.specs.Given.{Wanted}
+use Rattle.trace_gen.specs.Generated.{config_for, trace_for, journal_for, line_for}
+use Rattle.idsm_run.specs.Command.{Command, fold, check, decode, gen, migrate, Recording, FoldFiles, MigrateFiles}
 use Rattle.idsm_run.specs.Fold.{fold_outputs, fold_text}
 use Rattle.idsm_run.specs.FoldedJournal.{folded_in, ◌>>=◌}
 use Rattle.idsm_run.specs.Writing.{Output}
@@ -84,6 +86,16 @@ check_judged bytes sent =
 abbrev pub decode_work : List MessageParts → Work
 decode_work messages = record { outputs = []; said = decoded_text messages }
 
+-- the three files that options give, and the line that tells of them
+abbrev pub gen_work : Wanted → Work
+gen_work wanted = record {
+  outputs =
+      record { name = wanted.config; bytes = config_for wanted.options }
+      ∷ record { name = wanted.trace; bytes = trace_for wanted.options }
+      ∷ record { name = wanted.journal; bytes = journal_for wanted.options } ∷ [];
+  said = line_for wanted.options;
+}
+
 -- the configuration's text in the second form, by one file, and the line that says so
 abbrev pub migrate_work : MigrateFiles → Parts → Work
 migrate_work names config = record {
@@ -105,6 +117,7 @@ judge (decode name) files = do
   bytes ← file_of 67108864 name files
   messages ← messages_judged (messages_read bytes)
   Ok (decode_work messages)
+judge (gen wanted) files = Ok (gen_work wanted)
 judge (migrate names) files = do
   text ← file_of 1048576 names.config files
   config ← config_found (configuration text)

@@ -1,11 +1,11 @@
 -- What a run does, by cases on its command: it did its command's work, or stopped, each with its status
 -- and its text.
 -- Source: docs/COMMANDS.md.
-use Rattle.std.specs.Prelude.{◌≡◌, ◌⊎◌, ℕ, List, [], IsTrue, Option, Some, None, option_map, Result, Ok, Err, Contains}
+use Rattle.std.specs.Prelude.{◌≡◌, ◌⊎◌, ℕ, Bool, true, false, List, [], IsTrue, Option, Some, None, option_map, Result, Ok, Err, Contains}
 use Rattle.idsm_run.specs.Names.{configuration, Faults, Rose, CountsFault, Files, SameFiles, Shelved, Heard, Read, WriteFault, Failed, Refusal, BadConfig, BadMessages, Differ, Stop, CannotRead, TooLong, Refused, CannotWrite, NoMemory}
-use Rattle.idsm_run.specs.Command.{Command, fold, check, decode, migrate, read_by, written_by}
+use Rattle.idsm_run.specs.Command.{Command, fold, check, decode, gen, migrate, read_by, written_by}
 use Rattle.idsm_run.specs.Judge.{Work, judge, without}
-use Rattle.idsm_run.specs.Saying.{Puts}
+use Rattle.idsm_run.specs.Saying.{Puts, Says}
 use Rattle.idsm_run.specs.Texts.{usage, answer_text, answer_status}
 use Rattle.idsm_run.specs.Writing.{AreWritten, StandUpTo, WriteFails}
 
@@ -20,6 +20,7 @@ MayRefuse (check files) (BadMessages bad) = ⊥
 MayRefuse (check files) refusal = Unit {0}
 MayRefuse (decode name) (BadMessages bad) = Unit {0}
 MayRefuse (decode name) refusal = ⊥
+MayRefuse (gen wanted) refusal = ⊥
 MayRefuse (migrate files) (BadConfig fault) = Unit {0}
 MayRefuse (migrate files) refusal = ⊥
 
@@ -110,16 +111,21 @@ pub record RanCommand (command : Command) (status : ℕ) (old new : Shelved) (be
   pub ends : EndsAs command answer old new
   pub puts : Puts (answer_text answer) (answer_status answer) status before after
 
--- the words are no command: the usage was put or not, and the shelf was not touched
-pub record Misused (status : ℕ) (old new : Shelved) (before after : Heard) : Type 0 where
+-- the usage was put or not; where clap read the words, it may have wanted memory
+abbrev pub SaysUsage : Bool → ℕ → Heard → Heard → Type 0
+SaysUsage true status before after = Says usage 2 status before after
+SaysUsage false status before after = Puts usage 2 status before after
+
+-- the words are no command: the usage was put, and the shelf was not touched
+pub record Misused (by_clap : Bool) (status : ℕ) (old new : Shelved) (before after : Heard) : Type 0 where
   pub files : SameFiles old.files new.files
   pub no_fault : new.faults ≡ old.faults
-  pub puts : Puts usage 2 status before after
+  pub puts : SaysUsage by_clap status before after
 
 -- what a run does, where the words give this command or none
-abbrev pub Ran : Option Command → ℕ → Shelved → Shelved → Heard → Heard → Type 0
-Ran None status old new before after = Misused status old new before after
-Ran (Some command) status old new before after = RanCommand command status old new before after
+abbrev pub Ran : Option Command → Bool → ℕ → Shelved → Shelved → Heard → Heard → Type 0
+Ran None by_clap status old new before after = Misused by_clap status old new before after
+Ran (Some command) by_clap status old new before after = RanCommand command status old new before after
 
 -- the files that the words let change
 abbrev pub written_of : Option Command → List (List ℕ)

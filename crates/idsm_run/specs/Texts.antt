@@ -11,7 +11,9 @@ use Rattle.ids_frame.specs.declared.fault.FrameFault.TheVariants.{Short, Unknown
 abbrev pub usage : List ℕ
 usage =
     codes "usage: idsm fold CONFIG JOURNAL MESSAGES MEMORY\n" ++ codes "       idsm check CONFIG JOURNAL MESSAGES\n"
-    ++ codes "       idsm decode MESSAGES\n" ++ codes "       idsm migrate CONFIG NEW\n"
+    ++ codes "       idsm decode MESSAGES\n"
+    ++ codes "       idsm gen [--start N] [--callers N] [--rounds N] [--events N] CONFIG TRACE JOURNAL\n"
+    ++ codes "       idsm migrate CONFIG NEW\n"
 
 -- ---- the texts of refusals
 

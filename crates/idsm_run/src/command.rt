@@ -1,7 +1,13 @@
 //! The words behind the program's name.
 
-ghost use Rattle.std.specs.Prelude.{◌≡◌, ◌&&◌, not, map, option_map, string_bytes, bytes_eq};
-ghost use Rattle.idsm_run.specs.Words.{list_any, command_of, fold_of, check_of, decode_of, migrate_of, is_name, are_names, asked};
+ghost use Rattle.std.specs.Prelude.{◌≡◌, ◌&&◌, not, map, option_map, string_bytes, bytes_eq, IfOk, IfSome, OnErr, IsTrue};
+ghost use Rattle.gen_options.specs.Given.{given_of};
+ghost use Rattle.gen_options.specs.Ranges.{is_in_range};
+ghost use Rattle.idsm_run.specs.Words.{list_any, command_of, fold_of, check_of, decode_of, gen_of, gen_into, are_read_by_clap, migrate_of, is_name, are_names, asked, CanRun};
+
+use gen_options::Given;
+use ids_types::NoMemory;
+use std::alloc::Global;
 
 /// The files of a recording.
 #[derive(Clone, Copy, Debug)]
@@ -39,25 +45,64 @@ pub(crate) enum Request<'a> {
     Check(CheckNames<'a>),
     /// Prints the messages of a file.
     Decode(&'a str),
+    /// Generates a recording. The options are in their ranges.
+    Gen(Given<'a>),
     Migrate(MigrateNames<'a>),
 }
 
-/// The command that the words ask for, `None` where they are not in form.
-pub(crate) fn parse(words: &[String]) -> Option<Request<'_>>
-    ensures { option_map asked result ≡ command_of (map string_bytes words.now) }
+/// The command that the words ask for, `None` where they are not in form. Only the words of `gen` take
+/// memory.
+pub(crate) fn parse(alloc: Global, words: &[String]) -> Result<Option<Request<'_>>, NoMemory>
+    ensures asked { IfOk result (λ request. option_map asked request ≡ command_of (map string_bytes words.now)) }
+    ensures can { IfOk result (λ request. IfSome request CanRun) }
+    ensures memory { OnErr result (IsTrue (are_read_by_clap (map string_bytes words.now))) }
 {
-    let (word, names) = words.split_first()?;
+    let Some((word, names)) = words.split_first() else {
+        return Ok(None);
+    };
     match word.as_str() {
-        "fold" => parse_fold(names),
-        "check" => parse_check(names),
-        "decode" => parse_decode(names),
-        "migrate" => parse_migrate(names),
-        _ => None,
+        "fold" => Ok(parse_fold(names)),
+        "check" => Ok(parse_check(names)),
+        "decode" => Ok(parse_decode(names)),
+        "gen" => parse_gen(alloc, words),
+        "migrate" => Ok(parse_migrate(names)),
+        _ => Ok(None),
+    }
+}
+
+fn parse_gen(alloc: Global, words: &[String]) -> Result<Option<Request<'_>>, NoMemory>
+    ensures asked { IfOk result (λ request. option_map asked request ≡ gen_of (map string_bytes words.now)) }
+    ensures can { IfOk result (λ request. IfSome request CanRun) }
+{
+    match gen_options::read(alloc, words)? {
+        Some(given) => Ok(into_files(given)),
+        None => Ok(None),
+    }
+}
+
+/// The generation, if its files are not empty names that differ.
+fn into_files(given: Given<'_>) -> Option<Request<'_>>
+    requires { IsTrue (is_in_range given.options) }
+    ensures asked { option_map asked result ≡ gen_into (given_of given.entry) }
+    ensures can { IfSome result CanRun }
+{
+    let Given {
+        config,
+        trace,
+        journal,
+        ..
+    } = given;
+    let are_names = !config.is_empty() && !trace.is_empty() && !journal.is_empty();
+    if are_names && config != trace && config != journal && trace != journal {
+        Some(Request::Gen(given))
+    } else {
+        None
     }
 }
 
 fn parse_decode(words: &[String]) -> Option<Request<'_>>
-    ensures { option_map asked result ≡ decode_of (map string_bytes words.now) }
+    ensures asked { option_map asked result ≡ decode_of (map string_bytes words.now) }
+    ensures can { IfSome result CanRun }
 {
     let [messages] = words else {
         return None;
@@ -69,7 +114,8 @@ fn parse_decode(words: &[String]) -> Option<Request<'_>>
 }
 
 fn parse_fold(words: &[String]) -> Option<Request<'_>>
-    ensures { option_map asked result ≡ fold_of (map string_bytes words.now) }
+    ensures asked { option_map asked result ≡ fold_of (map string_bytes words.now) }
+    ensures can { IfSome result CanRun }
 {
     let [config, journal, messages, memory] = words else {
         return None;
@@ -88,7 +134,8 @@ fn parse_fold(words: &[String]) -> Option<Request<'_>>
 }
 
 fn parse_check(words: &[String]) -> Option<Request<'_>>
-    ensures { option_map asked result ≡ check_of (map string_bytes words.now) }
+    ensures asked { option_map asked result ≡ check_of (map string_bytes words.now) }
+    ensures can { IfSome result CanRun }
 {
     let [config, journal, messages] = words else {
         return None;
@@ -106,7 +153,8 @@ fn parse_check(words: &[String]) -> Option<Request<'_>>
 }
 
 fn parse_migrate(words: &[String]) -> Option<Request<'_>>
-    ensures { option_map asked result ≡ migrate_of (map string_bytes words.now) }
+    ensures asked { option_map asked result ≡ migrate_of (map string_bytes words.now) }
+    ensures can { IfSome result CanRun }
 {
     let [config, target] = words else {
         return None;

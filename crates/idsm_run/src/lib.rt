@@ -1,8 +1,8 @@
 //! The runs of the program: a command from its words over files and output, to its status.
 //!
-//! Layer 10, runs. Over `chain_plain`, `journal`, `text_spec`, `config_json`, `ids_frame` and
+//! Layer 10, runs. Over `chain_plain`, `trace_gen`, `gen_options`, `journal`, `text_spec`, `config_json`, `ids_frame` and
 //! `ids_outside`; the program `idsm` calls it with the host's files. The commands are `fold`, `check`,
-//! `decode` and `migrate`.
+//! `decode`, `gen` and `migrate`.
 //! Contracts see a shelf by what it tells: `specs/Judge.antt` says what the input files of a command
 //! deserve, `specs/Run.antt` how a run ends, and `run_plain` promises it. That memory suffices is not
 //! promised: `NO_MEMORY` is the one status without a cause.
@@ -12,6 +12,7 @@ mod check;
 mod command;
 mod decode;
 mod fold;
+mod generating;
 mod inputs;
 mod journals;
 mod migrate;

@@ -1,0 +1,10 @@
+use Rattle.std.proofs.Common.{rules, refl, arith}
+use Rattle.gen_options.specs.Given.{given_of}
+use Rattle.idsm_run.specs.Words.{gen}
+use Rattle.idsm_run.proofs.WorkLemmas.{fails_so}
+use Rattle.idsm_run.proofs.generating.write_outputs.Goals as goal
+
+pub returns-clause-fails : goal.returns-clause-fails
+returns-clause-fails g c =
+    fails_so (gen (given_of c.args.given)) c.args.given.journal.now _ _ _ _ (2, omega arith, refl)
+    (search rules) c.write_file-3.ensures.fails
