@@ -11,4 +11,3 @@ load-requires g c =
       omega (arith, ring.words_are, mine.next_is, ring.positions_are, ring.sizes.some_position),
       see_ready _ _ _ _ _ _ _ mine.keeping.keeps _ (ring.slots_are ∙ sym ring.positions_are) (ap (λ (p : ℕ). p + 3) next),
     )
-
