@@ -169,7 +169,7 @@ impl Trace {
         ensures tick { result ≡ last_tick self.now.rounds }
         ensures ticks { AreTicks self.now.rounds }
     {
-        last_of(&self.ends).after
+        last_after(&self.ends)
     }
 
     /// Ends the last round at a later tick.
@@ -215,6 +215,17 @@ fn lines_before(ends: &[RoundEnd], round: usize, caller: usize) -> u64
         return 0;
     }
     u64::from(ends[round - 1].lines[caller])
+}
+
+/// The tick after the last round's calls, 0 where there is none.
+#[tactic(auto, using(crate::proofs::EndsLemmas::last_end_at))]
+fn last_after(ends: &[RoundEnd]) -> u64
+    ensures { result ≡ (last_end at_start ends.now).after }
+{
+    if ends.is_empty() {
+        return 0;
+    }
+    ends[ends.len() - 1].after
 }
 
 /// Where the last round ends.
