@@ -67,6 +67,7 @@ fn report_all(shared: &Shared, pass: &mut Pass, answers: &Answers)
 {
     for call in 0..REPORTS {
         answers.add(&report(shared, pass, call));
+        thread::yield_now();
     }
 }
 
