@@ -22,7 +22,7 @@ returns-clause-config c = c.in_ok-print.ensures.text ∙ ap config_text c.in_ok-
 
 pub returns-clause-trace : goal.returns-clause-trace
 unfolding trace_for
-returns-clause-trace c = c.in_ok-print-2.ensures ∙ ap (λ (t : Traced). trace_text t.rounds) c.in_ok-trace.ensures
+returns-clause-trace c = c.in_ok-print-2.ensures.text ∙ ap (λ (t : Traced). trace_text t.rounds) c.in_ok-trace.ensures
 
 pub returns-clause-journal : goal.returns-clause-journal
 unfolding journal_for
