@@ -19,6 +19,8 @@ mod filtering;
 #[cfg(test)]
 mod folding;
 #[cfg(test)]
+mod generating;
+#[cfg(test)]
 mod given;
 #[cfg(test)]
 mod migrating;

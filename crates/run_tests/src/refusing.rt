@@ -28,7 +28,7 @@ decode ";
 
 /// The usage, and no file.
 const USAGE: &[u8] =
-    b"2 | usage: idsm fold CONFIG JOURNAL MESSAGES MEMORY/       idsm check CONFIG JOURNAL MESSAGES/       idsm decode MESSAGES/       idsm migrate CONFIG NEW/ | - | -";
+    b"2 | usage: idsm fold CONFIG JOURNAL MESSAGES MEMORY/       idsm check CONFIG JOURNAL MESSAGES/       idsm decode MESSAGES/       idsm gen [--start N] [--callers N] [--rounds N] [--events N] CONFIG TRACE JOURNAL/       idsm migrate CONFIG NEW/ | - | -";
 
 #[test]
 fn words_that_are_no_command_end_with_the_usage(rt: HostRuntime) -> Result<(), Fail> {
