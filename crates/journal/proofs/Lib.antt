@@ -1,5 +1,3 @@
 pub mod FormLemmas
-pub mod PairsLemmas
-pub mod Passing
 pub mod PrintingLemmas
 pub mod ReadingLemmas

@@ -7,7 +7,6 @@
 //! No clause says that memory suffices: an answer `NoMemory` is always true.
 #![tactic(auto)]
 
-mod fault;
 mod form;
 mod line;
 mod pairs;
@@ -18,6 +17,6 @@ mod reading;
 mod room;
 mod taking;
 
-pub use fault::JournalFault;
 pub use printing::print;
 pub use reading::{Journal, read};
+pub use text_spec::TextFault as JournalFault;

@@ -20,7 +20,9 @@ const MAX_ENTRIES: u64 = 1024;
 
 /// What the lines read so far tell, and what the next line has to observe.
 #[derive(Debug, Drop)]
-pub(crate) struct Reader {
+pub(crate) struct Reader<'a> {
+    alloc: Global,
+    pub(crate) config: &'a Config,
     pub(crate) history: History,
     pub(crate) losses: Vec<Loss>,
     /// The tick of the last turn, and how many entries it has.
@@ -38,7 +40,7 @@ pub(crate) struct Reader {
         set_contains nat_cmp pairs p ≡ has_pair history.turns p },
 }
 
-impl Reader {
+impl<'a> Reader<'a> {
     ghost use Rattle.std.specs.Prelude.{◌≡◌, ◌<◌, ◌≤◌, length, IfOk, OnOk};
     ghost use Rattle.text_spec.specs.JournalFaults.{start, head_fault, entry_fault, loss_fault};
     ghost use Rattle.text_spec.specs.JournalReading.{journal_grammar};
@@ -49,10 +51,13 @@ impl Reader {
     ghost use Rattle.journal.specs.Answers.{added};
     ghost use Rattle.journal.specs.ReaderView.{past_of, Knows};
 
-    pub(crate) fn new(alloc: Global) -> Result<Reader, NoMemory>
-        ensures { IfOk result (λ r. past_of r ≡ start) }
+    pub(crate) fn new(alloc: Global, config: &'a Config) -> Result<Reader<'a>, NoMemory>
+        ensures past { IfOk result (λ r. past_of r ≡ start) }
+        ensures config { IfOk result (λ r. r.config.now ≡ config.now) }
     {
         Ok(Reader {
+            alloc,
+            config,
             history: History::make(alloc, 0, 0, 0)?,
             losses: Vec::new(alloc),
             tick: 0,
@@ -65,26 +70,24 @@ impl Reader {
     }
 
     /// Takes a line, or tells its first fault.
-    pub(crate) fn line(
-        &mut self,
-        alloc: Global,
-        config: &Config,
-        line: &[u8],
-    ) -> Result<(), LineFault>
-        ensures { Took (past_of self.new) (after_line (journal_grammar config.now) (past_of self.old) line.now) result }
+    pub(crate) fn take(&mut self, line: &[u8]) -> Result<(), LineFault>
+        ensures took { Took (past_of self.new)
+            (after_line (journal_grammar self.old.config.now) (past_of self.old) line.now) result }
+        ensures config { self.new.config.now ≡ self.old.config.now }
     {
         match line_of(Pieces::of(line, b' ')) {
             None => Err(LineFault::Fault(1)),
             Some(RawLine::Turn(head)) => self.begin(&head),
-            Some(RawLine::Entry(entry)) => self.enter(config, &entry),
-            Some(RawLine::Loss(loss)) => self.lose(alloc, &loss),
+            Some(RawLine::Entry(entry)) => self.enter(&entry),
+            Some(RawLine::Loss(loss)) => self.lose(&loss),
         }
     }
 
     /// Begins a turn.
     fn begin(&mut self, head: &TurnHead) -> Result<(), LineFault>
-        ensures { let past = past_of self.old in
+        ensures took { let past = past_of self.old in
             Took (past_of self.new) (added past (begins head.now) (head_fault past head.now)) result }
+        ensures config { self.new.config.now ≡ self.old.config.now }
     {
         self.check_head(head)?;
         turn_room(&mut self.history)?;
@@ -103,12 +106,13 @@ impl Reader {
     }
 
     /// Takes a report or a control.
-    fn enter(&mut self, config: &Config, entry: &RawEntry<'_>) -> Result<(), LineFault>
-        ensures { let past = past_of self.old in
+    fn enter(&mut self, entry: &RawEntry<'_>) -> Result<(), LineFault>
+        ensures took { let past = past_of self.old in
             Took (past_of self.new) (added past (enters (entry_told entry.now))
-            (entry_fault config.now past (entry_told entry.now))) result }
+            (entry_fault self.old.config.now past (entry_told entry.now))) result }
+        ensures config { self.new.config.now ≡ self.old.config.now }
     {
-        self.check_entry(config, entry)?;
+        self.check_entry(entry)?;
         let len = decode_context(&entry.act, &mut self.room);
         entry_room(&mut self.history, len as u64)?;
         let entry = entry_of(entry, &self.room[..len]);
@@ -118,25 +122,27 @@ impl Reader {
         Ok(())
     }
 
-    fn check_entry(&self, config: &Config, entry: &RawEntry<'_>) -> Result<(), u8>
-        ensures fault { result ≡ entry_fault config.now (past_of self.now) (entry_told entry.now) }
-        ensures few { OnOk result (length config.now.events ≤ 256) }
+    fn check_entry(&self, entry: &RawEntry<'_>) -> Result<(), u8>
+        ensures fault { result ≡
+            entry_fault self.now.config.now (past_of self.now) (entry_told entry.now) }
+        ensures few { OnOk result (length self.now.config.now.events ≤ 256) }
     {
         asks(2, self.history.turns() > 0 && self.losses.is_empty())?;
         asks(3, is_call(entry.caller, entry.call) && is_act(&entry.act))?;
-        asks(4, has_event(config, &entry.act))?;
+        asks(4, has_event(self.config, &entry.act))?;
         asks(6, self.calls[entry.caller as usize] <= entry.call)?;
         asks(7, self.entries < MAX_ENTRIES)
     }
 
     /// Takes a loss.
-    fn lose(&mut self, alloc: Global, loss: &RawLoss) -> Result<(), LineFault>
-        ensures { let past = past_of self.old in
+    fn lose(&mut self, loss: &RawLoss) -> Result<(), LineFault>
+        ensures took { let past = past_of self.old in
             Took (past_of self.new)
             (added past (loses (loss_told loss.now)) (loss_fault past (loss_told loss.now))) result }
+        ensures config { self.new.config.now ≡ self.old.config.now }
     {
         asks(3, is_call(loss.caller, loss.call) && is_claim(loss.given))?;
-        self.learn_pairs(alloc)?;
+        self.learn_pairs()?;
         let pair = loss.caller * CALLS + loss.call;
         asks(6, self.pair <= pair && is_free(&self.pairs, pair))?;
         self.losses.push(Loss {
@@ -149,12 +155,13 @@ impl Reader {
     }
 
     /// Knows the pairs of entries from the first loss on.
-    fn learn_pairs(&mut self, alloc: Global) -> Result<(), NoMemory>
+    fn learn_pairs(&mut self) -> Result<(), NoMemory>
+        ensures config { self.new.config.now ≡ self.old.config.now }
         ensures same { OnOk result (past_of self.new ≡ past_of self.old) }
         ensures knows { OnOk result (Knows self.new) }
     {
         if self.losses.is_empty() {
-            self.pairs = pairs_of(alloc, &self.history)?;
+            self.pairs = pairs_of(self.alloc, &self.history)?;
         }
         Ok(())
     }

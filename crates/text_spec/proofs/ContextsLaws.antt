@@ -142,13 +142,13 @@ kept_cut (class ∷ claim ∷ hex ∷ other ∷ pieces) is = absurd is.1.1.1
 -- ---- the numbers of a missing context
 
 -- the pieces are these numbers, at most so many
-record AreNumbers (most : ℕ) (pieces : List (List ℕ)) (numbers : List ℕ) : Type 0 where
-  written : AllByRecursion a_number.Writes pieces
-  few : length pieces ≤ most
-  as_many : length numbers ≡ length pieces
-  takes : AllByRecursion a_number.Exact numbers → pieces ≡ map decimal numbers
+pub record AreNumbers (most : ℕ) (pieces : List (List ℕ)) (numbers : List ℕ) : Type 0 where
+  pub written : AllByRecursion a_number.Writes pieces
+  pub few : length pieces ≤ most
+  pub as_many : length numbers ≡ length pieces
+  pub takes : AllByRecursion a_number.Exact numbers → pieces ≡ map decimal numbers
 
-numbers_take : (most : ℕ) (pieces : List (List ℕ)) (numbers : List ℕ) → numbers_in most pieces ≡ Some numbers → AreNumbers most pieces numbers
+pub numbers_take : (most : ℕ) (pieces : List (List ℕ)) (numbers : List ℕ) → numbers_in most pieces ≡ Some numbers → AreNumbers most pieces numbers
 numbers_take most [] numbers read =
     subst (AreNumbers most []) (same_Some [] numbers read) (record { written = tt; few = omega arith; as_many = refl; takes = λ exact. refl })
 numbers_take zero (piece ∷ pieces) numbers read = absurd (none-some numbers read)

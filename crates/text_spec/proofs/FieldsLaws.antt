@@ -1,6 +1,6 @@
 -- Lists of fields: their reading against their words, both ways, for any fields that keep the laws.
-use Rattle.std.specs.Prelude.{◌≡◌, ◌==◌, ◌∷◌}
-use Rattle.text_spec.proofs.Names.{ℕ, not, Bool, true, List, [], refl, sym, ap, subst, ◌∙◌, arith, inl, inr, Option, Some, None, option_map, nat_lt, list_all, none-some, Field, Filled, simple, put, the, words_of_fields, AreHeld, AreExact, AreWritten, HasForm, Makes, first_as, read_by, Form, told_in, told_in_one, ◌>>=◌, or_else, space, line_feed, words_of, line_of}
+use Rattle.std.specs.Prelude.{◌≡◌, ◌<◌, ◌==◌, ◌∷◌}
+use Rattle.text_spec.proofs.Names.{ℕ, not, Bool, true, List, [], length, refl, sym, ap, subst, ◌∙◌, arith, inl, inr, Option, Some, None, option_map, nat_lt, list_all, none-some, Field, Filled, simple, put, the, words_of_fields, AreHeld, AreExact, AreWritten, HasForm, Makes, first_as, read_by, Form, told_in, told_in_one, ◌>>=◌, or_else, space, line_feed, words_of, line_of}
 use Rattle.text_spec.proofs.FrontLemmas.{bind_again}
 use Rattle.text_spec.proofs.WordsLemmas.{Pass, all_pass, weaker, split_joined, join_passes}
 
@@ -85,6 +85,11 @@ pub record Reads {A : Type 0} (fields : List Field) (makes : Makes fields A) (wo
   pub held : AreHeld (fill fields values)
   pub are : AreExact (fill fields values) → words ≡ words_of_fields (fill fields values)
 
+-- the words are those of these fields, where the values are told as they are
+pub record IsShown (words : List (List ℕ)) (fields : List Filled) : Type 0 where
+  pub held : AreHeld fields
+  pub are : AreExact fields → words ≡ words_of_fields fields
+
 -- what holds of words by what they are read as
 abbrev pub AreReading : {A : Type 0} → (fields : List Field) → Makes fields A → List (List ℕ) → Option A → Type 0
 AreReading fields makes words None = AreWritten fields words → ⊥
@@ -148,17 +153,15 @@ pub first_form : {A : Type 0} (form : Form A) (values : Values form.fields) (oth
 first_form form values others laws held exact =
     ap (λ o. or_else o others) (fields_again (the form.letter ∷ form.fields) (λ _. form.makes) (tt, values) laws (tt, held) (tt, exact))
 
--- values of fields have words that pass
-filled_pass : (fields : List Field) (values : Values fields) → AreLawful fields → AreHeld (fill fields values) → AreExact (fill fields values) → Pass in_word (words_of_fields (fill fields values))
-filled_pass [] values laws held exact = tt
-filled_pass (field ∷ fields) values laws held exact =
-    (laws.0.passes (field.word values.0) (word_written field values.0 laws.0 held.0 exact.0), filled_pass fields values.1 laws.1 held.1 exact.1)
+-- the fields of some with their values
+abbrev pub kinds : List Filled → List Field
+kinds [] = []
+kinds (one ∷ more) = one.field ∷ kinds more
 
--- the words of a form and its values
-pub form_pass : {A : Type 0} (form : Form A) (values : Values form.fields) → AreLawful (the form.letter ∷ form.fields)
-    → AreHeld (fill (the form.letter ∷ form.fields) (tt, values)) → AreExact (fill (the form.letter ∷ form.fields) (tt, values))
-    → Pass in_word (form.letter ∷ words_of_fields (fill form.fields values))
-form_pass form values laws held exact = filled_pass (the form.letter ∷ form.fields) (tt, values) laws held exact
+-- values that there are and that are told as they are have words that pass
+pub filled_pass : (fields : List Filled) → AreLawful (kinds fields) → AreHeld fields → AreExact fields → Pass in_word (words_of_fields fields)
+filled_pass [] laws held exact = tt
+filled_pass (one ∷ more) laws held exact = (laws.0.passes _ (word_written one.field one.value laws.0 held.0 exact.0), filled_pass more laws.1 held.1 exact.1)
 
 -- ---- the line of some words
 
@@ -167,8 +170,9 @@ abbrev pub in_line : ℕ → Bool
 in_line b = not (b == line_feed)
 
 -- words are cut again
-pub words_again : (word : List ℕ) (words : List (List ℕ)) → Pass in_word (word ∷ words) → words_of (line_of (word ∷ words)) ≡ word ∷ words
-words_again word words pass = split_joined in_word space word words refl pass
+pub words_again : (words : List (List ℕ)) → 0 < length words → Pass in_word words → words_of (line_of words) ≡ words
+words_again [] some pass = absurd (omega arith)
+words_again (word ∷ words) some pass = split_joined in_word space word words refl pass
 
 -- their line has no line feed
 pub line_free : (words : List (List ℕ)) → Pass in_word words → list_all in_line (line_of words) ≡ true
@@ -187,35 +191,21 @@ module _ {A : Type 0} (shows : A → List Filled) where
   AreForms [] = Unit {1}
   AreForms (form ∷ forms) = IsForm form × AreForms forms
 
-  -- the words have a form, and are those of a line that tells these fields
-  pub record Tells (forms : List (Form A)) (words : List (List ℕ)) (fields : List Filled) : Type 0 where
-    pub written : HasForm forms words
-    pub held : AreHeld fields
-    pub are : AreExact fields → words ≡ words_of_fields fields
-
   -- what holds of words by what they tell in one of some forms
   abbrev pub IsTold : List (Form A) → List (List ℕ) → Option A → Type 0
   IsTold forms words None = HasForm forms words → ⊥
-  IsTold forms words (Some a) = Tells forms words (shows a)
+  IsTold forms words (Some a) = HasForm forms words × IsShown words (shows a)
 
   -- what one form tells, or else what the others tell
   told_or : (form : Form A) (forms : List (Form A)) (words : List (List ℕ)) (one other : Option A) → IsForm form
       → AreReading (the form.letter ∷ form.fields) (λ _. form.makes) words one → IsTold forms words other → IsTold (form ∷ forms) words (or_else one other)
   told_or form forms words None None is none nor = λ written. elim written [ inl here ↦ none here | inr later ↦ nor later ]
-  told_or form forms words None (Some a) is none later = record { written = inr later.written; held = later.held; are = later.are }
+  told_or form forms words None (Some a) is none later = (inr later.0, later.1)
   told_or form forms words (Some a) other is here later =
-      subst (Tells (form ∷ forms) words) (sym (ap shows (sym here.made) ∙ is.is here.values.1)) (record { written = inl here.written; held = here.held; are = here.are })
+      (inl here.written, subst (IsShown words) (sym (ap shows (sym here.made) ∙ is.is here.values.1)) (record { held = here.held; are = here.are }))
 
   -- words tell something exactly where they have one of the forms
   pub forms_are : (forms : List (Form A)) (words : List (List ℕ)) → AreForms forms → IsTold forms words (told_in_one forms words)
   forms_are [] words are = λ written. written
   forms_are (form ∷ forms) words are =
       told_or form forms words (told_in form words) (told_in_one forms words) are.0 (fields_are _ (the form.letter ∷ form.fields) (λ _. form.makes) words are.0.laws) (forms_are forms words are.1)
-
-  -- the words of a form have only bytes that words have
-  pub forms_pass : (forms : List (Form A)) (words : List (List ℕ)) → AreForms forms → HasForm forms words → Pass in_word words
-  forms_pass [] words are written = absurd written
-  forms_pass (form ∷ forms) words are written = elim written [
-    | inl here ↦ fields_pass (the form.letter ∷ form.fields) words are.0.laws here
-    | inr later ↦ forms_pass forms words are.1 later
-  ]

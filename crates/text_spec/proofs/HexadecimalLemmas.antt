@@ -1,6 +1,6 @@
 -- Hexadecimal: the readings of a word against the text of some bytes, into a room and byte by byte.
 use Rattle.std.specs.Prelude.{◌≡◌, ◌⊎◌, ◌+◌, ◌*◌, ◌-◌, ◌/◌, ◌%◌, ◌<◌, ◌≤◌, ◌∷◌, ◌++◌}
-use Rattle.text_spec.proofs.Names.{ℕ, zero, suc, true, false, inl, inr, List, [], add-one, append_assoc, length, slice_index, take, unwrap_or, refl, sym, ap, subst, ◌∙◌, arith, Option, Some, None, option_and_then, option_map, is_in_range, list_all, agree_below_at, and_from, and_parts, cases_Bool, cond-true, cond-false, le-leb, lt-leb, or_cases, length-take-le, IsBytes, decode_of, encode_lower, lower_digits, hex_in, hex_upto, fitting, is_lower_digit, some_bytes, some_hex, bytes_of, IsWritten, ◌>>=◌}
+use Rattle.text_spec.proofs.Names.{ℕ, zero, suc, true, false, inl, inr, List, [], add-one, append_assoc, length, slice_index, take, unwrap_or, refl, sym, ap, subst, ◌∙◌, arith, Option, Some, None, option_and_then, is_in_range, list_all, agree_below_at, and_from, and_parts, cases_Bool, cond-true, cond-false, lt-leb, or_cases, IsBytes, decode_of, encode_lower, lower_digits, hex_in, hex_upto, fitting, is_lower_digit, some_bytes, some_hex, bytes_of, IsWritten, ◌>>=◌}
 use Rattle.std.specs.Result.{result_ok}
 use Rattle.std.proofs.lemmas.List.{take_all, take_more}
 use Rattle.hex.specs.Hex.{decode_pairs, encode_with}
@@ -173,14 +173,6 @@ pub pairs_read : (n : ℕ) (word room : List ℕ) → ((k : ℕ) → k < n → s
 pairs_read n word room fits len le pairs =
     let text = pairs_text n word room (omega arith) le pairs ∙ take_all (2 * n) word (omega arith) in
     ap hex_in (sym text) ∙ hex_in-encode_lower (take n room) (bytes_taken n room fits)
-
--- and what is read fits a room for as many
-pub hex_upto-read : (most n : ℕ) (word room : List ℕ) → hex_in word ≡ Some (take n room) → n ≤ length room → n ≤ most
-    → Some n ≡ option_map length (hex_upto most word)
-hex_upto-read most n word room is le few =
-    let size : length (take n room) ≡ n = length-take-le n room le in
-    let kept = cond-true _ (Some (take n room)) None (le-leb (length (take n room)) most (omega arith)) in
-    ap Some (sym size) ∙ sym (ap (option_map length) (ap (option_and_then (fitting most)) is ∙ kept))
 
 -- ---- a byte or more
 

@@ -1,9 +1,8 @@
 -- One line of a journal: its reading against its own text, both ways.
-use Rattle.std.specs.Prelude.{◌≡◌, ◌∷◌}
-use Rattle.text_spec.proofs.Names.{ℕ, true, List, [], refl, ap, subst, ◌∙◌, Some, None, codes, list_all, words_of_fields, AreHeld, AreExact, HasForm, told_in, entry_of, turn_form, report_form, state_form, setting_form, loss_form, line_forms, told_by, Act, Report, State, SetMode, Line, begins, enters, loses, act_fields, fields_of, line_for, or_else, words_of, line_of}
+use Rattle.std.specs.Prelude.{◌≡◌, ◌<◌}
+use Rattle.text_spec.proofs.Names.{ℕ, List, length, refl, ap, subst, ◌∙◌, arith, Some, None, codes, words_of_fields, AreHeld, AreExact, HasForm, told_in, entry_of, turn_form, report_form, state_form, setting_form, loss_form, line_forms, told_by, Act, Report, State, SetMode, Line, begins, enters, loses, act_fields, fields_of, or_else}
 use Rattle.text_spec.proofs.ContextsLaws.{the_lawful, number_lawful, stamp_lawful, mode_lawful, context_lawful}
-use Rattle.text_spec.proofs.FieldsLaws.{AreForms, IsTold, first_form, forms_are, forms_pass, in_word, in_line, words_again, line_free}
-use Rattle.text_spec.proofs.WordsLemmas.{Pass}
+use Rattle.text_spec.proofs.FieldsLaws.{AreForms, AreLawful, IsShown, IsTold, first_form, forms_are, kinds}
 
 -- ---- the forms of a journal
 
@@ -22,13 +21,12 @@ are_forms = (
   ),
 )
 
--- words tell a line exactly where they have a form, and are then the line's
-pub line_is : (words : List (List ℕ)) → IsTold fields_of line_forms words (told_by words)
+-- words tell something exactly where they have a form, and are then the line's
+line_is : (words : List (List ℕ)) → IsTold fields_of line_forms words (told_by words)
 line_is words = forms_are fields_of line_forms words are_forms
 
--- words tell something exactly where they have a form
-pub told_has_form : (words : List (List ℕ)) (line : Line) → told_by words ≡ Some line → HasForm line_forms words
-told_has_form words line read = (subst (IsTold fields_of line_forms words) read (line_is words)).written
+pub told_is : (words : List (List ℕ)) (line : Line) → told_by words ≡ Some line → HasForm line_forms words × IsShown words (fields_of line)
+told_is words line read = subst (IsTold fields_of line_forms words) read (line_is words)
 
 pub none_has_none : (words : List (List ℕ)) → told_by words ≡ None → HasForm line_forms words → ⊥
 none_has_none words none = subst (IsTold fields_of line_forms words) none (line_is words)
@@ -53,26 +51,15 @@ line_again (begins head) held exact =
 line_again (enters entry) held exact = act_again entry.caller entry.call entry.act held exact
 line_again (loses loss) held exact = first_form loss_form (loss.caller, (loss.call, (loss.given, tt))) _ are_forms.1.1.1.1.0.laws held.1 exact.1
 
--- ---- from a line to its words
+-- ---- its fields
 
--- the words of a line have a form
-has_form : (line : Line) → AreHeld (fields_of line) → AreExact (fields_of line) → HasForm line_forms (words_of_fields (fields_of line))
-has_form line held exact =
-    told_has_form (words_of_fields (fields_of line)) line (line_again line held exact)
+act_lawful : (caller call : ℕ) (act : Act (List ℕ)) → AreLawful (kinds (act_fields caller call act)) × (0 < length (words_of_fields (act_fields caller call act)))
+act_lawful caller call (Report event count stamp context) = (are_forms.1.0.laws, omega arith)
+act_lawful caller call (State state) = (are_forms.1.1.0.laws, omega arith)
+act_lawful caller call (SetMode event mode) = (are_forms.1.1.1.0.laws, omega arith)
 
--- the words of a line have only bytes that words have
-words_pass : (line : Line) → AreHeld (fields_of line) → AreExact (fields_of line) → Pass in_word (words_of_fields (fields_of line))
-words_pass line held exact = forms_pass fields_of line_forms (words_of_fields (fields_of line)) are_forms (has_form line held exact)
-
--- words that are told are cut again
-cut_again : (words : List (List ℕ)) → HasForm line_forms words → words_of (line_of words) ≡ words
-cut_again [] written = absurd (none_has_none [] refl written)
-cut_again (word ∷ words) written = words_again word words (forms_pass fields_of line_forms (word ∷ words) are_forms written)
-
--- a line is read as its words
-pub line_words : (line : Line) → AreHeld (fields_of line) → AreExact (fields_of line) → words_of (line_for line) ≡ words_of_fields (fields_of line)
-line_words line held exact = cut_again (words_of_fields (fields_of line)) (has_form line held exact)
-
--- a line has no line feed
-pub line_passes : (line : Line) → AreHeld (fields_of line) → AreExact (fields_of line) → list_all in_line (line_for line) ≡ true
-line_passes line held exact = line_free (words_of_fields (fields_of line)) (words_pass line held exact)
+-- they keep the laws, and there are some
+pub line_lawful : (line : Line) → AreLawful (kinds (fields_of line)) × (0 < length (words_of_fields (fields_of line)))
+line_lawful (begins head) = (are_forms.0.laws, omega arith)
+line_lawful (enters entry) = act_lawful entry.caller entry.call entry.act
+line_lawful (loses loss) = (are_forms.1.1.1.1.0.laws, omega arith)

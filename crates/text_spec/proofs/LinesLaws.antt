@@ -1,11 +1,16 @@
--- Texts that are read line by line: the steps of a reading, and what lines tell that are read from their own text,
--- for any grammar.
+-- Texts that are read line by line: the steps of a reading, the text of lines without a fault, and what a text that
+-- was read tells, for any grammar.
 use Rattle.std.specs.Prelude.{◌≡◌, ◌<◌, ◌+◌, ◌==◌, ◌∷◌, ◌++◌}
-use Rattle.text_spec.proofs.Names.{ℕ, suc, Bool, false, List, [], length, map, refl, sym, ap, subst, ◌∙◌, arith, Result, Ok, Err, AllByRecursion, length-append, line_feed, text_of}
-use Rattle.ids_config.specs.Steps.{◌>>◌}
+use Rattle.text_spec.proofs.Names.{ℕ, suc, List, [], length, map, refl, sym, ap, ◌∙◌, arith, Option, Some, None, Result, Ok, Err, ⊤, AllByRecursion, eqb-true, join_with_byte, join_with_byte-slice_split, length-append, length-slice_split, nil_from_length, AreExact, AreHeld, Filled, line_feed, line_of, past_with, pieces_of, space, text_of, words_of, words_of_fields}
+use Rattle.ids_config.specs.Steps.{◌>>◌, asks}
 use Rattle.ids_config.proofs.StepLemmas.{both_ok, asked}
 use Rattle.text_spec.specs.Lines.{Grammar, BadLine, at_line, ◌>>=◌, AreFaultless, after_line, at_end, after_pieces, past_in}
-use Rattle.text_spec.proofs.WordsLemmas.{Pass, split_text}
+use Rattle.text_spec.specs.Fields.{line_with}
+use Rattle.text_spec.specs.LineAnswers.{Fails, RefusedFor, fault_at, fault_behind}
+use Rattle.text_spec.specs.declared.fault.LineFault.{LineFault}
+use Rattle.text_spec.specs.declared.fault.LineFault.TheVariants as line_faults
+use Rattle.text_spec.proofs.FieldsLaws.{AreLawful, IsShown, filled_pass, in_line, in_word, kinds, line_free, words_again}
+use Rattle.text_spec.proofs.WordsLemmas.{Pass, join_ended, split_text}
 
 -- ---- steps that found no fault
 
@@ -16,6 +21,11 @@ bind_ok (Err bad) f y h = cc h
 pub at_line_ok : {A : Type 0} (n : ℕ) (r : Result A ℕ) (x : A) → at_line n r ≡ Ok x → r ≡ Ok x
 at_line_ok n (Ok y) x h = cc h
 at_line_ok n (Err fault) x h = cc h
+
+-- two searches and a third
+then_all : {A : Type 0} (one two : Result ⊤ ℕ) (next : Result A ℕ) → (one >> two >> next) ≡ ((one >> two) >> next)
+then_all (Ok done) two next = refl
+then_all (Err fault) two next = refl
 
 module _ {Past Line : Type 0} (grammar : Grammar Past Line) where
   -- ---- pieces
@@ -49,33 +59,20 @@ module _ {Past Line : Type 0} (grammar : Grammar Past Line) where
         let more : n + 1 ≡ suc n = omega arith in
         ap (λ k. after_pieces grammar k now rest) more ∙ goes_by took
 
-    -- at a line that was refused
-    pub fails : (fault : ℕ) → after_line grammar past line ≡ Err fault → expected ≡ Err (record { line = n; fault = fault })
-    fails fault refused = sym (goes_by refused)
+    -- at a line that was refused, or for want of memory
+    pub refuses : (fault : LineFault) → RefusedFor (after_line grammar past line) fault → Fails expected (fault_at n fault)
+    refuses (line_faults.Fault number) refused = sym (goes_by refused)
+    refuses line_faults.NoMemory refused = tt
 
-  -- behind all lines
-  pub is_done : (n : ℕ) (past : Past) (rest : List ℕ) (pieces : List (List ℕ)) (expected : Result Past BadLine) → pieces ≡ rest ∷ []
-      → after_pieces grammar n past pieces ≡ expected → expected ≡ at_line n (at_end grammar past rest)
-  is_done n past rest pieces expected are was = sym was ∙ ap (after_pieces grammar n past) are ∙ at_last n past rest
+  -- behind all lines, by what was found of the last piece
+  pub ends : (n : ℕ) (past : Past) (rest : List ℕ) (pieces : List (List ℕ)) (expected : Result Past BadLine) → pieces ≡ rest ∷ [] → after_pieces grammar n past pieces ≡ expected
+      → (found : Result ⊤ ℕ) → found ≡ fault_behind rest (grammar.end_fault past) → expected ≡ at_line n (found >> Ok past)
+  ends n past rest pieces expected are was found is =
+      sym was ∙ ap (after_pieces grammar n past) are ∙ at_last n past rest
+      ∙ ap (at_line n) (then_all (asks 1 (length rest == 0)) (grammar.end_fault past) (Ok past))
+      ∙ ap (λ (r : Result ⊤ ℕ). at_line n (r >> Ok past)) (sym is)
 
-  -- ---- what holds of the lines so far
-
-  -- what each line keeps holds behind all pieces that were read
-  pub kept_behind : (Keeps : Past → Type 0)
-      → ((past now : Past) (line : List ℕ) → after_line grammar past line ≡ Ok now → Keeps past → Keeps now)
-      → (n : ℕ) (past now : Past) (pieces : List (List ℕ)) → after_pieces grammar n past pieces ≡ Ok now → Keeps past → Keeps now
-  unfolding after_pieces
-  kept_behind Keeps step n past now [] read keeps = subst Keeps (cc read) keeps
-  kept_behind Keeps step n past now (rest ∷ []) read keeps =
-      let end = at_line_ok n (at_end grammar past rest) now read in
-      let last = asked 1 (length rest == 0) (grammar.end_fault past >> Ok past) now end in
-      let same = both_ok (grammar.end_fault past) (Ok past) now last.1 in
-      subst Keeps (cc same.1) keeps
-  kept_behind Keeps step n past now (piece ∷ another ∷ pieces) read keeps =
-      let one = bind_ok (at_line n (after_line grammar past piece)) (λ then. after_pieces grammar (suc n) then (another ∷ pieces)) now read in
-      kept_behind Keeps step (suc n) one.0 now (another ∷ pieces) one.2 (step past one.0 piece (at_line_ok n (after_line grammar past piece) one.0 one.1) keeps)
-
-  -- ---- lines that are read from their own text
+  -- ---- lines one behind the other
 
   -- the lines so far with some more
   abbrev pub all_next : Past → List Line → Past
@@ -86,40 +83,131 @@ module _ {Past Line : Type 0} (grammar : Grammar Past Line) where
   all_next-append past [] more = refl
   all_next-append past (line ∷ lines) more = all_next-append (grammar.next past line) lines more
 
-  -- lines without a fault that leave these lines so far
+module _ {Past Line : Type 0} (grammar : Grammar Past Line) (shows : Line → List Filled) where
+  abbrev pub AreHeldLines : List Line → Type 0
+  AreHeldLines lines = AllByRecursion (λ line. AreHeld (shows line)) lines
+
+  abbrev pub AreExactLines : List Line → Type 0
+  AreExactLines lines = AllByRecursion (λ line. AreExact (shows line)) lines
+
+  abbrev pub lines_for : List Line → List (List ℕ)
+  lines_for lines = map (λ line. line_with (shows line)) lines
+
+  -- ---- what a text that was read tells
+
+  -- a line that was read
+  record IsRead (past now : Past) (text : List ℕ) : Type 0 where
+    line : Line
+    none : grammar.fault_of past line ≡ Ok tt
+    is : grammar.next past line ≡ now
+    shown : IsShown (words_of text) (shows line)
+
+  -- lines that were read
+  pub record AreRead (past now : Past) (pieces : List (List ℕ)) : Type 0 where
+    pub lines : List Line
+    pub none : AreFaultless grammar past lines
+    pub held : AreHeldLines lines
+    pub leave : all_next grammar past lines ≡ now
+    pub are : AreExactLines lines → lines_for lines ++ [] ∷ [] ≡ pieces
+
+  -- where words are read as a line that they show
+  module _ (takes : (words : List (List ℕ)) (line : Line) → grammar.told_by words ≡ Some line → IsShown words (shows line)) where
+    is_read : (past now : Past) (text : List ℕ) (read : Option Line) → grammar.told_by (words_of text) ≡ read → past_with grammar past read ≡ Ok now → IsRead past now text
+    is_read past now text None told step = cc step
+    is_read past now text (Some line) told step =
+        let parts = both_ok (grammar.fault_of past line) (Ok (grammar.next past line)) now step in
+        record { line = line; none = parts.0; is = cc parts.1; shown = takes (words_of text) line told }
+
+    are_read : (n : ℕ) (past now : Past) (pieces : List (List ℕ)) → 0 < length pieces → after_pieces grammar n past pieces ≡ Ok now → AreRead past now pieces
+    unfolding after_pieces
+    are_read n past now [] some read = absurd (omega arith)
+    are_read n past now (piece ∷ []) some read =
+        let last = asked 1 (length piece == 0) (grammar.end_fault past >> Ok past) now (at_line_ok n (at_end grammar past piece) now read) in
+        let end = both_ok (grammar.end_fault past) (Ok past) now last.1 in
+        record { lines = []; none = tt; held = tt; leave = cc end.1; are = λ exact. ap (λ p. p ∷ []) (sym (nil_from_length piece (eqb-true (length piece) 0 last.0))) }
+    are_read n past now (piece ∷ another ∷ pieces) some read =
+        let step = bind_ok (at_line n (after_line grammar past piece)) (λ then. after_pieces grammar (suc n) then (another ∷ pieces)) now read in
+        let one = is_read past step.0 piece (grammar.told_by (words_of piece)) refl (at_line_ok n (after_line grammar past piece) step.0 step.1) in
+        let more = are_read (suc n) step.0 now (another ∷ pieces) (omega arith) step.2 in
+        record {
+          lines = one.line ∷ more.lines;
+          none = (one.none, rw one.is more.none);
+          held = (one.shown.held, more.held);
+          leave = rw one.is more.leave;
+          are = λ exact. ap (λ (t : List ℕ). t ∷ (lines_for more.lines ++ [] ∷ [])) (ap line_of (sym (one.shown.are exact.0)) ∙ join_with_byte-slice_split space piece) ∙ ap (λ (ts : List (List ℕ)). piece ∷ ts) (more.are exact.1);
+        }
+
+    pub text_read : (past now : Past) (text : List ℕ) → past_in grammar past text ≡ Ok now → AreRead past now (pieces_of line_feed text)
+    text_read past now text read = are_read 1 past now (pieces_of line_feed text) (omega (arith, length-slice_split (λ b. b == line_feed) text)) read
+
+  -- ---- the text of lines without a fault
+
+  -- lines without a fault, which can be held, and leave these lines so far
   pub record Leaves (past : Past) (lines : List Line) (now : Past) : Type 0 where
     pub faultless : AreFaultless grammar past lines
-    pub leaves : all_next past lines ≡ now
-
-  faultless_append : (past : Past) (lines more : List Line) → AreFaultless grammar past lines → AreFaultless grammar (all_next past lines) more → AreFaultless grammar past (lines ++ more)
-  faultless_append past [] more none later = later
-  faultless_append past (line ∷ lines) more none later = (none.0, faultless_append (grammar.next past line) lines more none.1 later)
+    pub held : AreHeldLines lines
+    pub leaves : all_next grammar past lines ≡ now
 
   -- one line, and some behind it
-  pub leave_one : (past now : Past) (line : Line) (lines : List Line) → grammar.fault_of past line ≡ Ok tt → Leaves (grammar.next past line) lines now → Leaves past (line ∷ lines) now
-  leave_one past now line lines none rest = record { faultless = (none, rest.faultless); leaves = rest.leaves }
+  pub leave_one : (past now : Past) (line : Line) (lines : List Line) → grammar.fault_of past line ≡ Ok tt → AreHeld (shows line) → Leaves (grammar.next past line) lines now → Leaves past (line ∷ lines) now
+  leave_one past now line lines none held rest = record { faultless = (none, rest.faultless); held = (held, rest.held); leaves = rest.leaves }
 
   -- some lines, and some behind them
   pub leave_more : (past middle now : Past) (lines more : List Line) → Leaves past lines middle → Leaves middle more now → Leaves past (lines ++ more) now
-  leave_more past middle now lines more one other =
-      let then = subst (λ p. Leaves p more now) (sym one.leaves) other in
-      record { faultless = faultless_append past lines more one.faultless then.faultless; leaves = all_next-append past lines more ∙ then.leaves }
+  leave_more past middle now [] more one other = rw one.leaves other
+  leave_more past middle now (line ∷ lines) more one other =
+      leave_one past now line (lines ++ more) one.faultless.0 one.held.0
+      (leave_more (grammar.next past line) middle now lines more (record { faultless = one.faultless.1; held = one.held.1; leaves = one.leaves }) other)
 
-  module _ (line_for : Line → List ℕ) (IsHeld : Line → Type 0)
-      (adds : (past : Past) (line : Line) → grammar.fault_of past line ≡ Ok tt → IsHeld line → after_line grammar past (line_for line) ≡ Ok (grammar.next past line)) where
+  pub record Tells : Type 0 where
+    -- the fields keep the laws, and there are some
+    pub lawful : (line : Line) → AreLawful (kinds (shows line))
+    pub some : (line : Line) → 0 < length (words_of_fields (shows line))
+    -- a line without a fault is told as it is
+    pub exact : (past : Past) (line : Line) → grammar.fault_of past line ≡ Ok tt → AreExact (shows line)
+    -- a line is read from its words, and no other words are read as it
+    pub again : (line : Line) → AreHeld (shows line) → AreExact (shows line) → grammar.told_by (words_of_fields (shows line)) ≡ Some line
+    pub takes : (words : List (List ℕ)) (line : Line) → grammar.told_by words ≡ Some line → IsShown words (shows line)
+
+  module _ (tells : Tells) where
+    passes : (past : Past) (line : Line) → grammar.fault_of past line ≡ Ok tt → AreHeld (shows line) → Pass in_word (words_of_fields (shows line))
+    passes past line none held = filled_pass (shows line) (tells.lawful line) held (tells.exact past line none)
+
+    -- the line of what can be told without a fault adds it
+    line_adds : (past : Past) (line : Line) → grammar.fault_of past line ≡ Ok tt → AreHeld (shows line) → after_line grammar past (line_with (shows line)) ≡ Ok (grammar.next past line)
+    line_adds past line none held =
+        ap (λ ws. past_with grammar past (grammar.told_by ws)) (words_again (words_of_fields (shows line)) (tells.some line) (passes past line none held))
+        ∙ ap (past_with grammar past) (tells.again line held (tells.exact past line none))
+        ∙ ap (λ (r : Result ⊤ ℕ). r >> Ok (grammar.next past line)) none
+
+    -- no line has a line feed
+    lines_free : (past : Past) (lines : List Line) → AreFaultless grammar past lines → AreHeldLines lines → Pass in_line (lines_for lines)
+    lines_free past [] none held = tt
+    lines_free past (line ∷ lines) none held = (line_free (words_of_fields (shows line)) (passes past line none.0 held.0), lines_free (grammar.next past line) lines none.1 held.1)
+
     -- lines without a fault, one after another
-    pub lines_add : (n : ℕ) (past : Past) (lines : List Line) → AreFaultless grammar past lines → AllByRecursion IsHeld lines
-        → (end : ℕ) × (after_pieces grammar n past (map line_for lines ++ [] ∷ []) ≡ at_line end (at_end grammar (all_next past lines) []))
-    lines_add n past [] none held = (n, at_last n past [])
+    lines_add : (n : ℕ) (past : Past) (lines : List Line) → AreFaultless grammar past lines → AreHeldLines lines
+        → (end : ℕ) × (after_pieces grammar n past (lines_for lines ++ [] ∷ []) ≡ at_line end (at_end grammar (all_next grammar past lines) []))
+    lines_add n past [] none held = (n, at_last grammar n past [])
     lines_add n past (line ∷ lines) none held =
         let rest = lines_add (suc n) (grammar.next past line) lines none.1 held.1 in
-        let step = at_front n past (line_for line) (map line_for lines ++ [] ∷ []) (omega (arith, length-append (map line_for lines) ([] ∷ []))) in
-        let one = ap (at_line n) (adds past line none.0 held.0) in
-        (rest.0, step ∙ ap (λ (r : Result Past BadLine). r >>= λ now. after_pieces grammar (suc n) now (map line_for lines ++ [] ∷ [])) one ∙ rest.1)
+        let step = at_front grammar n past (line_with (shows line)) (lines_for lines ++ [] ∷ []) (omega (arith, length-append (lines_for lines) ([] ∷ []))) in
+        let one = ap (at_line n) (line_adds past line none.0 held.0) in
+        (rest.0, step ∙ ap (λ (r : Result Past BadLine). r >>= λ now. after_pieces grammar (suc n) now (lines_for lines ++ [] ∷ [])) one ∙ rest.1)
 
-    -- the text of lines without a fault, each free of line feeds
-    pub text_adds : (past : Past) (lines : List Line) (p : ℕ → Bool) → p line_feed ≡ false → Pass p (map line_for lines) → AreFaultless grammar past lines → AllByRecursion IsHeld lines
-        → (end : ℕ) × (past_in grammar past (text_of (map line_for lines)) ≡ at_line end (at_end grammar (all_next past lines) []))
-    text_adds past lines p out free none held =
+    -- the lines are told as they are
+    all_exact : (past : Past) (lines : List Line) → AreFaultless grammar past lines → AreExactLines lines
+    all_exact past [] none = tt
+    all_exact past (line ∷ lines) none = (tells.exact past line none.0, all_exact (grammar.next past line) lines none.1)
+
+    -- the text of lines without a fault
+    pub text_adds : (past : Past) (lines : List Line) → AreFaultless grammar past lines → AreHeldLines lines
+        → (end : ℕ) × (past_in grammar past (text_of (lines_for lines)) ≡ at_line end (at_end grammar (all_next grammar past lines) []))
+    text_adds past lines none held =
         let all = lines_add 1 past lines none held in
-        (all.0, ap (after_pieces grammar 1 past) (split_text p (map line_for lines) out free) ∙ all.1)
+        (all.0, ap (after_pieces grammar 1 past) (split_text in_line (lines_for lines) refl (lines_free past lines none held)) ∙ all.1)
+
+    -- the text of which lines were read is theirs
+    pub is_their_text : (past now : Past) (text : List ℕ) (read : AreRead past now (pieces_of line_feed text)) → text ≡ text_of (lines_for read.lines)
+    is_their_text past now text read =
+        sym (join_with_byte-slice_split line_feed text) ∙ ap (join_with_byte line_feed) (sym (read.are (all_exact past read.lines read.none))) ∙ join_ended (lines_for read.lines)

@@ -115,18 +115,6 @@ pub decimal-told : (word : List ℕ) (n : ℕ) → option_map capped (number_in 
 decimal-told word n told small =
     decimal-number_in word n (uncapped (number_in word) n told small) (omega arith)
 
--- a digit by itself is told as its value
-pub told-digit : (text : List ℕ) → 2 ≤ length text → is_ascii_digit (get_or text 0 0) ≡ true
-    → Some (get_or text 0 0 - 48) ≡ option_map capped (number_in (take 1 text))
-told-digit [] long is = absurd (omega arith)
-told-digit (d ∷ []) long is = absurd (omega arith)
-told-digit (d ∷ next ∷ rest) long is =
-    let number = is_number-from (d ∷ []) (and_from _ _ is refl) (omega arith) (λ _. refl) in
-    let value = capped_more (d ∷ []) 0 0 is (omega arith) refl in
-    let top = leb-true d 57 (and_parts _ _ is).1 in
-    let same : d - 48 ≡ capped (digits_value 10 (d ∷ [])) = omega (arith, value, top) in
-    ap Some same ∙ sym (ap (option_map capped) (cond-true _ (Some (digits_value 10 (d ∷ []))) None number))
-
 -- ---- digits that are written one by one
 
 -- a number has at most twenty digits
@@ -155,3 +143,6 @@ length_two n many few = ap length (decimal_two n many few)
 
 pub length_pair : (n : ℕ) → 100 ≤ n → n < 2 ^ 64 → length (decimal n) ≡ length (decimal (n / 100)) + 2
 length_pair n many small = ap length (decimal_pair n many small) ∙ length-append (decimal (n / 100)) ((48 + n % 100 / 10) ∷ (48 + n % 100 % 10) ∷ [])
+
+-- how a number is written
+pub ruleset written = (few_digits, decimal_digit, decimal_two, decimal_pair, length_digit, length_two, length_pair)

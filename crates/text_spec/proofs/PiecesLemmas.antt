@@ -1,11 +1,10 @@
 -- The first piece of a text that is cut at a separator, and the number that it writes.
-use borrow.Author.Count.{below_none, below_more}
-use Rattle.std.proofs.Common.{◌≡◌, ◌≢◌, ◌≤◌, ℕ, ◌+◌, ◌==◌, Bool, true, false, not, ◌||◌, ◌<◌, List, [], ◌∷◌, length, take, drop, get_or, Some, None, sym, ap, subst, ◌∙◌, arith, inl, inr}
+use Rattle.std.proofs.Common.{◌≡◌, ℕ, ◌+◌, ◌==◌, Bool, true, false, not, ◌||◌, ◌<◌, List, [], ◌∷◌, length, take, drop, get_or, Some, None, sym, ap, ◌∙◌, arith, inl, inr}
 use Rattle.std.specs.Prelude.{Option, nat_lt, position, option_map, ◌&&◌}
 use Rattle.std.specs.Char.{is_ascii_digit}
 use Rattle.std.specs.List.{slice_split, position_or_len, list_all}
 use Rattle.std.specs.Str.Parse.{digits_value}
-use Rattle.std.proofs.lemmas.Bool.{cases_Bool, cond-true, cond-false, false_from_ne_true, ltb-true, ltb-false, both_ways, eq-eqb, ne_eqb}
+use Rattle.std.proofs.lemmas.Bool.{cases_Bool, cond-true, cond-false, false_from_ne_true, ltb-true, ltb-false, both_ways, ne_eqb}
 use Rattle.std.proofs.lemmas.Option.{none-some, cond_some}
 use Rattle.std.proofs.lemmas.List.{take_all, length-take, get_or-take}
 use Rattle.std.proofs.lemmas.List.Elements.{All-from_get_or}
@@ -36,13 +35,6 @@ cut_none p text found =
           let far = ltb-false at (length text) past in
           slice_split_none p text (λ k d below. fails_before_first p text k d (omega arith))
     ]
-
--- a place that was found is in the text
-pub position_within : (p : ℕ → Bool) (text : List ℕ) (i : ℕ) → position p text ≡ Some i → i < length text
-position_within p text i found =
-    let at = position_or_len p text in
-    let parts = cond_some (nat_lt at (length text)) at i found in
-    subst (λ k. k < length text) parts.1 (ltb-true at (length text) parts.0)
 
 -- the first place of a byte, as the crate memchr finds it
 pub first_is_position : (c : ℕ) (text : List ℕ) (r : Option ℕ) → IsFirstByte (is_byte c) text r → r ≡ position (λ b. b == c) text
@@ -108,10 +100,3 @@ some_piece c text = ne_eqb _ 0 (λ none. omega (arith, length-slice_split (λ b.
 pub number_first : (pieces : List (List ℕ)) (word : List ℕ) (behind : List (List ℕ)) (told : Option ℕ) → pieces ≡ word ∷ behind → told ≡ a_number.reading word
     → option_map (λ n. (n, behind)) told ≡ first_as a_number pieces
 number_first pieces word behind told is read = ap (option_map (λ (n : ℕ). (n, behind))) read ∙ sym (ap (first_as a_number) is)
-
--- a first piece of one byte
-pub short_piece : (c : ℕ) (text : List ℕ) → 2 ≤ length text → get_or text 0 0 ≢ c → get_or text 1 0 ≡ c
-    → slice_split (λ b. b == c) text ≡ take 1 text ∷ slice_split (λ b. b == c) (drop 2 text)
-short_piece c text long other ends =
-    let Other : ℕ → Type 0 = λ k. (get_or text k 0 == c) ≡ false in
-    first_piece c text 1 long (below_more Other 0 (below_none Other) (ne_eqb _ _ other)) (eq-eqb _ _ ends)

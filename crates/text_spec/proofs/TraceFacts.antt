@@ -1,5 +1,5 @@
 -- Rounds in lists: the last one, its tick, and the ticks of all.
-use Rattle.std.specs.Prelude.{◌≡◌, ◌≤◌, ◌^◌, ◌∷◌, ◌++◌}
+use Rattle.std.specs.Prelude.{◌≡◌, ◌<◌, ◌≤◌, ◌^◌, ◌∷◌, ◌++◌}
 use Rattle.text_spec.proofs.Names.{ℕ, zero, suc, true, List, [], length, set, get_or, refl, sym, ap, subst, ◌∙◌, append_assoc, arith, AllByRecursion, flat_map, list_all, and_from, and_parts, le-leb}
 use Rattle.std.proofs.lemmas.Bool.{leb-true}
 use Rattle.std.specs.Prelude.{nat_le, replicate}
@@ -37,6 +37,12 @@ all_replicate P (suc n) x is = (is, all_replicate P n x is)
 
 -- ---- the last round
 
+-- what holds of any rounds and a last one holds where there are rounds
+pub by_last : (P : List Round → Type 0) → ((front : List Round) (last : Round) → P (front ++ last ∷ [])) → (rounds : List Round) → 0 < length rounds → P rounds
+by_last P each [] some = absurd (omega arith)
+by_last P each (round ∷ []) some = each [] round
+by_last P each (round ∷ next ∷ rounds) some = by_last (λ rs. P (round ∷ rs)) (λ front last. each (round ∷ front) last) (next ∷ rounds) (omega arith)
+
 pub with_last-push : (change : Round → Round) (done : List Round) (round : Round) → with_last change (done ++ round ∷ []) ≡ done ++ change round ∷ []
 with_last-push change [] round = refl
 with_last-push change (one ∷ []) round = refl
@@ -46,11 +52,6 @@ pub last_tick-push : (done : List Round) (round : Round) → last_tick (done ++ 
 last_tick-push [] round = refl
 last_tick-push (one ∷ []) round = refl
 last_tick-push (one ∷ next ∷ done) round = last_tick-push (next ∷ done) round
-
-pub length_with_last : (change : Round → Round) (rounds : List Round) → length (with_last change rounds) ≡ length rounds
-length_with_last change [] = refl
-length_with_last change (one ∷ []) = refl
-length_with_last change (one ∷ next ∷ rounds) = ap suc (length_with_last change (next ∷ rounds))
 
 pub all_with_last : (P : Round → Type 0) (change : Round → Round) (rounds : List Round) → ((round : Round) → P round → P (change round)) → AllByRecursion P rounds → AllByRecursion P (with_last change rounds)
 all_with_last P change [] keeps all = tt
@@ -88,17 +89,16 @@ pub last_from-push : (least : ℕ) (ticks : List ℕ) (tick : ℕ) (more : List 
 last_from-push least [] tick more = refl
 last_from-push least (one ∷ ticks) tick more = last_from-push one ticks tick more
 
--- the last of all ticks is that of the last round
-last_of_some : (least : ℕ) (round : Round) (rounds : List Round) → last_from least (flat_map round_ticks (round ∷ rounds)) ≡ last_tick (round ∷ rounds)
-last_of_some least round [] = ap (last_from least) (append_assoc round.beside (round.after ∷ []) []) ∙ last_from-push least round.beside round.after []
-last_of_some least round (next ∷ rounds) =
-    ap (last_from least) (append_assoc round.beside (round.after ∷ []) (flat_map round_ticks (next ∷ rounds)))
-    ∙ last_from-push least round.beside round.after (flat_map round_ticks (next ∷ rounds))
-    ∙ last_of_some round.after next rounds
+-- the ticks of rounds, the last of them apart
+ticks-push : (front : List Round) (round : Round) → flat_map round_ticks (front ++ round ∷ []) ≡ (flat_map round_ticks front ++ round.beside) ++ round.after ∷ []
+ticks-push front round = flat_map-push round_ticks front round ∙ sym (append_assoc (flat_map round_ticks front) round.beside (round.after ∷ []))
 
+-- it is that of the last round
 pub last_of_all : (rounds : List Round) → last_from 0 (flat_map round_ticks rounds) ≡ last_tick rounds
 last_of_all [] = refl
-last_of_all (round ∷ rounds) = last_of_some 0 round rounds
+last_of_all (round ∷ rounds) =
+    by_last (λ rs. last_from 0 (flat_map round_ticks rs) ≡ last_tick rs)
+    (λ front last. ap (last_from 0) (ticks-push front last) ∙ last_from-push 0 (flat_map round_ticks front ++ last.beside) last.after [] ∙ sym (last_tick-push front last)) (round ∷ rounds) (omega arith)
 
 -- the ticks of a round, and those of rounds behind it
 pub record RoundKeepsUp (least : ℕ) (round : Round) (rounds : List Round) : Type 0 where
@@ -110,29 +110,6 @@ pub round_keeps_up : (least : ℕ) (round : Round) (rounds : List Round) → Kee
 round_keeps_up least round rounds keeps =
     let parts = keep_split least round.beside (round.after ∷ flat_map round_ticks rounds) (subst (KeepUpFrom least) (append_assoc round.beside (round.after ∷ []) (flat_map round_ticks rounds)) keeps) in
     record { beside = parts.0; after = parts.1.0; later = parts.1.1 }
-
-pub then_keeps_up : (least : ℕ) (round : Round) (rounds : List Round) → RoundKeepsUp least round rounds → KeepUpFrom least (flat_map round_ticks (round ∷ rounds))
-then_keeps_up least round rounds keeps =
-    subst (KeepUpFrom least) (sym (append_assoc round.beside (round.after ∷ []) (flat_map round_ticks rounds)))
-    (keep_append least round.beside (round.after ∷ flat_map round_ticks rounds) keeps.beside (keeps.after, keeps.later))
-
--- one round more
-pub round_added : (rounds : List Round) (round : Round) → KeepUpFrom 0 (flat_map round_ticks rounds) → KeepUpFrom (last_tick rounds) round.beside → last_from (last_tick rounds) round.beside ≤ round.after
-    → KeepUpFrom 0 (flat_map round_ticks (rounds ++ round ∷ []))
-round_added rounds round keeps beside after =
-    let new : KeepUpFrom (last_tick rounds) (round_ticks round) = keep_append (last_tick rounds) round.beside (round.after ∷ []) beside (after, tt) in
-    subst (KeepUpFrom 0) (sym (flat_map-push round_ticks rounds round))
-    (keep_append 0 (flat_map round_ticks rounds) (round_ticks round) keeps (subst (λ n. KeepUpFrom n (round_ticks round)) (sym (last_of_all rounds)) new))
-
--- a later tick at the end of the last round
-pub later_end : (least : ℕ) (rounds : List Round) (tick : ℕ) → KeepUpFrom least (flat_map round_ticks rounds) → last_tick rounds ≤ tick → KeepUpFrom least (flat_map round_ticks (with_last (ended_at tick) rounds))
-later_end least [] tick keeps later = tt
-later_end least (round ∷ []) tick keeps later =
-    let parts = round_keeps_up least round [] keeps in
-    then_keeps_up least (ended_at tick round) [] (record { beside = parts.beside; after = omega (arith, parts.after, later); later = tt })
-later_end least (round ∷ next ∷ rounds) tick keeps later =
-    let parts = round_keeps_up least round (next ∷ rounds) keeps in
-    then_keeps_up least round (with_last (ended_at tick) (next ∷ rounds)) (record { beside = parts.beside; after = parts.after; later = later_end round.after (next ∷ rounds) tick parts.later later })
 
 -- ---- small ticks
 
@@ -159,10 +136,10 @@ pub ticks_pushed : (rounds : List Round) (callers : ℕ) (beside : List ℕ) (af
     → AreTicks (rounds ++ begun_round callers beside after ∷ [])
 ticks_pushed rounds callers beside after are small keeps =
     let round = begun_round callers beside after in
-    let parts = keep_split (last_tick rounds) beside (after ∷ []) keeps in
+    let flat = flat_map-push round_ticks rounds round in
     record {
-      small = subst (AllByRecursion IsSmall) (sym (flat_map-push round_ticks rounds round)) (all_append IsSmall (flat_map round_ticks rounds) (round_ticks round) are.small small);
-      keep_up = round_added rounds round are.keep_up parts.0 parts.1.0;
+      small = rw flat (all_append IsSmall (flat_map round_ticks rounds) (round_ticks round) are.small small);
+      keep_up = rw flat (keep_append 0 (flat_map round_ticks rounds) (round_ticks round) are.keep_up (rw (last_of_all rounds) keeps));
     }
 
 -- a line more of a caller
@@ -172,17 +149,18 @@ ticks_asked rounds caller asked are =
     record { small = subst (AllByRecursion IsSmall) (sym same) are.small; keep_up = subst (KeepUpFrom 0) (sym same) are.keep_up }
 
 -- the last round ends later
-ended_small : (rounds : List Round) (tick : ℕ) → IsSmall tick → AllByRecursion IsSmall (flat_map round_ticks rounds) → AllByRecursion IsSmall (flat_map round_ticks (with_last (ended_at tick) rounds))
-ended_small [] tick is small = tt
-ended_small (round ∷ []) tick is small =
-    let parts = all_split IsSmall round.beside (round.after ∷ []) (all_split IsSmall (round_ticks round) [] small).0 in
-    all_append IsSmall (round.beside ++ tick ∷ []) [] (all_append IsSmall round.beside (tick ∷ []) parts.0 (is, tt)) tt
-ended_small (round ∷ next ∷ rounds) tick is small =
-    let parts = all_split IsSmall (round_ticks round) (flat_map round_ticks (next ∷ rounds)) small in
-    all_append IsSmall (round_ticks round) (flat_map round_ticks (with_last (ended_at tick) (next ∷ rounds))) parts.0 (ended_small (next ∷ rounds) tick is parts.1)
-
 pub ticks_ended : (rounds : List Round) (tick : ℕ) → AreTicks rounds → last_tick rounds ≤ tick → IsSmall tick → AreTicks (with_last (ended_at tick) rounds)
-ticks_ended rounds tick are later small = record { small = ended_small rounds tick small are.small; keep_up = later_end 0 rounds tick are.keep_up later }
+ticks_ended [] tick are later small = are
+ticks_ended (round ∷ rounds) tick are later small =
+    by_last (λ rs. AreTicks rs → last_tick rs ≤ tick → AreTicks (with_last (ended_at tick) rs)) (λ front last its after.
+    let before = flat_map round_ticks front ++ last.beside in
+    let smalls = all_split IsSmall before (last.after ∷ []) (rw (ticks-push front last) at its.small) in
+    let keeps = keep_split 0 before (last.after ∷ []) (rw (ticks-push front last) at its.keep_up) in
+    let same = ticks-push front (ended_at tick last) in
+    rw (with_last-push (ended_at tick) front last) (record {
+      small = rw same (all_append IsSmall before (tick ∷ []) smalls.0 (small, tt));
+      keep_up = rw same (keep_append 0 before (tick ∷ []) keeps.0 (omega (arith, keeps.1.0, after, last_tick-push front last), tt));
+    })) (round ∷ rounds) (omega arith) are later
 
 -- the last tick is small
 pub last_small : (rounds : List Round) → AreTicks rounds → IsSmall (last_tick rounds)

@@ -1,7 +1,8 @@
 -- Words and lines: the tests that their bytes pass, and the readings of a line and of a text against
 -- their texts.
-use Rattle.std.specs.Prelude.{◌≡◌, ◌==◌, ◌∷◌, ◌++◌}
-use Rattle.text_spec.proofs.Names.{ℕ, Bool, true, false, List, [], refl, sym, ap, ◌∙◌, append_assoc, All, list_all, AllByRecursion, slice_split, join_with_byte, and_from, eq-eqb, ne_eqb, both_ways, list_all-append, slice_split_none, slice_split_at, line_feed, text_of}
+use Rattle.std.specs.Prelude.{◌≡◌, ◌+◌, ◌<◌, ◌==◌, ◌∷◌, ◌++◌}
+use Rattle.text_spec.proofs.Names.{ℕ, Bool, true, false, List, [], length, map, take, get_or, refl, sym, ap, ◌∙◌, append_assoc, arith, All, list_all, AllByRecursion, slice_split, join_with_byte, and_from, eq-eqb, ne_eqb, both_ways, list_all-append, slice_split_none, slice_split_at, length-take-le, map-append, line_feed, text_of}
+use Rattle.std.proofs.lemmas.List.{take_more}
 use Rattle.std.proofs.lemmas.List.Sums.{AllPass-from_list_all, list_all-from_AllPass}
 
 -- all bytes of each of these words pass a test
@@ -54,3 +55,19 @@ pub text_of-append : (lines more : List (List ℕ)) → text_of (lines ++ more) 
 text_of-append [] more = refl
 text_of-append (line ∷ lines) more =
     ap (λ text. line ++ line_feed ∷ text) (text_of-append lines more) ∙ sym (append_assoc line (line_feed ∷ text_of lines) (text_of more))
+
+-- ---- the text of one thing after another
+
+-- a loop that appends it took one step more: piece i x is the text of x at place i
+pub one_more : {A : Type 0} (text : List A → List ℕ) (piece : ℕ → A → List ℕ) → ((front : List A) (x : A) → text (front ++ x ∷ []) ≡ text front ++ piece (length front) x)
+    → (before now next : List ℕ) (xs : List A) (i : ℕ) (x d : A) → i < length xs → x ≡ get_or xs i d → now ≡ before ++ text (take i xs) → next ≡ now ++ piece i x → next ≡ before ++ text (take (i + 1) xs)
+one_more text piece adds before now next xs i x d within is was step =
+    step ∙ ap (λ bs. bs ++ piece i x) was ∙ append_assoc before (text (take i xs)) (piece i x)
+    ∙ ap (λ bs. before ++ bs) (
+    ap (λ k. text (take i xs) ++ piece k x) (sym (length-take-le i xs (omega arith))) ∙ sym (adds (take i xs) x)
+    ∙ ap (λ y. text (take i xs ++ y ∷ [])) is ∙ ap text (sym (take_more xs i d within))
+    )
+
+-- the text of lines behind lines
+pub text_of-map : {Line : Type 0} (line : Line → List ℕ) (lines more : List Line) → text_of (map line (lines ++ more)) ≡ text_of (map line lines) ++ text_of (map line more)
+text_of-map line lines more = ap text_of (map-append line lines more) ∙ text_of-append (map line lines) (map line more)

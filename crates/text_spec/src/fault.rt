@@ -1,5 +1,6 @@
 ghost use Rattle.std.specs.Prelude.{◌≡◌};
 ghost use Rattle.text_spec.specs.declared.fault.LineFault.TheVariants as line_faults;
+ghost use Rattle.text_spec.specs.declared.fault.TextFault.TheVariants as text_faults;
 
 use ids_types::NoMemory;
 use std::alloc::AllocFailed;
@@ -33,5 +34,22 @@ impl<T: Drop> From<AllocFailed<T>> for LineFault {
 
     fn from(_: AllocFailed<T>) -> Self {
         LineFault::NoMemory
+    }
+}
+
+/// Why no text was read.
+#[derive(Clone, Copy, Debug, PartialEq, Eq)]
+pub enum TextFault {
+    /// The first bad line, from 1, and the number of its first fault.
+    Line { line: u64, number: u8 },
+    /// The allocator had no room.
+    NoMemory,
+}
+
+impl From<NoMemory> for TextFault {
+    ghost from_gives = { λ _ answer. answer ≡ text_faults.NoMemory };
+
+    fn from(_: NoMemory) -> Self {
+        TextFault::NoMemory
     }
 }

@@ -40,6 +40,7 @@ pub(crate) fn with_digit(number: u64, digit: u64) -> u64
 }
 
 /// Appends the text of the number.
+#[tactic(auto, using(crate::proofs::NumbersLemmas::written))]
 pub fn push_number(out: &mut Vec<u8>, number: u64) -> Result<(), NoMemory>
     ensures ok { OnOk result (out.new.items ≡ out.old.items ++ decimal number) }
     ensures err { OnErr result (out.new.items ≡ out.old.items) }
@@ -55,6 +56,7 @@ pub fn push_number(out: &mut Vec<u8>, number: u64) -> Result<(), NoMemory>
 }
 
 /// Appends a space and a number.
+#[tactic(auto, using(crate::proofs::NumbersLemmas::written))]
 pub fn push_field(out: &mut Vec<u8>, number: u64) -> Result<(), NoMemory>
     ensures ok { OnOk result (out.new.items ≡ out.old.items ++ (space ∷ decimal number)) }
     ensures err { OnErr result (out.new.items ≡ out.old.items) }
@@ -70,6 +72,7 @@ pub fn push_field(out: &mut Vec<u8>, number: u64) -> Result<(), NoMemory>
 }
 
 /// How many bytes the text of the number has.
+#[tactic(auto, using(crate::proofs::NumbersLemmas::written))]
 pub(crate) fn digits_len(number: u64) -> usize
     ensures value { result ≡ length (decimal number) }
     ensures few { result ≤ 20 }
@@ -84,6 +87,7 @@ pub(crate) fn digits_len(number: u64) -> usize
 }
 
 /// Writes a space and a number into room that is there.
+#[tactic(auto, using(crate::proofs::NumbersLemmas::written))]
 pub(crate) fn put_field(out: &mut Vec<u8>, number: u64)
     requires { vec_len out.old + (1 + length (decimal number)) ≤ vec_capacity out.old }
     ensures items { out.new.items ≡ out.old.items ++ (space ∷ decimal number) }
@@ -105,6 +109,7 @@ pub(crate) fn put_field(out: &mut Vec<u8>, number: u64)
 const MOST_DIGITS: usize = 20;
 
 /// Writes a number into room that is there.
+#[tactic(auto, using(crate::proofs::NumbersLemmas::written))]
 fn put_digits(out: &mut Vec<u8>, number: u64)
     requires { vec_len out.old + length (decimal number) ≤ vec_capacity out.old }
     ensures items { out.new.items ≡ out.old.items ++ decimal number }
@@ -123,6 +128,7 @@ fn put_digits(out: &mut Vec<u8>, number: u64)
 
 /// Writes a number of one digit.
 #[inline(always)]
+#[tactic(auto, using(crate::proofs::NumbersLemmas::written))]
 fn put_digit(out: &mut Vec<u8>, number: u64)
     requires digit { number < 10 }
     requires room { vec_len out.old + length (decimal number) ≤ vec_capacity out.old }

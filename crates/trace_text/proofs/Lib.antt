@@ -1,4 +1,4 @@
-pub mod EndsLemmas
+pub mod LaidLemmas
 pub mod PrintingLemmas
 pub mod ReaderLemmas
 pub mod ReadingLemmas

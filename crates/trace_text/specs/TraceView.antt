@@ -1,6 +1,8 @@
 -- A trace as contracts see it, and how it lies in memory: each caller's lines of all rounds, and where those of
--- each round end.
-use Rattle.std.specs.Prelude.{◌≡◌, ℕ, suc, ◌-◌, ◌<◌, ◌≤◌, ◌^◌, ◌==◌, if◌then◌else◌, List, [], ◌∷◌, ◌++◌, length, slice_index, slice_index_or, slice_range, replicate}
+-- each round begin and end.
+use Rattle.std.specs.Prelude.{◌≡◌, ℕ, ◌+◌, ◌-◌, ◌<◌, ◌≤◌, ◌^◌, List, [], ◌∷◌, ◌++◌, length, map, slice_index, slice_index_or, slice_range, take, replicate}
+use Rattle.std.specs.List.{AllByRecursion, flat_map, range_with_len}
+use Rattle.merge_spec.specs.Rounds.{last_tick, lines_of}
 use Rattle.text_spec.specs.TraceFaults.{asked_more, begun_round, with_last}
 use Rattle.text_spec.specs.TraceReading.{AreTicks}
 use Rattle.text_spec.specs.TraceText.{Asked, Round}
@@ -30,64 +32,64 @@ round_at rounds k = slice_index_or rounds k (begun_round 0 [] 0)
 
 -- ---- in memory
 
+-- the ticks beside the calls of all rounds, each caller's lines of all rounds, and the places between rounds: where
+-- the first begins, and where each ends
+pub record Laid : Type 0 where
+  pub beside : List ℕ
+  pub lines : List (List Asked)
+  pub ends : List RoundEnd
+
 -- where the first round begins
 abbrev pub at_start : RoundEnd
 at_start = record { beside = 0; lines = replicate 32 0; after = 0 }
 
--- the lines of each caller, from this one on, between two ends
-abbrev pub lines_between : ℕ → List (List Asked) → List ℕ → List ℕ → List (List Asked)
-lines_between caller [] starts ends = []
-lines_between caller (lines ∷ more) starts ends =
-    slice_range lines (slice_index starts caller) (slice_index ends caller) ∷ lines_between (suc caller) more starts ends
+-- place k of those between rounds: round k is what stands between place k and the next one
+abbrev pub end_at : List RoundEnd → ℕ → RoundEnd
+end_at ends k = slice_index_or ends k at_start
 
--- the round between two ends
-abbrev pub round_between : List ℕ → List (List Asked) → RoundEnd → RoundEnd → Round
-round_between beside callers before end = record {
-  beside = slice_range beside before.beside end.beside;
-  lines = lines_between 0 callers before.lines end.lines;
+-- the lines of a caller between two places
+abbrev pub lines_between : Laid → RoundEnd → RoundEnd → ℕ → List Asked
+lines_between laid start end caller =
+    slice_range (slice_index_or laid.lines caller []) (slice_index start.lines caller) (slice_index end.lines caller)
+
+-- the round between two places
+abbrev pub round_between : Laid → RoundEnd → RoundEnd → Round
+round_between laid start end = record {
+  beside = slice_range laid.beside start.beside end.beside;
+  lines = map (lines_between laid start end) (range_with_len 0 (length laid.lines));
   after = end.after;
 }
 
--- the rounds behind an end
-abbrev pub rounds_behind : List ℕ → List (List Asked) → RoundEnd → List RoundEnd → List Round
-rounds_behind beside callers before [] = []
-rounds_behind beside callers before (end ∷ ends) = round_between beside callers before end ∷ rounds_behind beside callers end ends
+-- the rounds that lie so
+abbrev pub rounds_laid : Laid → List Round
+rounds_laid laid = map (λ k. round_between laid (end_at laid.ends k) (end_at laid.ends (k + 1))) (range_with_len 0 (length laid.ends - 1))
+
+-- the lists of a trace
+abbrev pub laid_of : Inside → Laid
+laid_of t = record { beside = t.beside.items; lines = t.rows; ends = t.ends.items }
 
 -- the rounds of a trace
 abbrev pub traced : Inside → Traced
-traced t = record { callers = length t.rows; rounds = rounds_behind t.beside.items t.rows at_start t.ends.items }
+traced t = record { callers = length t.rows; rounds = rounds_laid (laid_of t) }
 
--- where the round before round k ends
-abbrev pub end_before : List RoundEnd → ℕ → RoundEnd
-end_before ends k = if k == 0 then at_start else slice_index_or ends (k - 1) at_start
-
--- what holds between two ends, the second of them within what is there
-pub record IsBetween (beside : List ℕ) (callers : List (List Asked)) (before end : RoundEnd) : Type 0 where
-  pub beside_rises : before.beside ≤ end.beside
-  pub beside_there : end.beside ≤ length beside
-  pub lines_rise : (caller : ℕ) → slice_index before.lines caller ≤ slice_index end.lines caller
-  pub lines_there : (caller : ℕ) → slice_index end.lines caller ≤ length (slice_index_or callers caller [])
+-- these rounds end here
+pub record IsEnd (rounds : List Round) (end : RoundEnd) : Type 0 where
+  pub beside : end.beside ≡ length (flat_map (λ (round : Round). round.beside) rounds)
+  pub lines : (caller : ℕ) → slice_index end.lines caller ≡ length (lines_of caller rounds)
   pub all_callers : length end.lines ≡ 32
+  pub after : end.after ≡ last_tick rounds
 
--- the ends of rounds behind an end
-abbrev pub AreEnds : List ℕ → List (List Asked) → RoundEnd → List RoundEnd → Type 0
-AreEnds beside callers before [] = Unit {0}
-AreEnds beside callers before (end ∷ ends) = IsBetween beside callers before end × AreEnds beside callers end ends
+-- the lists are those of these rounds, one behind the other
+pub record Lie (laid : Laid) (rounds : List Round) : Type 0 where
+  pub beside : laid.beside ≡ flat_map (λ (round : Round). round.beside) rounds
+  pub lines : (caller : ℕ) → slice_index_or laid.lines caller [] ≡ lines_of caller rounds
+  pub callers : AllByRecursion (λ (round : Round). length round.lines ≡ length laid.lines) rounds
+  pub as_many : length laid.ends ≡ length rounds + 1
+  pub ends : (k : ℕ) → k ≤ length rounds → IsEnd (take k rounds) (end_at laid.ends k)
 
--- the last end, this one where there are none
-abbrev pub last_end : RoundEnd → List RoundEnd → RoundEnd
-last_end before [] = before
-last_end before (end ∷ ends) = last_end end ends
-
--- all that is there stands before this end
-pub record IsWhole (beside : List ℕ) (callers : List (List Asked)) (end : RoundEnd) : Type 0 where
-  pub beside_is : end.beside ≡ length beside
-  pub lines_are : (caller : ℕ) → slice_index end.lines caller ≡ length (slice_index_or callers caller [])
-
--- the ends of a trace's rounds, whose ticks never fall
+-- a trace's lists are those of its rounds, whose ticks never fall
 pub record IsSound (t : Inside) : Type 0 where
   pub few : length t.rows ≤ 32
   pub few_lines : (caller : ℕ) → length (slice_index_or t.rows caller []) < 2 ^ 32
-  pub ends : AreEnds t.beside.items t.rows at_start t.ends.items
-  pub whole : IsWhole t.beside.items t.rows (last_end at_start t.ends.items)
-  pub ticks : AreTicks (rounds_behind t.beside.items t.rows at_start t.ends.items)
+  pub lie : Lie (laid_of t) (rounds_laid (laid_of t))
+  pub ticks : AreTicks (rounds_laid (laid_of t))

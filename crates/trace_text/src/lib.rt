@@ -7,7 +7,6 @@
 //! No clause says that memory suffices: an answer `NoMemory` is always true.
 #![tactic(auto)]
 
-mod fault;
 mod form;
 mod line;
 mod printing;
@@ -19,8 +18,8 @@ mod rows;
 mod taking;
 mod trace;
 
-pub use fault::TraceFault;
 pub use line::{Line, TraceAct};
 pub use printing::print;
 pub use reading::read;
+pub use text_spec::TextFault as TraceFault;
 pub use trace::Trace;

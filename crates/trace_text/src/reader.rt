@@ -12,7 +12,8 @@ use text_spec::{LineFault, Pieces};
 
 /// What the lines read so far tell.
 #[derive(Debug, Drop)]
-pub(crate) struct Reader {
+pub(crate) struct Reader<'a> {
+    pub(crate) config: &'a Config,
     pub(crate) trace: Trace,
     /// The last round has not ended: its tick is the last one so far.
     pub(crate) is_open: bool,
@@ -21,11 +22,11 @@ pub(crate) struct Reader {
     /// Where a context is decoded.
     room: Vec<u8>,
     ghost open_round: { is_open ≡ true → 0 < length trace.rounds },
+    ghost callers: { trace.callers ≡ config.now.callers },
 }
 
-impl Reader {
+impl<'a> Reader<'a> {
     ghost use Rattle.std.specs.Prelude.{◌≡◌, ◌<◌, ◌≤◌, length, option_map, IfOk, OnOk};
-    ghost use Rattle.ids_config.specs.Parts.{Parts};
     ghost use Rattle.text_spec.specs.Contexts.{numbers_in};
     ghost use Rattle.text_spec.specs.LineAnswers.{Took};
     ghost use Rattle.text_spec.specs.Lines.{after_line, past_with};
@@ -36,11 +37,12 @@ impl Reader {
     ghost use Rattle.trace_text.specs.RawLines.{act_told};
     ghost use Rattle.trace_text.specs.ReaderView.{past_of};
 
-    pub(crate) fn new(alloc: Global, config: &Config) -> Result<Reader, NoMemory>
+    pub(crate) fn new(alloc: Global, config: &'a Config) -> Result<Reader<'a>, NoMemory>
         ensures past { IfOk result (λ r. past_of r ≡ no_rounds) }
-        ensures callers { IfOk result (λ r. r.trace.callers ≡ config.now.callers) }
+        ensures config { IfOk result (λ r. r.config.now ≡ config.now) }
     {
         Ok(Reader {
+            config,
             trace: Trace::make(alloc, config)?,
             is_open: false,
             ticks: Vec::new(alloc),
@@ -49,11 +51,10 @@ impl Reader {
     }
 
     /// Takes a line, or tells its first fault.
-    pub(crate) fn line(&mut self, config: &Config, line: &[u8]) -> Result<(), LineFault>
-        requires { self.old.trace.callers ≡ config.now.callers }
+    pub(crate) fn take(&mut self, line: &[u8]) -> Result<(), LineFault>
         ensures took { Took (past_of self.new)
-            (after_line (trace_grammar config.now) (past_of self.old) line.now) result }
-        ensures callers { self.new.trace.callers ≡ self.old.trace.callers }
+            (after_line (trace_grammar self.old.config.now) (past_of self.old) line.now) result }
+        ensures config { self.new.config.now ≡ self.old.config.now }
     {
         let Some((kind, words)) = Pieces::of(line, b' ').first() else {
             return Err(LineFault::Fault(1));
@@ -63,17 +64,17 @@ impl Reader {
         }
         match line_of(kind, words) {
             None => Err(LineFault::Fault(1)),
-            Some(RawLine::Call { caller, act }) => self.ask(config, caller, &act),
+            Some(RawLine::Call { caller, act }) => self.ask(caller, &act),
             Some(RawLine::Close(tick)) => self.close(tick),
         }
     }
 
     /// Opens a round, whose ticks beside these words are.
     fn open(&mut self, words: Pieces<'_>) -> Result<(), LineFault>
-        ensures took { (config : Parts) → self.old.trace.callers ≡ config.callers →
-            Took (past_of self.new) (past_with (trace_grammar config) (past_of self.old)
+        ensures took { Took (past_of self.new)
+            (past_with (trace_grammar self.old.config.now) (past_of self.old)
             (option_map opens (numbers_in (length words.entry) words.entry))) result }
-        ensures callers { self.new.trace.callers ≡ self.old.trace.callers }
+        ensures config { self.new.config.now ≡ self.old.config.now }
     {
         if !read_ticks(words, &mut self.ticks)? {
             return Err(LineFault::Fault(1));
@@ -94,36 +95,35 @@ impl Reader {
     }
 
     /// Takes what a caller asks for.
-    fn ask(&mut self, config: &Config, caller: u64, act: &RawAct<'_>) -> Result<(), LineFault>
-        requires { self.old.trace.callers ≡ config.now.callers }
-        ensures took { let past = past_of self.old in
-            Took (past_of self.new) (added config.now past (calls caller (act_told act.now))
-            (asked_fault config.now past caller (act_told act.now))) result }
-        ensures callers { self.new.trace.callers ≡ self.old.trace.callers }
+    fn ask(&mut self, caller: u64, act: &RawAct<'_>) -> Result<(), LineFault>
+        ensures took { let past = past_of self.old in let config = self.old.config.now in
+            Took (past_of self.new) (added config past (calls caller (act_told act.now))
+            (asked_fault config past caller (act_told act.now))) result }
+        ensures config { self.new.config.now ≡ self.old.config.now }
     {
-        self.check_asked(config, caller, act)?;
+        self.check_asked(caller, act)?;
         let line = line_for(act, &mut self.room)?;
         self.trace.push_line(caller as u8, &line)?;
         Ok(())
     }
 
-    fn check_asked(&self, config: &Config, caller: u64, act: &RawAct<'_>) -> Result<(), u8>
-        requires { self.now.trace.callers ≡ config.now.callers }
-        ensures fault { result ≡ asked_fault config.now (past_of self.now) caller (act_told act.now) }
+    fn check_asked(&self, caller: u64, act: &RawAct<'_>) -> Result<(), u8>
+        ensures fault { result ≡
+            asked_fault self.now.config.now (past_of self.now) caller (act_told act.now) }
         ensures caller { OnOk result (caller < 32) }
-        ensures few { OnOk result (length config.now.events ≤ 256) }
+        ensures few { OnOk result (length self.now.config.now.events ≤ 256) }
     {
         asks(2, self.is_open)?;
         asks(3, caller < u64::from(self.trace.callers()) && is_act(act))?;
-        asks(4, has_event(config, act))
+        asks(4, has_event(self.config, act))
     }
 
     /// Ends the round.
     fn close(&mut self, tick: u64) -> Result<(), LineFault>
-        ensures took { (config : Parts) →
-            Took (past_of self.new) (added config (past_of self.old) (closes tick)
+        ensures took { Took (past_of self.new)
+            (added self.old.config.now (past_of self.old) (closes tick)
             (closing_fault (past_of self.old) tick)) result }
-        ensures callers { self.new.trace.callers ≡ self.old.trace.callers }
+        ensures config { self.new.config.now ≡ self.old.config.now }
     {
         self.check_closing(tick)?;
         self.trace.end_round(tick);

@@ -1,11 +1,11 @@
-ghost use Rattle.std.specs.Prelude.{◌≡◌, ℕ, ◌<◌, ◌≤◌, ◌^◌, ◌∷◌, ◌++◌, [], length, slice_index, slice_range, IfOk, OnOk, OnErr};
+ghost use Rattle.std.specs.Prelude.{◌≡◌, ℕ, ◌-◌, ◌<◌, ◌≤◌, ◌^◌, ◌∷◌, ◌++◌, [], length, slice_range, IfOk, OnOk, OnErr};
 ghost use Rattle.std.specs.List.{AllByRecursion};
 ghost use Rattle.merge_spec.specs.Orders.{KeepUpFrom};
 ghost use Rattle.merge_spec.specs.Rounds.{last_tick, lines_at, lines_of};
 ghost use Rattle.text_spec.specs.TraceFaults.{ended_at, with_last};
 ghost use Rattle.text_spec.specs.TraceReading.{AreTicks};
 ghost use Rattle.trace_text.specs.Lines.{line_asked, line_at};
-ghost use Rattle.trace_text.specs.TraceView.{Traced, no_rounds_of, with_line, with_round, round_at, at_start, end_before, last_end};
+ghost use Rattle.trace_text.specs.TraceView.{end_at as place_at, no_rounds_of, round_at, with_line, with_round};
 
 use crate::line::Line;
 use crate::row::Row;
@@ -15,7 +15,8 @@ use ids_types::NoMemory;
 use std::alloc::Global;
 use std::marker::Model;
 
-/// Where a round ends among all ticks beside calls and among each caller's lines, and the tick after it.
+/// A place between two rounds: how many ticks beside calls and lines of each caller stand before it, and
+/// the last tick before it.
 #[derive(Clone, Copy, Debug)]
 pub(crate) struct RoundEnd {
     beside: usize,
@@ -36,6 +37,7 @@ pub struct Trace {
     alloc: Global,
     beside: Vec<u64>,
     rows: CallerRows,
+    /// Where the first round begins, and where each ends.
     ends: Vec<RoundEnd>,
 }
 
@@ -57,11 +59,13 @@ impl Trace {
         ensures { IfOk result (λ t. t ≡ no_rounds_of config.now.callers) }
     {
         let callers = config.parts().callers as usize;
+        let mut ends = Vec::new(alloc);
+        ends.push(START)?;
         Ok(Trace {
             alloc,
             beside: Vec::new(alloc),
             rows: CallerRows::make(alloc, callers)?,
-            ends: Vec::new(alloc),
+            ends,
         })
     }
 
@@ -107,7 +111,6 @@ impl Trace {
         ensures callers { result ≡ self.now.callers }
         ensures few { result ≤ 32 }
     {
-        let _ends = &self.ends;
         self.rows.callers() as u8
     }
 
@@ -120,7 +123,7 @@ impl Trace {
         ensures few { (caller : ℕ) → caller < self.now.callers →
             length (lines_of caller self.now.rounds) < 2 ^ 32 }
     {
-        self.ends.len() as u64
+        (self.ends.len() - 1) as u64
     }
 
     /// The ticks of the turns beside the calls of a round, from 0.
@@ -129,8 +132,8 @@ impl Trace {
         ensures { result.now ≡ (round_at self.now.rounds round).beside }
     {
         let round = round as usize;
-        let start = ticks_before(&self.ends, round);
-        part(&self.beside, start, self.ends[round].beside)
+        let (start, end) = (end_at(&self.ends, round), end_at(&self.ends, round + 1));
+        part(&self.beside, start.beside, end.beside)
     }
 
     /// The tick of the turn after the calls of a round.
@@ -138,7 +141,7 @@ impl Trace {
         requires { round < length self.now.rounds }
         ensures { result ≡ (round_at self.now.rounds round).after }
     {
-        self.ends[round as usize].after
+        end_at(&self.ends, round as usize + 1).after
     }
 
     /// How many lines a caller has in a round.
@@ -148,8 +151,8 @@ impl Trace {
         ensures { result ≡ length (lines_at caller (round_at self.now.rounds round)) }
     {
         let (round, caller) = (round as usize, caller as usize);
-        let start = lines_before(&self.ends, round, caller);
-        u64::from(self.ends[round].lines[caller]) - start
+        let (start, end) = (end_at(&self.ends, round), end_at(&self.ends, round + 1));
+        u64::from(end.lines[caller] - start.lines[caller])
     }
 
     /// Line `i` of a caller in a round, from 0, with its context lent.
@@ -160,16 +163,16 @@ impl Trace {
         ensures { line_asked result ≡ line_at (lines_at caller (round_at self.now.rounds round)) i }
     {
         let (round, caller) = (round as usize, caller as usize);
-        let start = lines_before(&self.ends, round, caller);
+        let start = u64::from(end_at(&self.ends, round).lines[caller]);
         self.rows.line(caller, (start + i) as usize)
     }
 
     /// The last tick of all, 0 where there are no rounds.
-    pub(crate) fn last_tick(&self) -> u64
+    pub fn last_tick(&self) -> u64
         ensures tick { result ≡ last_tick self.now.rounds }
         ensures ticks { AreTicks self.now.rounds }
     {
-        last_after(&self.ends)
+        last_of(&self.ends).after
     }
 
     /// Ends the last round at a later tick.
@@ -194,47 +197,18 @@ fn part(ticks: &[u64], start: usize, end: usize) -> &[u64]
     &ticks[start..end]
 }
 
-/// Where the ticks beside the calls of a round begin.
-fn ticks_before(ends: &[RoundEnd], round: usize) -> usize
-    requires { round < length ends.now }
-    ensures { result ≡ (end_before ends.now round).beside }
+/// Place `k` of those between rounds.
+fn end_at(ends: &[RoundEnd], k: usize) -> &RoundEnd
+    requires { k < length ends.now }
+    ensures { result.now ≡ place_at ends.now k }
 {
-    if round == 0 {
-        return 0;
-    }
-    ends[round - 1].beside
-}
-
-/// Where a caller's lines of a round begin.
-fn lines_before(ends: &[RoundEnd], round: usize, caller: usize) -> u64
-    requires round { round < length ends.now }
-    requires caller { caller < 32 }
-    ensures { result ≡ slice_index (end_before ends.now round).lines caller }
-{
-    if round == 0 {
-        return 0;
-    }
-    u64::from(ends[round - 1].lines[caller])
-}
-
-/// The tick after the last round's calls, 0 where there is none.
-#[tactic(auto, using(crate::proofs::EndsLemmas::last_end_at))]
-fn last_after(ends: &[RoundEnd]) -> u64
-    ensures { result ≡ (last_end at_start ends.now).after }
-{
-    if ends.is_empty() {
-        return 0;
-    }
-    ends[ends.len() - 1].after
+    &ends[k]
 }
 
 /// Where the last round ends.
-#[tactic(auto, using(crate::proofs::EndsLemmas::last_end_at))]
-fn last_of(ends: &[RoundEnd]) -> RoundEnd
-    ensures { result ≡ last_end at_start ends.now }
+fn last_of(ends: &[RoundEnd]) -> &RoundEnd
+    requires { 0 < length ends.now }
+    ensures { result.now ≡ place_at ends.now (length ends.now - 1) }
 {
-    if ends.is_empty() {
-        return START;
-    }
-    ends[ends.len() - 1]
+    end_at(ends, ends.len() - 1)
 }

@@ -1,16 +1,25 @@
-use Rattle.std.proofs.Common.{◌<◌, length, arith, rules}
+use Rattle.std.proofs.Common.{◌<◌, ◌++◌, [], length, map, refl, get_or, arith, rules}
 use Rattle.std.specs.List.{flat_map}
-use Rattle.text_spec.specs.JournalText.{turn_told}
-use Rattle.journal.proofs.PrintingLemmas.{turn_printed, loss_printed}
+use Rattle.ids_types.specs.Turns.{begun, turn_at}
+use Rattle.text_spec.specs.Fields.{ended_line}
+use Rattle.text_spec.specs.JournalText.{fields_of, loses, turn_told}
+use Rattle.text_spec.proofs.WordsLemmas.{one_more}
+use Rattle.journal.specs.Printing.{lines_text}
+use Rattle.journal.proofs.PrintingLemmas.{losses-push, turns-push}
 use Rattle.journal.proofs.printing.print_lines.Goals as goal
 
 pub loop-turn-preserved : goal.loop-turn-preserved
 loop-turn-preserved c =
     let turns = c.args.history.now.turns in
-    let within : c.loop-turn.turn < length turns = search rules in
-    turn_printed c.loop-turn.text.items c.push_turn.new.out.items turns c.loop-turn.turn within c.loop-turn.invariant (search rules)
+    let i = c.loop-turn.turn in
+    let within : i < length turns = search rules in
+    one_more (λ ts. lines_text (flat_map turn_told ts)) (λ _ turn. lines_text (turn_told turn)) turns-push [] c.loop-turn.text.items c.push_turn.new.out.items turns i
+    (turn_at turns i) (begun (record { tick = 0; lost_events = 0; lost_contexts = 0; limited = 0 })) within refl c.loop-turn.invariant (search rules)
 
 pub loop-loss-preserved : goal.loop-loss-preserved
 loop-loss-preserved c =
-    loss_printed c.loop-loss.text.items c.push_loss.new.out.items (flat_map turn_told c.args.history.now.turns) c.args.losses.now c.loop-loss.loss-index (record { caller = 0; call = 0; given = 0 })
-    (omega arith) c.loop-loss.invariant (search rules)
+    let before = flat_map turn_told c.args.history.now.turns in
+    let losses = c.args.losses.now in
+    let i = c.loop-loss.loss-index in
+    one_more (λ ls. lines_text (before ++ map loses ls)) (λ _ loss. ended_line (fields_of (loses loss))) (losses-push before) [] c.loop-loss.text.items c.push_loss.new.out.items losses i
+    (get_or losses i (record { caller = 0; call = 0; given = 0 })) _ (omega arith) refl c.loop-loss.invariant (search rules)

@@ -1,11 +1,17 @@
-use Rattle.std.proofs.Common.{◌<◌, length, rules}
+use Rattle.std.proofs.Common.{◌<◌, length, map, rules}
 use Rattle.ids_types.specs.Plain.{plain_entry}
 use Rattle.ids_types.specs.Turns.{turn_at}
-use Rattle.journal.proofs.PrintingLemmas.{entry_printed}
+use Rattle.ids_types.specs.declared.entry.Act.TheVariants.{State}
+use Rattle.text_spec.specs.Fields.{ended_line}
+use Rattle.text_spec.specs.JournalText.{enters, fields_of}
+use Rattle.text_spec.proofs.WordsLemmas.{one_more}
+use Rattle.journal.specs.Printing.{lines_text}
+use Rattle.journal.proofs.PrintingLemmas.{entries-push}
 use Rattle.journal.proofs.printing.push_turn.Goals as goal
 
 pub loop-i-preserved : goal.loop-i-preserved
 loop-i-preserved c =
-    let turn = turn_at c.args.history.now.turns c.args.turn in
-    let within : c.loop-i.i < length turn.entries = search rules in
-    entry_printed c.push_head.new.out.items c.loop-i.out.items c.push_entry.new.out.items turn c.loop-i.i (plain_entry c.entry.result) within c.entry.ensures c.loop-i.invariant (search rules)
+    let entries = (turn_at c.args.history.now.turns c.args.turn).entries in
+    let within : c.loop-i.i < length entries = search rules in
+    one_more (λ es. lines_text (map enters es)) (λ _ entry. ended_line (fields_of (enters entry))) entries-push c.push_head.new.out.items c.loop-i.out.items c.push_entry.new.out.items entries c.loop-i.i
+    (plain_entry c.entry.result) (record { caller = 0; call = 0; act = State 0 }) within c.entry.ensures c.loop-i.invariant (search rules)

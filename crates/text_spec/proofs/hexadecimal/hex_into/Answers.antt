@@ -1,6 +1,6 @@
 use Rattle.std.proofs.Common.{ap, sym, arith, length}
 use Rattle.std.specs.Prelude.{option_map}
-use Rattle.text_spec.proofs.HexadecimalLemmas.{hex_in-odd, hex_upto-none, hex_upto-short, hex_upto-read}
+use Rattle.text_spec.proofs.HexadecimalLemmas.{hex_in-odd, hex_upto-none, hex_upto-short}
 use Rattle.text_spec.proofs.hexadecimal.hex_into.Goals as goal
 use Rattle.text_spec.proofs.hexadecimal.hex_into.Goals.{then-word-eq1-via-then-word-eq1, then-word-eq1-via-else-word-eq1+then-room-count}
 
@@ -11,6 +11,3 @@ returns-then-word-eq1-clause-count c =
       | then-word-eq1-via-then-word-eq1 w ↦ sym (ap (option_map length) (hex_upto-none (length c.args.room.now) word (hex_in-odd word (omega arith))))
       | then-word-eq1-via-else-word-eq1+then-room-count w ↦ sym (ap (option_map length) (hex_upto-short (length c.args.room.now) word (omega arith)))
     ]
-
-pub returns-clause-count : goal.returns-clause-count
-returns-clause-count c = hex_upto-read (length c.args.room.now) _ c.args.word.now _ c.put_bytes.ensures.bytes (omega (arith, c.put_bytes.ensures.same)) (omega arith)

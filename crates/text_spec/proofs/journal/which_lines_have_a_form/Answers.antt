@@ -1,5 +1,5 @@
-use Rattle.text_spec.proofs.JournalForms.{told_has_form, none_has_none}
+use Rattle.text_spec.proofs.JournalForms.{told_is, none_has_none}
 use Rattle.text_spec.proofs.journal.which_lines_have_a_form.Goals as goal
 
 pub returns : goal.returns
-returns c = record { told = told_has_form; none = none_has_none }
+returns c = record { told = λ words line read. (told_is words line read).0; none = none_has_none }

@@ -1,6 +1,6 @@
-use Rattle.std.proofs.Common.{sym, ◌∙◌, ◌+◌, arith}
-use Rattle.std.proofs.lemmas.List.{take_rest, length-drop}
-use Rattle.text_spec.proofs.PiecesLemmas.{cut_none, cut_some, position_within}
+use Rattle.std.proofs.Common.{sym, ◌∙◌, ◌+◌}
+use Rattle.std.proofs.lemmas.List.{take_rest}
+use Rattle.text_spec.proofs.PiecesLemmas.{cut_none, cut_some}
 use Rattle.text_spec.proofs.pieces.cut.Goals as goal
 
 pub returns-in-None-clause-pieces : goal.returns-in-None-clause-pieces
@@ -10,8 +10,3 @@ pub returns-in-Some-clause-pieces : goal.returns-in-Some-clause-pieces
 returns-in-Some-clause-pieces c =
     let found = cut_some _ c.args.text.now c.in-Some.i (sym c.place_of.ensures ∙ c.in-Some.is) in
     rw (take_rest c.args.text.now (c.in-Some.i + 1)) found
-
-pub returns-in-Some-clause-shorter : goal.returns-in-Some-clause-shorter
-returns-in-Some-clause-shorter c =
-    let within = position_within _ c.args.text.now c.in-Some.i (sym c.place_of.ensures ∙ c.in-Some.is) in
-    rw (take_rest c.args.text.now (c.in-Some.i + 1), length-drop) (omega (arith, within))

@@ -1,16 +1,20 @@
-use Rattle.std.proofs.Common.{◌≡◌, ◌<◌, ◌++◌, length, rules, arith, ap, ◌∙◌}
+use Rattle.std.proofs.Common.{◌≡◌, ◌<◌, ◌++◌, [], length, refl, rules, arith, ap, ◌∙◌}
 use Rattle.std.proofs.lemmas.Result.{on_ok_weaker}
 use Rattle.text_spec.specs.Fields.{ended_line}
-use Rattle.text_spec.specs.TraceText.{closes, opens, trace_fields}
+use Rattle.merge_spec.specs.Rounds.{lines_at}
+use Rattle.text_spec.specs.TraceText.{callers_told, closes, opens, trace_fields}
+use Rattle.text_spec.proofs.WordsLemmas.{one_more}
+use Rattle.trace_text.specs.Printing.{caller_text, lines_text}
 use Rattle.trace_text.specs.TraceView.{round_at}
-use Rattle.trace_text.proofs.PrintingLemmas.{caller_printed, round_printed}
+use Rattle.trace_text.proofs.PrintingLemmas.{callers_text-push, round_printed}
 use Rattle.trace_text.proofs.printing.push_round.Goals as goal
 
 pub loop-caller-preserved : goal.loop-caller-preserved
 loop-caller-preserved c =
     let round = round_at c.args.trace.now.rounds c.args.round in
     let within : c.loop-caller.caller < length round.lines = omega (arith, c.loop-caller-test.true, c.callers-caller-end.ensures.callers, c.requires.callers) in
-    caller_printed c.push_opening.new.out.items c.loop-caller.out.items c.push_caller.new.out.items round c.loop-caller.caller within c.loop-caller.invariant c.in_ok-push_caller.ensures
+    one_more (λ ls. lines_text (callers_told 0 ls)) caller_text callers_text-push c.push_opening.new.out.items c.loop-caller.out.items c.push_caller.new.out.items round.lines c.loop-caller.caller
+    (lines_at c.loop-caller.caller round) [] within refl c.loop-caller.invariant c.in_ok-push_caller.ensures
 
 pub returns : goal.returns
 returns c =

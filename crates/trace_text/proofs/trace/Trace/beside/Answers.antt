@@ -1,43 +1,32 @@
-use Rattle.std.proofs.Common.{◌≡◌, length, get_or, rules, arith, sym, ap, ◌∙◌}
-use Rattle.std.specs.Prelude.{slice_range}
+use Rattle.std.proofs.Common.{◌≡◌, ◌+◌, [], length, ap, arith, rules, ◌∙◌}
+use Rattle.text_spec.specs.TraceFaults.{begun_round}
 use Rattle.text_spec.specs.TraceText.{Round}
-use Rattle.trace_text.specs.TraceView.{IsBetween, at_start, end_before}
+use Rattle.trace_text.specs.TraceView.{end_at, laid_of}
 use Rattle.trace_text.specs.declared.trace.RoundEnd.{RoundEnd}
-use Rattle.trace_text.proofs.EndsLemmas.{at, between_is, end_read, place}
+use Rattle.trace_text.proofs.LaidLemmas.{lie_of, round_is, ticks_rise}
 use Rattle.trace_text.proofs.trace.Trace.beside.Goals as goal
 
-pub ticks_before-start-requires : goal.ticks_before-start-requires
-ticks_before-start-requires c = let there = place c.self.inside.beside.items c.self.inside.rows c.self.inside.ends.items c.args.self.now c.self.view_is c.args.round c.requires in search rules
-
-pub index-requires : goal.index-requires
-index-requires c = let there = place c.self.inside.beside.items c.self.inside.rows c.self.inside.ends.items c.args.self.now c.self.view_is c.args.round c.requires in search rules
-
--- the start and the end of the round, as they were read
-read : (c : goal.After-index) → c.index.result.now ≡ get_or c.self.inside.ends.items c.args.round at_start
-read c = let there = place c.self.inside.beside.items c.self.inside.rows c.self.inside.ends.items c.args.self.now c.self.view_is c.args.round c.requires in end_read c.self.inside.ends.items c.args.round c.index.result.now there c.index.ensures
-
-start : (c : goal.After-index) → c.ticks_before-start.result ≡ (end_before c.self.inside.ends.items c.args.round).beside
-start c = search rules
-
--- what holds between them
-between : (c : goal.After-index) → IsBetween c.self.inside.beside.items c.self.inside.rows (end_before c.self.inside.ends.items c.args.round) (get_or c.self.inside.ends.items c.args.round at_start)
-between c = between_is c.self.inside.beside.items c.self.inside.rows c.self.inside.ends.items c.args.round (place c.self.inside.beside.items c.self.inside.rows c.self.inside.ends.items c.args.self.now c.self.view_is c.args.round c.requires) c.self.invariant.ends
-
 pub part-requires-clause-start : goal.part-requires-clause-start
-part-requires-clause-start c = omega (arith, (between c).beside_rises, start c, ap (λ (e : RoundEnd). e.beside) (read c))
+part-requires-clause-start c =
+    let laid = laid_of c.self.inside in
+    let rise = ticks_rise laid c.args.self.now.rounds (lie_of laid c.args.self.now c.self.view_is c.self.invariant.lie) c.args.round c.requires in
+    let start : c.end_at-start.result.now ≡ end_at laid.ends c.args.round = search rules in
+    let end : c.end_at-end.result.now ≡ end_at laid.ends (c.args.round + 1) = search rules in
+    let ticks = λ (e : RoundEnd). e.beside in
+    omega (arith, rise.0, ap ticks start, ap ticks end)
 
 pub part-requires-clause-end : goal.part-requires-clause-end
 part-requires-clause-end c =
-    let ticks : length c.deref-2.result.now ≡ length c.self.inside.beside.items = search rules in
-    omega (arith, (between c).beside_there, ap (λ (e : RoundEnd). e.beside) (read c), ticks)
+    let laid = laid_of c.self.inside in
+    let rise = ticks_rise laid c.args.self.now.rounds (lie_of laid c.args.self.now c.self.view_is c.self.invariant.lie) c.args.round c.requires in
+    let end : c.end_at-end.result.now ≡ end_at laid.ends (c.args.round + 1) = search rules in
+    let all : length c.deref-3.result.now ≡ length laid.beside = search rules in
+    omega (arith, rise.1, ap (λ (e : RoundEnd). e.beside) end, all)
 
 pub returns : goal.returns
 returns c =
-    let t = c.self.inside in
-    let part : c.part.result.now ≡ slice_range t.beside.items c.ticks_before-start.result c.index.result.now.beside = search rules in
-    let from : c.ticks_before-start.result ≡ (end_before t.ends.items c.args.round).beside = search rules in
-    let to = end_read t.ends.items c.args.round c.index.result.now (place c.self.inside.beside.items c.self.inside.rows c.self.inside.ends.items c.args.self.now c.self.view_is c.args.round c.requires) c.index.ensures in
-    part
-    ∙ ap (λ n. slice_range t.beside.items n c.index.result.now.beside) from
-    ∙ ap (λ (e : RoundEnd). slice_range t.beside.items (end_before t.ends.items c.args.round).beside e.beside) to
-    ∙ sym (ap (λ (r : Round). r.beside) (at c.self.inside.beside.items c.self.inside.rows c.self.inside.ends.items c.args.self.now c.self.view_is c.args.round c.requires))
+    let laid = laid_of c.self.inside in
+    let round = round_is laid c.args.self.now.rounds (lie_of laid c.args.self.now c.self.view_is c.self.invariant.lie) c.args.round (begun_round 0 [] 0) c.requires in
+    let start : c.end_at-start.result.now ≡ end_at laid.ends c.args.round = search rules in
+    let end : c.end_at-end.result.now ≡ end_at laid.ends (c.args.round + 1) = search rules in
+    c.part.ensures ∙ rw (c.deref-3.ensures.value, start, end) (ap (λ (r : Round). r.beside) round)

@@ -1,28 +1,27 @@
-use Rattle.std.proofs.Common.{◌≡◌, ◌+◌, [], get_or, rules, arith, ap, ◌∙◌}
+use Rattle.std.proofs.Common.{◌≡◌, arith, rules, ◌∙◌}
 use Rattle.std.specs.Prelude.{slice_index}
-use Rattle.trace_text.specs.Lines.{line_at}
-use Rattle.trace_text.specs.TraceView.{end_before}
-use Rattle.trace_text.proofs.EndsLemmas.{line_of_round, place}
+use Rattle.trace_text.specs.TraceView.{end_at, laid_of}
+use Rattle.trace_text.proofs.LaidLemmas.{lie_of, line_is, lines_rise}
 use Rattle.trace_text.proofs.trace.Trace.line.Goals as goal
-
-pub lines_before-start-requires-clause-round : goal.lines_before-start-requires-clause-round
-lines_before-start-requires-clause-round c = let there = place c.self.inside.beside.items c.self.inside.rows c.self.inside.ends.items c.args.self.now c.self.view_is c.args.round c.requires.round in search rules
 
 pub overflow_add-start : goal.overflow_add-start
 overflow_add-start c =
-    let is = line_of_round c.self.inside.beside.items c.self.inside.rows c.self.inside.ends.items c.args.self.now c.self.view_is c.args.round c.args.caller c.args.i c.requires.round c.requires.caller c.self.invariant.ends c.requires.line in
-    let start : c.lines_before-start.result ≡ slice_index (end_before c.self.inside.ends.items c.args.round).lines c.args.caller = search rules in
-    let few = c.self.invariant.few_lines c.args.caller in
-    omega (arith, is.0, start, few)
+    let laid = laid_of c.self.inside in
+    let rise = lines_rise laid c.args.self.now.rounds (lie_of laid c.args.self.now c.self.view_is c.self.invariant.lie) c.args.round c.args.caller c.requires.round in
+    let start : c.from-start.result ≡ slice_index (end_at laid.ends c.args.round).lines c.args.caller = search rules in
+    omega (arith, rise.0, rise.1, start, c.requires.line, c.self.invariant.few_lines c.args.caller)
 
 pub line-requires-clause-line : goal.line-requires-clause-line
 line-requires-clause-line c =
-    let is = line_of_round c.self.inside.beside.items c.self.inside.rows c.self.inside.ends.items c.args.self.now c.self.view_is c.args.round c.args.caller c.args.i c.requires.round c.requires.caller c.self.invariant.ends c.requires.line in
-    let start : c.lines_before-start.result ≡ slice_index (end_before c.self.inside.ends.items c.args.round).lines c.args.caller = search rules in
-    omega (arith, is.0, start)
+    let laid = laid_of c.self.inside in
+    let rise = lines_rise laid c.args.self.now.rounds (lie_of laid c.args.self.now c.self.view_is c.self.invariant.lie) c.args.round c.args.caller c.requires.round in
+    let start : c.from-start.result ≡ slice_index (end_at laid.ends c.args.round).lines c.args.caller = search rules in
+    omega (arith, rise.0, rise.1, start, c.requires.line)
 
 pub returns : goal.returns
 returns c =
-    let is = line_of_round c.self.inside.beside.items c.self.inside.rows c.self.inside.ends.items c.args.self.now c.self.view_is c.args.round c.args.caller c.args.i c.requires.round c.requires.caller c.self.invariant.ends c.requires.line in
-    let start : c.lines_before-start.result ≡ slice_index (end_before c.self.inside.ends.items c.args.round).lines c.args.caller = search rules in
-    c.line.ensures ∙ ap (λ n. line_at (get_or c.self.inside.rows c.args.caller []) (n + c.args.i)) start ∙ is.1
+    let laid = laid_of c.self.inside in
+    let lie = lie_of laid c.args.self.now c.self.view_is c.self.invariant.lie in
+    let its = line_is laid c.args.self.now.rounds lie c.args.round c.args.caller c.requires.round c.args.i c.requires.line in
+    let start : c.from-start.result ≡ slice_index (end_at laid.ends c.args.round).lines c.args.caller = search rules in
+    c.line.ensures ∙ rw start its

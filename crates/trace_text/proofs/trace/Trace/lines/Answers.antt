@@ -1,30 +1,18 @@
-use Rattle.std.proofs.Common.{◌≡◌, rules, arith, ap}
+use Rattle.std.proofs.Common.{◌≡◌, ◌+◌, ℕ, ap, arith, rules}
 use Rattle.std.specs.Prelude.{slice_index}
-use Rattle.trace_text.specs.TraceView.{end_before}
+use Rattle.trace_text.specs.TraceView.{end_at, laid_of}
 use Rattle.trace_text.specs.declared.trace.RoundEnd.{RoundEnd}
-use Rattle.trace_text.proofs.EndsLemmas.{count_of_round, end_read, lines_within, place}
+use Rattle.trace_text.proofs.LaidLemmas.{lie_of, lines_rise}
 use Rattle.trace_text.proofs.trace.Trace.lines.Goals as goal
 
-pub index-requires : goal.index-requires
-index-requires c = let there = place c.self.inside.beside.items c.self.inside.rows c.self.inside.ends.items c.args.self.now c.self.view_is c.args.round c.requires.round in search rules
+-- the lines of a caller before the round and after it
+abbrev count : ℕ → RoundEnd → ℕ
+count caller end = slice_index end.lines caller
 
-pub lines_before-start-requires-clause-round : goal.lines_before-start-requires-clause-round
-lines_before-start-requires-clause-round c = let there = place c.self.inside.beside.items c.self.inside.rows c.self.inside.ends.items c.args.self.now c.self.view_is c.args.round c.requires.round in search rules
-
-pub overflow_sub-result : goal.overflow_sub-result
-overflow_sub-result c =
-    let there = place c.self.inside.beside.items c.self.inside.rows c.self.inside.ends.items c.args.self.now c.self.view_is c.args.round c.requires.round in
-    let read = end_read c.self.inside.ends.items c.args.round c.index.result.now there c.index.ensures in
-    let same = ap (λ (e : RoundEnd). slice_index e.lines c.args.caller) read in
-    let within = lines_within c.self.inside.beside.items c.self.inside.rows c.self.inside.ends.items c.args.self.now c.self.view_is c.args.round c.args.caller c.requires.round c.self.invariant.ends in
-    let start : c.lines_before-start.result ≡ slice_index (end_before c.self.inside.ends.items c.args.round).lines c.args.caller = search rules in
-    omega (arith, same, within.0, start)
-
-pub returns : goal.returns
-returns c =
-    let there = place c.self.inside.beside.items c.self.inside.rows c.self.inside.ends.items c.args.self.now c.self.view_is c.args.round c.requires.round in
-    let read = end_read c.self.inside.ends.items c.args.round c.index.result.now there c.index.ensures in
-    let same = ap (λ (e : RoundEnd). slice_index e.lines c.args.caller) read in
-    let count = count_of_round c.self.inside.beside.items c.self.inside.rows c.self.inside.ends.items c.args.self.now c.self.view_is c.args.round c.args.caller c.requires.round c.requires.caller c.self.invariant.ends in
-    let start : c.lines_before-start.result ≡ slice_index (end_before c.self.inside.ends.items c.args.round).lines c.args.caller = search rules in
-    omega (arith, same, count, start)
+pub overflow_sub-end : goal.overflow_sub-end
+overflow_sub-end c =
+    let laid = laid_of c.self.inside in
+    let rise = lines_rise laid c.args.self.now.rounds (lie_of laid c.args.self.now c.self.view_is c.self.invariant.lie) c.args.round c.args.caller c.requires.round in
+    let start : c.end_at-start.result.now ≡ end_at c.self.inside.ends.items c.args.round = search rules in
+    let end : c.end_at-end.result.now ≡ end_at c.self.inside.ends.items (c.args.round + 1) = search rules in
+    omega (arith, rise.0, ap (count c.args.caller) start, ap (count c.args.caller) end)

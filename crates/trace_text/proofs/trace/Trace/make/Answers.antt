@@ -2,17 +2,12 @@ use Rattle.std.proofs.Common.{◌≡◌, [], length, rules, arith, List, ap, ◌
 use Rattle.std.specs.Prelude.{replicate}
 use Rattle.std.proofs.lemmas.List.{length-replicate}
 use Rattle.text_spec.specs.TraceText.{Asked}
-use Rattle.trace_text.proofs.EndsLemmas.{ends_start, no_lines, ticks_start, whole_start}
+use Rattle.trace_text.proofs.LaidLemmas.{no_line, none_lie, stand}
 use Rattle.trace_text.proofs.trace.Trace.make.Goals as goal
 
 pub invariant_of-result : goal.invariant_of-result
 invariant_of-result c =
     let rows : c.in_ok-make.field-0 ≡ replicate c.args.config.now.callers [] = search rules in
     let many : length c.in_ok-make.field-0 ≡ c.args.config.now.callers = ap (λ (cs : List (List Asked)). length cs) rows ∙ length-replicate c.args.config.now.callers [] in
-    record {
-      ticks = ticks_start c.new.result.items c.in_ok-make.field-0 c.new-2.result.items c.new-2.ensures.items;
-      few = omega (arith, many, c.parts.ensures.valid.callers.most);
-      few_lines = λ k. omega (arith, no_lines c.in_ok-make.field-0 c.args.config.now.callers rows k);
-      ends = ends_start c.new.result.items c.in_ok-make.field-0 c.new-2.result.items c.new-2.ensures.items;
-      whole = whole_start c.new.result.items c.in_ok-make.field-0 c.new-2.result.items c.args.config.now.callers c.new.ensures.items rows c.new-2.ensures.items;
-    }
+    let lie = stand (record { beside = c.new.result.items; lines = c.in_ok-make.field-0; ends = c.push.new.self.items }) [] (none_lie _ c.args.config.now.callers (search rules) rows (search rules)) (record { small = tt; keep_up = tt }) in
+    record { few = omega (arith, many, c.parts.ensures.valid.callers.most); few_lines = no_line c.in_ok-make.field-0 c.args.config.now.callers rows; lie = lie.0; ticks = lie.1 }

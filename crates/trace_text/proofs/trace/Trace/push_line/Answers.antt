@@ -1,74 +1,65 @@
-use Rattle.std.proofs.Common.{◌≡◌, ℕ, ◌^◌, ◌<◌, ◌+◌, ◌-◌, ◌++◌, ◌∷◌, [], length, set, get_or, List, rules, arith, sym, ap, subst, length-set, ◌∙◌}
+use Rattle.std.proofs.Common.{◌≡◌, ◌^◌, ◌<◌, ◌+◌, ◌-◌, ◌++◌, ◌∷◌, [], length, set, get_or, List, rules, arith, ap, ap₂, length-set, ◌∙◌}
 use Rattle.std.specs.Prelude.{slice_index}
+use Rattle.std.proofs.lemmas.List.{get_or_read}
 use Rattle.text_spec.specs.TraceFaults.{asked_more, with_last}
 use Rattle.text_spec.specs.TraceText.{Asked, Round}
-use Rattle.text_spec.proofs.TraceFacts.{length_with_last, ticks_asked}
-use Rattle.text_spec.specs.TraceReading.{AreTicks}
+use Rattle.text_spec.proofs.TraceFacts.{ticks_asked}
 use Rattle.trace_text.specs.Lines.{line_asked}
-use Rattle.trace_text.specs.TraceView.{Traced, at_start, last_end, rounds_behind, with_line}
+use Rattle.trace_text.specs.TraceView.{Lie, Traced, at_start, end_at, laid_of, rounds_laid, with_line}
 use Rattle.trace_text.specs.declared.trace.RoundEnd.{RoundEnd}
-use Rattle.trace_text.proofs.EndsLemmas.{Stands, few_more, last_end_at, length_rounds, line_pushed}
+use Rattle.trace_text.proofs.LaidLemmas.{all_counted, few_more, line_pushed, rounds_are, stand}
 use Rattle.trace_text.proofs.trace.Trace.push_line.Goals as goal
 
-pushed : (c : goal.After-self-1) → c.push.new.self ≡ set c.self.inside.rows c.args.caller (get_or c.self.inside.rows c.args.caller [] ++ line_asked c.args.line.now ∷ [])
-pushed c = search rules
+module _ (c : goal.After-self-1) where
+  abbrev asked : Asked
+  asked = line_asked c.args.line.now
 
--- the last end, as it was read the first time
-first_is : (c : goal.After-self-1) → c.index.result.now ≡ last_end at_start c.self.inside.ends.items
-first_is c =
-    let t = c.self.inside in
-    let ends = t.ends.items in
-    let some : 0 < length ends = omega (arith, c.requires.round, ap (λ (v : Traced). length v.rounds) c.self.view_is, length_rounds t.beside.items t.rows at_start ends) in
-    let place : c.len.result ≡ length ends = search rules in
-    c.index.ensures ∙ ap (λ n. get_or ends (n - 1) c.index.result.now) place ∙ last_end_at at_start ends c.index.result.now some
+  place : c.len.result ≡ length c.self.inside.ends.items
+  place = search rules
 
-counted : (c : goal.After-self-1) → c.in_ok-more.more ≡ slice_index (last_end at_start c.self.inside.ends.items).lines c.args.caller + 1
-counted c =
-    let first_count : c.in_ok-more.more ≡ slice_index c.index.result.now.lines c.args.caller + 1 = search rules in
-    first_count ∙ ap (λ (e : RoundEnd). slice_index e.lines c.args.caller + 1) (first_is c)
+  there : c.args.caller < length c.self.inside.rows
+  there = omega (arith, c.requires.caller, ap (λ (v : Traced). v.callers) c.self.view_is)
 
-stands : (c : goal.After-self-1) → Stands c.self.inside.beside.items c.push.new.self
-    (set c.self.inside.ends.items (c.len.result - 1) (record c.index_mut.result.now { lines = set c.index_mut.result.now.lines c.args.caller c.in_ok-more.more }))
-    (with_last (asked_more c.args.caller (line_asked c.args.line.now)) (rounds_behind c.self.inside.beside.items c.self.inside.rows at_start c.self.inside.ends.items))
-stands c =
-    let t = c.self.inside in
-    let last = c.index_mut.result.now in
-    let ends = t.ends.items in
-    let some : 0 < length ends = omega (arith, c.requires.round, ap (λ (v : Traced). length v.rounds) c.self.view_is, length_rounds t.beside.items t.rows at_start ends) in
-    let there : c.args.caller < length t.rows = omega (arith, c.requires.caller, ap (λ (v : Traced). v.callers) c.self.view_is) in
-    let few : c.args.caller < 32 = omega (arith, there, c.self.invariant.few) in
-    let place : c.len.result ≡ length ends = search rules in
-    let last_is : last ≡ last_end at_start ends = c.index_mut.ensures.value ∙ ap (λ n. get_or ends (n - 1) last) place ∙ last_end_at at_start ends last some in
-    line_pushed t.beside.items t.rows c.push.new.self c.args.caller (line_asked c.args.line.now) ends (set ends (c.len.result - 1) (record last { lines = set last.lines c.args.caller c.in_ok-more.more })) last c.in_ok-more.more
-    c.self.invariant.ends c.self.invariant.whole there few some last_is (counted c ∙ ap (λ (e : RoundEnd). slice_index e.lines c.args.caller + 1) (sym last_is)) (pushed c) (ap (λ n. set ends (n - 1) (record last { lines = set last.lines c.args.caller c.in_ok-more.more })) place)
+  some : 0 < length (rounds_laid (laid_of c.self.inside))
+  some = omega (arith, c.requires.round, ap (λ (v : Traced). length v.rounds) c.self.view_is)
 
-few : (c : goal.After-self-1) → (k : ℕ) → length (get_or c.push.new.self k []) < 2 ^ 32
-few c k =
-    let t = c.self.inside in
-    let fits : c.in_ok-more.more < 2 ^ 32 = search rules in
-    let there : c.args.caller < length t.rows = omega (arith, c.requires.caller, ap (λ (v : Traced). v.callers) c.self.view_is) in
-    let its : length (get_or t.rows c.args.caller []) + 1 < 2 ^ 32 = omega (arith, fits, counted c, c.self.invariant.whole.lines_are c.args.caller) in
-    subst (λ (cs : List (List Asked)). length (get_or cs k []) < 2 ^ 32) (sym (pushed c)) (few_more t.rows c.args.caller (line_asked c.args.line.now) there (2 ^ 32) its c.self.invariant.few_lines k)
+  -- the last place, as it was read and as it is written
+  first_is : c.index.result.now ≡ end_at c.self.inside.ends.items (length c.self.inside.ends.items - 1)
+  first_is = get_or_read c.self.inside.ends.items _ c.index.result.now (omega (arith, c.self.invariant.lie.as_many)) (rw place at c.index.ensures) at_start
+
+  last_is : c.index_mut.result.now ≡ end_at c.self.inside.ends.items (length c.self.inside.ends.items - 1)
+  last_is = get_or_read c.self.inside.ends.items _ c.index_mut.result.now (omega (arith, c.self.invariant.lie.as_many)) (rw place at c.index_mut.ensures.value) at_start
+
+  counted : c.in_ok-more.more ≡ slice_index (end_at c.self.inside.ends.items (length c.self.inside.ends.items - 1)).lines c.args.caller + 1
+  counted =
+      let count : c.in_ok-more.more ≡ slice_index c.index.result.now.lines c.args.caller + 1 = search rules in
+      count ∙ ap (λ (e : RoundEnd). slice_index e.lines c.args.caller + 1) first_is
+
+  pushed : c.push.new.self ≡ set c.self.inside.rows c.args.caller (get_or c.self.inside.rows c.args.caller [] ++ asked ∷ [])
+  pushed = search rules
+
+  -- the lists with the line
+  lies : Lie (record { beside = c.self.inside.beside.items; lines = c.push.new.self; ends = set c.self.inside.ends.items (c.len.result - 1) (record c.index_mut.result.now { lines = set c.index_mut.result.now.lines c.args.caller c.in_ok-more.more }) })
+      (with_last (asked_more c.args.caller asked) (rounds_laid (laid_of c.self.inside)))
+  lies =
+      let laid = laid_of c.self.inside in
+      rw (pushed, last_is, place) (line_pushed laid (rounds_laid laid) c.args.caller asked c.in_ok-more.more c.self.invariant.lie some there (omega (arith, there, c.self.invariant.few)) counted)
+
+  many : length c.push.new.self ≡ length c.self.inside.rows
+  many = ap (λ (cs : List (List Asked)). length cs) pushed ∙ length-set c.self.inside.rows c.args.caller (get_or c.self.inside.rows c.args.caller [] ++ asked ∷ [])
 
 pub invariant_of-self-2 : goal.invariant_of-self-2
-invariant_of-self-2 c = record {
-  few = omega (arith, c.self.invariant.few, ap (λ (cs : List (List Asked)). length cs) (pushed c), length-set c.self.inside.rows c.args.caller (get_or c.self.inside.rows c.args.caller [] ++ line_asked c.args.line.now ∷ []));
-  few_lines = λ k. few c k;
-  ends = (stands c).are_ends;
-  whole = (stands c).is_whole;
-  ticks = subst AreTicks (sym (stands c).rounds_are) (ticks_asked (rounds_behind c.self.inside.beside.items c.self.inside.rows at_start c.self.inside.ends.items) c.args.caller (line_asked c.args.line.now) c.self.invariant.ticks);
-}
-
--- the trace with the line
-became : (c : goal.After-self-1) → record { callers = length c.push.new.self; rounds = rounds_behind c.self.inside.beside.items c.push.new.self at_start (set c.self.inside.ends.items (c.len.result - 1) (record c.index_mut.result.now { lines = set c.index_mut.result.now.lines c.args.caller c.in_ok-more.more })) } ≡ with_line c.args.caller (line_asked c.args.line.now) c.args.self.now
-became c =
-    let many : length c.push.new.self ≡ length c.self.inside.rows = ap (λ (cs : List (List Asked)). length cs) (pushed c) ∙ length-set c.self.inside.rows c.args.caller (get_or c.self.inside.rows c.args.caller [] ++ line_asked c.args.line.now ∷ []) in
-    ap (λ n. record { callers = n; rounds = rounds_behind c.self.inside.beside.items c.push.new.self at_start (set c.self.inside.ends.items (c.len.result - 1) (record c.index_mut.result.now { lines = set c.index_mut.result.now.lines c.args.caller c.in_ok-more.more })) }) many
-    ∙ ap (λ (rs : List Round). record { callers = length c.self.inside.rows; rounds = rs }) (stands c).rounds_are
-    ∙ ap (with_line c.args.caller (line_asked c.args.line.now)) c.self.view_is
+invariant_of-self-2 c =
+    let ticks = ticks_asked (rounds_laid (laid_of c.self.inside)) c.args.caller (asked c) c.self.invariant.ticks in
+    let all = stand _ _ (lies c) ticks in
+    let fits : c.in_ok-more.more < 2 ^ 32 = search rules in
+    let its : length (get_or c.self.inside.rows c.args.caller []) + 1 < 2 ^ 32 = omega (arith, fits, counted c, all_counted (laid_of c.self.inside) (rounds_laid (laid_of c.self.inside)) c.self.invariant.lie c.args.caller) in
+    record {
+      few = omega (arith, c.self.invariant.few, many c);
+      few_lines = rw (pushed c) (few_more c.self.inside.rows c.args.caller (2 ^ 32) (asked c) (there c) its c.self.invariant.few_lines);
+      lie = all.0;
+      ticks = all.1;
+    }
 
 pub returns-clause-ok : goal.returns-clause-ok
-returns-clause-ok c = became c
-
-pub returns-clause-count : goal.returns-clause-count
-returns-clause-count c = ap (λ (v : Traced). length v.rounds) (became c) ∙ length_with_last (asked_more c.args.caller (line_asked c.args.line.now)) c.args.self.now.rounds
+returns-clause-ok c = ap₂ (λ n (rs : List Round). record { callers = n; rounds = rs }) (many c) (rounds_are _ _ (lies c)) ∙ ap (with_line c.args.caller (asked c)) c.self.view_is
