@@ -1,17 +1,13 @@
 -- How a claimant's seats stand after it asked one class after another.
 use Rattle.std.proofs.Common.{◌≡◌, ◌≢◌, ℕ, zero, suc, ◌+◌, ◌<◌, ◌≤◌, ◌==◌, ◌⊎◌, List, [], ◌∷◌, ◌++◌, length, set, refl, sym, ap, subst, ◌∙◌, if◌then◌else◌, arith, inl, inr, ne_eqb, eq-eqb, ap₂, Bool, lt-ltb, Some}
-use mathlib.Core.Option as maybe
 use mathlib.Core.Option.{some, none, some-injective}
 use Rattle.std.proofs.lemmas.Bool.{cases_eq}
 use lib.ListN.{get_elem?}
 use Rattle.std.proofs.lemmas.List.{length-set, append-nil}
 use Rattle.atomic_table.proofs.Lists.{at_set, set_here, set_else}
 use Rattle.permit_ring.proofs.LogLemmas.{kept_log, lost_log}
-use Rattle.permit_ring.specs.Steps.{and_lost, ticket_in}
-use Rattle.permit_ring.specs.Seats.{ring_seats, seat_memo}
-use Rattle.buffer_classes.specs.Claims.{Asks, lost_at}
-use Rattle.buffer_classes.specs.Names.{Class, ClassSeat, Lost, Got, Outcome, SeatMemo}
-use Rattle.buffer_classes.specs.Seats.{IsHisSeat, memo_in}
+use Rattle.permit_ring.specs.{and_lost, ticket_in, ring_seats, seat_memo}
+use Rattle.buffer_classes.specs.{Asks, lost_at, Class, ClassSeat, Lost, Got, Outcome, SeatMemo, IsHisSeat, memo_in}
 
 -- a place of a list has an element, or is past its end
 pub below_or : {A : Type 0} (l : List A) (i : ℕ) → ((a : A) × (get_elem? l i ≡ some a)) ⊎ (length l ≤ i)
@@ -29,10 +25,6 @@ nothing_past (x ∷ l) (suc i) past = nothing_past l i (omega (arith, past))
 pub lost_past : (first i : ℕ) (looks : List ℕ) → first + length looks ≤ i → lost_at first looks i ≡ []
 lost_past first i [] past = refl
 lost_past first i (x ∷ looks) past = rw (ne_eqb i first (λ e. omega (arith, past, e))) (lost_past (suc first) i looks (omega (arith, past)))
-
-lost_before : (first i : ℕ) (looks : List ℕ) → i < first → lost_at first looks i ≡ []
-lost_before first i [] before = refl
-lost_before first i (x ∷ looks) before = rw (ne_eqb i first (λ e. omega (arith, before, e))) (lost_before (suc first) i looks (omega (arith, before)))
 
 -- one look more is that of the next class
 pub lost_here : (first g : ℕ) (looks : List ℕ) → lost_at first (looks ++ g ∷ []) (first + length looks) ≡ Lost g ∷ []
@@ -59,30 +51,15 @@ module _ {number claims : ℕ} {classes : List Class} {olds news : List ClassSea
     (there : get_elem? classes place ≡ some class) (before : get_elem? olds place ≡ some old) (below : place < length news)
     (his : IsHisSeat number claims class new) (told : Asks (ring_seats class.ring) (seat_memo old) (done place) (seat_memo new))
     (others : (i : ℕ) → i ≢ place → done i ≡ what i) where
-  abbrev AsksAt : ℕ → List Outcome → maybe.Option ClassSeat → Type 0
-  AsksAt i what now = (other : Class) → get_elem? classes i ≡ some other → Asks (ring_seats other.ring) (memo_in (get_elem? olds i)) what (memo_in now)
-
-  asks_here : AsksAt place (done place) (some new)
-  asks_here other at = subst (λ (c : Class). Asks (ring_seats c.ring) (memo_in (get_elem? olds place)) (done place) (seat_memo new))
-      (some-injective class other (sym there ∙ at))
-      (subst (λ (o : maybe.Option ClassSeat). Asks (ring_seats class.ring) (memo_in o) (done place) (seat_memo new)) (sym before) told)
-
-  asks_else : (i : ℕ) → i ≢ place → AsksAt i (done i) (get_elem? (set news place new) i)
-  asks_else i apart other at = rw (others i apart, set_else news place i new apart) (all.asks i other at)
-
   -- one class more was asked
   pub asks_more : AsksAll number claims classes olds (set news place new) done
   asks_more = record {
     as_many = length-set news place new ∙ all.as_many;
-    each = λ i other s at e. elim (at_set news place i new s e) [
-      | inl here ↦ subst (λ (s : ClassSeat). IsHisSeat number claims other s) here.1 (subst (λ (c : Class). IsHisSeat number claims c new)
-          (some-injective class other (sym there ∙ subst (λ (k : ℕ). get_elem? classes k ≡ some other) here.0 at)) his)
-      | inr apart ↦ all.each i other s at apart.1
-    ];
-    asks = λ i. elim (cases_eq i place) [
-      | inl here ↦ subst (λ (k : ℕ). AsksAt k (done k) (get_elem? (set news place new) k)) (sym here)
-          (subst (AsksAt place (done place)) (sym (set_here news place new below)) asks_here)
-      | inr apart ↦ asks_else i apart
+    each = λ i other s at e. grind (arith, at_set news place i new s e, at, there, his, all.each i other s);
+    asks = λ i other is. elim (cases_eq i place) [
+      | inl here ↦ rw (here, set_here news place new below, before) (subst (λ (c : Class). Asks (ring_seats c.ring) (seat_memo old) (done place)
+          (seat_memo new)) (some-injective class other (sym there ∙ rw here at is)) told)
+      | inr apart ↦ rw (others i apart, set_else news place i new apart) (all.asks i other is)
     ];
   }
 

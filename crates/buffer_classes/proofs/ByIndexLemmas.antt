@@ -6,7 +6,14 @@ use mathlib.Core.Option.{some, some-injective}
 use lib.ListN.{get_elem?}
 use Rattle.atomic_table.proofs.Lists.{at_index, at_last, at_longer, set_else, set_here}
 use Rattle.permit_ring.proofs.ListLemmas.{at_length, there}
-use Rattle.buffer_classes.specs.ByIndex.{AllBelow, AllOf, OneOf}
+use Rattle.buffer_classes.specs.ByIndex.{AllOf, OneOf}
+
+module _ {A : Type 0} where
+  -- it is below one place, and from there on nothing is changed
+  pub record AllBelow (R : ℕ → A → A → Type 0) (i : ℕ) (olds news : List A) : Type 0 where
+    pub as_many : length news ≡ length olds
+    pub below : (j : ℕ) (old new : A) → j < i → get_elem? olds j ≡ some old → get_elem? news j ≡ some new → R j old new
+    pub rest : (j : ℕ) → i ≤ j → get_elem? news j ≡ get_elem? olds j
 
 -- one place is changed
 pub one_set : {A : Type 0} {One : A → A → Type 0} {old : A} (l : List A) (i : ℕ) (new : A) → i < length l → old ≡ get_or l i old
@@ -30,14 +37,7 @@ module _ {A : Type 0} {One : A → A → Type 0} {i : ℕ} {olds news : List A} 
 module _ {A : Type 0} {R : ℕ → A → A → Type 0} {i : ℕ} where
   -- one place more
   pub below_more : {olds mids news : List A} → AllBelow R i olds mids → OneOf (R i) i mids news → AllBelow R (i + 1) olds news
-  below_more b o = record {
-    as_many = one_long o ∙ b.as_many;
-    below = λ j old new low was is. elim (cases_eq j i) [
-      | inl here ↦ subst (λ k. R k old new) (sym here) (one_here o old new (b.rest i (omega arith) ∙ rw here at was) (rw here at is))
-      | inr away ↦ b.below j old new (omega arith) was (sym (one_else o j away) ∙ is)
-    ];
-    rest = λ j from. one_else o j (λ e. omega arith) ∙ b.rest j (omega arith);
-  }
+  below_more b o = grind (arith, one_long o, b, one_else o, one_here o)
 
   pub all_below : {olds news : List A} → AllBelow R i olds news → length olds ≤ i → AllOf R olds news
   all_below {olds} b past = record {

@@ -1,15 +1,11 @@
 -- A claim from class to class.
-use Rattle.std.proofs.Common.{◌≡◌, ◌≢◌, ℕ, zero, suc, ◌+◌, ◌<◌, ◌≤◌, ◌==◌, List, [], ◌∷◌, ◌++◌, length, set, get_or, nat_lt, if◌then◌else◌, refl, sym, ap, subst, ◌∙◌, arith, ne_eqb, eq-eqb, Bool, ltb-false, inl, inr}
+use Rattle.std.proofs.Common.{◌≡◌, ◌≢◌, ℕ, zero, suc, ◌+◌, ◌<◌, ◌≤◌, ◌==◌, List, [], ◌∷◌, ◌++◌, length, set, get_or, if◌then◌else◌, refl, sym, ap, subst, ◌∙◌, arith, ne_eqb, eq-eqb}
 use mathlib.Core.Option.{some, some-injective, some-ne-none}
 use lib.ListN.{get_elem?}
 use Rattle.atomic_table.proofs.Lists.{at_index, at_map}
-use Rattle.std.proofs.lemmas.Bool.{cases_Bool}
 use Rattle.permit_ring.specs.Seats.{ring_seats, ring_terms, seat_calls, seat_memo, seat_number}
-use Rattle.buffer_classes.specs.Buffers.{Buffer, IsBufferOf}
-use Rattle.buffer_classes.specs.Claims.{Asks, lost_at}
-use Rattle.buffer_classes.specs.Classes.{RiseFrom, class_sizes, first_fitting}
-use Rattle.buffer_classes.specs.Names.{Class, Classes, ClassSeat, ClassTerms, Lost, Got, Outcome}
-use Rattle.buffer_classes.specs.Seats.{IsClaimSeatOf, IsClassSeat, IsHisSeat, memo_in}
+use Rattle.buffer_classes.specs.{Buffer, IsBufferOf, Asks, lost_at, RiseFrom, class_sizes, first_fitting, Class, ClassSeat, ClassTerms, Lost, Got, Outcome, IsClaimSeatOf, IsClassSeat, IsHisSeat, memo_in}
+use Rattle.buffer_classes.specs.Names.{Classes}
 use Rattle.buffer_classes.specs.declared.seat.ClaimSeat.{ClaimSeat}
 use Rattle.buffer_classes.proofs.AskLemmas.{AsksAll, asks_more, log_asked, lost_else, lost_here, lost_past}
 
@@ -23,15 +19,9 @@ above_all above (suc i) size (x ∷ sizes) rise e = omega (arith, rise.0, above_
 pub fits_from : (bytes above i size : ℕ) (sizes : List ℕ) → RiseFrom above sizes → first_fitting bytes sizes ≤ i
     → get_elem? sizes i ≡ some size → bytes ≤ size
 fits_from bytes above i size [] rise from e = absurd (some-ne-none size (sym e))
-fits_from bytes above zero size (x ∷ sizes) rise from e = elim (cases_Bool (nat_lt x bytes)) [
-  | inl less ↦ absurd (omega (arith, subst (λ (b : Bool). (if b then suc (first_fitting bytes sizes) else 0) ≤ 0) less from))
-  | inr enough ↦ omega (arith, ltb-false x bytes enough, some-injective x size e)
-]
-fits_from bytes above (suc i) size (x ∷ sizes) rise from e = elim (cases_Bool (nat_lt x bytes)) [
-  | inl less ↦ fits_from bytes x i size sizes rise.1
-      (omega (arith, subst (λ (b : Bool). (if b then suc (first_fitting bytes sizes) else 0) ≤ suc i) less from)) e
-  | inr enough ↦ omega (arith, ltb-false x bytes enough, above_all x i size sizes rise.1 e)
-]
+fits_from bytes above zero size (x ∷ sizes) rise from e = grind arith
+fits_from bytes above (suc i) size (x ∷ sizes) rise from e =
+    grind (arith, fits_from bytes x i size sizes rise.1, above_all x i size sizes rise.1 e)
 
 module _ {classes : Classes} {me : ClaimSeat} (mine : IsClaimSeatOf classes me) where
   abbrev AsksHis : List ClassSeat → (ℕ → List Outcome) → Type 0

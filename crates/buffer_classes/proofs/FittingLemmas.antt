@@ -1,9 +1,8 @@
 -- Which class is the first that fits.
-use Rattle.std.proofs.Common.{◌≡◌, ℕ, zero, suc, ◌<◌, ◌≤◌, nat_lt, List, [], ◌∷◌, length, map, refl, sym, ap, subst, ◌∙◌, ◌+◌, arith, lt-ltb, le-ltb, eq-or-lt_of_le, inl, inr, true, false, if◌then◌else◌}
+use Rattle.std.proofs.Common.{◌≡◌, ℕ, zero, suc, ◌<◌, ◌≤◌, List, [], ◌∷◌, length, map, refl, sym, ap, subst, ◌+◌, arith, lt-ltb, le-ltb}
 use mathlib.Core.Option.{some, some-injective, some-ne-none}
 use lib.ListN.{get_elem?}
-use Rattle.buffer_classes.specs.Classes.{first_fitting}
-use Rattle.buffer_classes.specs.Names.{Class}
+use Rattle.buffer_classes.specs.{first_fitting, Class}
 
 -- the classes before place i are too small for so many bytes
 abbrev pub AreTooSmall : ℕ → ℕ → List Class → Type 0
@@ -36,15 +35,9 @@ fits_nowhere bytes (x ∷ xs) small =
 -- one class more that is too small
 pub too_small_more : (bytes i : ℕ) (xs : List Class) (class : Class) → AreTooSmall bytes i xs → get_elem? xs i ≡ some class
     → class.size < bytes → AreTooSmall bytes (i + 1) xs
-too_small_more bytes i xs class small at less j other below e = elim (eq-or-lt_of_le {n = j} {m = i} (omega (arith, below))) [
-  | inl here ↦ subst (λ (c : Class). c.size < bytes) (some-injective class other (sym at ∙ subst (λ (k : ℕ). get_elem? xs k ≡ some other) here e)) less
-  | inr before ↦ small j other before e
-]
+too_small_more bytes i xs class small at less j other below e = grind (arith, small j other, at, less, e)
 
 -- it is one of the classes, or behind the last
 pub first_within : (bytes : ℕ) (sizes : List ℕ) → first_fitting bytes sizes ≤ length sizes
 first_within bytes [] = omega arith
-first_within bytes (size ∷ sizes) = elim (nat_lt size bytes) as (λ b. (if b then suc (first_fitting bytes sizes) else 0) ≤ suc (length sizes)) [
-  | true ↦ omega (arith, first_within bytes sizes)
-  | false ↦ omega arith
-]
+first_within bytes (size ∷ sizes) = grind (arith, first_within bytes sizes)

@@ -3,12 +3,7 @@ use Rattle.std.proofs.Common.{◌≡◌, ◌≢◌, ℕ, ◌+◌, List, [], ◌�
 use Rattle.std.proofs.lemmas.List.{append_assoc, append-nil}
 use Rattle.atomic_table.proofs.Lists.{at_last, at_longer, at_snoc}
 use Rattle.permit_ring.proofs.Settled.{offer_keeps_settled}
-use Rattle.permit_ring.specs.Calls.{OfferTells}
-use Rattle.permit_ring.specs.Closing.{AreAllBack, IsSettled}
-use Rattle.permit_ring.specs.Hands.{AllAdmitted}
-use Rattle.permit_ring.specs.Moves.{move}
-use Rattle.permit_ring.specs.Names.{See}
-use Rattle.permit_ring.specs.Steps.{reaps, waits}
+use Rattle.permit_ring.specs.{OfferTells, AreAllBack, IsSettled, AllAdmitted, move, See, reaps, waits}
 use Rattle.buffer_classes.specs.Giving.{ClassMemo, EndsUnready, OffersOnce, OnlyReaps}
 
 -- a reap more

@@ -1,18 +1,15 @@
 -- What the givers of all classes keep where one of them changes.
-use Rattle.std.proofs.Common.{◌≡◌, ℕ, ◌<◌, length, get_or, set, subst, sym, ap, ◌∙◌, inl, inr, arith}
+use Rattle.std.proofs.Common.{◌≡◌, ℕ, ◌<◌, length, get_or, set, sym, ap, ◌∙◌, arith}
 use Rattle.std.proofs.lemmas.List.{length-map, length-set}
 use mathlib.Core.Option.{some, some-injective}
 use lib.ListN.{get_elem?}
 use Rattle.atomic_table.proofs.Lists.{at_index, at_map, at_set}
 use Rattle.permit_ring.specs.Seats.{ring_terms}
 use Rattle.permit_ring.proofs.ListLemmas.{at_length}
-use Rattle.buffer_classes.specs.Buffers.{Buffer, IsBufferOf}
-use Rattle.buffer_classes.specs.Classes.{class_sizes}
+use Rattle.buffer_classes.specs.{Buffer, IsBufferOf, class_sizes, AreGiversOf, IsBufferIn, givers_of, IsGiverOf, Class}
 use Rattle.buffer_classes.specs.declared.giver.Giver.{Giver}
 use Rattle.buffer_classes.specs.declared.givers.Givers.{Givers}
-use Rattle.buffer_classes.specs.Givers.{AreGiversOf, IsBufferIn, givers_of}
-use Rattle.buffer_classes.specs.Giving.{IsGiverOf}
-use Rattle.buffer_classes.specs.Names.{Class, Classes}
+use Rattle.buffer_classes.specs.Names.{Classes}
 
 module _ {classes : Classes} {givers : Givers} (are : AreGiversOf classes givers) (i : ℕ) (low : i < length (givers_of givers))
     (class : Class) (its : class ≡ get_or classes.classes.items i class) where
@@ -30,12 +27,9 @@ module _ {classes : Classes} {givers : Givers} (are : AreGiversOf classes givers
   givers_with g new is one = record {
     are = are.are;
     all = ap length is ∙ length-set (givers_of givers) i g ∙ are.all;
-    each = λ j other h of there. elim (at_set (givers_of givers) i j g h (rw is at there)) [
-      | inl here ↦
-          let same = some-injective class other (sym class_there ∙ rw here.0 at of) in
-          subst (λ (k : Class). IsGiverOf k.ring h) same (subst (IsGiverOf class.ring) here.1 one)
-      | inr away ↦ are.each j other h of away.1
-    ];
+    each = λ j other h of there.
+        let c = at_set (givers_of givers) i j g h (rw is at there) in
+        grind (arith, c, class_there, of, one, are.each j other h);
   }
 
   -- a buffer of the class's place and size is one of its own

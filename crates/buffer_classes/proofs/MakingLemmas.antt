@@ -1,23 +1,14 @@
 -- Classes that are made one after another.
-use Rattle.std.proofs.Common.{◌≡◌, ℕ, zero, suc, ◌<◌, ◌≤◌, ◌⊎◌, List, [], ◌∷◌, ◌++◌, length, map, take, refl, sym, ◌∙◌, ap, ap₂, inl, inr, arith}
+use Rattle.std.proofs.Common.{◌≡◌, ℕ, zero, suc, ◌<◌, ◌≤◌, ◌⊎◌, List, [], ◌∷◌, ◌++◌, length, map, take, refl, sym, ◌∙◌, ap, ap₂, arith}
 use Rattle.std.proofs.lemmas.List.{length-map, length_push, map-append}
 use mathlib.Core.Option as maybe
 use mathlib.Core.Option.{some, none, some-injective, some-ne-none}
 use lib.ListN.{get_elem?}
 use Rattle.ids_types.specs.declared.class_spec.ClassSpec.{ClassSpec}
-use Rattle.permit_ring.proofs.ListLemmas.{at_end, at_length, there}
-use Rattle.permit_ring.proofs.NewRings.{new_ordered}
-use Rattle.permit_ring.specs.Making.{IsNewSeat, made_memo}
-use Rattle.permit_ring.specs.Seats.{seat_memo}
-use Rattle.permit_ring.specs.Steps.{new_memo}
-use Rattle.buffer_classes.specs.Buffers.{IsBufferOf}
-use Rattle.buffer_classes.specs.ByIndex.{AllOf}
-use Rattle.buffer_classes.specs.Classes.{AreClasses, RiseFrom, class_sizes}
-use Rattle.buffer_classes.specs.Givers.{AreGiversOf, givers_of}
-use Rattle.buffer_classes.specs.Giving.{ClassMemo}
-use Rattle.buffer_classes.specs.Making.{AreNewClasses, GetsOne, GetsSeat, IsNewClaimant, IsNewClass, spec_sizes}
-use Rattle.buffer_classes.specs.Names.{Class, Classes, ClassSeat}
-use Rattle.buffer_classes.specs.Seats.{IsHisSeat, memo_in}
+use Rattle.permit_ring.proofs.{at_end, at_length, there, new_ordered}
+use Rattle.permit_ring.specs.{IsNewSeat, made_memo, seat_memo, new_memo}
+use Rattle.buffer_classes.specs.{IsBufferOf, AllOf, AreClasses, RiseFrom, class_sizes, AreGiversOf, givers_of, ClassMemo, AreNewClasses, GetsOne, GetsSeat, IsNewClaimant, IsNewClass, spec_sizes, Class, ClassSeat, IsHisSeat, memo_in}
+use Rattle.buffer_classes.specs.Names.{Classes}
 use Rattle.buffer_classes.specs.declared.giver.Giver.{Giver}
 use Rattle.buffer_classes.specs.declared.givers.Givers.{Givers}
 use Rattle.buffer_classes.specs.declared.seat.ClaimSeat.{ClaimSeat}
@@ -35,15 +26,7 @@ at_first n (suc j) front e = absurd (some-ne-none front (sym e))
 
 pub made_so : (n seats : ℕ) → IsMade n seats (made_memo n seats)
 made_so n zero = record { made_is = refl; back_is = refl; fronts_from = at_first n; offered_is = refl }
-made_so n (suc seats) =
-    let was = made_so n seats in
-    let k : ClassMemo = made_memo n seats in
-    record {
-      made_is = omega (arith, was.made_is);
-      back_is = length_push k.back _ ∙ omega (arith, was.back_is);
-      fronts_from = was.fronts_from;
-      offered_is = was.offered_is;
-    }
+made_so n (suc seats) = grind (arith, made_so n seats, length_push (made_memo {N = Unit {0}} n seats).back)
 
 -- sizes that rise do so up to any place
 pub rise_taken : (above n : ℕ) (specs : List ClassSpec) → RiseFrom above (spec_sizes specs) → RiseFrom above (spec_sizes (take n specs))
@@ -55,16 +38,8 @@ rise_taken above (suc n) (spec ∷ specs) rise = (rise.0, rise_taken spec.size n
 pub both_end : {A B : Type 0} (xs : List A) (ys : List B) (x a : A) (y b : B) (i : ℕ) → length xs ≡ length ys
     → get_elem? (xs ++ x ∷ []) i ≡ some a → get_elem? (ys ++ y ∷ []) i ≡ some b
     → ((get_elem? xs i ≡ some a) × (get_elem? ys i ≡ some b)) ⊎ ((i ≡ length xs) × (x ≡ a) × (y ≡ b))
-both_end xs ys x a y b i many at bt = elim (at_end xs x a i at) [
-  | inl old ↦ elim (at_end ys y b i bt) [
-    | inl bold ↦ inl (old, bold)
-    | inr last ↦ absurd (omega (arith, many, last.0, at_length xs i a old))
-  ]
-  | inr last ↦ elim (at_end ys y b i bt) [
-    | inl bold ↦ absurd (omega (arith, many, last.0, at_length ys i b bold))
-    | inr blast ↦ inr (last.0, last.1, blast.1)
-  ]
-]
+both_end xs ys x a y b i many at bt =
+    grind (arith, at_end xs x a i at, at_end ys y b i bt, at_length xs i a, at_length ys i b, many)
 
 -- who made no call at any class has no log there
 pub no_log : (i : ℕ) (o : maybe.Option ClassSeat) → ((s : ClassSeat) → o ≡ some s → seat_memo s ≡ new_memo i) → (memo_in o).log ≡ []
@@ -73,11 +48,7 @@ no_log i (some s) new = ap (λ m. m.log) (new s refl)
 
 -- a new seat is its claimant's
 his_new : (i : ℕ) (class : Class) (s : ClassSeat) → IsNewSeat IsBufferOf class.ring i s → IsHisSeat i 0 class s
-his_new i class s new = record {
-  is_seat = record { is_seat = new.is_seat; is_idle = new.is_idle; ordered = rw new.knows (new_ordered i) };
-  number_is = new.number_is;
-  calls_within = omega (arith, new.no_calls);
-}
+his_new i class s new = grind (arith, new, new_ordered {N = Unit {0}} i)
 
 -- a claimant that got a seat, and which
 pub got_of : (seats : List ClassSeat) {olds news : List ClaimSeat} → AllOf (GetsSeat seats) olds news → length seats ≡ length olds
@@ -118,38 +89,28 @@ module _ {done : List ClassSpec} {limit : ℕ} {classes : Classes} {givers : Giv
   classes_more = record {
     few = omega (arith, ap length classes_are, length_push classes.classes.items class, many, few);
     rise = rw sizes_more rise;
-    terms = λ i other at. elim (at_end classes.classes.items class other i (rw (← classes_are) at)) [
-      | inl old ↦ was.givers_are.are.terms i other old
-      | inr last ↦ rw (last.0, many, ← last.1) new.terms_are
-    ];
+    terms = λ i other is.
+        let c = at_end classes.classes.items class other i (rw (← classes_are) is) in
+        grind (arith, c, many, new.terms_are, was.givers_are.are.terms i other);
   }
 
   givers_more : AreGiversOf classes' givers'
   givers_more = record {
     are = classes_more;
-    all = omega (
-      arith,
-      ap length classes_are,
-      length_push classes.classes.items class,
-      ap length givers_are,
-      length_push (givers_of givers) giver,
-      was.givers_are.all,
-    );
-    each = λ i other g at gt. elim (both_end classes.classes.items (givers_of givers) class other giver g i (sym was.givers_are.all)
-        (rw (← classes_are) at) (rw (← givers_are) gt)) [
-          | inl old ↦ was.givers_are.each i other g old.0 old.1
-          | inr last ↦ rw (← last.1, ← last.2) new.is_giver
-        ];
+    all = let more = length_push classes.classes.items class in let behind = length_push (givers_of givers) giver in
+        omega (arith, ap length classes_are, more, ap length givers_are, behind, was.givers_are.all);
+    each = λ i other g at gt.
+        let both = both_end classes.classes.items (givers_of givers) class other giver g i (sym was.givers_are.all)
+        (rw (← classes_are) at) (rw (← givers_are) gt) in
+        grind (arith, both, was.givers_are.each i other g, new.is_giver);
   }
 
   claimant_more : (i : ℕ) (old now : ClaimSeat) (s : ClassSeat) → IsNewClaimant classes i old → IsNewSeat IsBufferOf class.ring i s
       → now.seats.items ≡ old.seats.items ++ s ∷ [] → now.number ≡ old.number → now.claims ≡ old.claims → IsNewClaimant classes' i now
   claimant_more i old now s is seat items number claims =
-      let knows : (k : ℕ) (t : ClassSeat) → get_elem? now.seats.items k ≡ some t → seat_memo t ≡ new_memo i = λ k t at.
-      elim (at_end old.seats.items s t k (rw (← items) at)) [
-        | inl before ↦ is.knows k t before
-        | inr last ↦ rw (← last.1) seat.knows
-      ] in
+      let knows : (k : ℕ) (t : ClassSeat) → get_elem? now.seats.items k ≡ some t → seat_memo t ≡ new_memo i = λ k t there.
+      let c = at_end old.seats.items s t k (rw (← items) there) in grind (arith, c, is.knows k t, seat.knows) in
+      let his = his_new i class s seat in
       record {
         is_claimant = record {
           are = classes_more;
@@ -161,11 +122,10 @@ module _ {done : List ClassSpec} {limit : ℕ} {classes : Classes} {givers : Giv
             length_push old.seats.items s,
             is.is_claimant.all,
           );
-          each = λ k other t at st. elim (both_end classes.classes.items old.seats.items class other s t k (sym is.is_claimant.all)
-              (rw (← classes_are) at) (rw (← items) st)) [
-                | inl before ↦ rw (number, claims) (is.is_claimant.each k other t before.0 before.1)
-                | inr last ↦ rw (number, claims, is.number_is, is.no_claims, ← last.1, ← last.2) (his_new i class s seat)
-              ];
+          each = λ k other t at st.
+              let both = both_end classes.classes.items old.seats.items class other s t k (sym is.is_claimant.all)
+              (rw (← classes_are) at) (rw (← items) st) in
+              grind (arith, both, is.is_claimant.each k other t, his, number, claims, is.number_is, is.no_claims);
         };
         number_is = number ∙ is.number_is;
         no_claims = claims ∙ is.no_claims;
@@ -178,11 +138,10 @@ module _ {done : List ClassSpec} {limit : ℕ} {classes : Classes} {givers : Giv
   class_made = record {
     sizes_are = sizes_more;
     givers_are = givers_more;
-    each_giver = λ i other g at gt. elim (both_end done (givers_of givers) spec other giver g i (omega (arith, many, was.givers_are.all))
-        at (rw (← givers_are) gt)) [
-          | inl old ↦ was.each_giver i other g old.0 old.1
-          | inr last ↦ rw (← last.1, ← last.2) new.is_new
-        ];
+    each_giver = λ i other g at gt.
+        let both = both_end done (givers_of givers) spec other giver g i (omega (arith, many, was.givers_are.all)) at
+        (rw (← givers_are) gt) in
+        grind (arith, both, was.each_giver i other g, new.is_new);
     all_made = gets.as_many ∙ was.all_made;
     each = λ i now at.
         let got = got_of seats gets (new.seats_are.all_made ∙ sym was.all_made) i now at in

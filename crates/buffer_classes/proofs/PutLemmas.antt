@@ -4,10 +4,7 @@ use Rattle.std.proofs.lemmas.List.{append_assoc}
 use Rattle.std.proofs.lemmas.Bool.Decides.{nat_tests}
 use Rattle.std.proofs.lemmas.List.Sums.{sum_by_push}
 use Rattle.buffer_classes.specs.declared.giver.Giver.{Giver}
-use Rattle.buffer_classes.specs.Buffers.{Buffer}
-use Rattle.buffer_classes.specs.ByIndex.{AllOf, OneOf}
-use Rattle.buffer_classes.specs.Givers.{GaveBack, class_count}
-use Rattle.buffer_classes.specs.Giving.{Begins, Offers, OffersOnce, Puts, filled_count, giver_memo}
+use Rattle.buffer_classes.specs.{Buffer, AllOf, OneOf, GaveBack, class_count, Begins, Offers, OffersOnce, Puts, filled_count, giver_memo}
 use Rattle.buffer_classes.proofs.ByIndexLemmas.{all_more, all_weaker}
 use Rattle.buffer_classes.proofs.GiveLemmas.{back_on, settled_on, unready_on}
 

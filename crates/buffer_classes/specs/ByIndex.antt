@@ -1,5 +1,5 @@
 -- Lists whose elements were changed at their places.
-use Rattle.std.specs.Prelude.{◌≡◌, ℕ, ◌<◌, ◌≤◌, List, length, slice_set}
+use Rattle.std.specs.Prelude.{◌≡◌, ℕ, List, length, slice_set}
 use mathlib.Core.Option.{some}
 use lib.ListN.{get_elem?}
 
@@ -8,12 +8,6 @@ module _ {A : Type 0} where
   pub record AllOf (R : ℕ → A → A → Type 0) (olds news : List A) : Type 0 where
     pub as_many : length news ≡ length olds
     pub each : (i : ℕ) (old new : A) → get_elem? olds i ≡ some old → get_elem? news i ≡ some new → R i old new
-
-  -- it is below one place, and from there on nothing is changed
-  pub record AllBelow (R : ℕ → A → A → Type 0) (i : ℕ) (olds news : List A) : Type 0 where
-    pub as_many : length news ≡ length olds
-    pub below : (j : ℕ) (old new : A) → j < i → get_elem? olds j ≡ some old → get_elem? news j ≡ some new → R j old new
-    pub rest : (j : ℕ) → i ≤ j → get_elem? news j ≡ get_elem? olds j
 
   -- only one place is changed
   pub record OneOf (R : A → A → Type 0) (i : ℕ) (olds news : List A) : Type 0 where

@@ -4,11 +4,7 @@ use mathlib.Core.Option.{some}
 use lib.ListN.{get_elem?}
 use Rattle.permit_ring.specs.declared.memo.Move.{Move}
 use Rattle.permit_ring.specs.declared.ring.Ring.{Ring}
-use Rattle.permit_ring.specs.Calls.{OfferTells}
-use Rattle.permit_ring.specs.Closing.{AreAllBack, IsSettled}
-use Rattle.permit_ring.specs.Hands.{AllAdmitted}
-use Rattle.permit_ring.specs.Seats.{IsKeeperOf, keeper_memo, seat_memo, vacant_of, filled_of, ring_positions, ring_seats, ring_terms}
-use Rattle.permit_ring.specs.Steps.{welcomes}
+use Rattle.permit_ring.specs.{OfferTells, AreAllBack, IsSettled, AllAdmitted, IsKeeperOf, keeper_memo, seat_memo, vacant_of, filled_of, ring_positions, ring_seats, ring_terms, welcomes}
 use Rattle.buffer_classes.specs.declared.giver.Giver.{Giver}
 use Rattle.buffer_classes.specs.Buffers.{Buffer, IsBufferOf}
 use Rattle.buffer_classes.specs.Names.{ClassSeat, ClassTerms, KeeperMemo}

@@ -3,10 +3,7 @@ use Rattle.std.specs.Prelude.{◌≡◌, ℕ, ◌<◌, ◌≤◌, List, [], ◌�
 use mathlib.Core.Option.{some}
 use lib.ListN.{get_elem?}
 use Rattle.ids_types.specs.declared.class_spec.ClassSpec.{ClassSpec}
-use Rattle.permit_ring.specs.Hands.{AllAdmitted}
-use Rattle.permit_ring.specs.Making.{AreNewSeats, made_memo}
-use Rattle.permit_ring.specs.Seats.{ring_terms, seat_memo}
-use Rattle.permit_ring.specs.Steps.{new_memo}
+use Rattle.permit_ring.specs.{AllAdmitted, AreNewSeats, made_memo, ring_terms, seat_memo, new_memo}
 use Rattle.buffer_classes.specs.Buffers.{IsBufferOf}
 use Rattle.buffer_classes.specs.Classes.{RiseFrom, class_sizes, class_terms}
 use Rattle.buffer_classes.specs.Givers.{AreGiversOf, givers_of}

@@ -3,9 +3,7 @@ use Rattle.std.specs.Prelude.{◌≡◌, ℕ, ◌≤◌, List, length, None}
 use mathlib.Core.Option as maybe
 use mathlib.Core.Option.{some, none}
 use lib.ListN.{get_elem?}
-use Rattle.permit_ring.specs.Logs.{IsOrdered}
-use Rattle.permit_ring.specs.Seats.{IsSeatOf, seat_calls, seat_memo, seat_number, seat_ticket}
-use Rattle.permit_ring.specs.Steps.{new_memo}
+use Rattle.permit_ring.specs.{IsOrdered, IsSeatOf, seat_calls, seat_memo, seat_number, seat_ticket, new_memo}
 use Rattle.buffer_classes.specs.Buffers.{IsBufferOf}
 use Rattle.buffer_classes.specs.Classes.{AreClasses}
 use Rattle.buffer_classes.specs.Names.{Class, Classes, ClassSeat, Outcome, SeatMemo}

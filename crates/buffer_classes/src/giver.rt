@@ -78,6 +78,7 @@ impl Giver {
     {
         self.keeper.offer(ring);
     }
+
     // Takes a seat of the class back.
     pub(crate) fn take_back(&mut self, ring: &Ring<Buffers>, seat: Seat<Buffers>)
         requires mine { IsGiverOf ring.now self.old }

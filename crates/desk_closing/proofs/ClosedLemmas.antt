@@ -1,9 +1,12 @@
 -- What a closed desk makes of a history.
-use Rattle.std.proofs.Common.{◌≡◌, ◌≢◌, ℕ, zero, suc, ◌≤◌, ◌⊎◌, true, is_some, true≢false, Option, Some, None, List, [], ◌∷◌, length, map, refl, sym, ap, subst, ◌∙◌, arith, inl, inr}
+use Rattle.std.proofs.Common.{◌≡◌, ◌≢◌, ℕ, ◌≤◌, ◌⊎◌, is_some, true≢false, Option, Some, None, List, [], length, map, refl, sym, ap, subst, ◌∙◌, arith, inl, inr}
 use mathlib.Core.Option as maybe
 use mathlib.Core.Option.{some, none, some-injective}
 use lib.ListN.{get_elem?}
-use Rattle.std.proofs.lemmas.List.{length-map}
+use Rattle.std.proofs.lemmas.Bool.{cases_lt}
+use Rattle.std.proofs.lemmas.List.{get_or_past, length-map}
+use Rattle.atomic_table.proofs.Lists.{at_map}
+use Rattle.permit_ring.proofs.{some_there, at_length, there}
 use Rattle.ids_config.specs.Parts.{Parts}
 use Rattle.ids_types.specs.Turns.{entries_of}
 use Rattle.ids_types.specs.declared.class_spec.ClassSpec.{ClassSpec}
@@ -16,23 +19,18 @@ use Rattle.merge_spec.specs.Settled.{AreLegalContexts, IsSettledLog, entries_fro
 use Rattle.merge_spec.proofs.ContextLemmas.{legal_contexts}
 use Rattle.merge_spec.proofs.DecidedLemmas.{are_merged}
 use Rattle.merge_spec.proofs.FrontLemmas.{front_was}
-use Rattle.permit_ring.proofs.ListLemmas.{at_length, there}
 use Rattle.buffer_classes.specs.declared.giver.Giver.{Giver}
-use Rattle.buffer_classes.specs.Givers.{AreGiversOf, givers_of}
-use Rattle.buffer_classes.specs.Giving.{giver_memo}
+use Rattle.buffer_classes.specs.{AreGiversOf, givers_of, giver_memo}
 use Rattle.buffer_classes.specs.declared.class.Classes.{Classes}
 use Rattle.buffer_classes.specs.declared.givers.Givers.{Givers}
 use Rattle.buffer_classes.proofs.AskLemmas.{below_or, nothing_past}
 use Rattle.report_queue.specs.Closing.{AreCallersBack}
 use Rattle.report_queue.specs.declared.cargo.Item.{Item}
-use Rattle.report_api.specs.Desks.{AreTied, asks_back, back_log, desk_view, log_at}
-use Rattle.report_api.specs.Names.{Act, PassView}
-use Rattle.report_api.specs.Passes.{call_of, calls_in, fate_of, sizes_of}
+use Rattle.report_api.specs.{AreTied, asks_back, back_log, desk_view, log_at, Act, PassView, call_of, calls_in, fate_of, sizes_of}
 use Rattle.report_api.proofs.TiedLemmas.{claimants_back}
-use Rattle.desk_closing.specs.Calls.{HaveAllCalls, calls_by, fates_in}
-use Rattle.desk_closing.specs.Closed.{ClosedDesk, GiversHaveNumbers, HaveNumbers, plain_item}
+use Rattle.desk_closing.specs.{HaveAllCalls, calls_by, fates_in, ClosedDesk, GiversHaveNumbers, HaveNumbers, plain_item}
 use Rattle.desk_closing.proofs.EntryLemmas.{no_entries, no_tickets, whole_entries, whole_tickets}
-use Rattle.desk_closing.proofs.PlaceLemmas.{map_at, or_at, or_past}
+use Rattle.desk_closing.proofs.PlaceLemmas.{or_at}
 use Rattle.desk_closing.proofs.FateLemmas.{claimed_none, end_as, lost_as, none_settled, rises_as, whole_settled}
 
 -- the ring of class i has the number of its giver
@@ -41,14 +39,6 @@ pub rings_have : (config : Parts) (classes : Classes) (givers : Givers) → AreG
 rings_have config classes givers are numbers i class at =
     let giver = there (givers_of givers) i (omega (arith, are.all, at_length classes.classes.items i class at)) in
     sym (are.each i class giver.0 at giver.1).number_is ∙ numbers i giver.0 giver.1
-
--- where all came back, one came back or is none of them
-some_or : {A : Type 0} (l : List (Option A)) (i : ℕ) → ((back : Option A) → get_elem? l i ≡ some back → is_some back ≡ true)
-    → ((a : A) × (get_elem? l i ≡ some (Some a))) ⊎ (length l ≤ i)
-some_or [] i all = inr (omega arith)
-some_or (None ∷ l) zero all = absurd (true≢false (sym (all None refl)))
-some_or (Some a ∷ l) zero all = inl (a, refl)
-some_or (x ∷ l) (suc i) all = elim (some_or l i all) [ inl at ↦ inl at | inr past ↦ inr (omega (arith, past)) ]
 
 module _ (closed : ClosedDesk) where
   abbrev config : Parts
@@ -73,15 +63,15 @@ module _ (closed : ClosedDesk) where
   its_pass : (caller : ℕ) → ((pass : PassView) × (get_elem? closed.passes caller ≡ some pass) × (get_elem? back caller ≡ some (Some pass)))
       ⊎ (length closed.passes ≤ caller)
   its_pass caller = elim (below_or closed.passes caller) [
-    | inl pass ↦ inl (pass.0, pass.1, rw passes_back (map_at Some closed.passes caller pass.0 pass.1))
+    | inl pass ↦ inl (pass.0, pass.1, rw passes_back (at_map Some closed.passes caller pass.0 pass.1))
     | inr past ↦ inr past
   ]
 
   calls_are : (caller : ℕ) (pass : PassView) → get_elem? closed.passes caller ≡ some pass → calls_by closed.passes caller ≡ calls_in pass.log
-  calls_are caller pass at = or_at _ caller [] _ (map_at (λ (pass : PassView). calls_in pass.log) closed.passes caller pass at)
+  calls_are caller pass at = or_at _ caller [] _ (at_map (λ (pass : PassView). calls_in pass.log) closed.passes caller pass at)
 
   no_calls : (caller : ℕ) → length closed.passes ≤ caller → calls_by closed.passes caller ≡ []
-  no_calls caller past = or_past _ caller [] (omega (arith, past, length-map closed.passes (λ (pass : PassView). calls_in pass.log)))
+  no_calls caller past = get_or_past _ caller [] (omega (arith, past, length-map closed.passes (λ (pass : PassView). calls_in pass.log)))
 
   all_back : AreCallersBack (desk_view closed.desk)
   all_back caller came at = elim (its_pass caller) [
@@ -128,8 +118,11 @@ module _ (closed : ClosedDesk) where
       let class = there closed.shared.classes.classes.items i (omega (arith, closed.is_desk.givers.all, at_length givers i giver at)) in
       let mine = closed.is_desk.givers.each i class.0 giver class.1 at in
       let number = closed.made_for.numbers i class.0 class.1 in
-      elim (some_or (giver_memo giver).back caller (claimants_back tied all_back i giver at caller)) [
-        | inl memo ↦ rw memo.1 (whole_settled (its.logs_are caller memo.0 memo.1)
+      elim (cases_lt caller (length (giver_memo giver).back)) [
+        | inl low ↦
+            let memo = some_there (giver_memo giver).back caller low
+            (λ none. true≢false (sym (claimants_back tied all_back i giver at caller None none))) in
+            rw memo.1 (whole_settled (its.logs_are caller memo.0 memo.1)
             (λ j front stands. omega (arith, mine.fronts_from j front stands, mine.number_is, number)))
         | inr past ↦ rw (nothing_past (giver_memo giver).back caller past)
             (none_settled (claimed_none caller 0 its.taken
@@ -177,9 +170,9 @@ module _ (closed : ClosedDesk) where
 
   are_decided : AreDecided config.ring (λ caller. length (calls_by closed.passes caller)) closed.turns (map fates_in closed.passes)
   are_decided caller = elim (its_pass caller) [
-    | inl pass ↦ rw (calls_are caller pass.0 pass.1, or_at _ caller [] _ (map_at fates_in closed.passes caller pass.0 pass.1))
+    | inl pass ↦ rw (calls_are caller pass.0 pass.1, or_at _ caller [] _ (at_map fates_in closed.passes caller pass.0 pass.1))
         (decided_by caller pass.0 pass.1 pass.2)
-    | inr past ↦ rw (no_calls caller past, or_past (map fates_in closed.passes) caller [] (omega (arith, past, length-map closed.passes fates_in)))
+    | inr past ↦ rw (no_calls caller past, get_or_past (map fates_in closed.passes) caller [] (omega (arith, past, length-map closed.passes fates_in)))
         (none_decided caller past)
   ]
 

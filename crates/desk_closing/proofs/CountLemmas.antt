@@ -5,12 +5,11 @@ use Rattle.std.proofs.lemmas.List.{length-map}
 use Rattle.std.proofs.lemmas.List.Sums.{sum_by-cons}
 use mathlib.Core.Option.{some}
 use lib.ListN.{get_elem?}
-use Rattle.report_queue.specs.Closing.{IsAllTaken, items_of}
-use Rattle.report_queue.specs.Views.{TakerView}
+use Rattle.report_queue.specs.{IsAllTaken, items_of, TakerView}
 use Rattle.report_queue.specs.declared.cargo.Item.{Item}
 use Rattle.report_api.specs.Names.{Act, PassView}
 use Rattle.desk_closing.specs.Calls.{accepted_in}
-use Rattle.desk_closing.proofs.PlaceLemmas.{map_at}
+use Rattle.atomic_table.proofs.Lists.{at_map}
 
 -- how many of the items are those of a caller
 abbrev owned : ℕ → List (Item Act) → ℕ
@@ -75,7 +74,7 @@ pub all_accepted : (taker : TakerView Act) (passes : List PassView) → IsAllTak
 all_accepted taker passes all came =
     let as_long : length taker.back ≡ length passes = ap length came ∙ length-map passes Some in
     let each = λ (k : ℕ) (pass : PassView) (at : get_elem? passes k ≡ some pass).
-    ap length (all.whole k pass (rw came (map_at Some passes k pass at))).accepted in
+    ap length (all.whole k pass (rw came (at_map Some passes k pass at))).accepted in
     sym (each_accepted 0 passes taker.items (λ j k pass is at.
     let same : k ≡ j = omega (arith, is) in subst (λ n. accepted_in pass ≡ owned n taker.items) same (each k pass at))
     ∙ all_owned (length passes) taker.items (λ t item at. omega (arith, all.of_callers t item at, as_long)))

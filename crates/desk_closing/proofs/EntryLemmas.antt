@@ -7,8 +7,7 @@ use Rattle.merge_spec.specs.Losses.{entries_by}
 use Rattle.merge_spec.specs.Settled.{entries_from}
 use Rattle.report_queue.specs.Closing.{IsWholeCaller, got_of, items_of}
 use Rattle.report_queue.specs.declared.cargo.Item.{Item}
-use Rattle.report_api.specs.Names.{Act, Outcome, PassView, Lost, Got}
-use Rattle.report_api.specs.Passes.{calls_in, fate_of}
+use Rattle.report_api.specs.{Act, Outcome, PassView, Lost, Got, calls_in, fate_of}
 use Rattle.desk_closing.specs.Closed.{plain_item}
 
 -- the entries of a caller are its items

@@ -6,8 +6,7 @@ use Rattle.merge_spec.specs.Fates as fates
 use Rattle.merge_spec.specs.Fates.{lost, FatesFrom, claims_got}
 use Rattle.std.proofs.lemmas.List.{length-map}
 use Rattle.merge_spec.specs.Settled.{IsSettledLog, claims_by}
-use Rattle.permit_ring.specs.Closing.{IsWholeLog}
-use Rattle.permit_ring.specs.Logs.{RisesFrom, end_from, got_of, taken_by}
+use Rattle.permit_ring.specs.{IsWholeLog, RisesFrom, end_from, got_of, taken_by}
 use Rattle.permit_ring.specs.declared.memo.Outcome.{Outcome}
 use Rattle.permit_ring.specs.declared.memo.Outcome.TheVariants.{Lost, Got}
 use Rattle.buffer_classes.specs.Names.{SeatMemo}

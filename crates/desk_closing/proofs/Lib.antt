@@ -4,3 +4,6 @@ pub mod EntryLemmas
 pub mod FateLemmas
 pub mod PlaceLemmas
 pub mod SizeLemmas
+pub use Rattle.desk_closing.proofs.ClosedLemmas.{rings_have, all_calls}
+pub use Rattle.desk_closing.proofs.CountLemmas.{all_accepted}
+pub use Rattle.desk_closing.proofs.PlaceLemmas.{or_at}

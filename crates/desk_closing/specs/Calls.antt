@@ -10,8 +10,7 @@ use Rattle.merge_spec.specs.Merge.{AreMerged}
 use Rattle.merge_spec.specs.Names.{Loss}
 use Rattle.merge_spec.specs.Settled.{AreLegalContexts, entries_from}
 use Rattle.report_queue.specs.Closing.{got_of}
-use Rattle.report_api.specs.Names.{PassView}
-use Rattle.report_api.specs.Passes.{calls_in, fate_of}
+use Rattle.report_api.specs.{PassView, calls_in, fate_of}
 
 -- what became of the calls of a pass at the report ring
 abbrev pub fates_in : PassView → List Fate

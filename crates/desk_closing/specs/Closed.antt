@@ -13,12 +13,9 @@ use Rattle.buffer_classes.specs.Classes.{class_sizes}
 use Rattle.buffer_classes.specs.declared.class.Class.{Class}
 use Rattle.buffer_classes.specs.declared.class.Classes.{Classes}
 use Rattle.buffer_classes.specs.declared.giver.Giver.{Giver}
-use Rattle.report_queue.specs.Closing.{IsAllTaken}
-use Rattle.report_queue.specs.Parts.{queue_positions}
+use Rattle.report_queue.specs.{IsAllTaken, queue_positions}
 use Rattle.report_queue.specs.declared.cargo.Item.{Item}
-use Rattle.report_api.specs.Desks.{EachSettled, IsDeskOf, desk_view}
-use Rattle.report_api.specs.Names.{Act, PassView}
-use Rattle.report_api.specs.Passes.{plain_act}
+use Rattle.report_api.specs.{EachSettled, IsDeskOf, desk_view, Act, PassView, plain_act}
 use Rattle.report_api.specs.declared.desk.Desk.{Desk}
 use Rattle.report_api.specs.declared.shared.Shared.{Shared}
 

@@ -3,15 +3,12 @@
 ghost use Rattle.std.specs.Prelude.{◌≡◌, ℕ, Some, List, length, map, sum_by};
 ghost use Rattle.ids_config.specs.Parts.{Parts};
 ghost use Rattle.merge_spec.specs.Contexts.{too_small};
-ghost use Rattle.buffer_classes.specs.Classes.{AreClasses, class_sizes, first_fitting};
-ghost use Rattle.buffer_classes.specs.Givers.{AreGiversOf, givers_of};
+ghost use Rattle.buffer_classes.specs.{AreClasses, class_sizes, first_fitting, AreGiversOf, givers_of};
 ghost use Rattle.buffer_classes.specs.declared.class.Classes.{Classes};
 ghost use Rattle.buffer_classes.specs.declared.givers.Givers.{Givers};
-ghost use Rattle.report_queue.specs.Closing.{IsAllTaken};
-ghost use Rattle.report_queue.specs.Views.{TakerView};
+ghost use Rattle.report_queue.specs.{IsAllTaken, TakerView};
 ghost use Rattle.report_api.specs.Names.{Act, PassView};
-ghost use Rattle.desk_closing.specs.Calls.{HaveAllCalls, accepted_in};
-ghost use Rattle.desk_closing.specs.Closed.{ClosedDesk, GiversHaveNumbers, HaveNumbers, HaveSizes};
+ghost use Rattle.desk_closing.specs.{HaveAllCalls, accepted_in, ClosedDesk, GiversHaveNumbers, HaveNumbers, HaveSizes};
 
 /// Once all passes are back and the report ring and the ring of each class is settled, the turns have all calls of
 /// the passes, and nothing else. The entries of each caller are its accepted calls, in order and with what they

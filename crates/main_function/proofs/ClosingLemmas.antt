@@ -1,35 +1,23 @@
 -- What a close leaves.
-use Rattle.std.proofs.Common.{◌≡◌, ℕ, zero, suc, ◌+◌, ◌<◌, ◌≤◌, ◌^◌, true, is_some, Option, Some, List, [], ◌∷◌, ◌++◌, length, map, refl, sym, subst, ap, ◌∙◌, sum, sum_by, arith}
+use Rattle.std.proofs.Common.{◌≡◌, ℕ, zero, suc, ◌+◌, ◌<◌, true, is_some, Option, Some, List, [], ◌∷◌, ◌++◌, length, map, refl, sym, subst, ap, ◌∙◌, sum, sum_by, arith}
 use Rattle.std.proofs.lemmas.List.{length-map}
 use Rattle.std.proofs.lemmas.List.Sums.{sum_by-cons}
 use mathlib.Core.Option.{some}
+use Rattle.atomic_table.proofs.Lists.{at_map}
 use lib.ListN.{get_elem?}
 use Rattle.ids_types.specs.Turns.{Turn}
 use Rattle.ids_config.specs.Parts.{Parts}
-use Rattle.buffer_classes.specs.Buffers.{Buffer}
-use Rattle.buffer_classes.specs.ByIndex.{AllOf}
-use Rattle.buffer_classes.specs.Givers.{givers_of}
+use Rattle.buffer_classes.specs.{Buffer, AllOf, givers_of}
 use Rattle.merge_spec.specs.Fronts.{fronts_from}
 use Rattle.merge_spec.proofs.PlaceLemmas.{stands_left}
-use Rattle.report_queue.specs.Calls.{GivesBack}
-use Rattle.report_queue.specs.Closing.{AreAllSwept, AreCallersBack, IsAllTaken, contexts_back, events_back}
-use Rattle.report_queue.specs.Views.{TakerView}
+use Rattle.report_queue.specs.{GivesBack, AreAllSwept, AreCallersBack, IsAllTaken, contexts_back, events_back, TakerView}
 use Rattle.report_queue.specs.declared.cargo.Item.{Item}
-use Rattle.report_api.specs.Desks.{EachSettled, IsDeskOf, desk_view, to_give_back}
-use Rattle.report_api.specs.Names.{Act, PassView}
-use Rattle.report_api.specs.Passes.{missing_in}
+use Rattle.report_api.specs.{EachSettled, IsDeskOf, desk_view, to_give_back, Act, PassView, missing_in}
 use Rattle.report_api.specs.declared.desk.Desk.{Desk}
 use Rattle.report_api.specs.declared.shared.Shared.{Shared}
-use Rattle.desk_closing.specs.Calls.{HaveAllCalls}
-use Rattle.desk_closing.specs.Closed.{ClosedDesk, IsMadeFor, plain_item}
-use Rattle.desk_closing.proofs.ClosedLemmas.{all_calls}
-use Rattle.desk_closing.proofs.CountLemmas.{all_accepted}
-use Rattle.desk_closing.proofs.PlaceLemmas.{map_at}
-use Rattle.main_function.specs.Closing.{AreCountsOf, AreSumsOf, Closed, OnlyWelcomes, all_back}
-use Rattle.main_function.specs.Reports.{MakesTurn, ShowsHistory}
-use Rattle.main_function.specs.Standing.{AreTotals, IsManagerOf, Stands}
-use Rattle.main_function.specs.Taking.{has_taken}
-use Rattle.main_function.specs.Turning.{Turned}
+use Rattle.desk_closing.specs.{HaveAllCalls, ClosedDesk, IsMadeFor, plain_item}
+use Rattle.desk_closing.proofs.{all_calls, all_accepted}
+use Rattle.main_function.specs.{AreCountsOf, AreSumsOf, Closed, OnlyWelcomes, all_back, ShowsHistory, AreTotals, IsManagerOf, Stands, has_taken, Turned}
 use Rattle.main_function.specs.declared.manager.Manager.{Manager}
 use Rattle.main_function.specs.declared.rest.Totals.{Totals}
 
@@ -37,15 +25,10 @@ use Rattle.main_function.specs.declared.rest.Totals.{Totals}
 gave_back : (mid new : TakerView Act) (bound count : ℕ) → GivesBack bound count mid new → IsAllTaken mid → IsAllTaken new
 gave_back mid new bound count gave all = subst IsAllTaken (sym gave.3) record {
   of_callers = all.of_callers;
-  whole = λ i caller at. let whole = all.whole i caller at in record {
-    number_is = whole.number_is;
-    calls_are = whole.calls_are;
-    names = whole.names;
-    rises = whole.rises;
-    within = whole.within;
-    accepted = whole.accepted;
-    lost_at_front = λ j g lost. stands_left mid.fronts _ g (whole.lost_at_front j g lost);
-  };
+  whole = λ i caller at.
+      let whole = all.whole i caller at in
+      let front = λ (g : ℕ). stands_left mid.fronts ((mid.offered + count) ∷ []) g in
+      grind (arith, whole, front);
 }
 
 pub still_taken : (mid new : TakerView Act) (bound count : ℕ) → (count ≡ 0 → new ≡ mid) → (0 < count → GivesBack bound count mid new)
@@ -101,7 +84,7 @@ counts_all shared desk totals passes mine came taken swept are = record {
   entries_are = are.entries_are ∙ all_accepted (desk_view desk) passes taken came;
   lost_events_are = are.lost_events_are ∙ swept.events ∙ ap (sum_by events_back) came ∙ events_of passes;
   lost_contexts_are = are.lost_contexts_are ∙ swept.contexts ∙ ap (sum_by contexts_back) came
-      ∙ contexts_of passes (λ i pass at. mine.tied.missing i pass (rw came (map_at Some passes i pass at)));
+      ∙ contexts_of passes (λ i pass at. mine.tied.missing i pass (rw came (at_map Some passes i pass at)));
 }
 
 -- and the sums over the turns that the desk shows
@@ -140,59 +123,16 @@ module _ {C : Type 0} (stands : C → Parts → List Turn → Type 0) (events : 
   -- a manager to which all passes came back is the one that it was
   pub mine_back : IsManagerOf events kept shared old → IsDeskOf shared desk → to_give_back desk ≡ to_give_back old.desk
       → IsManagerOf events kept shared (record old { desk = desk })
-  mine_back mine is_desk same = record {
-    desk_is = is_desk;
-    positions_are = mine.positions_are;
-    none_taken = same ∙ mine.none_taken;
-    offered_is = subst (λ reports. reports.offered ≡ old.positions + length reports.items) (sym told) mine.offered_is;
-    items_within = subst (λ reports. length reports.items ≤ 2 ^ 45) (sym told) mine.items_within;
-    totals_are = subst (λ reports. AreTotals reports old.totals) (sym told) record { entries_are = mine.totals_are.entries_are; lost_events_are = mine.totals_are.lost_events_are; lost_contexts_are = mine.totals_are.lost_contexts_are };
-    events_are = mine.events_are;
-    sizes_within = mine.sizes_within;
-    kept_are = mine.kept_are;
-    tick_within = mine.tick_within;
-    roomy = let room = mine.roomy in record {
-      no_items = room.no_items;
-      items_room = room.items_room;
-      no_back = room.no_back;
-      back_room = room.back_room;
-      out_room = room.out_room;
-      bytes_are = room.bytes_are;
-      few_positions = room.few_positions;
-      short = room.short;
-    };
-  }
+  mine_back mine is_desk same = grind (arith, mine, is_desk, same, told)
 
   -- and stands for the same turns
   pub stands_back : (config : Parts) (turns : List Turn) → Stands stands config old turns → Stands stands config (record old { desk = desk }) turns
-  stands_back config turns is = record {
-    chain_stands = is.chain_stands;
-    reports_show = subst (λ reports. ShowsHistory old.positions reports turns) (sym told) record {
-      items_are = is.reports_show.items_are;
-      lost_events_are = is.reports_show.lost_events_are;
-      lost_contexts_are = is.reports_show.lost_contexts_are;
-      fronts_are = is.reports_show.fronts_are;
-    };
-    tick_is = is.tick_is;
-    count_is = is.count_is;
-  }
+  stands_back config turns is = grind (arith, is, told)
 
   -- so a turn that it makes then is one of the manager that it was
   turned_from : (tick : ℕ) (new : Manager C) → Turned stands kept tick (desk_view desk) (givers_of desk.givers) (record old { desk = desk }) new
       → Turned stands kept tick (all_back passes (desk_view old.desk)) (givers_of desk.givers) old new
-  turned_from tick new turned = record {
-    turn = turned.turn;
-    taken = turned.taken;
-    log_is = turned.log_is;
-    tick_is = turned.tick_is;
-    makes = subst (λ reports. MakesTurn old.positions reports turned.taken turned.turn (desk_view new.desk)) told turned.makes;
-    buffers = turned.buffers;
-    stands_then = λ config turns is. turned.stands_then config turns (stands_back config turns is);
-    limited_is = λ config turns is. turned.limited_is config turns (stands_back config turns is);
-    sends = λ config turns is. turned.sends config turns (stands_back config turns is);
-    rests_are = turned.rests_are;
-    turns_are = turned.turns_are;
-  }
+  turned_from tick new turned = let was = stands_back in grind (arith, turned, told, was)
 
   -- and it is closed by it
   pub closed_by : (tick : ℕ) (new : Manager C) → AllOf (λ i. OnlyWelcomes) (givers_of old.desk.givers) (givers_of desk.givers)

@@ -12,14 +12,10 @@ use Rattle.permit_ring.specs.Hands.{AllAdmitted}
 use Rattle.chain.specs.Parcels.{HandsBack, IsShort, all_parcels, parcel_of}
 use Rattle.chain.specs.Turning.{FitsAct, FitsTurn, bytes_in}
 use Rattle.chain.proofs.ParcelLemmas.{parcels_keep}
-use Rattle.buffer_classes.specs.Buffers.{Buffer}
-use Rattle.buffer_classes.specs.Givers.{AreBuffersIn}
-use Rattle.report_api.specs.Names.{Act, Report, State, SetMode, Absent, Kept, Missing}
-use Rattle.report_api.specs.Terms.{AdmitsAct, AdmitsItem, is_sensor, term_sizes}
+use Rattle.buffer_classes.specs.{Buffer, AreBuffersIn}
+use Rattle.report_api.specs.{Act, Report, State, SetMode, Absent, Kept, Missing, AdmitsAct, AdmitsItem, is_sensor, term_sizes}
 use Rattle.report_api.specs.declared.terms.ReportTerms.{ReportTerms}
-use Rattle.main_function.specs.Buffers.{IsHeld}
-use Rattle.main_function.specs.Reports.{held}
-use Rattle.main_function.specs.Taking.{items_of}
+use Rattle.main_function.specs.{IsHeld, held, items_of}
 
 -- a sensor's event is configured
 known : (terms : ReportTerms) (event : ℕ) → is_sensor terms event ≡ true → event < terms.events

@@ -8,25 +8,17 @@ use Rattle.std.proofs.lemmas.List.Elements.{All-cons, All-nil, All-pop, All-push
 use Rattle.ids_types.specs.Turns.{Turn}
 use Rattle.ids_config.specs.Parts.{Parts, class_of}
 use Rattle.permit_ring.specs.Hands.{AllAdmitted}
-use Rattle.buffer_classes.specs.Buffers.{Buffer}
-use Rattle.buffer_classes.specs.Making.{IsSpec, spec_sizes}
+use Rattle.buffer_classes.specs.{Buffer, IsSpec, spec_sizes, givers_of}
 use Rattle.ids_types.specs.declared.class_spec.ClassSpec.{ClassSpec}
-use Rattle.std.specs.Prelude.{vec_capacity}
-use Rattle.main_function.specs.Buffers.{IsHeld}
-use Rattle.report_api.specs.Desks.{desk_view, to_give_back}
-use Rattle.report_api.specs.Making.{IsNewMaking}
-use Rattle.report_api.specs.Passes.{sizes_of}
+use Rattle.main_function.specs.{IsHeld, IsBuilt, IsLargest, IsNewManager, AreAllPasses}
+use Rattle.report_api.specs.{desk_view, to_give_back, IsNewMaking, sizes_of}
 use Rattle.report_api.specs.declared.desk.Desk.{Desk}
 use Rattle.report_api.specs.declared.pass.Pass.{Pass}
 use Rattle.report_api.specs.declared.shared.Shared.{Shared}
 use Rattle.permit_ring.proofs.ListLemmas.{at_length, there}
-use Rattle.buffer_classes.specs.Givers.{givers_of}
 use Rattle.buffer_classes.specs.declared.class.Class.{Class}
 use Rattle.desk_closing.specs.Closed.{IsMadeFor}
-use Rattle.desk_closing.proofs.ClosedLemmas.{rings_have}
-use Rattle.desk_closing.proofs.PlaceLemmas.{or_at}
-use Rattle.main_function.specs.Making.{IsBuilt, IsLargest, IsNewManager}
-use Rattle.main_function.specs.Standing.{AreAllPasses}
+use Rattle.desk_closing.proofs.{rings_have, or_at}
 use Rattle.main_function.specs.declared.manager.Manager.{Manager}
 
 -- the largest of one size more
@@ -104,48 +96,13 @@ module _ {C : Type 0} (stands : C → Parts → List Turn → Type 0) (events : 
       let number : events m.chain ≡ length config.events = ap events built.chain_is ∙ are in
       let within = admitted_at (λ size. size ≤ largest) (spec_sizes config.classes) (recursion_from_All _ _ is.within) in
       let kept_none : [] ≡ kept m.chain = sym (ap kept built.chain_is ∙ none) in
-      let offered = ap (λ view. view.offered) making.shows in
       let items = ap (λ view. view.items) making.shows in
+      let held = All-nil (IsHeld (sizes_of shared)) in
       record {
         making = making;
         made_for = made_for;
-        is_manager = record {
-          desk_is = making.is_desk;
-          positions_are = built.positions_are ∙ sym making.positions_are;
-          none_taken = none_taken;
-          offered_is = grind (arith, common_steps, making.shows, built.positions_are);
-          items_within = grind (arith, common_steps, items);
-          totals_are = record {
-            entries_are = grind (arith, common_steps, making.shows, built.totals_are);
-            lost_events_are = grind (arith, common_steps, making.shows, built.totals_are);
-            lost_contexts_are = grind (arith, common_steps, making.shows, built.totals_are);
-          };
-          events_are = number ∙ sym making.is_config.events;
-          sizes_within = rw (sizes, built.largest_is) within;
-          kept_are = subst (All (IsHeld (sizes_of shared))) kept_none (All-nil (IsHeld (sizes_of shared)));
-          tick_within = grind (arith, common_steps, built.last_is);
-          roomy = record {
-            no_items = built.no_items;
-            items_room = subst (λ n. n ≤ vec_capacity m.items) (sym built.positions_are) built.items_room;
-            no_back = built.no_back;
-            back_room = rw (built.positions_are, number) built.back_room;
-            out_room = rw (built.positions_are, built.bytes_are, number) built.out_room;
-            bytes_are = rw (built.bytes_are, built.positions_are, built.largest_is) refl;
-            few_positions = rw built.positions_are few;
-            short = rw built.largest_is short;
-          };
-        };
-        stands_for_none = record {
-          chain_stands = subst (λ c. stands c config []) (sym built.chain_is) fresh;
-          reports_show = record {
-            items_are = grind (arith, common_steps, making.shows);
-            lost_events_are = grind (arith, common_steps, making.shows);
-            lost_contexts_are = grind (arith, common_steps, making.shows);
-            fronts_are = grind (arith, common_steps, making.shows, built.positions_are);
-          };
-          tick_is = built.last_is;
-          count_is = built.turns_are;
-        };
+        is_manager = grind (arith, common_steps, making, built, none_taken, number, sizes, within, held, kept_none, few, short, items);
+        stands_for_none = grind (arith, common_steps, making.shows, built, fresh);
         passes_are = all_passes;
         no_rests = built.no_rests;
         positions_are = built.positions_are;

@@ -10,14 +10,11 @@ use Rattle.ids_types.specs.Turns.{Turn}
 use Rattle.chain.specs.Turning.{turn_by}
 use Rattle.buffer_classes.specs.Buffers.{Buffer}
 use Rattle.merge_spec.proofs.FrontLemmas.{fronts_more}
-use Rattle.report_queue.specs.Calls.{GivesBack, sweeps_both}
-use Rattle.report_queue.specs.Views.{TakerView}
+use Rattle.report_queue.specs.{GivesBack, sweeps_both, TakerView}
 use Rattle.report_api.specs.Names.{Act}
 use Rattle.report_api.specs.declared.terms.ReportTerms.{ReportTerms}
-use Rattle.main_function.specs.Reports.{MakesTurn, ShowsHistory, held}
+use Rattle.main_function.specs.{MakesTurn, ShowsHistory, held, EndsUnready, Took, item_of, items_of, AreTotals}
 use Rattle.desk_closing.specs.Closed.{plain_item}
-use Rattle.main_function.specs.Taking.{EndsUnready, Took, item_of, items_of}
-use Rattle.main_function.specs.Standing.{AreTotals}
 use Rattle.main_function.specs.declared.rest.Totals.{Totals}
 
 -- the entries of a turn are the items that were taken
@@ -66,22 +63,18 @@ module _ (positions : ℕ) (old new : TakerView Act) (turn : Turn) (taken : List
       let more = flat_map-append (λ (t : Turn). t.entries) turns (turn ∷ []) in
       let count = length-map old.items plain_item in
       let fronts = fronts_more positions turns turn (positions ∷ []) in
-      record {
-        items_are = grind (arith, common_steps, makes.is, makes.entries_are, entries_same taken, items, more, shows.items_are);
-        lost_events_are = grind (arith, common_steps, makes.is, shows.lost_events_are, map-append (λ (t : Turn). t.head.lost_events) turns (turn ∷ []));
-        lost_contexts_are = grind (arith, common_steps, makes.is, shows.lost_contexts_are, map-append (λ (t : Turn). t.head.lost_contexts) turns (turn ∷ []));
-        fronts_are = grind (arith, common_steps, makes.is, shows.fronts_are, fronts, shows.items_are, count, offered);
-      }
+      let events = map-append (λ (t : Turn). t.head.lost_events) turns (turn ∷ []) in
+      let contexts = map-append (λ (t : Turn). t.head.lost_contexts) turns (turn ∷ []) in
+      grind (arith, common_steps, makes.is, makes.entries_are, entries_same taken, items, more, shows, events, contexts, fronts, count, offered)
 
   -- the totals of all turns with it
   pub totals_more : (before after : Totals) → AreTotals old before → MakesTurn positions old taken turn new
       → after.entries ≡ before.entries + length taken → after.lost_events ≡ before.lost_events + turn.head.lost_events
       → after.lost_contexts ≡ before.lost_contexts + turn.head.lost_contexts → AreTotals new after
-  totals_more before after are makes entries events contexts = record {
-    entries_are = grind (arith, common_steps, are.entries_are, entries, makes.is, length-map taken item_of);
-    lost_events_are = grind (arith, common_steps, are.lost_events_are, events, makes.is, sum_by_push (λ n. n) old.lost_events turn.head.lost_events);
-    lost_contexts_are = grind (arith, common_steps, are.lost_contexts_are, contexts, makes.is, sum_by_push (λ n. n) old.lost_contexts turn.head.lost_contexts);
-  }
+  totals_more before after are makes entries events contexts =
+      let swept_events = sum_by_push (λ n. n) old.lost_events turn.head.lost_events in
+      let swept_contexts = sum_by_push (λ n. n) old.lost_contexts turn.head.lost_contexts in
+      grind (arith, common_steps, are, entries, events, contexts, makes.is, length-map taken item_of, swept_events, swept_contexts)
 
   -- and what was offered
   pub offered_more : old.offered ≡ positions + length old.items → MakesTurn positions old taken turn new → new.offered ≡ positions + length new.items

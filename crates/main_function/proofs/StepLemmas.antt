@@ -8,18 +8,11 @@ use Rattle.ids_types.specs.declared.entry.Entry.{Entry}
 use Rattle.permit_ring.specs.Hands.{AllAdmitted}
 use Rattle.chain.specs.Parcels.{HandsBack, IsShort, all_parcels}
 use Rattle.chain.specs.Turning.{FitsTurn, HasTurnRoom, bytes_in}
-use Rattle.buffer_classes.specs.Buffers.{Buffer}
-use Rattle.buffer_classes.specs.Givers.{AreBuffersIn}
-use Rattle.report_queue.specs.Parts.{queue_positions}
-use Rattle.report_queue.specs.Views.{TakerView}
-use Rattle.report_api.specs.Names.{Act}
-use Rattle.report_api.specs.Passes.{sizes_of}
-use Rattle.report_api.specs.Terms.{term_sizes}
+use Rattle.buffer_classes.specs.{Buffer, AreBuffersIn}
+use Rattle.report_queue.specs.{queue_positions, TakerView}
+use Rattle.report_api.specs.{Act, sizes_of, term_sizes}
 use Rattle.report_api.specs.declared.shared.Shared.{Shared}
-use Rattle.main_function.specs.Buffers.{IsHeld}
-use Rattle.main_function.specs.Reports.{held}
-use Rattle.main_function.specs.Standing.{IsManagerOf}
-use Rattle.main_function.specs.Taking.{Took}
+use Rattle.main_function.specs.{IsHeld, held, IsManagerOf, Took}
 use Rattle.main_function.specs.declared.manager.Manager.{Manager}
 use Rattle.main_function.proofs.FittingLemmas.{bytes_fit, come_out, held_in, held_short, items_fit}
 
@@ -57,11 +50,7 @@ module _ {C : Type 0} (events : C → ℕ) (kept : C → List Buffer) (shared : 
     has_room =
         let few = few_taken in
         let room = mine.roomy.out_room in
-        record {
-          entries = search (rules, few, room.entries_room);
-          bytes = search (rules, few_bytes, room.bytes_room);
-          sent = grind (arith, common_steps, few, room.sent_room);
-        }
+        grind (arith, common_steps, few, few_bytes, room)
 
     module _ (now back_before back : List Buffer) (hands : HandsBack (all_parcels taken) (kept m.chain) now back_before back) where
       -- what comes out of the turn is given back or kept

@@ -7,11 +7,8 @@ use Rattle.std.proofs.lemmas.List.Elements.{All-push}
 use Rattle.ids_types.specs.declared.entry.Entry.{Entry}
 use Rattle.buffer_classes.specs.Buffers.{Buffer}
 use Rattle.permit_ring.specs.declared.answer.Unready.{Unready}
-use Rattle.report_queue.specs.Calls.{TakeTells}
-use Rattle.report_queue.specs.Views.{TakerView}
-use Rattle.report_api.specs.Desks.{same_item}
-use Rattle.report_api.specs.Names.{Act}
-use Rattle.report_api.specs.Terms.{AdmitsItem}
+use Rattle.report_queue.specs.{TakeTells, TakerView}
+use Rattle.report_api.specs.{same_item, Act, AdmitsItem}
 use Rattle.report_api.specs.declared.terms.ReportTerms.{ReportTerms}
 use Rattle.main_function.specs.Taking.{Took, has_taken, item_of, items_of}
 

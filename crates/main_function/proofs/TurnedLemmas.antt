@@ -1,16 +1,20 @@
 -- For which turns a manager stands after one more.
-use Rattle.std.proofs.Common.{◌≡◌, ◌+◌, ◌≤◌, List, [], ◌∷◌, ◌++◌, length, arith, rules}
+use Rattle.std.proofs.Common.{◌≡◌, ℕ, ◌+◌, ◌≤◌, ◌^◌, List, [], ◌∷◌, ◌++◌, length, sum, ap, arith, rules}
 use Rattle.std.proofs.lemmas.Grind.{common_steps}
+use Rattle.std.proofs.lemmas.List.Sums.{sum_by_push}
 use Rattle.ids_types.specs.declared.entry.Entry.{Entry}
 use Rattle.ids_types.specs.Turns.{Turn}
 use Rattle.ids_config.specs.Parts.{Parts}
 use Rattle.chain.specs.History.{last_tick}
 use Rattle.buffer_classes.specs.Buffers.{Buffer}
 use Rattle.report_api.specs.Desks.{desk_view}
-use Rattle.main_function.specs.Reports.{MakesTurn}
-use Rattle.main_function.specs.Standing.{Stands}
+use Rattle.main_function.specs.{MakesTurn, Stands}
 use Rattle.main_function.specs.declared.manager.Manager.{Manager}
 use Rattle.main_function.proofs.ReportLemmas.{shows_more}
+
+-- the last of numbers is at most as much as all of them
+pub last_within : (before all : List ℕ) (x : ℕ) → all ≡ before ++ x ∷ [] → sum all ≤ 2 ^ 45 → x ≤ 2 ^ 45
+last_within before all x is few = omega (arith, few, ap sum is, sum_by_push (λ n. n) before x)
 
 -- the tick of turns with one more
 tick_more : (turns : List Turn) (turn : Turn) → last_tick (turns ++ turn ∷ []) ≡ turn.head.tick

@@ -1,23 +1,17 @@
 -- All passes come back, the last first.
 use Rattle.std.proofs.Common.{◌≡◌, ℕ, zero, suc, ◌<◌, Some, List, [], ◌∷◌, ◌++◌, Option, length, map, slice_set, take, refl, sym, ap, ◌∙◌, subst, arith}
-use Rattle.std.proofs.lemmas.List.{append-nil, append_assoc, length_push}
-use mathlib.Core.Option.{some, some-injective}
+use Rattle.std.proofs.lemmas.List.{append-nil, append_assoc, length_push, nil_from_length}
+use mathlib.Core.Option.{some}
 use lib.ListN.{get_elem?}
 use Rattle.permit_ring.proofs.ListLemmas.{at_length, there}
-use Rattle.buffer_classes.specs.ByIndex.{AllOf}
-use Rattle.buffer_classes.specs.Givers.{Welcomed}
+use Rattle.buffer_classes.specs.{AllOf, Welcomed, Takes, ClassSeat}
 use Rattle.buffer_classes.specs.declared.giver.Giver.{Giver}
-use Rattle.buffer_classes.specs.Giving.{ClassMemo, Takes, giver_memo}
-use Rattle.buffer_classes.specs.Names.{ClassSeat}
 use Rattle.buffer_classes.proofs.ByIndexLemmas.{last_left}
-use Rattle.report_queue.specs.Calls.{welcomes_caller}
-use Rattle.report_queue.specs.Views.{TakerView}
-use Rattle.report_api.specs.Names.{Act, PassView}
-use Rattle.report_api.specs.Passes.{IsPassOf, pass_view}
+use Rattle.report_queue.specs.{welcomes_caller, TakerView}
+use Rattle.report_api.specs.{Act, PassView, IsPassOf, pass_view}
 use Rattle.report_api.specs.declared.pass.Pass.{Pass}
 use Rattle.report_api.specs.declared.shared.Shared.{Shared}
-use Rattle.main_function.specs.Closing.{OnlyWelcomes, all_back}
-use Rattle.main_function.specs.Standing.{AreAllPasses}
+use Rattle.main_function.specs.{OnlyWelcomes, all_back, AreAllPasses}
 
 -- those of the passes that are left did not come back yet, and those behind them did
 pub record WelcomesSo (passes left : List Pass) (old now : TakerView Act) : Type 0 where
@@ -71,15 +65,11 @@ module _ (shared : Shared) (passes left : List Pass) (pass : Pass) (old now : Ta
             (subst (λ n. slice_set (so_far.before ++ map Some (map pass_view so_far.came)) n (Some (pass_view pass)) ≡ now_back) (sym number) set.1);
       }
 
-nothing : {A : Type 0} (l : List A) → length l ≡ 0 → l ≡ []
-nothing [] none = refl
-nothing (x ∷ l) none = absurd (omega (arith, none))
-
 -- all came back
 pub all_welcome : (passes left : List Pass) (old now : TakerView Act) → WelcomesSo passes left old now → length left ≡ 0
     → now ≡ all_back (map pass_view passes) old
 all_welcome passes [] old now so_far none =
-    so_far.is ∙ ap (λ before. record old { back = before ++ map Some (map pass_view so_far.came) }) (nothing so_far.before so_far.as_many)
+    so_far.is ∙ ap (λ before. record old { back = before ++ map Some (map pass_view so_far.came) }) (nil_from_length so_far.before so_far.as_many)
     ∙ ap (λ ps. all_back (map pass_view ps) old) (sym so_far.passes_are)
 all_welcome passes (pass ∷ left) old now so_far none = absurd (omega (arith, none))
 
@@ -87,27 +77,12 @@ all_welcome passes (pass ∷ left) old now so_far none = absurd (omega (arith, n
 pub only_none : (givers : List Giver) → AllOf (λ i. OnlyWelcomes) givers givers
 only_none givers = record {
   as_many = refl;
-  each = λ i old new was is. subst (OnlyWelcomes old) (some-injective old new (sym was ∙ is)) record {
-    memo_is = refl;
-    late_is = refl;
-    filled_is = refl;
-    vacant_is = refl;
-    number_is = refl;
-  };
+  each = λ i old new was is. grind (arith, was, is);
 }
 
 -- and one that took one seat more
 one_more : (seat : ClassSeat) (old mid new : Giver) → OnlyWelcomes old mid → Takes seat mid new → OnlyWelcomes old new
-one_more seat old mid new before takes =
-    let come = λ (memo : ClassMemo). record memo { back = (giver_memo new).back; moves = (giver_memo new).moves } in
-    let same : come (giver_memo new) ≡ come (giver_memo old) = ap come takes.told ∙ ap come before.memo_is in
-    record {
-      memo_is = same;
-      late_is = takes.late_is ∙ before.late_is;
-      filled_is = takes.filled_is ∙ before.filled_is;
-      vacant_is = takes.vacant_is ∙ before.vacant_is;
-      number_is = takes.number_is ∙ before.number_is;
-    }
+one_more seat old mid new before takes = grind (arith, before, takes)
 
 pub only_more : (shared : Shared) (pass : Pass) (olds mids news : List Giver) → IsPassOf shared pass
     → length mids ≡ length shared.classes.classes.items → AllOf (λ i. OnlyWelcomes) olds mids → AllOf (Welcomed pass.claimant) mids news

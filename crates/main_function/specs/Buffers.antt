@@ -3,9 +3,7 @@ use Rattle.std.specs.Prelude.{◌≡◌, ℕ, ◌≤◌, List, ◌++◌, length}
 use mathlib.Core.Option.{some}
 use lib.ListN.{get_elem?}
 use Rattle.std.specs.List.Sorted.{IsPermutation}
-use Rattle.buffer_classes.specs.Buffers.{Buffer}
-use Rattle.buffer_classes.specs.ByIndex.{AllOf}
-use Rattle.buffer_classes.specs.Givers.{GaveBack}
+use Rattle.buffer_classes.specs.{Buffer, AllOf, GaveBack}
 use Rattle.buffer_classes.specs.declared.giver.Giver.{Giver}
 
 -- the buffer is of one of the classes of these sizes, and holds no more than it can

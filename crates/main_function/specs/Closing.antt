@@ -4,18 +4,12 @@ use Rattle.std.specs.Prelude.{◌≡◌, ℕ, Some, List, [], ◌∷◌, ◌++�
 use Rattle.ids_types.specs.Output.{Output}
 use Rattle.ids_types.specs.Turns.{Turn, entries_of}
 use Rattle.ids_config.specs.Parts.{Parts}
-use Rattle.buffer_classes.specs.Buffers.{Buffer}
-use Rattle.buffer_classes.specs.ByIndex.{AllOf}
-use Rattle.buffer_classes.specs.Givers.{givers_of}
-use Rattle.buffer_classes.specs.Giving.{filled_count, giver_memo, vacant_count}
+use Rattle.buffer_classes.specs.{Buffer, AllOf, givers_of, filled_count, giver_memo, vacant_count}
 use Rattle.buffer_classes.specs.declared.giver.Giver.{Giver}
 use Rattle.report_queue.specs.Views.{TakerView}
-use Rattle.report_api.specs.Desks.{desk_view}
-use Rattle.report_api.specs.Names.{Act, PassView}
-use Rattle.report_api.specs.Passes.{missing_in}
+use Rattle.report_api.specs.{desk_view, Act, PassView, missing_in}
 use Rattle.report_api.specs.declared.shared.Shared.{Shared}
-use Rattle.desk_closing.specs.Calls.{HaveAllCalls, accepted_in}
-use Rattle.desk_closing.specs.Closed.{IsMadeFor}
+use Rattle.desk_closing.specs.{HaveAllCalls, accepted_in, IsMadeFor}
 use Rattle.main_function.specs.Standing.{IsManagerOf, Stands}
 use Rattle.main_function.specs.Turning.{Turned}
 use Rattle.main_function.specs.declared.manager.Manager.{Manager}

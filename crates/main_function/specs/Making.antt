@@ -3,10 +3,8 @@ use Rattle.std.specs.Prelude.{◌≡◌, ℕ, ◌+◌, ◌*◌, ◌≤◌, List,
 use Rattle.std.specs.List.{All}
 use Rattle.ids_types.specs.Turns.{Turn}
 use Rattle.ids_config.specs.Parts.{Parts}
-use Rattle.buffer_classes.specs.Buffers.{Buffer}
-use Rattle.buffer_classes.specs.Making.{spec_sizes}
-use Rattle.report_api.specs.Desks.{desk_view}
-use Rattle.report_api.specs.Making.{IsNewMaking}
+use Rattle.buffer_classes.specs.{Buffer, spec_sizes}
+use Rattle.report_api.specs.{desk_view, IsNewMaking}
 use Rattle.report_api.specs.declared.desk.Desk.{Desk}
 use Rattle.report_api.specs.declared.pass.Pass.{Pass}
 use Rattle.report_api.specs.declared.shared.Shared.{Shared}

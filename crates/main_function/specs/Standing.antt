@@ -9,11 +9,8 @@ use Rattle.ids_config.specs.Parts.{Parts}
 use Rattle.chain.specs.History.{last_tick}
 use Rattle.permit_ring.specs.Hands.{AllAdmitted}
 use Rattle.buffer_classes.specs.Buffers.{Buffer}
-use Rattle.report_queue.specs.Parts.{calls_of, queue_positions}
-use Rattle.report_queue.specs.Views.{TakerView}
-use Rattle.report_api.specs.Desks.{IsDeskOf, desk_view, to_give_back}
-use Rattle.report_api.specs.Names.{Act}
-use Rattle.report_api.specs.Passes.{IsPassOf, pass_view, sizes_of}
+use Rattle.report_queue.specs.{calls_of, queue_positions, TakerView}
+use Rattle.report_api.specs.{IsDeskOf, desk_view, to_give_back, Act, IsPassOf, pass_view, sizes_of}
 use Rattle.report_api.specs.declared.pass.Pass.{Pass}
 use Rattle.report_api.specs.declared.shared.Shared.{Shared}
 use Rattle.main_function.specs.Buffers.{IsHeld}

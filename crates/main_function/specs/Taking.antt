@@ -5,8 +5,7 @@ use Rattle.ids_types.specs.declared.entry.Entry.{Entry}
 use Rattle.buffer_classes.specs.Buffers.{Buffer}
 use Rattle.report_queue.specs.Views.{TakerView}
 use Rattle.report_queue.specs.declared.cargo.Item.{Item}
-use Rattle.report_api.specs.Names.{Act}
-use Rattle.report_api.specs.Terms.{AdmitsItem}
+use Rattle.report_api.specs.{Act, AdmitsItem}
 use Rattle.report_api.specs.declared.terms.ReportTerms.{ReportTerms}
 
 -- the item that an entry was

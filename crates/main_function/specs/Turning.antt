@@ -2,17 +2,16 @@
 use Rattle.std.specs.Borrow.{Bor}
 use Rattle.std.specs.Prelude.{◌≡◌, ℕ, ◌+◌, ◌≤◌, ◌<◌, ◌^◌, List, [], ◌∷◌, ◌++◌, Result, Ok, Err}
 use Rattle.ids_types.specs.declared.entry.Entry.{Entry}
+use Rattle.ids_types.specs.declared.entry.TurnHead.{TurnHead}
 use Rattle.ids_types.specs.Output.{Output}
 use Rattle.ids_types.specs.Turns.{Turn}
 use Rattle.ids_config.specs.Parts.{Parts}
 use Rattle.chain.specs.History.{Sends, handed_of}
 use Rattle.chain.specs.Parcels.{all_parcels}
-use Rattle.buffer_classes.specs.Buffers.{Buffer}
-use Rattle.buffer_classes.specs.Givers.{givers_of}
+use Rattle.buffer_classes.specs.{Buffer, givers_of}
 use Rattle.buffer_classes.specs.declared.giver.Giver.{Giver}
 use Rattle.report_queue.specs.Views.{TakerView}
-use Rattle.report_api.specs.Desks.{desk_view}
-use Rattle.report_api.specs.Names.{Act}
+use Rattle.report_api.specs.{desk_view, Act}
 use Rattle.report_api.specs.declared.shared.Shared.{Shared}
 use Rattle.main_function.specs.Buffers.{ReturnsBuffers}
 use Rattle.main_function.specs.Reports.{MakesTurn}
@@ -21,6 +20,12 @@ use Rattle.main_function.specs.declared.manager.Manager.{Manager}
 use Rattle.main_function.specs.declared.rest.TurnFault.{TurnFault}
 use Rattle.main_function.specs.declared.rest.TurnFault.TheVariants.{TickBack, TickTooLarge}
 
+-- so many losses, and events held back, can be told of a turn
+pub record IsSmallHead (head : TurnHead) : Type 0 where
+  pub lost_events : head.lost_events ≤ 2 ^ 45
+  pub lost_contexts : head.lost_contexts ≤ 2 ^ 45
+  pub limited : head.limited ≤ 2 ^ 45
+
 module _ {C : Type 0} (stands : C → Parts → List Turn → Type 0) (kept : C → List Buffer) where
   -- a turn of this tick was made, of a desk that showed these reports, with these givers
   pub record Turned (tick : ℕ) (reports : TakerView Act) (givers : List Giver) (old new : Manager C) : Type 0 where
@@ -28,6 +33,7 @@ module _ {C : Type 0} (stands : C → Parts → List Turn → Type 0) (kept : C 
     pub taken : List (Entry Buffer)
     pub log_is : new.out.log.turns ≡ turn ∷ []
     pub tick_is : turn.head.tick ≡ tick
+    pub head_is : IsSmallHead turn.head
     pub makes : MakesTurn old.positions reports taken turn (desk_view new.desk)
     pub buffers : ReturnsBuffers (all_parcels taken) (kept old.chain) (kept new.chain)
         givers (givers_of new.desk.givers)
@@ -39,6 +45,7 @@ module _ {C : Type 0} (stands : C → Parts → List Turn → Type 0) (kept : C 
     pub sends : (config : Parts) (turns : List Turn) → Stands stands config old turns → Sends config turns turn new.out
     pub rests_are : new.rests ≡ old.rests
     pub turns_are : new.turns ≡ old.turns + 1
+    pub last_is : new.last ≡ tick
 
 -- the output logged one turn, of this tick
 abbrev pub LogsOne : ℕ → Output → Type 0

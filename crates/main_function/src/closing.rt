@@ -1,9 +1,7 @@
 //! How all passes come back to the desk.
 ghost use Rattle.std.specs.Prelude.{◌≡◌, [], map};
-ghost use Rattle.buffer_classes.specs.ByIndex.{AllOf};
-ghost use Rattle.buffer_classes.specs.Givers.{givers_of};
-ghost use Rattle.report_api.specs.Desks.{IsDeskOf, desk_view, to_give_back};
-ghost use Rattle.report_api.specs.Passes.{pass_view};
+ghost use Rattle.buffer_classes.specs.{AllOf, givers_of};
+ghost use Rattle.report_api.specs.{IsDeskOf, desk_view, to_give_back, pass_view};
 ghost use Rattle.main_function.specs.Closing.{OnlyWelcomes, all_back};
 ghost use Rattle.main_function.specs.Standing.{AreAllPasses};
 

@@ -7,12 +7,11 @@ ghost use Rattle.buffer_classes.specs.Givers.{givers_of, late_of};
 ghost use Rattle.main_function.specs.Closing.{AreCountsOf, CloseLeaves, Closed};
 ghost use Rattle.main_function.specs.Standing.{AreAllPasses, HasPasses, IsManager, IsManagerOf, Stands, StaysSo, all_calls, fits_turn, last_of, rests_of, turns_of};
 ghost use Rattle.report_queue.specs.Closing.{AreAllSwept, AreCallersBack, IsAllTaken};
-ghost use Rattle.report_api.specs.Desks.{EachSettled, desk_view};
-ghost use Rattle.report_api.specs.Passes.{pass_view};
+ghost use Rattle.report_api.specs.{EachSettled, desk_view, pass_view};
 ghost use Rattle.main_function.specs.Turning.{LogsOne, TurnFails, TurnLeaves, Turned};
 
 use crate::closing::welcome_all;
-use crate::rest::{Rest, Totals, TurnFault, all_calls};
+use crate::rest::{HasPass, Rest, Totals, TurnFault, all_calls};
 use crate::taking::take_ready;
 use chain::Chain;
 use event_memory::Memory;
@@ -112,10 +111,11 @@ impl<C: Chain<CtxBuf>> Manager<C> {
 
     /// Records a rest: how many turns were made, and how many calls by these passes. No call is under way, since the
     /// passes are all lent to it.
-    pub fn rest(&mut self, passes: &[Pass]) -> Result<(), NoMemory>
-        requires passes { HasPasses C.events C.kept passes.now self.old }
+    #[tactic(auto, using(crate::proofs::PassesLemmas::calls_kept))]
+    pub fn rest<P: HasPass>(&mut self, passes: &[P]) -> Result<(), NoMemory>
+        requires passes { HasPasses C.events C.kept (map P.its passes.now) self.old }
         ensures ok { OnOk result (rests_of self.new ≡
-            rests_of self.old ++ record { turns = turns_of self.old; calls = all_calls passes.now } ∷ []) }
+            rests_of self.old ++ record { turns = turns_of self.old; calls = all_calls (map P.its passes.now) } ∷ []) }
         ensures err { OnErr result (rests_of self.new ≡ rests_of self.old) }
         ensures same { StaysSo C.stands C.events C.kept self.old self.new }
     {

@@ -1,8 +1,9 @@
 //! What a turn refuses, what a rest records, and what closing tells.
-ghost use Rattle.std.specs.Prelude.{◌≡◌, ◌+◌, ◌≤◌, ◌^◌, length};
+ghost use Rattle.std.specs.Prelude.{◌≡◌, ◌+◌, ◌≤◌, ◌^◌, length, sum_by};
 ghost use Rattle.std.specs.List.{All};
 ghost use Rattle.report_api.specs.Passes.{pass_view};
-ghost use Rattle.main_function.specs.Standing.{HasFewCalls, all_calls};
+ghost use Rattle.report_api.specs.declared.pass.Pass.{Pass as PassValue};
+ghost use Rattle.main_function.specs.Standing.{HasFewCalls};
 
 use report_api::Pass;
 
@@ -50,15 +51,33 @@ impl Totals {
     }
 }
 
+/// A pass, or what is kept together with one.
+pub trait HasPass {
+    /// The pass.
+    ghost its: { Self → PassValue };
+
+    /// The pass.
+    fn pass(&self) -> &Pass
+        ensures { result.now ≡ its self.now };
+}
+
+impl HasPass for Pass {
+    ghost its = { λ pass. pass };
+
+    fn pass(&self) -> &Pass {
+        self
+    }
+}
+
 /// How many calls these passes made.
-pub(crate) fn all_calls(passes: &[Pass]) -> u64
+pub(crate) fn all_calls<P: HasPass>(passes: &[P]) -> u64
     requires few { length passes.now ≤ 32 }
-    requires within { All HasFewCalls passes.now }
-    ensures { result ≡ all_calls passes.now }
+    requires within { All (λ has. HasFewCalls (P.its has)) passes.now }
+    ensures { result ≡ sum_by (λ has. (pass_view (P.its has)).calls) passes.now }
 {
     let mut calls = 0;
-    for pass in passes {
-        calls += pass.calls();
+    for has in passes {
+        calls += has.pass().calls();
     }
     calls
 }

@@ -1,7 +1,6 @@
 //! What a turn takes from the desk.
 ghost use Rattle.std.specs.Prelude.{◌≡◌, ◌≤◌, ◌^◌, [], length, vec_capacity};
-ghost use Rattle.report_queue.specs.Closing.{AreCallersBack, IsAllTaken};
-ghost use Rattle.report_queue.specs.Parts.{queue_positions};
+ghost use Rattle.report_queue.specs.{AreCallersBack, IsAllTaken, queue_positions};
 ghost use Rattle.report_api.specs.Desks.{IsDeskOf, desk_view, to_give_back};
 ghost use Rattle.main_function.specs.Taking.{Took, item_of};
 

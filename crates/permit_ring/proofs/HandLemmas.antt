@@ -3,11 +3,8 @@ use Rattle.std.proofs.Common.{◌≡◌, ℕ, zero, suc, ◌+◌, ◌-◌, ◌%�
 use Rattle.std.proofs.lemmas.List.{append_assoc, length-map, length-append, length-replicate, replicate_more, map_push, take_at, drop_at, take_more, drop_more, length_push}
 use mathlib.Core.Option.{some-ne-none}
 use Rattle.atomic_table.specs.Table.{turned, rest}
-use Rattle.permit_ring.specs.Names.{Slot, Empty, Offered}
-use Rattle.permit_ring.specs.Hands.{hand_from, filled_then}
-use Rattle.permit_ring.specs.Told.{ready}
+use Rattle.permit_ring.specs.{Slot, Empty, Offered, hand_from, filled_then, ready, KeepsInHand}
 use Rattle.atomic_table.proofs.Lists.{at_snoc}
-use Rattle.permit_ring.specs.Seats.{KeepsInHand}
 
 -- a hand that is turned by one more
 pub turned_more : {A : Type 0} (hand : List (ℕ × A)) (i : ℕ) → i < length hand

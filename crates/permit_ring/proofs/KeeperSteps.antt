@@ -8,30 +8,18 @@ use mathlib.Core.Option as maybe
 use native.Mathlib.Nat.{add-mod_right}
 use lib.ListN.{get_elem?}
 use prog.Atomic.{either}
-use Rattle.atomic_table.proofs.Lists.{at_longer, exchanged, set_here, set_else}
+use Rattle.atomic_table.proofs.Lists.{at_set, at_longer, exchanged, set_here, set_else}
 use Rattle.atomic_table.specs.Table.{State, Act, Valid, step, keeps, takes, gives, chain, put_back, rest, stepped, carried_after, homes_after, Allows}
-use Rattle.permit_ring.specs.Names.{SeatView, Step, See, Read, Offer, Sweep, PermitWord, Key, KeeperMemo, Move, Slot, Offered, Finished, View, Keeps}
-use Rattle.ring_core.specs.Machine.{HasSizes, Machine, opening, seat_at, mark_at, next, offered_to}
-use Rattle.ring_core.specs.Sound.{IsRing}
-use Rattle.ring_core.specs.Words.{packed}
-use Rattle.ring_core.proofs.Bounds.{small}
-use Rattle.ring_core.proofs.Nexts.{see_takes_next, see_waits_next, read_next, sweep_next, offer_takes_next, offer_misses_next}
-use Rattle.ring_core.proofs.RingLaws.{word_packs, seen_packs, missed_field_falls}
-use Rattle.ring_core.proofs.Runs.{next_keeps}
-use Rattle.ring_core.proofs.Turns.{same_position}
-use Rattle.ring_core.proofs.WordLemmas.{other_word, packed_apart}
-use Rattle.permit_ring.specs.Hands.{hand_from, filled_then, AllAdmitted}
-use Rattle.permit_ring.specs.Moves.{found_at, is_of_seat, is_of_keeper, by_seat}
-use Rattle.permit_ring.specs.Seats.{KeepsInHand}
-use Rattle.permit_ring.specs.Told.{Known, IsWord, keeper_in, ready, saw_mark, read_word, tried_offer, swept_loss}
-use Rattle.permit_ring.specs.Rule.{words_of, StandsIn, AreSlots, Counts, Runs}
-use Rattle.permit_ring.specs.Steps.{and_move, waits, reaps, reads, offers_all, misses, sweeps}
+use Rattle.permit_ring.specs.{SeatView, Step, See, Read, Offer, Sweep, PermitWord, Key, KeeperMemo, SeatMemo, Move, Slot, Offered, Finished, View, Keeps, hand_from, filled_then, AllAdmitted, found_at, is_of_seat, is_of_keeper, by_seat, KeepsInHand, Known, IsWord, keeper_in, ready, saw_mark, read_word, tried_offer, swept_loss, words_of, StandsIn, AreSlots, Counts, IsSeatMemo, Runs, and_move, waits, reaps, reads, offers_all, misses, sweeps}
+use Rattle.ring_core.specs.Machine.{Machine}
+use Rattle.ring_core.specs.{HasSizes, opening, seat_at, mark_at, next, offered_to, IsRing, packed}
+use Rattle.ring_core.proofs.{small, see_takes_next, see_waits_next, read_next, sweep_next, offer_takes_next, offer_misses_next, word_packs, seen_packs, missed_field_falls, next_keeps, same_position, other_word, packed_apart}
 use Rattle.permit_ring.proofs.HandLemmas.{ready_is}
 use Rattle.permit_ring.proofs.ListLemmas.{at_end, at_length}
 use Rattle.permit_ring.proofs.MoveLemmas.{leads_on, by_seat-else, by_keeper-own}
 use Rattle.permit_ring.proofs.SeatSteps.{number_is, number_reads, read_back, word_packs_here}
 use Rattle.permit_ring.proofs.Settled.{all_marks, not_over, settled, some_there, more_fronts}
-use Rattle.permit_ring.proofs.States.{ring_of, sizes_of, one_turn_ahead, keeper_changes, keeper_port, seat_stays, fates_stay, slots_stay, slots_set}
+use Rattle.permit_ring.proofs.States.{ring_of, sizes_of, one_turn_ahead, keeper_port, not_first, seat_stays, fates_stay, slots_stay, slots_set}
 
 -- a ring's permit word is one of its sizes
 is_word : (n limit : ℕ) (m : Machine) → IsRing m → HasSizes n limit m → IsWord n limit m.word
@@ -139,13 +127,28 @@ module _ {O D T N : Type 0} (note : D → N) (Ao : T → O → Type 0) (An : T �
         let else : (i : ℕ) → by_seat i then ≡ by_seat i r.moves = λ i. by_seat-else r.moves step at i (its.no_seats i) in
         let own = by_keeper-own r.moves step at its.own in
         let seats : (i : ℕ) → seat_at now.seats i ≡ seat_at m.seats i = λ i. ap (λ (l : List SeatView). seat_at l i) its.seats_stay in
-        keeper_changes r now then r.fates words homes
-        (leads_on (opening key.positions key.limit) m now r.moves step r.reached leads) told slots
-        (fates_stay (omega (arith, its.made_stays)) (λ i. ap (λ (v : SeatView). v.held) (seats i)) its.claims_stay r.are_fates)
-        (grind (arith, its, r.knows, read, else, own))
-        its.back_stays
-        (λ other knew. seat_stays knew (seats other.number) (else other.number) refl (omega (arith, its.claims_stay)) its.fronts_stay
-        (omega (arith, its.made_stays)))
+        let others : (other : SeatMemo N) → IsSeatMemo m r.moves r.fates r.keeper.fronts r.keeper.made other
+        → IsSeatMemo now then r.fates k.fronts k.made other =
+        λ other knew. seat_stays knew (seats other.number) (else other.number) refl (omega (arith, its.claims_stay)) its.fronts_stay
+        (omega (arith, its.made_stays)) in
+        record {
+          sizes = r.sizes;
+          machine = now;
+          moves = then;
+          reached = leads_on (opening key.positions key.limit) m now r.moves step r.reached leads;
+          words_are = told;
+          fates = r.fates;
+          keeper = k;
+          are_fates = fates_stay (omega (arith, its.made_stays)) (λ i. ap (λ (v : SeatView). v.held) (seats i)) its.claims_stay r.are_fates;
+          are_slots = slots;
+          keeper_there = set_here s.views 0 (Keeps key k) (at_length s.views 0 (Keeps key r.keeper) r.keeper_there);
+          knows = grind (arith, its, r.knows, read, else, own);
+          owner = r.owner;
+          each_view = λ port v e. let c = at_set s.views 0 port (Keeps key k) v e in grind (arith, c, r.each_view port v, others);
+          each_seat = λ i was e.
+              let else = set_else s.views 0 (r.owner i) (Keeps key k) in
+              grind (arith, its.back_stays, r.each_seat i was, else, not_first r (r.owner i), others);
+        }
 
     -- the permit word is one of the ring's sizes
     word_in : IsWord key.positions key.limit m.word

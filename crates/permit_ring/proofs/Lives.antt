@@ -7,14 +7,9 @@ use lib.ListN.{get_elem?}
 use Rattle.atomic_table.specs.Table.{State, Joins, Splits}
 use Rattle.atomic_table.proofs.Lists.{at_set, set_here, set_else, at_longer, at_last}
 use Rattle.ring_core.specs.Machine.{Machine, opening, new_seat, after, seat_at, is_idle, with_seat}
-use Rattle.ring_core.proofs.Nexts.{split_next, join_next}
-use Rattle.ring_core.proofs.SeatLemmas.{SameHolders, holders_stay_push, live_is_made, holders_stay, seat_at-here, seat_at-else}
-use Rattle.permit_ring.specs.Names.{SeatView, Split, Join, Key, KeeperMemo, Move, SeatMemo, Slot, View, Sits, Keeps, Spent}
+use Rattle.ring_core.proofs.{split_next, join_next, SameHolders, holders_stay_push, live_is_made, holders_stay, seat_at-here, seat_at-else}
+use Rattle.permit_ring.specs.{SeatView, Split, Join, Key, KeeperMemo, Move, SeatMemo, Slot, View, Sits, Keeps, Spent, Leads, by_seat, by_keeper, join_both, join_spent, split_left, split_right, IsSeatMemo, IsSomewhere, Runs, and_move, ended, new_memo, makes, welcomes}
 use Rattle.permit_ring.proofs.LogLemmas.{taken_none}
-use Rattle.permit_ring.specs.Moves.{Leads, by_seat, by_keeper}
-use Rattle.permit_ring.specs.Told.{join_both, join_spent, split_left, split_right}
-use Rattle.permit_ring.specs.Rule.{IsSeatMemo, IsSomewhere, Runs}
-use Rattle.permit_ring.specs.Steps.{and_move, ended, new_memo, makes, welcomes}
 use Rattle.permit_ring.proofs.ListLemmas.{at_end, at_length}
 use Rattle.permit_ring.proofs.MoveLemmas.{leads_on, by_seat-else, by_keeper-own}
 use Rattle.permit_ring.proofs.NewRings.{new_ordered}

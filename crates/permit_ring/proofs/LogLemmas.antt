@@ -6,10 +6,7 @@ use Rattle.std.proofs.lemmas.List.{append-nil}
 use mathlib.Core.Option.{some, some-injective}
 use lib.ListN.{get_elem?}
 use Rattle.atomic_table.proofs.Lists.{at_snoc}
-use Rattle.permit_ring.specs.Names.{PermitWord, Outcome, Lost, Got}
-use Rattle.permit_ring.specs.Logs.{start_of, end_of, RisesFrom, end_from, got_of, taken_by}
-use Rattle.permit_ring.specs.Rule.{StandsIn}
-use Rattle.permit_ring.specs.Steps.{and_lost}
+use Rattle.permit_ring.specs.{PermitWord, Outcome, Lost, Got, start_of, end_of, RisesFrom, end_from, got_of, taken_by, StandsIn, and_lost}
 
 module _ {N : Type 0} where
   -- a call that does not stand before the last one's end

@@ -2,14 +2,10 @@
 use Rattle.std.proofs.Common.{◌≡◌, ℕ, true, false, List, [], ◌∷◌, Some, refl, sym, subst}
 use Rattle.std.proofs.lemmas.List.{append-nil}
 use Rattle.std.proofs.lemmas.List.Elements.{filter-append}
-use Rattle.ring_core.specs.Machine.{HasSizes, Machine, after, next}
-use Rattle.ring_core.specs.Sound.{IsRing}
-use Rattle.ring_core.proofs.RingLaws.{step_of_next}
-use Rattle.ring_core.proofs.Runs.{after_keeps}
-use Rattle.ring_core.proofs.Sizes.{after_sizes, same_sizes, sizes_on}
-use Rattle.permit_ring.specs.Names.{Step, Move}
-use Rattle.permit_ring.specs.Moves.{found_at, Leads, is_of_seat, is_of_keeper, by_seat, by_keeper}
-use Rattle.permit_ring.specs.Steps.{and_move}
+use Rattle.ring_core.specs.Machine.{Machine}
+use Rattle.ring_core.specs.{HasSizes, after, next, IsRing}
+use Rattle.ring_core.proofs.{step_of_next, after_keeps, after_sizes, same_sizes, sizes_on}
+use Rattle.permit_ring.specs.{Step, Move, found_at, Leads, is_of_seat, is_of_keeper, by_seat, by_keeper, and_move}
 
 -- one step more
 pub leads_on : (start m now : Machine) (moves : List Move) (step : Step) → Leads start moves m → next m step ≡ Some now

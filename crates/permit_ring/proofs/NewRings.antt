@@ -2,20 +2,13 @@
 use Rattle.std.proofs.Common.{◌≡◌, ℕ, zero, suc, ◌+◌, ◌%◌, ◌<◌, List, [], ◌∷◌, ◌++◌, length, refl, sym, ◌∙◌, ap, inl, inr, mod-eq_of_lt, arith, map, replicate}
 use Rattle.std.proofs.lemmas.List.{length_push, length-map}
 use mathlib.Core.Option.{some-ne-none, some, some-injective}
-use Rattle.ring_core.specs.Machine.{all_free, opening}
-use Rattle.permit_ring.specs.Names.{Slot, View, Ring, Seat, Key, Offered}
-use Rattle.permit_ring.specs.Logs.{IsOrdered}
-use Rattle.permit_ring.specs.Making.{made_memo, IsNewSeat, AreNewSeats}
-use Rattle.permit_ring.specs.Steps.{new_memo, first_memo}
+use Rattle.ring_core.specs.{all_free, opening, IsRing, packed}
+use Rattle.permit_ring.specs.{Slot, View, Ring, Seat, Key, Offered, IsOrdered, made_memo, IsNewSeat, AreNewSeats, new_memo, first_memo, AllAdmitted, HasOffered, IsKey, first_view, AreFates, AreSlots, IsKeeperMemo, IsViewAt, Runs}
 use Rattle.permit_ring.proofs.ListLemmas.{at_end, there}
 use lib.ListN.{get_elem?}
 use Rattle.atomic_table.specs.Table as table
 use Rattle.atomic_table.proofs.Lists.{at_map}
-use Rattle.ring_core.specs.Sound.{IsRing}
-use Rattle.ring_core.specs.Words.{packed}
 use Rattle.ring_core.proofs.Opens.{opens}
-use Rattle.permit_ring.specs.Hands.{AllAdmitted}
-use Rattle.permit_ring.specs.Rule.{HasOffered, IsKey, first_view, AreFates, AreSlots, IsKeeperMemo, IsViewAt, Runs}
 
 module _ {N : Type 0} (n limit : ℕ) where
   -- no ticket is claimed yet

@@ -7,12 +7,9 @@ use mathlib.Core.Option.{some}
 use mathlib.Core.Option as maybe
 use lib.ListN.{get_elem?}
 use Rattle.atomic_table.specs.Table.{State}
-use Rattle.ring_core.specs.Machine.{seat_at}
-use Rattle.ring_core.specs.Sound.{Holds}
+use Rattle.ring_core.specs.{seat_at, Holds}
 use Rattle.ring_core.proofs.SeatLemmas.{live_is_made}
-use Rattle.permit_ring.specs.Names.{Key, Lost, Got, SeatMemo, Slot, View, Sits}
-use Rattle.permit_ring.specs.Places.{SitsThere, CameBack, IsMemoThere, IsHeldOnce, IsLoggedOnce, HasOnePlace, IsNotedAs, IsInOrder, IsAdmittedSlot, IsOneSeats}
-use Rattle.permit_ring.specs.Rule.{Home, IsSlot, IsSeatMemo, IsSomewhere, Runs}
+use Rattle.permit_ring.specs.{Key, Lost, Got, SeatMemo, Slot, View, Sits, SitsThere, CameBack, IsMemoThere, IsHeldOnce, IsLoggedOnce, HasOnePlace, IsNotedAs, IsInOrder, IsAdmittedSlot, IsOneSeats, Home, IsSlot, IsSeatMemo, IsSomewhere, Runs}
 use Rattle.permit_ring.proofs.States.{ring_of, one_turn_ahead, keeper_port, at_own_port, is_live, knows_it}
 use Rattle.permit_ring.proofs.ListLemmas.{at_length, there}
 use Rattle.permit_ring.proofs.LogLemmas.{open_undecided, got_in, got_from, taken_in, taken_from, rises_apart, within_end}

@@ -8,16 +8,10 @@ use mathlib.Core.Option.{some}
 use lib.ListN.{get_elem?}
 use Rattle.atomic_table.proofs.Lists.{at_longer, at_map}
 use Rattle.atomic_table.specs.Table.{State}
-use Rattle.permit_ring.specs.Names.{SeatView, Key, KeeperMemo, Got, SeatMemo, Slot, View}
-use Rattle.ring_core.specs.Machine.{Machine, marks_of, new_seat, nobody, mark_at, seat_at}
-use Rattle.ring_core.specs.Sound.{Holds, IsRing}
-use Rattle.ring_core.proofs.RingLaws.{all_but_a_turn_reaped}
-use Rattle.ring_core.proofs.SeatLemmas.{live_is_made}
-use Rattle.ring_core.proofs.Turns.{one_turn}
-use Rattle.permit_ring.specs.Calls.{OfferTells}
-use Rattle.permit_ring.specs.Closing.{AreAllBack, IsAllReaped, IsSettled, IsWholeLog, marks_back}
-use Rattle.permit_ring.specs.Logs.{taken_by}
-use Rattle.permit_ring.specs.Rule.{StandsIn, Runs}
+use Rattle.permit_ring.specs.{SeatView, Key, KeeperMemo, Got, SeatMemo, Slot, View, OfferTells, AreAllBack, IsAllReaped, IsSettled, IsWholeLog, marks_back, taken_by, StandsIn, Runs}
+use Rattle.ring_core.specs.Machine.{Machine}
+use Rattle.ring_core.specs.{marks_of, new_seat, nobody, mark_at, seat_at, Holds, IsRing}
+use Rattle.ring_core.proofs.{all_but_a_turn_reaped, live_is_made, one_turn}
 use Rattle.permit_ring.proofs.LogLemmas.{got_from, taken_in, within_end}
 use Rattle.permit_ring.proofs.States.{ring_of}
 

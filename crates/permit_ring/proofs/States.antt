@@ -3,21 +3,15 @@ use Rattle.std.proofs.Common.{◌≡◌, ◌≢◌, ℕ, ◌+◌, ◌%◌, ◌<�
 use Rattle.std.proofs.lemmas.Bool.{cases_eq}
 use Rattle.std.proofs.lemmas.Grind.{common_steps}
 use Rattle.std.proofs.lemmas.List.{length-set}
-use mathlib.Core.Option.{some, some-injective}
+use mathlib.Core.Option.{some}
 use mathlib.Core.Option as maybe
 use lib.ListN.{get_elem?}
-use Rattle.atomic_table.proofs.Lists.{at_set, set_here, set_else}
+use Rattle.atomic_table.proofs.Lists.{set_here, set_else}
 use Rattle.atomic_table.specs.Table.{State}
-use Rattle.ring_core.specs.Machine.{HasSizes, Machine, opening, seat_at}
-use Rattle.ring_core.proofs.SeatLemmas.{SameHolders}
-use Rattle.ring_core.proofs.Turns.{same_position}
-use Rattle.ring_core.specs.Sound.{IsRing}
-use Rattle.ring_core.proofs.Opens.{opens}
-use Rattle.permit_ring.specs.Names.{Key, KeeperMemo, Move, SeatMemo, Slot, View, Sits, Keeps}
-use Rattle.permit_ring.specs.Logs.{taken_by}
-use Rattle.permit_ring.specs.Moves.{Leads, by_seat}
-use Rattle.permit_ring.specs.Rule.{words_of, StandsIn, AreFates, Home, IsSlot, AreSlots, IsSeatMemo, IsKeeperMemo, Runs}
-use Rattle.permit_ring.proofs.ListLemmas.{at_length}
+use Rattle.ring_core.specs.Machine.{Machine}
+use Rattle.ring_core.specs.{HasSizes, opening, seat_at, IsRing}
+use Rattle.ring_core.proofs.{SameHolders, same_position, opens}
+use Rattle.permit_ring.specs.{Key, KeeperMemo, Move, SeatMemo, Slot, View, Sits, Keeps, taken_by, by_seat, StandsIn, AreFates, Home, IsSlot, AreSlots, IsSeatMemo, Runs}
 use Rattle.permit_ring.proofs.MoveLemmas.{led_ring, led_sizes}
 
 module _ {N : Type 0} {m now : Machine} {fates later : List (Option (ℕ × N))} where
@@ -96,31 +90,3 @@ module _ {O D T N : Type 0} {note : D → N} {Ao : T → O → Type 0} {An : T �
 
     pub knows_it : IsSeatMemo r.machine r.moves r.fates r.keeper.fronts r.keeper.made memo
     knows_it = (r.each_view id (Sits its memo) at).3
-
-  -- the machine, its moves and the fates go on
-  module _ (now : Machine) (then : List Move) (later : List (Option (ℕ × N))) (words : List ℕ) (homes : List (maybe.Option (Slot O D)))
-      (led : Leads (opening key.positions key.limit) then now) (told : words ≡ words_of now)
-      (slots : AreSlots note (Ao key.terms) now later key.positions homes) where
-    -- or the keeper knows more, and made no seat
-    pub keeper_changes : {k : KeeperMemo N} → AreFates now (An key.terms) k.made later → IsKeeperMemo key.positions now then later k
-        → k.back ≡ r.keeper.back
-        → ((other : SeatMemo N) → IsSeatMemo r.machine r.moves r.fates r.keeper.fronts r.keeper.made other
-        → IsSeatMemo now then later k.fronts k.made other)
-        → Runs note Ao An key record { words = words; homes = homes; views = set s.views 0 (Keeps key k) }
-    keeper_changes {k = k} fates keeps back others = record {
-      sizes = r.sizes;
-      machine = now;
-      moves = then;
-      reached = led;
-      words_are = told;
-      fates = later;
-      keeper = k;
-      are_fates = fates;
-      are_slots = slots;
-      keeper_there = set_here s.views 0 (Keeps key k) (at_length s.views 0 (Keeps key r.keeper) r.keeper_there);
-      knows = keeps;
-      owner = r.owner;
-      each_view = λ port v e. let c = at_set s.views 0 port (Keeps key k) v e in grind (arith, c, r.each_view port v, others);
-      each_seat = λ i was e.
-          grind (arith, back, r.each_seat i was, set_else s.views 0 (r.owner i) (Keeps key k), not_first (r.owner i), others);
-    }

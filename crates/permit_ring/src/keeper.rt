@@ -1,7 +1,6 @@
 //! The one who takes what was finished and offers positions again.
 ghost use Rattle.std.specs.Prelude.{◌≡◌, ◌≢◌, ℕ, ◌+◌, ◌-◌, ◌%◌, ◌^◌, ◌<◌, ◌≤◌, ◌++◌, IsTrue, IsFalse, None, length, take, drop, sum, IfOk, IfErr};
-ghost use Rattle.ring_core.specs.Machine.{all_free as all_free_word};
-ghost use Rattle.ring_core.specs.Words.{field_of};
+ghost use Rattle.ring_core.specs.{all_free as all_free_word, field_of};
 ghost use Rattle.permit_ring.specs.Calls.{ReapTells, TriesTell, OfferTells, vacant_after};
 ghost use Rattle.permit_ring.specs.Closing.{AreAllBack, IsAllReaped, IsSettled, AreAllSwept, swept_of};
 ghost use Rattle.permit_ring.specs.Names.{Empty};

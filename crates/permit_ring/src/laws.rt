@@ -3,12 +3,7 @@
 ghost use Rattle.std.specs.Prelude.{◌≡◌, ℕ, ◌+◌, ◌%◌, ◌<◌, ◌≤◌};
 ghost use mathlib.Core.Option.{some};
 ghost use lib.ListN.{get_elem?};
-ghost use Rattle.permit_ring.specs.Names.{SeatMemo, Slot, Key, KeeperMemo, Sits, Lost, Got};
-ghost use Rattle.permit_ring.specs.Places.{HasOnePlace, IsOneSeats, IsMemoThere, IsInOrder, IsNotedAs, IsAdmittedSlot, ShowsRing};
-ghost use Rattle.permit_ring.specs.Logs.{IsOrdered};
-ghost use Rattle.permit_ring.specs.Rule.{RunningRing, StandsIn, HasFinished, HasOffered, IsOut};
-ghost use Rattle.permit_ring.specs.Calls.{OfferTells};
-ghost use Rattle.permit_ring.specs.Closing.{AreAllBack, IsAllReaped, IsSettled};
+ghost use Rattle.permit_ring.specs.{SeatMemo, Slot, Key, KeeperMemo, Sits, Lost, Got, HasOnePlace, IsOneSeats, IsMemoThere, IsInOrder, IsNotedAs, IsAdmittedSlot, ShowsRing, IsOrdered, RunningRing, StandsIn, HasFinished, HasOffered, IsOut, OfferTells, AreAllBack, IsAllReaped, IsSettled};
 ghost use Rattle.ring_core.specs.Sound.{Holds};
 
 use crate::freight::Freight;

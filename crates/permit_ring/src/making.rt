@@ -1,7 +1,6 @@
 //! How a ring is made, with its keeper and all its seats.
 ghost use Rattle.std.specs.Prelude.{◌≡◌, ◌+◌, ◌<◌, ◌≤◌, [], ◌∷◌, map, length, replicate, IfOk, OnOk};
-ghost use Rattle.ring_core.specs.Machine.{all_free as all_free_word};
-ghost use Rattle.ring_core.specs.Words.{packed};
+ghost use Rattle.ring_core.specs.{all_free as all_free_word, packed};
 ghost use Rattle.permit_ring.specs.declared.memo.Slot.TheVariants.{Offered};
 ghost use Rattle.permit_ring.specs.declared.memo.View.TheVariants.{Keeps};
 ghost use Rattle.permit_ring.specs.Hands.{AllAdmitted};

@@ -1,5 +1,5 @@
 -- What reports and takes, just made.
-use Rattle.std.proofs.Common.{◌≡◌, ℕ, zero, suc, ◌≤◌, ◌<◌, None, List, [], ◌∷◌, get_or, length, map, replicate, subst, refl, sym, ap, ◌∙◌, arith, All, slice_index_or}
+use Rattle.std.proofs.Common.{◌≡◌, ℕ, zero, suc, ◌≤◌, ◌<◌, None, List, [], ◌∷◌, get_or, length, map, replicate, subst, sym, ap, ◌∙◌, arith, All, slice_index_or}
 use Rattle.std.proofs.lemmas.List.{get_or_default, length-map, length-replicate}
 use Rattle.std.proofs.lemmas.Slice.Zip.{length-zip}
 use Rattle.std.specs.List.{zip}
@@ -11,27 +11,20 @@ use Rattle.ids_config.specs.Valid as valid
 use Rattle.atomic_table.proofs.Lists.{at_index, at_map}
 use Rattle.permit_ring.proofs.ListLemmas.{at_length, there}
 use Rattle.permit_ring.specs.Hands.{AllAdmitted}
-use Rattle.buffer_classes.specs.Classes.{RiseFrom}
-use Rattle.buffer_classes.specs.Givers.{givers_of}
-use Rattle.buffer_classes.specs.Making.{AreNewClasses, AreSpecs, IsNewClaimant, IsSpec, spec_sizes}
+use Rattle.buffer_classes.specs.{RiseFrom, givers_of, AreNewClasses, AreSpecs, IsNewClaimant, IsSpec, spec_sizes}
 use Rattle.buffer_classes.specs.declared.class.Classes.{Classes}
 use Rattle.buffer_classes.specs.declared.givers.Givers.{Givers}
 use Rattle.buffer_classes.specs.declared.seat.ClaimSeat.{ClaimSeat}
 use Rattle.buffer_classes.proofs.MakingLemmas.{as_many, made_so}
-use Rattle.report_queue.specs.Making.{IsNewQueue, IsUnused}
-use Rattle.report_queue.specs.Parts.{caller_number}
-use Rattle.report_queue.proofs.ClosingLemmas.{at_map_back}
-use Rattle.report_queue.proofs.MakingLemmas.{none_there}
-use Rattle.report_api.specs.Desks.{AreTied, desk_view}
-use Rattle.report_api.specs.Making.{Caller, IsNewMaking, IsNewPass, IsOfConfig, as_passes, pass_of}
-use Rattle.report_api.specs.Passes.{IsPassOf, IsShared, missing_in, pass_view, sizes_of}
+use Rattle.report_queue.specs.{IsNewQueue, IsUnused, caller_number}
+use Rattle.report_queue.proofs.{at_map_back, none_there}
+use Rattle.report_api.specs.{AreTied, desk_view, Caller, IsNewMaking, IsNewPass, IsOfConfig, as_passes, pass_of, IsPassOf, IsShared, pass_view, sizes_of}
 use Rattle.report_api.specs.declared.desk.Desk.{Desk}
 use Rattle.report_api.specs.declared.pass.Pass.{Pass}
 use Rattle.report_api.specs.declared.shared.Shared.{Shared}
 
 first_too : (first : ClassSpec) (specs : List ClassSpec) → IsSpec first → AllAdmitted IsSpec specs → AllAdmitted IsSpec (first ∷ specs)
-first_too first specs here rest zero spec at = rw (← some-injective first spec at) here
-first_too first specs here rest (suc i) spec at = rest i spec at
+first_too first specs here rest i spec at = grind arith
 
 -- valid classes may be made
 valid_from : (above : ℕ) (specs : List ClassSpec) → valid.AreClasses above specs → RiseFrom above (spec_sizes specs) × AllAdmitted IsSpec specs
@@ -69,16 +62,7 @@ new_pass shared is_shared i pass unused number new =
     let log : (pass_view pass).log ≡ [] = ap (λ v. v.log) unused.shows in
     record {
       is_pass = record {
-        at = record {
-          is_shared = is_shared;
-          caller = unused.is_caller;
-          claimant = new.is_claimant;
-          number_is = new.number_is ∙ sym number;
-          asks = λ k. rw (log, new.no_logs k) refl;
-          claims_within = omega (arith, new.no_claims);
-          events_within = rw unused.shows (omega arith);
-          contexts_are = ap (λ v. v.lost_contexts) unused.shows ∙ sym (ap missing_in log);
-        };
+        at = let none = new.no_logs in grind (arith, is_shared, unused, new, none, number, log);
         is_idle = unused.is_idle;
       };
       shows = rw (← number) unused.shows;

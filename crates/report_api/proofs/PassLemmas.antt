@@ -1,16 +1,14 @@
 -- A pass after one call more.
-use Rattle.std.proofs.Common.{◌≡◌, ℕ, ◌+◌, ◌≤◌, ◌<◌, ◌^◌, is_none, is_some, true, false, Option, Some, None, true≢false, List, [], ◌∷◌, ◌++◌, length, map, refl, sym, ap, subst, ◌∙◌, arith}
+use Rattle.std.proofs.Common.{◌≡◌, ℕ, ◌+◌, ◌≤◌, ◌<◌, ◌^◌, is_none, is_some, true, false, Option, None, List, [], ◌∷◌, ◌++◌, length, map, refl, sym, ap, subst, ◌∙◌, arith}
 use Rattle.std.proofs.lemmas.List.{append-nil, length_push, map-append, map_push}
 use Rattle.merge_spec.specs.Follows.{CallAsks, Follows}
 use Rattle.merge_spec.proofs.FollowsLemmas.{follows_after}
 use Rattle.buffer_classes.specs.Names as classes
 use Rattle.buffer_classes.specs.Seats.{IsClaimSeatOf, claimant_of, claims_of, log_of}
 use Rattle.ids_types.specs.declared.names.Ticket.{Ticket}
-use Rattle.permit_ring.specs.Logs.{undecided}
-use Rattle.permit_ring.specs.Seats.{machine_ticket}
+use Rattle.permit_ring.specs.{undecided, machine_ticket}
 use Rattle.report_queue.specs.Parts.{IsCallerOf, caller_memo, calls_of, ticket_of}
-use Rattle.report_api.specs.Names.{Act, Report, State, SetMode, Absent, Kept, Missing, Outcome, PassView, Lost, Got}
-use Rattle.report_api.specs.Passes.{IsPassAt, asks_of, call_of, calls_in, fate_of, misses_context, missing_in, pass_view, sizes_of}
+use Rattle.report_api.specs.{Act, Outcome, PassView, Lost, Got, IsPassAt, asks_of, call_of, calls_in, fate_of, misses_context, missing_in, pass_view, sizes_of}
 use Rattle.report_api.specs.declared.pass.Pass.{Pass}
 use Rattle.report_api.specs.declared.shared.Shared.{Shared}
 
@@ -20,11 +18,7 @@ missing-push (Lost claimed ∷ log) outcome = missing-push log outcome
 missing-push (Got ticket item ∷ log) outcome = omega (arith, missing-push log outcome)
 
 one_at_most : (act : Act) → misses_context act ≤ 1
-one_at_most (Report event count stamp Absent) = omega arith
-one_at_most (Report event count stamp (Kept class claim buf)) = omega arith
-one_at_most (Report event count stamp (Missing numbers)) = omega arith
-one_at_most (State state) = omega arith
-one_at_most (SetMode event mode) = omega arith
+one_at_most act = grind arith
 
 -- no more contexts are missing than there are calls
 pub missing_within : (log : List Outcome) → missing_in log ≤ length log
@@ -56,27 +50,16 @@ module _ {shared : Shared} {old : Pass} (at : IsPassAt shared old) (new : Pass) 
   -- the pass with one call more that is decided
   pub pass_after : IsPassAt shared new
   pass_after =
-      let more = ap length log_is ∙ length_push old_log outcome in
-      let its : (pass_view new).lost_events ≡ after.lost_events = ap (λ (v : PassView). v.lost_events) shows in
-      record {
-        is_shared = at.is_shared;
-        caller = caller;
-        claimant = claimant;
-        number_is = number ∙ at.number_is ∙ at.caller.number_is ∙ sym (caller.number_is ∙ ap (λ (v : PassView). v.caller) shows ∙ caller_is);
-        asks = follows;
-        claims_within = omega (arith, claims, more, at.claims_within);
-        events_within = omega (arith, events, more, its, at.events_within);
-        contexts_are = ap (λ (v : PassView). v.lost_contexts) shows ∙ contexts ∙ ap (λ (k : ℕ). k + missing_in (outcome ∷ [])) at.contexts_are
-            ∙ sym (missing-push old_log outcome) ∙ ap missing_in (sym log_is);
-      }
+      let more = length_push old_log outcome in
+      let missing = missing-push old_log outcome in
+      grind (arith, at, caller, claimant, number, claims, follows, shows, caller_is, log, log_is, events, contexts, more, missing)
 
 -- a call that asks for no buffer
 pub same_logs : (pass : Pass) (i : ℕ) → log_of pass.claimant i ≡ log_of pass.claimant i ++ []
 same_logs pass i = sym (append-nil (log_of pass.claimant i))
 
 held_there : (held : Option Ticket) → is_none held ≡ false → is_some (machine_ticket held) ≡ true
-held_there None busy = absurd (true≢false busy)
-held_there (Some ticket) busy = refl
+held_there held busy = grind arith
 
 -- a pass that holds a ticket has one call that is not decided
 undecided_call : {shared : Shared} {pass : Pass} → IsPassAt shared pass → is_none (ticket_of pass.seat) ≡ false

@@ -1,8 +1,7 @@
 -- Whose word an answer shows.
 use Rattle.std.proofs.Common.{◌≡◌, ℕ, Option, Some, Ok, subst}
 use Rattle.ids_types.specs.declared.names.Ticket.{Ticket}
-use Rattle.report_api.specs.Answers.{IsUnder, ReportSteps, StepsTell}
-use Rattle.report_api.specs.Names.{PassMemo}
+use Rattle.report_api.specs.{IsUnder, ReportSteps, StepsTell, PassMemo}
 use Rattle.report_api.specs.declared.answer.Report.{Report}
 use Rattle.report_api.specs.declared.answer.Report.TheVariants as reports
 
@@ -14,7 +13,4 @@ pub put_steps : (limit : ℕ) (old : PassMemo) (held : Option Ticket) (t : Ticke
     → IsUnder held answer → ReportSteps limit old answer
 put_steps limit old held t (reports.Accepted u) is tells under = subst (λ (v : Ticket). StepsTell limit old (Ok v)) (same_ticket held t u is under) tells
 put_steps limit old held t (reports.WithoutContext u looks) is tells under = subst (λ (v : Ticket). StepsTell limit old (Ok v)) (same_ticket held t u is under) tells
-put_steps limit old held t (reports.LostEvent look) is tells under = absurd under
-put_steps limit old held t reports.UnknownEvent is tells under = absurd under
-put_steps limit old held t reports.ZeroCount is tells under = absurd under
-put_steps limit old held t reports.PassSpent is tells under = absurd under
+put_steps limit old held t _ is tells under = absurd under

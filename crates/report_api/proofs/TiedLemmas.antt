@@ -5,16 +5,11 @@ use lib.ListN.{get_elem?}
 use Rattle.permit_ring.specs.Closing.{AreAllBack, IsSettled}
 use Rattle.permit_ring.proofs.ListLemmas.{at_length, there}
 use Rattle.buffer_classes.specs.declared.giver.Giver.{Giver}
-use Rattle.buffer_classes.specs.Buffers.{Buffer}
-use Rattle.buffer_classes.specs.ByIndex.{AllOf}
-use Rattle.buffer_classes.specs.Givers.{GaveBack}
-use Rattle.buffer_classes.specs.Giving.{giver_memo}
+use Rattle.buffer_classes.specs.{Buffer, AllOf, GaveBack, giver_memo}
 use Rattle.buffer_classes.specs.Names as classes
 use Rattle.buffer_classes.proofs.AskLemmas.{below_or, nothing_past}
 use Rattle.merge_spec.specs.Follows.{Follows}
-use Rattle.report_api.specs.Desks.{AreTied, back_log, log_at}
-use Rattle.report_api.specs.Names.{PassView}
-use Rattle.report_api.specs.Passes.{calls_in, fate_of}
+use Rattle.report_api.specs.{AreTied, back_log, log_at, PassView, calls_in, fate_of}
 
 module _ {number : ℕ} {back : List (Option PassView)} {olds : List Giver} (news : List Giver) (tied : AreTied number back olds)
     (as_many : length news ≡ length olds)

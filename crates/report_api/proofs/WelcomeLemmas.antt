@@ -1,24 +1,17 @@
 -- A pass that comes back with its claimant.
 use Rattle.std.proofs.Common.{◌≡◌, ℕ, ◌<◌, ◌≢◌, ◌⊎◌, Option, Some, List, length, slice_set, refl, sym, ap, subst, ◌∙◌, inl, inr, arith}
 use Rattle.std.proofs.lemmas.List.{length-set}
-use mathlib.Core.Option as maybe
 use mathlib.Core.Option.{some}
 use lib.ListN.{get_elem?}
 use Rattle.atomic_table.proofs.Lists.{at_set, set_here, set_else}
 use Rattle.merge_spec.specs.Follows.{Follows}
 use Rattle.permit_ring.proofs.ListLemmas.{at_length, there}
-use Rattle.permit_ring.specs.Seats.{seat_memo}
-use Rattle.permit_ring.specs.Steps.{ended}
+use Rattle.permit_ring.specs.{seat_memo, ended}
 use Rattle.buffer_classes.specs.declared.giver.Giver.{Giver}
-use Rattle.buffer_classes.specs.ByIndex.{AllOf}
-use Rattle.buffer_classes.specs.Givers.{Welcomed}
-use Rattle.buffer_classes.specs.Giving.{ClassMemo, giver_memo}
+use Rattle.buffer_classes.specs.{AllOf, Welcomed, ClassMemo, giver_memo, log_of}
 use Rattle.buffer_classes.specs.Names as classes
-use Rattle.buffer_classes.specs.Seats.{log_of, memo_in}
 use Rattle.buffer_classes.proofs.AskLemmas.{below_or, nothing_past}
-use Rattle.report_api.specs.Desks.{AreTied, asks_back, back_log, log_at}
-use Rattle.report_api.specs.Names.{PassView}
-use Rattle.report_api.specs.Passes.{IsPassOf, calls_in, missing_in, pass_view, sizes_of}
+use Rattle.report_api.specs.{AreTied, asks_back, log_at, PassView, IsPassOf, calls_in, missing_in, pass_view, sizes_of}
 use Rattle.report_api.specs.declared.pass.Pass.{Pass}
 use Rattle.report_api.specs.declared.shared.Shared.{Shared}
 
@@ -59,27 +52,20 @@ module _ {shared : Shared} {pass : Pass} {back : List (Option PassView)} {olds n
   -- where a pass stands now, either it is this one, or it stood there before
   stands : (c : ℕ) (other : PassView) → get_elem? new_back c ≡ some (Some other)
       → ((c ≡ caller) × (caller < length back) × (pass_view pass ≡ other)) ⊎ ((c ≢ caller) × (get_elem? back c ≡ some (Some other)))
-  stands c other at = elim (at_set back caller c (Some (pass_view pass)) (Some other) at) [
-    | inl here ↦ inl (
-      here.0,
-      subst (λ (n : ℕ). n < length back) here.0
-          (subst (λ (n : ℕ). c < n) (length-set back caller (Some (pass_view pass))) (at_length new_back c (Some other) at)),
-      cc here.1,
-    )
-    | inr apart ↦ inr apart
-  ]
+  stands c other at =
+      let there = at_set back caller c (Some (pass_view pass)) (Some other) at in
+      let long = length-set back caller (Some (pass_view pass)) in
+      grind (arith, there, long, at_length new_back c (Some other) at)
 
   log_there : (i : ℕ) → caller < length back → log_at (get_elem? news i) caller ≡ log_of pass.claimant i
   log_there i below = elim (below_or news i) [
     | inl new ↦
         let was = came i new.0 new.1 in
-        let place = subst (λ (n : ℕ). caller < n) (sym (tied.as_many i was.old was.old_at)) below in
-        ap (λ (o : maybe.Option Giver). log_at o caller) new.1 ∙ ap (λ (l : List (Option classes.SeatMemo)). back_log (get_elem? l caller)) was.back_is
-        ∙ ap back_log (set_here (giver_memo was.old).back caller (Some (ended (seat_memo was.seat))) place)
-        ∙ sym (ap (λ (o : maybe.Option classes.ClassSeat). (memo_in o).log) was.seat_at)
-    | inr past ↦ ap (λ (o : maybe.Option Giver). log_at o caller) (nothing_past news i past)
-        ∙ sym (ap (λ (o : maybe.Option classes.ClassSeat). (memo_in o).log)
-        (nothing_past pass.claimant.seats.items i (omega (arith, past, welcomed.as_many, as_many, its.at.claimant.all))))
+        let there = set_here (giver_memo was.old).back caller (Some (ended (seat_memo was.seat))) in
+        grind (arith, new.1, was, there, tied.as_many i was.old was.old_at, below)
+    | inr past ↦
+        let none = nothing_past pass.claimant.seats.items i (omega (arith, past, welcomed.as_many, as_many, its.at.claimant.all)) in
+        grind (arith, nothing_past news i past, none)
   ]
 
   log_else : (i c : ℕ) → c ≢ caller → log_at (get_elem? news i) c ≡ log_at (get_elem? olds i) c
@@ -94,31 +80,22 @@ module _ {shared : Shared} {pass : Pass} {back : List (Option PassView)} {olds n
       → (memo : classes.SeatMemo) × (get_elem? (giver_memo giver).back c ≡ some (Some memo))
   both_there i c giver other at e =
       let was = came i giver at in
+      let there = set_here (giver_memo was.old).back caller (Some (ended (seat_memo was.seat))) in
+      let else = set_else (giver_memo was.old).back caller c (Some (ended (seat_memo was.seat))) in
       elim (stands c other e) [
-        | inl here ↦ (
-          ended (seat_memo was.seat),
-          rw (was.back_is, here.0)
-              (set_here (giver_memo was.old).back caller (Some (ended (seat_memo was.seat)))
-              (subst (λ (n : ℕ). caller < n) (sym (tied.as_many i was.old was.old_at)) here.1)),
-        )
+        | inl here ↦ (ended (seat_memo was.seat), grind (arith, was, here, there, tied.as_many i was.old was.old_at))
         | inr apart ↦
             let memo = tied.both i c was.old other was.old_at apart.1 in
-            (memo.0, rw was.back_is (set_else (giver_memo was.old).back caller c (Some (ended (seat_memo was.seat))) apart.0 ∙ memo.1))
+            (memo.0, grind (arith, was, apart, else, memo))
       ]
 
   follows_there : (i c : ℕ) (other : PassView) → get_elem? new_back c ≡ some (Some other)
       → Follows (length (sizes_of shared)) i (calls_in other.log) (asks_back news c i)
-  follows_there i c other e = elim (stands c other e) [
-    | inl here ↦ subst (λ (v : PassView). Follows (length (sizes_of shared)) i (calls_in v.log) (asks_back news c i)) here.2
-        (rw (here.0, log_there i here.1) (its.at.asks i))
-    | inr apart ↦ rw (log_else i c apart.0) (tied.follows i c other apart.1)
-  ]
+  follows_there i c other e =
+      grind (arith, stands c other e, log_there i, log_else i c, its.at.asks i, tied.follows i c other)
 
   missing_there : (c : ℕ) (other : PassView) → get_elem? new_back c ≡ some (Some other) → other.lost_contexts ≡ missing_in other.log
-  missing_there c other e = elim (stands c other e) [
-    | inl here ↦ subst (λ (v : PassView). v.lost_contexts ≡ missing_in v.log) here.2 its.at.contexts_are
-    | inr apart ↦ tied.missing c other apart.1
-  ]
+  missing_there c other e = grind (arith, stands c other e, its.at.contexts_are, tied.missing c other)
 
   -- the pass and its claimant take the same place
   pub tied_welcome : AreTied (length (sizes_of shared)) new_back news

@@ -5,12 +5,9 @@ use lib.ListN.{get_elem?}
 use Rattle.ids_types.specs.declared.mode.Mode.{Mode}
 use Rattle.ids_types.specs.declared.names.Ticket.{Ticket}
 use Rattle.permit_ring.specs.declared.answer.Look.{Look}
-use Rattle.buffer_classes.specs.Buffers.{Buffer}
-use Rattle.buffer_classes.specs.Claims.{Asks, ClaimTells, asked, lost_at, ticket}
-use Rattle.buffer_classes.specs.Classes.{first_fitting}
+use Rattle.buffer_classes.specs.{Buffer, Asks, ClaimTells, asked, lost_at, ticket, first_fitting, memo_at}
 use Rattle.buffer_classes.specs.Names as classes
 use Rattle.buffer_classes.specs.declared.class.Class.{Class}
-use Rattle.buffer_classes.specs.Seats.{memo_at}
 use Rattle.buffer_classes.specs.declared.seat.Claim.TheVariants as claims
 use Rattle.buffer_classes.specs.declared.seat.ClaimSeat.{ClaimSeat}
 use Rattle.permit_ring.specs.Seats.{ring_seats}
@@ -32,6 +29,9 @@ pub record Given : Type 0 where
   pub stamp : Option Stamp
   pub bytes : List ℕ
 
+abbrev pub given : EventIndex → ℕ → Option Stamp → List ℕ → Given
+given event count stamp bytes = record { event = event; count = count; stamp = stamp; bytes = bytes }
+
 -- the act of a report with this context
 abbrev pub act_with : Given → Carried Buffer → Act
 act_with given context = Report given.event given.count given.stamp context
@@ -45,11 +45,12 @@ abbrev pub accepts : ℕ → Act → PassView → PassView
 accepts number act pass =
     puts number (record { caller = pass.caller; call = pass.calls; payload = act }) (calls_once (Ok (ticket number)) pass)
 
--- the context is all of these bytes, where there are any
-abbrev pub CarriesAll : List ℕ → Carried Buffer → Type 0
-CarriesAll bytes Absent = bytes ≡ []
-CarriesAll bytes (Kept class claim buf) = (0 < length bytes) × (buf.bytes ≡ bytes)
-CarriesAll bytes (Missing numbers) = ⊥
+-- the context is all of these bytes, where there are any, in a buffer of a class that holds so many
+abbrev pub CarriesAll : List ℕ → List ℕ → Carried Buffer → Type 0
+CarriesAll sizes bytes Absent = bytes ≡ []
+CarriesAll sizes bytes (Kept class claim buf) =
+    (0 < length bytes) × (buf.bytes ≡ bytes) × (get_elem? sizes class ≡ some buf.size) × (length bytes ≤ buf.size)
+CarriesAll sizes bytes (Missing numbers) = ⊥
 
 -- what is given is a report of a sensor
 abbrev pub IsReport : Shared → Given → Type 0
@@ -67,7 +68,7 @@ ReportTells shared given old reports.PassSpent new = IsReport shared given × (o
 ReportTells shared given old (reports.LostEvent look) new =
     IsCall shared given old × (look.free ≡ 0) × (new ≡ marks_event (loses look old))
 ReportTells shared given old (reports.Accepted t) new =
-    IsCall shared given old × ((context : Carried Buffer) × CarriesAll given.bytes context × (new ≡ accepts t.0 (act_with given context) old))
+    IsCall shared given old × ((context : Carried Buffer) × CarriesAll (sizes_of shared) given.bytes context × (new ≡ accepts t.0 (act_with given context) old))
 ReportTells shared given old (reports.WithoutContext t looks) new =
     IsCall shared given old × (0 < length given.bytes)
     × (first_fitting (length given.bytes) (sizes_of shared) + length looks ≡ length (sizes_of shared))
@@ -80,7 +81,7 @@ puts_act number act pass = puts number (record { caller = pass.caller; call = pa
 -- what putting a report under the ticket that is held answers, and the pass after it
 abbrev pub PutTells : Shared → Given → PassView → ReportAnswer → PassView → Type 0
 PutTells shared given old (reports.Accepted t) new =
-    (context : Carried Buffer) × CarriesAll given.bytes context × (new ≡ puts_act t.0 (act_with given context) old)
+    (context : Carried Buffer) × CarriesAll (sizes_of shared) given.bytes context × (new ≡ puts_act t.0 (act_with given context) old)
 PutTells shared given old (reports.WithoutContext t looks) new =
     (0 < length given.bytes)
     × (first_fitting (length given.bytes) (sizes_of shared) + length looks ≡ length (sizes_of shared))

@@ -7,12 +7,10 @@ use Rattle.merge_spec.specs.Fates.{Fate}
 use Rattle.merge_spec.specs.Follows.{Follows}
 use Rattle.permit_ring.specs.Closing.{IsSettled}
 use Rattle.buffer_classes.specs.declared.giver.Giver.{Giver}
-use Rattle.buffer_classes.specs.Givers.{AreGiversOf, givers_of}
-use Rattle.buffer_classes.specs.Giving.{giver_memo}
+use Rattle.buffer_classes.specs.{AreGiversOf, givers_of, giver_memo}
 use Rattle.buffer_classes.specs.Names as classes
 use Rattle.report_queue.specs.Parts as queue
-use Rattle.report_queue.specs.Parts.{IsTakerOf, taker_view}
-use Rattle.report_queue.specs.Views.{TakerView}
+use Rattle.report_queue.specs.{IsTakerOf, taker_view, TakerView}
 use Rattle.report_queue.specs.declared.cargo.Item.{Item}
 use Rattle.report_api.specs.Names.{Act, PassView}
 use Rattle.report_api.specs.Passes.{IsShared, calls_in, fate_of, missing_in, sizes_of}

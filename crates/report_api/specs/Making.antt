@@ -7,11 +7,9 @@ use Rattle.ids_types.specs.declared.class_spec.ClassSpec.{ClassSpec}
 use Rattle.ids_config.specs.Parts.{Parts, internal_of, is_sensor as is_reported}
 use Rattle.buffer_classes.specs.declared.giver.Giver.{Giver}
 use Rattle.buffer_classes.specs.declared.seat.ClaimSeat.{ClaimSeat}
-use Rattle.buffer_classes.specs.Givers.{givers_of}
-use Rattle.buffer_classes.specs.Making.{IsNewGiver, spec_sizes}
+use Rattle.buffer_classes.specs.{givers_of, IsNewGiver, spec_sizes}
 use Rattle.report_queue.specs.declared.seat.QueueSeat.{QueueSeat}
-use Rattle.report_queue.specs.Making.{new_caller, new_taker}
-use Rattle.report_queue.specs.Parts.{queue_positions, queue_seats}
+use Rattle.report_queue.specs.{new_caller, new_taker, queue_positions, queue_seats}
 use Rattle.report_api.specs.Desks.{IsDeskOf, desk_view}
 use Rattle.report_api.specs.Names.{Act}
 use Rattle.report_api.specs.Passes.{IsPassOf, IsShared, pass_view}

@@ -4,8 +4,7 @@ use Rattle.ids_types.specs.Carries.{act_by}
 use Rattle.ids_types.specs.declared.entry.Act.{Act as ActOver}
 use Rattle.merge_spec.specs.Fates.{Fate, lost, accepted}
 use Rattle.merge_spec.specs.Follows.{Calls, Follows}
-use Rattle.buffer_classes.specs.Classes.{class_sizes}
-use Rattle.buffer_classes.specs.Seats.{IsClaimSeatOf, claimant_of, claims_of, log_of}
+use Rattle.buffer_classes.specs.{class_sizes, IsClaimSeatOf, claimant_of, claims_of, log_of}
 use Rattle.permit_ring.specs.declared.memo.Outcome.{Outcome as OutcomeOf}
 use Rattle.report_queue.specs.Parts.{IsCallerOf, caller_number, caller_view, queue_terms, ticket_of}
 use Rattle.report_api.specs.Names.{Act, Report, Missing, Outcome, PassView, Lost, Got}

@@ -1,11 +1,7 @@
 //! Controls: what callers tell the filters.
 ghost use Rattle.std.specs.Prelude.{◌≡◌};
 ghost use Rattle.report_queue.specs.Parts.{caller_memo, queue_seats};
-ghost use Rattle.report_api.specs.Answers.{ControlSteps, ControlTells, ModeTells};
-ghost use Rattle.report_api.specs.Passes.{IsPassOf, pass_view};
-ghost use Rattle.report_api.specs.Names.{State};
-ghost use Rattle.report_api.specs.Controls.{IsControl};
-ghost use Rattle.report_api.specs.Terms.{AdmitsAct};
+ghost use Rattle.report_api.specs.{ControlSteps, ControlTells, ModeTells, IsPassOf, pass_view, State, IsControl, AdmitsAct};
 
 use crate::answer::Control;
 use crate::pass::Pass;

@@ -1,10 +1,8 @@
 //! Where the one who takes the reports sits.
 ghost use Rattle.std.specs.Prelude.{◌≡◌, ◌<◌, ◌≤◌, ◌^◌, [], length, sum, vec_capacity, IfErr, IfOk};
 ghost use Rattle.permit_ring.specs.Steps.{sweeps};
-ghost use Rattle.buffer_classes.specs.ByIndex.{AllOf};
-ghost use Rattle.buffer_classes.specs.Givers.{AreBuffersIn, GaveBack, Welcomed, givers_of, late_of};
-ghost use Rattle.report_queue.specs.Calls.{GivesBack, TakeTells, sweeps_both, vacant_after, welcomes_caller};
-ghost use Rattle.report_queue.specs.Closing.{AreAllSwept, AreCallersBack, IsAllTaken};
+ghost use Rattle.buffer_classes.specs.{AllOf, AreBuffersIn, GaveBack, Welcomed, givers_of, late_of};
+ghost use Rattle.report_queue.specs.{GivesBack, TakeTells, sweeps_both, vacant_after, welcomes_caller, AreAllSwept, AreCallersBack, IsAllTaken};
 ghost use Rattle.report_api.specs.Desks.{EachSettled, IsDeskOf, desk_view, same_item, to_give_back};
 ghost use Rattle.report_api.specs.Passes.{IsPassOf, pass_view, sizes_of};
 ghost use Rattle.report_api.specs.Terms.{AdmitsItem};

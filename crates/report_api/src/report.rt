@@ -1,9 +1,7 @@
 //! Reports of security events.
 ghost use Rattle.std.specs.Prelude.{◌≡◌, ◌<◌, [], None, is_none, false, length};
 ghost use Rattle.report_queue.specs.Parts.{caller_memo, queue_seats, ticket_of};
-ghost use Rattle.report_api.specs.Answers.{IsUnder, PutTells, ReportAsks, ReportSteps, ReportTells};
-ghost use Rattle.report_api.specs.Passes.{IsPassAt, IsPassOf, pass_view};
-ghost use Rattle.report_api.specs.Terms.{IsReported};
+ghost use Rattle.report_api.specs.{IsUnder, PutTells, ReportAsks, ReportSteps, ReportTells, given, IsPassAt, IsPassOf, pass_view, IsReported};
 
 use crate::answer::Report;
 use crate::pass::Pass;
@@ -26,7 +24,7 @@ impl Pass {
     ) -> Report
         requires mine { IsPassOf shared.now self.old }
         ensures mine { IsPassOf shared.now self.new }
-        ensures told { ReportTells shared.now (record { event = event; count = count; stamp = stamp; bytes = context.now }) (pass_view self.old) result (pass_view self.new) }
+        ensures told { ReportTells shared.now (given event count stamp context.now) (pass_view self.old) result (pass_view self.new) }
         ensures steps { ReportSteps (queue_seats shared.now.queue) (caller_memo self.old.seat) result }
         ensures classes { ReportAsks shared.now context.now self.old.claimant result self.new.claimant }
     {
@@ -52,7 +50,7 @@ impl Pass {
     pub fn report_event(&mut self, shared: &Shared, event: EventIndex) -> Report
         requires mine { IsPassOf shared.now self.old }
         ensures mine { IsPassOf shared.now self.new }
-        ensures told { ReportTells shared.now (record { event = event; count = 1; stamp = None; bytes = [] }) (pass_view self.old) result (pass_view self.new) }
+        ensures told { ReportTells shared.now (given event 1 None []) (pass_view self.old) result (pass_view self.new) }
         ensures steps { ReportSteps (queue_seats shared.now.queue) (caller_memo self.old.seat) result }
         ensures classes { ReportAsks shared.now [] self.old.claimant result self.new.claimant }
     {
@@ -63,7 +61,7 @@ impl Pass {
     pub fn report_count(&mut self, shared: &Shared, event: EventIndex, count: u16) -> Report
         requires mine { IsPassOf shared.now self.old }
         ensures mine { IsPassOf shared.now self.new }
-        ensures told { ReportTells shared.now (record { event = event; count = count; stamp = None; bytes = [] }) (pass_view self.old) result (pass_view self.new) }
+        ensures told { ReportTells shared.now (given event count None []) (pass_view self.old) result (pass_view self.new) }
         ensures steps { ReportSteps (queue_seats shared.now.queue) (caller_memo self.old.seat) result }
         ensures classes { ReportAsks shared.now [] self.old.claimant result self.new.claimant }
     {
@@ -74,7 +72,7 @@ impl Pass {
     pub fn report_context(&mut self, shared: &Shared, event: EventIndex, context: &[u8]) -> Report
         requires mine { IsPassOf shared.now self.old }
         ensures mine { IsPassOf shared.now self.new }
-        ensures told { ReportTells shared.now (record { event = event; count = 1; stamp = None; bytes = context.now }) (pass_view self.old) result (pass_view self.new) }
+        ensures told { ReportTells shared.now (given event 1 None context.now) (pass_view self.old) result (pass_view self.new) }
         ensures steps { ReportSteps (queue_seats shared.now.queue) (caller_memo self.old.seat) result }
         ensures classes { ReportAsks shared.now context.now self.old.claimant result self.new.claimant }
     {
@@ -95,7 +93,7 @@ impl Pass {
         requires reported { IsReported shared.now.terms event.0 count }
         ensures mine { IsPassOf shared.now self.new }
         ensures ticket { IsUnder (ticket_of self.old.seat) result }
-        ensures told { PutTells shared.now (record { event = event; count = count; stamp = stamp; bytes = context.now }) (pass_view self.old) result (pass_view self.new) }
+        ensures told { PutTells shared.now (given event count stamp context.now) (pass_view self.old) result (pass_view self.new) }
         ensures classes { ReportAsks shared.now context.now self.old.claimant result self.new.claimant }
     {
         if !context.is_empty() {
@@ -125,7 +123,7 @@ impl Pass {
         requires some { 0 < length context.now }
         ensures mine { IsPassOf shared.now self.new }
         ensures ticket { IsUnder (ticket_of self.old.seat) result }
-        ensures told { PutTells shared.now (record { event = event; count = count; stamp = stamp; bytes = context.now }) (pass_view self.old) result (pass_view self.new) }
+        ensures told { PutTells shared.now (given event count stamp context.now) (pass_view self.old) result (pass_view self.new) }
         ensures classes { ReportAsks shared.now context.now self.old.claimant result self.new.claimant }
     {
         match self.claimant.claim(&shared.classes, context.len() as u64) {

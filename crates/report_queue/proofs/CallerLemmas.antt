@@ -1,16 +1,9 @@
 -- How a caller stands after each of its calls.
 use Rattle.std.proofs.Common.{◌≡◌, ℕ, ◌+◌, ◌≤◌, ◌^◌, List, [], ◌∷◌, ◌++◌, length, Option, Some, Result, Ok, Err, ap, ap₂, ◌∙◌, subst, inl, inr, arith}
-use Rattle.report_queue.specs.Names.{Ticket, Outcome, Lost, Got, SeatMemo, Item, Queue, QueueSeat}
+use Rattle.report_queue.specs.{Ticket, Outcome, Lost, Got, SeatMemo, Item, Queue, QueueSeat, and_answer, calls_once, admits_all, IsCallerOf, ticket_of, CallerView, NamesItsCalls, caller_in}
 use Rattle.permit_ring.specs.declared.answer.Look.{Look}
-use Rattle.permit_ring.specs.Calls.{ClaimTells}
-use Rattle.permit_ring.specs.Seats.{HasInHand, ring_terms}
-use Rattle.permit_ring.specs.Steps.{and_lost}
-use Rattle.permit_ring.proofs.ListLemmas.{at_end}
-use Rattle.permit_ring.proofs.LogLemmas.{kept_log, lost_log}
-use Rattle.report_queue.specs.Calls.{and_answer, calls_once}
-use Rattle.report_queue.specs.Items.{admits_all}
-use Rattle.report_queue.specs.Parts.{IsCallerOf, ticket_of}
-use Rattle.report_queue.specs.Views.{CallerView, NamesItsCalls, caller_in}
+use Rattle.permit_ring.specs.{ClaimTells, HasInHand, ring_terms, and_lost}
+use Rattle.permit_ring.proofs.{at_end, kept_log, lost_log}
 
 module _ {N : Type 0} (i : ℕ) (log : List (Outcome (Item N))) (names : NamesItsCalls i log) where
   -- with a lost call more

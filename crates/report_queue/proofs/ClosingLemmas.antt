@@ -4,17 +4,10 @@ use Rattle.std.proofs.lemmas.List.{length-map}
 use mathlib.Core.Option.{some, some-injective, some-ne-none}
 use lib.ListN.{get_elem?}
 use Rattle.atomic_table.proofs.Lists.{at_map}
-use Rattle.report_queue.specs.Names.{KeeperMemo, SeatMemo, Item}
-use Rattle.permit_ring.specs.Closing.{AreAllBack, IsSettled}
-use Rattle.permit_ring.specs.Logs.{taken_by}
-use Rattle.permit_ring.specs.Steps.{waits}
-use Rattle.permit_ring.proofs.ListLemmas.{there}
-use Rattle.permit_ring.proofs.LogLemmas.{got_from, taken_in}
-use Rattle.permit_ring.proofs.Settled.{more_fronts}
+use Rattle.report_queue.specs.{KeeperMemo, SeatMemo, Item, IsAllTaken, IsWholeCaller, items_of, GivesBack, CallerView, TakerView, back_in, caller_in, taker_in}
+use Rattle.permit_ring.specs.{AreAllBack, IsSettled, taken_by, waits}
+use Rattle.permit_ring.proofs.{there, got_from, taken_in, more_fronts}
 use Rattle.report_queue.specs.Closing as queue
-use Rattle.report_queue.specs.Closing.{IsAllTaken, IsWholeCaller, items_of}
-use Rattle.report_queue.specs.Calls.{GivesBack}
-use Rattle.report_queue.specs.Views.{CallerView, TakerView, back_in, caller_in, taker_in}
 use Rattle.report_queue.proofs.TakerLemmas.{NameTheirs, all_back}
 
 -- an element of a mapped list is that of the list, mapped

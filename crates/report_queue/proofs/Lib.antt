@@ -2,3 +2,6 @@ pub mod CallerLemmas
 pub mod ClosingLemmas
 pub mod MakingLemmas
 pub mod TakerLemmas
+pub use Rattle.report_queue.proofs.ClosingLemmas.{at_map_back, taken_by_then}
+pub use Rattle.report_queue.proofs.MakingLemmas.{none_there}
+pub use Rattle.report_queue.proofs.TakerLemmas.{all_back, taken_is_reaped}

@@ -4,17 +4,12 @@ use Rattle.std.proofs.lemmas.List.{get_or_default, length-map, length-replicate,
 use mathlib.Core.Option.{some}
 use lib.ListN.{get_elem?}
 use Rattle.atomic_table.proofs.Lists.{at_index}
-use Rattle.report_queue.specs.Names.{KeeperMemo, SeatMemo, Item, Queue, QueueSeat, Taker}
+use Rattle.report_queue.specs.{KeeperMemo, SeatMemo, Item, Queue, QueueSeat, Taker, admits_all, IsNewQueue, IsUnused, as_callers, new_taker, IsTakerOf, caller_number, back_in, taker_in}
 use Rattle.permit_ring.specs.declared.seat.Seat.{Seat}
 use Rattle.permit_ring.specs.Making as ring
 use Rattle.permit_ring.specs.Seats.{seat_number}
-use Rattle.permit_ring.proofs.ListLemmas.{at_length}
-use Rattle.permit_ring.proofs.NewRings.{new_ordered}
+use Rattle.permit_ring.proofs.{at_length, new_ordered}
 use Rattle.report_queue.specs.declared.cargo.Items.{Items}
-use Rattle.report_queue.specs.Items.{admits_all}
-use Rattle.report_queue.specs.Making.{IsNewQueue, IsUnused, as_callers, new_taker}
-use Rattle.report_queue.specs.Parts.{IsTakerOf, caller_number}
-use Rattle.report_queue.specs.Views.{back_in, taker_in}
 use Rattle.report_queue.proofs.ClosingLemmas.{at_map_back}
 
 map-replicate : {A B : Type 0} (f : A → B) (n : ℕ) (a : A) → map f (replicate n a) ≡ replicate n (f a)

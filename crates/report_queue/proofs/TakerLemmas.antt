@@ -1,16 +1,13 @@
 -- How the taker stands after each of its calls, and what its calls show.
-use Rattle.std.proofs.Common.{◌≡◌, ℕ, ◌+◌, true, is_some, List, [], ◌∷◌, map, set, sum_by, Option, Some, None, refl, sym, ap, ap₂, ◌∙◌, arith}
+use Rattle.std.proofs.Common.{◌≡◌, ℕ, ◌+◌, true, is_some, List, [], ◌∷◌, map, set, sum_by, Option, Some, refl, sym, ap, ap₂, ◌∙◌, arith}
 use Rattle.std.proofs.lemmas.List.{map-set}
 use Rattle.std.proofs.lemmas.List.Sums.{sum_by-cons}
 use mathlib.Core.Option.{some}
 use lib.ListN.{get_elem?}
 use Rattle.atomic_table.proofs.Lists.{at_map, at_set}
-use Rattle.report_queue.specs.Names.{KeeperMemo, SeatMemo, Item}
+use Rattle.report_queue.specs.{KeeperMemo, SeatMemo, Item, welcomes_caller, AreCallersBack, IsAllTaken, events_back, contexts_back, CallerView, NamesItsCalls, back_in, caller_in, taker_in}
 use Rattle.permit_ring.specs.Closing as ring
 use Rattle.permit_ring.specs.Steps as step
-use Rattle.report_queue.specs.Calls.{welcomes_caller}
-use Rattle.report_queue.specs.Closing.{AreCallersBack, IsAllTaken, events_back, contexts_back}
-use Rattle.report_queue.specs.Views.{CallerView, NamesItsCalls, back_in, caller_in, taker_in}
 
 -- a sum over a mapped list
 sum_by-map : {A B : Type 0} (f : A → B) (g : B → ℕ) (h : A → ℕ) → ((a : A) → h a ≡ g (f a)) → (xs : List A)
@@ -25,8 +22,7 @@ NameTheirs {N = N} back = (i : ℕ) (memo : SeatMemo (Item N)) → get_elem? bac
 
 module _ {N : Type 0} where
   is_back : (back : Option (SeatMemo (Item N))) → is_some (back_in back) ≡ true → is_some back ≡ true
-  is_back None e = e
-  is_back (Some memo) e = refl
+  is_back back e = grind arith
 
   -- who is back is shown to be back
   pub all_back : (k : KeeperMemo (Item N)) → AreCallersBack (taker_in k) → ring.AreAllBack k
@@ -36,20 +32,12 @@ module _ {N : Type 0} where
   pub taken_is_reaped : (k : KeeperMemo (Item N)) → IsAllTaken (taker_in k) → ring.IsAllReaped k
   taken_is_reaped k taken i memo e = (taken.whole i (caller_in memo) (at_map back_in k.back i (Some memo) e)).within
 
-  same_events : (back : Option (SeatMemo (Item N))) → ring.marks_back 0 back ≡ events_back (back_in back)
-  same_events None = refl
-  same_events (Some memo) = refl
-
-  same_contexts : (back : Option (SeatMemo (Item N))) → ring.marks_back 1 back ≡ contexts_back (back_in back)
-  same_contexts None = refl
-  same_contexts (Some memo) = refl
-
   -- what callers that came back had marked is shown
   pub same_losses : (back : List (Option (SeatMemo (Item N)))) → (sum_by (ring.marks_back 0) back ≡ sum_by events_back (map back_in back))
       × (sum_by (ring.marks_back 1) back ≡ sum_by contexts_back (map back_in back))
   same_losses back = (
-    sum_by-map back_in events_back (ring.marks_back 0) same_events back,
-    sum_by-map back_in contexts_back (ring.marks_back 1) same_contexts back,
+    sum_by-map back_in events_back (ring.marks_back 0) (λ came. grind arith) back,
+    sum_by-map back_in contexts_back (ring.marks_back 1) (λ came. grind arith) back,
   )
 
   -- a caller that came back is shown

@@ -3,8 +3,7 @@ use Rattle.std.specs.Prelude.{◌≡◌, ℕ, suc, ◌<◌, ◌≤◌, ◌==◌,
 use mathlib.Core.Option.{some}
 use lib.ListN.{get_elem?}
 use Rattle.report_queue.specs.Names.{Lost, Item}
-pub use Rattle.permit_ring.specs.Logs.{RisesFrom, end_from, got_of}
-pub use Rattle.permit_ring.specs.Rule.{StandsIn}
+pub use Rattle.permit_ring.specs.{RisesFrom, end_from, got_of, StandsIn}
 use Rattle.report_queue.specs.Views.{CallerView, TakerView, NamesItsCalls}
 
 module _ {N : Type 0} where

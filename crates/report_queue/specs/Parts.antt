@@ -3,8 +3,7 @@ use Rattle.std.specs.Prelude.{◌≡◌, ℕ, ◌+◌, ◌-◌, ◌<◌, ◌≤�
 use mathlib.Core.Option.{some}
 use lib.ListN.{get_elem?}
 use Rattle.report_queue.specs.Names.{Ticket, KeeperMemo, SeatMemo, Item, Queue, QueueSeat, Taker}
-use Rattle.permit_ring.specs.Logs.{IsOrdered}
-use Rattle.permit_ring.specs.Seats.{IsKeeperOf, IsSeatOf, filled_of, keeper_memo, ring_positions, ring_seats, ring_terms, seat_calls, seat_memo, seat_number, seat_ticket, vacant_of}
+use Rattle.permit_ring.specs.{IsOrdered, IsKeeperOf, IsSeatOf, filled_of, keeper_memo, ring_positions, ring_seats, ring_terms, seat_calls, seat_memo, seat_number, seat_ticket, vacant_of}
 use Rattle.report_queue.specs.Items.{admits_all}
 use Rattle.report_queue.specs.Views.{CallerView, NamesItsCalls, TakerView, caller_in, taker_in}
 

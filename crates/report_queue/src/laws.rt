@@ -1,7 +1,5 @@
 //! What stays of a queue's end, as the contract of a function that does nothing.
-ghost use Rattle.report_queue.specs.Calls.{GivesBack};
-ghost use Rattle.report_queue.specs.Closing.{AreCallersBack, IsAllTaken};
-ghost use Rattle.report_queue.specs.Views.{TakerView};
+ghost use Rattle.report_queue.specs.{GivesBack, AreCallersBack, IsAllTaken, TakerView};
 
 use crate::cargo::Cargo;
 

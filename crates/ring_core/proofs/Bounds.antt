@@ -2,10 +2,8 @@
 use Rattle.std.proofs.Common.{ℕ, suc, ◌+◌, ◌*◌, ◌^◌, ◌≤◌, List, [], ◌∷◌, length, sum_by, suc-mul, arith}
 use Rattle.std.proofs.lemmas.Grind.{common_steps}
 use Rattle.std.proofs.lemmas.List.Sums.{sum_by-cons}
-use Rattle.ring_core.specs.Names.{SeatView}
-use Rattle.ring_core.specs.Machine.{Machine, seat_at}
-use Rattle.ring_core.specs.Sound.{IsRing}
-use Rattle.ring_core.specs.StateView.{machine_of}
+use Rattle.ring_core.specs.{SeatView, seat_at, IsRing, machine_of}
+use Rattle.ring_core.specs.Machine.{Machine}
 use Rattle.ring_core.specs.declared.state.RingState.TheInside.{Inside}
 
 -- a sum over seats that each add at most `most`

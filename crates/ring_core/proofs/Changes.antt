@@ -2,9 +2,8 @@
 use Rattle.std.proofs.Common.{◌≡◌, ℕ, ◌+◌, ◌<◌, ◌≤◌, ◌⊎◌, List, length, set, sum_by, arith}
 use Rattle.std.proofs.lemmas.Grind.{common_steps}
 use Rattle.std.proofs.lemmas.List.{length-set}
-use Rattle.ring_core.specs.Names.{LossWord, PermitWord, SeatView}
-use Rattle.ring_core.specs.Machine.{Machine, seat_at, with_seat}
-use Rattle.ring_core.specs.Sound.{IsRing, IsSeat, AreSeats, Holds, armed_count, calls_sum}
+use Rattle.ring_core.specs.{LossWord, PermitWord, SeatView, seat_at, with_seat, IsRing, IsSeat, AreSeats, Holds, armed_count, calls_sum}
+use Rattle.ring_core.specs.Machine.{Machine}
 use Rattle.ring_core.proofs.SeatLemmas.{apart_same, mark_same, each_after, holders_stay}
 
 module _ (m : Machine) (r : IsRing m) (i : ℕ) (made : i < length m.seats) (now : SeatView) where

@@ -2,9 +2,8 @@
 use Rattle.std.proofs.Common.{◌≡◌, ℕ, ◌+◌, ◌%◌, ◌≤◌, true, arith, mod-lt, inl, inr}
 use Rattle.std.proofs.lemmas.Bool.{cases_Bool}
 use Rattle.std.proofs.lemmas.Grind.{common_steps}
-use Rattle.ring_core.specs.Names.{See, Read, Offer}
-use Rattle.ring_core.specs.Machine.{Machine, seat_at, mark_at, same_word, offered_to, possible, after}
-use Rattle.ring_core.specs.Sound.{IsRing, IsSeat, Holds}
+use Rattle.ring_core.specs.{See, Read, Offer, seat_at, mark_at, same_word, offered_to, possible, after, IsRing, IsSeat, Holds}
+use Rattle.ring_core.specs.Machine.{Machine}
 
 module _ (m : Machine) (r : IsRing m) where
   -- the next ticket is finished, so no seat holds it

@@ -4,9 +4,8 @@ use Rattle.std.proofs.lemmas.Bool.{ltb-true}
 use Rattle.std.proofs.lemmas.Grind.{common_steps}
 use Rattle.std.proofs.lemmas.List.{length-append}
 use Rattle.std.proofs.lemmas.List.Sums.{sum_by-append}
-use Rattle.ring_core.specs.Names.{SeatView, Split, Join}
-use Rattle.ring_core.specs.Machine.{Machine, new_seat, seat_at, possible, after}
-use Rattle.ring_core.specs.Sound.{IsRing, IsSeat}
+use Rattle.ring_core.specs.{SeatView, Split, Join, new_seat, seat_at, possible, after, IsRing, IsSeat}
+use Rattle.ring_core.specs.Machine.{Machine}
 use Rattle.ring_core.proofs.Changes.{seat_sound}
 use Rattle.ring_core.proofs.SeatLemmas.{idle_parts, live_is_made, one_if, mark_same, apart_same, sums_after, seat_at-push, holders_stay_push}
 

@@ -3,9 +3,8 @@ use Rattle.std.proofs.Common.{◌≡◌, ℕ, ◌^◌, ◌<◌, true, set, refl,
 use Rattle.std.proofs.lemmas.Grind.{common_steps}
 use Rattle.std.proofs.lemmas.List.{length-set}
 use Rattle.std.proofs.lemmas.List.Sums.{count_by-le-length}
-use Rattle.ring_core.specs.Names.{SeatView, Look}
-use Rattle.ring_core.specs.Machine.{Machine, seat_at, looked, possible, after}
-use Rattle.ring_core.specs.Sound.{IsRing}
+use Rattle.ring_core.specs.{SeatView, Look, seat_at, looked, possible, after, IsRing}
+use Rattle.ring_core.specs.Machine.{Machine}
 use Rattle.ring_core.proofs.Changes.{seat_sound}
 use Rattle.ring_core.proofs.SeatLemmas.{idle_parts, live_is_made, one_if, sums_after}
 

@@ -2,9 +2,8 @@
 use Rattle.std.proofs.Common.{◌≡◌, ℕ, zero, suc, ◌^◌, ◌<◌, true, nat_lt, refl, le_refl, arith}
 use Rattle.std.proofs.lemmas.Bool.{and_parts, ltb-true}
 use Rattle.std.proofs.lemmas.Grind.{common_steps}
-use Rattle.ring_core.specs.Names.{Mark, Sweep}
-use Rattle.ring_core.specs.Machine.{Machine, seat_at, marks_of, marked, may_mark, one_more_lost, possible, after}
-use Rattle.ring_core.specs.Sound.{IsRing}
+use Rattle.ring_core.specs.{Mark, Sweep, seat_at, marks_of, marked, may_mark, one_more_lost, possible, after, IsRing}
+use Rattle.ring_core.specs.Machine.{Machine}
 use Rattle.ring_core.proofs.Changes.{seat_sound}
 use Rattle.ring_core.proofs.SeatLemmas.{live_is_made, sums_after}
 

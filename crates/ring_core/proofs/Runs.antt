@@ -1,12 +1,10 @@
 -- What holds of a ring is kept by each step, and by each list of steps.
-use Rattle.std.proofs.Common.{◌≡◌, ℕ, Bool, cond, ◌+◌, ◌<◌, ◌≤◌, true, Option, Some, None, IfSome, is_some, List, [], ◌∷◌, ◌++◌, length, take, get_or, refl, sym, ◌∙◌, ap, subst}
+use Rattle.std.proofs.Common.{◌≡◌, ℕ, Bool, cond, ◌+◌, ◌<◌, true, Option, Some, None, IfSome, is_some, List, [], ◌∷◌, ◌++◌, length, take, get_or, refl, sym, ◌∙◌, ap, subst}
 use Rattle.std.specs.Option.{option_and_then}
-use Rattle.std.proofs.lemmas.List.{take_more, take_all}
+use Rattle.std.proofs.lemmas.List.{take_more}
 use Rattle.std.proofs.lemmas.Option.{option_and_then_some}
-use Rattle.ring_core.specs.Names.{Step, Look, Claim, Finish, See, Read, Offer, Mark, Sweep, Split, Join}
-use Rattle.ring_core.specs.Machine.{HasSizes, Machine, possible, after, next}
-use Rattle.ring_core.specs.Runs.{after_all, StopsAt}
-use Rattle.ring_core.specs.Sound.{IsRing}
+use Rattle.ring_core.specs.{Step, Look, Claim, Finish, See, Read, Offer, Mark, Sweep, Split, Join, HasSizes, possible, after, next, after_all, StopsAt, IsRing}
+use Rattle.ring_core.specs.Machine.{Machine}
 use Rattle.ring_core.proofs.Claims.{claim_keeps}
 use Rattle.ring_core.proofs.Finishes.{finish_keeps}
 use Rattle.ring_core.proofs.Keeps.{see_keeps, read_keeps, offer_keeps}
@@ -81,8 +79,3 @@ module _ (start m : Machine) (steps : List Step) (at : ℕ) (within : at < lengt
     -- one that is not possible is the first
     pub run_stops : next m (get_or steps at (Look 0)) ≡ None → StopsAt start steps at
     run_stops none = record { within = within; before = ap is_some so_far; stops = one_more ∙ none }
-
--- all steps were made
-pub run_ends : (start now : Machine) (steps : List Step) (at : ℕ) → length steps ≤ at → after_all start (take at steps) ≡ Some now
-    → after_all start steps ≡ Some now
-run_ends start now steps at past e = ap (after_all start) (sym (take_all at steps past)) ∙ e

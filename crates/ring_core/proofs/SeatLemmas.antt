@@ -4,9 +4,7 @@ use Rattle.std.proofs.lemmas.Bool.{cases_eq, cases_lt}
 use Rattle.std.proofs.lemmas.Grind.{common_steps}
 use Rattle.std.proofs.lemmas.List.{get_or_past, get_or-set_same, get_or-set_other, get_or_append_left, get_or_push, length-append}
 use Rattle.std.proofs.lemmas.List.Sums.{sum_by-set}
-use Rattle.ring_core.specs.Names.{SeatView, Ticket0}
-use Rattle.ring_core.specs.Machine.{nobody, new_seat, seat_at, is_idle}
-use Rattle.ring_core.specs.Sound.{Holds, IsFinished, IsMark, armed_count, calls_sum}
+use Rattle.ring_core.specs.{SeatView, Ticket0, nobody, new_seat, seat_at, is_idle, Holds, IsFinished, IsMark, armed_count, calls_sum}
 
 -- what is known of an idle seat
 pub record Idle (seat : SeatView) : Type 0 where

@@ -1,14 +1,13 @@
 //! What holds of every ring, as the contracts of functions that do nothing.
 
 ghost use Rattle.std.specs.Prelude.{◌≡◌, ◌+◌, ◌%◌, ◌<◌, ◌≤◌, IfSome, IsFalse};
-ghost use Rattle.ring_core.specs.Machine.{Machine, opening, next, same_word};
-ghost use Rattle.ring_core.specs.Runs.{after_all};
-ghost use Rattle.ring_core.specs.Sound.{IsRing};
-ghost use Rattle.ring_core.specs.Words.{tries_of, field_of, IsPackable};
+ghost use Rattle.ring_core.specs.Machine.{Machine};
+ghost use Rattle.ring_core.specs.{opening, next, same_word, after_all, IsRing, tries_of, field_of, IsPackable};
 
 use crate::step::Step;
 
 /// Each step leads from a ring to a ring.
+#[tactic(auto, using(crate::proofs::Runs::next_keeps))]
 pub fn each_step_keeps_a_ring(step: Step)
     ghost m: { Machine }
     requires { IsRing m }
@@ -16,6 +15,7 @@ pub fn each_step_keeps_a_ring(step: Step)
 {}
 
 /// Each list of steps leads from a ring whose positions are all free to a ring.
+#[tactic(auto, using(crate::proofs::Runs::runs_keep, crate::proofs::Opens::opens))]
 pub fn each_run_ends_in_a_ring(n: u16, seats: u8, steps: &[Step])
     requires positions { (1 ≤ n) × (n ≤ 1024) }
     requires seats { (1 ≤ seats) × (seats ≤ 32) }
@@ -23,6 +23,7 @@ pub fn each_run_ends_in_a_ring(n: u16, seats: u8, steps: &[Step])
 {}
 
 /// A word of a ring, and one that its keeper read or left, can be told from its number.
+#[tactic(auto, using(crate::proofs::RingLaws::word_packs, crate::proofs::RingLaws::seen_packs))]
 pub fn words_can_be_packed()
     ghost m: { Machine }
     requires { IsRing m }
@@ -54,6 +55,7 @@ pub fn tries_of_an_offer_are_bounded()
 {}
 
 /// Two tickets of one turn that stand at one position are one ticket.
+#[tactic(auto, using(crate::proofs::Turns::same_position))]
 pub fn one_ticket_a_position(reaped: u64, n: u64, t: u64, u: u64)
     requires first { (reaped ≤ t) × (t < reaped + n) }
     requires second { (reaped ≤ u) × (u < reaped + n) }

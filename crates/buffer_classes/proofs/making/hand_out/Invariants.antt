@@ -1,7 +1,5 @@
 use Rattle.std.proofs.Common.{◌≡◌, ◌++◌, List, length}
-use Rattle.buffer_classes.specs.ByIndex.{AllOf}
-use Rattle.buffer_classes.specs.Making.{GetsSeat}
-use Rattle.buffer_classes.specs.Names.{ClassSeat}
+use Rattle.buffer_classes.specs.{AllOf, GetsSeat, ClassSeat}
 use Rattle.buffer_classes.proofs.ByIndexLemmas.{FromOn}
 use Rattle.buffer_classes.proofs.making.hand_out.Given as goal
 

@@ -1,4 +1,4 @@
-use Rattle.std.proofs.Common.{arith, ap, length, inl, inr}
+use Rattle.std.proofs.Common.{arith, ap, length}
 use Rattle.std.proofs.lemmas.List.{length_push}
 use Rattle.permit_ring.proofs.ListLemmas.{at_end}
 use Rattle.buffer_classes.specs.Making.{IsUnseated}
@@ -10,13 +10,13 @@ loop-number-preserved c =
     let was = c.loop-number.invariant in
     let new : ClaimSeat = record { seats = c.in_ok-with_capacity.field-0; number = c.loop-number.number; claims = 0 } in
     let is : IsUnseated c.args.classes c.loop-number.number new = grind (arith, c.in_ok-with_capacity.ensures) in
+    let more = c.push_reserved.ensures.items in
     let olds = c.loop-number.claimants.items in (
       record {
-        all_made = omega (arith, ap length c.push_reserved.ensures.items, length_push olds new, was.0.all_made);
-        each = λ i seat at. elim (at_end olds new seat i (rw (← c.push_reserved.ensures.items) at)) [
-          | inl old ↦ was.0.each i seat old
-          | inr last ↦ rw (last.0, was.0.all_made, ← last.1) is
-        ];
+        all_made = omega (arith, ap length more, length_push olds new, was.0.all_made);
+        each = λ i seat at.
+            let c = at_end olds new seat i (rw (← more) at) in
+            grind (arith, c, was.0.all_made, is, was.0.each i seat);
       },
       omega (arith, c.push_reserved.ensures.capacity, was.1),
     )

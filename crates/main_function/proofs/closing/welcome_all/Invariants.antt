@@ -1,6 +1,5 @@
 use Rattle.std.proofs.Common.{◌≡◌, length}
-use Rattle.buffer_classes.specs.ByIndex.{AllOf}
-use Rattle.buffer_classes.specs.Givers.{givers_of}
+use Rattle.buffer_classes.specs.{AllOf, givers_of}
 use Rattle.report_api.specs.Desks.{IsDeskOf, desk_view, to_give_back}
 use Rattle.main_function.specs.Closing.{OnlyWelcomes}
 use Rattle.main_function.proofs.WelcomeLemmas.{WelcomesSo}

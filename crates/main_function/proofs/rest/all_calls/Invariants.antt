@@ -1,7 +1,7 @@
-use Rattle.std.proofs.Common.{◌≡◌, ◌≤◌, ◌*◌, ◌^◌, take}
-use Rattle.main_function.specs.Standing.{all_calls}
+use Rattle.std.proofs.Common.{◌≡◌, ◌≤◌, ◌*◌, ◌^◌, sum_by, take}
+use Rattle.report_api.specs.Passes.{pass_view}
 use Rattle.main_function.proofs.rest.all_calls.Given as goal
 
 -- the calls of the first passes are summed, and are few
-abbrev pub invariant-loop-pass : goal.invariant-loop-pass
-invariant-loop-pass l = (l.calls ≡ all_calls (take l.pass-index l.passes)) × (l.calls ≤ l.pass-index * 2 ^ 40)
+abbrev pub invariant-loop-has : goal.invariant-loop-has
+invariant-loop-has g l = (l.calls ≡ sum_by (λ has. (pass_view (g.P.HasPass.its has)).calls) (take l.has-index l.passes)) × (l.calls ≤ l.has-index * 2 ^ 40)

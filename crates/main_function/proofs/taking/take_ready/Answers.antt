@@ -1,7 +1,6 @@
 use Rattle.std.proofs.Common.{ap}
 use Rattle.report_queue.specs.Views.{TakerView}
-use Rattle.report_api.specs.Desks.{desk_view}
-use Rattle.report_api.specs.Names.{Act}
+use Rattle.report_api.specs.{desk_view, Act}
 use Rattle.main_function.proofs.ClosingLemmas.{same_back}
 use Rattle.main_function.proofs.taking.take_ready.Goals as goal
 

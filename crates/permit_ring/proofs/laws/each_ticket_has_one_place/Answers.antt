@@ -1,6 +1,5 @@
 use Rattle.std.proofs.Common.{arith}
-use Rattle.permit_ring.proofs.ListLemmas.{there}
-use Rattle.permit_ring.proofs.RuleLaws.{place_from}
+use Rattle.permit_ring.proofs.{there, place_from}
 use Rattle.permit_ring.proofs.laws.each_ticket_has_one_place.Goals as goal
 
 pub returns : goal.returns

@@ -1,8 +1,7 @@
 use Rattle.std.proofs.Common.{arith, ◌∙◌, [], refl, mod-eq_of_lt}
 use native.Mathlib.Nat.{add-mod_right}
 use Rattle.permit_ring.specs.Seats.{KeepsInHand}
-use Rattle.permit_ring.proofs.HandLemmas.{none_filled}
-use Rattle.permit_ring.proofs.NewRings.{opens_running, fresh}
+use Rattle.permit_ring.proofs.{none_filled, opens_running, fresh}
 use Rattle.permit_ring.proofs.making.make.Goals as goal
 
 pub new-requires : goal.new-requires

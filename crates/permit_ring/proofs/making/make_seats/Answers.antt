@@ -1,8 +1,6 @@
 use Rattle.std.proofs.Common.{arith, rules, ℕ, ap, sym, add-one, ◌∙◌}
-use Rattle.permit_ring.specs.Told.{keeper_in}
-use Rattle.permit_ring.specs.Making.{IsNewSeat, made_memo}
-use Rattle.permit_ring.proofs.Lives.{splits_allowed}
-use Rattle.permit_ring.proofs.NewRings.{fresh, one_seat_more}
+use Rattle.permit_ring.specs.{keeper_in, IsNewSeat, made_memo}
+use Rattle.permit_ring.proofs.{splits_allowed, fresh, one_seat_more}
 use Rattle.permit_ring.proofs.making.make_seats.Goals as goal
 
 pub split_seat-seat-requires : goal.split_seat-seat-requires

@@ -1,8 +1,6 @@
 use Rattle.std.proofs.Common.{◌≡◌, ◌+◌, ◌≤◌, ◌-◌, []}
 use Rattle.std.specs.Prelude.{vec_capacity}
-use Rattle.permit_ring.specs.Names.{Keeps}
-use Rattle.permit_ring.specs.Making.{AreNewSeats, made_memo}
-use Rattle.permit_ring.specs.Seats.{IsKeeping}
+use Rattle.permit_ring.specs.{Keeps, AreNewSeats, made_memo, IsKeeping}
 use Rattle.permit_ring.proofs.making.make_seats.Given as goal
 
 abbrev pub invariant-loop-number : goal.invariant-loop-number

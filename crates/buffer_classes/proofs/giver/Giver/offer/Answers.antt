@@ -1,6 +1,5 @@
 use Rattle.std.proofs.Common.{arith, inl, inr, eq-zero-or-pos, subst, sym}
-use Rattle.permit_ring.specs.Calls.{OfferTells}
-use Rattle.permit_ring.specs.Seats.{filled_of, keeper_memo}
+use Rattle.permit_ring.specs.{OfferTells, filled_of, keeper_memo}
 use Rattle.buffer_classes.specs.Giving.{OffersOnce, giver_memo}
 use Rattle.buffer_classes.proofs.GiveLemmas.{fronts_on}
 use Rattle.buffer_classes.proofs.giver.Giver.offer.Goals as goal

@@ -1,6 +1,5 @@
-use Rattle.buffer_classes.specs.ByIndex.{AllBelow}
-use Rattle.buffer_classes.specs.Givers.{AreGiversOf, givers_of}
-use Rattle.buffer_classes.specs.Giving.{Begins}
+use Rattle.buffer_classes.specs.{AreGiversOf, givers_of, Begins}
+use Rattle.buffer_classes.proofs.ByIndexLemmas.{AllBelow}
 use Rattle.buffer_classes.proofs.givers.Givers.begin_all.Given as goal
 
 abbrev pub invariant-loop-class : goal.invariant-loop-class

@@ -1,8 +1,6 @@
 use Rattle.buffer_classes.specs.declared.giver.Giver.{Giver}
-use Rattle.buffer_classes.specs.Givers.{class_count}
-use Rattle.buffer_classes.specs.Giving.{Begins, Puts}
-use Rattle.buffer_classes.proofs.ByIndexLemmas.{all_then}
-use Rattle.buffer_classes.proofs.PutLemmas.{gave_back}
+use Rattle.buffer_classes.specs.{class_count, Begins, Puts}
+use Rattle.buffer_classes.proofs.{all_then, gave_back}
 use Rattle.buffer_classes.proofs.givers.Givers.give.Goals as goal
 
 pub returns-clause-gave : goal.returns-clause-gave

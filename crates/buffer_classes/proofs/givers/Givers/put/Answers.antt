@@ -1,9 +1,6 @@
 use Rattle.std.proofs.Common.{refl, arith, set, subst}
-use Rattle.buffer_classes.specs.ByIndex.{OneOf}
-use Rattle.buffer_classes.specs.Givers.{givers_of}
-use Rattle.buffer_classes.specs.Giving.{Puts}
-use Rattle.buffer_classes.proofs.ByIndexLemmas.{one_set}
-use Rattle.buffer_classes.proofs.GiversLemmas.{buffer_there, class_of, giver_there, givers_with}
+use Rattle.buffer_classes.specs.{OneOf, givers_of, Puts}
+use Rattle.buffer_classes.proofs.{one_set, buffer_there, class_of, giver_there, givers_with}
 use Rattle.buffer_classes.proofs.givers.Givers.put.Goals as goal
 
 pub index_mut-requires : goal.index_mut-requires
@@ -13,28 +10,22 @@ pub index-requires : goal.index-requires
 index-requires c =
     omega (arith, c.requires.mine.all, class_of c.requires.mine c.class-class.result c.args.buf c.class-class.ensures c.requires.buf)
 
-pub put-requires-clause-mine : goal.put-requires-clause-mine
-put-requires-clause-mine c =
+pub put-requires : goal.put-requires
+put-requires c =
     let i = c.class-class.result in
     let low = class_of c.requires.mine i c.args.buf c.class-class.ensures c.requires.buf in
-    giver_there c.requires.mine i low c.index.result.now c.index.ensures c.index_mut.result.now c.index_mut.ensures.value
+    record {
+      mine = giver_there c.requires.mine i low c.index.result.now c.index.ensures c.index_mut.result.now c.index_mut.ensures.value;
+      buf = buffer_there c.requires.mine i low c.index.result.now c.index.ensures c.args.buf c.class-class.ensures c.requires.buf;
+    }
 
-pub put-requires-clause-buf : goal.put-requires-clause-buf
-put-requires-clause-buf c =
-    let i = c.class-class.result in
-    let low = class_of c.requires.mine i c.args.buf c.class-class.ensures c.requires.buf in
-    buffer_there c.requires.mine i low c.index.result.now c.index.ensures c.args.buf c.class-class.ensures c.requires.buf
-
-pub returns-clause-mine : goal.returns-clause-mine
-returns-clause-mine c =
-    let i = c.class-class.result in
-    let low = class_of c.requires.mine i c.args.buf c.class-class.ensures c.requires.buf in
-    givers_with c.requires.mine i low c.index.result.now c.index.ensures c.put.new.self _ refl c.put.ensures.mine
-
-pub returns-clause-did : goal.returns-clause-did
-returns-clause-did c =
+pub returns : goal.returns
+returns c =
     let i = c.class-class.result in
     let low = class_of c.requires.mine i c.args.buf c.class-class.ensures c.requires.buf in
     let old = givers_of c.args.self.now in
-    subst (λ j. OneOf (Puts 1) j old (set old i c.put.new.self)) c.class-class.ensures
-    (one_set old i c.put.new.self low c.index_mut.ensures.value c.put.ensures.did)
+    record {
+      mine = givers_with c.requires.mine i low c.index.result.now c.index.ensures c.put.new.self _ refl c.put.ensures.mine;
+      did = subst (λ j. OneOf (Puts 1) j old (set old i c.put.new.self)) c.class-class.ensures
+          (one_set old i c.put.new.self low c.index_mut.ensures.value c.put.ensures.did);
+    }

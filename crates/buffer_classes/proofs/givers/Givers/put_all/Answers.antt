@@ -1,9 +1,7 @@
 use Rattle.std.proofs.Common.{◌≡◌, ◌++◌, ◌∷◌, [], ◌∙◌, arith}
 use Rattle.std.proofs.lemmas.List.{nil_from_length}
-use Rattle.buffer_classes.specs.Classes.{class_sizes}
-use Rattle.buffer_classes.specs.Givers.{IsBufferIn}
-use Rattle.buffer_classes.proofs.GiveLemmas.{admitted_before, admitted_last}
-use Rattle.buffer_classes.proofs.PutLemmas.{all_put, one_put}
+use Rattle.buffer_classes.specs.{class_sizes, IsBufferIn}
+use Rattle.buffer_classes.proofs.{admitted_before, admitted_last, all_put, one_put}
 use Rattle.buffer_classes.proofs.givers.Givers.put_all.Goals as goal
 
 pub put-requires-clause-buf : goal.put-requires-clause-buf

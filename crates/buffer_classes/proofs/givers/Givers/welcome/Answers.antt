@@ -1,7 +1,6 @@
 use Rattle.std.proofs.Common.{◌≡◌, ◌++◌, ◌∷◌, [], arith, length, sym}
 use Rattle.std.proofs.lemmas.List.{append-nil}
-use Rattle.buffer_classes.specs.Givers.{givers_of}
-use Rattle.buffer_classes.specs.Giving.{Takes}
+use Rattle.buffer_classes.specs.{givers_of, Takes}
 use Rattle.buffer_classes.proofs.ByIndexLemmas.{from_all, from_end, last_left, last_taken}
 use Rattle.buffer_classes.proofs.givers.Givers.welcome.Goals as goal
 

@@ -1,7 +1,5 @@
 use Rattle.std.proofs.Common.{◌≡◌, ◌++◌, List, length}
-use Rattle.buffer_classes.specs.ByIndex.{AllOf}
-use Rattle.buffer_classes.specs.Givers.{AreGiversOf, Welcomed, givers_of}
-use Rattle.buffer_classes.specs.Names.{ClassSeat}
+use Rattle.buffer_classes.specs.{AllOf, AreGiversOf, Welcomed, givers_of, ClassSeat}
 use Rattle.buffer_classes.proofs.ByIndexLemmas.{FromOn}
 use Rattle.buffer_classes.proofs.givers.Givers.welcome.Given as goal
 

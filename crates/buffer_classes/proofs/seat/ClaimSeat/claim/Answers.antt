@@ -2,12 +2,8 @@ use Rattle.std.proofs.Common.{◌≡◌, ℕ, ◌<◌, ◌≤◌, ◌^◌, lengt
 use Rattle.std.proofs.lemmas.List.{length-map, length_push}
 use Rattle.std.proofs.lemmas.List.Elements.{All-push}
 use Rattle.atomic_table.proofs.Lists.{set_else}
-use Rattle.buffer_classes.specs.Claims.{lost_at}
-use Rattle.buffer_classes.specs.Classes.{class_sizes, first_fitting}
-use Rattle.buffer_classes.specs.Names.{Class}
-use Rattle.buffer_classes.proofs.AskLemmas.{lost_past}
-use Rattle.buffer_classes.proofs.FittingLemmas.{first_within}
-use Rattle.buffer_classes.proofs.ClaimLemmas.{asks_none, claimed, claimed_logs, class_is, fits_from, got_past, got_there, his_next, in_vain, size_there}
+use Rattle.buffer_classes.specs.{lost_at, class_sizes, first_fitting, Class}
+use Rattle.buffer_classes.proofs.{lost_past, first_within, asks_none, claimed, claimed_logs, class_is, fits_from, got_past, got_there, his_next, in_vain, size_there}
 use Rattle.buffer_classes.proofs.seat.ClaimSeat.claim.Goals as goal
 
 pub loop-place-init : goal.loop-place-init
@@ -22,34 +18,22 @@ loop-place-init c =
       rest = λ i from. refl;
     }
 
-pub ask-requires-clause-mine : goal.ask-requires-clause-mine
-ask-requires-clause-mine c =
+pub ask-requires : goal.ask-requires
+ask-requires c =
     let l = c.loop-place in
     let first = first_fitting c.args.len (class_sizes c.args.classes.now) in
     let full : vec_len l.self.seats ≡ length l.self.seats.items = search rules in
-    let below : l.place < length l.self.seats.items = omega (arith, full, l.auto.place-end, c.loop-place-test.true, c.len-place-end.ensures, c.requires.mine.all, l.invariant.asked.as_many) in
-    (his_next c.requires.mine first l.looks l.place l.self.seats.items l.invariant.many l.invariant.asked l.invariant.rest below
-    c.index.result.now c.index.ensures c.index_mut.result.now c.index_mut.ensures.value).is_seat
-
-pub ask-requires-clause-few : goal.ask-requires-clause-few
-ask-requires-clause-few c =
-    let l = c.loop-place in
-    let first = first_fitting c.args.len (class_sizes c.args.classes.now) in
-    let full : vec_len l.self.seats ≡ length l.self.seats.items = search rules in
-    let below : l.place < length l.self.seats.items = omega (arith, full, l.auto.place-end, c.loop-place-test.true, c.len-place-end.ensures, c.requires.mine.all, l.invariant.asked.as_many) in
-    omega (
-      arith,
-      c.requires.few,
-      (his_next c.requires.mine first l.looks l.place l.self.seats.items l.invariant.many l.invariant.asked l.invariant.rest below
-          c.index.result.now c.index.ensures c.index_mut.result.now c.index_mut.ensures.value).calls_within,
-    )
+    let below : l.place < length l.self.seats.items = omega (arith, full, l.auto.place-end, c.len-place-end.ensures, c.requires.mine.all) in
+    let his = his_next c.requires.mine first l.looks l.place l.self.seats.items l.invariant.many l.invariant.asked l.invariant.rest below
+    c.index.result.now c.index.ensures c.index_mut.result.now c.index_mut.ensures.value in
+    record { mine = his.is_seat; few = omega (arith, c.requires.few, his.calls_within) }
 
 pub loop-place-preserved : goal.loop-place-preserved
 loop-place-preserved c =
     let l = c.loop-place in
     let first = first_fitting c.args.len (class_sizes c.args.classes.now) in
     let full : vec_len l.self.seats ≡ length l.self.seats.items = search rules in
-    let below : l.place < length l.self.seats.items = omega (arith, full, l.auto.place-end, c.loop-place-test.true, c.len-place-end.ensures, c.requires.mine.all, l.invariant.asked.as_many) in
+    let below : l.place < length l.self.seats.items = omega (arith, full, l.auto.place-end, c.len-place-end.ensures, c.requires.mine.all) in
     let asks = in_vain c.requires.mine first l.looks l.place l.self.seats.items l.invariant.many l.invariant.asked l.invariant.rest below
     c.index.result.now c.index.ensures c.index_mut.result.now c.index_mut.ensures.value
     c.ask.new.seat c.ask.ensures.mine c.ask.ensures.counted.0 c.ask.ensures.counted.1 c.in-Err.claimed c.in-Err.ensures.told in
@@ -62,69 +46,30 @@ loop-place-preserved c =
       rest = λ i from. set_else l.self.seats.items l.place i c.ask.new.seat (λ e. omega (arith, from, e)) ∙ l.invariant.rest i (omega (arith, from));
     }
 
-pub returns-in-Ok-clause-mine : goal.returns-in-Ok-clause-mine
-returns-in-Ok-clause-mine c =
+pub returns-in-Ok : goal.returns-in-Ok
+returns-in-Ok c =
     let l = c.loop-place in
     let first = first_fitting c.args.len (class_sizes c.args.classes.now) in
     let full : vec_len l.self.seats ≡ length l.self.seats.items = search rules in
-    let below : l.place < length l.self.seats.items = omega (arith, full, l.auto.place-end, c.loop-place-test.true, c.len-place-end.ensures, c.requires.mine.all, l.invariant.asked.as_many) in
-    let place = class_is c.requires.mine first l.looks l.place l.self.seats.items l.invariant.many l.invariant.asked l.invariant.rest below
-    c.index.result.now c.index.ensures c.index_mut.result.now c.index_mut.ensures.value c.in-Ok.buf c.in-Ok.ensures.buffer in
-    let asks = got_there c.requires.mine first l.looks l.place l.self.seats.items l.invariant.many l.invariant.asked l.invariant.rest below
-    c.index.result.now c.index.ensures c.index_mut.result.now c.index_mut.ensures.value
-    c.ask.new.seat c.ask.ensures.mine c.ask.ensures.counted.0 c.ask.ensures.counted.1 c.in-Ok.buf place c.in-Ok.ensures.told in
-    search (claimed, l.invariant.number, l.invariant.claims, asks)
-
-pub returns-in-Ok-clause-told : goal.returns-in-Ok-clause-told
-returns-in-Ok-clause-told c =
-    let l = c.loop-place in
-    let first = first_fitting c.args.len (class_sizes c.args.classes.now) in
-    let full : vec_len l.self.seats ≡ length l.self.seats.items = search rules in
-    let below : l.place < length l.self.seats.items = omega (arith, full, l.auto.place-end, c.loop-place-test.true, c.len-place-end.ensures, c.requires.mine.all, l.invariant.asked.as_many) in
+    let below : l.place < length l.self.seats.items = omega (arith, full, l.auto.place-end, c.len-place-end.ensures, c.requires.mine.all) in
     let place = class_is c.requires.mine first l.looks l.place l.self.seats.items l.invariant.many l.invariant.asked l.invariant.rest below
     c.index.result.now c.index.ensures c.index_mut.result.now c.index_mut.ensures.value c.in-Ok.buf c.in-Ok.ensures.buffer in
     let size = size_there c.requires.mine first l.looks l.place l.self.seats.items l.invariant.many l.invariant.asked l.invariant.rest below
     c.index.result.now c.index.ensures c.index_mut.result.now c.index_mut.ensures.value c.in-Ok.buf c.in-Ok.ensures.buffer in
-    (l.invariant.many ∙ sym place, size)
-
-pub returns-in-Ok-clause-holds : goal.returns-in-Ok-clause-holds
-returns-in-Ok-clause-holds c =
-    let l = c.loop-place in
-    let first = first_fitting c.args.len (class_sizes c.args.classes.now) in
-    let full : vec_len l.self.seats ≡ length l.self.seats.items = search rules in
-    let below : l.place < length l.self.seats.items = omega (arith, full, l.auto.place-end, c.loop-place-test.true, c.len-place-end.ensures, c.requires.mine.all, l.invariant.asked.as_many) in
-    let place = class_is c.requires.mine first l.looks l.place l.self.seats.items l.invariant.many l.invariant.asked l.invariant.rest below
-    c.index.result.now c.index.ensures c.index_mut.result.now c.index_mut.ensures.value c.in-Ok.buf c.in-Ok.ensures.buffer in
-    let size = size_there c.requires.mine first l.looks l.place l.self.seats.items l.invariant.many l.invariant.asked l.invariant.rest below
-    c.index.result.now c.index.ensures c.index_mut.result.now c.index_mut.ensures.value c.in-Ok.buf c.in-Ok.ensures.buffer in
-    fits_from c.args.len 0 c.in-Ok.buf.class c.in-Ok.buf.size (class_sizes c.args.classes.now) c.requires.mine.are.rise (omega (arith, l.invariant.many, place)) size
-
-pub returns-in-Ok-clause-steps : goal.returns-in-Ok-clause-steps
-returns-in-Ok-clause-steps c =
-    let l = c.loop-place in
-    let first = first_fitting c.args.len (class_sizes c.args.classes.now) in
-    let full : vec_len l.self.seats ≡ length l.self.seats.items = search rules in
-    let below : l.place < length l.self.seats.items = omega (arith, full, l.auto.place-end, c.loop-place-test.true, c.len-place-end.ensures, c.requires.mine.all, l.invariant.asked.as_many) in
-    let place = class_is c.requires.mine first l.looks l.place l.self.seats.items l.invariant.many l.invariant.asked l.invariant.rest below
-    c.index.result.now c.index.ensures c.index_mut.result.now c.index_mut.ensures.value c.in-Ok.buf c.in-Ok.ensures.buffer in
     let asks = got_there c.requires.mine first l.looks l.place l.self.seats.items l.invariant.many l.invariant.asked l.invariant.rest below
     c.index.result.now c.index.ensures c.index_mut.result.now c.index_mut.ensures.value
     c.ask.new.seat c.ask.ensures.mine c.ask.ensures.counted.0 c.ask.ensures.counted.1 c.in-Ok.buf place c.in-Ok.ensures.told in
-    asks.asks
-
-pub returns-in-Ok-clause-logs : goal.returns-in-Ok-clause-logs
-returns-in-Ok-clause-logs c =
-    let l = c.loop-place in
-    let first = first_fitting c.args.len (class_sizes c.args.classes.now) in
-    let full : vec_len l.self.seats ≡ length l.self.seats.items = search rules in
-    let below : l.place < length l.self.seats.items = omega (arith, full, l.auto.place-end, c.loop-place-test.true, c.len-place-end.ensures, c.requires.mine.all, l.invariant.asked.as_many) in
-    let place = class_is c.requires.mine first l.looks l.place l.self.seats.items l.invariant.many l.invariant.asked l.invariant.rest below
-    c.index.result.now c.index.ensures c.index_mut.result.now c.index_mut.ensures.value c.in-Ok.buf c.in-Ok.ensures.buffer in
-    let asks = got_there c.requires.mine first l.looks l.place l.self.seats.items l.invariant.many l.invariant.asked l.invariant.rest below
-    c.index.result.now c.index.ensures c.index_mut.result.now c.index_mut.ensures.value
-    c.ask.new.seat c.ask.ensures.mine c.ask.ensures.counted.0 c.ask.ensures.counted.1 c.in-Ok.buf place c.in-Ok.ensures.told in
-    claimed_logs c.requires.mine _ _ asks (λ i past. got_past first i l.looks c.in-Ok.buf (length c.args.classes.now.classes.items)
-    (l.invariant.many ∙ sym place) (omega (arith, place, below, l.invariant.asked.as_many, c.requires.mine.all)) past)
+    record {
+      mine = search (claimed, l.invariant.number, l.invariant.claims, asks);
+      told = (l.invariant.many ∙ sym place, size);
+      holds = fits_from c.args.len 0 c.in-Ok.buf.class c.in-Ok.buf.size (class_sizes c.args.classes.now) c.requires.mine.are.rise
+          (omega (arith, l.invariant.many, place)) size;
+      small = search rules;
+      counted = search rules;
+      steps = asks.asks;
+      logs = claimed_logs c.requires.mine _ _ asks (λ i past. got_past first i l.looks c.in-Ok.buf (length c.args.classes.now.classes.items)
+          (l.invariant.many ∙ sym place) (omega (arith, place, below, l.invariant.asked.as_many, c.requires.mine.all)) past);
+    }
 
 pub returns-clause-mine : goal.returns-clause-mine
 returns-clause-mine c = search (claimed, c.requires.mine, c.loop-place.invariant.number, c.loop-place.invariant.claims, c.loop-place.invariant.asked)

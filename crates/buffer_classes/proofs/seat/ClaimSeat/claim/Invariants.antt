@@ -1,7 +1,6 @@
 use Rattle.std.proofs.Common.{◌≡◌, ℕ, ◌+◌, ◌≤◌, ◌^◌, length, All}
 use lib.ListN.{get_elem?}
-use Rattle.buffer_classes.specs.Claims.{lost_at}
-use Rattle.buffer_classes.specs.Classes.{class_sizes, first_fitting}
+use Rattle.buffer_classes.specs.{lost_at, class_sizes, first_fitting}
 use Rattle.buffer_classes.proofs.AskLemmas.{AsksAll}
 use Rattle.buffer_classes.proofs.seat.ClaimSeat.claim.Given as goal
 

@@ -1,17 +1,15 @@
 use Rattle.std.proofs.Common.{rules, ◌≤◌, refl, ◌∙◌, length, ap, sym, subst, arith}
+use Rattle.std.proofs.lemmas.Grind.{common_steps}
 use Rattle.ids_types.specs.declared.entry.TurnHead.{TurnHead}
 use Rattle.chain.specs.Turning.{turn_by}
-use Rattle.report_queue.specs.Parts.{most_tries}
-use Rattle.report_api.specs.Desks.{desk_view}
-use Rattle.main_function.specs.Reports.{MakesTurn, held}
-use Rattle.main_function.specs.Taking.{Took}
+use Rattle.report_queue.specs.{most_tries, TakerView}
+use Rattle.report_api.specs.{desk_view, Act}
+use Rattle.main_function.specs.{MakesTurn, held, Took}
 use Rattle.main_function.proofs.ClosingLemmas.{same_back, still_swept, still_taken}
 use Rattle.main_function.proofs.ReportLemmas.{makes_turn, offered_more, totals_more}
 use Rattle.main_function.proofs.StepLemmas.{can_take, come_back, few_bytes, has_room, kept_short}
-use Rattle.main_function.proofs.TurnedLemmas.{stands_more}
+use Rattle.main_function.proofs.TurnedLemmas.{last_within, stands_more}
 use Rattle.main_function.proofs.manager.Manager.step.Goals as goal
-use Rattle.report_queue.specs.Views.{TakerView}
-use Rattle.report_api.specs.Names.{Act}
 
 pub turn-requires-clause-fits : goal.turn-requires-clause-fits
 turn-requires-clause-fits g c =
@@ -47,6 +45,11 @@ returns-clause-turned g c =
       taken = taken;
       log_is = c.turn.ensures.logs;
       tick_is = refl;
+      head_is = record {
+        lost_events = last_within _ _ _ (ap (λ (view : TakerView Act). view.lost_events) c.sweep-lost_events.ensures.told) c.sweep-lost_events.ensures.bounds.0;
+        lost_contexts = last_within _ _ _ (ap (λ (view : TakerView Act). view.lost_contexts) c.sweep-lost_events.ensures.told) c.sweep-lost_events.ensures.bounds.1;
+        limited = c.limited.ensures.bound;
+      };
       makes = makes;
       buffers = record {
         back = c.turn.new.back.items;
@@ -59,6 +62,7 @@ returns-clause-turned g c =
       sends = λ config turns is. search (rules, is.tick_is, c.requires.later, c.turn.ensures.sends config turns is.chain_stands);
       rests_are = refl;
       turns_are = refl;
+      last_is = refl;
     }
 
 -- between two calls it is the one of this making again
@@ -80,16 +84,7 @@ returns-clause-mine g c =
       sizes_within = mine.sizes_within;
       kept_are = out.1;
       tick_within = c.requires.within;
-      roomy = record {
-        no_items = c.turn.ensures.items;
-        items_room = search rules;
-        no_back = c.give_back.ensures.empty;
-        back_room = search rules;
-        out_room = search rules;
-        bytes_are = room.bytes_are;
-        few_positions = room.few_positions;
-        short = room.short;
-      };
+      roomy = grind (arith, common_steps, room, c.turn.ensures, c.give_back.ensures.empty);
     }
 
 -- no sweep and no take brings a pass back

@@ -1,10 +1,7 @@
 use Rattle.std.proofs.Common.{◌≡◌, ◌≢◌, ℕ, ◌+◌, [], ◌∷◌, ◌∙◌, arith, ap, add_assoc, add-zero, refl, subst}
 use Rattle.std.proofs.lemmas.List.{append_assoc}
 use Rattle.ring_core.specs.Words.{field_of}
-use Rattle.permit_ring.specs.Names.{KeeperMemo, PermitWord}
-use Rattle.permit_ring.specs.Calls.{TriesTell}
-use Rattle.permit_ring.specs.Steps.{misses}
-use Rattle.permit_ring.specs.Seats.{keeper_memo}
+use Rattle.permit_ring.specs.{KeeperMemo, PermitWord, TriesTell, misses, keeper_memo}
 use Rattle.permit_ring.proofs.keeper.Keeper.free_filled.Goals as goal
 
 -- tries after one that found another word

@@ -1,8 +1,6 @@
 use Rattle.std.proofs.Common.{◌≡◌, ℕ, ◌+◌, ◌≤◌}
 use Rattle.ring_core.specs.Words.{field_of}
-use Rattle.permit_ring.specs.Names.{KeeperMemo}
-use Rattle.permit_ring.specs.Calls.{TriesTell}
-use Rattle.permit_ring.specs.Seats.{IsKeeperOf, keeper_memo}
+use Rattle.permit_ring.specs.{KeeperMemo, TriesTell, IsKeeperOf, keeper_memo}
 use Rattle.permit_ring.proofs.keeper.Keeper.free_filled.Given as goal
 
 -- what further tries tell goes on from what those so far told

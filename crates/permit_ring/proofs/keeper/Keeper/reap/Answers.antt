@@ -1,10 +1,8 @@
 use Rattle.std.proofs.Common.{◌≡◌, arith, ℕ, ◌+◌, ◌%◌, sym, ap, ap₂, ◌∙◌}
 use Rattle.std.proofs.lemmas.List.{length_push}
 use native.Mathlib.Nat.{add-mod_right, mod-add-mod}
-use Rattle.permit_ring.specs.Names.{Finished}
-use Rattle.permit_ring.specs.Seats.{keeper_memo}
-use Rattle.permit_ring.proofs.HandLemmas.{hand_reaped, in_front}
-use Rattle.permit_ring.proofs.KeeperSteps.{see_ready}
+use Rattle.permit_ring.specs.{Finished, keeper_memo}
+use Rattle.permit_ring.proofs.{hand_reaped, in_front}
 use Rattle.permit_ring.proofs.keeper.Keeper.reap.Goals as goal
 
 pub exchange-old-requires : goal.exchange-old-requires

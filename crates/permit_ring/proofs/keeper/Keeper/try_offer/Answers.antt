@@ -1,6 +1,5 @@
 use Rattle.std.proofs.Common.{arith, rules}
-use Rattle.permit_ring.proofs.HandLemmas.{hand_offered, ready_is}
-use Rattle.permit_ring.proofs.KeeperSteps.{offer_ready}
+use Rattle.permit_ring.proofs.{hand_offered, ready_is, offer_ready}
 use Rattle.permit_ring.proofs.keeper.Keeper.try_offer.Goals as goal
 
 pub compare_exchange-found-requires : goal.compare_exchange-found-requires

@@ -1,6 +1,5 @@
 use Rattle.std.proofs.Common.{rules, ap, ◌∙◌}
-use Rattle.permit_ring.specs.Names.{Offered}
-use Rattle.permit_ring.specs.Seats.{machine_ticket}
+use Rattle.permit_ring.specs.{Offered, machine_ticket}
 use Rattle.permit_ring.proofs.SeatSteps.{finish_ready}
 use Rattle.permit_ring.proofs.seat.Seat.finish.Goals as goal
 

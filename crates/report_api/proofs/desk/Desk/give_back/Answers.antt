@@ -1,8 +1,6 @@
 use Rattle.std.proofs.Common.{◌≡◌, ap, eq-zero-or-pos, inl, inr}
-use Rattle.report_queue.specs.Parts.{taker_view}
-use Rattle.report_queue.specs.Views.{TakerView}
-use Rattle.report_api.specs.Desks.{desk_view, to_give_back}
-use Rattle.report_api.specs.Names.{Act}
+use Rattle.report_queue.specs.{taker_view, TakerView}
+use Rattle.report_api.specs.{desk_view, to_give_back, Act}
 use Rattle.report_api.proofs.TiedLemmas.{settles, tied_given}
 use Rattle.report_api.proofs.desk.Desk.give_back.Goals as goal
 

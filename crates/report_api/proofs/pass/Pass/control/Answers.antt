@@ -1,14 +1,9 @@
 use Rattle.std.proofs.Common.{[], length, Ok, refl, ap, subst, ◌∙◌, arith}
 use Rattle.ids_types.specs.declared.names.Ticket.{Ticket}
-use Rattle.report_queue.specs.Calls.{puts}
-use Rattle.report_queue.specs.Parts.{caller_memo, item_of, queue_seats, ticket_of}
-use Rattle.report_api.specs.Answers.{StepsTell}
-use Rattle.report_api.specs.Names.{Lost}
-use Rattle.report_api.specs.Passes.{sizes_of}
+use Rattle.report_queue.specs.{puts, caller_memo, item_of, queue_seats, ticket_of}
+use Rattle.report_api.specs.{StepsTell, Lost, sizes_of}
 use Rattle.report_api.specs.declared.pass.Pass.{Pass}
-use Rattle.report_api.proofs.ControlLemmas.{control_asks, control_misses}
-use Rattle.report_api.proofs.PassLemmas.{pass_after, same_logs}
-use Rattle.report_api.proofs.StepLemmas.{same_ticket}
+use Rattle.report_api.proofs.{control_asks, control_misses, pass_after, same_logs, same_ticket}
 use Rattle.report_api.proofs.pass.Pass.control.Goals as goal
 
 pub returns-in-Ok-clause-mine : goal.returns-in-Ok-clause-mine

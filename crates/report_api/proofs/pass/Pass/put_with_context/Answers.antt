@@ -1,12 +1,9 @@
 use Rattle.std.proofs.Common.{◌∙◌, length, refl, ap, arith}
 use Rattle.buffer_classes.specs.Classes.{first_fitting}
-use Rattle.report_queue.specs.Calls.{marks_context}
-use Rattle.report_queue.specs.Views.{CallerView}
-use Rattle.report_api.specs.Names.{Act}
-use Rattle.report_api.specs.Passes.{sizes_of}
+use Rattle.report_queue.specs.{marks_context, CallerView}
+use Rattle.report_api.specs.{Act, sizes_of}
 use Rattle.report_api.specs.declared.pass.Pass.{Pass}
-use Rattle.report_api.proofs.AskLemmas.{kept_asks, missing_asks}
-use Rattle.report_api.proofs.PassLemmas.{contexts_within, pass_after}
+use Rattle.report_api.proofs.{kept_asks, missing_asks, contexts_within, pass_after}
 use Rattle.report_api.proofs.pass.Pass.put_with_context.Goals as goal
 
 pub mark_lost_context-requires-clause-few : goal.mark_lost_context-requires-clause-few

@@ -1,10 +1,8 @@
 use Rattle.std.proofs.Common.{[], refl, ap, ◌∙◌, arith}
-use Rattle.report_queue.specs.Calls.{marks_event}
-use Rattle.report_queue.specs.Parts.{caller_memo, queue_seats, ticket_of}
+use Rattle.report_queue.specs.{marks_event, caller_memo, queue_seats, ticket_of}
 use Rattle.report_api.specs.Names.{Lost}
 use Rattle.report_api.specs.declared.pass.Pass.{Pass}
-use Rattle.report_api.proofs.PassLemmas.{pass_after, same_logs}
-use Rattle.report_api.proofs.StepLemmas.{put_steps}
+use Rattle.report_api.proofs.{pass_after, same_logs, put_steps}
 use Rattle.report_api.proofs.pass.Pass.report.Goals as goal
 
 pub returns-in-Ok-clause-steps : goal.returns-in-Ok-clause-steps

@@ -1,6 +1,5 @@
 use Rattle.std.proofs.Common.{arith, ap, inl, inr, eq-zero-or-pos}
-use Rattle.report_queue.specs.Parts.{to_give_back}
-use Rattle.report_queue.specs.Views.{taker_in}
+use Rattle.report_queue.specs.{to_give_back, taker_in}
 use Rattle.report_queue.proofs.taker.Taker.give_back.Goals as goal
 
 pub returns-clause-mine : goal.returns-clause-mine

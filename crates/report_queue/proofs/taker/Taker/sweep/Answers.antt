@@ -1,6 +1,5 @@
 use Rattle.std.proofs.Common.{arith, ap, sym, subst, ◌∙◌}
-use Rattle.permit_ring.specs.Closing.{AreAllBack}
-use Rattle.permit_ring.specs.Steps.{sweeps}
+use Rattle.permit_ring.specs.{AreAllBack, sweeps}
 use Rattle.report_queue.specs.Parts.{taker_memo}
 use Rattle.report_queue.proofs.TakerLemmas.{all_back, same_losses}
 use Rattle.report_queue.proofs.taker.Taker.sweep.Goals as goal

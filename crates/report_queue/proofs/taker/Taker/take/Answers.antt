@@ -1,8 +1,7 @@
 use Rattle.std.proofs.Common.{◌≤◌, ◌^◌, arith, length, sym, subst}
 use Rattle.permit_ring.specs.Seats.{keeper_memo}
 use Rattle.report_queue.specs.Parts.{taker_memo}
-use Rattle.report_queue.proofs.ClosingLemmas.{taken_by_then}
-use Rattle.report_queue.proofs.TakerLemmas.{all_back, taken_is_reaped}
+use Rattle.report_queue.proofs.{taken_by_then, all_back, taken_is_reaped}
 use Rattle.report_queue.proofs.taker.Taker.take.Goals as goal
 
 pub returns-in-Ok-clause-mine : goal.returns-in-Ok-clause-mine

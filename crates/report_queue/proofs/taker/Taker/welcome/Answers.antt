@@ -1,8 +1,7 @@
 use Rattle.std.proofs.Common.{Some, arith, ap, ◌∙◌}
 use Rattle.std.proofs.lemmas.List.{length-set}
 use Rattle.permit_ring.specs.Steps.{ended}
-use Rattle.report_queue.specs.Parts.{caller_memo, taker_memo}
-use Rattle.report_queue.specs.Views.{taker_in}
+use Rattle.report_queue.specs.{caller_memo, taker_memo, taker_in}
 use Rattle.report_queue.proofs.TakerLemmas.{names-welcome, welcome_shown}
 use Rattle.report_queue.proofs.taker.Taker.welcome.Goals as goal
 
