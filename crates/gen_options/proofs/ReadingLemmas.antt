@@ -1,5 +1,5 @@
 -- Words, and what clap finds in them.
-use Rattle.std.proofs.Common.{◌≡◌, ℕ, true, false, List, [], ◌∷◌, Option, Some, None, Ok, Err, refl, sym, subst, ◌∙◌, ap, inl, inr, arith}
+use Rattle.std.proofs.Common.{◌≡◌, ℕ, true, false, List, [], ◌∷◌, Option, Some, None, Ok, Err, refl, ap, inl, inr, arith}
 use Rattle.std.proofs.lemmas.Bool.{cases_Bool}
 use Rattle.std.specs.Prelude.{Result}
 use Rattle.std.specs.Str.Parse.{ParsesUnsigned}
@@ -8,7 +8,7 @@ use Rattle.clap.specs.Matches.{ReadsOne, first_value, one_text, found_of}
 use Rattle.clap.specs.Simple.{is_simple}
 use Rattle.clap.specs.Walk.{first_of, rows_of}
 use Rattle.clap.specs.ValueTests.{is_unsigned_in}
-use Rattle.clap.specs.Words.{App, Text, HasMatchesOf, fault_of, is_simple_and_free, kind_of, matches_of}
+use Rattle.clap.specs.Words.{App, Text, HasMatchesOf, fault_of, is_simple_and_free, kind_of}
 use Rattle.clap.specs.declared.error.Error.{Error}
 use Rattle.clap.specs.declared.error.kind.ErrorKind.TheVariants.{OutOfMemory}
 use Rattle.clap.specs.declared.builder.value_parser.ValueParser.TheVariants.{Unsigned}
@@ -51,43 +51,36 @@ module _ {E : Type 0} (G : List ℕ → Result ℕ E → Type 0)
 -- ---- refusals
 
 -- clap's words say of the command what it takes and refuses
-pub simple_and_free : is_simple_and_free command_line ≡ true
+simple_and_free : is_simple_and_free command_line ≡ true
 unfolding clap_on_literals
 simple_and_free = refl
 
-pub simple : is_simple command_line ≡ true
+simple : is_simple command_line ≡ true
 unfolding clap_on_literals
 simple = refl
 
 module _ (words : List Text) (app : App) (is : app ≡ command_line) where
-  none_refused : (is_simple_and_free app ≡ true → fault_of app words ≡ []) → refusals words ≡ []
-  unfolding refusals
-  none_refused taken = ap (λ a. fault_of a words) (sym is) ∙ taken (ap is_simple_and_free is ∙ simple_and_free)
-
-  all_found : (matches : ArgMatches) → HasMatchesOf app words matches → rows_of (found_of matches) ≡ found words
-  unfolding found
-  all_found matches has = (has (ap is_simple is ∙ simple)).0 ∙ ap (λ a. matches_of a words) is
-
   -- words that clap takes give what it found
   pub words_taken : (matches : ArgMatches) → (is_simple_and_free app ≡ true → fault_of app words ≡ [])
       → HasMatchesOf app words matches → given_by (rows_of (found_of matches)) ≡ words_give words
-  words_taken matches taken has = rw (none_refused taken, all_found matches has) refl
-
-  some_refused : (e : Error) → (kind_of e ≡ OutOfMemory → ⊥)
-      → (is_simple_and_free app ≡ true → HasKind (fault_of app words) e) → IsAmong (kind_of e) (refusals words)
-  unfolding refusals
-  some_refused e other fails = elim (fails (ap is_simple_and_free is ∙ simple_and_free)) [
-    | inl memory ↦ absurd (other memory)
-    | inr among ↦ subst (λ a. IsAmong (kind_of e) (fault_of a words)) is among
-  ]
+  unfolding found refusals
+  words_taken matches taken has =
+      let none = rw is at taken in
+      let all = rw is at has in
+      rw (none simple_and_free, (all simple).0) refl
 
   -- words that it refuses, and not for want of memory, give nothing
   pub words_refused : (e : Error) → (kind_of e ≡ OutOfMemory → ⊥)
       → (is_simple_and_free app ≡ true → HasKind (fault_of app words) e) → None ≡ words_give words
-  words_refused e other fails = sym (by_kinds (refusals words) (some_refused e other fails))
+  unfolding refusals
+  words_refused e other fails =
+      let some = rw is at fails in
+      elim (some simple_and_free) [
+        | inl memory ↦ absurd (other memory)
+        | inr among ↦ by_kinds (fault_of command_line words) among
+      ]
     where
-      by_kinds : (kinds : Kinds) → IsAmong (kind_of e) kinds
-          → unless_refused kinds (given_by (found words)) ≡ None
+      by_kinds : (kinds : Kinds) → IsAmong (kind_of e) kinds → None ≡ unless_refused kinds (given_by (found words))
       by_kinds [] among = absurd among
       by_kinds (k ∷ ks) among = refl
 

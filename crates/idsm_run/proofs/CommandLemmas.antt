@@ -3,7 +3,8 @@ use Rattle.std.proofs.Common.{◌≡◌, ◌≢◌, ℕ, Bool, true, false, List
 use Rattle.std.specs.Str.{bytes_eq}
 use Rattle.std.proofs.lemmas.Slice.Eq.{bytes_eq-Decides}
 use Rattle.std.specs.Prelude.{◌||◌, ◌&&◌, not}
-use Rattle.idsm_run.specs.Words.{are_names, is_name, list_any}
+use Rattle.idsm_run.specs.Command.{are_names}
+use Rattle.idsm_run.specs.Names.{list_any}
 
 -- a test of mapped elements
 pub any_of_mapped : {A B : Type 0} (p : B → Bool) (f : A → B) (xs : List A) → list_any p (map f xs) ≡ list_any (λ x. p (f x)) xs
@@ -12,24 +13,19 @@ any_of_mapped p f (x ∷ xs) = ap (λ (b : Bool). p (f x) || b) (any_of_mapped p
 
 -- ---- names that differ
 
-both : (a b : Bool) → (a && b) ≡ true → (a ≡ true) × (b ≡ true)
-both true b holds = (refl, holds)
-both false b holds = absurd (cc)
+-- of names that differ the first is none of the others
+first_apart : (name others rest : Bool) → (name && not others && rest) ≡ true → (others ≡ false) × (rest ≡ true)
+first_apart true false rest holds = (refl, holds)
+first_apart true true rest holds = absurd (cc)
+first_apart false others rest holds = absurd (cc)
 
--- none of some is not the first of them, and none of the others
-neither : (a b : Bool) → not (a || b) ≡ true → (a ≡ false) × (not b ≡ true)
-neither true b holds = absurd (cc)
-neither false b holds = (refl, holds)
+-- none passes, neither the first nor another
+neither : (a b : Bool) → (a || b) ≡ false → (a ≡ false) × (b ≡ false)
+neither true b none = absurd (cc)
+neither false b none = (refl, none)
 
 apart : (a b : List ℕ) → bytes_eq a b ≡ false → a ≢ b
 apart a b differ same = absurd (cc (differ, (bytes_eq-Decides a b).1 same))
-
--- of names that differ the first is none of the others
-first_apart : (name : List ℕ) (names : List (List ℕ)) → are_names (name ∷ names) ≡ true
-    → (not (list_any (bytes_eq name) names) ≡ true) × (are_names names ≡ true)
-first_apart name names are =
-    let two = both (is_name name && not (list_any (bytes_eq name) names)) (are_names names) are in
-    ((both (is_name name) (not (list_any (bytes_eq name) names)) two.0).1, two.1)
 
 -- three words, and four
 pub three_words : {A : Type 0} (f : A → List ℕ) (words : List A) (a b c : A) → 3 ≤ length words → length words < 4
@@ -53,15 +49,14 @@ four_words f (p ∷ q ∷ r ∷ s ∷ t ∷ ts) a b c d most least x y z w = abs
 pub fold_apart : (config journal messages memory : List ℕ) → are_names (config ∷ journal ∷ messages ∷ memory ∷ []) ≡ true
     → (config ≢ journal) × (messages ≢ memory)
 fold_apart config journal messages memory are =
-    let one = first_apart config (journal ∷ messages ∷ memory ∷ []) are in
-    let two = first_apart journal (messages ∷ memory ∷ []) one.1 in
-    let three = first_apart messages (memory ∷ []) two.1 in
+    let one = first_apart _ _ _ are in
+    let three = first_apart _ _ _ (first_apart _ _ _ one.1).1 in
     (apart config journal (neither _ _ one.0).0, apart messages memory (neither _ _ three.0).0)
 
 pub check_apart : (config journal messages : List ℕ) → are_names (config ∷ journal ∷ messages ∷ []) ≡ true
     → (config ≢ journal) × (config ≢ messages) × (journal ≢ messages)
 check_apart config journal messages are =
-    let one = first_apart config (journal ∷ messages ∷ []) are in
-    let two = first_apart journal (messages ∷ []) one.1 in
-    let first = neither (bytes_eq config journal) _ one.0 in
+    let one = first_apart _ _ _ are in
+    let two = first_apart _ _ _ one.1 in
+    let first = neither _ _ one.0 in
     (apart config journal first.0, apart config messages (neither _ _ first.1).0, apart journal messages (neither _ _ two.0).0)

@@ -1,9 +1,11 @@
 -- A file that is written piece by piece.
-use Rattle.std.proofs.Common.{◌≡◌, ℕ, ◌+◌, ◌-◌, ◌≤◌, List, [], ◌∷◌, ◌++◌, take, drop, Some, Ok, Err, refl, sym, ap, ◌∙◌, arith, inl, inr}
+use Rattle.std.proofs.Common.{◌≡◌, ℕ, ◌+◌, ◌-◌, ◌≤◌, List, [], ◌∷◌, ◌++◌, take, drop, Some, Ok, Err, refl, sym, subst, ap, ◌∙◌, arith, inl, inr}
 use Rattle.std.specs.Prelude.{Result, OnOk, OnErr}
 use Rattle.std.proofs.lemmas.List.{take-take, length-take}
+use Rattle.std.proofs.Math.Path.{fun_ext}
 use Rattle.std.proofs.Math.Seq.{take-add}
-use Rattle.idsm_run.specs.Words.{Files, SameFiles, AppendMakes, WriteFault, Failed, MemoryRefused, Output, AreUntouched, HoldsPart, StandsInPart, StandUpTo, Cuts}
+use Rattle.idsm_run.specs.Names.{Files, SameFiles, AppendMakes, WriteFault, Failed, MemoryRefused}
+use Rattle.idsm_run.specs.Writing.{Output, HoldsPart, StandUpTo, Cuts}
 
 -- what an append of the next piece leaves: the bytes up to its end, or a first part of them
 pub piece_is_added : {T : Type 0} (old new : Files) (name bytes : List ℕ) (start end : ℕ) (answer : Result T WriteFault)
@@ -41,17 +43,6 @@ cuts_go_on start (cut ∷ cuts) end more all grows = (all.0, omega (arith, all.1
 
 -- ---- what stands where `fold` stopped
 
+-- the files before are those behind other reads
 pub StandUpTo-before : (outputs : List Output) (old middle new : Files) → SameFiles old middle → StandUpTo outputs middle new → StandUpTo outputs old new
-StandUpTo-before [] old middle new same stands = tt
-StandUpTo-before (output ∷ outputs) old middle new same stands = elim stands [
-  | inl here ↦ inl (part here.0, untouched outputs here.1)
-  | inr after ↦ inr (after.0, StandUpTo-before outputs old middle new same after.1)
-]
-  where
-    part : StandsInPart middle new output → StandsInPart old new output
-    part (inl as_before) = inl (as_before ∙ same output.name)
-    part (inr holds) = inr holds
-
-    untouched : (rest : List Output) → AreUntouched rest middle new → AreUntouched rest old new
-    untouched [] all = tt
-    untouched (first ∷ rest) all = (all.0 ∙ same first.name, untouched rest all.1)
+StandUpTo-before outputs old middle new same stands = subst (λ files. StandUpTo outputs files new) (fun_ext same) stands

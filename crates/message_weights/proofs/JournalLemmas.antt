@@ -32,23 +32,22 @@ use Rattle.message_weights.proofs.TotalLemmas.{total, total-append, total-three,
 
 -- ---- words
 
--- digits go before what is there
-digits_grow : (k base : ℕ) (upper : Bool) (n : ℕ) (behind : List ℕ) → length behind ≤ length (digits_onto k base upper n behind)
-digits_grow zero base upper n behind = omega arith
+-- a digit at least goes before what is there
+digits_grow : (k base : ℕ) (upper : Bool) (n : ℕ) (behind : List ℕ) → suc (length behind) ≤ length (digits_onto (suc k) base upper n behind)
+digits_grow zero base upper n behind =
+    let more = digit_glyph upper (n % base) ∷ behind in
+    elim (n / base == 0) as (λ (b : Bool). suc (length behind) ≤ length (if b then more else more))
+    [ true ↦ omega arith | false ↦ omega arith ]
 digits_grow (suc k) base upper n behind =
     let more = digit_glyph upper (n % base) ∷ behind in
     let rest = digits_grow k base upper (n / base) more in
-    elim (n / base == 0) as (λ (b : Bool). length behind ≤ length (if b then more else digits_onto k base upper (n / base) more))
+    elim (n / base == 0) as (λ (b : Bool). suc (length behind) ≤ length (if b then more else digits_onto (suc k) base upper (n / base) more))
     [ true ↦ omega arith | false ↦ omega (arith, rest) ]
 
 -- a number has a digit
 number_is_long : (n : ℕ) → 1 ≤ length (decimal n)
 unfolding digits
-number_is_long n =
-    let more = digit_glyph false (n % 10) ∷ [] in
-    let rest = digits_grow 63 10 false (n / 10) more in
-    elim (n / 10 == 0) as (λ (b : Bool). 1 ≤ length (if b then more else digits_onto 63 10 false (n / 10) more))
-    [ true ↦ omega arith | false ↦ omega (arith, rest) ]
+number_is_long n = digits_grow 63 10 false n []
 
 -- the word of a timestamp has 16 digits, where there is one
 stamp_is_long : (stamp : Option Stamp) → 1 + stamp_weight stamp ≤ length (stamp_text stamp)

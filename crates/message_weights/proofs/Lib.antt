@@ -1,7 +1,7 @@
 pub mod ChainLemmas
 pub mod JournalLemmas
 pub mod MessageLemmas
-pub mod OwnerLemmas
+pub mod SumLemmas
 pub mod TotalLemmas
 pub mod WindowLemmas
 mod WorkedWeights

@@ -1,6 +1,6 @@
--- Aggregation adds no weight: of each event, what came out and what lies in its open window weigh no more than
+-- Aggregation adds no weight: what came out and what lies in the open windows of all events weigh no more than
 -- what came.
-use Rattle.std.proofs.Common.{◌≡◌, ℕ, ◌+◌, ◌≤◌, ◌==◌, ◌||◌, not, Bool, true, false, List, [], ◌∷◌, ◌++◌, Option, Some, None, IfSome, option_to_list, option_map, option_and_then, if◌then◌else◌, refl, sym, subst, ap, arith, eqb-true, eq-eqb}
+use Rattle.std.proofs.Common.{◌≡◌, ℕ, suc, ◌+◌, ◌≤◌, ◌<◌, ◌==◌, ◌||◌, not, Bool, true, false, List, [], ◌∷◌, Option, Some, None, option_to_list, option_map, option_and_then, if◌then◌else◌, refl, arith, eq-eqb}
 use Rattle.std.specs.List.{list_any}
 use Rattle.std.specs.Option.{option_or}
 use Rattle.ids_types.specs.declared.event.Qualified.{Qualified}
@@ -10,14 +10,13 @@ use Rattle.chain_spec.specs.Aggregation.{first_kept, last_kept, joined}
 use Rattle.chain_spec.specs.Calls.{closes_due, arrives, closing_ticks}
 use Rattle.chain_spec.specs.Closing.{windows_in, is_due, newest_where, due_item, closing_item}
 use Rattle.chain_spec.specs.Filtering.{aggregated_at, alone}
-use Rattle.chain_spec.specs.Items.{Item, item_at}
+use Rattle.chain_spec.specs.Items.{item_at}
 use Rattle.chain_spec.specs.Stages.{added, where_true}
 use Rattle.chain_spec.specs.Windows.{opened, extended, covers, with_item}
-use Rattle.chain_spec.proofs.AggregationLemmas.{ACall, AnArrival, AWindow, came_at, closing_item_of}
-use Rattle.chain_spec.proofs.ByEventLemmas.{closes_other, alone_other}
+use Rattle.chain_spec.proofs.AggregationLemmas.{ACall, AnArrival, AWindow, came_at}
 use Rattle.message_weights.specs.Weights.{context_weight, told_weight, weight}
-use Rattle.message_weights.proofs.OwnerLemmas.{share, by_owners}
-use Rattle.message_weights.proofs.TotalLemmas.{total, weight_in, where_weighs}
+use Rattle.message_weights.proofs.SumLemmas.{sum_below, sum_below-none, one_changed}
+use Rattle.message_weights.proofs.TotalLemmas.{total, total-append, weight_in, where_weighs}
 
 -- ---- windows
 
@@ -72,22 +71,15 @@ module _ (setting : Aggregate) where
       + held_where (was_open (tick ∷ ticks)) ws
       ≤ held_where (was_open ticks) ws
   closing_weighs tick ticks [] = omega arith
-  closing_weighs tick ticks (w ∷ ws) = by (list_any (λ t. is_due setting.interval t w) ticks)
+  closing_weighs tick ticks (w ∷ ws) = by (list_any (λ t. is_due setting.interval t w) ticks) (is_due setting.interval tick w) refl
     where
-      before : (due : Bool) → 0 + weight_in held (where_true (not (due || true)) w) ≤ 0
-      before true = omega arith
-      before false = omega arith
-
-      now : (due : Bool)
-          → weight_in told_weight (where_true due (joined setting.last w)) + weight_in held (where_true (not (due || false)) w) ≤ held w + 0
-      now true = omega (arith, joined_weighs setting.last w)
-      now false = omega arith
-
-      by : (closed : Bool)
+      by : (closed due : Bool) → is_due setting.interval tick w ≡ due
           → weight_in told_weight (option_and_then (due_item setting tick) (where_true (not closed) w))
           + weight_in held (where_true (not (is_due setting.interval tick w || closed)) w) ≤ weight_in held (where_true (not closed) w)
-      by true = before (is_due setting.interval tick w)
-      by false = now (is_due setting.interval tick w)
+      by true true is = rw is (omega arith)
+      by true false is = rw is (omega arith)
+      by false true is = rw is (omega (arith, joined_weighs setting.last w))
+      by false false is = rw is (omega arith)
 
   -- an item comes into the open window, or opens one
   arriving_weighs : (x : AnArrival) (ticks : List ℕ) (ws : List AWindow)
@@ -115,132 +107,86 @@ abbrev pub call_weight : ACall → ℕ
 call_weight (closes_due tick event) = 0
 call_weight (arrives tick told) = told_weight told
 
--- the event of an item
-abbrev item_event : Item → ℕ
-item_event item = item.event
-
 -- at a tick it weighs the same
 at_tick : (tick : ℕ) (o : Option (Qualified (List ℕ))) → weight_in weight (option_map (item_at tick) o) ≡ weight_in told_weight o
 at_tick tick None = omega arith
 at_tick tick (Some told) = omega arith
 
-module _ (config : Parts) (event : ℕ) where
-  -- what the items of the event weigh, and what arrived of it
-  abbrev gave : List Item → ℕ
-  gave items = share item_event weight event items
-
-  abbrev came : List ACall → ℕ
-  came calls = share call_event call_weight event calls
-
-  -- an item more weighs no more than itself, and nothing where it is another event's
-  gave_more : (o : Option Item) (items : List Item) → gave (option_to_list o ++ items) ≤ weight_in weight o + gave items
-  gave_more None items = omega arith
-  gave_more (Some item) items =
-      elim (item.event == event) as (λ (b : Bool). (if b then weight item else 0) + gave items ≤ weight item + 0 + gave items)
-      [ true ↦ omega arith | false ↦ omega arith ]
-
-  gave_other : (o : Option Item) (items : List Item) → IfSome o (λ item. item.event == event ≡ false)
-      → gave (option_to_list o ++ items) ≤ gave items
-  gave_other None items other = omega arith
-  gave_other (Some item) items other = rw other (omega arith)
-
-  -- what lies in the event's open window, by the ticks of turns and the windows
-  abbrev lies_in : Aggregate → List ℕ → List AWindow → ℕ
-  lies_in setting ticks ws = held_where (was_open setting ticks) ws
-
+module _ (event : ℕ) where
+  -- what lies in the event's open window
   abbrev lies : Option Aggregate → List ACall → ℕ
   lies None calls = 0
-  lies (Some setting) calls = lies_in setting (closing_ticks event calls) (windows_in setting.interval event calls)
+  lies (Some setting) calls = held_where (was_open setting (closing_ticks event calls)) (windows_in setting.interval event calls)
 
   lies_nothing : (setting : Option Aggregate) → lies setting [] ≡ 0
   lies_nothing None = refl
   lies_nothing (Some setting) = refl
 
-  -- a turn gives what lay in the window that it closes
-  closing_adds : (setting : Option Aggregate) (tick : ℕ) (calls : List ACall)
-      → weight_in weight (option_map (item_at tick) (closing_item setting event tick calls)) + lies setting (closes_due tick event ∷ calls)
-      ≤ lies setting calls
-  closing_adds None tick calls = omega arith
-  closing_adds (Some setting) tick calls =
-      let ticks = closing_ticks event calls in
-      let ws = windows_in setting.interval event calls in
-      let given = closing_item (Some setting) event tick calls in
-      let ticks_with : closing_ticks event (closes_due tick event ∷ calls) ≡ tick ∷ ticks = rw (eq-eqb event event refl) refl in
-      subst (λ (now : List ℕ). weight_in weight (option_map (item_at tick) given) + lies_in setting now ws ≤ lies_in setting ticks ws)
-      (sym ticks_with) (omega (arith, at_tick tick given, closing_weighs setting tick ticks ws))
-
-  -- an item that arrives is given, or lies in the window
-  arriving_adds : (setting : Option Aggregate) (tick : ℕ) (told : Qualified (List ℕ)) (calls : List ACall) → told.event.0 == event ≡ true
-      → weight_in weight (alone setting (item_at tick told)) + lies setting (arrives tick told ∷ calls) ≤ told_weight told + lies setting calls
-  arriving_adds None tick told calls is = omega arith
-  arriving_adds (Some setting) tick told calls is =
-      let x : AnArrival = record { tick = tick; told = told } in
-      let ticks = closing_ticks event calls in
-      let ws = windows_in setting.interval event calls in
-      let ws_with : windows_in setting.interval event (arrives tick told ∷ calls) ≡ with_item came_at setting.interval x ws = rw is refl in
-      subst (λ (now : List AWindow). 0 + lies_in setting ticks now ≤ told_weight told + lies_in setting ticks ws) (sym ws_with)
-      (omega (arith, arriving_weighs setting x ticks ws))
-
   -- calls for another event change nothing
-  lies_other : (setting : Option Aggregate) (tick other : ℕ) (calls : List ACall) → other == event ≡ false
-      → lies setting (closes_due tick other ∷ calls) ≡ lies setting calls
-  lies_other None tick other calls is = refl
-  lies_other (Some setting) tick other calls is =
-      let ticks_are : closing_ticks event (closes_due tick other ∷ calls) ≡ closing_ticks event calls = rw is refl in
-      ap (λ (now : List ℕ). lies_in setting now (windows_in setting.interval event calls)) ticks_are
+  other_changes_nothing : (setting : Option Aggregate) (call : ACall) (calls : List ACall) → call_event call == event ≡ false
+      → lies setting (call ∷ calls) ≡ lies setting calls
+  other_changes_nothing None call calls other = refl
+  other_changes_nothing (Some setting) (closes_due tick event') calls other = rw other refl
+  other_changes_nothing (Some setting) (arrives tick told) calls other = rw other refl
 
-  lies_besides : (setting : Option Aggregate) (tick : ℕ) (told : Qualified (List ℕ)) (calls : List ACall) → told.event.0 == event ≡ false
-      → lies setting (arrives tick told ∷ calls) ≡ lies setting calls
-  lies_besides None tick told calls is = refl
-  lies_besides (Some setting) tick told calls is =
-      let ws_are : windows_in setting.interval event (arrives tick told ∷ calls) ≡ windows_in setting.interval event calls = rw is refl in
-      ap (lies_in setting (closing_ticks event calls)) ws_are
+-- a turn gives what lay in the window that it closes
+closing_adds : (setting : Option Aggregate) (tick event : ℕ) (calls : List ACall)
+    → weight_in weight (option_map (item_at tick) (closing_item setting event tick calls)) + lies event setting (closes_due tick event ∷ calls)
+    ≤ 0 + lies event setting calls
+closing_adds None tick event calls = omega arith
+closing_adds (Some setting) tick event calls =
+    let given = closing_item (Some setting) event tick calls in
+    let closes = closing_weighs setting tick (closing_ticks event calls) (windows_in setting.interval event calls) in
+    rw (eq-eqb event event refl) (omega (arith, at_tick tick given, closes))
 
-  -- what was given of the event and what lies in its window weigh no more than what came
-  abbrev Weighs : List ACall → Type 0
-  Weighs calls = gave (added (aggregated_at config) calls) + lies (event_at config event).aggregate calls ≤ came calls
+-- an item that arrives is given, or lies in the window
+arriving_adds : (setting : Option Aggregate) (tick : ℕ) (told : Qualified (List ℕ)) (calls : List ACall)
+    → weight_in weight (alone setting (item_at tick told)) + lies told.event.0 setting (arrives tick told ∷ calls)
+    ≤ told_weight told + lies told.event.0 setting calls
+arriving_adds None tick told calls = omega arith
+arriving_adds (Some setting) tick told calls =
+    let event = told.event.0 in
+    let comes = arriving_weighs setting (record { tick = tick; told = told }) (closing_ticks event calls) (windows_in setting.interval event calls) in
+    rw (eq-eqb event event refl) (omega (arith, comes))
 
-  closing : (tick other : ℕ) (calls : List ACall) → Weighs calls → Weighs (closes_due tick other ∷ calls)
-  closing tick other calls old =
-      let setting = (event_at config event).aggregate in
-      let items = added (aggregated_at config) calls in
-      elim (other == event) as (λ (b : Bool). other == event ≡ b → Weighs (closes_due tick other ∷ calls)) [
-        | true ↦ λ is. subst (λ n. Weighs (closes_due tick n ∷ calls)) (sym (eqb-true other event is))
-            (let own = option_map (item_at tick) (closing_item setting event tick calls) in
-            rw (eq-eqb event event refl) (omega (arith, old, gave_more own items, closing_adds setting tick calls)))
-        | false ↦ λ is.
-            let given = option_map (item_at tick) (closing_item (event_at config other).aggregate other tick calls) in
-            let not_own = closes_other config event _ tick other is (closing_item_of (event_at config other).aggregate other tick calls) in
-            rw is (omega (arith, old, gave_other given items not_own, lies_other setting tick other calls is))
-      ] refl
+-- ---- all events
 
-  arriving : (tick : ℕ) (told : Qualified (List ℕ)) (calls : List ACall) → Weighs calls → Weighs (arrives tick told ∷ calls)
-  arriving tick told calls old =
-      let item = item_at tick told in
-      let items = added (aggregated_at config) calls in
-      elim (told.event.0 == event) as (λ (b : Bool). told.event.0 == event ≡ b → Weighs (arrives tick told ∷ calls)) [
-        | true ↦ λ is.
-            let setting = (event_at config event).aggregate in
-            let adds : gave (option_to_list (alone setting item) ++ items) + lies setting (arrives tick told ∷ calls)
-            ≤ told_weight told + came calls =
-            omega (arith, old, gave_more (alone setting item) items, arriving_adds setting tick told calls is) in
-            let same : setting ≡ (event_at config told.event.0).aggregate =
-            ap (λ e. (event_at config e).aggregate) (sym (eqb-true told.event.0 event is)) in
-            subst (λ (own : Option Aggregate). gave (option_to_list (alone own item) ++ items) + lies setting (arrives tick told ∷ calls)
-            ≤ came (arrives tick told ∷ calls)) same (rw is adds)
-        | false ↦ λ is.
-            let given = alone (event_at config told.event.0).aggregate item in
-            let not_own = alone_other config event (event_at config told.event.0).aggregate item is in
-            rw is (omega (arith, old, gave_other given items not_own, lies_besides (event_at config event).aggregate tick told calls is))
-      ] refl
+-- a number above the events of all calls
+abbrev above : List ACall → ℕ
+above [] = 0
+above (call ∷ calls) = suc (call_event call) + above calls
 
-  event_weighs : (calls : List ACall) → Weighs calls
-  event_weighs [] = omega (arith, lies_nothing (event_at config event).aggregate)
-  event_weighs (closes_due tick other ∷ calls) = closing tick other calls (event_weighs calls)
-  event_weighs (arrives tick told ∷ calls) = arriving tick told calls (event_weighs calls)
+module _ (config : Parts) where
+  -- what lies in an event's open window after these calls
+  abbrev open_weight : List ACall → ℕ → ℕ
+  open_weight calls event = lies event (event_at config event).aggregate calls
 
--- what came out of aggregation weighs no more than what came to it
-pub aggregated_weighs : (config : Parts) (calls : List ACall) → total weight (added (aggregated_at config) calls) ≤ total call_weight calls
-aggregated_weighs config calls =
-    by_owners item_event weight call_event call_weight (added (aggregated_at config) calls) calls
-    (λ event. omega (arith, event_weighs config event calls))
+  -- what a call gives and what lies in all windows after it are no more than what came and what lay in them
+  call_adds : (call : ACall) (calls : List ACall) (n : ℕ) → call_event call < n
+      → weight_in weight (aggregated_at config calls call) + sum_below (open_weight (call ∷ calls)) n ≤ call_weight call + sum_below (open_weight calls) n
+  call_adds call calls n below =
+      one_changed (open_weight calls) (open_weight (call ∷ calls)) (call_event call)
+      (λ event other. other_changes_nothing event (event_at config event).aggregate call calls other)
+      (weight_in weight (aggregated_at config calls call)) (call_weight call) n (own call) below
+    where
+      own : (call : ACall) → weight_in weight (aggregated_at config calls call) + open_weight (call ∷ calls) (call_event call)
+          ≤ call_weight call + open_weight calls (call_event call)
+      own (closes_due tick event) = closing_adds (event_at config event).aggregate tick event calls
+      own (arrives tick told) = arriving_adds (event_at config told.event.0).aggregate tick told calls
+
+  -- what came out and what lies in the windows weigh no more than what came
+  calls_weigh : (n : ℕ) (calls : List ACall) → above calls ≤ n
+      → total weight (added (aggregated_at config) calls) + sum_below (open_weight calls) n ≤ total call_weight calls
+  calls_weigh n [] within =
+      omega (arith, sum_below-none (open_weight []) (λ event. lies_nothing event (event_at config event).aggregate) n)
+  calls_weigh n (call ∷ calls) within =
+      omega (
+        arith,
+        total-append weight (option_to_list (aggregated_at config calls call)) (added (aggregated_at config) calls),
+        call_adds call calls n (omega arith),
+        calls_weigh n calls (omega arith),
+      )
+
+  -- what came out of aggregation weighs no more than what came to it
+  pub aggregated_weighs : (calls : List ACall) → total weight (added (aggregated_at config) calls) ≤ total call_weight calls
+  aggregated_weighs calls = omega (arith, calls_weigh (above calls) calls (omega arith))
