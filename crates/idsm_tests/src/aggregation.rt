@@ -42,10 +42,8 @@ fn close<'a>(windows: &mut Windows<Plain<'a>>, tick: u64) -> Option<Told<'a>>
     requires { 0 < length windows.old }
     ensures { length windows.new ≡ length windows.old }
 {
-    match windows.close_due(EVENT, tick) {
-        Some(item) => Some((item.count, item.stamp, bytes_of(item.context))),
-        None => None,
-    }
+    let closed = windows.close_due(EVENT, tick)?;
+    Some((closed.count, closed.stamp, bytes_of(closed.context)))
 }
 
 /// What comes back of an item that arrives in a turn at the tick, in which nothing closes.
@@ -75,10 +73,7 @@ fn held<'a>(windows: &Windows<Plain<'a>>) -> Option<&'a [u8]>
 }
 
 fn bytes_of(parcel: Option<Plain<'_>>) -> Option<&[u8]> {
-    match parcel {
-        Some(parcel) => Some(parcel.0),
-        None => None,
-    }
+    Some(parcel?.0)
 }
 
 #[test]

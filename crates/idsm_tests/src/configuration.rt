@@ -2,6 +2,7 @@
 
 mod cases;
 
+use crate::tables::{Answers, first_wrong};
 use cases::{EVENT_MEMBERS, EVENTS, SECOND_FORM, TOP_MEMBERS, WHOLE};
 use config_json::{JsonFault, print, read};
 use ids_config::{ConfigFault, ConfigPlace};
@@ -74,46 +75,33 @@ fn told(alloc: Global, fault: ConfigFault) -> Result<String, AllocError> {
     }
 }
 
-/// The first line of the table whose text, between these two, has another answer.
-fn first_wrong<'a>(
-    alloc: Global,
-    table: &'a str,
-    before: &str,
-    after: &str,
-) -> Result<Option<&'a str>, AllocError> {
-    for line in table.lines() {
-        let Some((wanted, text)) = line.split_once(" | ") else {
-            return Ok(Some(line));
+/// The reader of configurations. A text is the whole one, or the name tells what it is a part of.
+struct Configurations;
+
+impl Answers for Configurations {
+    fn answer(alloc: Global, name: &str, text: &str) -> Result<String, Fail> {
+        let (before, after) = match name {
+            "top" => (
+                r#"{"form":1,"instance":18,"#,
+                r#","events":[{"id":42,"sensor":3}]}"#,
+            ),
+            "event" => (
+                r#"{"form":1,"instance":18,"events":[{"id":42,"sensor":3,"#,
+                "}]}",
+            ),
+            "events" => (r#"{"form":1,"instance":18,"events":["#, "]}"),
+            _ => ("", ""),
         };
         let text = format!(in alloc; "{before}{text}{after}")?;
-        if answer(alloc, text.as_bytes())?.as_str() != wanted {
-            return Ok(Some(line));
-        }
+        Ok(answer(alloc, text.as_bytes())?)
     }
-    Ok(None)
 }
 
 #[test]
-fn whole_texts_have_their_answers(rt: HostRuntime) -> Result<(), Fail> {
-    assert_eq!(rt; first_wrong(rt.alloc(), WHOLE, "", "")?, None);
-    assert_eq!(rt; first_wrong(rt.alloc(), SECOND_FORM, "", "")?, None);
-    Ok(())
-}
-
-#[test]
-fn members_have_their_answers(rt: HostRuntime) -> Result<(), Fail> {
-    let before = r#"{"form":1,"instance":18,"#;
-    let after = r#","events":[{"id":42,"sensor":3}]}"#;
-    assert_eq!(rt; first_wrong(rt.alloc(), TOP_MEMBERS, before, after)?, None);
-
-    let before = r#"{"form":1,"instance":18,"events":[{"id":42,"sensor":3,"#;
-    assert_eq!(rt;
-        first_wrong(rt.alloc(), EVENT_MEMBERS, before, "}]}")?,
-        None
-    );
-
-    let before = r#"{"form":1,"instance":18,"events":["#;
-    assert_eq!(rt; first_wrong(rt.alloc(), EVENTS, before, "]}")?, None);
+fn texts_have_their_answers(rt: HostRuntime) -> Result<(), Fail> {
+    for table in [WHOLE, SECOND_FORM, TOP_MEMBERS, EVENT_MEMBERS, EVENTS] {
+        assert_eq!(rt; first_wrong::<Configurations>(rt.alloc(), table)?, None);
+    }
     Ok(())
 }
 

@@ -29,14 +29,6 @@ const TWO: &str = concat!(
     r#"{"id":9,"sensor":0,"nth":2,"mode":"BRIEF"}]}"#
 );
 
-/// What comes to a gate.
-#[derive(Clone, Copy)]
-enum Step {
-    Item(u16),
-    State(u8),
-    Set(u16, Mode),
-}
-
 /// A verdict as a letter, small where the item loses its context data.
 fn letter(verdict: Verdict) -> char {
     match verdict {
@@ -48,22 +40,26 @@ fn letter(verdict: Verdict) -> char {
     }
 }
 
-/// The verdicts on the items, a letter each, and `?` for a step whose event is not there.
-fn verdicts(alloc: Global, text: &str, steps: &[Step]) -> Result<String, Fail> {
+/// The verdicts on the items, a letter each, and `?` for a step whose event is not there. A step is the index of an
+/// event, of which an item comes, the same with the event's new mode, as `0=OFF`, or a state, as `S1`.
+fn verdicts(alloc: Global, text: &str, steps: &str) -> Result<String, Fail> {
     let config = read(alloc, text.as_bytes())?;
     let events = config.parts().events.len();
     let mut gate = GateState::make(alloc, &config)?;
     let mut letters = String::new(alloc);
-    for step in steps {
-        match *step {
-            Step::Item(event) if usize::from(event) < events => {
-                letters.push(letter(gate.gate(EventIndex(event))))?;
-            }
-            Step::Set(event, mode) if usize::from(event) < events => {
-                gate.mode(EventIndex(event), mode);
-            }
-            Step::State(state) => gate.state(state),
-            _ => letters.push('?')?,
+    for step in steps.split(" ") {
+        if let Some(state) = step.strip_prefix("S") {
+            gate.state(state.parse::<u8>().unwrap_or(0));
+            continue;
+        }
+        let (event, mode) = step.split_once("=").unwrap_or((step, ""));
+        let event = event.parse::<u16>().unwrap_or(u16::MAX);
+        if usize::from(event) >= events {
+            letters.push('?')?;
+        } else if let Some(mode) = Mode::named(mode.as_bytes()) {
+            gate.mode(EventIndex(event), mode);
+        } else {
+            letters.push(letter(gate.gate(EventIndex(event))))?;
         }
     }
     Ok(letters)
@@ -71,81 +67,43 @@ fn verdicts(alloc: Global, text: &str, steps: &[Step]) -> Result<String, Fail> {
 
 #[test]
 fn every_third_item_passes(rt: HostRuntime) -> Result<(), Fail> {
-    let items = [Step::Item(0); 7];
-    assert_eq!(rt; verdicts(rt.alloc(), THIRD, &items)?.as_str(), "..P..P.");
+    let steps = "0 0 0 0 0 0 0";
+    assert_eq!(rt; verdicts(rt.alloc(), THIRD, steps)?.as_str(), "..P..P.");
     Ok(())
 }
 
 #[test]
 fn a_blocked_item_is_dropped_and_not_counted(rt: HostRuntime) -> Result<(), Fail> {
-    let steps = [
-        Step::Item(0),
-        Step::State(1),
-        Step::Item(0),
-        Step::State(0),
-        Step::Item(0),
-    ];
-    assert_eq!(rt; verdicts(rt.alloc(), SECOND, &steps)?.as_str(), "..P");
-    assert_eq!(rt; verdicts(rt.alloc(), BYPASSING, &steps)?.as_str(), "BBB");
+    let steps = "0 S1 0 S0 0";
+    assert_eq!(rt; verdicts(rt.alloc(), SECOND, steps)?.as_str(), "..P");
+    assert_eq!(rt; verdicts(rt.alloc(), BYPASSING, steps)?.as_str(), "BBB");
     Ok(())
 }
 
 #[test]
 fn the_state_is_that_of_the_configuration_at_first(rt: HostRuntime) -> Result<(), Fail> {
-    let steps = [
-        Step::Item(0),
-        Step::State(2),
-        Step::Item(0),
-        Step::State(255),
-        Step::Item(0),
-        Step::State(0),
-        Step::Item(0),
-    ];
-    assert_eq!(rt; verdicts(rt.alloc(), BLOCKED, &steps)?.as_str(), ".P.P");
+    let steps = "0 S2 0 S255 0 S0 0";
+    assert_eq!(rt; verdicts(rt.alloc(), BLOCKED, steps)?.as_str(), ".P.P");
     Ok(())
 }
 
 #[test]
 fn what_is_off_is_dropped_and_not_counted(rt: HostRuntime) -> Result<(), Fail> {
-    let steps = [
-        Step::Item(0),
-        Step::Set(0, Mode::Off),
-        Step::Item(0),
-        Step::Set(0, Mode::Detailed),
-        Step::Item(0),
-    ];
-    assert_eq!(rt; verdicts(rt.alloc(), SECOND, &steps)?.as_str(), "..P");
+    let steps = "0 0=OFF 0 0=DETAILED 0";
+    assert_eq!(rt; verdicts(rt.alloc(), SECOND, steps)?.as_str(), "..P");
     Ok(())
 }
 
 #[test]
 fn what_bypasses_is_not_counted(rt: HostRuntime) -> Result<(), Fail> {
-    let steps = [
-        Step::Item(0),
-        Step::Set(0, Mode::BriefBypassing),
-        Step::Item(0),
-        Step::Set(0, Mode::DetailedBypassing),
-        Step::Item(0),
-        Step::Set(0, Mode::Brief),
-        Step::Item(0),
-    ];
-    assert_eq!(rt; verdicts(rt.alloc(), SECOND, &steps)?.as_str(), ".bBp");
+    let steps = "0 0=BRIEF_BYPASSING_FILTERS 0 0=DETAILED_BYPASSING_FILTERS 0 0=BRIEF 0";
+    assert_eq!(rt; verdicts(rt.alloc(), SECOND, steps)?.as_str(), ".bBp");
     Ok(())
 }
 
 #[test]
 fn each_event_has_its_own_count_and_mode(rt: HostRuntime) -> Result<(), Fail> {
-    let steps = [
-        Step::Item(0),
-        Step::Item(1),
-        Step::Item(0),
-        Step::Item(1),
-        Step::Set(0, Mode::Off),
-        Step::Item(1),
-        Step::Item(1),
-        Step::Item(0),
-        Step::Item(2),
-    ];
-    assert_eq!(rt; verdicts(rt.alloc(), TWO, &steps)?.as_str(), "..Pp.p.?");
+    let steps = "0 1 0 1 0=OFF 1 1 0 2";
+    assert_eq!(rt; verdicts(rt.alloc(), TWO, steps)?.as_str(), "..Pp.p.?");
     Ok(())
 }

@@ -2,38 +2,36 @@
 
 mod cases;
 
-use crate::tables::{Answers, config_named, first_wrong};
+use crate::tables::{Answers, config_named, first_wrong, spelled};
 use cases::{
     BAD_EVENT, BYTES, CALL_BACK, FULL_TURN, LEGAL, NO_FORM, OUT_OF_PLACE, OUT_OF_RANGE, TICK_BACK,
 };
 use ids_config::Config;
-use journal::{Journal, JournalFault, print, read};
+use journal::{JournalFault, print, read};
 use std::alloc::{AllocError, Global};
 use std::test::Fail;
 
-/// The reader of journals. Its answer is `ok` where the journal prints the same text again.
+/// The reader of journals.
 struct Journals;
 
 impl Answers for Journals {
-    fn answer(alloc: Global, config: &Config, text: &[u8]) -> Result<String, Fail> {
-        match read(alloc, text, config) {
-            Ok(journal) => printed(alloc, &journal, text),
-            Err(JournalFault::Line { line, number }) => {
-                Ok(format!(in alloc; "{number} at {line}")?)
-            }
-            Err(JournalFault::NoMemory) => Err(AllocError.into()),
-        }
+    fn answer(alloc: Global, name: &str, text: &str) -> Result<String, Fail> {
+        answer(alloc, &config_named(alloc, name)?, &spelled(alloc, text)?)
     }
 }
 
-fn printed(alloc: Global, journal: &Journal, text: &[u8]) -> Result<String, Fail> {
-    let again = print(alloc, &journal.history, &journal.losses)?;
-    let told = if again.as_slice() == text {
-        "ok"
-    } else {
-        "printed otherwise"
-    };
-    Ok(String::from_str(alloc, told)?)
+/// What is answered to a text: `ok` where its journal prints the same text again.
+fn answer(alloc: Global, config: &Config, text: &[u8]) -> Result<String, Fail> {
+    match read(alloc, text, config) {
+        Ok(journal) => {
+            let again = print(alloc, &journal.history, &journal.losses)?;
+            let same = again.as_slice() == text;
+            let told = if same { "ok" } else { "printed otherwise" };
+            Ok(String::from_str(alloc, told)?)
+        }
+        Err(JournalFault::Line { line, number }) => Ok(format!(in alloc; "{number} at {line}")?),
+        Err(JournalFault::NoMemory) => Err(AllocError.into()),
+    }
 }
 
 #[test]
@@ -47,10 +45,7 @@ fn lines_without_a_form_are_fault_1(rt: HostRuntime) -> Result<(), Fail> {
     assert_eq!(rt; first_wrong::<Journals>(rt.alloc(), NO_FORM)?, None);
     let config = config_named(rt.alloc(), "plain")?;
     for (wanted, text) in BYTES {
-        assert_eq!(rt;
-            Journals::answer(rt.alloc(), &config, text)?.as_str(),
-            wanted
-        );
+        assert_eq!(rt; answer(rt.alloc(), &config, text)?.as_str(), wanted);
     }
     Ok(())
 }
@@ -83,6 +78,6 @@ fn a_cut_journal_is_read_exactly_behind_a_line_feed(rt: HostRuntime) -> Result<(
         let whole = front.is_empty() || front.ends_with(b"\n");
         assert_eq!(rt; read(rt.alloc(), front, &config).is_ok(), whole);
     }
-    assert_eq!(rt; Journals::answer(rt.alloc(), &config, text)?.as_str(), "ok");
+    assert_eq!(rt; answer(rt.alloc(), &config, text)?.as_str(), "ok");
     Ok(())
 }

@@ -14,14 +14,6 @@ struct Shown {
     reaped: u64,
 }
 
-/// Steps of a ring of one position, and what it shows after them.
-#[derive(Drop)]
-struct Row<'a> {
-    seats: u8,
-    steps: &'a [Step],
-    shown: Shown,
-}
-
 const fn numbers(
     number: u64,
     claimed: u64,
@@ -42,11 +34,12 @@ const fn numbers(
     }
 }
 
+/// What a ring of one position shows after so many of the steps.
 #[tactic(auto, using(ring_core::proofs::RingLaws::word_packs))]
-fn shown_after(alloc: Global, seats: u8, steps: &[Step]) -> Result<Shown, RunFault>
+fn shown_after(alloc: Global, seats: u8, steps: &[Step], count: usize) -> Result<Shown, RunFault>
     requires { (1 ≤ seats) × (seats ≤ 32) }
 {
-    let ring = run(alloc, 1, seats, steps)?;
+    let ring = run(alloc, 1, seats, steps.get(..count).unwrap_or(steps))?;
     let word = ring.word();
     Ok(Shown {
         number: word.pack(seats),
@@ -59,63 +52,35 @@ fn shown_after(alloc: Global, seats: u8, steps: &[Step]) -> Result<Shown, RunFau
 // Worked by hand: one seat in turn with the keeper, whose first offer has an old word.
 #[test]
 fn steps_of_a_seat_and_the_keeper_lead_to_states(rt: HostRuntime) {
-    let rows = [
-        Row {
-            seats: 1,
-            steps: &[Look(0), Claim(0), Finish(0), See],
-            shown: numbers(65537, 1, 0, 0, 1, 1),
-        },
-        Row {
-            seats: 1,
-            steps: &[Look(0), Claim(0), Finish(0), See, Offer(1)],
-            shown: numbers(65537, 1, 0, 0, 1, 1),
-        },
-        Row {
-            seats: 1,
-            steps: &[Look(0), Claim(0), Finish(0), See, Offer(1), Offer(1)],
-            shown: numbers(65538, 1, 1, 0, 2, 1),
-        },
-    ];
-    for row in &rows {
-        assert!(rt; 1 <= row.seats && row.seats <= 32);
-        assert_eq!(rt;
-            shown_after(rt.alloc(), row.seats, row.steps),
-            Ok(row.shown)
-        );
+    let steps = [Look(0), Claim(0), Finish(0), See, Offer(1), Offer(1)];
+    for (count, shown) in [
+        (4, numbers(65537, 1, 0, 0, 1, 1)),
+        (5, numbers(65537, 1, 0, 0, 1, 1)),
+        (6, numbers(65538, 1, 1, 0, 2, 1)),
+    ] {
+        assert_eq!(rt; shown_after(rt.alloc(), 1, &steps, count), Ok(shown));
     }
 }
 
 // Worked by hand: two seats, of which the second claims in vain.
 #[test]
 fn steps_of_two_seats_lead_to_states(rt: HostRuntime) {
-    let rows = [
-        Row {
-            seats: 2,
-            steps: &[Split, Look(0), Look(1), Claim(0), Claim(1)],
-            shown: numbers(131073, 1, 0, 1, 1, 0),
-        },
-        Row {
-            seats: 2,
-            steps: &[
-                Split,
-                Look(0),
-                Look(1),
-                Claim(0),
-                Claim(1),
-                Finish(0),
-                See,
-                Read,
-                Offer(1),
-            ],
-            shown: numbers(65539, 1, 1, 0, 2, 1),
-        },
+    let steps = [
+        Split,
+        Look(0),
+        Look(1),
+        Claim(0),
+        Claim(1),
+        Finish(0),
+        See,
+        Read,
+        Offer(1),
     ];
-    for row in &rows {
-        assert!(rt; 1 <= row.seats && row.seats <= 32);
-        assert_eq!(rt;
-            shown_after(rt.alloc(), row.seats, row.steps),
-            Ok(row.shown)
-        );
+    for (count, shown) in [
+        (5, numbers(131073, 1, 0, 1, 1, 0)),
+        (9, numbers(65539, 1, 1, 0, 2, 1)),
+    ] {
+        assert_eq!(rt; shown_after(rt.alloc(), 2, &steps, count), Ok(shown));
     }
 }
 
@@ -127,12 +92,8 @@ fn the_first_step_that_is_not_possible_is_told(rt: HostRuntime) {
 
 #[test]
 fn a_sweep_counts_the_marks(rt: HostRuntime) -> Result<(), RunFault> {
-    let ring = run(
-        rt.alloc(),
-        1,
-        1,
-        &[Mark(0, 0), Mark(0, 0), Mark(0, 1), Sweep(0)],
-    )?;
+    let steps = [Mark(0, 0), Mark(0, 0), Mark(0, 1), Sweep(0)];
+    let ring = run(rt.alloc(), 1, 1, &steps)?;
     assert_eq!(rt; (ring.loss(0), ring.swept(0)), (0, 2));
     assert_eq!(rt; (ring.loss(1), ring.swept(1)), (1, 0));
     Ok(())

@@ -1,69 +1,44 @@
-//! Tables of texts: a line for each, with the answer that is wanted, the name of a configuration, and the text.
+//! Tables of texts: a line for each, as `WANTED | NAME | TEXT`, with the answer that is wanted and the name of what
+//! the text is read under. A text with a group, `(A|B)`, stands for a text with `A` in its place and one with `B`.
 
-use ids_config::{Config, ConfigParts, EventParts};
-use ids_types::Mode;
+use config_json::read;
+use ids_config::Config;
 use std::alloc::Global;
 use std::test::Fail;
 use text_spec::push_number;
 
-fn event(alloc: Global) -> EventParts {
-    EventParts {
-        id: 42,
-        sensor: 3,
-        version: 0,
-        mode: Mode::Detailed,
-        send: true,
-        store: false,
-        block: Vec::new(alloc),
-        nth: 1,
-        aggregate: None,
-        threshold: None,
-    }
-}
-
-/// A configuration of so many events, of which these are internal: what the sensors lost, what was
-/// lost of contexts, and what was held back.
-fn config(
-    alloc: Global,
-    count: usize,
-    internal: [Option<u64>; 3],
-    buffers: u64,
-) -> Result<Config, Fail> {
-    let mut events = Vec::new(alloc);
-    for _ in 0..count {
-        events.push(event(alloc))?;
-    }
-    let [lost_events, lost_contexts, limited] = internal;
-    let parts = ConfigParts {
-        profile: 1,
-        instance: 18,
-        callers: buffers,
-        ring: buffers,
-        memory: 0,
-        state: 0,
-        classes: Vec::new(alloc),
-        rate: None,
-        traffic: None,
-        events,
-        lost_events,
-        lost_contexts,
-        limited,
-    };
-    Ok(Config::check(parts)?)
+/// A configuration of as many callers as event buffers, and of one event and some more, with these internal ones.
+fn config(alloc: Global, buffers: u64, more: usize, internal: &str) -> Result<Config, Fail> {
+    let more = r#",{"id":42,"sensor":3}"#.repeat(alloc, more)?;
+    let events = format!(in alloc; "[{{\"id\":42,\"sensor\":3}}{more}]")?;
+    let text = format!(in alloc;
+        "{{\"form\":1,\"instance\":18,\"callers\":{buffers},\"ring\":{buffers},\"internal\":{{{internal}}},\"events\":{events}}}"
+    )?;
+    Ok(read(alloc, text.as_bytes())?)
 }
 
 /// The configuration of this name.
 pub(crate) fn config_named(alloc: Global, name: &str) -> Result<Config, Fail> {
     match name {
-        "last" => config(alloc, 2, [Some(1), None, None], 8),
-        "first" => config(alloc, 2, [Some(0), None, None], 8),
-        "limited" => config(alloc, 2, [None, None, Some(1)], 8),
-        "three" => config(alloc, 4, [Some(1), Some(2), Some(3)], 8),
-        "turned" => config(alloc, 4, [Some(1), Some(3), Some(0)], 8),
-        "many" => config(alloc, 256, [None, None, None], 8),
-        "small" => config(alloc, 1, [None, None, None], 1),
-        "crowd" => config(alloc, 1, [None, None, None], 32),
-        _ => config(alloc, 1, [None, None, None], 8),
+        "last" => config(alloc, 8, 1, r#""lost_events":1"#),
+        "first" => config(alloc, 8, 1, r#""lost_events":0"#),
+        "limited" => config(alloc, 8, 1, r#""limited":1"#),
+        "three" => config(
+            alloc,
+            8,
+            3,
+            r#""lost_events":1,"lost_contexts":2,"limited":3"#,
+        ),
+        "turned" => config(
+            alloc,
+            8,
+            3,
+            r#""lost_events":1,"lost_contexts":3,"limited":0"#,
+        ),
+        "many" => config(alloc, 8, 255, ""),
+        "small" => config(alloc, 1, 0, ""),
+        "crowd" => config(alloc, 32, 0, ""),
+        _ => config(alloc, 8, 0, ""),
     }
 }
 
@@ -95,31 +70,39 @@ fn push_part(out: &mut Vec<u8>, part: &str) -> Result<(), Fail> {
     Ok(())
 }
 
-/// A reader of texts.
-pub(crate) trait Answers {
-    /// What it answers to a text: `ok`, or the fault and its line.
-    fn answer(alloc: Global, config: &Config, text: &[u8]) -> Result<String, Fail>;
+/// What a text of a table writes: its parts stand between `~`.
+pub(crate) fn spelled(alloc: Global, text: &str) -> Result<Vec<u8>, Fail> {
+    let mut bytes = Vec::new(alloc);
+    for part in text.split("~") {
+        push_part(&mut bytes, part)?;
+    }
+    Ok(bytes)
 }
 
-/// The first line of the table whose text has another answer.
-pub(crate) fn first_wrong<'a, A: Answers>(
-    alloc: Global,
-    table: &'a str,
-) -> Result<Option<&'a str>, Fail> {
+/// A reader of texts.
+pub(crate) trait Answers {
+    /// What it answers to a text under this name: `ok`, or the fault and its place.
+    fn answer(alloc: Global, name: &str, text: &str) -> Result<String, Fail>;
+}
+
+/// What stands before the group of a text, in it, and behind it. Without one there is an empty group at the end.
+fn parts_of(text: &str) -> (&str, &str, &str) {
+    let (before, rest) = text.split_once("(").unwrap_or((text, ")"));
+    let (group, after) = rest.split_once(")").unwrap_or((rest, ""));
+    (before, group, after)
+}
+
+/// The first text of the table that has another answer.
+pub(crate) fn first_wrong<A: Answers>(alloc: Global, table: &str) -> Result<Option<String>, Fail> {
     for line in table.lines() {
-        let Some((wanted, rest)) = line.split_once(" | ") else {
-            return Ok(Some(line));
-        };
-        let Some((name, parts)) = rest.split_once(" | ") else {
-            return Ok(Some(line));
-        };
-        let config = config_named(alloc, name)?;
-        let mut text = Vec::new(alloc);
-        for part in parts.split("~") {
-            push_part(&mut text, part)?;
-        }
-        if A::answer(alloc, &config, &text)?.as_str() != wanted {
-            return Ok(Some(line));
+        let (wanted, rest) = line.split_once(" | ").unwrap_or((line, ""));
+        let (name, text) = rest.split_once(" | ").unwrap_or((rest, ""));
+        let (before, group, after) = parts_of(text);
+        for word in group.split("|") {
+            let text = format!(in alloc; "{before}{word}{after}")?;
+            if A::answer(alloc, name, text.as_str())?.as_str() != wanted {
+                return Ok(Some(text));
+            }
         }
     }
     Ok(None)

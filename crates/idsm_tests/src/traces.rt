@@ -2,7 +2,7 @@
 
 mod cases;
 
-use crate::tables::{Answers, config_named, first_wrong};
+use crate::tables::{Answers, config_named, first_wrong, spelled};
 use cases::{BAD_EVENT, BYTES, LEGAL, MIXED, NO_FORM, OUT_OF_PLACE, OUT_OF_RANGE, TICK_BACK};
 use ids_config::Config;
 use ids_types::{EventIndex, Mode, Stamp};
@@ -10,22 +10,25 @@ use std::alloc::{AllocError, Global};
 use std::test::Fail;
 use trace_text::{Line, Trace, TraceAct, TraceFault, print, read};
 
-/// The reader of traces. Its answer is `ok` where the trace prints the same text again.
+/// The reader of traces.
 struct Traces;
 
 impl Answers for Traces {
-    fn answer(alloc: Global, config: &Config, text: &[u8]) -> Result<String, Fail> {
-        match read(alloc, text, config) {
-            Ok(trace) => {
-                let same = print(alloc, &trace)?.as_slice() == text;
-                let told = if same { "ok" } else { "printed otherwise" };
-                Ok(String::from_str(alloc, told)?)
-            }
-            Err(TraceFault::Line { line, number }) => {
-                Ok(format!(in alloc; "{number} at {line}")?)
-            }
-            Err(TraceFault::NoMemory) => Err(AllocError.into()),
+    fn answer(alloc: Global, name: &str, text: &str) -> Result<String, Fail> {
+        answer(alloc, &config_named(alloc, name)?, &spelled(alloc, text)?)
+    }
+}
+
+/// What is answered to a text: `ok` where its trace prints the same text again.
+fn answer(alloc: Global, config: &Config, text: &[u8]) -> Result<String, Fail> {
+    match read(alloc, text, config) {
+        Ok(trace) => {
+            let same = print(alloc, &trace)?.as_slice() == text;
+            let told = if same { "ok" } else { "printed otherwise" };
+            Ok(String::from_str(alloc, told)?)
         }
+        Err(TraceFault::Line { line, number }) => Ok(format!(in alloc; "{number} at {line}")?),
+        Err(TraceFault::NoMemory) => Err(AllocError.into()),
     }
 }
 
@@ -40,7 +43,7 @@ fn lines_without_a_form_are_fault_1(rt: HostRuntime) -> Result<(), Fail> {
     assert_eq!(rt; first_wrong::<Traces>(rt.alloc(), NO_FORM)?, None);
     let config = config_named(rt.alloc(), "plain")?;
     for (wanted, text) in BYTES {
-        assert_eq!(rt; Traces::answer(rt.alloc(), &config, text)?.as_str(), wanted);
+        assert_eq!(rt; answer(rt.alloc(), &config, text)?.as_str(), wanted);
     }
     Ok(())
 }

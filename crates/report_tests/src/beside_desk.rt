@@ -35,28 +35,6 @@ fn keep(shared: &Shared, act: Act<CtxBuf>, back: &mut Vec<CtxBuf>) -> Result<(),
     }
 }
 
-// Takes the next item, if it is finished, and counts it.
-fn take_one(
-    shared: &Shared,
-    desk: &mut Desk,
-    back: &mut Vec<CtxBuf>,
-    tally: &mut Tally,
-) -> Result<bool, NoMemory>
-    requires desk { IsDeskOf shared.now desk.old }
-    requires back { AreBuffersIn (sizes_of shared.now) back.old.items }
-    ensures desk { IsDeskOf shared.now desk.new }
-    ensures back { OnOk result (AreBuffersIn (sizes_of shared.now) back.new.items) }
-{
-    match desk.take(shared) {
-        Ok(item) => {
-            tally.add(item.caller, item.call, &item.payload);
-            keep(shared, item.payload, back)?;
-            Ok(true)
-        }
-        Err(_) => Ok(false),
-    }
-}
-
 // A turn at the desk: at most 16 items are taken, and their buffers given back.
 fn take_some(
     shared: &Shared,
@@ -71,10 +49,12 @@ fn take_some(
 {
     let mut more = true;
     for _ in 0..16 {
-        if !take_one(shared, desk, back, tally)? {
+        let Ok(item) = desk.take(shared) else {
             more = false;
             break;
-        }
+        };
+        tally.add(item.caller, item.call, &item.payload);
+        keep(shared, item.payload, back)?;
     }
     desk.give_back(shared, back);
     Ok(more)
@@ -155,12 +135,7 @@ fn four_callers_report_beside_the_desk(rt: HostRuntime) -> Result<(), Fail> {
         mut passes,
         mut desk,
     } = make(rt.alloc(), &read(rt.alloc(), FOUR_CALLERS.as_bytes())?)?;
-    let answers = [
-        Answers::none(),
-        Answers::none(),
-        Answers::none(),
-        Answers::none(),
-    ];
+    let answers = Answers::of_four();
     let mut back = Vec::new(rt.alloc());
     let mut tally = Tally::new();
     run(

@@ -137,12 +137,7 @@ fn four_callers_report_beside_turns(rt: HostRuntime) -> Result<(), Fail> {
         mut manager,
         mut passes,
     } = make(rt.alloc(), &config, chain)?;
-    let answers = [
-        Answers::none(),
-        Answers::none(),
-        Answers::none(),
-        Answers::none(),
-    ];
+    let answers = Answers::of_four();
     let mut told = Told {
         tally: Tally::new(),
         lost_events: 0,

@@ -1,7 +1,7 @@
 //! Tables of steps: what callers and their manager answer, one step after another.
 //!
-//! A table is a text with a line for each step, as `STEP => ANSWER`. The steps go to one manager over the filter
-//! chain of a configuration, and to its passes. `turn TICK` answers the journal of the turn, with a bar for each
+//! A table is a text of a configuration, and then of a line for each step, as `STEP => ANSWER`. The steps go to one
+//! manager over the filter chain of the configuration, and to its passes. `turn TICK` answers the journal of the turn, with a bar for each
 //! line feed, how many messages it sent, and their bytes; `close TICK` adds the totals. `rest` and `reserve` are
 //! the calls of these names. `tell` with `turns`, `passes`, `fits`, `late CLASS`, `rests` or `memory` answers what
 //! the manager shows: rests and records with their number first. All other steps are calls of a pass (`calls.rt`).
@@ -26,15 +26,15 @@ struct Run<C> {
 }
 
 impl<C: Chain<CtxBuf>> Run<C> {
-    // The first line of the table whose step has another answer.
+    // The first of these lines whose step has another answer.
     fn first_unlike(
         &mut self,
         alloc: Global,
-        table: &'static str,
+        steps: &'static str,
     ) -> Result<Option<&'static str>, NoMemory>
         requires { IsRunning C.events C.kept self.old.classes self.old.made }
     {
-        for line in table.lines() {
+        for line in steps.lines() {
             let (step, wanted) = line.split_once(" => ").unwrap_or((line, ""));
             let mut told = Vec::new(alloc);
             self.answer(alloc, step, &mut told)?;
@@ -199,16 +199,13 @@ fn tell_fault(told: &mut Vec<u8>, fault: TurnFault) -> Result<(), NoMemory> {
 }
 
 /// The first line of the table whose step has another answer.
-pub fn first_wrong(
-    alloc: Global,
-    config: &str,
-    table: &'static str,
-) -> Result<Option<&'static str>, Fail> {
+pub fn first_wrong(alloc: Global, table: &'static str) -> Result<Option<&'static str>, Fail> {
+    let (config, steps) = table.split_once("\n").unwrap_or((table, ""));
     let config = read(alloc, config.as_bytes())?;
     let chain = EventChain::make(alloc, &config)?;
     let mut run = Run {
         made: make(alloc, &config, chain)?,
         classes: config.parts().classes.len(),
     };
-    Ok(run.first_unlike(alloc, table)?)
+    Ok(run.first_unlike(alloc, steps)?)
 }

@@ -3,33 +3,26 @@
 //! A table has a line for each run, as `GIVEN => WANTED`: given are the files `c`, `j` and `m`, and then the
 //! calls of the shelf and the puts that fail. The making of `m` is call 0, so the reads are calls 1, 2 and 3.
 
-use crate::given::{bytes_of, run, shelf_of};
+use crate::given::{Given, bytes_of, first_wrong, run, shelf_of};
 use ids_outside::Shelf;
 use std::alloc::Global;
 use std::test::Fail;
 
-/// Checks what is given, and tells how the run ended.
-fn check_given(alloc: Global, given: &str) -> Result<Vec<u8>, Fail> {
-    let mut columns = given.split(" | ");
-    let config = columns.next().unwrap_or("");
-    let journal = columns.next().unwrap_or("");
-    let messages = columns.next().unwrap_or("");
-    let shelf_fails = columns.next().unwrap_or("-");
-    let put_fails = columns.next().unwrap_or("-");
-    let mut shelf = shelf_of(alloc, config, journal, shelf_fails)?;
-    shelf.append("m", &bytes_of(alloc, messages)?)?;
-    run(alloc, "check c j m", shelf, put_fails)
-}
+/// Lines that give three files, and want how they are checked.
+struct Checks;
 
-/// The first line of the table whose run ends otherwise.
-fn first_unlike(alloc: Global, table: &'static str) -> Result<Option<&'static str>, Fail> {
-    for line in table.lines() {
-        let (given, wanted) = line.split_once(" => ").unwrap_or((line, ""));
-        if check_given(alloc, given)?.as_slice() != wanted.as_bytes() {
-            return Ok(Some(line));
-        }
+impl Given for Checks {
+    fn told(alloc: Global, given: &str) -> Result<Vec<u8>, Fail> {
+        let mut columns = given.split(" | ");
+        let config = columns.next().unwrap_or("");
+        let journal = columns.next().unwrap_or("");
+        let messages = columns.next().unwrap_or("");
+        let shelf_fails = columns.next().unwrap_or("-");
+        let put_fails = columns.next().unwrap_or("-");
+        let mut shelf = shelf_of(alloc, config, journal, shelf_fails)?;
+        shelf.append("m", &bytes_of(alloc, messages)?)?;
+        run(alloc, "check c j m", shelf, put_fails)
     }
-    Ok(None)
 }
 
 /// Files that hold what the journal gives.
@@ -43,7 +36,7 @@ const SAME: &str =
 
 #[test]
 fn what_the_journal_gives_is_the_same(rt: HostRuntime) -> Result<(), Fail> {
-    assert_eq!(rt; first_unlike(rt.alloc(), SAME)?, None);
+    assert_eq!(rt; first_wrong::<Checks>(rt.alloc(), SAME)?, None);
     Ok(())
 }
 
@@ -68,7 +61,7 @@ const DIFFERENT: &str =
 
 #[test]
 fn the_first_place_that_differs_is_told(rt: HostRuntime) -> Result<(), Fail> {
-    assert_eq!(rt; first_unlike(rt.alloc(), DIFFERENT)?, None);
+    assert_eq!(rt; first_wrong::<Checks>(rt.alloc(), DIFFERENT)?, None);
     Ok(())
 }
 
@@ -90,7 +83,7 @@ const REFUSED: &str = r##"{} | ? | # => 5 | bad config 4 at top/ | # | -
 
 #[test]
 fn what_comes_first_is_told(rt: HostRuntime) -> Result<(), Fail> {
-    assert_eq!(rt; first_unlike(rt.alloc(), REFUSED)?, None);
+    assert_eq!(rt; first_wrong::<Checks>(rt.alloc(), REFUSED)?, None);
     Ok(())
 }
 

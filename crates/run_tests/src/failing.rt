@@ -1,6 +1,6 @@
 //! Runs in which a call of the shelf or the sink fails.
 
-use crate::given::first_wrong;
+use crate::given::{Runs, first_wrong};
 use std::test::Fail;
 
 /// Three turns, each with a message of eight bytes. The shelf's calls are two reads, the creation of `m`,
@@ -13,15 +13,15 @@ fold c j m r | . | T 1 0 0 0/R 0 0 0 1 - -/T 2 0 0 0/R 0 1 0 1 - -/T 3 0 0 0/R 0
 fold c j m r | . | T 1 0 0 0/R 0 0 0 1 - -/T 2 0 0 0/R 0 1 0 1 - -/T 3 0 0 0/R 0 2 0 1 - -/ | 4 | - => 7 | cannot write/ | #100483002a000100 | -
 fold c j m r | . | T 1 0 0 0/R 0 0 0 1 - -/T 2 0 0 0/R 0 1 0 1 - -/T 3 0 0 0/R 0 2 0 1 - -/ | 5 | - => 7 | cannot write/ | #100483002a000100100483002a000100 | -
 fold c j m r | . | T 1 0 0 0/R 0 0 0 1 - -/T 2 0 0 0/R 0 1 0 1 - -/T 3 0 0 0/R 0 2 0 1 - -/ | 6 | - => 7 | cannot write/ | #100483002a000100100483002a000100100483002a000100 | -
-fold c j m r | . | T 1 0 0 0/R 0 0 0 1 - -/T 2 0 0 0/R 0 1 0 1 - -/T 3 0 0 0/R 0 2 0 1 - -/ | 7 | 0 => 7 |  | #100483002a000100100483002a000100100483002a000100 | #
-fold c j m r | . | T 1 0 0 0/R 0 0 0 1 - -/T 2 0 0 0/R 0 1 0 1 - -/T 3 0 0 0/R 0 2 0 1 - -/ | 7 | 1 => 0 | turns 3 entries 3 messages 3 records 0/ | #100483002a000100100483002a000100100483002a000100 | #
+fold c j m r | . | T 1 0 0 0/R 0 0 0 1 - -/T 2 0 0 0/R 0 1 0 1 - -/T 3 0 0 0/R 0 2 0 1 - -/ | 7 | 0 => 7 |  | #100483002a000100100483002a000100100483002a000100 | =
+fold c j m r | . | T 1 0 0 0/R 0 0 0 1 - -/T 2 0 0 0/R 0 1 0 1 - -/T 3 0 0 0/R 0 2 0 1 - -/ | 7 | 1 => 0 | turns 3 entries 3 messages 3 records 0/ | #100483002a000100100483002a000100100483002a000100 | =
 fold c j m r | . | T 1 0 0 0/R 0 0 0 1 - -/T 2 0 0 0/R 0 1 0 1 - -/T 3 0 0 0/R 0 2 0 1 - -/ | 0 | 0 => 7 |  | - | -
 fold c j m r | . | T 1 0 0 0/R 0 0 0 1 - -/T 2 0 0 0/R 0 1 0 1 - -/T 3 0 0 0/R 0 2 0 1 - -/ | 4 | 0 => 7 |  | #100483002a000100 | -
-fold c j m r | . | T 1 0 0 0/R 0 0 0 1 - -/T 2 0 0 0/R 0 1 0 1 - -/T 3 0 0 0/R 0 2 0 1 - -/ | - | 0 => 7 |  | #100483002a000100100483002a000100100483002a000100 | #";
+fold c j m r | . | T 1 0 0 0/R 0 0 0 1 - -/T 2 0 0 0/R 0 1 0 1 - -/T 3 0 0 0/R 0 2 0 1 - -/ | - | 0 => 7 |  | #100483002a000100100483002a000100100483002a000100 | =";
 
 #[test]
 fn each_failing_call_leaves_a_first_part(rt: HostRuntime) -> Result<(), Fail> {
-    assert_eq!(rt; first_wrong(rt.alloc(), FOLDS)?, None);
+    assert_eq!(rt; first_wrong::<Runs>(rt.alloc(), FOLDS)?, None);
     Ok(())
 }
 
@@ -29,15 +29,15 @@ fn each_failing_call_leaves_a_first_part(rt: HostRuntime) -> Result<(), Fail> {
 /// is sent, the creation of `r`, and one append of the memory's text.
 const STORES: &str =
     r##"fold c j m r | {"form":1,"instance":18,"memory":1,"events":[{"id":42,"sensor":3,"store":true}]} | T 1 0 0 0/R 0 0 0 1 - -/ | 4 => 7 | cannot write/ | #100483002a000100 | -
-fold c j m r | {"form":1,"instance":18,"memory":1,"events":[{"id":42,"sensor":3,"store":true}]} | T 1 0 0 0/R 0 0 0 1 - -/ | 5 => 7 | cannot write/ | #100483002a000100 | #
-fold c j m r | {"form":1,"instance":18,"memory":1,"events":[{"id":42,"sensor":3,"store":true}]} | T 1 0 0 0/R 0 0 0 1 - -/ | 6 => 0 | turns 1 entries 1 messages 1 records 1/ | #100483002a000100 | #5320302034322033203120312031202d202d0a
+fold c j m r | {"form":1,"instance":18,"memory":1,"events":[{"id":42,"sensor":3,"store":true}]} | T 1 0 0 0/R 0 0 0 1 - -/ | 5 => 7 | cannot write/ | #100483002a000100 | =
+fold c j m r | {"form":1,"instance":18,"memory":1,"events":[{"id":42,"sensor":3,"store":true}]} | T 1 0 0 0/R 0 0 0 1 - -/ | 6 => 0 | turns 1 entries 1 messages 1 records 1/ | #100483002a000100 | =S 0 42 3 1 1 1 - -/
 fold c j m r | {"form":1,"instance":18,"memory":1,"events":[{"id":42,"sensor":3,"send":false,"store":true}]} | T 1 0 0 0/R 0 0 0 1 - -/ | 3 => 7 | cannot write/ | # | -
-fold c j m r | {"form":1,"instance":18,"memory":1,"events":[{"id":42,"sensor":3,"send":false,"store":true}]} | T 1 0 0 0/R 0 0 0 1 - -/ | 4 => 7 | cannot write/ | # | #
-fold c j m r | {"form":1,"instance":18,"memory":1,"events":[{"id":42,"sensor":3,"send":false,"store":true}]} | T 1 0 0 0/R 0 0 0 1 - -/ | 5 => 0 | turns 1 entries 1 messages 0 records 1/ | # | #5320302034322033203120312031202d202d0a"##;
+fold c j m r | {"form":1,"instance":18,"memory":1,"events":[{"id":42,"sensor":3,"send":false,"store":true}]} | T 1 0 0 0/R 0 0 0 1 - -/ | 4 => 7 | cannot write/ | # | =
+fold c j m r | {"form":1,"instance":18,"memory":1,"events":[{"id":42,"sensor":3,"send":false,"store":true}]} | T 1 0 0 0/R 0 0 0 1 - -/ | 5 => 0 | turns 1 entries 1 messages 0 records 1/ | # | =S 0 42 3 1 1 1 - -/"##;
 
 #[test]
 fn the_event_memory_is_written_last(rt: HostRuntime) -> Result<(), Fail> {
-    assert_eq!(rt; first_wrong(rt.alloc(), STORES)?, None);
+    assert_eq!(rt; first_wrong::<Runs>(rt.alloc(), STORES)?, None);
     Ok(())
 }
 
@@ -50,7 +50,7 @@ decode x | #110483002a00010002a1b2 |  => 3 | cannot read x/ | - | -";
 
 #[test]
 fn decode_tells_its_faults(rt: HostRuntime) -> Result<(), Fail> {
-    assert_eq!(rt; first_wrong(rt.alloc(), DECODES)?, None);
+    assert_eq!(rt; first_wrong::<Runs>(rt.alloc(), DECODES)?, None);
     Ok(())
 }
 
@@ -63,7 +63,7 @@ migrate c m | {} |  | - | 0 => 7 |  | - | -";
 
 #[test]
 fn migrate_tells_its_faults(rt: HostRuntime) -> Result<(), Fail> {
-    assert_eq!(rt; first_wrong(rt.alloc(), MIGRATES)?, None);
+    assert_eq!(rt; first_wrong::<Runs>(rt.alloc(), MIGRATES)?, None);
     Ok(())
 }
 
@@ -72,6 +72,6 @@ const EMPTY: &str = "decode c |  |  | - | 0 => 0 |  | - | -";
 
 #[test]
 fn decode_of_an_empty_file_puts_nothing(rt: HostRuntime) -> Result<(), Fail> {
-    assert_eq!(rt; first_wrong(rt.alloc(), EMPTY)?, None);
+    assert_eq!(rt; first_wrong::<Runs>(rt.alloc(), EMPTY)?, None);
     Ok(())
 }

@@ -6,80 +6,33 @@
 //! `.` is nothing. Wanted are the status, the text, MESSAGES in hexadecimal digits behind `#`, and MEMORY
 //! behind `=`; `-` is a file that is not there. `/` is a line feed.
 
-use crate::given::{bytes_of, push_file, shelf_over, sink_of, split_words};
-use idsm_run::run_plain;
+use crate::given::{Given, bytes_of, first_wrong, run, shelf_over};
 use std::alloc::Global;
 use std::test::Fail;
-use text_spec::push_number;
 
-/// Appends a part of a configuration.
-fn push_part(text: &mut Vec<u8>, part: &str) -> Result<(), Fail> {
-    if part != "." {
-        text.extend_from_slice(part.as_bytes())?;
-    }
-    Ok(())
-}
-
-/// The configuration of one event, with these parts at its top and in its event.
+/// The configuration of one event, with these parts at its top and in its event; `.` is none.
 fn config_with(alloc: Global, top: &str, event: &str) -> Result<Vec<u8>, Fail> {
-    let mut text = Vec::new(alloc);
-    push_part(&mut text, r#"{"form":1,"instance":18"#)?;
-    push_part(&mut text, top)?;
-    push_part(&mut text, r#","events":[{"id":42,"sensor":3"#)?;
-    push_part(&mut text, event)?;
-    push_part(&mut text, "}]}")?;
-    Ok(text)
+    let top = if top == "." { "" } else { top };
+    let event = if event == "." { "" } else { event };
+    let text = format!(in alloc;
+        "{{\"form\":1,\"instance\":18{top},\"events\":[{{\"id\":42,\"sensor\":3{event}}}]}}"
+    )?;
+    Ok(Vec::from_slice(alloc, text.as_bytes())?)
 }
 
-/// Appends a text, as a table writes it.
-fn push_text(told: &mut Vec<u8>, text: &[u8]) -> Result<(), Fail> {
-    for &byte in text {
-        told.push(if byte == b'\n' { b'/' } else { byte })?;
+/// Lines that give what a configuration has besides, and a journal, and want how it is folded.
+struct Folds;
+
+impl Given for Folds {
+    fn told(alloc: Global, given: &str) -> Result<Vec<u8>, Fail> {
+        let mut columns = given.split(" | ");
+        let top = columns.next().unwrap_or(".");
+        let event = columns.next().unwrap_or(".");
+        let config = config_with(alloc, top, event)?;
+        let journal = bytes_of(alloc, columns.next().unwrap_or(""))?;
+        let shelf = shelf_over(alloc, config, journal, Vec::new(alloc))?;
+        run(alloc, "fold c j m r", shelf, "-")
     }
-    Ok(())
-}
-
-/// Appends the text of an event memory, as a table writes it behind a bar.
-fn push_memory(told: &mut Vec<u8>, memory: Option<&[u8]>) -> Result<(), Fail> {
-    match memory {
-        None => told.extend_from_slice(b" | -")?,
-        Some(text) => {
-            told.extend_from_slice(b" | =")?;
-            push_text(told, text)?;
-        }
-    }
-    Ok(())
-}
-
-/// Folds what is given, and tells how the run ended.
-fn fold_given(alloc: Global, given: &str) -> Result<Vec<u8>, Fail> {
-    let mut columns = given.split(" | ");
-    let top = columns.next().unwrap_or(".");
-    let event = columns.next().unwrap_or(".");
-    let config = config_with(alloc, top, event)?;
-    let journal = bytes_of(alloc, columns.next().unwrap_or(""))?;
-    let mut shelf = shelf_over(alloc, config, journal, Vec::new(alloc))?;
-    let mut out = sink_of(alloc, "-")?;
-    let words = split_words(alloc, "fold c j m r")?;
-    let status = run_plain(alloc, &words, &mut shelf, &mut out);
-    let mut told = Vec::new(alloc);
-    push_number(&mut told, status as u64)?;
-    told.extend_from_slice(b" | ")?;
-    push_text(&mut told, out.taken())?;
-    push_file(&mut told, shelf.contents("m"))?;
-    push_memory(&mut told, shelf.contents("r"))?;
-    Ok(told)
-}
-
-/// The first line of the table whose run ends otherwise.
-fn first_unlike(alloc: Global, table: &'static str) -> Result<Option<&'static str>, Fail> {
-    for line in table.lines() {
-        let (given, wanted) = line.split_once(" => ").unwrap_or((line, ""));
-        if fold_given(alloc, given)?.as_slice() != wanted.as_bytes() {
-            return Ok(Some(line));
-        }
-    }
-    Ok(None)
 }
 
 /// Modes, block states and every nth. What a mode or a state drops, and what bypasses the filters, is not
@@ -100,7 +53,7 @@ const GATED: &str =
 
 #[test]
 fn modes_states_and_every_nth_decide_first(rt: HostRuntime) -> Result<(), Fail> {
-    assert_eq!(rt; first_unlike(rt.alloc(), GATED)?, None);
+    assert_eq!(rt; first_wrong::<Folds>(rt.alloc(), GATED)?, None);
     Ok(())
 }
 
@@ -125,7 +78,7 @@ const JOINED: &str =
 
 #[test]
 fn a_window_gives_one_message(rt: HostRuntime) -> Result<(), Fail> {
-    assert_eq!(rt; first_unlike(rt.alloc(), JOINED)?, None);
+    assert_eq!(rt; first_wrong::<Folds>(rt.alloc(), JOINED)?, None);
     Ok(())
 }
 
@@ -142,7 +95,7 @@ const REACHING: &str =
 
 #[test]
 fn items_pass_from_the_threshold_on(rt: HostRuntime) -> Result<(), Fail> {
-    assert_eq!(rt; first_unlike(rt.alloc(), REACHING)?, None);
+    assert_eq!(rt; first_wrong::<Folds>(rt.alloc(), REACHING)?, None);
     Ok(())
 }
 
@@ -163,7 +116,7 @@ const LIMITED: &str =
 
 #[test]
 fn limits_hold_messages_back_and_count_them(rt: HostRuntime) -> Result<(), Fail> {
-    assert_eq!(rt; first_unlike(rt.alloc(), LIMITED)?, None);
+    assert_eq!(rt; first_wrong::<Folds>(rt.alloc(), LIMITED)?, None);
     Ok(())
 }
 
@@ -182,7 +135,7 @@ const TOLD: &str =
 
 #[test]
 fn internal_events_tell_what_was_lost(rt: HostRuntime) -> Result<(), Fail> {
-    assert_eq!(rt; first_unlike(rt.alloc(), TOLD)?, None);
+    assert_eq!(rt; first_wrong::<Folds>(rt.alloc(), TOLD)?, None);
     Ok(())
 }
 
@@ -203,7 +156,7 @@ const STORED: &str =
 
 #[test]
 fn qualified_events_are_stored(rt: HostRuntime) -> Result<(), Fail> {
-    assert_eq!(rt; first_unlike(rt.alloc(), STORED)?, None);
+    assert_eq!(rt; first_wrong::<Folds>(rt.alloc(), STORED)?, None);
     Ok(())
 }
 
@@ -219,6 +172,6 @@ const MISCOUNTED: &str =
 
 #[test]
 fn a_turn_that_tells_another_number_is_the_bad_line(rt: HostRuntime) -> Result<(), Fail> {
-    assert_eq!(rt; first_unlike(rt.alloc(), MISCOUNTED)?, None);
+    assert_eq!(rt; first_wrong::<Folds>(rt.alloc(), MISCOUNTED)?, None);
     Ok(())
 }

@@ -1,40 +1,40 @@
 //! Runs that are done.
 
-use crate::given::{bytes_of, first_wrong, split_words};
+use crate::given::{Runs, bytes_of, first_wrong, split_words};
 use ids_outside::{MemorySink, SteadyShelf};
 use idsm_run::run_plain;
 use std::test::Fail;
 
 /// Journals and their messages. The configuration of the second line writes out each member that has a default.
 const FOLDED: &str =
-    r##"fold c j m r | . | T 5 0 0 0/R 0 0 0 1 - 0:0:a1b2/ => 0 | turns 1 entries 1 messages 1 records 0/ | #110483002a00010002a1b2 | #
-fold c j m r | {"form":1,"instance":18,"callers":32,"ring":1024,"memory":0,"state":7,"classes":[{"size":8,"number":2}],"rate":null,"traffic":null,"internal":{"limited":null},"events":[{"id":42,"sensor":3,"mode":"DETAILED","send":true,"store":false,"block":[],"nth":1,"aggregate":null,"threshold":null}]} | T 5 0 0 0/R 0 0 0 1 - 0:0:a1b2/ => 0 | turns 1 entries 1 messages 1 records 0/ | #110483002a00010002a1b2 | #
-fold c j m r | . |  => 0 | turns 0 entries 0 messages 0 records 0/ | # | #
-fold c j m r | . | T 5 1 1 0/R 0 0 0 1 8000000100000a00 -/R 0 1 0 2 - !1.1/T 5 0 0 0/L 0 2 0/ => 0 | turns 2 entries 2 messages 2 records 0/ | #120483002a0001008000000100000a00100483002a000200 | #
-fold c j m r | . | T 4611686018427387904 35184372088832 0 0/ => 0 | turns 1 entries 0 messages 0 records 0/ | # | #
-fold c j m r | . | T 5 0 0 0/T 5 0 0 0/ => 0 | turns 2 entries 0 messages 0 records 0/ | # | #
-fold c j m r | . | T 5 0 0 0/R 31 1099511627775 0 65535 - 3:70368744177664:ff/ => 0 | turns 1 entries 1 messages 1 records 0/ | #110483002affff0001ff | #
-fold c j m r | . | T 5 0 0 0/R 0 1 0 1 - -/R 1 0 0 1 - -/R 0 2 0 1 - -/ => 0 | turns 1 entries 3 messages 3 records 0/ | #100483002a000100100483002a000100100483002a000100 | #"##;
+    r##"fold c j m r | . | T 5 0 0 0/R 0 0 0 1 - 0:0:a1b2/ => 0 | turns 1 entries 1 messages 1 records 0/ | #110483002a00010002a1b2 | =
+fold c j m r | {"form":1,"instance":18,"callers":32,"ring":1024,"memory":0,"state":7,"classes":[{"size":8,"number":2}],"rate":null,"traffic":null,"internal":{"limited":null},"events":[{"id":42,"sensor":3,"mode":"DETAILED","send":true,"store":false,"block":[],"nth":1,"aggregate":null,"threshold":null}]} | T 5 0 0 0/R 0 0 0 1 - 0:0:a1b2/ => 0 | turns 1 entries 1 messages 1 records 0/ | #110483002a00010002a1b2 | =
+fold c j m r | . |  => 0 | turns 0 entries 0 messages 0 records 0/ | # | =
+fold c j m r | . | T 5 1 1 0/R 0 0 0 1 8000000100000a00 -/R 0 1 0 2 - !1.1/T 5 0 0 0/L 0 2 0/ => 0 | turns 2 entries 2 messages 2 records 0/ | #120483002a0001008000000100000a00100483002a000200 | =
+fold c j m r | . | T 4611686018427387904 35184372088832 0 0/ => 0 | turns 1 entries 0 messages 0 records 0/ | # | =
+fold c j m r | . | T 5 0 0 0/T 5 0 0 0/ => 0 | turns 2 entries 0 messages 0 records 0/ | # | =
+fold c j m r | . | T 5 0 0 0/R 31 1099511627775 0 65535 - 3:70368744177664:ff/ => 0 | turns 1 entries 1 messages 1 records 0/ | #110483002affff0001ff | =
+fold c j m r | . | T 5 0 0 0/R 0 1 0 1 - -/R 1 0 0 1 - -/R 0 2 0 1 - -/ => 0 | turns 1 entries 3 messages 3 records 0/ | #100483002a000100100483002a000100100483002a000100 | ="##;
 
 #[test]
 fn folds_journals_into_their_messages(rt: HostRuntime) -> Result<(), Fail> {
-    assert_eq!(rt; first_wrong(rt.alloc(), FOLDED)?, None);
+    assert_eq!(rt; first_wrong::<Runs>(rt.alloc(), FOLDED)?, None);
     Ok(())
 }
 
 /// The first journal above under both profiles: byte 7 is the version of the context data where the profile
 /// is 2 and the message has a context.
 const PROFILES: &str =
-    r##"fold c j m r | {"form":2,"instance":18,"events":[{"id":42,"sensor":3,"version":7}]} | T 5 0 0 0/R 0 0 0 1 - 0:0:a1b2/ => 0 | turns 1 entries 1 messages 1 records 0/ | #210483002a00010702a1b2 | #
-fold c j m r | {"form":2,"profile":2,"instance":18,"events":[{"id":42,"sensor":3,"version":255}]} | T 5 0 0 0/R 0 0 0 1 - 0:0:a1b2/ => 0 | turns 1 entries 1 messages 1 records 0/ | #210483002a0001ff02a1b2 | #
-fold c j m r | {"form":2,"instance":18,"events":[{"id":42,"sensor":3}]} | T 5 0 0 0/R 0 0 0 1 - 0:0:a1b2/ => 0 | turns 1 entries 1 messages 1 records 0/ | #210483002a00010002a1b2 | #
-fold c j m r | {"form":2,"instance":18,"events":[{"id":42,"sensor":3,"version":7}]} | T 5 0 1 0/R 0 0 0 1 - -/R 0 1 0 1 8000000100000a00 !0/ => 0 | turns 1 entries 2 messages 2 records 0/ | #200483002a000100220483002a0001008000000100000a00 | #
-fold c j m r | {"form":2,"profile":1,"instance":18,"events":[{"id":42,"sensor":3,"version":0}]} | T 5 0 0 0/R 0 0 0 1 - 0:0:a1b2/ => 0 | turns 1 entries 1 messages 1 records 0/ | #110483002a00010002a1b2 | #
-fold c j m r | {"form":2,"instance":18,"events":[{"id":42,"sensor":3,"version":7},{"id":43,"sensor":4,"version":1}]} | T 5 0 0 0/R 0 0 1 1 - 0:0:a1/R 0 1 0 1 - 0:1:b2/ => 0 | turns 1 entries 2 messages 2 records 0/ | #210484002b00010101a1210483002a00010701b2 | #"##;
+    r##"fold c j m r | {"form":2,"instance":18,"events":[{"id":42,"sensor":3,"version":7}]} | T 5 0 0 0/R 0 0 0 1 - 0:0:a1b2/ => 0 | turns 1 entries 1 messages 1 records 0/ | #210483002a00010702a1b2 | =
+fold c j m r | {"form":2,"profile":2,"instance":18,"events":[{"id":42,"sensor":3,"version":255}]} | T 5 0 0 0/R 0 0 0 1 - 0:0:a1b2/ => 0 | turns 1 entries 1 messages 1 records 0/ | #210483002a0001ff02a1b2 | =
+fold c j m r | {"form":2,"instance":18,"events":[{"id":42,"sensor":3}]} | T 5 0 0 0/R 0 0 0 1 - 0:0:a1b2/ => 0 | turns 1 entries 1 messages 1 records 0/ | #210483002a00010002a1b2 | =
+fold c j m r | {"form":2,"instance":18,"events":[{"id":42,"sensor":3,"version":7}]} | T 5 0 1 0/R 0 0 0 1 - -/R 0 1 0 1 8000000100000a00 !0/ => 0 | turns 1 entries 2 messages 2 records 0/ | #200483002a000100220483002a0001008000000100000a00 | =
+fold c j m r | {"form":2,"profile":1,"instance":18,"events":[{"id":42,"sensor":3,"version":0}]} | T 5 0 0 0/R 0 0 0 1 - 0:0:a1b2/ => 0 | turns 1 entries 1 messages 1 records 0/ | #110483002a00010002a1b2 | =
+fold c j m r | {"form":2,"instance":18,"events":[{"id":42,"sensor":3,"version":7},{"id":43,"sensor":4,"version":1}]} | T 5 0 0 0/R 0 0 1 1 - 0:0:a1/R 0 1 0 1 - 0:1:b2/ => 0 | turns 1 entries 2 messages 2 records 0/ | #210484002b00010101a1210483002a00010701b2 | ="##;
 
 #[test]
 fn sends_by_the_configured_profile(rt: HostRuntime) -> Result<(), Fail> {
-    assert_eq!(rt; first_wrong(rt.alloc(), PROFILES)?, None);
+    assert_eq!(rt; first_wrong::<Runs>(rt.alloc(), PROFILES)?, None);
     Ok(())
 }
 
@@ -51,7 +51,7 @@ decode c | #100483002a000100100483002a000100100483002a000100 |  => 0 | M 18 3 42
 
 #[test]
 fn decodes_messages(rt: HostRuntime) -> Result<(), Fail> {
-    assert_eq!(rt; first_wrong(rt.alloc(), DECODED)?, None);
+    assert_eq!(rt; first_wrong::<Runs>(rt.alloc(), DECODED)?, None);
     Ok(())
 }
 

@@ -3,8 +3,8 @@
 //! A table has a line for each run, as `GIVEN => WANTED`. Given are the words, the file `c`, the file
 //! `j`, the calls of the shelf that fail and the puts that fail, between bars; where the last two are
 //! left out none fails. Wanted are the status, the text, and the files `m` and `r` that are left; `-` is
-//! one that is not there. In each `/` is a line feed, pairs of hexadecimal digits stand behind a `#`, and
-//! `.` is the configuration of one event.
+//! one that is not there. In each `/` is a line feed, and `.` is the configuration of one event. Pairs of
+//! hexadecimal digits stand behind a `#`, and what is left of `r` behind a `=`.
 
 use ids_outside::{MemoryShelf, MemorySink};
 use idsm_run::run_plain;
@@ -80,12 +80,25 @@ pub(crate) fn sink_of(alloc: Global, fails: &str) -> Result<MemorySink, Fail> {
     Ok(MemorySink::make(alloc, numbers(alloc, fails)?)?)
 }
 
-/// Appends a file, as a table writes it behind a bar.
-pub(crate) fn push_file(told: &mut Vec<u8>, file: Option<&[u8]>) -> Result<(), Fail> {
-    match file {
-        None => told.extend_from_slice(b" | -")?,
+/// Appends a text, as a table writes it.
+fn push_text(told: &mut Vec<u8>, text: &[u8]) -> Result<(), Fail> {
+    for &byte in text {
+        told.push(if byte == b'\n' { b'/' } else { byte })?;
+    }
+    Ok(())
+}
+
+/// Appends the file `m` or `r` of the shelf, as a table writes it behind a bar.
+fn push_file(told: &mut Vec<u8>, shelf: &MemoryShelf, name: &str) -> Result<(), Fail> {
+    told.extend_from_slice(b" | ")?;
+    match shelf.contents(name) {
+        None => told.push(b'-')?,
+        Some(text) if name == "r" => {
+            told.push(b'=')?;
+            push_text(told, text)?;
+        }
         Some(bytes) => {
-            told.extend_from_slice(b" | #")?;
+            told.push(b'#')?;
             push_hex(told, bytes)?;
         }
     }
@@ -102,11 +115,9 @@ pub(crate) fn told(
     let mut told = Vec::new(alloc);
     push_number(&mut told, status as u64)?;
     told.extend_from_slice(b" | ")?;
-    for &byte in out.taken() {
-        told.push(if byte == b'\n' { b'/' } else { byte })?;
-    }
-    push_file(&mut told, shelf.contents("m"))?;
-    push_file(&mut told, shelf.contents("r"))?;
+    push_text(&mut told, out.taken())?;
+    push_file(&mut told, shelf, "m")?;
+    push_file(&mut told, shelf, "r")?;
     Ok(told)
 }
 
@@ -123,26 +134,36 @@ pub(crate) fn run(
     told(alloc, status, &shelf, &out)
 }
 
-/// Runs what is given.
-pub(crate) fn run_given(alloc: Global, given: &str) -> Result<Vec<u8>, Fail> {
-    let mut columns = given.split(" | ");
-    let words = columns.next().unwrap_or("");
-    let config = columns.next().unwrap_or("");
-    let journal = columns.next().unwrap_or("");
-    let shelf_fails = columns.next().unwrap_or("-");
-    let put_fails = columns.next().unwrap_or("-");
-    let shelf = shelf_of(alloc, config, journal, shelf_fails)?;
-    run(alloc, words, shelf, put_fails)
+/// What the lines of a table give, and want of it.
+pub(crate) trait Given {
+    /// What comes of what a line gives.
+    fn told(alloc: Global, given: &str) -> Result<Vec<u8>, Fail>;
 }
 
-/// The first line of the table whose run ends otherwise.
-pub(crate) fn first_wrong(
+/// Lines that give the words and the files of a run, and want how it ends.
+pub(crate) struct Runs;
+
+impl Given for Runs {
+    fn told(alloc: Global, given: &str) -> Result<Vec<u8>, Fail> {
+        let mut columns = given.split(" | ");
+        let words = columns.next().unwrap_or("");
+        let config = columns.next().unwrap_or("");
+        let journal = columns.next().unwrap_or("");
+        let shelf_fails = columns.next().unwrap_or("-");
+        let put_fails = columns.next().unwrap_or("-");
+        let shelf = shelf_of(alloc, config, journal, shelf_fails)?;
+        run(alloc, words, shelf, put_fails)
+    }
+}
+
+/// The first line of the table of which something else comes than it wants.
+pub(crate) fn first_wrong<G: Given>(
     alloc: Global,
     table: &'static str,
 ) -> Result<Option<&'static str>, Fail> {
     for line in table.lines() {
         let (given, wanted) = line.split_once(" => ").unwrap_or((line, ""));
-        if run_given(alloc, given)?.as_slice() != wanted.as_bytes() {
+        if G::told(alloc, given)?.as_slice() != wanted.as_bytes() {
             return Ok(Some(line));
         }
     }

@@ -1,6 +1,6 @@
 //! Runs that end with a status of their own although no call fails, and write nothing.
 
-use crate::given::{bytes_of, first_wrong, run, shelf_of, shelf_over};
+use crate::given::{Runs, bytes_of, first_wrong, run, shelf_of, shelf_over};
 use std::alloc::Global;
 use std::test::Fail;
 
@@ -58,7 +58,7 @@ decode c | {"form":1} |  => 10 | bad message at 0: version/ | - | -"##;
 
 #[test]
 fn refuses_inputs_in_their_order(rt: HostRuntime) -> Result<(), Fail> {
-    assert_eq!(rt; first_wrong(rt.alloc(), IN_ORDER)?, None);
+    assert_eq!(rt; first_wrong::<Runs>(rt.alloc(), IN_ORDER)?, None);
     Ok(())
 }
 
@@ -72,7 +72,7 @@ fold c j m r | {"form":1,"instance":18,"classes":[{"size":0,"number":1}],"events
 
 #[test]
 fn tells_the_first_fault_of_a_configuration(rt: HostRuntime) -> Result<(), Fail> {
-    assert_eq!(rt; first_wrong(rt.alloc(), BAD_CONFIGS)?, None);
+    assert_eq!(rt; first_wrong::<Runs>(rt.alloc(), BAD_CONFIGS)?, None);
     Ok(())
 }
 
@@ -110,7 +110,7 @@ fold c j m r | {"form":1,"instance":18,"rate":{"interval":1000,"events":2},"inte
 
 #[test]
 fn tells_the_first_bad_line_of_a_journal(rt: HostRuntime) -> Result<(), Fail> {
-    assert_eq!(rt; first_wrong(rt.alloc(), BAD_JOURNALS)?, None);
+    assert_eq!(rt; first_wrong::<Runs>(rt.alloc(), BAD_JOURNALS)?, None);
     Ok(())
 }
 
@@ -125,7 +125,7 @@ decode c | #110483002a00010002a1b229 |  => 10 | bad message at 11: part/ | - | -
 
 #[test]
 fn tells_the_first_bad_message(rt: HostRuntime) -> Result<(), Fail> {
-    assert_eq!(rt; first_wrong(rt.alloc(), BAD_MESSAGES)?, None);
+    assert_eq!(rt; first_wrong::<Runs>(rt.alloc(), BAD_MESSAGES)?, None);
     Ok(())
 }
 

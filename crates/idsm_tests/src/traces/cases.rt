@@ -1,6 +1,7 @@
-//! Traces, and the first bad line of each, worked out by hand from docs/FORMATS.md: a line for each, with the
-//! answer, `ok` or the fault and its line, then the configuration, then the text. In a text `$` stands for a line
-//! feed, and between two `~` stands `N*F*PIECE` for PIECE N times, its `@` replaced by F and the numbers after it.
+//! Traces, and the first bad line of each, worked out by hand from docs/FORMATS.md: the answer, `ok` or the fault and
+//! its line, then the configuration, then the text. In a text `$` stands for a line feed, and between two `~` stands
+//! `N*F*PIECE` for PIECE N times, its `@` replaced by F and the numbers after it. A line with a group, `(A|B)`, has a
+//! text for each of its words.
 
 /// Traces without a fault, the lines of each round by caller.
 pub(super) const LEGAL: &str = r#"ok | plain | 
@@ -10,18 +11,12 @@ ok | plain | N 1 2 3$E 3$
 ok | plain | N 5 5$E 5$N 5$E 5$
 ok | plain | N 4611686018427387904$E 4611686018427387904$
 ok | plain | N$E 4611686018427387904$N 4611686018427387904$E 4611686018427387904$
-ok | plain | N$R 0 0 1 - -$E 5$
-ok | plain | N$R 0 0 65535 - -$E 5$
-ok | plain | N$R 7 0 1 - -$E 5$
+ok | plain | N$R (0|7) 0 1 - -$E 5$
+ok | plain | N$R 0 0 (65535 - -|1 0123456789abcdef -|1 0000000000000000 00|1 ffffffffffffffff ff|1 - a1a2a3a4)$E 5$
 ok | small | N$R 0 0 1 - -$R 0 0 1 - -$R 0 0 1 - -$E 5$
 ok | crowd | N$R 31 0 1 - -$E 5$
 ok | crowd | N$~32*0*S @ 0$~E 1$
-ok | plain | N$R 0 0 1 0123456789abcdef -$E 5$
-ok | plain | N$R 0 0 1 0000000000000000 00$E 5$
-ok | plain | N$R 0 0 1 ffffffffffffffff ff$E 5$
-ok | plain | N$R 0 0 1 - a1a2a3a4$E 5$
-ok | plain | N$~R 0 0 1 - ~1024*0*a5~$E 5$
-ok | plain | N$~R 0 0 1 - ~1025*0*a5~$E 5$
+ok | plain | N$~R 0 0 1 - (~1024*0*a5~|~1025*0*a5~)$E 5$
 ok | plain | N$~R 0 0 1 - ~5000*0*a5~$R 0 0 1 - 00$E 5$
 ok | plain | N$S 0 0$S 0 255$E 1$
 ok | plain | N$M 0 0 OFF$M 0 0 BRIEF$M 0 0 DETAILED$M 0 0 BRIEF_BYPASSING_FILTERS$M 0 0 DETAILED_BYPASSING_FILTERS$E 1$
@@ -67,8 +62,7 @@ pub(super) const NO_FORM: &str = r#"1 at 1 | plain | $
 1 at 1 | plain | R 0 0 1 -$
 1 at 2 | plain | N$E 5
 1 at 2 | plain | N$R 0 0 1 - -
-1 at 3 | plain | N$E 5$N
-1 at 3 | plain | N$E 5$x
+1 at 3 | plain | N$E 5$(N|x)
 1 at 2 | plain | N$E$
 1 at 2 | plain | N$E 5 6$
 1 at 2 | plain | N$E x$
@@ -77,41 +71,18 @@ pub(super) const NO_FORM: &str = r#"1 at 1 | plain | $
 1 at 2 | plain | N$E -$
 1 at 2 | plain | N$e 5$
 1 at 2 | plain | N$R$
-1 at 2 | plain | N$R 0 0 1 -$
-1 at 2 | plain | N$R 0 0 1 - - -$
-1 at 2 | plain | N$R 0 0 1 -  -$
-1 at 2 | plain | N$R 0 0 0 1 - -$
-1 at 2 | plain | N$R 00 0 1 - -$
+1 at 2 | plain | N$R 0 0 (1 -|1 - - -|1 -  -|0 1 - -|-1 - -)$
+1 at 2 | plain | N$R (00|x) 0 1 - -$
 1 at 2 | plain | N$R 0 01 1 - -$
-1 at 2 | plain | N$R 0 0 -1 - -$
-1 at 2 | plain | N$R x 0 1 - -$
-1 at 2 | plain | N$R 0 0 1 - a$
-1 at 2 | plain | N$R 0 0 1 - a1b$
-1 at 2 | plain | N$R 0 0 1 - A1$
-1 at 2 | plain | N$R 0 0 1 - aG$
-1 at 2 | plain | N$R 0 0 1 - 0x$
-1 at 2 | plain | N$R 0 0 1 - --$
-1 at 2 | plain | N$R 0 0 1 - 0:0:a1$
-1 at 2 | plain | N$R 0 0 1 - !1$
-1 at 2 | plain | N$R 0 0 1 - !$
-1 at 2 | plain | N$R 0 0 1 0 -$
-1 at 2 | plain | N$R 0 0 1 -- -$
-1 at 2 | plain | N$R 0 0 1 0123456789abcde -$
-1 at 2 | plain | N$R 0 0 1 0123456789abcdef0 -$
-1 at 2 | plain | N$R 0 0 1 0123456789ABCDEF -$
-1 at 2 | plain | N$R 0 0 1 0123456789abcdeg -$
+1 at 2 | plain | N$R 0 0 1 - (a|a1b|A1|aG|0x|--|0:0:a1|!1|!)$
+1 at 2 | plain | N$R 0 0 1 (0|--|0123456789abcde|0123456789abcdef0|0123456789ABCDEF|0123456789abcdeg) -$
 1 at 2 | plain | N$S 0$
 1 at 2 | plain | N$S 0 1 2$
-1 at 2 | plain | N$S 0 OFF$
-1 at 2 | plain | N$S 0 0 S 1$
-1 at 2 | plain | N$M 0 0$
-1 at 2 | plain | N$M 0 OFF$
-1 at 2 | plain | N$M 0 0 off$
-1 at 2 | plain | N$M 0 0 ON$
-1 at 2 | plain | N$M 0 0 OFF OFF$
-1 at 2 | plain | N$M 0 0 OF$
+1 at 2 | plain | N$(S|M) 0 OFF$
+1 at 2 | plain | N$(S|C) 0 0 S 1$
+1 at 2 | plain | N$M 0 (0|0 OFF OFF)$
+1 at 2 | plain | N$M 0 0 (off|ON|OF)$
 1 at 2 | plain | N$T 5 0 0 0$
-1 at 2 | plain | N$C 0 0 S 1$
 1 at 2 | plain | N$L 0 0 0$
 1 at 2 | plain | N$# a remark$
 1 at 2 | plain | N$$E 1$
@@ -129,7 +100,7 @@ pub(super) const BYTES: [(&str, &[u8]); 6] = [
 ];
 
 /// Fault 2: lines outside a round, rounds within one another, and rounds that have no end.
-pub(super) const OUT_OF_PLACE: &str = r#"2 at 1 | plain | R 0 0 1 - -$
+pub(super) const OUT_OF_PLACE: &str = r#"2 at 1 | plain | R (0|8) 0 1 - -$
 2 at 1 | plain | S 0 1$
 2 at 1 | plain | M 0 0 OFF$
 2 at 1 | plain | E 5$
@@ -137,37 +108,27 @@ pub(super) const OUT_OF_PLACE: &str = r#"2 at 1 | plain | R 0 0 1 - -$
 2 at 2 | plain | N$
 2 at 2 | plain | N 1 2$
 2 at 4 | plain | N 1$R 0 0 1 - -$S 0 1$
-2 at 3 | plain | N$E 5$E 5$
-2 at 3 | plain | N$E 5$R 0 0 1 - -$
-2 at 3 | plain | N$E 5$S 0 1$
+2 at 3 | plain | N$E 5$E (5|4)$
+2 at 3 | plain | N$E 5$(R 0 0 1 - -|S 0 1)$
 2 at 3 | plain | N$R 0 0 1 - -$N$E 1$
 2 at 4 | plain | N$E 5$N$
-2 at 1 | plain | R 8 0 1 - -$
 2 at 1 | plain | R 0 9 1 - -$
 2 at 1 | plain | S 0 256$
 2 at 1 | plain | E 4611686018427387905$
 2 at 2 | plain | N 5$N 4$
 2 at 2 | plain | N$N 4611686018427387905$
-2 at 3 | plain | N$E 5$E 4$
 2 at 102 | plain | N~$~100*0*S 0 @$
 "#;
 
 /// Fault 3: numbers out of their ranges.
-pub(super) const OUT_OF_RANGE: &str = r#"3 at 2 | plain | N$R 8 0 1 - -$
+pub(super) const OUT_OF_RANGE: &str = r#"3 at 2 | plain | N$R (8|256|18446744073709551616) 0 1 - -$
 3 at 2 | small | N$R 1 0 1 - -$
 3 at 2 | crowd | N$R 32 0 1 - -$
-3 at 2 | plain | N$R 256 0 1 - -$
-3 at 2 | plain | N$R 18446744073709551616 0 1 - -$
-3 at 2 | plain | N$R 0 0 0 - -$
-3 at 2 | plain | N$R 0 0 65536 - -$
-3 at 2 | plain | N$R 0 0 65537 - -$
-3 at 2 | plain | N$R 0 0 99999999999999999999999 - -$
+3 at 2 | plain | N$R 0 0 (0|65536|65537|99999999999999999999999) - -$
 3 at 2 | plain | N$S 8 0$
 3 at 2 | small | N$S 1 0$
-3 at 2 | plain | N$S 0 256$
-3 at 2 | plain | N$S 0 18446744073709551615$
-3 at 2 | plain | N$S 0 18446744073709551616$
-3 at 2 | plain | N$M 8 0 OFF$
+3 at 2 | plain | N$S 0 (256|18446744073709551615|18446744073709551616)$
+3 at 2 | plain | N$M 8 (0|9) OFF$
 3 at 2 | small | N$M 1 0 OFF$
 3 at 1 | plain | N 4611686018427387905$
 3 at 1 | plain | N 0 18446744073709551617$
@@ -177,28 +138,21 @@ pub(super) const OUT_OF_RANGE: &str = r#"3 at 2 | plain | N$R 8 0 1 - -$
 3 at 2 | plain | N$E 99999999999999999999$
 3 at 2 | plain | N$R 0 9 0 - -$
 3 at 2 | plain | N$R 8 9 1 - -$
-3 at 2 | plain | N$M 8 9 OFF$
 3 at 3 | plain | N$R 7 0 1 - -$R 8 0 1 - -$R 9 0 1 - -$
 "#;
 
 /// Fault 4: events that are not there, or that no sensor reports.
 pub(super) const BAD_EVENT: &str = r#"4 at 2 | plain | N$R 0 9 1 - -$E 5$
-4 at 2 | plain | N$R 0 1 1 - -$
-4 at 2 | plain | N$R 0 65536 1 - -$
-4 at 2 | plain | N$R 0 18446744073709551616 1 - -$
+4 at 2 | plain | N$R 0 (1|65536|18446744073709551616) 1 - -$
 4 at 2 | last | N$R 0 1 1 - -$
 4 at 2 | first | N$R 0 0 1 - -$
 4 at 2 | limited | N$R 0 1 1 - -$
-4 at 2 | three | N$R 0 1 1 - -$
-4 at 2 | three | N$R 0 2 1 - -$
-4 at 2 | three | N$R 0 3 1 - -$
+4 at 2 | three | N$R 0 (1|2|3) 1 - -$
 4 at 2 | turned | N$R 0 0 1 - -$
-4 at 2 | plain | N$M 0 1 OFF$
+4 at 2 | plain | N$M 0 (1|65536|99999999999999999999) OFF$
 4 at 2 | last | N$M 0 2 OFF$
 4 at 2 | many | N$M 0 256 OFF$
 4 at 2 | many | N$R 0 256 1 - -$
-4 at 2 | plain | N$M 0 65536 OFF$
-4 at 2 | plain | N$M 0 99999999999999999999 OFF$
 4 at 3 | plain | N$R 0 0 1 - -$R 0 9 1 - -$R 0 0 0 - -$E 1$
 "#;
 

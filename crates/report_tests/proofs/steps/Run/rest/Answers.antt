@@ -1,4 +1,5 @@
 use Rattle.std.proofs.Common.{rules}
+use Rattle.std.proofs.lemmas.List.{map-id}
 use Rattle.report_tests.proofs.PassesLemmas.{all_left}
 use Rattle.report_tests.proofs.steps.Run.rest.Goals as goal
 
@@ -7,6 +8,6 @@ rest-requires g c = record {
   passes = record {
     shared = c.args.self.now.made.shared;
     is_manager = c.requires.manager_is;
-    passes_are = rw c.deref.ensures.value (all_left c.requires.passes_are 0 (search rules));
+    passes_are = rw (c.deref.ensures.value, map-id c.args.self.now.made.passes.items) (all_left c.requires.passes_are 0 (search rules));
   };
 }
