@@ -1,0 +1,4 @@
+pub mod JournalLemmas
+pub mod LineLemmas
+pub mod PastLemmas
+pub mod StandsLemmas
