@@ -1,0 +1,153 @@
+-- The end of a replay: from where its callers and its manager stand to what it gives.
+use Rattle.std.proofs.Common.{◌≡◌, ℕ, suc, ◌+◌, ◌≤◌, ◌<◌, ◌⊎◌, ⊎_elim, List, [], ◌∷◌, ◌++◌, length, map, take, refl, sym, ap, subst, ◌∙◌, arith}
+use Rattle.std.specs.List.{AllByRecursion}
+use Rattle.std.proofs.lemmas.List.{length-map, map-append, take_all}
+use Rattle.std.proofs.lemmas.List.Concat.{flat_map-cons}
+use mathlib.Core.Option.{some}
+use lib.ListN.{get_elem?}
+use Rattle.ids_types.specs.Turns.{Turn}
+use Rattle.ids_config.specs.Parts.{Parts}
+use Rattle.ids_config.specs.Valid.{IsValid}
+use Rattle.merge_spec.specs.Decided.{all_losses, losses_from}
+use Rattle.merge_spec.specs.Merge.{IsMerge}
+use Rattle.merge_spec.specs.Rounds.{last_tick, lines_of, ticks_of}
+use Rattle.merge_texts.specs.Small.{AreSmall}
+use Rattle.merge_texts.proofs.JournalLemmas.{merge_fits}
+use Rattle.text_spec.specs.TraceReading.{AreRounds, IsAllowedRound}
+use Rattle.buffer_classes.specs.Buffers.{Buffer}
+use Rattle.report_queue.specs.Parts.{queue_positions}
+use Rattle.report_api.specs.Desks.{desk_view}
+use Rattle.report_api.specs.Names.{PassView}
+use Rattle.report_api.specs.Passes.{pass_view}
+use Rattle.report_api.specs.declared.shared.Shared.{Shared}
+use Rattle.desk_closing.specs.Calls.{HaveAllCalls, fates_in, losses_in}
+use Rattle.desk_closing.specs.Closed.{IsMadeFor, plain_item}
+use Rattle.trace_text.specs.TraceView.{Traced}
+use Rattle.trace_replay.specs.Played.{HavePlayed, TellLosses, sizes_in}
+use Rattle.trace_replay.specs.Recording.{Closes, IsRecordOf, IsSmallTurn, tick_of, turns_in}
+use Rattle.trace_replay.specs.Replayed.{IsReplay, given}
+use Rattle.trace_replay.specs.Rounds.{IsBetween, rests_from}
+use Rattle.trace_replay.specs.Standing.{AreFew, HasListed, losses_by, passes_of, told}
+use Rattle.trace_replay.specs.declared.caller.Caller.{Caller}
+use Rattle.trace_replay.specs.declared.recorder.Recorder.{Recorder}
+use Rattle.trace_replay.proofs.MergeLemmas.{merged, no_lines}
+use Rattle.trace_replay.proofs.RecordingLemmas.{all_push}
+use Rattle.trace_replay.proofs.RoundLemmas.{at_rest, mapped_at}
+
+-- what the passes of callers show
+abbrev pub views_of : List Caller → List PassView
+views_of callers = map pass_view (passes_of callers)
+
+-- the losses of callers that list what they lost, one caller after another
+all_listed : (n from : ℕ) (callers : List Caller)
+    → ((i j : ℕ) (caller : Caller) → j ≡ from + i → get_elem? callers i ≡ some caller
+    → caller.losses.items ≡ losses_from n j 0 (fates_in (pass_view caller.pass)))
+    → losses_by callers ≡ all_losses n from (map fates_in (views_of callers))
+all_listed n from [] each = refl
+all_listed n from (caller ∷ callers) each =
+    flat_map-cons (λ (c : Caller). c.losses.items) caller callers
+    ∙ ap (λ losses. losses ++ losses_by callers) (each 0 from caller (omega arith) refl)
+    ∙ ap (λ losses. losses_from n from 0 (fates_in (pass_view caller.pass)) ++ losses)
+    (all_listed n (suc from) callers (λ i j c is. each (suc i) j c (omega (arith, is))))
+
+all_map : {A : Type 0} (P Q : A → Type 0) → ((x : A) → P x → Q x) → (xs : List A) → AllByRecursion P xs → AllByRecursion Q xs
+all_map P Q f [] all = tt
+all_map P Q f (x ∷ xs) all = (f x all.0, all_map P Q f xs all.1)
+
+module _ {C : Type 0} (stands : C → Parts → List Turn → Type 0) (events : C → ℕ) (kept : C → List Buffer) (config : Parts)
+    (shared : Shared) (trace : Traced) (callers : List Caller) (r1 r2 : Recorder C) (tick : ℕ)
+    (valid : IsValid config) (of_config : trace.callers ≡ config.callers) (rounds : AreRounds config trace.rounds)
+    (few : AreFew trace.callers trace.rounds) (made_for : IsMadeFor config shared)
+    (between : IsBetween events kept shared trace (length trace.rounds) callers r1) (was : IsRecordOf stands config r1)
+    (closes : Closes stands events kept shared tick (views_of callers) r1 r2) (tick_is : tick ≡ last_tick trace.rounds) where
+  abbrev views : List PassView
+  views = views_of callers
+
+  whole : take (length trace.rounds) trace.rounds ≡ trace.rounds
+  whole = take_all (length trace.rounds) trace.rounds (omega arith)
+
+  each_caller : AllByRecursion (λ round. length round.lines ≡ config.callers) trace.rounds
+  each_caller = all_map (IsAllowedRound config) _ (λ round allowed. allowed.callers) trace.rounds rounds.allowed
+
+  listed : (i : ℕ) (caller : Caller) → get_elem? callers i ≡ some caller
+      → HasListed (sizes_in config) config.ring i (lines_of i trace.rounds) (told caller)
+  listed i caller at =
+      let its = told caller in
+      let is = (at_rest shared trace.rounds (length trace.rounds) callers between.at_rest i caller at).listed in
+      let lines = lines_of i (take (length trace.rounds) trace.rounds) in
+      subst (λ rounds. HasListed (sizes_in config) config.ring i (lines_of i rounds) its) whole
+      (subst (λ n. HasListed (sizes_in config) n i lines its) made_for.positions_are
+      (subst (λ sizes. HasListed sizes (queue_positions shared.queue) i lines its) made_for.sizes is))
+
+  played : HavePlayed config trace.rounds views
+  played = record {
+    all = length-map (passes_of callers) pass_view ∙ length-map callers (λ (c : Caller). c.pass) ∙ between.as_many ∙ of_config;
+    each = λ i view at.
+        let pass = mapped_at pass_view (passes_of callers) i view at in
+        let caller = mapped_at (λ (c : Caller). c.pass) callers i pass.0 pass.1 in
+        rw (sym pass.2, sym caller.2) (listed i caller.0 caller.1).played;
+  }
+
+  recorded : IsRecordOf stands config r2
+  recorded = closes.advances.records config was
+
+  calls_are : HaveAllCalls config views (turns_in r2)
+  calls_are = closes.all_calls config made_for was
+
+  tell : TellLosses views (turns_in r2)
+  tell =
+      let sums = closes.sums config was in
+      record {
+        lost_events = sym sums.lost_events_are ∙ closes.counts.lost_events_are;
+        lost_contexts = sym sums.lost_contexts_are ∙ closes.counts.lost_contexts_are;
+      }
+
+  ticks_are : map tick_of (turns_in r2) ≡ ticks_of trace.rounds
+  ticks_are = rw closes.advances.turns_are (map-append tick_of (turns_in r1) closes.advances.turns
+      ∙ rw (between.ticks_are, closes.advances.ticks_are, tick_is, whole) refl)
+
+  small : AllByRecursion (IsSmallTurn config.ring) (turns_in r2)
+  small = rw closes.advances.turns_are (rw (sym made_for.positions_are) (all_push _ (turns_in r1) closes.advances.turns between.small closes.advances.small))
+
+  merge : IsMerge config trace.rounds (turns_in r2) (losses_in config.ring views)
+  merge = merged config trace.rounds (turns_in r2) views valid each_caller played calls_are tell ticks_are
+      (all_map (IsSmallTurn config.ring) _ (λ turn is. is.few) (turns_in r2) small)
+
+  losses_are : losses_by callers ≡ losses_in config.ring views
+  losses_are = all_listed config.ring 0 callers (λ i j caller is at.
+      let same : i ≡ j = omega (arith, is) in
+      subst (λ k. caller.losses.items ≡ losses_from config.ring k 0 (fates_in (pass_view caller.pass))) same (listed i caller at).losses_are)
+
+  are_small : AreSmall trace.rounds (turns_in r2)
+  are_small = record {
+    few_lines = λ caller.
+        let which : (caller < config.callers) ⊎ (config.callers ≤ caller) = search arith in
+        ⊎_elim (λ less. let below = few caller (rw of_config less) in omega (arith, below))
+        (λ past. rw (no_lines config.callers caller trace.rounds each_caller past) (omega arith)) which;
+    few_entries = omega (
+      arith,
+      closes.advances.manager_is.items_within,
+      ap length recorded.stands_for.reports_show.items_are,
+      length-map (desk_view r2.manager.desk).items plain_item,
+    );
+    heads = all_map (IsSmallTurn config.ring) _
+        (λ turn is. record { lost_events = is.head_is.lost_events; lost_contexts = is.head_is.lost_contexts; limited = is.head_is.limited }) (turns_in r2) small;
+  }
+
+  -- it is a replay of the rounds
+  pub is_replay : IsReplay stands config trace.rounds r2.manager (given r2 (losses_by callers))
+  is_replay = record {
+    merged = rw losses_are merge;
+    fits = rw losses_are (merge_fits config trace.rounds (turns_in r2) (losses_in config.ring views) valid rounds are_small merge);
+    causal = recorded.causal;
+    sent = recorded.sent;
+    ends = recorded.ends;
+    messages = recorded.messages;
+    stands_for = recorded.stands_for;
+    rests_are = closes.advances.rests_are ∙ between.rests_are ∙ ap (rests_from 0 0) whole;
+    passes = views;
+    are_back = closes.back_is;
+    played = played;
+    calls = calls_are;
+    losses_are = losses_are;
+  }

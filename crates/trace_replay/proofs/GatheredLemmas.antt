@@ -1,0 +1,32 @@
+-- A turn that is added to a history, entry by entry.
+use Rattle.std.proofs.Common.{◌≡◌, ℕ, ◌+◌, ◌≤◌, ◌<◌, List, [], ◌∷◌, ◌++◌, length, take, refl, ap, ◌∙◌, length-append}
+use Rattle.std.specs.List.{flat_map}
+use Rattle.std.proofs.lemmas.List.{take_more}
+use Rattle.std.proofs.lemmas.List.Folds.{length-flat_map-take}
+use Rattle.ids_types.specs.Plain.{kept_bytes}
+use Rattle.ids_types.specs.Turns.{Turn, entry_at, extended, with_entry}
+use Rattle.ids_types.specs.declared.entry.Act.TheVariants.{State}
+use Rattle.ids_types.specs.declared.entry.Entry.{Entry}
+use Rattle.text_spec.proofs.JournalFacts.{flat_map-push}
+
+-- an entry goes to the last turn
+pub with_entry_last : (turns : List Turn) (turn : Turn) (entry : Entry (List ℕ))
+    → with_entry (turns ++ turn ∷ []) entry ≡ turns ++ extended turn entry ∷ []
+with_entry_last [] turn entry = refl
+with_entry_last (first ∷ []) turn entry = refl
+with_entry_last (first ∷ next ∷ turns) turn entry = ap (λ ts. first ∷ ts) (with_entry_last (next ∷ turns) turn entry)
+
+module _ (turn : Turn) (i : ℕ) (less : i < length turn.entries) where
+  -- the first entries with the next one
+  pub next_entry : take (i + 1) turn.entries ≡ take i turn.entries ++ entry_at turn i ∷ []
+  next_entry = take_more turn.entries i (record { caller = 0; call = 0; act = State 0 }) less
+
+  -- the bytes that it keeps are some of the turn's
+  pub next_fits : length (flat_map kept_bytes (take i turn.entries)) + length (kept_bytes (entry_at turn i)) ≤ length (flat_map kept_bytes turn.entries)
+  next_fits = length-flat_map-take kept_bytes turn.entries i (record { caller = 0; call = 0; act = State 0 }) less
+
+  -- and come to those of the first entries
+  pub next_bytes : length (flat_map kept_bytes (take (i + 1) turn.entries))
+      ≡ length (flat_map kept_bytes (take i turn.entries)) + length (kept_bytes (entry_at turn i))
+  next_bytes = rw next_entry (ap length (flat_map-push kept_bytes (take i turn.entries) (entry_at turn i))
+      ∙ length-append (flat_map kept_bytes (take i turn.entries)) (kept_bytes (entry_at turn i)))

@@ -1,0 +1,9 @@
+pub mod CallLemmas
+pub mod EndLemmas
+pub mod GatheredLemmas
+pub mod MergeLemmas
+pub mod PlayedLemmas
+pub mod RecordingLemmas
+pub mod RoundLemmas
+pub mod StartLemmas
+pub mod SumLemmas

@@ -1,0 +1,102 @@
+-- A caller with one call more, and with those of one round more.
+use Rattle.std.proofs.Common.{◌≡◌, ℕ, suc, ◌+◌, ◌-◌, ◌≤◌, ◌<◌, ◌^◌, List, [], ◌∷◌, ◌++◌, length, map, take, refl, sym, ap, ◌∙◌, arith, append_assoc, length-append}
+use Rattle.std.proofs.lemmas.List.{length_push, length-take-le, take_all, take_more}
+use Rattle.std.proofs.lemmas.List.Folds.{length-flat_map-take}
+use Rattle.std.specs.List.{AllZip}
+use Rattle.merge_spec.specs.Decided.{losses_from}
+use Rattle.merge_spec.specs.Rounds.{Asked, Round, changes, lines_at, lines_of}
+use Rattle.text_spec.specs.TraceFaults.{begun_round}
+use Rattle.text_spec.proofs.JournalFacts.{flat_map-push}
+use Rattle.trace_text.specs.Lines.{line_at}
+use Rattle.trace_text.specs.TraceView.{round_at}
+use Rattle.report_api.specs.Names.{Outcome, Lost, Got, PassView}
+use Rattle.report_api.specs.Passes.{fate_of}
+use Rattle.trace_replay.specs.Calls.{Answers, CallsOnce, Told, loss_of, lost_report, lost_reports}
+use Rattle.trace_replay.specs.Standing.{HasListed, HasPlayed, lines_before}
+
+module _ {A B : Type 0} (R : A → B → Type 0) where
+  -- one more of each
+  zip_push : (xs : List A) (ys : List B) (x : A) (y : B) → AllZip R xs ys → R x y → AllZip R (xs ++ x ∷ []) (ys ++ y ∷ [])
+  zip_push [] [] x y all one = (one, tt)
+  zip_push [] (b ∷ ys) x y all one = absurd all
+  zip_push (a ∷ xs) [] x y all one = absurd all
+  zip_push (a ∷ xs) (b ∷ ys) x y all one = (all.0, zip_push xs ys x y all.1 one)
+
+  -- they are as many
+  pub zip_length : (xs : List A) (ys : List B) → AllZip R xs ys → length xs ≡ length ys
+  zip_length [] [] all = refl
+  zip_length [] (b ∷ ys) all = absurd all
+  zip_length (a ∷ xs) [] all = absurd all
+  zip_length (a ∷ xs) (b ∷ ys) all = ap suc (zip_length xs ys all.1)
+
+-- the lost reports, with one call more
+lost_push : (lines : List Asked) (log : List Outcome) (asked : Asked) (outcome : Outcome) → length lines ≡ length log
+    → lost_reports (lines ++ asked ∷ []) (log ++ outcome ∷ []) ≡ lost_reports lines log + lost_report asked outcome
+lost_push [] [] asked outcome same = omega arith
+lost_push [] (o ∷ log) asked outcome same = absurd (omega (arith, same))
+lost_push (a ∷ lines) [] asked outcome same = absurd (omega (arith, same))
+lost_push (a ∷ lines) (o ∷ log) asked outcome same = omega (arith, lost_push lines log asked outcome (omega (arith, same)))
+
+-- the losses, with one call more
+losses_push : (n i call : ℕ) (log : List Outcome) (outcome : Outcome)
+    → losses_from n i call (map fate_of (log ++ outcome ∷ [])) ≡ losses_from n i call (map fate_of log) ++ loss_of n i (call + length log) outcome
+losses_push n i call [] (Lost claimed) = ap (λ (k : ℕ). record { caller = i; call = k; given = claimed - n } ∷ []) (omega arith)
+losses_push n i call [] (Got ticket item) = refl
+losses_push n i call (Lost claimed ∷ log) outcome =
+    ap (λ losses. record { caller = i; call = call; given = claimed - n } ∷ losses) (losses_push n i (suc call) log outcome
+    ∙ ap (λ k. losses_from n i (suc call) (map fate_of log) ++ loss_of n i k outcome) (omega arith))
+losses_push n i call (Got ticket item ∷ log) outcome = losses_push n i (suc call) log outcome
+    ∙ ap (λ k. losses_from n i (suc call) (map fate_of log) ++ loss_of n i k outcome) (omega arith)
+
+at_most : (n i call : ℕ) (outcome : Outcome) → length (loss_of n i call outcome) ≤ 1
+at_most n i call (Lost claimed) = omega arith
+at_most n i call (Got ticket item) = omega arith
+
+module _ {sizes : List ℕ} {n i : ℕ} {old new : Told} where
+  -- a caller that made one call more
+  plays_on : {lines : List Asked} {asked : Asked} → HasListed sizes n i lines old → CallsOnce sizes n asked old new → HasListed sizes n i (lines ++ asked ∷ []) new
+  plays_on {lines} {asked} before once =
+      let as_many = zip_length (Answers sizes) lines old.pass.log before.played.each in
+      record {
+        played = record {
+          each = rw once.log_is (zip_push (Answers sizes) lines old.pass.log asked once.outcome before.played.each once.answers);
+          calls_are = omega (arith, once.calls_are, before.played.calls_are, length_push lines asked);
+          lost_events_are = rw once.log_is
+              (once.lost_events_are ∙ ap (λ k. k + lost_report asked once.outcome) before.played.lost_events_are
+              ∙ sym (lost_push lines old.pass.log asked once.outcome as_many));
+        };
+        number_is = once.caller_is ∙ before.number_is;
+        losses_are =
+            let place : old.pass.calls ≡ 0 + length old.pass.log = omega (arith, before.played.calls_are, as_many) in
+            once.losses_are ∙ rw (before.losses_are, before.number_is, place, once.log_is) (sym (losses_push n i 0 old.pass.log once.outcome));
+      }
+
+  -- the call of the next line of a round
+  pub plays_line : (lines more : List Asked) (k : ℕ) → k < length more → HasListed sizes n i (lines ++ take k more) old
+      → CallsOnce sizes n (line_at more k) old new → HasListed sizes n i (lines ++ take (k + 1) more) new
+  plays_line lines more k less before once = rw (take_more more k (changes 0) less, ← append_assoc lines (take k more) (line_at more k ∷ []))
+      (plays_on before once)
+
+-- a call adds one loss at most
+pub one_loss : {sizes : List ℕ} {n : ℕ} {asked : Asked} {old new : Told} → CallsOnce sizes n asked old new
+    → length new.losses ≤ length old.losses + 1
+one_loss {n = n} {old = old} once =
+    let one = at_most n old.pass.caller old.pass.calls once.outcome in
+    omega (arith, ap length once.losses_are, length-append old.losses (loss_of n old.pass.caller old.pass.calls once.outcome), one)
+
+-- the lines of one round more
+pub lines_more : (rounds : List Round) (k caller : ℕ) → k < length rounds
+    → lines_before rounds k caller ++ take (length (lines_at caller (round_at rounds k))) (lines_at caller (round_at rounds k)) ≡ lines_before rounds (k + 1) caller
+lines_more rounds k caller less =
+    rw (take_more rounds k (begun_round 0 [] 0) less, flat_map-push (lines_at caller) (take k rounds) (round_at rounds k), take_all (length (lines_at caller (round_at rounds k))) (lines_at caller (round_at rounds k)) (omega arith)) refl
+
+-- the calls of the first lines of a round are few, where all calls are
+pub few_calls : {sizes : List ℕ} {pass : PassView} (rounds : List Round) (k caller i : ℕ) → k < length rounds
+    → i ≤ length (lines_at caller (round_at rounds k)) → length (lines_of caller rounds) < 2 ^ 32
+    → HasPlayed sizes (lines_before rounds k caller ++ take i (lines_at caller (round_at rounds k))) pass → pass.calls < 2 ^ 40
+few_calls rounds k caller i less within few played =
+    let lines = lines_at caller (round_at rounds k) in
+    let here : length (lines_before rounds k caller ++ take i lines) ≤ length (lines_before rounds k caller) + length lines =
+    omega (arith, length-append (lines_before rounds k caller) (take i lines), length-take-le i lines) in
+    let whole = length-flat_map-take (lines_at caller) rounds k (begun_round 0 [] 0) less in
+    omega (arith, few, played.calls_are, here, whole)

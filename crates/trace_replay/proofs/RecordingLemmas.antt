@@ -1,0 +1,158 @@
+-- What was gathered, with one turn more, and with those of one list of ticks behind those of another.
+use Rattle.std.proofs.Common.{◌≡◌, ℕ, zero, suc, ◌+◌, ◌-◌, ◌≤◌, ◌<◌, ◌^◌, List, [], ◌∷◌, ◌++◌, length, min, take, get_or, refl, sym, ap, ◌∙◌, arith, append_assoc, append-nil, length-append}
+use Rattle.std.specs.List.{AllByRecursion}
+use Rattle.std.proofs.lemmas.List.{length-map, map-append}
+use Rattle.ids_types.specs.Carries.{entry_by}
+use Rattle.ids_types.specs.Output.{Output}
+use Rattle.ids_types.specs.Turns.{Turn}
+use Rattle.ids_config.specs.Parts.{Parts}
+use Rattle.merge_spec.specs.Orders.{KeepUpFrom}
+use Rattle.text_spec.specs.TraceFaults.{last_from}
+use Rattle.chain.specs.History.{handed_of}
+use Rattle.chain_plain.specs.Telling.{Tells, Told, handed_by}
+use Rattle.chain_plain.proofs.TellingLemmas.{newest_first, tells_more, told_few}
+use Rattle.buffer_classes.specs.Buffers.{Buffer}
+use Rattle.buffer_classes.specs.declared.giver.Giver.{Giver}
+use Rattle.report_queue.specs.Views.{TakerView}
+use Rattle.report_api.specs.Desks.{desk_view}
+use Rattle.report_api.specs.Names.{Act, PassView}
+use Rattle.report_api.specs.declared.shared.Shared.{Shared}
+use Rattle.main_function.specs.Closing.{Closed, all_back}
+use Rattle.main_function.specs.Reports.{held}
+use Rattle.main_function.specs.Standing.{IsManagerOf}
+use Rattle.main_function.specs.Turning.{Turned}
+use Rattle.main_function.specs.declared.manager.Manager.{Manager}
+use Rattle.trace_replay.specs.Recording.{Advances, Closes, Continues, StaysSame, tick_of, turns_in}
+use Rattle.trace_replay.specs.declared.gathered.Gathered.{Gathered}
+use Rattle.trace_replay.specs.declared.recorder.Recorder.{Recorder}
+
+-- what a turn adds to what was gathered
+pub record Adds (old : Gathered) (out : Output) (new : Gathered) : Type 0 where
+  pub history : new.history.turns ≡ old.history.turns ++ out.log.turns
+  pub sent : new.sent.items ≡ old.sent.items ++ out.sent
+  pub ends : new.ends.items ≡ old.ends.items ++ length new.sent.items ∷ []
+  pub messages : new.messages ≡ min (old.messages + out.messages) (2 ^ 64 - 1)
+  pub fits : length new.sent.items < 2 ^ 64
+
+pub all_push : {A : Type 0} (P : A → Type 0) (xs ys : List A) → AllByRecursion P xs → AllByRecursion P ys → AllByRecursion P (xs ++ ys)
+all_push P [] ys all more = more
+all_push P (x ∷ xs) ys all more = (all.0, all_push P xs ys all.1 more)
+
+pub last_on : (low : ℕ) (ticks more : List ℕ) → last_from low (ticks ++ more) ≡ last_from (last_from low ticks) more
+last_on low [] more = refl
+last_on low (tick ∷ ticks) more = last_on tick ticks more
+
+-- of ticks that keep up, none is below those before it
+pub next_keeps : (low : ℕ) (ticks : List ℕ) (i d : ℕ) → KeepUpFrom low ticks → i < length ticks
+    → last_from low (take i ticks) ≤ get_or ticks i d
+next_keeps low [] i d keeps less = absurd (omega (arith, less))
+next_keeps low (tick ∷ ticks) zero d keeps less = keeps.0
+next_keeps low (tick ∷ ticks) (suc i) d keeps less = next_keeps tick ticks i d keeps.1 (omega (arith, less))
+
+module _ {C : Type 0} (stands : C → Parts → List Turn → Type 0) (events : C → ℕ) (kept : C → List Buffer) (shared : Shared) where
+  -- no turn changes nothing
+  pub none_made : (r : Recorder C) → IsManagerOf events kept shared r.manager → Continues stands events kept shared [] r r
+  none_made r is = record {
+    advances = record {
+      manager_is = is;
+      turns = [];
+      turns_are = sym (append-nil (turns_in r));
+      ticks_are = refl;
+      small = tt;
+      records = λ config was. was;
+      rests_are = refl;
+      last_is = refl;
+      count_is = omega arith;
+    };
+    back_is = refl;
+  }
+
+  -- turns behind turns
+  pub made_more : {ticks more : List ℕ} {old mid new : Recorder C} → Continues stands events kept shared ticks old mid
+      → Continues stands events kept shared more mid new → Continues stands events kept shared (ticks ++ more) old new
+  made_more {ticks} {more} {old} first then =
+      let one = first.advances in let other = then.advances in
+      record {
+        advances = record {
+          manager_is = other.manager_is;
+          turns = one.turns ++ other.turns;
+          turns_are = other.turns_are ∙ ap (λ turns. turns ++ other.turns) one.turns_are ∙ append_assoc (turns_in old) one.turns other.turns;
+          ticks_are = map-append tick_of one.turns other.turns ∙ rw (one.ticks_are, other.ticks_are) refl;
+          small = all_push _ one.turns other.turns one.small other.small;
+          records = λ config was. other.records config (one.records config was);
+          rests_are = other.rests_are ∙ one.rests_are;
+          last_is = other.last_is ∙ rw one.last_is (sym (last_on _ ticks more));
+          count_is = omega (arith, other.count_is, one.count_is, length-append ticks more);
+        };
+        back_is = then.back_is ∙ first.back_is;
+      }
+
+  module _ (old : Recorder C) (is : IsManagerOf events kept shared old.manager) (m0 m1 : Manager C) (g : Gathered)
+      (same : StaysSame stands events kept old (record { manager = m0; gathered = old.gathered })) (adds : Adds old.gathered m1.out g)
+      (now : IsManagerOf events kept shared m1) where
+    -- a turn that was made and gathered
+    pub advances : (tick : ℕ) (reports : TakerView Act) (givers : List Giver) → Turned stands kept tick reports givers m0 m1
+        → Advances stands events kept shared (tick ∷ []) old (record { manager = m1; gathered = g })
+    advances tick reports givers turned =
+        let before = turns_in old in
+        let history : g.history.turns ≡ before ++ turned.turn ∷ [] = adds.history ∙ ap (λ turns. before ++ turns) turned.log_is in
+        record {
+          manager_is = now;
+          turns = turned.turn ∷ [];
+          turns_are = history;
+          ticks_are = ap (λ tick. tick ∷ []) turned.tick_is;
+          small = (
+            record {
+              head_is = turned.head_is;
+              few = omega (
+                arith,
+                ap length turned.makes.entries_are,
+                length-map turned.taken (entry_by held),
+                turned.makes.few,
+                (same.manager_is.is_manager shared is).positions_are,
+              );
+            },
+            tt,
+          );
+          records = λ config was.
+              let stood = same.manager_is.stands_then config before was.stands_for in
+              let sends = turned.sends config before stood in
+              let told : Told = record { sent = old.gathered.sent.items; ends = old.gathered.ends.items; limited = handed_by config before; messages = old.gathered.messages } in
+              let tells : Tells config before told = record { sent_bytes = was.sent; turn_ends = was.ends; numbers = refl; count = was.messages } in
+              let more = tells_more config before turned.turn told m1.out (handed_of config (before ++ turned.turn ∷ [])) refl tells sends in
+              let few = told_few config before turned.turn told m1.out tells sends in
+              record {
+                stands_for = rw history (turned.stands_then config before stood);
+                sent = rw history (adds.sent ∙ more.sent_bytes);
+                ends = rw history (adds.ends ∙ rw adds.sent more.turn_ends);
+                messages = rw history (adds.messages ∙ omega (arith, few, adds.fits, ap length adds.sent) ∙ more.count);
+                causal = rw (history, newest_first before turned.turn) (turned.limited_is config before stood, was.causal);
+              };
+          rests_are = ap (λ rests. rests.items) turned.rests_are ∙ same.rests_are;
+          last_is = turned.last_is;
+          count_is = omega (arith, turned.turns_are, same.manager_is.turns_are);
+        }
+
+    -- and no pass came back meanwhile
+    pub continues : (tick : ℕ) (givers : List Giver) → Turned stands kept tick (desk_view m0.desk) givers m0 m1
+        → Continues stands events kept shared (tick ∷ []) old (record { manager = m1; gathered = g })
+    continues tick givers turned = record {
+      advances = advances tick (desk_view m0.desk) givers turned;
+      back_is = ap (λ view. view.back) turned.makes.is ∙ ap (λ desk. (desk_view desk).back) same.manager_is.desk_is;
+    }
+
+    -- a last turn, behind which all passes are back
+    pub closes : (tick : ℕ) (passes : List PassView) → Closed stands kept shared tick passes m0 m1
+        → Closes stands events kept shared tick passes old (record { manager = m1; gathered = g })
+    closes tick passes closed =
+        let before = turns_in old in
+        let turned = closed.turned in
+        let history : g.history.turns ≡ before ++ turned.turn ∷ [] = adds.history ∙ ap (λ turns. before ++ turns) turned.log_is in
+        record {
+          advances = advances tick (all_back passes (desk_view m0.desk)) closed.givers turned;
+          back_is = ap (λ view. view.back) turned.makes.is;
+          counts = closed.counts;
+          all_calls = λ config made_for was. rw history
+              (closed.all_calls config before made_for (same.manager_is.stands_then config before was.stands_for));
+          sums = λ config was. rw history (closed.sums config before (same.manager_is.stands_then config before was.stands_for));
+        }

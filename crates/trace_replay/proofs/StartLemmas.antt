@@ -1,0 +1,111 @@
+-- The start of a replay: what may be asked, and where callers and manager stand before the first round.
+use Rattle.std.proofs.Common.{◌≡◌, ℕ, zero, suc, ◌≤◌, ◌<◌, ◌⊎◌, ⊎_elim, true, nat_le, nat_lt, ◌&&◌, List, [], ◌∷◌, ◌++◌, length, map, refl, sym, ap, subst, ◌∙◌, arith, leb-true, ltb-true}
+use Rattle.std.specs.List.{AllByRecursion}
+use Rattle.std.proofs.lemmas.Bool.{and_parts}
+use Rattle.std.proofs.lemmas.List.{get_or_past, length-map}
+use Rattle.std.proofs.lemmas.List.Concat.{flat_map-cons}
+use Rattle.std.proofs.lemmas.List.Elements.{All-from_recursion}
+use mathlib.Core.Option.{some, some-injective}
+use lib.ListN.{get_elem?}
+use Rattle.ids_types.specs.Turns.{Turn}
+use Rattle.ids_config.specs.Parts.{Parts, is_sensor}
+use Rattle.merge_spec.specs.Rounds.{Asked, Round, reports, changes, sets, lines_at}
+use Rattle.text_spec.specs.JournalFaults.{is_act}
+use Rattle.text_spec.specs.TraceFaults.{act_asked, begun_round, is_allowed}
+use Rattle.text_spec.specs.TraceReading.{IsAllowedRound, MayAsk}
+use Rattle.buffer_classes.specs.Buffers.{Buffer}
+use Rattle.permit_ring.proofs.ListLemmas.{there}
+use Rattle.report_api.specs.Making.{IsOfConfig}
+use Rattle.report_api.specs.declared.pass.Pass.{Pass}
+use Rattle.report_api.specs.declared.shared.Shared.{Shared}
+use Rattle.report_api.specs.declared.terms.ReportTerms.{ReportTerms}
+use Rattle.desk_closing.proofs.PlaceLemmas.{or_at}
+use Rattle.main_function.specs.Making.{IsNewManager}
+use Rattle.main_function.specs.declared.manager.Manager.{Manager}
+use Rattle.trace_text.specs.Lines.{line_at}
+use Rattle.trace_text.specs.TraceView.{Traced, round_at}
+use Rattle.trace_replay.specs.Calls.{MayBeAsked}
+use Rattle.trace_replay.specs.Recording.{IsRecordOf, tick_of}
+use Rattle.trace_replay.specs.Rounds.{IsBetween}
+use Rattle.trace_replay.specs.Standing.{AreAtRest, MayAllBeAsked, losses_by, passes_of}
+use Rattle.trace_replay.specs.declared.caller.Caller.{Caller}
+use Rattle.trace_replay.specs.declared.gathered.Gathered.{Gathered}
+use Rattle.trace_replay.proofs.RoundLemmas.{map_at}
+
+module _ (config : Parts) (terms : ReportTerms) (is : IsOfConfig config terms) where
+  may_be_asked : (asked : Asked) → is_allowed config asked ≡ true → MayBeAsked terms asked
+  may_be_asked (reports event count stamp bytes) allowed =
+      let both = and_parts (is_act (act_asked (reports event count stamp bytes))) (is_sensor config event.0) allowed in
+      let numbers = and_parts (nat_le 1 count) (nat_le count 65535) (and_parts (nat_le 1 count && nat_le count 65535) true both.0).0 in
+      record { sensor = is.sensors event.0 ∙ both.1; some_events = leb-true 1 count numbers.0; few_events = leb-true count 65535 numbers.1 }
+  may_be_asked (changes state) allowed = tt
+  may_be_asked (sets event mode) allowed =
+      rw is.events (ltb-true event.0 (length config.events) (and_parts true (nat_lt event.0 (length config.events)) allowed).1)
+
+  -- what a configuration allows may be asked
+  pub all_may_be_asked : (rounds : List Round) → AllByRecursion (IsAllowedRound config) rounds → MayAllBeAsked terms rounds
+  all_may_be_asked rounds all = λ k caller i less within.
+      let round = All-from_recursion (IsAllowedRound config) rounds all k (begun_round 0 [] 0) less in
+      let which : (caller < length (round_at rounds k).lines) ⊎ (length (round_at rounds k).lines ≤ caller) = search arith in
+      ⊎_elim (λ there.
+      let lines = All-from_recursion (AllByRecursion (MayAsk config)) (round_at rounds k).lines round.asked caller [] there in
+      let asked = All-from_recursion (MayAsk config) (lines_at caller (round_at rounds k)) lines i (changes 0) within in
+      may_be_asked (line_at (lines_at caller (round_at rounds k)) i) asked.1)
+      (λ past. absurd (omega (arith, within, ap length (get_or_past (round_at rounds k).lines caller [] past)))) which
+
+front_empty : {A : Type 0} (xs ys : List A) → xs ++ ys ≡ [] → xs ≡ []
+front_empty [] ys none = refl
+front_empty (x ∷ xs) ys none = cc
+
+back_empty : {A : Type 0} (xs ys : List A) → xs ++ ys ≡ [] → ys ≡ []
+back_empty [] ys none = none
+back_empty (x ∷ xs) ys none = cc
+
+-- callers that list no loss
+none_listed : (callers : List Caller) → losses_by callers ≡ [] → (i : ℕ) (caller : Caller) → get_elem? callers i ≡ some caller
+    → caller.losses.items ≡ []
+none_listed [] none i caller at = cc
+none_listed (first ∷ callers) none zero caller at =
+    let parts = sym (flat_map-cons (λ (c : Caller). c.losses.items) first callers) ∙ none in
+    subst (λ (c : Caller). c.losses.items ≡ []) (some-injective first caller at) (front_empty first.losses.items (losses_by callers) parts)
+none_listed (first ∷ callers) none (suc i) caller at =
+    let parts = sym (flat_map-cons (λ (c : Caller). c.losses.items) first callers) ∙ none in
+    none_listed callers (back_empty first.losses.items (losses_by callers) parts) i caller at
+
+module _ {C : Type 0} (stands : C → Parts → List Turn → Type 0) (events : C → ℕ) (kept : C → List Buffer) (config : Parts) (shared : Shared)
+    (trace : Traced) (passes : List Pass) (callers : List Caller) (m : Manager C) (g : Gathered) (new : IsNewManager stands events kept config shared passes m)
+    (are : passes_of callers ≡ passes) (none : losses_by callers ≡ []) (no_turns : g.history.turns ≡ []) (of_config : trace.callers ≡ config.callers) where
+  begin_at_rest : AreAtRest shared trace.rounds 0 callers
+  begin_at_rest = λ i d low.
+      let caller = there callers i low in
+      let at = subst (λ ps. get_elem? ps i ≡ some caller.0.pass) are (map_at (λ (c : Caller). c.pass) callers i caller.0 caller.1) in
+      let is = new.making.each i caller.0.pass at in
+      rw (or_at callers i d caller.0 caller.1) record {
+        is_pass = is.is_pass;
+        listed = rw is.shows record {
+          played = record { each = tt; calls_are = refl; lost_events_are = refl };
+          number_is = refl;
+          losses_are = none_listed callers none i caller.0 caller.1;
+        };
+      }
+
+  -- before the first round
+  pub begins : IsBetween events kept shared trace 0 callers (record { manager = m; gathered = g })
+  begins =
+      let many : length callers ≡ length passes = sym (length-map callers (λ (c : Caller). c.pass)) ∙ ap length are in
+      record {
+        manager_is = new.is_manager;
+        at_rest = begin_at_rest;
+        as_many = many ∙ new.making.all_made ∙ sym of_config;
+        all = many ∙ new.passes_are.all;
+        ticks_are = ap (map tick_of) no_turns;
+        small = rw no_turns tt;
+        rests_are = new.no_rests;
+        last_is = new.stands_for_none.tick_is;
+        count_is = new.stands_for_none.count_is;
+      }
+
+  -- nothing was gathered yet
+  pub begins_record : g.sent.items ≡ [] → g.ends.items ≡ [] → g.messages ≡ 0 → IsRecordOf stands config (record { manager = m; gathered = g })
+  begins_record sent ends messages =
+      rw no_turns record { stands_for = new.stands_for_none; sent = sent; ends = ends; messages = messages; causal = tt }

@@ -1,0 +1,30 @@
+use Rattle.std.proofs.Common.{rules, refl, subst}
+use Rattle.ids_types.specs.Output.{Output}
+use Rattle.main_function.specs.Closing.{CloseLeaves}
+use Rattle.trace_replay.specs.declared.gathered.Gathered.{Gathered}
+use Rattle.trace_replay.proofs.RecordingLemmas.{Adds, closes}
+use Rattle.trace_replay.proofs.recorder.Recorder.close.Goals as goal
+use Rattle.std.proofs.Common.{map}
+use Rattle.report_api.specs.Passes.{pass_view}
+
+pub returns : goal.returns
+returns g c =
+    let chain = g.C.Chain in
+    let m0 = c.ready.new.self.manager in
+    let m1 = c.close.follows.lender-at-none in
+    let passes = map pass_view c.args.passes.now.items in
+    let made = subst (λ answer. CloseLeaves chain.stands chain.events chain.kept c.args.shared.now c.args.tick passes m0 answer m1) c.in-Ok.is
+    c.close.follows.holds-at-none in
+    let same = c.in_ok-ready.ensures.same in
+    let adds : Adds c.ready.new.self.gathered c.in-Ok.out.now c.add.new.self = record {
+      history = c.in_ok-add.ensures.history;
+      sent = c.in_ok-add.ensures.sent;
+      ends = c.in_ok-add.ensures.ends;
+      messages = c.in_ok-add.ensures.messages;
+      fits = search rules;
+    } in
+    closes chain.stands chain.events chain.kept c.args.shared.now c.args.self.now c.requires.mine m0 m1 c.add.new.self
+    (record { manager_is = same.manager_is; rests_are = same.rests_are; gathered_is = refl })
+    (subst (λ (old : Gathered). Adds old m1.out c.add.new.self) same.gathered_is
+    (subst (λ (out : Output). Adds c.ready.new.self.gathered out c.add.new.self) made.1 adds))
+    made.0 c.args.tick passes made.3

@@ -1,0 +1,27 @@
+use Rattle.std.proofs.Common.{rules, refl, subst}
+use Rattle.ids_types.specs.Output.{Output}
+use Rattle.main_function.specs.Turning.{TurnLeaves}
+use Rattle.trace_replay.specs.declared.gathered.Gathered.{Gathered}
+use Rattle.trace_replay.proofs.RecordingLemmas.{Adds, continues}
+use Rattle.trace_replay.proofs.recorder.Recorder.turn.Goals as goal
+
+pub returns : goal.returns
+returns g c =
+    let chain = g.C.Chain in
+    let m0 = c.ready.new.self.manager in
+    let m1 = c.turn.follows.lender-at-none in
+    let made = subst (λ answer. TurnLeaves chain.stands chain.events chain.kept c.args.shared.now c.args.tick m0 answer m1) c.in-Ok.is
+    c.turn.follows.holds-at-none in
+    let same = c.in_ok-ready.ensures.same in
+    let adds : Adds c.ready.new.self.gathered c.in-Ok.out.now c.add.new.self = record {
+      history = c.in_ok-add.ensures.history;
+      sent = c.in_ok-add.ensures.sent;
+      ends = c.in_ok-add.ensures.ends;
+      messages = c.in_ok-add.ensures.messages;
+      fits = search rules;
+    } in
+    continues chain.stands chain.events chain.kept c.args.shared.now c.args.self.now c.requires.mine m0 m1 c.add.new.self
+    (record { manager_is = same.manager_is; rests_are = same.rests_are; gathered_is = refl })
+    (subst (λ (old : Gathered). Adds old m1.out c.add.new.self) same.gathered_is
+    (subst (λ (out : Output). Adds c.ready.new.self.gathered out c.add.new.self) made.1 adds))
+    made.0 c.args.tick _ made.2

@@ -1,0 +1,8 @@
+use Rattle.trace_replay.specs.Recording.{StillRecords}
+use Rattle.trace_replay.specs.Rounds.{IsBetween}
+use Rattle.trace_replay.proofs.rounds.play_rounds.Given as goal
+
+-- the first rounds were played
+abbrev pub invariant-loop-round : goal.invariant-loop-round
+invariant-loop-round g l = IsBetween g.C.Chain.events g.C.Chain.kept l.shared l.trace l.round l.callers l.recorder
+    × StillRecords g.C.Chain.stands l.fn.recorder l.recorder

@@ -1,0 +1,86 @@
+-- What a replay gathers of the turns of its manager.
+use Rattle.std.specs.Prelude.{◌≡◌, ℕ, ◌+◌, ◌≤◌, ◌<◌, ◌^◌, Bool, true, Some, List, [], ◌∷◌, ◌++◌, length, map, reverse}
+use Rattle.std.specs.List.{AllByRecursion}
+use Rattle.ids_types.specs.Turns.{Turn}
+use Rattle.ids_config.specs.Parts.{Parts}
+use Rattle.text_spec.specs.TraceFaults.{last_from}
+use Rattle.chain.specs.History.{count_of, messages_of}
+use Rattle.chain_plain.specs.Telling.{ends_of}
+use Rattle.chain_spec.specs.Chain.{IsCausal}
+use Rattle.buffer_classes.specs.Buffers.{Buffer}
+use Rattle.report_queue.specs.Parts.{queue_positions}
+use Rattle.report_api.specs.Desks.{desk_view}
+use Rattle.report_api.specs.Names.{PassView}
+use Rattle.report_api.specs.declared.shared.Shared.{Shared}
+use Rattle.desk_closing.specs.Calls.{HaveAllCalls}
+use Rattle.desk_closing.specs.Closed.{IsMadeFor}
+use Rattle.main_function.specs.Closing.{AreCountsOf, AreSumsOf}
+use Rattle.main_function.specs.Standing.{IsManagerOf, Stands, StaysSo, fits_turn, last_of, rests_of, turns_of}
+use Rattle.main_function.specs.Turning.{IsSmallHead}
+use Rattle.main_function.specs.declared.manager.Manager.{Manager}
+use Rattle.trace_replay.specs.declared.recorder.Recorder.{Recorder}
+
+-- the tick of a turn
+abbrev pub tick_of : Turn → ℕ
+tick_of turn = turn.head.tick
+
+-- the turn tells small numbers, and has no more entries than there are positions
+pub record IsSmallTurn (positions : ℕ) (turn : Turn) : Type 0 where
+  pub head_is : IsSmallHead turn.head
+  pub few : length turn.entries ≤ positions
+
+module _ {C : Type 0} where
+  -- the turns so far
+  abbrev pub turns_in : Recorder C → List Turn
+  turns_in r = r.gathered.history.turns
+
+  -- one turn more can be made
+  pub record CanTurn (has_room : C → ℕ → ℕ → Bool) (m : Manager C) : Type 0 where
+    pub fits : fits_turn has_room m ≡ true
+    pub few : turns_of m < 2 ^ 62
+
+module _ {C : Type 0} (stands : C → Parts → List Turn → Type 0) where
+  -- the manager stands for the turns that were gathered, and these gave what was gathered of them
+  pub record IsRecordOf (config : Parts) (r : Recorder C) : Type 0 where
+    pub stands_for : Stands stands config r.manager (turns_in r)
+    pub sent : r.gathered.sent.items ≡ messages_of config (turns_in r)
+    pub ends : r.gathered.ends.items ≡ ends_of config (turns_in r)
+    pub messages : r.gathered.messages ≡ count_of config (turns_in r)
+    -- each turn tells how many events the limits had held back
+    pub causal : IsCausal config (reverse (turns_in r))
+
+  -- what was so before is so now, for each configuration
+  abbrev pub StillRecords : Recorder C → Recorder C → Type 0
+  StillRecords old new = (config : Parts) → IsRecordOf config old → IsRecordOf config new
+
+module _ {C : Type 0} (stands : C → Parts → List Turn → Type 0) (events : C → ℕ) (kept : C → List Buffer) where
+  -- room was made, and nothing else was changed
+  pub record StaysSame (old new : Recorder C) : Type 0 where
+    pub manager_is : StaysSo stands events kept old.manager new.manager
+    pub rests_are : rests_of new.manager ≡ rests_of old.manager
+    pub gathered_is : new.gathered ≡ old.gathered
+
+  -- turns of these ticks were made, and were gathered
+  pub record Advances (shared : Shared) (ticks : List ℕ) (old new : Recorder C) : Type 0 where
+    pub manager_is : IsManagerOf events kept shared new.manager
+    pub turns : List Turn
+    pub turns_are : turns_in new ≡ turns_in old ++ turns
+    pub ticks_are : map tick_of turns ≡ ticks
+    pub small : AllByRecursion (IsSmallTurn (queue_positions shared.queue)) turns
+    pub records : StillRecords stands old new
+    pub rests_are : rests_of new.manager ≡ rests_of old.manager
+    pub last_is : last_of new.manager ≡ last_from (last_of old.manager) ticks
+    pub count_is : turns_of new.manager ≡ turns_of old.manager + length ticks
+
+  -- and no pass came back
+  pub record Continues (shared : Shared) (ticks : List ℕ) (old new : Recorder C) : Type 0 where
+    pub advances : Advances shared ticks old new
+    pub back_is : (desk_view new.manager.desk).back ≡ (desk_view old.manager.desk).back
+
+  -- these passes came back, and a last turn of this tick took all that was left
+  pub record Closes (shared : Shared) (tick : ℕ) (passes : List PassView) (old new : Recorder C) : Type 0 where
+    pub advances : Advances shared (tick ∷ []) old new
+    pub back_is : (desk_view new.manager.desk).back ≡ map Some passes
+    pub counts : AreCountsOf passes new.manager.totals
+    pub all_calls : (config : Parts) → IsMadeFor config shared → IsRecordOf stands config old → HaveAllCalls config passes (turns_in new)
+    pub sums : (config : Parts) → IsRecordOf stands config old → AreSumsOf (turns_in new) new.manager.totals

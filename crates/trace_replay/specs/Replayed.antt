@@ -1,0 +1,72 @@
+-- What a replay of a trace gives, for whatever order the steps of its threads had.
+use Rattle.std.specs.Prelude.{◌≡◌, ℕ, Some, List, map, reverse}
+use Rattle.ids_types.specs.Turns.{Turn}
+use Rattle.ids_types.specs.declared.loss.Loss.{Loss}
+use Rattle.ids_config.specs.Parts.{Parts}
+use Rattle.merge_spec.specs.Merge.{IsMerge}
+use Rattle.merge_spec.specs.Rounds.{Round}
+use Rattle.text_spec.specs.JournalReading.{Fits}
+use Rattle.chain.specs.History.{count_of, messages_of}
+use Rattle.chain_plain.specs.Telling.{ends_of}
+use Rattle.chain_spec.specs.Chain.{IsCausal}
+use Rattle.buffer_classes.specs.Buffers.{Buffer}
+use Rattle.event_chain.specs.Chained.{Chained}
+use Rattle.event_chain.specs.Standing.{Stands as ChainStands}
+use Rattle.report_api.specs.Desks.{desk_view}
+use Rattle.report_api.specs.Names.{PassView}
+use Rattle.desk_closing.specs.Calls.{HaveAllCalls, losses_in}
+use Rattle.main_function.specs.Standing.{Stands, rests_of}
+use Rattle.main_function.specs.declared.manager.Manager.{Manager}
+use Rattle.trace_replay.specs.Played.{HavePlayed}
+use Rattle.trace_replay.specs.Rounds.{rests_from}
+use Rattle.trace_replay.specs.declared.recorder.Recorder.{Recorder}
+use Rattle.trace_replay.specs.declared.replaying.Replayed.{Replayed}
+
+-- what a replay gives besides its manager: the turns, the losses, and what was sent
+pub record Gives : Type 0 where
+  pub turns : List Turn
+  pub losses : List Loss
+  pub sent : List ℕ
+  pub ends : List ℕ
+  pub messages : ℕ
+
+module _ {C : Type 0} (stands : C → Parts → List Turn → Type 0) (config : Parts) (rounds : List Round) where
+  -- a manager that replayed these rounds, and what that gave
+  pub record IsReplay (m : Manager C) (gives : Gives) : Type 0 where
+    -- the turns and the losses are one merge of the callers' lines, and a journal under the configuration
+    pub merged : IsMerge config rounds gives.turns gives.losses
+    pub fits : Fits config (record { turns = gives.turns; losses = gives.losses })
+    -- each turn tells how many events the limits had held back by then
+    pub causal : IsCausal config (reverse gives.turns)
+    -- what was sent is what the filter chain sends for these turns
+    pub sent : gives.sent ≡ messages_of config gives.turns
+    pub ends : gives.ends ≡ ends_of config gives.turns
+    pub messages : gives.messages ≡ count_of config gives.turns
+    -- the manager stands for them, and it rested before and after the last turn of each round
+    pub stands_for : Stands stands config m gives.turns
+    pub rests_are : rests_of m ≡ rests_from 0 0 rounds
+    -- the passes that came back to it made the calls of the lines; the turns have those that were accepted, and the
+    -- losses are the others
+    pub passes : List PassView
+    pub are_back : (desk_view m.desk).back ≡ map Some passes
+    pub played : HavePlayed config rounds passes
+    pub calls : HaveAllCalls config passes gives.turns
+    pub losses_are : gives.losses ≡ losses_in config.ring passes
+
+-- an event chain over context data buffers stands for these turns
+abbrev pub chain_stands : Chained Buffer → Parts → List Turn → Type 0
+chain_stands chain config turns = ChainStands (λ (buf : Buffer). buf.bytes) config (reverse turns) chain
+
+-- what is given besides the manager
+abbrev pub gives : Replayed → Gives
+gives r = record { turns = r.history.turns; losses = r.losses.items; sent = r.sent.items; ends = r.ends.items; messages = r.messages }
+
+-- and what a recorder and its callers' losses give
+abbrev pub given : {C : Type 0} → Recorder C → List Loss → Gives
+given r losses = record {
+  turns = r.gathered.history.turns;
+  losses = losses;
+  sent = r.gathered.sent.items;
+  ends = r.gathered.ends.items;
+  messages = r.gathered.messages;
+}

@@ -1,0 +1,93 @@
+//! The manager of a replay, with what is gathered of its turns.
+ghost use Rattle.std.specs.Prelude.{◌≡◌, ◌≤◌, ◌^◌, ◌∷◌, [], true, map, OnOk};
+ghost use Rattle.std.specs.List.{All};
+ghost use Rattle.merge_spec.specs.Orders.{KeepUpFrom};
+ghost use Rattle.report_api.specs.Desks.{desk_view};
+ghost use Rattle.report_api.specs.Passes.{pass_view};
+ghost use Rattle.main_function.specs.Standing.{AreAllPasses, IsManagerOf, last_of};
+ghost use Rattle.trace_replay.specs.Recording.{CanTurn, Closes, Continues, StaysSame};
+
+use crate::gate::Gate;
+use crate::gathered::Gathered;
+use chain::Chain;
+use ids_types::NoMemory;
+use main_function::Manager;
+use report_api::{CtxBuf, Pass, Shared};
+
+/// How many turns a manager makes at most.
+const MOST_TURNS: u64 = 1 << 62;
+
+/// A manager, and what its turns gave so far.
+#[derive(Drop)]
+pub(crate) struct Recorder<C> {
+    pub(crate) manager: Manager<C>,
+    pub(crate) gathered: Gathered,
+}
+
+impl<C: Chain<CtxBuf>> Recorder<C> {
+    /// Makes a turn.
+    pub(crate) fn turn(&mut self, shared: &Shared, tick: u64) -> Result<(), NoMemory>
+        requires mine { IsManagerOf C.events C.kept shared.now self.old.manager }
+        requires later { last_of self.old.manager ≤ tick }
+        requires small { tick ≤ 2 ^ 62 }
+        ensures { OnOk result (Continues C.stands C.events C.kept shared.now (tick ∷ []) self.old self.new) }
+    {
+        self.ready()?;
+        let Ok(out) = self.manager.turn(shared, tick) else {
+            unreachable!()
+        };
+        self.gathered.add(out)?;
+        Ok(())
+    }
+
+    /// Makes a turn of each of these ticks, each behind a word to the gate.
+    pub(crate) fn turns_beside<G: Gate>(
+        &mut self,
+        shared: &Shared,
+        ticks: &[u64],
+        gate: &G,
+    ) -> Result<(), NoMemory>
+        requires mine { IsManagerOf C.events C.kept shared.now self.old.manager }
+        requires later { KeepUpFrom (last_of self.old.manager) ticks.now }
+        requires small { All (λ tick. tick ≤ 2 ^ 62) ticks.now }
+        ensures { OnOk result (Continues C.stands C.events C.kept shared.now ticks.now self.old self.new) }
+    {
+        for tick in ticks {
+            gate.beside(*tick);
+            self.turn(shared, *tick)?;
+        }
+        Ok(())
+    }
+
+    /// Takes all passes back, and all that is left in a last turn.
+    pub(crate) fn close(
+        &mut self,
+        shared: &Shared,
+        passes: &mut Vec<Pass>,
+        tick: u64,
+    ) -> Result<(), NoMemory>
+        requires mine { IsManagerOf C.events C.kept shared.now self.old.manager }
+        requires later { last_of self.old.manager ≤ tick }
+        requires small { tick ≤ 2 ^ 62 }
+        requires passes { AreAllPasses shared.now (desk_view self.old.manager.desk) passes.old.items }
+        ensures { OnOk result (Closes C.stands C.events C.kept shared.now tick (map pass_view passes.old.items) self.old self.new) }
+    {
+        self.ready()?;
+        let Ok((out, _)) = self.manager.close(shared, passes, tick) else {
+            unreachable!()
+        };
+        self.gathered.add(out)?;
+        Ok(())
+    }
+
+    // Makes sure that the manager can make one turn more.
+    fn ready(&mut self) -> Result<(), NoMemory>
+        ensures can { OnOk result (CanTurn C.has_room self.new.manager) }
+        ensures same { StaysSame C.stands C.events C.kept self.old self.new }
+    {
+        if self.manager.turns() >= MOST_TURNS {
+            return Err(NoMemory);
+        }
+        self.manager.reserve()
+    }
+}
