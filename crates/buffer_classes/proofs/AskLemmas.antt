@@ -1,13 +1,8 @@
 -- How a claimant's seats stand after it asked one class after another.
-use Rattle.std.proofs.Common.{◌≡◌, ◌≢◌, ℕ, zero, suc, ◌+◌, ◌<◌, ◌≤◌, ◌==◌, ◌⊎◌, List, [], ◌∷◌, ◌++◌, length, set, refl, sym, ap, subst, ◌∙◌, if◌then◌else◌, arith, inl, inr, ne_eqb, eq-eqb, ap₂, Bool, lt-ltb, Some}
+use Rattle.buffer_classes.proofs.Names.{◌≡◌, ◌≢◌, ℕ, zero, suc, ◌+◌, ◌<◌, ◌≤◌, ◌==◌, ◌⊎◌, List, [], ◌∷◌, ◌++◌, length, set, refl, sym, ap, subst, ◌∙◌, if◌then◌else◌, arith, inl, inr, ne_eqb, eq-eqb, ap₂, Bool, lt-ltb, Some, cases_eq, length-set, append-nil, at_set, set_here, set_else, and_lost, ticket_in, ring_seats, seat_memo, Asks, lost_at, Class, ClassSeat, Lost, Got, Outcome, SeatMemo, IsHisSeat, memo_in}
 use mathlib.Core.Option.{some, none, some-injective}
-use Rattle.std.proofs.lemmas.Bool.{cases_eq}
 use lib.ListN.{get_elem?}
-use Rattle.std.proofs.lemmas.List.{length-set, append-nil}
-use Rattle.atomic_table.proofs.Lists.{at_set, set_here, set_else}
 use Rattle.permit_ring.proofs.LogLemmas.{kept_log, lost_log}
-use Rattle.permit_ring.specs.{and_lost, ticket_in, ring_seats, seat_memo}
-use Rattle.buffer_classes.specs.{Asks, lost_at, Class, ClassSeat, Lost, Got, Outcome, SeatMemo, IsHisSeat, memo_in}
 
 -- a place of a list has an element, or is past its end
 pub below_or : {A : Type 0} (l : List A) (i : ℕ) → ((a : A) × (get_elem? l i ≡ some a)) ⊎ (length l ≤ i)

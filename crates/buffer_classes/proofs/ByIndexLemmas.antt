@@ -1,11 +1,7 @@
 -- Lists whose elements are changed one after another.
-use Rattle.std.proofs.Common.{◌≡◌, ◌≢◌, ℕ, ◌+◌, ◌<◌, ◌≤◌, List, [], ◌∷◌, ◌++◌, set, length, get_or, refl, sym, ◌∙◌, ap, subst, inl, inr, arith}
-use Rattle.std.proofs.lemmas.Bool.{cases_eq}
-use Rattle.std.proofs.lemmas.List.{append_assoc, length_push, length-set}
+use Rattle.buffer_classes.proofs.Names.{◌≡◌, ◌≢◌, ℕ, ◌+◌, ◌<◌, ◌≤◌, List, [], ◌∷◌, ◌++◌, set, length, get_or, refl, sym, ◌∙◌, ap, subst, inl, inr, arith, cases_eq, append_assoc, length_push, length-set, at_index, at_last, at_longer, set_else, set_here, at_length, there}
 use mathlib.Core.Option.{some, some-injective}
 use lib.ListN.{get_elem?}
-use Rattle.atomic_table.proofs.Lists.{at_index, at_last, at_longer, set_else, set_here}
-use Rattle.permit_ring.proofs.ListLemmas.{at_length, there}
 use Rattle.buffer_classes.specs.ByIndex.{AllOf, OneOf}
 
 module _ {A : Type 0} where

@@ -1,12 +1,7 @@
 -- A claim from class to class.
-use Rattle.std.proofs.Common.{◌≡◌, ◌≢◌, ℕ, zero, suc, ◌+◌, ◌<◌, ◌≤◌, ◌==◌, List, [], ◌∷◌, ◌++◌, length, set, get_or, if◌then◌else◌, refl, sym, ap, subst, ◌∙◌, arith, ne_eqb, eq-eqb}
+use Rattle.buffer_classes.proofs.Names.{◌≡◌, ◌≢◌, ℕ, zero, suc, ◌+◌, ◌<◌, ◌≤◌, ◌==◌, List, [], ◌∷◌, ◌++◌, length, set, get_or, if◌then◌else◌, refl, sym, ap, subst, ◌∙◌, arith, ne_eqb, eq-eqb, at_index, at_map, ring_seats, ring_terms, seat_calls, seat_memo, seat_number, Buffer, IsBufferOf, Asks, lost_at, RiseFrom, class_sizes, first_fitting, Class, ClassSeat, ClassTerms, Lost, Got, Outcome, IsClaimSeatOf, IsClassSeat, IsHisSeat, memo_in, Classes, ClaimSeat}
 use mathlib.Core.Option.{some, some-injective, some-ne-none}
 use lib.ListN.{get_elem?}
-use Rattle.atomic_table.proofs.Lists.{at_index, at_map}
-use Rattle.permit_ring.specs.Seats.{ring_seats, ring_terms, seat_calls, seat_memo, seat_number}
-use Rattle.buffer_classes.specs.{Buffer, IsBufferOf, Asks, lost_at, RiseFrom, class_sizes, first_fitting, Class, ClassSeat, ClassTerms, Lost, Got, Outcome, IsClaimSeatOf, IsClassSeat, IsHisSeat, memo_in}
-use Rattle.buffer_classes.specs.Names.{Classes}
-use Rattle.buffer_classes.specs.declared.seat.ClaimSeat.{ClaimSeat}
 use Rattle.buffer_classes.proofs.AskLemmas.{AsksAll, asks_more, log_asked, lost_else, lost_here, lost_past}
 
 -- each later size is above the ones before it

@@ -1,8 +1,7 @@
 -- Which class is the first that fits.
-use Rattle.std.proofs.Common.{◌≡◌, ℕ, zero, suc, ◌<◌, ◌≤◌, List, [], ◌∷◌, length, map, refl, sym, ap, subst, ◌+◌, arith, lt-ltb, le-ltb}
+use Rattle.buffer_classes.proofs.Names.{◌≡◌, ℕ, zero, suc, ◌<◌, ◌≤◌, List, [], ◌∷◌, length, map, refl, sym, ap, subst, ◌+◌, arith, lt-ltb, le-ltb, first_fitting, Class}
 use mathlib.Core.Option.{some, some-injective, some-ne-none}
 use lib.ListN.{get_elem?}
-use Rattle.buffer_classes.specs.{first_fitting, Class}
 
 -- the classes before place i are too small for so many bytes
 abbrev pub AreTooSmall : ℕ → ℕ → List Class → Type 0

@@ -1,10 +1,6 @@
 -- What the steps of giving back keep.
-use Rattle.std.proofs.Common.{◌≡◌, ◌≢◌, ℕ, ◌+◌, List, [], ◌∷◌, ◌++◌, refl, sym, ◌∙◌, ap, subst, length, inl, inr, eq-zero-or-pos, ◌≤◌, arith}
-use Rattle.std.proofs.lemmas.List.{append_assoc, append-nil}
-use Rattle.atomic_table.proofs.Lists.{at_last, at_longer, at_snoc}
+use Rattle.buffer_classes.proofs.Names.{◌≡◌, ◌≢◌, ℕ, ◌+◌, List, [], ◌∷◌, ◌++◌, refl, sym, ◌∙◌, ap, subst, length, inl, inr, eq-zero-or-pos, ◌≤◌, arith, append_assoc, append-nil, at_last, at_longer, at_snoc, OfferTells, AreAllBack, IsSettled, AllAdmitted, move, See, reaps, waits, ClassMemo, EndsUnready, OffersOnce, OnlyReaps}
 use Rattle.permit_ring.proofs.Settled.{offer_keeps_settled}
-use Rattle.permit_ring.specs.{OfferTells, AreAllBack, IsSettled, AllAdmitted, move, See, reaps, waits}
-use Rattle.buffer_classes.specs.Giving.{ClassMemo, EndsUnready, OffersOnce, OnlyReaps}
 
 -- a reap more
 pub reaps_on : (mark : ℕ) (old k now : ClassMemo) → now ≡ reaps mark tt k → OnlyReaps old k → OnlyReaps old now

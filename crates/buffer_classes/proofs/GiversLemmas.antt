@@ -1,15 +1,7 @@
 -- What the givers of all classes keep where one of them changes.
-use Rattle.std.proofs.Common.{◌≡◌, ℕ, ◌<◌, length, get_or, set, sym, ap, ◌∙◌, arith}
-use Rattle.std.proofs.lemmas.List.{length-map, length-set}
+use Rattle.buffer_classes.proofs.Names.{◌≡◌, ℕ, ◌<◌, length, get_or, set, sym, ap, ◌∙◌, arith, length-map, length-set, at_index, at_map, at_set, ring_terms, at_length, Buffer, IsBufferOf, class_sizes, AreGiversOf, IsBufferIn, givers_of, IsGiverOf, Class, Giver, Givers, Classes}
 use mathlib.Core.Option.{some, some-injective}
 use lib.ListN.{get_elem?}
-use Rattle.atomic_table.proofs.Lists.{at_index, at_map, at_set}
-use Rattle.permit_ring.specs.Seats.{ring_terms}
-use Rattle.permit_ring.proofs.ListLemmas.{at_length}
-use Rattle.buffer_classes.specs.{Buffer, IsBufferOf, class_sizes, AreGiversOf, IsBufferIn, givers_of, IsGiverOf, Class}
-use Rattle.buffer_classes.specs.declared.giver.Giver.{Giver}
-use Rattle.buffer_classes.specs.declared.givers.Givers.{Givers}
-use Rattle.buffer_classes.specs.Names.{Classes}
 
 module _ {classes : Classes} {givers : Givers} (are : AreGiversOf classes givers) (i : ℕ) (low : i < length (givers_of givers))
     (class : Class) (its : class ≡ get_or classes.classes.items i class) where

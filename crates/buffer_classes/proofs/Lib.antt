@@ -5,6 +5,7 @@ pub mod FittingLemmas
 pub mod GiveLemmas
 pub mod GiversLemmas
 pub mod MakingLemmas
+pub mod Names
 pub mod PutLemmas
 pub use Rattle.buffer_classes.proofs.AskLemmas.{lost_past}
 pub use Rattle.buffer_classes.proofs.ByIndexLemmas.{one_set, below_more, all_below, all_then}

@@ -1,17 +1,9 @@
 -- Classes that are made one after another.
-use Rattle.std.proofs.Common.{◌≡◌, ℕ, zero, suc, ◌<◌, ◌≤◌, ◌⊎◌, List, [], ◌∷◌, ◌++◌, length, map, take, refl, sym, ◌∙◌, ap, ap₂, arith}
-use Rattle.std.proofs.lemmas.List.{length-map, length_push, map-append}
+use Rattle.buffer_classes.proofs.Names.{◌≡◌, ℕ, zero, suc, ◌<◌, ◌≤◌, ◌⊎◌, List, [], ◌∷◌, ◌++◌, length, map, take, refl, sym, ◌∙◌, ap, ap₂, arith, length-map, length_push, map-append, ClassSpec, IsNewSeat, made_memo, seat_memo, new_memo, IsBufferOf, AllOf, AreClasses, RiseFrom, class_sizes, AreGiversOf, givers_of, ClassMemo, AreNewClasses, GetsOne, GetsSeat, IsNewClaimant, IsNewClass, spec_sizes, Class, ClassSeat, IsHisSeat, memo_in, Classes, Giver, Givers, ClaimSeat}
 use mathlib.Core.Option as maybe
 use mathlib.Core.Option.{some, none, some-injective, some-ne-none}
 use lib.ListN.{get_elem?}
-use Rattle.ids_types.specs.declared.class_spec.ClassSpec.{ClassSpec}
 use Rattle.permit_ring.proofs.{at_end, at_length, there, new_ordered}
-use Rattle.permit_ring.specs.{IsNewSeat, made_memo, seat_memo, new_memo}
-use Rattle.buffer_classes.specs.{IsBufferOf, AllOf, AreClasses, RiseFrom, class_sizes, AreGiversOf, givers_of, ClassMemo, AreNewClasses, GetsOne, GetsSeat, IsNewClaimant, IsNewClass, spec_sizes, Class, ClassSeat, IsHisSeat, memo_in}
-use Rattle.buffer_classes.specs.Names.{Classes}
-use Rattle.buffer_classes.specs.declared.giver.Giver.{Giver}
-use Rattle.buffer_classes.specs.declared.givers.Givers.{Givers}
-use Rattle.buffer_classes.specs.declared.seat.ClaimSeat.{ClaimSeat}
 
 -- what a keeper knows once so many seats are made
 pub record IsMade (n seats : ℕ) (k : ClassMemo) : Type 0 where

@@ -1,10 +1,7 @@
 -- Buffers that are put one after another.
-use Rattle.std.proofs.Common.{◌≡◌, ℕ, ◌+◌, cond, ◌==◌, List, [], ◌∷◌, ◌++◌, ◌∙◌, ap, subst, arith, length, length-append}
-use Rattle.std.proofs.lemmas.List.{append_assoc}
+use Rattle.buffer_classes.proofs.Names.{◌≡◌, ℕ, ◌+◌, cond, ◌==◌, List, [], ◌∷◌, ◌++◌, ◌∙◌, ap, subst, arith, length, length-append, append_assoc, Giver, Buffer, AllOf, OneOf, GaveBack, class_count, Begins, Offers, OffersOnce, Puts, filled_count, giver_memo}
 use Rattle.std.proofs.lemmas.Bool.Decides.{nat_tests}
 use Rattle.std.proofs.lemmas.List.Sums.{sum_by_push}
-use Rattle.buffer_classes.specs.declared.giver.Giver.{Giver}
-use Rattle.buffer_classes.specs.{Buffer, AllOf, OneOf, GaveBack, class_count, Begins, Offers, OffersOnce, Puts, filled_count, giver_memo}
 use Rattle.buffer_classes.proofs.ByIndexLemmas.{all_more, all_weaker}
 use Rattle.buffer_classes.proofs.GiveLemmas.{back_on, settled_on, unready_on}
 

@@ -1,16 +1,6 @@
 -- Windows that close: each gives its one item at the first tick of a turn at which it is due.
-use Rattle.std.proofs.Common.{◌≡◌, ℕ, ◌+◌, ◌<◌, ◌≤◌, ◌==◌, ◌||◌, not, Bool, true, false, List, [], ◌∷◌, ◌++◌, filter, filter_map, Option, Some, None, IfSome, is_some, nat_le, option_to_list, option_and_then, option_map, if◌then◌else◌, refl, sym, ap, subst, ◌∙◌, arith, le-leb, ltb-true, ltb-false}
-use Rattle.std.specs.Option.{option_or}
-use Rattle.std.proofs.lemmas.Bool.{lt-leb}
-use Rattle.std.specs.List.{AllByRecursion, list_any, cons_option}
-use Rattle.ids_config.specs.declared.parts.Aggregate.{Aggregate}
+use Rattle.chain_spec.proofs.Names.{◌≡◌, ℕ, ◌+◌, ◌<◌, ◌≤◌, ◌==◌, ◌||◌, not, Bool, true, false, List, [], ◌∷◌, ◌++◌, filter, filter_map, Option, Some, None, IfSome, is_some, nat_le, option_to_list, option_and_then, option_map, if◌then◌else◌, refl, sym, ap, subst, ◌∙◌, arith, le-leb, ltb-true, ltb-false, option_or, lt-leb, AllByRecursion, list_any, cons_option, Aggregate, first_from, closed_item, Call, Arrival, closes_due, arrives, arrived, windows_in, is_due, is_open, newest_where, due_item, closing_item, Item, is_of, item_at, where_true, Window, EndBy, opened, extended, covers, with_item, windows_of}
 use Rattle.chain_spec.specs.Aggregation.{joined}
-use Rattle.chain_spec.specs.ByEvent.{first_from, closed_item}
-use Rattle.chain_spec.specs.Calls.{Call, Arrival, closes_due, arrives, arrived}
-use Rattle.chain_spec.specs.Closing.{windows_in, is_due, is_open, newest_where, due_item, closing_item}
-use Rattle.chain_spec.specs.Items.{Item, is_of, item_at}
-use Rattle.chain_spec.specs.Stages.{where_true}
-use Rattle.chain_spec.specs.Windows.{Window, EndBy, opened, extended, covers, with_item, windows_of}
 use Rattle.chain_spec.proofs.FilterLemmas.{keeps_own}
 use Rattle.chain_spec.proofs.WindowsLemmas.{newest_decides}
 

@@ -1,26 +1,9 @@
 -- The aggregated items of one event over its whole lists: one for each window that closes, at the first turn
 -- at which it is due.
-use Rattle.std.proofs.Common.{◌≡◌, ℕ, zero, suc, ◌+◌, ◌<◌, ◌≤◌, ◌==◌, ◌&&◌, Bool, true, false, List, [], ◌∷◌, ◌++◌, length, map, filter, filter_map, Option, Some, None, IfSome, option_to_list, option_map, if◌then◌else◌, refl, sym, ap, subst, ◌∙◌, arith, eq-eqb, eqb-true, ne_eqb, eq-or-lt_of_le, inl, inr}
-use Rattle.std.specs.List.{AllByRecursion, range_with_len, cons_option}
-use Rattle.std.proofs.lemmas.Bool.{eqb-false}
-use Rattle.std.proofs.lemmas.List.{map-append}
-use Rattle.ids_types.specs.Turns.{Turn}
-use Rattle.ids_types.specs.declared.entry.Act.TheVariants.{Report, State, SetMode}
-use Rattle.ids_types.specs.declared.entry.Act.{Act}
+use Rattle.chain_spec.proofs.Names.{◌≡◌, ℕ, zero, suc, ◌+◌, ◌<◌, ◌≤◌, ◌==◌, ◌&&◌, Bool, true, false, List, [], ◌∷◌, ◌++◌, length, map, filter, filter_map, Option, Some, None, IfSome, option_to_list, option_map, if◌then◌else◌, refl, sym, ap, subst, ◌∙◌, arith, eq-eqb, eqb-true, ne_eqb, eq-or-lt_of_le, inl, inr, AllByRecursion, range_with_len, cons_option, eqb-false, map-append, Turn, Report, State, SetMode, Act, Parts, event_at, internal_of, Aggregate, tick_of, arrival_of, every, closed_item, closed_items, reaching, closes_due, arrives, arrived, closing_ticks, windows_in, aggregated_at, gated, aggregated, thresholded, arrival, alone, is_nth, is_arriving, mode_at, item_in, arrivals, sampled_at, sampled, Item, is_of, told_of, item_at, Moment, closes, comes, state_is, mode_is, closings, turn_moments, moments, head_moment, act_moment, added, where_true, with_all, EndBy, windows_of}
 use Rattle.ids_types.specs.declared.entry.Entry.{Entry}
 use Rattle.ids_types.specs.declared.event.Qualified.{Qualified}
-use Rattle.ids_config.specs.Parts.{Parts, event_at, internal_of}
-use Rattle.ids_config.specs.declared.parts.Aggregate.{Aggregate}
-use Rattle.chain_spec.specs.ByEvent.{tick_of, arrival_of, every, closed_item, closed_items, reaching}
-use Rattle.chain_spec.specs.Calls.{closes_due, arrives, arrived, closing_ticks}
-use Rattle.chain_spec.specs.Closing.{windows_in}
-use Rattle.chain_spec.specs.Filtering.{aggregated_at, gated, aggregated, thresholded, arrival, alone}
-use Rattle.chain_spec.specs.Gate.{is_nth, is_arriving, mode_at, item_in, arrivals, sampled_at, sampled}
 use Rattle.chain_spec.specs.Heads.{Head, heads_of}
-use Rattle.chain_spec.specs.Items.{Item, is_of, told_of, item_at}
-use Rattle.chain_spec.specs.Moments.{Moment, closes, comes, state_is, mode_is, closings, turn_moments, moments, head_moment, act_moment}
-use Rattle.chain_spec.specs.Stages.{added, where_true, with_all}
-use Rattle.chain_spec.specs.Windows.{EndBy, windows_of}
 use Rattle.chain_spec.proofs.AggregationLemmas.{ACall, AnArrival, AWindow, came_at, AreOlderClosed, closing_gives, older_more, arriving_keeps, by_later, arrived_own, windows_own, closing_item_of}
 use Rattle.chain_spec.proofs.FilterLemmas.{drops_other, keeps_own, sampled_every, thresholded_reaching}
 use Rattle.chain_spec.proofs.StageLemmas.{with_all-append}

@@ -1,7 +1,5 @@
 -- Which window covers the tick of an item more, where ticks do not fall: the newest alone decides.
-use Rattle.std.proofs.Common.{◌≡◌, ◌≤◌, ℕ, List, [], ◌∷◌, Bool, true, false, filter, filter_map, Option, Some, None, IfSome, if◌then◌else◌, refl, arith}
-use Rattle.std.specs.List.{cons_option}
-use Rattle.chain_spec.specs.Windows.{Window, EndBy, opened, extended, covers, with_item, windows_of}
+use Rattle.chain_spec.proofs.Names.{◌≡◌, ◌≤◌, ℕ, List, [], ◌∷◌, Bool, true, false, filter, filter_map, Option, Some, None, IfSome, if◌then◌else◌, refl, arith, cons_option, Window, EndBy, opened, extended, covers, with_item, windows_of}
 use Rattle.chain_spec.proofs.WindowsLemmas.{newest_decides, windows_open_by}
 
 -- ---- ticks that do not fall

@@ -1,18 +1,6 @@
 -- The filters of one event, said over whole lists.
-use Rattle.std.proofs.Common.{◌≡◌, ℕ, ◌+◌, ◌%◌, ◌==◌, ◌&&◌, not, Bool, true, false, List, [], ◌∷◌, ◌++◌, length, map, filter, Option, Some, None, option_to_list, option_and_then, option_map, IfSome, ◌↔◌, ◌⊎◌, inl, inr, if◌then◌else◌, refl, sym, ap, subst, ◌∙◌, eqb-true}
-use Rattle.std.specs.Option.{option_or}
-use Rattle.ids_types.specs.declared.mode.Mode.{Mode}
-use Rattle.ids_types.specs.declared.mode.Mode.TheVariants.{Off, Brief, Detailed, BriefBypassing, DetailedBypassing}
-use Rattle.ids_config.specs.Parts.{Parts, event_at}
-use Rattle.ids_config.specs.declared.parts.Window.{Window as Setting}
-use Rattle.chain_spec.specs.ByEvent.{every, reaching}
-use Rattle.chain_spec.specs.Calls.{Call}
+use Rattle.chain_spec.proofs.Names.{◌≡◌, ℕ, ◌+◌, ◌%◌, ◌==◌, ◌&&◌, not, Bool, true, false, List, [], ◌∷◌, ◌++◌, length, map, filter, Option, Some, None, option_to_list, option_and_then, option_map, IfSome, ◌↔◌, ◌⊎◌, inl, inr, if◌then◌else◌, refl, sym, ap, subst, ◌∙◌, eqb-true, option_or, Mode, Off, Brief, Detailed, BriefBypassing, DetailedBypassing, Parts, event_at, Setting, every, reaching, Call, gated_at, aggregated_at, thresholded_at, filtered_at, qualified_at, counted, gated, thresholded, arrival, is_filtered, is_bypassing, is_blocked, is_nth, mode_at, item_in, arrival_at, arrivals, sampled_at, sampled, bypassing_at, Item, is_of, Moment, closes, comes, state_is, mode_is, added, behind, where_true}
 use Rattle.chain_spec.specs.Counting.{Occurrence, among}
-use Rattle.chain_spec.specs.Filtering.{gated_at, aggregated_at, thresholded_at, filtered_at, qualified_at, counted, gated, thresholded, arrival}
-use Rattle.chain_spec.specs.Gate.{is_filtered, is_bypassing, is_blocked, is_nth, mode_at, item_in, arrival_at, arrivals, sampled_at, sampled, bypassing_at}
-use Rattle.chain_spec.specs.Items.{Item, is_of}
-use Rattle.chain_spec.specs.Moments.{Moment, closes, comes, state_is, mode_is}
-use Rattle.chain_spec.specs.Stages.{added, behind, where_true}
 use Rattle.chain_spec.specs.Threshold.{verdict}
 use Rattle.chain_spec.proofs.StageLemmas.{added_behind, added_same}
 

@@ -1,13 +1,6 @@
 -- Each list of the chain for a history with one more turn only has newer elements beside those of the history.
-use Rattle.std.proofs.Common.{◌+◌, ◌≡◌, List, [], ◌∷◌, ◌++◌, length, sym, ap, ◌∙◌, append_assoc, append-nil, length-append, refl, arith}
-use Rattle.ids_types.specs.Turns.{Turn}
-use Rattle.ids_config.specs.Parts.{Parts}
+use Rattle.chain_spec.proofs.Names.{◌+◌, ◌≡◌, List, [], ◌∷◌, ◌++◌, length, sym, ap, ◌∙◌, append_assoc, append-nil, length-append, refl, arith, Turn, Parts, sent, held, qualified_of, messages, ends, handed, handed_on, held_count, BeginsWith, EndsWith, Grows, GrowsAtEnd, Item, message_of, spelled, moments, turn_moments}
 use Rattle.ids_frame.specs.Spelling.{spelling}
-use Rattle.chain_spec.specs.Chain.{sent, held, qualified_of, messages, ends, handed, handed_on, held_count}
-use Rattle.chain_spec.specs.Growth.{BeginsWith, EndsWith, Grows, GrowsAtEnd}
-use Rattle.chain_spec.specs.Items.{Item}
-use Rattle.chain_spec.specs.Messages.{message_of, spelled}
-use Rattle.chain_spec.specs.Moments.{moments, turn_moments}
 use Rattle.chain_spec.proofs.StageLemmas.{ends_with_before, added_grows, filter_grows, map_grows}
 
 -- the bytes of a longer list of items

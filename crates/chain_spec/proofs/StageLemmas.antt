@@ -1,12 +1,6 @@
 -- Lists by stages: their composition, and how they grow.
-use Rattle.std.proofs.Common.{◌≡◌, ℕ, suc, ◌<◌, List, [], ◌∷◌, ◌++◌, length, map, filter, Option, Some, None, Bool, option_to_list, option_and_then, option_map, refl, sym, ap, ◌∙◌, append_assoc, arith}
-use Rattle.std.specs.List.{AllByRecursion}
-use Rattle.std.proofs.lemmas.List.{map-append}
-use Rattle.std.proofs.lemmas.List.Elements.{filter-append, All-from_recursion}
-use Rattle.std.proofs.lemmas.List.Kept.{AllPairs-cons}
-use Rattle.chain_spec.specs.Growth.{EndsWith}
+use Rattle.chain_spec.proofs.Names.{◌≡◌, ℕ, suc, ◌<◌, List, [], ◌∷◌, ◌++◌, length, map, filter, Option, Some, None, Bool, option_to_list, option_and_then, option_map, refl, sym, ap, ◌∙◌, append_assoc, arith, AllByRecursion, map-append, filter-append, All-from_recursion, AllPairs-cons, EndsWith, Stage, added, behind, with_all}
 use Rattle.chain_spec.specs.Places.{placed, HaveOwnPlaces}
-use Rattle.chain_spec.specs.Stages.{Stage, added, behind, with_all}
 
 -- two stages one behind the other add what the second adds to the list of the first
 pub added_behind : {A B C : Type 0} (first : Stage A B) (second : Stage B C) (xs : List A)

@@ -1,10 +1,6 @@
 -- Windows: which item opens one, and that each item lies in one.
-use Rattle.std.proofs.Common.{◌≡◌, ℕ, ◌+◌, ◌≤◌, Bool, true, false, List, [], ◌∷◌, flat_map, if◌then◌else◌, ◌||◌, refl, ap, ◌∙◌, arith, le-ltb, ltb-false}
-use Rattle.std.specs.List.{list_any}
-use Rattle.std.proofs.lemmas.List.Elements.{All-from_recursion}
-use Rattle.std.proofs.lemmas.List.Kept.{AllPairs-cons}
+use Rattle.chain_spec.proofs.Names.{◌≡◌, ℕ, ◌+◌, ◌≤◌, Bool, true, false, List, [], ◌∷◌, flat_map, if◌then◌else◌, ◌||◌, refl, ap, ◌∙◌, arith, le-ltb, ltb-false, list_any, All-from_recursion, AllPairs-cons, Window, EndBy, opened, members, covers, in_newest, with_item, windows_of}
 use Rattle.chain_spec.specs.Openers.{openers, IsBeyond, AreApart}
-use Rattle.chain_spec.specs.Windows.{Window, EndBy, opened, members, covers, in_newest, with_item, windows_of}
 
 module _ {A : Type 0} (tick_of : A → ℕ) (interval : ℕ) where
   -- an item more lies in one window

@@ -1,3 +1,4 @@
+pub mod Names
 mod PrintedLemmas
 mod ShapeLemmas
 pub mod TreeLemmas

@@ -1,22 +1,13 @@
 -- A printed configuration is read back: it has no fault of shape and its own parts, nests little, and has no number with a fraction.
-use Rattle.std.proofs.Common.{◌≡◌, ◌≤◌, ℕ, suc, List, [], ◌∷◌, map, Bool, true, false, ◌||◌, Option, Some, None, option_map, unwrap_or, is_some, Ok, codes, refl, arith}
-use Rattle.std.specs.Prelude.{Result, ⊤}
-use Rattle.std.specs.List.{list_all}
-use Rattle.serde_json.specs.Data.{Data, null, depth, items_depth}
-use Rattle.serde_json.specs.Find.{as_object}
-use Rattle.serde_json.specs.Read.{max_depth}
-use Rattle.serde_json.specs.View.{items_of}
+use Rattle.config_json.proofs.Names.{◌≡◌, ◌≤◌, ℕ, suc, List, [], ◌∷◌, map, Bool, true, false, ◌||◌, Option, Some, None, option_map, unwrap_or, is_some, Ok, codes, refl, arith, Result, ⊤, list_all, Data, null, depth, items_depth, as_object, max_depth, items_of, Event, Parts, each, whole_in, elements, is_null, is_whole, if_object, last_named, window_in, aggregate_in, class_in, state_in, whole, optional, context_name, class_tree, window_tree, aggregate_tree, internal_tree, object_shape, class_shape, aggregate_shape, event_shape_at}
 use Rattle.serde_json.specs.Written.{has_float, items_have_float}
 use Rattle.ids_types.specs.declared.mode.Mode.{Mode}
 use Rattle.ids_types.specs.declared.mode.Mode.TheVariants as modes
 use Rattle.ids_types.specs.ModeNames.{mode_name, mode_named}
-use Rattle.ids_config.specs.Parts.{Event, Parts}
-use Rattle.ids_config.specs.Steps.{each}
 use Rattle.config_json.specs.declared.tables.Form.TheVariants as forms
-use Rattle.config_json.specs.Kinds.{whole_in, elements, is_null, is_whole}
-use Rattle.config_json.specs.Members.{if_object, last_named, window_in, aggregate_in, class_in, state_in, event_in, parts_in}
-use Rattle.config_json.specs.Printed.{whole, optional, context_name, class_tree, window_tree, aggregate_tree, event_tree, internal_tree, config_tree}
-use Rattle.config_json.specs.Shape.{object_shape, class_shape, aggregate_shape, event_shape, event_shape_at, config_shape}
+use Rattle.config_json.specs.Members.{event_in, parts_in}
+use Rattle.config_json.specs.Printed.{event_tree, config_tree}
+use Rattle.config_json.specs.Shape.{event_shape, config_shape}
 use Rattle.config_json.specs.Tables.{window_table, internal_table}
 
 -- ---- names

@@ -1,19 +1,12 @@
 -- The members of an object as its reader meets them: keys, and rows of a constant.
-use Rattle.std.proofs.Common.{◌≡◌, ℕ, List, [], ◌∷◌, map, Some, bytes_eq, string_bytes, refl, sym}
-use Rattle.std.specs.List.{list_any, list_all}
+use Rattle.config_json.proofs.Names.{◌≡◌, ℕ, List, [], ◌∷◌, map, Some, bytes_eq, string_bytes, refl, sym, list_any, list_all, Data, as_object, view, items_view, members_view, elements, is_whole, state_in, names_of, is_named, is_there, is_of_kind, object_shape}
 use Rattle.std.specs.Map.{keys_of}
 use Rattle.std.proofs.lemmas.List.Folds.{list_all-map}
 use Rattle.std.proofs.lemmas.Simd.{map-map}
 use Rattle.serde_json.proofs.Views.{Entry}
-use Rattle.serde_json.specs.Data.{Data}
-use Rattle.serde_json.specs.Find.{as_object}
-use Rattle.serde_json.specs.View.{view, items_view, members_view}
 use Rattle.serde_json.specs.declared.value.Value.{Value}
 use Rattle.config_json.specs.declared.tables.MemberRow.{MemberRow}
-use Rattle.config_json.specs.Kinds.{elements, is_whole}
-use Rattle.config_json.specs.Members.{state_in}
 use Rattle.config_json.specs.Rows.{row_of, is_among, members_shape}
-use Rattle.config_json.specs.Shape.{names_of, is_named, is_there, is_of_kind, object_shape}
 use Rattle.config_json.proofs.PrintedLemmas.{elements_back}
 
 -- all trees of a list are whole numbers

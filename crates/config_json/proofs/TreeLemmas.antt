@@ -1,11 +1,7 @@
 -- The configuration of bytes by the tree that they are the text of.
-use Rattle.std.proofs.Common.{◌≡◌, ℕ, List, Some, None, Err, inl, inr, refl}
-use Rattle.std.specs.Prelude.{IsUtf8}
+use Rattle.config_json.proofs.Names.{◌≡◌, ℕ, List, Some, None, Err, inl, inr, refl, IsUtf8, IsUtf8-from_is_utf8, is_utf8-from_IsUtf8, Data, read}
 use Rattle.std.specs.Str.{is_utf8}
 use Rattle.std.proofs.lemmas.Bool.{cases_Bool}
-use Rattle.std.proofs.lemmas.Str.{IsUtf8-from_is_utf8, is_utf8-from_IsUtf8}
-use Rattle.serde_json.specs.Data.{Data}
-use Rattle.serde_json.specs.Read.{read}
 use Rattle.config_json.specs.Configured.{config_in, configuration, no_tree}
 
 -- text that is read as a tree is the text of that tree

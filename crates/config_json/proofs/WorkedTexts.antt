@@ -1,10 +1,8 @@
 -- The text that docs/FORMATS.md shows, so that a wrong rule in the definitions does not check.
-use Rattle.std.proofs.Common.{◌≡◌, [], ◌∷◌, None, refl}
-use Rattle.std.specs.Prelude.{codes}
+use Rattle.config_json.proofs.Names.{◌≡◌, [], ◌∷◌, None, refl, codes, Parts, plain_event, config_text}
 use Rattle.std.specs.Fmt.{digits}
 use Rattle.serde_json.proofs.OnLiterals.{serde_json_on_literals}
-use Rattle.ids_config.specs.Parts.{Parts, plain_event}
-use Rattle.config_json.specs.Printed.{config_text, config_tree, event_tree}
+use Rattle.config_json.specs.Printed.{config_tree, event_tree}
 
 -- one event, with id 42 and sensor 3, of instance 18 and profile 1, and all else by default
 abbrev base : Parts

@@ -1,36 +1,13 @@
 -- One call of aggregation, and one moment, over what each filter tells of it.
-use Rattle.std.proofs.Common.{◌≡◌, ℕ, ◌≤◌, Bool, true, false, List, [], ◌∷◌, ◌++◌, length, Option, Some, None, IfSome, is_some, option_to_list, option_and_then, option_map, refl, arith}
-use Rattle.std.specs.List.{All}
-use Rattle.std.proofs.lemmas.Grind.{common_steps}
-use Rattle.std.proofs.lemmas.List.Elements.{recursion_from_All}
-use Rattle.std.proofs.lemmas.List.Sorted.{All-permutation}
-use Rattle.ids_types.specs.Carries.{act_by}
-use Rattle.ids_types.specs.Output.{Output}
+use Rattle.event_chain.proofs.Names.{◌≡◌, ℕ, ◌≤◌, Bool, true, false, List, [], ◌∷◌, ◌++◌, length, Option, Some, None, IfSome, is_some, option_to_list, option_and_then, option_map, refl, arith, All, common_steps, recursion_from_All, All-permutation, act_by, Output, Qualified, EventIndex, Parts, Call, call_tick, gated_at, aggregated_at, thresholded_at, gated, aggregated, qualified, Item, item_at, told_by, kept_parcel, Moment, act_moment, comes, IsShort, Accounts, item_due, slots_by, Slot, with_context, GateStands, Start, added_behind, Filters, IsBehind, kept_told, CountingStands, Flows, joined_with, items_with}
 use Rattle.ids_types.specs.declared.entry.Act.TheVariants.{Report}
 use Rattle.ids_types.specs.declared.entry.Carried.{Carried}
 use Rattle.ids_types.specs.declared.entry.Carried.TheVariants.{Absent, Kept, Missing}
-use Rattle.ids_types.specs.declared.event.Qualified.{Qualified}
-use Rattle.ids_types.specs.declared.names.EventIndex.{EventIndex}
 use Rattle.ids_types.specs.declared.names.Stamp.{Stamp}
-use Rattle.ids_config.specs.Parts.{Parts}
-use Rattle.chain_spec.specs.Calls.{Call, call_tick}
-use Rattle.chain_spec.specs.Filtering.{gated_at, aggregated_at, thresholded_at, gated, aggregated, qualified}
 use Rattle.chain_spec.specs.Gate.{bypassing_at}
-use Rattle.chain_spec.specs.Items.{Item, item_at, told_by, kept_parcel}
-use Rattle.chain_spec.specs.Moments.{Moment, act_moment, comes}
-use Rattle.chain.specs.Parcels.{IsShort}
-use Rattle.filter_aggregate.specs.Account.{Accounts}
-use Rattle.filter_aggregate.specs.Slots.{item_due, slots_by}
 use Rattle.filter_aggregate.specs.Standing.{Stands as WindowsStand}
-use Rattle.filter_aggregate.specs.declared.slot.Slot.{Slot}
 use Rattle.filter_gate.specs.Gate.{Gate}
-use Rattle.filter_gate.specs.Stands.{with_context, Stands as GateStands}
-use Rattle.sending.specs.Sending.{Start}
-use Rattle.chain_spec.proofs.StageLemmas.{added_behind}
 use Rattle.event_chain.specs.declared.counting.Counting.{Counting}
-use Rattle.event_chain.specs.declared.filters.Filters.{Filters}
-use Rattle.event_chain.specs.Behind.{IsBehind, kept_told}
-use Rattle.event_chain.specs.Flow.{CountingStands, Flows, joined_with, items_with}
 use Rattle.event_chain.proofs.FlowLemmas.{ends_with_call, ends_with_item, or_none}
 
 -- what is not there is none

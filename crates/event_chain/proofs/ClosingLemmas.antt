@@ -1,29 +1,8 @@
 -- The windows of the events that are aggregated close, and it is as if those of all events did.
-use Rattle.std.proofs.Common.{◌≡◌, ℕ, ◌+◌, ◌<◌, ◌≤◌, zero, suc, Bool, true, false, List, [], ◌∷◌, length, map, filter, Option, None, is_some, option_map, refl, sym, ap, subst, ◌∙◌, arith, below_more, slice_set, if◌then◌else◌}
-use Rattle.std.specs.Bool.{IsFalse}
-use Rattle.std.specs.List.{All, AllByRecursion, range_with_len}
-use Rattle.std.proofs.lemmas.Grind.{common_steps}
-use Rattle.std.proofs.lemmas.List.{length-map, set-get_or}
-use Rattle.std.proofs.lemmas.List.Elements.{All-from_recursion}
-use Rattle.ids_types.specs.Output.{Output}
-use Rattle.ids_types.specs.declared.names.EventIndex.{EventIndex}
-use Rattle.ids_config.specs.Parts.{Parts, event_at}
+use Rattle.event_chain.proofs.Names.{◌≡◌, ℕ, ◌+◌, ◌<◌, ◌≤◌, zero, suc, Bool, true, false, List, [], ◌∷◌, length, map, filter, Option, None, is_some, option_map, refl, sym, ap, subst, ◌∙◌, arith, below_more, slice_set, if◌then◌else◌, IsFalse, All, AllByRecursion, range_with_len, common_steps, length-map, set-get_or, All-from_recursion, Output, EventIndex, Parts, event_at, closes_due, gated, item_at, Moment, closes, with_all, fresh_slot, is_due, slot_at, slot_by, Slot, stands_closing, stands_with_closing, Start, Filters, IsBehind, Windowed, aggregating_in, is_aggregated}
 use Rattle.ids_config.specs.declared.parts.Aggregate.{Aggregate}
-use Rattle.chain_spec.specs.Calls.{closes_due}
 use Rattle.chain_spec.specs.Closing.{closing_item}
-use Rattle.chain_spec.specs.Filtering.{gated}
-use Rattle.chain_spec.specs.Items.{item_at}
-use Rattle.chain_spec.specs.Moments.{Moment, closes}
-use Rattle.chain_spec.specs.Stages.{with_all}
-use Rattle.filter_aggregate.specs.Slots.{fresh_slot, is_due, slot_at, slot_by}
-use Rattle.filter_aggregate.specs.declared.slot.Slot.{Slot}
 use Rattle.filter_aggregate.proofs.SlotLemmas.{slot_at_by}
-use Rattle.filter_aggregate.proofs.StandsLemmas.{stands_closing}
-use Rattle.filter_gate.proofs.StandsLemmas.{stands_with_closing}
-use Rattle.sending.specs.Sending.{Start}
-use Rattle.event_chain.specs.declared.filters.Filters.{Filters}
-use Rattle.event_chain.specs.Behind.{IsBehind}
-use Rattle.event_chain.specs.Ready.{Windowed, aggregating_in, is_aggregated}
 use Rattle.event_chain.proofs.CallLemmas.{none_of, behind_call, flows_with}
 use Rattle.event_chain.proofs.Going.{closing_more}
 

@@ -1,21 +1,7 @@
 -- One moment more, by the list that it adds to.
-use Rattle.std.proofs.Common.{◌≡◌, ℕ, ◌≤◌, Bool, List, [], ◌∷◌, ◌++◌, map, Option, Some, None, IfSome, option_to_list, option_and_then, refl, arith, rules}
+use Rattle.event_chain.proofs.Names.{◌≡◌, ℕ, ◌≤◌, Bool, List, [], ◌∷◌, ◌++◌, map, Option, Some, None, IfSome, option_to_list, option_and_then, refl, arith, rules, common_steps, Output, Parts, event_at, Call, call_tick, closes_due, arrives, aggregated_at, thresholded_at, counted, Item, where_true, verdict, EndBy, ThresholdsStand, Threshold, Start, CountingStands, EndAt, joined_with, items_with, OutletStands}
 use Rattle.std.specs.Option.{option_or}
-use Rattle.std.proofs.lemmas.Grind.{common_steps}
-use Rattle.ids_types.specs.Output.{Output}
-use Rattle.ids_config.specs.Parts.{Parts, event_at}
-use Rattle.chain_spec.specs.Calls.{Call, call_tick, closes_due, arrives}
-use Rattle.chain_spec.specs.Filtering.{aggregated_at, thresholded_at, counted}
-use Rattle.chain_spec.specs.Items.{Item}
-use Rattle.chain_spec.specs.Stages.{where_true}
-use Rattle.chain_spec.specs.Threshold.{verdict}
-use Rattle.chain_spec.specs.Windows.{EndBy}
-use Rattle.filter_threshold.specs.Counting.{Stands as ThresholdsStand}
-use Rattle.filter_threshold.specs.declared.threshold.Threshold.{Threshold}
-use Rattle.sending.specs.Sending.{Start}
 use Rattle.event_chain.specs.declared.outlet.Outlet.{Outlet}
-use Rattle.event_chain.specs.Flow.{CountingStands, EndAt, joined_with, items_with}
-use Rattle.event_chain.specs.Outlets.{OutletStands}
 
 -- ---- ticks
 

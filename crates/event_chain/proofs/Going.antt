@@ -1,22 +1,7 @@
 -- What lasts while moments come one after another.
-use Rattle.std.proofs.Common.{◌≡◌, ℕ, ◌+◌, ◌<◌, ◌≤◌, List, [], ◌∷◌, ◌++◌, length, get_or, map, drop, reverse, Some, add-one, drop-cons, ap, sym, subst, ◌∙◌, arith, rules}
-use Rattle.std.specs.List.{slice_get, range_with_len}
-use Rattle.std.proofs.lemmas.List.{reverse-append}
+use Rattle.event_chain.proofs.Names.{◌≡◌, ℕ, ◌+◌, ◌<◌, ◌≤◌, List, [], ◌∷◌, ◌++◌, length, get_or, map, drop, reverse, Some, add-one, drop-cons, ap, sym, subst, ◌∙◌, arith, rules, slice_get, range_with_len, reverse-append, entry_by, Output, Entry, Parts, Moment, act_moment, closes, head_moment, with_all, with_all-append, head_told, Head, Start, Filters, IsBehind, CanSend, HasPlaces, IsReady, SettledAt, Stays}
 use Rattle.std.proofs.lemmas.List.FromFn.{map-range_with_len_more}
 use Rattle.std.proofs.lemmas.Option.{get_or_from_slice_get, slice_get_within}
-use Rattle.ids_types.specs.Carries.{entry_by}
-use Rattle.ids_types.specs.Output.{Output}
-use Rattle.ids_types.specs.declared.entry.Entry.{Entry}
-use Rattle.ids_config.specs.Parts.{Parts}
-use Rattle.chain_spec.specs.Moments.{Moment, act_moment, closes, head_moment}
-use Rattle.chain_spec.specs.Stages.{with_all}
-use Rattle.chain_spec.proofs.StageLemmas.{with_all-append}
-use Rattle.internal_events.specs.HeadView.{head_told}
-use Rattle.internal_events.specs.declared.head_list.Head.{Head}
-use Rattle.sending.specs.Sending.{Start}
-use Rattle.event_chain.specs.declared.filters.Filters.{Filters}
-use Rattle.event_chain.specs.Behind.{IsBehind}
-use Rattle.event_chain.specs.Ready.{CanSend, HasPlaces, IsReady, SettledAt, Stays}
 
 -- the moments of internal events
 abbrev pub head_moments : ℕ → List Head → List Moment

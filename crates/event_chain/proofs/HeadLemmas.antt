@@ -1,16 +1,6 @@
 -- The internal events of a turn: each is an event, and there are three at most.
-use Rattle.std.proofs.Common.{◌≡◌, ℕ, ◌<◌, ◌≤◌, List, [], ◌∷◌, ◌++◌, length, length-append, map, Option, Some, None, sym, ap, subst, arith}
-use Rattle.std.specs.List.{All, AllByRecursion}
-use Rattle.std.proofs.lemmas.Bool.Decides.{nat_tests}
-use Rattle.std.proofs.lemmas.List.{length-map}
-use Rattle.std.proofs.lemmas.List.Elements.{All-append, All-from_recursion, recursion_from_All}
+use Rattle.event_chain.proofs.Names.{◌≡◌, ℕ, ◌<◌, ◌≤◌, List, [], ◌∷◌, ◌++◌, length, length-append, map, Option, Some, None, sym, ap, subst, arith, All, AllByRecursion, nat_tests, length-map, All-append, All-from_recursion, recursion_from_All, Internal, EventIndex, Told, head_for, heads_of, head_told, Head, IsOneOf}
 use Rattle.ids_types.specs.declared.entry.TurnHead.{TurnHead}
-use Rattle.ids_types.specs.declared.internal.Internal.{Internal}
-use Rattle.ids_types.specs.declared.names.EventIndex.{EventIndex}
-use Rattle.chain_spec.specs.Heads.{Head as Told, head_for, heads_of}
-use Rattle.internal_events.specs.HeadView.{head_told}
-use Rattle.internal_events.specs.declared.head_list.Head.{Head}
-use Rattle.event_chain.specs.Chained.{IsOneOf}
 
 -- one of them
 within : (n number : ℕ) (index : Option EventIndex) → IsOneOf n index → AllByRecursion (λ (h : Told). h.event.0 < n) (head_for index number)

@@ -1,3 +1,4 @@
+pub mod Names
 mod CallLemmas
 mod ClosingLemmas
 mod FlowLemmas

@@ -1,29 +1,9 @@
 -- How many parcels a chain keeps, and what holds of its fields when it is made and while it takes turns.
-use Rattle.std.proofs.Common.{◌≡◌, ℕ, ◌<◌, ◌≤◌, Bool, true, List, [], ◌∷◌, ◌++◌, length, map, filter, is_some, Option, Some, None, option_map, option_to_list, refl, sym, ap, subst, ◌∙◌, arith}
-use Rattle.std.specs.Bool.{IsFalse}
-use Rattle.std.specs.List.{range_with_len}
+use Rattle.event_chain.proofs.Names.{◌≡◌, ℕ, ◌<◌, ◌≤◌, Bool, true, List, [], ◌∷◌, ◌++◌, length, map, filter, is_some, Option, Some, None, option_map, option_to_list, refl, sym, ap, subst, ◌∙◌, arith, IsFalse, range_with_len, nat_tests, common_steps, get_or-map, get_or_past, length-map, Entry, Internal, Event, Parts, index_of, internal_of, plain_event, all_parcels, parcel_of, all_kept, Slot, fresh_slot, is_due, slot_at, GateStands, ThresholdsStand, source_of, SenderStands, Filters, IsOneOf, IsSound, Stores, naming_of, AreOwn, HasPlaces, SettledAt, aggregating_in, is_aggregated}
 use Rattle.std.proofs.Math.Path.{fun_ext}
-use Rattle.std.proofs.lemmas.Bool.Decides.{nat_tests}
-use Rattle.std.proofs.lemmas.Grind.{common_steps}
-use Rattle.std.proofs.lemmas.List.{get_or-map, get_or_past, length-map}
-use Rattle.ids_types.specs.declared.entry.Entry.{Entry}
-use Rattle.ids_types.specs.declared.internal.Internal.{Internal}
-use Rattle.ids_config.specs.Parts.{Event, Parts, index_of, internal_of, plain_event}
 use Rattle.ids_config.specs.Valid.{IsValid}
 use Rattle.ids_config.specs.Values.{is_within}
-use Rattle.chain.specs.Parcels.{all_parcels, parcel_of}
-use Rattle.filter_aggregate.specs.Account.{all_kept}
-use Rattle.filter_aggregate.specs.declared.slot.Slot.{Slot}
-use Rattle.filter_aggregate.specs.Slots.{fresh_slot, is_due, slot_at}
-use Rattle.filter_gate.specs.Stands.{Stands as GateStands}
-use Rattle.filter_threshold.specs.Counting.{Stands as ThresholdsStand}
-use Rattle.sending.specs.Sender.{source_of}
-use Rattle.sending.specs.Sending.{Stands as SenderStands}
 use Rattle.event_chain.specs.declared.event_chain.EventChain.TheInside.{Inside}
-use Rattle.event_chain.specs.declared.filters.Filters.{Filters}
-use Rattle.event_chain.specs.Chained.{IsOneOf, IsSound}
-use Rattle.event_chain.specs.Outlets.{Stores, naming_of}
-use Rattle.event_chain.specs.Ready.{AreOwn, HasPlaces, SettledAt, aggregating_in, is_aggregated}
 
 -- ---- parcels
 

@@ -1,19 +1,5 @@
 -- A whole turn: how it begins, and what it leaves.
-use Rattle.std.proofs.Common.{◌≡◌, ℕ, List, [], ◌∷◌, ◌++◌, reverse, sym, ap, subst, ◌∙◌, rules}
-use Rattle.std.proofs.lemmas.List.{reverse-append}
-use Rattle.ids_types.specs.Output.{Output}
-use Rattle.ids_types.specs.Turns.{Turn}
-use Rattle.ids_types.specs.declared.internal.Internal.{Internal}
-use Rattle.ids_config.specs.Parts.{Parts, internal_of}
-use Rattle.chain_spec.specs.Chain.{messages, message_count, qualified_of}
-use Rattle.chain_spec.specs.Moments.{Moment, moments}
-use Rattle.chain_spec.specs.Stages.{with_all}
-use Rattle.chain_spec.proofs.StageLemmas.{with_all-append}
-use Rattle.chain.specs.History.{Sends}
-use Rattle.sending.specs.Sending.{start_of}
-use Rattle.event_chain.specs.declared.filters.Filters.{Filters}
-use Rattle.event_chain.specs.Behind.{IsBehind}
-use Rattle.event_chain.specs.Standing.{Stands}
+use Rattle.event_chain.proofs.Names.{◌≡◌, ℕ, List, [], ◌∷◌, ◌++◌, reverse, sym, ap, subst, ◌∙◌, rules, reverse-append, Output, Turn, Internal, Parts, internal_of, messages, message_count, qualified_of, Moment, moments, with_all, with_all-append, Sends, start_of, Filters, IsBehind, Stands}
 
 module _ {B : Type 0} {held : B → List ℕ} {config : Parts} where
   -- what is behind all moments of a turn stands for the turns with it, and the output has what it sends

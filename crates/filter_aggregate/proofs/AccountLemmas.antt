@@ -1,15 +1,8 @@
 -- Parcels, counted, where one slot changes.
-use Rattle.std.proofs.Common.{◌≡◌, ℕ, suc, zero, ◌<◌, Bool, true, false, List, [], ◌∷◌, ◌++◌, length, Option, Some, None, option_to_list, option_and_then, if◌then◌else◌, sym, subst, append_assoc, arith}
-use Rattle.std.specs.Prelude.{slice_set}
+use Rattle.filter_aggregate.proofs.Names.{◌≡◌, ℕ, suc, zero, ◌<◌, Bool, true, false, List, [], ◌∷◌, ◌++◌, length, Option, Some, None, option_to_list, option_and_then, if◌then◌else◌, sym, subst, append_assoc, arith, slice_set, append-nil, Qualified, Aggregate, Open, Slot, fresh_slot, slot_at, held_in, has_passed, item_due, slot_closed, after_closing, keeps_last, kept_of, spare_of, slot_with, after_arrival}
 use Rattle.std.specs.List.Sorted.{IsPermutation}
-use Rattle.std.proofs.lemmas.List.{append-nil}
 use Rattle.std.proofs.lemmas.List.Sorted.{IsPermutation-refl, IsPermutation-trans, IsPermutation-append_left, IsPermutation-append_right, IsPermutation-append_comm}
-use Rattle.ids_types.specs.declared.event.Qualified.{Qualified}
-use Rattle.ids_config.specs.declared.parts.Aggregate.{Aggregate}
-use Rattle.filter_aggregate.specs.declared.open.Open.{Open}
-use Rattle.filter_aggregate.specs.declared.slot.Slot.{Slot}
 use Rattle.filter_aggregate.specs.Account.{Accounts, kept_in, all_kept}
-use Rattle.filter_aggregate.specs.Slots.{fresh_slot, slot_at, held_in, has_passed, item_due, slot_closed, after_closing, keeps_last, kept_of, spare_of, slot_with, after_arrival}
 
 module _ {B : Type 0} where
   -- two lists before a third change places

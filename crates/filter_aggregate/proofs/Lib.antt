@@ -1,4 +1,5 @@
 pub mod AccountLemmas
+pub mod Names
 pub mod SlotLemmas
 pub mod StandsLemmas
 mod StepLemmas

@@ -1,17 +1,7 @@
 -- Slots: their intervals, and their steps over another holder of context data.
-use Rattle.std.proofs.Common.{◌≡◌, ℕ, ◌<◌, ◌≤◌, Bool, true, false, List, length, map, Option, Some, None, IfSome, option_map, if◌then◌else◌, refl, sym, ap, subst, ◌∙◌}
-use Rattle.std.specs.Prelude.{slice_set, slice_index_or}
-use Rattle.std.proofs.lemmas.List.{get_or-map, map-set}
+use Rattle.filter_aggregate.proofs.Names.{◌≡◌, ℕ, ◌<◌, ◌≤◌, Bool, true, false, List, length, map, Option, Some, None, IfSome, option_map, if◌then◌else◌, refl, sym, ap, subst, ◌∙◌, slice_set, slice_index_or, get_or-map, map-set, Qualified, Aggregate, Event, AllByRecursion, told_by, Open, Slot, fresh_slot, slot_at, HaveIntervals, has_passed, is_due, slot_closed, after_closing, keeps_last, kept_of, window_with, slot_with, after_arrival, open_by, slot_by, slots_by}
 use Rattle.std.proofs.lemmas.List.Elements.{All-set, All-map, All-weaker, All-from_recursion}
-use Rattle.ids_types.specs.declared.event.Qualified.{Qualified}
-use Rattle.ids_config.specs.declared.parts.Aggregate.{Aggregate}
-use Rattle.ids_config.specs.Parts.{Event}
 use Rattle.ids_config.specs.Valid.{IsEvent, IsInterval}
-use Rattle.std.specs.List.{AllByRecursion}
-use Rattle.chain_spec.specs.Items.{told_by}
-use Rattle.filter_aggregate.specs.declared.open.Open.{Open}
-use Rattle.filter_aggregate.specs.declared.slot.Slot.{Slot}
-use Rattle.filter_aggregate.specs.Slots.{fresh_slot, slot_at, HaveIntervals, has_passed, is_due, slot_closed, after_closing, keeps_last, kept_of, window_with, slot_with, after_arrival, open_by, slot_by, slots_by}
 
 -- ---- intervals
 

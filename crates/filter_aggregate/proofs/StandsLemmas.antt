@@ -1,17 +1,5 @@
 -- Slots that stand for a list of calls stand for it with one call more.
-use Rattle.std.proofs.Common.{◌≡◌, ℕ, ◌<◌, ◌≤◌, ◌==◌, Bool, true, false, List, [], ◌∷◌, length, map, Option, Some, None, IfSome, IsSome, refl, sym, ap, subst, ◌∙◌, arith, eqb-true}
-use Rattle.std.specs.Prelude.{slice_set}
-use Rattle.std.proofs.lemmas.Bool.{eqb-false}
-use Rattle.std.proofs.lemmas.List.{get_or-set_same, get_or-set_other, get_or-map, length-set, length-map}
-use Rattle.ids_types.specs.declared.event.Qualified.{Qualified}
-use Rattle.ids_config.specs.declared.parts.Aggregate.{Aggregate}
-use Rattle.ids_config.specs.Parts.{Parts, Event, event_at, plain_event}
-use Rattle.chain_spec.specs.Calls.{Call, closes_due, arrives, call_tick}
-use Rattle.chain_spec.specs.Items.{told_by}
-use Rattle.chain_spec.specs.Windows.{EndBy}
-use Rattle.filter_aggregate.specs.declared.slot.Slot.{Slot}
-use Rattle.filter_aggregate.specs.Slots.{fresh_slot, slot_at, HaveIntervals, is_due, slot_closed, after_closing, slot_with, after_arrival, slot_by, slots_by}
-use Rattle.filter_aggregate.specs.Standing.{slot_after, Stands}
+use Rattle.filter_aggregate.proofs.Names.{◌≡◌, ℕ, ◌<◌, ◌≤◌, ◌==◌, Bool, true, false, List, [], ◌∷◌, length, map, Option, Some, None, IfSome, IsSome, refl, sym, ap, subst, ◌∙◌, arith, eqb-true, slice_set, eqb-false, get_or-set_same, get_or-set_other, get_or-map, length-set, length-map, Qualified, Aggregate, Parts, Event, event_at, plain_event, Call, closes_due, arrives, call_tick, told_by, EndBy, Slot, fresh_slot, slot_at, HaveIntervals, is_due, slot_closed, after_closing, slot_with, after_arrival, slot_by, slots_by, slot_after, Stands}
 use Rattle.filter_aggregate.proofs.SlotLemmas.{due_by, slot_at_by, arrival_by, closing_by}
 use Rattle.filter_aggregate.proofs.StepLemmas.{arrival_slot, arrival_elsewhere, closing_slot, closing_elsewhere}
 

@@ -1,19 +1,9 @@
 -- The slot of an event after one call more.
-use Rattle.std.proofs.Common.{◌≡◌, ℕ, ◌+◌, ◌<◌, ◌≤◌, ◌==◌, ◌||◌, not, min, nat_le, sum_by, Bool, true, false, List, [], ◌∷◌, Option, Some, None, IfSome, IsSome, option_map, if◌then◌else◌, refl, sym, ap, ◌∙◌, arith, le-leb, ltb-true, ltb-false}
-use Rattle.std.specs.List.{list_any, cons_option}
-use Rattle.std.proofs.lemmas.Bool.{lt-leb, eq-eqb}
+use Rattle.filter_aggregate.proofs.Names.{◌≡◌, ℕ, ◌+◌, ◌<◌, ◌≤◌, ◌==◌, ◌||◌, not, min, nat_le, sum_by, Bool, true, false, List, [], ◌∷◌, Option, Some, None, IfSome, IsSome, option_map, if◌then◌else◌, refl, sym, ap, ◌∙◌, arith, le-leb, ltb-true, ltb-false, list_any, cons_option, lt-leb, eq-eqb, Qualified, Aggregate, Call, Arrival, closes_due, arrives, call_tick, arrival_by, arrived, closing_by, closing_ticks, Window, EndBy, opened, extended, covers, windows_of, Open, Slot, fresh_slot, has_passed, is_due, slot_closed, with_item, window_with, slot_with, kept_window, slot_after}
 use Rattle.std.proofs.lemmas.List.Sums.{sum_by-cons}
-use Rattle.ids_types.specs.declared.event.Qualified.{Qualified}
-use Rattle.ids_config.specs.declared.parts.Aggregate.{Aggregate}
-use Rattle.chain_spec.specs.Calls.{Call, Arrival, closes_due, arrives, call_tick, arrival_by, arrived, closing_by, closing_ticks}
 use Rattle.chain_spec.specs.Closing.{newest_where}
 use Rattle.chain_spec.specs.Stages.{where_true}
-use Rattle.chain_spec.specs.Windows.{Window, EndBy, opened, extended, covers, windows_of}
 use Rattle.chain_spec.proofs.CoverLemmas.{end_of_told, with_newest, windows_with}
-use Rattle.filter_aggregate.specs.declared.open.Open.{Open}
-use Rattle.filter_aggregate.specs.declared.slot.Slot.{Slot}
-use Rattle.filter_aggregate.specs.Slots.{fresh_slot, has_passed, is_due, slot_closed, with_item, window_with, slot_with}
-use Rattle.filter_aggregate.specs.Standing.{kept_window, slot_after}
 
 -- ---- ticks
 

@@ -1,14 +1,7 @@
 -- Reading the timestamp, the context and the signature of a message.
-use Rattle.std.proofs.Common.{◌≡◌, ℕ, ◌+◌, ◌-◌, ◌/◌, ◌%◌, ◌^◌, ◌<◌, ◌≤◌, List, [], ◌∷◌, ◌++◌, length, Some, None, refl, sym, ap, subst, ◌∙◌, get_or, arith, inl, inr}
-use Rattle.std.specs.Int.{w16, w32, w64, to_be_bytes}
-use Rattle.std.proofs.lemmas.Bool.{cases_lt, le-ltb, lt-ltb}
-use Rattle.std.proofs.lemmas.List.{append-nil}
-use Rattle.ids_frame.specs.declared.context.Form.{Form}
+use Rattle.ids_frame.proofs.Names.{◌≡◌, ℕ, ◌+◌, ◌-◌, ◌/◌, ◌%◌, ◌^◌, ◌<◌, ◌≤◌, List, [], ◌∷◌, ◌++◌, length, Some, None, refl, sym, ap, subst, ◌∙◌, get_or, arith, inl, inr, w16, w32, w64, to_be_bytes, cases_lt, le-ltb, lt-ltb, append-nil, Form, AreBytes, FitsContext, most_bytes, stamp_part, length_in, context_part, signature_part, Read, ◌>>=◌, number_at}
 use Rattle.ids_frame.specs.declared.context.Form.TheVariants as forms
-use Rattle.ids_frame.specs.Bytes.{AreBytes}
-use Rattle.ids_frame.specs.Context.{FitsContext, most_bytes}
-use Rattle.ids_frame.specs.Spelling.{stamp_part, length_in, context_part, signature_part}
-use Rattle.ids_frame.specs.Reading.{Read, ◌>>=◌, number_at, stamp_at, length_at, context_at, signature_at}
+use Rattle.ids_frame.specs.Reading.{stamp_at, length_at, context_at, signature_at}
 use Rattle.ids_frame.proofs.PartLemmas.{bind_some, bind_none, RunsOut, IsPart, made, part, parts_are_part}
 use Rattle.ids_frame.proofs.NumberLemmas.{bytes_are_part, wide16, wide32, wide64, number_is_part}
 

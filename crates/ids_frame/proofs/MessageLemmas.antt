@@ -1,18 +1,7 @@
 -- What bytes begin with is what is read of them.
-use Rattle.std.proofs.Common.{◌≡◌, ℕ, ◌+◌, ◌*◌, ◌/◌, ◌%◌, ◌^◌, ◌<◌, ◌≤◌, ◌⊎◌, false, List, [], ◌∷◌, ◌++◌, length, drop, Option, Some, None, Ok, Err, refl, sym, ap, subst, ◌∙◌, append_assoc, arith, inl, inr}
-use Rattle.std.specs.Prelude.{IfSome, is_some, ok_or, ◌↔◌}
-use Rattle.std.specs.Result.{result_ok}
-use Rattle.std.specs.Int.{w16}
-use Rattle.std.proofs.lemmas.Bool.{cases_lt, le-leb, lt-leb, eqb-true, eqb-false}
-use Rattle.std.proofs.lemmas.List.{append-nil, length-append}
-use Rattle.std.proofs.lemmas.List.Elements.{All-tail}
+use Rattle.ids_frame.proofs.Names.{◌≡◌, ℕ, ◌+◌, ◌*◌, ◌/◌, ◌%◌, ◌^◌, ◌<◌, ◌≤◌, ◌⊎◌, false, List, [], ◌∷◌, ◌++◌, length, drop, Option, Some, None, Ok, Err, refl, sym, ap, subst, ◌∙◌, append_assoc, arith, inl, inr, IfSome, is_some, ok_or, ◌↔◌, result_ok, w16, cases_lt, le-leb, lt-leb, eqb-true, eqb-false, append-nil, length-append, All-tail, IsByte, AreBytes, FitsContext, MessageParts, FitsMessage, IsKnown, last_version, flag, header, stamp_part, context_part, signature_part, spelling, has_layout, has, message_of, Begun, IsCut, StrangeVersion, StrangePart, Begins}
 use Rattle.ids_frame.specs.declared.fault.FrameFault.TheVariants.{Short, UnknownVersion, UnknownPart}
-use Rattle.ids_frame.specs.Bytes.{IsByte, AreBytes}
-use Rattle.ids_frame.specs.Context.{FitsContext}
-use Rattle.ids_frame.specs.Message.{MessageParts, FitsMessage, IsKnown, last_version}
-use Rattle.ids_frame.specs.Spelling.{flag, header, stamp_part, context_part, signature_part, spelling}
-use Rattle.ids_frame.specs.Reading.{has_layout, has, message_of, parts_at, Begun, message_at}
-use Rattle.ids_frame.specs.Decoding.{IsCut, StrangeVersion, StrangePart, Begins}
+use Rattle.ids_frame.specs.Reading.{parts_at, message_at}
 use Rattle.ids_frame.proofs.PartLemmas.{one_answer, IsPart, Parts, Values, AllCan, made, part, SpelledAs, Makes, parts_are_part, IsThere, optional_is_part}
 use Rattle.ids_frame.proofs.NumberLemmas.{wide16, number_is_part, byte_is_part}
 use Rattle.ids_frame.proofs.FieldLemmas.{stamp_is_part, context_is_part, FitsSignature, signature_is_part}

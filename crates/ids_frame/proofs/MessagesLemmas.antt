@@ -1,17 +1,9 @@
 -- What a file holds is its one list of messages, or the one place where they stop.
-use Rattle.std.proofs.Common.{◌≡◌, ℕ, zero, suc, ◌-◌, ◌<◌, ◌≤◌, ◌==◌, true, false, List, [], ◌∷◌, ◌++◌, length, drop, Ok, Err, refl, sym, ap, subst, ◌∙◌, append_assoc, arith}
-use Rattle.std.specs.Prelude.{◌↔◌}
-use Rattle.std.specs.Result.{result_ok}
+use Rattle.ids_frame.proofs.Names.{◌≡◌, ℕ, zero, suc, ◌-◌, ◌<◌, ◌≤◌, ◌==◌, true, false, List, [], ◌∷◌, ◌++◌, length, drop, Ok, Err, refl, sym, ap, subst, ◌∙◌, append_assoc, arith, ◌↔◌, result_ok, eqb-true, append-nil, length-append, AreBytes, MessageParts, FitsMessage, spelling, Begun, BeginsWith, Begins}
 use Rattle.std.proofs.Math.Dec.{eqb-suc-zero}
-use Rattle.std.proofs.lemmas.Bool.{eqb-true}
-use Rattle.std.proofs.lemmas.List.{append-nil, length-append}
 use Rattle.std.proofs.lemmas.Grind.{flat_map-append}
 use Rattle.ids_frame.specs.declared.fault.FrameFault.{FrameFault}
-use Rattle.ids_frame.specs.Bytes.{AreBytes}
-use Rattle.ids_frame.specs.Message.{MessageParts, FitsMessage}
-use Rattle.ids_frame.specs.Spelling.{spelling}
-use Rattle.ids_frame.specs.Reading.{Begun, message_at}
-use Rattle.ids_frame.specs.Decoding.{BeginsWith, Begins}
+use Rattle.ids_frame.specs.Reading.{message_at}
 use Rattle.ids_frame.specs.Messages.{joined, AreMessages, IsJoined, HasMessages, Held, Holds, before, held_in, messages_read, messages_of}
 use Rattle.ids_frame.proofs.PartLemmas.{behind_bytes, one_answer}
 use Rattle.ids_frame.proofs.MessageLemmas.{again, told, read_of}

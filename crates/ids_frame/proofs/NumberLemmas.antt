@@ -1,12 +1,6 @@
 -- Reading bytes and numbers.
-use Rattle.std.proofs.Common.{◌≡◌, ℕ, suc, ◌-◌, ◌%◌, ◌^◌, ◌<◌, ◌≤◌, List, [], ◌∷◌, ◌++◌, length, get_or, take, drop, replicate, Some, None, refl, sym, ap, subst, ◌∙◌, arith, inl, inr}
-use Rattle.std.specs.Int.{Width, w16, w32, w64, byte_len, from_be_bytes, to_be_bytes}
-use Rattle.std.proofs.lemmas.Bool.{cases_lt, lt-ltb, le-ltb}
-use Rattle.std.proofs.lemmas.List.{append-nil, take_at, drop_at, take-append-drop, length-append, length-take, length-replicate, get_or_past}
-use Rattle.std.proofs.lemmas.List.Elements.{All-append, All-head, All-take, All-replicate, All-from_recursion}
+use Rattle.ids_frame.proofs.Names.{◌≡◌, ℕ, suc, ◌-◌, ◌%◌, ◌^◌, ◌<◌, ◌≤◌, List, [], ◌∷◌, ◌++◌, length, get_or, take, drop, replicate, Some, None, refl, sym, ap, subst, ◌∙◌, arith, inl, inr, Width, w16, w32, w64, byte_len, from_be_bytes, to_be_bytes, cases_lt, lt-ltb, le-ltb, append-nil, take_at, drop_at, take-append-drop, length-append, length-take, length-replicate, get_or_past, All-append, All-head, All-take, All-replicate, All-from_recursion, IsByte, AreBytes, bytes_at, byte_at, number_at}
 use Rattle.std.proofs.lemmas.Nat.{be_bytes_2, be_bytes_4, be_bytes_8, from_be_bytes-to_be_bytes_2, from_be_bytes-to_be_bytes_4, from_be_bytes-to_be_bytes_8}
-use Rattle.ids_frame.specs.Bytes.{IsByte, AreBytes}
-use Rattle.ids_frame.specs.Reading.{bytes_at, byte_at, number_at}
 use Rattle.ids_frame.proofs.PartLemmas.{one_answer, RunsOut, IsPart, made, part, parts_are_part}
 
 -- ---- bytes

@@ -1,11 +1,6 @@
 -- What a reader of a part and the part's spelling have to do with each other, for one part and for
 -- several, one behind the other.
-use Rattle.std.proofs.Common.{◌≡◌, ℕ, ◌⊎◌, Bool, true, false, List, [], ◌∷◌, ◌++◌, length, Some, None, refl, sym, ap, subst, ◌∙◌, append_assoc, inl, inr}
-use Rattle.std.specs.Prelude.{Option, IfSome, is_some}
-use Rattle.std.proofs.lemmas.List.{append-nil, drop_at}
-use Rattle.std.proofs.lemmas.List.Elements.{All-drop}
-use Rattle.ids_frame.specs.Bytes.{IsByte, AreBytes}
-use Rattle.ids_frame.specs.Reading.{Read, ◌>>=◌, optional}
+use Rattle.ids_frame.proofs.Names.{◌≡◌, ℕ, ◌⊎◌, Bool, true, false, List, [], ◌∷◌, ◌++◌, length, Some, None, refl, sym, ap, subst, ◌∙◌, append_assoc, inl, inr, Option, IfSome, is_some, append-nil, drop_at, All-drop, IsByte, AreBytes, Read, ◌>>=◌, optional}
 
 -- ---- steps of a reader
 

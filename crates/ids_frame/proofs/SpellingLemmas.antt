@@ -1,12 +1,8 @@
 -- How long spellings are.
-use Rattle.std.specs.Prelude.{ℕ, ◌+◌, ◌≤◌, List, length, Option, Some, None, IsNone, IfSome}
-use Rattle.std.proofs.Common.{arith, rules, length-append}
+use Rattle.ids_frame.proofs.Names.{ℕ, ◌+◌, ◌≤◌, List, length, Option, Some, None, IsNone, IfSome, arith, rules, Form, ContextPart, MessageParts, stamp_part, length_in, context_part, signature_part, spelling}
+use Rattle.std.proofs.Common.{length-append}
 use Rattle.ids_types.specs.declared.names.Stamp.{Stamp}
-use Rattle.ids_frame.specs.declared.context.Form.{Form}
 use Rattle.ids_frame.specs.declared.context.Form.TheVariants.{Short, Long}
-use Rattle.ids_frame.specs.Context.{ContextPart}
-use Rattle.ids_frame.specs.Message.{MessageParts}
-use Rattle.ids_frame.specs.Spelling.{stamp_part, length_in, context_part, signature_part, spelling}
 
 -- the timestamp has eight bytes where it is there
 length-stamp_part : (stamp : Option Stamp) → length (stamp_part stamp) ≤ 8

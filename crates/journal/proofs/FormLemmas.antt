@@ -1,10 +1,5 @@
 -- The numbers of a missing context, one after another.
-use Rattle.std.proofs.Common.{◌≡◌, ℕ, suc, ◌+◌, ◌-◌, ◌<◌, List, length, take, set, sym, ap, ◌∙◌, arith}
-use Rattle.std.specs.Prelude.{Option, Some}
-use Rattle.std.proofs.lemmas.List.{take_more_set}
-use Rattle.text_spec.specs.Contexts.{numbers_in}
-use Rattle.text_spec.specs.Fields.{a_number, first_as}
-use Rattle.text_spec.proofs.NumberLists.{with_front, front_more, numbers_more}
+use Rattle.journal.proofs.Names.{◌≡◌, ℕ, suc, ◌+◌, ◌-◌, ◌<◌, List, length, take, set, sym, ap, ◌∙◌, arith, Option, Some, take_more_set, numbers_in, a_number, first_as, with_front, front_more, numbers_more}
 
 -- one number more was read
 pub next_number : (i n : ℕ) (values : List ℕ) (rest next : List (List ℕ)) (expected : Option (List ℕ)) → i < 4 → i < length values

@@ -1,3 +1,4 @@
 pub mod FormLemmas
+pub mod Names
 pub mod PrintingLemmas
 pub mod ReadingLemmas

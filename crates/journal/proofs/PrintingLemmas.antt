@@ -1,16 +1,5 @@
 -- The text of lines, one after another.
-use Rattle.std.proofs.Common.{◌≡◌, ℕ, ◌==◌, List, [], ◌∷◌, ◌++◌, length, map, refl, sym, ap, ◌∙◌, append_assoc, arith}
-use Rattle.std.specs.Prelude.{decimal}
-use Rattle.std.specs.List.{flat_map, join_with_byte}
-use Rattle.std.proofs.lemmas.Bool.{cond-false, ne_eqb}
-use Rattle.std.proofs.lemmas.List.{map-append}
-use Rattle.ids_types.specs.Turns.{Turn}
-use Rattle.text_spec.specs.Contexts.{point}
-use Rattle.text_spec.specs.Fields.{ended_line}
-use Rattle.text_spec.specs.JournalText.{Entry, Loss, Line, enters, loses, line_for, fields_of, turn_told}
-use Rattle.text_spec.proofs.JournalFacts.{flat_map-push}
-use Rattle.text_spec.proofs.WordsLemmas.{text_of-map}
-use Rattle.journal.specs.Printing.{lines_text, pointed}
+use Rattle.journal.proofs.Names.{◌≡◌, ℕ, ◌==◌, List, [], ◌∷◌, ◌++◌, length, map, refl, sym, ap, ◌∙◌, append_assoc, arith, decimal, flat_map, join_with_byte, cond-false, ne_eqb, map-append, Turn, point, ended_line, Entry, Loss, Line, enters, loses, line_for, fields_of, turn_told, flat_map-push, text_of-map, lines_text, pointed}
 
 -- the entries of a turn, and one more
 pub entries-push : (front : List (Entry (List ℕ))) (entry : Entry (List ℕ)) → lines_text (map enters (front ++ entry ∷ [])) ≡ lines_text (map enters front) ++ ended_line (fields_of (enters entry))

@@ -1,15 +1,12 @@
 -- What a reading of a text says of it.
-use Rattle.std.proofs.Common.{◌≤◌, ℕ, List, length, subst}
-use Rattle.std.specs.Prelude.{Result, Ok, Err, IfOk, IfErr}
+use Rattle.journal.proofs.Names.{◌≤◌, ℕ, List, length, subst, Result, Ok, Err, IfOk, IfErr, Told, HasNone}
 use Rattle.ids_config.specs.Parts.{Parts}
 use Rattle.text_spec.specs.JournalReading.{IsJournal, journal_in}
-use Rattle.text_spec.specs.JournalText.{Told}
 use Rattle.text_spec.specs.LineAnswers.{Fails, Reads}
 use Rattle.text_spec.specs.Lines.{BadLine}
 use Rattle.text_spec.specs.declared.fault.TextFault.{TextFault}
 use Rattle.text_spec.specs.declared.fault.TextFault.TheVariants as faults
 use Rattle.text_spec.proofs.JournalLaws.{told_is_journal, journal_is_told, bad_is_none}
-use Rattle.journal.specs.Answers.{HasNone}
 
 -- what was read is a journal
 pub found : {X : Type 0} (view : X → Told) (config : Parts) (text : List ℕ) (read : Result X TextFault) → length config.events ≤ 256

@@ -1,25 +1,12 @@
 -- What a close leaves.
-use Rattle.std.proofs.Common.{◌≡◌, ℕ, zero, suc, ◌+◌, ◌<◌, true, is_some, Option, Some, List, [], ◌∷◌, ◌++◌, length, map, refl, sym, subst, ap, ◌∙◌, sum, sum_by, arith}
-use Rattle.std.proofs.lemmas.List.{length-map}
-use Rattle.std.proofs.lemmas.List.Sums.{sum_by-cons}
+use Rattle.main_function.proofs.Names.{◌≡◌, ℕ, zero, suc, ◌+◌, ◌<◌, true, is_some, Option, Some, List, [], ◌∷◌, ◌++◌, length, map, refl, sym, subst, ap, ◌∙◌, sum, sum_by, arith, length-map, sum_by-cons, Turn, Parts, Buffer, AllOf, givers_of, GivesBack, AreAllSwept, AreCallersBack, IsAllTaken, contexts_back, events_back, TakerView, EachSettled, IsDeskOf, desk_view, to_give_back, Act, PassView, missing_in, Desk, Shared, all_calls, all_accepted, AreCountsOf, AreSumsOf, Closed, OnlyWelcomes, all_back, ShowsHistory, AreTotals, IsManagerOf, Stands, has_taken, Turned, Manager, Totals}
 use mathlib.Core.Option.{some}
 use Rattle.atomic_table.proofs.Lists.{at_map}
 use lib.ListN.{get_elem?}
-use Rattle.ids_types.specs.Turns.{Turn}
-use Rattle.ids_config.specs.Parts.{Parts}
-use Rattle.buffer_classes.specs.{Buffer, AllOf, givers_of}
 use Rattle.merge_spec.specs.Fronts.{fronts_from}
 use Rattle.merge_spec.proofs.PlaceLemmas.{stands_left}
-use Rattle.report_queue.specs.{GivesBack, AreAllSwept, AreCallersBack, IsAllTaken, contexts_back, events_back, TakerView}
 use Rattle.report_queue.specs.declared.cargo.Item.{Item}
-use Rattle.report_api.specs.{EachSettled, IsDeskOf, desk_view, to_give_back, Act, PassView, missing_in}
-use Rattle.report_api.specs.declared.desk.Desk.{Desk}
-use Rattle.report_api.specs.declared.shared.Shared.{Shared}
 use Rattle.desk_closing.specs.{HaveAllCalls, ClosedDesk, IsMadeFor, plain_item}
-use Rattle.desk_closing.proofs.{all_calls, all_accepted}
-use Rattle.main_function.specs.{AreCountsOf, AreSumsOf, Closed, OnlyWelcomes, all_back, ShowsHistory, AreTotals, IsManagerOf, Stands, has_taken, Turned}
-use Rattle.main_function.specs.declared.manager.Manager.{Manager}
-use Rattle.main_function.specs.declared.rest.Totals.{Totals}
 
 -- what was all taken stays so when positions are given back
 gave_back : (mid new : TakerView Act) (bound count : ℕ) → GivesBack bound count mid new → IsAllTaken mid → IsAllTaken new

@@ -1,21 +1,9 @@
 -- What is known of items that the desk admits.
-use Rattle.std.proofs.Common.{◌≡◌, ℕ, zero, suc, ◌*◌, ◌≤◌, ◌<◌, true, List, [], ◌∷◌, length, IfSome, subst, sym, arith, rules}
+use Rattle.main_function.proofs.Names.{◌≡◌, ℕ, zero, suc, ◌*◌, ◌≤◌, ◌<◌, true, List, [], ◌∷◌, length, IfSome, subst, sym, arith, rules, All, AllByRecursion, All-from_recursion, All-weaker, recursion_from_All, sum_by-cons, act_by, entry_by, Entry, AllAdmitted, HandsBack, IsShort, all_parcels, parcel_of, FitsAct, FitsTurn, bytes_in, Buffer, AreBuffersIn, Act, Report, State, SetMode, Absent, Kept, Missing, AdmitsAct, AdmitsItem, is_sensor, term_sizes, ReportTerms, IsHeld, held, items_of}
 use mathlib.Core.Option.{some}
 use lib.ListN.{get_elem?}
-use Rattle.std.specs.List.{All, AllByRecursion}
-use Rattle.std.proofs.lemmas.List.Elements.{All-from_recursion, All-weaker, recursion_from_All}
-use Rattle.std.proofs.lemmas.List.Sums.{sum_by-cons}
-use Rattle.ids_types.specs.Carries.{act_by, entry_by}
 use Rattle.ids_types.specs.Plain.{act_bytes, kept_bytes}
-use Rattle.ids_types.specs.declared.entry.Entry.{Entry}
-use Rattle.permit_ring.specs.Hands.{AllAdmitted}
-use Rattle.chain.specs.Parcels.{HandsBack, IsShort, all_parcels, parcel_of}
-use Rattle.chain.specs.Turning.{FitsAct, FitsTurn, bytes_in}
 use Rattle.chain.proofs.ParcelLemmas.{parcels_keep}
-use Rattle.buffer_classes.specs.{Buffer, AreBuffersIn}
-use Rattle.report_api.specs.{Act, Report, State, SetMode, Absent, Kept, Missing, AdmitsAct, AdmitsItem, is_sensor, term_sizes}
-use Rattle.report_api.specs.declared.terms.ReportTerms.{ReportTerms}
-use Rattle.main_function.specs.{IsHeld, held, items_of}
 
 -- a sensor's event is configured
 known : (terms : ReportTerms) (event : ℕ) → is_sensor terms event ≡ true → event < terms.events

@@ -1,3 +1,4 @@
+pub mod Names
 mod ClosingLemmas
 mod FittingLemmas
 mod MakingLemmas

@@ -1,25 +1,8 @@
 -- A manager that has just been made.
-use Rattle.std.proofs.Common.{◌≡◌, ℕ, zero, suc, ◌+◌, ◌≤◌, ◌<◌, max, None, Some, List, [], ◌∷◌, ◌++◌, get_or, length, map, take, refl, subst, sym, ap, ◌∙◌, arith, rules}
-use Rattle.std.specs.List.{All, AllByRecursion}
+use Rattle.main_function.proofs.Names.{◌≡◌, ℕ, zero, suc, ◌+◌, ◌≤◌, ◌<◌, max, None, Some, List, [], ◌∷◌, ◌++◌, get_or, length, map, take, refl, subst, sym, ap, ◌∙◌, arith, rules, All, AllByRecursion, common_steps, length-map, length-replicate, map-append, take_more, All-cons, All-nil, All-pop, All-push, All-weaker, recursion_from_All, Turn, Parts, class_of, AllAdmitted, Buffer, IsSpec, spec_sizes, givers_of, IsHeld, IsBuilt, IsLargest, IsNewManager, AreAllPasses, desk_view, to_give_back, IsNewMaking, sizes_of, Desk, Pass, Shared, at_length, there, IsMadeFor, rings_have, or_at, Manager}
 use Rattle.std.proofs.Math.Nat.{le-max_left, le-max_right, max-le}
-use Rattle.std.proofs.lemmas.Grind.{common_steps}
-use Rattle.std.proofs.lemmas.List.{length-map, length-replicate, map-append, take_more}
-use Rattle.std.proofs.lemmas.List.Elements.{All-cons, All-nil, All-pop, All-push, All-weaker, recursion_from_All}
-use Rattle.ids_types.specs.Turns.{Turn}
-use Rattle.ids_config.specs.Parts.{Parts, class_of}
-use Rattle.permit_ring.specs.Hands.{AllAdmitted}
-use Rattle.buffer_classes.specs.{Buffer, IsSpec, spec_sizes, givers_of}
 use Rattle.ids_types.specs.declared.class_spec.ClassSpec.{ClassSpec}
-use Rattle.main_function.specs.{IsHeld, IsBuilt, IsLargest, IsNewManager, AreAllPasses}
-use Rattle.report_api.specs.{desk_view, to_give_back, IsNewMaking, sizes_of}
-use Rattle.report_api.specs.declared.desk.Desk.{Desk}
-use Rattle.report_api.specs.declared.pass.Pass.{Pass}
-use Rattle.report_api.specs.declared.shared.Shared.{Shared}
-use Rattle.permit_ring.proofs.ListLemmas.{at_length, there}
 use Rattle.buffer_classes.specs.declared.class.Class.{Class}
-use Rattle.desk_closing.specs.Closed.{IsMadeFor}
-use Rattle.desk_closing.proofs.{rings_have, or_at}
-use Rattle.main_function.specs.declared.manager.Manager.{Manager}
 
 -- the largest of one size more
 larger : (sizes : List ℕ) (largest size : ℕ) → IsLargest sizes largest → IsLargest (sizes ++ size ∷ []) (max largest size)

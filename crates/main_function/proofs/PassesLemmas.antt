@@ -1,21 +1,10 @@
 -- All passes of a making, and the givers of its desk.
-use Rattle.std.proofs.Common.{◌≡◌, ℕ, suc, inl, inr, ◌≤◌, ◌<◌, ◌^◌, List, [], ◌∷◌, length, map, sum_by, refl, subst, arith}
-use Rattle.std.proofs.lemmas.List.{get_or-map, length-map}
-use Rattle.std.proofs.lemmas.List.Sums.{sum_by-cons}
+use Rattle.main_function.proofs.Names.{◌≡◌, ℕ, suc, inl, inr, ◌≤◌, ◌<◌, ◌^◌, List, [], ◌∷◌, length, map, sum_by, refl, subst, arith, get_or-map, length-map, sum_by-cons, All, AllByRecursion, All-from_recursion, there, AreGiversOf, givers_of, late_of, TakerView, Act, pass_view, Pass, Shared}
 use mathlib.Core.Option.{some}
 use Rattle.std.proofs.lemmas.Bool.{cases_lt}
 use lib.ListN.{get_elem?}
-use Rattle.std.specs.List.{All, AllByRecursion}
-use Rattle.std.proofs.lemmas.List.Elements.{All-from_recursion}
-use Rattle.permit_ring.proofs.ListLemmas.{there}
-use Rattle.buffer_classes.specs.Givers.{AreGiversOf, givers_of, late_of}
 use Rattle.buffer_classes.specs.declared.class.Classes.{Classes}
 use Rattle.buffer_classes.specs.declared.givers.Givers.{Givers}
-use Rattle.report_queue.specs.Views.{TakerView}
-use Rattle.report_api.specs.Names.{Act}
-use Rattle.report_api.specs.Passes.{pass_view}
-use Rattle.report_api.specs.declared.pass.Pass.{Pass}
-use Rattle.report_api.specs.declared.shared.Shared.{Shared}
 use Rattle.main_function.specs.Standing.{AreAllPasses, HasFewCalls, all_calls}
 
 -- few buffers of a class are late

@@ -1,21 +1,6 @@
 -- What a turn adds to the desk, and to what it shows of a history.
-use Rattle.std.proofs.Common.{◌≡◌, ℕ, ◌+◌, ◌<◌, List, [], ◌∷◌, ◌++◌, length, map, refl, subst, sym, ap, arith}
-use Rattle.std.proofs.lemmas.Grind.{common_steps, flat_map-append}
-use Rattle.std.proofs.lemmas.List.{length-map, map-append}
-use Rattle.std.proofs.lemmas.List.Sums.{sum_by_push}
-use Rattle.ids_types.specs.Carries.{entry_by}
-use Rattle.ids_types.specs.declared.entry.Entry.{Entry}
-use Rattle.ids_types.specs.declared.entry.TurnHead.{TurnHead}
-use Rattle.ids_types.specs.Turns.{Turn}
-use Rattle.chain.specs.Turning.{turn_by}
-use Rattle.buffer_classes.specs.Buffers.{Buffer}
+use Rattle.main_function.proofs.Names.{◌≡◌, ℕ, ◌+◌, ◌<◌, List, [], ◌∷◌, ◌++◌, length, map, refl, subst, sym, ap, arith, common_steps, flat_map-append, length-map, map-append, sum_by_push, entry_by, Entry, TurnHead, Turn, turn_by, Buffer, GivesBack, sweeps_both, TakerView, Act, ReportTerms, MakesTurn, ShowsHistory, held, EndsUnready, Took, item_of, items_of, AreTotals, plain_item, Totals}
 use Rattle.merge_spec.proofs.FrontLemmas.{fronts_more}
-use Rattle.report_queue.specs.{GivesBack, sweeps_both, TakerView}
-use Rattle.report_api.specs.Names.{Act}
-use Rattle.report_api.specs.declared.terms.ReportTerms.{ReportTerms}
-use Rattle.main_function.specs.{MakesTurn, ShowsHistory, held, EndsUnready, Took, item_of, items_of, AreTotals}
-use Rattle.desk_closing.specs.Closed.{plain_item}
-use Rattle.main_function.specs.declared.rest.Totals.{Totals}
 
 -- the entries of a turn are the items that were taken
 entries_same : (taken : List (Entry Buffer)) → map plain_item (items_of taken) ≡ map (entry_by held) taken

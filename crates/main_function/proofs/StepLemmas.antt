@@ -1,19 +1,6 @@
 -- What a manager between two calls can do, and what it is after a turn.
-use Rattle.std.proofs.Common.{◌≡◌, ℕ, ◌≤◌, List, [], ◌++◌, length, subst, sym, arith, rules}
-use Rattle.std.specs.List.{All}
-use Rattle.std.proofs.lemmas.Grind.{common_steps}
+use Rattle.main_function.proofs.Names.{◌≡◌, ℕ, ◌≤◌, List, [], ◌++◌, length, subst, sym, arith, rules, All, common_steps, recursion_from_All, Entry, AllAdmitted, HandsBack, IsShort, all_parcels, FitsTurn, HasTurnRoom, bytes_in, Buffer, AreBuffersIn, queue_positions, TakerView, Act, sizes_of, term_sizes, Shared, IsHeld, held, IsManagerOf, Took, Manager}
 use Rattle.std.specs.List.Sorted.{IsPermutation}
-use Rattle.std.proofs.lemmas.List.Elements.{recursion_from_All}
-use Rattle.ids_types.specs.declared.entry.Entry.{Entry}
-use Rattle.permit_ring.specs.Hands.{AllAdmitted}
-use Rattle.chain.specs.Parcels.{HandsBack, IsShort, all_parcels}
-use Rattle.chain.specs.Turning.{FitsTurn, HasTurnRoom, bytes_in}
-use Rattle.buffer_classes.specs.{Buffer, AreBuffersIn}
-use Rattle.report_queue.specs.{queue_positions, TakerView}
-use Rattle.report_api.specs.{Act, sizes_of, term_sizes}
-use Rattle.report_api.specs.declared.shared.Shared.{Shared}
-use Rattle.main_function.specs.{IsHeld, held, IsManagerOf, Took}
-use Rattle.main_function.specs.declared.manager.Manager.{Manager}
 use Rattle.main_function.proofs.FittingLemmas.{bytes_fit, come_out, held_in, held_short, items_fit}
 
 module _ {C : Type 0} (events : C → ℕ) (kept : C → List Buffer) (shared : Shared) (m : Manager C) (mine : IsManagerOf events kept shared m) where

@@ -1,15 +1,6 @@
 -- A run of takes, one more at a time.
-use Rattle.std.proofs.Common.{◌≡◌, ◌≢◌, ℕ, ◌+◌, ◌≤◌, ◌<◌, List, [], ◌∷◌, ◌++◌, length, Ok, Err, refl, subst, sym, arith}
-use Rattle.std.specs.List.{All}
-use Rattle.std.proofs.lemmas.Grind.{common_steps}
-use Rattle.std.proofs.lemmas.List.{map-append}
-use Rattle.std.proofs.lemmas.List.Elements.{All-push}
-use Rattle.ids_types.specs.declared.entry.Entry.{Entry}
-use Rattle.buffer_classes.specs.Buffers.{Buffer}
+use Rattle.main_function.proofs.Names.{◌≡◌, ◌≢◌, ℕ, ◌+◌, ◌≤◌, ◌<◌, List, [], ◌∷◌, ◌++◌, length, Ok, Err, refl, subst, sym, arith, All, common_steps, map-append, All-push, Entry, Buffer, TakeTells, TakerView, same_item, Act, AdmitsItem, ReportTerms}
 use Rattle.permit_ring.specs.declared.answer.Unready.{Unready}
-use Rattle.report_queue.specs.{TakeTells, TakerView}
-use Rattle.report_api.specs.{same_item, Act, AdmitsItem}
-use Rattle.report_api.specs.declared.terms.ReportTerms.{ReportTerms}
 use Rattle.main_function.specs.Taking.{Took, has_taken, item_of, items_of}
 
 -- so far each take had an item

@@ -1,15 +1,6 @@
 -- For which turns a manager stands after one more.
-use Rattle.std.proofs.Common.{◌≡◌, ℕ, ◌+◌, ◌≤◌, ◌^◌, List, [], ◌∷◌, ◌++◌, length, sum, ap, arith, rules}
-use Rattle.std.proofs.lemmas.Grind.{common_steps}
-use Rattle.std.proofs.lemmas.List.Sums.{sum_by_push}
-use Rattle.ids_types.specs.declared.entry.Entry.{Entry}
-use Rattle.ids_types.specs.Turns.{Turn}
-use Rattle.ids_config.specs.Parts.{Parts}
+use Rattle.main_function.proofs.Names.{◌≡◌, ℕ, ◌+◌, ◌≤◌, ◌^◌, List, [], ◌∷◌, ◌++◌, length, sum, ap, arith, rules, common_steps, sum_by_push, Entry, Turn, Parts, Buffer, desk_view, MakesTurn, Stands, Manager}
 use Rattle.chain.specs.History.{last_tick}
-use Rattle.buffer_classes.specs.Buffers.{Buffer}
-use Rattle.report_api.specs.Desks.{desk_view}
-use Rattle.main_function.specs.{MakesTurn, Stands}
-use Rattle.main_function.specs.declared.manager.Manager.{Manager}
 use Rattle.main_function.proofs.ReportLemmas.{shows_more}
 
 -- the last of numbers is at most as much as all of them

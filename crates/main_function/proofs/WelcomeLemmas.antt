@@ -1,17 +1,9 @@
 -- All passes come back, the last first.
-use Rattle.std.proofs.Common.{◌≡◌, ℕ, zero, suc, ◌<◌, Some, List, [], ◌∷◌, ◌++◌, Option, length, map, slice_set, take, refl, sym, ap, ◌∙◌, subst, arith}
-use Rattle.std.proofs.lemmas.List.{append-nil, append_assoc, length_push, nil_from_length}
+use Rattle.main_function.proofs.Names.{◌≡◌, ℕ, zero, suc, ◌<◌, Some, List, [], ◌∷◌, ◌++◌, Option, length, map, slice_set, take, refl, sym, ap, ◌∙◌, subst, arith, append-nil, append_assoc, length_push, nil_from_length, at_length, there, AllOf, Welcomed, Takes, ClassSeat, welcomes_caller, TakerView, Act, PassView, IsPassOf, pass_view, Pass, Shared, OnlyWelcomes, all_back, AreAllPasses}
 use mathlib.Core.Option.{some}
 use lib.ListN.{get_elem?}
-use Rattle.permit_ring.proofs.ListLemmas.{at_length, there}
-use Rattle.buffer_classes.specs.{AllOf, Welcomed, Takes, ClassSeat}
 use Rattle.buffer_classes.specs.declared.giver.Giver.{Giver}
 use Rattle.buffer_classes.proofs.ByIndexLemmas.{last_left}
-use Rattle.report_queue.specs.{welcomes_caller, TakerView}
-use Rattle.report_api.specs.{Act, PassView, IsPassOf, pass_view}
-use Rattle.report_api.specs.declared.pass.Pass.{Pass}
-use Rattle.report_api.specs.declared.shared.Shared.{Shared}
-use Rattle.main_function.specs.{OnlyWelcomes, all_back, AreAllPasses}
 
 -- those of the passes that are left did not come back yet, and those behind them did
 pub record WelcomesSo (passes left : List Pass) (old now : TakerView Act) : Type 0 where

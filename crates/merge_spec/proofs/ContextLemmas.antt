@@ -1,16 +1,7 @@
 -- What settled logs make of a history.
-use Rattle.std.proofs.Common.{◌≡◌, ℕ, ◌+◌, ◌==◌, Some, List, length, refl, sym, ◌∙◌, subst, eq-eqb, arith}
+use Rattle.merge_spec.proofs.Names.{◌≡◌, ℕ, ◌+◌, ◌==◌, Some, List, length, refl, sym, ◌∙◌, subst, eq-eqb, arith, Turn, entries_of, Parts, Act, Entry, too_small, claims_of, IsLegalMiss, Fate, lost, accepted, claims_got, Calls, entries_by, StandsIn, claims_by, AreSettled, AreLegalContexts}
 use mathlib.Core.Option.{some}
 use lib.ListN.{get_elem?}
-use Rattle.ids_types.specs.Turns.{Turn, entries_of}
-use Rattle.ids_config.specs.Parts.{Parts}
-use Rattle.merge_spec.specs.Names.{Act, Entry}
-use Rattle.merge_spec.specs.Contexts.{too_small, claims_of, IsLegalMiss}
-use Rattle.merge_spec.specs.Fates.{Fate, lost, accepted, claims_got}
-use Rattle.merge_spec.specs.Follows.{Calls}
-use Rattle.merge_spec.specs.Losses.{entries_by}
-use Rattle.merge_spec.specs.Orders.{StandsIn}
-use Rattle.merge_spec.specs.Settled.{claims_by, AreSettled, AreLegalContexts}
 use Rattle.merge_spec.proofs.FatesLemmas.{fate_within, got_rise}
 use Rattle.merge_spec.proofs.FollowsLemmas.{Shows, call_was, calls_got, log_shows, shown_in_order}
 use Rattle.merge_spec.proofs.PlaceLemmas.{stands_kept, stands_where_counted}

@@ -1,15 +1,7 @@
 -- What decided calls make of a history and its losses.
-use Rattle.std.proofs.Common.{◌≡◌, ℕ, zero, suc, ◌+◌, ◌≤◌, ◌==◌, if◌then◌else◌, List, [], ◌∷◌, map, refl, inr, sym, ap, ◌∙◌, subst, eq-eqb, arith}
-use Rattle.std.proofs.lemmas.List.{length-map}
+use Rattle.merge_spec.proofs.Names.{◌≡◌, ℕ, zero, suc, ◌+◌, ◌≤◌, ◌==◌, if◌then◌else◌, List, [], ◌∷◌, map, refl, inr, sym, ap, ◌∙◌, subst, eq-eqb, arith, length-map, Turn, entries_of, Entry, Loss, fates_of, AreDecided, tickets_from, tickets_of, IsDecided, losses_from, all_losses, Fate, lost, accepted, end_of, calls_of, losses_by, IsTicket, IsLegalLoss, AreMerged, StandsIn, times, once_below, RiseFrom}
 use mathlib.Core.Option.{some, some-injective}
 use lib.ListN.{get_elem?}
-use Rattle.ids_types.specs.Turns.{Turn, entries_of}
-use Rattle.merge_spec.specs.Names.{Entry, Loss}
-use Rattle.merge_spec.specs.Decided.{fates_of, AreDecided, tickets_from, tickets_of, IsDecided, losses_from, all_losses}
-use Rattle.merge_spec.specs.Fates.{Fate, lost, accepted, end_of}
-use Rattle.merge_spec.specs.Losses.{calls_of, losses_by, IsTicket, IsLegalLoss}
-use Rattle.merge_spec.specs.Merge.{AreMerged}
-use Rattle.merge_spec.specs.Orders.{StandsIn, times, once_below, RiseFrom}
 use Rattle.merge_spec.proofs.FatesLemmas.{fate_within, fates_in_order}
 use Rattle.merge_spec.proofs.LossLemmas.{of_caller, loss_is, givens_keep_up, losses_ordered}
 use Rattle.merge_spec.proofs.PlaceLemmas.{stands_either, stands_kept}

@@ -1,9 +1,7 @@
 -- The order of what became of a caller's calls.
-use Rattle.std.proofs.Common.{◌≡◌, ℕ, zero, suc, ◌+◌, ◌<◌, ◌≤◌, List, [], ◌∷◌, ◌++◌, refl, ap, arith}
+use Rattle.merge_spec.proofs.Names.{◌≡◌, ℕ, zero, suc, ◌+◌, ◌<◌, ◌≤◌, List, [], ◌∷◌, ◌++◌, refl, ap, arith, Fate, lost, accepted, start_of, end_of, FatesFrom, end_from, claims_got, StandsIn, RiseFrom}
 use mathlib.Core.Option.{some, some-injective}
 use lib.ListN.{get_elem?}
-use Rattle.merge_spec.specs.Fates.{Fate, lost, accepted, start_of, end_of, FatesFrom, end_from, claims_got}
-use Rattle.merge_spec.specs.Orders.{StandsIn, RiseFrom}
 
 -- a call ends no earlier than it starts, and a log no earlier than its first call
 start_end : (fate : Fate) → start_of fate ≤ end_of fate

@@ -1,14 +1,7 @@
 -- What the calls of a caller asked of a class, and its entries.
-use Rattle.std.proofs.Common.{◌≡◌, ℕ, zero, suc, ◌+◌, ◌-◌, ◌<◌, ◌≤◌, Option, Some, None, List, [], ◌∷◌, ◌++◌, length, refl, sym, ap, ap₂, ◌∙◌, append_assoc, subst, arith}
-use Rattle.std.proofs.lemmas.List.{append-nil}
+use Rattle.merge_spec.proofs.Names.{◌≡◌, ℕ, zero, suc, ◌+◌, ◌-◌, ◌<◌, ◌≤◌, Option, Some, None, List, [], ◌∷◌, ◌++◌, length, refl, sym, ap, ap₂, ◌∙◌, append_assoc, subst, arith, append-nil, Carried, Absent, Kept, Missing, Act, Report, State, SetMode, Entry, claim_in, claim_of, claims_of, Misses, Fate, lost, accepted, start_of, end_of, FatesFrom, end_from, claims_got, Calls, Follows, CallAsks, CarriedAsks, lost_number, StandsIn, entries_from}
 use mathlib.Core.Option.{some, some-injective}
 use lib.ListN.{get_elem?}
-use Rattle.merge_spec.specs.Names.{Carried, Absent, Kept, Missing, Act, Report, State, SetMode, Entry}
-use Rattle.merge_spec.specs.Contexts.{claim_in, claim_of, claims_of, Misses}
-use Rattle.merge_spec.specs.Fates.{Fate, lost, accepted, start_of, end_of, FatesFrom, end_from, claims_got}
-use Rattle.merge_spec.specs.Follows.{Calls, Follows, CallAsks, CarriedAsks, lost_number}
-use Rattle.merge_spec.specs.Orders.{StandsIn}
-use Rattle.merge_spec.specs.Settled.{entries_from}
 use Rattle.merge_spec.proofs.FatesLemmas.{fate_within, rises_apart, claims_got-append, got_stands}
 use Rattle.merge_spec.proofs.PlaceLemmas.{stands_left, stands_right}
 

@@ -1,10 +1,7 @@
 -- What the fronts of a report ring are.
-use Rattle.std.proofs.Common.{◌≡◌, ℕ, zero, suc, ◌+◌, ◌⊎◌, List, [], ◌∷◌, ◌++◌, length, take, inl, inr, sym, ap, arith}
-use Rattle.std.proofs.lemmas.List.{length-append}
+use Rattle.merge_spec.proofs.Names.{◌≡◌, ℕ, zero, suc, ◌+◌, ◌⊎◌, List, [], ◌∷◌, ◌++◌, length, take, inl, inr, sym, ap, arith, length-append, Turn, entries_of, StandsIn}
 use mathlib.Core.Option.{some-injective}
-use Rattle.ids_types.specs.Turns.{Turn, entries_of}
 use Rattle.merge_spec.specs.Fronts.{and_front, fronts_from, IsFront}
-use Rattle.merge_spec.specs.Orders.{StandsIn}
 
 -- the fronts of a turn more
 pub fronts_more : (offered : ℕ) (turns : List Turn) (turn : Turn) (fronts : List ℕ) → fronts_from offered (turns ++ turn ∷ []) fronts

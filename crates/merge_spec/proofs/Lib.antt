@@ -4,6 +4,7 @@ pub mod FatesLemmas
 pub mod FollowsLemmas
 pub mod FrontLemmas
 pub mod LossLemmas
+pub mod Names
 pub mod PlaceLemmas
 mod TotalLemmas
 mod WorkedMerge

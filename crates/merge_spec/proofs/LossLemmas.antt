@@ -1,13 +1,7 @@
 -- The list of all callers' losses.
-use Rattle.std.proofs.Common.{◌≡◌, ℕ, zero, suc, ◌+◌, ◌-◌, ◌<◌, ◌≤◌, ◌⊎◌, ◌==◌, if◌then◌else◌, List, [], ◌∷◌, ◌++◌, map, get_or, refl, inl, inr, sym, ap, arith}
-use Rattle.std.proofs.lemmas.List.{append-nil}
+use Rattle.merge_spec.proofs.Names.{◌≡◌, ℕ, zero, suc, ◌+◌, ◌-◌, ◌<◌, ◌≤◌, ◌⊎◌, ◌==◌, if◌then◌else◌, List, [], ◌∷◌, ◌++◌, map, get_or, refl, inl, inr, sym, ap, arith, append-nil, Loss, losses_from, all_losses, Fate, lost, accepted, FatesFrom, losses_by, StandsIn, KeepUpFrom, LossesFrom}
 use mathlib.Core.Option.{some, some-injective}
 use lib.ListN.{get_elem?}
-use Rattle.merge_spec.specs.Names.{Loss}
-use Rattle.merge_spec.specs.Decided.{losses_from, all_losses}
-use Rattle.merge_spec.specs.Fates.{Fate, lost, accepted, FatesFrom}
-use Rattle.merge_spec.specs.Losses.{losses_by}
-use Rattle.merge_spec.specs.Orders.{StandsIn, KeepUpFrom, LossesFrom}
 
 module _ (n : ℕ) where
   -- ---- the losses of one caller among all

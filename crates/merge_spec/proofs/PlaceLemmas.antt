@@ -1,8 +1,6 @@
 -- What stands in a list.
-use Rattle.std.proofs.Common.{◌≡◌, ℕ, zero, suc, ◌<◌, Bool, true, false, cond, List, [], ◌∷◌, ◌++◌, filter, inl, inr, ap, arith}
-use Rattle.std.proofs.lemmas.Bool.{cases_eq}
+use Rattle.merge_spec.proofs.Names.{◌≡◌, ℕ, zero, suc, ◌<◌, Bool, true, false, cond, List, [], ◌∷◌, ◌++◌, filter, inl, inr, ap, arith, cases_eq, StandsIn, times}
 use mathlib.Core.Option.{some, some-injective}
-use Rattle.merge_spec.specs.Orders.{StandsIn, times}
 
 module _ {A : Type 0} where
   -- it stands in a longer list

@@ -1,13 +1,6 @@
 -- Lists of numbers by owners: where each owner has the same numbers, all numbers are the same in another order.
-use Rattle.std.proofs.Common.{◌≡◌, ℕ, suc, ◌+◌, ◌≤◌, ◌<◌, ◌==◌, if◌then◌else◌, List, [], ◌∷◌, ◌++◌, length, refl, inl, inr, sym, ap, ◌∙◌, ne_eqb, arith}
-use Rattle.std.proofs.lemmas.Bool.{cases_eq}
-use Rattle.std.proofs.lemmas.List.{append_cancel_left}
+use Rattle.merge_spec.proofs.Names.{◌≡◌, ℕ, suc, ◌+◌, ◌≤◌, ◌<◌, ◌==◌, if◌then◌else◌, List, [], ◌∷◌, ◌++◌, length, refl, inl, inr, sym, ap, ◌∙◌, ne_eqb, arith, cases_eq, append_cancel_left, Entry, claim_of, claims_of, entries_by, times, once_below, claims_by}
 use Rattle.std.proofs.lemmas.List.Recursion.{same_from_clauses}
-use Rattle.merge_spec.specs.Names.{Entry}
-use Rattle.merge_spec.specs.Contexts.{claim_of, claims_of}
-use Rattle.merge_spec.specs.Losses.{entries_by}
-use Rattle.merge_spec.specs.Orders.{times, once_below}
-use Rattle.merge_spec.specs.Settled.{claims_by}
 
 -- the numbers of an owner
 abbrev numbers : ℕ → List (ℕ × ℕ) → List ℕ

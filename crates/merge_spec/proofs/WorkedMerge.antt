@@ -1,20 +1,9 @@
 -- A small run: two callers on a report ring of two places, with one class of one buffer. Caller 0 reports twice with
 -- context, and finds a buffer once. Caller 1 finds no place.
-use Rattle.std.proofs.Common.{◌≡◌, ℕ, zero, suc, ◌<◌, List, [], ◌∷◌, length, Some, None, refl, sym, arith}
+use Rattle.merge_spec.proofs.Names.{◌≡◌, ℕ, zero, suc, ◌<◌, List, [], ◌∷◌, length, Some, None, refl, sym, arith, Turn, entries_of, Parts, class_of, Act, Report, Kept, Missing, Entry, AreDecided, all_losses, Fate, lost, accepted, Calls, Follows, KeptAsks, class_at, entries_by, IsKeptIn, IsItsLine, IsMerge, StandsIn, claims_by, entries_from, AreLegalContexts, IsSettledLog}
 use mathlib.Core.Option.{some, some-injective}
 use lib.ListN.{get_elem?}
-use Rattle.ids_types.specs.Turns.{Turn, entries_of}
-use Rattle.ids_config.specs.Parts.{Parts, class_of}
-use Rattle.merge_spec.specs.Names.{Act, Report, Kept, Missing, Entry}
-use Rattle.merge_spec.specs.Decided.{AreDecided, all_losses}
-use Rattle.merge_spec.specs.Fates.{Fate, lost, accepted}
-use Rattle.merge_spec.specs.Follows.{Calls, Follows, KeptAsks}
-use Rattle.merge_spec.specs.Contexts.{class_at}
-use Rattle.merge_spec.specs.Losses.{entries_by}
-use Rattle.merge_spec.specs.Merge.{IsKeptIn, IsItsLine, IsMerge}
-use Rattle.merge_spec.specs.Orders.{StandsIn}
 use Rattle.merge_spec.specs.Rounds.{Asked, reports, Round, lines_of}
-use Rattle.merge_spec.specs.Settled.{claims_by, entries_from, AreLegalContexts, IsSettledLog}
 use Rattle.merge_spec.proofs.ContextLemmas.{legal_contexts}
 use Rattle.merge_spec.proofs.DecidedLemmas.{are_merged}
 

@@ -1,21 +1,5 @@
 -- A merge of a trace's lines is a journal that fits.
-use Rattle.std.proofs.Common.{◌≡◌, ℕ, ◌<◌, ◌≤◌, ◌⊎◌, List, [], ◌∷◌, map, get_or, refl, sym, subst, ◌∙◌, arith, ⊎_elim}
-use Rattle.std.specs.List.{flat_map}
-use Rattle.std.proofs.lemmas.List.{append-nil, get_or_past, get_or-replicate}
-use Rattle.ids_types.specs.Turns.{Turn, entries_of}
-use Rattle.ids_config.specs.Parts.{Parts}
-use Rattle.ids_config.specs.Valid.{IsValid}
-use Rattle.merge_spec.specs.Names.{Loss}
-use Rattle.merge_spec.specs.Losses.{calls_of}
-use Rattle.merge_spec.specs.Merge.{IsMerge}
-use Rattle.merge_spec.specs.Orders.{KeepUpFrom, RiseFrom}
-use Rattle.merge_spec.specs.Rounds.{Round, last_tick, round_ticks, ticks_of}
-use Rattle.text_spec.specs.JournalFaults.{start}
-use Rattle.text_spec.specs.JournalReading.{Fits}
-use Rattle.text_spec.specs.JournalText.{loses}
-use Rattle.text_spec.specs.TraceReading.{AreRounds}
-use Rattle.text_spec.proofs.TraceFacts.{keep_append, last_of_all}
-use Rattle.merge_texts.specs.Small.{AreSmall}
+use Rattle.merge_texts.proofs.Names.{◌≡◌, ℕ, ◌<◌, ◌≤◌, ◌⊎◌, List, [], ◌∷◌, map, get_or, refl, sym, subst, ◌∙◌, arith, ⊎_elim, flat_map, append-nil, get_or_past, get_or-replicate, Turn, entries_of, Parts, IsValid, Loss, calls_of, IsMerge, KeepUpFrom, RiseFrom, Round, last_tick, round_ticks, ticks_of, start, Fits, loses, AreRounds, keep_append, last_of_all, AreSmall}
 use Rattle.merge_texts.proofs.LineLemmas.{LossFits, TurnFits, loss_fits, turn_fits}
 use Rattle.merge_texts.proofs.PastLemmas.{Awaits, losses_taken, turns_taken}
 use Rattle.merge_texts.proofs.StandsLemmas.{stands_all}

@@ -1,4 +1,5 @@
 pub mod JournalLemmas
 pub mod LineLemmas
+pub mod Names
 pub mod PastLemmas
 pub mod StandsLemmas

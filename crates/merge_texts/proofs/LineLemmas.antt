@@ -1,28 +1,10 @@
 -- Each turn, entry and loss of a merge by itself: what its line tells can be held, its numbers are in range, and its
 -- event may stand there.
-use Rattle.std.proofs.Common.{◌≡◌, ℕ, zero, suc, ◌<◌, ◌≤◌, ◌^◌, ◌⊎◌, true, false, List, [], ◌∷◌, length, length-append, refl, sym, ap, subst, arith, ⊎_elim}
-use Rattle.std.specs.Prelude.{◌==◌, slice_index_or}
-use Rattle.std.specs.List.{AllByRecursion, flat_map, list_any}
-use Rattle.std.proofs.lemmas.Bool.{and_from, eq-eqb, eqb-true, false_from_ne_true, le-leb, lt-ltb}
-use Rattle.std.proofs.lemmas.List.{get_or_past}
-use Rattle.ids_types.specs.Turns.{Turn, entries_of}
-use Rattle.ids_config.specs.Parts.{Parts, class_of}
-use Rattle.ids_config.specs.Valid.{AreClasses, IsValid}
-use Rattle.merge_spec.specs.Names.{ClassSpec, Carried, Absent, Kept, Missing, Act, Report, State, SetMode, Entry, Loss}
+use Rattle.merge_texts.proofs.Names.{◌≡◌, ℕ, zero, suc, ◌<◌, ◌≤◌, ◌^◌, ◌⊎◌, true, false, List, [], ◌∷◌, length, length-append, refl, sym, ap, subst, arith, ⊎_elim, ◌==◌, slice_index_or, AllByRecursion, flat_map, list_any, and_from, eq-eqb, eqb-true, false_from_ne_true, le-leb, lt-ltb, get_or_past, Turn, entries_of, Parts, class_of, AreClasses, IsValid, ClassSpec, Carried, Absent, Kept, Missing, Act, Report, State, SetMode, Entry, Loss, calls_of, lost_calls_of, CarriesAsAsked, IsAsAsked, IsMerge, StandsIn, Asked, reports, changes, sets, Round, last_tick, lines_at, lines_of, round_ticks, ticks_of, stands_kept, is_act, is_call, is_claim, is_context, is_head, has_event, is_pair, pair_of, act_fields, AreRounds, IsAllowedRound, MayAsk, IsSmall, all_append, all_at, last_small, AreSmall, IsSmallHead}
 use Rattle.merge_spec.specs.Contexts.{claim_in, claim_of, claims_of, IsLegalMiss}
-use Rattle.merge_spec.specs.Losses.{calls_of, lost_calls_of}
-use Rattle.merge_spec.specs.Merge.{CarriesAsAsked, IsAsAsked, IsMerge}
-use Rattle.merge_spec.specs.Orders.{StandsIn}
-use Rattle.merge_spec.specs.Rounds.{Asked, reports, changes, sets, Round, last_tick, lines_at, lines_of, round_ticks, ticks_of}
-use Rattle.merge_spec.proofs.PlaceLemmas.{stands_kept}
 use Rattle.text_spec.specs.Below.{IsBytes}
 use Rattle.text_spec.specs.Contexts.{IsContext}
 use Rattle.text_spec.specs.Fields.{AreHeld}
-use Rattle.text_spec.specs.JournalFaults.{is_act, is_call, is_claim, is_context, is_head, has_event, is_pair, pair_of}
-use Rattle.text_spec.specs.JournalText.{act_fields}
-use Rattle.text_spec.specs.TraceReading.{AreRounds, IsAllowedRound, MayAsk}
-use Rattle.text_spec.proofs.TraceFacts.{IsSmall, all_append, all_at, last_small}
-use Rattle.merge_texts.specs.Small.{AreSmall, IsSmallHead}
 use Rattle.merge_texts.proofs.StandsLemmas.{all_stands, once_there, place_within, stands_all, stands_flat_map, stands_map, stands_none, stands_test}
 
 -- entries with their context as bytes

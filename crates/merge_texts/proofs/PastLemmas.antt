@@ -1,19 +1,7 @@
 -- What the lines so far of a journal are behind some of a history: where they await the rest of it, that has no fault.
-use Rattle.std.proofs.Common.{◌≡◌, ℕ, suc, ◌+◌, ◌<◌, ◌≤◌, ◌^◌, ◌++◌, false, List, [], ◌∷◌, length, length-append, map, get_or, set, refl, sym, ap, subst, ◌∙◌, append_assoc, inl, inr, arith, length-set, get_or-set_same, get_or-set_other}
-use Rattle.std.specs.Prelude.{Ok}
-use Rattle.std.specs.List.{AllByRecursion, flat_map, list_any}
-use Rattle.std.proofs.lemmas.Bool.{cases_eq, eq-eqb, le-leb, lt-ltb, ne_eqb}
-use Rattle.std.proofs.lemmas.List.{append-nil}
-use Rattle.ids_types.specs.Turns.{Turn, begun, entries_of}
+use Rattle.merge_texts.proofs.Names.{◌≡◌, ℕ, suc, ◌+◌, ◌<◌, ◌≤◌, ◌^◌, ◌++◌, false, List, [], ◌∷◌, length, length-append, map, get_or, set, refl, sym, ap, subst, ◌∙◌, append_assoc, inl, inr, arith, length-set, get_or-set_same, get_or-set_other, Ok, AllByRecursion, flat_map, list_any, cases_eq, eq-eqb, le-leb, lt-ltb, ne_eqb, append-nil, Turn, begun, entries_of, Parts, Entry, Loss, calls_of, KeepUpFrom, LossesFrom, RiseFrom, Past, fault_of, is_pair, next, pair_of, IsHeld, journal_grammar, Line, begins, enters, loses, turn_told}
 use Rattle.ids_types.proofs.HistoryLemmas.{entries_of-with_entry}
 use Rattle.ids_types.proofs.OutputLemmas.{length_with_entry}
-use Rattle.ids_config.specs.Parts.{Parts}
-use Rattle.merge_spec.specs.Names.{Entry, Loss}
-use Rattle.merge_spec.specs.Losses.{calls_of}
-use Rattle.merge_spec.specs.Orders.{KeepUpFrom, LossesFrom, RiseFrom}
-use Rattle.text_spec.specs.JournalFaults.{Past, fault_of, is_pair, next, pair_of}
-use Rattle.text_spec.specs.JournalReading.{IsHeld, journal_grammar}
-use Rattle.text_spec.specs.JournalText.{Line, begins, enters, loses, turn_told}
 use Rattle.text_spec.specs.Lines.{AreFaultless}
 use Rattle.text_spec.proofs.JournalFacts.{flat_map-push}
 use Rattle.merge_texts.proofs.LineLemmas.{Entries, EntryFits, LossFits, TurnFits}

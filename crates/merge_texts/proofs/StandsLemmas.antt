@@ -1,12 +1,7 @@
 -- What stands in a list: its place, how often it is counted, and facts of all that stands there.
-use Rattle.std.proofs.Common.{◌≡◌, ℕ, zero, suc, ◌+◌, ◌<◌, Bool, true, false, List, [], ◌∷◌, length, map, refl, sym, ap, ap₂, subst, arith}
-use Rattle.std.specs.Prelude.{◌||◌}
-use Rattle.std.specs.List.{AllByRecursion, flat_map, list_all, list_any}
-use Rattle.std.proofs.lemmas.Bool.{and_from, eq-eqb}
+use Rattle.merge_texts.proofs.Names.{◌≡◌, ℕ, zero, suc, ◌+◌, ◌<◌, Bool, true, false, List, [], ◌∷◌, length, map, refl, sym, ap, ap₂, subst, arith, ◌||◌, AllByRecursion, flat_map, list_all, list_any, and_from, eq-eqb, StandsIn, times, once_below, stands_left, stands_right}
 use mathlib.Core.Option.{some, some-injective}
 use lib.ListN.{get_elem?}
-use Rattle.merge_spec.specs.Orders.{StandsIn, times, once_below}
-use Rattle.merge_spec.proofs.PlaceLemmas.{stands_left, stands_right}
 
 -- a number that stands there is counted
 stands_counted : (x : ℕ) (xs : List ℕ) → StandsIn xs x → 0 < times x xs

@@ -1,19 +1,10 @@
 -- The whole chain adds no weight, from the moments of a history to the messages that are sent.
-use Rattle.std.proofs.Common.{ℕ, ◌+◌, ◌≤◌, ◌&&◌, not, Bool, true, false, List, [], ◌∷◌, length, sum_by, map, None, option_to_list, option_map, if◌then◌else◌, ap, arith}
-use Rattle.std.specs.Option.{option_or}
+use Rattle.message_weights.proofs.Names.{ℕ, ◌+◌, ◌≤◌, ◌&&◌, not, Bool, true, false, List, [], ◌∷◌, length, sum_by, map, None, option_to_list, option_map, if◌then◌else◌, ap, arith, option_or, Parts, event_at, candidates, is_out, sent_at, sent, gated_at, thresholded_at, filtered_at, arrival, gated, aggregated, thresholded, qualified, counted, Item, is_of, spelled, Moment, closes, comes, state_is, mode_is, added, where_true, weight, moment_weight}
 use Rattle.ids_types.specs.declared.mode.Mode.{Mode}
 use Rattle.ids_types.specs.declared.mode.Mode.TheVariants.{Off, Brief, Detailed, BriefBypassing, DetailedBypassing}
-use Rattle.ids_config.specs.Parts.{Parts, event_at}
-use Rattle.chain_spec.specs.Chain.{candidates, is_out, sent_at, sent}
-use Rattle.chain_spec.specs.Filtering.{gated_at, thresholded_at, filtered_at, arrival, gated, aggregated, thresholded, qualified, counted}
 use Rattle.chain_spec.specs.Gate.{is_filtered, is_bypassing, is_blocked, is_nth, mode_at, item_in, bypassing_at}
-use Rattle.chain_spec.specs.Items.{Item, is_of}
-use Rattle.chain_spec.specs.Messages.{spelled}
-use Rattle.chain_spec.specs.Moments.{Moment, closes, comes, state_is, mode_is}
-use Rattle.chain_spec.specs.Stages.{added, where_true}
 use Rattle.chain_spec.specs.Threshold.{verdict}
 use Rattle.chain_spec.proofs.FilterLemmas.{filtered_thresholded}
-use Rattle.message_weights.specs.Weights.{weight, moment_weight}
 use Rattle.message_weights.proofs.MessageLemmas.{spelled_weighs}
 use Rattle.message_weights.proofs.TotalLemmas.{total, total-sum, total-append, total-filter, weight_in, where_weighs, either_weighs, added_weighs}
 use Rattle.message_weights.proofs.WindowLemmas.{call_weight, aggregated_weighs}

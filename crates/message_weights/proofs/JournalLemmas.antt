@@ -1,32 +1,21 @@
 -- A journal's lines against what the turns bring: each report's line is at least as long as its item weighs, and
 -- the line that begins a turn a quarter at least of what the turn's internal events weigh.
-use Rattle.std.proofs.Common.{◌≡◌, ℕ, zero, suc, ◌+◌, ◌*◌, ◌/◌, ◌%◌, ◌==◌, ◌≤◌, Bool, true, false, List, [], ◌∷◌, ◌++◌, length, map, min, flat_map, reverse, Option, Some, None, if◌then◌else◌, arith, length-append, ◌∙◌}
-use Rattle.std.specs.Fmt.{digits, digits_onto, digit_glyph}
-use Rattle.std.specs.List.{range_with_len}
+use Rattle.message_weights.proofs.Names.{◌≡◌, ℕ, zero, suc, ◌+◌, ◌*◌, ◌/◌, ◌%◌, ◌==◌, ◌≤◌, Bool, true, false, List, [], ◌∷◌, ◌++◌, length, map, min, flat_map, reverse, Option, Some, None, if◌then◌else◌, arith, length-append, ◌∙◌, digits_onto, digit_glyph, range_with_len, Report, State, SetMode, Absent, Kept, Missing, Entry, Stamp, Parts, internal_of, Told, Line, begins, enters, loses, line_for, turn_told, lines_told, journal_text, messages, kept_parcel, closes, head_moment, act_moment, closings, turn_moments, moments, stamp_weight, context_weight, moment_weight}
+use Rattle.std.specs.Fmt.{digits}
 use Rattle.ids_types.specs.Turns.{Turn}
 use Rattle.ids_types.specs.declared.entry.Act.{Act}
-use Rattle.ids_types.specs.declared.entry.Act.TheVariants.{Report, State, SetMode}
 use Rattle.ids_types.specs.declared.entry.Carried.{Carried}
-use Rattle.ids_types.specs.declared.entry.Carried.TheVariants.{Absent, Kept, Missing}
-use Rattle.ids_types.specs.declared.entry.Entry.{Entry}
 use Rattle.ids_types.specs.declared.entry.TurnHead.{TurnHead}
 use Rattle.ids_types.specs.declared.internal.Internal.{Internal}
 use Rattle.ids_types.specs.declared.names.EventIndex.{EventIndex}
-use Rattle.ids_types.specs.declared.names.Stamp.{Stamp}
-use Rattle.ids_config.specs.Parts.{Parts, internal_of}
 use Rattle.text_spec.specs.Below.{decimal, encode_lower, to_be_bytes, w64}
 use Rattle.text_spec.specs.Contexts.{context_word, colon}
 use Rattle.text_spec.specs.JournalForm.{entry_of}
 use Rattle.text_spec.specs.JournalReading.{IsJournal}
-use Rattle.text_spec.specs.JournalText.{Told, Line, begins, enters, loses, line_for, turn_told, lines_told, journal_text}
 use Rattle.text_spec.specs.Stamps.{stamp_text}
 use Rattle.text_spec.specs.Words.{line_feed, text_of}
 use Rattle.text_spec.proofs.HexadecimalLemmas.{length_hex}
-use Rattle.chain_spec.specs.Chain.{messages}
 use Rattle.chain_spec.specs.Heads.{Head, head_for, heads_of}
-use Rattle.chain_spec.specs.Items.{kept_parcel}
-use Rattle.chain_spec.specs.Moments.{closes, head_moment, act_moment, closings, turn_moments, moments}
-use Rattle.message_weights.specs.Weights.{stamp_weight, context_weight, moment_weight}
 use Rattle.message_weights.proofs.ChainLemmas.{sent_within}
 use Rattle.message_weights.proofs.TotalLemmas.{total, total-append, total-three, total-with_all, total-reverse, total-map}
 

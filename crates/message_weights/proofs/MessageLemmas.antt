@@ -1,13 +1,7 @@
 -- A message has at most as many bytes as its item weighs.
-use Rattle.std.proofs.Common.{ℕ, ◌+◌, ◌≤◌, nat_le, Bool, true, false, if◌then◌else◌, List, [], ◌∷◌, ◌++◌, length, Option, Some, None, option_map, arith, length-append}
-use Rattle.ids_types.specs.declared.names.Stamp.{Stamp}
-use Rattle.ids_config.specs.Parts.{Parts}
+use Rattle.message_weights.proofs.Names.{ℕ, ◌+◌, ◌≤◌, nat_le, Bool, true, false, if◌then◌else◌, List, [], ◌∷◌, ◌++◌, length, Option, Some, None, option_map, arith, length-append, Stamp, Parts, stamp_part, context_part, length_in, spelling, Item, message_of, spelled, stamp_weight, context_weight, weight}
 use Rattle.ids_frame.specs.declared.context.Form.TheVariants.{Short, Long}
 use Rattle.ids_frame.specs.Context.{context_of}
-use Rattle.ids_frame.specs.Spelling.{stamp_part, context_part, length_in, spelling}
-use Rattle.chain_spec.specs.Items.{Item}
-use Rattle.chain_spec.specs.Messages.{message_of, spelled}
-use Rattle.message_weights.specs.Weights.{stamp_weight, context_weight, weight}
 use Rattle.message_weights.proofs.TotalLemmas.{total}
 
 stamp_weighs : (stamp : Option Stamp) → length (stamp_part stamp) ≤ stamp_weight stamp

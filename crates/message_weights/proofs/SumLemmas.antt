@@ -1,5 +1,5 @@
 -- Sums over the numbers below a bound, where the value at one number changes.
-use Rattle.std.proofs.Common.{◌≡◌, ℕ, zero, suc, ◌+◌, ◌≤◌, ◌<◌, ◌==◌, false, inl, inr, refl, ap, arith, ne_eqb, eq-or-lt_of_le}
+use Rattle.message_weights.proofs.Names.{◌≡◌, ℕ, zero, suc, ◌+◌, ◌≤◌, ◌<◌, ◌==◌, false, inl, inr, refl, ap, arith, ne_eqb, eq-or-lt_of_le}
 
 -- the values at the numbers below n together
 abbrev pub sum_below : (ℕ → ℕ) → ℕ → ℕ

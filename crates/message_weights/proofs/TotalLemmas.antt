@@ -1,10 +1,8 @@
 -- What lists weigh together: parts of lists, and what stages add.
-use Rattle.std.proofs.Common.{◌≡◌, ℕ, ◌+◌, ◌≤◌, List, [], ◌∷◌, ◌++◌, Bool, true, false, sum_by, filter, map, Option, Some, None, option_to_list, if◌then◌else◌, refl, arith}
+use Rattle.message_weights.proofs.Names.{◌≡◌, ℕ, ◌+◌, ◌≤◌, List, [], ◌∷◌, ◌++◌, Bool, true, false, sum_by, filter, map, Option, Some, None, option_to_list, if◌then◌else◌, refl, arith, option_or, Stage, added, where_true, with_all}
 use Rattle.std.proofs.lemmas.List.Sums.{sum_by-cons}
 use Rattle.std.specs.Prelude.{reverse}
 use mathlib.Core.List.{reverse_aux}
-use Rattle.std.specs.Option.{option_or}
-use Rattle.chain_spec.specs.Stages.{Stage, added, where_true, with_all}
 
 module _ {A : Type 0} (f : A → ℕ) where
   -- the weights of the elements together, by recursion

@@ -1,20 +1,13 @@
 -- Aggregation adds no weight: what came out and what lies in the open windows of all events weigh no more than
 -- what came.
-use Rattle.std.proofs.Common.{◌≡◌, ℕ, suc, ◌+◌, ◌≤◌, ◌<◌, ◌==◌, ◌||◌, not, Bool, true, false, List, [], ◌∷◌, Option, Some, None, option_to_list, option_map, option_and_then, if◌then◌else◌, refl, arith, eq-eqb}
-use Rattle.std.specs.List.{list_any}
-use Rattle.std.specs.Option.{option_or}
+use Rattle.message_weights.proofs.Names.{◌≡◌, ℕ, suc, ◌+◌, ◌≤◌, ◌<◌, ◌==◌, ◌||◌, not, Bool, true, false, List, [], ◌∷◌, Option, Some, None, option_to_list, option_map, option_and_then, if◌then◌else◌, refl, arith, eq-eqb, list_any, option_or, Parts, event_at, aggregated_at, alone, item_at, added, where_true, context_weight, told_weight, weight}
 use Rattle.ids_types.specs.declared.event.Qualified.{Qualified}
-use Rattle.ids_config.specs.Parts.{Parts, event_at}
 use Rattle.ids_config.specs.declared.parts.Aggregate.{Aggregate}
 use Rattle.chain_spec.specs.Aggregation.{first_kept, last_kept, joined}
 use Rattle.chain_spec.specs.Calls.{closes_due, arrives, closing_ticks}
 use Rattle.chain_spec.specs.Closing.{windows_in, is_due, newest_where, due_item, closing_item}
-use Rattle.chain_spec.specs.Filtering.{aggregated_at, alone}
-use Rattle.chain_spec.specs.Items.{item_at}
-use Rattle.chain_spec.specs.Stages.{added, where_true}
 use Rattle.chain_spec.specs.Windows.{opened, extended, covers, with_item}
 use Rattle.chain_spec.proofs.AggregationLemmas.{ACall, AnArrival, AWindow, came_at}
-use Rattle.message_weights.specs.Weights.{context_weight, told_weight, weight}
 use Rattle.message_weights.proofs.SumLemmas.{sum_below, sum_below-none, one_changed}
 use Rattle.message_weights.proofs.TotalLemmas.{total, total-append, weight_in, where_weighs}
 

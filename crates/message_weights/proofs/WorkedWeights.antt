@@ -1,18 +1,8 @@
 -- Weights, messages and journals of small cases, counted by hand from the layout of messages and from the lines
 --     T 5 4 7 6
 --     R 0 0 3 1 - -
-use Rattle.std.proofs.Common.{◌≡◌, ℕ, List, [], ◌∷◌, length, reverse, Some, None, refl}
+use Rattle.message_weights.proofs.Names.{◌≡◌, ℕ, List, [], ◌∷◌, length, reverse, Some, None, refl, Report, Absent, Entry, Parts, plain_event, spelling, Told, journal_text, messages, Item, message_of, weight}
 use Rattle.std.specs.Fmt.{digits}
-use Rattle.ids_types.specs.declared.entry.Act.TheVariants.{Report}
-use Rattle.ids_types.specs.declared.entry.Carried.TheVariants.{Absent}
-use Rattle.ids_types.specs.declared.entry.Entry.{Entry}
-use Rattle.ids_config.specs.Parts.{Parts, plain_event}
-use Rattle.ids_frame.specs.Spelling.{spelling}
-use Rattle.text_spec.specs.JournalText.{Told, journal_text}
-use Rattle.chain_spec.specs.Chain.{messages}
-use Rattle.chain_spec.specs.Items.{Item}
-use Rattle.chain_spec.specs.Messages.{message_of}
-use Rattle.message_weights.specs.Weights.{weight}
 
 -- three internal events, and one by a sensor
 abbrev config : Parts

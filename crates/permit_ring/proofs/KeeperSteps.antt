@@ -1,19 +1,10 @@
 -- Each step of the keeper keeps the rule: no seat changes, and no claim.
-use Rattle.std.proofs.Common.{◌≡◌, ◌≢◌, ℕ, zero, suc, ◌+◌, ◌%◌, ◌^◌, ◌<◌, ◌≤◌, true, false, eqb, List, [], ◌∷◌, ◌++◌, set, length, drop, slice_index, sum, Option, Some, refl, sym, ◌∙◌, ap, ap₂, subst, inl, inr, le_refl, mod-lt, arith}
-use Rattle.std.proofs.lemmas.Bool.{cases_eq}
-use Rattle.std.proofs.lemmas.List.{length-set, length_push, set-get_or}
-use Rattle.std.proofs.lemmas.List.Sums.{fold_push}
+use Rattle.permit_ring.proofs.Names.{◌≡◌, ◌≢◌, ℕ, zero, suc, ◌+◌, ◌%◌, ◌^◌, ◌<◌, ◌≤◌, true, false, eqb, List, [], ◌∷◌, ◌++◌, set, length, drop, slice_index, sum, Option, Some, refl, sym, ◌∙◌, ap, ap₂, subst, inl, inr, le_refl, mod-lt, arith, cases_eq, length-set, length_push, set-get_or, fold_push, at_set, at_longer, exchanged, set_here, set_else, State, Act, Valid, step, keeps, takes, gives, chain, put_back, rest, stepped, carried_after, homes_after, Allows, SeatView, Step, See, Read, Offer, Sweep, PermitWord, Key, KeeperMemo, SeatMemo, Move, Slot, Offered, Finished, View, Keeps, hand_from, filled_then, AllAdmitted, found_at, is_of_seat, is_of_keeper, by_seat, KeepsInHand, Known, IsWord, keeper_in, ready, saw_mark, read_word, tried_offer, swept_loss, words_of, StandsIn, AreSlots, Counts, IsSeatMemo, Runs, and_move, waits, reaps, reads, offers_all, misses, sweeps, Machine, HasSizes, opening, seat_at, mark_at, next, offered_to, IsRing, packed, small, see_takes_next, see_waits_next, read_next, sweep_next, offer_takes_next, offer_misses_next, word_packs, seen_packs, missed_field_falls, next_keeps, same_position, other_word, packed_apart}
 use mathlib.Core.Option.{some, none}
 use mathlib.Core.Option as maybe
 use native.Mathlib.Nat.{add-mod_right}
 use lib.ListN.{get_elem?}
 use prog.Atomic.{either}
-use Rattle.atomic_table.proofs.Lists.{at_set, at_longer, exchanged, set_here, set_else}
-use Rattle.atomic_table.specs.Table.{State, Act, Valid, step, keeps, takes, gives, chain, put_back, rest, stepped, carried_after, homes_after, Allows}
-use Rattle.permit_ring.specs.{SeatView, Step, See, Read, Offer, Sweep, PermitWord, Key, KeeperMemo, SeatMemo, Move, Slot, Offered, Finished, View, Keeps, hand_from, filled_then, AllAdmitted, found_at, is_of_seat, is_of_keeper, by_seat, KeepsInHand, Known, IsWord, keeper_in, ready, saw_mark, read_word, tried_offer, swept_loss, words_of, StandsIn, AreSlots, Counts, IsSeatMemo, Runs, and_move, waits, reaps, reads, offers_all, misses, sweeps}
-use Rattle.ring_core.specs.Machine.{Machine}
-use Rattle.ring_core.specs.{HasSizes, opening, seat_at, mark_at, next, offered_to, IsRing, packed}
-use Rattle.ring_core.proofs.{small, see_takes_next, see_waits_next, read_next, sweep_next, offer_takes_next, offer_misses_next, word_packs, seen_packs, missed_field_falls, next_keeps, same_position, other_word, packed_apart}
 use Rattle.permit_ring.proofs.HandLemmas.{ready_is}
 use Rattle.permit_ring.proofs.ListLemmas.{at_end, at_length}
 use Rattle.permit_ring.proofs.MoveLemmas.{leads_on, by_seat-else, by_keeper-own}

@@ -4,6 +4,7 @@ pub mod ListLemmas
 pub mod Lives
 pub mod LogLemmas
 pub mod MoveLemmas
+pub mod Names
 pub mod NewRings
 pub mod Positions
 pub mod RuleLaws

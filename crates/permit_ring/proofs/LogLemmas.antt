@@ -1,12 +1,7 @@
 -- The log of a seat and what became of tickets, with one call or one ticket more.
-use Rattle.std.proofs.Common.{◌≡◌, ◌≢◌, ℕ, zero, suc, ◌+◌, ◌<◌, ◌≤◌, ◌⊎◌, Bool, true, false, cond, List, [], ◌∷◌, ◌++◌, set, Option, Some, None, refl, sym, ◌∙◌, ap, inl, inr, eqb, eq-eqb, ne_eqb, eqb-true, arith}
-use Rattle.std.proofs.lemmas.Bool.{lt-ltb, le-ltb}
-use Rattle.std.proofs.lemmas.Grind.{common_steps}
-use Rattle.std.proofs.lemmas.List.{append-nil}
+use Rattle.permit_ring.proofs.Names.{◌≡◌, ◌≢◌, ℕ, zero, suc, ◌+◌, ◌<◌, ◌≤◌, ◌⊎◌, Bool, true, false, cond, List, [], ◌∷◌, ◌++◌, set, Option, Some, None, refl, sym, ◌∙◌, ap, inl, inr, eqb, eq-eqb, ne_eqb, eqb-true, arith, lt-ltb, le-ltb, common_steps, append-nil, at_snoc, PermitWord, Outcome, Lost, Got, start_of, end_of, RisesFrom, end_from, got_of, taken_by, StandsIn, and_lost}
 use mathlib.Core.Option.{some, some-injective}
 use lib.ListN.{get_elem?}
-use Rattle.atomic_table.proofs.Lists.{at_snoc}
-use Rattle.permit_ring.specs.{PermitWord, Outcome, Lost, Got, start_of, end_of, RisesFrom, end_from, got_of, taken_by, StandsIn, and_lost}
 
 module _ {N : Type 0} where
   -- a call that does not stand before the last one's end

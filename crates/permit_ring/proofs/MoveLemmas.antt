@@ -1,11 +1,6 @@
 -- Moves lead from ring to ring, and each move is one of its actor alone.
-use Rattle.std.proofs.Common.{◌≡◌, ℕ, true, false, List, [], ◌∷◌, Some, refl, sym, subst}
-use Rattle.std.proofs.lemmas.List.{append-nil}
+use Rattle.permit_ring.proofs.Names.{◌≡◌, ℕ, true, false, List, [], ◌∷◌, Some, refl, sym, subst, append-nil, Machine, HasSizes, after, next, IsRing, step_of_next, after_keeps, after_sizes, same_sizes, sizes_on, Step, Move, found_at, Leads, is_of_seat, is_of_keeper, by_seat, by_keeper, and_move}
 use Rattle.std.proofs.lemmas.List.Elements.{filter-append}
-use Rattle.ring_core.specs.Machine.{Machine}
-use Rattle.ring_core.specs.{HasSizes, after, next, IsRing}
-use Rattle.ring_core.proofs.{step_of_next, after_keeps, after_sizes, same_sizes, sizes_on}
-use Rattle.permit_ring.specs.{Step, Move, found_at, Leads, is_of_seat, is_of_keeper, by_seat, by_keeper, and_move}
 
 -- one step more
 pub leads_on : (start m now : Machine) (moves : List Move) (step : Step) → Leads start moves m → next m step ≡ Some now

@@ -1,13 +1,9 @@
 -- A ring that has just been made: it keeps the rule, and its keeper and seats stand.
-use Rattle.std.proofs.Common.{◌≡◌, ℕ, zero, suc, ◌+◌, ◌%◌, ◌<◌, List, [], ◌∷◌, ◌++◌, length, refl, sym, ◌∙◌, ap, inl, inr, mod-eq_of_lt, arith, map, replicate}
-use Rattle.std.proofs.lemmas.List.{length_push, length-map}
+use Rattle.permit_ring.proofs.Names.{◌≡◌, ℕ, zero, suc, ◌+◌, ◌%◌, ◌<◌, List, [], ◌∷◌, ◌++◌, length, refl, sym, ◌∙◌, ap, inl, inr, mod-eq_of_lt, arith, map, replicate, length_push, length-map, all_free, opening, IsRing, packed, Slot, View, Ring, Seat, Key, Offered, IsOrdered, made_memo, IsNewSeat, AreNewSeats, new_memo, first_memo, AllAdmitted, HasOffered, IsKey, first_view, AreFates, AreSlots, IsKeeperMemo, IsViewAt, Runs, at_map}
 use mathlib.Core.Option.{some-ne-none, some, some-injective}
-use Rattle.ring_core.specs.{all_free, opening, IsRing, packed}
-use Rattle.permit_ring.specs.{Slot, View, Ring, Seat, Key, Offered, IsOrdered, made_memo, IsNewSeat, AreNewSeats, new_memo, first_memo, AllAdmitted, HasOffered, IsKey, first_view, AreFates, AreSlots, IsKeeperMemo, IsViewAt, Runs}
 use Rattle.permit_ring.proofs.ListLemmas.{at_end, there}
 use lib.ListN.{get_elem?}
 use Rattle.atomic_table.specs.Table as table
-use Rattle.atomic_table.proofs.Lists.{at_map}
 use Rattle.ring_core.proofs.Opens.{opens}
 
 module _ {N : Type 0} (n limit : ℕ) where

@@ -1,5 +1,5 @@
 -- A ticket's position by a mask.
-use Rattle.std.proofs.Common.{◌≡◌, ℕ, ◌-◌, ◌%◌, ◌^◌, sym, ◌∙◌, ap}
+use Rattle.permit_ring.proofs.Names.{◌≡◌, ℕ, ◌-◌, ◌%◌, ◌^◌, sym, ◌∙◌, ap}
 use Rattle.std.proofs.lemmas.Nat.{and_mask}
 use lib.Bits.{bit_and}
 

@@ -1,15 +1,10 @@
 -- What the rule says of a ring: of its tickets, its logs, its slots and its words.
-use Rattle.std.proofs.Common.{◌≡◌, ℕ, zero, suc, ◌+◌, ◌%◌, ◌<◌, ◌≤◌, true, false, is_some, Option, Some, None, refl, sym, ◌∙◌, ap, inl, inr, mod-eq_of_lt, arith}
-use Rattle.std.proofs.lemmas.Bool.{cases_eq}
-use Rattle.std.proofs.lemmas.Grind.{common_steps}
+use Rattle.permit_ring.proofs.Names.{◌≡◌, ℕ, zero, suc, ◌+◌, ◌%◌, ◌<◌, ◌≤◌, true, false, is_some, Option, Some, None, refl, sym, ◌∙◌, ap, inl, inr, mod-eq_of_lt, arith, cases_eq, common_steps, State, seat_at, Holds, Key, Lost, Got, SeatMemo, Slot, View, Sits, SitsThere, CameBack, IsMemoThere, IsHeldOnce, IsLoggedOnce, HasOnePlace, IsNotedAs, IsInOrder, IsAdmittedSlot, IsOneSeats, Home, IsSlot, IsSeatMemo, IsSomewhere, Runs}
 use native.Mathlib.Nat.{add-mod_right}
 use mathlib.Core.Option.{some}
 use mathlib.Core.Option as maybe
 use lib.ListN.{get_elem?}
-use Rattle.atomic_table.specs.Table.{State}
-use Rattle.ring_core.specs.{seat_at, Holds}
 use Rattle.ring_core.proofs.SeatLemmas.{live_is_made}
-use Rattle.permit_ring.specs.{Key, Lost, Got, SeatMemo, Slot, View, Sits, SitsThere, CameBack, IsMemoThere, IsHeldOnce, IsLoggedOnce, HasOnePlace, IsNotedAs, IsInOrder, IsAdmittedSlot, IsOneSeats, Home, IsSlot, IsSeatMemo, IsSomewhere, Runs}
 use Rattle.permit_ring.proofs.States.{ring_of, one_turn_ahead, keeper_port, at_own_port, is_live, knows_it}
 use Rattle.permit_ring.proofs.ListLemmas.{at_length, there}
 use Rattle.permit_ring.proofs.LogLemmas.{open_undecided, got_in, got_from, taken_in, taken_from, rises_apart, within_end}

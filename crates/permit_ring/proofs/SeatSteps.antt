@@ -1,16 +1,8 @@
 -- Each step of a seat keeps the rule.
-use Rattle.std.proofs.Common.{◌≡◌, ◌≢◌, ℕ, suc, ◌+◌, ◌%◌, ◌^◌, ◌<◌, ◌≤◌, ◌==◌, true, false, nat_lt, List, [], ◌∷◌, ◌++◌, set, length, Option, Some, None, refl, sym, ◌∙◌, ap, inl, inr, slice_index, arith, le_refl, eq-eqb, ne_eqb}
-use Rattle.std.proofs.lemmas.Bool.{cases_lt, lt-ltb, le-ltb}
-use Rattle.std.proofs.lemmas.List.{length-set, length_push}
+use Rattle.permit_ring.proofs.Names.{◌≡◌, ◌≢◌, ℕ, suc, ◌+◌, ◌%◌, ◌^◌, ◌<◌, ◌≤◌, ◌==◌, true, false, nat_lt, List, [], ◌∷◌, ◌++◌, set, length, Option, Some, None, refl, sym, ◌∙◌, ap, inl, inr, slice_index, arith, le_refl, eq-eqb, ne_eqb, cases_lt, lt-ltb, le-ltb, length-set, length_push, at_last, at_longer, at_set, at_snoc, set_else, set_here, State, step, keeps, takes, gives, Allows, SeatView, Step, Look, Claim, Finish, Mark, Key, KeeperMemo, Move, Lost, Got, SeatMemo, Slot, Offered, Finished, View, Sits, IsOrdered, end_from, got_of, taken_by, found_at, is_of_seat, is_of_keeper, Known, seat_in, saw_word, claimed_word, marked_loss, finished_value, words_of, StandsIn, AreFates, AreSlots, Counts, IsSeatMemo, Runs, and_move, and_lost, looks, claims, adds_mark, finishes, Machine, opening, possible, after, served, is_idle, looked, seat_at, loss_at, marks_of, marked, IsRing, Holds, packed, unpacked, IsPackable, IsReadable, small, word_packs, all_claimed, armed_leaves_field, after_keeps, next_of_possible, idle_parts, live_is_made, seat_at-here, seat_at-else, holders_stay, unpacked-packed, packed-claimed}
 use mathlib.Core.Option.{some, none}
 use mathlib.Core.Option as maybe
 use lib.ListN.{get_elem?}
-use Rattle.atomic_table.proofs.Lists.{at_last, at_longer, at_set, at_snoc, set_else, set_here}
-use Rattle.atomic_table.specs.Table.{State, step, keeps, takes, gives, Allows}
-use Rattle.permit_ring.specs.{SeatView, Step, Look, Claim, Finish, Mark, Key, KeeperMemo, Move, Lost, Got, SeatMemo, Slot, Offered, Finished, View, Sits, IsOrdered, end_from, got_of, taken_by, found_at, is_of_seat, is_of_keeper, Known, seat_in, saw_word, claimed_word, marked_loss, finished_value, words_of, StandsIn, AreFates, AreSlots, Counts, IsSeatMemo, Runs, and_move, and_lost, looks, claims, adds_mark, finishes}
-use Rattle.ring_core.specs.Machine.{Machine}
-use Rattle.ring_core.specs.{opening, possible, after, served, is_idle, looked, seat_at, loss_at, marks_of, marked, IsRing, Holds, packed, unpacked, IsPackable, IsReadable}
-use Rattle.ring_core.proofs.{small, word_packs, all_claimed, armed_leaves_field, after_keeps, next_of_possible, idle_parts, live_is_made, seat_at-here, seat_at-else, holders_stay, unpacked-packed, packed-claimed}
 use Rattle.permit_ring.proofs.LogLemmas.{taken-open, taken-else, taken-own, IsOrderly, orderly, rises_on, end_on, got_of-append}
 use Rattle.permit_ring.proofs.ListLemmas.{at_end, at_length}
 use Rattle.permit_ring.proofs.MoveLemmas.{leads_on, by_seat-own, by_seat-else, by_keeper-else}

@@ -1,17 +1,7 @@
 -- What is left once all seats are back, and that what is settled stays so.
-use Rattle.std.proofs.Common.{◌≡◌, ◌≢◌, ℕ, zero, suc, ◌+◌, ◌-◌, ◌%◌, ◌<◌, is_some, List, [], ◌∷◌, ◌++◌, map, length, get_or, sum_by, Option, Some, None, refl, sym, ◌∙◌, ap, ap₂, subst, inl, inr, mod-lt, arith}
-use Rattle.std.proofs.lemmas.Bool.{cases_lt, false≢true}
-use Rattle.std.proofs.lemmas.Grind.{common_steps}
-use Rattle.std.proofs.lemmas.List.{length-map, nil_from_length}
-use Rattle.std.proofs.lemmas.List.Sums.{sum_by-cons}
+use Rattle.permit_ring.proofs.Names.{◌≡◌, ◌≢◌, ℕ, zero, suc, ◌+◌, ◌-◌, ◌%◌, ◌<◌, is_some, List, [], ◌∷◌, ◌++◌, map, length, get_or, sum_by, Option, Some, None, refl, sym, ◌∙◌, ap, ap₂, subst, inl, inr, mod-lt, arith, cases_lt, false≢true, common_steps, length-map, nil_from_length, sum_by-cons, at_longer, at_map, State, SeatView, Key, KeeperMemo, Got, SeatMemo, Slot, View, OfferTells, AreAllBack, IsAllReaped, IsSettled, IsWholeLog, marks_back, taken_by, StandsIn, Runs, Machine, marks_of, new_seat, nobody, mark_at, seat_at, Holds, IsRing, all_but_a_turn_reaped, live_is_made, one_turn}
 use mathlib.Core.Option.{some}
 use lib.ListN.{get_elem?}
-use Rattle.atomic_table.proofs.Lists.{at_longer, at_map}
-use Rattle.atomic_table.specs.Table.{State}
-use Rattle.permit_ring.specs.{SeatView, Key, KeeperMemo, Got, SeatMemo, Slot, View, OfferTells, AreAllBack, IsAllReaped, IsSettled, IsWholeLog, marks_back, taken_by, StandsIn, Runs}
-use Rattle.ring_core.specs.Machine.{Machine}
-use Rattle.ring_core.specs.{marks_of, new_seat, nobody, mark_at, seat_at, Holds, IsRing}
-use Rattle.ring_core.proofs.{all_but_a_turn_reaped, live_is_made, one_turn}
 use Rattle.permit_ring.proofs.LogLemmas.{got_from, taken_in, within_end}
 use Rattle.permit_ring.proofs.States.{ring_of}
 

@@ -1,17 +1,8 @@
 -- What stays of the rule where one view changes.
-use Rattle.std.proofs.Common.{◌≡◌, ◌≢◌, ℕ, ◌+◌, ◌%◌, ◌<◌, ◌≤◌, true, List, set, Option, ◌∙◌, inl, inr, mod-lt, arith}
-use Rattle.std.proofs.lemmas.Bool.{cases_eq}
-use Rattle.std.proofs.lemmas.Grind.{common_steps}
-use Rattle.std.proofs.lemmas.List.{length-set}
+use Rattle.permit_ring.proofs.Names.{◌≡◌, ◌≢◌, ℕ, ◌+◌, ◌%◌, ◌<◌, ◌≤◌, true, List, set, Option, ◌∙◌, inl, inr, mod-lt, arith, cases_eq, common_steps, length-set, set_here, set_else, State, Machine, HasSizes, opening, seat_at, IsRing, SameHolders, same_position, opens, Key, KeeperMemo, Move, SeatMemo, Slot, View, Sits, Keeps, taken_by, by_seat, StandsIn, AreFates, Home, IsSlot, AreSlots, IsSeatMemo, Runs}
 use mathlib.Core.Option.{some}
 use mathlib.Core.Option as maybe
 use lib.ListN.{get_elem?}
-use Rattle.atomic_table.proofs.Lists.{set_here, set_else}
-use Rattle.atomic_table.specs.Table.{State}
-use Rattle.ring_core.specs.Machine.{Machine}
-use Rattle.ring_core.specs.{HasSizes, opening, seat_at, IsRing}
-use Rattle.ring_core.proofs.{SameHolders, same_position, opens}
-use Rattle.permit_ring.specs.{Key, KeeperMemo, Move, SeatMemo, Slot, View, Sits, Keeps, taken_by, by_seat, StandsIn, AreFates, Home, IsSlot, AreSlots, IsSeatMemo, Runs}
 use Rattle.permit_ring.proofs.MoveLemmas.{led_ring, led_sizes}
 
 module _ {N : Type 0} {m now : Machine} {fates later : List (Option (ℕ × N))} where

@@ -1,9 +1,5 @@
 -- What a claim asked of a class, as plain data.
-use Rattle.std.proofs.Common.{◌≡◌, ℕ, suc, ◌+◌, ◌-◌, ◌==◌, if◌then◌else◌, List, [], ◌∷◌, length, map, refl, ap, ◌∙◌, inl, arith, eq-eqb, ne_eqb}
-use Rattle.merge_spec.specs.Follows.{KeptAsks, LostAtMost, lost_number}
-use Rattle.buffer_classes.specs.{Buffer, filled_with, lost_at}
-use Rattle.buffer_classes.proofs.AskLemmas.{lost_past}
-use Rattle.report_api.specs.{Got, fate_of}
+use Rattle.report_api.proofs.Names.{◌≡◌, ℕ, suc, ◌+◌, ◌-◌, ◌==◌, if◌then◌else◌, List, [], ◌∷◌, length, map, refl, ap, ◌∙◌, inl, arith, eq-eqb, ne_eqb, KeptAsks, LostAtMost, lost_number, Buffer, filled_with, lost_at, lost_past, Got, fate_of}
 
 -- looks are asks that were lost
 looks_lost : (first i : ℕ) (looks : List ℕ) → map fate_of (lost_at first looks i) ≡ lost_number first looks i

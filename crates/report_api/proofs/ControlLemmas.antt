@@ -1,7 +1,5 @@
 -- A control has no context.
-use Rattle.std.proofs.Common.{◌≡◌, ℕ, Some, [], arith}
-use Rattle.merge_spec.specs.Follows.{CallAsks}
-use Rattle.report_api.specs.{IsControl, Act, misses_context, plain_act}
+use Rattle.report_api.proofs.Names.{◌≡◌, ℕ, Some, [], arith, CallAsks, IsControl, Act, misses_context, plain_act}
 
 -- it asks no class
 pub control_asks : (classes i : ℕ) (act : Act) → IsControl act → CallAsks classes i (Some (plain_act act)) []

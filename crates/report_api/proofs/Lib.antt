@@ -1,6 +1,7 @@
 pub mod AskLemmas
 pub mod ControlLemmas
 pub mod MakingLemmas
+pub mod Names
 pub mod PassLemmas
 pub mod StepLemmas
 pub mod TiedLemmas

@@ -1,27 +1,18 @@
 -- What reports and takes, just made.
-use Rattle.std.proofs.Common.{◌≡◌, ℕ, zero, suc, ◌≤◌, ◌<◌, None, List, [], ◌∷◌, get_or, length, map, replicate, subst, sym, ap, ◌∙◌, arith, All, slice_index_or}
-use Rattle.std.proofs.lemmas.List.{get_or_default, length-map, length-replicate}
+use Rattle.report_api.proofs.Names.{◌≡◌, ℕ, zero, suc, ◌≤◌, ◌<◌, None, List, [], ◌∷◌, get_or, length, map, replicate, subst, sym, ap, ◌∙◌, arith, All, slice_index_or, get_or_default, length-map, length-replicate, Parts, class_of, at_index, at_map, at_length, there, RiseFrom, givers_of, AreNewClasses, AreSpecs, IsNewClaimant, IsSpec, spec_sizes, IsNewQueue, IsUnused, caller_number, AreTied, desk_view, Caller, IsNewMaking, IsNewPass, IsOfConfig, as_passes, pass_of, IsPassOf, IsShared, pass_view, sizes_of, Pass, Shared}
 use Rattle.std.proofs.lemmas.Slice.Zip.{length-zip}
 use Rattle.std.specs.List.{zip}
 use mathlib.Core.Option.{some, some-injective, some-ne-none}
 use lib.ListN.{get_elem?}
 use Rattle.ids_types.specs.declared.class_spec.ClassSpec.{ClassSpec}
-use Rattle.ids_config.specs.Parts.{Parts, class_of}
 use Rattle.ids_config.specs.Valid as valid
-use Rattle.atomic_table.proofs.Lists.{at_index, at_map}
-use Rattle.permit_ring.proofs.ListLemmas.{at_length, there}
 use Rattle.permit_ring.specs.Hands.{AllAdmitted}
-use Rattle.buffer_classes.specs.{RiseFrom, givers_of, AreNewClasses, AreSpecs, IsNewClaimant, IsSpec, spec_sizes}
 use Rattle.buffer_classes.specs.declared.class.Classes.{Classes}
 use Rattle.buffer_classes.specs.declared.givers.Givers.{Givers}
 use Rattle.buffer_classes.specs.declared.seat.ClaimSeat.{ClaimSeat}
 use Rattle.buffer_classes.proofs.MakingLemmas.{as_many, made_so}
-use Rattle.report_queue.specs.{IsNewQueue, IsUnused, caller_number}
 use Rattle.report_queue.proofs.{at_map_back, none_there}
-use Rattle.report_api.specs.{AreTied, desk_view, Caller, IsNewMaking, IsNewPass, IsOfConfig, as_passes, pass_of, IsPassOf, IsShared, pass_view, sizes_of}
 use Rattle.report_api.specs.declared.desk.Desk.{Desk}
-use Rattle.report_api.specs.declared.pass.Pass.{Pass}
-use Rattle.report_api.specs.declared.shared.Shared.{Shared}
 
 first_too : (first : ClassSpec) (specs : List ClassSpec) → IsSpec first → AllAdmitted IsSpec specs → AllAdmitted IsSpec (first ∷ specs)
 first_too first specs here rest i spec at = grind arith

@@ -1,16 +1,9 @@
 -- A pass after one call more.
-use Rattle.std.proofs.Common.{◌≡◌, ℕ, ◌+◌, ◌≤◌, ◌<◌, ◌^◌, is_none, is_some, true, false, Option, None, List, [], ◌∷◌, ◌++◌, length, map, refl, sym, ap, subst, ◌∙◌, arith}
-use Rattle.std.proofs.lemmas.List.{append-nil, length_push, map-append, map_push}
-use Rattle.merge_spec.specs.Follows.{CallAsks, Follows}
+use Rattle.report_api.proofs.Names.{◌≡◌, ℕ, ◌+◌, ◌≤◌, ◌<◌, ◌^◌, is_none, is_some, true, false, Option, None, List, [], ◌∷◌, ◌++◌, length, map, refl, sym, ap, subst, ◌∙◌, arith, append-nil, length_push, map-append, map_push, CallAsks, Follows, Ticket, undecided, machine_ticket, Act, Outcome, PassView, Lost, Got, IsPassAt, asks_of, call_of, calls_in, fate_of, misses_context, missing_in, pass_view, sizes_of, Pass, Shared}
 use Rattle.merge_spec.proofs.FollowsLemmas.{follows_after}
 use Rattle.buffer_classes.specs.Names as classes
 use Rattle.buffer_classes.specs.Seats.{IsClaimSeatOf, claimant_of, claims_of, log_of}
-use Rattle.ids_types.specs.declared.names.Ticket.{Ticket}
-use Rattle.permit_ring.specs.{undecided, machine_ticket}
 use Rattle.report_queue.specs.Parts.{IsCallerOf, caller_memo, calls_of, ticket_of}
-use Rattle.report_api.specs.{Act, Outcome, PassView, Lost, Got, IsPassAt, asks_of, call_of, calls_in, fate_of, misses_context, missing_in, pass_view, sizes_of}
-use Rattle.report_api.specs.declared.pass.Pass.{Pass}
-use Rattle.report_api.specs.declared.shared.Shared.{Shared}
 
 missing-push : (log : List Outcome) (outcome : Outcome) → missing_in (log ++ outcome ∷ []) ≡ missing_in log + missing_in (outcome ∷ [])
 missing-push [] outcome = omega arith

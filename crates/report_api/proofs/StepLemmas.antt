@@ -1,7 +1,5 @@
 -- Whose word an answer shows.
-use Rattle.std.proofs.Common.{◌≡◌, ℕ, Option, Some, Ok, subst}
-use Rattle.ids_types.specs.declared.names.Ticket.{Ticket}
-use Rattle.report_api.specs.{IsUnder, ReportSteps, StepsTell, PassMemo}
+use Rattle.report_api.proofs.Names.{◌≡◌, ℕ, Option, Some, Ok, subst, Ticket, IsUnder, ReportSteps, StepsTell, PassMemo}
 use Rattle.report_api.specs.declared.answer.Report.{Report}
 use Rattle.report_api.specs.declared.answer.Report.TheVariants as reports
 

@@ -1,15 +1,9 @@
 -- What ties the passes that came back to their claimants.
-use Rattle.std.proofs.Common.{◌≡◌, ℕ, ◌<◌, true, is_some, true≢false, Option, Some, None, List, length, refl, sym, ap, subst, ◌∙◌, ◌≤◌, map, inl, inr}
+use Rattle.report_api.proofs.Names.{◌≡◌, ℕ, ◌<◌, true, is_some, true≢false, Option, Some, None, List, length, refl, sym, ap, subst, ◌∙◌, ◌≤◌, map, inl, inr, at_length, there, Giver, Buffer, AllOf, GaveBack, giver_memo, below_or, nothing_past, Follows, AreTied, back_log, log_at, PassView, calls_in, fate_of}
 use mathlib.Core.Option.{some, some-injective}
 use lib.ListN.{get_elem?}
 use Rattle.permit_ring.specs.Closing.{AreAllBack, IsSettled}
-use Rattle.permit_ring.proofs.ListLemmas.{at_length, there}
-use Rattle.buffer_classes.specs.declared.giver.Giver.{Giver}
-use Rattle.buffer_classes.specs.{Buffer, AllOf, GaveBack, giver_memo}
 use Rattle.buffer_classes.specs.Names as classes
-use Rattle.buffer_classes.proofs.AskLemmas.{below_or, nothing_past}
-use Rattle.merge_spec.specs.Follows.{Follows}
-use Rattle.report_api.specs.{AreTied, back_log, log_at, PassView, calls_in, fate_of}
 
 module _ {number : ℕ} {back : List (Option PassView)} {olds : List Giver} (news : List Giver) (tied : AreTied number back olds)
     (as_many : length news ≡ length olds)

@@ -1,19 +1,8 @@
 -- A pass that comes back with its claimant.
-use Rattle.std.proofs.Common.{◌≡◌, ℕ, ◌<◌, ◌≢◌, ◌⊎◌, Option, Some, List, length, slice_set, refl, sym, ap, subst, ◌∙◌, inl, inr, arith}
-use Rattle.std.proofs.lemmas.List.{length-set}
+use Rattle.report_api.proofs.Names.{◌≡◌, ℕ, ◌<◌, ◌≢◌, ◌⊎◌, Option, Some, List, length, slice_set, refl, sym, ap, subst, ◌∙◌, inl, inr, arith, length-set, at_set, set_here, set_else, Follows, at_length, there, seat_memo, ended, Giver, AllOf, Welcomed, ClassMemo, giver_memo, log_of, below_or, nothing_past, AreTied, asks_back, log_at, PassView, IsPassOf, calls_in, missing_in, pass_view, sizes_of, Pass, Shared}
 use mathlib.Core.Option.{some}
 use lib.ListN.{get_elem?}
-use Rattle.atomic_table.proofs.Lists.{at_set, set_here, set_else}
-use Rattle.merge_spec.specs.Follows.{Follows}
-use Rattle.permit_ring.proofs.ListLemmas.{at_length, there}
-use Rattle.permit_ring.specs.{seat_memo, ended}
-use Rattle.buffer_classes.specs.declared.giver.Giver.{Giver}
-use Rattle.buffer_classes.specs.{AllOf, Welcomed, ClassMemo, giver_memo, log_of}
 use Rattle.buffer_classes.specs.Names as classes
-use Rattle.buffer_classes.proofs.AskLemmas.{below_or, nothing_past}
-use Rattle.report_api.specs.{AreTied, asks_back, log_at, PassView, IsPassOf, calls_in, missing_in, pass_view, sizes_of}
-use Rattle.report_api.specs.declared.pass.Pass.{Pass}
-use Rattle.report_api.specs.declared.shared.Shared.{Shared}
 
 module _ {shared : Shared} {pass : Pass} {back : List (Option PassView)} {olds news : List Giver} (its : IsPassOf shared pass)
     (as_many : length olds ≡ length shared.classes.classes.items)

@@ -1,9 +1,5 @@
 -- The numbers of a ring are small: each fits far below 64 bits.
-use Rattle.std.proofs.Common.{ℕ, suc, ◌+◌, ◌*◌, ◌^◌, ◌≤◌, List, [], ◌∷◌, length, sum_by, suc-mul, arith}
-use Rattle.std.proofs.lemmas.Grind.{common_steps}
-use Rattle.std.proofs.lemmas.List.Sums.{sum_by-cons}
-use Rattle.ring_core.specs.{SeatView, seat_at, IsRing, machine_of}
-use Rattle.ring_core.specs.Machine.{Machine}
+use Rattle.ring_core.proofs.Names.{ℕ, suc, ◌+◌, ◌*◌, ◌^◌, ◌≤◌, List, [], ◌∷◌, length, sum_by, suc-mul, arith, common_steps, sum_by-cons, SeatView, seat_at, IsRing, machine_of, Machine}
 use Rattle.ring_core.specs.declared.state.RingState.TheInside.{Inside}
 
 -- a sum over seats that each add at most `most`

@@ -1,9 +1,5 @@
 -- A step that changes one seat and leaves its ticket alone keeps what holds of a ring, where the numbers fit.
-use Rattle.std.proofs.Common.{◌≡◌, ℕ, ◌+◌, ◌<◌, ◌≤◌, ◌⊎◌, List, length, set, sum_by, arith}
-use Rattle.std.proofs.lemmas.Grind.{common_steps}
-use Rattle.std.proofs.lemmas.List.{length-set}
-use Rattle.ring_core.specs.{LossWord, PermitWord, SeatView, seat_at, with_seat, IsRing, IsSeat, AreSeats, Holds, armed_count, calls_sum}
-use Rattle.ring_core.specs.Machine.{Machine}
+use Rattle.ring_core.proofs.Names.{◌≡◌, ℕ, ◌+◌, ◌<◌, ◌≤◌, ◌⊎◌, List, length, set, sum_by, arith, common_steps, length-set, LossWord, PermitWord, SeatView, seat_at, with_seat, IsRing, IsSeat, AreSeats, Holds, armed_count, calls_sum, Machine}
 use Rattle.ring_core.proofs.SeatLemmas.{apart_same, mark_same, each_after, holders_stay}
 
 module _ (m : Machine) (r : IsRing m) (i : ℕ) (made : i < length m.seats) (now : SeatView) where

@@ -1,9 +1,5 @@
 -- A claim keeps what holds of a ring, whether it gets a position or not.
-use Rattle.std.proofs.Common.{◌≡◌, ℕ, ◌+◌, ◌-◌, ◌<◌, ◌⊎◌, true, false, Some, None, List, length, set, refl, ap, inl, inr, arith}
-use Rattle.std.proofs.lemmas.Bool.{lt-ltb, le-ltb, cases_lt}
-use Rattle.std.proofs.lemmas.Grind.{common_steps}
-use Rattle.ring_core.specs.{SeatView, Claim, seat_at, with_seat, after, IsRing, IsSeat, AreSeats, IsFinished, Holds}
-use Rattle.ring_core.specs.Machine.{Machine}
+use Rattle.ring_core.proofs.Names.{◌≡◌, ℕ, ◌+◌, ◌-◌, ◌<◌, ◌⊎◌, true, false, Some, None, List, length, set, refl, ap, inl, inr, arith, lt-ltb, le-ltb, cases_lt, common_steps, SeatView, Claim, seat_at, with_seat, after, IsRing, IsSeat, AreSeats, IsFinished, Holds, Machine}
 use Rattle.ring_core.proofs.Changes.{seats_set, seat_sound}
 use Rattle.ring_core.proofs.SeatLemmas.{live_is_made, one_if, mark_stays, sums_after, holder_after, holder_before, seat_at-here, none_held, one_ticket}
 

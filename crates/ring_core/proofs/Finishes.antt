@@ -1,10 +1,5 @@
 -- A finish keeps what holds of a ring.
-use Rattle.std.proofs.Common.{◌≡◌, ◌≢◌, ℕ, ◌+◌, ◌%◌, ◌<◌, ◌≤◌, true, is_some, Option, Some, None, List, length, set, refl, sym, ◌∙◌, ap, subst, inl, inr, arith}
-use Rattle.std.proofs.lemmas.Bool.{cases_eq}
-use Rattle.std.proofs.lemmas.Grind.{common_steps}
-use Rattle.std.proofs.lemmas.List.{get_or-set_same, get_or-set_other}
-use Rattle.ring_core.specs.{SeatView, Ticket0, Finish, seat_at, with_seat, mark_at, possible, after, IsRing, IsSeat, AreSeats, IsMark, IsFinished, Holds}
-use Rattle.ring_core.specs.Machine.{Machine}
+use Rattle.ring_core.proofs.Names.{◌≡◌, ◌≢◌, ℕ, ◌+◌, ◌%◌, ◌<◌, ◌≤◌, true, is_some, Option, Some, None, List, length, set, refl, sym, ◌∙◌, ap, subst, inl, inr, arith, cases_eq, common_steps, get_or-set_same, get_or-set_other, SeatView, Ticket0, Finish, seat_at, with_seat, mark_at, possible, after, IsRing, IsSeat, AreSeats, IsMark, IsFinished, Holds, Machine}
 use Rattle.ring_core.proofs.Changes.{seats_set}
 use Rattle.ring_core.proofs.SeatLemmas.{live_is_made, mark_stays, sums_after, holder_after, holder_before, none_held, one_ticket}
 use Rattle.ring_core.proofs.Turns.{one_turn}

@@ -1,9 +1,5 @@
 -- The keeper's sees, reads and offers keep what holds of a ring.
-use Rattle.std.proofs.Common.{◌≡◌, ℕ, ◌+◌, ◌%◌, ◌≤◌, true, arith, mod-lt, inl, inr}
-use Rattle.std.proofs.lemmas.Bool.{cases_Bool}
-use Rattle.std.proofs.lemmas.Grind.{common_steps}
-use Rattle.ring_core.specs.{See, Read, Offer, seat_at, mark_at, same_word, offered_to, possible, after, IsRing, IsSeat, Holds}
-use Rattle.ring_core.specs.Machine.{Machine}
+use Rattle.ring_core.proofs.Names.{◌≡◌, ℕ, ◌+◌, ◌%◌, ◌≤◌, true, arith, mod-lt, inl, inr, cases_Bool, common_steps, See, Read, Offer, seat_at, mark_at, same_word, offered_to, possible, after, IsRing, IsSeat, Holds, Machine}
 
 module _ (m : Machine) (r : IsRing m) where
   -- the next ticket is finished, so no seat holds it

@@ -6,6 +6,7 @@ pub mod Keeps
 pub mod Lives
 pub mod Looks
 pub mod Losses
+pub mod Names
 pub mod Nexts
 pub mod Opens
 pub mod RingLaws

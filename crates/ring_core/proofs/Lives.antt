@@ -1,11 +1,5 @@
 -- Splits and joins keep what holds of a ring.
-use Rattle.std.proofs.Common.{◌≡◌, ℕ, ◌<◌, true, false, List, [], ◌∷◌, ◌++◌, length, sum_by, refl, arith, le_refl}
-use Rattle.std.proofs.lemmas.Bool.{ltb-true}
-use Rattle.std.proofs.lemmas.Grind.{common_steps}
-use Rattle.std.proofs.lemmas.List.{length-append}
-use Rattle.std.proofs.lemmas.List.Sums.{sum_by-append}
-use Rattle.ring_core.specs.{SeatView, Split, Join, new_seat, seat_at, possible, after, IsRing, IsSeat}
-use Rattle.ring_core.specs.Machine.{Machine}
+use Rattle.ring_core.proofs.Names.{◌≡◌, ℕ, ◌<◌, true, false, List, [], ◌∷◌, ◌++◌, length, sum_by, refl, arith, le_refl, ltb-true, common_steps, length-append, sum_by-append, SeatView, Split, Join, new_seat, seat_at, possible, after, IsRing, IsSeat, Machine}
 use Rattle.ring_core.proofs.Changes.{seat_sound}
 use Rattle.ring_core.proofs.SeatLemmas.{idle_parts, live_is_made, one_if, mark_same, apart_same, sums_after, seat_at-push, holders_stay_push}
 

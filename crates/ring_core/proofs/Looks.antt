@@ -1,10 +1,5 @@
 -- A look keeps what holds of a ring.
-use Rattle.std.proofs.Common.{◌≡◌, ℕ, ◌^◌, ◌<◌, true, set, refl, ap, le_refl, arith}
-use Rattle.std.proofs.lemmas.Grind.{common_steps}
-use Rattle.std.proofs.lemmas.List.{length-set}
-use Rattle.std.proofs.lemmas.List.Sums.{count_by-le-length}
-use Rattle.ring_core.specs.{SeatView, Look, seat_at, looked, possible, after, IsRing}
-use Rattle.ring_core.specs.Machine.{Machine}
+use Rattle.ring_core.proofs.Names.{◌≡◌, ℕ, ◌^◌, ◌<◌, true, set, refl, ap, le_refl, arith, common_steps, length-set, count_by-le-length, SeatView, Look, seat_at, looked, possible, after, IsRing, Machine}
 use Rattle.ring_core.proofs.Changes.{seat_sound}
 use Rattle.ring_core.proofs.SeatLemmas.{idle_parts, live_is_made, one_if, sums_after}
 

@@ -1,9 +1,5 @@
 -- Marks and sweeps of the loss words keep what holds of a ring.
-use Rattle.std.proofs.Common.{◌≡◌, ℕ, zero, suc, ◌^◌, ◌<◌, true, nat_lt, refl, le_refl, arith}
-use Rattle.std.proofs.lemmas.Bool.{and_parts, ltb-true}
-use Rattle.std.proofs.lemmas.Grind.{common_steps}
-use Rattle.ring_core.specs.{Mark, Sweep, seat_at, marks_of, marked, may_mark, one_more_lost, possible, after, IsRing}
-use Rattle.ring_core.specs.Machine.{Machine}
+use Rattle.ring_core.proofs.Names.{◌≡◌, ℕ, zero, suc, ◌^◌, ◌<◌, true, nat_lt, refl, le_refl, arith, and_parts, ltb-true, common_steps, Mark, Sweep, seat_at, marks_of, marked, may_mark, one_more_lost, possible, after, IsRing, Machine}
 use Rattle.ring_core.proofs.Changes.{seat_sound}
 use Rattle.ring_core.proofs.SeatLemmas.{live_is_made, sums_after}
 

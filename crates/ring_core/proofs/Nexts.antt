@@ -1,8 +1,5 @@
 -- The next state of each kind of step, from what its caller knows.
-use Rattle.std.proofs.Common.{◌≡◌, ◌≢◌, ℕ, ◌+◌, ◌%◌, ◌<◌, ◌≤◌, true, false, Some, [], ◌∷◌, ◌++◌, length, refl}
-use Rattle.std.proofs.lemmas.Bool.{lt-ltb, le-leb, eq-eqb, ne_eqb}
-use Rattle.ring_core.specs.{See, Read, Offer, Sweep, Split, Join, new_seat, seat_at, mark_at, loss_at, is_idle, offered_to, with_seat, with_loss, swept_clean, same_word, next}
-use Rattle.ring_core.specs.Machine.{Machine}
+use Rattle.ring_core.proofs.Names.{◌≡◌, ◌≢◌, ℕ, ◌+◌, ◌%◌, ◌<◌, ◌≤◌, true, false, Some, [], ◌∷◌, ◌++◌, length, refl, lt-ltb, le-leb, eq-eqb, ne_eqb, See, Read, Offer, Sweep, Split, Join, new_seat, seat_at, mark_at, loss_at, is_idle, offered_to, with_seat, with_loss, swept_clean, same_word, next, Machine}
 use Rattle.ring_core.proofs.WordLemmas.{one_word, other_word}
 
 module _ (m : Machine) where

@@ -1,8 +1,5 @@
 -- What holds of a ring holds of one whose positions are all free.
-use Rattle.std.proofs.Common.{ℕ, ◌<◌, ◌≤◌, [], ◌∷◌, refl, sym, subst, arith}
-use Rattle.std.proofs.lemmas.Grind.{common_steps}
-use Rattle.std.proofs.lemmas.List.{get_or-replicate, length-replicate}
-use Rattle.ring_core.specs.{nobody, new_seat, opening, IsRing, IsSeat, IsMark}
+use Rattle.ring_core.proofs.Names.{ℕ, ◌<◌, ◌≤◌, [], ◌∷◌, refl, sym, subst, arith, common_steps, get_or-replicate, length-replicate, nobody, new_seat, opening, IsRing, IsSeat, IsMark}
 use Rattle.ring_core.proofs.Lives.{new_in_order}
 use Rattle.ring_core.proofs.SeatLemmas.{none_held, apart_same, seat_at-push, holders_stay_push}
 

@@ -1,8 +1,5 @@
 -- What the ring that threads share rests on, beside that each step keeps what holds of a ring.
-use Rattle.std.proofs.Common.{◌≡◌, ℕ, ◌+◌, ◌<◌, ◌≤◌, true, false, Some, ap, arith}
-use Rattle.std.proofs.lemmas.Grind.{common_steps}
-use Rattle.ring_core.specs.Machine.{Machine}
-use Rattle.ring_core.specs.{Step, seat_at, same_word, possible, after, next, IsRing, field_of, IsPackable}
+use Rattle.ring_core.proofs.Names.{◌≡◌, ℕ, ◌+◌, ◌<◌, ◌≤◌, true, false, Some, ap, arith, common_steps, Machine, Step, seat_at, same_word, possible, after, next, IsRing, field_of, IsPackable}
 use Rattle.ring_core.proofs.Bounds.{small}
 use Rattle.ring_core.proofs.SeatLemmas.{live_is_made, one_if, sums_after}
 use Rattle.ring_core.proofs.WordLemmas.{one_word}

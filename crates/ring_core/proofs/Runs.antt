@@ -1,10 +1,7 @@
 -- What holds of a ring is kept by each step, and by each list of steps.
-use Rattle.std.proofs.Common.{◌≡◌, ℕ, Bool, cond, ◌+◌, ◌<◌, true, Option, Some, None, IfSome, is_some, List, [], ◌∷◌, ◌++◌, length, take, get_or, refl, sym, ◌∙◌, ap, subst}
+use Rattle.ring_core.proofs.Names.{◌≡◌, ℕ, Bool, cond, ◌+◌, ◌<◌, true, Option, Some, None, IfSome, is_some, List, [], ◌∷◌, ◌++◌, length, take, get_or, refl, sym, ◌∙◌, ap, subst, take_more, Step, Look, Claim, Finish, See, Read, Offer, Mark, Sweep, Split, Join, HasSizes, possible, after, next, after_all, StopsAt, IsRing, Machine}
 use Rattle.std.specs.Option.{option_and_then}
-use Rattle.std.proofs.lemmas.List.{take_more}
 use Rattle.std.proofs.lemmas.Option.{option_and_then_some}
-use Rattle.ring_core.specs.{Step, Look, Claim, Finish, See, Read, Offer, Mark, Sweep, Split, Join, HasSizes, possible, after, next, after_all, StopsAt, IsRing}
-use Rattle.ring_core.specs.Machine.{Machine}
 use Rattle.ring_core.proofs.Claims.{claim_keeps}
 use Rattle.ring_core.proofs.Finishes.{finish_keeps}
 use Rattle.ring_core.proofs.Keeps.{see_keeps, read_keeps, offer_keeps}

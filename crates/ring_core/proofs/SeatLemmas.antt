@@ -1,10 +1,5 @@
 -- The list of seats with one of them changed, or with one more: what that leaves as it was.
-use Rattle.std.proofs.Common.{◌≡◌, ◌≢◌, ℕ, ◌+◌, ◌<◌, ◌⊎◌, Bool, true, false, cond, Option, Some, None, List, [], ◌∷◌, ◌++◌, length, set, sum_by, sym, ◌∙◌, ap, subst, inl, inr, arith}
-use Rattle.std.proofs.lemmas.Bool.{cases_eq, cases_lt}
-use Rattle.std.proofs.lemmas.Grind.{common_steps}
-use Rattle.std.proofs.lemmas.List.{get_or_past, get_or-set_same, get_or-set_other, get_or_append_left, get_or_push, length-append}
-use Rattle.std.proofs.lemmas.List.Sums.{sum_by-set}
-use Rattle.ring_core.specs.{SeatView, Ticket0, nobody, new_seat, seat_at, is_idle, Holds, IsFinished, IsMark, armed_count, calls_sum}
+use Rattle.ring_core.proofs.Names.{◌≡◌, ◌≢◌, ℕ, ◌+◌, ◌<◌, ◌⊎◌, Bool, true, false, cond, Option, Some, None, List, [], ◌∷◌, ◌++◌, length, set, sum_by, sym, ◌∙◌, ap, subst, inl, inr, arith, cases_eq, cases_lt, common_steps, get_or_past, get_or-set_same, get_or-set_other, get_or_append_left, get_or_push, length-append, sum_by-set, SeatView, Ticket0, nobody, new_seat, seat_at, is_idle, Holds, IsFinished, IsMark, armed_count, calls_sum}
 
 -- what is known of an idle seat
 pub record Idle (seat : SeatView) : Type 0 where

@@ -1,7 +1,5 @@
 -- No step changes the sizes of a ring.
-use Rattle.std.proofs.Common.{◌≡◌, ℕ, Result, Ok, Err, arith}
-use Rattle.ring_core.specs.{Step, HasSizes, StepAnswers, after}
-use Rattle.ring_core.specs.Machine.{Machine}
+use Rattle.ring_core.proofs.Names.{◌≡◌, ℕ, Result, Ok, Err, arith, Step, HasSizes, StepAnswers, after, Machine}
 use Rattle.ring_core.proofs.RingLaws.{step_of_next}
 
 pub same_sizes : (m now : Machine) → now ≡ m → HasSizes m.positions m.limit now

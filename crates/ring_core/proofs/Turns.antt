@@ -1,5 +1,5 @@
 -- Numbers that are less than one turn of a ring apart.
-use Rattle.std.proofs.Common.{◌≡◌, ℕ, suc, ◌+◌, ◌*◌, ◌/◌, ◌%◌, ◌<◌, ◌≤◌, mul-le-mul_right, suc-mul, div-add-mod', arith}
+use Rattle.ring_core.proofs.Names.{◌≡◌, ℕ, suc, ◌+◌, ◌*◌, ◌/◌, ◌%◌, ◌<◌, ◌≤◌, mul-le-mul_right, suc-mul, div-add-mod', arith}
 
 -- a greater quotient is at least one divisor more
 further : (x y n : ℕ) → x < y → x * n + n ≤ y * n

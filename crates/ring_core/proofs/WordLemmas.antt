@@ -1,8 +1,6 @@
 -- The permit word as a number: what is packed can be told, and a claim adds one number to it.
-use Rattle.std.proofs.Common.{◌≡◌, ℕ, ◌+◌, ◌<◌, ◌≤◌, ◌≢◌, ◌^◌, true, false, sym, ◌∙◌, ap, ap₂, arith}
-use Rattle.std.proofs.lemmas.Grind.{common_steps}
+use Rattle.ring_core.proofs.Names.{◌≡◌, ℕ, ◌+◌, ◌<◌, ◌≤◌, ◌≢◌, ◌^◌, true, false, sym, ◌∙◌, ap, ap₂, arith, common_steps, PermitWord, same_word, claimed_from, tries_of, field_of, packed, word_of, unpacked, FreeOrOver, IsPackable}
 use Rattle.std.proofs.lemmas.Nat.{div-mul-add, mod-mul-add}
-use Rattle.ring_core.specs.{PermitWord, same_word, claimed_from, tries_of, field_of, packed, word_of, unpacked, FreeOrOver, IsPackable}
 
 -- words that are equal in each number are one word
 pub one_word : (a b : PermitWord) → a.claimed ≡ b.claimed → a.free ≡ b.free → a.over ≡ b.over → same_word a b ≡ true

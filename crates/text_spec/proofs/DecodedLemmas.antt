@@ -1,6 +1,5 @@
 -- The line of a decoded message.
-use Rattle.std.specs.Prelude.{◌≡◌, ◌+◌, ◌++◌}
-use Rattle.text_spec.proofs.Names.{ℕ, List, append_assoc, length, length-append, arith, decimal, layout_word, message_line, shown_context, shown_signature, stamp_text}
+use Rattle.text_spec.proofs.Names.{◌≡◌, ◌+◌, ◌++◌, ℕ, List, append_assoc, length, length-append, arith, decimal, layout_word, message_line, shown_context, shown_signature, stamp_text}
 use Rattle.ids_frame.specs.Message.{MessageParts}
 
 -- the parts of a line

@@ -1,6 +1,5 @@
 -- Lists of fields: their reading against their words, both ways, for any fields that keep the laws.
-use Rattle.std.specs.Prelude.{◌≡◌, ◌<◌, ◌==◌, ◌∷◌}
-use Rattle.text_spec.proofs.Names.{ℕ, not, Bool, true, List, [], length, refl, sym, ap, subst, ◌∙◌, arith, inl, inr, Option, Some, None, option_map, nat_lt, list_all, none-some, Field, Filled, simple, put, the, words_of_fields, AreHeld, AreExact, AreWritten, HasForm, Makes, first_as, read_by, Form, told_in, told_in_one, ◌>>=◌, or_else, space, line_feed, words_of, line_of}
+use Rattle.text_spec.proofs.Names.{◌≡◌, ◌<◌, ◌==◌, ◌∷◌, ℕ, not, Bool, true, List, [], length, refl, sym, ap, subst, ◌∙◌, arith, inl, inr, Option, Some, None, option_map, nat_lt, list_all, none-some, Field, Filled, simple, put, the, words_of_fields, AreHeld, AreExact, AreWritten, HasForm, Makes, first_as, read_by, Form, told_in, told_in_one, ◌>>=◌, or_else, space, line_feed, words_of, line_of}
 use Rattle.text_spec.proofs.FrontLemmas.{bind_again}
 use Rattle.text_spec.proofs.WordsLemmas.{Pass, all_pass, weaker, split_joined, join_passes}
 

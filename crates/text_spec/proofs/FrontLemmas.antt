@@ -1,6 +1,5 @@
 -- What the steps of a reading found.
-use Rattle.std.specs.Prelude.{◌≡◌, ◌⊎◌, if◌then◌else◌}
-use Rattle.text_spec.proofs.Names.{inl, inr, Bool, true, false, refl, ap, Option, Some, None, option_map, same_Some, none-some, ◌>>=◌}
+use Rattle.text_spec.proofs.Names.{◌≡◌, ◌⊎◌, if◌then◌else◌, inl, inr, Bool, true, false, refl, ap, Option, Some, None, option_map, same_Some, none-some, ◌>>=◌}
 
 -- what a test chose
 pub chosen : {A : Type 0} (b : Bool) (x y z : A) → (if b then x else y) ≡ z → ((b ≡ true) × (x ≡ z)) ⊎ ((b ≡ false) × (y ≡ z))

@@ -1,8 +1,5 @@
 -- A line without a fault: what holds of it, and what it adds to the lines before it.
-use Rattle.std.specs.Prelude.{◌≡◌, ◌<◌, ◌≤◌, ◌∷◌, ◌++◌}
-use Rattle.text_spec.proofs.Names.{ℕ, true, List, [], length, map, sym, ap, append_assoc, arith, Ok, slice_index, AllByRecursion, flat_map, list_all, append-nil, flat_map_more, map-append, nil_from_length, Parts, is_sensor, Turn, begun, extended, with_entry, IsExactContext, a_number, AreExact, Past, is_claim, is_call, is_context, is_act, has_event, entry_fault, fault_of, next, entry_of, Carried, Absent, Kept, Missing, Act, Report, State, SetMode, Entry, Line, begins, enters, loses, act_fields, fields_of, turn_told, lines_told}
-use Rattle.std.proofs.lemmas.List.Elements.{recursion_from_All}
-use Rattle.std.proofs.lemmas.List.Sums.{AllPass-from_list_all}
+use Rattle.text_spec.proofs.Names.{◌≡◌, ◌<◌, ◌≤◌, ◌∷◌, ◌++◌, recursion_from_All, AllPass-from_list_all, ℕ, true, List, [], length, map, sym, ap, append_assoc, arith, Ok, slice_index, AllByRecursion, flat_map, list_all, append-nil, flat_map_more, map-append, nil_from_length, Parts, is_sensor, Turn, begun, extended, with_entry, IsExactContext, a_number, AreExact, Past, is_claim, is_call, is_context, is_act, has_event, entry_fault, fault_of, next, entry_of, Carried, Absent, Kept, Missing, Act, Report, State, SetMode, Entry, Line, begins, enters, loses, act_fields, fields_of, turn_told, lines_told}
 
 -- what holds of an entry without a fault
 pub record EntryPasses (config : Parts) (past : Past) (entry : Entry (List ℕ)) : Type 0 where

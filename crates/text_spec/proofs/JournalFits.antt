@@ -1,6 +1,5 @@
 -- What turns and losses that fit a configuration keep.
-use Rattle.std.specs.Prelude.{◌≡◌, ◌+◌, ◌<◌, ◌≤◌, ◌||◌, ◌∷◌, ◌++◌}
-use Rattle.text_spec.proofs.Names.{ℕ, true, false, inl, inr, List, [], length, map, get_or, length-set, get_or-set_same, get_or-set_other, set, refl, sym, ap, subst, ◌∙◌, append_assoc, arith, Ok, AllByRecursion, flat_map, list_any, and_from, both_ways, cases_eq, eq-eqb, append-nil, length-append, list_any-append, Parts, Turn, begun, with_entry, entries_of, Past, is_in_ranges, loss_fault, fault_of, next, is_pair, has_pair, pair_of, AreFaultless, journal_grammar, Follows, Loss, Entry, Line, begins, enters, loses, turn_told}
+use Rattle.text_spec.proofs.Names.{◌≡◌, ◌+◌, ◌<◌, ◌≤◌, ◌||◌, ◌∷◌, ◌++◌, ℕ, true, false, inl, inr, List, [], length, map, get_or, length-set, get_or-set_same, get_or-set_other, set, refl, sym, ap, subst, ◌∙◌, append_assoc, arith, Ok, AllByRecursion, flat_map, list_any, and_from, both_ways, cases_eq, eq-eqb, append-nil, length-append, list_any-append, Parts, Turn, begun, with_entry, entries_of, Past, is_in_ranges, loss_fault, fault_of, next, is_pair, has_pair, pair_of, AreFaultless, journal_grammar, Follows, Loss, Entry, Line, begins, enters, loses, turn_told}
 use Rattle.text_spec.proofs.JournalFacts.{entry_passes, flat_map-push, flat_map-with_entry}
 
 -- what the lines so far keep of one of them

@@ -1,6 +1,5 @@
 -- One line of a journal: its reading against its own text, both ways.
-use Rattle.std.specs.Prelude.{◌≡◌, ◌<◌}
-use Rattle.text_spec.proofs.Names.{ℕ, List, length, refl, ap, subst, ◌∙◌, arith, Some, None, codes, words_of_fields, AreHeld, AreExact, HasForm, told_in, entry_of, turn_form, report_form, state_form, setting_form, loss_form, line_forms, told_by, Act, Report, State, SetMode, Line, begins, enters, loses, act_fields, fields_of, or_else}
+use Rattle.text_spec.proofs.Names.{◌≡◌, ◌<◌, ℕ, List, length, refl, ap, subst, ◌∙◌, arith, Some, None, codes, words_of_fields, AreHeld, AreExact, HasForm, told_in, entry_of, turn_form, report_form, state_form, setting_form, loss_form, line_forms, told_by, Act, Report, State, SetMode, Line, begins, enters, loses, act_fields, fields_of, or_else}
 use Rattle.text_spec.proofs.ContextsLaws.{the_lawful, number_lawful, stamp_lawful, mode_lawful, context_lawful}
 use Rattle.text_spec.proofs.FieldsLaws.{AreForms, AreLawful, IsShown, IsTold, first_form, forms_are, kinds}
 

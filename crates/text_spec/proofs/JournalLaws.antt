@@ -1,6 +1,5 @@
 -- All lines of a journal: what a text tells is a journal, and each journal is told by its own text.
-use Rattle.std.specs.Prelude.{◌≡◌, ◌≤◌, ◌∷◌, ◌++◌}
-use Rattle.text_spec.proofs.Names.{ℕ, List, [], length, map, refl, sym, ap, subst, ◌∙◌, append_assoc, AllByRecursion, Result, Ok, Err, flat_map, append-nil, Parts, Turn, Past, next, start, AreFaultless, IsHeld, IsJournal, journal_grammar, BadLine, journal_in, Entry, Loss, Told, Line, begins, enters, loses, fields_of, line_for, turn_told, lines_told, past_in, text_of}
+use Rattle.text_spec.proofs.Names.{◌≡◌, ◌≤◌, ◌∷◌, ◌++◌, ℕ, List, [], length, map, refl, sym, ap, subst, ◌∙◌, append_assoc, AllByRecursion, Result, Ok, Err, flat_map, append-nil, Parts, Turn, Past, next, start, AreFaultless, IsHeld, IsJournal, journal_grammar, BadLine, journal_in, Entry, Loss, Told, Line, begins, enters, loses, fields_of, line_for, turn_told, lines_told, past_in, text_of}
 use Rattle.text_spec.specs.Lines.{◌>>=◌}
 use Rattle.text_spec.proofs.JournalFacts.{line_exact, line_grows}
 use Rattle.text_spec.proofs.JournalForms.{line_again, line_lawful, told_is}

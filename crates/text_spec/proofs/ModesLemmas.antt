@@ -1,7 +1,5 @@
 -- The names of modes: the reading of a word against a mode's name.
-use Rattle.std.specs.Prelude.{◌≡◌, ◌∷◌}
-use Rattle.text_spec.proofs.Names.{ℕ, true, inl, inr, List, [], refl, ap, ◌∙◌, Some, bytes_eq, list_all, same_Some, none-some, bytes_eq-Decides, Mode, mode_name, find, mode_named}
-use Rattle.ids_types.specs.declared.mode.Mode.TheVariants.{Off, Brief, Detailed, BriefBypassing, DetailedBypassing}
+use Rattle.text_spec.proofs.Names.{◌≡◌, ◌∷◌, Off, Brief, Detailed, BriefBypassing, DetailedBypassing, ℕ, true, inl, inr, List, [], refl, ap, ◌∙◌, Some, bytes_eq, list_all, same_Some, none-some, bytes_eq-Decides, Mode, mode_name, find, mode_named}
 use Rattle.text_spec.proofs.FieldsLaws.{in_word}
 use Rattle.text_spec.proofs.FrontLemmas.{chosen}
 

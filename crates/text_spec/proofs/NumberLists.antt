@@ -1,6 +1,5 @@
 -- Numbers in a list of words, one after another.
-use Rattle.std.specs.Prelude.{◌≡◌, ◌∷◌, ◌++◌}
-use Rattle.text_spec.proofs.Names.{ℕ, suc, List, [], refl, ap, ◌∙◌, append_assoc, Option, Some, None, option_map, numbers_in, a_number, first_as}
+use Rattle.text_spec.proofs.Names.{◌≡◌, ◌∷◌, ◌++◌, ℕ, suc, List, [], refl, ap, ◌∙◌, append_assoc, Option, Some, None, option_map, numbers_in, a_number, first_as}
 use Rattle.text_spec.proofs.FrontLemmas.{mapped_some, bind_again}
 
 -- numbers that were read, behind these

@@ -1,18 +1,10 @@
 -- Numbers: the reading of a word against the text of a number.
-use Rattle.std.proofs.Common.{◌≡◌, ℕ, ◌+◌, ◌-◌, ◌*◌, ◌/◌, ◌%◌, ◌^◌, ◌<◌, ◌≤◌, ◌==◌, min, not, true, ◌||◌, inl, inr, List, [], ◌∷◌, length, take, get_or, refl, sym, ap, ◌∙◌, append_assoc, ◌++◌, arith, rules}
-use Rattle.std.specs.Prelude.{Option, Some, None, option_map, decimal}
-use Rattle.std.specs.Char.{is_ascii_digit}
+use Rattle.text_spec.proofs.Names.{◌≡◌, ℕ, ◌+◌, ◌-◌, ◌*◌, ◌/◌, ◌%◌, ◌^◌, ◌<◌, ◌≤◌, ◌==◌, min, not, true, ◌||◌, inl, inr, List, [], ◌∷◌, length, take, get_or, refl, sym, ap, ◌∙◌, append_assoc, ◌++◌, arith, rules, Option, Some, None, option_map, decimal, is_ascii_digit, list_all, digits_value, and_parts, and_from, or_cases, cases_eq, cond-true, cond-false, cases_Bool, leb-true, eqb-true, eq-eqb, ne_eqb, length-append, same_Some, none-some, is_number, number_in, capped, greatest_told}
 use Rattle.std.specs.Int.{IsInRange}
-use Rattle.std.specs.List.{list_all}
-use Rattle.std.specs.Str.Parse.{digits_value}
-use Rattle.std.proofs.lemmas.Bool.{and_parts, and_from, or_cases, cases_eq, cond-true, cond-false, cases_Bool, leb-true, eqb-true, eq-eqb, ne_eqb}
 use Rattle.std.proofs.lemmas.Fmt.{digits_decimal, digits_value-decimal, decimal-digits_value, first_decimal, decimal_nonempty, decimal_digit, decimal_step, length-decimal-le_wide}
-use Rattle.std.proofs.lemmas.List.{length-append}
 use Rattle.std.proofs.lemmas.Int.Digits.{digits_value_more}
-use Rattle.std.proofs.lemmas.Option.{same_Some, none-some}
 use Rattle.std.proofs.lemmas.Str.{digit_value_digit}
 use Rattle.std.proofs.lemmas.Str.Parse.{IsNumeralModel, numerals_by_value}
-use Rattle.text_spec.specs.Numbers.{is_number, number_in, capped, greatest_told}
 
 -- a word of digits
 abbrev pub Digits : List ℕ → Type 0

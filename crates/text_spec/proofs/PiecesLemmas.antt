@@ -1,19 +1,6 @@
 -- The first piece of a text that is cut at a separator, and the number that it writes.
-use Rattle.std.proofs.Common.{◌≡◌, ℕ, ◌+◌, ◌==◌, Bool, true, false, not, ◌||◌, ◌<◌, List, [], ◌∷◌, length, take, drop, get_or, Some, None, sym, ap, ◌∙◌, arith, inl, inr}
-use Rattle.std.specs.Prelude.{Option, nat_lt, position, option_map, ◌&&◌}
-use Rattle.std.specs.Char.{is_ascii_digit}
-use Rattle.std.specs.List.{slice_split, position_or_len, list_all}
-use Rattle.std.specs.Str.Parse.{digits_value}
-use Rattle.std.proofs.lemmas.Bool.{cases_Bool, cond-true, cond-false, false_from_ne_true, ltb-true, ltb-false, both_ways, ne_eqb}
-use Rattle.std.proofs.lemmas.Option.{none-some, cond_some}
-use Rattle.std.proofs.lemmas.List.{take_all, length-take, get_or-take}
-use Rattle.std.proofs.lemmas.List.Elements.{All-from_get_or}
-use Rattle.std.proofs.lemmas.List.Folds.{list_all_at}
-use Rattle.std.proofs.lemmas.List.Splits.{slice_split_first, slice_split_none, length-slice_split}
-use Rattle.std.proofs.lemmas.List.Sums.{fails_before_first, passes_at_first, position_or_len_is}
+use Rattle.text_spec.proofs.Names.{◌≡◌, ℕ, ◌+◌, ◌==◌, Bool, true, false, not, ◌||◌, ◌<◌, List, [], ◌∷◌, length, take, drop, get_or, Some, None, sym, ap, ◌∙◌, arith, inl, inr, Option, nat_lt, position, option_map, ◌&&◌, is_ascii_digit, slice_split, position_or_len, list_all, digits_value, cases_Bool, cond-true, cond-false, false_from_ne_true, ltb-true, ltb-false, both_ways, ne_eqb, none-some, cond_some, take_all, length-take, get_or-take, All-from_get_or, list_all_at, slice_split_first, slice_split_none, length-slice_split, fails_before_first, passes_at_first, position_or_len_is, a_number, first_as, is_number, capped, zero_digit}
 use Rattle.memchr.specs.Find.{IsFirstByte, is_byte}
-use Rattle.text_spec.specs.Fields.{a_number, first_as}
-use Rattle.text_spec.specs.Numbers.{is_number, capped, zero_digit}
 
 -- the first piece ends at the first separator
 pub cut_some : (p : ℕ → Bool) (text : List ℕ) (end : ℕ) → position p text ≡ Some end

@@ -1,6 +1,5 @@
 -- Timestamps: the reading of a word against the text of an optional timestamp.
-use Rattle.std.specs.Prelude.{◌≡◌, ◌^◌, ◌<◌, ◌==◌}
-use Rattle.text_spec.proofs.Names.{ℕ, zero, suc, inl, inr, List, length, refl, sym, ap, subst, ◌∙◌, arith, Option, Some, None, IfSome, bytes_eq, option_and_then, w64, to_be_bytes, from_be_bytes, bytes_high_first, byte_at, cond-false, eqb-true, false_from_ne_true, same_Some, cond_some, option_and_then_some, bytes_eq-Decides, IsBytes, encode_lower, Stamp, hex_in, absent, stamp_text, stamp_of_bytes, stamp_in}
+use Rattle.text_spec.proofs.Names.{◌≡◌, ◌^◌, ◌<◌, ◌==◌, ℕ, zero, suc, inl, inr, List, length, refl, sym, ap, subst, ◌∙◌, arith, Option, Some, None, IfSome, bytes_eq, option_and_then, w64, to_be_bytes, from_be_bytes, bytes_high_first, byte_at, cond-false, eqb-true, false_from_ne_true, same_Some, cond_some, option_and_then_some, bytes_eq-Decides, IsBytes, encode_lower, Stamp, hex_in, absent, stamp_text, stamp_of_bytes, stamp_in}
 use Rattle.std.proofs.lemmas.Nat.{from_be_bytes-to_be_bytes_8, be_bytes_8}
 use Rattle.text_spec.proofs.FrontLemmas.{chosen}
 use Rattle.text_spec.proofs.HexadecimalLemmas.{hex_in-encode_lower, hex_in-some, length_hex}

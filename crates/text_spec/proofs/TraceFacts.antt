@@ -1,14 +1,6 @@
 -- Rounds in lists: the last one, its tick, and the ticks of all.
-use Rattle.std.specs.Prelude.{◌≡◌, ◌<◌, ◌≤◌, ◌^◌, ◌∷◌, ◌++◌}
-use Rattle.text_spec.proofs.Names.{ℕ, zero, suc, true, List, [], length, set, get_or, refl, sym, ap, subst, ◌∙◌, append_assoc, arith, AllByRecursion, flat_map, list_all, and_from, and_parts, le-leb}
-use Rattle.std.proofs.lemmas.Bool.{leb-true}
-use Rattle.std.specs.Prelude.{nat_le, replicate}
-use Rattle.merge_spec.specs.Orders.{KeepUpFrom}
-use Rattle.merge_spec.specs.Rounds.{Round, last_tick, round_ticks}
-use Rattle.text_spec.specs.JournalFaults.{is_tick}
-use Rattle.text_spec.specs.TraceFaults.{asked_more, begun_round, ended_at, keep_up, last_from, with_last}
-use Rattle.text_spec.specs.TraceReading.{AreTicks}
-use Rattle.text_spec.specs.TraceText.{Asked}
+use Rattle.text_spec.proofs.Names.{◌≡◌, ◌<◌, ◌≤◌, ◌^◌, ◌∷◌, ◌++◌, leb-true, nat_le, replicate, KeepUpFrom, last_tick, round_ticks, is_tick, asked_more, begun_round, ended_at, keep_up, last_from, with_last, AreTicks, Asked, ℕ, zero, suc, true, List, [], length, set, get_or, refl, sym, ap, subst, ◌∙◌, append_assoc, arith, AllByRecursion, flat_map, list_all, and_from, and_parts, le-leb}
+use Rattle.merge_spec.specs.Rounds.{Round}
 use Rattle.text_spec.proofs.JournalFacts.{flat_map-push}
 
 -- ---- facts of each element

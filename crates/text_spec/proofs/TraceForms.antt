@@ -1,9 +1,6 @@
 -- One line of a trace: its reading against its own text, both ways.
-use Rattle.std.specs.Prelude.{◌≡◌, ◌<◌, ◌∷◌}
-use Rattle.text_spec.proofs.Names.{ℕ, List, [], length, map, refl, sym, ap, subst, ◌∙◌, arith, Option, Some, None, option_map, codes, decimal, AllByRecursion, a_number, the, words_of_fields, AreHeld, AreExact, told_in_one, numbers_in, or_else, same_Some, ◌>>=◌}
-use Rattle.std.proofs.lemmas.List.{length-map}
+use Rattle.text_spec.proofs.Names.{◌≡◌, ◌<◌, ◌∷◌, length-map, Asked, reports, changes, sets, TraceLine, opens, calls, closes, number_fields, asked_fields, trace_fields, ℕ, List, [], length, map, refl, sym, ap, subst, ◌∙◌, arith, Option, Some, None, option_map, codes, decimal, AllByRecursion, a_number, the, words_of_fields, AreHeld, AreExact, told_in_one, numbers_in, or_else, same_Some, ◌>>=◌}
 use Rattle.text_spec.specs.TraceForm.{asked_report_form, asked_state_form, asked_mode_form, round_end_form, trace_forms, opening_in, trace_told_by}
-use Rattle.text_spec.specs.TraceText.{Asked, reports, changes, sets, TraceLine, opens, calls, closes, number_fields, asked_fields, trace_fields}
 use Rattle.text_spec.proofs.ContextsLaws.{the_lawful, number_lawful, stamp_lawful, mode_lawful, any_lawful, numbers_again, numbers_take}
 use Rattle.text_spec.proofs.FieldsLaws.{AreForms, AreLawful, IsReading, IsShown, IsTold, Told, first_form, forms_are, kinds}
 

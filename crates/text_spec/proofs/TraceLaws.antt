@@ -1,16 +1,6 @@
 -- All lines of a trace: the text of rounds that fit is read as them, and the rounds that a text tells fit.
-use Rattle.std.specs.Prelude.{◌≡◌, ◌+◌, ◌<◌, ◌≤◌, ◌^◌, ◌∷◌, ◌++◌}
-use Rattle.text_spec.proofs.Names.{ℕ, suc, true, false, List, [], length, map, refl, sym, ap, ◌∙◌, append_assoc, arith, Result, Ok, AllByRecursion, flat_map, list_all, append-nil, length-append, length-set, and_from, and_parts, Parts, AreHeld, AreExact, Grammar, BadLine, at_line, past_in}
-use Rattle.std.specs.Prelude.{nat_lt, nat_le, replicate}
-use Rattle.std.proofs.lemmas.Bool.{leb-true, le-leb, lt-ltb}
-use Rattle.std.proofs.lemmas.List.{get_or_at, length-replicate, set_at}
-use Rattle.merge_spec.specs.Orders.{KeepUpFrom}
-use Rattle.merge_spec.specs.Rounds.{lines_at, last_tick, round_ticks}
-use Rattle.text_spec.specs.JournalFaults.{is_tick, is_act, has_event}
-use Rattle.text_spec.specs.Lines.{AreFaultless, at_end, ◌>>=◌}
-use Rattle.text_spec.specs.TraceFaults.{act_asked, keep_up, PastRounds, no_rounds, last_from, begun_round, asked_more, ended_at, next_rounds, asked_fault, trace_fault_of}
-use Rattle.text_spec.specs.TraceReading.{trace_grammar, trace_in, IsHeldAsked, MayAsk, IsAllowedRound, AreRounds}
-use Rattle.text_spec.specs.TraceText.{Asked, reports, changes, sets, Round, TraceLine, opens, calls, closes, number_fields, asked_fields, trace_fields, callers_told, round_told, rounds_told, trace_text}
+use Rattle.text_spec.proofs.Names.{◌≡◌, ◌+◌, ◌<◌, ◌≤◌, ◌^◌, ◌∷◌, ◌++◌, nat_lt, nat_le, replicate, leb-true, le-leb, lt-ltb, get_or_at, length-replicate, set_at, KeepUpFrom, lines_at, last_tick, round_ticks, is_tick, is_act, has_event, AreFaultless, at_end, act_asked, keep_up, PastRounds, no_rounds, last_from, begun_round, asked_more, ended_at, next_rounds, asked_fault, trace_fault_of, trace_grammar, trace_in, IsHeldAsked, MayAsk, IsAllowedRound, AreRounds, Asked, reports, changes, sets, Round, TraceLine, opens, calls, closes, number_fields, asked_fields, trace_fields, callers_told, round_told, rounds_told, trace_text, ℕ, suc, true, false, List, [], length, map, refl, sym, ap, ◌∙◌, append_assoc, arith, Result, Ok, AllByRecursion, flat_map, list_all, append-nil, length-append, length-set, and_from, and_parts, Parts, AreHeld, AreExact, Grammar, BadLine, at_line, past_in}
+use Rattle.text_spec.specs.Lines.{◌>>=◌}
 use Rattle.text_spec.proofs.JournalFacts.{sensor_is_there}
 use Rattle.text_spec.proofs.LinesLaws.{AreHeldLines, Leaves, Tells, all_next, bind_ok, leave_more, leave_one, text_adds, text_read}
 use Rattle.text_spec.proofs.TraceFacts.{IsSmall, all_append, all_at, all_replicate, all_set, all_small, all_split, all_with_last, last_tick-push, opening_keeps_up, opening_small, round_keeps_up, small_all, ticks_asked, ticks_ended, ticks_pushed, true-keep_up, with_last-push}

@@ -1,9 +1,6 @@
 -- Words and lines: the tests that their bytes pass, and the readings of a line and of a text against
 -- their texts.
-use Rattle.std.specs.Prelude.{◌≡◌, ◌+◌, ◌<◌, ◌==◌, ◌∷◌, ◌++◌}
-use Rattle.text_spec.proofs.Names.{ℕ, Bool, true, false, List, [], length, map, take, get_or, refl, sym, ap, ◌∙◌, append_assoc, arith, All, list_all, AllByRecursion, slice_split, join_with_byte, and_from, eq-eqb, ne_eqb, both_ways, list_all-append, slice_split_none, slice_split_at, length-take-le, map-append, line_feed, text_of}
-use Rattle.std.proofs.lemmas.List.{take_more}
-use Rattle.std.proofs.lemmas.List.Sums.{AllPass-from_list_all, list_all-from_AllPass}
+use Rattle.text_spec.proofs.Names.{◌≡◌, ◌+◌, ◌<◌, ◌==◌, ◌∷◌, ◌++◌, take_more, AllPass-from_list_all, list_all-from_AllPass, ℕ, Bool, true, false, List, [], length, map, take, get_or, refl, sym, ap, ◌∙◌, append_assoc, arith, All, list_all, AllByRecursion, slice_split, join_with_byte, and_from, eq-eqb, ne_eqb, both_ways, list_all-append, slice_split_none, slice_split_at, length-take-le, map-append, line_feed, text_of}
 
 -- all bytes of each of these words pass a test
 abbrev pub Pass : (ℕ → Bool) → List (List ℕ) → Type 0

@@ -1,13 +1,9 @@
 -- A small trace, and its text as it stands in a file.
-use Rattle.std.specs.Prelude.{◌≡◌, ◌∷◌}
-use Rattle.text_spec.proofs.Names.{List, [], refl, Ok, Err, codes, None}
+use Rattle.text_spec.proofs.Names.{◌≡◌, ◌∷◌, Off, trace_in, Round, reports, changes, sets, trace_text, List, [], refl, Ok, Err, codes, None}
 use Rattle.ids_config.specs.Parts.{Parts, plain_event}
-use Rattle.ids_types.specs.declared.mode.Mode.TheVariants.{Off}
 use Rattle.std.specs.Fmt.{digits}
 use Rattle.hex.specs.Hex.{decode_pairs, encode_with}
 use Rattle.text_spec.specs.Lines.{after_pieces}
-use Rattle.text_spec.specs.TraceReading.{trace_in}
-use Rattle.text_spec.specs.TraceText.{Round, reports, changes, sets, trace_text}
 
 -- two callers, and one event that a sensor reports
 abbrev config : Parts

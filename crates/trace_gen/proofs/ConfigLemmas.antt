@@ -1,14 +1,7 @@
 -- The generated configuration has no fault.
-use Rattle.std.proofs.Common.{◌≡◌, ℕ, zero, suc, ◌+◌, ◌≤◌, ◌<◌, List, [], ◌∷◌, ◌++◌, length, map, Ok, IsTrue, refl, arith, length-append}
-use Rattle.std.specs.List.{AllByRecursion, range_with_len}
+use Rattle.trace_gen.proofs.Names.{◌≡◌, ℕ, zero, suc, ◌+◌, ◌≤◌, ◌<◌, List, [], ◌∷◌, ◌++◌, length, map, Ok, IsTrue, refl, arith, length-append, AllByRecursion, range_with_len, length-map-range_with_len, Event, each_event, events_value, internal_value, Options, is_in_range, ranges, all_events, config_of, internal_event, sensor_event}
 use Rattle.std.proofs.lemmas.Bool.Decides.{nat_tests}
-use Rattle.std.proofs.lemmas.List.FromFn.{length-map-range_with_len}
-use Rattle.ids_config.specs.Parts.{Event}
-use Rattle.ids_config.specs.Values.{each_event, event_value, events_value, internal_value, parts_value}
-use Rattle.gen_options.specs.declared.options.Options.{Options}
-use Rattle.gen_options.specs.Ranges.{is_in_range}
-use Rattle.gen_options.proofs.RangeLemmas.{ranges}
-use Rattle.trace_gen.specs.GeneratedConfig.{all_events, config_of, internal_event, sensor_event}
+use Rattle.ids_config.specs.Values.{event_value, parts_value}
 
 -- an event that sensors report has no fault
 sensor_faultless : (e : ℕ) → e < 200 → event_value 1 (sensor_event e) ≡ Ok tt

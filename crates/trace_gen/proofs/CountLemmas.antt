@@ -1,17 +1,7 @@
 -- Counts of calls and claims, with one call more.
-use Rattle.std.proofs.Common.{◌≡◌, ◌≢◌, ℕ, ◌+◌, ◌<◌, ◌==◌, Bool, true, false, List, [], ◌∷◌, length, filter, map, get_or, set, refl, sym, ap, ◌∙◌, arith, inl, inr}
-use Rattle.std.specs.Prelude.{Option, cond, count_by, nat_lt}
-use Rattle.std.proofs.lemmas.Bool.{cases_Bool, eq-eqb, eqb-true, ne_eqb, false_from_ne_true}
-use Rattle.std.proofs.lemmas.List.{get_or-set_same, get_or-set_other}
+use Rattle.trace_gen.proofs.Names.{◌≡◌, ◌≢◌, ℕ, ◌+◌, ◌<◌, ◌==◌, Bool, true, false, List, [], ◌∷◌, length, filter, map, get_or, set, refl, sym, ap, ◌∙◌, arith, inl, inr, Option, cond, count_by, nat_lt, cases_Bool, eq-eqb, eqb-true, ne_eqb, false_from_ne_true, get_or-set_same, get_or-set_other, ClassSpec, Parts, class_of, too_small, EventIndex, Stamp, Asked, reports, changes, sets, AreCalls, AreClaims, Call, calls_before, claims_before, is_by, keeps_in}
 use Rattle.std.proofs.lemmas.List.Sums.{sum_by-cons}
 use Rattle.std.proofs.Math.ListN.{length-set}
-use Rattle.ids_types.specs.declared.class_spec.ClassSpec.{ClassSpec}
-use Rattle.ids_config.specs.Parts.{Parts, class_of}
-use Rattle.merge_spec.specs.Contexts.{too_small}
-use Rattle.merge_spec.specs.Names.{EventIndex, Stamp}
-use Rattle.merge_spec.specs.Rounds.{Asked, reports, changes, sets}
-use Rattle.trace_gen.specs.Counted.{AreCalls, AreClaims}
-use Rattle.trace_gen.specs.Quiet.{Call, calls_before, claims_before, is_by, keeps_in}
 
 -- one more of those that pass the test, if the newest does
 counted : {A : Type 0} (p : A → Bool) (x : A) (xs : List A) → p x ≡ true → length (filter p (x ∷ xs)) ≡ length (filter p xs) + 1

@@ -1,10 +1,7 @@
 -- Numbers that wrap at 64 bits, and the draws that they give.
-use Rattle.std.proofs.Common.{◌≡◌, ◌≤◌, ◌<◌, ℕ, zero, suc, ◌+◌, ◌-◌, ◌*◌, ◌%◌, ◌^◌, List, [], ◌∷◌, ◌++◌, length, map, take, drop, refl, sym, ap, ap₂, ◌∙◌, add-one, arith}
-use Rattle.std.specs.List.{range_with_len, slice_range}
-use Rattle.std.proofs.lemmas.List.FromFn.{length-range_with_len}
+use Rattle.trace_gen.proofs.Names.{◌≡◌, ◌≤◌, ◌<◌, ℕ, zero, suc, ◌+◌, ◌-◌, ◌*◌, ◌%◌, ◌^◌, List, [], ◌∷◌, ◌++◌, length, map, take, drop, refl, sym, ap, ap₂, ◌∙◌, add-one, arith, range_with_len, slice_range, length-range_with_len, draw, drawn_below, next_number, context_of, report_of}
 use Rattle.trace_gen.specs.Drawing.{ramp}
-use Rattle.trace_gen.specs.Draws.{draw, drawn_below, next_number, number_after}
-use Rattle.trace_gen.specs.Reports.{context_of, report_of}
+use Rattle.trace_gen.specs.Draws.{number_after}
 
 -- wrapping after the product and after the sum is wrapping once
 pub number_wraps : (x : ℕ) → (x * 6364136223846793005 % 2 ^ 64 + 1442695040888963407) % 2 ^ 64

@@ -1,26 +1,6 @@
 -- The generated trace can be recorded.
-use Rattle.std.proofs.Common.{◌≡◌, ◌≤◌, ◌<◌, ◌+◌, ◌*◌, ◌%◌, ◌/◌, ◌==◌, ◌^◌, ℕ, zero, suc, Bool, true, false, List, [], ◌∷◌, ◌++◌, length, map, get_or, refl, sym, ap, subst, ◌∙◌, inl, inr, arith, length-append, add-one}
-use Rattle.std.specs.Prelude.{◌&&◌, if◌then◌else◌, nat_lt, slice_index}
-use Rattle.std.specs.List.{AllByRecursion, flat_map, range_with_len}
-use Rattle.std.proofs.lemmas.Bool.{cases_Bool, false_from_ne_true, ltb-true, ltb-false}
-use Rattle.std.proofs.lemmas.List.{get_or_past, length-map}
-use Rattle.std.proofs.lemmas.List.FromFn.{length-map-range_with_len, length-range_with_len, get_or-map-range_with_len, map-range_with_len_more}
-use Rattle.ids_types.specs.declared.class_spec.ClassSpec.{ClassSpec}
-use Rattle.ids_config.specs.Parts.{class_of}
-use Rattle.merge_spec.specs.Contexts.{too_small}
-use Rattle.merge_spec.specs.Orders.{KeepUpFrom}
-use Rattle.merge_spec.specs.Rounds.{Asked, Round, changes, reports, last_tick, lines_at, round_ticks, ticks_of}
-use Rattle.gen_options.specs.declared.options.Options.{Options}
-use Rattle.gen_options.specs.Ranges.{IsInRange}
-use Rattle.trace_text.specs.TraceView.{Traced}
-use Rattle.trace_gen.specs.Counted.{HasClassFor}
-use Rattle.trace_gen.specs.Draws.{draw, number_after}
-use Rattle.trace_gen.specs.GeneratedConfig.{config_of}
-use Rattle.trace_gen.specs.GeneratedTrace.{changes_by, generated_round, lines_by, rounds_of, tick_after, ticks_beside}
-use Rattle.trace_gen.specs.Quiet.{call_by, calls_from}
+use Rattle.trace_gen.proofs.Names.{◌≡◌, ◌≤◌, ◌<◌, ◌+◌, ◌*◌, ◌%◌, ◌/◌, ◌==◌, ◌^◌, ℕ, zero, suc, Bool, true, false, List, [], ◌∷◌, ◌++◌, length, map, get_or, refl, sym, ap, subst, ◌∙◌, inl, inr, arith, length-append, add-one, ◌&&◌, if◌then◌else◌, nat_lt, slice_index, AllByRecursion, flat_map, range_with_len, cases_Bool, false_from_ne_true, ltb-true, ltb-false, get_or_past, length-map, length-map-range_with_len, length-range_with_len, get_or-map-range_with_len, map-range_with_len_more, ClassSpec, class_of, too_small, KeepUpFrom, Asked, Round, changes, reports, last_tick, lines_at, round_ticks, ticks_of, Options, IsInRange, Traced, HasClassFor, draw, number_after, config_of, changes_by, generated_round, lines_by, rounds_of, tick_after, ticks_beside, call_by, calls_from, CanAsk, context_of, report_at, size_of}
 use Rattle.trace_gen.specs.Recordable.{CanAskAll, CanRecord, CanTake}
-use Rattle.trace_gen.specs.Recording.{CanAsk}
-use Rattle.trace_gen.specs.Reports.{context_of, report_at, size_of}
 use Rattle.trace_gen.proofs.ConfigLemmas.{length-all_events}
 use Rattle.trace_gen.proofs.RecordingLemmas.{last_round, ticks_apart}
 

@@ -1,16 +1,5 @@
 -- What a recorder of the generated trace tells.
-use Rattle.std.proofs.Common.{◌≡◌, ◌*◌, ℕ, List, [], refl, ap, ap₂, sym, ◌∙◌, reverse, length}
-use Rattle.std.proofs.lemmas.List.{reverse-reverse}
-use Rattle.ids_config.specs.Parts.{Parts}
-use Rattle.chain.specs.History.{count_of, messages_of, rows_of}
-use Rattle.gen_options.specs.declared.options.Options.{Options}
-use Rattle.trace_text.specs.TraceView.{Traced}
-use Rattle.trace_gen.specs.Generated.{digest_of, gen_line, turns_for}
-use Rattle.trace_gen.specs.GeneratedConfig.{config_of}
-use Rattle.trace_gen.specs.GeneratedTrace.{rounds_of}
-use Rattle.trace_gen.specs.Quiet.{history_of, plans_of}
-use Rattle.trace_gen.specs.Recording.{IsAt}
-use Rattle.trace_gen.specs.declared.recorder.Recorder.{Recorder}
+use Rattle.trace_gen.proofs.Names.{◌≡◌, ◌*◌, ℕ, List, [], refl, ap, ap₂, sym, ◌∙◌, reverse, length, reverse-reverse, Parts, count_of, messages_of, rows_of, Options, Traced, digest_of, gen_line, turns_for, config_of, rounds_of, history_of, plans_of, IsAt, Recorder}
 
 -- the same numbers and digest make the same line
 pub same_line : (reports m n k j : ℕ) (d e : List ℕ) → m ≡ n → k ≡ j → d ≡ e → gen_line reports m k d ≡ gen_line reports n j e

@@ -3,5 +3,6 @@ mod CountLemmas
 mod DrawLemmas
 mod FitLemmas
 mod GenerateLemmas
+mod Names
 mod RecordingLemmas
 mod TraceLemmas

@@ -1,24 +1,7 @@
 -- Calls and turns, one after another.
-use Rattle.std.proofs.Common.{◌≡◌, ◌<◌, ◌+◌, ℕ, suc, List, [], ◌∷◌, ◌++◌, length, map, take, drop, get_or, reverse, subst, append-nil, ◌≤◌, length-append, length-take-le, add-one, refl, sym, ap, ap₂, ◌∙◌, arith, append_assoc}
-use Rattle.std.specs.List.{flat_map}
-use Rattle.std.proofs.lemmas.Grind.{flat_map-append}
+use Rattle.trace_gen.proofs.Names.{◌≡◌, ◌<◌, ◌+◌, ℕ, suc, List, [], ◌∷◌, ◌++◌, length, map, take, drop, get_or, reverse, subst, append-nil, ◌≤◌, length-append, length-take-le, add-one, refl, sym, ap, ap₂, ◌∙◌, arith, append_assoc, flat_map, flat_map-append, length-map, map-append, reverse-append, take_more, take_all, take-append-drop, Plain, plain_entry, Parts, FitsAct, turn_by, handed_on, Entry, KeepUpFrom, Asked, Round, reports, changes, sets, round_ticks, last_of, Call, Plan, act_of, call_by, calls_from, calls_of, entries_of, idle, plans_in, plans_of, entry_of, turn_of, turns_of, CanAsk, IsAt, held, Recorder, begun_round, line_at, round_at}
 use Rattle.std.proofs.Math.Seq.{drop-cons}
-use Rattle.std.proofs.lemmas.List.{length-map, map-append, reverse-append, take_more, take_all, take-append-drop}
-use Rattle.ids_types.specs.declared.parcel.Plain.{Plain}
-use Rattle.ids_types.specs.Plain.{plain_entry}
 use Rattle.ids_types.specs.Turns.{Turn, extended, with_entry}
-use Rattle.ids_config.specs.Parts.{Parts}
-use Rattle.chain.specs.Turning.{FitsAct, turn_by}
-use Rattle.chain_spec.specs.Chain.{handed_on}
-use Rattle.merge_spec.specs.Names.{Entry}
-use Rattle.merge_spec.specs.Orders.{KeepUpFrom}
-use Rattle.merge_spec.specs.Rounds.{Asked, Round, reports, changes, sets, round_ticks, last_tick as last_of}
-use Rattle.trace_gen.specs.Quiet.{Call, Plan, act_of, call_by, calls_from, calls_of, entries_of, idle, plans_in, plans_of, plans_of, entry_of, turn_of, turns_of}
-use Rattle.trace_gen.specs.Recording.{CanAsk, IsAt, held}
-use Rattle.trace_gen.specs.declared.recorder.Recorder.{Recorder}
-use Rattle.text_spec.specs.TraceFaults.{begun_round}
-use Rattle.trace_text.specs.Lines.{line_at}
-use Rattle.trace_text.specs.TraceView.{round_at}
 
 -- an entry goes to the last turn
 pub with_entry_last : (turns : List Turn) (turn : Turn) (entry : Entry (List ℕ))

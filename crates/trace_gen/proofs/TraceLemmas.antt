@@ -1,17 +1,5 @@
 -- Rounds with more lines.
-use Rattle.std.proofs.Common.{◌≡◌, ◌≤◌, ◌<◌, ◌+◌, ◌-◌, ◌*◌, ℕ, zero, suc, List, [], ◌∷◌, ◌++◌, length, set, map, get_or, refl, sym, ap, ap₂, ◌∙◌, arith, append_assoc, append-nil, length-append}
-use Rattle.std.specs.Prelude.{replicate}
-use Rattle.std.specs.List.{range_with_len}
-use Rattle.std.proofs.lemmas.List.{get_or-set_same, set-get_or}
-use Rattle.std.proofs.lemmas.List.FromFn.{length-map-range_with_len, map-range_with_len_more}
-use Rattle.std.proofs.lemmas.List.{length-replicate}
-use Rattle.merge_spec.specs.Rounds.{Asked, Round, last_tick, lines_at}
-use Rattle.text_spec.specs.TraceFaults.{with_last}
-use Rattle.trace_text.specs.TraceView.{Traced, with_line}
-use Rattle.gen_options.specs.declared.options.Options.{Options}
-use Rattle.trace_gen.specs.Drawing.{HasCaller, OnLast, asking, with_lines}
-use Rattle.trace_gen.specs.Draws.{draw}
-use Rattle.trace_gen.specs.Reports.{report_at, report_of}
+use Rattle.trace_gen.proofs.Names.{◌≡◌, ◌≤◌, ◌<◌, ◌+◌, ◌-◌, ◌*◌, ℕ, zero, suc, List, [], ◌∷◌, ◌++◌, length, set, map, get_or, refl, sym, ap, ap₂, ◌∙◌, arith, append_assoc, append-nil, length-append, replicate, range_with_len, get_or-set_same, set-get_or, length-map-range_with_len, map-range_with_len_more, length-replicate, Asked, Round, last_tick, lines_at, with_last, Traced, with_line, Options, HasCaller, OnLast, asking, with_lines, draw, report_at, report_of}
 
 -- ---- the last round
 

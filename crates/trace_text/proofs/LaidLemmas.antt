@@ -1,22 +1,10 @@
 -- Rounds as they lie in memory, one behind the other: each is read from its places, and what a change leaves.
-use Rattle.std.proofs.Common.{◌≡◌, ℕ, zero, suc, ◌+◌, ◌-◌, ◌<◌, ◌≤◌, ◌^◌, List, [], ◌∷◌, ◌++◌, length, take, drop, set, get_or, refl, sym, ap, subst, ◌∙◌, inl, inr, arith, append_assoc, length-append, length-set, get_or-set_same, get_or-set_other, drop-cons}
-use Rattle.std.specs.List.{flat_map}
-use Rattle.std.specs.Prelude.{replicate, slice_index, slice_range}
+use Rattle.trace_text.proofs.Names.{◌≡◌, ℕ, zero, suc, ◌+◌, ◌-◌, ◌<◌, ◌≤◌, ◌^◌, List, [], ◌∷◌, ◌++◌, length, take, drop, set, get_or, refl, sym, ap, subst, ◌∙◌, inl, inr, arith, append_assoc, length-append, length-set, get_or-set_same, get_or-set_other, drop-cons, flat_map, replicate, slice_index, slice_range, append-nil, drop_at, get_or_append_left, get_or_push, length-replicate, take-append-drop, take-append-le, take_all, take_at, take_more, lines_at, lines_of, last_tick, flat_map-push, all_append, all_at, all_replicate, all_split, by_last, last_tick-push, with_last-push, asked_more, begun_round, ended_at, with_last, AreTicks, Asked, Round, changes, line_at, RoundEnd, IsEnd, Laid, Lie, Traced, at_start, end_at, lines_between, round_at, round_between, rounds_laid}
 use Rattle.std.proofs.lemmas.Bool.{cases_eq, cases_lt}
 use Rattle.std.proofs.lemmas.Grind.{flat_map-append}
-use Rattle.std.proofs.lemmas.List.{append-nil, drop_at, get_or_append_left, get_or_push, length-replicate, take-append-drop, take-append-le, take_all, take_at, take_more}
 use Rattle.std.proofs.lemmas.List.Concat.{get_or-flat_map}
 use Rattle.std.proofs.lemmas.List.Elements.{All-from_recursion}
 use Rattle.std.proofs.lemmas.List.FromFn.{fill_by_all}
-use Rattle.merge_spec.specs.Rounds.{lines_at, lines_of, last_tick}
-use Rattle.text_spec.proofs.JournalFacts.{flat_map-push}
-use Rattle.text_spec.proofs.TraceFacts.{all_append, all_at, all_replicate, all_split, by_last, last_tick-push, with_last-push}
-use Rattle.text_spec.specs.TraceFaults.{asked_more, begun_round, ended_at, with_last}
-use Rattle.text_spec.specs.TraceReading.{AreTicks}
-use Rattle.text_spec.specs.TraceText.{Asked, Round, changes}
-use Rattle.trace_text.specs.Lines.{line_at}
-use Rattle.trace_text.specs.declared.trace.RoundEnd.{RoundEnd}
-use Rattle.trace_text.specs.TraceView.{IsEnd, Laid, Lie, Traced, at_start, end_at, lines_between, round_at, round_between, rounds_laid}
 
 -- ---- the pieces of a joined list
 

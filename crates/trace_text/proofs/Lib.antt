@@ -1,4 +1,5 @@
 pub mod LaidLemmas
+pub mod Names
 pub mod PrintingLemmas
 pub mod ReaderLemmas
 pub mod ReadingLemmas

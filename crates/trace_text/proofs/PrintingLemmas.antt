@@ -1,19 +1,6 @@
 -- The text of a trace, one line after another.
-use Rattle.std.proofs.Common.{◌≡◌, ℕ, suc, ◌+◌, ◌≤◌, List, [], ◌∷◌, ◌++◌, length, map, take, sym, ap, ◌∙◌, append_assoc, arith}
-use Rattle.std.specs.Prelude.{decimal}
-use Rattle.std.proofs.lemmas.List.{append-nil, map-append, take_all}
-use Rattle.std.specs.List.{AllByRecursion}
-use Rattle.std.specs.Prelude.{Result, Ok, Err, IfOk}
-use Rattle.ids_config.specs.Parts.{Parts}
+use Rattle.trace_text.proofs.Names.{◌≡◌, ℕ, suc, ◌+◌, ◌≤◌, List, [], ◌∷◌, ◌++◌, length, map, take, sym, ap, ◌∙◌, append_assoc, arith, decimal, append-nil, map-append, take_all, AllByRecursion, Result, Ok, Err, IfOk, Parts, AreTicks, IsAllowedRound, MayAsk, trace_in, trace_again, ended_line, words_of_fields, Asked, Round, TraceLine, asked_fields, calls, callers_told, closes, number_fields, opens, round_told, rounds_told, trace_fields, trace_line_for, trace_text, line_of, space, text_of, flat_map-push, text_of-map, caller_text, lines_text, ticks_text}
 use Rattle.ids_types.specs.declared.memory.NoMemory.{NoMemory}
-use Rattle.text_spec.specs.TraceReading.{AreTicks, IsAllowedRound, MayAsk, trace_in}
-use Rattle.text_spec.proofs.TraceLaws.{trace_again}
-use Rattle.text_spec.specs.Fields.{ended_line, words_of_fields}
-use Rattle.text_spec.specs.TraceText.{Asked, Round, TraceLine, asked_fields, calls, callers_told, closes, number_fields, opens, round_told, rounds_told, trace_fields, trace_line_for, trace_text}
-use Rattle.text_spec.specs.Words.{line_of, space, text_of}
-use Rattle.text_spec.proofs.JournalFacts.{flat_map-push}
-use Rattle.text_spec.proofs.WordsLemmas.{text_of-map}
-use Rattle.trace_text.specs.Printing.{caller_text, lines_text, ticks_text}
 
 -- ---- the line that opens a round
 

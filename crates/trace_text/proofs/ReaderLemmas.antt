@@ -1,17 +1,7 @@
 -- What a line tells, by its first word.
-use Rattle.std.proofs.Common.{◌≡◌, ℕ, false, List, [], ◌∷◌, length, refl, sym, ap, ◌∙◌}
-use Rattle.std.specs.Prelude.{Option, Some, None, bytes_eq, codes, option_map, if◌then◌else◌}
+use Rattle.trace_text.proofs.Names.{◌≡◌, ℕ, false, List, [], ◌∷◌, length, refl, sym, ap, ◌∙◌, Option, Some, None, bytes_eq, codes, option_map, if◌then◌else◌, Parts, numbers_in, told_in_one, first_of, or_else, ◌>>=◌, PastRounds, opening_in, trace_forms, trace_told_by, trace_grammar, TraceLine, opens, words_of}
 use Rattle.std.proofs.lemmas.Option.{same_Some}
-use Rattle.ids_config.specs.Parts.{Parts}
-use Rattle.text_spec.specs.Contexts.{numbers_in}
-use Rattle.text_spec.specs.Fields.{told_in_one}
 use Rattle.text_spec.specs.Lines.{after_line, past_with}
-use Rattle.text_spec.specs.Maybe.{first_of, or_else, ◌>>=◌}
-use Rattle.text_spec.specs.TraceFaults.{PastRounds}
-use Rattle.text_spec.specs.TraceForm.{opening_in, trace_forms, trace_told_by}
-use Rattle.text_spec.specs.TraceReading.{trace_grammar}
-use Rattle.text_spec.specs.TraceText.{TraceLine, opens}
-use Rattle.text_spec.specs.Words.{words_of}
 
 or_none : (o : Option TraceLine) → or_else o None ≡ o
 or_none None = refl

@@ -1,12 +1,6 @@
 -- What a reading of a text says.
-use Rattle.std.proofs.Common.{ℕ, List}
-use Rattle.std.specs.Prelude.{Result, Ok, Err, IfOk}
-use Rattle.ids_config.specs.Parts.{Parts}
-use Rattle.text_spec.specs.LineAnswers.{Reads}
-use Rattle.text_spec.specs.TraceReading.{AreRounds, trace_in}
-use Rattle.text_spec.specs.TraceText.{Round}
+use Rattle.trace_text.proofs.Names.{ℕ, List, Result, Ok, Err, IfOk, Parts, Reads, AreRounds, trace_in, Round, trace_fits}
 use Rattle.text_spec.specs.declared.fault.TextFault.{TextFault}
-use Rattle.text_spec.proofs.TraceLaws.{trace_fits}
 
 -- what was read fits
 pub found : {X : Type 0} (view : X → List Round) (config : Parts) (text : List ℕ) (read : Result X TextFault) → Reads view (trace_in config text) read → IfOk read (λ x. AreRounds config (view x))

@@ -1,10 +1,6 @@
 -- A row more among those of a caller.
-use Rattle.std.proofs.Common.{◌≡◌, ℕ, ◌<◌, List, [], ◌∷◌, ◌++◌, length, map, set, get_or, sym, ap, ◌∙◌, arith}
-use Rattle.std.specs.Prelude.{Vec}
+use Rattle.trace_text.proofs.Names.{◌≡◌, ℕ, ◌<◌, List, [], ◌∷◌, ◌++◌, length, map, set, get_or, sym, ap, ◌∙◌, arith, Vec, get_or-map, length-map, map-append, map-set, set-get_or, Asked, callers_asked, row_asked}
 use Rattle.std.specs.declared.alloc.Global.{Global}
-use Rattle.std.proofs.lemmas.List.{get_or-map, length-map, map-append, map-set, set-get_or}
-use Rattle.text_spec.specs.TraceText.{Asked}
-use Rattle.trace_text.specs.Lines.{callers_asked, row_asked}
 use Rattle.trace_text.specs.declared.row.Row.{Row}
 
 abbrev Rows : Type 0

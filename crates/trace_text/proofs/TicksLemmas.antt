@@ -1,6 +1,5 @@
 -- Ticks in a list, one after another.
-use Rattle.std.proofs.Common.{◌≡◌, ℕ, suc, ◌-◌, ◌<◌, List, [], ◌∷◌, length, get_or, refl, ap, ◌∙◌, arith}
-use Rattle.text_spec.specs.TraceFaults.{last_from}
+use Rattle.trace_text.proofs.Names.{◌≡◌, ℕ, suc, ◌-◌, ◌<◌, List, [], ◌∷◌, length, get_or, refl, ap, ◌∙◌, arith, last_from}
 
 -- the last of some ticks by its place
 pub last_from_at : (tick : ℕ) (ticks : List ℕ) (d : ℕ) → 0 < length ticks → get_or ticks (length ticks - 1) d ≡ last_from tick ticks

@@ -1,8 +1,4 @@
-use Rattle.std.proofs.Common.{◌≡◌, ◌<◌, ◌++◌, ◌∷◌, [], ap, arith, length, sym, refl}
-use Rattle.std.proofs.lemmas.List.{append-nil, length_push}
-use Rattle.atomic_table.proofs.Lists.{at_index}
-use Rattle.permit_ring.proofs.ListLemmas.{at_length}
-use Rattle.buffer_classes.specs.Making.{GetsOne}
+use Rattle.buffer_classes.proofs.Names.{◌≡◌, ◌<◌, ◌++◌, ◌∷◌, [], ap, arith, length, sym, refl, append-nil, length_push, at_index, at_length, GetsOne}
 use Rattle.buffer_classes.proofs.ByIndexLemmas.{from_all, from_end, from_same, last_left, last_taken, one_set}
 use Rattle.buffer_classes.proofs.making.hand_out.Goals as goal
 

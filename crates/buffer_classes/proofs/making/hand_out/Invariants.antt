@@ -1,5 +1,4 @@
-use Rattle.std.proofs.Common.{◌≡◌, ◌++◌, List, length}
-use Rattle.buffer_classes.specs.{AllOf, GetsSeat, ClassSeat}
+use Rattle.buffer_classes.proofs.Names.{◌≡◌, ◌++◌, List, length, AllOf, GetsSeat, ClassSeat}
 use Rattle.buffer_classes.proofs.ByIndexLemmas.{FromOn}
 use Rattle.buffer_classes.proofs.making.hand_out.Given as goal
 

@@ -1,8 +1,4 @@
-use Rattle.std.proofs.Common.{◌≡◌, ◌+◌, ◌∙◌, arith, get_or, length, take, subst, sym}
-use Rattle.std.proofs.lemmas.List.{get_or_default, length-take-le, take_more}
-use Rattle.atomic_table.proofs.Lists.{at_index}
-use Rattle.ids_types.specs.declared.class_spec.ClassSpec.{ClassSpec}
-use Rattle.buffer_classes.specs.Making.{IsNewClass}
+use Rattle.buffer_classes.proofs.Names.{◌≡◌, ◌+◌, ◌∙◌, arith, get_or, length, take, subst, sym, get_or_default, length-take-le, take_more, at_index, ClassSpec, IsNewClass}
 use Rattle.buffer_classes.proofs.MakingLemmas.{as_many, class_made, got_of, rise_taken}
 use Rattle.buffer_classes.proofs.making.make.Goals as goal
 

@@ -1,8 +1,4 @@
-use Rattle.std.proofs.Common.{◌≡◌, length, take}
-use Rattle.std.specs.Prelude.{vec_capacity}
-use Rattle.permit_ring.specs.Hands.{AllAdmitted}
-use Rattle.buffer_classes.specs.Making.{AreNewClasses}
-use Rattle.buffer_classes.specs.declared.seat.ClaimSeat.{ClaimSeat}
+use Rattle.buffer_classes.proofs.Names.{◌≡◌, length, take, vec_capacity, AllAdmitted, AreNewClasses, ClaimSeat}
 use Rattle.buffer_classes.proofs.making.make.Given as goal
 
 abbrev pub invariant-loop-spec : goal.invariant-loop-spec

@@ -1,6 +1,4 @@
-use Rattle.std.proofs.Common.{refl, arith, ap, length}
-use Rattle.std.proofs.lemmas.List.{length_push}
-use Rattle.buffer_classes.specs.{IsBufferOf, class_terms}
+use Rattle.buffer_classes.proofs.Names.{refl, arith, ap, length, length_push, IsBufferOf, class_terms}
 use Rattle.buffer_classes.proofs.GiveLemmas.{admitted_more}
 use Rattle.buffer_classes.proofs.making.make_buffers.Goals as goal
 

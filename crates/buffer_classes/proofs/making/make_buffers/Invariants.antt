@@ -1,7 +1,4 @@
-use Rattle.std.proofs.Common.{◌≡◌, length}
-use Rattle.std.specs.Prelude.{vec_capacity}
-use Rattle.permit_ring.specs.Hands.{AllAdmitted}
-use Rattle.buffer_classes.specs.{IsBufferOf, class_terms}
+use Rattle.buffer_classes.proofs.Names.{◌≡◌, length, vec_capacity, AllAdmitted, IsBufferOf, class_terms}
 use Rattle.buffer_classes.proofs.making.make_buffers.Given as goal
 
 abbrev pub invariant-loop : goal.invariant-loop

@@ -1,8 +1,4 @@
-use Rattle.std.proofs.Common.{arith, ap, length}
-use Rattle.std.proofs.lemmas.List.{length_push}
-use Rattle.permit_ring.proofs.ListLemmas.{at_end}
-use Rattle.buffer_classes.specs.Making.{IsUnseated}
-use Rattle.buffer_classes.specs.declared.seat.ClaimSeat.{ClaimSeat}
+use Rattle.buffer_classes.proofs.Names.{arith, ap, length, length_push, at_end, IsUnseated, ClaimSeat}
 use Rattle.buffer_classes.proofs.making.make_claimants.Goals as goal
 
 pub loop-number-preserved : goal.loop-number-preserved

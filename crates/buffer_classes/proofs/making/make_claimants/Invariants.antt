@@ -1,6 +1,4 @@
-use Rattle.std.proofs.Common.{◌≡◌}
-use Rattle.std.specs.Prelude.{vec_capacity}
-use Rattle.buffer_classes.specs.Making.{AreUnseated}
+use Rattle.buffer_classes.proofs.Names.{◌≡◌, vec_capacity, AreUnseated}
 use Rattle.buffer_classes.proofs.making.make_claimants.Given as goal
 
 abbrev pub invariant-loop-number : goal.invariant-loop-number

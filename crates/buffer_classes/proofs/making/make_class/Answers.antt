@@ -1,4 +1,4 @@
-use Rattle.std.proofs.Common.{arith}
+use Rattle.buffer_classes.proofs.Names.{arith}
 use Rattle.buffer_classes.proofs.MakingLemmas.{made_so}
 use Rattle.buffer_classes.proofs.making.make_class.Goals as goal
 

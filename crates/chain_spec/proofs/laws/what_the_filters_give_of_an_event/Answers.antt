@@ -1,4 +1,4 @@
-use Rattle.chain_spec.specs.Filtering.{aggregated}
+use Rattle.chain_spec.proofs.Names.{aggregated}
 use Rattle.chain_spec.proofs.ByEventLemmas.{aggregated_of_event, filters_of_event}
 use Rattle.chain_spec.proofs.FilterLemmas.{sampled_every, thresholded_reaching}
 use Rattle.chain_spec.proofs.laws.what_the_filters_give_of_an_event.Goals as goal

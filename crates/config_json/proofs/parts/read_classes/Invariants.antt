@@ -1,7 +1,4 @@
-use Rattle.std.proofs.Common.{◌≡◌, ◌++◌, map, drop}
-use Rattle.serde_json.specs.View.{view}
-use Rattle.ids_config.specs.Parts.{class_of}
-use Rattle.config_json.specs.Members.{class_in}
+use Rattle.config_json.proofs.Names.{◌≡◌, ◌++◌, map, drop, view, class_of, class_in}
 use Rattle.config_json.proofs.parts.read_classes.Given as goal
 
 -- what the rest has, behind what was read, is what all trees have

@@ -1,6 +1,4 @@
-use Rattle.std.proofs.Common.{◌≡◌, ◌++◌, map, drop}
-use Rattle.serde_json.specs.View.{view}
-use Rattle.config_json.specs.Members.{event_in}
+use Rattle.config_json.proofs.Names.{◌≡◌, ◌++◌, map, drop, view, event_in}
 use Rattle.config_json.proofs.parts.read_events.Given as goal
 
 -- what the rest has, behind what was read, is what all trees have

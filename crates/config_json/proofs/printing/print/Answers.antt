@@ -1,7 +1,4 @@
-use Rattle.std.proofs.Common.{◌≡◌, ◌∙◌, refl, sym, rules, string_bytes}
-use Rattle.std.proofs.lemmas.Str.{IsUtf8-string_bytes}
-use Rattle.serde_json.specs.View.{view}
-use Rattle.config_json.specs.Printed.{config_tree}
+use Rattle.config_json.proofs.Names.{◌≡◌, ◌∙◌, refl, sym, rules, string_bytes, IsUtf8-string_bytes, view, config_tree}
 use Rattle.config_json.proofs.PrintedLemmas.{parts_back, config_fits, config_depth, config_float}
 use Rattle.config_json.proofs.TreeLemmas.{text_of_tree}
 use Rattle.config_json.proofs.printing.print.Goals as goal

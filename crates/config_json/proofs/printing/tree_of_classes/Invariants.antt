@@ -1,7 +1,4 @@
-use Rattle.std.proofs.Common.{◌≡◌, ◌++◌, map, drop}
-use Rattle.serde_json.specs.View.{view}
-use Rattle.ids_config.specs.Parts.{class_of}
-use Rattle.config_json.specs.Printed.{class_tree}
+use Rattle.config_json.proofs.Names.{◌≡◌, ◌++◌, map, drop, view, class_of, class_tree}
 use Rattle.config_json.proofs.printing.tree_of_classes.Given as goal
 
 -- the trees of the rest, behind those that were made, are the trees of all

@@ -1,6 +1,4 @@
-use Rattle.std.proofs.Common.{◌≡◌, ◌++◌, map, drop}
-use Rattle.serde_json.specs.View.{view}
-use Rattle.config_json.specs.Printed.{event_tree}
+use Rattle.config_json.proofs.Names.{◌≡◌, ◌++◌, map, drop, view, event_tree}
 use Rattle.config_json.proofs.printing.tree_of_events.Given as goal
 
 -- the trees of the rest, behind those that were made, are the trees of all

@@ -1,4 +1,4 @@
-use Rattle.serde_json.specs.View.{view}
+use Rattle.config_json.proofs.Names.{view}
 use Rattle.config_json.proofs.TreeLemmas.{text_of_tree, text_of_none}
 use Rattle.config_json.proofs.reading.read.Goals as goal
 

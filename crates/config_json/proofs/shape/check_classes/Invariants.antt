@@ -1,7 +1,4 @@
-use Rattle.std.proofs.Common.{◌≡◌, map, drop}
-use Rattle.serde_json.specs.View.{view}
-use Rattle.ids_config.specs.Steps.{each}
-use Rattle.config_json.specs.Shape.{class_shape}
+use Rattle.config_json.proofs.Names.{◌≡◌, map, drop, view, each, class_shape}
 use Rattle.config_json.proofs.shape.check_classes.Given as goal
 
 -- the rest has the fault that all classes have

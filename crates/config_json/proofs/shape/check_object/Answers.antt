@@ -1,5 +1,4 @@
-use Rattle.std.proofs.Common.{◌∙◌, sym}
-use Rattle.serde_json.specs.View.{view}
+use Rattle.config_json.proofs.Names.{◌∙◌, sym, view}
 use Rattle.config_json.proofs.ShapeLemmas.{object_members}
 use Rattle.config_json.proofs.shape.check_object.Goals as goal
 

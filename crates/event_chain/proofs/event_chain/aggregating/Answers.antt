@@ -1,5 +1,4 @@
-use Rattle.std.proofs.Common.{suc, arith}
-use Rattle.std.proofs.lemmas.Grind.{common_steps}
+use Rattle.event_chain.proofs.Names.{suc, arith, common_steps}
 use Rattle.event_chain.proofs.event_chain.aggregating.Goals.{then-aggregates+in_ok-push, else-aggregates}
 use Rattle.event_chain.proofs.event_chain.aggregating.Goals as goal
 

@@ -1,6 +1,4 @@
-use Rattle.std.proofs.Common.{◌≡◌, ℕ, ◌+◌, ◌++◌, length, map, filter}
-use Rattle.std.specs.List.{range_with_len}
-use Rattle.event_chain.specs.Ready.{aggregating_in, is_aggregated}
+use Rattle.event_chain.proofs.Names.{◌≡◌, ℕ, ◌+◌, ◌++◌, length, map, filter, range_with_len, aggregating_in, is_aggregated}
 use Rattle.event_chain.proofs.event_chain.aggregating.Given as goal
 
 -- with those of the events that are left they are all

@@ -1,11 +1,4 @@
-use Rattle.std.proofs.Common.{◌≡◌, Some, None, sym, ◌∙◌, ap, arith}
-use Rattle.std.proofs.lemmas.Grind.{common_steps}
-use Rattle.ids_config.specs.Parts.{event_at}
-use Rattle.chain_spec.specs.Calls.{arrives}
-use Rattle.chain_spec.specs.Filtering.{alone}
-use Rattle.chain_spec.specs.Items.{item_at, told_by}
-use Rattle.filter_aggregate.specs.Slots.{slots_by}
-use Rattle.filter_aggregate.proofs.StandsLemmas.{stands_alone}
+use Rattle.event_chain.proofs.Names.{◌≡◌, Some, None, sym, ◌∙◌, ap, arith, common_steps, event_at, arrives, alone, item_at, told_by, slots_by, stands_alone}
 use Rattle.event_chain.proofs.CallLemmas.{none_of, flows_with}
 use Rattle.event_chain.proofs.joining.pass.Goals as goal
 

@@ -1,4 +1,4 @@
-use Rattle.std.proofs.Common.{◌<◌, length, sym, ◌∙◌, arith, length-set}
+use Rattle.journal.proofs.Names.{◌<◌, length, sym, ◌∙◌, arith, length-set}
 use Rattle.journal.proofs.FormLemmas.{next_number}
 use Rattle.journal.proofs.form.numbers_of.Goals as goal
 

@@ -1,6 +1,4 @@
-use Rattle.std.proofs.Common.{◌≡◌, ◌-◌, take, length}
-use Rattle.text_spec.specs.Contexts.{numbers_in}
-use Rattle.text_spec.proofs.NumberLists.{with_front}
+use Rattle.journal.proofs.Names.{◌≡◌, ◌-◌, take, length, numbers_in, with_front}
 use Rattle.journal.proofs.form.numbers_of.Given as goal
 
 -- the numbers so far and those of the pieces that are left are those of all pieces

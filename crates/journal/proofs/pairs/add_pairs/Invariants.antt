@@ -1,9 +1,4 @@
-use Rattle.std.proofs.Common.{◌≡◌, ℕ, ◌<◌, ◌^◌, ◌||◌, take}
-use Rattle.std.specs.BTreeSet.{contains}
-use Rattle.std.specs.List.{list_any}
-use Rattle.std.specs.Ordering.{nat_cmp}
-use Rattle.ids_types.specs.Turns.{turn_at}
-use Rattle.text_spec.specs.JournalFaults.{is_pair}
+use Rattle.journal.proofs.Names.{◌≡◌, ℕ, ◌<◌, ◌^◌, ◌||◌, take, contains, list_any, nat_cmp, turn_at, is_pair}
 use Rattle.journal.proofs.pairs.add_pairs.Given as goal
 
 -- the set has the pairs of the turn's first entries beside those that it had

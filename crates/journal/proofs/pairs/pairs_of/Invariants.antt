@@ -1,7 +1,4 @@
-use Rattle.std.proofs.Common.{◌≡◌, ℕ, ◌<◌, ◌^◌, take}
-use Rattle.std.specs.BTreeSet.{contains}
-use Rattle.std.specs.Ordering.{nat_cmp}
-use Rattle.text_spec.specs.JournalFaults.{has_pair}
+use Rattle.journal.proofs.Names.{◌≡◌, ℕ, ◌<◌, ◌^◌, take, contains, nat_cmp, has_pair}
 use Rattle.journal.proofs.pairs.pairs_of.Given as goal
 
 -- the set has the pairs of the first turns

@@ -1,10 +1,4 @@
-use Rattle.std.proofs.Common.{◌<◌, ◌++◌, [], length, map, refl, get_or, arith, rules}
-use Rattle.std.specs.List.{flat_map}
-use Rattle.ids_types.specs.Turns.{begun, turn_at}
-use Rattle.text_spec.specs.Fields.{ended_line}
-use Rattle.text_spec.specs.JournalText.{fields_of, loses, turn_told}
-use Rattle.text_spec.proofs.WordsLemmas.{one_more}
-use Rattle.journal.specs.Printing.{lines_text}
+use Rattle.journal.proofs.Names.{◌<◌, ◌++◌, [], length, map, refl, get_or, arith, rules, flat_map, begun, turn_at, ended_line, fields_of, loses, turn_told, one_more, lines_text}
 use Rattle.journal.proofs.PrintingLemmas.{losses-push, turns-push}
 use Rattle.journal.proofs.printing.print_lines.Goals as goal
 

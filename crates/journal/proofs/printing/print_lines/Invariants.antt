@@ -1,7 +1,4 @@
-use Rattle.std.proofs.Common.{◌≡◌, ◌++◌, take, map}
-use Rattle.std.specs.List.{flat_map}
-use Rattle.text_spec.specs.JournalText.{loses, turn_told}
-use Rattle.journal.specs.Printing.{lines_text}
+use Rattle.journal.proofs.Names.{◌≡◌, ◌++◌, take, map, flat_map, loses, turn_told, lines_text}
 use Rattle.journal.proofs.printing.print_lines.Given as goal
 
 -- the first turns have been printed

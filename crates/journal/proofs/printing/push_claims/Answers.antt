@@ -1,10 +1,5 @@
-use Rattle.std.proofs.Common.{◌≡◌, Some, sym, map, arith, rules}
-use Rattle.std.specs.List.{join_with_byte}
-use Rattle.std.specs.Prelude.{decimal, slice_get}
+use Rattle.journal.proofs.Names.{◌≡◌, Some, sym, map, arith, rules, join_with_byte, decimal, slice_get, point, one_more, pointed}
 use Rattle.std.proofs.lemmas.Option.{get_or_from_slice_get}
-use Rattle.text_spec.specs.Contexts.{point}
-use Rattle.text_spec.proofs.WordsLemmas.{one_more}
-use Rattle.journal.specs.Printing.{pointed}
 use Rattle.journal.proofs.PrintingLemmas.{claims-push}
 use Rattle.journal.proofs.printing.push_claims.Goals as goal
 

@@ -1,7 +1,4 @@
-use Rattle.std.proofs.Common.{◌≡◌, ◌++◌, take, map}
-use Rattle.std.specs.Prelude.{decimal}
-use Rattle.std.specs.List.{join_with_byte}
-use Rattle.text_spec.specs.Contexts.{point}
+use Rattle.journal.proofs.Names.{◌≡◌, ◌++◌, take, map, decimal, join_with_byte, point}
 use Rattle.journal.proofs.printing.push_claims.Given as goal
 
 -- the first numbers have been printed

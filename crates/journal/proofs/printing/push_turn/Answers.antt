@@ -1,11 +1,6 @@
-use Rattle.std.proofs.Common.{◌<◌, length, map, rules}
+use Rattle.journal.proofs.Names.{◌<◌, length, map, rules, turn_at, ended_line, enters, fields_of, one_more, lines_text}
 use Rattle.ids_types.specs.Plain.{plain_entry}
-use Rattle.ids_types.specs.Turns.{turn_at}
 use Rattle.ids_types.specs.declared.entry.Act.TheVariants.{State}
-use Rattle.text_spec.specs.Fields.{ended_line}
-use Rattle.text_spec.specs.JournalText.{enters, fields_of}
-use Rattle.text_spec.proofs.WordsLemmas.{one_more}
-use Rattle.journal.specs.Printing.{lines_text}
 use Rattle.journal.proofs.PrintingLemmas.{entries-push}
 use Rattle.journal.proofs.printing.push_turn.Goals as goal
 

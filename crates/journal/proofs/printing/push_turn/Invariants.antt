@@ -1,7 +1,4 @@
-use Rattle.std.proofs.Common.{◌≡◌, ◌++◌, take, map}
-use Rattle.ids_types.specs.Turns.{turn_at}
-use Rattle.text_spec.specs.JournalText.{enters}
-use Rattle.journal.specs.Printing.{lines_text}
+use Rattle.journal.proofs.Names.{◌≡◌, ◌++◌, take, map, turn_at, enters, lines_text}
 use Rattle.journal.proofs.printing.push_turn.Given as goal
 
 -- the first entries have been printed

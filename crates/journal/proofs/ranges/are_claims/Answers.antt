@@ -1,8 +1,5 @@
-use Rattle.std.proofs.Common.{sym, ap, ◌∙◌}
-use Rattle.std.specs.List.{list_all}
-use Rattle.std.proofs.lemmas.Bool.{and_from}
+use Rattle.journal.proofs.Names.{sym, ap, ◌∙◌, list_all, and_from, is_claim}
 use Rattle.std.proofs.lemmas.List.Folds.{list_all_at, list_all_more}
-use Rattle.text_spec.specs.JournalFaults.{is_claim}
 use Rattle.journal.proofs.ranges.are_claims.Goals as goal
 
 pub returns-then-not-is_claim : goal.returns-then-not-is_claim

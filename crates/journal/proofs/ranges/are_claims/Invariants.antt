@@ -1,6 +1,4 @@
-use Rattle.std.proofs.Common.{◌≡◌, true, take}
-use Rattle.std.specs.List.{list_all}
-use Rattle.text_spec.specs.JournalFaults.{is_claim}
+use Rattle.journal.proofs.Names.{◌≡◌, true, take, list_all, is_claim}
 use Rattle.journal.proofs.ranges.are_claims.Given as goal
 
 -- the first numbers are in range

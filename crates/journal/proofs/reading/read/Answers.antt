@@ -1,4 +1,4 @@
-use Rattle.journal.specs.Answers.{told}
+use Rattle.journal.proofs.Names.{told}
 use Rattle.journal.proofs.ReadingLemmas.{found, again, only}
 use Rattle.journal.proofs.reading.read.Goals as goal
 

@@ -1,7 +1,5 @@
-use Rattle.std.proofs.Common.{◌≡◌, ◌++◌, ◌∷◌, [], arith, subst, refl, ◌∙◌}
+use Rattle.main_function.proofs.Names.{◌≡◌, ◌++◌, ◌∷◌, [], arith, subst, refl, ◌∙◌, givers_of, desk_view}
 use Rattle.main_function.proofs.WelcomeLemmas.{WelcomesSo, all_welcome, is_pass, none_welcome, only_more, only_none, welcome_one}
-use Rattle.buffer_classes.specs.Givers.{givers_of}
-use Rattle.report_api.specs.Desks.{desk_view}
 use Rattle.main_function.proofs.closing.welcome_all.Goals as goal
 
 pub loop-pass-init : goal.loop-pass-init

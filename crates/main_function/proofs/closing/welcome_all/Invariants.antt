@@ -1,6 +1,4 @@
-use Rattle.std.proofs.Common.{◌≡◌, length}
-use Rattle.buffer_classes.specs.{AllOf, givers_of}
-use Rattle.report_api.specs.Desks.{IsDeskOf, desk_view, to_give_back}
+use Rattle.main_function.proofs.Names.{◌≡◌, length, AllOf, givers_of, IsDeskOf, desk_view, to_give_back}
 use Rattle.main_function.specs.Closing.{OnlyWelcomes}
 use Rattle.main_function.proofs.WelcomeLemmas.{WelcomesSo}
 use Rattle.main_function.proofs.closing.welcome_all.Given as goal

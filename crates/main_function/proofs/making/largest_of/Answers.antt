@@ -1,4 +1,4 @@
-use Rattle.std.proofs.Common.{rules}
+use Rattle.main_function.proofs.Names.{rules}
 use Rattle.main_function.proofs.MakingLemmas.{larger_class}
 use Rattle.main_function.proofs.making.largest_of.Goals as goal
 

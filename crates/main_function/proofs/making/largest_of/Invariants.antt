@@ -1,7 +1,4 @@
-use Rattle.std.proofs.Common.{map, take}
-use Rattle.ids_config.specs.Parts.{class_of}
-use Rattle.buffer_classes.specs.Making.{spec_sizes}
-use Rattle.main_function.specs.Making.{IsLargest}
+use Rattle.main_function.proofs.Names.{map, take, class_of, spec_sizes, IsLargest}
 use Rattle.main_function.proofs.making.largest_of.Given as goal
 
 -- it is the largest of the first classes

@@ -1,11 +1,8 @@
-use Rattle.std.proofs.Common.{◌≡◌, ◌∙◌, map, length, refl, subst, sym, rules}
-use Rattle.ids_config.specs.Parts.{Parts, class_of}
+use Rattle.main_function.proofs.Names.{◌≡◌, ◌∙◌, map, length, refl, subst, sym, rules, Parts, class_of, AreSpecs, spec_sizes, IsBuilt, IsLargest, IsNewManager}
 use Rattle.ids_config.specs.PartsView.{parts_of}
 use Rattle.ids_config.specs.Valid.{IsValid}
-use Rattle.buffer_classes.specs.Making.{AreSpecs, spec_sizes}
 use Rattle.report_api.specs.Making.{IsNewMaking}
 use Rattle.report_api.proofs.MakingLemmas.{valid_specs}
-use Rattle.main_function.specs.Making.{IsBuilt, IsLargest, IsNewManager}
 use Rattle.main_function.proofs.MakingLemmas.{new_manager, sizes_short}
 use Rattle.main_function.proofs.making.make.Goals as goal
 

@@ -1,5 +1,4 @@
-use Rattle.std.proofs.Common.{◌≡◌, ◌≤◌, ◌*◌, ◌^◌, sum_by, take}
-use Rattle.report_api.specs.Passes.{pass_view}
+use Rattle.main_function.proofs.Names.{◌≡◌, ◌≤◌, ◌*◌, ◌^◌, sum_by, take, pass_view}
 use Rattle.main_function.proofs.rest.all_calls.Given as goal
 
 -- the calls of the first passes are summed, and are few

@@ -1,6 +1,4 @@
-use Rattle.std.proofs.Common.{ap}
-use Rattle.report_queue.specs.Views.{TakerView}
-use Rattle.report_api.specs.{desk_view, Act}
+use Rattle.main_function.proofs.Names.{ap, TakerView, desk_view, Act}
 use Rattle.main_function.proofs.ClosingLemmas.{same_back}
 use Rattle.main_function.proofs.taking.take_ready.Goals as goal
 

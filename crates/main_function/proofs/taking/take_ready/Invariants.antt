@@ -1,6 +1,5 @@
-use Rattle.std.proofs.Common.{◌≡◌, ◌≤◌, ◌-◌, ◌^◌, length, vec_capacity}
+use Rattle.main_function.proofs.Names.{◌≡◌, ◌≤◌, ◌-◌, ◌^◌, length, vec_capacity, IsDeskOf, desk_view, to_give_back}
 use Rattle.report_queue.specs.Parts.{queue_positions}
-use Rattle.report_api.specs.Desks.{IsDeskOf, desk_view, to_give_back}
 use Rattle.main_function.proofs.TakingLemmas.{TakesOn}
 use Rattle.main_function.proofs.taking.take_ready.Given as goal
 

@@ -1,4 +1,4 @@
-use Rattle.std.proofs.Common.{arith}
+use Rattle.permit_ring.proofs.Names.{arith}
 use Rattle.permit_ring.proofs.HandLemmas.{turned_more}
 use Rattle.permit_ring.proofs.keeper.turn_hand.Goals as goal
 

@@ -1,4 +1,4 @@
-use Rattle.std.proofs.Common.{◌≡◌, ◌++◌, take, drop}
+use Rattle.permit_ring.proofs.Names.{◌≡◌, ◌++◌, take, drop}
 use Rattle.permit_ring.proofs.keeper.turn_hand.Given as goal
 
 abbrev pub invariant-loop : goal.invariant-loop

@@ -1,4 +1,4 @@
-use Rattle.std.proofs.Common.{arith}
+use Rattle.permit_ring.proofs.Names.{arith}
 use Rattle.permit_ring.proofs.{there, place_from}
 use Rattle.permit_ring.proofs.laws.each_ticket_has_one_place.Goals as goal
 

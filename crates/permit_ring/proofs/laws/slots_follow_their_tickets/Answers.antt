@@ -1,4 +1,4 @@
-use Rattle.std.proofs.Common.{arith}
+use Rattle.permit_ring.proofs.Names.{arith}
 use Rattle.permit_ring.proofs.{fate_of, logged_is_claimed, machine_holds, open_of, slot_at, ring_of}
 use Rattle.permit_ring.proofs.laws.slots_follow_their_tickets.Goals as goal
 

@@ -1,6 +1,5 @@
-use Rattle.std.proofs.Common.{arith, ◌∙◌, [], refl, mod-eq_of_lt}
+use Rattle.permit_ring.proofs.Names.{arith, ◌∙◌, [], refl, mod-eq_of_lt, KeepsInHand}
 use native.Mathlib.Nat.{add-mod_right}
-use Rattle.permit_ring.specs.Seats.{KeepsInHand}
 use Rattle.permit_ring.proofs.{none_filled, opens_running, fresh}
 use Rattle.permit_ring.proofs.making.make.Goals as goal
 

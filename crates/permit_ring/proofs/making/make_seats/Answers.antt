@@ -1,5 +1,4 @@
-use Rattle.std.proofs.Common.{arith, rules, ℕ, ap, sym, add-one, ◌∙◌}
-use Rattle.permit_ring.specs.{keeper_in, IsNewSeat, made_memo}
+use Rattle.permit_ring.proofs.Names.{arith, rules, ℕ, ap, sym, add-one, ◌∙◌, keeper_in, IsNewSeat, made_memo}
 use Rattle.permit_ring.proofs.{splits_allowed, fresh, one_seat_more}
 use Rattle.permit_ring.proofs.making.make_seats.Goals as goal
 

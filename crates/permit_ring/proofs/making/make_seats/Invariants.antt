@@ -1,6 +1,5 @@
-use Rattle.std.proofs.Common.{◌≡◌, ◌+◌, ◌≤◌, ◌-◌, []}
+use Rattle.permit_ring.proofs.Names.{◌≡◌, ◌+◌, ◌≤◌, ◌-◌, [], Keeps, AreNewSeats, made_memo, IsKeeping}
 use Rattle.std.specs.Prelude.{vec_capacity}
-use Rattle.permit_ring.specs.{Keeps, AreNewSeats, made_memo, IsKeeping}
 use Rattle.permit_ring.proofs.making.make_seats.Given as goal
 
 abbrev pub invariant-loop-number : goal.invariant-loop-number

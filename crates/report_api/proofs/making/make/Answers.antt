@@ -1,7 +1,6 @@
-use Rattle.std.proofs.Common.{◌≡◌, ◌∙◌, refl, subst, sym}
+use Rattle.report_api.proofs.Names.{◌≡◌, ◌∙◌, refl, subst, sym, AreNewClasses}
 use Rattle.ids_config.specs.PartsView.{parts_of}
 use Rattle.ids_config.specs.Valid.{IsValid}
-use Rattle.buffer_classes.specs.Making.{AreNewClasses}
 use Rattle.report_api.specs.Making.{IsNewMaking, IsOfConfig, as_passes}
 use Rattle.report_api.proofs.MakingLemmas.{new_making, valid_specs}
 use Rattle.report_api.proofs.making.make.Goals as goal

@@ -1,5 +1,4 @@
-use Rattle.std.proofs.Common.{◌≡◌, length, take}
-use Rattle.buffer_classes.specs.Making.{spec_sizes}
+use Rattle.report_api.proofs.Names.{◌≡◌, length, take, spec_sizes}
 use Rattle.report_api.proofs.making.sizes_of.Given as goal
 
 abbrev pub invariant-loop-place : goal.invariant-loop-place

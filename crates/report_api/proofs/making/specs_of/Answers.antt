@@ -1,4 +1,4 @@
-use Rattle.std.proofs.Common.{arith}
+use Rattle.report_api.proofs.Names.{arith}
 use Rattle.report_api.proofs.MakingLemmas.{small_at}
 use Rattle.report_api.proofs.making.specs_of.Goals as goal
 

@@ -1,6 +1,5 @@
-use Rattle.std.proofs.Common.{◌≡◌, length, map, take}
+use Rattle.report_api.proofs.Names.{◌≡◌, length, map, take, class_of}
 use Rattle.std.specs.Prelude.{vec_capacity}
-use Rattle.ids_config.specs.Parts.{class_of}
 use Rattle.report_api.proofs.making.specs_of.Given as goal
 
 abbrev pub invariant-loop-class : goal.invariant-loop-class

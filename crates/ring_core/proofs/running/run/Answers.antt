@@ -1,5 +1,4 @@
-use Rattle.std.proofs.Common.{◌∙◌}
-use Rattle.ring_core.specs.Machine.{opening}
+use Rattle.ring_core.proofs.Names.{◌∙◌, opening}
 use Rattle.ring_core.proofs.{one_more, run_stops, sizes_on}
 use Rattle.ring_core.proofs.running.run.Goals as goal
 

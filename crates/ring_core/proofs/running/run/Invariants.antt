@@ -1,5 +1,4 @@
-use Rattle.std.proofs.Common.{take}
-use Rattle.ring_core.specs.Machine.{opening}
+use Rattle.ring_core.proofs.Names.{take, opening}
 use Rattle.ring_core.proofs.Runs.{IsReached}
 use Rattle.ring_core.proofs.running.run.Given as goal
 

@@ -1,5 +1,4 @@
-use Rattle.std.specs.Prelude.{◌∷◌}
-use Rattle.text_spec.proofs.Names.{[], decimal, layout_word, shown_context, shown_signature, stamp_text, line_feed, space}
+use Rattle.text_spec.proofs.Names.{◌∷◌, [], decimal, layout_word, shown_context, shown_signature, stamp_text, line_feed, space}
 use Rattle.text_spec.proofs.DecodedLemmas.{texts_put}
 use Rattle.text_spec.proofs.decoded.push_message.Goals as goal
 

@@ -1,5 +1,4 @@
-use Rattle.std.proofs.Common.{◌≡◌, take}
-use Rattle.std.specs.List.{list_all}
+use Rattle.text_spec.proofs.Names.{◌≡◌, take, list_all}
 use Rattle.text_spec.specs.Hexadecimal.{is_lower_digit}
 use Rattle.text_spec.proofs.hexadecimal.are_lower_digits.Given as goal
 

@@ -1,5 +1,4 @@
-use Rattle.std.proofs.Common.{ap, sym, arith, length}
-use Rattle.std.specs.Prelude.{option_map}
+use Rattle.text_spec.proofs.Names.{ap, sym, arith, length, option_map}
 use Rattle.text_spec.proofs.HexadecimalLemmas.{hex_in-odd, hex_upto-none, hex_upto-short}
 use Rattle.text_spec.proofs.hexadecimal.hex_into.Goals as goal
 use Rattle.text_spec.proofs.hexadecimal.hex_into.Goals.{then-word-eq1-via-then-word-eq1, then-word-eq1-via-else-word-eq1+then-room-count}

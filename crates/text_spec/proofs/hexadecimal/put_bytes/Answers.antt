@@ -1,4 +1,4 @@
-use Rattle.std.proofs.Common.{◌≡◌, ◌*◌, ◌/◌, ◌≤◌, length, arith}
+use Rattle.text_spec.proofs.Names.{◌≡◌, ◌*◌, ◌/◌, ◌≤◌, length, arith}
 use Rattle.text_spec.proofs.HexadecimalLemmas.{pairs_read}
 use Rattle.text_spec.proofs.hexadecimal.put_bytes.Goals as goal
 

@@ -1,4 +1,4 @@
-use Rattle.std.proofs.Common.{◌≡◌, ℕ, ◌<◌, drop, slice_index}
+use Rattle.text_spec.proofs.Names.{◌≡◌, ℕ, ◌<◌, drop, slice_index}
 use Rattle.text_spec.proofs.HexadecimalLemmas.{PairAt}
 use Rattle.text_spec.proofs.hexadecimal.put_bytes.Given as goal
 

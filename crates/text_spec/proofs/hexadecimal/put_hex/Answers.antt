@@ -1,5 +1,4 @@
-use Rattle.std.proofs.Common.{sym, append_assoc, arith}
-use Rattle.std.proofs.lemmas.List.{append-nil}
+use Rattle.text_spec.proofs.Names.{sym, append_assoc, arith, append-nil}
 use Rattle.hex.specs.Hex.{encode_with}
 use Rattle.text_spec.proofs.HexadecimalLemmas.{encode_more}
 use Rattle.text_spec.proofs.hexadecimal.put_hex.Goals as goal

@@ -1,5 +1,4 @@
-use Rattle.std.proofs.Common.{◌≡◌, ◌+◌, ◌*◌, ◌++◌, take, vec_len, vec_capacity}
-use Rattle.hex.specs.Hex.{encode_lower}
+use Rattle.text_spec.proofs.Names.{◌≡◌, ◌+◌, ◌*◌, ◌++◌, take, vec_len, vec_capacity, encode_lower}
 use Rattle.text_spec.proofs.hexadecimal.put_hex.Given as goal
 
 -- the text of the bytes so far stands behind what there was

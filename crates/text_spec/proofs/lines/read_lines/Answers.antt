@@ -1,7 +1,4 @@
-use Rattle.std.proofs.Common.{◌≡◌, ◌<◌, ◌==◌, ◌∷◌, [], length, Ok, Err, arith, rules, ◌∙◌}
-use Rattle.std.proofs.lemmas.List.Splits.{length-slice_split}
-use Rattle.text_spec.specs.LineAnswers.{fault_behind}
-use Rattle.text_spec.specs.Words.{line_feed, pieces_of}
+use Rattle.text_spec.proofs.Names.{◌≡◌, ◌<◌, ◌==◌, ◌∷◌, [], length, Ok, Err, arith, rules, ◌∙◌, length-slice_split, fault_behind, line_feed, pieces_of}
 use Rattle.text_spec.proofs.LinesLaws.{ends, goes_on, refuses}
 use Rattle.text_spec.proofs.lines.read_lines.Goals as goal
 

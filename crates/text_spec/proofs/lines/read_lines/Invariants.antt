@@ -1,6 +1,4 @@
-use Rattle.std.proofs.Common.{◌≡◌, ◌≤◌, ◌+◌, length}
-use Rattle.text_spec.specs.Lines.{after_pieces, past_in}
-use Rattle.text_spec.specs.Words.{line_feed, pieces_of}
+use Rattle.text_spec.proofs.Names.{◌≡◌, ◌≤◌, ◌+◌, length, after_pieces, past_in, line_feed, pieces_of}
 use Rattle.text_spec.proofs.lines.read_lines.Given as goal
 
 -- what the lines so far and those that are left tell is what all lines tell

@@ -1,4 +1,4 @@
-use Rattle.std.proofs.Common.{◌<◌, ◌^◌, arith}
+use Rattle.text_spec.proofs.Names.{◌<◌, ◌^◌, arith}
 use Rattle.text_spec.proofs.NumbersLemmas.{length_pair, few_digits}
 use Rattle.text_spec.proofs.numbers.+digits_len.Goals as goal
 

@@ -1,4 +1,4 @@
-use Rattle.std.proofs.Common.{◌<◌, ◌^◌, ◌∙◌, refl, append_assoc, arith}
+use Rattle.text_spec.proofs.Names.{◌<◌, ◌^◌, ◌∙◌, refl, append_assoc, arith}
 use Rattle.text_spec.proofs.NumbersLemmas.{decimal_pair}
 use Rattle.text_spec.proofs.numbers.+put_digits.Goals as goal
 

@@ -1,4 +1,4 @@
-use Rattle.std.proofs.Common.{sym}
+use Rattle.text_spec.proofs.Names.{sym}
 use Rattle.text_spec.proofs.NumbersLemmas.{number_in-decimal, decimal-number_in}
 use Rattle.text_spec.proofs.numbers.one_text_for_a_number.Goals as goal
 

@@ -1,4 +1,4 @@
-use Rattle.std.proofs.Common.{◌∙◌, refl, append_assoc}
+use Rattle.text_spec.proofs.Names.{◌∙◌, refl, append_assoc}
 use Rattle.text_spec.proofs.NumbersLemmas.{decimal_two}
 use Rattle.text_spec.proofs.numbers.put_field.Goals as goal
 

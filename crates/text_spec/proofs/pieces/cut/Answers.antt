@@ -1,5 +1,4 @@
-use Rattle.std.proofs.Common.{sym, ◌∙◌, ◌+◌}
-use Rattle.std.proofs.lemmas.List.{take_rest}
+use Rattle.text_spec.proofs.Names.{sym, ◌∙◌, ◌+◌, take_rest}
 use Rattle.text_spec.proofs.PiecesLemmas.{cut_none, cut_some}
 use Rattle.text_spec.proofs.pieces.cut.Goals as goal
 

@@ -1,9 +1,5 @@
-use Rattle.std.proofs.Common.{◌≡◌, ◌+◌, ◌==◌, true, false, get_or, sym, ◌∙◌, arith, Some, None}
+use Rattle.text_spec.proofs.Names.{◌≡◌, ◌+◌, ◌==◌, true, false, get_or, sym, ◌∙◌, arith, Some, None, is_ascii_digit, and_from, eq-eqb, ne_eqb, take_rest, list_all_more}
 use borrow.Author.Count.{below_more}
-use Rattle.std.specs.Char.{is_ascii_digit}
-use Rattle.std.proofs.lemmas.Bool.{and_from, eq-eqb, ne_eqb}
-use Rattle.std.proofs.lemmas.List.{take_rest}
-use Rattle.std.proofs.lemmas.List.Folds.{list_all_more}
 use Rattle.text_spec.proofs.NumbersLemmas.{capped_more}
 use Rattle.text_spec.proofs.PiecesLemmas.{first_piece, whole_piece, no_number, number_first}
 use Rattle.text_spec.proofs.pieces.cut_digits.Goals as goal

@@ -1,8 +1,4 @@
-use Rattle.std.proofs.Common.{◌≡◌, ℕ, ◌<◌, ◌==◌, true, false, take, get_or}
-use Rattle.std.specs.Char.{is_ascii_digit}
-use Rattle.std.specs.List.{list_all}
-use Rattle.std.specs.Str.Parse.{digits_value}
-use Rattle.text_spec.specs.Numbers.{capped}
+use Rattle.text_spec.proofs.Names.{◌≡◌, ℕ, ◌<◌, ◌==◌, true, false, take, get_or, is_ascii_digit, list_all, digits_value, capped}
 use Rattle.text_spec.proofs.pieces.cut_digits.Given as goal
 
 -- the bytes so far are digits and no separators, and this is their value

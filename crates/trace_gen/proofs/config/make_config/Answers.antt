@@ -1,6 +1,4 @@
-use Rattle.std.proofs.Common.{◌≡◌, Ok, refl}
-use Rattle.ids_config.specs.Values.{checked}
-use Rattle.trace_gen.specs.GeneratedConfig.{config_of}
+use Rattle.trace_gen.proofs.Names.{◌≡◌, Ok, refl, checked, config_of}
 use Rattle.trace_gen.proofs.ConfigLemmas.{config_faultless}
 use Rattle.trace_gen.proofs.config.make_config.Goals as goal
 

@@ -1,7 +1,4 @@
-use Rattle.std.proofs.Common.{arith}
-use Rattle.std.proofs.lemmas.Grind.{common_steps}
-use Rattle.std.proofs.lemmas.List.FromFn.{map-range_with_len_more}
-use Rattle.trace_gen.specs.GeneratedConfig.{sensor_event}
+use Rattle.trace_gen.proofs.Names.{arith, common_steps, map-range_with_len_more, sensor_event}
 use Rattle.trace_gen.proofs.config.make_events.Goals as goal
 
 pub loop-e-preserved : goal.loop-e-preserved

@@ -1,6 +1,4 @@
-use Rattle.std.proofs.Common.{◌≡◌, map}
-use Rattle.std.specs.List.{range_with_len}
-use Rattle.trace_gen.specs.GeneratedConfig.{sensor_event}
+use Rattle.trace_gen.proofs.Names.{◌≡◌, map, range_with_len, sensor_event}
 use Rattle.trace_gen.proofs.config.make_events.Given as goal
 
 -- the events so far

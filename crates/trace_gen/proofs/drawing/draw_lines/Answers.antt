@@ -1,11 +1,4 @@
-use Rattle.std.proofs.Common.{◌≡◌, ◌+◌, ◌*◌, ◌<◌, ◌++◌, ◌∷◌, [], length, map, ap, sym, ◌∙◌, arith, append-nil}
-use Rattle.std.specs.List.{range_with_len}
-use Rattle.trace_text.specs.TraceView.{Traced}
-use Rattle.trace_text.specs.Lines.{line_asked}
-use Rattle.trace_gen.specs.Drawing.{asking, with_lines}
-use Rattle.trace_gen.specs.Draws.{number_after}
-use Rattle.trace_gen.specs.GeneratedTrace.{changes_by, draws_before, tick_after}
-use Rattle.trace_gen.specs.Reports.{report_at}
+use Rattle.trace_gen.proofs.Names.{◌≡◌, ◌+◌, ◌*◌, ◌<◌, ◌++◌, ◌∷◌, [], length, map, ap, sym, ◌∙◌, arith, append-nil, range_with_len, Traced, line_asked, asking, with_lines, number_after, changes_by, draws_before, tick_after, report_at}
 use Rattle.trace_gen.proofs.TraceLemmas.{length-with_last, lines_more, report_is, reports_more}
 use Rattle.trace_gen.proofs.drawing.draw_lines.Goals as goal
 

@@ -1,9 +1,4 @@
-use Rattle.std.proofs.Common.{◌≡◌, ◌+◌, ◌*◌, ◌++◌, map}
-use Rattle.std.specs.List.{range_with_len}
-use Rattle.trace_gen.specs.Drawing.{with_lines}
-use Rattle.trace_gen.specs.Draws.{number_after}
-use Rattle.trace_gen.specs.GeneratedTrace.{changes_by, draws_before, tick_after}
-use Rattle.trace_gen.specs.Reports.{report_at}
+use Rattle.trace_gen.proofs.Names.{◌≡◌, ◌+◌, ◌*◌, ◌++◌, map, range_with_len, with_lines, number_after, changes_by, draws_before, tick_after, report_at}
 use Rattle.trace_gen.proofs.drawing.draw_lines.Given as goal
 
 -- the first reports were drawn

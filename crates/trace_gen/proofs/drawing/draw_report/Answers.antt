@@ -1,6 +1,4 @@
-use Rattle.std.proofs.Common.{◌≡◌, ◌+◌, ap, ap₂, sym, ◌∙◌, arith}
-use Rattle.trace_gen.specs.Draws.{draw, drawn_below, number_after}
-use Rattle.merge_spec.specs.Rounds.{reports}
+use Rattle.trace_gen.proofs.Names.{◌≡◌, ◌+◌, ap, ap₂, sym, ◌∙◌, arith, draw, drawn_below, number_after, reports}
 use Rattle.trace_gen.proofs.DrawLemmas.{next_drawn, same_report}
 use Rattle.trace_gen.proofs.drawing.draw_report.Goals as goal
 

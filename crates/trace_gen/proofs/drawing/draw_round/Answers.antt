@@ -1,9 +1,4 @@
-use Rattle.std.proofs.Common.{◌≡◌, ◌+◌, ◌-◌, ◌*◌, ◌<◌, ◌++◌, ◌∷◌, [], length, map, ap, sym, subst, ◌∙◌, arith}
-use Rattle.std.specs.Prelude.{replicate}
-use Rattle.std.specs.List.{range_with_len}
-use Rattle.merge_spec.specs.Rounds.{Round}
-use Rattle.trace_gen.specs.Drawing.{HasCaller, OnLast, asking, with_lines}
-use Rattle.trace_gen.specs.GeneratedTrace.{lines_by, tick_after, ticks_beside}
+use Rattle.trace_gen.proofs.Names.{◌≡◌, ◌+◌, ◌-◌, ◌*◌, ◌<◌, ◌++◌, ◌∷◌, [], length, map, ap, sym, subst, ◌∙◌, arith, replicate, range_with_len, Round, HasCaller, OnLast, asking, with_lines, lines_by, tick_after, ticks_beside}
 use Rattle.trace_gen.proofs.TraceLemmas.{caller_more, length-callers, on_last-append, with_last-append}
 use Rattle.trace_gen.proofs.drawing.draw_round.Goals as goal
 

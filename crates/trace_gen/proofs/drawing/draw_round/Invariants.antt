@@ -1,8 +1,4 @@
-use Rattle.std.proofs.Common.{◌≡◌, ◌≤◌, ◌-◌, ◌++◌, ◌∷◌, [], map}
-use Rattle.std.specs.Prelude.{replicate}
-use Rattle.std.specs.List.{range_with_len}
-use Rattle.trace_gen.specs.Draws.{number_after}
-use Rattle.trace_gen.specs.GeneratedTrace.{draws_before, lines_by, tick_after, ticks_beside}
+use Rattle.trace_gen.proofs.Names.{◌≡◌, ◌≤◌, ◌-◌, ◌++◌, ◌∷◌, [], map, replicate, range_with_len, number_after, draws_before, lines_by, tick_after, ticks_beside}
 use Rattle.trace_gen.proofs.drawing.draw_round.Given as goal
 
 -- the first callers' lines were drawn

@@ -1,9 +1,4 @@
-use Rattle.std.proofs.Common.{◌≡◌, ◌+◌, ◌*◌, ◌++◌, ◌∷◌, [], map, ap, ap₂, sym, ◌∙◌, arith}
-use Rattle.std.specs.List.{range_with_len}
-use Rattle.std.proofs.lemmas.List.FromFn.{map-range_with_len_more}
-use Rattle.merge_spec.specs.Rounds.{Round, last_tick}
-use Rattle.trace_text.specs.TraceView.{Traced, no_rounds_of}
-use Rattle.trace_gen.specs.GeneratedTrace.{generated_round}
+use Rattle.trace_gen.proofs.Names.{◌≡◌, ◌+◌, ◌*◌, ◌++◌, ◌∷◌, [], map, ap, ap₂, sym, ◌∙◌, arith, range_with_len, map-range_with_len_more, Round, last_tick, Traced, no_rounds_of, generated_round}
 use Rattle.trace_gen.proofs.DrawLemmas.{first_number}
 use Rattle.trace_gen.proofs.RecordingLemmas.{last_round}
 use Rattle.trace_gen.proofs.drawing.draw_trace.Goals as goal

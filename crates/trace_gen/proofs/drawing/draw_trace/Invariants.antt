@@ -1,8 +1,4 @@
-use Rattle.std.proofs.Common.{◌≡◌, ◌*◌, map}
-use Rattle.std.specs.List.{range_with_len}
-use Rattle.merge_spec.specs.Rounds.{last_tick}
-use Rattle.trace_gen.specs.Draws.{number_after}
-use Rattle.trace_gen.specs.GeneratedTrace.{draws_before, generated_round}
+use Rattle.trace_gen.proofs.Names.{◌≡◌, ◌*◌, map, range_with_len, last_tick, number_after, draws_before, generated_round}
 use Rattle.trace_gen.proofs.drawing.draw_trace.Given as goal
 
 -- the first rounds were drawn

@@ -1,5 +1,4 @@
-use Rattle.std.proofs.Common.{◌≡◌}
-use Rattle.std.specs.List.{range_with_len}
+use Rattle.trace_gen.proofs.Names.{◌≡◌, range_with_len}
 use Rattle.trace_gen.proofs.drawing.make_ramp.Given as goal
 
 -- the bytes so far

@@ -1,5 +1,4 @@
-use Rattle.std.proofs.Common.{◌≡◌, false, sym, ◌∙◌, ◌%◌, ◌==◌}
-use Rattle.std.specs.Prelude.{◌&&◌}
+use Rattle.trace_gen.proofs.Names.{◌≡◌, false, sym, ◌∙◌, ◌%◌, ◌==◌, ◌&&◌}
 use Rattle.trace_gen.proofs.TraceLemmas.{lines_none}
 use Rattle.trace_gen.proofs.drawing.push_change.Goals as goal
 

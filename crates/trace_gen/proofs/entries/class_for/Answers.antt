@@ -1,4 +1,4 @@
-use Rattle.std.proofs.Common.{sym, ◌∙◌}
+use Rattle.trace_gen.proofs.Names.{sym, ◌∙◌}
 use Rattle.trace_gen.proofs.CountLemmas.{small_classes}
 use Rattle.trace_gen.proofs.entries.class_for.Goals as goal
 

@@ -1,4 +1,4 @@
-use Rattle.std.proofs.Common.{rules}
+use Rattle.trace_gen.proofs.Names.{rules}
 use Rattle.trace_gen.proofs.entries.make_act.Goals as goal
 
 pub returns-in_ok-context-in-Report-clause-claims : goal.returns-in_ok-context-in-Report-clause-claims

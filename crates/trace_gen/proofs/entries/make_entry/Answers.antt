@@ -1,5 +1,4 @@
-use Rattle.std.proofs.Common.{rules}
-use Rattle.trace_text.specs.Lines.{line_asked}
+use Rattle.trace_gen.proofs.Names.{rules, line_asked}
 use Rattle.trace_gen.proofs.CountLemmas.{calls_more}
 use Rattle.trace_gen.proofs.entries.make_entry.Goals as goal
 

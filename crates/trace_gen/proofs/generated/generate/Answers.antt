@@ -1,13 +1,9 @@
-use Rattle.std.proofs.Common.{◌≡◌, [], ap, ap₂, sym, ◌∙◌, reverse, length, arith}
-use Rattle.std.proofs.lemmas.List.{reverse-reverse}
+use Rattle.trace_gen.proofs.Names.{◌≡◌, [], ap, ap₂, sym, ◌∙◌, reverse, length, arith, reverse-reverse, Traced, ranges, gen_line, turns_for, config_of}
 use Rattle.config_json.specs.Printed.{config_text}
 use Rattle.journal.specs.Answers.{told}
 use Rattle.text_spec.specs.JournalText.{journal_text}
 use Rattle.text_spec.specs.TraceText.{trace_text}
-use Rattle.trace_text.specs.TraceView.{Traced}
-use Rattle.gen_options.proofs.RangeLemmas.{ranges}
-use Rattle.trace_gen.specs.Generated.{config_for, gen_line, journal_for, line_for, trace_for, turns_for}
-use Rattle.trace_gen.specs.GeneratedConfig.{config_of}
+use Rattle.trace_gen.specs.Generated.{config_for, journal_for, line_for, trace_for}
 use Rattle.trace_gen.proofs.FitLemmas.{rounds_fit}
 use Rattle.trace_gen.proofs.GenerateLemmas.{line_is, recorded}
 use Rattle.trace_gen.proofs.generated.generate.Goals as goal

@@ -1,6 +1,4 @@
-use Rattle.std.proofs.Common.{◌≡◌, ◌≤◌, ◌*◌, ◌∷◌, ◌++◌, [], length, take, drop}
-use Rattle.chain.specs.Turning.{turn_by}
-use Rattle.trace_gen.specs.Recording.{held}
+use Rattle.trace_gen.proofs.Names.{◌≡◌, ◌≤◌, ◌*◌, ◌∷◌, ◌++◌, [], length, take, drop, turn_by, held}
 use Rattle.trace_gen.proofs.recorder.log_turn.Given as goal
 
 -- the first entries are added, and there is room for the others

@@ -1,5 +1,4 @@
-use Rattle.std.proofs.Common.{◌≡◌, length}
-use Rattle.text_spec.specs.Contexts.{numbers_in}
+use Rattle.trace_text.proofs.Names.{◌≡◌, length, numbers_in}
 use Rattle.text_spec.proofs.NumberLists.{with_front}
 use Rattle.trace_text.proofs.form.read_ticks.Given as goal
 

@@ -1,9 +1,4 @@
-use Rattle.std.proofs.Common.{◌<◌, [], length, arith, refl}
-use Rattle.text_spec.specs.TraceFaults.{begun_round}
-use Rattle.text_spec.specs.TraceText.{round_told, rounds_told}
-use Rattle.text_spec.proofs.WordsLemmas.{one_more}
-use Rattle.trace_text.specs.Printing.{lines_text}
-use Rattle.trace_text.specs.TraceView.{round_at}
+use Rattle.trace_text.proofs.Names.{◌<◌, [], length, arith, refl, begun_round, round_told, rounds_told, one_more, lines_text, round_at}
 use Rattle.trace_text.proofs.PrintingLemmas.{rounds_text-push}
 use Rattle.trace_text.proofs.printing.print_rounds.Goals as goal
 

@@ -1,6 +1,4 @@
-use Rattle.std.proofs.Common.{◌≡◌, take}
-use Rattle.text_spec.specs.TraceText.{rounds_told}
-use Rattle.trace_text.specs.Printing.{lines_text}
+use Rattle.trace_text.proofs.Names.{◌≡◌, take, rounds_told, lines_text}
 use Rattle.trace_text.proofs.printing.print_rounds.Given as goal
 
 -- the first rounds have been printed

@@ -1,11 +1,4 @@
-use Rattle.std.proofs.Common.{◌<◌, length, arith}
-use Rattle.merge_spec.specs.Rounds.{lines_at}
-use Rattle.text_spec.specs.Fields.{ended_line}
-use Rattle.text_spec.specs.TraceText.{asked_fields, changes}
-use Rattle.text_spec.proofs.WordsLemmas.{one_more}
-use Rattle.trace_text.specs.Lines.{line_asked}
-use Rattle.trace_text.specs.Printing.{caller_text}
-use Rattle.trace_text.specs.TraceView.{round_at}
+use Rattle.trace_text.proofs.Names.{◌<◌, length, arith, lines_at, ended_line, asked_fields, changes, one_more, line_asked, caller_text, round_at}
 use Rattle.trace_text.proofs.PrintingLemmas.{caller_text-push}
 use Rattle.trace_text.proofs.printing.push_caller.Goals as goal
 

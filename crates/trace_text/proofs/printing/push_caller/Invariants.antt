@@ -1,7 +1,4 @@
-use Rattle.std.proofs.Common.{◌≡◌, ◌++◌, take}
-use Rattle.merge_spec.specs.Rounds.{lines_at}
-use Rattle.trace_text.specs.Printing.{caller_text}
-use Rattle.trace_text.specs.TraceView.{round_at}
+use Rattle.trace_text.proofs.Names.{◌≡◌, ◌++◌, take, lines_at, caller_text, round_at}
 use Rattle.trace_text.proofs.printing.push_caller.Given as goal
 
 -- the first lines have been printed

@@ -1,7 +1,4 @@
-use Rattle.std.proofs.Common.{◌≡◌, ◌∷◌, ◌++◌, [], rules, sym, ap, ◌∙◌, append_assoc}
-use Rattle.std.specs.Prelude.{codes}
-use Rattle.text_spec.specs.Words.{line_feed}
-use Rattle.trace_text.specs.Printing.{ticks_text}
+use Rattle.trace_text.proofs.Names.{◌≡◌, ◌∷◌, ◌++◌, [], rules, sym, ap, ◌∙◌, append_assoc, codes, line_feed, ticks_text}
 use Rattle.trace_text.proofs.PrintingLemmas.{opening_text}
 use Rattle.trace_text.proofs.printing.push_opening.Goals as goal
 

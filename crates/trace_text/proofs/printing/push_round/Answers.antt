@@ -1,11 +1,5 @@
-use Rattle.std.proofs.Common.{◌≡◌, ◌<◌, ◌++◌, [], length, refl, rules, arith, ap, ◌∙◌}
+use Rattle.trace_text.proofs.Names.{◌≡◌, ◌<◌, ◌++◌, [], length, refl, rules, arith, ap, ◌∙◌, ended_line, lines_at, callers_told, closes, opens, trace_fields, one_more, caller_text, lines_text, round_at}
 use Rattle.std.proofs.lemmas.Result.{on_ok_weaker}
-use Rattle.text_spec.specs.Fields.{ended_line}
-use Rattle.merge_spec.specs.Rounds.{lines_at}
-use Rattle.text_spec.specs.TraceText.{callers_told, closes, opens, trace_fields}
-use Rattle.text_spec.proofs.WordsLemmas.{one_more}
-use Rattle.trace_text.specs.Printing.{caller_text, lines_text}
-use Rattle.trace_text.specs.TraceView.{round_at}
 use Rattle.trace_text.proofs.PrintingLemmas.{callers_text-push, round_printed}
 use Rattle.trace_text.proofs.printing.push_round.Goals as goal
 

@@ -1,7 +1,4 @@
-use Rattle.std.proofs.Common.{◌≡◌, ◌++◌, take}
-use Rattle.text_spec.specs.TraceText.{callers_told}
-use Rattle.trace_text.specs.Printing.{lines_text}
-use Rattle.trace_text.specs.TraceView.{round_at}
+use Rattle.trace_text.proofs.Names.{◌≡◌, ◌++◌, take, callers_told, lines_text, round_at}
 use Rattle.trace_text.proofs.printing.push_round.Given as goal
 
 -- the lines of the first callers have been printed

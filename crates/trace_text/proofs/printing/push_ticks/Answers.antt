@@ -1,8 +1,4 @@
-use Rattle.std.proofs.Common.{◌∷◌, get_or, rules}
-use Rattle.std.specs.Prelude.{decimal}
-use Rattle.text_spec.specs.Words.{space}
-use Rattle.text_spec.proofs.WordsLemmas.{one_more}
-use Rattle.trace_text.specs.Printing.{ticks_text}
+use Rattle.trace_text.proofs.Names.{◌∷◌, get_or, rules, decimal, space, one_more, ticks_text}
 use Rattle.trace_text.proofs.PrintingLemmas.{ticks_text-push}
 use Rattle.trace_text.proofs.printing.push_ticks.Goals as goal
 

@@ -1,5 +1,4 @@
-use Rattle.std.proofs.Common.{◌≡◌, ◌++◌, take}
-use Rattle.trace_text.specs.Printing.{ticks_text}
+use Rattle.trace_text.proofs.Names.{◌≡◌, ◌++◌, take, ticks_text}
 use Rattle.trace_text.proofs.printing.push_ticks.Given as goal
 
 -- the first ticks have been printed

@@ -1,5 +1,4 @@
-use Rattle.std.proofs.Common.{◌≡◌, drop}
-use Rattle.text_spec.specs.TraceFaults.{keep_up}
+use Rattle.trace_text.proofs.Names.{◌≡◌, drop, keep_up}
 use Rattle.trace_text.proofs.ranges.keep_up.Given as goal
 
 -- the ticks that are left decide

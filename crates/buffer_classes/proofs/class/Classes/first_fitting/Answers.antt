@@ -1,5 +1,4 @@
-use Rattle.std.proofs.Common.{◌≡◌, ◌∙◌, length, vec_len, arith, rules}
-use Rattle.atomic_table.proofs.Lists.{at_index}
+use Rattle.buffer_classes.proofs.Names.{◌≡◌, ◌∙◌, length, vec_len, arith, rules, at_index}
 use Rattle.buffer_classes.proofs.FittingLemmas.{fits_at, fits_nowhere, too_small_more}
 use Rattle.buffer_classes.proofs.class.Classes.first_fitting.Goals as goal
 

@@ -1,8 +1,6 @@
-use Rattle.std.proofs.Common.{ℕ, ◌<◌}
+use Rattle.buffer_classes.proofs.Names.{ℕ, ◌<◌, ◌≡◌, Class}
 use mathlib.Core.Option.{some}
 use lib.ListN.{get_elem?}
-use Rattle.std.specs.Prelude.{◌≡◌}
-use Rattle.buffer_classes.specs.Names.{Class}
 use Rattle.buffer_classes.proofs.class.Classes.first_fitting.Given as goal
 
 -- the classes before this one are too small

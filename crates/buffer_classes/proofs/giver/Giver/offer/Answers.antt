@@ -1,6 +1,4 @@
-use Rattle.std.proofs.Common.{arith, inl, inr, eq-zero-or-pos, subst, sym}
-use Rattle.permit_ring.specs.{OfferTells, filled_of, keeper_memo}
-use Rattle.buffer_classes.specs.Giving.{OffersOnce, giver_memo}
+use Rattle.buffer_classes.proofs.Names.{arith, inl, inr, eq-zero-or-pos, subst, sym, OfferTells, filled_of, keeper_memo, OffersOnce, giver_memo}
 use Rattle.buffer_classes.proofs.GiveLemmas.{fronts_on}
 use Rattle.buffer_classes.proofs.giver.Giver.offer.Goals as goal
 

@@ -1,5 +1,5 @@
 use Rattle.buffer_classes.proofs.GiveLemmas.{admitted_more}
-use Rattle.std.proofs.Common.{arith}
+use Rattle.buffer_classes.proofs.Names.{arith}
 use Rattle.buffer_classes.proofs.giver.Giver.put.Goals as goal
 
 pub returns-then-len-self-clause-mine : goal.returns-then-len-self-clause-mine

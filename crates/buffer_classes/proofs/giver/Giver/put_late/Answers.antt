@@ -1,5 +1,4 @@
-use Rattle.std.proofs.Common.{◌≡◌, ◌++◌, ◌∷◌, [], ◌∙◌, ap, arith, length}
-use Rattle.std.proofs.lemmas.List.{append_assoc, length_push}
+use Rattle.buffer_classes.proofs.Names.{◌≡◌, ◌++◌, ◌∷◌, [], ◌∙◌, ap, arith, length, append_assoc, length_push}
 use Rattle.buffer_classes.proofs.GiveLemmas.{admitted_before, admitted_last}
 use Rattle.buffer_classes.proofs.giver.Giver.put_late.Goals as goal
 

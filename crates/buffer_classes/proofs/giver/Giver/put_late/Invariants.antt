@@ -1,5 +1,4 @@
-use Rattle.std.proofs.Common.{length}
-use Rattle.buffer_classes.specs.Giving.{IsGiverOf, FillsLate}
+use Rattle.buffer_classes.proofs.Names.{length, IsGiverOf, FillsLate}
 use Rattle.buffer_classes.proofs.giver.Giver.put_late.Given as goal
 
 abbrev pub invariant-loop-self : goal.invariant-loop-self

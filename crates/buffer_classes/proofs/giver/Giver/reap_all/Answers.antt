@@ -1,6 +1,4 @@
-use Rattle.std.proofs.Common.{◌∙◌, arith}
-use Rattle.buffer_classes.specs.Giving.{giver_memo}
-use Rattle.permit_ring.specs.Seats.{keeper_memo}
+use Rattle.buffer_classes.proofs.Names.{◌∙◌, arith, giver_memo, keeper_memo}
 use Rattle.buffer_classes.proofs.GiveLemmas.{back_then, last_look, none_yet, reaps_on}
 use Rattle.buffer_classes.proofs.giver.Giver.reap_all.Goals as goal
 

@@ -1,5 +1,4 @@
-use Rattle.std.proofs.Common.{◌≡◌, ◌-◌, ◌^◌, length}
-use Rattle.buffer_classes.specs.Giving.{IsGiverOf, OnlyReaps, filled_count, giver_memo}
+use Rattle.buffer_classes.proofs.Names.{◌≡◌, ◌-◌, ◌^◌, length, IsGiverOf, OnlyReaps, filled_count, giver_memo}
 use Rattle.buffer_classes.proofs.giver.Giver.reap_all.Given as goal
 
 abbrev pub invariant-loop-unready : goal.invariant-loop-unready

@@ -1,5 +1,4 @@
-use Rattle.buffer_classes.specs.declared.giver.Giver.{Giver}
-use Rattle.buffer_classes.specs.{class_count, Begins, Puts}
+use Rattle.buffer_classes.proofs.Names.{Giver, class_count, Begins, Puts}
 use Rattle.buffer_classes.proofs.{all_then, gave_back}
 use Rattle.buffer_classes.proofs.givers.Givers.give.Goals as goal
 

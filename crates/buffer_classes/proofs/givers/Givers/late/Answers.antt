@@ -1,6 +1,4 @@
-use Rattle.std.proofs.Common.{arith}
-use Rattle.atomic_table.proofs.Lists.{at_index}
-use Rattle.buffer_classes.specs.Givers.{givers_of}
+use Rattle.buffer_classes.proofs.Names.{arith, at_index, givers_of}
 use Rattle.buffer_classes.proofs.givers.Givers.late.Goals as goal
 
 pub returns : goal.returns

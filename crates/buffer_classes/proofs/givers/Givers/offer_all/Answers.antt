@@ -1,5 +1,4 @@
-use Rattle.std.proofs.Common.{length, ◌<◌, refl, arith}
-use Rattle.buffer_classes.specs.Givers.{givers_of}
+use Rattle.buffer_classes.proofs.Names.{length, ◌<◌, refl, arith, givers_of}
 use Rattle.buffer_classes.proofs.{all_below, below_more, one_set, giver_there, givers_with}
 use Rattle.buffer_classes.proofs.givers.Givers.offer_all.Goals as goal
 

@@ -1,4 +1,4 @@
-use Rattle.buffer_classes.specs.{AreGiversOf, givers_of, Offers}
+use Rattle.buffer_classes.proofs.Names.{AreGiversOf, givers_of, Offers}
 use Rattle.buffer_classes.proofs.ByIndexLemmas.{AllBelow}
 use Rattle.buffer_classes.proofs.givers.Givers.offer_all.Given as goal
 

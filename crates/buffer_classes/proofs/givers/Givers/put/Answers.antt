@@ -1,5 +1,4 @@
-use Rattle.std.proofs.Common.{refl, arith, set, subst}
-use Rattle.buffer_classes.specs.{OneOf, givers_of, Puts}
+use Rattle.buffer_classes.proofs.Names.{refl, arith, set, subst, OneOf, givers_of, Puts}
 use Rattle.buffer_classes.proofs.{one_set, buffer_there, class_of, giver_there, givers_with}
 use Rattle.buffer_classes.proofs.givers.Givers.put.Goals as goal
 

@@ -1,6 +1,4 @@
-use Rattle.std.proofs.Common.{◌≡◌, ◌++◌, ◌∷◌, [], ◌∙◌, arith}
-use Rattle.std.proofs.lemmas.List.{nil_from_length}
-use Rattle.buffer_classes.specs.{class_sizes, IsBufferIn}
+use Rattle.buffer_classes.proofs.Names.{◌≡◌, ◌++◌, ◌∷◌, [], ◌∙◌, arith, nil_from_length, class_sizes, IsBufferIn}
 use Rattle.buffer_classes.proofs.{admitted_before, admitted_last, all_put, one_put}
 use Rattle.buffer_classes.proofs.givers.Givers.put_all.Goals as goal
 

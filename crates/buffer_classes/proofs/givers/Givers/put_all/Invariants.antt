@@ -1,6 +1,4 @@
-use Rattle.std.proofs.Common.{◌≡◌, length}
-use Rattle.std.specs.Prelude.{vec_capacity}
-use Rattle.buffer_classes.specs.{AllOf, class_sizes, AreBuffersIn, AreGiversOf, givers_of}
+use Rattle.buffer_classes.proofs.Names.{◌≡◌, length, vec_capacity, AllOf, class_sizes, AreBuffersIn, AreGiversOf, givers_of}
 use Rattle.buffer_classes.proofs.PutLemmas.{PutsSome}
 use Rattle.buffer_classes.proofs.givers.Givers.put_all.Given as goal
 

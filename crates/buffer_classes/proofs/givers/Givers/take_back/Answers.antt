@@ -1,5 +1,4 @@
-use Rattle.std.proofs.Common.{refl}
-use Rattle.buffer_classes.specs.Givers.{givers_of}
+use Rattle.buffer_classes.proofs.Names.{refl, givers_of}
 use Rattle.buffer_classes.proofs.{one_set, class_there, giver_there, givers_with}
 use Rattle.buffer_classes.proofs.givers.Givers.take_back.Goals as goal
 

@@ -1,6 +1,4 @@
-use Rattle.std.proofs.Common.{◌≡◌, ◌++◌, ◌∷◌, [], arith, length, sym}
-use Rattle.std.proofs.lemmas.List.{append-nil}
-use Rattle.buffer_classes.specs.{givers_of, Takes}
+use Rattle.buffer_classes.proofs.Names.{◌≡◌, ◌++◌, ◌∷◌, [], arith, length, sym, append-nil, givers_of, Takes}
 use Rattle.buffer_classes.proofs.ByIndexLemmas.{from_all, from_end, last_left, last_taken}
 use Rattle.buffer_classes.proofs.givers.Givers.welcome.Goals as goal
 

@@ -1,5 +1,4 @@
-use Rattle.std.proofs.Common.{◌≡◌, ◌++◌, List, length}
-use Rattle.buffer_classes.specs.{AllOf, AreGiversOf, Welcomed, givers_of, ClassSeat}
+use Rattle.buffer_classes.proofs.Names.{◌≡◌, ◌++◌, List, length, AllOf, AreGiversOf, Welcomed, givers_of, ClassSeat}
 use Rattle.buffer_classes.proofs.ByIndexLemmas.{FromOn}
 use Rattle.buffer_classes.proofs.givers.Givers.welcome.Given as goal
 

@@ -1,8 +1,5 @@
-use Rattle.std.proofs.Common.{◌≡◌, ℕ, ◌<◌, ◌≤◌, ◌^◌, length, vec_len, refl, sym, ap, ◌∙◌, arith, rules}
-use Rattle.std.proofs.lemmas.List.{length-map, length_push}
+use Rattle.buffer_classes.proofs.Names.{◌≡◌, ℕ, ◌<◌, ◌≤◌, ◌^◌, length, vec_len, refl, sym, ap, ◌∙◌, arith, rules, length-map, length_push, set_else, lost_at, class_sizes, first_fitting, Class}
 use Rattle.std.proofs.lemmas.List.Elements.{All-push}
-use Rattle.atomic_table.proofs.Lists.{set_else}
-use Rattle.buffer_classes.specs.{lost_at, class_sizes, first_fitting, Class}
 use Rattle.buffer_classes.proofs.{lost_past, first_within, asks_none, claimed, claimed_logs, class_is, fits_from, got_past, got_there, his_next, in_vain, size_there}
 use Rattle.buffer_classes.proofs.seat.ClaimSeat.claim.Goals as goal
 

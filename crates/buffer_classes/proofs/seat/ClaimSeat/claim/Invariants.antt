@@ -1,6 +1,5 @@
-use Rattle.std.proofs.Common.{◌≡◌, ℕ, ◌+◌, ◌≤◌, ◌^◌, length, All}
+use Rattle.buffer_classes.proofs.Names.{◌≡◌, ℕ, ◌+◌, ◌≤◌, ◌^◌, length, All, lost_at, class_sizes, first_fitting}
 use lib.ListN.{get_elem?}
-use Rattle.buffer_classes.specs.{lost_at, class_sizes, first_fitting}
 use Rattle.buffer_classes.proofs.AskLemmas.{AsksAll}
 use Rattle.buffer_classes.proofs.seat.ClaimSeat.claim.Given as goal
 

@@ -1,11 +1,4 @@
-use Rattle.std.proofs.Common.{◌≡◌, ◌∷◌, Bool, true, false, List, Option, map, sym, subst, ◌∙◌}
-use Rattle.ids_config.specs.Parts.{Parts, event_at}
-use Rattle.chain_spec.specs.Filtering.{counted}
-use Rattle.chain_spec.specs.Items.{Item}
-use Rattle.chain_spec.specs.Threshold.{verdict}
-use Rattle.chain_spec.specs.Windows.{EndBy}
-use Rattle.filter_threshold.specs.Counting.{Stands as ThresholdsStand}
-use Rattle.filter_threshold.specs.declared.threshold.Threshold.{Threshold}
+use Rattle.event_chain.proofs.Names.{◌≡◌, ◌∷◌, Bool, true, false, List, Option, map, sym, subst, ◌∙◌, Parts, event_at, counted, Item, verdict, EndBy, ThresholdsStand, Threshold}
 use Rattle.event_chain.proofs.FlowLemmas.{end_counted, counts}
 use Rattle.event_chain.proofs.counting.Counting.count.Goals as goal
 

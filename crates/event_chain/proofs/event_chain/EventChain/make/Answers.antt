@@ -1,8 +1,4 @@
-use Rattle.std.proofs.Common.{length, sym, ap, ◌∙◌, arith}
-use Rattle.std.proofs.lemmas.List.{length-map}
-use Rattle.filter_aggregate.specs.Account.{all_kept}
-use Rattle.filter_aggregate.specs.Slots.{fresh_slot}
-use Rattle.event_chain.specs.Ready.{aggregating_in}
+use Rattle.event_chain.proofs.Names.{length, sym, ap, ◌∙◌, arith, length-map, all_kept, fresh_slot, aggregating_in}
 use Rattle.event_chain.proofs.SoundLemmas.{kept_fresh, sound_made}
 use Rattle.event_chain.proofs.event_chain.EventChain.make.Goals as goal
 

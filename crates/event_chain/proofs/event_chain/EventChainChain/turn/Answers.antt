@@ -1,24 +1,5 @@
-use Rattle.std.proofs.Common.{◌≡◌, ◌≤◌, ◌++◌, List, [], ◌∷◌, length, map, reverse, Option, sym, ap, subst, ◌∙◌, arith, rules}
-use Rattle.std.proofs.lemmas.Grind.{common_steps}
-use Rattle.ids_types.specs.Turns.{Turn}
-use Rattle.ids_types.specs.declared.internal.Internal.{Internal}
-use Rattle.ids_types.specs.declared.names.EventIndex.{EventIndex}
-use Rattle.ids_config.specs.Parts.{Parts}
-use Rattle.chain_spec.specs.Chain.{qualified_of}
-use Rattle.chain_spec.specs.Heads.{Head, heads_of}
-use Rattle.chain_spec.specs.Moments.{Moment, closings, head_moment, moments}
-use Rattle.chain_spec.specs.Stages.{with_all}
-use Rattle.chain.specs.History.{Sends, last_tick, newest_tick}
-use Rattle.chain.specs.Parcels.{HandsBack, all_parcels}
-use Rattle.chain.specs.Turning.{turn_by}
-use Rattle.filter_aggregate.specs.Account.{all_kept}
-use Rattle.filter_aggregate.specs.Slots.{slot_at}
-use Rattle.filter_aggregate.specs.declared.slot.Slot.{Slot}
-use Rattle.internal_events.specs.HeadView.{head_told}
-use Rattle.sending.specs.Sending.{start_of}
-use Rattle.event_chain.specs.Behind.{IsBehind}
-use Rattle.event_chain.specs.Chained.{Chained, IsOneOf}
-use Rattle.event_chain.specs.Standing.{Stands}
+use Rattle.event_chain.proofs.Names.{◌≡◌, ◌≤◌, ◌++◌, List, [], ◌∷◌, length, map, reverse, Option, sym, ap, subst, ◌∙◌, arith, rules, common_steps, Turn, Internal, EventIndex, Parts, qualified_of, heads_of, Moment, closings, head_moment, moments, with_all, Sends, last_tick, newest_tick, HandsBack, all_parcels, turn_by, all_kept, slot_at, Slot, head_told, start_of, IsBehind, Chained, IsOneOf, Stands}
+use Rattle.chain_spec.specs.Heads.{Head}
 use Rattle.event_chain.proofs.ClosingLemmas.{asked}
 use Rattle.event_chain.proofs.Going.{can_left, entry_moments, stays_more}
 use Rattle.event_chain.proofs.HandsLemmas.{hands_last, hands_length, hands_then}

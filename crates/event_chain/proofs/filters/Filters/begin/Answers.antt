@@ -1,6 +1,4 @@
-use Rattle.std.proofs.Common.{length, ap, rules}
-use Rattle.chain_spec.specs.Filtering.{qualified}
-use Rattle.sending.specs.Sender.{SenderParts}
+use Rattle.event_chain.proofs.Names.{length, ap, rules, qualified, SenderParts}
 use Rattle.event_chain.proofs.FlowLemmas.{ends_later}
 use Rattle.event_chain.proofs.filters.Filters.begin.Goals as goal
 

@@ -1,14 +1,4 @@
-use Rattle.std.proofs.Common.{Some, None, option_map, refl, sym, subst, ap, arith, rules}
-use Rattle.std.proofs.lemmas.List.Sorted.{length_permutation}
-use Rattle.std.proofs.lemmas.Grind.{common_steps}
-use Rattle.chain_spec.specs.Calls.{closes_due}
-use Rattle.chain_spec.specs.Filtering.{gated}
-use Rattle.chain_spec.specs.Items.{item_at, told_by}
-use Rattle.filter_gate.proofs.StandsLemmas.{stands_with_closing}
-use Rattle.chain.specs.Parcels.{IsShort}
-use Rattle.filter_aggregate.specs.Account.{all_kept}
-use Rattle.filter_aggregate.specs.Slots.{slot_at}
-use Rattle.event_chain.specs.Ready.{HasEvent}
+use Rattle.event_chain.proofs.Names.{Some, None, option_map, refl, sym, subst, ap, arith, rules, length_permutation, common_steps, closes_due, gated, item_at, told_by, stands_with_closing, IsShort, all_kept, slot_at, HasEvent}
 use Rattle.event_chain.proofs.CallLemmas.{behind_call, due_own, given_short, short_by, flows_with}
 use Rattle.event_chain.proofs.filters.Filters.close.Goals as goal
 

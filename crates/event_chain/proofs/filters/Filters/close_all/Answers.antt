@@ -1,14 +1,4 @@
-use Rattle.std.proofs.Common.{◌≡◌, ℕ, length, map, refl, sym, ap, ◌∙◌, arith, subst}
-use Rattle.std.specs.List.{range_with_len}
-use Rattle.std.proofs.lemmas.List.{drop_all, length-map}
-use Rattle.std.proofs.lemmas.Grind.{common_steps}
-use Rattle.ids_types.specs.declared.names.EventIndex.{EventIndex}
-use Rattle.chain_spec.specs.Moments.{closes}
-use Rattle.chain_spec.specs.Stages.{with_all}
-use Rattle.chain.specs.Parcels.{IsShort}
-use Rattle.filter_aggregate.specs.Account.{all_kept}
-use Rattle.filter_aggregate.specs.Slots.{slot_by}
-use Rattle.event_chain.specs.Behind.{IsBehind}
+use Rattle.event_chain.proofs.Names.{◌≡◌, ℕ, length, map, refl, sym, ap, ◌∙◌, arith, subst, range_with_len, drop_all, length-map, common_steps, EventIndex, closes, with_all, IsShort, all_kept, slot_by, IsBehind}
 use Rattle.event_chain.proofs.ClosingLemmas.{closed_more, closed_skip, reached_all, reached_next}
 use Rattle.event_chain.proofs.Going.{drop_one, stays_none, stays_more}
 use Rattle.event_chain.proofs.HandsLemmas.{hands_nothing, hands_then, hands_all, hands_length}

@@ -1,7 +1,4 @@
-use Rattle.std.proofs.Common.{◌≡◌, [], length, map, drop, vec_capacity}
-use Rattle.chain.specs.Parcels.{HandsBack}
-use Rattle.filter_aggregate.specs.Account.{all_kept}
-use Rattle.event_chain.specs.Ready.{Stays, aggregating_in, is_aggregated}
+use Rattle.event_chain.proofs.Names.{◌≡◌, [], length, map, drop, vec_capacity, HandsBack, all_kept, Stays, aggregating_in, is_aggregated}
 use Rattle.event_chain.proofs.ClosingLemmas.{ClosedTo, Reached}
 use Rattle.event_chain.proofs.filters.Filters.close_all.Given as goal
 

@@ -1,9 +1,5 @@
-use Rattle.std.proofs.Common.{◌∷◌, Option, sym, ap, subst, ◌∙◌}
-use Rattle.ids_types.specs.Carries.{act_by}
+use Rattle.event_chain.proofs.Names.{◌∷◌, Option, sym, ap, subst, ◌∙◌, act_by, item_at, told_by, Moment, act_moment, comes, IsBehind}
 use Rattle.ids_types.specs.declared.entry.Act.{Act}
-use Rattle.chain_spec.specs.Items.{item_at, told_by}
-use Rattle.chain_spec.specs.Moments.{Moment, act_moment, comes}
-use Rattle.event_chain.specs.Behind.{IsBehind}
 use Rattle.event_chain.proofs.CallLemmas.{report_moment}
 use Rattle.event_chain.proofs.filters.Filters.enter.Goals as goal
 

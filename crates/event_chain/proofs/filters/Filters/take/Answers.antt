@@ -1,11 +1,4 @@
-use Rattle.std.proofs.Common.{Some, None, option_map, option_to_list, refl, sym, ap, subst, ◌∙◌}
-use Rattle.ids_types.specs.declared.event.Qualified.{Qualified}
-use Rattle.chain_spec.specs.Calls.{arrives}
-use Rattle.chain_spec.specs.Filtering.{arrival, qualified}
-use Rattle.chain_spec.specs.Items.{Item, item_at, told_by}
-use Rattle.chain.specs.Parcels.{HandsBack}
-use Rattle.filter_aggregate.specs.Account.{all_kept}
-use Rattle.filter_gate.specs.Stands.{with_context}
+use Rattle.event_chain.proofs.Names.{Some, None, option_map, option_to_list, refl, sym, ap, subst, ◌∙◌, Qualified, arrives, arrival, qualified, Item, item_at, told_by, HandsBack, all_kept, with_context}
 use Rattle.event_chain.proofs.CallLemmas.{behind_call, behind_item, item_kept}
 use Rattle.event_chain.proofs.HandsLemmas.{hands_kept}
 use Rattle.event_chain.proofs.filters.Filters.take.Goals as goal

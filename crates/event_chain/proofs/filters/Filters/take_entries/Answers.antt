@@ -1,13 +1,4 @@
-use Rattle.std.proofs.Common.{◌≡◌, ◌+◌, ◌-◌, suc, List, [], ◌∷◌, ◌++◌, length, reverse, option_to_list, sym, ap, subst, ◌∙◌, append_assoc, length-append, arith, rules}
-use Rattle.std.specs.List.{All}
-use Rattle.std.proofs.lemmas.List.Elements.{All-from_recursion, recursion_from_All}
-use Rattle.std.proofs.lemmas.Grind.{common_steps}
-use Rattle.ids_types.specs.declared.entry.Entry.{Entry}
-use Rattle.chain_spec.specs.Stages.{with_all}
-use Rattle.chain.specs.Parcels.{HandsBack, all_parcels, parcel_of}
-use Rattle.chain.specs.Turning.{FitsAct}
-use Rattle.filter_aggregate.specs.Account.{all_kept}
-use Rattle.event_chain.specs.Ready.{Stays}
+use Rattle.event_chain.proofs.Names.{◌≡◌, ◌+◌, ◌-◌, suc, List, [], ◌∷◌, ◌++◌, length, reverse, option_to_list, sym, ap, subst, ◌∙◌, append_assoc, length-append, arith, rules, All, All-from_recursion, recursion_from_All, common_steps, Entry, with_all, HandsBack, all_parcels, parcel_of, FitsAct, all_kept, Stays}
 use Rattle.event_chain.proofs.Going.{Reaches, reaches_next, reaches_all, ready_next, stays_more, entry_moments, popped}
 use Rattle.event_chain.proofs.HandsLemmas.{hands_next, hands_length}
 use Rattle.event_chain.proofs.SoundLemmas.{parcels_cons}

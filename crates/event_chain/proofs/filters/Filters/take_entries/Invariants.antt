@@ -1,14 +1,4 @@
-use Rattle.std.proofs.Common.{◌≡◌, ◌-◌, ◌≤◌, ◌++◌, List, length, reverse, vec_len, vec_capacity}
-use Rattle.std.specs.List.{All}
-use Rattle.ids_config.specs.Parts.{Parts}
-use Rattle.chain_spec.specs.Moments.{Moment}
-use Rattle.chain_spec.specs.Stages.{with_all}
-use Rattle.chain.specs.Parcels.{HandsBack, all_parcels}
-use Rattle.chain.specs.Turning.{FitsAct}
-use Rattle.filter_aggregate.specs.Account.{all_kept}
-use Rattle.sending.specs.Sending.{Start}
-use Rattle.event_chain.specs.Behind.{IsBehind}
-use Rattle.event_chain.specs.Ready.{Stays}
+use Rattle.event_chain.proofs.Names.{◌≡◌, ◌-◌, ◌≤◌, ◌++◌, List, length, reverse, vec_len, vec_capacity, All, Parts, Moment, with_all, HandsBack, all_parcels, FitsAct, all_kept, Start, IsBehind, Stays}
 use Rattle.event_chain.proofs.Going.{Reaches, entry_moments}
 use Rattle.event_chain.proofs.filters.Filters.take_entries.Given as goal
 

@@ -1,8 +1,4 @@
-use Rattle.std.proofs.Common.{◌≤◌, List, length, sym, ap, subst, ◌∙◌, arith}
-use Rattle.std.proofs.lemmas.List.{drop_all}
-use Rattle.std.proofs.lemmas.Grind.{common_steps}
-use Rattle.chain_spec.specs.Stages.{with_all}
-use Rattle.internal_events.specs.declared.head_list.Head.{Head}
+use Rattle.event_chain.proofs.Names.{◌≤◌, List, length, sym, ap, subst, ◌∙◌, arith, drop_all, common_steps, with_all, Head}
 use Rattle.event_chain.proofs.Going.{Reaches, reaches_next, reaches_all, stays_more, head_moments, dropped_one}
 use Rattle.event_chain.proofs.HandsLemmas.{hands_then, hands_length}
 use Rattle.event_chain.proofs.filters.Filters.take_heads.Goals as goal

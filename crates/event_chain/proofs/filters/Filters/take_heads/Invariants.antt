@@ -1,13 +1,4 @@
-use Rattle.std.proofs.Common.{◌≡◌, List, [], map, drop, vec_capacity}
-use Rattle.ids_config.specs.Parts.{Parts}
-use Rattle.chain_spec.specs.Moments.{Moment, head_moment}
-use Rattle.chain_spec.specs.Stages.{with_all}
-use Rattle.chain.specs.Parcels.{HandsBack}
-use Rattle.filter_aggregate.specs.Account.{all_kept}
-use Rattle.internal_events.specs.HeadView.{head_told}
-use Rattle.sending.specs.Sending.{Start}
-use Rattle.event_chain.specs.Behind.{IsBehind}
-use Rattle.event_chain.specs.Ready.{Stays}
+use Rattle.event_chain.proofs.Names.{◌≡◌, List, [], map, drop, vec_capacity, Parts, Moment, head_moment, with_all, HandsBack, all_kept, head_told, Start, IsBehind, Stays}
 use Rattle.event_chain.proofs.Going.{Reaches}
 use Rattle.event_chain.proofs.filters.Filters.take_heads.Given as goal
 

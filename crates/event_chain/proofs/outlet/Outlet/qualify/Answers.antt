@@ -1,4 +1,4 @@
-use Rattle.std.proofs.Common.{rules}
+use Rattle.event_chain.proofs.Names.{rules}
 use Rattle.event_chain.proofs.outlet.Outlet.qualify.Goals as goal
 
 pub returns-clause-stands : goal.returns-clause-stands

@@ -1,5 +1,4 @@
-use Rattle.std.proofs.Common.{◌≤◌, subst, arith}
-use Rattle.filter_aggregate.specs.Slots.{HaveIntervals}
+use Rattle.filter_aggregate.proofs.Names.{◌≤◌, subst, arith, HaveIntervals}
 use Rattle.filter_aggregate.proofs.StandsLemmas.{stands_arriving}
 use Rattle.filter_aggregate.proofs.windows.Windows.arrive.Goals as goal
 

@@ -1,4 +1,4 @@
-use Rattle.std.proofs.Common.{◌<◌, length, ap, arith}
+use Rattle.filter_aggregate.proofs.Names.{◌<◌, length, ap, arith}
 use Rattle.filter_aggregate.proofs.SlotLemmas.{setting_closed, intervals_set}
 use Rattle.filter_aggregate.proofs.windows.Windows.close_slot.Goals as goal
 

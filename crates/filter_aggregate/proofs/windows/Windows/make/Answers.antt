@@ -1,7 +1,4 @@
-use Rattle.std.proofs.Common.{◌≡◌, List, [], map, sym, subst, rules}
-use Rattle.filter_aggregate.specs.declared.slot.Slot.{Slot}
-use Rattle.filter_aggregate.specs.Slots.{HaveIntervals, fresh_slot, slots_by}
-use Rattle.filter_aggregate.specs.Standing.{Stands}
+use Rattle.filter_aggregate.proofs.Names.{◌≡◌, List, [], map, sym, subst, rules, Slot, HaveIntervals, fresh_slot, slots_by, Stands}
 use Rattle.filter_aggregate.proofs.SlotLemmas.{intervals_fresh}
 use Rattle.filter_aggregate.proofs.StandsLemmas.{stands_fresh}
 use Rattle.filter_aggregate.proofs.windows.Windows.make.Goals as goal

@@ -1,4 +1,4 @@
-use Rattle.std.proofs.Common.{sym, ◌∙◌}
+use Rattle.ids_frame.proofs.Names.{sym, ◌∙◌}
 use Rattle.ids_frame.proofs.MessagesLemmas.{fewer_bytes, read_all}
 use Rattle.ids_frame.proofs.messages.Messages.read.Goals as goal
 

@@ -1,4 +1,4 @@
-use Rattle.std.proofs.Common.{length}
+use Rattle.ids_frame.proofs.Names.{length}
 use Rattle.ids_frame.proofs.MessagesLemmas.{IsLeft}
 use Rattle.ids_frame.proofs.messages.Messages.read.Given as goal
 

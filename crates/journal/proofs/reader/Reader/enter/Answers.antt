@@ -1,7 +1,4 @@
-use Rattle.std.proofs.Common.{◌≡◌, ◌<◌, rules, arith}
-use Rattle.std.specs.Prelude.{Ok}
-use Rattle.text_spec.specs.JournalFaults.{entry_fault}
-use Rattle.text_spec.proofs.JournalFacts.{entry_passes}
+use Rattle.journal.proofs.Names.{◌≡◌, ◌<◌, rules, arith, Ok, entry_fault, entry_passes}
 use Rattle.journal.specs.RawLines.{entry_told}
 use Rattle.journal.specs.ReaderView.{past_of}
 use Rattle.journal.proofs.reader.Reader.enter.Goals as goal

@@ -1,5 +1,4 @@
-use Rattle.std.proofs.Common.{map}
-use Rattle.report_api.specs.Passes.{pass_view}
+use Rattle.main_function.proofs.Names.{map, pass_view}
 use Rattle.main_function.proofs.ClosingLemmas.{closed_by, mine_back}
 use Rattle.main_function.proofs.manager.Manager.finish.Goals as goal
 

@@ -1,5 +1,4 @@
-use Rattle.std.proofs.Common.{◌≤◌, subst}
-use Rattle.std.proofs.lemmas.List.{length-map}
+use Rattle.main_function.proofs.Names.{◌≤◌, subst, length-map}
 use Rattle.main_function.proofs.PassesLemmas.{few_calls, few_kept, few_passes}
 use Rattle.main_function.proofs.manager.Manager.rest.Goals as goal
 

@@ -1,10 +1,4 @@
-use Rattle.std.proofs.Common.{rules, ◌≤◌, refl, ◌∙◌, length, ap, sym, subst, arith}
-use Rattle.std.proofs.lemmas.Grind.{common_steps}
-use Rattle.ids_types.specs.declared.entry.TurnHead.{TurnHead}
-use Rattle.chain.specs.Turning.{turn_by}
-use Rattle.report_queue.specs.{most_tries, TakerView}
-use Rattle.report_api.specs.{desk_view, Act}
-use Rattle.main_function.specs.{MakesTurn, held, Took}
+use Rattle.main_function.proofs.Names.{rules, ◌≤◌, refl, ◌∙◌, length, ap, sym, subst, arith, common_steps, TurnHead, turn_by, most_tries, TakerView, desk_view, Act, MakesTurn, held, Took}
 use Rattle.main_function.proofs.ClosingLemmas.{same_back, still_swept, still_taken}
 use Rattle.main_function.proofs.ReportLemmas.{makes_turn, offered_more, totals_more}
 use Rattle.main_function.proofs.StepLemmas.{can_take, come_back, few_bytes, has_room, kept_short}

@@ -1,7 +1,4 @@
-use Rattle.std.proofs.Common.{◌≡◌, ◌≢◌, ℕ, ◌+◌, [], ◌∷◌, ◌∙◌, arith, ap, add_assoc, add-zero, refl, subst}
-use Rattle.std.proofs.lemmas.List.{append_assoc}
-use Rattle.ring_core.specs.Words.{field_of}
-use Rattle.permit_ring.specs.{KeeperMemo, PermitWord, TriesTell, misses, keeper_memo}
+use Rattle.permit_ring.proofs.Names.{◌≡◌, ◌≢◌, ℕ, ◌+◌, [], ◌∷◌, ◌∙◌, arith, ap, add_assoc, add-zero, refl, subst, append_assoc, field_of, KeeperMemo, PermitWord, TriesTell, misses, keeper_memo}
 use Rattle.permit_ring.proofs.keeper.Keeper.free_filled.Goals as goal
 
 -- tries after one that found another word

@@ -1,6 +1,4 @@
-use Rattle.std.proofs.Common.{◌≡◌, ℕ, ◌+◌, ◌≤◌}
-use Rattle.ring_core.specs.Words.{field_of}
-use Rattle.permit_ring.specs.{KeeperMemo, TriesTell, IsKeeperOf, keeper_memo}
+use Rattle.permit_ring.proofs.Names.{◌≡◌, ℕ, ◌+◌, ◌≤◌, field_of, KeeperMemo, TriesTell, IsKeeperOf, keeper_memo}
 use Rattle.permit_ring.proofs.keeper.Keeper.free_filled.Given as goal
 
 -- what further tries tell goes on from what those so far told

@@ -1,4 +1,4 @@
-use Rattle.std.proofs.Common.{rules}
+use Rattle.permit_ring.proofs.Names.{rules}
 use Rattle.permit_ring.proofs.KeeperSteps.{read_ready}
 use Rattle.permit_ring.proofs.keeper.Keeper.look.Goals as goal
 

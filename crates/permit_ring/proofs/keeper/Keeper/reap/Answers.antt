@@ -1,7 +1,5 @@
-use Rattle.std.proofs.Common.{◌≡◌, arith, ℕ, ◌+◌, ◌%◌, sym, ap, ap₂, ◌∙◌}
-use Rattle.std.proofs.lemmas.List.{length_push}
+use Rattle.permit_ring.proofs.Names.{◌≡◌, arith, ℕ, ◌+◌, ◌%◌, sym, ap, ap₂, ◌∙◌, length_push, Finished, keeper_memo}
 use native.Mathlib.Nat.{add-mod_right, mod-add-mod}
-use Rattle.permit_ring.specs.{Finished, keeper_memo}
 use Rattle.permit_ring.proofs.{hand_reaped, in_front}
 use Rattle.permit_ring.proofs.keeper.Keeper.reap.Goals as goal
 

@@ -1,4 +1,4 @@
-use Rattle.std.proofs.Common.{arith, rules}
+use Rattle.permit_ring.proofs.Names.{arith, rules}
 use Rattle.permit_ring.proofs.{hand_offered, ready_is, offer_ready}
 use Rattle.permit_ring.proofs.keeper.Keeper.try_offer.Goals as goal
 

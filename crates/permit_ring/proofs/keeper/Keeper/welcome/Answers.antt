@@ -1,7 +1,4 @@
-use Rattle.std.proofs.Common.{◌≡◌, true, arith, rules}
-use Rattle.std.proofs.lemmas.Grind.{common_steps}
-use Rattle.ring_core.specs.Machine.{is_idle}
-use Rattle.permit_ring.specs.Seats.{seat_memo}
+use Rattle.permit_ring.proofs.Names.{◌≡◌, true, arith, rules, common_steps, is_idle, seat_memo}
 use Rattle.permit_ring.proofs.Lives.{joins_allowed}
 use Rattle.permit_ring.proofs.keeper.Keeper.welcome.Goals as goal
 

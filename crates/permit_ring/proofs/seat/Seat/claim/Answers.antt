@@ -1,5 +1,4 @@
-use Rattle.std.proofs.Common.{rules, sym, ◌∙◌, arith}
-use Rattle.std.proofs.lemmas.Grind.{common_steps}
+use Rattle.permit_ring.proofs.Names.{rules, sym, ◌∙◌, arith, common_steps}
 use Rattle.permit_ring.proofs.SeatSteps.{look_ready, claim_ready}
 use Rattle.permit_ring.proofs.seat.Seat.claim.Goals as goal
 

@@ -1,4 +1,4 @@
-use Rattle.std.proofs.Common.{rules}
+use Rattle.permit_ring.proofs.Names.{rules}
 use Rattle.permit_ring.proofs.SeatSteps.{mark_ready}
 use Rattle.permit_ring.proofs.seat.Seat.mark.Goals as goal
 

@@ -1,6 +1,4 @@
-use Rattle.std.proofs.Common.{◌≡◌, ap, eq-zero-or-pos, inl, inr}
-use Rattle.report_queue.specs.{taker_view, TakerView}
-use Rattle.report_api.specs.{desk_view, to_give_back, Act}
+use Rattle.report_api.proofs.Names.{◌≡◌, ap, eq-zero-or-pos, inl, inr, taker_view, TakerView, desk_view, to_give_back, Act}
 use Rattle.report_api.proofs.TiedLemmas.{settles, tied_given}
 use Rattle.report_api.proofs.desk.Desk.give_back.Goals as goal
 

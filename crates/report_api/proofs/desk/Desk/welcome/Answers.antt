@@ -1,6 +1,5 @@
-use Rattle.std.proofs.Common.{ap}
+use Rattle.report_api.proofs.Names.{ap, Act}
 use Rattle.report_queue.specs.Views.{TakerView}
-use Rattle.report_api.specs.Names.{Act}
 use Rattle.report_api.proofs.WelcomeLemmas.{tied_welcome}
 use Rattle.report_api.proofs.desk.Desk.welcome.Goals as goal
 

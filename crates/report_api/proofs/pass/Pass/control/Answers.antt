@@ -1,8 +1,4 @@
-use Rattle.std.proofs.Common.{[], length, Ok, refl, ap, subst, ◌∙◌, arith}
-use Rattle.ids_types.specs.declared.names.Ticket.{Ticket}
-use Rattle.report_queue.specs.{puts, caller_memo, item_of, queue_seats, ticket_of}
-use Rattle.report_api.specs.{StepsTell, Lost, sizes_of}
-use Rattle.report_api.specs.declared.pass.Pass.{Pass}
+use Rattle.report_api.proofs.Names.{[], length, Ok, refl, ap, subst, ◌∙◌, arith, Ticket, puts, caller_memo, item_of, queue_seats, ticket_of, StepsTell, Lost, sizes_of, Pass}
 use Rattle.report_api.proofs.{control_asks, control_misses, pass_after, same_logs, same_ticket}
 use Rattle.report_api.proofs.pass.Pass.control.Goals as goal
 

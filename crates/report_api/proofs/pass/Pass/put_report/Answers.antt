@@ -1,5 +1,4 @@
-use Rattle.std.proofs.Common.{[], refl, arith}
-use Rattle.report_api.specs.declared.pass.Pass.{Pass}
+use Rattle.report_api.proofs.Names.{[], refl, arith, Pass}
 use Rattle.report_api.proofs.PassLemmas.{pass_after, same_logs}
 use Rattle.report_api.proofs.pass.Pass.put_report.Goals as goal
 

@@ -1,8 +1,5 @@
-use Rattle.std.proofs.Common.{◌∙◌, length, refl, ap, arith}
+use Rattle.report_api.proofs.Names.{◌∙◌, length, refl, ap, arith, marks_context, CallerView, Act, sizes_of, Pass}
 use Rattle.buffer_classes.specs.Classes.{first_fitting}
-use Rattle.report_queue.specs.{marks_context, CallerView}
-use Rattle.report_api.specs.{Act, sizes_of}
-use Rattle.report_api.specs.declared.pass.Pass.{Pass}
 use Rattle.report_api.proofs.{kept_asks, missing_asks, contexts_within, pass_after}
 use Rattle.report_api.proofs.pass.Pass.put_with_context.Goals as goal
 

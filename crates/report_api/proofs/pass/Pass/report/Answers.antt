@@ -1,7 +1,4 @@
-use Rattle.std.proofs.Common.{[], refl, ap, ◌∙◌, arith}
-use Rattle.report_queue.specs.{marks_event, caller_memo, queue_seats, ticket_of}
-use Rattle.report_api.specs.Names.{Lost}
-use Rattle.report_api.specs.declared.pass.Pass.{Pass}
+use Rattle.report_api.proofs.Names.{[], refl, ap, ◌∙◌, arith, marks_event, caller_memo, queue_seats, ticket_of, Lost, Pass}
 use Rattle.report_api.proofs.{pass_after, same_logs, put_steps}
 use Rattle.report_api.proofs.pass.Pass.report.Goals as goal
 

@@ -1,5 +1,4 @@
-use Rattle.std.proofs.Common.{rules}
-use Rattle.ring_core.specs.Names.{Claim}
+use Rattle.ring_core.proofs.Names.{rules, Claim}
 use Rattle.ring_core.proofs.Runs.{step_sound}
 use Rattle.ring_core.proofs.state.RingState.claim.Goals as goal
 

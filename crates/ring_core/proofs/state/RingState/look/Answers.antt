@@ -1,5 +1,4 @@
-use Rattle.std.proofs.Common.{rules}
-use Rattle.ring_core.specs.Names.{Look}
+use Rattle.ring_core.proofs.Names.{rules, Look}
 use Rattle.ring_core.proofs.Runs.{step_sound}
 use Rattle.ring_core.proofs.state.RingState.look.Goals as goal
 

@@ -1,5 +1,4 @@
-use Rattle.std.proofs.Common.{arith, rules}
-use Rattle.ring_core.specs.Names.{Split}
+use Rattle.ring_core.proofs.Names.{arith, rules, Split}
 use Rattle.ring_core.proofs.Runs.{step_sound}
 use Rattle.ring_core.proofs.state.RingState.split.Goals as goal
 

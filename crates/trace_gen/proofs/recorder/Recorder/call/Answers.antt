@@ -1,16 +1,5 @@
-use Rattle.std.proofs.Common.{◌≡◌, ◌≤◌, ◌<◌, ℕ, List, [], ◌∷◌, ◌++◌, length, map, reverse, sym, subst, ap, ap₂, ◌∙◌, rules, arith, length-append}
-use Rattle.std.proofs.lemmas.Grind.{common_steps}
-use Rattle.std.proofs.lemmas.List.{map-append}
-use Rattle.std.proofs.lemmas.List.Elements.{All-push}
-use Rattle.ids_types.specs.Plain.{plain_entry}
-use Rattle.merge_spec.specs.Names.{Entry}
-use Rattle.ids_types.specs.declared.parcel.Plain.{Plain}
-use Rattle.chain.specs.Turning.{FitsAct, FitsTurn}
+use Rattle.trace_gen.proofs.Names.{◌≡◌, ◌≤◌, ◌<◌, ℕ, List, [], ◌∷◌, ◌++◌, length, map, reverse, sym, subst, ap, ap₂, ◌∙◌, rules, arith, length-append, common_steps, map-append, All-push, plain_entry, Entry, Plain, FitsAct, FitsTurn, line_asked, AreCounts, Call, calls_of, entries_of, entry_of, act_of, held}
 use Rattle.chain_plain.proofs.TurningLemmas.{fits_act}
-use Rattle.trace_text.specs.Lines.{line_asked}
-use Rattle.trace_gen.specs.Counted.{AreCounts}
-use Rattle.trace_gen.specs.Quiet.{Call, calls_of, entries_of, entry_of, act_of}
-use Rattle.trace_gen.specs.Recording.{held}
 use Rattle.trace_gen.proofs.RecordingLemmas.{ask_fits, entries_more, reversed_more}
 use Rattle.trace_gen.proofs.recorder.Recorder.call.Goals as goal
 

@@ -1,10 +1,4 @@
-use Rattle.std.proofs.Common.{◌≡◌, reverse, ap, sym, subst, ◌∙◌}
-use Rattle.std.proofs.lemmas.Result.{IfOk-weaker}
-use Rattle.std.proofs.lemmas.List.{length-reverse}
-use Rattle.std.specs.Prelude.{length}
-use Rattle.event_chain.specs.Standing.{Stands}
-use Rattle.trace_gen.specs.Generated.{digest_of}
-use Rattle.trace_gen.specs.Recording.{held}
+use Rattle.trace_gen.proofs.Names.{◌≡◌, reverse, ap, sym, subst, ◌∙◌, IfOk-weaker, length-reverse, length, Stands, digest_of, held}
 use Rattle.trace_gen.proofs.GenerateLemmas.{same_line}
 use Rattle.trace_gen.proofs.recorder.Recorder.line.Goals as goal
 

@@ -1,11 +1,4 @@
-use Rattle.std.proofs.Common.{◌≡◌, ◌<◌, ◌≤◌, ◌∷◌, [], length, take, reverse, subst, sym, ap, ◌∙◌, arith}
-use Rattle.std.specs.List.{flat_map}
-use Rattle.std.proofs.lemmas.Result.{on_ok_weaker}
-use Rattle.merge_spec.specs.Orders.{KeepUpFrom}
-use Rattle.merge_spec.specs.Rounds.{last_tick as last_of, round_ticks}
-use Rattle.trace_text.specs.TraceView.{round_at}
-use Rattle.trace_gen.specs.Quiet.{idle, plans_in}
-use Rattle.trace_gen.specs.Recording.{IsAt}
+use Rattle.trace_gen.proofs.Names.{◌≡◌, ◌<◌, ◌≤◌, ◌∷◌, [], length, take, reverse, subst, sym, ap, ◌∙◌, arith, flat_map, on_ok_weaker, KeepUpFrom, last_of, round_ticks, round_at, idle, plans_in, IsAt}
 use Rattle.trace_gen.proofs.RecordingLemmas.{last_more, next_keeps, plans_end, plans_more}
 use Rattle.trace_gen.proofs.recorder.Recorder.take_all.Goals as goal
 

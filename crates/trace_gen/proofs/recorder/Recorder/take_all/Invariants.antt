@@ -1,10 +1,5 @@
-use Rattle.std.proofs.Common.{◌≡◌, [], ◌∷◌, ◌++◌, List, reverse, take, drop}
+use Rattle.trace_gen.proofs.Names.{◌≡◌, [], ◌∷◌, ◌++◌, List, reverse, take, drop, KeepUpFrom, last_of, round_ticks, flat_map, plans_in, IsAt}
 use Rattle.chain.specs.History.{last_tick}
-use Rattle.merge_spec.specs.Orders.{KeepUpFrom}
-use Rattle.merge_spec.specs.Rounds.{last_tick as last_of, round_ticks}
-use Rattle.std.specs.List.{flat_map}
-use Rattle.trace_gen.specs.Quiet.{plans_in}
-use Rattle.trace_gen.specs.Recording.{IsAt}
 use Rattle.trace_gen.proofs.recorder.Recorder.take_all.Given as goal
 
 -- the first rounds were taken

@@ -1,9 +1,4 @@
-use Rattle.std.proofs.Common.{◌≡◌, ◌<◌, ◌≤◌, ◌+◌, ◌++◌, ◌∷◌, [], List, length, map, take, subst, sym, ap, ◌∙◌, arith}
-use Rattle.merge_spec.specs.Rounds.{lines_at}
-use Rattle.trace_text.specs.TraceView.{round_at}
-use Rattle.trace_text.specs.Lines.{line_asked, line_at}
-use Rattle.trace_gen.specs.Quiet.{Call, call_by}
-use Rattle.trace_gen.specs.Recording.{IsAt}
+use Rattle.trace_gen.proofs.Names.{◌≡◌, ◌<◌, ◌≤◌, ◌+◌, ◌++◌, ◌∷◌, [], List, length, map, take, subst, sym, ap, ◌∙◌, arith, lines_at, round_at, line_asked, line_at, Call, call_by, IsAt}
 use Rattle.trace_gen.proofs.RecordingLemmas.{calls_count, calls_more, items_are}
 use Rattle.trace_gen.proofs.recorder.Recorder.take_lines.Goals as goal
 

@@ -1,8 +1,4 @@
-use Rattle.std.proofs.Common.{◌≡◌, ◌+◌, ◌++◌, List, length, map, take}
-use Rattle.merge_spec.specs.Rounds.{lines_at}
-use Rattle.trace_text.specs.TraceView.{round_at}
-use Rattle.trace_gen.specs.Quiet.{Call, Plan, call_by}
-use Rattle.trace_gen.specs.Recording.{IsAt}
+use Rattle.trace_gen.proofs.Names.{◌≡◌, ◌+◌, ◌++◌, List, length, map, take, lines_at, round_at, Call, Plan, call_by, IsAt}
 use Rattle.trace_gen.proofs.recorder.Recorder.take_lines.Given as goal
 
 -- the first lines became calls

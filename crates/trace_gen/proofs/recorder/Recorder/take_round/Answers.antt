@@ -1,12 +1,5 @@
-use Rattle.std.proofs.Common.{◌≡◌, ◌<◌, ◌≤◌, ◌+◌, ◌++◌, ◌∷◌, [], ℕ, List, length, map, take, drop, get_or, reverse, subst, sym, ap, ◌∙◌, arith, length-append}
-use Rattle.std.proofs.lemmas.Result.{on_ok_weaker}
-use Rattle.std.proofs.lemmas.List.{length-map}
+use Rattle.trace_gen.proofs.Names.{◌≡◌, ◌<◌, ◌≤◌, ◌+◌, ◌++◌, ◌∷◌, [], ℕ, List, length, map, take, drop, get_or, reverse, subst, sym, ap, ◌∙◌, arith, length-append, on_ok_weaker, length-map, KeepUpFrom, lines_at, round_at, Plan, call_by, calls_from, idle, IsAt}
 use Rattle.chain.specs.History.{last_tick}
-use Rattle.merge_spec.specs.Orders.{KeepUpFrom}
-use Rattle.merge_spec.specs.Rounds.{lines_at}
-use Rattle.trace_text.specs.TraceView.{round_at}
-use Rattle.trace_gen.specs.Quiet.{Plan, call_by, calls_from, idle}
-use Rattle.trace_gen.specs.Recording.{IsAt}
 use Rattle.trace_gen.proofs.RecordingLemmas.{callers_more, calls_few, idle_more, items_are, keep_next, plans_all}
 use Rattle.trace_gen.proofs.recorder.Recorder.take_round.Goals as goal
 

@@ -1,9 +1,5 @@
-use Rattle.std.proofs.Common.{◌≡◌, ◌+◌, ◌++◌, ◌∷◌, [], List, length, map, reverse, take, drop}
+use Rattle.trace_gen.proofs.Names.{◌≡◌, ◌+◌, ◌++◌, ◌∷◌, [], List, length, map, reverse, take, drop, KeepUpFrom, round_at, Plan, calls_from, idle, IsAt}
 use Rattle.chain.specs.History.{last_tick}
-use Rattle.merge_spec.specs.Orders.{KeepUpFrom}
-use Rattle.trace_text.specs.TraceView.{round_at}
-use Rattle.trace_gen.specs.Quiet.{Plan, calls_from, idle}
-use Rattle.trace_gen.specs.Recording.{IsAt}
 use Rattle.trace_gen.proofs.recorder.Recorder.take_round.Given as goal
 
 -- the first turns beside the calls were made

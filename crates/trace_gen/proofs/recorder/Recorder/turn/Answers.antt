@@ -1,19 +1,7 @@
-use Rattle.std.proofs.Common.{◌≡◌, ◌≤◌, ◌<◌, ℕ, List, [], ◌∷◌, ◌++◌, length, map, reverse, sym, subst, ap, ap₂, ◌∙◌, rules, arith}
-use Rattle.std.proofs.lemmas.Grind.{common_steps}
-use Rattle.std.proofs.lemmas.Result.{on_ok_weaker}
-use Rattle.std.proofs.lemmas.List.{reverse-append}
+use Rattle.trace_gen.proofs.Names.{◌≡◌, ◌≤◌, ◌<◌, ℕ, List, [], ◌∷◌, ◌++◌, length, map, reverse, sym, subst, ap, ap₂, ◌∙◌, rules, arith, common_steps, on_ok_weaker, reverse-append, plain_entry, handed_on, Plain, Entry, FitsAct, FitsTurn, turn_by, All-nil, Stands, calls_of, turns_of, turn_of, held}
 use Rattle.ids_types.specs.declared.entry.TurnHead.{TurnHead}
-use Rattle.ids_types.specs.Plain.{plain_entry}
-use Rattle.chain_spec.specs.Chain.{handed_on}
-use Rattle.ids_types.specs.declared.parcel.Plain.{Plain}
-use Rattle.merge_spec.specs.Names.{Entry}
-use Rattle.chain.specs.Turning.{FitsAct, FitsTurn, turn_by}
-use Rattle.std.proofs.lemmas.List.Elements.{All-nil}
 use Rattle.chain_plain.specs.Telling.{HasDeskRoom, Tells, told_of}
 use Rattle.chain_plain.proofs.TellingLemmas.{tells_more, told_few}
-use Rattle.event_chain.specs.Standing.{Stands}
-use Rattle.trace_gen.specs.Quiet.{calls_of, turns_of, turn_of}
-use Rattle.trace_gen.specs.Recording.{held}
 use Rattle.trace_gen.proofs.RecordingLemmas.{turn_is}
 use Rattle.trace_gen.proofs.recorder.Recorder.turn.Goals as goal
 

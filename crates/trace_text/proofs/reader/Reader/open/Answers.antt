@@ -1,11 +1,4 @@
-use Rattle.std.proofs.Common.{◌≡◌, ◌∷◌, ◌++◌, [], true, List, ℕ, arith, rules, sym, subst}
-use Rattle.std.specs.Prelude.{Ok}
-use Rattle.std.specs.List.{AllByRecursion, list_all}
-use Rattle.merge_spec.specs.Orders.{KeepUpFrom}
-use Rattle.merge_spec.specs.Rounds.{last_tick}
-use Rattle.text_spec.specs.JournalFaults.{is_tick}
-use Rattle.text_spec.specs.TraceFaults.{keep_up, last_from, opening_fault}
-use Rattle.text_spec.proofs.TraceFacts.{IsSmall, opening_keeps_up, opening_small}
+use Rattle.trace_text.proofs.Names.{◌≡◌, ◌∷◌, ◌++◌, [], true, List, ℕ, arith, rules, sym, subst, Ok, AllByRecursion, list_all, KeepUpFrom, last_tick, is_tick, keep_up, last_from, opening_fault, IsSmall, opening_keeps_up, opening_small}
 use Rattle.trace_text.proofs.reader.Reader.open.Goals as goal
 
 -- the ticks were read and checked

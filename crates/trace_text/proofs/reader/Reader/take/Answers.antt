@@ -1,13 +1,5 @@
-use Rattle.std.proofs.Common.{◌≡◌, ◌∷◌, true, false, ℕ, rules, sym, subst}
-use Rattle.std.specs.Prelude.{Result, Some, bytes_eq, codes}
+use Rattle.trace_text.proofs.Names.{◌≡◌, ◌∷◌, true, false, ℕ, rules, sym, subst, Result, Some, bytes_eq, codes, told_in_one, trace_forms, Took, first_of, PastRounds, closes, words_of}
 use Rattle.std.proofs.lemmas.Slice.Eq.{bytes_eq-Decides}
-use Rattle.text_spec.specs.Fields.{told_in_one}
-use Rattle.text_spec.specs.TraceForm.{trace_forms}
-use Rattle.text_spec.specs.LineAnswers.{Took}
-use Rattle.text_spec.specs.Maybe.{first_of}
-use Rattle.text_spec.specs.TraceFaults.{PastRounds}
-use Rattle.text_spec.specs.TraceText.{closes}
-use Rattle.text_spec.specs.Words.{words_of}
 use Rattle.trace_text.specs.ReaderView.{past_of}
 use Rattle.trace_text.proofs.ReaderLemmas.{front_words, opening_told, other_told}
 use Rattle.trace_text.proofs.reader.Reader.take.Goals as goal

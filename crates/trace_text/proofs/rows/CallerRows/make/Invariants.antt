@@ -1,6 +1,4 @@
-use Rattle.std.proofs.Common.{◌≡◌, []}
-use Rattle.std.specs.Prelude.{replicate}
-use Rattle.trace_text.specs.Lines.{callers_asked}
+use Rattle.trace_text.proofs.Names.{◌≡◌, [], replicate, callers_asked}
 use Rattle.trace_text.proofs.rows.CallerRows.make.Given as goal
 
 -- the first callers have no lines

@@ -1,7 +1,4 @@
-use Rattle.std.proofs.Common.{◌<◌, ◌++◌, ◌∷◌, [], length, set, get_or, rules, sym, subst, ap, ◌∙◌}
-use Rattle.std.specs.Prelude.{List}
-use Rattle.text_spec.specs.TraceText.{Asked}
-use Rattle.trace_text.specs.Lines.{row_asked}
+use Rattle.trace_text.proofs.Names.{◌<◌, ◌++◌, ◌∷◌, [], length, set, get_or, rules, sym, subst, ap, ◌∙◌, List, Asked, row_asked}
 use Rattle.trace_text.proofs.RowsLemmas.{row_added, row_refused}
 use Rattle.trace_text.proofs.rows.CallerRows.push.Goals as goal
 

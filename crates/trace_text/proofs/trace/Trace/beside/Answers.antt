@@ -1,8 +1,4 @@
-use Rattle.std.proofs.Common.{◌≡◌, ◌+◌, [], length, ap, arith, rules, ◌∙◌}
-use Rattle.text_spec.specs.TraceFaults.{begun_round}
-use Rattle.text_spec.specs.TraceText.{Round}
-use Rattle.trace_text.specs.TraceView.{end_at, laid_of}
-use Rattle.trace_text.specs.declared.trace.RoundEnd.{RoundEnd}
+use Rattle.trace_text.proofs.Names.{◌≡◌, ◌+◌, [], length, ap, arith, rules, ◌∙◌, begun_round, Round, end_at, laid_of, RoundEnd}
 use Rattle.trace_text.proofs.LaidLemmas.{lie_of, round_is, ticks_rise}
 use Rattle.trace_text.proofs.trace.Trace.beside.Goals as goal
 

@@ -1,9 +1,4 @@
-use Rattle.std.proofs.Common.{◌≡◌, ◌<◌, ◌-◌, length, set, rules, arith, sym, ap, ◌∙◌}
-use Rattle.merge_spec.specs.Rounds.{last_tick}
-use Rattle.std.proofs.lemmas.List.{get_or_read}
-use Rattle.text_spec.specs.TraceFaults.{ended_at, with_last}
-use Rattle.text_spec.proofs.TraceFacts.{ticks_ended}
-use Rattle.trace_text.specs.TraceView.{Lie, Traced, at_start, end_at, laid_of, rounds_laid}
+use Rattle.trace_text.proofs.Names.{◌≡◌, ◌<◌, ◌-◌, length, set, rules, arith, sym, ap, ◌∙◌, last_tick, get_or_read, ended_at, with_last, ticks_ended, Lie, Traced, at_start, end_at, laid_of, rounds_laid}
 use Rattle.trace_text.proofs.LaidLemmas.{end_changed, rounds_are, stand}
 use Rattle.trace_text.proofs.trace.Trace.end_round.Goals as goal
 

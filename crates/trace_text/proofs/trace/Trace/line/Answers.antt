@@ -1,6 +1,4 @@
-use Rattle.std.proofs.Common.{◌≡◌, arith, rules, ◌∙◌}
-use Rattle.std.specs.Prelude.{slice_index}
-use Rattle.trace_text.specs.TraceView.{end_at, laid_of}
+use Rattle.trace_text.proofs.Names.{◌≡◌, arith, rules, ◌∙◌, slice_index, end_at, laid_of}
 use Rattle.trace_text.proofs.LaidLemmas.{lie_of, line_is, lines_rise}
 use Rattle.trace_text.proofs.trace.Trace.line.Goals as goal
 

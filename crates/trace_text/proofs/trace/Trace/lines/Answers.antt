@@ -1,7 +1,4 @@
-use Rattle.std.proofs.Common.{◌≡◌, ◌+◌, ℕ, ap, arith, rules}
-use Rattle.std.specs.Prelude.{slice_index}
-use Rattle.trace_text.specs.TraceView.{end_at, laid_of}
-use Rattle.trace_text.specs.declared.trace.RoundEnd.{RoundEnd}
+use Rattle.trace_text.proofs.Names.{◌≡◌, ◌+◌, ℕ, ap, arith, rules, slice_index, end_at, laid_of, RoundEnd}
 use Rattle.trace_text.proofs.LaidLemmas.{lie_of, lines_rise}
 use Rattle.trace_text.proofs.trace.Trace.lines.Goals as goal
 

@@ -1,7 +1,4 @@
-use Rattle.std.proofs.Common.{◌≡◌, [], length, rules, arith, List, ap, ◌∙◌}
-use Rattle.std.specs.Prelude.{replicate}
-use Rattle.std.proofs.lemmas.List.{length-replicate}
-use Rattle.text_spec.specs.TraceText.{Asked}
+use Rattle.trace_text.proofs.Names.{◌≡◌, [], length, rules, arith, List, ap, ◌∙◌, replicate, length-replicate, Asked}
 use Rattle.trace_text.proofs.LaidLemmas.{no_line, none_lie, stand}
 use Rattle.trace_text.proofs.trace.Trace.make.Goals as goal
 

@@ -1,12 +1,4 @@
-use Rattle.std.proofs.Common.{◌≡◌, ◌^◌, ◌<◌, ◌+◌, ◌-◌, ◌++◌, ◌∷◌, [], length, set, get_or, List, rules, arith, ap, ap₂, length-set, ◌∙◌}
-use Rattle.std.specs.Prelude.{slice_index}
-use Rattle.std.proofs.lemmas.List.{get_or_read}
-use Rattle.text_spec.specs.TraceFaults.{asked_more, with_last}
-use Rattle.text_spec.specs.TraceText.{Asked, Round}
-use Rattle.text_spec.proofs.TraceFacts.{ticks_asked}
-use Rattle.trace_text.specs.Lines.{line_asked}
-use Rattle.trace_text.specs.TraceView.{Lie, Traced, at_start, end_at, laid_of, rounds_laid, with_line}
-use Rattle.trace_text.specs.declared.trace.RoundEnd.{RoundEnd}
+use Rattle.trace_text.proofs.Names.{◌≡◌, ◌^◌, ◌<◌, ◌+◌, ◌-◌, ◌++◌, ◌∷◌, [], length, set, get_or, List, rules, arith, ap, ap₂, length-set, ◌∙◌, slice_index, get_or_read, asked_more, with_last, Asked, Round, ticks_asked, line_asked, Lie, Traced, at_start, end_at, laid_of, rounds_laid, with_line, RoundEnd}
 use Rattle.trace_text.proofs.LaidLemmas.{all_counted, few_more, line_pushed, rounds_are, stand}
 use Rattle.trace_text.proofs.trace.Trace.push_line.Goals as goal
 

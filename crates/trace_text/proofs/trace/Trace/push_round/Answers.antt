@@ -1,11 +1,4 @@
-use Rattle.std.proofs.Common.{◌≡◌, ◌-◌, ◌++◌, ◌∷◌, [], length, List, rules, sym, ap, subst, ◌∙◌}
-use Rattle.merge_spec.specs.Orders.{KeepUpFrom}
-use Rattle.merge_spec.specs.Rounds.{last_tick}
-use Rattle.text_spec.proofs.TraceFacts.{ticks_pushed}
-use Rattle.text_spec.specs.TraceFaults.{begun_round}
-use Rattle.text_spec.specs.TraceText.{Round}
-use Rattle.trace_text.specs.TraceView.{Lie, Traced, end_at, laid_of, rounds_laid, with_round}
-use Rattle.trace_text.specs.declared.trace.RoundEnd.{RoundEnd}
+use Rattle.trace_text.proofs.Names.{◌≡◌, ◌-◌, ◌++◌, ◌∷◌, [], length, List, rules, sym, ap, subst, ◌∙◌, KeepUpFrom, last_tick, ticks_pushed, begun_round, Round, Lie, Traced, end_at, laid_of, rounds_laid, with_round, RoundEnd}
 use Rattle.trace_text.proofs.LaidLemmas.{round_lies, rounds_are, stand}
 use Rattle.trace_text.proofs.trace.Trace.push_round.Goals as goal
 

@@ -1,0 +1,49 @@
+-- The names of other crates and of this crate's specs that more than one of its proofs stands on.
+pub use Rattle.std.proofs.Common.{◌≡◌, ℕ, ◌≤◌, Bool, true, false, List, [], ◌∷◌, ◌++◌, length, Option, Some, None, IfSome, is_some, option_to_list, option_and_then, option_map, refl, arith, ◌+◌, ◌<◌, zero, suc, map, filter, sym, ap, subst, ◌∙◌, below_more, slice_set, if◌then◌else◌, rules, get_or, drop, reverse, add-one, drop-cons, append_assoc, append-nil, length-append, vec_capacity, ◌-◌, vec_len}
+pub use Rattle.std.proofs.lemmas.Bool.Decides.{nat_tests}
+pub use Rattle.std.proofs.lemmas.Grind.{common_steps}
+pub use Rattle.std.proofs.lemmas.List.{length-map, set-get_or, reverse-append, get_or-map, get_or_past, drop_all}
+pub use Rattle.std.proofs.lemmas.List.Elements.{recursion_from_All, All-from_recursion, All-append}
+pub use Rattle.std.proofs.lemmas.List.Sorted.{All-permutation, IsPermutation-refl, IsPermutation-trans, IsPermutation-append_left, IsPermutation-append_right, IsPermutation-append_comm, length_permutation}
+pub use Rattle.std.specs.Bool.{IsFalse}
+pub use Rattle.std.specs.List.{All, AllByRecursion, range_with_len, slice_get}
+pub use Rattle.chain.specs.History.{Sends, last_tick, newest_tick}
+pub use Rattle.chain.specs.Parcels.{IsShort, HandsBack, all_parcels, parcel_of}
+pub use Rattle.chain.specs.Turning.{turn_by, FitsAct}
+pub use Rattle.chain_spec.proofs.StageLemmas.{added_behind, with_all-append}
+pub use Rattle.chain_spec.specs.Calls.{Call, call_tick, closes_due, arrives}
+pub use Rattle.chain_spec.specs.Chain.{messages, message_count, qualified_of}
+pub use Rattle.chain_spec.specs.Filtering.{gated_at, aggregated_at, thresholded_at, gated, aggregated, qualified, counted, arrival, alone}
+pub use Rattle.chain_spec.specs.Heads.{Head as Told, head_for, heads_of}
+pub use Rattle.chain_spec.specs.Items.{Item, item_at, told_by, kept_parcel}
+pub use Rattle.chain_spec.specs.Moments.{Moment, act_moment, comes, closes, head_moment, moments, closings}
+pub use Rattle.chain_spec.specs.Stages.{with_all, where_true}
+pub use Rattle.chain_spec.specs.Threshold.{verdict}
+pub use Rattle.chain_spec.specs.Windows.{EndBy}
+pub use Rattle.filter_aggregate.proofs.StandsLemmas.{stands_closing, stands_alone}
+pub use Rattle.filter_aggregate.specs.Account.{Accounts, all_kept}
+pub use Rattle.filter_aggregate.specs.Slots.{item_due, slots_by, fresh_slot, is_due, slot_at, slot_by}
+pub use Rattle.filter_aggregate.specs.declared.slot.Slot.{Slot}
+pub use Rattle.filter_gate.proofs.StandsLemmas.{stands_with_closing}
+pub use Rattle.filter_gate.specs.Stands.{with_context, Stands as GateStands}
+pub use Rattle.filter_threshold.specs.Counting.{Stands as ThresholdsStand}
+pub use Rattle.filter_threshold.specs.declared.threshold.Threshold.{Threshold}
+pub use Rattle.ids_config.specs.Parts.{Parts, event_at, Event, index_of, internal_of, plain_event}
+pub use Rattle.ids_types.specs.Carries.{act_by, entry_by}
+pub use Rattle.ids_types.specs.Output.{Output}
+pub use Rattle.ids_types.specs.Turns.{Turn}
+pub use Rattle.ids_types.specs.declared.entry.Entry.{Entry}
+pub use Rattle.ids_types.specs.declared.event.Qualified.{Qualified}
+pub use Rattle.ids_types.specs.declared.internal.Internal.{Internal}
+pub use Rattle.ids_types.specs.declared.names.EventIndex.{EventIndex}
+pub use Rattle.internal_events.specs.HeadView.{head_told}
+pub use Rattle.internal_events.specs.declared.head_list.Head.{Head}
+pub use Rattle.sending.specs.Sender.{source_of, SenderParts}
+pub use Rattle.sending.specs.Sending.{Start, Stands as SenderStands, start_of}
+pub use Rattle.event_chain.specs.Behind.{IsBehind, kept_told}
+pub use Rattle.event_chain.specs.Chained.{IsOneOf, IsSound, Chained}
+pub use Rattle.event_chain.specs.Flow.{CountingStands, Flows, joined_with, items_with, EndAt}
+pub use Rattle.event_chain.specs.Outlets.{OutletStands, Stores, naming_of}
+pub use Rattle.event_chain.specs.Ready.{Windowed, aggregating_in, is_aggregated, CanSend, HasPlaces, IsReady, SettledAt, Stays, AreOwn, HasEvent}
+pub use Rattle.event_chain.specs.Standing.{Stands}
+pub use Rattle.event_chain.specs.declared.filters.Filters.{Filters}

@@ -1,0 +1,33 @@
+-- The names of other crates and of this crate's specs that more than one of its proofs stands on.
+pub use Rattle.std.proofs.Common.{◌≡◌, ℕ, zero, suc, ◌+◌, ◌<◌, true, is_some, Option, Some, List, [], ◌∷◌, ◌++◌, length, map, refl, sym, subst, ap, ◌∙◌, sum, sum_by, arith, ◌*◌, ◌≤◌, IfSome, rules, max, None, get_or, take, inl, inr, ◌^◌, ◌≢◌, Ok, Err, slice_set, ◌-◌, vec_capacity}
+pub use Rattle.std.proofs.lemmas.Grind.{common_steps, flat_map-append}
+pub use Rattle.std.proofs.lemmas.List.{length-map, length-replicate, map-append, take_more, get_or-map, append-nil, append_assoc, length_push, nil_from_length}
+pub use Rattle.std.proofs.lemmas.List.Elements.{All-from_recursion, All-weaker, recursion_from_All, All-cons, All-nil, All-pop, All-push}
+pub use Rattle.std.proofs.lemmas.List.Sums.{sum_by-cons, sum_by_push}
+pub use Rattle.std.specs.List.{All, AllByRecursion}
+pub use Rattle.buffer_classes.specs.{Buffer, AllOf, givers_of, AreBuffersIn, IsSpec, Welcomed, Takes, ClassSeat}
+pub use Rattle.buffer_classes.specs.Givers.{AreGiversOf, late_of}
+pub use Rattle.buffer_classes.specs.Making.{spec_sizes, AreSpecs}
+pub use Rattle.chain.specs.Parcels.{HandsBack, IsShort, all_parcels, parcel_of}
+pub use Rattle.chain.specs.Turning.{FitsAct, FitsTurn, bytes_in, turn_by, HasTurnRoom}
+pub use Rattle.desk_closing.proofs.{all_calls, all_accepted, rings_have, or_at}
+pub use Rattle.desk_closing.specs.Closed.{IsMadeFor, plain_item}
+pub use Rattle.ids_config.specs.Parts.{Parts, class_of}
+pub use Rattle.ids_types.specs.Carries.{act_by, entry_by}
+pub use Rattle.ids_types.specs.Turns.{Turn}
+pub use Rattle.ids_types.specs.declared.entry.Entry.{Entry}
+pub use Rattle.ids_types.specs.declared.entry.TurnHead.{TurnHead}
+pub use Rattle.permit_ring.proofs.ListLemmas.{at_length, there}
+pub use Rattle.permit_ring.specs.Hands.{AllAdmitted}
+pub use Rattle.report_api.specs.{EachSettled, Act, PassView, missing_in, Report, State, SetMode, Absent, Kept, Missing, AdmitsAct, AdmitsItem, is_sensor, term_sizes, IsNewMaking, sizes_of, same_item, IsPassOf}
+pub use Rattle.report_api.specs.Desks.{IsDeskOf, desk_view, to_give_back}
+pub use Rattle.report_api.specs.Passes.{pass_view}
+pub use Rattle.report_api.specs.declared.desk.Desk.{Desk}
+pub use Rattle.report_api.specs.declared.pass.Pass.{Pass}
+pub use Rattle.report_api.specs.declared.shared.Shared.{Shared}
+pub use Rattle.report_api.specs.declared.terms.ReportTerms.{ReportTerms}
+pub use Rattle.report_queue.specs.{GivesBack, AreAllSwept, AreCallersBack, IsAllTaken, contexts_back, events_back, TakerView, sweeps_both, queue_positions, TakeTells, welcomes_caller, most_tries}
+pub use Rattle.main_function.specs.{AreCountsOf, AreSumsOf, Closed, OnlyWelcomes, all_back, ShowsHistory, AreTotals, IsManagerOf, Stands, has_taken, Turned, IsHeld, held, items_of, AreAllPasses, MakesTurn, EndsUnready, Took, item_of}
+pub use Rattle.main_function.specs.Making.{IsBuilt, IsLargest, IsNewManager}
+pub use Rattle.main_function.specs.declared.manager.Manager.{Manager}
+pub use Rattle.main_function.specs.declared.rest.Totals.{Totals}

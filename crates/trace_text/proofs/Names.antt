@@ -1,0 +1,26 @@
+-- The names of other crates and of this crate's specs that more than one of its proofs stands on.
+pub use Rattle.std.proofs.Common.{◌≡◌, ℕ, zero, suc, ◌+◌, ◌-◌, ◌<◌, ◌≤◌, ◌^◌, List, [], ◌∷◌, ◌++◌, length, take, drop, set, get_or, refl, sym, ap, subst, ◌∙◌, inl, inr, arith, append_assoc, length-append, length-set, get_or-set_same, get_or-set_other, drop-cons, map, false, rules, true, ap₂}
+pub use Rattle.std.proofs.lemmas.List.{append-nil, drop_at, get_or_append_left, get_or_push, length-replicate, take-append-drop, take-append-le, take_all, take_at, take_more, map-append, get_or-map, length-map, map-set, set-get_or, get_or_read}
+pub use Rattle.std.specs.List.{flat_map, AllByRecursion, list_all}
+pub use Rattle.std.specs.Prelude.{replicate, slice_index, slice_range, decimal, Result, Ok, Err, IfOk, Option, Some, None, bytes_eq, codes, option_map, if◌then◌else◌, Vec}
+pub use Rattle.ids_config.specs.Parts.{Parts}
+pub use Rattle.merge_spec.specs.Orders.{KeepUpFrom}
+pub use Rattle.merge_spec.specs.Rounds.{lines_at, lines_of, last_tick}
+pub use Rattle.text_spec.proofs.JournalFacts.{flat_map-push}
+pub use Rattle.text_spec.proofs.TraceFacts.{all_append, all_at, all_replicate, all_split, by_last, last_tick-push, with_last-push, IsSmall, opening_keeps_up, opening_small, ticks_ended, ticks_asked, ticks_pushed}
+pub use Rattle.text_spec.proofs.TraceLaws.{trace_again, trace_fits}
+pub use Rattle.text_spec.proofs.WordsLemmas.{text_of-map, one_more}
+pub use Rattle.text_spec.specs.Contexts.{numbers_in}
+pub use Rattle.text_spec.specs.Fields.{ended_line, words_of_fields, told_in_one}
+pub use Rattle.text_spec.specs.JournalFaults.{is_tick}
+pub use Rattle.text_spec.specs.LineAnswers.{Reads, Took}
+pub use Rattle.text_spec.specs.Maybe.{first_of, or_else, ◌>>=◌}
+pub use Rattle.text_spec.specs.TraceFaults.{asked_more, begun_round, ended_at, with_last, PastRounds, last_from, keep_up, opening_fault}
+pub use Rattle.text_spec.specs.TraceForm.{opening_in, trace_forms, trace_told_by}
+pub use Rattle.text_spec.specs.TraceReading.{AreTicks, IsAllowedRound, MayAsk, trace_in, trace_grammar, AreRounds}
+pub use Rattle.text_spec.specs.TraceText.{Asked, Round, changes, TraceLine, asked_fields, calls, callers_told, closes, number_fields, opens, round_told, rounds_told, trace_fields, trace_line_for, trace_text}
+pub use Rattle.text_spec.specs.Words.{line_of, space, text_of, words_of, line_feed}
+pub use Rattle.trace_text.specs.Lines.{line_at, callers_asked, row_asked, line_asked}
+pub use Rattle.trace_text.specs.Printing.{caller_text, lines_text, ticks_text}
+pub use Rattle.trace_text.specs.TraceView.{IsEnd, Laid, Lie, Traced, at_start, end_at, lines_between, round_at, round_between, rounds_laid, laid_of, with_line, with_round}
+pub use Rattle.trace_text.specs.declared.trace.RoundEnd.{RoundEnd}
