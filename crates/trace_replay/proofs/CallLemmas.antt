@@ -1,18 +1,12 @@
 -- What the answers of a pass's calls tell of what was asked for.
-use Rattle.std.proofs.Common.{◌≡◌, ℕ, ◌<◌, ◌^◌, true≢false, refl, sym, ◌∙◌, arith}
-use Rattle.buffer_classes.specs.Buffers.{Buffer}
-use Rattle.merge_spec.specs.Rounds.{Asked, reports, changes, sets}
+use Rattle.trace_replay.proofs.Names.{◌≡◌, ℕ, ◌<◌, ◌^◌, true≢false, refl, sym, ◌∙◌, arith, Buffer, Asked, reports, changes, sets, Act, Carried, Absent, Kept, Missing, Lost, Got, PassView, sizes_of, Shared, AsksOnce, CarriesAsked, IsAsked, control_look, lost_report, report_look}
 use Rattle.report_api.specs.Answers.{CarriesAll, ControlTells, Given, ReportTells, act_with}
-use Rattle.report_api.specs.Names.{Act, Carried, Absent, Kept, Missing, Lost, Got, PassView}
-use Rattle.report_api.specs.Passes.{sizes_of}
 use Rattle.report_api.specs.Terms.{IsReported}
 use Rattle.report_api.specs.declared.answer.Control.{Control}
 use Rattle.report_api.specs.declared.answer.Control.TheVariants as controls
 use Rattle.report_api.specs.declared.answer.Report.{Report as ReportAnswer}
 use Rattle.report_api.specs.declared.answer.Report.TheVariants as answers
-use Rattle.report_api.specs.declared.shared.Shared.{Shared}
 use Rattle.report_queue.specs.declared.cargo.Item.{Item}
-use Rattle.trace_replay.specs.Calls.{AsksOnce, CarriesAsked, IsAsked, control_look, lost_report, report_look}
 
 -- all bytes that are carried are those that were asked for
 carried : (sizes bytes : _) (context : Carried Buffer) → CarriesAll sizes bytes context → CarriesAsked sizes bytes context

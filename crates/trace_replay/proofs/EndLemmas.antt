@@ -1,36 +1,13 @@
 -- The end of a replay: from where its callers and its manager stand to what it gives.
-use Rattle.std.proofs.Common.{◌≡◌, ℕ, suc, ◌+◌, ◌≤◌, ◌<◌, ◌⊎◌, ⊎_elim, List, [], ◌∷◌, ◌++◌, length, map, take, refl, sym, ap, subst, ◌∙◌, arith}
-use Rattle.std.specs.List.{AllByRecursion}
-use Rattle.std.proofs.lemmas.List.{length-map, map-append, take_all}
-use Rattle.std.proofs.lemmas.List.Concat.{flat_map-cons}
+use Rattle.trace_replay.proofs.Names.{◌≡◌, ℕ, suc, ◌+◌, ◌≤◌, ◌<◌, ◌⊎◌, ⊎_elim, List, [], ◌∷◌, ◌++◌, length, map, take, refl, sym, ap, subst, ◌∙◌, arith, AllByRecursion, length-map, map-append, take_all, flat_map-cons, Turn, Parts, IsValid, all_losses, losses_from, IsMerge, last_tick, lines_of, ticks_of, AreRounds, IsAllowedRound, Buffer, desk_view, PassView, pass_view, Shared, HaveAllCalls, fates_in, losses_in, Traced, HavePlayed, sizes_in, Closes, IsRecordOf, IsSmallTurn, tick_of, turns_in, IsBetween, rests_from, AreFew, HasListed, losses_by, passes_of, told, Caller, Recorder}
 use mathlib.Core.Option.{some}
 use lib.ListN.{get_elem?}
-use Rattle.ids_types.specs.Turns.{Turn}
-use Rattle.ids_config.specs.Parts.{Parts}
-use Rattle.ids_config.specs.Valid.{IsValid}
-use Rattle.merge_spec.specs.Decided.{all_losses, losses_from}
-use Rattle.merge_spec.specs.Merge.{IsMerge}
-use Rattle.merge_spec.specs.Rounds.{last_tick, lines_of, ticks_of}
 use Rattle.merge_texts.specs.Small.{AreSmall}
 use Rattle.merge_texts.proofs.JournalLemmas.{merge_fits}
-use Rattle.text_spec.specs.TraceReading.{AreRounds, IsAllowedRound}
-use Rattle.buffer_classes.specs.Buffers.{Buffer}
 use Rattle.report_queue.specs.Parts.{queue_positions}
-use Rattle.report_api.specs.Desks.{desk_view}
-use Rattle.report_api.specs.Names.{PassView}
-use Rattle.report_api.specs.Passes.{pass_view}
-use Rattle.report_api.specs.declared.shared.Shared.{Shared}
-use Rattle.desk_closing.specs.Calls.{HaveAllCalls, fates_in, losses_in}
 use Rattle.desk_closing.specs.Closed.{IsMadeFor, plain_item}
-use Rattle.trace_text.specs.TraceView.{Traced}
-use Rattle.trace_replay.specs.Played.{HavePlayed, TellLosses, sizes_in}
-use Rattle.trace_replay.specs.Recording.{Closes, IsRecordOf, IsSmallTurn, tick_of, turns_in}
 use Rattle.trace_replay.specs.Replayed.{IsReplay, given}
-use Rattle.trace_replay.specs.Rounds.{IsBetween, rests_from}
-use Rattle.trace_replay.specs.Standing.{AreFew, HasListed, losses_by, passes_of, told}
-use Rattle.trace_replay.specs.declared.caller.Caller.{Caller}
-use Rattle.trace_replay.specs.declared.recorder.Recorder.{Recorder}
-use Rattle.trace_replay.proofs.MergeLemmas.{merged, no_lines}
+use Rattle.trace_replay.proofs.MergeLemmas.{TellLosses, merged, no_lines}
 use Rattle.trace_replay.proofs.RecordingLemmas.{all_push}
 use Rattle.trace_replay.proofs.RoundLemmas.{at_rest, mapped_at}
 

@@ -1,13 +1,7 @@
 -- A turn that is added to a history, entry by entry.
-use Rattle.std.proofs.Common.{◌≡◌, ℕ, ◌+◌, ◌≤◌, ◌<◌, List, [], ◌∷◌, ◌++◌, length, take, refl, ap, ◌∙◌, length-append}
-use Rattle.std.specs.List.{flat_map}
-use Rattle.std.proofs.lemmas.List.{take_more}
-use Rattle.std.proofs.lemmas.List.Folds.{length-flat_map-take}
-use Rattle.ids_types.specs.Plain.{kept_bytes}
-use Rattle.ids_types.specs.Turns.{Turn, entry_at, extended, with_entry}
+use Rattle.trace_replay.proofs.Names.{◌≡◌, ℕ, ◌+◌, ◌≤◌, ◌<◌, List, [], ◌∷◌, ◌++◌, length, take, refl, ap, ◌∙◌, length-append, flat_map, take_more, length-flat_map-take, kept_bytes, Turn, entry_at, extended, with_entry, flat_map-push}
 use Rattle.ids_types.specs.declared.entry.Act.TheVariants.{State}
 use Rattle.ids_types.specs.declared.entry.Entry.{Entry}
-use Rattle.text_spec.proofs.JournalFacts.{flat_map-push}
 
 -- an entry goes to the last turn
 pub with_entry_last : (turns : List Turn) (turn : Turn) (entry : Entry (List ℕ))

@@ -2,6 +2,7 @@ pub mod CallLemmas
 pub mod EndLemmas
 pub mod GatheredLemmas
 pub mod MergeLemmas
+pub mod Names
 pub mod PlayedLemmas
 pub mod RecordingLemmas
 pub mod RoundLemmas

@@ -1,40 +1,26 @@
 -- What the passes of a replay did is a merge of their callers' lines.
-use Rattle.std.proofs.Common.{◌≡◌, ℕ, zero, suc, ◌+◌, ◌<◌, ◌≤◌, ◌==◌, if◌then◌else◌, nat_lt, Some, Bool, List, [], ◌∷◌, length, map, filter, sum_by, slice_index_or, refl, sym, ap, subst, ◌∙◌, arith, eq-eqb, inl, inr, le-ltb, length-append}
-use Rattle.std.specs.List.{AllByRecursion, AllZip}
+use Rattle.trace_replay.proofs.Names.{◌≡◌, ℕ, zero, suc, ◌+◌, ◌<◌, ◌≤◌, ◌==◌, if◌then◌else◌, nat_lt, Some, Bool, List, [], ◌∷◌, length, map, filter, sum_by, slice_index_or, refl, sym, ap, subst, ◌∙◌, arith, eq-eqb, inl, inr, le-ltb, length-append, AllByRecursion, AllZip, cases_lt, get_or_past, length-map, filter-append, sum_by-cons, Turn, entries_of, Parts, class_of, AreClasses, IsValid, there, all_losses, losses_from, AreMerged, IsAsAsked, IsItsLine, IsMerge, StandsIn, Asked, reports, changes, sets, Round, is_lost_report, is_report, lines_of, ticks_of, Act, Report, State, SetMode, Absent, Kept, Missing, Outcome, Lost, Got, PassView, call_of, calls_in, fate_of, missing_in, plain_act, missed_by, HaveAllCalls, calls_by, fates_in, losses_in, or_at, Answers, IsAsked, lost_report, lost_reports, HavePlayed, sizes_in, HasPlayed}
 use Rattle.std.proofs.Math.Path.{fun_ext}
-use Rattle.std.proofs.lemmas.Bool.{cases_lt}
-use Rattle.std.proofs.lemmas.List.{get_or_past, length-map}
-use Rattle.std.proofs.lemmas.List.Elements.{filter-append}
-use Rattle.std.proofs.lemmas.List.Sums.{sum_by-cons}
+use Rattle.std.specs.Prelude.{sum}
 use mathlib.Core.Option.{some, some-injective}
 use lib.ListN.{get_elem?}
-use Rattle.ids_types.specs.Turns.{Turn, entries_of}
 use Rattle.ids_types.specs.declared.class_spec.ClassSpec.{ClassSpec}
-use Rattle.ids_config.specs.Parts.{Parts, class_of}
-use Rattle.ids_config.specs.Valid.{AreClasses, IsValid}
 use Rattle.buffer_classes.specs.Classes.{first_fitting}
-use Rattle.permit_ring.proofs.ListLemmas.{there}
 use Rattle.merge_spec.specs.Contexts.{Misses, misses_context}
-use Rattle.merge_spec.specs.Decided.{all_losses, losses_from}
 use Rattle.merge_spec.specs.Follows.{Calls}
 use Rattle.merge_spec.specs.Losses.{entries_by}
-use Rattle.merge_spec.specs.Merge.{AreMerged, IsAsAsked, IsItsLine, IsMerge}
 use Rattle.merge_spec.specs.Names.{Entry}
-use Rattle.merge_spec.specs.Orders.{StandsIn}
-use Rattle.merge_spec.specs.Rounds.{Asked, reports, changes, sets, Round, is_lost_report, is_report, lines_of, ticks_of}
 use Rattle.merge_spec.specs.Settled.{AreLegalContexts, entries_from}
 use Rattle.merge_spec.proofs.FollowsLemmas.{call_was}
 use Rattle.merge_spec.proofs.PlaceLemmas.{stands_kept}
-use Rattle.report_api.specs.Names.{Act, Report, State, SetMode, Absent, Kept, Missing, Outcome, Lost, Got, PassView}
-use Rattle.report_api.specs.Passes.{call_of, calls_in, fate_of, missing_in, plain_act, misses_context as missed_by}
-use Rattle.desk_closing.specs.Calls.{HaveAllCalls, calls_by, fates_in, losses_in}
-use Rattle.desk_closing.proofs.PlaceLemmas.{or_at}
-use Rattle.trace_replay.specs.Calls.{Answers, IsAsked, lost_report, lost_reports}
-use Rattle.trace_replay.specs.Played.{HavePlayed, TellLosses, sizes_in}
-use Rattle.trace_replay.specs.Standing.{HasPlayed}
 use Rattle.trace_replay.proofs.CallLemmas.{got_none}
 use Rattle.trace_replay.proofs.PlayedLemmas.{zip_length}
 use Rattle.trace_replay.proofs.RoundLemmas.{map_at}
+
+-- the turns tell how many reports the passes lost, and how many contexts they missed
+pub record TellLosses (passes : List PassView) (turns : List Turn) : Type 0 where
+  pub lost_events : sum (map (λ turn. turn.head.lost_events) turns) ≡ sum_by (λ pass. pass.lost_events) passes
+  pub lost_contexts : sum (map (λ turn. turn.head.lost_contexts) turns) ≡ sum_by (λ pass. missing_in pass.log) passes
 
 -- ---- lists
 

@@ -1,18 +1,5 @@
 -- A caller with one call more, and with those of one round more.
-use Rattle.std.proofs.Common.{◌≡◌, ℕ, suc, ◌+◌, ◌-◌, ◌≤◌, ◌<◌, ◌^◌, List, [], ◌∷◌, ◌++◌, length, map, take, refl, sym, ap, ◌∙◌, arith, append_assoc, length-append}
-use Rattle.std.proofs.lemmas.List.{length_push, length-take-le, take_all, take_more}
-use Rattle.std.proofs.lemmas.List.Folds.{length-flat_map-take}
-use Rattle.std.specs.List.{AllZip}
-use Rattle.merge_spec.specs.Decided.{losses_from}
-use Rattle.merge_spec.specs.Rounds.{Asked, Round, changes, lines_at, lines_of}
-use Rattle.text_spec.specs.TraceFaults.{begun_round}
-use Rattle.text_spec.proofs.JournalFacts.{flat_map-push}
-use Rattle.trace_text.specs.Lines.{line_at}
-use Rattle.trace_text.specs.TraceView.{round_at}
-use Rattle.report_api.specs.Names.{Outcome, Lost, Got, PassView}
-use Rattle.report_api.specs.Passes.{fate_of}
-use Rattle.trace_replay.specs.Calls.{Answers, CallsOnce, Told, loss_of, lost_report, lost_reports}
-use Rattle.trace_replay.specs.Standing.{HasListed, HasPlayed, lines_before}
+use Rattle.trace_replay.proofs.Names.{◌≡◌, ℕ, suc, ◌+◌, ◌-◌, ◌≤◌, ◌<◌, ◌^◌, List, [], ◌∷◌, ◌++◌, length, map, take, refl, sym, ap, ◌∙◌, arith, append_assoc, length-append, length_push, length-take-le, take_all, take_more, length-flat_map-take, AllZip, losses_from, Asked, Round, changes, lines_at, lines_of, begun_round, flat_map-push, line_at, round_at, Outcome, Lost, Got, PassView, fate_of, Answers, CallsOnce, Told, loss_of, lost_report, lost_reports, HasListed, HasPlayed, lines_before}
 
 module _ {A B : Type 0} (R : A → B → Type 0) where
   -- one more of each

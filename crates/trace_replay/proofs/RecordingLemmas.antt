@@ -1,30 +1,11 @@
 -- What was gathered, with one turn more, and with those of one list of ticks behind those of another.
-use Rattle.std.proofs.Common.{◌≡◌, ℕ, zero, suc, ◌+◌, ◌-◌, ◌≤◌, ◌<◌, ◌^◌, List, [], ◌∷◌, ◌++◌, length, min, take, get_or, refl, sym, ap, ◌∙◌, arith, append_assoc, append-nil, length-append}
-use Rattle.std.specs.List.{AllByRecursion}
-use Rattle.std.proofs.lemmas.List.{length-map, map-append}
+use Rattle.trace_replay.proofs.Names.{◌≡◌, ℕ, zero, suc, ◌+◌, ◌-◌, ◌≤◌, ◌<◌, ◌^◌, List, [], ◌∷◌, ◌++◌, length, min, take, get_or, refl, sym, ap, ◌∙◌, arith, append_assoc, append-nil, length-append, AllByRecursion, length-map, map-append, Output, Turn, Parts, KeepUpFrom, last_from, Buffer, TakerView, desk_view, Act, PassView, Shared, Closed, all_back, IsManagerOf, Turned, Manager, Advances, Closes, Continues, StaysSame, tick_of, turns_in, Gathered, Recorder}
 use Rattle.ids_types.specs.Carries.{entry_by}
-use Rattle.ids_types.specs.Output.{Output}
-use Rattle.ids_types.specs.Turns.{Turn}
-use Rattle.ids_config.specs.Parts.{Parts}
-use Rattle.merge_spec.specs.Orders.{KeepUpFrom}
-use Rattle.text_spec.specs.TraceFaults.{last_from}
 use Rattle.chain.specs.History.{handed_of}
 use Rattle.chain_plain.specs.Telling.{Tells, Told, handed_by}
 use Rattle.chain_plain.proofs.TellingLemmas.{newest_first, tells_more, told_few}
-use Rattle.buffer_classes.specs.Buffers.{Buffer}
 use Rattle.buffer_classes.specs.declared.giver.Giver.{Giver}
-use Rattle.report_queue.specs.Views.{TakerView}
-use Rattle.report_api.specs.Desks.{desk_view}
-use Rattle.report_api.specs.Names.{Act, PassView}
-use Rattle.report_api.specs.declared.shared.Shared.{Shared}
-use Rattle.main_function.specs.Closing.{Closed, all_back}
 use Rattle.main_function.specs.Reports.{held}
-use Rattle.main_function.specs.Standing.{IsManagerOf}
-use Rattle.main_function.specs.Turning.{Turned}
-use Rattle.main_function.specs.declared.manager.Manager.{Manager}
-use Rattle.trace_replay.specs.Recording.{Advances, Closes, Continues, StaysSame, tick_of, turns_in}
-use Rattle.trace_replay.specs.declared.gathered.Gathered.{Gathered}
-use Rattle.trace_replay.specs.declared.recorder.Recorder.{Recorder}
 
 -- what a turn adds to what was gathered
 pub record Adds (old : Gathered) (out : Output) (new : Gathered) : Type 0 where

@@ -1,38 +1,9 @@
 -- One round more.
-use Rattle.std.proofs.Common.{◌≡◌, ℕ, zero, suc, ◌+◌, ◌≤◌, ◌<◌, ◌^◌, List, [], ◌∷◌, ◌++◌, length, map, sum_by, take, drop, refl, sym, ap, subst, ◌∙◌, arith, append_assoc, length-append}
-use Rattle.std.specs.List.{All, AllByRecursion, flat_map}
+use Rattle.trace_replay.proofs.Names.{◌≡◌, ℕ, zero, suc, ◌+◌, ◌≤◌, ◌<◌, ◌^◌, List, [], ◌∷◌, ◌++◌, length, map, sum_by, take, drop, refl, sym, ap, subst, ◌∙◌, arith, append_assoc, length-append, All, AllByRecursion, flat_map, length-map, length_push, map-append, take_more, take-append-drop, flat_map-cons, All-from_recursion, sum_by-cons, sum_by_push, Turn, Parts, KeepUpFrom, Round, lines_of, round_ticks, begun_round, last_from, AreTicks, flat_map-push, keep_split, last_from-push, Buffer, at_length, TakerView, desk_view, Act, pass_view, Pass, Shared, or_at, AreAllPasses, StaysSo, all_calls, last_of, rests_of, turns_of, Traced, round_at, Continues, StillRecords, tick_of, turns_in, CanPlay, IsBetween, lines_in, rests_from, ticks_before, AreAtRest, IsAtRest, SameCallers, passes_of, Caller, Recorder}
 use Rattle.std.proofs.lemmas.Grind.{flat_map-append}
-use Rattle.std.proofs.lemmas.List.{length-map, length_push, map-append, take_more, take-append-drop}
-use Rattle.std.proofs.lemmas.List.Concat.{flat_map-cons}
-use Rattle.std.proofs.lemmas.List.Elements.{All-from_recursion}
-use Rattle.std.proofs.lemmas.List.Sums.{sum_by-cons, sum_by_push}
 use mathlib.Core.Option.{some, some-injective}
 use lib.ListN.{get_elem?}
-use Rattle.ids_types.specs.Turns.{Turn}
-use Rattle.ids_config.specs.Parts.{Parts}
-use Rattle.merge_spec.specs.Orders.{KeepUpFrom}
-use Rattle.merge_spec.specs.Rounds.{Round, lines_of, round_ticks}
-use Rattle.text_spec.specs.TraceFaults.{begun_round, last_from}
-use Rattle.text_spec.specs.TraceReading.{AreTicks}
-use Rattle.text_spec.proofs.JournalFacts.{flat_map-push}
-use Rattle.text_spec.proofs.TraceFacts.{keep_split, last_from-push}
-use Rattle.buffer_classes.specs.Buffers.{Buffer}
-use Rattle.permit_ring.proofs.ListLemmas.{at_length}
-use Rattle.report_queue.specs.Views.{TakerView}
-use Rattle.report_api.specs.Desks.{desk_view}
-use Rattle.report_api.specs.Names.{Act}
-use Rattle.report_api.specs.Passes.{pass_view}
-use Rattle.report_api.specs.declared.pass.Pass.{Pass}
-use Rattle.report_api.specs.declared.shared.Shared.{Shared}
-use Rattle.desk_closing.proofs.PlaceLemmas.{or_at}
-use Rattle.main_function.specs.Standing.{AreAllPasses, StaysSo, all_calls, last_of, rests_of, turns_of}
 use Rattle.main_function.specs.declared.rest.Rest.{Rest}
-use Rattle.trace_text.specs.TraceView.{Traced, round_at}
-use Rattle.trace_replay.specs.Recording.{Continues, StillRecords, tick_of, turns_in}
-use Rattle.trace_replay.specs.Rounds.{CanPlay, IsBetween, lines_in, rests_from, ticks_before}
-use Rattle.trace_replay.specs.Standing.{AreAtRest, IsAtRest, SameCallers, passes_of}
-use Rattle.trace_replay.specs.declared.caller.Caller.{Caller}
-use Rattle.trace_replay.specs.declared.recorder.Recorder.{Recorder}
 use Rattle.trace_replay.proofs.RecordingLemmas.{all_push, last_on}
 use Rattle.trace_replay.proofs.SumLemmas.{all_lines, sum_total}
 

@@ -1,35 +1,11 @@
 -- The start of a replay: what may be asked, and where callers and manager stand before the first round.
-use Rattle.std.proofs.Common.{◌≡◌, ℕ, zero, suc, ◌≤◌, ◌<◌, ◌⊎◌, ⊎_elim, true, nat_le, nat_lt, ◌&&◌, List, [], ◌∷◌, ◌++◌, length, map, refl, sym, ap, subst, ◌∙◌, arith, leb-true, ltb-true}
-use Rattle.std.specs.List.{AllByRecursion}
-use Rattle.std.proofs.lemmas.Bool.{and_parts}
-use Rattle.std.proofs.lemmas.List.{get_or_past, length-map}
-use Rattle.std.proofs.lemmas.List.Concat.{flat_map-cons}
-use Rattle.std.proofs.lemmas.List.Elements.{All-from_recursion}
+use Rattle.trace_replay.proofs.Names.{◌≡◌, ℕ, zero, suc, ◌≤◌, ◌<◌, ◌⊎◌, ⊎_elim, true, nat_le, nat_lt, ◌&&◌, List, [], ◌∷◌, ◌++◌, length, map, refl, sym, ap, subst, ◌∙◌, arith, leb-true, ltb-true, AllByRecursion, and_parts, get_or_past, length-map, flat_map-cons, All-from_recursion, Turn, Parts, is_sensor, Asked, Round, reports, changes, sets, lines_at, act_asked, begun_round, is_allowed, IsAllowedRound, MayAsk, Buffer, there, Pass, Shared, or_at, Manager, line_at, Traced, round_at, MayBeAsked, IsRecordOf, tick_of, IsBetween, AreAtRest, MayAllBeAsked, losses_by, passes_of, Caller, Gathered}
 use mathlib.Core.Option.{some, some-injective}
 use lib.ListN.{get_elem?}
-use Rattle.ids_types.specs.Turns.{Turn}
-use Rattle.ids_config.specs.Parts.{Parts, is_sensor}
-use Rattle.merge_spec.specs.Rounds.{Asked, Round, reports, changes, sets, lines_at}
 use Rattle.text_spec.specs.JournalFaults.{is_act}
-use Rattle.text_spec.specs.TraceFaults.{act_asked, begun_round, is_allowed}
-use Rattle.text_spec.specs.TraceReading.{IsAllowedRound, MayAsk}
-use Rattle.buffer_classes.specs.Buffers.{Buffer}
-use Rattle.permit_ring.proofs.ListLemmas.{there}
 use Rattle.report_api.specs.Making.{IsOfConfig}
-use Rattle.report_api.specs.declared.pass.Pass.{Pass}
-use Rattle.report_api.specs.declared.shared.Shared.{Shared}
 use Rattle.report_api.specs.declared.terms.ReportTerms.{ReportTerms}
-use Rattle.desk_closing.proofs.PlaceLemmas.{or_at}
 use Rattle.main_function.specs.Making.{IsNewManager}
-use Rattle.main_function.specs.declared.manager.Manager.{Manager}
-use Rattle.trace_text.specs.Lines.{line_at}
-use Rattle.trace_text.specs.TraceView.{Traced, round_at}
-use Rattle.trace_replay.specs.Calls.{MayBeAsked}
-use Rattle.trace_replay.specs.Recording.{IsRecordOf, tick_of}
-use Rattle.trace_replay.specs.Rounds.{IsBetween}
-use Rattle.trace_replay.specs.Standing.{AreAtRest, MayAllBeAsked, losses_by, passes_of}
-use Rattle.trace_replay.specs.declared.caller.Caller.{Caller}
-use Rattle.trace_replay.specs.declared.gathered.Gathered.{Gathered}
 use Rattle.trace_replay.proofs.RoundLemmas.{map_at}
 
 module _ (config : Parts) (terms : ReportTerms) (is : IsOfConfig config terms) where

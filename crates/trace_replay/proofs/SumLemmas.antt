@@ -1,13 +1,7 @@
 -- How many calls the callers make: counted caller by caller, and round by round.
-use Rattle.std.proofs.Common.{◌≡◌, ℕ, zero, suc, ◌+◌, List, [], ◌∷◌, length, sum_by, refl, sym, ap, subst, ◌∙◌, arith, length-append}
-use Rattle.std.specs.List.{AllByRecursion}
-use Rattle.std.proofs.lemmas.List.Concat.{flat_map-cons}
-use Rattle.std.proofs.lemmas.List.Sums.{sum_by-cons}
+use Rattle.trace_replay.proofs.Names.{◌≡◌, ℕ, zero, suc, ◌+◌, List, [], ◌∷◌, length, sum_by, refl, sym, ap, subst, ◌∙◌, arith, length-append, AllByRecursion, flat_map-cons, sum_by-cons, Round, lines_at, lines_of, or_at, lines_in}
 use mathlib.Core.Option.{some}
 use lib.ListN.{get_elem?}
-use Rattle.merge_spec.specs.Rounds.{Round, lines_at, lines_of}
-use Rattle.desk_closing.proofs.PlaceLemmas.{or_at}
-use Rattle.trace_replay.specs.Rounds.{lines_in}
 
 -- the sum over n numbers from one on
 abbrev pub total : ℕ → ℕ → (ℕ → ℕ) → ℕ

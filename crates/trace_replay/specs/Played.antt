@@ -1,13 +1,11 @@
 -- What the passes of a replay did, and what its turns tell of it.
-use Rattle.std.specs.Prelude.{◌≡◌, ℕ, List, length, map, sum, sum_by}
+use Rattle.std.specs.Prelude.{◌≡◌, ℕ, List, length, map}
 use mathlib.Core.Option.{some}
 use lib.ListN.{get_elem?}
 use Rattle.ids_types.specs.declared.class_spec.ClassSpec.{ClassSpec}
-use Rattle.ids_types.specs.Turns.{Turn}
 use Rattle.ids_config.specs.Parts.{Parts}
 use Rattle.merge_spec.specs.Rounds.{Round, lines_of}
 use Rattle.report_api.specs.Names.{PassView}
-use Rattle.report_api.specs.Passes.{missing_in}
 use Rattle.trace_replay.specs.Standing.{HasPlayed}
 
 -- the sizes of the classes
@@ -18,8 +16,3 @@ sizes_in config = map (λ (class : ClassSpec). class.size) config.classes
 pub record HavePlayed (config : Parts) (rounds : List Round) (passes : List PassView) : Type 0 where
   pub all : length passes ≡ config.callers
   pub each : (i : ℕ) (pass : PassView) → get_elem? passes i ≡ some pass → HasPlayed (sizes_in config) (lines_of i rounds) pass
-
--- the turns tell how many reports the passes lost, and how many contexts they missed
-pub record TellLosses (passes : List PassView) (turns : List Turn) : Type 0 where
-  pub lost_events : sum (map (λ turn. turn.head.lost_events) turns) ≡ sum_by (λ pass. pass.lost_events) passes
-  pub lost_contexts : sum (map (λ turn. turn.head.lost_contexts) turns) ≡ sum_by (λ pass. missing_in pass.log) passes

@@ -36,7 +36,7 @@ module _ {C : Type 0} (stands : C → Parts → List Turn → Type 0) (config : 
     -- the turns and the losses are one merge of the callers' lines, and a journal under the configuration
     pub merged : IsMerge config rounds gives.turns gives.losses
     pub fits : Fits config (record { turns = gives.turns; losses = gives.losses })
-    -- each turn tells how many events the limits had held back by then
+    -- each turn tells how many events the limits held back in the turn before it
     pub causal : IsCausal config (reverse gives.turns)
     -- what was sent is what the filter chain sends for these turns
     pub sent : gives.sent ≡ messages_of config gives.turns

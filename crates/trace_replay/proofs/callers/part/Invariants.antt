@@ -1,5 +1,4 @@
-use Rattle.std.proofs.Common.{◌≡◌, take}
-use Rattle.trace_replay.specs.Standing.{losses_by}
+use Rattle.trace_replay.proofs.Names.{◌≡◌, take, losses_by}
 use Rattle.trace_replay.proofs.callers.part.Given as goal
 
 -- the losses of the first callers are there

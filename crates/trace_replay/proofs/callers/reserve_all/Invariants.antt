@@ -1,8 +1,4 @@
-use Rattle.std.proofs.Common.{ℕ, ◌<◌, length, slice_index_or}
-use Rattle.merge_spec.specs.Rounds.{lines_at}
-use Rattle.trace_text.specs.TraceView.{round_at}
-use Rattle.trace_replay.specs.Standing.{HasRoom, SameCallers}
-use Rattle.trace_replay.specs.declared.caller.Caller.{Caller}
+use Rattle.trace_replay.proofs.Names.{ℕ, ◌<◌, length, slice_index_or, lines_at, round_at, HasRoom, SameCallers, Caller}
 use Rattle.trace_replay.proofs.callers.reserve_all.Given as goal
 
 -- the first callers have room, and all are the same

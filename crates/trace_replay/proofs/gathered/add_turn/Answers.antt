@@ -1,6 +1,4 @@
-use Rattle.std.proofs.Common.{◌<◌, ◌∙◌, length, take, ap, arith}
-use Rattle.ids_types.specs.Plain.{kept_bytes}
-use Rattle.ids_types.specs.Turns.{Room, Turn, entry_at, turn_at}
+use Rattle.trace_replay.proofs.Names.{◌<◌, ◌∙◌, length, take, ap, arith, kept_bytes, Room, Turn, entry_at, turn_at}
 use Rattle.trace_replay.proofs.GatheredLemmas.{next_bytes, next_entry, next_fits, with_entry_last}
 use Rattle.trace_replay.proofs.gathered.add_turn.Goals as goal
 

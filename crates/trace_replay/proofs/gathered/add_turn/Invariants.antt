@@ -1,7 +1,4 @@
-use Rattle.std.proofs.Common.{◌≡◌, ◌+◌, ◌≤◌, ◌++◌, ◌∷◌, [], length, take}
-use Rattle.std.specs.List.{flat_map}
-use Rattle.ids_types.specs.Plain.{kept_bytes}
-use Rattle.ids_types.specs.Turns.{turn_at}
+use Rattle.trace_replay.proofs.Names.{◌≡◌, ◌+◌, ◌≤◌, ◌++◌, ◌∷◌, [], length, take, flat_map, kept_bytes, turn_at}
 use Rattle.trace_replay.proofs.gathered.add_turn.Given as goal
 
 -- the first entries of the turn are there, and there is room for the others

@@ -1,14 +1,4 @@
-use Rattle.std.proofs.Common.{◌≡◌, ◌∙◌, List, length, map, sym, ap, subst, rules, arith}
-use Rattle.std.specs.List.{flat_map}
-use Rattle.std.proofs.lemmas.List.{take_all, with_items_is}
-use Rattle.merge_spec.specs.Rounds.{Round, round_ticks}
-use Rattle.text_spec.specs.TraceFaults.{last_from}
-use Rattle.text_spec.proofs.TraceFacts.{last_of_all, last_small}
-use Rattle.report_api.specs.Desks.{desk_view}
-use Rattle.report_api.specs.Passes.{pass_view}
-use Rattle.report_api.specs.declared.pass.Pass.{Pass}
-use Rattle.trace_replay.specs.Recording.{Closes}
-use Rattle.trace_replay.specs.Standing.{losses_by, passes_of}
+use Rattle.trace_replay.proofs.Names.{◌≡◌, ◌∙◌, List, length, map, sym, ap, subst, rules, arith, flat_map, take_all, with_items_is, Round, round_ticks, last_from, last_of_all, last_small, desk_view, pass_view, Pass, Closes, losses_by, passes_of}
 use Rattle.trace_replay.proofs.EndLemmas.{is_replay}
 use Rattle.trace_replay.proofs.RoundLemmas.{all_passes}
 use Rattle.trace_replay.proofs.StartLemmas.{all_may_be_asked, begins, begins_record}

@@ -1,11 +1,4 @@
-use Rattle.std.proofs.Common.{◌≡◌, ◌+◌, ◌∙◌, [], ◌∷◌, length, refl, sym, ap, subst, arith}
-use Rattle.report_api.specs.Desks.{desk_view}
-use Rattle.text_spec.specs.TraceFaults.{last_from}
-use Rattle.main_function.specs.Standing.{all_calls}
-use Rattle.trace_text.specs.TraceView.{round_at}
-use Rattle.trace_replay.specs.Recording.{Continues}
-use Rattle.trace_replay.specs.Standing.{passes_of}
-use Rattle.trace_replay.specs.declared.recorder.Recorder.{Recorder}
+use Rattle.trace_replay.proofs.Names.{◌≡◌, ◌+◌, ◌∙◌, [], ◌∷◌, length, refl, sym, ap, subst, arith, desk_view, last_from, all_calls, round_at, Continues, passes_of, Recorder}
 use Rattle.trace_replay.proofs.RoundLemmas.{RestsOnce, all_passes, next_round_keeps, round_played, same_rest, still_records}
 use Rattle.trace_replay.proofs.rounds.play_round.Goals as goal
 

@@ -1,4 +1,4 @@
-use Rattle.trace_replay.specs.Rounds.{CanPlay}
+use Rattle.trace_replay.proofs.Names.{CanPlay}
 use Rattle.trace_replay.proofs.rounds.play_rounds.Goals as goal
 
 pub play_round-requires-clause-can : goal.play_round-requires-clause-can

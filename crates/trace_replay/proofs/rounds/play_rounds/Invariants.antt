@@ -1,5 +1,4 @@
-use Rattle.trace_replay.specs.Recording.{StillRecords}
-use Rattle.trace_replay.specs.Rounds.{IsBetween}
+use Rattle.trace_replay.proofs.Names.{StillRecords, IsBetween}
 use Rattle.trace_replay.proofs.rounds.play_rounds.Given as goal
 
 -- the first rounds were played

@@ -1,10 +1,4 @@
-use Rattle.std.proofs.Common.{subst, arith}
-use Rattle.merge_spec.specs.Rounds.{lines_at}
-use Rattle.report_api.specs.Passes.{sizes_of}
-use Rattle.trace_text.specs.Lines.{line_at}
-use Rattle.trace_text.specs.TraceView.{round_at}
-use Rattle.trace_replay.specs.Calls.{CallsOnce}
-use Rattle.trace_replay.specs.Standing.{lines_before, told}
+use Rattle.trace_replay.proofs.Names.{subst, arith, lines_at, sizes_of, line_at, round_at, CallsOnce, lines_before, told}
 use Rattle.trace_replay.proofs.PlayedLemmas.{few_calls, one_loss, plays_line}
 use Rattle.trace_replay.proofs.caller.Caller.play.Goals as goal
 

@@ -1,7 +1,4 @@
-use Rattle.std.proofs.Common.{◌+◌, ◌≤◌, ◌++◌, length, take, vec_len, vec_capacity}
-use Rattle.merge_spec.specs.Rounds.{lines_at}
-use Rattle.trace_text.specs.TraceView.{round_at}
-use Rattle.trace_replay.specs.Standing.{IsAtRest, lines_before}
+use Rattle.trace_replay.proofs.Names.{◌+◌, ◌≤◌, ◌++◌, length, take, vec_len, vec_capacity, lines_at, round_at, IsAtRest, lines_before}
 use Rattle.trace_replay.proofs.caller.Caller.play.Given as goal
 
 -- the calls of the first lines of the round are made too, and there is room for the losses of the others

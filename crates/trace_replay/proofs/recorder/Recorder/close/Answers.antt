@@ -1,11 +1,6 @@
-use Rattle.std.proofs.Common.{rules, refl, subst}
-use Rattle.ids_types.specs.Output.{Output}
-use Rattle.main_function.specs.Closing.{CloseLeaves}
-use Rattle.trace_replay.specs.declared.gathered.Gathered.{Gathered}
+use Rattle.trace_replay.proofs.Names.{rules, refl, subst, Output, CloseLeaves, Gathered, map, pass_view}
 use Rattle.trace_replay.proofs.RecordingLemmas.{Adds, closes}
 use Rattle.trace_replay.proofs.recorder.Recorder.close.Goals as goal
-use Rattle.std.proofs.Common.{map}
-use Rattle.report_api.specs.Passes.{pass_view}
 
 pub returns : goal.returns
 returns g c =

@@ -1,7 +1,4 @@
-use Rattle.std.proofs.Common.{rules, refl, subst}
-use Rattle.ids_types.specs.Output.{Output}
-use Rattle.main_function.specs.Turning.{TurnLeaves}
-use Rattle.trace_replay.specs.declared.gathered.Gathered.{Gathered}
+use Rattle.trace_replay.proofs.Names.{rules, refl, subst, Output, TurnLeaves, Gathered}
 use Rattle.trace_replay.proofs.RecordingLemmas.{Adds, continues}
 use Rattle.trace_replay.proofs.recorder.Recorder.turn.Goals as goal
 

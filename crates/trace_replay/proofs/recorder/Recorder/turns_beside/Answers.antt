@@ -1,6 +1,4 @@
-use Rattle.std.proofs.Common.{rules}
-use Rattle.std.proofs.lemmas.List.{take_more}
-use Rattle.main_function.specs.Standing.{last_of}
+use Rattle.trace_replay.proofs.Names.{rules, take_more, last_of}
 use Rattle.trace_replay.proofs.RecordingLemmas.{made_more, next_keeps, none_made}
 use Rattle.trace_replay.proofs.recorder.Recorder.turns_beside.Goals as goal
 

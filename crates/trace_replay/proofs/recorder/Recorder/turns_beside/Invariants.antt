@@ -1,5 +1,4 @@
-use Rattle.std.proofs.Common.{take}
-use Rattle.trace_replay.specs.Recording.{Continues}
+use Rattle.trace_replay.proofs.Names.{take, Continues}
 use Rattle.trace_replay.proofs.recorder.Recorder.turns_beside.Given as goal
 
 -- turns of the first ticks were made

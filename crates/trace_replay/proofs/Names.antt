@@ -1,0 +1,46 @@
+-- The names of other crates and of this crate's specs that more than one of its proofs stands on.
+pub use Rattle.std.proofs.Common.{◌≡◌, ℕ, ◌<◌, ◌^◌, true≢false, refl, sym, ◌∙◌, arith, suc, ◌+◌, ◌≤◌, ◌⊎◌, ⊎_elim, List, [], ◌∷◌, ◌++◌, length, map, take, ap, subst, length-append, zero, ◌==◌, if◌then◌else◌, nat_lt, Some, Bool, filter, sum_by, slice_index_or, eq-eqb, inl, inr, le-ltb, ◌-◌, append_assoc, min, get_or, append-nil, drop, true, nat_le, ◌&&◌, leb-true, ltb-true, vec_len, vec_capacity, rules}
+pub use Rattle.std.proofs.lemmas.Bool.{cases_lt, and_parts}
+pub use Rattle.std.proofs.lemmas.List.{length-map, map-append, take_all, take_more, get_or_past, length_push, length-take-le, take-append-drop, with_items_is}
+pub use Rattle.std.proofs.lemmas.List.Concat.{flat_map-cons}
+pub use Rattle.std.proofs.lemmas.List.Elements.{filter-append, All-from_recursion}
+pub use Rattle.std.proofs.lemmas.List.Folds.{length-flat_map-take}
+pub use Rattle.std.proofs.lemmas.List.Sums.{sum_by-cons, sum_by_push}
+pub use Rattle.std.specs.List.{AllByRecursion, flat_map, AllZip, All}
+pub use Rattle.buffer_classes.specs.Buffers.{Buffer}
+pub use Rattle.desk_closing.proofs.PlaceLemmas.{or_at}
+pub use Rattle.desk_closing.specs.Calls.{HaveAllCalls, fates_in, losses_in, calls_by}
+pub use Rattle.ids_config.specs.Parts.{Parts, class_of, is_sensor}
+pub use Rattle.ids_config.specs.Valid.{IsValid, AreClasses}
+pub use Rattle.ids_types.specs.Output.{Output}
+pub use Rattle.ids_types.specs.Plain.{kept_bytes}
+pub use Rattle.ids_types.specs.Turns.{Turn, entry_at, extended, with_entry, entries_of, Room, turn_at}
+pub use Rattle.main_function.specs.Closing.{Closed, all_back, CloseLeaves}
+pub use Rattle.main_function.specs.Standing.{IsManagerOf, AreAllPasses, StaysSo, all_calls, last_of, rests_of, turns_of}
+pub use Rattle.main_function.specs.Turning.{Turned, TurnLeaves}
+pub use Rattle.main_function.specs.declared.manager.Manager.{Manager}
+pub use Rattle.merge_spec.specs.Decided.{all_losses, losses_from}
+pub use Rattle.merge_spec.specs.Merge.{IsMerge, AreMerged, IsAsAsked, IsItsLine}
+pub use Rattle.merge_spec.specs.Orders.{StandsIn, KeepUpFrom}
+pub use Rattle.merge_spec.specs.Rounds.{Asked, reports, changes, sets, last_tick, lines_of, ticks_of, Round, is_lost_report, is_report, lines_at, round_ticks}
+pub use Rattle.permit_ring.proofs.ListLemmas.{there, at_length}
+pub use Rattle.report_api.specs.Desks.{desk_view}
+pub use Rattle.report_api.specs.Names.{Act, Carried, Absent, Kept, Missing, Lost, Got, PassView, Report, State, SetMode, Outcome}
+pub use Rattle.report_api.specs.Passes.{sizes_of, pass_view, call_of, calls_in, fate_of, missing_in, plain_act, misses_context as missed_by}
+pub use Rattle.report_api.specs.declared.pass.Pass.{Pass}
+pub use Rattle.report_api.specs.declared.shared.Shared.{Shared}
+pub use Rattle.report_queue.specs.Views.{TakerView}
+pub use Rattle.text_spec.proofs.JournalFacts.{flat_map-push}
+pub use Rattle.text_spec.proofs.TraceFacts.{keep_split, last_from-push, last_of_all, last_small}
+pub use Rattle.text_spec.specs.TraceFaults.{begun_round, last_from, act_asked, is_allowed}
+pub use Rattle.text_spec.specs.TraceReading.{AreRounds, IsAllowedRound, AreTicks, MayAsk}
+pub use Rattle.trace_text.specs.Lines.{line_at}
+pub use Rattle.trace_text.specs.TraceView.{Traced, round_at}
+pub use Rattle.trace_replay.specs.Calls.{AsksOnce, CarriesAsked, IsAsked, control_look, lost_report, report_look, Answers, lost_reports, CallsOnce, Told, loss_of, MayBeAsked}
+pub use Rattle.trace_replay.specs.Played.{HavePlayed, sizes_in}
+pub use Rattle.trace_replay.specs.Recording.{Closes, IsRecordOf, IsSmallTurn, tick_of, turns_in, Advances, Continues, StaysSame, StillRecords}
+pub use Rattle.trace_replay.specs.Rounds.{IsBetween, rests_from, CanPlay, lines_in, ticks_before}
+pub use Rattle.trace_replay.specs.Standing.{AreFew, HasListed, losses_by, passes_of, told, HasPlayed, lines_before, AreAtRest, IsAtRest, SameCallers, MayAllBeAsked, HasRoom}
+pub use Rattle.trace_replay.specs.declared.caller.Caller.{Caller}
+pub use Rattle.trace_replay.specs.declared.gathered.Gathered.{Gathered}
+pub use Rattle.trace_replay.specs.declared.recorder.Recorder.{Recorder}
