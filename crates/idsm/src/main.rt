@@ -1,4 +1,5 @@
-//! The program `idsm`: hands the words of its command line to the runs, and ends with their status.
+//! The program `idsm`: hands the words of its command line to the runs, to that of a replay where the
+//! first word is `replay`, and ends with their status.
 //!
 //! Layer 10, runs. Over `idsm_run`, whose contract says what a run does, and the host's files and
 //! standard output of `ids_outside`. That the words are the host's and that the program ends with the
@@ -6,7 +7,7 @@
 #![tactic(auto)]
 
 use ids_outside::{HostShelf, HostSink};
-use idsm_run::{NO_MEMORY, run_plain};
+use idsm_run::{NO_MEMORY, OpenGate, is_replay, run_plain, run_replay};
 use std::process::ExitCode;
 use std::rt::Env;
 use std::{env, io};
@@ -19,6 +20,17 @@ fn main(rt: HostRuntime) -> ExitCode {
         Ok(words) => {
             let mut shelf = HostShelf::new(rt, rt.alloc());
             let mut out = HostSink::new(rt);
+            if is_replay(&words) {
+                let (status, _manager) = run_replay(
+                    &rt,
+                    rt.alloc(),
+                    &words,
+                    &mut shelf,
+                    &mut out,
+                    &OpenGate,
+                );
+                return ExitCode::from(status);
+            }
             ExitCode::from(run_plain(rt.alloc(), &words, &mut shelf, &mut out))
         }
         Err(error) if error.kind() == io::ErrorKind::OutOfMemory => ExitCode::from(NO_MEMORY),

@@ -1,11 +1,7 @@
 -- How the comparison of a file with the messages of a recording ends.
-use Rattle.std.proofs.Common.{◌≡◌, ◌∙◌, ℕ, List, Ok, Err, Bor, IsTrue, refl, sym, ap, subst, inl, inr}
-use Rattle.std.specs.Prelude.{Result, IfOk, IfErr, Vec, bytes_eq, nat_eq}
-use Rattle.std.specs.List.{common_prefix_len}
-use Rattle.std.proofs.lemmas.Bool.{cases_Bool}
-use Rattle.idsm_run.specs.Names.{Refusal, messages_of}
-use Rattle.idsm_run.specs.Run.{MayRefuse}
-use Rattle.idsm_run.specs.Words.{Global, SameFiles, Shelved, Stop, Refused, Differ, Recorded, recorded_in, file_of, CheckFiles, check, compared, check_judged, judge, Judges, StopsFor, WasDone, plain_stop}
+use Rattle.idsm_run.proofs.Names.{◌≡◌, ◌∙◌, ℕ, List, Ok, Err, Bor, IsTrue, refl, sym, ap, subst, inl, inr, Result, IfOk, IfErr, Vec, nat_eq, common_prefix_len, cases_Bool, Refusal, MayRefuse, Global, SameFiles, Shelved, Stop, Refused, Differ, Recorded, recorded_in, file_of, CheckFiles, check, compared, check_judged, does, judge, Judges, StopsFor, WasDone, plain_stop}
+use Rattle.std.specs.Prelude.{bytes_eq}
+use Rattle.idsm_run.specs.Names.{messages_of}
 use Rattle.idsm_run.proofs.JudgeLemmas.{refused, check_found}
 
 module _ (names : CheckFiles) (recorded : Recorded) (bytes sent : List ℕ) (old new : Shelved)
@@ -28,16 +24,24 @@ module _ (names : CheckFiles) (recorded : Recorded) (bytes sent : List ℕ) (old
   ]
 
   pub done_so : (answer : Result (Vec ℕ Global) (Stop (Bor (List ℕ))))
-      → Judges (λ text. compared text.items) (check_judged bytes sent) answer
+      → Judges (λ text. does (compared text.items)) (check_judged bytes sent) answer
       → IfOk answer (λ text. WasDone (check names) text.items old new)
   done_so (Ok text) is = record {
-    written = λ told. record { work = compared text.items; judged = judged told ∙ is; written = tt; text = refl; keeps = tt };
+    written = λ told. record {
+      task = does (compared text.items);
+      judged = judged told ∙ is;
+      work = compared text.items;
+      is_work = refl;
+      written = tt;
+      text = refl;
+      keeps = tt;
+    };
     no_fault = faults;
   }
   done_so (Err reason) is = tt
 
   pub stopped_so : (answer : Result (Vec ℕ Global) (Stop (Bor (List ℕ))))
-      → Judges (λ text. compared text.items) (check_judged bytes sent) answer
+      → Judges (λ text. does (compared text.items)) (check_judged bytes sent) answer
       → IfErr answer (λ reason. StopsFor (check names) (plain_stop reason) old new)
   stopped_so (Ok text) is = tt
   stopped_so (Err reason) is =

@@ -1,10 +1,6 @@
 -- Words and their bytes.
-use Rattle.std.proofs.Common.{◌≡◌, ◌≢◌, ℕ, Bool, true, false, List, [], ◌∷◌, ◌≤◌, ◌<◌, length, get_or, map, refl, ap, arith}
-use Rattle.std.specs.Str.{bytes_eq}
-use Rattle.std.proofs.lemmas.Slice.Eq.{bytes_eq-Decides}
-use Rattle.std.specs.Prelude.{◌||◌, ◌&&◌, not}
+use Rattle.idsm_run.proofs.Names.{◌≡◌, ◌≢◌, ℕ, Bool, true, false, List, [], ◌∷◌, ◌≤◌, ◌<◌, length, get_or, map, refl, ap, arith, bytes_eq, bytes_eq-Decides, ◌||◌, ◌&&◌, not, list_any}
 use Rattle.idsm_run.specs.Command.{are_names}
-use Rattle.idsm_run.specs.Names.{list_any}
 
 -- a test of mapped elements
 pub any_of_mapped : {A B : Type 0} (p : B → Bool) (f : A → B) (xs : List A) → list_any p (map f xs) ≡ list_any (λ x. p (f x)) xs
@@ -27,7 +23,7 @@ neither false b none = (refl, none)
 apart : (a b : List ℕ) → bytes_eq a b ≡ false → a ≢ b
 apart a b differ same = absurd (cc (differ, (bytes_eq-Decides a b).1 same))
 
--- three words, and four
+-- three words, and four, and five
 pub three_words : {A : Type 0} (f : A → List ℕ) (words : List A) (a b c : A) → 3 ≤ length words → length words < 4
     → a ≡ get_or words 0 a → b ≡ get_or words 1 b → c ≡ get_or words 2 c → map f words ≡ f a ∷ f b ∷ f c ∷ []
 three_words f [] a b c most least x y z = absurd (omega arith)
@@ -46,6 +42,13 @@ four_words f (p ∷ q ∷ r ∷ []) a b c d most least x y z w = absurd (omega a
 four_words f (p ∷ q ∷ r ∷ s ∷ []) a b c d most least x y z w = rw (x, y, z, w) refl
 four_words f (p ∷ q ∷ r ∷ s ∷ t ∷ ts) a b c d most least x y z w = absurd (omega arith)
 
+pub five_words : {A : Type 0} (f : A → List ℕ) (words : List A) (a b c d e : A) → 5 ≤ length words → length words < 6
+    → a ≡ get_or words 0 a → b ≡ get_or words 1 b → c ≡ get_or words 2 c → d ≡ get_or words 3 d → e ≡ get_or words 4 e
+    → map f words ≡ f a ∷ f b ∷ f c ∷ f d ∷ f e ∷ []
+five_words f [] a b c d e most least x y z w u = absurd (omega arith)
+five_words f (p ∷ ps) a b c d e most least x y z w u =
+    rw x (ap (λ rest. f p ∷ rest) (four_words f ps b c d e (omega (arith, most)) (omega (arith, least)) y z w u))
+
 pub fold_apart : (config journal messages memory : List ℕ) → are_names (config ∷ journal ∷ messages ∷ memory ∷ []) ≡ true
     → (config ≢ journal) × (messages ≢ memory)
 fold_apart config journal messages memory are =
@@ -60,3 +63,17 @@ check_apart config journal messages are =
     let two = first_apart _ _ _ one.1 in
     let first = neither _ _ one.0 in
     (apart config journal first.0, apart config messages (neither _ _ first.1).0, apart journal messages (neither _ _ two.0).0)
+
+pub replay_apart : (config trace messages memory journal : List ℕ)
+    → are_names (config ∷ trace ∷ messages ∷ memory ∷ journal ∷ []) ≡ true
+    → (config ≢ trace) × (messages ≢ memory) × (messages ≢ journal) × (memory ≢ journal)
+replay_apart config trace messages memory journal are =
+    let one = first_apart _ _ _ are in
+    let three = first_apart _ _ _ (first_apart _ _ _ one.1).1 in
+    let four = first_apart _ _ _ three.1 in
+    let own = neither _ _ three.0 in (
+      apart config trace (neither _ _ one.0).0,
+      apart messages memory own.0,
+      apart messages journal (neither _ _ own.1).0,
+      apart memory journal (neither _ _ four.0).0,
+    )

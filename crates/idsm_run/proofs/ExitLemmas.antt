@@ -1,6 +1,5 @@
 -- What a function answers that leaves early.
-use Rattle.std.proofs.Common.{◌≡◌, Ok, Err, sym, subst}
-use Rattle.std.specs.Prelude.{Result, IfErr}
+use Rattle.idsm_run.proofs.Names.{◌≡◌, Ok, Err, sym, subst, Result, IfErr}
 use Rattle.std.specs.Result.{IsErrAnd}
 
 -- an exit with this fault has what this fault has

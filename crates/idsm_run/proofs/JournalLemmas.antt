@@ -1,7 +1,5 @@
 -- What a journal that is folded says of its turns.
-use Rattle.std.proofs.Common.{◌≡◌, ℕ, ◌+◌, ◌≤◌, List, [], ◌∷◌, ◌++◌, length, map, reverse, true, refl, sym, subst, ap, ◌∙◌, arith, length-append, append_assoc, IfSome}
-use Rattle.idsm_run.specs.Words.{flat_map, AllByRecursion, Parts, Carried, Absent, Kept, Missing, Act, Report, State, SetMode, Entry, Turn, entries_of, Line, begins, enters, loses, turn_told, lines_told, line_for, IsJournal, told, messages_of, ends_of, Cuts}
-use Rattle.std.specs.Prelude.{nat_le, ◌&&◌}
+use Rattle.idsm_run.proofs.Names.{◌≡◌, ℕ, ◌+◌, ◌≤◌, List, [], ◌∷◌, ◌++◌, length, map, reverse, true, refl, sym, subst, ap, ◌∙◌, arith, length-append, append_assoc, IfSome, flat_map, AllByRecursion, Parts, Carried, Absent, Kept, Missing, Act, Report, State, SetMode, Entry, Turn, entries_of, Line, begins, enters, loses, turn_told, lines_told, line_for, IsJournal, told, messages_of, ends_of, Cuts, nat_le, ◌&&◌, and_parts, reverse_onto, length-map}
 use Rattle.chain.specs.Turning.{FitsAct}
 use Rattle.chain_plain.specs.Recorded.{CanFold, CanTake, RiseFrom}
 use Rattle.chain_spec.proofs.GrowthLemmas.{messages_grow}
@@ -11,9 +9,6 @@ use Rattle.std.proofs.lemmas.List.Elements.{All-from_recursion}
 use Rattle.ids_types.specs.declared.entry.TurnHead.{TurnHead}
 use Rattle.idsm_run.proofs.WritingLemmas.{cuts_go_on}
 use Rattle.text_spec.specs.JournalReading.{Follows}
-use Rattle.std.proofs.lemmas.Bool.{and_parts}
-use Rattle.std.proofs.lemmas.Grind.{reverse_onto}
-use Rattle.std.proofs.lemmas.List.{length-map}
 use Rattle.ids_types.specs.declared.loss.Loss.{Loss}
 use Rattle.text_spec.specs.JournalFaults.{is_call, is_context, is_act, has_event, is_in_ranges}
 use Rattle.text_spec.specs.Words.{text_of}

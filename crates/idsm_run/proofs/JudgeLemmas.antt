@@ -1,16 +1,9 @@
 -- What the input files of a command deserve, stage by stage.
-use Rattle.std.proofs.Common.{◌≡◌, ◌≢◌, ℕ, List, length, Option, None, Some, Ok, Err, IsTrue, refl, sym, subst, ◌∙◌, inl, inr, arith}
-use Rattle.std.specs.Prelude.{Result, Contains, nat_lt}
-use Rattle.std.specs.Str.{bytes_eq}
-use Rattle.std.proofs.lemmas.Bool.{false_from_ne_true, cases_Bool}
+use Rattle.idsm_run.proofs.Names.{◌≡◌, ◌≢◌, ℕ, List, length, Option, None, Some, Ok, Err, IsTrue, refl, sym, subst, ◌∙◌, inl, inr, arith, Result, Contains, nat_lt, bytes_eq, false_from_ne_true, cases_Bool, bytes_eq-Decides, Wanted, Refusal, MayRefuse, configuration, Parts, MessageParts, messages_read, BadMessage, CountsFault, Files, SameFiles, SameOthers, Shelved, Read, Turn, ConfigFault, BadConfig, BadJournal, BadTrace, BadMessages, Stop, CannotRead, TooLong, Refused, CannotWrite, NoMemory, Command, Recording, recording_of, FoldFiles, CheckFiles, MigrateFiles, fold, check, decode, gen, migrate, replay, ReplayFiles, AskedFor, asked_in, trace_judged, trace_in, Round, read_by, folded_in, file_of, without, config_found, journal_judged, judge, Task, does, replays, Recorded, recorded_in, check_judged, fold_work, decode_work, gen_work, migrate_work, bytes_of, KeepsConfig, StopsFor, ReadStops, StopsAs, plain_stop, stop_of_config}
 use Rattle.std.proofs.lemmas.Option.{same_Some, none-some}
-use Rattle.std.proofs.lemmas.Slice.Eq.{bytes_eq-Decides}
 use Rattle.text_spec.specs.Lines.{BadLine}
-use Rattle.gen_options.specs.Given.{Wanted}
 use Rattle.text_spec.specs.JournalText.{Told}
-use Rattle.idsm_run.specs.Names.{Refusal, messages_of}
-use Rattle.idsm_run.specs.Run.{MayRefuse}
-use Rattle.idsm_run.specs.Words.{configuration, Parts, MessageParts, messages_read, BadMessage, CountsFault, Files, SameFiles, SameOthers, Shelved, Read, Turn, ConfigFault, BadConfig, BadJournal, BadMessages, Stop, CannotRead, TooLong, Refused, CannotWrite, NoMemory, Command, Recording, recording_of, FoldFiles, CheckFiles, MigrateFiles, fold, check, decode, gen, migrate, read_by, folded_in, file_of, without, config_found, journal_judged, judge, Work, Recorded, recorded_in, check_judged, fold_work, decode_work, gen_work, migrate_work, bytes_of, KeepsConfig, StopsFor, ReadStops, StopsAs, plain_stop, stop_of_config}
+use Rattle.idsm_run.specs.Names.{messages_of}
 use Rattle.config_json.specs.Configured.{Tells}
 use Rattle.config_json.specs.declared.fault.JsonFault.{JsonFault}
 use Rattle.config_json.specs.declared.fault.JsonFault.TheVariants as faults
@@ -92,6 +85,7 @@ module _ (names : Recording) (command : Command) (reads : recording_of command �
       go (decode name) is = absurd (none-some names is)
       go (gen wanted) is = absurd (none-some names is)
       go (migrate files) is = absurd (none-some names is)
+      go (replay files) is = absurd (none-some names is)
 
   pub reads_config : Contains (read_by command) names.config
   reads_config = by_command (λ c n. Contains (read_by c) n.config) (λ f. (0, omega arith, refl)) (λ f. (0, omega arith, refl))
@@ -153,7 +147,7 @@ recording_found names files text config journal turns read is next judged = rw (
 
 -- the work of `fold` over it
 pub fold_found : (names : FoldFiles) (files : Files) (recorded : Recorded) → recorded_in names.from files ≡ Ok recorded
-    → judge (fold names) files ≡ Ok (fold_work names recorded.config recorded.turns)
+    → judge (fold names) files ≡ Ok (does (fold_work names recorded.config recorded.turns))
 unfolding Judge.judge
 fold_found names files recorded is = rw is refl
 
@@ -172,7 +166,7 @@ module _ (names : CheckFiles) (files : Files) (recorded : Recorded) (is : record
   messages_next config journal other reason same next =
       rw (same names.from.config config, same names.from.journal journal, is, next) refl
 
-  pub check_found : (bytes : List ℕ) (found : Result Work (Stop (List ℕ))) → file_of 67108864 names.messages files ≡ Ok bytes
+  pub check_found : (bytes : List ℕ) (found : Result Task (Stop (List ℕ))) → file_of 67108864 names.messages files ≡ Ok bytes
       → check_judged bytes (messages_of recorded.config recorded.turns) ≡ found → judge (check names) files ≡ found
   unfolding Judge.judge
   check_found bytes found read judged = rw (is, read) judged
@@ -216,9 +210,57 @@ module _ (names : MigrateFiles) (files : Files) where
     source_refused fault is = rw (read, is) refl
 
     pub source_found : (config : Parts) → configuration text ≡ Ok config
-        → judge (migrate names) files ≡ Ok (migrate_work names config)
+        → judge (migrate names) files ≡ Ok (does (migrate_work names config))
     unfolding Judge.judge
     source_found config is = rw (read, is) refl
+
+-- ---- the stages of `replay`
+
+-- it stopped where its configuration was refused
+pub replay_config : (names : ReplayFiles) (found : Result Parts ConfigFault) (refusal : Refusal)
+    → config_found found ≡ Err (Refused refusal) → MayRefuse (replay names) refusal
+replay_config names (Ok config) refusal is = absurd cc
+replay_config names (Err fault) refusal is =
+    let same : BadConfig fault ≡ refusal = cc is in subst (MayRefuse (replay names)) same tt
+
+-- and where its trace was
+pub replay_trace : (names : ReplayFiles) (found : Result (List Round) BadLine) (refusal : Refusal)
+    → trace_judged found ≡ Err (Refused refusal) → MayRefuse (replay names) refusal
+replay_trace names (Ok rounds) refusal is = absurd cc
+replay_trace names (Err bad) refusal is =
+    let same : BadTrace bad.line bad.fault ≡ refusal = cc is in subst (MayRefuse (replay names)) same tt
+
+module _ (names : ReplayFiles) (files : Files) where
+  pub asked_first : ComesTo (replay names) 1048576 names.config files
+  unfolding Judge.judge
+  asked_first other reason same is = rw is refl
+
+  module _ (text : List ℕ) (read : file_of 1048576 names.config files ≡ Ok text) where
+    pub asked_refused : (reason : Stop (List ℕ)) → config_found (configuration text) ≡ Err reason
+        → judge (replay names) files ≡ Err reason
+    unfolding Judge.judge
+    asked_refused reason is = rw (read, is) refl
+
+    module _ (config : Parts) (is : configuration text ≡ Ok config) where
+      pub trace_next : names.config ≢ names.trace → ComesTo (replay names) 16777216 names.trace files
+      unfolding Judge.judge
+      trace_next differ other reason same next = rw (same names.config differ, read, is, next) refl
+
+      module _ (trace : List ℕ) (next : file_of 16777216 names.trace files ≡ Ok trace) where
+        pub trace_refused : (reason : Stop (List ℕ)) → trace_judged (trace_in config trace) ≡ Err reason
+            → judge (replay names) files ≡ Err reason
+        unfolding Judge.judge
+        trace_refused reason judged = rw (read, is, next, judged) refl
+
+        pub trace_found : (rounds : List Round) → trace_judged (trace_in config trace) ≡ Ok rounds
+            → asked_in names files ≡ Ok (record { config = config; rounds = rounds })
+        trace_found rounds judged = rw (read, is, next, judged) refl
+
+-- what is asked for is to be replayed
+pub replay_found : (names : ReplayFiles) (files : Files) (asked : AskedFor) → asked_in names files ≡ Ok asked
+    → judge (replay names) files ≡ Ok (replays names asked.config asked.rounds)
+unfolding Judge.judge
+replay_found names files asked is = rw is refl
 
 -- ---- the stages of `decode`
 
@@ -234,13 +276,13 @@ module _ (name : List ℕ) (files : Files) where
     messages_refused bad is = rw (read, is) refl
 
     pub messages_found : (messages : List MessageParts) → messages_read bytes ≡ Ok messages
-        → judge (decode name) files ≡ Ok (decode_work messages)
+        → judge (decode name) files ≡ Ok (does (decode_work messages))
     unfolding Judge.judge
     messages_found messages is = rw (read, is) refl
 
 -- ---- generation
 
 -- options have their work, whatever the files hold
-pub gen_found : (wanted : Wanted) (files : Files) → judge (gen wanted) files ≡ Ok (gen_work wanted)
+pub gen_found : (wanted : Wanted) (files : Files) → judge (gen wanted) files ≡ Ok (does (gen_work wanted))
 unfolding Judge.judge
 gen_found wanted files = refl

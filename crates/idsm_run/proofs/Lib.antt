@@ -4,6 +4,8 @@ pub mod ExitLemmas
 pub mod FoldLemmas
 pub mod JournalLemmas
 pub mod JudgeLemmas
+pub mod Names
+pub mod ReplayLemmas
 pub mod RunLemmas
 pub mod WorkLemmas
 pub mod WritingLemmas

@@ -1,8 +1,7 @@
 -- How a command ended, how that was told, and what the files deserve.
-use Rattle.std.proofs.Common.{◌≡◌, ℕ, Bool, true, false, List, Option, None, Some, Ok, Err, Bor, IsTrue, refl, sym, subst, inl, inr}
-use Rattle.idsm_run.specs.Texts.{no_memory_text}
-use Rattle.std.specs.Prelude.{Result, IfOk, IfErr, Vec, ⊤}
-use Rattle.idsm_run.specs.Words.{Global, SameFiles, Shelved, Heard, PutCause, WriteFault, Failed, MemoryRefused, Stop, CannotRead, TooLong, Refused, CannotWrite, NoMemory, Command, EndsWith, EndsOrFails, Work, judge, Ran, RanCommand, EndsAs, StopsFor, WasDone, WasRefused, OneFails, Puts, Says, Tells, put_status, plain_stop, plain_end, stop_text, stop_status, answer_text, answer_status}
+use Rattle.idsm_run.proofs.Names.{◌≡◌, ℕ, Bool, true, false, List, Option, None, Some, Ok, Err, Bor, IsTrue, refl, sym, subst, inl, inr, no_memory_text, Result, IfOk, IfErr, Vec, ⊤, Global, SameFiles, Shelved, Heard, PutCause, WriteFault, Failed, MemoryRefused, Stop, CannotRead, TooLong, Refused, CannotWrite, NoMemory, Command, EndsWith, EndsOrFails, Task, judge, Ran, RanCommand, EndsAs, StopsFor, WasDone, WasRefused, OneFails, Puts, Says, Tells, put_status, plain_stop, plain_end, stop_text, stop_status, answer_text, answer_status}
+use Rattle.std.proofs.Common.{◌≢◌, arith}
+use Rattle.idsm_run.specs.Words.{DidWork, Does}
 
 module _ (command : Command) (status : ℕ) (old new : Shelved) (before after : Heard) where
   -- where there was no memory to tell that the inputs do not serve, memory was wanted
@@ -78,17 +77,38 @@ module _ (command : Command) (status : ℕ) (old new : Shelved) (before after : 
     unwritten fails (inr other) = inl (inr other)
 
     -- files that serve are not refused
-    pub served_ends : (answer : Result (List ℕ) (Stop (List ℕ))) (work : Work)
-        → judge command old.files ≡ Ok work → EndsAs command answer old new
+    pub served_ends : (answer : Result (List ℕ) (Stop (List ℕ))) (task : Task)
+        → judge command old.files ≡ Ok task → EndsAs command answer old new
         → Puts (answer_text answer) (answer_status answer) status before after
         → EndsOrFails 0 command status old new before after
-    served_ends (Ok said) work serves ends puts = inl (put_ends 0 _ puts)
-    served_ends (Err (CannotRead name)) work serves ends puts =
+    served_ends (Ok said) task serves ends puts = inl (put_ends 0 _ puts)
+    served_ends (Err (CannotRead name)) task serves ends puts =
         inl (inr (inr (inr (record { name = name; unread = ends }))))
-    served_ends (Err (TooLong name)) work serves ends puts = absurd (cc (ends.judged told, serves))
-    served_ends (Err (Refused refusal)) work serves ends puts = absurd (cc (ends.judged told, serves))
-    served_ends (Err CannotWrite) work serves ends puts = unwritten ends.fails (put_ends 7 _ puts)
-    served_ends (Err NoMemory) work serves ends puts = inl (starved 0 (put_ends 8 _ puts))
+    served_ends (Err (TooLong name)) task serves ends puts = absurd (cc (ends.judged told, serves))
+    served_ends (Err (Refused refusal)) task serves ends puts = absurd (cc (ends.judged told, serves))
+    served_ends (Err CannotWrite) task serves ends puts = unwritten ends.fails (put_ends 7 _ puts)
+    served_ends (Err NoMemory) task serves ends puts = inl (starved 0 (put_ends 8 _ puts))
+
+-- a status that is not 0 stays none, however its text was put
+never_done : (wanted : ℕ) (put : Result ⊤ WriteFault) → wanted ≢ 0 → 0 ≢ put_status wanted put
+never_done wanted (Ok done) some is = some (sym is)
+never_done wanted (Err Failed) some is = absurd cc
+never_done wanted (Err MemoryRefused) some is = absurd cc
+
+module _ (command : Command) (old new : Shelved) (before after : Heard) (told : IsTrue old.tells) (task : Task)
+    (serves : judge command old.files ≡ Ok task) where
+  -- a run that ended with 0 did work that its files ask for
+  pub did_work : (answer : Result (List ℕ) (Stop (List ℕ))) → EndsAs command answer old new
+      → Puts (answer_text answer) (answer_status answer) 0 before after → DidWork task new
+  did_work (Ok said) ends puts =
+      let all = ends.written told in
+      let same : all.task ≡ task = cc (sym all.judged, serves) in
+      record { work = all.work; is_work = subst (λ (t : Task). Does t all.work) same all.is_work; written = all.written }
+  did_work (Err (CannotRead name)) ends puts = absurd (never_done 3 puts.put (omega arith) puts.is)
+  did_work (Err (TooLong name)) ends puts = absurd (cc (ends.judged told, serves))
+  did_work (Err (Refused refusal)) ends puts = absurd (cc (ends.judged told, serves))
+  did_work (Err CannotWrite) ends puts = absurd (never_done 7 puts.put (omega arith) puts.is)
+  did_work (Err NoMemory) ends puts = absurd (never_done 8 puts.put (omega arith) puts.is)
 
 -- where memory was wanted to read the words
 pub words_starved : (command : Option Command) (by_clap : Bool) (status : ℕ) (old : Shelved) (before after : Heard) → IsTrue by_clap

@@ -1,12 +1,9 @@
 -- The work of a command, from its inputs to its outputs.
-use Rattle.std.proofs.Common.{◌≡◌, ℕ, List, Ok, Err, IsTrue, sym, subst, inr}
-use Rattle.std.specs.Prelude.{Result, Contains, IfErr}
-use Rattle.idsm_run.specs.Names.{Faults}
-use Rattle.idsm_run.specs.Words.{written_by, WriteFails, WantsMemory, SameFiles, Shelved, WriteFault, Failed, MemoryRefused, Command, Work, judge, KeepsConfig, WasDone, StopsFor, OneFails, PartWritten, plain_stop, AreWritten, StandUpTo, stop_of_write}
+use Rattle.idsm_run.proofs.Names.{◌≡◌, ℕ, List, Ok, Err, IsTrue, sym, subst, inr, Result, Contains, IfErr, Faults, written_by, WriteFails, WantsMemory, SameFiles, Shelved, WriteFault, Failed, MemoryRefused, Command, Task, Does, Work, judge, KeepsConfig, WasDone, StopsFor, OneFails, PartWritten, plain_stop, AreWritten, StandUpTo, stop_of_write}
 use Rattle.idsm_run.proofs.WritingLemmas.{StandUpTo-before}
 
-module _ (command : Command) (work : Work) (old middle new : Shelved)
-    (found : IsTrue old.tells → judge command old.files ≡ Ok work) (tells : middle.tells ≡ old.tells) where
+module _ (command : Command) (task : Task) (work : Work) (is : Does task work) (old middle new : Shelved)
+    (found : IsTrue old.tells → judge command old.files ≡ Ok task) (tells : middle.tells ≡ old.tells) where
   -- all outputs were written
   pub all_written : (said : List ℕ) → said ≡ work.said
       → (IsTrue middle.tells → AreWritten work.outputs new.files)
@@ -14,8 +11,10 @@ module _ (command : Command) (work : Work) (old middle new : Shelved)
       → new.faults ≡ old.faults → WasDone command said old new
   all_written said text written keeps faults = record {
     written = λ told. record {
-      work = work;
+      task = task;
       judged = found told;
+      work = work;
+      is_work = is;
       written = written (subst IsTrue (sym tells) told);
       text = text;
       keeps = keeps told;
@@ -28,8 +27,10 @@ module _ (command : Command) (work : Work) (old middle new : Shelved)
       → (IsTrue middle.tells → StandUpTo work.outputs middle.files new.files)
       → IsTrue old.tells → PartWritten command old.files new.files
   part_written same stands told = record {
-    work = work;
+    task = task;
     judged = found told;
+    work = work;
+    is_work = is;
     place = StandUpTo-before work.outputs old.files middle.files new.files (same told)
         (stands (subst IsTrue (sym tells) told));
   }

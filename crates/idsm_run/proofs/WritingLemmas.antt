@@ -1,10 +1,8 @@
 -- A file that is written piece by piece.
-use Rattle.std.proofs.Common.{◌≡◌, ℕ, ◌+◌, ◌-◌, ◌≤◌, List, [], ◌∷◌, ◌++◌, take, drop, Some, Ok, Err, refl, sym, subst, ap, ◌∙◌, arith, inl, inr}
-use Rattle.std.specs.Prelude.{Result, OnOk, OnErr}
-use Rattle.std.proofs.lemmas.List.{take-take, length-take}
+use Rattle.idsm_run.proofs.Names.{◌≡◌, ℕ, ◌+◌, ◌-◌, ◌≤◌, List, [], ◌∷◌, ◌++◌, take, drop, Some, Ok, Err, refl, sym, subst, ap, ◌∙◌, arith, inl, inr, Result, OnOk, OnErr, take-take, length-take, AppendMakes}
 use Rattle.std.proofs.Math.Path.{fun_ext}
 use Rattle.std.proofs.Math.Seq.{take-add}
-use Rattle.idsm_run.specs.Names.{Files, SameFiles, AppendMakes, WriteFault, Failed, MemoryRefused}
+use Rattle.idsm_run.specs.Names.{Files, SameFiles, WriteFault, Failed, MemoryRefused}
 use Rattle.idsm_run.specs.Writing.{Output, HoldsPart, StandUpTo, Cuts}
 
 -- what an append of the next piece leaves: the bytes up to its end, or a first part of them

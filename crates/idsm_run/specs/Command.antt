@@ -26,6 +26,14 @@ pub record MigrateFiles : Type 0 where
   pub config : List ℕ
   pub target : List ℕ
 
+-- the files that `replay` names: a configuration and a trace that it reads, and three that it writes
+pub record ReplayFiles : Type 0 where
+  pub config : List ℕ
+  pub trace : List ℕ
+  pub messages : List ℕ
+  pub memory : List ℕ
+  pub journal : List ℕ
+
 -- what a run is asked to do
 pub data Command : Type 0 where
   fold : FoldFiles → Command
@@ -33,6 +41,7 @@ pub data Command : Type 0 where
   decode : List ℕ → Command
   gen : Wanted → Command
   migrate : MigrateFiles → Command
+  replay : ReplayFiles → Command
 
 -- a word that may be a name: it is not empty
 abbrev pub is_name : List ℕ → Bool
@@ -93,7 +102,8 @@ migrate_of (config ∷ target ∷ []) =
     if are_names (config ∷ target ∷ []) then Some (migrate (record { config = config; target = target })) else None
 migrate_of names = None
 
--- the command of the words behind the program's name, none where they are not in form
+-- the command of the words behind the program's name, none where they are not in form; those of a replay have
+-- a reading of their own
 abbrev pub command_of : List (List ℕ) → Option Command
 command_of [] = None
 command_of (word ∷ names) =
@@ -104,6 +114,24 @@ command_of (word ∷ names) =
     else if bytes_eq word (codes "migrate") then migrate_of names
     else None
 
+-- the words ask for a replay
+abbrev pub asks_replay : List (List ℕ) → Bool
+asks_replay [] = false
+asks_replay (word ∷ names) = bytes_eq word (codes "replay")
+
+-- the files of the words behind `replay`
+abbrev pub replay_names : List (List ℕ) → Option ReplayFiles
+replay_names (config ∷ trace ∷ messages ∷ memory ∷ journal ∷ []) =
+    if are_names (config ∷ trace ∷ messages ∷ memory ∷ journal ∷ []) then
+    Some (record { config = config; trace = trace; messages = messages; memory = memory; journal = journal })
+    else None
+replay_names names = None
+
+-- the files of a replay that the words behind the program's name ask for, none where they are not in form
+abbrev pub replay_of : List (List ℕ) → Option ReplayFiles
+replay_of [] = None
+replay_of (word ∷ names) = if bytes_eq word (codes "replay") then replay_names names else None
+
 -- the files that the command reads, in the order in which it reads them
 abbrev pub read_by : Command → List (List ℕ)
 read_by (fold files) = files.from.config ∷ files.from.journal ∷ []
@@ -111,6 +139,7 @@ read_by (check files) = files.from.config ∷ files.from.journal ∷ files.messa
 read_by (decode messages) = messages ∷ []
 read_by (gen wanted) = []
 read_by (migrate files) = files.config ∷ []
+read_by (replay files) = files.config ∷ files.trace ∷ []
 
 -- the recording that the command reads before all else, where it reads one
 abbrev pub recording_of : Command → Option Recording
@@ -125,6 +154,7 @@ written_by (check files) = []
 written_by (decode messages) = []
 written_by (gen wanted) = wanted.config ∷ wanted.trace ∷ wanted.journal ∷ []
 written_by (migrate files) = files.target ∷ []
+written_by (replay files) = files.messages ∷ files.memory ∷ files.journal ∷ []
 
 -- the name is none of these
 abbrev pub IsNoneOf : List (List ℕ) → List ℕ → Type 0

@@ -7,8 +7,9 @@ use Rattle.idsm_run.specs.declared.command.CheckNames.{CheckNames}
 use Rattle.idsm_run.specs.declared.command.RecordingNames.{RecordingNames}
 use Rattle.idsm_run.specs.declared.command.MigrateNames.{MigrateNames}
 use Rattle.idsm_run.specs.declared.command.Request.{Request}
+use Rattle.idsm_run.specs.declared.replay_words.ReplayNames.{ReplayNames}
 use Rattle.idsm_run.specs.declared.command.Request.TheVariants.{Fold, Check, Decode, Gen, Migrate}
-use Rattle.idsm_run.specs.Command.{Recording, FoldFiles, CheckFiles, MigrateFiles, Command, fold, check, decode, gen, migrate}
+use Rattle.idsm_run.specs.Command.{Recording, FoldFiles, CheckFiles, MigrateFiles, ReplayFiles, Command, fold, check, decode, gen, migrate}
 
 -- the names of a recording as bytes
 abbrev pub recording : RecordingNames → Recording
@@ -30,6 +31,16 @@ three_of names = record { from = recording names.from; messages = names.messages
 abbrev pub pair_of : MigrateNames → MigrateFiles
 pair_of names = record { config = names.config.now; target = names.target.now }
 
+-- the same of `replay`
+abbrev pub five_of : ReplayNames → ReplayFiles
+five_of names = record {
+  config = names.config.now;
+  trace = names.trace.now;
+  messages = names.messages.now;
+  memory = names.memory.now;
+  journal = names.journal.now;
+}
+
 -- the command that is asked for
 abbrev pub asked : Request → Command
 asked (Fold names) = fold (files_of names)
@@ -48,3 +59,10 @@ CanRun (Gen given) =
     IsTrue (is_in_range given.options) × (given.config.now ≢ given.trace.now)
     × (given.config.now ≢ given.journal.now) × (given.trace.now ≢ given.journal.now)
 CanRun other = ⊤
+
+-- a replay can be done: its names differ
+pub record CanReplay (names : ReplayNames) : Type 0 where
+  pub inputs : names.config.now ≢ names.trace.now
+  pub first_two : names.messages.now ≢ names.memory.now
+  pub outer_two : names.messages.now ≢ names.journal.now
+  pub last_two : names.memory.now ≢ names.journal.now

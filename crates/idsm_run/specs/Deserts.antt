@@ -2,7 +2,9 @@
 use Rattle.std.specs.Prelude.{◌≡◌, ◌⊎◌, ℕ, List}
 use Rattle.idsm_run.specs.Names.{Shelved, Heard, MissesOne, Failed}
 use Rattle.idsm_run.specs.Command.{Command}
+use Rattle.idsm_run.specs.Judge.{Task, Does}
 use Rattle.idsm_run.specs.Run.{OneFails, WasUnread}
+use Rattle.idsm_run.specs.Writing.{Work, AreWritten}
 
 -- a read failed, and all that is read before it served
 pub record FailedBefore (command : Command) (old new : Shelved) : Type 0 where
@@ -21,3 +23,9 @@ abbrev pub EndsOrFails : ℕ → Command → ℕ → Shelved → Shelved → Hea
 EndsOrFails wanted command status old new before after =
     EndsWith wanted command status old new before after
     ⊎ ((status ≡ 7) × OneFails command old.faults new.faults Failed)
+
+-- work that the task asks for was done: each of its files is there, whole
+pub record DidWork (task : Task) (new : Shelved) : Type 0 where
+  pub work : Work
+  pub is_work : Does task work
+  pub written : AreWritten work.outputs new.files

@@ -1,15 +1,16 @@
--- What the input files of a command deserve: the work that they ask for, or why the command has to stop,
+-- What the input files of a command deserve: what they ask for, or why the command has to stop,
 -- in the order in which files are read and judged.
 -- Source: docs/COMMANDS.md, "Order of work".
-use Rattle.std.specs.Prelude.{ℕ, nat_eq, List, [], ◌∷◌, codes, length, nat_lt, Option, Some, None, Result, Ok, Err, if◌then◌else◌, bytes_eq}
+use Rattle.std.specs.Prelude.{◌≡◌, ℕ, nat_eq, List, [], ◌∷◌, codes, length, nat_lt, Option, Some, None, Result, Ok, Err, if◌then◌else◌, bytes_eq}
 use Rattle.std.specs.List.{common_prefix_len}
-use Rattle.idsm_run.specs.Names.{configuration, config_text, Parts, ConfigFault, MessageParts, messages_read, BadMessage, Files, Turn, decoded_text, messages_of, rows_of, memory_text, BadLine, Told, BadConfig, BadJournal, BadMessages, Differ, Stop, CannotRead, TooLong, Refused}
+use Rattle.idsm_run.specs.Names.{configuration, config_text, Parts, ConfigFault, MessageParts, messages_read, BadMessage, Files, Turn, Round, decoded_text, messages_of, rows_of, memory_text, trace_in, BadLine, Told, BadConfig, BadJournal, BadTrace, BadMessages, Differ, Stop, CannotRead, TooLong, Refused}
 use Rattle.gen_options.specs.Given.{Wanted}
 use Rattle.trace_gen.specs.Generated.{config_for, trace_for, journal_for, line_for}
-use Rattle.idsm_run.specs.Command.{Command, fold, check, decode, gen, migrate, Recording, FoldFiles, MigrateFiles}
+use Rattle.idsm_run.specs.Command.{Command, fold, check, decode, gen, migrate, replay, Recording, FoldFiles, MigrateFiles, ReplayFiles}
 use Rattle.idsm_run.specs.Fold.{fold_outputs, fold_text}
 use Rattle.idsm_run.specs.FoldedJournal.{folded_in, ◌>>=◌}
-use Rattle.idsm_run.specs.Writing.{Output}
+use Rattle.idsm_run.specs.Replay.{IsReplayWork}
+use Rattle.idsm_run.specs.Writing.{Output, Work}
 
 -- ---- files
 
@@ -57,12 +58,36 @@ recorded_in names files = do
   turns ← journal_judged (folded_in config journal)
   Ok (record { config = config; turns = turns })
 
+-- the rounds of a trace
+abbrev pub trace_judged : Result (List Round) BadLine → Result (List Round) (Stop (List ℕ))
+trace_judged (Ok rounds) = Ok rounds
+trace_judged (Err bad) = Err (Refused (BadTrace bad.line bad.fault))
+
+-- a configuration, and the rounds of a trace under it
+pub record AskedFor : Type 0 where
+  pub config : Parts
+  pub rounds : List Round
+
+-- what the input files of a replay ask for: the configuration is judged before the trace is read
+abbrev pub asked_in : ReplayFiles → Files → Result AskedFor (Stop (List ℕ))
+asked_in names files = do
+  text ← file_of 1048576 names.config files
+  config ← config_found (configuration text)
+  trace ← file_of 16777216 names.trace files
+  rounds ← trace_judged (trace_in config trace)
+  Ok (record { config = config; rounds = rounds })
+
 -- ---- the work of commands
 
--- what a command has to do: the files that it writes, in their order, and the text that it puts
-pub record Work : Type 0 where
-  pub outputs : List Output
-  pub said : List ℕ
+-- what a command has to do: this work, or a replay of these rounds
+pub data Task : Type 0 where
+  does : Work → Task
+  replays : ReplayFiles → Parts → List Round → Task
+
+-- the work is one that the task asks for: of a replay, that of one history
+abbrev pub Does : Task → Work → Type 0
+Does (does own) work = work ≡ own
+Does (replays names config rounds) work = IsReplayWork names config rounds work
 
 -- the messages that the chain sends for the turns, the text of its event memory, and the line that counts them
 abbrev pub fold_work : FoldFiles → Parts → List Turn → Work
@@ -77,9 +102,9 @@ compared said = record { outputs = []; said = said }
 
 -- no file and a line that says so, where the bytes are those that were sent; else the first place at which they
 -- differ, which is the end of the shorter ones where these are a first part of the others
-abbrev pub check_judged : (bytes sent : List ℕ) → Result Work (Stop (List ℕ))
+abbrev pub check_judged : (bytes sent : List ℕ) → Result Task (Stop (List ℕ))
 check_judged bytes sent =
-    if bytes_eq bytes sent then Ok (compared (codes "same\n"))
+    if bytes_eq bytes sent then Ok (does (compared (codes "same\n")))
     else Err (Refused (Differ (common_prefix_len nat_eq bytes sent)))
 
 -- no file, and a line for each message
@@ -103,12 +128,12 @@ migrate_work names config = record {
   said = codes "form 2\n";
 }
 
--- the work of a command over these files, or why they do not serve: each file is read and judged before
+-- what a command has to do over these files, or why they do not serve: each file is read and judged before
 -- the next
-unfoldable pub judge : Command → Files → Result Work (Stop (List ℕ))
+unfoldable pub judge : Command → Files → Result Task (Stop (List ℕ))
 judge (fold names) files = do
   recorded ← recorded_in names.from files
-  Ok (fold_work names recorded.config recorded.turns)
+  Ok (does (fold_work names recorded.config recorded.turns))
 judge (check names) files = do
   recorded ← recorded_in names.from files
   bytes ← file_of 67108864 names.messages files
@@ -116,9 +141,12 @@ judge (check names) files = do
 judge (decode name) files = do
   bytes ← file_of 67108864 name files
   messages ← messages_judged (messages_read bytes)
-  Ok (decode_work messages)
-judge (gen wanted) files = Ok (gen_work wanted)
+  Ok (does (decode_work messages))
+judge (gen wanted) files = Ok (does (gen_work wanted))
 judge (migrate names) files = do
   text ← file_of 1048576 names.config files
   config ← config_found (configuration text)
-  Ok (migrate_work names config)
+  Ok (does (migrate_work names config))
+judge (replay names) files = do
+  asked ← asked_in names files
+  Ok (replays names asked.config asked.rounds)

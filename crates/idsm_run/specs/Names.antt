@@ -22,15 +22,19 @@ pub use Rattle.ids_types.specs.declared.entry.Act.TheVariants.{Report, State, Se
 pub use Rattle.ids_types.specs.declared.entry.Carried.{Carried}
 pub use Rattle.ids_types.specs.declared.entry.Carried.TheVariants.{Kept, Absent, Missing}
 pub use Rattle.ids_types.specs.declared.entry.Entry.{Entry}
+pub use Rattle.ids_types.specs.declared.loss.Loss.{Loss}
 pub use Rattle.idsm_run.specs.declared.stop.Refusal.{Refusal}
-pub use Rattle.idsm_run.specs.declared.stop.Refusal.TheVariants.{BadConfig, BadJournal, BadMessages, Differ}
+pub use Rattle.idsm_run.specs.declared.stop.Refusal.TheVariants.{BadConfig, BadJournal, BadTrace, BadMessages, Differ}
 pub use Rattle.idsm_run.specs.declared.stop.Stop.{Stop}
 pub use Rattle.idsm_run.specs.declared.stop.Stop.TheVariants.{CannotRead, TooLong, Refused, CannotWrite, NoMemory}
 pub use Rattle.journal.specs.Answers.{told}
+pub use Rattle.merge_spec.specs.Contexts.{misses_context}
+pub use Rattle.merge_spec.specs.Rounds.{Round}
 pub use Rattle.std.specs.List.{AllByRecursion, flat_map, list_any}
 pub use Rattle.std.specs.declared.alloc.Global.{Global}
 pub use Rattle.text_spec.specs.DecodedText.{decoded_text}
 pub use Rattle.text_spec.specs.MemoryText.{memory_text}
 pub use Rattle.text_spec.specs.JournalReading.{journal_in, IsJournal}
 pub use Rattle.text_spec.specs.Lines.{BadLine}
-pub use Rattle.text_spec.specs.JournalText.{Told, Line, begins, enters, loses, turn_told, lines_told, line_for}
+pub use Rattle.text_spec.specs.TraceReading.{trace_in}
+pub use Rattle.text_spec.specs.JournalText.{Told, Line, begins, enters, loses, turn_told, lines_told, line_for, journal_text}

@@ -2,12 +2,12 @@
 -- and its text.
 -- Source: docs/COMMANDS.md.
 use Rattle.std.specs.Prelude.{◌≡◌, ◌⊎◌, ℕ, Bool, true, false, List, [], IsTrue, Option, Some, None, option_map, Result, Ok, Err, Contains}
-use Rattle.idsm_run.specs.Names.{configuration, Faults, Rose, CountsFault, Files, SameFiles, Shelved, Heard, Read, WriteFault, Failed, Refusal, BadConfig, BadMessages, Differ, Stop, CannotRead, TooLong, Refused, CannotWrite, NoMemory}
-use Rattle.idsm_run.specs.Command.{Command, fold, check, decode, gen, migrate, read_by, written_by}
-use Rattle.idsm_run.specs.Judge.{Work, judge, without}
+use Rattle.idsm_run.specs.Names.{configuration, Faults, Rose, CountsFault, Files, SameFiles, Shelved, Heard, Read, WriteFault, Failed, Refusal, BadConfig, BadTrace, BadMessages, Differ, Stop, CannotRead, TooLong, Refused, CannotWrite, NoMemory}
+use Rattle.idsm_run.specs.Command.{Command, fold, check, decode, gen, migrate, replay, read_by, written_by}
+use Rattle.idsm_run.specs.Judge.{Task, Does, judge, without}
 use Rattle.idsm_run.specs.Saying.{Puts, Says}
 use Rattle.idsm_run.specs.Texts.{usage, answer_text, answer_status}
-use Rattle.idsm_run.specs.Writing.{AreWritten, StandUpTo, WriteFails}
+use Rattle.idsm_run.specs.Writing.{Work, AreWritten, StandUpTo, WriteFails}
 
 -- ---- inputs that do not serve
 
@@ -15,14 +15,19 @@ use Rattle.idsm_run.specs.Writing.{AreWritten, StandUpTo, WriteFails}
 abbrev pub MayRefuse : Command → Refusal → Type 0
 MayRefuse (fold files) (BadMessages bad) = ⊥
 MayRefuse (fold files) (Differ at) = ⊥
+MayRefuse (fold files) (BadTrace line number) = ⊥
 MayRefuse (fold files) refusal = Unit {0}
 MayRefuse (check files) (BadMessages bad) = ⊥
+MayRefuse (check files) (BadTrace line number) = ⊥
 MayRefuse (check files) refusal = Unit {0}
 MayRefuse (decode name) (BadMessages bad) = Unit {0}
 MayRefuse (decode name) refusal = ⊥
 MayRefuse (gen wanted) refusal = ⊥
 MayRefuse (migrate files) (BadConfig fault) = Unit {0}
 MayRefuse (migrate files) refusal = ⊥
+MayRefuse (replay files) (BadConfig fault) = Unit {0}
+MayRefuse (replay files) (BadTrace line number) = Unit {0}
+MayRefuse (replay files) refusal = ⊥
 
 -- the command may stop so at its input files, whatever they hold
 abbrev pub MayStop : Command → Stop (List ℕ) → Type 0
@@ -55,16 +60,20 @@ KeepsConfig other old new = Unit {0}
 
 -- the files hold what the work of their old contents asks for
 pub record AllWritten (command : Command) (old new : Files) (said : List ℕ) : Type 0 where
+  pub task : Task
+  pub judged : judge command old ≡ Ok task
   pub work : Work
-  pub judged : judge command old ≡ Ok work
+  pub is_work : Does task work
   pub written : AreWritten work.outputs new
   pub text : said ≡ work.said
   pub keeps : KeepsConfig command old new
 
 -- the work of their old contents was written up to some place
 pub record PartWritten (command : Command) (old new : Files) : Type 0 where
+  pub task : Task
+  pub judged : judge command old ≡ Ok task
   pub work : Work
-  pub judged : judge command old ≡ Ok work
+  pub is_work : Does task work
   pub place : StandUpTo work.outputs old new
 
 -- the command did its work, with this text

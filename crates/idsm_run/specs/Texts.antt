@@ -1,7 +1,7 @@
 -- The statuses and the texts of how a run ends.
 -- Source: docs/COMMANDS.md.
 use Rattle.std.specs.Prelude.{ℕ, ◌++◌, List, Result, Ok, Err, codes, decimal}
-use Rattle.idsm_run.specs.Names.{ConfigFault, BadMessage, Refusal, BadConfig, BadJournal, BadMessages, Differ, Stop, CannotRead, TooLong, Refused, CannotWrite, NoMemory}
+use Rattle.idsm_run.specs.Names.{ConfigFault, BadMessage, Refusal, BadConfig, BadJournal, BadTrace, BadMessages, Differ, Stop, CannotRead, TooLong, Refused, CannotWrite, NoMemory}
 use Rattle.ids_config.specs.declared.fault.ConfigPlace.{ConfigPlace}
 use Rattle.ids_config.specs.declared.fault.ConfigPlace.TheVariants.{Top, Class, Event}
 use Rattle.ids_frame.specs.declared.fault.FrameFault.{FrameFault}
@@ -10,7 +10,8 @@ use Rattle.ids_frame.specs.declared.fault.FrameFault.TheVariants.{Short, Unknown
 -- the usage, with the commands that are built
 abbrev pub usage : List ℕ
 usage =
-    codes "usage: idsm fold CONFIG JOURNAL MESSAGES MEMORY\n" ++ codes "       idsm check CONFIG JOURNAL MESSAGES\n"
+    codes "usage: idsm replay CONFIG TRACE MESSAGES MEMORY JOURNAL\n"
+    ++ codes "       idsm fold CONFIG JOURNAL MESSAGES MEMORY\n" ++ codes "       idsm check CONFIG JOURNAL MESSAGES\n"
     ++ codes "       idsm decode MESSAGES\n"
     ++ codes "       idsm gen [--start N] [--callers N] [--rounds N] [--events N] CONFIG TRACE JOURNAL\n"
     ++ codes "       idsm migrate CONFIG NEW\n"
@@ -34,6 +35,11 @@ abbrev pub bad_journal_text : ℕ → ℕ → List ℕ
 bad_journal_text line number =
     codes "bad journal line " ++ (decimal line ++ (codes ": " ++ (decimal number ++ codes "\n")))
 
+-- the line `bad trace line L: N`
+abbrev pub bad_trace_text : ℕ → ℕ → List ℕ
+bad_trace_text line number =
+    codes "bad trace line " ++ (decimal line ++ (codes ": " ++ (decimal number ++ codes "\n")))
+
 -- the word for a fault of a message
 abbrev pub fault_word : FrameFault → List ℕ
 fault_word Short = codes "short"
@@ -53,6 +59,7 @@ differs_text at = codes "differs at " ++ (decimal at ++ codes "\n")
 abbrev pub refusal_text : Refusal → List ℕ
 refusal_text (BadConfig fault) = bad_config_text fault
 refusal_text (BadJournal line number) = bad_journal_text line number
+refusal_text (BadTrace line number) = bad_trace_text line number
 refusal_text (BadMessages bad) = bad_message_text bad
 refusal_text (Differ at) = differs_text at
 
@@ -60,6 +67,7 @@ refusal_text (Differ at) = differs_text at
 abbrev pub refusal_status : Refusal → ℕ
 refusal_status (BadConfig fault) = 5
 refusal_status (BadJournal line number) = 6
+refusal_status (BadTrace line number) = 6
 refusal_status (Differ at) = 9
 refusal_status (BadMessages bad) = 10
 

@@ -7,6 +7,11 @@ pub record Output : Type 0 where
   pub name : List ℕ
   pub bytes : List ℕ
 
+-- what is to be done: the files that are written, in their order, and the text that is put
+pub record Work : Type 0 where
+  pub outputs : List Output
+  pub said : List ℕ
+
 -- each file is there, whole
 abbrev pub AreWritten : List Output → Files → Type 0
 AreWritten [] new = Unit {0}

@@ -169,7 +169,7 @@ fn parse_migrate(words: &[String]) -> Option<Request<'_>>
 }
 
 /// No word is empty, and no two are the same.
-fn names_differ(words: &[String]) -> bool
+pub(crate) fn names_differ(words: &[String]) -> bool
     ensures { result ≡ are_names (map string_bytes words.now) }
 {
     let mut left = words;

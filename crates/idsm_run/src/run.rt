@@ -1,5 +1,5 @@
 ghost use Rattle.std.specs.Prelude.{◌≡◌, ℕ, List, Ok, Err, IsTrue, map, string_bytes};
-ghost use Rattle.idsm_run.specs.Words.{Shelved, Heard, Stop, Command, command_of, are_read_by_clap, SameBut, EndsWith, EndsOrFails, Work, judge, Ran, RanCommand, written_of, stop_status};
+ghost use Rattle.idsm_run.specs.Words.{Shelved, Heard, Stop, Command, command_of, are_read_by_clap, SameBut, EndsWith, EndsOrFails, DidWork, Task, judge, Ran, RanCommand, written_of, stop_status, replay_of, Replays, written_in};
 
 use crate::check::check;
 use crate::command::{Request, parse};
@@ -7,14 +7,19 @@ use crate::decode::decode_file;
 use crate::fold::fold;
 use crate::generating::generate_files;
 use crate::migrate::migrate;
-use crate::saying::{say, tell};
+use crate::replay_words::parse_replay;
+use crate::replaying::replay_files;
+use crate::saying::{say, tell, tell_replay};
 use crate::status::{BAD_WORDS, NO_MEMORY};
 use ids_outside::{Shelf, Sink};
 use ids_types::NoMemory;
 use std::alloc::Global;
+use std::thread::Threads;
+use trace_replay::{Gate, RunManager};
 
 /// The usage, with the commands that are built.
-const USAGE: &[u8] = b"usage: idsm fold CONFIG JOURNAL MESSAGES MEMORY
+const USAGE: &[u8] = b"usage: idsm replay CONFIG TRACE MESSAGES MEMORY JOURNAL
+       idsm fold CONFIG JOURNAL MESSAGES MEMORY
        idsm check CONFIG JOURNAL MESSAGES
        idsm decode MESSAGES
        idsm gen [--start N] [--callers N] [--rounds N] [--events N] CONFIG TRACE JOURNAL
@@ -58,16 +63,48 @@ pub fn run_plain<H: Shelf, K: Sink>(
     }
 }
 
+/// Runs the replay that the words behind the program's name ask for, and returns its status, with the manager that
+/// made the turns where the status is 0.
+///
+/// `replay CONFIG TRACE MESSAGES MEMORY JOURNAL` replays a trace: its callers, each in a thread of its own, beside
+/// the turns of a manager; and it writes the messages, the event memory and the journal of the history that this
+/// gave.
+pub fn run_replay<R: Threads + Sync, H: Shelf, K: Sink, G: Gate + Sync>(
+    rt: &R,
+    alloc: Global,
+    words: &[String],
+    shelf: &mut H,
+    out: &mut K,
+    gate: &G,
+) -> (u8, Option<RunManager>)
+    // What the run did or why it stopped, with its status, its text, what stands in the files, and its manager.
+    ensures ran { Replays (replay_of (map string_bytes words.now)) result.1 result.0
+        (H.shows shelf.old) (H.shows shelf.new) (K.hears out.old) (K.hears out.new) }
+
+    // Whatever the status, no file changes but those that the replay writes.
+    ensures others { IsTrue (H.shows shelf.old).tells → SameBut
+        (written_in (replay_of (map string_bytes words.now)))
+        (H.shows shelf.old).files (H.shows shelf.new).files }
+{
+    match parse_replay(words) {
+        None => (say(USAGE, BAD_WORDS, out), None),
+        Some(names) => tell_replay(alloc, replay_files(rt, alloc, names, shelf, gate), out),
+    }
+}
+
 /// What the input files deserve decides how a run over a shelf that tells them ends: with the status of
 /// their refusal, or with 0. Only want of memory, the put of the text, a write, or an earlier read that
-/// failed can end it otherwise.
+/// failed can end it otherwise. A run that ended with 0 did work that they ask for.
 pub fn files_decide_the_answer()
     ensures refused { (command : Command) (status : ℕ) (old new : Shelved) (before after : Heard)
         (reason : Stop (List ℕ)) → RanCommand command status old new before after →
         IsTrue old.tells → judge command old.files ≡ Err reason →
         EndsWith (stop_status reason) command status old new before after }
     ensures served { (command : Command) (status : ℕ) (old new : Shelved) (before after : Heard)
-        (work : Work) → RanCommand command status old new before after →
-        IsTrue old.tells → judge command old.files ≡ Ok work →
+        (task : Task) → RanCommand command status old new before after →
+        IsTrue old.tells → judge command old.files ≡ Ok task →
         EndsOrFails 0 command status old new before after }
+    ensures done { (command : Command) (old new : Shelved) (before after : Heard)
+        (task : Task) → RanCommand command 0 old new before after →
+        IsTrue old.tells → judge command old.files ≡ Ok task → DidWork task new }
 {}

@@ -1,8 +1,9 @@
 //! The one text that a run puts to its sink.
 
 ghost use Rattle.std.specs.Prelude.{◌≡◌, List, ℕ, Err, IfOk, string_bytes};
-ghost use Rattle.idsm_run.specs.Words.{Puts, Says, Tells, plain_end, bad_config_text, bad_message_text, Refused};
+ghost use Rattle.idsm_run.specs.Words.{Puts, Says, Tells, plain_end, bad_config_text, bad_message_text, Refused, IsAnswered, TellsReplay};
 
+use crate::replaying::Written;
 use crate::status::{
     BAD_CONFIG, BAD_JOURNAL, BAD_MESSAGE, CANNOT_READ, CANNOT_WRITE, DIFFERS, DONE, NO_MEMORY,
     TOO_LONG,
@@ -12,6 +13,7 @@ use ids_config::{ConfigFault, ConfigPlace};
 use ids_frame::{BadMessage, FrameFault};
 use ids_outside::{Sink, WriteFault};
 use std::alloc::{AllocError, Global};
+use trace_replay::RunManager;
 
 /// Puts the text, where it has bytes, and returns the status: the one that goes with it, or that of
 /// the put's own fault.
@@ -46,6 +48,31 @@ pub(crate) fn tell<K: Sink>(alloc: Global, end: Result<Vec<u8>, Stop<&str>>, out
     }
 }
 
+/// Puts the line of a replay that was written, or tells why it stopped, and returns the status, with the manager
+/// where it is 0.
+pub(crate) fn tell_replay<K: Sink>(
+    alloc: Global,
+    end: Result<Written, Stop<&str>>,
+    out: &mut K,
+) -> (u8, Option<RunManager>)
+    ensures { TellsReplay end.entry result.1 result.0 (K.hears out.old) (K.hears out.new) }
+{
+    match end {
+        Ok(written) => {
+            let status = say(&written.line, DONE, out);
+            (status, answered(status, written.manager))
+        }
+        Err(stop) => (tell(alloc, Err(stop), out), None),
+    }
+}
+
+/// The manager of a run, where its status is 0.
+fn answered(status: u8, manager: RunManager) -> Option<RunManager>
+    ensures { IsAnswered status manager result }
+{
+    if status == DONE { Some(manager) } else { None }
+}
+
 /// Tells why what the input files hold does not serve.
 fn tell_refusal<K: Sink>(alloc: Global, refusal: Refusal, out: &mut K) -> u8
     ensures { Tells (Err (Refused refusal)) result (K.hears out.old) (K.hears out.new) }
@@ -54,6 +81,10 @@ fn tell_refusal<K: Sink>(alloc: Global, refusal: Refusal, out: &mut K) -> u8
         Refusal::BadConfig(fault) => say_line(bad_config_line(alloc, fault), BAD_CONFIG, out),
         Refusal::BadJournal { line, number } => {
             let told = format!(in alloc; "bad journal line {line}: {number}\n");
+            say_line(told, BAD_JOURNAL, out)
+        }
+        Refusal::BadTrace { line, number } => {
+            let told = format!(in alloc; "bad trace line {line}: {number}\n");
             say_line(told, BAD_JOURNAL, out)
         }
         Refusal::BadMessages(bad) => say_line(bad_message_line(alloc, bad), BAD_MESSAGE, out),

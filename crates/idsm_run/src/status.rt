@@ -15,7 +15,7 @@ pub const TOO_LONG: u8 = 4;
 /// The configuration's bytes are no configuration.
 pub const BAD_CONFIG: u8 = 5;
 
-/// The journal's bytes are no journal.
+/// The bytes of a journal or of a trace are none.
 pub const BAD_JOURNAL: u8 = 6;
 
 /// A file was not written, or a text was not put.

@@ -19,6 +19,8 @@ pub(crate) enum Refusal {
     BadConfig(ConfigFault),
     /// The first bad line of the journal, from 1, and its first fault.
     BadJournal { line: u64, number: u8 },
+    /// The same of a trace.
+    BadTrace { line: u64, number: u8 },
     /// No message begins at this place of the file of messages.
     BadMessages(BadMessage),
     /// The file of messages has other bytes from this place on than were sent, or ends there, or goes on.

@@ -19,6 +19,8 @@ mod closing;
 #[cfg(test)]
 mod reporting;
 #[cfg(test)]
+mod stalled;
+#[cfg(test)]
 mod steps;
 #[cfg(test)]
 mod turning;

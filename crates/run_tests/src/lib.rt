@@ -27,4 +27,6 @@ mod migrating;
 #[cfg(test)]
 mod refusing;
 #[cfg(test)]
+mod replaying;
+#[cfg(test)]
 mod wanting;

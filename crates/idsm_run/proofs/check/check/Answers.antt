@@ -1,5 +1,4 @@
-use Rattle.std.proofs.Common.{rules, refl, ◌∙◌, arith}
-use Rattle.idsm_run.specs.Words.{check, three_of}
+use Rattle.idsm_run.proofs.Names.{rules, refl, ◌∙◌, arith, check, three_of}
 use Rattle.idsm_run.proofs.ExitLemmas.{left_by}
 use Rattle.idsm_run.proofs.CheckLemmas.{done_so, stopped_so}
 use Rattle.idsm_run.proofs.JudgeLemmas.{unread, read_since, messages_next}

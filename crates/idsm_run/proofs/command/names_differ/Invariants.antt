@@ -1,5 +1,4 @@
-use Rattle.std.proofs.Common.{◌≡◌, length, map, string_bytes}
-use Rattle.idsm_run.specs.Words.{are_names}
+use Rattle.idsm_run.proofs.Names.{◌≡◌, length, map, string_bytes, are_names}
 use Rattle.idsm_run.proofs.command.names_differ.Given as goal
 
 abbrev pub decreases-loop-word : goal.decreases-loop-word

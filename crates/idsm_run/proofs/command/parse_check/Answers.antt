@@ -1,6 +1,4 @@
-use Rattle.std.proofs.Common.{◌≡◌, true, map, string_bytes, subst, sym, ◌∙◌}
-use Rattle.std.specs.Prelude.{[], ◌∷◌}
-use Rattle.idsm_run.specs.Words.{are_names}
+use Rattle.idsm_run.proofs.Names.{◌≡◌, true, map, string_bytes, subst, sym, ◌∙◌, [], ◌∷◌, are_names}
 use Rattle.idsm_run.proofs.CommandLemmas.{check_apart, three_words}
 use Rattle.idsm_run.proofs.command.parse_check.Goals as goal
 

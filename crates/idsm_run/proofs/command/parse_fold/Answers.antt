@@ -1,6 +1,4 @@
-use Rattle.std.proofs.Common.{◌≡◌, true, map, string_bytes, subst, sym, ◌∙◌}
-use Rattle.std.specs.Prelude.{[], ◌∷◌}
-use Rattle.idsm_run.specs.Words.{are_names}
+use Rattle.idsm_run.proofs.Names.{◌≡◌, true, map, string_bytes, subst, sym, ◌∙◌, [], ◌∷◌, are_names}
 use Rattle.idsm_run.proofs.CommandLemmas.{fold_apart, four_words}
 use Rattle.idsm_run.proofs.command.parse_fold.Goals as goal
 

@@ -1,5 +1,4 @@
-use Rattle.std.proofs.Common.{rules, refl, sym}
-use Rattle.idsm_run.specs.Words.{decode_work}
+use Rattle.idsm_run.proofs.Names.{rules, refl, sym, decode_work, does}
 use Rattle.idsm_run.proofs.ExitLemmas.{left_by}
 use Rattle.idsm_run.proofs.JudgeLemmas.{unread, messages_first, messages_refused, messages_found}
 use Rattle.idsm_run.proofs.decode.decode_file.Goals as goal
@@ -13,9 +12,11 @@ returns-in_err-bytes-clause-stops g c =
 pub returns-in-Ok-clause-done : goal.returns-in-Ok-clause-done
 returns-in-Ok-clause-done g c = record {
   written = λ told. record {
-    work = decode_work c.in-Ok.messages;
+    task = does (decode_work c.in-Ok.messages);
     judged = messages_found c.args.name.now _ c.deref.result.now
         (rw c.deref.ensures.value (c.in_ok-bytes.ensures.found told)) _ (sym c.in-Ok.ensures.value);
+    work = decode_work c.in-Ok.messages;
+    is_work = refl;
     written = tt;
     text = c.in_ok-lines_of-in-Ok.ensures;
     keeps = tt;

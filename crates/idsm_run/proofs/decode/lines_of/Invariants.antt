@@ -1,5 +1,4 @@
-use Rattle.std.proofs.Common.{◌≡◌, ◌++◌, length}
-use Rattle.idsm_run.specs.Words.{decoded_text}
+use Rattle.idsm_run.proofs.Names.{◌≡◌, ◌++◌, length, decoded_text}
 use Rattle.idsm_run.proofs.decode.lines_of.Given as goal
 
 -- the lines so far and those of the messages that are left are the lines of all

@@ -1,5 +1,4 @@
-use Rattle.std.proofs.Common.{rules, refl, subst, ◌∙◌}
-use Rattle.idsm_run.specs.Words.{fold, files_of, fold_work, stop_of_write, StandUpTo, AreWritten}
+use Rattle.idsm_run.proofs.Names.{rules, refl, subst, ◌∙◌, fold, files_of, fold_work, stop_of_write, StandUpTo, AreWritten}
 use Rattle.idsm_run.proofs.ExitLemmas.{left_by}
 use Rattle.idsm_run.proofs.FoldLemmas.{outputs_are, line_is}
 use Rattle.idsm_run.proofs.JudgeLemmas.{fold_found}
@@ -18,7 +17,7 @@ returns-in_err-write_outputs-clause-stops g c =
     let outputs = outputs_are inputs.config inputs.journal.history.turns inputs.journal.folded
     c.in_ok-inputs.ensures.folds names c.deref.result.now (c.deref.ensures.value ∙ c.in_ok-memory.ensures) in
     left_by _ (stop_of_write c.in_err-write_outputs.field-0.0) _ c.from_residual-in_err-write_outputs.ensures.1
-    (write_stopped (fold names) (fold_work names inputs.config inputs.journal.history.turns)
+    (write_stopped (fold names) _ (fold_work names inputs.config inputs.journal.history.turns) refl
     (g.H.Shelf.shows c.args.shelf.now) (g.H.Shelf.shows c.read_inputs.new.shelf) _
     (λ told. fold_found names _ _ (c.in_ok-inputs.ensures.found told)) c.read_inputs.ensures.tells
     c.in_err-write_outputs.field-0.0 c.read_inputs.ensures.same c.in_ok-inputs.ensures.no_fault
@@ -33,7 +32,7 @@ returns-clause-done g c =
     let folds = c.in_ok-inputs.ensures.folds in
     let outputs = outputs_are inputs.config inputs.journal.history.turns inputs.journal.folded folds names
     c.deref.result.now (c.deref.ensures.value ∙ c.in_ok-memory.ensures) in
-    all_written (fold names) (fold_work names inputs.config inputs.journal.history.turns)
+    all_written (fold names) _ (fold_work names inputs.config inputs.journal.history.turns) refl
     (g.H.Shelf.shows c.args.shelf.now) (g.H.Shelf.shows c.read_inputs.new.shelf) _
     (λ told. fold_found names _ _ (c.in_ok-inputs.ensures.found told)) c.read_inputs.ensures.tells
     _ (c.in_ok-text.ensures ∙ line_is inputs.config inputs.journal.history.turns inputs.journal.folded folds)

@@ -1,5 +1,4 @@
-use Rattle.std.proofs.Common.{rules, refl, arith}
-use Rattle.idsm_run.specs.Words.{fold, files_of}
+use Rattle.idsm_run.proofs.Names.{rules, refl, arith, fold, files_of}
 use Rattle.idsm_run.proofs.WorkLemmas.{fails_so}
 use Rattle.idsm_run.proofs.fold.write_outputs.Goals as goal
 

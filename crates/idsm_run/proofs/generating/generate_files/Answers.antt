@@ -1,6 +1,4 @@
-use Rattle.std.proofs.Common.{rules, refl}
-use Rattle.gen_options.specs.Given.{given_of}
-use Rattle.idsm_run.specs.Words.{gen, gen_work, stop_of_write}
+use Rattle.idsm_run.proofs.Names.{rules, refl, given_of, gen, gen_work, stop_of_write}
 use Rattle.idsm_run.proofs.ExitLemmas.{left_by}
 use Rattle.idsm_run.proofs.JudgeLemmas.{gen_found}
 use Rattle.idsm_run.proofs.WorkLemmas.{all_written, write_stopped}
@@ -11,7 +9,7 @@ returns-in_err-write_outputs-clause-stops g c =
     let wanted = given_of c.args.given in
     let old = g.H.Shelf.shows c.args.shelf.now in
     left_by _ (stop_of_write c.in_err-write_outputs.field-0.0) _ c.from_residual-in_err-write_outputs.ensures.1
-    (write_stopped (gen wanted) (gen_work wanted) old old _ (λ told. gen_found wanted old.files) refl
+    (write_stopped (gen wanted) _ (gen_work wanted) refl old old _ (λ told. gen_found wanted old.files) refl
     c.in_err-write_outputs.field-0.0 (λ told name. refl) refl c.in_err-write_outputs.ensures.part
     c.in_err-write_outputs.ensures.fails)
 
@@ -19,5 +17,5 @@ pub returns-clause-done : goal.returns-clause-done
 returns-clause-done g c =
     let wanted = given_of c.args.given in
     let old = g.H.Shelf.shows c.args.shelf.now in
-    all_written (gen wanted) (gen_work wanted) old old _ (λ told. gen_found wanted old.files) refl _
+    all_written (gen wanted) _ (gen_work wanted) refl old old _ (λ told. gen_found wanted old.files) refl _
     c.in_ok-made.ensures.line c.in_ok-write_outputs.ensures.ok (λ told. tt) c.in_ok-write_outputs.ensures.no_fault

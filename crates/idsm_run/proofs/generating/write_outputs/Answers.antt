@@ -1,6 +1,4 @@
-use Rattle.std.proofs.Common.{rules, refl, arith}
-use Rattle.gen_options.specs.Given.{given_of}
-use Rattle.idsm_run.specs.Words.{gen}
+use Rattle.idsm_run.proofs.Names.{rules, refl, arith, given_of, gen}
 use Rattle.idsm_run.proofs.WorkLemmas.{fails_so}
 use Rattle.idsm_run.proofs.generating.write_outputs.Goals as goal
 

@@ -1,5 +1,4 @@
-use Rattle.std.proofs.Common.{◌≡◌, ◌+◌, ◌∷◌, length}
-use Rattle.idsm_run.specs.Words.{entries_of, held_back_line}
+use Rattle.idsm_run.proofs.Names.{◌≡◌, ◌+◌, ◌∷◌, length, entries_of, held_back_line}
 use Rattle.idsm_run.proofs.journals.held_back_line.Given as goal
 
 abbrev pub decreases-loop-head : goal.decreases-loop-head

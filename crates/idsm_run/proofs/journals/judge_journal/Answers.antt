@@ -1,6 +1,4 @@
-use Rattle.std.proofs.Common.{arith}
-use Rattle.std.proofs.lemmas.Grind.{common_steps}
-use Rattle.idsm_run.specs.Words.{told}
+use Rattle.idsm_run.proofs.Names.{arith, common_steps, told}
 use Rattle.idsm_run.proofs.JournalLemmas.{lines_are_few, can_fold, cut_at_ends}
 use Rattle.idsm_run.proofs.journals.judge_journal.Goals as goal
 

@@ -1,5 +1,4 @@
-use Rattle.std.proofs.Common.{◌≡◌, Some, Ok, IsTrue, string_bytes, rules, refl, sym, subst, inl}
-use Rattle.idsm_run.specs.Words.{config_text, file_of, migrate, pair_of, migrate_work, stop_of_config, stop_of_write}
+use Rattle.idsm_run.proofs.Names.{◌≡◌, Some, Ok, IsTrue, string_bytes, rules, refl, sym, subst, inl, config_text, file_of, migrate, pair_of, migrate_work, stop_of_config, stop_of_write}
 use Rattle.idsm_run.proofs.ExitLemmas.{left_by}
 use Rattle.idsm_run.proofs.JudgeLemmas.{unread, unread_config, source_first, source_refused, source_found, config_kept}
 use Rattle.idsm_run.proofs.WorkLemmas.{all_written, write_stopped}
@@ -23,7 +22,7 @@ pub returns-in_err-write_file-clause-stops : goal.returns-in_err-write_file-clau
 returns-in_err-write_file-clause-stops g c =
     let text : c.as_bytes.result.now ≡ config_text c.in_ok-config.config = search rules in
     left_by _ (stop_of_write c.in_err-write_file.field-0.0) _ c.from_residual-in_err-write_file.ensures.1
-    (write_stopped (migrate (pair_of c.args.names)) (migrate_work (pair_of c.args.names) c.in_ok-config.config)
+    (write_stopped (migrate (pair_of c.args.names)) _ (migrate_work (pair_of c.args.names) c.in_ok-config.config) refl
     (g.H.Shelf.shows c.args.shelf.now) (g.H.Shelf.shows c.read_file.new.shelf) _
     (λ told. source_found (pair_of c.args.names) _ c.deref.result.now
     (rw c.deref.ensures.value (c.in_ok-bytes.ensures.found told)) c.in_ok-config.config c.in_ok-config.ensures)
@@ -41,7 +40,7 @@ returns-clause-done g c =
     let written : IsTrue (g.H.Shelf.shows c.read_file.new.shelf).tells
     → (g.H.Shelf.shows c.write_file.new.shelf).files names.target ≡ Some (string_bytes c.in_ok-text.text) =
     λ told. rw bytes at (c.in_ok-write_file.ensures.ok told).at in
-    all_written (migrate names) (migrate_work names c.in_ok-config.config)
+    all_written (migrate names) _ (migrate_work names c.in_ok-config.config) refl
     (g.H.Shelf.shows c.args.shelf.now) (g.H.Shelf.shows c.read_file.new.shelf) _
     (λ told. source_found names _ c.deref.result.now (read told) c.in_ok-config.config c.in_ok-config.ensures)
     c.read_file.ensures.tells _ (search rules)

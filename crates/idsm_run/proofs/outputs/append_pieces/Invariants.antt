@@ -1,5 +1,4 @@
-use Rattle.std.proofs.Common.{◌≡◌, length, IsTrue, Some, [], take, drop}
-use Rattle.idsm_run.specs.Words.{SameOthers, Cuts}
+use Rattle.idsm_run.proofs.Names.{◌≡◌, length, IsTrue, Some, [], take, drop, SameOthers, Cuts}
 use Rattle.idsm_run.proofs.outputs.append_pieces.Given as goal
 
 -- the bytes up to `start` are in the file, and the cuts that are left go on from there

@@ -1,4 +1,4 @@
-use Rattle.idsm_run.proofs.RunLemmas.{refused_ends, served_ends}
+use Rattle.idsm_run.proofs.RunLemmas.{did_work, refused_ends, served_ends}
 use Rattle.idsm_run.proofs.run.files_decide_the_answer.Goals as goal
 
 pub returns-clause-refused : goal.returns-clause-refused
@@ -6,5 +6,9 @@ returns-clause-refused c command status old new before after reason ran told des
     refused_ends command status old new before after told ran.answer reason deserved ran.ends ran.puts
 
 pub returns-clause-served : goal.returns-clause-served
-returns-clause-served c command status old new before after work ran told serves =
-    served_ends command status old new before after told ran.answer work serves ran.ends ran.puts
+returns-clause-served c command status old new before after task ran told serves =
+    served_ends command status old new before after told ran.answer task serves ran.ends ran.puts
+
+pub returns-clause-done : goal.returns-clause-done
+returns-clause-done c command old new before after task ran told serves =
+    did_work command old new before after told task serves ran.answer ran.ends ran.puts

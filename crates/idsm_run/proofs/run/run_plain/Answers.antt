@@ -1,6 +1,4 @@
-use Rattle.std.proofs.Common.{ap, sym, ◌∙◌}
-use Rattle.std.specs.Prelude.{option_map}
-use Rattle.idsm_run.specs.Words.{asked}
+use Rattle.idsm_run.proofs.Names.{ap, sym, ◌∙◌, option_map, asked}
 use Rattle.idsm_run.proofs.RunLemmas.{asked_ran, end_ran, words_starved}
 use Rattle.idsm_run.proofs.run.run_plain.Goals as goal
 

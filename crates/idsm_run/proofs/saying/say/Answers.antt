@@ -1,5 +1,4 @@
-use Rattle.std.proofs.Common.{Ok, refl, arith}
-use Rattle.std.proofs.lemmas.Grind.{common_steps}
+use Rattle.idsm_run.proofs.Names.{Ok, refl, arith, common_steps}
 use Rattle.idsm_run.proofs.saying.say.Goals as goal
 
 pub returns-then-is_empty : goal.returns-then-is_empty

@@ -1,0 +1,11 @@
+use Rattle.idsm_run.proofs.Names.{List, ℕ, arith, common_steps, length-filter, count_by-le-length, entries_of, misses_context}
+use Rattle.idsm_run.specs.Names.{Entry}
+use Rattle.idsm_run.proofs.replaying.replay_text.Goals as goal
+
+-- the contexts that turns tell as lost are no more than their entries
+pub contexts_lost-requires : goal.contexts_lost-requires
+contexts_lost-requires c =
+    let entries = entries_of c.args.replayed.now.history.turns in
+    let few = count_by-le-length (λ (e : Entry (List ℕ)). misses_context e.act) entries in
+    let are = length-filter (λ (e : Entry (List ℕ)). misses_context e.act) entries in
+    grind (arith, common_steps, few, are, c.requires)

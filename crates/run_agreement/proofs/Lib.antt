@@ -1,0 +1,3 @@
+pub mod AgreementLemmas
+pub mod CausalLemmas
+pub mod FoundLemmas
