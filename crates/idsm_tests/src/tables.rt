@@ -1,48 +1,31 @@
 //! Tables of texts: a line for each, as `WANTED | NAME | TEXT`, with the answer that is wanted and the name of what
 //! the text is read under. A text with a group, `(A|B)`, stands for a text with `A` in its place and one with `B`.
+//!
+//! The parts of a text stand between `~`. In a part `$` is a line feed. A part `N*PIECE` is the piece N times, with
+//! the numbers from 0 on in the place of `@`, and one behind a `#` is the bytes of its hexadecimal digits.
 
 use config_json::read;
 use ids_config::Config;
-use std::alloc::Global;
+use std::alloc::{AllocError, Global};
 use std::test::Fail;
-use text_spec::push_number;
+use text_spec::{TextFault, push_number};
 
-/// A configuration of as many callers as event buffers, and of one event and some more, with these internal ones.
-fn config(alloc: Global, buffers: u64, more: usize, internal: &str) -> Result<Config, Fail> {
-    let more = r#",{"id":42,"sensor":3}"#.repeat(alloc, more)?;
-    let events = format!(in alloc; "[{{\"id\":42,\"sensor\":3}}{more}]")?;
-    let text = format!(in alloc;
-        "{{\"form\":1,\"instance\":18,\"callers\":{buffers},\"ring\":{buffers},\"internal\":{{{internal}}},\"events\":{events}}}"
-    )?;
-    Ok(read(alloc, text.as_bytes())?)
-}
+/// Eight callers, and one event that sensors report.
+const PLAIN: &str = r#"{"form":1,"instance":18,"callers":8,"events":[{"id":42,"sensor":3}]}"#;
+
+/// Four events, of which sensors report the one with index 2.
+const INTERNAL: &str = concat!(
+    r#"{"form":1,"instance":18,"internal":{"lost_events":1,"lost_contexts":3,"limited":0},"#,
+    r#""events":[{"id":1,"sensor":0},{"id":2,"sensor":0},{"id":42,"sensor":3},{"id":3,"sensor":0}]}"#
+);
 
 /// The configuration of this name.
 pub(crate) fn config_named(alloc: Global, name: &str) -> Result<Config, Fail> {
-    match name {
-        "last" => config(alloc, 8, 1, r#""lost_events":1"#),
-        "first" => config(alloc, 8, 1, r#""lost_events":0"#),
-        "limited" => config(alloc, 8, 1, r#""limited":1"#),
-        "three" => config(
-            alloc,
-            8,
-            3,
-            r#""lost_events":1,"lost_contexts":2,"limited":3"#,
-        ),
-        "turned" => config(
-            alloc,
-            8,
-            3,
-            r#""lost_events":1,"lost_contexts":3,"limited":0"#,
-        ),
-        "many" => config(alloc, 8, 255, ""),
-        "small" => config(alloc, 1, 0, ""),
-        "crowd" => config(alloc, 32, 0, ""),
-        _ => config(alloc, 8, 0, ""),
-    }
+    let text = if name == "internal" { INTERNAL } else { PLAIN };
+    Ok(read(alloc, text.as_bytes())?)
 }
 
-/// Appends a piece: `$` is a line feed and `@` this number.
+/// Appends a piece with this number.
 fn push_piece(out: &mut Vec<u8>, piece: &str, number: u64) -> Result<(), Fail> {
     for byte in piece.as_bytes() {
         match *byte {
@@ -54,29 +37,43 @@ fn push_piece(out: &mut Vec<u8>, piece: &str, number: u64) -> Result<(), Fail> {
     Ok(())
 }
 
-/// Appends a part of a text, which may be `N*F*PIECE`.
-fn push_part(out: &mut Vec<u8>, part: &str) -> Result<(), Fail> {
-    let Some((count, rest)) = part.split_once("*") else {
-        return push_piece(out, part, 0);
-    };
-    let Some((first, piece)) = rest.split_once("*") else {
-        return push_piece(out, part, 0);
-    };
-    let count = count.parse::<u64>().unwrap_or(0);
-    let first = first.parse::<u64>().unwrap_or(0);
-    for i in 0..count {
-        push_piece(out, piece, first.saturating_add(i))?;
+/// Appends a part of a text.
+fn push_part(alloc: Global, out: &mut Vec<u8>, part: &str) -> Result<(), Fail> {
+    if let Some(digits) = part.strip_prefix("#") {
+        out.extend_from_slice(&hex::decode(alloc, digits)?)?;
+        return Ok(());
+    }
+    let (count, piece) = part.split_once("*").unwrap_or(("1", part));
+    for number in 0..count.parse::<u64>().unwrap_or(0) {
+        push_piece(out, piece, number)?;
     }
     Ok(())
 }
 
-/// What a text of a table writes: its parts stand between `~`.
+/// What a text of a table writes.
 pub(crate) fn spelled(alloc: Global, text: &str) -> Result<Vec<u8>, Fail> {
     let mut bytes = Vec::new(alloc);
     for part in text.split("~") {
-        push_part(&mut bytes, part)?;
+        push_part(alloc, &mut bytes, part)?;
     }
     Ok(bytes)
+}
+
+/// What is answered to a text of lines: `ok` where its value prints the same text again, else the fault and its line.
+pub(crate) fn answer_to_lines(
+    alloc: Global,
+    text: &[u8],
+    printed: Result<Vec<u8>, TextFault>,
+) -> Result<String, Fail> {
+    match printed {
+        Ok(again) if again.as_slice() == text => Ok(String::from_str(alloc, "ok")?),
+        Ok(again) => {
+            let again = std::str::from_utf8(&again)?;
+            Ok(again.replace(alloc, "\n", "$")?)
+        }
+        Err(TextFault::Line { line, number }) => Ok(format!(in alloc; "{number} at {line}")?),
+        Err(TextFault::NoMemory) => Err(AllocError.into()),
+    }
 }
 
 /// A reader of texts.
@@ -85,19 +82,13 @@ pub(crate) trait Answers {
     fn answer(alloc: Global, name: &str, text: &str) -> Result<String, Fail>;
 }
 
-/// What stands before the group of a text, in it, and behind it. Without one there is an empty group at the end.
-fn parts_of(text: &str) -> (&str, &str, &str) {
-    let (before, rest) = text.split_once("(").unwrap_or((text, ")"));
-    let (group, after) = rest.split_once(")").unwrap_or((rest, ""));
-    (before, group, after)
-}
-
 /// The first text of the table that has another answer.
 pub(crate) fn first_wrong<A: Answers>(alloc: Global, table: &str) -> Result<Option<String>, Fail> {
     for line in table.lines() {
         let (wanted, rest) = line.split_once(" | ").unwrap_or((line, ""));
         let (name, text) = rest.split_once(" | ").unwrap_or((rest, ""));
-        let (before, group, after) = parts_of(text);
+        let (before, rest) = text.split_once("(").unwrap_or((text, ")"));
+        let (group, after) = rest.split_once(")").unwrap_or((rest, ""));
         for word in group.split("|") {
             let text = format!(in alloc; "{before}{word}{after}")?;
             if A::answer(alloc, name, text.as_str())?.as_str() != wanted {

@@ -21,7 +21,7 @@ impl Given for Checks {
         let put_fails = columns.next().unwrap_or("-");
         let mut shelf = shelf_of(alloc, config, journal, shelf_fails)?;
         shelf.append("m", &bytes_of(alloc, messages)?)?;
-        run(alloc, "check c j m", shelf, put_fails)
+        run(alloc, "check c j m", &mut shelf, put_fails)
     }
 }
 
@@ -89,8 +89,8 @@ fn what_comes_first_is_told(rt: HostRuntime) -> Result<(), Fail> {
 
 #[test]
 fn a_file_that_is_not_there_cannot_be_read(rt: HostRuntime) -> Result<(), Fail> {
-    let shelf = shelf_of(rt.alloc(), ".", "", "-")?;
-    let told = run(rt.alloc(), "check c j m", shelf, "-")?;
+    let mut shelf = shelf_of(rt.alloc(), ".", "", "-")?;
+    let told = run(rt.alloc(), "check c j m", &mut shelf, "-")?;
     assert!(rt; told.as_slice() == b"3 | cannot read m/ | - | -".as_slice());
     Ok(())
 }

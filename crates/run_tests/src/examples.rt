@@ -1,7 +1,7 @@
 //! The recorded runs of the folder examples. Their files stand here byte for byte; what each run gives was
 //! worked out from the rules before it was run. docs/EXAMPLES.md tells what happens in each.
 
-use crate::given::{bytes_of, shelf_over, sink_of, split_words};
+use crate::given::{bytes_of, is_same, shelf_over, sink_of, split_words};
 use ids_outside::MemoryShelf;
 use idsm_run::run_plain;
 use std::alloc::Global;
@@ -25,14 +25,6 @@ fn shelf_with(alloc: Global, example: Example) -> Result<MemoryShelf, Fail> {
     shelf_over(alloc, config, journal, Vec::new(alloc))
 }
 
-/// Whether `check` finds that the shelf's messages are what its journal gives.
-fn is_same(alloc: Global, shelf: &mut MemoryShelf) -> Result<bool, Fail> {
-    let mut out = sink_of(alloc, "-")?;
-    let words = split_words(alloc, "check c j m")?;
-    let status = run_plain(alloc, &words, shelf, &mut out);
-    Ok(status == 0 && out.taken() == b"same\n".as_slice())
-}
-
 /// Whether the example is folded to its messages and its memory, with its line, and is then the same.
 fn is_folded(alloc: Global, example: Example) -> Result<bool, Fail> {
     let mut shelf = shelf_with(alloc, example)?;
@@ -43,7 +35,7 @@ fn is_folded(alloc: Global, example: Example) -> Result<bool, Fail> {
     let sent = shelf.contents("m") == Some(messages.as_slice());
     let stored = shelf.contents("r") == Some(example.memory.as_bytes());
     let told = status == 0 && out.taken() == example.line.as_bytes();
-    Ok(told && sent && stored && is_same(alloc, &mut shelf)?)
+    Ok(told && sent && stored && is_same(alloc, "c j m", &mut shelf)?)
 }
 
 const PORT_SCAN: Example = Example {

@@ -30,8 +30,8 @@ impl Given for Folds {
         let event = columns.next().unwrap_or(".");
         let config = config_with(alloc, top, event)?;
         let journal = bytes_of(alloc, columns.next().unwrap_or(""))?;
-        let shelf = shelf_over(alloc, config, journal, Vec::new(alloc))?;
-        run(alloc, "fold c j m r", shelf, "-")
+        let mut shelf = shelf_over(alloc, config, journal, Vec::new(alloc))?;
+        run(alloc, "fold c j m r", &mut shelf, "-")
     }
 }
 

@@ -4,12 +4,13 @@
 //! `j`, the calls of the shelf that fail and the puts that fail, between bars; where the last two are
 //! left out none fails. Wanted are the status, the text, and the files `m` and `r` that are left; `-` is
 //! one that is not there. In each `/` is a line feed, and `.` is the configuration of one event. Pairs of
-//! hexadecimal digits stand behind a `#`, and what is left of `r` behind a `=`.
+//! hexadecimal digits stand behind a `#`, and what is left of a file of text behind a `=`.
 
 use ids_outside::{MemoryShelf, MemorySink};
-use idsm_run::run_plain;
+use idsm_run::{Gate, run_plain, run_replay};
 use std::alloc::Global;
 use std::test::Fail;
+use std::thread::Threads;
 use text_spec::{push_hex, push_number};
 
 /// One event, with id 42 and sensor 3, of instance 18.
@@ -88,18 +89,18 @@ fn push_text(told: &mut Vec<u8>, text: &[u8]) -> Result<(), Fail> {
     Ok(())
 }
 
-/// Appends the file `m` or `r` of the shelf, as a table writes it behind a bar.
-fn push_file(told: &mut Vec<u8>, shelf: &MemoryShelf, name: &str) -> Result<(), Fail> {
+/// Appends a file of the shelf, the messages `m` or a text, as a table writes it behind a bar.
+pub(crate) fn push_file(told: &mut Vec<u8>, shelf: &MemoryShelf, name: &str) -> Result<(), Fail> {
     told.extend_from_slice(b" | ")?;
     match shelf.contents(name) {
         None => told.push(b'-')?,
-        Some(text) if name == "r" => {
-            told.push(b'=')?;
-            push_text(told, text)?;
-        }
-        Some(bytes) => {
+        Some(bytes) if name == "m" => {
             told.push(b'#')?;
             push_hex(told, bytes)?;
+        }
+        Some(text) => {
+            told.push(b'=')?;
+            push_text(told, text)?;
         }
     }
     Ok(())
@@ -125,13 +126,36 @@ pub(crate) fn told(
 pub(crate) fn run(
     alloc: Global,
     words: &str,
-    mut shelf: MemoryShelf,
+    shelf: &mut MemoryShelf,
     fails: &str,
 ) -> Result<Vec<u8>, Fail> {
     let mut out = sink_of(alloc, fails)?;
     let words = split_words(alloc, words)?;
-    let status = run_plain(alloc, &words, &mut shelf, &mut out);
-    told(alloc, status, &shelf, &out)
+    let status = run_plain(alloc, &words, shelf, &mut out);
+    told(alloc, status, shelf, &out)
+}
+
+/// Whether `check` of these three files puts `same`, with status 0.
+pub(crate) fn is_same(alloc: Global, files: &str, shelf: &mut MemoryShelf) -> Result<bool, Fail> {
+    let words = format!(in alloc; "check {files}")?;
+    Ok(run(alloc, words.as_str(), shelf, "-")?.starts_with(b"0 | same/ | "))
+}
+
+/// Runs the replay that the words ask for, and tells how it ended: as with status 255 where a manager goes with another
+/// status than 0, or none with 0.
+pub(crate) fn replay<R: Threads + Sync, G: Gate + Sync>(
+    rt: &R,
+    alloc: Global,
+    words: &str,
+    shelf: &mut MemoryShelf,
+    fails: &str,
+    gate: &G,
+) -> Result<Vec<u8>, Fail> {
+    let mut out = sink_of(alloc, fails)?;
+    let words = split_words(alloc, words)?;
+    let (status, manager) = run_replay(rt, alloc, &words, shelf, &mut out, gate);
+    let is_right = manager.is_some() == (status == 0);
+    told(alloc, if is_right { status } else { 255 }, shelf, &out)
 }
 
 /// What the lines of a table give, and want of it.
@@ -151,8 +175,8 @@ impl Given for Runs {
         let journal = columns.next().unwrap_or("");
         let shelf_fails = columns.next().unwrap_or("-");
         let put_fails = columns.next().unwrap_or("-");
-        let shelf = shelf_of(alloc, config, journal, shelf_fails)?;
-        run(alloc, words, shelf, put_fails)
+        let mut shelf = shelf_of(alloc, config, journal, shelf_fails)?;
+        run(alloc, words, &mut shelf, put_fails)
     }
 }
 

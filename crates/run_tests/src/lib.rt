@@ -2,7 +2,8 @@
 //!
 //! Layer 10, runs. Over `idsm_run` and `ids_outside`. Each module runs tables of cases that were worked out
 //! by hand: what a run writes and puts through each filter and limit, the recorded runs of `examples/`, each
-//! refusal with its text, each call that fails, want of memory, and each limit at its last byte.
+//! refusal with its text, each call that fails, want of memory, each limit at its last byte, and replays by
+//! threads, whose files are checked and folded again.
 //! Statuses, limits and ranges stand here as numbers.
 #![tactic(auto)]
 
@@ -16,6 +17,8 @@ mod examples;
 mod failing;
 #[cfg(test)]
 mod filtering;
+#[cfg(test)]
+mod flooding;
 #[cfg(test)]
 mod folding;
 #[cfg(test)]

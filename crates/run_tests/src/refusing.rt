@@ -1,10 +1,11 @@
 //! Runs that end with a status of their own although no call fails, and write nothing.
 
-use crate::given::{Runs, bytes_of, first_wrong, run, shelf_of, shelf_over};
+use crate::given::{Runs, bytes_of, first_wrong, replay, run, shelf_of, shelf_over};
+use idsm_run::OpenGate;
 use std::alloc::Global;
 use std::test::Fail;
 
-/// Words that are no command; the last two have an empty name.
+/// Words that are no command; the last three have an empty name.
 const BAD_WORDS: &str = "
 fold
 fold a b c c
@@ -22,20 +23,28 @@ migrate
 migrate c
 migrate c c
 migrate c m r
+replay
+replay c j m r
+replay c j m r r
+replay c j m r o x
 --help
 migrate c 
+replay c j m r 
 decode ";
 
 /// The usage, and no file.
 const USAGE: &[u8] =
-    b"2 | usage: idsm fold CONFIG JOURNAL MESSAGES MEMORY/       idsm check CONFIG JOURNAL MESSAGES/       idsm decode MESSAGES/       idsm gen [--start N] [--callers N] [--rounds N] [--events N] CONFIG TRACE JOURNAL/       idsm migrate CONFIG NEW/ | - | -";
+    b"2 | usage: idsm replay CONFIG TRACE MESSAGES MEMORY JOURNAL/       idsm fold CONFIG JOURNAL MESSAGES MEMORY/       idsm check CONFIG JOURNAL MESSAGES/       idsm decode MESSAGES/       idsm gen [--start N] [--callers N] [--rounds N] [--events N] CONFIG TRACE JOURNAL/       idsm migrate CONFIG NEW/ | - | -";
 
 #[test]
 fn words_that_are_no_command_end_with_the_usage(rt: HostRuntime) -> Result<(), Fail> {
     for words in BAD_WORDS.lines() {
-        let shelf = shelf_of(rt.alloc(), ".", "", "-")?;
-        let told = run(rt.alloc(), words, shelf, "-")?;
+        let mut shelf = shelf_of(rt.alloc(), ".", "", "-")?;
+        let told = run(rt.alloc(), words, &mut shelf, "-")?;
         assert!(rt; told.as_slice() == USAGE, "{words}");
+        let told = replay(&rt, rt.alloc(), words, &mut shelf, "-", &OpenGate)?;
+        assert!(rt; told.as_slice() == USAGE, "{words}");
+        assert!(rt; shelf.contents("o").is_none(), "{words}");
     }
     Ok(())
 }
@@ -137,8 +146,8 @@ fn told_of_long(alloc: Global, words: &str, byte: u8, len: usize) -> Result<Vec<
     } else {
         (long, Vec::new(alloc))
     };
-    let shelf = shelf_over(alloc, config, journal, Vec::new(alloc))?;
-    run(alloc, words, shelf, "-")
+    let mut shelf = shelf_over(alloc, config, journal, Vec::new(alloc))?;
+    run(alloc, words, &mut shelf, "-")
 }
 
 #[test]
