@@ -3,7 +3,9 @@
 //! A line of a table has the answer, `ok` where the journal prints the same text again or the fault and its line, then
 //! the configuration, then the text.
 
-use crate::tables::{Answers, answer_to_lines, config_named, first_wrong, spelled};
+use crate::tables::{
+    Answers, answer_to_lines, config_named, first_wrong, spelled, with_bit_turned,
+};
 use ids_config::Config;
 use journal::{JournalFault, print, read};
 use std::alloc::Global;
@@ -151,12 +153,10 @@ fn a_turned_bit_is_told_or_refused(rt: HostRuntime) -> Result<(), Fail> {
     let text =
         b"T 5 0 1 0\nR 0 0 0 1 - 0:0:a1a2\nR 0 1 0 2 8000000100000a00 !1.1\nC 0 2 S 1\nT 6 0 0 0\nL 0 3 0\n";
     let config = config_named(rt.alloc(), "plain")?;
-    let mut turned = Vec::from_slice(rt.alloc(), text)?;
-    for place in 0..turned.len() {
+    for place in 0..text.len() {
         for bit in [1, 2, 4, 8, 16, 32, 64, 128] {
-            turned[place] ^= bit;
+            let turned = with_bit_turned(rt.alloc(), text, place, bit)?;
             assert!(rt; is_answered(rt.alloc(), &config, &turned), "{place} {bit}");
-            turned[place] ^= bit;
         }
     }
     Ok(())

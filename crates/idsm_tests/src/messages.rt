@@ -10,8 +10,12 @@ const FIRST: [u8; 11] = *b"\x11\x04\x83\x00\x2a\x00\x01\x00\x02\xa1\xb2";
 /// The same with a timestamp, and no context.
 const STAMPED: [u8; 16] = *b"\x12\x04\x83\x00\x2a\x00\x01\x00\x80\x00\x00\x01\x00\x00\x0a\x00";
 
-/// Whether the manager's message with this context is spelled in so many bytes, the first of which are these.
+/// Whether the manager's message with this context of at most 128 bytes is spelled in so many bytes, the first of which
+/// are these.
 fn is_spelled(context: &[u8], front: &[u8], len: usize) -> bool {
+    if context.len() > 128 {
+        return false;
+    }
     let context = Some(Context::of(context));
     let Some(message) = Message::make(1, 18, 3, 42, 1, 0, None, context, None) else {
         return false;

@@ -98,3 +98,17 @@ pub(crate) fn first_wrong<A: Answers>(alloc: Global, table: &str) -> Result<Opti
     }
     Ok(None)
 }
+
+/// The text with this bit of the byte at this place turned round.
+pub(crate) fn with_bit_turned(
+    alloc: Global,
+    text: &[u8],
+    place: usize,
+    bit: u8,
+) -> Result<Vec<u8>, Fail> {
+    let mut turned = Vec::from_slice(alloc, text)?;
+    if place < turned.len() {
+        turned[place] ^= bit;
+    }
+    Ok(turned)
+}

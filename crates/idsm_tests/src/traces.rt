@@ -3,7 +3,9 @@
 //! A line of a table has the answer, `ok` where the trace prints the same text again, or what it prints, or the fault
 //! and its line, then the configuration, then the text.
 
-use crate::tables::{Answers, answer_to_lines, config_named, first_wrong, spelled};
+use crate::tables::{
+    Answers, answer_to_lines, config_named, first_wrong, spelled, with_bit_turned,
+};
 use ids_config::Config;
 use std::alloc::Global;
 use std::test::Fail;
@@ -107,12 +109,10 @@ fn a_turned_bit_is_told_or_refused(rt: HostRuntime) -> Result<(), Fail> {
     let text =
         b"N 5 6\nR 0 0 1 - a1b2\nR 1 0 2 8000000100000a00 -\nS 2 3\nM 3 0 BRIEF\nE 10\nN\nE 12\n";
     let config = config_named(rt.alloc(), "plain")?;
-    let mut turned = Vec::from_slice(rt.alloc(), text)?;
-    for place in 0..turned.len() {
+    for place in 0..text.len() {
         for bit in [1, 2, 4, 8, 16, 32, 64, 128] {
-            turned[place] ^= bit;
+            let turned = with_bit_turned(rt.alloc(), text, place, bit)?;
             assert!(rt; is_answered(rt.alloc(), &config, &turned), "{place} {bit}");
-            turned[place] ^= bit;
         }
     }
     Ok(())
