@@ -1,0 +1,3 @@
+pub mod MakingLemmas
+pub mod Names
+pub mod TurnLemmas
