@@ -1,0 +1,6 @@
+mod CopyLemmas
+mod KeepLemmas
+mod Names
+mod RoomLemmas
+mod SoundLemmas
+mod StandingLemmas

@@ -1,0 +1,12 @@
+use Rattle.plain_chain.proofs.Names.{◌-◌, ◌≤◌, vec_len, All, IsFresh}
+use Rattle.plain_chain.proofs.fresh.fill.Given as goal
+
+-- all took no turn, if those did that were there
+abbrev pub invariant-loop-alloc : goal.invariant-loop-alloc
+invariant-loop-alloc l = record {
+  fresh : All (IsFresh l.config) l.initial.chains.items → All (IsFresh l.config) l.chains.items;
+  more : vec_len l.initial.chains ≤ vec_len l.chains;
+}
+
+abbrev pub decreases-loop-alloc : goal.decreases-loop-alloc
+decreases-loop-alloc l = l.number - vec_len l.chains

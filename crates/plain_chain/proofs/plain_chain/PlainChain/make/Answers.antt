@@ -1,0 +1,12 @@
+use Rattle.plain_chain.proofs.Names.{[], refl}
+use Rattle.plain_chain.proofs.plain_chain.PlainChain.make.Goals as goal
+
+-- no turns, and the memory of a chain that took none
+pub returns-clause-stands : goal.returns-clause-stands
+returns-clause-stands g c = record {
+  same = refl;
+  all = c.in_ok-make.ensures.turns;
+  order = tt;
+  handed = refl;
+  rows = c.into_memory.ensures c.args.config.now [] c.in_ok-make-3.ensures.stands;
+}

@@ -1,0 +1,4 @@
+pub mod Copying
+pub mod Remembered
+pub mod Room
+pub mod Standing
