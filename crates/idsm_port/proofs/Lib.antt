@@ -1,3 +1,2 @@
 pub mod MakingLemmas
 pub mod Names
-pub mod TurnLemmas

@@ -9,7 +9,6 @@ pub use Rattle.report_api.specs.declared.pass.Pass.{Pass}
 pub use Rattle.report_api.specs.declared.shared.Shared.{Shared}
 pub use Rattle.main_function.specs.Standing.{IsManagerOf}
 pub use Rattle.idsm_port.specs.declared.answer.Answer.{Answer}
-pub use Rattle.idsm_port.specs.declared.answer.Answer.TheVariants.{Done, Unset, OtherRole, LostEvent, WithoutContext, UnknownEvent, ZeroCount, Spent, TickBack, TickTooLarge, OutOfRange, NoMemory, Configuration, SmallBuffer, Occupied, LongMessages}
 pub use Rattle.idsm_port.specs.declared.caller.CallerPort.{CallerPort}
 pub use Rattle.idsm_port.specs.declared.manager.ManagerPort.{ManagerPort}
 pub use Rattle.idsm_port.specs.Roles.{IsFitCaller, caller_shares, chain_events, chain_kept, chain_stands}

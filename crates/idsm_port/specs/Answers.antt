@@ -7,7 +7,7 @@ use Rattle.report_api.specs.declared.answer.Report.TheVariants as reports
 use Rattle.main_function.specs.declared.rest.TurnFault.{TurnFault}
 use Rattle.main_function.specs.declared.rest.TurnFault.TheVariants as faults
 use Rattle.idsm_port.specs.declared.answer.Answer.{Answer}
-use Rattle.idsm_port.specs.declared.answer.Answer.TheVariants.{Done, Unset, OtherRole, LostEvent, WithoutContext, UnknownEvent, ZeroCount, Spent, TickBack, TickTooLarge, OutOfRange, NoMemory, Configuration, SmallBuffer, Occupied, LongMessages}
+use Rattle.idsm_port.specs.declared.answer.Answer.TheVariants.{Done, Unset, OtherRole, LostEvent, WithoutContext, UnknownEvent, ZeroCount, Spent, TickBack, TickTooLarge, OutOfRange, NoMemory, Configuration, SmallBuffer, Occupied}
 
 -- the number of an answer
 abbrev pub code_of : Answer → ℕ
@@ -26,7 +26,6 @@ code_of NoMemory = 11
 code_of Configuration = 12
 code_of SmallBuffer = 13
 code_of Occupied = 14
-code_of LongMessages = 15
 
 -- the answer of a report
 abbrev pub report_answer : Report → Answer

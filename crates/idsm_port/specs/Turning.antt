@@ -7,7 +7,7 @@ use Rattle.report_api.specs.Desks.{desk_view}
 use Rattle.main_function.specs.Standing.{last_of, turns_of}
 use Rattle.main_function.specs.Turning.{Turned}
 use Rattle.idsm_port.specs.declared.answer.Answer.{Answer}
-use Rattle.idsm_port.specs.declared.answer.Answer.TheVariants.{Done, Spent, TickBack, TickTooLarge, SmallBuffer, LongMessages}
+use Rattle.idsm_port.specs.declared.answer.Answer.TheVariants.{Done, Spent, TickBack, TickTooLarge, SmallBuffer}
 use Rattle.idsm_port.specs.declared.manager.ManagerPort.{ManagerPort}
 use Rattle.idsm_port.specs.declared.turning.Told.{Told}
 use Rattle.idsm_port.specs.Roles.{chain_kept, chain_stands}
@@ -30,14 +30,7 @@ told_in out = record {
 -- what is told beside an answer
 abbrev pub told_by : Answer → Output → Told
 told_by Done out = told_in out
-told_by LongMessages out = told_in out
 told_by refusal out = nothing_told
-
--- the messages of an output are written, or are longer than the buffer
-abbrev pub HandsOver : Output → List ℕ → Answer → List ℕ → Type 0
-HandsOver out old Done new = IsWritten out.sent old new
-HandsOver out old LongMessages new = (length old < length out.sent) × (new ≡ old)
-HandsOver out old other new = ⊥
 
 -- neither the manager nor the buffer is changed
 pub record NothingMade (old : ManagerPort) (buffer : List ℕ) (new : ManagerPort) (after : List ℕ) : Type 0 where
@@ -49,17 +42,18 @@ pub record CanTurn (old : ManagerPort) (buffer : List ℕ) : Type 0 where
   pub room : old.most ≤ length buffer
   pub few : turns_of old.manager < 2 ^ 62
 
--- a turn of this tick was made, which may be, and handed its messages over with this answer
-pub record TurnMade (tick : ℕ) (old : ManagerPort) (buffer : List ℕ) (answer : Answer) (new : ManagerPort) (after : List ℕ) : Type 0 where
+-- a turn of this tick was made, which may be, and all its messages are written
+pub record TurnMade (tick : ℕ) (old : ManagerPort) (buffer : List ℕ) (new : ManagerPort) (after : List ℕ) : Type 0 where
   pub can : CanTurn old buffer
   pub later : last_of old.manager ≤ tick
   pub within : tick ≤ 2 ^ 62
   pub turned : Turned chain_stands chain_kept tick (desk_view old.manager.desk) (givers_of old.manager.desk.givers) old.manager new.manager
   pub same : new ≡ record old { manager = new.manager }
-  pub over : HandsOver new.manager.out buffer answer after
+  pub written : IsWritten new.manager.out.sent buffer after
 
 -- each answer of a turn with its cause, and the manager and the buffer after it
 abbrev pub TurnTells : ℕ → ManagerPort → List ℕ → Answer → ManagerPort → List ℕ → Type 0
+TurnTells tick old buffer Done new after = TurnMade tick old buffer new after
 TurnTells tick old buffer SmallBuffer new after = (length buffer < old.most) × NothingMade old buffer new after
 TurnTells tick old buffer Spent new after =
     (old.most ≤ length buffer) × (2 ^ 62 ≤ turns_of old.manager) × NothingMade old buffer new after
@@ -67,4 +61,4 @@ TurnTells tick old buffer TickBack new after =
     CanTurn old buffer × (tick < last_of old.manager) × NothingMade old buffer new after
 TurnTells tick old buffer TickTooLarge new after =
     CanTurn old buffer × (last_of old.manager ≤ tick) × (2 ^ 62 < tick) × NothingMade old buffer new after
-TurnTells tick old buffer answer new after = TurnMade tick old buffer answer new after
+TurnTells tick old buffer other new after = ⊥

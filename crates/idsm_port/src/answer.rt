@@ -38,8 +38,6 @@ pub enum Answer {
     SmallBuffer,
     /// The handle has something already.
     Occupied,
-    /// The turn was made, and its messages are longer than the buffer. They are not written.
-    LongMessages,
 }
 
 impl Answer {
@@ -63,7 +61,6 @@ impl Answer {
             Answer::Configuration => 12,
             Answer::SmallBuffer => 13,
             Answer::Occupied => 14,
-            Answer::LongMessages => 15,
         }
     }
 }

@@ -1,9 +1,11 @@
 //! What a turn answers.
-ghost use Rattle.std.specs.Prelude.{◌≡◌, ◌<◌, length};
-ghost use Rattle.idsm_port.specs.Turning.{HandsOver, nothing_told, told_in};
+ghost use Rattle.std.specs.Prelude.{◌≡◌, ◌<◌, ◌≤◌, length};
+ghost use Rattle.idsm_port.specs.declared.answer.Answer.TheVariants.{Done};
+ghost use Rattle.idsm_port.specs.Turning.{nothing_told, told_in};
+ghost use Rattle.idsm_port.specs.Writing.{IsWritten};
 
 use crate::answer::Answer;
-use crate::writing::put_front;
+use crate::writing::put;
 use ids_types::TurnOut;
 
 /// What a turn tells in numbers.
@@ -56,22 +58,16 @@ fn told_in(out: &TurnOut) -> Told
     }
 }
 
-/// Writes the messages of a turn that was made to the front of the buffer, if they all fit.
+/// Writes the messages of a turn that was made to the front of the buffer.
 pub(crate) fn hand_over(out: &TurnOut, buffer: &mut [u8]) -> TurnAnswer
-    requires { 0 < length out.now.log.turns }
-    ensures over { HandsOver out.now buffer.old result.answer buffer.new }
-    ensures told { result.told ≡ told_in out.now }
+    requires one { 0 < length out.now.log.turns }
+    requires room { length out.now.sent ≤ length buffer.old }
+    ensures written { IsWritten out.now.sent buffer.old buffer.new }
+    ensures told { result ≡ record { answer = Done; told = told_in out.now } }
 {
-    let told = told_in(out);
-    if put_front(out.sent(), buffer) {
-        TurnAnswer {
-            answer: Answer::Done,
-            told,
-        }
-    } else {
-        TurnAnswer {
-            answer: Answer::LongMessages,
-            told,
-        }
+    put(out.sent(), buffer);
+    TurnAnswer {
+        answer: Answer::Done,
+        told: told_in(out),
     }
 }

@@ -25,11 +25,11 @@ pub record AreTotals (reports : TakerView Act) (totals : Totals) : Type 0 where
   pub lost_events_are : totals.lost_events ≡ sum reports.lost_events
   pub lost_contexts_are : totals.lost_contexts ≡ sum reports.lost_contexts
 
--- an output has room for so many entries with so many bytes, and for the messages of a turn of so many events
+-- an output has room for so many entries with so many bytes, and just for the messages of a turn of so many events
 pub record HasRoomFor (entries bytes events : ℕ) (out : Output) : Type 0 where
   pub entries_room : entries ≤ (room_of out).entries
   pub bytes_room : bytes ≤ (room_of out).bytes
-  pub sent_room : 1044 * (entries + events + 3) ≤ (room_of out).sent
+  pub sent_room : (room_of out).sent ≡ 1044 * (entries + events + 3)
 
 -- these are all passes of the making, caller 0 first
 pub record AreAllPasses (shared : Shared) (reports : TakerView Act) (passes : List Pass) : Type 0 where

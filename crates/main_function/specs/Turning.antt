@@ -3,7 +3,7 @@ use Rattle.std.specs.Borrow.{Bor}
 use Rattle.std.specs.Prelude.{◌≡◌, ℕ, ◌+◌, ◌≤◌, ◌<◌, ◌^◌, List, [], ◌∷◌, ◌++◌, Result, Ok, Err}
 use Rattle.ids_types.specs.declared.entry.Entry.{Entry}
 use Rattle.ids_types.specs.declared.entry.TurnHead.{TurnHead}
-use Rattle.ids_types.specs.Output.{Output}
+use Rattle.ids_types.specs.Output.{Output, room_of}
 use Rattle.ids_types.specs.Turns.{Turn}
 use Rattle.ids_config.specs.Parts.{Parts}
 use Rattle.chain.specs.History.{Sends, handed_of}
@@ -43,6 +43,7 @@ module _ {C : Type 0} (stands : C → Parts → List Turn → Type 0) (kept : C 
     pub limited_is : (config : Parts) (turns : List Turn) → Stands stands config old turns
         → turn.head.limited ≡ handed_of config turns
     pub sends : (config : Parts) (turns : List Turn) → Stands stands config old turns → Sends config turns turn new.out
+    pub room_is : room_of new.out ≡ room_of old.out
     pub rests_are : new.rests ≡ old.rests
     pub turns_are : new.turns ≡ old.turns + 1
     pub last_is : new.last ≡ tick

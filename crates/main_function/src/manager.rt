@@ -1,5 +1,6 @@
 //! The manager.
 ghost use Rattle.std.specs.Prelude.{◌≡◌, ◌≤◌, ◌<◌, ◌^◌, ◌++◌, ◌∷◌, [], true, List, length, map, reverse, IfOk, OnErr, OnOk};
+ghost use Rattle.ids_types.specs.Output.{room_of};
 ghost use Rattle.ids_types.specs.Turns.{Turn};
 ghost use Rattle.ids_config.specs.Parts.{Parts};
 ghost use Rattle.chain.specs.History.{rows_of};
@@ -58,6 +59,7 @@ impl<C: Chain<CtxBuf>> Manager<C> {
         requires few { turns_of self.old < 2 ^ 62 }
         ensures fault { TurnFails (last_of self.old) tick result }
         ensures lent { IfOk result (λ out. LogsOne tick out.now) }
+        ensures room { IfOk result (λ out. room_of out.now ≡ room_of self.old.out) }
         // Once the output is given back, all holds that the turn leaves.
         ensures* after_borrow { sem 𝓛 (Rests (the_row C.row) self.entry (λ new.
             TurnLeaves C.stands C.events C.kept shared.now tick self.old result new)) }

@@ -1,6 +1,6 @@
 //! The tests of the report calls, of their desk and of the main function, over public names.
 //!
-//! Layer 10, runs. Over `report_api`, `main_function`, `event_chain` and the crates below them. They show what no
+//! Layer 10, runs. Over `report_api`, `main_function`, `event_chain`, `idsm_port` and the crates below them. They show what no
 //! contract says: that reports are accepted while buffers are free, that a turn takes what is there, the answers
 //! and messages of examples that were worked out by hand, and that callers in threads of their own report beside
 //! the desk and beside turns. Limits stand here as numbers.
@@ -16,6 +16,8 @@ mod callers;
 mod calls;
 #[cfg(test)]
 mod closing;
+#[cfg(test)]
+mod ports;
 #[cfg(test)]
 mod reporting;
 #[cfg(test)]

@@ -1,8 +1,21 @@
-use Rattle.idsm_port.proofs.Names.{◌≡◌, ◌∙◌, rules, refl, ap, subst, arith, arc_value, Output, Shared, IsManagerOf, chain_events, chain_kept, chain_stands}
+use Rattle.idsm_port.proofs.Names.{◌≡◌, ◌*◌, ◌∙◌, rules, refl, ap, subst, arith, arc_value, Output, Shared, IsManagerOf, chain_events, chain_kept, chain_stands}
+use Rattle.ids_types.specs.Output.{room_of}
 use Rattle.main_function.specs.Turning.{TurnLeaves}
-use Rattle.idsm_port.specs.Turning.{HandsOver, TurnMade, told_in}
-use Rattle.idsm_port.proofs.TurnLemmas.{made_tells, told_made}
+use Rattle.idsm_port.specs.declared.turning.TurnAnswer.{TurnAnswer}
+use Rattle.idsm_port.specs.Turning.{TurnMade, told_in}
+use Rattle.idsm_port.specs.Writing.{IsWritten}
 use Rattle.idsm_port.proofs.manager.ManagerPort.turn.Goals as goal
+
+-- the output has just the room for the largest turn's messages
+pub hand_over-requires-clause-room : goal.hand_over-requires-clause-room
+hand_over-requires-clause-room c =
+    let mine = c.requires.fit.is_manager in
+    let room = mine.roomy.out_room.sent_room in
+    let most = c.requires.fit.most_is in
+    let positions = mine.positions_are in
+    let events = mine.events_are in
+    let same = c.in-Ok.ensures.room in
+    omega (arith, room, most, ap (λ n. 1044 * n) positions, ap (λ n. 1044 * n) events, ap (λ r. r.sent) same)
 
 pub returns-in-Ok-clause-fit : goal.returns-in-Ok-clause-fit
 returns-in-Ok-clause-fit c =
@@ -21,24 +34,20 @@ returns-in-Ok-clause-told c =
     let new = c.turn.follows.lender-at-none in
     let left = subst (λ answer. TurnLeaves chain_stands chain_events chain_kept c.deref.result.now c.args.tick c.args.self.now.manager answer new) c.in-Ok.is
     c.turn.follows.holds-at-none in
-    let answer = c.hand_over.result.answer in
     let after = c.hand_over.new.buffer in
-    let made : TurnMade c.args.tick c.args.self.now c.args.buffer.now answer (record c.args.self.now { manager = new }) after = record {
+    let made : TurnMade c.args.tick c.args.self.now c.args.buffer.now (record c.args.self.now { manager = new }) after = record {
       can = record { room = omega arith; few = omega arith };
       later = c.in-Ok.ensures.fault.0;
       within = c.in-Ok.ensures.fault.1;
       turned = left.2;
       same = refl;
-      over = subst (λ (out : Output). HandsOver out c.args.buffer.now answer after) left.1 c.hand_over.ensures.over;
+      written = subst (λ (out : Output). IsWritten out.sent c.args.buffer.now after) left.1 c.hand_over.ensures.written;
     } in
-    made_tells c.args.tick c.args.self.now (record c.args.self.now { manager = new }) c.args.buffer.now after answer made
+    rw c.hand_over.ensures.told made
 
 pub returns-in-Ok-clause-numbers : goal.returns-in-Ok-clause-numbers
 returns-in-Ok-clause-numbers c =
     let new = c.turn.follows.lender-at-none in
     let left = subst (λ answer. TurnLeaves chain_stands chain_events chain_kept c.deref.result.now c.args.tick c.args.self.now.manager answer new) c.in-Ok.is
     c.turn.follows.holds-at-none in
-    let answer = c.hand_over.result.answer in
-    let after = c.hand_over.new.buffer in
-    let over = subst (λ (out : Output). HandsOver out c.args.buffer.now answer after) left.1 c.hand_over.ensures.over in
-    c.hand_over.ensures.told ∙ ap told_in left.1 ∙ told_made new.out c.args.buffer.now after answer over
+    rw c.hand_over.ensures.told (ap told_in left.1)

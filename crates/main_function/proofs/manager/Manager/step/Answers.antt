@@ -54,6 +54,7 @@ returns-clause-turned g c =
           (c.turn.ensures.stands config turns is.chain_stands) c.requires.later makes mine.offered_is refl refl refl;
       limited_is = λ config turns is. c.limited.ensures.value config turns is.chain_stands;
       sends = λ config turns is. search (rules, is.tick_is, c.requires.later, c.turn.ensures.sends config turns is.chain_stands);
+      room_is = c.turn.ensures.out_room;
       rests_are = refl;
       turns_are = refl;
       last_is = refl;
