@@ -12,7 +12,7 @@ use ids_types::{History, NoMemory, Plain};
 use std::alloc::Global;
 
 /// Has a chain that took no turn yet take those of a history.
-pub(crate) fn fold<'h, C: Chain<Plain<'h>>>(
+pub fn fold<'h, C: Chain<Plain<'h>>>(
     alloc: Global,
     config: &Config,
     history: &'h History,

@@ -13,4 +13,5 @@ mod tally;
 
 pub use desk::Desk;
 pub use folded::{Folded, outcome};
+pub use folding::fold;
 pub use tally::Tally;

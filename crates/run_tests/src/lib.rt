@@ -1,7 +1,7 @@
 //! The tests of the commands: runs over files in memory, by the public names of the crates below.
 //!
 //! Layer 10, runs. Over `idsm_run` and `ids_outside`. Each module runs tables of cases that were worked out
-//! by hand: what a run writes and puts through each filter and limit, the recorded runs of `examples/`, each
+//! by hand: what a run writes and puts, the recorded runs of `examples/`, each
 //! refusal with its text, each call that fails, want of memory, each limit at its last byte, and replays by
 //! threads, whose files are checked and folded again.
 //! Statuses, limits and ranges stand here as numbers.
@@ -15,8 +15,6 @@ mod checking;
 mod examples;
 #[cfg(test)]
 mod failing;
-#[cfg(test)]
-mod filtering;
 #[cfg(test)]
 mod flooding;
 #[cfg(test)]

@@ -183,3 +183,19 @@ fn a_file_of_67108865_bytes_is_too_long_for_decode(rt: HostRuntime) -> Result<()
     assert!(rt; told.as_slice() == b"4 | too long c/ | - | -".as_slice());
     Ok(())
 }
+
+/// Journals in which a turn tells another number of held-back events than the chain's. The first such turn is
+/// told, and only where no line has another fault.
+const MISCOUNTED: &str =
+    r##"fold c j m r | {"form":1,"instance":18,"rate":{"interval":1000,"events":2},"internal":{"limited":1},"events":[{"id":42,"sensor":3},{"id":9,"sensor":0}]} | T 100 0 0 0/R 0 0 0 1 - -/R 0 1 0 1 - -/R 0 2 0 1 - -/T 1000 0 0 0/ => 6 | bad journal line 5: 8/ | - | -
+fold c j m r | {"form":1,"instance":18,"rate":{"interval":1000,"events":2},"internal":{"limited":1},"events":[{"id":42,"sensor":3},{"id":9,"sensor":0}]} | T 100 0 0 0/R 0 0 0 1 - -/R 0 1 0 1 - -/R 0 2 0 1 - -/T 1000 0 0 2/ => 6 | bad journal line 5: 8/ | - | -
+fold c j m r | {"form":1,"instance":18,"rate":{"interval":1000,"events":2},"internal":{"limited":1},"events":[{"id":42,"sensor":3},{"id":9,"sensor":0}]} | T 100 0 0 1/R 0 0 0 1 - -/ => 6 | bad journal line 1: 8/ | - | -
+fold c j m r | {"form":1,"instance":18,"rate":{"interval":1000,"events":2},"internal":{"limited":1},"events":[{"id":42,"sensor":3},{"id":9,"sensor":0}]} | T 100 0 0 0/R 0 0 0 1 - -/R 0 1 0 1 - -/R 0 2 0 1 - -/T 200 0 0 1/T 300 0 0 1/T 400 0 0 1/ => 6 | bad journal line 6: 8/ | - | -
+fold c j m r | {"form":1,"instance":18,"rate":{"interval":1000,"events":2},"internal":{"limited":1},"events":[{"id":42,"sensor":3},{"id":9,"sensor":0}]} | T 100 0 0 0/R 0 0 0 1 - -/R 0 1 0 1 - -/R 0 2 0 1 - -/T 200 0 0 0/T 300 0 0 9/x/ => 6 | bad journal line 7: 1/ | - | -
+fold c j m r | . | T 5 0 0 0/C 0 0 S 1/T 6 0 0 1/ => 6 | bad journal line 3: 8/ | - | -"##;
+
+#[test]
+fn a_turn_that_tells_another_number_is_the_bad_line(rt: HostRuntime) -> Result<(), Fail> {
+    assert_eq!(rt; first_wrong::<Runs>(rt.alloc(), MISCOUNTED)?, None);
+    Ok(())
+}
