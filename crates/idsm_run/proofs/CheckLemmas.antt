@@ -1,8 +1,7 @@
 -- How the comparison of a file with the messages of a recording ends.
-use Rattle.idsm_run.proofs.Names.{◌≡◌, ◌∙◌, ℕ, List, Ok, Err, Bor, IsTrue, refl, sym, ap, subst, inl, inr, Result, IfOk, IfErr, Vec, nat_eq, common_prefix_len, cases_Bool, Refusal, MayRefuse, Global, SameFiles, Shelved, Stop, Refused, Differ, Recorded, recorded_in, file_of, CheckFiles, check, compared, check_judged, does, judge, Judges, StopsFor, WasDone, plain_stop}
+use Rattle.idsm_run.proofs.Names.{◌≡◌, ◌∙◌, ℕ, List, Ok, Err, Bor, IsTrue, refl, sym, ap, subst, inl, inr, Result, IfOk, IfErr, Vec, nat_eq, common_prefix_len, cases_Bool, Refusal, MayRefuse, Global, SameFiles, Shelved, Stop, Refused, Differ, Recorded, recorded_in, file_of, CheckFiles, check, compared, check_judged, does, judge, Judges, StopsFor, WasDone, plain_stop, messages_of}
 use Rattle.std.specs.Prelude.{bytes_eq}
-use Rattle.idsm_run.specs.Names.{messages_of}
-use Rattle.idsm_run.proofs.JudgeLemmas.{refused, check_found}
+use Rattle.run_spec.proofs.JudgeLemmas.{refused, check_found}
 
 module _ (names : CheckFiles) (recorded : Recorded) (bytes sent : List ℕ) (old new : Shelved)
     (found : IsTrue old.tells → recorded_in names.from old.files ≡ Ok recorded)

@@ -1,11 +1,4 @@
 pub mod CheckLemmas
-pub mod CommandLemmas
-pub mod ExitLemmas
 pub mod FoldLemmas
-pub mod JournalLemmas
-pub mod JudgeLemmas
 pub mod Names
 pub mod ReplayLemmas
-pub mod RunLemmas
-pub mod WorkLemmas
-pub mod WritingLemmas

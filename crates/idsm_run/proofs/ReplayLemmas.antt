@@ -1,8 +1,8 @@
 -- What a replay gives is the work that its input files ask for, and how its run ends.
 use Rattle.idsm_run.proofs.Names.{◌≡◌, ◌≢◌, ◌∙◌, ℕ, List, length, reverse, Option, None, Some, Ok, Err, Bor, IsTrue, refl, sym, subst, inl, inr, arith, Result, IfOk, OnOk, IfErr, ⊤, sum-map, Refusal, refusal_status, usage, Parts, Turn, Loss, Round, told, messages_of, rows_of, ends_of, memory_text, journal_text, Cuts, Shelved, Heard, WriteFault, Failed, MemoryRefused, BadConfig, BadJournal, BadTrace, BadMessages, Differ, Stop, CannotRead, TooLong, Refused, CannotWrite, NoMemory, ReplayFiles, replay, replays, replay_outputs, replay_work, lost_contexts, without_context, IsOneHistory, RunManager, Replayed, RanReplay, Replays, TellsReplay, IsAnswered, Written, StopsFor, WasDone, Puts, Says, Tells, put_status, plain_stop, stop_text, stop_status, Gives, IsReplay, chain_stands}
-use Rattle.idsm_run.proofs.JournalLemmas.{cut_at_ends}
-use Rattle.idsm_run.proofs.JudgeLemmas.{replay_found}
-use Rattle.idsm_run.proofs.RunLemmas.{end_ran}
+use Rattle.run_spec.proofs.JournalLemmas.{cut_at_ends}
+use Rattle.run_spec.proofs.JudgeLemmas.{replay_found}
+use Rattle.run_spec.proofs.RunLemmas.{end_ran}
 
 -- ---- what a replay gives
 

@@ -1,17 +1,4 @@
-pub mod Command
-pub mod CommandView
-pub mod Deserts
-pub mod Fold
-pub mod FoldedJournal
-pub mod Headline
-pub mod Judge
 pub mod Names
 pub mod Outcome
-pub mod Replay
 pub mod Replayed
-pub mod Run
-pub mod Saying
-pub mod Stages
-pub mod Texts
 pub mod Words
-pub mod Writing

@@ -1,7 +1,7 @@
 -- What a journal gives when it is folded, as `fold` holds it.
 use Rattle.std.specs.Prelude.{◌≡◌, List, length, reverse}
 use Rattle.idsm_run.specs.Names.{Parts, Turn, Folded, messages_of, count_of, rows_of}
-use Rattle.idsm_run.specs.Writing.{Cuts}
+use Rattle.run_files.specs.Writing.{Cuts}
 
 -- this is what the chain gives for these turns: its messages, cut at the ends of turns, and its event memory
 pub record IsOutcome (config : Parts) (turns : List Turn) (folded : Folded) : Type 0 where

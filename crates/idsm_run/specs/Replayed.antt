@@ -7,14 +7,14 @@ use Rattle.main_function.specs.declared.manager.Manager.{Manager}
 use Rattle.trace_replay.specs.Replayed.{Gives, IsReplay, chain_stands}
 use Rattle.idsm_run.specs.Names.{Parts, Round, Files, Shelved, Heard, Stop}
 pub use Rattle.idsm_run.specs.declared.replaying.Written.{Written}
-use Rattle.idsm_run.specs.Command.{ReplayFiles, replay, written_by}
-use Rattle.idsm_run.specs.Headline.{IsOneHistory}
-use Rattle.idsm_run.specs.Judge.{asked_in}
-use Rattle.idsm_run.specs.Replay.{replay_work}
-use Rattle.idsm_run.specs.Run.{RanCommand, Misused}
-use Rattle.idsm_run.specs.Saying.{Puts, Tells}
-use Rattle.idsm_run.specs.Stages.{plain_stop}
-use Rattle.idsm_run.specs.Writing.{AreWritten}
+use Rattle.run_words.specs.Command.{ReplayFiles, replay, written_by}
+use Rattle.run_spec.specs.Headline.{IsOneHistory}
+use Rattle.run_spec.specs.Judge.{asked_in}
+use Rattle.run_spec.specs.Replay.{replay_work}
+use Rattle.run_spec.specs.Run.{RanCommand, Misused}
+use Rattle.run_files.specs.Saying.{Puts, Tells}
+use Rattle.run_files.specs.Stages.{plain_stop}
+use Rattle.run_files.specs.Writing.{AreWritten}
 
 -- the manager of a replay
 abbrev pub RunManager : Type 0

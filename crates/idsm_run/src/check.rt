@@ -4,11 +4,10 @@ ghost use Rattle.std.specs.Prelude.{◌≡◌, ◌≢◌, nat_eq, IsTrue, IfOk, 
 ghost use Rattle.std.specs.List.{common_prefix_len};
 ghost use Rattle.idsm_run.specs.Words.{SameFiles, check as check_command, check_judged, compared, does, three_of, Judges, WasDone, StopsFor, plain_stop};
 
-use crate::command::CheckNames;
-use crate::inputs::{read_file, read_inputs};
-use crate::sizes::MAX_MESSAGES_BYTES;
-use crate::stop::{Refusal, Stop};
+use crate::inputs::read_inputs;
 use ids_outside::Shelf;
+use run_files::{MAX_MESSAGES_BYTES, Refusal, Stop, read_file};
+use run_words::CheckNames;
 use std::alloc::Global;
 
 /// Compares a file with the messages that the filter chain sends for a journal, and returns the line that

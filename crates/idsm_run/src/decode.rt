@@ -3,12 +3,10 @@
 ghost use Rattle.std.specs.Prelude.{◌≡◌, IsTrue, IfOk, IfErr};
 ghost use Rattle.idsm_run.specs.Words.{SameFiles, decoded_text, decode as decode_command, WasDone, StopsFor, plain_stop};
 
-use crate::inputs::read_file;
-use crate::sizes::MAX_MESSAGES_BYTES;
-use crate::stop::{Refusal, Stop};
 use ids_frame::Messages;
 use ids_outside::Shelf;
 use ids_types::NoMemory;
+use run_files::{MAX_MESSAGES_BYTES, Refusal, Stop, read_file};
 use std::alloc::Global;
 use text_spec::push_message;
 

@@ -3,14 +3,13 @@
 ghost use Rattle.std.specs.Prelude.{◌≡◌, ◌≢◌, length, reverse, IsTrue, IfOk, OnOk, OnErr, IfErr};
 ghost use Rattle.idsm_run.specs.Words.{SameBut, written_by, fold as fold_command, files_of, entries_of, fold_line as line_of, fold_outputs, WasDone, StopsFor, OneFails, plain_stop, AreWritten, StandUpTo, Cuts};
 
-use crate::command::FoldNames;
 use crate::inputs::read_inputs;
 use crate::journals::Judged;
-use crate::outputs::write_file;
-use crate::stop::Stop;
 use chain_plain::Folded;
 use ids_outside::{Shelf, WriteFault};
 use ids_types::NoMemory;
+use run_files::{Stop, write_file};
+use run_words::FoldNames;
 use std::alloc::Global;
 
 /// Folds a journal, and returns the line that tells what was folded. All memory is taken before the

@@ -6,10 +6,9 @@ ghost use Rattle.gen_options.specs.Ranges.{is_in_range};
 ghost use Rattle.trace_gen.specs.Generated.{config_for, journal_for, trace_for};
 ghost use Rattle.idsm_run.specs.Words.{SameBut, written_by, gen as gen_command, gen_work, WasDone, StopsFor, OneFails, plain_stop, AreWritten, StandUpTo};
 
-use crate::outputs::write_file;
-use crate::stop::Stop;
 use gen_options::Given;
 use ids_outside::{Shelf, WriteFault};
+use run_files::{Stop, write_file};
 use std::alloc::Global;
 use trace_gen::{Generated, generate};
 

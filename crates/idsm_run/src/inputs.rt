@@ -1,14 +1,13 @@
 //! The input files of a recording, for `fold` and `check`.
 
 ghost use Rattle.std.specs.Prelude.{◌≡◌, ◌≢◌, Some, Ok, IsTrue, IfOk, OnOk, IfErr};
-ghost use Rattle.idsm_run.specs.Words.{SameFiles, Command, recording, recording_of, recorded_in, file_of, StopsFor, IsOutcome, ReadStops, plain_stop};
+ghost use Rattle.idsm_run.specs.Words.{SameFiles, Command, recording, recording_of, recorded_in, StopsFor, IsOutcome, plain_stop};
 
-use crate::command::RecordingNames;
 use crate::journals::{Judged, judge_journal};
-use crate::sizes::{MAX_CONFIG_BYTES, MAX_JOURNAL_BYTES};
-use crate::stop::Stop;
 use ids_config::Config;
-use ids_outside::{ReadFault, Shelf};
+use ids_outside::Shelf;
+use run_files::{MAX_CONFIG_BYTES, MAX_JOURNAL_BYTES, Stop, read_file};
+use run_words::RecordingNames;
 use std::alloc::Global;
 
 /// A configuration, and a journal of its events, folded.
@@ -43,28 +42,4 @@ pub(crate) fn read_inputs<'a, H: Shelf>(
     let text = read_file(alloc, names.journal, MAX_JOURNAL_BYTES, shelf)?;
     let journal = judge_journal(alloc, text, &config)?;
     Ok(Inputs { config, journal })
-}
-
-/// The bytes of a file, where it has at most so many.
-pub(crate) fn read_file<'a, H: Shelf>(
-    alloc: Global,
-    name: &'a str,
-    limit: u64,
-    shelf: &mut H,
-) -> Result<Vec<u8>, Stop<&'a str>>
-    ensures tells { (H.shows shelf.new).tells ≡ (H.shows shelf.old).tells }
-    ensures same { IsTrue (H.shows shelf.old).tells →
-        SameFiles (H.shows shelf.old).files (H.shows shelf.new).files }
-    ensures found { IsTrue (H.shows shelf.old).tells → IfOk result (λ bytes.
-        file_of limit name.now (H.shows shelf.old).files ≡ Ok bytes.items) }
-    ensures no_fault { OnOk result ((H.shows shelf.new).faults ≡ (H.shows shelf.old).faults) }
-    ensures stops { IfErr result (λ reason. ReadStops limit name.now
-        (H.shows shelf.old) (H.shows shelf.new) (plain_stop reason)) }
-{
-    match shelf.read(alloc, name, limit) {
-        Ok(bytes) => Ok(bytes),
-        Err(ReadFault::Failed) => Err(Stop::CannotRead(name)),
-        Err(ReadFault::TooLong) => Err(Stop::TooLong(name)),
-        Err(ReadFault::NoMemory) => Err(Stop::NoMemory),
-    }
 }

@@ -3,11 +3,11 @@
 ghost use Rattle.std.specs.Prelude.{◌≡◌, ◌<◌, ◌+◌, ◌^◌, ◌∷◌, length, IfOk};
 ghost use Rattle.idsm_run.specs.Words.{entries_of, folded_in, held_back_line as line_held_back, journal_judged, IsOutcome, Judges};
 
-use crate::stop::{Refusal, Stop};
 use chain_plain::{Folded, outcome};
 use ids_config::Config;
 use ids_types::History;
 use journal::{JournalFault, read};
+use run_files::{Refusal, Stop};
 use std::alloc::Global;
 use text_spec::what_a_fitting_journal_keeps;
 

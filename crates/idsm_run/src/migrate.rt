@@ -3,12 +3,9 @@
 ghost use Rattle.std.specs.Prelude.{◌≡◌, IsTrue, IfOk, IfErr};
 ghost use Rattle.idsm_run.specs.Words.{SameBut, written_by, migrate as migrate_command, pair_of, WasDone, StopsFor, plain_stop};
 
-use crate::command::MigrateNames;
-use crate::inputs::read_file;
-use crate::outputs::write_file;
-use crate::sizes::MAX_CONFIG_BYTES;
-use crate::stop::Stop;
 use ids_outside::Shelf;
+use run_files::{MAX_CONFIG_BYTES, Stop, read_file, write_file};
+use run_words::MigrateNames;
 use std::alloc::Global;
 
 /// Writes the text of a configuration of either form in the second form, by one append, and returns the

@@ -3,12 +3,11 @@
 ghost use Rattle.std.specs.Prelude.{◌≡◌, ◌<◌, ◌^◌, length, IsTrue, IfOk, OnOk, OnErr, IfErr};
 ghost use Rattle.idsm_run.specs.Words.{SameBut, written_by, replay as replay_command, five_of, entries_of, replay_line as line_of, replay_text as text_of, without_context, lost_contexts, replay_outputs, CanReplay, Replayed as HasReplayed, StopsFor, OneFails, plain_stop, AreWritten, StandUpTo, Cuts};
 
-use crate::outputs::write_file;
-use crate::replay_words::ReplayNames;
-use crate::stop::Stop;
 use crate::traces::read_asked;
 use ids_outside::{Shelf, WriteFault};
 use ids_types::{History, NoMemory};
+use run_files::{Stop, write_file};
+use run_words::ReplayNames;
 use std::alloc::Global;
 use std::thread::Threads;
 use trace_replay::{Gate, Replayed, RunManager, replay};

@@ -1,18 +1,17 @@
-ghost use Rattle.std.specs.Prelude.{◌≡◌, ℕ, List, Ok, Err, IsTrue, map, string_bytes};
-ghost use Rattle.idsm_run.specs.Words.{Shelved, Heard, Stop, Command, command_of, are_read_by_clap, SameBut, EndsWith, EndsOrFails, DidWork, Task, judge, Ran, RanCommand, written_of, stop_status, replay_of, Replays, written_in};
+ghost use Rattle.std.specs.Prelude.{IsTrue, map, string_bytes};
+ghost use Rattle.idsm_run.specs.Words.{command_of, are_read_by_clap, SameBut, Ran, written_of, replay_of, Replays, written_in};
 
+use crate::answering::tell_replay;
 use crate::check::check;
-use crate::command::{Request, parse};
 use crate::decode::decode_file;
 use crate::fold::fold;
 use crate::generating::generate_files;
 use crate::migrate::migrate;
-use crate::replay_words::parse_replay;
 use crate::replaying::replay_files;
-use crate::saying::{say, tell, tell_replay};
-use crate::status::{BAD_WORDS, NO_MEMORY};
 use ids_outside::{Shelf, Sink};
 use ids_types::NoMemory;
+use run_files::{BAD_WORDS, NO_MEMORY, say, tell};
+use run_words::{Request, parse, parse_replay};
 use std::alloc::Global;
 use std::thread::Threads;
 use trace_replay::{Gate, RunManager};
@@ -91,20 +90,3 @@ pub fn run_replay<R: Threads + Sync, H: Shelf, K: Sink, G: Gate + Sync>(
         Some(names) => tell_replay(alloc, replay_files(rt, alloc, names, shelf, gate), out),
     }
 }
-
-/// What the input files deserve decides how a run over a shelf that tells them ends: with the status of
-/// their refusal, or with 0. Only want of memory, the put of the text, a write, or an earlier read that
-/// failed can end it otherwise. A run that ended with 0 did work that they ask for.
-pub fn files_decide_the_answer()
-    ensures refused { (command : Command) (status : ℕ) (old new : Shelved) (before after : Heard)
-        (reason : Stop (List ℕ)) → RanCommand command status old new before after →
-        IsTrue old.tells → judge command old.files ≡ Err reason →
-        EndsWith (stop_status reason) command status old new before after }
-    ensures served { (command : Command) (status : ℕ) (old new : Shelved) (before after : Heard)
-        (task : Task) → RanCommand command status old new before after →
-        IsTrue old.tells → judge command old.files ≡ Ok task →
-        EndsOrFails 0 command status old new before after }
-    ensures done { (command : Command) (old new : Shelved) (before after : Heard)
-        (task : Task) → RanCommand command 0 old new before after →
-        IsTrue old.tells → judge command old.files ≡ Ok task → DidWork task new }
-{}

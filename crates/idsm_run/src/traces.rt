@@ -4,12 +4,10 @@ ghost use Rattle.std.specs.Prelude.{◌≡◌, ◌≢◌, Ok, IsTrue, IfOk, OnOk
 ghost use Rattle.text_spec.specs.TraceReading.{AreRounds};
 ghost use Rattle.idsm_run.specs.Words.{SameFiles, replay as replay_command, five_of, asked_in, trace_in, trace_judged, Judges, StopsFor, plain_stop};
 
-use crate::inputs::read_file;
-use crate::replay_words::ReplayNames;
-use crate::sizes::{MAX_CONFIG_BYTES, MAX_TRACE_BYTES};
-use crate::stop::{Refusal, Stop};
 use ids_config::Config;
 use ids_outside::Shelf;
+use run_files::{MAX_CONFIG_BYTES, MAX_TRACE_BYTES, Refusal, Stop, read_file};
+use run_words::ReplayNames;
 use std::alloc::Global;
 use trace_text::{Trace, TraceFault, read};
 

@@ -4,15 +4,16 @@ use Rattle.std.specs.Prelude.{codes}
 use Rattle.std.proofs.lemmas.Slice.Eq.{bytes_eq-Decides}
 use Rattle.ids_outside.specs.Shelved.{Shelved}
 use Rattle.ids_outside.specs.Sinks.{Heard}
-use Rattle.idsm_run.specs.Command.{ReplayFiles}
-use Rattle.idsm_run.specs.Deserts.{EndsWith, EndsOrFails}
-use Rattle.idsm_run.specs.Judge.{does, judge, recorded_in, fold_work, compared, file_of}
+use Rattle.run_words.specs.Command.{ReplayFiles}
+use Rattle.run_spec.specs.Deserts.{EndsWith, EndsOrFails}
+use Rattle.run_spec.specs.Judge.{does, judge, recorded_in, fold_work, compared}
+use Rattle.run_files.specs.Contents.{file_of}
 use Rattle.idsm_run.specs.Words.{Turn, messages_of, journal_text, told}
 use Rattle.idsm_run.specs.Replayed.{Replayed}
-use Rattle.idsm_run.specs.Run.{RanCommand}
-use Rattle.idsm_run.specs.Writing.{Work, AreWritten}
-use Rattle.idsm_run.proofs.JudgeLemmas.{check_found, fold_found}
-use Rattle.idsm_run.proofs.RunLemmas.{did_work, served_ends}
+use Rattle.run_spec.specs.Run.{RanCommand}
+use Rattle.run_files.specs.Writing.{Work, AreWritten}
+use Rattle.run_spec.proofs.JudgeLemmas.{check_found, fold_found}
+use Rattle.run_spec.proofs.RunLemmas.{did_work, served_ends}
 use Rattle.message_weights.proofs.JournalLemmas.{messages_are_short}
 use Rattle.run_agreement.specs.Agreement.{FindsLeft, HasTheSame, WasReplayed, check_again, fold_again, left_by}
 use Rattle.run_agreement.proofs.CausalLemmas.{folds_as}

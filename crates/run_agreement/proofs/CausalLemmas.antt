@@ -10,7 +10,7 @@ use Rattle.chain_spec.specs.Chain.{IsCausal, handed, handed_on}
 use Rattle.text_spec.specs.JournalReading.{IsJournal}
 use Rattle.text_spec.specs.JournalText.{Told}
 use Rattle.text_spec.proofs.JournalLaws.{journal_is_told}
-use Rattle.idsm_run.specs.FoldedJournal.{due_to, folded_in, held_back_line}
+use Rattle.run_spec.specs.FoldedJournal.{due_to, folded_in, held_back_line}
 
 module _ (config : Parts) where
   -- the numbers that these turns hand on, behind those before them, which have the newest first

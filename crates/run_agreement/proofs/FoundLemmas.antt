@@ -14,9 +14,10 @@ use Rattle.config_json.specs.Configured.{config_of, configuration, tree_of}
 use Rattle.config_json.specs.Members.{parts_in}
 use Rattle.config_json.specs.Shape.{config_shape}
 use Rattle.ids_outside.specs.Files.{Files}
-use Rattle.idsm_run.specs.Command.{ReplayFiles, are_names, is_name, replay, replay_names, replay_of, written_by, IsNoneOf}
-use Rattle.idsm_run.specs.FoldedJournal.{◌>>=◌}
-use Rattle.idsm_run.specs.Judge.{AskedFor, asked_in, config_found, file_of, trace_judged}
+use Rattle.run_words.specs.Command.{ReplayFiles, are_names, is_name, replay, replay_names, replay_of, written_by, IsNoneOf}
+use Rattle.run_spec.specs.FoldedJournal.{◌>>=◌}
+use Rattle.run_spec.specs.Judge.{AskedFor, asked_in, config_found, trace_judged}
+use Rattle.run_files.specs.Contents.{file_of}
 use Rattle.idsm_run.specs.Words.{Round, list_any, trace_in}
 
 -- ---- steps that found something

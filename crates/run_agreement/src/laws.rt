@@ -3,9 +3,9 @@
 ghost use Rattle.std.specs.Prelude.{ℕ, List};
 ghost use Rattle.ids_outside.specs.Shelved.{Shelved};
 ghost use Rattle.ids_outside.specs.Sinks.{Heard};
-ghost use Rattle.idsm_run.specs.Command.{ReplayFiles};
-ghost use Rattle.idsm_run.specs.Deserts.{EndsWith, EndsOrFails};
-ghost use Rattle.idsm_run.specs.Run.{RanCommand};
+ghost use Rattle.run_words.specs.Command.{ReplayFiles};
+ghost use Rattle.run_spec.specs.Deserts.{EndsWith, EndsOrFails};
+ghost use Rattle.run_spec.specs.Run.{RanCommand};
 ghost use Rattle.run_agreement.specs.Agreement.{FindsLeft, HasTheSame, WasReplayed, check_again, fold_again};
 
 /// Where a replay ended with 0 and its journal is no longer than `fold` may read, `fold` of its configuration and

@@ -1,7 +1,7 @@
 use Rattle.idsm_run.proofs.Names.{rules, refl, ◌∙◌, arith, check, three_of}
-use Rattle.idsm_run.proofs.ExitLemmas.{left_by}
+use Rattle.run_files.proofs.ExitLemmas.{left_by}
 use Rattle.idsm_run.proofs.CheckLemmas.{done_so, stopped_so}
-use Rattle.idsm_run.proofs.JudgeLemmas.{unread, read_since, messages_next}
+use Rattle.run_spec.proofs.JudgeLemmas.{unread, read_since, messages_next}
 use Rattle.idsm_run.proofs.check.check.Goals as goal
 
 pub returns-in_err-inputs-clause-stops : goal.returns-in_err-inputs-clause-stops

@@ -1,6 +1,6 @@
 use Rattle.idsm_run.proofs.Names.{rules, refl, sym, decode_work, does}
-use Rattle.idsm_run.proofs.ExitLemmas.{left_by}
-use Rattle.idsm_run.proofs.JudgeLemmas.{unread, messages_first, messages_refused, messages_found}
+use Rattle.run_files.proofs.ExitLemmas.{left_by}
+use Rattle.run_spec.proofs.JudgeLemmas.{unread, messages_first, messages_refused, messages_found}
 use Rattle.idsm_run.proofs.decode.decode_file.Goals as goal
 
 pub returns-in_err-bytes-clause-stops : goal.returns-in_err-bytes-clause-stops

@@ -1,8 +1,8 @@
 use Rattle.idsm_run.proofs.Names.{rules, refl, subst, ◌∙◌, fold, files_of, fold_work, stop_of_write, StandUpTo, AreWritten}
-use Rattle.idsm_run.proofs.ExitLemmas.{left_by}
+use Rattle.run_files.proofs.ExitLemmas.{left_by}
 use Rattle.idsm_run.proofs.FoldLemmas.{outputs_are, line_is}
-use Rattle.idsm_run.proofs.JudgeLemmas.{fold_found}
-use Rattle.idsm_run.proofs.WorkLemmas.{all_written, write_stopped}
+use Rattle.run_spec.proofs.JudgeLemmas.{fold_found}
+use Rattle.run_spec.proofs.WorkLemmas.{all_written, write_stopped}
 use Rattle.idsm_run.proofs.fold.fold.Goals as goal
 
 pub returns-in_err-inputs-clause-stops : goal.returns-in_err-inputs-clause-stops

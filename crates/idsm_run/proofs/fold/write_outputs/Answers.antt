@@ -1,5 +1,5 @@
 use Rattle.idsm_run.proofs.Names.{rules, refl, arith, fold, files_of}
-use Rattle.idsm_run.proofs.WorkLemmas.{fails_so}
+use Rattle.run_spec.proofs.WorkLemmas.{fails_so}
 use Rattle.idsm_run.proofs.fold.write_outputs.Goals as goal
 
 pub returns-clause-fails : goal.returns-clause-fails

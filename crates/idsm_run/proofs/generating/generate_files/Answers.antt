@@ -1,7 +1,7 @@
 use Rattle.idsm_run.proofs.Names.{rules, refl, given_of, gen, gen_work, stop_of_write}
-use Rattle.idsm_run.proofs.ExitLemmas.{left_by}
-use Rattle.idsm_run.proofs.JudgeLemmas.{gen_found}
-use Rattle.idsm_run.proofs.WorkLemmas.{all_written, write_stopped}
+use Rattle.run_files.proofs.ExitLemmas.{left_by}
+use Rattle.run_spec.proofs.JudgeLemmas.{gen_found}
+use Rattle.run_spec.proofs.WorkLemmas.{all_written, write_stopped}
 use Rattle.idsm_run.proofs.generating.generate_files.Goals as goal
 
 pub returns-in_err-write_outputs-clause-stops : goal.returns-in_err-write_outputs-clause-stops

@@ -1,6 +1,6 @@
 use Rattle.idsm_run.proofs.Names.{rules, refl, configuration, recording, plain_stop, stop_of_config}
-use Rattle.idsm_run.proofs.ExitLemmas.{left_by}
-use Rattle.idsm_run.proofs.JudgeLemmas.{unread, refused, read_since, reads_config, reads_journal, config_first, config_refused, config_may, config_exit, journal_next, journal_may, journal_refused, recording_found}
+use Rattle.run_files.proofs.ExitLemmas.{left_by}
+use Rattle.run_spec.proofs.JudgeLemmas.{unread, refused, read_since, reads_config, reads_journal, config_first, config_refused, config_may, config_exit, journal_next, journal_may, journal_refused, recording_found}
 use Rattle.idsm_run.proofs.inputs.read_inputs.Goals as goal
 
 pub returns-in_err-text-clause-stops : goal.returns-in_err-text-clause-stops

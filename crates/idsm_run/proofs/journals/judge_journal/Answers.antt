@@ -1,5 +1,5 @@
 use Rattle.idsm_run.proofs.Names.{arith, common_steps, told}
-use Rattle.idsm_run.proofs.JournalLemmas.{lines_are_few, can_fold, cut_at_ends}
+use Rattle.run_spec.proofs.JournalLemmas.{lines_are_few, can_fold, cut_at_ends}
 use Rattle.idsm_run.proofs.journals.judge_journal.Goals as goal
 
 -- the chain can take the turns of a journal

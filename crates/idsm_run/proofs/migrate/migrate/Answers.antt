@@ -1,7 +1,7 @@
 use Rattle.idsm_run.proofs.Names.{◌≡◌, Some, Ok, IsTrue, string_bytes, rules, refl, sym, subst, inl, config_text, file_of, migrate, pair_of, migrate_work, stop_of_config, stop_of_write}
-use Rattle.idsm_run.proofs.ExitLemmas.{left_by}
-use Rattle.idsm_run.proofs.JudgeLemmas.{unread, unread_config, source_first, source_refused, source_found, config_kept}
-use Rattle.idsm_run.proofs.WorkLemmas.{all_written, write_stopped}
+use Rattle.run_files.proofs.ExitLemmas.{left_by}
+use Rattle.run_spec.proofs.JudgeLemmas.{unread, unread_config, source_first, source_refused, source_found, config_kept}
+use Rattle.run_spec.proofs.WorkLemmas.{all_written, write_stopped}
 use Rattle.idsm_run.proofs.migrate.migrate.Goals as goal
 
 pub returns-in_err-bytes-clause-stops : goal.returns-in_err-bytes-clause-stops

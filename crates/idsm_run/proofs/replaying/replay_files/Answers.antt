@@ -1,8 +1,8 @@
 use Rattle.idsm_run.proofs.Names.{◌≡◌, ◌∙◌, List, ℕ, IsTrue, rules, refl, sym, ap, subst, inl, gives, told, memory_text, journal_text, rows_of, five_of, replay, replays, replay_work, replay_outputs, stop_of_write, StandUpTo, AreWritten, Loss, NoMemory}
-use Rattle.idsm_run.proofs.ExitLemmas.{left_by}
-use Rattle.idsm_run.proofs.JudgeLemmas.{replay_found}
+use Rattle.run_files.proofs.ExitLemmas.{left_by}
+use Rattle.run_spec.proofs.JudgeLemmas.{replay_found}
 use Rattle.idsm_run.proofs.ReplayLemmas.{is_one, lost_are, sent_cut, replay_outputs_are}
-use Rattle.idsm_run.proofs.WorkLemmas.{write_stopped}
+use Rattle.run_spec.proofs.WorkLemmas.{write_stopped}
 use Rattle.idsm_run.proofs.replaying.replay_files.Goals as goal
 
 -- the turns tell their losses of context data buffers

@@ -1,5 +1,5 @@
 use Rattle.idsm_run.proofs.Names.{rules, refl, arith, replay, five_of}
-use Rattle.idsm_run.proofs.WorkLemmas.{fails_so}
+use Rattle.run_spec.proofs.WorkLemmas.{fails_so}
 use Rattle.idsm_run.proofs.replaying.write_outputs.Goals as goal
 
 pub returns-clause-fails : goal.returns-clause-fails

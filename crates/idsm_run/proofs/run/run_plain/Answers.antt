@@ -1,5 +1,5 @@
 use Rattle.idsm_run.proofs.Names.{ap, sym, ◌∙◌, option_map, asked}
-use Rattle.idsm_run.proofs.RunLemmas.{asked_ran, end_ran, words_starved}
+use Rattle.run_spec.proofs.RunLemmas.{asked_ran, end_ran, words_starved}
 use Rattle.idsm_run.proofs.run.run_plain.Goals as goal
 
 pub returns-in-Some-Fold-clause-ran : goal.returns-in-Some-Fold-clause-ran

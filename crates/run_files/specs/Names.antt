@@ -1,0 +1,15 @@
+-- The names of other crates that many files of this crate cite.
+pub use Rattle.ids_config.specs.declared.fault.ConfigFault.{ConfigFault}
+pub use Rattle.ids_frame.specs.declared.fault.BadMessage.{BadMessage}
+pub use Rattle.ids_outside.specs.Faults.{CountsFault, Faults, WantsMemory}
+pub use Rattle.ids_outside.specs.Files.{Files}
+pub use Rattle.ids_outside.specs.Shelved.{Shelved}
+pub use Rattle.ids_outside.specs.Sinks.{Heard, PutCause, PutTakes}
+pub use Rattle.ids_outside.specs.declared.faults.FaultKind.TheVariants.{Append, Create, Read}
+pub use Rattle.ids_outside.specs.declared.faults.WriteFault.{WriteFault}
+pub use Rattle.ids_outside.specs.declared.faults.WriteFault.TheVariants.{Failed, NoMemory as MemoryRefused}
+pub use Rattle.run_files.specs.declared.stop.Refusal.{Refusal}
+pub use Rattle.run_files.specs.declared.stop.Refusal.TheVariants.{BadConfig, BadJournal, BadMessages, BadTrace, Differ}
+pub use Rattle.run_files.specs.declared.stop.Stop.{Stop}
+pub use Rattle.run_files.specs.declared.stop.Stop.TheVariants.{CannotRead, CannotWrite, NoMemory, Refused, TooLong}
+pub use Rattle.std.specs.declared.alloc.Global.{Global}

@@ -1,0 +1,25 @@
+//! Files that a run reads and writes, and its one text: why it stops, with which status and which words.
+//!
+//! Layer 10, runs. Over `ids_outside`, whose shelves hold files and whose sinks take the text; `run_spec` says what each
+//! command makes of them, and `idsm_run` does it.
+//! What a file holds that is not too long stands in `specs/Contents.antt`, what stands after a write that failed in
+//! `specs/Writing.antt`, each text and status in `specs/Texts.antt`, and how the put of a text ends in
+//! `specs/Saying.antt`. Reading and the lines of refusals take memory, and nothing else does.
+#![tactic(auto)]
+
+mod outputs;
+mod reading;
+mod saying;
+mod sizes;
+mod status;
+mod stop;
+
+pub use outputs::write_file;
+pub use reading::read_file;
+pub use saying::{say, tell};
+pub use sizes::{MAX_CONFIG_BYTES, MAX_JOURNAL_BYTES, MAX_MESSAGES_BYTES, MAX_TRACE_BYTES};
+pub use status::{
+    BAD_CONFIG, BAD_JOURNAL, BAD_MESSAGE, BAD_WORDS, CANNOT_READ, CANNOT_WRITE, DIFFERS, DONE,
+    NO_MEMORY, TOO_LONG,
+};
+pub use stop::{Refusal, Stop};

@@ -1,0 +1,102 @@
+//! The one text that a run puts to its sink.
+
+ghost use Rattle.std.specs.Prelude.{◌≡◌, List, ℕ, Err, IfOk, string_bytes};
+ghost use Rattle.run_files.specs.Saying.{Puts, Says, Tells};
+ghost use Rattle.run_files.specs.Stages.{plain_end};
+ghost use Rattle.run_files.specs.Texts.{bad_config_text, bad_message_text};
+ghost use Rattle.run_files.specs.declared.stop.Stop.TheVariants.{Refused};
+
+use crate::status::{
+    BAD_CONFIG, BAD_JOURNAL, BAD_MESSAGE, CANNOT_READ, CANNOT_WRITE, DIFFERS, DONE, NO_MEMORY,
+    TOO_LONG,
+};
+use crate::stop::{Refusal, Stop};
+use ids_config::{ConfigFault, ConfigPlace};
+use ids_frame::{BadMessage, FrameFault};
+use ids_outside::{Sink, WriteFault};
+use std::alloc::{AllocError, Global};
+
+/// Puts the text, where it has bytes, and returns the status: the one that goes with it, or that of
+/// the put's own fault.
+pub fn say<K: Sink>(text: &[u8], status: u8, out: &mut K) -> u8
+    ensures { Puts text.now status result (K.hears out.old) (K.hears out.new) }
+{
+    if text.is_empty() {
+        return status;
+    }
+    match out.put(text) {
+        Ok(()) => status,
+        Err(WriteFault::Failed) => CANNOT_WRITE,
+        Err(WriteFault::NoMemory) => NO_MEMORY,
+    }
+}
+
+/// Puts the text of a command that did its work, or tells why it stopped, and returns the status.
+pub fn tell<K: Sink>(alloc: Global, end: Result<Vec<u8>, Stop<&str>>, out: &mut K) -> u8
+    ensures { Tells (plain_end end.entry) result (K.hears out.old) (K.hears out.new) }
+{
+    match end {
+        Ok(text) => say(&text, DONE, out),
+        Err(Stop::CannotRead(name)) => {
+            say_line(format!(in alloc; "cannot read {name}\n"), CANNOT_READ, out)
+        }
+        Err(Stop::TooLong(name)) => {
+            say_line(format!(in alloc; "too long {name}\n"), TOO_LONG, out)
+        }
+        Err(Stop::Refused(refusal)) => tell_refusal(alloc, refusal, out),
+        Err(Stop::CannotWrite) => say(b"cannot write\n", CANNOT_WRITE, out),
+        Err(Stop::NoMemory) => say(b"no memory\n", NO_MEMORY, out),
+    }
+}
+
+/// Tells why what the input files hold does not serve.
+fn tell_refusal<K: Sink>(alloc: Global, refusal: Refusal, out: &mut K) -> u8
+    ensures { Tells (Err (Refused refusal)) result (K.hears out.old) (K.hears out.new) }
+{
+    match refusal {
+        Refusal::BadConfig(fault) => say_line(bad_config_line(alloc, fault), BAD_CONFIG, out),
+        Refusal::BadJournal { line, number } => {
+            let told = format!(in alloc; "bad journal line {line}: {number}\n");
+            say_line(told, BAD_JOURNAL, out)
+        }
+        Refusal::BadTrace { line, number } => {
+            let told = format!(in alloc; "bad trace line {line}: {number}\n");
+            say_line(told, BAD_JOURNAL, out)
+        }
+        Refusal::BadMessages(bad) => say_line(bad_message_line(alloc, bad), BAD_MESSAGE, out),
+        Refusal::Differ { at } => say_line(format!(in alloc; "differs at {at}\n"), DIFFERS, out),
+    }
+}
+
+/// Puts a line that wanted memory, or tells that there was none.
+fn say_line<K: Sink>(line: Result<String, AllocError>, status: u8, out: &mut K) -> u8
+    ensures { (text : List ℕ) → IfOk line (λ l. string_bytes l ≡ text) →
+        Says text status result (K.hears out.old) (K.hears out.new) }
+{
+    match line {
+        Ok(line) => say(line.as_bytes(), status, out),
+        Err(_) => say(b"no memory\n", NO_MEMORY, out),
+    }
+}
+
+fn bad_config_line(alloc: Global, fault: ConfigFault) -> Result<String, AllocError>
+    ensures { IfOk result (λ text. string_bytes text ≡ bad_config_text fault) }
+{
+    let number = fault.number;
+    match fault.place {
+        ConfigPlace::Top => format!(in alloc; "bad config {number} at top\n"),
+        ConfigPlace::Class(index) => format!(in alloc; "bad config {number} at class {index}\n"),
+        ConfigPlace::Event(index) => format!(in alloc; "bad config {number} at event {index}\n"),
+    }
+}
+
+fn bad_message_line(alloc: Global, bad: BadMessage) -> Result<String, AllocError>
+    ensures { IfOk result (λ text. string_bytes text ≡ bad_message_text bad) }
+{
+    let at = bad.at;
+    match bad.fault {
+        FrameFault::Short => format!(in alloc; "bad message at {at}: short\n"),
+        FrameFault::UnknownVersion => format!(in alloc; "bad message at {at}: version\n"),
+        FrameFault::UnknownPart => format!(in alloc; "bad message at {at}: part\n"),
+    }
+}

@@ -1,0 +1,78 @@
+//! Why a command ended before its work was done. `N` is what holds the names of files.
+
+ghost use Rattle.std.specs.Prelude.{◌≡◌};
+ghost use Rattle.run_files.specs.Stages.{stop_of_config};
+ghost use Rattle.run_files.specs.Writing.{stop_of_write};
+ghost use Rattle.run_files.specs.declared.stop.Stop.TheVariants as stops;
+
+use config_json::JsonFault;
+use ids_config::ConfigFault;
+use ids_frame::BadMessage;
+use ids_outside::WriteFault;
+use ids_types::NoMemory;
+use std::alloc::AllocError;
+
+/// Why what an input file holds does not serve.
+#[derive(Clone, Copy, Debug)]
+pub enum Refusal {
+    /// The configuration has this fault.
+    BadConfig(ConfigFault),
+    /// The first bad line of the journal, from 1, and its first fault.
+    BadJournal { line: u64, number: u8 },
+    /// The same of a trace.
+    BadTrace { line: u64, number: u8 },
+    /// No message begins at this place of the file of messages.
+    BadMessages(BadMessage),
+    /// The file of messages has other bytes from this place on than were sent, or ends there, or goes on.
+    Differ { at: u64 },
+}
+
+/// Why a command stopped.
+#[derive(Clone, Copy, Debug)]
+pub enum Stop<N> {
+    /// The file of this name was not read.
+    CannotRead(N),
+    /// The file of this name has more bytes than its kind may have.
+    TooLong(N),
+    Refused(Refusal),
+    CannotWrite,
+    NoMemory,
+}
+
+impl<N> From<WriteFault> for Stop<N> {
+    ghost from_gives = { λ fault answer. answer ≡ stop_of_write fault };
+
+    fn from(fault: WriteFault) -> Self {
+        match fault {
+            WriteFault::Failed => Stop::CannotWrite,
+            WriteFault::NoMemory => Stop::NoMemory,
+        }
+    }
+}
+
+impl<N> From<JsonFault> for Stop<N> {
+    ghost from_gives = { λ fault answer. answer ≡ stop_of_config fault };
+
+    fn from(fault: JsonFault) -> Self {
+        match fault {
+            JsonFault::Config(fault) => Stop::Refused(Refusal::BadConfig(fault)),
+            JsonFault::NoMemory => Stop::NoMemory,
+        }
+    }
+}
+
+impl<N> From<AllocError> for Stop<N> {
+    ghost from_gives = { λ _ answer. answer ≡ stops.NoMemory };
+
+    fn from(_: AllocError) -> Self {
+        Stop::NoMemory
+    }
+}
+
+impl<N> From<NoMemory> for Stop<N> {
+    ghost from_gives = { λ _ answer. answer ≡ stops.NoMemory };
+
+    fn from(_: NoMemory) -> Self {
+        Stop::NoMemory
+    }
+}

@@ -1,0 +1,51 @@
+-- The names of other crates and of this crate's specs that more than one of its proofs stands on.
+pub use Rattle.chain.specs.History.{messages_of}
+pub use Rattle.chain_plain.specs.Telling.{ends_of}
+pub use Rattle.config_json.specs.Configured.{configuration}
+pub use Rattle.gen_options.specs.Given.{Wanted}
+pub use Rattle.ids_config.specs.Parts.{Parts}
+pub use Rattle.ids_config.specs.declared.fault.ConfigFault.{ConfigFault}
+pub use Rattle.ids_frame.specs.Message.{MessageParts}
+pub use Rattle.ids_frame.specs.Messages.{messages_read}
+pub use Rattle.ids_frame.specs.declared.fault.BadMessage.{BadMessage}
+pub use Rattle.ids_outside.specs.Faults.{CountsFault, Faults, WantsMemory}
+pub use Rattle.ids_outside.specs.Files.{Files, SameFiles, SameOthers}
+pub use Rattle.ids_outside.specs.Shelved.{Shelved}
+pub use Rattle.ids_outside.specs.Sinks.{Heard, PutCause}
+pub use Rattle.ids_outside.specs.declared.faults.FaultKind.TheVariants.{Read}
+pub use Rattle.ids_outside.specs.declared.faults.WriteFault.{WriteFault}
+pub use Rattle.ids_outside.specs.declared.faults.WriteFault.TheVariants.{Failed, NoMemory as MemoryRefused}
+pub use Rattle.ids_types.specs.Turns.{Turn, entries_of}
+pub use Rattle.ids_types.specs.declared.entry.Act.{Act}
+pub use Rattle.ids_types.specs.declared.entry.Act.TheVariants.{Report, SetMode, State}
+pub use Rattle.ids_types.specs.declared.entry.Carried.{Carried}
+pub use Rattle.ids_types.specs.declared.entry.Carried.TheVariants.{Absent, Kept, Missing}
+pub use Rattle.ids_types.specs.declared.entry.Entry.{Entry}
+pub use Rattle.journal.specs.Answers.{told}
+pub use Rattle.merge_spec.specs.Rounds.{Round}
+pub use Rattle.run_files.specs.Contents.{bytes_of, file_of, without}
+pub use Rattle.run_files.specs.Saying.{Puts, Says, Tells, put_status}
+pub use Rattle.run_files.specs.Stages.{ReadStops, StopsAs, plain_end, plain_stop, stop_of_config}
+pub use Rattle.run_files.specs.Texts.{answer_status, answer_text, no_memory_text, stop_status, stop_text}
+pub use Rattle.run_files.specs.Writing.{AreWritten, Cuts, StandUpTo, Work, WriteFails, stop_of_write}
+pub use Rattle.run_files.specs.declared.stop.Refusal.{Refusal}
+pub use Rattle.run_files.specs.declared.stop.Refusal.TheVariants.{BadConfig, BadJournal, BadMessages, BadTrace}
+pub use Rattle.run_files.specs.declared.stop.Stop.{Stop}
+pub use Rattle.run_files.specs.declared.stop.Stop.TheVariants.{CannotRead, CannotWrite, NoMemory, Refused, TooLong}
+pub use Rattle.run_spec.specs.Deserts.{DidWork, EndsOrFails, EndsWith}
+pub use Rattle.run_spec.specs.FoldedJournal.{folded_in}
+pub use Rattle.run_spec.specs.Judge.{AskedFor, Does, Recorded, Task, asked_in, check_judged, config_found, decode_work, does, fold_work, gen_work, journal_judged, judge, migrate_work, recorded_in, replays, trace_judged}
+pub use Rattle.run_spec.specs.Run.{EndsAs, KeepsConfig, MayRefuse, OneFails, PartWritten, Ran, RanCommand, StopsFor, WasDone, WasRefused}
+pub use Rattle.run_words.specs.Command.{CheckFiles, Command, FoldFiles, MigrateFiles, Recording, ReplayFiles, check, decode, fold, gen, migrate, read_by, recording_of, replay, written_by}
+pub use Rattle.std.proofs.Common.{Bool, Bor, Err, IfSome, IsTrue, List, None, Ok, Option, Some, [], ap, append_assoc, arith, false, inl, inr, length, length-append, map, refl, reverse, subst, sym, true, ℕ, ◌++◌, ◌+◌, ◌∙◌, ◌∷◌, ◌≡◌, ◌≢◌, ◌≤◌}
+pub use Rattle.std.proofs.lemmas.Bool.{and_parts, cases_Bool, false_from_ne_true}
+pub use Rattle.std.proofs.lemmas.Grind.{reverse_onto}
+pub use Rattle.std.proofs.lemmas.List.{length-map}
+pub use Rattle.std.proofs.lemmas.Slice.Eq.{bytes_eq-Decides}
+pub use Rattle.std.specs.List.{AllByRecursion, flat_map}
+pub use Rattle.std.specs.Prelude.{Contains, IfErr, IfOk, Result, Vec, nat_le, nat_lt, ⊤, ◌&&◌}
+pub use Rattle.std.specs.Str.{bytes_eq}
+pub use Rattle.std.specs.declared.alloc.Global.{Global}
+pub use Rattle.text_spec.specs.JournalReading.{IsJournal}
+pub use Rattle.text_spec.specs.JournalText.{Line, begins, enters, line_for, lines_told, loses, turn_told}
+pub use Rattle.text_spec.specs.TraceReading.{trace_in}

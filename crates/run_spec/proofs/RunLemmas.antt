@@ -1,0 +1,127 @@
+-- How a command ended, how that was told, and what the files deserve.
+use Rattle.run_spec.proofs.Names.{◌≡◌, ℕ, Bool, true, false, List, Option, None, Some, Ok, Err, Bor, IsTrue, refl, sym, subst, inl, inr, no_memory_text, Result, IfOk, IfErr, Vec, ⊤, Global, SameFiles, Shelved, Heard, PutCause, WriteFault, Failed, MemoryRefused, Stop, CannotRead, TooLong, Refused, CannotWrite, NoMemory, Command, EndsWith, EndsOrFails, Task, judge, Ran, RanCommand, EndsAs, StopsFor, WasDone, WasRefused, OneFails, Puts, Says, Tells, put_status, plain_stop, plain_end, stop_text, stop_status, answer_text, answer_status, DidWork, Does}
+use Rattle.std.proofs.Common.{◌≢◌, arith}
+
+module _ (command : Command) (status : ℕ) (old new : Shelved) (before after : Heard) where
+  -- where there was no memory to tell that the inputs do not serve, memory was wanted
+  says_ran : (reason : Stop (List ℕ)) → StopsFor command reason old new
+      → (IsTrue old.tells → SameFiles old.files new.files)
+      → Says (stop_text reason) (stop_status reason) status before after
+      → RanCommand command status old new before after
+  says_ran reason stops same (inl puts) = record { answer = Err reason; ends = stops; puts = puts }
+  says_ran reason stops same (inr puts) = record { answer = Err NoMemory; ends = inl same; puts = puts }
+
+  stop_ran : (reason : Stop (List ℕ)) → StopsFor command reason old new → Tells (Err reason) status before after
+      → RanCommand command status old new before after
+  stop_ran (CannotRead name) stops tells = says_ran (CannotRead name) stops stops.same tells
+  stop_ran (TooLong name) stops tells = says_ran (TooLong name) stops stops.same tells
+  stop_ran (Refused refusal) stops tells = says_ran (Refused refusal) stops stops.same tells
+  stop_ran CannotWrite stops tells = record { answer = Err CannotWrite; ends = stops; puts = tells }
+  stop_ran NoMemory stops tells = record { answer = Err NoMemory; ends = stops; puts = tells }
+
+  -- a command that ended so, and told it
+  pub end_ran : (end : Result (Vec ℕ Global) (Stop (Bor (List ℕ))))
+      → IfOk end (λ text. WasDone command text.items old new)
+      → IfErr end (λ reason. StopsFor command (plain_stop reason) old new)
+      → Tells (plain_end end) status before after → RanCommand command status old new before after
+  end_ran (Ok said) done stops tells = record { answer = Ok said.items; ends = done; puts = tells }
+  end_ran (Err reason) done stops tells = stop_ran (plain_stop reason) stops tells
+
+  -- ---- what the files deserve decides how a run ends
+
+  -- by how the text was put
+  put_so : (wanted : ℕ) (put : Result ⊤ WriteFault) → status ≡ put_status wanted put
+      → PutCause before.misses after.misses put → EndsWith wanted command status old new before after
+  put_so wanted (Ok done) is cause = inl is
+  put_so wanted (Err Failed) is cause = inr (inr (inl (is, cause)))
+  put_so wanted (Err MemoryRefused) is cause = inr (inl is)
+
+  put_ends : (wanted : ℕ) (text : List ℕ) → Puts text wanted status before after
+      → EndsWith wanted command status old new before after
+  put_ends wanted text puts = put_so wanted puts.put puts.is puts.cause
+
+  -- whatever was deserved, memory may be wanted
+  starved : (wanted : ℕ) → EndsWith 8 command status old new before after
+      → EndsWith wanted command status old new before after
+  starved wanted (inl is) = inr (inl is)
+  starved wanted (inr other) = inr other
+
+  module _ (told : IsTrue old.tells) where
+    -- files that are to be refused are, unless a read failed before
+    as_deserved : (reason wanted : Stop (List ℕ)) → judge command old.files ≡ Err wanted
+        → WasRefused command reason old new → Puts (stop_text reason) (stop_status reason) status before after
+        → EndsWith (stop_status wanted) command status old new before after
+    as_deserved reason wanted deserved was puts =
+        let same : reason ≡ wanted = cc (was.judged told, deserved) in
+        subst (λ r. EndsWith (stop_status r) command status old new before after) same (put_ends _ _ puts)
+
+    pub refused_ends : (answer : Result (List ℕ) (Stop (List ℕ))) (wanted : Stop (List ℕ))
+        → judge command old.files ≡ Err wanted → EndsAs command answer old new
+        → Puts (answer_text answer) (answer_status answer) status before after
+        → EndsWith (stop_status wanted) command status old new before after
+    refused_ends (Ok said) wanted deserved ends puts = absurd (cc ((ends.written told).judged, deserved))
+    refused_ends (Err (CannotRead name)) wanted deserved ends puts =
+        inr (inr (inr (record { name = name; unread = ends })))
+    refused_ends (Err (TooLong name)) wanted deserved ends puts =
+        as_deserved (TooLong name) wanted deserved ends puts
+    refused_ends (Err (Refused refusal)) wanted deserved ends puts =
+        as_deserved (Refused refusal) wanted deserved ends puts
+    refused_ends (Err CannotWrite) wanted deserved ends puts = absurd (cc ((ends.part told).judged, deserved))
+    refused_ends (Err NoMemory) wanted deserved ends puts = starved _ (put_ends 8 _ puts)
+
+    -- where a file was not written, its text may not have been put either
+    unwritten : OneFails command old.faults new.faults Failed
+        → EndsWith 7 command status old new before after → EndsOrFails 0 command status old new before after
+    unwritten fails (inl is) = inr (is, fails)
+    unwritten fails (inr other) = inl (inr other)
+
+    -- files that serve are not refused
+    pub served_ends : (answer : Result (List ℕ) (Stop (List ℕ))) (task : Task)
+        → judge command old.files ≡ Ok task → EndsAs command answer old new
+        → Puts (answer_text answer) (answer_status answer) status before after
+        → EndsOrFails 0 command status old new before after
+    served_ends (Ok said) task serves ends puts = inl (put_ends 0 _ puts)
+    served_ends (Err (CannotRead name)) task serves ends puts =
+        inl (inr (inr (inr (record { name = name; unread = ends }))))
+    served_ends (Err (TooLong name)) task serves ends puts = absurd (cc (ends.judged told, serves))
+    served_ends (Err (Refused refusal)) task serves ends puts = absurd (cc (ends.judged told, serves))
+    served_ends (Err CannotWrite) task serves ends puts = unwritten ends.fails (put_ends 7 _ puts)
+    served_ends (Err NoMemory) task serves ends puts = inl (starved 0 (put_ends 8 _ puts))
+
+-- a status that is not 0 stays none, however its text was put
+never_done : (wanted : ℕ) (put : Result ⊤ WriteFault) → wanted ≢ 0 → 0 ≢ put_status wanted put
+never_done wanted (Ok done) some is = some (sym is)
+never_done wanted (Err Failed) some is = absurd cc
+never_done wanted (Err MemoryRefused) some is = absurd cc
+
+module _ (command : Command) (old new : Shelved) (before after : Heard) (told : IsTrue old.tells) (task : Task)
+    (serves : judge command old.files ≡ Ok task) where
+  -- a run that ended with 0 did work that its files ask for
+  pub did_work : (answer : Result (List ℕ) (Stop (List ℕ))) → EndsAs command answer old new
+      → Puts (answer_text answer) (answer_status answer) 0 before after → DidWork task new
+  did_work (Ok said) ends puts =
+      let all = ends.written told in
+      let same : all.task ≡ task = cc (sym all.judged, serves) in
+      record { work = all.work; is_work = subst (λ (t : Task). Does t all.work) same all.is_work; written = all.written }
+  did_work (Err (CannotRead name)) ends puts = absurd (never_done 3 puts.put (omega arith) puts.is)
+  did_work (Err (TooLong name)) ends puts = absurd (cc (ends.judged told, serves))
+  did_work (Err (Refused refusal)) ends puts = absurd (cc (ends.judged told, serves))
+  did_work (Err CannotWrite) ends puts = absurd (never_done 7 puts.put (omega arith) puts.is)
+  did_work (Err NoMemory) ends puts = absurd (never_done 8 puts.put (omega arith) puts.is)
+
+-- where memory was wanted to read the words
+pub words_starved : (command : Option Command) (by_clap : Bool) (status : ℕ) (old : Shelved) (before after : Heard) → IsTrue by_clap
+    → Puts no_memory_text 8 status before after → Ran command by_clap status old old before after
+words_starved None true status old before after clap puts =
+    record { files = λ name. refl; no_fault = refl; puts = inr puts }
+words_starved None false status old before after clap puts = absurd (cc)
+words_starved (Some command) by_clap status old before after clap puts =
+    record { answer = Err NoMemory; ends = inl (λ told name. refl); puts = puts }
+
+-- what the words ask for ran
+pub asked_ran : (command : Option Command) (by_clap : Bool) (own run : Command) (status : ℕ) (old new : Shelved) (before after : Heard)
+    → Some own ≡ command → own ≡ run → RanCommand run status old new before after
+    → Ran command by_clap status old new before after
+asked_ran command by_clap own run status old new before after asks is ran =
+    subst (λ c. Ran c by_clap status old new before after) asks
+    (subst (λ c. RanCommand c status old new before after) (sym is) ran)

@@ -1,0 +1,31 @@
+-- What the input files deserve decides the answer of a run.
+use Rattle.std.specs.Prelude.{◌≡◌, ◌⊎◌, ℕ, List}
+use Rattle.run_spec.specs.Names.{Shelved, Heard, MissesOne, Failed}
+use Rattle.run_words.specs.Command.{Command}
+use Rattle.run_spec.specs.Judge.{Task, Does}
+use Rattle.run_spec.specs.Run.{OneFails, WasUnread}
+use Rattle.run_files.specs.Writing.{Work, AreWritten}
+
+-- a read failed, and all that is read before it served
+pub record FailedBefore (command : Command) (old new : Shelved) : Type 0 where
+  pub name : List ℕ
+  pub unread : WasUnread command name old new
+
+-- a run ended with this status, or for want of memory, or at the put of its text, or at an earlier read
+abbrev pub EndsWith : ℕ → Command → ℕ → Shelved → Shelved → Heard → Heard → Type 0
+EndsWith wanted command status old new before after =
+    (status ≡ wanted)
+    ⊎ ((status ≡ 8)
+    ⊎ (((status ≡ 7) × MissesOne before.misses after.misses) ⊎ FailedBefore command old new))
+
+-- or where a file was written
+abbrev pub EndsOrFails : ℕ → Command → ℕ → Shelved → Shelved → Heard → Heard → Type 0
+EndsOrFails wanted command status old new before after =
+    EndsWith wanted command status old new before after
+    ⊎ ((status ≡ 7) × OneFails command old.faults new.faults Failed)
+
+-- work that the task asks for was done: each of its files is there, whole
+pub record DidWork (task : Task) (new : Shelved) : Type 0 where
+  pub work : Work
+  pub is_work : Does task work
+  pub written : AreWritten work.outputs new.files

@@ -1,0 +1,143 @@
+-- What a run does, by cases on its command: it did its command's work, or stopped, each with its status
+-- and its text.
+-- Source: docs/COMMANDS.md.
+use Rattle.std.specs.Prelude.{◌≡◌, ◌⊎◌, ℕ, Bool, true, false, List, [], IsTrue, Option, Some, None, option_map, Result, Ok, Err, Contains}
+use Rattle.run_spec.specs.Names.{configuration, Faults, Rose, CountsFault, Files, SameFiles, Shelved, Heard, Read, WriteFault, Failed, Refusal, BadConfig, BadTrace, BadMessages, Differ, Stop, CannotRead, TooLong, Refused, CannotWrite, NoMemory}
+use Rattle.run_words.specs.Command.{Command, fold, check, decode, gen, migrate, replay, read_by, written_by}
+use Rattle.run_spec.specs.Judge.{Task, Does, judge}
+use Rattle.run_files.specs.Contents.{without}
+use Rattle.run_files.specs.Saying.{Puts, Says}
+use Rattle.run_files.specs.Texts.{usage, answer_text, answer_status}
+use Rattle.run_files.specs.Writing.{Work, AreWritten, StandUpTo, WriteFails}
+
+-- ---- inputs that do not serve
+
+-- the command may refuse so
+abbrev pub MayRefuse : Command → Refusal → Type 0
+MayRefuse (fold files) (BadMessages bad) = ⊥
+MayRefuse (fold files) (Differ at) = ⊥
+MayRefuse (fold files) (BadTrace line number) = ⊥
+MayRefuse (fold files) refusal = Unit {0}
+MayRefuse (check files) (BadMessages bad) = ⊥
+MayRefuse (check files) (BadTrace line number) = ⊥
+MayRefuse (check files) refusal = Unit {0}
+MayRefuse (decode name) (BadMessages bad) = Unit {0}
+MayRefuse (decode name) refusal = ⊥
+MayRefuse (gen wanted) refusal = ⊥
+MayRefuse (migrate files) (BadConfig fault) = Unit {0}
+MayRefuse (migrate files) refusal = ⊥
+MayRefuse (replay files) (BadConfig fault) = Unit {0}
+MayRefuse (replay files) (BadTrace line number) = Unit {0}
+MayRefuse (replay files) refusal = ⊥
+
+-- the command may stop so at its input files, whatever they hold
+abbrev pub MayStop : Command → Stop (List ℕ) → Type 0
+MayStop command (CannotRead name) = Contains (read_by command) name
+MayStop command (TooLong name) = Contains (read_by command) name
+MayStop command (Refused refusal) = MayRefuse command refusal
+MayStop command other = ⊥
+
+-- a read of an input file failed, as the last fault, and all that is read before it serves
+pub record WasUnread (command : Command) (name : List ℕ) (old new : Shelved) : Type 0 where
+  pub may : Contains (read_by command) name
+  pub fails : CountsFault old.faults new.faults Read name
+  pub first : IsTrue old.tells → judge command (without name old.files) ≡ Err (CannotRead name)
+  pub same : IsTrue old.tells → SameFiles old.files new.files
+
+-- the input files were refused: where they are told, as they deserve
+pub record WasRefused (command : Command) (reason : Stop (List ℕ)) (old new : Shelved) : Type 0 where
+  pub may : MayStop command reason
+  pub judged : IsTrue old.tells → judge command old.files ≡ Err reason
+  pub no_fault : new.faults ≡ old.faults
+  pub same : IsTrue old.tells → SameFiles old.files new.files
+
+-- ---- what is written
+
+-- the configuration that `migrate` wrote is the one that it read, not only its text
+abbrev pub KeepsConfig : Command → Files → Files → Type 0
+KeepsConfig (migrate names) old new =
+    option_map configuration (new names.target) ≡ option_map configuration (old names.config)
+KeepsConfig other old new = Unit {0}
+
+-- the files hold what the work of their old contents asks for
+pub record AllWritten (command : Command) (old new : Files) (said : List ℕ) : Type 0 where
+  pub task : Task
+  pub judged : judge command old ≡ Ok task
+  pub work : Work
+  pub is_work : Does task work
+  pub written : AreWritten work.outputs new
+  pub text : said ≡ work.said
+  pub keeps : KeepsConfig command old new
+
+-- the work of their old contents was written up to some place
+pub record PartWritten (command : Command) (old new : Files) : Type 0 where
+  pub task : Task
+  pub judged : judge command old ≡ Ok task
+  pub work : Work
+  pub is_work : Does task work
+  pub place : StandUpTo work.outputs old new
+
+-- the command did its work, with this text
+pub record WasDone (command : Command) (said : List ℕ) (old new : Shelved) : Type 0 where
+  pub written : IsTrue old.tells → AllWritten command old.files new.files said
+  pub no_fault : new.faults ≡ old.faults
+
+-- the write of a file that the command writes failed
+pub record OneFails (command : Command) (old new : Faults) (fault : WriteFault) : Type 0 where
+  pub name : List ℕ
+  pub is_output : Contains (written_by command) name
+  pub fails : WriteFails old new name fault
+
+-- a creation or an append of a file that the command writes failed, as the last fault
+pub record WasNotWritten (command : Command) (old new : Shelved) : Type 0 where
+  pub fails : OneFails command old.faults new.faults Failed
+  pub part : IsTrue old.tells → PartWritten command old.files new.files
+
+-- memory was wanted: before the first file was made, or by a call of the shelf
+abbrev pub WantedMemory : Command → Shelved → Shelved → Type 0
+WantedMemory command old new =
+    (IsTrue old.tells → SameFiles old.files new.files)
+    ⊎ (Rose old.faults.refused new.faults.refused
+    × (IsTrue old.tells → PartWritten command old.files new.files))
+
+-- ---- the run
+
+-- why a command stopped, and what stands then
+abbrev pub StopsFor : Command → Stop (List ℕ) → Shelved → Shelved → Type 0
+StopsFor command (CannotRead name) old new = WasUnread command name old new
+StopsFor command CannotWrite old new = WasNotWritten command old new
+StopsFor command NoMemory old new = WantedMemory command old new
+StopsFor command reason old new = WasRefused command reason old new
+
+-- the command did its work, with this text, or stopped
+abbrev pub EndsAs : Command → Result (List ℕ) (Stop (List ℕ)) → Shelved → Shelved → Type 0
+EndsAs command (Ok said) old new = WasDone command said old new
+EndsAs command (Err reason) old new = StopsFor command reason old new
+
+-- what a run of this command does: it ends so, and the text that goes with it was put or not
+pub record RanCommand (command : Command) (status : ℕ) (old new : Shelved) (before after : Heard)
+    : Type 0 where
+  pub answer : Result (List ℕ) (Stop (List ℕ))
+  pub ends : EndsAs command answer old new
+  pub puts : Puts (answer_text answer) (answer_status answer) status before after
+
+-- the usage was put or not; where clap read the words, it may have wanted memory
+abbrev pub SaysUsage : Bool → ℕ → Heard → Heard → Type 0
+SaysUsage true status before after = Says usage 2 status before after
+SaysUsage false status before after = Puts usage 2 status before after
+
+-- the words are no command: the usage was put, and the shelf was not touched
+pub record Misused (by_clap : Bool) (status : ℕ) (old new : Shelved) (before after : Heard) : Type 0 where
+  pub files : SameFiles old.files new.files
+  pub no_fault : new.faults ≡ old.faults
+  pub puts : SaysUsage by_clap status before after
+
+-- what a run does, where the words give this command or none
+abbrev pub Ran : Option Command → Bool → ℕ → Shelved → Shelved → Heard → Heard → Type 0
+Ran None by_clap status old new before after = Misused by_clap status old new before after
+Ran (Some command) by_clap status old new before after = RanCommand command status old new before after
+
+-- the files that the words let change
+abbrev pub written_of : Option Command → List (List ℕ)
+written_of None = []
+written_of (Some command) = written_by command

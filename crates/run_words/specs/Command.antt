@@ -1,0 +1,167 @@
+-- The commands of the program, as its words give them.
+-- Source: docs/COMMANDS.md.
+use Rattle.std.specs.Prelude.{◌≡◌, ◌≢◌, ℕ, ◌&&◌, ◌==◌, not, bytes_eq, Bool, true, false, List, [], ◌∷◌, length, Option, Some, None, codes, if◌then◌else◌}
+use Rattle.gen_options.specs.Given.{Wanted}
+use Rattle.gen_options.specs.Words.{words_give}
+use Rattle.std.specs.List.{list_any}
+use Rattle.ids_outside.specs.Files.{Files}
+
+-- the files of a recording: a configuration, and a journal of its events
+pub record Recording : Type 0 where
+  pub config : List ℕ
+  pub journal : List ℕ
+
+-- the files that `fold` names: the recording that it reads, and two that it writes
+pub record FoldFiles : Type 0 where
+  pub from : Recording
+  pub messages : List ℕ
+  pub memory : List ℕ
+
+-- the files that `check` names: the recording, and the messages that are compared with its own
+pub record CheckFiles : Type 0 where
+  pub from : Recording
+  pub messages : List ℕ
+
+-- the files that `migrate` names: one that it reads, and one that it writes
+pub record MigrateFiles : Type 0 where
+  pub config : List ℕ
+  pub target : List ℕ
+
+-- the files that `replay` names: a configuration and a trace that it reads, and three that it writes
+pub record ReplayFiles : Type 0 where
+  pub config : List ℕ
+  pub trace : List ℕ
+  pub messages : List ℕ
+  pub memory : List ℕ
+  pub journal : List ℕ
+
+-- what a run is asked to do
+pub data Command : Type 0 where
+  fold : FoldFiles → Command
+  check : CheckFiles → Command
+  decode : List ℕ → Command
+  gen : Wanted → Command
+  migrate : MigrateFiles → Command
+  replay : ReplayFiles → Command
+
+-- a word that may be a name: it is not empty
+abbrev pub is_name : List ℕ → Bool
+is_name word = not (length word == 0)
+
+-- the words are names of different files
+abbrev pub are_names : List (List ℕ) → Bool
+are_names [] = true
+are_names (name ∷ names) = is_name name && not (list_any (bytes_eq name) names) && are_names names
+
+-- the command of the words behind `fold`
+abbrev pub fold_of : List (List ℕ) → Option Command
+fold_of (config ∷ journal ∷ messages ∷ memory ∷ []) =
+    if are_names (config ∷ journal ∷ messages ∷ memory ∷ []) then
+    Some (fold (record {
+      from = record { config = config; journal = journal };
+      messages = messages;
+      memory = memory;
+    }))
+    else None
+fold_of names = None
+
+-- the command of the words behind `check`
+abbrev pub check_of : List (List ℕ) → Option Command
+check_of (config ∷ journal ∷ messages ∷ []) =
+    if are_names (config ∷ journal ∷ messages ∷ []) then
+    Some (check (record { from = record { config = config; journal = journal }; messages = messages }))
+    else None
+check_of names = None
+
+-- the command of the words behind `decode`: the name of a file of messages
+abbrev pub decode_of : List (List ℕ) → Option Command
+decode_of (messages ∷ []) = if is_name messages then Some (decode messages) else None
+decode_of names = None
+
+-- generation into these files, if they are names of different files
+abbrev pub gen_into : Wanted → Option Command
+gen_into wanted =
+    if are_names (wanted.config ∷ wanted.trace ∷ wanted.journal ∷ []) then Some (gen wanted) else None
+
+-- generation, where something is wanted
+abbrev pub gen_for : Option Wanted → Option Command
+gen_for None = None
+gen_for (Some wanted) = gen_into wanted
+
+-- the command of words of which `gen` is the first: clap reads them
+abbrev pub gen_of : List (List ℕ) → Option Command
+gen_of words = gen_for (words_give words)
+
+-- clap reads the words, for which it takes memory
+abbrev pub are_read_by_clap : List (List ℕ) → Bool
+are_read_by_clap [] = false
+are_read_by_clap (word ∷ names) = bytes_eq word (codes "gen")
+
+-- the command of the words behind `migrate`: the names of a configuration and of a new file
+abbrev pub migrate_of : List (List ℕ) → Option Command
+migrate_of (config ∷ target ∷ []) =
+    if are_names (config ∷ target ∷ []) then Some (migrate (record { config = config; target = target })) else None
+migrate_of names = None
+
+-- the command of the words behind the program's name, none where they are not in form; those of a replay have
+-- a reading of their own
+abbrev pub command_of : List (List ℕ) → Option Command
+command_of [] = None
+command_of (word ∷ names) =
+    if bytes_eq word (codes "fold") then fold_of names
+    else if bytes_eq word (codes "check") then check_of names
+    else if bytes_eq word (codes "decode") then decode_of names
+    else if bytes_eq word (codes "gen") then gen_of (word ∷ names)
+    else if bytes_eq word (codes "migrate") then migrate_of names
+    else None
+
+-- the words ask for a replay
+abbrev pub asks_replay : List (List ℕ) → Bool
+asks_replay [] = false
+asks_replay (word ∷ names) = bytes_eq word (codes "replay")
+
+-- the files of the words behind `replay`
+abbrev pub replay_names : List (List ℕ) → Option ReplayFiles
+replay_names (config ∷ trace ∷ messages ∷ memory ∷ journal ∷ []) =
+    if are_names (config ∷ trace ∷ messages ∷ memory ∷ journal ∷ []) then
+    Some (record { config = config; trace = trace; messages = messages; memory = memory; journal = journal })
+    else None
+replay_names names = None
+
+-- the files of a replay that the words behind the program's name ask for, none where they are not in form
+abbrev pub replay_of : List (List ℕ) → Option ReplayFiles
+replay_of [] = None
+replay_of (word ∷ names) = if bytes_eq word (codes "replay") then replay_names names else None
+
+-- the files that the command reads, in the order in which it reads them
+abbrev pub read_by : Command → List (List ℕ)
+read_by (fold files) = files.from.config ∷ files.from.journal ∷ []
+read_by (check files) = files.from.config ∷ files.from.journal ∷ files.messages ∷ []
+read_by (decode messages) = messages ∷ []
+read_by (gen wanted) = []
+read_by (migrate files) = files.config ∷ []
+read_by (replay files) = files.config ∷ files.trace ∷ []
+
+-- the recording that the command reads before all else, where it reads one
+abbrev pub recording_of : Command → Option Recording
+recording_of (fold files) = Some files.from
+recording_of (check files) = Some files.from
+recording_of other = None
+
+-- the files that the command writes, in the order in which it writes them
+abbrev pub written_by : Command → List (List ℕ)
+written_by (fold files) = files.messages ∷ files.memory ∷ []
+written_by (check files) = []
+written_by (decode messages) = []
+written_by (gen wanted) = wanted.config ∷ wanted.trace ∷ wanted.journal ∷ []
+written_by (migrate files) = files.target ∷ []
+written_by (replay files) = files.messages ∷ files.memory ∷ files.journal ∷ []
+
+-- the name is none of these
+abbrev pub IsNoneOf : List (List ℕ) → List ℕ → Type 0
+IsNoneOf [] name = Unit {0}
+IsNoneOf (other ∷ names) name = (name ≢ other) × IsNoneOf names name
+
+-- no file has changed but those of these names
+abbrev pub SameBut : List (List ℕ) → Files → Files → Type 0
+SameBut names old new = (name : List ℕ) → IsNoneOf names name → new name ≡ old name

@@ -1,0 +1,59 @@
+//! The words of a replay.
+
+ghost use Rattle.std.specs.Prelude.{◌≡◌, map, option_map, string_bytes, IfSome};
+ghost use Rattle.run_words.specs.Command.{asks_replay, replay_names, replay_of};
+ghost use Rattle.run_words.specs.CommandView.{five_of, CanReplay};
+
+use crate::command::names_differ;
+
+/// The files of the command `replay`. The names are not empty and differ.
+#[derive(Clone, Copy, Debug)]
+pub struct ReplayNames<'a> {
+    pub config: &'a str,
+    pub trace: &'a str,
+    pub messages: &'a str,
+    pub memory: &'a str,
+    pub journal: &'a str,
+}
+
+/// Whether the words behind the program's name ask for a replay: the first of them is `replay`.
+pub fn is_replay(words: &[String]) -> bool
+    ensures { result ≡ asks_replay (map string_bytes words.now) }
+{
+    match words.first() {
+        Some(word) => word.as_str() == "replay",
+        None => false,
+    }
+}
+
+/// The files of the replay that the words ask for, `None` where they are not in form.
+pub fn parse_replay(words: &[String]) -> Option<ReplayNames<'_>>
+    ensures asked { option_map five_of result ≡ replay_of (map string_bytes words.now) }
+    ensures can { IfSome result CanReplay }
+{
+    let (word, names) = words.split_first()?;
+    if word.as_str() != "replay" {
+        return None;
+    }
+    parse_names(names)
+}
+
+/// The files of the words behind `replay`.
+fn parse_names(words: &[String]) -> Option<ReplayNames<'_>>
+    ensures asked { option_map five_of result ≡ replay_names (map string_bytes words.now) }
+    ensures can { IfSome result CanReplay }
+{
+    let [config, trace, messages, memory, journal] = words else {
+        return None;
+    };
+    if !names_differ(words) {
+        return None;
+    }
+    Some(ReplayNames {
+        config: config.as_str(),
+        trace: trace.as_str(),
+        messages: messages.as_str(),
+        memory: memory.as_str(),
+        journal: journal.as_str(),
+    })
+}
