@@ -37,13 +37,32 @@ impl Told {
 pub(crate) fn told_by_both(alloc: Global, config: &str, journal: &[u8]) -> Result<Told, Fail> {
     let config = read_config(alloc, config.as_bytes())?;
     let history = history_of(alloc, &config, journal)?;
-    let mut one = EventChain::make(alloc, &config)?;
-    let one = told_by(alloc, &config, &history, &mut one)?;
-    let (turns, entries) = (history.turns(), history.total_entries());
-    let mut other = PlainChain::make(alloc, &config, turns, entries, journal.len() as u64)?;
-    let other = told_by(alloc, &config, &history, &mut other)?;
+    let one = told_by_events(alloc, &config, &history)?;
+    let other = told_by_plain(alloc, &config, &history, journal.len() as u64)?;
     let is_same = one.is_as(&other) && is_handed_on(&history, &one.tally.limited);
     Ok(is_same.then_some(one).ok_or("the same by both chains")?)
+}
+
+/// What the event chain gives.
+fn told_by_events(alloc: Global, config: &Config, history: &History) -> Result<Told, Fail>
+    requires { CanFold (length config.now.events) history.now.turns }
+{
+    let mut chain = EventChain::make(alloc, config)?;
+    told_by(alloc, config, history, &mut chain)
+}
+
+/// What the chain by its definition gives, with room for so many bytes of context data.
+fn told_by_plain(
+    alloc: Global,
+    config: &Config,
+    history: &History,
+    bytes: u64,
+) -> Result<Told, Fail>
+    requires { CanFold (length config.now.events) history.now.turns }
+{
+    let (turns, entries) = (history.turns(), history.total_entries());
+    let mut chain = PlainChain::make(alloc, config, turns, entries, bytes)?;
+    told_by(alloc, config, history, &mut chain)
 }
 
 /// The history of a journal, which a chain can take.
