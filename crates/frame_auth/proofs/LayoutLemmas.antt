@@ -1,0 +1,158 @@
+-- A sealed message by its bytes: the plain one, marked in its first byte, and the signature part behind it.
+use Rattle.frame_auth.proofs.Names.{◌≡◌, ℕ, zero, suc, IsByte, AreBytes, ◌+◌, ◌-◌, ◌*◌, ◌^◌, ◌≤◌, ◌<◌, List, ◌∷◌, ◌++◌, length, take, drop, Option, Some, None, refl, sym, ap, subst, ◌∙◌, arith, append-nil, length-append, w16, w64, to_be_bytes, MessageParts, FitsMessage, flag, header, spelling, with_signature, bare, hmac, seal_of, sealed, IsPlain, IsSealedWith, HasNoSeal, HasOtherCounter, CanMark, marked, sealed_bytes, CanUnmark, unmarked}
+use Rattle.std.proofs.lemmas.List.{take_at, drop_at}
+use Rattle.std.proofs.Common.{◌≢◌, IfSome, Bor, is_some, option_copied, false}
+use Rattle.std.specs.Int.{from_be_bytes}
+use Rattle.ids_frame.proofs.NumberLemmas.{wide32, wide64}
+use Rattle.ids_frame.specs.Spelling.{stamp_part, context_part}
+use Rattle.std.proofs.lemmas.List.Elements.{All-append}
+use Rattle.sha2.specs.Sha256.{sha256, digest_bytes}
+use Rattle.sha2.proofs.Facts256.{length-sha256}
+
+-- a seal has 40 bytes
+pub length-seal_of : (key : List ℕ) (counter : ℕ) (plain : List ℕ) → length (seal_of key counter plain) ≡ 40
+length-seal_of key counter plain =
+    omega (arith, length-append (to_be_bytes w64 counter) (hmac key (plain ++ to_be_bytes w64 counter)), length-sha256)
+
+-- a message that has no signature part is bare
+pub bare_is : (m : MessageParts) → m.signature ≡ None → bare m ≡ m
+bare_is m none = ap (λ s. with_signature s m) (sym none)
+
+-- a message with a signature part, by its bare one
+signed_layout : (m : MessageParts) (part : List ℕ)
+    → spelling (with_signature (Some part) m) ≡ marked (spelling (bare m)) ++ (to_be_bytes w16 (length part) ++ part)
+signed_layout m part =
+    let first : m.version * 16 + header (with_signature (Some part) m) ≡ m.version * 16 + header (bare m) + 4 = omega arith in
+    rw (first, append-nil (stamp_part m.stamp ++ context_part m.context)) refl
+
+-- a plain message, sealed
+pub sealed_layout : (key : List ℕ) (counter : ℕ) (m : MessageParts) → m.signature ≡ None
+    → spelling (sealed key counter m) ≡ sealed_bytes key counter (spelling m)
+sealed_layout key counter m none =
+    let seal = seal_of key counter (spelling m) in
+    signed_layout m seal ∙ ap (λ n. marked (spelling n) ++ (to_be_bytes w16 (length seal) ++ seal)) (bare_is m none)
+    ∙ ap (λ size. marked (spelling m) ++ (to_be_bytes w16 size ++ seal)) (length-seal_of key counter (spelling m))
+
+-- a mark and 42 bytes can be taken off
+unmark : (first next : ℕ) (front back : List ℕ) → next ≡ first + 4 → length back ≡ 42
+    → CanUnmark (next ∷ (front ++ back)) × (unmarked (next ∷ (front ++ back)) ≡ first ∷ front)
+unmark first next front back marks size =
+    let count : length (front ++ back) - 42 ≡ length front = omega (arith, length-append front back) in
+    let first_is : next - 4 ≡ first = omega arith in (
+      (omega arith, omega (arith, length-append front back)),
+      rw (count, take_at front back (length front) refl, first_is) refl,
+    )
+
+-- a signature part of 40 bytes can be taken off
+pub unsealed_layout : (m : MessageParts) (part : List ℕ) → m.signature ≡ Some part → length part ≡ 40
+    → CanUnmark (spelling m) × (unmarked (spelling m) ≡ spelling (bare m))
+unsealed_layout m part some size =
+    let back = to_be_bytes w16 (length part) ++ part in
+    let whole = ap (λ s. spelling (with_signature s m)) some ∙ signed_layout m part in
+    subst (λ (l : List ℕ). CanUnmark l × (unmarked l ≡ spelling (bare m))) (sym whole)
+    (unmark (m.version * 16 + header (bare m)) _ (drop 1 (spelling (bare m))) back refl (omega (arith, size)))
+
+-- one bit is free in the first byte of a plain message
+pub can_mark : (m : MessageParts) → FitsMessage m → CanMark (spelling m)
+can_mark m fits = omega (arith, fits.known, few m.stamp, few m.context, few m.signature)
+  where
+    few : {A : Type 0} (part : Option A) → flag part ≤ 1
+    few None = omega arith
+    few (Some x) = omega arith
+
+-- ---- seals
+
+-- a seal is one counter and one tag
+pub seal_parts : (key count told plain : List ℕ) (counter : ℕ) → length count ≡ 8 → count ++ told ≡ seal_of key counter plain
+    → (count ≡ to_be_bytes w64 counter) × (told ≡ hmac key (plain ++ count))
+seal_parts key count told plain counter size e =
+    let bytes = to_be_bytes w64 counter in
+    let tag = hmac key (plain ++ bytes) in
+    let first : count ≡ bytes = sym (take_at count told 8 size) ∙ ap (take 8) e ∙ take_at bytes tag 8 refl in (
+      first,
+      sym (drop_at count told 8 size) ∙ ap (drop 8) e ∙ drop_at bytes tag 8 refl ∙ ap (λ b. hmac key (plain ++ b)) (sym first),
+    )
+
+-- a counter and its tag are a seal
+pub seal_made : (key count told plain : List ℕ) (counter : ℕ) → to_be_bytes w64 counter ≡ count → told ≡ hmac key (plain ++ count)
+    → count ++ told ≡ seal_of key counter plain
+seal_made key count told plain counter is tag =
+    ap (λ t. count ++ t) tag ∙ ap (λ b. b ++ hmac key (plain ++ b)) (sym is)
+
+-- a signature part of another length is no seal
+pub no_seal : (key : List ℕ) (m : MessageParts) (signature : Option (List ℕ)) → signature ≡ m.signature
+    → IfSome signature (λ part. length part ≢ 40) → HasNoSeal key m
+no_seal key m None e other counter with = absurd (cc (e, with))
+no_seal key m (Some part) e other counter with =
+    let same : part ≡ seal_of key counter (spelling (bare m)) = cc (e, with) in
+    other (ap (λ l. length l) same ∙ length-seal_of key counter (spelling (bare m)))
+
+-- one that no counter makes is no seal
+pub no_counter : (key part : List ℕ) (m : MessageParts) → m.signature ≡ Some part
+    → ((counter : ℕ) → part ≡ seal_of key counter (spelling (bare m)) → ⊥) → HasNoSeal key m
+no_counter key part m some none counter with = none counter (cc (some, with))
+
+-- one that a counter makes is
+pub sealed_with : (key part : List ℕ) (counter : ℕ) (m : MessageParts) → m.signature ≡ Some part
+    → part ≡ seal_of key counter (spelling (bare m)) → IsSealedWith key counter m
+sealed_with key part counter m some made = ap (λ s. with_signature s m) (some ∙ ap Some made)
+
+-- and then another counter is none
+pub other_counter : (key part : List ℕ) (counter due : ℕ) (m : MessageParts) → m.signature ≡ Some part
+    → part ≡ seal_of key counter (spelling (bare m)) → counter < 2 ^ 64 → due < 2 ^ 64 → counter ≢ due → HasOtherCounter key due m
+other_counter key part counter due m some made fits due_fits other = record {
+  counter = counter;
+  with = sealed_with key part counter m some made;
+  other = λ with.
+      let plain = spelling (bare m) in
+      let is : part ≡ seal_of key due plain = cc (some, with) in
+      let bytes = to_be_bytes w64 counter in
+      let first = seal_parts key bytes (hmac key (plain ++ bytes)) plain due refl (sym made ∙ is) in
+      other (sym (wide64.again counter fits) ∙ ap (from_be_bytes w64) first.0 ∙ wide64.again due due_fits);
+}
+
+-- ---- other signature parts
+
+-- the layout can say a message with another signature part
+with_fits : (m : MessageParts) (s : Option (List ℕ)) → FitsMessage m → IfSome s (λ part. length part ≤ 65535) → IfSome s AreBytes
+    → FitsMessage (with_signature s m)
+with_fits m s fits short are_bytes = record {
+  known = fits.known;
+  room = record { ten_bits = fits.room.ten_bits; six_bits = fits.room.six_bits; two_bytes = short };
+  event = fits.event;
+  count = fits.count;
+  reserved = fits.reserved;
+  stamp = fits.stamp;
+  context = fits.context;
+  signature = are_bytes;
+}
+
+digest_are_bytes : (hash : List ℕ) (words : ℕ) → AreBytes (digest_bytes hash words)
+unfolding digest_bytes
+digest_are_bytes hash zero = λ k d within. absurd (omega arith)
+digest_are_bytes hash (suc words) = All-append IsByte _ _ (digest_are_bytes hash words) (wide32.many _).are_bytes
+
+sha256_are_bytes : (bytes : List ℕ) → AreBytes (sha256 bytes)
+unfolding sha256
+sha256_are_bytes bytes = digest_are_bytes _ 8
+
+-- also with a seal
+pub sealed_fits : (key : List ℕ) (counter : ℕ) (m : MessageParts) → FitsMessage m → FitsMessage (sealed key counter m)
+sealed_fits key counter m fits =
+    with_fits m (Some (seal_of key counter (spelling m))) fits (omega (arith, length-seal_of key counter (spelling m)))
+    (All-append IsByte (to_be_bytes w64 counter) _ (wide64.many counter).are_bytes (sha256_are_bytes _))
+
+-- and plain without any
+pub bare_is_plain : (m : MessageParts) → FitsMessage m → IsPlain (bare m)
+bare_is_plain m fits = record { fits = with_fits m None fits tt tt; none = refl }
+
+-- a signature part that is not there is none
+pub unsigned : (s : Option (Bor (List ℕ))) → is_some s ≡ false → option_copied s ≡ None
+unsigned None none = refl
+unsigned (Some part) none = absurd cc
+
+-- what was added behind `old` is the message without its signature part
+pub added_bare : (old now spelled part : List ℕ) (from : ℕ) (m : MessageParts) → now ≡ old ++ unmarked spelled → spelled ≡ spelling m
+    → from ≡ length old → m.signature ≡ Some part → length part ≡ 40 → drop from now ≡ spelling (bare m)
+added_bare old now spelled part from m added is place some size =
+    ap (drop from) added ∙ drop_at old (unmarked spelled) from (sym place) ∙ ap unmarked is ∙ (unsealed_layout m part some size).1

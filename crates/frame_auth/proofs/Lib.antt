@@ -1,0 +1,6 @@
+pub mod LayoutLemmas
+pub mod Names
+pub mod OneAnswer
+pub mod ReadLemmas
+pub mod TagLemmas
+pub mod WalkLemmas

@@ -1,0 +1,42 @@
+-- The message at the front of bytes, as it is read.
+use Rattle.frame_auth.proofs.Names.{◌≡◌, ℕ, ◌<◌, ◌≤◌, get_or, List, length, take, drop, Result, Ok, Err, refl, sym, ap, subst, ◌∙◌, arith, AreBytes, MessageParts, spelling, BeginsWith, BeginsSo, Begins, CauseOf, Begun, length-append}
+use Rattle.std.specs.Result.{result_map_both}
+use Rattle.std.proofs.lemmas.List.{get_or_default, take_at, drop_at}
+use Rattle.ids_frame.specs.declared.fault.FrameFault.{FrameFault}
+use Rattle.ids_frame.specs.Decoding.{decoded}
+use Rattle.ids_frame.specs.Reading.{message_at}
+use Rattle.ids_frame.proofs.MessageLemmas.{told}
+
+-- the bytes begin with this message, and so many of them are its spelling
+pub record Front (bytes : List ℕ) (m : MessageParts) (size : ℕ) : Type 0 where
+  pub few : size ≤ length bytes
+  pub spelled : take size bytes ≡ spelling m
+  pub begins : BeginsWith bytes m (drop size bytes)
+
+-- what an answer of `decode` says of the bytes
+abbrev pub Tells : List ℕ → Result (MessageParts × ℕ) FrameFault → Type 0
+Tells bytes (Ok x) = Front bytes x.0 x.1
+Tells bytes (Err fault) = CauseOf fault bytes
+
+tells : (bytes : List ℕ) (read : Begun) → Begins bytes read
+    → Tells bytes (result_map_both (λ x. (x.0, length (spelling x.0))) (λ fault. fault) read)
+tells bytes (Err fault) begins = begins
+tells bytes (Ok x) begins =
+    let size = length (spelling x.0) in
+    let behind : drop size bytes ≡ x.1 = ap (drop size) begins.whole ∙ drop_at (spelling x.0) x.1 size refl in
+    record {
+      few = omega (arith, ap (λ l. length l) begins.whole, length-append (spelling x.0) x.1);
+      spelled = ap (take size) begins.whole ∙ take_at (spelling x.0) x.1 size refl;
+      begins = subst (BeginsWith bytes x.0) (sym behind) begins;
+    }
+
+-- each answer of `decode` says so
+pub decode_tells : (bytes : List ℕ) (read : Result (MessageParts × ℕ) FrameFault) → ((i : ℕ) → get_or bytes i 0 < 256)
+    → read ≡ decoded bytes → Tells bytes read
+decode_tells bytes read fit e =
+    let are_bytes : AreBytes bytes = λ k d within. rw (get_or_default bytes k d 0 within) (fit k) in
+    subst (Tells bytes) (sym e) (tells bytes (message_at bytes) (told bytes are_bytes))
+
+-- what holds of the message that the bytes begin with
+pub begins_so : {P : MessageParts → Type 0} {bytes behind : List ℕ} {m : MessageParts} → BeginsWith bytes m behind → P m → BeginsSo P bytes
+begins_so {P} {bytes} {behind} {m} begins holds = record { message = m; behind = behind; begins = begins; holds = holds }

@@ -1,0 +1,21 @@
+//! A counter and a tag in the signature part of messages: sealed, and checked and taken off again.
+//!
+//! Layer 11, beyond one manager. Stands on `ids_frame` and the kit's `sha2`; no other crate stands on it.
+//! A tag is HMAC with SHA-256, RFC 2104 (`specs/Tags.antt`); what it is put to here is this project's own.
+//! `seal` and `unseal` go over a file message by message. `specs/Sealing.antt` says what sealed messages are, and
+//! `specs/Faults.antt` where the two stop, by the same definitions. Contracts see a `Key` as its 64 bytes.
+//! No clause says that a tag cannot be forged, how long a comparison takes, or that memory suffices.
+#![tactic(auto)]
+
+mod fault;
+mod key;
+mod laws;
+mod reading;
+mod sealing;
+mod unsealing;
+
+pub use fault::{SealFault, UnsealFault};
+pub use key::{Key, tag};
+pub use laws::{one_sealing, one_unsealing, sealed_opens};
+pub use sealing::seal;
+pub use unsealing::unseal;

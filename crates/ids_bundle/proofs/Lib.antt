@@ -1,0 +1,7 @@
+mod CutLemmas
+mod ListLemmas
+mod Names
+mod PackLemmas
+mod StreamLemmas
+mod UnitLemmas
+mod UnpackLemmas

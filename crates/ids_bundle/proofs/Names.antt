@@ -1,0 +1,15 @@
+-- The names of other crates and of this crate's specs that more than one of its proofs stands on.
+pub use Rattle.std.proofs.Common.{◌≡◌, ℕ, ◌+◌, ◌*◌, ◌-◌, ◌/◌, ◌%◌, ◌^◌, ◌<◌, ◌≤◌, ◌⊎◌, Bool, false, List, [], ◌∷◌, ◌++◌, length, get_or, take, drop, Ok, Err, refl, sym, ap, subst, ◌∙◌, append_assoc, arith, inl, inr}
+pub use Rattle.std.proofs.lemmas.List.{append-nil, length-append, take_at, drop_at, take_all, take_rest, take-append-drop, flat_map_more}
+pub use Rattle.std.proofs.lemmas.Grind.{flat_map-append}
+pub use Rattle.std.specs.Int.{w16, to_be_bytes, from_be_bytes}
+pub use Rattle.std.specs.List.{flat_map, AllByRecursion}
+pub use Rattle.std.specs.Prelude.{Result, IsTrue, ◌↔◌}
+pub use Rattle.ids_frame.specs.Bytes.{AreBytes}
+pub use Rattle.ids_frame.specs.Decoding.{Begins, BeginsWith, CauseOf}
+pub use Rattle.ids_frame.specs.Message.{MessageParts, FitsMessage}
+pub use Rattle.ids_frame.specs.Messages.{joined, AreMessages, IsJoined, messages_read}
+pub use Rattle.ids_bundle.specs.Reading.{AreTexts, StopsBehind, Reads}
+pub use Rattle.ids_frame.specs.Spelling.{spelling}
+pub use Rattle.ids_bundle.specs.Cuts.{IsRun, IsCutFor, IsFullBefore, AreFull, IsPacked}
+pub use Rattle.ids_bundle.specs.Units.{Run, load, all_of, unit, units, FitsUnit, IsUnit, AreSoMany, IsBody, unit_size, IsPart, IsBad}

@@ -1,0 +1,135 @@
+-- Runs, their units, and how these are known again.
+use Rattle.ids_bundle.proofs.Names.{◌≡◌, ℕ, ◌+◌, ◌*◌, ◌/◌, ◌%◌, ◌^◌, ◌<◌, ◌≤◌, ◌↔◌, Bool, false, IsTrue, List, [], ◌∷◌, ◌++◌, length, get_or, take, drop, Ok, Err, refl, sym, ap, subst, ◌∙◌, arith, length-append, take_at, drop_at, append-nil, flat_map-append, w16, to_be_bytes, AreBytes, MessageParts, FitsMessage, joined, AreMessages, IsJoined, messages_read, spelling, Run, load, unit, FitsUnit, IsUnit, AreSoMany, IsBody, unit_size, IsPart, IsBad}
+use Rattle.std.proofs.Common.{Fits, w8, rules}
+use Rattle.std.proofs.lemmas.List.{get_or_default}
+use Rattle.std.proofs.lemmas.Nat.{from_be_bytes-to_be_bytes_2}
+use Rattle.ids_frame.specs.declared.fault.BadMessage.{BadMessage}
+use Rattle.ids_frame.proofs.MessageLemmas.{one_message_lem}
+use Rattle.ids_frame.proofs.MessagesLemmas.{read_is_held}
+use Rattle.ids_bundle.proofs.ListLemmas.{one_ok, IsPrefixFree, IsStuck, one_way}
+
+-- ---- how many bytes runs have
+
+-- a run and another
+pub load-append : (run more : Run) → load (run ++ more) ≡ load run + load more
+load-append run more = ap (λ bytes. length bytes) (flat_map-append spelling run more) ∙ length-append (joined run) (joined more)
+
+-- a message has eight bytes at least
+pub eight_bytes : (m : MessageParts) → 8 ≤ length (spelling m)
+eight_bytes m = omega arith
+
+-- so there are few messages
+pub few_messages : (run : Run) → length run * 8 ≤ load run
+few_messages [] = omega arith
+few_messages (m ∷ run) = omega (arith, few_messages run, eight_bytes m, length-append (spelling m) (joined run))
+
+-- ---- one reading
+
+-- no message stands where nothing does
+pub no_message : IsStuck spelling FitsMessage []
+no_message m more fits e = absurd cc
+
+-- two runs of the same bytes are one
+pub one_run : (run other : Run) → AreMessages run → AreMessages other → joined run ≡ joined other → run ≡ other
+one_run run other fit fit_other same =
+    (one_way spelling FitsMessage one_message_lem run other [] [] fit fit_other no_message no_message
+    (append-nil (joined run) ∙ same ∙ sym (append-nil (joined other)))).0
+
+-- a unit tells its size
+pub unit_size-unit : (run : Run) (more : List ℕ) → FitsUnit run → unit_size (unit run ++ more) ≡ length (unit run)
+unit_size-unit run more fits = omega (arith, from_be_bytes-to_be_bytes_2 (load run) fits.few)
+
+-- no unit begins another
+pub free_units : IsPrefixFree unit FitsUnit
+free_units x y a b fits_x fits_y e =
+    let size : load x ≡ load y = omega (arith, unit_size-unit x a fits_x, unit_size-unit y b fits_y, ap unit_size e) in
+    let bodies : joined x ++ a ≡ joined y ++ b = ap (λ bytes. drop 4 bytes) e in
+    let same = sym (take_at (joined x) a (load x) refl) ∙ ap (take (load x)) bodies ∙ take_at (joined y) b (load x) (sym size) in
+    let rest = sym (drop_at (joined x) a (load x) refl) ∙ ap (drop (load x)) bodies ∙ drop_at (joined y) b (load x) (sym size) in
+    (one_run x y fits_x.fit fits_y.fit same, rest)
+
+-- too few bytes begin with no unit
+pub part_is_stuck : (bytes : List ℕ) → IsPart bytes → IsStuck unit FitsUnit bytes
+part_is_stuck bytes part run more fits e =
+    omega (arith, part, ap unit_size e, unit_size-unit run more fits, ap (λ l. length l) e, length-append (unit run) more)
+
+-- enough bytes for a unit whose first ones are none are bad
+pub bad_unless_unit : (bytes : List ℕ) (size : ℕ) → size ≡ unit_size bytes → size ≤ length bytes → (IsUnit (take size bytes) → ⊥) → IsBad bytes
+bad_unless_unit bytes size is enough not = record {
+  whole = omega (arith, is, enough);
+  none = λ run more fits e.
+      let len : length (unit run) ≡ size = omega (arith, is, ap unit_size e, unit_size-unit run more fits) in
+      not (run, fits, ap (take size) e ∙ take_at (unit run) more size len);
+}
+
+-- ---- a unit is known by its head and its messages
+
+-- what a slice holds are bytes
+pub are_bytes : (bytes : List ℕ) → ((i : ℕ) → Fits w8 (get_or bytes i 0)) → AreBytes bytes
+are_bytes bytes fits k d lt = omega (arith, fits k, get_or_default bytes k d 0 lt)
+
+-- messages that are joined are read
+pub joined_read : (bytes : List ℕ) (run : Run) → AreBytes bytes → IsJoined bytes run → messages_read bytes ≡ Ok run
+joined_read bytes run fits joins = (read_is_held bytes (Ok run) fits).1 joins
+
+-- counting what is read tells whether they are so many
+pub counted : (bytes : List ℕ) (run : Run) (number : ℕ) (answer : Bool) → AreBytes bytes → Ok run ≡ messages_read bytes
+    → IsTrue answer ↔ (length run ≡ number) → IsTrue answer ↔ AreSoMany number bytes
+counted bytes run number answer fits e known = (
+  λ yes. (run, (read_is_held bytes (Ok run) fits).0 (sym e), known.0 yes),
+  λ has. known.1 (ap (λ r. length r) (one_ok (sym e) (joined_read bytes has.0 fits has.1)) ∙ has.2),
+)
+
+-- what is not read is none
+pub not_counted : (bytes : List ℕ) (bad : BadMessage) (number : ℕ) → AreBytes bytes → Err bad ≡ messages_read bytes
+    → IsTrue false ↔ AreSoMany number bytes
+not_counted bytes bad number fits e = (λ no. absurd (search rules), λ has. absurd (cc (e, joined_read bytes has.0 fits has.1)))
+
+-- a head and so many messages are a unit
+is_unit_if : (a b c d : ℕ) (body : List ℕ) → AreBytes (a ∷ b ∷ c ∷ d ∷ body) → IsBody (a * 256 + b) (c * 256 + d) body
+    → IsUnit (a ∷ b ∷ c ∷ d ∷ body)
+is_unit_if a b c d body fits is =
+    let at_0 : a < 256 = fits 0 0 (omega arith) in
+    let at_1 : b < 256 = fits 1 0 (omega arith) in
+    let at_2 : c < 256 = fits 2 0 (omega arith) in
+    let at_3 : d < 256 = fits 3 0 (omega arith) in
+    let run = is.2.0 in
+    let joins = is.2.1 in
+    let size : load run ≡ c * 256 + d = omega (arith, is.1, ap (λ l. length l) joins.whole) in
+    let whole : unit run ≡ a ∷ b ∷ c ∷ d ∷ body =
+    ap (λ l. l ++ to_be_bytes w16 (load run) ++ joined run) (two (length run) a b at_0 at_1 is.2.2)
+    ∙ ap (λ l. (a ∷ b ∷ []) ++ l ++ joined run) (two (load run) c d at_2 at_3 size)
+    ∙ ap (λ l. a ∷ b ∷ c ∷ d ∷ l) (sym joins.whole) in
+    (run, record { fit = joins.fit; some = omega (arith, is.0, is.2.2); few = omega (arith, size) }, sym whole)
+  where
+    two : (n x y : ℕ) → x < 256 → y < 256 → n ≡ x * 256 + y → to_be_bytes w16 n ≡ x ∷ y ∷ []
+    two n x y lt_x lt_y e =
+        let high : n / 256 % 256 ≡ x = omega arith in
+        let low : n % 256 ≡ y = omega arith in
+        rw (high, low) refl
+
+-- a unit has such a head
+is_body_if : (a b c d : ℕ) (body : List ℕ) → IsUnit (a ∷ b ∷ c ∷ d ∷ body) → IsBody (a * 256 + b) (c * 256 + d) body
+is_body_if a b c d body is =
+    let run = is.0 in
+    let fits = is.1 in
+    let joins : body ≡ joined run = ap (λ l. drop 4 l) is.2 in
+    let few : length run < 2 ^ 16 = omega (arith, few_messages run, fits.few) in
+    let number : a * 256 + b ≡ length run = omega (arith, two (length run) few, ap (λ l. get_or l 0 0) is.2, ap (λ l. get_or l 1 0) is.2) in
+    let size : c * 256 + d ≡ load run = omega (arith, two (load run) fits.few, ap (λ l. get_or l 2 0) is.2, ap (λ l. get_or l 3 0) is.2) in
+    (omega (arith, number, fits.some), size ∙ ap (λ l. length l) (sym joins), (run, record { fit = fits.fit; whole = joins }, sym number))
+  where
+    two : (n : ℕ) → n < 2 ^ 16 → n / 256 % 256 * 256 + n % 256 ≡ n
+    two n lt = omega arith
+
+-- so the test of a head and of what stands behind it is that of a unit
+pub unit_known : (bytes body : List ℕ) (number size : ℕ) (answer : Bool) → AreBytes bytes → 4 ≤ length bytes
+    → number ≡ get_or bytes 0 0 * 256 + get_or bytes 1 0 → size ≡ get_or bytes 2 0 * 256 + get_or bytes 3 0 → body ≡ drop 4 bytes
+    → IsTrue answer ↔ IsBody number size body → IsTrue answer ↔ IsUnit bytes
+unit_known [] body number size answer fits four n s e known = absurd (omega arith)
+unit_known (a ∷ []) body number size answer fits four n s e known = absurd (omega arith)
+unit_known (a ∷ b ∷ []) body number size answer fits four n s e known = absurd (omega arith)
+unit_known (a ∷ b ∷ c ∷ []) body number size answer fits four n s e known = absurd (omega arith)
+unit_known (a ∷ b ∷ c ∷ d ∷ rest) body number size answer fits four n s e known =
+    let same : IsBody number size body ≡ IsBody (a * 256 + b) (c * 256 + d) rest = rw (n, s, e) refl in
+    (λ yes. is_unit_if a b c d rest fits (subst (λ T. T) same (known.0 yes)), λ is. known.1 (subst (λ T. T) (sym same) (is_body_if a b c d rest is)))

@@ -1,0 +1,58 @@
+-- A unit: messages packed whole, for a bus whose frames have one size. The layout is this project's own.
+use Rattle.std.specs.Prelude.{◌≡◌, ℕ, ◌+◌, ◌<◌, ◌≤◌, ◌^◌, List, [], ◌∷◌, ◌++◌, length}
+use Rattle.std.specs.Int.{w16, to_be_bytes, from_be_bytes}
+use Rattle.std.specs.List.{flat_map}
+use Rattle.ids_frame.specs.Message.{MessageParts}
+use Rattle.ids_frame.specs.Messages.{joined, AreMessages, IsJoined}
+
+-- messages that travel together
+abbrev pub Run : Type 0
+Run = List MessageParts
+
+-- how many bytes they have
+abbrev pub load : Run → ℕ
+load run = length (joined run)
+
+-- the messages of runs, one behind the other
+abbrev pub all_of : List Run → List MessageParts
+all_of runs = flat_map (λ run. run) runs
+
+-- a run's unit: how many messages and how many bytes, in two bytes each, and then the messages
+abbrev pub unit : Run → List ℕ
+unit run = to_be_bytes w16 (length run) ++ to_be_bytes w16 (load run) ++ joined run
+
+-- the units of runs, one behind the other
+abbrev pub units : List Run → List ℕ
+units runs = flat_map unit runs
+
+-- there is a message, the layout of a message can say each, and that of a unit how many bytes they have
+pub record FitsUnit (run : Run) : Type 0 where
+  pub fit : AreMessages run
+  pub some : 1 ≤ length run
+  pub few : load run < 2 ^ 16
+
+-- the bytes are a unit
+abbrev pub IsUnit : List ℕ → Type 0
+IsUnit bytes = (run : Run) × FitsUnit run × (bytes ≡ unit run)
+
+-- the bytes are so many messages
+abbrev pub AreSoMany : ℕ → List ℕ → Type 0
+AreSoMany number bytes = (run : Run) × IsJoined bytes run × (length run ≡ number)
+
+-- a head that says so many messages and bytes stands before these bytes in a unit
+abbrev pub IsBody : ℕ → ℕ → List ℕ → Type 0
+IsBody number size bytes = (0 < number) × (size ≡ length bytes) × AreSoMany number bytes
+
+-- how many bytes the first four say that the unit has, and 4 where fewer are there
+abbrev pub unit_size : List ℕ → ℕ
+unit_size (a ∷ b ∷ c ∷ d ∷ body) = 4 + from_be_bytes w16 (c ∷ d ∷ [])
+unit_size few = 4
+
+-- the bytes are too few for a unit
+abbrev pub IsPart : List ℕ → Type 0
+IsPart bytes = length bytes < unit_size bytes
+
+-- the bytes are enough for a unit, and begin with none
+pub record IsBad (bytes : List ℕ) : Type 0 where
+  pub whole : unit_size bytes ≤ length bytes
+  pub none : (run : Run) (more : List ℕ) → FitsUnit run → bytes ≡ unit run ++ more → ⊥

@@ -1,0 +1,46 @@
+//! Why messages are not packed, and units not unpacked.
+
+ghost use Rattle.std.specs.Prelude.{◌≡◌};
+ghost use Rattle.ids_bundle.specs.declared.fault.PackFault.TheVariants as packing;
+ghost use Rattle.ids_bundle.specs.declared.fault.UnpackFault.TheVariants as unpacking;
+
+use ids_frame::BadMessage;
+use std::alloc::AllocError;
+
+/// Why messages were not packed. Each message before the place fits into a unit.
+#[derive(Clone, Copy, Debug, PartialEq, Eq)]
+pub enum PackFault {
+    /// A message cannot be read.
+    Bad(BadMessage),
+    /// The message behind so many bytes is longer than a unit may be.
+    TooLarge { at: usize },
+    /// The allocator had no room.
+    NoMemory,
+}
+
+impl From<AllocError> for PackFault {
+    ghost from_gives = { λ _ fault. fault ≡ packing.NoMemory };
+
+    fn from(_: AllocError) -> Self {
+        PackFault::NoMemory
+    }
+}
+
+/// Why units were not unpacked. Before the place there are units.
+#[derive(Clone, Copy, Debug, PartialEq, Eq)]
+pub enum UnpackFault {
+    /// What begins behind so many bytes is whole and no unit.
+    Bad { at: usize },
+    /// What begins behind so many bytes ends before a unit does.
+    Cut { at: usize },
+    /// The allocator had no room.
+    NoMemory,
+}
+
+impl From<AllocError> for UnpackFault {
+    ghost from_gives = { λ _ fault. fault ≡ unpacking.NoMemory };
+
+    fn from(_: AllocError) -> Self {
+        UnpackFault::NoMemory
+    }
+}

@@ -1,0 +1,22 @@
+//! Messages packed whole into units, for a bus whose frames have one size, and taken out again.
+//!
+//! Layer 11, beyond one manager. Over `ids_types` and `ids_frame`. `pack` makes the units of a file of messages,
+//! `unpack` takes the messages out of a file of units, and an `Unpacker` takes them out of a stream that comes in
+//! any pieces. The layout of a unit is this project's own (`specs/Units.antt`).
+//! Contracts speak of runs of messages: the cut that `pack` makes has the fewest runs (`specs/Cuts.antt`), each call
+//! has one answer (`specs/Packing.antt`, `specs/Unpacking.antt`), and an `Unpacker` is seen as the place where its
+//! stream stands (`specs/Stream.antt`).
+//! No clause says what a call costs. Each goes over its bytes a fixed number of times and copies each once, and
+//! `feed` takes no memory.
+#![tactic(auto)]
+
+mod fault;
+mod packing;
+mod unit;
+mod unpacker;
+mod unpacking;
+
+pub use fault::{PackFault, UnpackFault};
+pub use packing::{fewest_runs, one_pack_answer, one_packing, pack};
+pub use unpacker::{Fed, Unpacker, any_pieces, one_reading};
+pub use unpacking::{one_unpack_answer, unpack, unpacks_again};

@@ -1,0 +1,79 @@
+//! The unit of a run of messages: written, and known again.
+
+ghost use Rattle.std.specs.Prelude.{◌≡◌, ◌≤◌, ◌<◌, ◌^◌, ◌++◌, ◌↔◌, IsTrue, OnOk, length, ℕ};
+ghost use Rattle.std.specs.Int.{w16, to_be_bytes};
+ghost use Rattle.ids_frame.specs.Bytes.{AreBytes};
+ghost use Rattle.ids_bundle.specs.Units.{AreSoMany, IsBody, IsUnit, unit_size};
+
+use ids_frame::Messages;
+use std::alloc::AllocError;
+
+/// How many bytes of a unit stand before its messages.
+pub(crate) const HEAD: usize = 4;
+
+/// Writes a unit: so many messages, which have these bytes.
+pub(crate) fn push_unit(out: &mut Vec<u8>, number: u16, body: &[u8]) -> Result<(), AllocError>
+    requires { length body.now < 2 ^ 16 }
+    ensures { OnOk result (out.new.items ≡ out.old.items
+        ++ (to_be_bytes w16 number ++ to_be_bytes w16 (length body.now) ++ body.now)) }
+{
+    out.extend_from_slice(&number.to_be_bytes())?;
+    out.extend_from_slice(&(body.len() as u16).to_be_bytes())?;
+    out.extend_from_slice(body)
+}
+
+/// How many bytes the unit has that these bytes begin with, as far as they tell.
+pub(crate) fn unit_size(bytes: &[u8]) -> usize
+    ensures value { result ≡ unit_size bytes.now }
+    ensures most { result ≤ 65539 }
+{
+    match bytes {
+        [_, _, high, low, ..] => HEAD + u16::from_be_bytes([*high, *low]) as usize,
+        _ => HEAD,
+    }
+}
+
+/// Whether the bytes are a unit, and nothing else.
+pub(crate) fn is_unit(bytes: &[u8]) -> bool
+    ensures unit { IsTrue result ↔ IsUnit bytes.now }
+    // Who holds them in a `Vec` knows it from here.
+    ensures bytes { AreBytes bytes.now }
+{
+    let [a, b, c, d, body @ ..] = bytes else {
+        return false;
+    };
+    is_body(
+        u16::from_be_bytes([*a, *b]),
+        u16::from_be_bytes([*c, *d]),
+        body,
+    )
+}
+
+/// Whether these bytes stand in a unit behind a head that says so many messages and bytes.
+fn is_body(number: u16, size: u16, bytes: &[u8]) -> bool
+    ensures { IsTrue result ↔ IsBody number size bytes.now }
+{
+    number > 0 && size as usize == bytes.len() && are_messages(number, bytes)
+}
+
+/// Whether the bytes are so many messages, and nothing else.
+fn are_messages(number: u16, bytes: &[u8]) -> bool
+    ensures { IsTrue result ↔ AreSoMany number bytes.now }
+{
+    match Messages::read(bytes) {
+        Ok(messages) => are_so_many(number, messages),
+        Err(_) => false,
+    }
+}
+
+fn are_so_many(number: u16, messages: Messages<'_>) -> bool
+    ensures { IsTrue result ↔ (length messages.entry ≡ number) }
+{
+    let mut rest = messages;
+    for _ in 0..number {
+        if rest.pop_front().is_none() {
+            return false;
+        }
+    }
+    rest.pop_front().is_none()
+}

@@ -1,0 +1,16 @@
+//! Where a feeder stops for a word of whoever started it.
+
+/// Is told before the first try of each put, in the thread that makes it. A test's gate lets feeders wait for each
+/// other here.
+pub trait FeedGate {
+    /// A feeder is about to put the pair of this index.
+    fn before(&self, feeder: u8, index: u64);
+}
+
+/// A gate that stops nobody.
+#[derive(Clone, Copy, Debug)]
+pub struct OpenFeed;
+
+impl FeedGate for OpenFeed {
+    fn before(&self, _feeder: u8, _index: u64) {}
+}
