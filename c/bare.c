@@ -1,0 +1,141 @@
+/* The library with no C library below it: an arena for memory, the five functions of memory that it may call, and
+   messages written by a call of the operating system. */
+#include "idsm.h"
+
+enum { ARENA = 1 << 20, BUFFER = 1 << 18 };
+
+static _Alignas(16) uint8_t arena[ARENA];
+static size_t used;
+static uint8_t buffer[BUFFER];
+
+void *malloc(size_t size)
+{
+    size_t start = (used + 15) & ~(size_t)15;
+    if (size > ARENA - start)
+        return NULL;
+    used = start + size;
+    return &arena[start];
+}
+
+void free(void *at)
+{
+    (void)at;
+}
+
+void *memset(void *to, int byte, size_t count)
+{
+    uint8_t *bytes = to;
+    for (size_t i = 0; i < count; i++)
+        ((volatile uint8_t *)bytes)[i] = (uint8_t)byte;
+    return to;
+}
+
+void *memcpy(void *to, const void *from, size_t count)
+{
+    const uint8_t *source = from;
+    for (size_t i = 0; i < count; i++)
+        ((volatile uint8_t *)to)[i] = source[i];
+    return to;
+}
+
+void *memmove(void *to, const void *from, size_t count)
+{
+    volatile uint8_t *target = to;
+    const uint8_t *source = from;
+    if ((uintptr_t)to <= (uintptr_t)from)
+        for (size_t i = 0; i < count; i++)
+            target[i] = source[i];
+    else
+        for (size_t i = count; i > 0; i--)
+            target[i - 1] = source[i - 1];
+    return to;
+}
+
+int memcmp(const void *one, const void *other, size_t count)
+{
+    const uint8_t *a = one, *b = other;
+    for (size_t i = 0; i < count; i++)
+        if (a[i] != b[i])
+            return a[i] < b[i] ? -1 : 1;
+    return 0;
+}
+
+void *realloc(void *at, size_t size)
+{
+    uint8_t *new = malloc(size);
+    if (new != NULL && at != NULL) {
+        size_t rest = (size_t)(&arena[ARENA] - (uint8_t *)at);
+        memmove(new, at, size < rest ? size : rest);
+    }
+    return new;
+}
+
+static long system_call(long number, long a, long b, long c)
+{
+#if defined(__x86_64__)
+    long result;
+    __asm__ volatile("syscall" : "=a"(result) : "a"(number), "D"(a), "S"(b), "d"(c) : "rcx", "r11", "memory");
+    return result;
+#else
+#error "only x86-64 is known here"
+#endif
+}
+
+static const char CONFIG[] =
+    "{\"form\":1,\"instance\":18,\"callers\":1,\"ring\":8,\"memory\":2,\"classes\":[{\"size\":8,\"number\":2}],"
+    "\"events\":[{\"id\":42,\"sensor\":3},{\"id\":43,\"sensor\":3,\"send\":false,\"store\":true}]}";
+
+/* Each call but init and close, all answered as done. */
+static int calls(idsm_handle *caller, idsm_handle *manager, idsm_sent *sent)
+{
+    static const uint8_t context[4] = {1, 2, 3, 4};
+    uint8_t kept[8];
+    uint64_t size, rows, late;
+    idsm_row row;
+    uint8_t answers = idsm_set_event(caller, 0);
+    answers |= idsm_set_event_count(caller, 1, 2);
+    answers |= idsm_set_event_context(caller, 1, context, sizeof context);
+    answers |= idsm_set_event_count_context(caller, 1, 3, context, sizeof context);
+    answers |= idsm_set_event_at(caller, 1, 1, 5, context, 0);
+    answers |= idsm_set_state(caller, 1);
+    answers |= idsm_set_mode(caller, 1, IDSM_MODE_BRIEF);
+    answers |= idsm_buffer_size(manager, &size);
+    answers |= idsm_main(manager, 1, buffer, sizeof buffer, sent);
+    answers |= idsm_rows(manager, &rows);
+    answers |= idsm_row_at(manager, 0, kept, sizeof kept, &row);
+    answers |= idsm_late(manager, 0, &late);
+    return answers == IDSM_DONE && size <= sizeof buffer && rows == 1 && row.occurrences == 7 && late == 0;
+}
+
+static int run(void)
+{
+    idsm_handle caller = {0}, manager = {0};
+    idsm_fault fault;
+    idsm_sent sent;
+    if (idsm_set_event(&caller, 0) != IDSM_UNSET)
+        return 1;
+    if (idsm_init((const uint8_t *)CONFIG, sizeof CONFIG - 1, &caller, 1, &manager, &fault) != IDSM_DONE)
+        return 2;
+    size_t taken = used;
+    if (!calls(&caller, &manager, &sent) || sent.messages != 1)
+        return 3;
+    if (idsm_set_event(&caller, 2) != IDSM_UNKNOWN_EVENT || idsm_set_event(&manager, 0) != IDSM_OTHER_ROLE)
+        return 4;
+    if (used != taken)
+        return 5; /* a call took memory */
+    if (idsm_init((const uint8_t *)CONFIG, sizeof CONFIG - 1, &caller, 1, &manager, &fault) != IDSM_OCCUPIED)
+        return 6;
+    system_call(1, 1, (long)buffer, (long)sent.bytes);
+    return idsm_close(&caller) == IDSM_DONE && idsm_close(&manager) == IDSM_DONE ? 0 : 7;
+}
+
+void begin(void);
+
+void begin(void)
+{
+    system_call(60, run(), 0, 0);
+    for (;;) {
+    }
+}
+
+__asm__(".globl _start\n_start:\n\txor %ebp, %ebp\n\tand $-16, %rsp\n\tcall begin\n");

@@ -1,0 +1,4 @@
+pub mod CallLemmas
+pub mod Handles
+pub mod MakingLemmas
+pub mod Names

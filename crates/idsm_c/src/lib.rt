@@ -1,0 +1,23 @@
+//! The C interface of the intrusion detection system manager: handles and exported functions, as `c/idsm.h` declares
+//! them.
+//!
+//! Layer 11, beyond one manager. Over `idsm_port`, whose roles the handles own; built as a static library, on which no
+//! crate may stand.
+//! Contracts see a handle by its content: nothing, or a caller or a manager of which all holds that `idsm_port` says of
+//! it between two calls. So no export requires anything: each answers by what the handle has (`specs/Calls.antt`).
+//! What C has to keep is what C always keeps, and stands in `c/README.md`. Only `c/check` shows that the library links
+//! and runs.
+#![tactic(auto)]
+
+mod calls;
+mod closing;
+mod handle;
+mod loose;
+mod making;
+mod reading;
+mod turning;
+
+pub use handle::Handle;
+pub use making::Fault;
+pub use reading::Row;
+pub use turning::Sent;

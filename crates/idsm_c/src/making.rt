@@ -1,0 +1,167 @@
+//! How handles are filled.
+ghost use Rattle.std.specs.Prelude.{◌≡◌, Some, length, map, IfOk, ◌∷◌};
+ghost use Rattle.std.specs.List.{All};
+ghost use Rattle.config_json.specs.Configured.{configuration};
+ghost use Rattle.idsm_port.specs.Handled.{IsFit};
+ghost use Rattle.idsm_c.specs.Making.{AreFit, Fills, Inits, MakesRoles, caller_roles, contents_of, fault_of, is_taken, no_fault, roles_in};
+
+use crate::handle::Handle;
+use config_json::JsonFault;
+use ids_config::{ConfigFault, ConfigPlace};
+use idsm_port::{Answer, CallerPort, Role, make};
+use std::alloc::{AllocError, Global};
+
+/// The first fault of a configuration: its number, and where it stands. All is 0 where there is none.
+#[repr(C)]
+#[derive(Clone, Copy)]
+pub struct Fault {
+    pub number: u32,
+    /// 0 top, 1 class, 2 event.
+    pub part: u32,
+    pub place: u32,
+}
+
+// No fault.
+fn no_fault() -> Fault
+    ensures { result ≡ no_fault }
+{
+    Fault {
+        number: 0,
+        part: 0,
+        place: 0,
+    }
+}
+
+// A fault as numbers.
+fn fault_of(fault: ConfigFault) -> Fault
+    ensures { result ≡ fault_of fault }
+{
+    let (part, place) = match fault.place {
+        ConfigPlace::Top => (0, 0),
+        ConfigPlace::Class(place) => (1, place),
+        ConfigPlace::Event(place) => (2, place),
+    };
+    Fault {
+        number: u32::from(fault.number),
+        part,
+        place,
+    }
+}
+
+// Whether any of the handles has something.
+fn is_any_taken(alloc: Global, handles: &mut [Handle]) -> bool
+    ensures told { result ≡ is_taken (contents_of handles.old) }
+    ensures same { contents_of handles.new ≡ contents_of handles.old }
+{
+    for i in 0..handles.len() {
+        if handles[i].has_any(alloc) {
+            return true;
+        }
+    }
+    false
+}
+
+// Whether any of all the handles has something.
+fn is_occupied(alloc: Global, callers: &mut [Handle], manager: &mut Handle) -> bool
+    ensures told { result ≡ is_taken (manager.old.content ∷ contents_of callers.old) }
+    ensures callers { contents_of callers.new ≡ contents_of callers.old }
+    ensures manager { manager.new.content ≡ manager.old.content }
+{
+    manager.has_any(alloc) || is_any_taken(alloc, callers)
+}
+
+// What handles are filled with: the callers by their numbers, and their manager.
+#[derive(Drop)]
+struct Roles {
+    callers: Vec<Box<Role, Global>>,
+    manager: Box<Role, Global>,
+}
+
+// A role in a box.
+fn boxed(alloc: Global, role: Role) -> Result<Box<Role, Global>, AllocError>
+    ensures { IfOk result (λ made. made.value ≡ role) }
+{
+    Ok(Box::new(alloc, role)?)
+}
+
+// The callers, each as a role in a box.
+fn boxed_callers(
+    alloc: Global,
+    callers: Vec<CallerPort>,
+) -> Result<Vec<Box<Role, Global>>, AllocError>
+    ensures { IfOk result (λ boxes. roles_in boxes.items ≡ caller_roles callers.items) }
+{
+    let mut boxes = Vec::with_capacity(alloc, callers.len())?;
+    for caller in callers {
+        boxes.push_reserved(boxed(alloc, Role::Calls(caller))?);
+    }
+    Ok(boxes)
+}
+
+// The roles of the configuration that the bytes are the JSON text of.
+fn roles_of(alloc: Global, config: &[u8]) -> Result<Roles, JsonFault>
+    ensures made { MakesRoles (configuration config.now) result }
+    ensures fit { IfOk result AreFit }
+{
+    let ports = make(alloc, config)?;
+    let callers = boxed_callers(alloc, ports.callers)?;
+    let manager = boxed(alloc, Role::Turns(ports.manager))?;
+    Ok(Roles { callers, manager })
+}
+
+// Puts the roles into the handles, from the last on.
+fn put_all(handles: &mut [Handle], mut roles: Vec<Box<Role, Global>>)
+    requires fit { All IsFit (roles_in roles.items) }
+    requires as_many { length roles.items ≡ length handles.old }
+    ensures { contents_of handles.new ≡ map Some (roles_in roles.items) }
+{
+    while let Some(role) = roles.pop() {
+        handles[roles.len()].put(role);
+    }
+}
+
+// Fills the handles, if they are as many as the callers, and answers whether they are.
+fn fill(roles: Roles, callers: &mut [Handle], manager: &mut Handle) -> bool
+    requires { AreFit roles }
+    ensures { Fills roles (contents_of callers.old) manager.old.content result (contents_of callers.new) manager.new.content }
+{
+    let as_many = roles.callers.len() == callers.len();
+    if as_many {
+        put_all(callers, roles.callers);
+        manager.put(roles.manager);
+    }
+    as_many
+}
+
+/// Fills a handle for each caller of the configuration that the bytes are the JSON text of, and one for the manager.
+/// Where it answers anything but done, no handle is changed.
+#[unsafe(no_mangle)]
+pub extern "C" fn idsm_init(
+    alloc: Global,
+    config: &[u8],
+    callers: &mut [Handle],
+    manager: &mut Handle,
+    fault: &mut Fault,
+) -> u8
+    ensures { Inits (configuration config.now) (contents_of callers.old) manager.old.content result
+        (contents_of callers.new) manager.new.content fault.new }
+{
+    *fault = no_fault();
+    if is_occupied(alloc, callers, manager) {
+        return Answer::Occupied.code();
+    }
+    match roles_of(alloc, config) {
+        Ok(roles) => {
+            if fill(roles, callers, manager) {
+                Answer::Done.code()
+            } else {
+                Answer::OutOfRange.code()
+            }
+        }
+        Err(JsonFault::Config(found)) => {
+            *fault = fault_of(found);
+            Answer::Configuration.code()
+        }
+        Err(JsonFault::NoMemory) => Answer::NoMemory.code(),
+    }
+}

@@ -1,0 +1,62 @@
+//! Turns.
+ghost use Rattle.std.specs.Prelude.{◌≡◌};
+ghost use Rattle.idsm_c.specs.Turning.{HandleTurns, sent_of};
+
+use crate::handle::Handle;
+use idsm_port::{Answer, Told};
+use std::alloc::Global;
+
+/// What a turn tells. All is 0 where none was made.
+#[repr(C)]
+#[derive(Clone, Copy)]
+pub struct Sent {
+    pub bytes: u64,
+    pub entries: u64,
+    pub lost_events: u64,
+    pub lost_contexts: u64,
+    pub messages: u64,
+}
+
+// What a turn told.
+fn sent_of(told: Told) -> Sent
+    ensures { result ≡ sent_of told }
+{
+    Sent {
+        bytes: told.bytes,
+        entries: told.entries,
+        lost_events: told.lost_events,
+        lost_contexts: told.lost_contexts,
+        messages: u64::from(told.messages),
+    }
+}
+
+/// Makes a turn, and writes its messages to the front of the buffer, one behind the other.
+#[unsafe(no_mangle)]
+pub extern "C" fn idsm_main(
+    alloc: Global,
+    manager: &mut Handle,
+    tick: u64,
+    buffer: &mut [u8],
+    sent: &mut Sent,
+) -> u8
+    ensures { HandleTurns tick manager.old.content buffer.old result sent.new manager.new.content buffer.new }
+{
+    match manager.take(alloc) {
+        None => {
+            *sent = Sent {
+                bytes: 0,
+                entries: 0,
+                lost_events: 0,
+                lost_contexts: 0,
+                messages: 0,
+            };
+            Answer::Unset.code()
+        }
+        Some(mut role) => {
+            let turned = role.turn(tick, buffer);
+            manager.put(role);
+            *sent = sent_of(turned.told);
+            turned.answer.code()
+        }
+    }
+}
