@@ -1,18 +1,15 @@
 -- A sealed message by its bytes: the plain one, marked in its first byte, and the signature part behind it.
-use Rattle.frame_auth.proofs.Names.{◌≡◌, ℕ, zero, suc, IsByte, AreBytes, ◌+◌, ◌-◌, ◌*◌, ◌^◌, ◌≤◌, ◌<◌, List, ◌∷◌, ◌++◌, length, take, drop, Option, Some, None, refl, sym, ap, subst, ◌∙◌, arith, append-nil, length-append, w16, w64, to_be_bytes, MessageParts, FitsMessage, flag, header, spelling, with_signature, bare, hmac, seal_of, sealed, IsPlain, IsSealedWith, HasNoSeal, HasOtherCounter, CanMark, marked, sealed_bytes, CanUnmark, unmarked}
+use Rattle.frame_auth.proofs.Names.{◌≡◌, ℕ, zero, suc, IsByte, AreBytes, ◌+◌, ◌*◌, ◌^◌, ◌≤◌, ◌<◌, List, [], ◌∷◌, ◌++◌, length, take, drop, Option, Some, None, refl, sym, ap, subst, ◌∙◌, arith, length-append, w16, w64, to_be_bytes, MessageParts, FitsMessage, header, spelling, joined, with_signature, bare, hmac, seal_of, sealed, joined_sealed, IsPlain, ArePlain, IsSealedWith, HasNoSeal, HasOtherCounter, CanMark, marked, sealed_bytes, CanUnmark, unmarked, rules, common_steps}
 use Rattle.std.proofs.lemmas.List.{take_at, drop_at}
 use Rattle.std.proofs.Common.{◌≢◌, IfSome, Bor, is_some, option_copied, false}
-use Rattle.std.specs.Int.{from_be_bytes}
 use Rattle.ids_frame.proofs.NumberLemmas.{wide32, wide64}
-use Rattle.ids_frame.specs.Spelling.{stamp_part, context_part}
 use Rattle.std.proofs.lemmas.List.Elements.{All-append}
 use Rattle.sha2.specs.Sha256.{sha256, digest_bytes}
 use Rattle.sha2.proofs.Facts256.{length-sha256}
 
 -- a seal has 40 bytes
 pub length-seal_of : (key : List ℕ) (counter : ℕ) (plain : List ℕ) → length (seal_of key counter plain) ≡ 40
-length-seal_of key counter plain =
-    omega (arith, length-append (to_be_bytes w64 counter) (hmac key (plain ++ to_be_bytes w64 counter)), length-sha256)
+length-seal_of key counter plain = grind (arith, common_steps, length-append, length-sha256)
 
 -- a message that has no signature part is bare
 pub bare_is : (m : MessageParts) → m.signature ≡ None → bare m ≡ m
@@ -21,9 +18,7 @@ bare_is m none = ap (λ s. with_signature s m) (sym none)
 -- a message with a signature part, by its bare one
 signed_layout : (m : MessageParts) (part : List ℕ)
     → spelling (with_signature (Some part) m) ≡ marked (spelling (bare m)) ++ (to_be_bytes w16 (length part) ++ part)
-signed_layout m part =
-    let first : m.version * 16 + header (with_signature (Some part) m) ≡ m.version * 16 + header (bare m) + 4 = omega arith in
-    rw (first, append-nil (stamp_part m.stamp ++ context_part m.context)) refl
+signed_layout m part = search rules
 
 -- a plain message, sealed
 pub sealed_layout : (key : List ℕ) (counter : ℕ) (m : MessageParts) → m.signature ≡ None
@@ -33,15 +28,26 @@ sealed_layout key counter m none =
     signed_layout m seal ∙ ap (λ n. marked (spelling n) ++ (to_be_bytes w16 (length seal) ++ seal)) (bare_is m none)
     ∙ ap (λ size. marked (spelling m) ++ (to_be_bytes w16 size ++ seal)) (length-seal_of key counter (spelling m))
 
+-- each seal adds 42 bytes
+pub length-joined_sealed : (key : List ℕ) (start : ℕ) (messages : List MessageParts) → ArePlain messages
+    → length (joined_sealed key start messages) ≡ length (joined messages) + 42 * length messages
+length-joined_sealed key start [] plain = refl
+length-joined_sealed key start (m ∷ messages) plain =
+    let rest = drop 1 (spelling m) in
+    omega (
+      arith,
+      ap (λ l. length l) (sealed_layout key start m plain.0.none),
+      length-append rest (0 ∷ 40 ∷ seal_of key start (spelling m)),
+      length-seal_of key start (spelling m),
+      length-append (spelling (sealed key start m)) (joined_sealed key (start + 1) messages),
+      length-append (spelling m) (joined messages),
+      length-joined_sealed key (start + 1) messages plain.1,
+    )
+
 -- a mark and 42 bytes can be taken off
 unmark : (first next : ℕ) (front back : List ℕ) → next ≡ first + 4 → length back ≡ 42
     → CanUnmark (next ∷ (front ++ back)) × (unmarked (next ∷ (front ++ back)) ≡ first ∷ front)
-unmark first next front back marks size =
-    let count : length (front ++ back) - 42 ≡ length front = omega (arith, length-append front back) in
-    let first_is : next - 4 ≡ first = omega arith in (
-      (omega arith, omega (arith, length-append front back)),
-      rw (count, take_at front back (length front) refl, first_is) refl,
-    )
+unmark first next front back marks size = grind (arith, common_steps)
 
 -- a signature part of 40 bytes can be taken off
 pub unsealed_layout : (m : MessageParts) (part : List ℕ) → m.signature ≡ Some part → length part ≡ 40
@@ -54,11 +60,7 @@ unsealed_layout m part some size =
 
 -- one bit is free in the first byte of a plain message
 pub can_mark : (m : MessageParts) → FitsMessage m → CanMark (spelling m)
-can_mark m fits = omega (arith, fits.known, few m.stamp, few m.context, few m.signature)
-  where
-    few : {A : Type 0} (part : Option A) → flag part ≤ 1
-    few None = omega arith
-    few (Some x) = omega arith
+can_mark m fits = search rules
 
 -- ---- seals
 
@@ -76,8 +78,7 @@ seal_parts key count told plain counter size e =
 -- a counter and its tag are a seal
 pub seal_made : (key count told plain : List ℕ) (counter : ℕ) → to_be_bytes w64 counter ≡ count → told ≡ hmac key (plain ++ count)
     → count ++ told ≡ seal_of key counter plain
-seal_made key count told plain counter is tag =
-    ap (λ t. count ++ t) tag ∙ ap (λ b. b ++ hmac key (plain ++ b)) (sym is)
+seal_made key count told plain counter is tag = search rules
 
 -- a signature part of another length is no seal
 pub no_seal : (key : List ℕ) (m : MessageParts) (signature : Option (List ℕ)) → signature ≡ m.signature
@@ -100,32 +101,14 @@ sealed_with key part counter m some made = ap (λ s. with_signature s m) (some �
 -- and then another counter is none
 pub other_counter : (key part : List ℕ) (counter due : ℕ) (m : MessageParts) → m.signature ≡ Some part
     → part ≡ seal_of key counter (spelling (bare m)) → counter < 2 ^ 64 → due < 2 ^ 64 → counter ≢ due → HasOtherCounter key due m
-other_counter key part counter due m some made fits due_fits other = record {
-  counter = counter;
-  with = sealed_with key part counter m some made;
-  other = λ with.
-      let plain = spelling (bare m) in
-      let is : part ≡ seal_of key due plain = cc (some, with) in
-      let bytes = to_be_bytes w64 counter in
-      let first = seal_parts key bytes (hmac key (plain ++ bytes)) plain due refl (sym made ∙ is) in
-      other (sym (wide64.again counter fits) ∙ ap (from_be_bytes w64) first.0 ∙ wide64.again due due_fits);
-}
+other_counter key part counter due m some made fits due_fits other = search rules
 
 -- ---- other signature parts
 
 -- the layout can say a message with another signature part
 with_fits : (m : MessageParts) (s : Option (List ℕ)) → FitsMessage m → IfSome s (λ part. length part ≤ 65535) → IfSome s AreBytes
     → FitsMessage (with_signature s m)
-with_fits m s fits short are_bytes = record {
-  known = fits.known;
-  room = record { ten_bits = fits.room.ten_bits; six_bits = fits.room.six_bits; two_bytes = short };
-  event = fits.event;
-  count = fits.count;
-  reserved = fits.reserved;
-  stamp = fits.stamp;
-  context = fits.context;
-  signature = are_bytes;
-}
+with_fits m s fits short are_bytes = search rules
 
 digest_are_bytes : (hash : List ℕ) (words : ℕ) → AreBytes (digest_bytes hash words)
 unfolding digest_bytes
@@ -148,11 +131,9 @@ bare_is_plain m fits = record { fits = with_fits m None fits tt tt; none = refl 
 
 -- a signature part that is not there is none
 pub unsigned : (s : Option (Bor (List ℕ))) → is_some s ≡ false → option_copied s ≡ None
-unsigned None none = refl
-unsigned (Some part) none = absurd cc
+unsigned s none = search rules
 
 -- what was added behind `old` is the message without its signature part
 pub added_bare : (old now spelled part : List ℕ) (from : ℕ) (m : MessageParts) → now ≡ old ++ unmarked spelled → spelled ≡ spelling m
     → from ≡ length old → m.signature ≡ Some part → length part ≡ 40 → drop from now ≡ spelling (bare m)
-added_bare old now spelled part from m added is place some size =
-    ap (drop from) added ∙ drop_at old (unmarked spelled) from (sym place) ∙ ap unmarked is ∙ (unsealed_layout m part some size).1
+added_bare old now spelled part from m added is place some size = grind (arith, common_steps, unsealed_layout)

@@ -14,3 +14,4 @@ pub use Rattle.frame_auth.specs.Tags.{hmac}
 pub use Rattle.frame_auth.specs.Sealing.{with_signature, bare, seal_of, sealed, joined_sealed, Copies, IsPlain, ArePlain, IsSealedWith, HasNoSeal, HasOtherCounter}
 pub use Rattle.frame_auth.specs.Layout.{Moves, CanMark, marked, sealed_bytes, CanUnmark, unmarked}
 pub use Rattle.frame_auth.specs.Faults.{StopsBehind, CannotRead, BeginsSo, StopsSeal, StopsUnseal, Gives, GivesSealed, GivesUnsealed}
+pub use Rattle.std.proofs.lemmas.Grind.{common_steps}

@@ -1,10 +1,9 @@
 -- What sealing gives is one answer, and so is what unsealing gives.
-use Rattle.frame_auth.proofs.Names.{◌≡◌, ℕ, ◌+◌, List, [], ◌∷◌, ◌++◌, length, Result, Ok, Err, refl, sym, ap, subst, ◌∙◌, append_assoc, arith, append-nil, IsSome, AreBytes, MessageParts, spelling, joined, BeginsWith, Begins, Begun, bare, sealed, joined_sealed, Copies, IsPlain, ArePlain, HasNoSeal, HasOtherCounter, StopsBehind, CannotRead, BeginsSo, StopsSeal, StopsUnseal, Gives, GivesSealed, GivesUnsealed}
+use Rattle.frame_auth.proofs.Names.{◌≡◌, ℕ, ◌+◌, List, [], ◌∷◌, ◌++◌, length, Result, Ok, Err, refl, sym, ap, subst, ◌∙◌, append_assoc, arith, append-nil, AreBytes, MessageParts, spelling, joined, BeginsWith, Begins, Begun, bare, sealed, joined_sealed, Copies, IsPlain, ArePlain, HasNoSeal, HasOtherCounter, StopsBehind, CannotRead, BeginsSo, StopsSeal, StopsUnseal, Gives, GivesSealed, GivesUnsealed, rules, common_steps}
 use Rattle.ids_frame.specs.declared.fault.BadMessage.{BadMessage}
 use Rattle.ids_frame.proofs.MessageLemmas.{one_message_lem, read_of}
 use Rattle.ids_frame.proofs.PartLemmas.{behind_bytes}
 use Rattle.frame_auth.specs.declared.fault.SealFault.{SealFault}
-use Rattle.frame_auth.specs.declared.fault.SealFault.TheVariants as seals
 use Rattle.frame_auth.specs.declared.fault.UnsealFault.{UnsealFault}
 use Rattle.frame_auth.specs.declared.fault.UnsealFault.TheVariants as unseals
 use Rattle.frame_auth.proofs.LayoutLemmas.{bare_is}
@@ -93,9 +92,7 @@ read_one bytes fit a b p q = sym (read_of bytes a fit p) ∙ read_of bytes b fit
 
 -- a message that cannot be read is one fault
 bad_one : (at : ℕ) (bytes : List ℕ) (f g : BadMessage) → AreBytes bytes → CannotRead f at bytes → CannotRead g at bytes → f ≡ g
-bad_one at bytes f g fit p q =
-    let fault : f.fault ≡ g.fault = cc (read_one bytes fit (Err f.fault) (Err g.fault) p.1 q.1) in
-    ap (λ a. record { at = a; fault = f.fault }) (p.0 ∙ sym q.0) ∙ ap (λ x. record { at = g.at; fault = x }) fault
+bad_one at bytes f g fit p q = grind (arith, common_steps, read_one)
 
 -- it is not read
 bad_apart : (at : ℕ) (bytes : List ℕ) (f : BadMessage) (m : MessageParts) (behind : List ℕ) → AreBytes bytes → CannotRead f at bytes
@@ -104,8 +101,7 @@ bad_apart at bytes f m behind fit p begins = absurd (cc (read_one bytes fit (Err
 
 -- what holds of the message at the front
 holds_of : {P : MessageParts → Type 0} (bytes : List ℕ) (m : MessageParts) (behind : List ℕ) → BeginsSo P bytes → BeginsWith bytes m behind → P m
-holds_of {P} bytes m behind so begins =
-    subst P (one_message_lem so.message m _ _ so.begins.fits begins.fits (sym so.begins.whole ∙ begins.whole)).0 so.holds
+holds_of {P} bytes m behind so begins = grind (arith, common_steps, one_message_lem)
 
 go_begins : {form : ℕ → MessageParts → MessageParts} {write : ℕ → List MessageParts → List ℕ} {due : ℕ} {bytes : List ℕ} → Writes write form → (go : MayGo form due bytes)
     → BeginsWith bytes (form due go.message) go.behind
@@ -113,22 +109,7 @@ go_begins {form} {write} {due} w go = record { fits = w.fits due go.message go.i
 
 -- those of sealing
 seal_faults : AreFaults (λ due m. m) (λ fault due at bytes. StopsSeal fault at bytes)
-seal_faults = record { stuck = stuck; one = one }
-  where
-    stuck : (fault : SealFault) (due at : ℕ) (bytes : List ℕ) → AreBytes bytes → StopsSeal fault at bytes → MayGo (λ due m. m) due bytes → ⊥
-    stuck (seals.Bad bad) due at bytes fit why go = bad_apart at bytes bad _ _ fit why (go_begins writes_plain go)
-    stuck (seals.Signed place) due at bytes fit why go =
-        let signed : IsSome go.message.signature = holds_of bytes go.message _ why.1 (go_begins writes_plain go) in
-        absurd (cc (subst (λ s. IsSome s) go.is_plain.none signed))
-    stuck seals.NoMemory due at bytes fit why go = why
-
-    one : (f g : SealFault) (due at : ℕ) (bytes : List ℕ) → AreBytes bytes → StopsSeal f at bytes → StopsSeal g at bytes → f ≡ g
-    one (seals.Bad f) (seals.Bad g) due at bytes fit p q = ap seals.Bad (bad_one at bytes f g fit p q)
-    one (seals.Bad f) (seals.Signed b) due at bytes fit p q = absurd (bad_apart at bytes f _ _ fit p q.1.begins)
-    one (seals.Signed a) (seals.Bad g) due at bytes fit p q = absurd (bad_apart at bytes g _ _ fit q p.1.begins)
-    one (seals.Signed a) (seals.Signed b) due at bytes fit p q = ap (λ place. seals.Signed place) (p.0 ∙ sym q.0)
-    one seals.NoMemory g due at bytes fit p q = absurd p
-    one f seals.NoMemory due at bytes fit p q = absurd q
+seal_faults = search (rules, bad_apart, bad_one, go_begins, holds_of, writes_plain)
 
 -- those of unsealing
 unseal_faults : (key : List ℕ) → AreFaults (sealed key) (λ fault due at bytes. StopsUnseal key due fault at bytes)
@@ -175,5 +156,4 @@ one_unsealing_lem key start bytes a b fit p q = one_end (writes_sealed key) (uns
 
 pub sealed_opens_lem : (key : List ℕ) (start : ℕ) (bytes out : List ℕ) → Copies joined (joined_sealed key start) bytes out
     → Copies (joined_sealed key start) joined out bytes
-sealed_opens_lem key start bytes out p =
-    record { messages = p.messages; are_plain = p.are_plain; read = p.written; written = p.read }
+sealed_opens_lem key start bytes out p = search rules

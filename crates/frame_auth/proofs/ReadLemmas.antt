@@ -1,7 +1,7 @@
 -- The message at the front of bytes, as it is read.
-use Rattle.frame_auth.proofs.Names.{◌≡◌, ℕ, ◌<◌, ◌≤◌, get_or, List, length, take, drop, Result, Ok, Err, refl, sym, ap, subst, ◌∙◌, arith, AreBytes, MessageParts, spelling, BeginsWith, BeginsSo, Begins, CauseOf, Begun, length-append}
+use Rattle.frame_auth.proofs.Names.{◌≡◌, ℕ, ◌<◌, ◌≤◌, get_or, List, length, take, drop, Result, Ok, Err, sym, subst, arith, AreBytes, MessageParts, spelling, BeginsWith, BeginsSo, Begins, CauseOf, Begun, common_steps}
 use Rattle.std.specs.Result.{result_map_both}
-use Rattle.std.proofs.lemmas.List.{get_or_default, take_at, drop_at}
+use Rattle.std.proofs.lemmas.List.{get_or_default}
 use Rattle.ids_frame.specs.declared.fault.FrameFault.{FrameFault}
 use Rattle.ids_frame.specs.Decoding.{decoded}
 use Rattle.ids_frame.specs.Reading.{message_at}
@@ -20,15 +20,7 @@ Tells bytes (Err fault) = CauseOf fault bytes
 
 tells : (bytes : List ℕ) (read : Begun) → Begins bytes read
     → Tells bytes (result_map_both (λ x. (x.0, length (spelling x.0))) (λ fault. fault) read)
-tells bytes (Err fault) begins = begins
-tells bytes (Ok x) begins =
-    let size = length (spelling x.0) in
-    let behind : drop size bytes ≡ x.1 = ap (drop size) begins.whole ∙ drop_at (spelling x.0) x.1 size refl in
-    record {
-      few = omega (arith, ap (λ l. length l) begins.whole, length-append (spelling x.0) x.1);
-      spelled = ap (take size) begins.whole ∙ take_at (spelling x.0) x.1 size refl;
-      begins = subst (BeginsWith bytes x.0) (sym behind) begins;
-    }
+tells bytes read begins = grind (arith, common_steps)
 
 -- each answer of `decode` says so
 pub decode_tells : (bytes : List ℕ) (read : Result (MessageParts × ℕ) FrameFault) → ((i : ℕ) → get_or bytes i 0 < 256)

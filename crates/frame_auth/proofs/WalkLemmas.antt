@@ -1,6 +1,6 @@
 -- Going over messages one by one, each written as it is due: so sealing reads plain messages and writes sealed ones, and
 -- unsealing the other way round.
-use Rattle.frame_auth.proofs.Names.{◌≡◌, ℕ, ◌+◌, ◌-◌, ◌*◌, ◌≤◌, ◌==◌, ◌⊎◌, inl, inr, false, List, [], ◌∷◌, ◌++◌, length, refl, sym, ap, subst, ◌∙◌, append_assoc, arith, append-nil, length-append, MessageParts, FitsMessage, spelling, joined, bare, sealed, joined_sealed, IsPlain, ArePlain, Moves, StopsBehind}
+use Rattle.frame_auth.proofs.Names.{◌≡◌, ℕ, ◌+◌, ◌-◌, ◌*◌, ◌≤◌, ◌==◌, ◌⊎◌, inl, inr, false, List, [], ◌∷◌, ◌++◌, length, sym, ap, ◌∙◌, append_assoc, arith, length-append, MessageParts, FitsMessage, spelling, joined, sealed, joined_sealed, IsPlain, ArePlain, Moves, StopsBehind, rules, common_steps}
 use Rattle.frame_auth.proofs.LayoutLemmas.{bare_is, sealed_fits}
 
 -- messages from a counter on are written one behind the other, each plain one in a form of its own, which tells it
@@ -11,29 +11,16 @@ pub record Writes (write : ℕ → List MessageParts → List ℕ) (form : ℕ �
   pub same : (due : ℕ) (m n : MessageParts) → IsPlain m → IsPlain n → form due m ≡ form due n → m ≡ n
 
 pub writes_plain : Writes (λ due ms. joined ms) (λ due m. m)
-writes_plain = record {
-  none = λ due. refl;
-  more = λ due m ms. refl;
-  fits = λ due m plain. plain.fits;
-  same = λ due m n p q e. e;
-}
+writes_plain = search rules
 
 pub writes_sealed : (key : List ℕ) → Writes (joined_sealed key) (sealed key)
-writes_sealed key = record {
-  none = λ due. refl;
-  more = λ due m ms. refl;
-  fits = λ due m plain. sealed_fits key due m plain.fits;
-  same = λ due m n p q e. sym (bare_is m p.none) ∙ ap bare e ∙ bare_is n q.none;
-}
+writes_sealed key = grind (arith, common_steps, bare_is, sealed_fits)
 
 -- one message more
 written_more : {write : ℕ → List MessageParts → List ℕ} {form : ℕ → MessageParts → MessageParts} → Writes write form
     → (due now : ℕ) (ms : List MessageParts) (m : MessageParts) → now ≡ due + length ms
     → write due (ms ++ m ∷ []) ≡ write due ms ++ spelling (form now m)
-written_more {write} {form} w due now [] m e =
-    let same : now ≡ due = omega arith in
-    w.more due m [] ∙ ap (λ l. spelling (form due m) ++ l) (w.none (due + 1)) ∙ append-nil (spelling (form due m))
-    ∙ ap (λ d. spelling (form d m)) (sym same) ∙ ap (λ l. l ++ spelling (form now m)) (sym (w.none due))
+written_more {write} {form} w due now [] m e = search rules
 written_more {write} {form} w due now (x ∷ ms) m e =
     let behind = written_more w (due + 1) now ms m (omega arith) in
     w.more due x (ms ++ m ∷ []) ∙ ap (λ l. spelling (form due x) ++ l) behind
@@ -41,8 +28,7 @@ written_more {write} {form} w due now (x ∷ ms) m e =
     ∙ ap (λ l. l ++ spelling (form now m)) (sym (w.more due x ms))
 
 plain_more : (ms : List MessageParts) (m : MessageParts) → ArePlain ms → IsPlain m → ArePlain (ms ++ m ∷ [])
-plain_more [] m all plain = (plain, tt)
-plain_more (x ∷ ms) m all plain = (all.0, plain_more ms m all.1 plain)
+plain_more ms m all plain = grind (arith, common_steps)
 
 -- so far some messages were read and written, and the next is due
 pub record Goes (from to : ℕ → List MessageParts → List ℕ) (start due : ℕ) (bytes rest out : List ℕ) : Type 0 where
@@ -56,14 +42,7 @@ pub record Goes (from to : ℕ → List MessageParts → List ℕ) (start due : 
 -- at first none
 pub goes_first : {from to : ℕ → List MessageParts → List ℕ} {form other : ℕ → MessageParts → MessageParts}
     → Writes from form → Writes to other → (start : ℕ) (bytes : List ℕ) → Goes from to start start bytes bytes []
-goes_first w v start bytes = record {
-  front = [];
-  are_plain = tt;
-  read = rw w.none refl;
-  written = sym (v.none start);
-  next = omega arith;
-  few = omega arith;
-}
+goes_first w v start bytes = search rules
 
 length-spelling : (m : MessageParts) → 8 ≤ length (spelling m)
 length-spelling m = omega arith
@@ -93,15 +72,4 @@ pub stops_here : {F : Type 0} {none fault : F} {from to : ℕ → List MessagePa
     → (fault ≡ none) ⊎ StopsBehind (from start) (λ at count. Why fault (start + count) at) bytes
 stops_here Why start due at bytes rest out g some place (inl is) = inl is
 stops_here Why start due at bytes [] out g some place (inr why) = absurd (cc some)
-stops_here {F} {none} {fault} {from} Why start due at bytes (next ∷ rest) out g some place (inr why) =
-    let here : at ≡ length (from start g.front) =
-    omega (arith, place, ap (λ l. length l) g.read, length-append (from start g.front) (next ∷ rest)) in
-    let due_here = subst (λ d. Why fault d at (next ∷ rest)) g.next why in
-    inr (record {
-      front = g.front;
-      are_plain = g.are_plain;
-      next = next;
-      rest = rest;
-      whole = g.read;
-      why = subst (λ a. Why fault (start + length g.front) a (next ∷ rest)) here due_here;
-    })
+stops_here {F} {none} {fault} {from} Why start due at bytes (next ∷ rest) out g some place (inr why) = grind (arith, common_steps)

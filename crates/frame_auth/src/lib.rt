@@ -1,6 +1,6 @@
 //! A counter and a tag in the signature part of messages: sealed, and checked and taken off again.
 //!
-//! Layer 11, beyond one manager. Stands on `ids_frame` and the kit's `sha2`; no other crate stands on it.
+//! Layer 9, traces and files. Stands on `ids_frame` and the kit's `sha2`; the commands `sign` and `verify` stand on it.
 //! A tag is HMAC with SHA-256, RFC 2104 (`specs/Tags.antt`); what it is put to here is this project's own.
 //! `seal` and `unseal` go over a file message by message. `specs/Sealing.antt` says what sealed messages are, and
 //! `specs/Faults.antt` where the two stop, by the same definitions. Contracts see a `Key` as its 64 bytes.

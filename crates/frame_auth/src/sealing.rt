@@ -34,6 +34,7 @@ pub fn seal(alloc: Global, key: &Key, start: u64, messages: &[u8]) -> Result<Vec
 }
 
 // Appends the first message, sealed, and answers the bytes behind it.
+#[tactic(auto, using(crate::proofs::LayoutLemmas::unsigned, crate::proofs::LayoutLemmas::sealed_layout))]
 fn seal_first<'a>(
     out: &mut Vec<u8>,
     key: &Key,

@@ -1,5 +1,5 @@
 -- The greedy cut is one, and has the fewest runs.
-use Rattle.ids_bundle.proofs.Names.{◌≡◌, ℕ, ◌+◌, ◌<◌, ◌≤◌, List, [], ◌∷◌, ◌++◌, length, refl, sym, ap, subst, ◌∙◌, append_assoc, arith, inl, inr, append-nil, length-append, flat_map_more, AllByRecursion, MessageParts, spelling, joined, IsRun, IsCutFor, IsFullBefore, AreFull, IsPacked, Run, load, all_of}
+use Rattle.ids_bundle.proofs.Names.{◌≡◌, ℕ, ◌+◌, ◌<◌, ◌≤◌, List, [], ◌∷◌, ◌++◌, length, refl, sym, ap, subst, ◌∙◌, append_assoc, arith, inl, inr, append-nil, length-append, AllByRecursion, MessageParts, spelling, IsRun, IsCutFor, IsFullBefore, AreFull, IsPacked, Run, load, all_of, rules, common_steps}
 use Rattle.std.proofs.lemmas.Bool.{cases_lt, le-ltb, lt-ltb}
 use Rattle.std.specs.Prelude.{nat_lt, if◌then◌else◌}
 use Rattle.ids_bundle.specs.Packing.{FitsIn}
@@ -9,17 +9,7 @@ use Rattle.ids_bundle.proofs.UnitLemmas.{load-append}
 -- a run that holds a full one and the message behind it is too long
 too_long : (size : ℕ) (front full : Run) (behind : List MessageParts) (next : MessageParts) (more rest : List MessageParts) (run : Run)
     → IsFullBefore size full behind → behind ≡ next ∷ rest → run ≡ (front ++ full) ++ next ∷ more → load run ≤ size → ⊥
-too_long size front full behind next more rest run is_full e whole few =
-    let heavy : size < load full + length (spelling next) = subst (IsFullBefore size full) e is_full in
-    omega (
-      arith,
-      heavy,
-      few,
-      ap load whole,
-      load-append (front ++ full) (next ∷ more),
-      load-append front full,
-      length-append (spelling next) (joined more),
-    )
+too_long size front full behind next more rest run is_full e whole few = grind (arith, common_steps, load-append)
 
 -- no cut has fewer runs, also where some messages stand before the greedy one's
 pub fewest : (size : ℕ) (packed runs : List Run) (front : Run) → AllByRecursion (IsRun size) packed → AreFull size packed
@@ -37,8 +27,7 @@ fewest size (p ∷ packed) (r ∷ runs) front each full each_run e =
 same_front : (size : ℕ) (run full more : Run) (rest behind : List MessageParts) → IsFullBefore size full behind → load run ≤ size
     → run ≡ full ++ more → more ++ rest ≡ behind → (run ≡ full) × (rest ≡ behind)
 same_front size run full [] rest behind is_full few same e = (same ∙ append-nil full, e)
-same_front size run full (next ∷ more) rest behind is_full few same e =
-    absurd (too_long size [] full behind next more (more ++ rest) run is_full (sym e) same few)
+same_front size run full (next ∷ more) rest behind is_full few same e = grind (arith, common_steps, too_long)
 
 -- two greedy cuts are one
 pub one_cut : (size : ℕ) (packed others : List Run) → AllByRecursion (IsRun size) packed → AreFull size packed
@@ -65,8 +54,7 @@ fewest_lem size messages packed runs p r =
 -- there is one greedy cut
 pub one_packing_lem : (size : ℕ) (messages : List MessageParts) (packed others : List Run) → IsPacked size messages packed
     → IsPacked size messages others → packed ≡ others
-one_packing_lem size messages packed others p o =
-    one_cut size packed others p.cut.each p.full o.cut.each o.full (p.cut.whole ∙ sym o.cut.whole)
+one_packing_lem size messages packed others p o = grind (arith, common_steps, one_cut)
 
 -- ---- the cut by steps
 
@@ -89,8 +77,7 @@ closes size run m left lt = rw (lt-ltb _ _ lt) refl
 -- these runs are the greedy cut
 pub greedy_packed : (size : ℕ) (run : Run) (left : List MessageParts) → 1 ≤ length run → load run ≤ size → AllByRecursion (FitsIn size) left
     → IsPacked size (run ++ left) (greedy size run left)
-greedy_packed size run [] some few fit =
-    record { cut = record { each = (record { some = some; few = few }, tt); whole = refl }; full = (tt, tt) }
+greedy_packed size run [] some few fit = search rules
 greedy_packed size run (m ∷ left) some few fit =
     elim (cases_lt size (load run + length (spelling m))) [
       | inl lt ↦

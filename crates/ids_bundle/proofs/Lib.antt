@@ -1,7 +1,8 @@
+mod CountLemmas
 mod CutLemmas
 mod ListLemmas
 mod Names
-mod PackLemmas
+pub mod PackLemmas
 mod StreamLemmas
 mod UnitLemmas
-mod UnpackLemmas
+pub mod UnpackLemmas

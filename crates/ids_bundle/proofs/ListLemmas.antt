@@ -1,5 +1,5 @@
 -- Lists of values whose texts stand one behind the other, and lists that are cut in two ways.
-use Rattle.ids_bundle.proofs.Names.{Err, subst, arith, append-nil, flat_map_more, length, Reads, ◌≡◌, ℕ, ◌⊎◌, List, [], ◌∷◌, ◌++◌, Ok, refl, sym, ap, ◌∙◌, append_assoc, inl, inr, flat_map, AllByRecursion, Result}
+use Rattle.ids_bundle.proofs.Names.{Err, arith, append-nil, flat_map_more, length, Reads, ◌≡◌, ℕ, ◌⊎◌, List, [], ◌∷◌, ◌++◌, Ok, refl, sym, ap, ◌∙◌, append_assoc, inl, inr, flat_map, AllByRecursion, Result, common_steps}
 
 -- the same list in two parts, twice: either the first front is the longer one or as long, or it is the shorter one
 pub split : {A : Type 0} (a b c d : List A) → a ++ b ≡ c ++ d
@@ -25,8 +25,7 @@ one_err e f = cc (e, f)
 
 -- what holds of each of two lists holds of each of both, joined
 pub all_append : {A : Type 0} (P : A → Type 0) (xs ys : List A) → AllByRecursion P xs → AllByRecursion P ys → AllByRecursion P (xs ++ ys)
-all_append P [] ys all others = others
-all_append P (x ∷ xs) ys all others = (all.0, all_append P xs ys all.1 others)
+all_append P xs ys all others = grind (arith, common_steps)
 
 -- one value more from the front of what is left
 pub one_more : {A : Type 0} (text : A → List ℕ) (xs : List A) (x : A) (rest : List ℕ)
@@ -54,10 +53,8 @@ pub one_way : {A : Type 0} (text : A → List ℕ) (Can : A → Type 0) → IsPr
     → AllByRecursion Can xs → AllByRecursion Can ys → IsStuck text Can a → IsStuck text Can b
     → flat_map text xs ++ a ≡ flat_map text ys ++ b → (xs ≡ ys) × (a ≡ b)
 one_way text Can free [] [] a b can_x can_y stuck_a stuck_b e = (refl, e)
-one_way text Can free [] (y ∷ ys) a b can_x can_y stuck_a stuck_b e =
-    absurd (stuck_a y (flat_map text ys ++ b) can_y.0 (e ∙ append_assoc (text y) (flat_map text ys) b))
-one_way text Can free (x ∷ xs) [] a b can_x can_y stuck_a stuck_b e =
-    absurd (stuck_b x (flat_map text xs ++ a) can_x.0 (sym e ∙ append_assoc (text x) (flat_map text xs) a))
+one_way text Can free [] (y ∷ ys) a b can_x can_y stuck_a stuck_b e = grind (arith, common_steps)
+one_way text Can free (x ∷ xs) [] a b can_x can_y stuck_a stuck_b e = grind (arith, common_steps)
 one_way text Can free (x ∷ xs) (y ∷ ys) a b can_x can_y stuck_a stuck_b e =
     let grouped = sym (append_assoc (text x) (flat_map text xs) a) ∙ e ∙ append_assoc (text y) (flat_map text ys) b in
     let first = free x y (flat_map text xs ++ a) (flat_map text ys ++ b) can_x.0 can_y.0 grouped in
@@ -85,8 +82,4 @@ one_answer text Can StopsAt bytes s (Err f) (Ok ys) a b =
     let same = one_way text Can s.free a.front ys a.rest [] a.fit b.fit (s.stuck f _ _ a.rest a.whole a.cause) s.none
     (sym a.whole ∙ b.whole ∙ sym (append-nil _)) in
     absurd (omega (arith, a.some, ap (λ l. length l) same.1))
-one_answer text Can StopsAt bytes s (Err f) (Err g) a b =
-    let same = one_way text Can s.free a.front b.front a.rest b.rest a.fit b.fit (s.stuck f _ _ a.rest a.whole a.cause)
-    (s.stuck g _ _ b.rest b.whole b.cause) (sym a.whole ∙ b.whole) in
-    let place = ap (λ xs. length (flat_map text xs)) same.0 in
-    ap Err (s.one f g _ _ a.rest a.whole a.cause (subst (λ r. StopsAt g _ r) (sym same.1) (subst (λ p. StopsAt g p b.rest) (sym place) b.cause)))
+one_answer text Can StopsAt bytes s (Err f) (Err g) a b = grind (arith, common_steps, one_way)

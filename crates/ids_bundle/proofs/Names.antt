@@ -1,7 +1,7 @@
 -- The names of other crates and of this crate's specs that more than one of its proofs stands on.
-pub use Rattle.std.proofs.Common.{◌≡◌, ℕ, ◌+◌, ◌*◌, ◌-◌, ◌/◌, ◌%◌, ◌^◌, ◌<◌, ◌≤◌, ◌⊎◌, Bool, false, List, [], ◌∷◌, ◌++◌, length, get_or, take, drop, Ok, Err, refl, sym, ap, subst, ◌∙◌, append_assoc, arith, inl, inr}
+pub use Rattle.std.proofs.Common.{◌≡◌, ℕ, ◌+◌, ◌*◌, ◌-◌, ◌/◌, ◌%◌, ◌^◌, ◌<◌, ◌≤◌, ◌⊎◌, Bool, false, List, [], ◌∷◌, ◌++◌, length, get_or, take, drop, Ok, Err, refl, sym, ap, subst, ◌∙◌, append_assoc, arith, rules, inl, inr}
 pub use Rattle.std.proofs.lemmas.List.{append-nil, length-append, take_at, drop_at, take_all, take_rest, take-append-drop, flat_map_more}
-pub use Rattle.std.proofs.lemmas.Grind.{flat_map-append}
+pub use Rattle.std.proofs.lemmas.Grind.{flat_map-append, common_steps}
 pub use Rattle.std.specs.Int.{w16, to_be_bytes, from_be_bytes}
 pub use Rattle.std.specs.List.{flat_map, AllByRecursion}
 pub use Rattle.std.specs.Prelude.{Result, IsTrue, ◌↔◌}

@@ -1,5 +1,5 @@
 -- Packing: messages are judged, cut and written, one at a time.
-use Rattle.ids_bundle.proofs.Names.{◌≡◌, ℕ, ◌+◌, ◌-◌, ◌<◌, ◌≤◌, List, [], ◌∷◌, ◌++◌, length, take, drop, Ok, Err, refl, sym, ap, subst, ◌∙◌, append_assoc, arith, append-nil, length-append, take_at, drop_at, AllByRecursion, Result, w16, to_be_bytes, AreBytes, Begins, CauseOf, MessageParts, joined, spelling, AreTexts, IsPacked, Run, load, unit, units}
+use Rattle.ids_bundle.proofs.Names.{◌≡◌, ℕ, ◌+◌, ◌-◌, ◌<◌, ◌≤◌, List, [], ◌∷◌, ◌++◌, length, take, drop, Ok, Err, refl, sym, ap, subst, ◌∙◌, append_assoc, arith, append-nil, length-append, AllByRecursion, Result, w16, to_be_bytes, AreBytes, Begins, CauseOf, MessageParts, joined, spelling, IsPacked, Run, load, unit, units, rules, common_steps}
 use Rattle.ids_frame.specs.declared.fault.FrameFault.{FrameFault}
 use Rattle.ids_frame.specs.Reading.{Begun, message_at}
 use Rattle.ids_frame.specs.Decoding.{decoded}
@@ -22,9 +22,7 @@ Tells bytes (Err fault) = CauseOf fault bytes
 
 tells_by : (bytes : List ℕ) (read : Begun) (answer : Result (MessageParts × ℕ) FrameFault) → Begins bytes read
     → answer ≡ result_map_both {U = MessageParts × ℕ} (λ x. (x.0, length (spelling x.0))) (λ fault. fault) read → Tells bytes answer
-tells_by bytes (Ok x) answer begins e =
-    subst (Tells bytes) (sym e) (record { message = x.0; rest = x.1; begins = begins; long = refl })
-tells_by bytes (Err fault) answer begins e = subst (Tells bytes) (sym e) begins
+tells_by bytes read answer begins e = search rules
 
 pub tells : (bytes : List ℕ) (answer : Result (MessageParts × ℕ) FrameFault) → AreBytes bytes → answer ≡ decoded bytes → Tells bytes answer
 tells bytes answer fits e = tells_by bytes (message_at bytes) answer (told bytes fits) e
@@ -62,10 +60,7 @@ packing_first size bytes out none = record {
 -- the open run is that many bytes, and then others
 pub packing_parts : {size : ℕ} {bytes out tail : List ℕ} {number total : ℕ} (p : IsPacking size bytes out tail number total)
     → (take total tail ≡ joined p.run) × (drop total tail ≡ p.rest)
-packing_parts {size} {bytes} {out} {tail} {number} {total} p = (
-  ap (take total) p.left ∙ take_at (joined p.run) p.rest total (sym p.weight),
-  ap (drop total) p.left ∙ drop_at (joined p.run) p.rest total (sym p.weight),
-)
+packing_parts {size} {bytes} {out} {tail} {number} {total} p = grind (arith, common_steps)
 
 -- the next message fits into the open run
 pub packing_keeps : (size : ℕ) (bytes out tail out_now tail_now : List ℕ) (number total len number_now total_now : ℕ)
@@ -124,33 +119,18 @@ packing_closes size bytes out tail out_now tail_now text number total len number
 
 -- a fault that is due may be answered
 may_stop : (size : ℕ) (bytes : List ℕ) (fault : PackFault) → Packs size bytes (Err fault) → MayStop size bytes fault
-may_stop size bytes (Bad bad) stops = stops
-may_stop size bytes (TooLarge at) stops = stops
-may_stop size bytes NoMemory stops = tt
+may_stop size bytes fault stops = search rules
 
 -- packing stops before a message
 pub packing_stops : (size : ℕ) (bytes out tail rest : List ℕ) (number total : ℕ) (fault : PackFault) → IsPacking size bytes out tail number total
     → total < length tail → rest ≡ drop total tail → StopsAt size fault (length bytes - length rest) rest → MayStop size bytes fault
-packing_stops size bytes out tail rest number total fault p some is stops =
-    let same : rest ≡ p.rest = is ∙ (packing_parts p).1 in
-    let place : length bytes - length rest ≡ length (joined p.front) =
-    omega (arith, ap (λ l. length l) same, ap (λ l. length l) p.whole, length-append (joined p.front) p.rest) in
-    may_stop size bytes fault (record {
-      front = p.front;
-      fit = p.fit;
-      rest = p.rest;
-      some = omega (arith, some, p.weight, ap (λ l. length l) p.left, length-append (joined p.run) p.rest);
-      whole = p.whole;
-      cause = subst (λ at. StopsAt size fault at p.rest) place (subst (λ r. StopsAt size fault (length bytes - length rest) r) same stops);
-    })
+packing_stops size bytes out tail rest number total fault p some is stops = grind (arith, common_steps, may_stop, packing_parts)
 
 -- messages that fit are packed from no open run
 packed_from_none : (size : ℕ) (messages : List MessageParts) → 1 ≤ length messages → AllByRecursion (FitsIn size) messages
     → IsPacked size messages (greedy size [] messages)
 packed_from_none size [] some fit = absurd (omega arith)
-packed_from_none size (m ∷ messages) some fit =
-    subst (IsPacked size (m ∷ messages)) (sym (keeps size [] m messages (omega (arith, fit.0.few))))
-    (greedy_packed size (m ∷ []) messages (omega arith) (omega (arith, fit.0.few, length-append (spelling m) [])) fit.1)
+packed_from_none size (m ∷ messages) some fit = grind (arith, common_steps, greedy_packed)
 
 -- at the end the open run is written
 pub packing_ends : (size : ℕ) (bytes out tail out_now : List ℕ) (number total : ℕ) → IsPacking size bytes out tail number total
@@ -199,10 +179,7 @@ stop_is_stuck : (size : ℕ) (fault : PackFault) (place : ℕ) (rest : List ℕ)
     → (m : MessageParts) (more : List ℕ) → FitsIn size m → rest ≡ spelling m ++ more → ⊥
 stop_is_stuck size (Bad bad) place rest bytes stops m more fits e =
     absurd (cc (read_of rest (Err bad.fault) bytes stops.1, ap message_at e, again m more fits.fits))
-stop_is_stuck size (TooLarge at) place rest bytes stops m more fits e =
-    let b = stops.1.1 in
-    let same = (one_message_lem m b.message more b.rest fits.fits b.begins.fits (sym e ∙ b.begins.whole)).0 in
-    omega (arith, fits.few, b.long, stops.1.2, ap (λ n. length (spelling n)) same)
+stop_is_stuck size (TooLarge at) place rest bytes stops m more fits e = grind (arith, common_steps, one_message_lem)
 stop_is_stuck size NoMemory place rest bytes stops m more fits e = stops
 
 -- there is one answer

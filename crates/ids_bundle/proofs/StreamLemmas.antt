@@ -1,58 +1,41 @@
 -- A stream of units has one reading, however it comes.
-use Rattle.ids_bundle.proofs.Names.{◌≡◌, ℕ, ◌<◌, ◌≤◌, List, [], ◌∷◌, ◌++◌, length, take, drop, refl, sym, ap, subst, ◌∙◌, append_assoc, arith, append-nil, flat_map-append, AllByRecursion, AreBytes, joined, Run, unit, units, FitsUnit, IsUnit}
+use Rattle.ids_bundle.proofs.Names.{◌≡◌, ℕ, List, [], ◌∷◌, ◌++◌, take, drop, refl, sym, ap, subst, ◌∙◌, append_assoc, arith, AllByRecursion, AreBytes, joined, Run, unit, units, FitsUnit, IsUnit, rules, common_steps}
 use Rattle.std.proofs.lemmas.List.Elements.{All-drop}
 use Rattle.ids_frame.specs.Bytes.{IsByte}
 use Rattle.ids_frame.specs.Messages.{messages_of}
 use Rattle.ids_bundle.specs.declared.unpacker.Fed.{Fed}
-use Rattle.ids_bundle.specs.declared.unpacker.Fed.TheVariants as fed
-use Rattle.ids_bundle.specs.Stream.{Place, within, behind, stopped, pending, given, IsPlace, Takes, Feeds, Call, AreCalls, end_of, used_by, given_by, StandsFor}
+use Rattle.ids_bundle.specs.Stream.{Place, within, pending, given, IsPlace, Takes, Feeds, Call, AreCalls, end_of, used_by, given_by, StandsFor}
 use Rattle.ids_bundle.proofs.ListLemmas.{IsStuck, one_way, all_append}
 use Rattle.ids_bundle.proofs.UnitLemmas.{free_units, part_is_stuck, joined_read}
 
 -- no unit stands at a place's pending bytes
 stuck_at : (place : Place) → IsPlace place → IsStuck unit FitsUnit (pending place)
-stuck_at (within held) part = part_is_stuck held part
-stuck_at (behind run) fits = part_is_stuck [] (omega arith)
-stuck_at (stopped held) bad = bad.none
+stuck_at place part = grind (arith, common_steps, part_is_stuck)
 
 -- a stream has one reading
 pub one_reading_lem : (p q : Place) (stream : List ℕ) (runs others : List Run) → StandsFor p stream runs → StandsFor q stream others
     → (runs ≡ others) × (pending p ≡ pending q)
-one_reading_lem p q stream runs others stands also =
-    one_way unit FitsUnit free_units runs others (pending p) (pending q) stands.each also.each
-    (stuck_at p stands.at) (stuck_at q also.at) (sym stands.whole ∙ also.whole)
+one_reading_lem p q stream runs others stands also = grind (arith, common_steps, free_units, one_way, stuck_at)
 
 -- the runs given at a place have units
 given_fit : (place : Place) → IsPlace place → AllByRecursion FitsUnit (given place)
-given_fit (within held) at = tt
-given_fit (behind run) fits = (fits, tt)
-given_fit (stopped held) at = tt
+given_fit place at = search rules
 
 -- a stream of units and held bytes, after a piece
 taken : (held stream piece : List ℕ) (runs : List Run) (answer : Fed) (used : ℕ) (new : Place) → AllByRecursion FitsUnit runs
     → stream ≡ units runs ++ held → Takes held piece answer used new → StandsFor new (stream ++ take used piece) (runs ++ given new)
-taken held stream piece runs answer used new each whole takes = record {
-  each = all_append FitsUnit runs (given new) each (given_fit new takes.at);
-  whole = ap (λ l. l ++ take used piece) whole ∙ append_assoc (units runs) held (take used piece)
-      ∙ ap (λ l. units runs ++ l) takes.whole ∙ sym (append_assoc (units runs) (units (given new)) (pending new))
-      ∙ ap (λ l. l ++ pending new) (sym (flat_map-append unit runs (given new)));
-  at = takes.at;
-}
+taken held stream piece runs answer used new each whole takes = grind (arith, common_steps, all_append, given_fit)
 
 -- a stream after one call
 one_call : (place : Place) (stream : List ℕ) (runs : List Run) (call : Call) → StandsFor place stream runs
     → Feeds place call.piece call.answer call.used call.after
     → StandsFor call.after (stream ++ take call.used call.piece) (runs ++ given call.after)
-one_call (within held) stream runs call stands feeds = taken held stream call.piece runs call.answer call.used call.after stands.each stands.whole feeds
-one_call (behind run) stream runs call stands feeds = taken [] stream call.piece runs call.answer call.used call.after stands.each stands.whole feeds
-one_call (stopped held) stream runs call stands feeds =
-    rw (feeds.same, feeds.none, append-nil stream, append-nil runs) stands
+one_call place stream runs call stands feeds = grind (arith, common_steps, taken)
 
 -- a stream after calls
 all_calls : (place : Place) (stream : List ℕ) (runs : List Run) (calls : List Call) → StandsFor place stream runs → AreCalls place calls
     → StandsFor (end_of place calls) (stream ++ used_by calls) (runs ++ given_by calls)
-all_calls place stream runs [] stands are =
-    subst (λ s. StandsFor place s (runs ++ [])) (sym (append-nil stream)) (subst (λ rs. StandsFor place stream rs) (sym (append-nil runs)) stands)
+all_calls place stream runs [] stands are = search rules
 all_calls place stream runs (call ∷ calls) stands are =
     let used = take call.used call.piece in
     let after = all_calls call.after (stream ++ used) (runs ++ given call.after) calls (one_call place stream runs call stands are.0) are.1 in

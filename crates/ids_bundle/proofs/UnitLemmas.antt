@@ -1,5 +1,5 @@
 -- Runs, their units, and how these are known again.
-use Rattle.ids_bundle.proofs.Names.{◌≡◌, ℕ, ◌+◌, ◌*◌, ◌/◌, ◌%◌, ◌^◌, ◌<◌, ◌≤◌, ◌↔◌, Bool, false, IsTrue, List, [], ◌∷◌, ◌++◌, length, get_or, take, drop, Ok, Err, refl, sym, ap, subst, ◌∙◌, arith, length-append, take_at, drop_at, append-nil, flat_map-append, w16, to_be_bytes, AreBytes, MessageParts, FitsMessage, joined, AreMessages, IsJoined, messages_read, spelling, Run, load, unit, FitsUnit, IsUnit, AreSoMany, IsBody, unit_size, IsPart, IsBad}
+use Rattle.ids_bundle.proofs.Names.{◌≡◌, ℕ, ◌+◌, ◌*◌, ◌/◌, ◌%◌, ◌<◌, ◌≤◌, ◌↔◌, Bool, false, IsTrue, List, [], ◌∷◌, ◌++◌, length, get_or, take, drop, Ok, Err, refl, sym, ap, subst, ◌∙◌, arith, length-append, take_at, drop_at, append-nil, flat_map-append, w16, to_be_bytes, AreBytes, MessageParts, FitsMessage, joined, AreMessages, IsJoined, messages_read, spelling, Run, load, unit, FitsUnit, IsUnit, AreSoMany, IsBody, unit_size, IsPart, IsBad, common_steps}
 use Rattle.std.proofs.Common.{Fits, w8, rules}
 use Rattle.std.proofs.lemmas.List.{get_or_default}
 use Rattle.std.proofs.lemmas.Nat.{from_be_bytes-to_be_bytes_2}
@@ -50,8 +50,7 @@ free_units x y a b fits_x fits_y e =
 
 -- too few bytes begin with no unit
 pub part_is_stuck : (bytes : List ℕ) → IsPart bytes → IsStuck unit FitsUnit bytes
-part_is_stuck bytes part run more fits e =
-    omega (arith, part, ap unit_size e, unit_size-unit run more fits, ap (λ l. length l) e, length-append (unit run) more)
+part_is_stuck bytes part run more fits e = grind (arith, common_steps, unit_size-unit)
 
 -- enough bytes for a unit whose first ones are none are bad
 pub bad_unless_unit : (bytes : List ℕ) (size : ℕ) → size ≡ unit_size bytes → size ≤ length bytes → (IsUnit (take size bytes) → ⊥) → IsBad bytes
@@ -108,19 +107,19 @@ is_unit_if a b c d body fits is =
         let low : n % 256 ≡ y = omega arith in
         rw (high, low) refl
 
--- a unit has such a head
+-- a unit that stands at the front has such a head
+pub head_says : (bytes more : List ℕ) (run : Run) → FitsUnit run → bytes ≡ unit run ++ more
+    → (get_or bytes 0 0 * 256 + get_or bytes 1 0 ≡ length run) × (get_or bytes 2 0 * 256 + get_or bytes 3 0 ≡ load run)
+    × (drop 4 bytes ≡ joined run ++ more)
+head_says bytes more run fits e = search (rules, few_messages)
+
+-- so its bytes have one
 is_body_if : (a b c d : ℕ) (body : List ℕ) → IsUnit (a ∷ b ∷ c ∷ d ∷ body) → IsBody (a * 256 + b) (c * 256 + d) body
 is_body_if a b c d body is =
     let run = is.0 in
-    let fits = is.1 in
-    let joins : body ≡ joined run = ap (λ l. drop 4 l) is.2 in
-    let few : length run < 2 ^ 16 = omega (arith, few_messages run, fits.few) in
-    let number : a * 256 + b ≡ length run = omega (arith, two (length run) few, ap (λ l. get_or l 0 0) is.2, ap (λ l. get_or l 1 0) is.2) in
-    let size : c * 256 + d ≡ load run = omega (arith, two (load run) fits.few, ap (λ l. get_or l 2 0) is.2, ap (λ l. get_or l 3 0) is.2) in
-    (omega (arith, number, fits.some), size ∙ ap (λ l. length l) (sym joins), (run, record { fit = fits.fit; whole = joins }, sym number))
-  where
-    two : (n : ℕ) → n < 2 ^ 16 → n / 256 % 256 * 256 + n % 256 ≡ n
-    two n lt = omega arith
+    let says = head_says (a ∷ b ∷ c ∷ d ∷ body) [] run is.1 (is.2 ∙ sym (append-nil (unit run))) in
+    let joins : body ≡ joined run = says.2 ∙ append-nil (joined run) in
+    (omega (arith, says.0, is.1.some), says.1 ∙ ap (λ l. length l) (sym joins), (run, record { fit = is.1.fit; whole = joins }, sym says.0))
 
 -- so the test of a head and of what stands behind it is that of a unit
 pub unit_known : (bytes body : List ℕ) (number size : ℕ) (answer : Bool) → AreBytes bytes → 4 ≤ length bytes

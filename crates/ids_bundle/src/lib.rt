@@ -1,6 +1,6 @@
 //! Messages packed whole into units, for a bus whose frames have one size, and taken out again.
 //!
-//! Layer 11, beyond one manager. Over `ids_types` and `ids_frame`. `pack` makes the units of a file of messages,
+//! Layer 9, traces and files. Over `ids_types` and `ids_frame`. `pack` makes the units of a file of messages,
 //! `unpack` takes the messages out of a file of units, and an `Unpacker` takes them out of a stream that comes in
 //! any pieces. The layout of a unit is this project's own (`specs/Units.antt`).
 //! Contracts speak of runs of messages: the cut that `pack` makes has the fewest runs (`specs/Cuts.antt`), each call
@@ -10,13 +10,16 @@
 //! `feed` takes no memory.
 #![tactic(auto)]
 
+mod counting;
 mod fault;
 mod packing;
 mod unit;
 mod unpacker;
 mod unpacking;
 
+pub use counting::count;
 pub use fault::{PackFault, UnpackFault};
 pub use packing::{fewest_runs, one_pack_answer, one_packing, pack};
+pub use unit::Count;
 pub use unpacker::{Fed, Unpacker, any_pieces, one_reading};
 pub use unpacking::{one_unpack_answer, unpack, unpacks_again};

@@ -11,6 +11,13 @@ use std::alloc::AllocError;
 /// How many bytes of a unit stand before its messages.
 pub(crate) const HEAD: usize = 4;
 
+/// How many units there are, and how many messages they have.
+#[derive(Clone, Copy, Debug, PartialEq, Eq)]
+pub struct Count {
+    pub units: u64,
+    pub messages: u64,
+}
+
 /// Writes a unit: so many messages, which have these bytes.
 pub(crate) fn push_unit(out: &mut Vec<u8>, number: u16, body: &[u8]) -> Result<(), AllocError>
     requires { length body.now < 2 ^ 16 }

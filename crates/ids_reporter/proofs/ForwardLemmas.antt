@@ -1,14 +1,12 @@
 -- What the taken pairs name is all sources merged.
-use Rattle.ids_reporter.proofs.Names.{◌≡◌, ℕ, zero, suc, ◌+◌, ◌<◌, ◌≤◌, inl, inr, List, [], ◌∷◌, ◌++◌, length, Option, Some, None, refl, sym, ap, subst, ◌∙◌, arith, cases_lt, eqb_tells, indexes, upto, AreInOrder, Taken, Bool, true, false, ◌==◌, get_or, eq-eqb, flat_map-append, get_or_past, filter_map-append, none-some, slice_get_past, AllByRecursion, cons_option, filter_map, range_with_len, All, OnOk, Result, Ok, Err, filter, if◌then◌else◌, is_ok, slice_get, MessageParts, joined, spelling, Drain, Feeder, One, AreMerged, named, named_by, AreAllTaken, back_of, feeders_of, number_of, puts_of, taken_of, IsBack, AreApart, Sources, count_at, instance_of, source_at}
+use Rattle.ids_reporter.proofs.Names.{◌≡◌, ℕ, zero, suc, ◌+◌, ◌<◌, ◌≤◌, inl, inr, List, [], ◌∷◌, ◌++◌, length, Option, Some, None, refl, sym, ap, subst, ◌∙◌, arith, cases_lt, eqb_tells, indexes, upto, AreInOrder, Taken, Bool, true, false, ◌==◌, get_or, eq-eqb, flat_map-append, get_or_past, filter_map-append, none-some, slice_get_past, AllByRecursion, cons_option, filter_map, range_with_len, All, OnOk, Result, filter, if◌then◌else◌, is_ok, slice_get, MessageParts, joined, Drain, Feeder, One, AreMerged, named, named_by, AreAllTaken, back_of, feeders_of, number_of, puts_of, taken_of, IsBack, AreApart, Sources, count_at, instance_of, source_at, rules, common_steps}
 use Rattle.ids_reporter.proofs.SourceLemmas.{instance_at}
 
 -- ---- what a pair names
 
 pub named_more : (sources : Sources) (pairs : List Taken) (pair : Taken)
     → joined (named sources (pairs ++ pair ∷ [])) ≡ joined (named sources pairs) ++ joined (named sources (pair ∷ []))
-named_more sources pairs pair =
-    ap joined (filter_map-append (named_by sources) pairs (pair ∷ []))
-    ∙ flat_map-append spelling (named sources pairs) (named sources (pair ∷ []))
+named_more sources pairs pair = grind (arith, common_steps, filter_map-append, flat_map-append)
 
 -- past the last source there is no message
 no_source : (sources : Sources) (s : ℕ) → length sources ≤ s → count_at sources s ≡ 0
@@ -18,13 +16,11 @@ no_source sources s le = ap (λ l. length l) (get_or_past sources s [] le)
 
 kept : (test : MessageParts → Bool) (o : Option MessageParts) (messages : List MessageParts)
     → ((m : MessageParts) → o ≡ Some m → test m ≡ true) → filter test (cons_option o messages) ≡ cons_option o (filter test messages)
-kept test None messages all = refl
-kept test (Some m) messages all = rw (all m refl) refl
+kept test o messages all = search rules
 
 dropped : (test : MessageParts → Bool) (o : Option MessageParts) (messages : List MessageParts)
     → ((m : MessageParts) → o ≡ Some m → test m ≡ false) → filter test (cons_option o messages) ≡ filter test messages
-dropped test None messages all = refl
-dropped test (Some m) messages all = rw (all m refl) refl
+dropped test o messages all = search rules
 
 -- those of its instance are those that its pairs name
 of_source : (sources : Sources) (s i : ℕ) → AreApart sources → instance_of (source_at sources s) ≡ One i → (pairs : List Taken)
@@ -69,8 +65,7 @@ all_named (x ∷ xs) = ap (λ l. x ∷ l) (shift x xs 0 (length xs) ∙ all_name
 
 all_cons : {P : MessageParts → Type 0} (o : Option MessageParts) (messages : List MessageParts) → ((m : MessageParts) → o ≡ Some m → P m)
     → AllByRecursion P messages → AllByRecursion P (cons_option o messages)
-all_cons None messages here others = others
-all_cons (Some m) messages here others = (here m refl, others)
+all_cons o messages here others = search rules
 
 -- each message is of some source's instance
 of_some : (sources : Sources) → AreApart sources → (pairs : List Taken)
@@ -90,11 +85,7 @@ of_some sources apart (pair ∷ pairs) = all_cons (named_by sources pair) (named
 
 pub merged : (sources : Sources) (pairs : List Taken) → AreApart sources → ((s : ℕ) → indexes s pairs ≡ upto (count_at sources s))
     → AreMerged sources (named sources pairs)
-merged sources pairs apart all = record {
-  each = λ s i one. of_source sources s i apart one pairs ∙ ap (filter_map (slice_get (source_at sources s))) (all s)
-      ∙ all_named (source_at sources s);
-  no_other = of_some sources apart pairs;
-}
+merged sources pairs apart all = grind (arith, common_steps, all_named, of_some, of_source)
 
 -- some item of a list that has one
 some_of : {A : Type 0} (xs : List A) (i : ℕ) → i < length xs → A
@@ -123,8 +114,4 @@ all_indexes sources feeders drain at count made back in_order all s =
 pub written_more : {A B C E F G : Type 0} (before : Result A E) (extended : Result B F) (after : Result C G) (out message now bytes : List ℕ)
     → is_ok before ≡ true → OnOk before (out ≡ bytes) → now ≡ (if is_ok extended then out ++ message else out) → is_ok after ≡ is_ok extended
     → OnOk after (now ≡ bytes ++ message)
-written_more (Err e) extended after out message now bytes ok was more same = absurd (cc ok)
-written_more (Ok a) (Err f) (Ok c) out message now bytes ok was more same = absurd (cc same)
-written_more (Ok a) (Err f) (Err g) out message now bytes ok was more same = tt
-written_more (Ok a) (Ok b) (Err g) out message now bytes ok was more same = tt
-written_more (Ok a) (Ok b) (Ok c) out message now bytes ok was more same = more ∙ ap (λ l. l ++ message) was
+written_more before extended after out message now bytes ok was more same = search rules

@@ -10,7 +10,7 @@ pub use Rattle.ids_reporter.specs.Forwarding.{AreMerged, named, named_by, IsWork
 pub use Rattle.ids_reporter.specs.Pairs.{indexes, upto, AreInOrder}
 pub use Rattle.ids_reporter.specs.Relays.{AreAllTaken, back_of, feeders_of, number_of, puts_of, taken_of, IsAt, AreAt, IsDrainOf, known, IsBackIn}
 pub use Rattle.ids_reporter.specs.Rule.{AddsUp, AreWithin, Fits, HasEnded, HasPut, HasTaken, IsBack, IsDraining, IsRelayed, new_feeder, with_back, with_feeder, with_taken, taken_in, made_in, back_in}
-pub use Rattle.ids_reporter.specs.Sources.{IsIndexOf, IsIndexed, end_of, instance_of, spelling_at, AreApart, Sources, count_at, source_at}
+pub use Rattle.ids_reporter.specs.Sources.{IsIndexOf, IsIndexed, end_of, instance_of, spelling_at, AreApart, AreSmall, Sources, count_at, source_at}
 pub use Rattle.ids_reporter.specs.declared.drain.Drain.{Drain}
 pub use Rattle.ids_reporter.specs.declared.feeder.Feeder.{Feeder}
 pub use Rattle.ids_reporter.specs.declared.index.Index.{Index}
@@ -18,12 +18,12 @@ pub use Rattle.ids_reporter.specs.declared.index.Instance.TheVariants.{One, Mixe
 pub use Rattle.ids_reporter.specs.declared.rule.Known.{Known}
 pub use Rattle.ids_reporter.specs.declared.rule.Known.TheVariants.{Nothing, Feeds, Drains}
 pub use Rattle.ids_reporter.specs.declared.rule.Taken.{Taken}
-pub use Rattle.std.proofs.Common.{◌≡◌, ◌≢◌, ℕ, zero, suc, ◌+◌, ◌<◌, ◌≤◌, ◌⊎◌, inl, inr, List, [], ◌∷◌, ◌++◌, length, take, Some, None, refl, sym, ap, subst, ◌∙◌, append_assoc, arith, ◌==◌, if◌then◌else◌, ◌-◌, Err, Ok, Bool, true, false, drop, get_or, map, vec_capacity, vec_len}
+pub use Rattle.std.proofs.Common.{◌≡◌, ◌≢◌, ℕ, zero, suc, ◌+◌, ◌^◌, ◌<◌, ◌≤◌, ◌⊎◌, inl, inr, List, [], ◌∷◌, ◌++◌, length, take, Some, None, refl, sym, ap, subst, ◌∙◌, append_assoc, arith, rules, ◌==◌, if◌then◌else◌, ◌-◌, Err, Ok, Bool, true, false, drop, get_or, map, vec_capacity, vec_len}
 pub use Rattle.std.proofs.Math.ListN.{set, get_or-append}
 pub use Rattle.std.proofs.Math.Seq.{get_or-append_seam}
 pub use Rattle.std.proofs.lemmas.Bool.{cases_lt, and_parts, eqb-true, eq-eqb}
 pub use Rattle.std.proofs.lemmas.Bool.Decides.{eqb_tells}
-pub use Rattle.std.proofs.lemmas.Grind.{flat_map-append, get_or_default_zero}
+pub use Rattle.std.proofs.lemmas.Grind.{common_steps, flat_map-append, get_or_default_zero}
 pub use Rattle.std.proofs.lemmas.List.{append-nil, length-append, drop_at, take-append-drop, take-append-le, take_all, take_at, get_or_past, map-append}
 pub use Rattle.std.proofs.lemmas.List.Elements.{filter_map-append, filter-append}
 pub use Rattle.std.proofs.lemmas.List.FromFn.{length-range_with_len}

@@ -1,10 +1,8 @@
 -- Pairs, feeder by feeder.
-use Rattle.ids_reporter.proofs.Names.{◌≡◌, ◌≢◌, ℕ, ◌+◌, inl, inr, List, [], ◌∷◌, ◌++◌, length, refl, sym, ap, ◌∙◌, arith, eqb_tells, append-nil, length-append, indexes, upto, Taken, map-append, filter-append, range_with_len, map, ◌==◌, zero, suc}
+use Rattle.ids_reporter.proofs.Names.{◌≡◌, ◌≢◌, ℕ, ◌+◌, inl, inr, List, [], ◌∷◌, ◌++◌, length, refl, ap, ◌∙◌, arith, eqb_tells, indexes, upto, Taken, range_with_len, zero, suc, common_steps}
 
 pub indexes-append : (s : ℕ) (xs ys : List Taken) → indexes s (xs ++ ys) ≡ indexes s xs ++ indexes s ys
-indexes-append s xs ys =
-    ap (λ l. map (λ (pair : Taken). pair.index) l) (filter-append (λ (pair : Taken). pair.source == s) xs ys)
-    ∙ map-append (λ (pair : Taken). pair.index) _ _
+indexes-append s xs ys = grind (arith, common_steps)
 
 -- a feeder's own pair
 pub here : (s : ℕ) (pair : Taken) → pair.source ≡ s → indexes s (pair ∷ []) ≡ pair.index ∷ []
@@ -37,18 +35,13 @@ upto_more n = let more : n + 1 ≡ suc n = omega arith in ap upto more ∙ last_
 -- where a feeder put its next pair, it is its last
 pub one_here : (s k : ℕ) (pairs : List Taken) (pair : Taken) → pair.source ≡ s → pair.index ≡ k → indexes s pairs ≡ upto k
     → indexes s (pairs ++ pair ∷ []) ≡ upto (k + 1)
-one_here s k pairs pair source index e =
-    indexes-append s pairs (pair ∷ []) ∙ ap (λ l. l ++ indexes s (pair ∷ [])) e
-    ∙ ap (λ l. upto k ++ l) (here s pair source ∙ ap (λ i. i ∷ []) index) ∙ sym (upto_more k)
+one_here s k pairs pair source index e = grind (arith, common_steps, here, indexes-append, upto_more)
 
 -- and where another did, nothing changes
 pub none_here : (s : ℕ) (pairs : List Taken) (pair : Taken) → pair.source ≢ s → indexes s (pairs ++ pair ∷ []) ≡ indexes s pairs
-none_here s pairs pair ne =
-    indexes-append s pairs (pair ∷ []) ∙ ap (λ l. indexes s pairs ++ l) (elsewhere s pair ne) ∙ append-nil (indexes s pairs)
+none_here s pairs pair ne = grind (arith, common_steps)
 
 -- a feeder has one index more
 pub one_more : (s : ℕ) (pairs : List Taken) (pair : Taken) → pair.source ≡ s
     → length (indexes s (pairs ++ pair ∷ [])) ≡ length (indexes s pairs) + 1
-one_more s pairs pair e =
-    ap (λ l. length l) (indexes-append s pairs (pair ∷ [])) ∙ length-append (indexes s pairs) (indexes s (pair ∷ []))
-    ∙ ap (λ l. length (indexes s pairs) + length l) (here s pair e)
+one_more s pairs pair e = grind (arith, common_steps)

@@ -1,5 +1,5 @@
 -- What the ends of a relay show.
-use Rattle.ids_reporter.proofs.Names.{◌≡◌, ℕ, [], ◌∷◌, ◌++◌, List, length, take, Option, Some, None, refl, sym, ap, subst, ◌∙◌, append_assoc, arith, length-append, indexes, Taken, drop, get_or, get_or-append_seam, take-append-drop, take_at, MatchOption, OnErr, ok_or, AddsUp, AreWithin, HasEnded, taken_in, Known}
+use Rattle.ids_reporter.proofs.Names.{◌≡◌, ℕ, [], ◌∷◌, ◌++◌, List, length, take, Option, Some, None, refl, sym, ap, subst, ◌∙◌, append_assoc, arith, length-append, indexes, Taken, drop, get_or, get_or-append_seam, take-append-drop, take_at, MatchOption, OnErr, ok_or, AddsUp, AreWithin, HasEnded, taken_in, Known, common_steps}
 use Rattle.crossbeam_queue.specs.Fifo.{Held}
 use Rattle.ids_reporter.proofs.PairLemmas.{indexes-append}
 
@@ -14,8 +14,7 @@ adds_within v items up = λ s n ended.
     )
 
 none_in : (s : ℕ) (items : List Taken) → length items ≡ 0 → indexes s items ≡ []
-none_in s [] e = refl
-none_in s (x ∷ items) e = absurd (omega (arith, e))
+none_in s items e = grind (arith, common_steps)
 
 -- where the queue was empty, all was taken
 pub none_left : {E : Type 0} (pair : Option Taken) (none : E) (v w : Known) (Took : Taken → Type 0)

@@ -1,6 +1,6 @@
 //! Several managers, one stream: a reporter forwards what all of them send, each manager's messages in their order.
 //!
-//! Layer 11, beyond one manager. Over `ids_frame`, which reads the messages, and the bounded queue of the kit's
+//! Layer 9, traces and files. Over `ids_frame`, which reads the messages, and the bounded queue of the kit's
 //! `crossbeam_queue`, whose rule (`specs/Rule.antt`) carries what feeders and drain know of each other.
 //! Contracts see a `Source` as its list of messages, a `Feeder` as its number and how many pairs it put, and a `Drain`
 //! as the pairs that it took (`specs/Relays.antt`); `specs/Forwarding.antt` says which bytes are forwarded.

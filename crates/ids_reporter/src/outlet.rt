@@ -70,6 +70,7 @@ impl Outlet {
     }
 
     // Takes a pair, and writes the message that it names.
+    #[tactic(auto, using(crate::proofs::ForwardLemmas::named_more, crate::proofs::ForwardLemmas::written_more))]
     fn take<R: Wait>(&mut self, rt: &R, relay: &Relay, sources: &[Source]) -> Result<(), Empty>
         requires { IsWorking relay.now sources.now self.old }
         ensures works { IsWorking relay.now sources.now self.new }

@@ -73,8 +73,10 @@ impl Model for Source {
 impl Source {
     /// The messages that these bytes are, one behind the other. `Bad` comes exactly where they are no messages, or
     /// more than that; no bytes are no messages.
+    #[tactic(auto, using(crate::proofs::SourceLemmas::few_messages, crate::proofs::SourceLemmas::has_room, crate::proofs::SourceLemmas::whole_read))]
     pub fn read(alloc: Global, bytes: Vec<u8>) -> Result<Source, SourceFault>
-        ensures { IsRead (messages_read bytes.items) result }
+        ensures read { IsRead (messages_read bytes.items) result }
+        ensures few { IfOk result (λ source. length source ≤ length bytes.items) }
     {
         let mut messages = messages_in(&bytes)?;
         let mut index = Index::make(alloc)?;

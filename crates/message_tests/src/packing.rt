@@ -1,6 +1,6 @@
 //! Messages packed into units, and taken out again.
 
-use ids_bundle::{Fed, PackFault, UnpackFault, Unpacker, pack, unpack};
+use ids_bundle::{Count, Fed, PackFault, UnpackFault, Unpacker, count, pack, unpack};
 use std::alloc::Global;
 use std::test::*;
 
@@ -47,6 +47,27 @@ fn nine_messages_are_two_units(rt: HostRuntime) -> Result<(), Fail> {
     assert_eq!(rt;
         unpack(rt.alloc(), cut).err(),
         Some(UnpackFault::Cut { at: 68 })
+    );
+    Ok(())
+}
+
+#[test]
+fn units_are_counted(rt: HostRuntime) -> Result<(), Fail> {
+    let units = units_of_nine(rt.alloc())?;
+    assert_eq!(rt;
+        count(&units),
+        Count {
+            units: 2,
+            messages: 9
+        }
+    );
+    let (_, cut) = units.split_last().ok_or("a byte")?;
+    assert_eq!(rt;
+        count(cut),
+        Count {
+            units: 1,
+            messages: 8
+        }
     );
     Ok(())
 }

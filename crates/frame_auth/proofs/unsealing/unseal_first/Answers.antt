@@ -1,4 +1,4 @@
-use Rattle.frame_auth.proofs.Names.{◌≡◌, ℕ, List, ◌++◌, Some, refl, sym, ap, subst, ◌∙◌, arith, inr, spelling, bare, seal_of, CanUnmark, unmarked}
+use Rattle.frame_auth.proofs.Names.{◌≡◌, ◌++◌, Some, refl, sym, ap, ◌∙◌, arith, inr, spelling, bare, seal_of, unmarked, common_steps}
 use Rattle.std.proofs.Common.{option_copied}
 use Rattle.frame_auth.proofs.ReadLemmas.{begins_so}
 use Rattle.frame_auth.proofs.LayoutLemmas.{unsealed_layout, no_seal, no_counter, sealed_with, other_counter, bare_is_plain, added_bare}
@@ -14,11 +14,7 @@ returns-in_default-clause-place c =
     )
 
 pub push_bare-requires : goal.push_bare-requires
-push_bare-requires c =
-    let part = c.in-Some.counter.now ++ c.in-Some.told.now in
-    let some = sym c.signature.ensures.value ∙ c.in-Some.ensures.some.0 in
-    subst (λ (l : List ℕ). CanUnmark l) (sym c.in_ok-message.ensures.spelled)
-    (unsealed_layout c.in_ok-message.message part some c.in-Some.ensures.some.1).0
+push_bare-requires c = grind (arith, common_steps, unsealed_layout)
 
 pub returns-in_default-counter_of-clause-place : goal.returns-in_default-counter_of-clause-place
 returns-in_default-counter_of-clause-place c =
@@ -36,20 +32,7 @@ returns-in_default-counter_of-clause-place c =
     )
 
 pub returns-then-counter-due-clause-place : goal.returns-then-counter-due-clause-place
-returns-then-counter-due-clause-place c =
-    let m = c.in_ok-message.message in
-    let key = c.args.key.now in
-    let count = c.in-Some-counter_of.counter in
-    let part = c.in-Some.counter.now ++ c.in-Some.told.now in
-    let some : m.signature ≡ Some part = sym c.signature.ensures.value ∙ c.in-Some.ensures.some.0 in
-    let plain = c.split_at.ensures.back ∙ added_bare c.args.out.now.items c.deref.result.now c.in_ok-message.spelled.now part
-    c.len-from.result m (c.deref.ensures.value ∙ c.in_ok-push_bare.ensures) c.in_ok-message.ensures.spelled
-    (omega (arith, c.len-from.ensures)) some c.in-Some.ensures.some.1 in
-    inr (
-      refl,
-      begins_so c.in_ok-message.ensures.begins
-          (other_counter key part count c.args.due m some (c.in-Some-counter_of.ensures.some ∙ ap (seal_of key count) plain) (omega arith) (omega arith) c.if-counter-due.true),
-    )
+returns-then-counter-due-clause-place c = grind (arith, common_steps, begins_so, other_counter, added_bare)
 
 pub returns-clause-found : goal.returns-clause-found
 returns-clause-found c =

@@ -1,5 +1,6 @@
-use Rattle.ids_bundle.proofs.UnpackLemmas.{unpacks_again_lem}
+use Rattle.ids_bundle.proofs.Names.{rules}
+use Rattle.ids_bundle.proofs.UnpackLemmas.{one_unpack_answer_lem, packed_fit}
 use Rattle.ids_bundle.proofs.unpacking.unpacks_again.Goals as goal
 
 pub returns : goal.returns
-returns c = unpacks_again_lem
+returns c = λ size bytes runs answer small packed unpacks. search (rules, one_unpack_answer_lem, packed_fit)

@@ -1,10 +1,10 @@
 use Rattle.ids_reporter.proofs.Names.{sym, subst, ◌∙◌, AreInOrder, view, AreWithin, IsDraining, taken_in}
-use Rattle.ids_reporter.proofs.RuleLemmas.{IsFeeding, looks, welcomes}
+use Rattle.ids_reporter.proofs.RuleLemmas.{looks, welcomes}
 use Rattle.ids_reporter.proofs.ViewLemmas.{adds_within}
 use Rattle.ids_reporter.proofs.drain.Drain.welcome.Goals as goal
 
 pub absorb-requires-clause-rule : goal.absorb-requires-clause-rule
-absorb-requires-clause-rule c = welcomes _ _ _ _ c.requires.mine.drains (subst IsFeeding (sym c.requires.feeder.knows) tt)
+absorb-requires-clause-rule c = welcomes _ _ _ _ _ _ c.requires.mine.drains c.requires.feeder.knows
 
 pub learn_as-requires-clause-rule : goal.learn_as-requires-clause-rule
 learn_as-requires-clause-rule c = looks _ _ (subst IsDraining (sym c.absorb.ensures.rule) tt)
