@@ -1,0 +1,5 @@
+pub mod Disks
+pub mod Hosts
+pub mod Kept
+pub mod Recorded
+pub mod Recording

@@ -1,0 +1,110 @@
+ghost use Rattle.std.specs.Prelude.{◌≡◌, length, IfSome, OnOk};
+ghost use Rattle.memory_disk.specs.Disks.{HasCause};
+ghost use Rattle.memory_disk.specs.Hosts.{host_faults, padded, silent};
+
+use crate::disk::{Disk, DiskFailed};
+use std::fs::{OpenFile, OpenOptions};
+use std::io::{self, Read, Seek, SeekFrom, Write};
+use std::rt::Files;
+
+/// A disk over a file of the host, by its path. It tells nothing of what it holds.
+///
+/// The first call opens the file, or makes it. Bytes past its end read as 0. A call that fails closes it, and the
+/// next one opens it again.
+#[derive(Drop)]
+pub struct HostDisk<R: Files> {
+    rt: R,
+    name: String,
+    file: Option<R::File>,
+    faults: u64,
+}
+
+impl<R: Files + Drop> HostDisk<R> {
+    /// The disk in the file of this name, which is not looked at yet.
+    pub fn new(rt: R, name: String) -> HostDisk<R>
+        ensures { host_faults result ≡ 0 }
+    {
+        HostDisk {
+            rt,
+            name,
+            file: None,
+            faults: 0,
+        }
+    }
+
+    /// Keeps a file open, or counts a failure, up to 2^64 - 1.
+    fn keep(&mut self, answer: io::Result<R::File>) -> Result<(), DiskFailed>
+        ensures { HasCause (host_faults self.old) (host_faults self.new) result }
+    {
+        match answer {
+            Ok(file) => {
+                self.file = Some(file);
+                Ok(())
+            }
+            Err(_) => {
+                self.faults = self.faults.saturating_add(1);
+                Err(DiskFailed)
+            }
+        }
+    }
+
+    /// Takes the file out that is open, else opens it, and goes to this place.
+    fn open_at(&mut self, at: u32) -> io::Result<R::File>
+        ensures { host_faults self.new ≡ host_faults self.old }
+    {
+        let mut file = match self.file.take() {
+            Some(file) => file,
+            None => OpenOptions::new()
+                .read(true)
+                .write(true)
+                .create(true)
+                .open(&self.rt, &self.name)?,
+        };
+        file.seek(SeekFrom::Start(u64::from(at)))?;
+        Ok(file)
+    }
+}
+
+impl<R: Files + Drop> Disk for HostDisk<R> {
+    ghost shows = { λ disk. silent (host_faults disk) };
+
+    fn read(&mut self, at: u32, out: &mut [u8]) -> Result<(), DiskFailed> {
+        let file = self.open_at(at).and_then(|mut file| {
+            fill(&mut file, out)?;
+            Ok(file)
+        });
+        self.keep(file)
+    }
+
+    fn write(&mut self, at: u32, piece: &[u8]) -> Result<(), DiskFailed> {
+        let file = self.open_at(at).and_then(|mut file| {
+            file.write_all(piece)?;
+            Ok(file)
+        });
+        self.keep(file)
+    }
+
+    fn sync(&mut self) -> Result<(), DiskFailed> {
+        let file = self.open_at(0).and_then(|file| {
+            file.sync_all()?;
+            Ok(file)
+        });
+        self.keep(file)
+    }
+}
+
+/// Reads until `out` is full. What lies past the end reads as 0.
+fn fill<I: Read>(from: &mut I, out: &mut [u8]) -> io::Result<()>
+    ensures { OnOk result (IfSome (I.remaining from.old) (λ left. out.new ≡ padded (length out.old) left)) }
+{
+    let mut filled = 0;
+    while filled < out.len() {
+        let count = from.read(&mut out[filled..])?;
+        if count == 0 {
+            out[filled..].fill(0);
+            return Ok(());
+        }
+        filled += count;
+    }
+    Ok(())
+}

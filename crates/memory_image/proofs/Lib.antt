@@ -1,0 +1,4 @@
+pub mod ImageLemmas
+pub mod Names
+pub mod ReadingLemmas
+pub mod RestoreLemmas

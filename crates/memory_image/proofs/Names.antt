@@ -1,0 +1,26 @@
+-- The names of other crates and of this crate's specs that its proofs stand on.
+pub use Rattle.std.proofs.Common.{◌≡◌, ℕ, suc, ◌+◌, ◌-◌, ◌*◌, ◌^◌, ◌<◌, ◌≤◌, ◌⊎◌, ◌==◌, Bool, true, false, nat_lt, List, [], ◌∷◌, ◌++◌, length, reverse, take, get_or, Option, Some, None, IfSome, refl, sym, ap, subst, ◌∙◌, inl, inr, arith, rules, append_assoc, Fits, w8, map, min, eq-eqb, lt-ltb, vec_capacity}
+pub use Rattle.std.proofs.lemmas.Bool.{cases_lt, eqb-false, eqb-true}
+pub use Rattle.std.proofs.lemmas.List.{append-nil, length-append, length-reverse, length-take, take_all, get_or_default, get_or-reverse, get_or_append_left, get_or_at, length-map, nil_from_length, reverse-append}
+pub use Rattle.std.specs.List.{All, AllPairs, position, position_or_len}
+pub use Rattle.ids_frame.specs.Bytes.{AreBytes}
+pub use Rattle.ids_types.specs.MemoryRow.{Row}
+pub use Rattle.memory_image.specs.Images.{AreKeepable, Differ, Fields, IsImageOf, fields, IsKeepable, fields_bytes, fields_of, flag_of, joined, number_of, row_bytes}
+pub use Rattle.std.specs.Int.{w16, w64, to_be_bytes}
+pub use Rattle.ids_frame.proofs.PartLemmas.{IsPart, made, one_answer, part, parts_are_part}
+pub use Rattle.ids_frame.proofs.NumberLemmas.{byte_is_part, bytes_are_part, number_is_part, wide16, wide64}
+pub use Rattle.ids_types.specs.declared.names.Stamp.{Stamp}
+pub use Rattle.memory_image.specs.Reading.{Begins, plain_fields}
+pub use Rattle.std.proofs.Math.Seq.{take-nil}
+pub use Rattle.std.proofs.lemmas.Bool.Decides.{nat_tests}
+pub use Rattle.std.proofs.lemmas.List.Concat.{flat_map-append, length-flat_map}
+pub use Rattle.std.proofs.lemmas.List.Edits.{length-remove}
+pub use Rattle.std.proofs.lemmas.List.Elements.{All-head, All-push, All-tail}
+pub use Rattle.std.proofs.lemmas.List.Quantifiers.{all_pairs_push, position-Some}
+pub use Rattle.std.proofs.lemmas.List.Sums.{fails_before_first, sum_by-le, sum_by-take-le, sum_by_more}
+pub use Rattle.chain_spec.specs.Memory.{Stored, event_of, newest_rows, row_of}
+pub use Rattle.event_memory.specs.Held.{Held, Stands, after_storing, after_storing_at, begun, is_of, stored, no_row}
+pub use Rattle.event_memory.proofs.StandsLemmas.{stands_after}
+pub use Rattle.memory_image.specs.Restoring.{HasPlace}
+pub use Rattle.event_memory.specs.Views.{plain_row}
+unfoldable pub use Rattle.memory_image.specs.Reading.{fields_at}

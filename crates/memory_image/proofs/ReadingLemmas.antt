@@ -1,0 +1,74 @@
+-- Fields are read from an image exactly where they were written, and tell one record.
+use Rattle.memory_image.proofs.Names.{◌≡◌, ℕ, ◌^◌, ◌<◌, List, ◌++◌, length, get_or, Option, Some, None, IfSome, refl, sym, ap, subst, ◌∙◌, arith, append-nil, AreBytes, Row, Fields, IsKeepable, fields_bytes, fields_of, flag_of, number_of, row_bytes, Fits, w8, get_or_default, w16, w64, IsPart, made, one_answer, part, parts_are_part, byte_is_part, bytes_are_part, number_is_part, wide16, wide64, Stamp, fields, fields_at}
+
+-- what a slice of bytes holds are bytes
+pub are_bytes : (bytes : List ℕ) → ((i : ℕ) → Fits w8 (get_or bytes i 0)) → AreBytes bytes
+are_bytes bytes fits k d low = omega (arith, fits k, get_or_default bytes k d 0 low)
+
+-- fields that so many bytes can say
+abbrev pub Fit : Fields → Type 0
+Fit f =
+    (f.event < 2 ^ 16) × (f.id < 2 ^ 16) × (f.sensor < 256) × (f.occurrences < 2 ^ 16) × (f.first < 2 ^ 64) × (f.last < 2 ^ 64)
+    × (f.flag < 256) × (f.number < 2 ^ 64) × (length f.context < 2 ^ 16) × AreBytes f.context
+
+-- fields are a part of bytes
+pub fields_are_part : IsPart fields_at fields_bytes Fit
+unfolding fields_at
+fields_are_part =
+    let two = number_is_part w16 (2 ^ 16) wide16 in
+    let eight = number_is_part w64 (2 ^ 64) wide64 in
+    parts_are_part
+    (part two (λ event. part two (λ id. part byte_is_part (λ sensor. part two (λ occurrences. part eight (λ first. part eight (λ last.
+    part byte_is_part (λ flag. part eight (λ number. part two (λ size. part (bytes_are_part size) (λ context.
+    made (fields event id sensor occurrences first last flag number context))))))))))))
+    fields_bytes Fit
+    (λ v can. let context = v.1.1.1.1.1.1.1.1.1.0 in let many = can.1.1.1.1.1.1.1.1.1.0 in record {
+      text = rw (append-nil context, many.len) refl;
+      can = (can.0, can.1.0, can.1.1.0, can.1.1.1.0, can.1.1.1.1.0, can.1.1.1.1.1.0, can.1.1.1.1.1.1.0, can.1.1.1.1.1.1.1.0, rw many.len can.1.1.1.1.1.1.1.1.0, many.are_bytes);
+    })
+    (λ f fit. record {
+      values = (f.event, (f.id, (f.sensor, (f.occurrences, (f.first, (f.last, (f.flag, (f.number, (length f.context, (f.context, tt))))))))));
+      can = (fit.0, (fit.1, (fit.2, (fit.3, (fit.4, (fit.5, (fit.6, (fit.7, (fit.8, (record { len = refl; are_bytes = fit.9 }, tt))))))))));
+      is = refl;
+    })
+
+-- a number of eight bytes tells a timestamp of as many
+pub wide : (stamp : Option Stamp) (number : ℕ) → number ≡ number_of stamp → number < 2 ^ 64 → IfSome stamp (λ stamp. stamp.0 < 2 ^ 64)
+wide None number is below = tt
+wide (Some stamp) number is below = subst (λ n. n < 2 ^ 64) is below
+
+fit_of : (row : Row) → IsKeepable row → Fit (fields_of row)
+fit_of row keeps = (omega (arith, keeps.event), keeps.id, omega (arith, keeps.sensor), keeps.occurrences, omega (arith, keeps.order, keeps.last), omega (arith, keeps.last), small row.stamp, below row.stamp keeps.stamp, omega (arith, keeps.size), keeps.context)
+  where
+    small : (stamp : Option Stamp) → flag_of stamp < 256
+    small None = omega arith
+    small (Some stamp) = omega arith
+
+    below : (stamp : Option Stamp) → IfSome stamp (λ stamp. stamp.0 < 2 ^ 64) → number_of stamp < 2 ^ 64
+    below None none = omega arith
+    below (Some stamp) small = small
+
+-- the fields of a record that was written are read
+pub fields_again : (row : Row) (rest : List ℕ) → IsKeepable row → fields_at (row_bytes row ++ rest) ≡ Some (fields_of row, rest)
+fields_again row rest keeps = fields_are_part.again (fields_of row) rest (fit_of row keeps)
+
+abbrev stamp_of : ℕ → Stamp
+stamp_of number = record { 0 = number }
+
+same_stamp : (a b : Option Stamp) → flag_of a ≡ flag_of b → number_of a ≡ number_of b → a ≡ b
+same_stamp None None flag number = refl
+same_stamp None (Some b) flag number = absurd cc
+same_stamp (Some a) None flag number = absurd cc
+same_stamp (Some a) (Some b) flag number = ap (λ n. Some (stamp_of n)) number
+
+abbrev row_with : Fields → Option Stamp → Row
+row_with f stamp =
+    record { key = record { event = record { 0 = f.event }; id = f.id; sensor = f.sensor }; occurrences = f.occurrences; first = f.first; last = f.last; stamp = stamp; context = f.context }
+
+-- bytes begin with one record
+pub one_row : (row next : Row) (rest more : List ℕ) → IsKeepable row → IsKeepable next → row_bytes row ++ rest ≡ row_bytes next ++ more
+    → (row ≡ next) × (rest ≡ more)
+one_row row next rest more keeps keeps_next same =
+    let is = one_answer (sym (fields_again row rest keeps) ∙ ap fields_at same ∙ fields_again next more keeps_next) in
+    let stamp = same_stamp row.stamp next.stamp (ap (λ (f : Fields). f.flag) is.0) (ap (λ (f : Fields). f.number) is.0) in
+    (ap (λ f. row_with f row.stamp) is.0 ∙ ap (λ stamp. row_with (fields_of next) stamp) stamp, is.1)

@@ -1,0 +1,73 @@
+//! The image of a memory, written and read.
+ghost use Rattle.std.specs.Prelude.{◌≡◌, ◌+◌, ◌≤◌, ◌++◌, List, length, reverse, vec_capacity, vec_len};
+ghost use Rattle.std.specs.Bool.{OnTrue, OnFalse};
+ghost use Rattle.chain_spec.specs.Memory.{Stored};
+ghost use Rattle.event_memory.specs.Held.{Stands, no_rows};
+ghost use Rattle.event_memory.specs.Views.{plain_row};
+ghost use Rattle.ids_types.specs.MemoryRow.{Row as MemoryRow};
+ghost use Rattle.memory_image.specs.Images.{AreKeepable, IsImageOf, IsKeepable, joined};
+ghost use Rattle.memory_image.specs.Restoring.{Adds};
+
+use crate::fields::{put_row, row_of};
+use event_memory::{Memory, Row};
+
+/// How many bytes an image has of a record without context data.
+const ROW_LEN: u32 = 34;
+
+/// How many bytes the image of the memory has.
+pub fn image_len(memory: &Memory) -> u32
+    requires { AreKeepable (reverse memory.now.rows) }
+    ensures { result ≡ length (joined (reverse memory.now.rows)) }
+{
+    let mut len = 0;
+    for i in 0..memory.len() {
+        len += ROW_LEN + memory.row(i).context.len() as u32;
+    }
+    len
+}
+
+/// Appends the image of the memory, for which there is room.
+pub fn put_image(out: &mut Vec<u8>, memory: &Memory)
+    requires keepable { AreKeepable (reverse memory.now.rows) }
+    requires room { vec_len out.old + length (joined (reverse memory.now.rows)) ≤ vec_capacity out.old }
+    ensures items { out.new.items ≡ out.old.items ++ joined (reverse memory.now.rows) }
+    ensures capacity { vec_capacity out.old ≤ vec_capacity out.new }
+{
+    for i in 0..memory.len() {
+        put_row(out, &memory.row(i));
+    }
+}
+
+/// Fills an empty memory with the records of an image. Answers whether it is one; else the memory has any records.
+pub fn restore(memory: &mut Memory, image: &[u8]) -> bool
+    requires { memory.old ≡ no_rows 256 }
+    ensures found { OnTrue result (IsImageOf (reverse memory.new.rows) image.now) }
+    ensures none { OnFalse result ((rows : List MemoryRow) → IsImageOf rows image.now → ⊥) }
+{
+    let mut rest = image;
+    while !rest.is_empty() {
+        let Some((row, after)) = row_of(rest) else {
+            return false;
+        };
+        if !add(memory, &row) {
+            return false;
+        }
+        rest = after;
+    }
+    true
+}
+
+/// Adds a record as the newest one, and answers true; or there was no room, or one of its event.
+fn add(memory: &mut Memory, row: &Row<'_>) -> bool
+    requires { IsKeepable (plain_row row.now) }
+    ensures { (items : List Stored) → Stands memory.old items → Adds memory.old memory.new (plain_row row.now) result }
+{
+    let before = memory.len();
+    memory.store(row.first, row.key, row.occurrences, row.stamp, row.context);
+    if memory.len() == before {
+        return false;
+    }
+    // The ticks of a record are those of its first item and of its last one.
+    memory.store(row.last, row.key, 0, row.stamp, row.context);
+    true
+}

@@ -1,0 +1,11 @@
+//! The image of an event memory: its records as bytes, written, and read again.
+//!
+//! Layer 9, traces and files. Over `ids_types`, `ids_frame`, `chain_spec` and `event_memory`; `memory_store` keeps an
+//! image in each slot of its disk. `specs/Images.antt` gives the image of any records, and the contracts of
+//! `put_image` and `restore` are that, in both directions.
+#![tactic(auto)]
+
+mod fields;
+mod image;
+
+pub use image::{image_len, put_image, restore};

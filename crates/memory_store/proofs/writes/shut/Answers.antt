@@ -1,0 +1,25 @@
+use Rattle.memory_store.proofs.Names.{◌≡◌, true, refl, ◌∙◌, rules, arith, ChangesIn, KeepsSlot, bytes_of, no_call, on_ok, settled_leaves, weaker}
+use Rattle.memory_store.proofs.SaveLemmas.{gate_done}
+use Rattle.memory_store.proofs.SlotLemmas.{gate_span, shutting_keeps}
+use Rattle.memory_store.proofs.writes.shut.Goals as goal
+
+pub returns-then-not-place-clause-any_moment : goal.returns-then-not-place-clause-any_moment
+returns-then-not-place-clause-any_moment g c ready =
+    let shown = g.D.Disk.shows c.args.disk.now in
+    let keeps = KeepsSlot (bytes_of shown) in
+    no_call keeps shown.run (settled_leaves keeps shown.run.now ready.settled.synced refl)
+
+pub returns-clause-any_moment : goal.returns-clause-any_moment
+returns-clause-any_moment g c ready =
+    let old = g.D.Disk.shows c.args.disk.now in
+    let slot = c.args.place.now.slot in
+    let opened : c.args.place.now.is_open ≡ true = first_of (cc, search rules, grind arith) in
+    let changes = rw c.from.ensures at (c.write_through.ensures.any_moment ready.settled) in
+    weaker (ChangesIn (gate_span slot) (bytes_of old)) (KeepsSlot (bytes_of old)) old.run (g.D.Disk.shows c.write_through.new.disk).run
+    (λ left. shutting_keeps slot c.requires (bytes_of old) left (ready.next.gate ∙ opened) ready.next.keeps) changes
+
+pub returns-clause-shut : goal.returns-clause-shut
+returns-clause-shut g c ready =
+    on_ok c.write_through.result
+    (gate_done c.args.place.now.slot c.requires 0 (bytes_of (g.D.Disk.shows c.args.disk.now)) (bytes_of (g.D.Disk.shows c.write_through.new.disk)) ready.settled.size)
+    (rw c.from.ensures at (c.write_through.ensures.written ready.settled))

@@ -1,0 +1,5 @@
+pub mod Answers
+pub mod Finding
+pub mod Saving
+pub mod Slots
+pub mod Stores

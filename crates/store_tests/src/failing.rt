@@ -1,0 +1,59 @@
+//! Saves in which a call fails, and what a crash leaves of them.
+
+use crate::disks::{begin, kept, memory, save, text};
+use std::alloc::Global;
+use std::test::*;
+
+/// How many saves went before, the value that the crash gives, and for each call that fails whether the old records
+/// are begun with behind it or the new ones. In the last run no call fails.
+/// A beginning has three calls. A save to a slot that is shut writes the body and then the gate, each with a sync, so
+/// it has four; one to an open slot has two more, which shut it. A gate that was not yet synced is open where the
+/// crash gives 1.
+const ROWS: [(usize, u8, &str); 6] = [
+    (1, 0, "oooooooN"),
+    (1, 1, "oooooNNN"),
+    (1, 255, "oooooooN"),
+    (2, 0, "oooooooooN"),
+    (2, 1, "oooooooNNN"),
+    (2, 255, "oooooooooN"),
+];
+
+/// Which records are begun with after a crash behind a save of one more, and whether it answered that they are saved.
+fn left(alloc: Global, count: usize, fails: u64, fill: u8) -> Result<(u8, bool), Fail> {
+    let more = count.saturating_add(1);
+    let (disk, is_saved) = save(alloc, kept(alloc, count, fails)?, &memory(alloc, more)?);
+    let found = begin(alloc, disk.crash(fill))?.ok().ok_or("sound")?;
+    let which = if found == text(alloc, count)? {
+        b'o'
+    } else if found == text(alloc, more)? {
+        b'N'
+    } else {
+        b'?'
+    };
+    Ok((which, is_saved))
+}
+
+/// Which records are left where each call in turn fails, until a save in which none does.
+fn all_left(alloc: Global, count: usize, fill: u8) -> Result<Vec<u8>, Fail> {
+    let mut all = Vec::new(alloc);
+    for fails in 0..20 {
+        let (which, is_saved) = left(alloc, count, fails, fill)?;
+        all.push(which)?;
+        if is_saved {
+            break;
+        }
+    }
+    Ok(all)
+}
+
+#[test]
+fn a_crash_leaves_old_or_new_records(rt: HostRuntime) -> Result<(), Fail> {
+    let mut runs = 0usize;
+    for (count, fill, wanted) in ROWS {
+        let found = all_left(rt.alloc(), count, fill)?;
+        assert_eq!(rt; found.as_slice(), wanted.as_bytes());
+        runs = runs.saturating_add(found.len());
+    }
+    assert_eq!(rt; runs, 54);
+    Ok(())
+}

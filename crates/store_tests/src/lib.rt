@@ -1,0 +1,12 @@
+//! The tests of the event memory on a disk, over public names: saved, begun again, and through failures and crashes.
+//!
+//! Layer 11, beyond one manager. Over `memory_store` and `memory_disk`. They show what no contract says: that the calls
+//! answer with ample memory, and bytes and texts that were worked out by hand.
+#![tactic(auto)]
+
+#[cfg(test)]
+mod disks;
+#[cfg(test)]
+mod failing;
+#[cfg(test)]
+mod saving;
