@@ -1,15 +1,18 @@
-//! The program `idsm`: hands the words of its command line to the runs, to that of a replay where the
-//! first word is `replay`, and ends with their status.
+//! The program `idsm`: hands the words of its command line to the runs, to that of a replay or of a report where
+//! the first word is `replay` or `report`, and ends with their status.
 //!
 //! Layer 10, runs. Over `idsm_run`, whose contract says what a run does, and the host's files and
 //! standard output of `ids_outside`. That the words are the host's and that the program ends with the
 //! status of the run is shown by the stored run (`args`, `data`, `stdout`) alone.
 #![tactic(auto)]
 
-use ids_outside::{HostShelf, HostSink};
-use idsm_run::{NO_MEMORY, OpenGate, is_replay, run_plain, run_replay};
+use ids_outside::{HostShelf, HostSink, Shelf, Sink};
+use idsm_run::{NO_MEMORY, OpenGate, is_replay, is_report, run_plain, run_replay, run_report};
+use std::alloc::Global;
 use std::process::ExitCode;
 use std::rt::Env;
+use std::sync::Wait;
+use std::thread::Threads;
 use std::{env, io};
 
 /// The host did not give the words of the command line.
@@ -20,21 +23,29 @@ fn main(rt: HostRuntime) -> ExitCode {
         Ok(words) => {
             let mut shelf = HostShelf::new(rt, rt.alloc());
             let mut out = HostSink::new(rt);
-            if is_replay(&words) {
-                let (status, _manager) = run_replay(
-                    &rt,
-                    rt.alloc(),
-                    &words,
-                    &mut shelf,
-                    &mut out,
-                    &OpenGate,
-                );
-                return ExitCode::from(status);
-            }
-            ExitCode::from(run_plain(rt.alloc(), &words, &mut shelf, &mut out))
+            ExitCode::from(run(&rt, rt.alloc(), &words, &mut shelf, &mut out))
         }
         Err(error) if error.kind() == io::ErrorKind::OutOfMemory => ExitCode::from(NO_MEMORY),
         Err(_) => ExitCode::from(NO_WORDS),
+    }
+}
+
+/// Runs what the words ask for, and returns its status.
+fn run<R: Threads + Wait + Sync, H: Shelf, K: Sink>(
+    rt: &R,
+    alloc: Global,
+    words: &[String],
+    shelf: &mut H,
+    out: &mut K,
+) -> u8 {
+    if is_replay(words) {
+        let (status, _manager) = run_replay(rt, alloc, words, shelf, out, &OpenGate);
+        status
+    } else if is_report(words) {
+        let (status, _drain) = run_report(rt, alloc, words, shelf, out);
+        status
+    } else {
+        run_plain(alloc, words, shelf, out)
     }
 }
 

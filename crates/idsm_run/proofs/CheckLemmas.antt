@@ -1,5 +1,5 @@
 -- How the comparison of a file with the messages of a recording ends.
-use Rattle.idsm_run.proofs.Names.{◌≡◌, ◌∙◌, ℕ, List, Ok, Err, Bor, IsTrue, refl, sym, ap, subst, inl, inr, Result, IfOk, IfErr, Vec, nat_eq, common_prefix_len, cases_Bool, Refusal, MayRefuse, Global, SameFiles, Shelved, Stop, Refused, Differ, Recorded, recorded_in, file_of, CheckFiles, check, compared, check_judged, does, judge, Judges, StopsFor, WasDone, plain_stop, messages_of}
+use Rattle.idsm_run.proofs.Names.{◌≡◌, ◌∙◌, ℕ, List, Ok, Err, Bor, IsTrue, refl, sym, ap, subst, inl, inr, Result, IfOk, IfErr, Vec, nat_eq, common_prefix_len, cases_Bool, MayStop, Global, SameFiles, Shelved, Stop, Refused, Differ, Recorded, recorded_in, file_of, CheckFiles, check, compared, check_judged, does, judge, Judges, StopsFor, WasDone, plain_stop, messages_of}
 use Rattle.std.specs.Prelude.{bytes_eq}
 use Rattle.run_spec.proofs.JudgeLemmas.{refused, check_found}
 
@@ -14,12 +14,12 @@ module _ (names : CheckFiles) (recorded : Recorded) (bytes sent : List ℕ) (old
       (ap (check_judged bytes) (sym own))
 
   -- it refuses by a place alone
-  may : (refusal : Refusal) → check_judged bytes sent ≡ Err (Refused refusal) → MayRefuse (check names) refusal
-  may refusal is = elim (cases_Bool (bytes_eq bytes sent)) [
+  may : (why : Stop (List ℕ)) → check_judged bytes sent ≡ Err why → MayStop (check names) why
+  may why is = elim (cases_Bool (bytes_eq bytes sent)) [
     | inl alike ↦ absurd (cc (rw alike at is))
     | inr other ↦
-        let same : Differ (common_prefix_len nat_eq bytes sent) ≡ refusal = cc (rw other at is) in
-        subst (MayRefuse (check names)) same tt
+        let same : Refused (Differ (common_prefix_len nat_eq bytes sent)) ≡ why = cc (rw other at is) in
+        subst (MayStop (check names)) same tt
   ]
 
   pub done_so : (answer : Result (Vec ℕ Global) (Stop (Bor (List ℕ))))

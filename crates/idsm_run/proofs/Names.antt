@@ -14,8 +14,10 @@ pub use Rattle.ids_outside.specs.declared.faults.WriteFault.TheVariants.{Failed,
 pub use Rattle.ids_types.specs.Turns.{Turn, entries_of}
 pub use Rattle.ids_types.specs.declared.entry.Entry.{Entry}
 pub use Rattle.ids_types.specs.declared.loss.Loss.{Loss}
+pub use Rattle.idsm_run.specs.Answered.{Finished, IsAnswered, RanWith, RunsWith, TellsFinished}
+pub use Rattle.idsm_run.specs.Made.{HasCome, HasRead, Made, Makes, WouldKeep}
 pub use Rattle.idsm_run.specs.Outcome.{IsOutcome}
-pub use Rattle.idsm_run.specs.Replayed.{IsAnswered, RanReplay, Replayed, Replays, RunManager, TellsReplay, Written}
+pub use Rattle.idsm_run.specs.Replayed.{Replayed, RunManager}
 pub use Rattle.journal.specs.Answers.{told}
 pub use Rattle.merge_spec.specs.Contexts.{misses_context}
 pub use Rattle.merge_spec.specs.Rounds.{Round}
@@ -25,17 +27,19 @@ pub use Rattle.run_files.specs.Stages.{Judges, plain_stop, stop_of_config}
 pub use Rattle.run_files.specs.Texts.{refusal_status, stop_status, stop_text, usage}
 pub use Rattle.run_files.specs.Writing.{AreWritten, Cuts, StandUpTo, stop_of_write}
 pub use Rattle.run_files.specs.declared.stop.Refusal.{Refusal}
-pub use Rattle.run_files.specs.declared.stop.Refusal.TheVariants.{BadConfig, BadJournal, BadMessages, BadTrace, Differ}
+pub use Rattle.run_files.specs.declared.stop.Refusal.TheVariants.{BadJournal, Differ, EmptyKey}
 pub use Rattle.run_files.specs.declared.stop.Stop.{Stop}
-pub use Rattle.run_files.specs.declared.stop.Stop.TheVariants.{CannotRead, CannotWrite, NoMemory, Refused, TooLong}
+pub use Rattle.run_files.specs.declared.stop.Stop.TheVariants.{BadSource, CannotRead, CannotWrite, Instance, NoMemory, Refused, TooLong}
+pub use Rattle.run_spec.specs.Copying.{one_file, seal_refusal, task_stop, unseal_refusal}
 pub use Rattle.run_spec.specs.Fold.{fold_line, fold_outputs, fold_text}
 pub use Rattle.run_spec.specs.FoldedJournal.{held_back_line}
 pub use Rattle.run_spec.specs.Headline.{IsOneHistory}
-pub use Rattle.run_spec.specs.Judge.{Recorded, check_judged, compared, decode_work, does, fold_work, gen_work, judge, migrate_work, recorded_in, replays}
+pub use Rattle.run_spec.specs.Judge.{Does, Recorded, Refuses, Task, check_judged, compared, decode_work, does, fold_work, gen_work, judge, migrate_work, key_judged, keyed_by, keyed_bytes, packs, recorded_in, replays, reports, seals, unpacks, unseals}
+pub use Rattle.run_spec.specs.Packing.{pack_refusal, runs_text, unpack_refusal}
 pub use Rattle.run_spec.specs.Replay.{lost_contexts, replay_outputs, replay_work, without_context}
-pub use Rattle.run_spec.specs.Run.{MayRefuse, StopsFor, WasDone}
-pub use Rattle.run_words.specs.Command.{CheckFiles, FoldFiles, ReplayFiles, check, fold, gen, migrate, replay}
-pub use Rattle.run_words.specs.CommandView.{asked, files_of, five_of, pair_of, recording, three_of}
+pub use Rattle.run_spec.specs.Run.{EndsAs, KeepsConfig, MayRefuse, MayStop, StopsFor, WasDone}
+pub use Rattle.run_words.specs.Command.{CheckFiles, Command, FoldFiles, KeyedFiles, PairFiles, ReplayFiles, SizedFiles, bundle, check, fold, gen, migrate, replay, report, sign, unbundle, verify, written_by}
+pub use Rattle.run_words.specs.CommandView.{asked, files_of, five_of, keyed_of, pair_of, recording, sized_of, three_of}
 pub use Rattle.std.proofs.Common.{Bor, Err, IsTrue, List, None, Ok, Option, Some, ap, arith, drop, inl, inr, length, length-drop, min, nat_eq, refl, reverse, rules, string_bytes, subst, sym, take, ℕ, ◌++◌, ◌+◌, ◌-◌, ◌∙◌, ◌∷◌, ◌≡◌, ◌≢◌, ◌≤◌}
 pub use Rattle.std.proofs.lemmas.Bool.{cases_Bool}
 pub use Rattle.std.proofs.lemmas.Grind.{common_steps}

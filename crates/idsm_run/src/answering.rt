@@ -1,34 +1,41 @@
-//! What a replay puts and answers at its end.
+//! What a run puts and answers at its end that answers something beside its status.
 
-ghost use Rattle.idsm_run.specs.Words.{IsAnswered, TellsReplay};
+ghost use Rattle.idsm_run.specs.Words.{IsAnswered, TellsFinished};
 
-use crate::replaying::Written;
 use ids_outside::Sink;
 use run_files::{DONE, Stop, say, tell};
 use std::alloc::Global;
-use trace_replay::RunManager;
 
-/// Puts the line of a replay that was written, or tells why it stopped, and returns the status, with the manager
-/// where it is 0.
-pub fn tell_replay<K: Sink>(
+/// A run that was done.
+#[derive(Debug, Drop)]
+pub(crate) struct Finished<M> {
+    /// The line that tells what was done.
+    pub(crate) line: Vec<u8>,
+    /// What the run answers.
+    pub(crate) made: M,
+}
+
+/// Puts the line of a run that was done, or tells why it stopped, and returns the status, with what was made where it
+/// is 0.
+pub(crate) fn tell_finished<M: Drop, K: Sink>(
     alloc: Global,
-    end: Result<Written, Stop<&str>>,
+    end: Result<Finished<M>, Stop<&str>>,
     out: &mut K,
-) -> (u8, Option<RunManager>)
-    ensures { TellsReplay end.entry result.1 result.0 (K.hears out.old) (K.hears out.new) }
+) -> (u8, Option<M>)
+    ensures { TellsFinished end.entry result.1 result.0 (K.hears out.old) (K.hears out.new) }
 {
     match end {
-        Ok(written) => {
-            let status = say(&written.line, DONE, out);
-            (status, answered(status, written.manager))
+        Ok(finished) => {
+            let status = say(&finished.line, DONE, out);
+            (status, answered(status, finished.made))
         }
         Err(stop) => (tell(alloc, Err(stop), out), None),
     }
 }
 
-/// The manager of a run, where its status is 0.
-fn answered(status: u8, manager: RunManager) -> Option<RunManager>
-    ensures { IsAnswered status manager result }
+/// What a run made, where its status is 0.
+fn answered<M: Drop>(status: u8, made: M) -> Option<M>
+    ensures { IsAnswered status made result }
 {
-    if status == DONE { Some(manager) } else { None }
+    if status == DONE { Some(made) } else { None }
 }

@@ -1,32 +1,45 @@
 //! The command `migrate`: the text of a configuration in the second form.
 
-ghost use Rattle.std.specs.Prelude.{◌≡◌, IsTrue, IfOk, IfErr};
-ghost use Rattle.idsm_run.specs.Words.{SameBut, written_by, migrate as migrate_command, pair_of, WasDone, StopsFor, plain_stop};
+ghost use Rattle.std.specs.Prelude.{◌≡◌, codes, IsTrue, IfOk, Ok};
+ghost use Rattle.config_json.specs.Configured.{configuration};
+ghost use Rattle.idsm_run.specs.Words.{EndsAs, SameBut, config_text, migrate as migrate_command, pair_of, plain_end, written_by};
 
+use crate::making::{Made, write_made};
+use ids_config::Config;
 use ids_outside::Shelf;
-use run_files::{MAX_CONFIG_BYTES, Stop, read_file, write_file};
-use run_words::MigrateNames;
+use ids_types::NoMemory;
+use run_files::{MAX_CONFIG_BYTES, Stop, read_file};
+use run_words::PairNames;
 use std::alloc::Global;
 
 /// Writes the text of a configuration of either form in the second form, by one append, and returns the
 /// line that tells so. All memory is taken before the new file is made.
 pub(crate) fn migrate<'a, H: Shelf>(
     alloc: Global,
-    names: MigrateNames<'a>,
+    names: PairNames<'a>,
     shelf: &mut H,
 ) -> Result<Vec<u8>, Stop<&'a str>>
     ensures others { IsTrue (H.shows shelf.old).tells →
         SameBut (written_by (migrate_command (pair_of names.entry)))
         (H.shows shelf.old).files (H.shows shelf.new).files }
-    ensures done { IfOk result (λ text. WasDone (migrate_command (pair_of names.entry))
-        text.items (H.shows shelf.old) (H.shows shelf.new)) }
-    ensures stops { IfErr result (λ reason. StopsFor (migrate_command (pair_of names.entry))
-        (plain_stop reason) (H.shows shelf.old) (H.shows shelf.new)) }
+    ensures ends { EndsAs (migrate_command (pair_of names.entry)) (plain_end result)
+        (H.shows shelf.old) (H.shows shelf.new) }
 {
-    let bytes = read_file(alloc, names.config, MAX_CONFIG_BYTES, shelf)?;
+    let bytes = read_file(alloc, names.source, MAX_CONFIG_BYTES, shelf)?;
     let config = config_json::read(alloc, &bytes)?;
-    let text = config_json::print(alloc, &config)?;
+    let made = make_text(alloc, &config)?;
+    write_made(names.target, Ok(made), shelf)
+}
+
+/// The text of a configuration in the second form, and the line that says so.
+fn make_text(alloc: Global, config: &Config) -> Result<Made, NoMemory>
+    ensures { IfOk result (λ made. (made.bytes.items ≡ config_text config.now)
+        × (configuration made.bytes.items ≡ Ok config.now) × (made.line.items ≡ codes "form 2\n")) }
+{
+    let text = config_json::print(alloc, config)?;
     let line = format!(in alloc; "form 2\n")?;
-    write_file(names.target, text.as_bytes(), &[text.len() as u64], shelf)?;
-    Ok(line.into_bytes())
+    Ok(Made {
+        bytes: text.into_bytes(),
+        line: line.into_bytes(),
+    })
 }

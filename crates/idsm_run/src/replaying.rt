@@ -1,8 +1,9 @@
 //! The command `replay`: the messages, the event memory and the journal of a trace that is replayed by threads.
 
 ghost use Rattle.std.specs.Prelude.{◌≡◌, ◌<◌, ◌^◌, length, IsTrue, IfOk, OnOk, OnErr, IfErr};
-ghost use Rattle.idsm_run.specs.Words.{SameBut, written_by, replay as replay_command, five_of, entries_of, replay_line as line_of, replay_text as text_of, without_context, lost_contexts, replay_outputs, CanReplay, Replayed as HasReplayed, StopsFor, OneFails, plain_stop, AreWritten, StandUpTo, Cuts};
+ghost use Rattle.idsm_run.specs.Words.{SameBut, written_by, replay as replay_command, five_of, entries_of, replay_line as line_of, replay_text as text_of, without_context, lost_contexts, replay_outputs, CanReplay, Replayed as HasReplayed, StopsFor, WasDone, OneFails, plain_stop, AreWritten, StandUpTo, Cuts};
 
+use crate::answering::Finished;
 use crate::traces::read_asked;
 use ids_outside::{Shelf, WriteFault};
 use ids_types::{History, NoMemory};
@@ -12,15 +13,6 @@ use std::alloc::Global;
 use std::thread::Threads;
 use trace_replay::{Gate, Replayed, RunManager, replay};
 
-/// A replay that was written.
-#[derive(Drop)]
-pub(crate) struct Written {
-    /// The line that tells what was replayed.
-    pub(crate) line: Vec<u8>,
-    /// The manager that made its turns, closed.
-    pub(crate) manager: RunManager,
-}
-
 /// Replays a trace, and returns the line that tells what was replayed, with the manager. All memory is taken before
 /// the first file is made.
 pub(crate) fn replay_files<'a, R: Threads + Sync, H: Shelf, G: Gate + Sync>(
@@ -29,14 +21,15 @@ pub(crate) fn replay_files<'a, R: Threads + Sync, H: Shelf, G: Gate + Sync>(
     names: ReplayNames<'a>,
     shelf: &mut H,
     gate: &G,
-) -> Result<Written, Stop<&'a str>>
+) -> Result<Finished<RunManager>, Stop<&'a str>>
     requires { CanReplay names }
     ensures others { IsTrue (H.shows shelf.old).tells →
         SameBut (written_by (replay_command (five_of names.entry)))
         (H.shows shelf.old).files (H.shows shelf.new).files }
-    ensures replayed { IsTrue (H.shows shelf.old).tells → IfOk result (λ w.
-        HasReplayed (five_of names.entry) w.manager w.line.items (H.shows shelf.old).files (H.shows shelf.new).files) }
-    ensures no_fault { OnOk result ((H.shows shelf.new).faults ≡ (H.shows shelf.old).faults) }
+    ensures replayed { IsTrue (H.shows shelf.old).tells → IfOk result (λ f.
+        HasReplayed (five_of names.entry) f.made f.line.items (H.shows shelf.old).files (H.shows shelf.new).files) }
+    ensures done { IfOk result (λ f. WasDone (replay_command (five_of names.entry)) f.line.items
+        (H.shows shelf.old) (H.shows shelf.new)) }
     ensures stops { IfErr result (λ reason. StopsFor (replay_command (five_of names.entry))
         (plain_stop reason) (H.shows shelf.old) (H.shows shelf.new)) }
 {
@@ -46,9 +39,9 @@ pub(crate) fn replay_files<'a, R: Threads + Sync, H: Shelf, G: Gate + Sync>(
     let journal = journal::print(alloc, &replayed.history, &replayed.losses)?;
     let line = replay_text(alloc, &replayed)?;
     write_outputs(names, &replayed, &memory, &journal, shelf)?;
-    Ok(Written {
+    Ok(Finished {
         line,
-        manager: replayed.manager,
+        made: replayed.manager,
     })
 }
 

@@ -1,18 +1,23 @@
 ghost use Rattle.std.specs.Prelude.{IsTrue, map, string_bytes};
-ghost use Rattle.idsm_run.specs.Words.{command_of, are_read_by_clap, SameBut, Ran, written_of, replay_of, Replays, written_in};
+ghost use Rattle.idsm_run.specs.Words.{command_of, are_read_by_clap, SameBut, Ran, written_of, replay, replay_of, Replays, report, report_of, Reports, written_in};
 
-use crate::answering::tell_replay;
+use crate::answering::tell_finished;
+use crate::bundling::{bundle, unbundle};
 use crate::check::check;
 use crate::decode::decode_file;
 use crate::fold::fold;
 use crate::generating::generate_files;
 use crate::migrate::migrate;
 use crate::replaying::replay_files;
+use crate::reporting::report_files;
+use crate::sealing::{sign, verify};
 use ids_outside::{Shelf, Sink};
+use ids_reporter::Drain;
 use ids_types::NoMemory;
 use run_files::{BAD_WORDS, NO_MEMORY, say, tell};
-use run_words::{Request, parse, parse_replay};
+use run_words::{Request, parse, parse_replay, parse_report};
 use std::alloc::Global;
+use std::sync::Wait;
 use std::thread::Threads;
 use trace_replay::{Gate, RunManager};
 
@@ -23,6 +28,11 @@ const USAGE: &[u8] = b"usage: idsm replay CONFIG TRACE MESSAGES MEMORY JOURNAL
        idsm decode MESSAGES
        idsm gen [--start N] [--callers N] [--rounds N] [--events N] CONFIG TRACE JOURNAL
        idsm migrate CONFIG NEW
+       idsm report OUT FILE ..
+       idsm sign KEY START MESSAGES SIGNED
+       idsm verify KEY START SIGNED MESSAGES
+       idsm bundle SIZE MESSAGES UNITS
+       idsm unbundle UNITS MESSAGES
 ";
 
 /// Runs the command that the words behind the program's name ask for, and returns its status: 0 where
@@ -31,8 +41,9 @@ const USAGE: &[u8] = b"usage: idsm replay CONFIG TRACE MESSAGES MEMORY JOURNAL
 /// `fold CONFIG JOURNAL MESSAGES MEMORY` writes the messages and the event memory of a journal,
 /// `check CONFIG JOURNAL MESSAGES` compares a file with the journal's messages, `decode MESSAGES` puts a
 /// line for each message of a file, `gen CONFIG TRACE JOURNAL` generates a recording by its options, and
-/// `migrate CONFIG NEW` writes the text of a configuration in the
-/// second form.
+/// `migrate CONFIG NEW` writes the text of a configuration in the second form. `sign KEY START MESSAGES SIGNED` adds a
+/// counter and a tag to each message, and `verify KEY START SIGNED MESSAGES` checks them and takes them off;
+/// `bundle SIZE MESSAGES UNITS` packs messages whole into units, and `unbundle UNITS MESSAGES` takes them out again.
 pub fn run_plain<H: Shelf, K: Sink>(
     alloc: Global,
     words: &[String],
@@ -59,6 +70,10 @@ pub fn run_plain<H: Shelf, K: Sink>(
         Some(Request::Decode(name)) => tell(alloc, decode_file(alloc, name, shelf), out),
         Some(Request::Gen(given)) => tell(alloc, generate_files(alloc, given, shelf), out),
         Some(Request::Migrate(names)) => tell(alloc, migrate(alloc, names, shelf), out),
+        Some(Request::Sign(names)) => tell(alloc, sign(alloc, names, shelf), out),
+        Some(Request::Verify(names)) => tell(alloc, verify(alloc, names, shelf), out),
+        Some(Request::Bundle(names)) => tell(alloc, bundle(alloc, names, shelf), out),
+        Some(Request::Unbundle(names)) => tell(alloc, unbundle(alloc, names, shelf), out),
     }
 }
 
@@ -82,11 +97,38 @@ pub fn run_replay<R: Threads + Sync, H: Shelf, K: Sink, G: Gate + Sync>(
 
     // Whatever the status, no file changes but those that the replay writes.
     ensures others { IsTrue (H.shows shelf.old).tells → SameBut
-        (written_in (replay_of (map string_bytes words.now)))
+        (written_in replay (replay_of (map string_bytes words.now)))
         (H.shows shelf.old).files (H.shows shelf.new).files }
 {
     match parse_replay(words) {
         None => (say(USAGE, BAD_WORDS, out), None),
-        Some(names) => tell_replay(alloc, replay_files(rt, alloc, names, shelf, gate), out),
+        Some(names) => tell_finished(alloc, replay_files(rt, alloc, names, shelf, gate), out),
+    }
+}
+
+/// Runs the report that the words behind the program's name ask for, and returns its status, with the drain that took
+/// all messages where the status is 0.
+///
+/// `report OUT FILE ..` forwards the messages of 1 to 8 managers, a file each, into one file: a feeder for each, in a
+/// thread of its own, through one queue, beside the drain that writes them. Each manager's messages are in their order.
+pub fn run_report<R: Threads + Wait + Sync, H: Shelf, K: Sink>(
+    rt: &R,
+    alloc: Global,
+    words: &[String],
+    shelf: &mut H,
+    out: &mut K,
+) -> (u8, Option<Drain>)
+    // What the run did or why it stopped, with its status, its text, what stands in the files, and its drain.
+    ensures ran { Reports (report_of (map string_bytes words.now)) result.1 result.0
+        (H.shows shelf.old) (H.shows shelf.new) (K.hears out.old) (K.hears out.new) }
+
+    // Whatever the status, no file changes but the one that the report writes.
+    ensures others { IsTrue (H.shows shelf.old).tells → SameBut
+        (written_in report (report_of (map string_bytes words.now)))
+        (H.shows shelf.old).files (H.shows shelf.new).files }
+{
+    match parse_report(words) {
+        None => (say(USAGE, BAD_WORDS, out), None),
+        Some(names) => tell_finished(alloc, report_files(rt, alloc, names, shelf), out),
     }
 }

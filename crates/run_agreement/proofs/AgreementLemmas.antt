@@ -22,7 +22,7 @@ use Rattle.run_agreement.proofs.FoundLemmas.{config_asked, config_stays, few_eve
 module _ (names : ReplayFiles) (old left found : Shelved) (was : WasReplayed names old left) (finds : FindsLeft names left found) where
   -- what the replay did
   abbrev history : Replayed names was.manager was.ran.answers.said old.files left.files
-  history = was.ran.answers.replayed was.tells
+  history = was.ran.answers.files_tell was.tells
 
   abbrev turns : List Turn
   turns = history.gives.turns
@@ -89,13 +89,13 @@ pub folds_again : (names : ReplayFiles) (old left found new : Shelved) (messages
     → RanCommand (fold_again names messages memory) status found new before after
     → EndsOrFails 0 (fold_again names messages memory) status found new before after
 folds_again names old left found new messages memory status before after was finds ran =
-    served_ends (fold_again names messages memory) status found new before after finds.tells ran.answer _
-    (fold_serves names old left found was finds messages memory) ran.ends ran.puts
+    served_ends (fold_again names messages memory) status found new before after finds.tells _
+    (fold_serves names old left found was finds messages memory) ran.answer (λ refusal none. none) ran.ends ran.puts
 
 pub checks_again : (names : ReplayFiles) (old left found new : Shelved) (status : ℕ) (before after : Heard)
     → WasReplayed names old left → FindsLeft names left found
     → RanCommand (check_again names) status found new before after → EndsWith 0 (check_again names) status found new before after
 checks_again names old left found new status before after was finds ran =
     nothing_fails names status found new before after
-    (served_ends (check_again names) status found new before after finds.tells ran.answer _
-    (check_serves names old left found was finds) ran.ends ran.puts)
+    (served_ends (check_again names) status found new before after finds.tells _
+    (check_serves names old left found was finds) ran.answer (λ refusal none. none) ran.ends ran.puts)

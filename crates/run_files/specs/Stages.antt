@@ -1,7 +1,7 @@
 -- What the stages of reading answer: what their bytes deserve, or want of memory.
 use Rattle.std.specs.Borrow.{Bor}
 use Rattle.std.specs.Prelude.{◌≡◌, ℕ, List, IsTrue, Result, Ok, Err, Vec, ⊤}
-use Rattle.run_files.specs.Names.{Global, CountsFault, Shelved, Read, BadConfig, Stop, CannotRead, TooLong, Refused, CannotWrite, NoMemory}
+use Rattle.run_files.specs.Names.{Global, CountsFault, Shelved, Read, BadConfig, Stop, CannotRead, TooLong, BadSource, Instance, Refused, CannotWrite, NoMemory}
 use Rattle.config_json.specs.declared.fault.JsonFault.{JsonFault}
 use Rattle.run_files.specs.Contents.{file_of}
 use Rattle.config_json.specs.declared.fault.JsonFault.TheVariants as faults
@@ -10,6 +10,8 @@ use Rattle.config_json.specs.declared.fault.JsonFault.TheVariants as faults
 abbrev pub plain_stop : Stop (Bor (List ℕ)) → Stop (List ℕ)
 plain_stop (CannotRead name) = CannotRead name.now
 plain_stop (TooLong name) = TooLong name.now
+plain_stop (BadSource name bad) = BadSource name.now bad
+plain_stop (Instance name) = Instance name.now
 plain_stop (Refused refusal) = Refused refusal
 plain_stop CannotWrite = CannotWrite
 plain_stop NoMemory = NoMemory
@@ -27,6 +29,8 @@ stop_of_config faults.NoMemory = NoMemory
 -- the refusal that was found, or want of memory
 abbrev pub StopsAs : {A : Type 0} → Result A (Stop (List ℕ)) → Stop (List ℕ) → Type 0
 StopsAs found (Refused refusal) = found ≡ Err (Refused refusal)
+StopsAs found (BadSource name bad) = found ≡ Err (BadSource name bad)
+StopsAs found (Instance name) = found ≡ Err (Instance name)
 StopsAs found NoMemory = ⊤
 StopsAs found other = ⊥
 

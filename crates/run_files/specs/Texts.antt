@@ -1,7 +1,7 @@
 -- The statuses and the texts of how a run ends.
 -- Source: docs/COMMANDS.md.
 use Rattle.std.specs.Prelude.{ℕ, ◌++◌, List, Result, Ok, Err, codes, decimal}
-use Rattle.run_files.specs.Names.{ConfigFault, BadMessage, Refusal, BadConfig, BadJournal, BadTrace, BadMessages, Differ, Stop, CannotRead, TooLong, Refused, CannotWrite, NoMemory}
+use Rattle.run_files.specs.Names.{ConfigFault, BadMessage, Refusal, BadConfig, BadJournal, BadTrace, BadMessages, Differ, EmptyKey, Signed, BadTag, BadCounter, TooLarge, BadUnit, Stop, CannotRead, TooLong, BadSource, Instance, Refused, CannotWrite, NoMemory}
 use Rattle.ids_config.specs.declared.fault.ConfigPlace.{ConfigPlace}
 use Rattle.ids_config.specs.declared.fault.ConfigPlace.TheVariants.{Top, Class, Event}
 use Rattle.ids_frame.specs.declared.fault.FrameFault.{FrameFault}
@@ -14,7 +14,9 @@ usage =
     ++ codes "       idsm fold CONFIG JOURNAL MESSAGES MEMORY\n" ++ codes "       idsm check CONFIG JOURNAL MESSAGES\n"
     ++ codes "       idsm decode MESSAGES\n"
     ++ codes "       idsm gen [--start N] [--callers N] [--rounds N] [--events N] CONFIG TRACE JOURNAL\n"
-    ++ codes "       idsm migrate CONFIG NEW\n"
+    ++ codes "       idsm migrate CONFIG NEW\n" ++ codes "       idsm report OUT FILE ..\n"
+    ++ codes "       idsm sign KEY START MESSAGES SIGNED\n" ++ codes "       idsm verify KEY START SIGNED MESSAGES\n"
+    ++ codes "       idsm bundle SIZE MESSAGES UNITS\n" ++ codes "       idsm unbundle UNITS MESSAGES\n"
 
 -- ---- the texts of refusals
 
@@ -51,9 +53,14 @@ abbrev pub bad_message_text : BadMessage → List ℕ
 bad_message_text bad =
     codes "bad message at " ++ (decimal bad.at ++ (codes ": " ++ (fault_word bad.fault ++ codes "\n")))
 
--- the line `differs at K`
-abbrev pub differs_text : ℕ → List ℕ
-differs_text at = codes "differs at " ++ (decimal at ++ codes "\n")
+-- the line `bad message in NAME at K: REASON`
+abbrev pub bad_source_text : List ℕ → BadMessage → List ℕ
+bad_source_text name bad =
+    codes "bad message in " ++ (name ++ (codes " at " ++ (decimal bad.at ++ (codes ": " ++ (fault_word bad.fault ++ codes "\n")))))
+
+-- a line of these words and a place
+abbrev pub at_text : List ℕ → ℕ → List ℕ
+at_text words at = words ++ (decimal at ++ codes "\n")
 
 -- the text of a refusal
 abbrev pub refusal_text : Refusal → List ℕ
@@ -61,7 +68,13 @@ refusal_text (BadConfig fault) = bad_config_text fault
 refusal_text (BadJournal line number) = bad_journal_text line number
 refusal_text (BadTrace line number) = bad_trace_text line number
 refusal_text (BadMessages bad) = bad_message_text bad
-refusal_text (Differ at) = differs_text at
+refusal_text (Differ at) = at_text (codes "differs at ") at
+refusal_text EmptyKey = codes "empty key\n"
+refusal_text (Signed at) = at_text (codes "signed at ") at
+refusal_text (BadTag at) = at_text (codes "bad tag at ") at
+refusal_text (BadCounter at) = at_text (codes "bad counter at ") at
+refusal_text (TooLarge at) = at_text (codes "too large at ") at
+refusal_text (BadUnit at) = at_text (codes "bad unit at ") at
 
 -- the status of a refusal
 abbrev pub refusal_status : Refusal → ℕ
@@ -70,6 +83,12 @@ refusal_status (BadJournal line number) = 6
 refusal_status (BadTrace line number) = 6
 refusal_status (Differ at) = 9
 refusal_status (BadMessages bad) = 10
+refusal_status EmptyKey = 16
+refusal_status (Signed at) = 17
+refusal_status (BadTag at) = 18
+refusal_status (BadCounter at) = 19
+refusal_status (TooLarge at) = 20
+refusal_status (BadUnit at) = 21
 
 -- ---- the texts of stops
 
@@ -80,6 +99,8 @@ no_memory_text = codes "no memory\n"
 abbrev pub stop_text : Stop (List ℕ) → List ℕ
 stop_text (CannotRead name) = codes "cannot read " ++ (name ++ codes "\n")
 stop_text (TooLong name) = codes "too long " ++ (name ++ codes "\n")
+stop_text (BadSource name bad) = bad_source_text name bad
+stop_text (Instance name) = codes "instance " ++ (name ++ codes "\n")
 stop_text (Refused refusal) = refusal_text refusal
 stop_text CannotWrite = codes "cannot write\n"
 stop_text NoMemory = no_memory_text
@@ -88,6 +109,8 @@ stop_text NoMemory = no_memory_text
 abbrev pub stop_status : Stop (List ℕ) → ℕ
 stop_status (CannotRead name) = 3
 stop_status (TooLong name) = 4
+stop_status (BadSource name bad) = 10
+stop_status (Instance name) = 11
 stop_status (Refused refusal) = refusal_status refusal
 stop_status CannotWrite = 7
 stop_status NoMemory = 8

@@ -1,6 +1,6 @@
 //! Files that are read whole.
 
-ghost use Rattle.std.specs.Prelude.{◌≡◌, Ok, IsTrue, IfOk, OnOk, IfErr};
+ghost use Rattle.std.specs.Prelude.{◌≡◌, ◌≤◌, length, Ok, IsTrue, IfOk, OnOk, IfErr};
 ghost use Rattle.ids_outside.specs.Files.{SameFiles};
 ghost use Rattle.run_files.specs.Contents.{file_of};
 ghost use Rattle.run_files.specs.Stages.{ReadStops, plain_stop};
@@ -21,6 +21,7 @@ pub fn read_file<'a, H: Shelf>(
         SameFiles (H.shows shelf.old).files (H.shows shelf.new).files }
     ensures found { IsTrue (H.shows shelf.old).tells → IfOk result (λ bytes.
         file_of limit name.now (H.shows shelf.old).files ≡ Ok bytes.items) }
+    ensures within { IfOk result (λ bytes. length bytes.items ≤ limit) }
     ensures no_fault { OnOk result ((H.shows shelf.new).faults ≡ (H.shows shelf.old).faults) }
     ensures stops { IfErr result (λ reason. ReadStops limit name.now
         (H.shows shelf.old) (H.shows shelf.new) (plain_stop reason)) }

@@ -3,12 +3,12 @@
 ghost use Rattle.std.specs.Prelude.{◌≡◌, List, ℕ, Err, IfOk, string_bytes};
 ghost use Rattle.run_files.specs.Saying.{Puts, Says, Tells};
 ghost use Rattle.run_files.specs.Stages.{plain_end};
-ghost use Rattle.run_files.specs.Texts.{bad_config_text, bad_message_text};
+ghost use Rattle.run_files.specs.Texts.{bad_config_text, bad_message_text, bad_source_text, fault_word};
 ghost use Rattle.run_files.specs.declared.stop.Stop.TheVariants.{Refused};
 
 use crate::status::{
-    BAD_CONFIG, BAD_JOURNAL, BAD_MESSAGE, CANNOT_READ, CANNOT_WRITE, DIFFERS, DONE, NO_MEMORY,
-    TOO_LONG,
+    BAD_CONFIG, BAD_COUNTER, BAD_JOURNAL, BAD_MESSAGE, BAD_TAG, BAD_UNIT, CANNOT_READ,
+    CANNOT_WRITE, DIFFERS, DONE, EMPTY_KEY, INSTANCE, NO_MEMORY, SIGNED, TOO_LARGE, TOO_LONG,
 };
 use crate::stop::{Refusal, Stop};
 use ids_config::{ConfigFault, ConfigPlace};
@@ -43,6 +43,14 @@ pub fn tell<K: Sink>(alloc: Global, end: Result<Vec<u8>, Stop<&str>>, out: &mut 
         Err(Stop::TooLong(name)) => {
             say_line(format!(in alloc; "too long {name}\n"), TOO_LONG, out)
         }
+        Err(Stop::BadSource(name, bad)) => {
+            say_line(bad_source_line(alloc, name, bad), BAD_MESSAGE, out)
+        }
+        Err(Stop::Instance(name)) => say_line(
+            format!(in alloc; "instance {name}\n"),
+            INSTANCE,
+            out,
+        ),
         Err(Stop::Refused(refusal)) => tell_refusal(alloc, refusal, out),
         Err(Stop::CannotWrite) => say(b"cannot write\n", CANNOT_WRITE, out),
         Err(Stop::NoMemory) => say(b"no memory\n", NO_MEMORY, out),
@@ -64,7 +72,17 @@ fn tell_refusal<K: Sink>(alloc: Global, refusal: Refusal, out: &mut K) -> u8
             say_line(told, BAD_JOURNAL, out)
         }
         Refusal::BadMessages(bad) => say_line(bad_message_line(alloc, bad), BAD_MESSAGE, out),
+        Refusal::EmptyKey => say(b"empty key\n", EMPTY_KEY, out),
         Refusal::Differ { at } => say_line(format!(in alloc; "differs at {at}\n"), DIFFERS, out),
+        Refusal::Signed { at } => say_line(format!(in alloc; "signed at {at}\n"), SIGNED, out),
+        Refusal::BadTag { at } => say_line(format!(in alloc; "bad tag at {at}\n"), BAD_TAG, out),
+        Refusal::BadCounter { at } => {
+            say_line(format!(in alloc; "bad counter at {at}\n"), BAD_COUNTER, out)
+        }
+        Refusal::TooLarge { at } => {
+            say_line(format!(in alloc; "too large at {at}\n"), TOO_LARGE, out)
+        }
+        Refusal::BadUnit { at } => say_line(format!(in alloc; "bad unit at {at}\n"), BAD_UNIT, out),
     }
 }
 
@@ -94,9 +112,25 @@ fn bad_message_line(alloc: Global, bad: BadMessage) -> Result<String, AllocError
     ensures { IfOk result (λ text. string_bytes text ≡ bad_message_text bad) }
 {
     let at = bad.at;
-    match bad.fault {
-        FrameFault::Short => format!(in alloc; "bad message at {at}: short\n"),
-        FrameFault::UnknownVersion => format!(in alloc; "bad message at {at}: version\n"),
-        FrameFault::UnknownPart => format!(in alloc; "bad message at {at}: part\n"),
+    let word = fault_word(bad.fault);
+    format!(in alloc; "bad message at {at}: {word}\n")
+}
+
+fn bad_source_line(alloc: Global, name: &str, bad: BadMessage) -> Result<String, AllocError>
+    ensures { IfOk result (λ text. string_bytes text ≡ bad_source_text name.entry.now bad) }
+{
+    let at = bad.at;
+    let word = fault_word(bad.fault);
+    format!(in alloc; "bad message in {name} at {at}: {word}\n")
+}
+
+/// The word for a fault of a message.
+fn fault_word(fault: FrameFault) -> &'static str
+    ensures { result.now ≡ fault_word fault }
+{
+    match fault {
+        FrameFault::Short => "short",
+        FrameFault::UnknownVersion => "version",
+        FrameFault::UnknownPart => "part",
     }
 }

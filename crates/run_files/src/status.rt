@@ -29,3 +29,24 @@ pub const DIFFERS: u8 = 9;
 
 /// The bytes of a file of messages are no list of messages.
 pub const BAD_MESSAGE: u8 = 10;
+
+/// A file of messages has those of two managers, or of the manager of a file before it.
+pub const INSTANCE: u8 = 11;
+
+/// A key has no bytes.
+pub const EMPTY_KEY: u8 = 16;
+
+/// A message has a signature part already.
+pub const SIGNED: u8 = 17;
+
+/// A message has no seal, or one of another key or of other bytes.
+pub const BAD_TAG: u8 = 18;
+
+/// A message is sealed with another counter than is due.
+pub const BAD_COUNTER: u8 = 19;
+
+/// A message has more bytes than a unit may have.
+pub const TOO_LARGE: u8 = 20;
+
+/// The bytes of a file of units are no list of units.
+pub const BAD_UNIT: u8 = 21;

@@ -25,6 +25,18 @@ pub enum Refusal {
     BadMessages(BadMessage),
     /// The file of messages has other bytes from this place on than were sent, or ends there, or goes on.
     Differ { at: u64 },
+    /// The file of the key has no bytes.
+    EmptyKey,
+    /// The message at this place has a signature part already.
+    Signed { at: u64 },
+    /// The message at this place has no seal, or one of another key or of other bytes.
+    BadTag { at: u64 },
+    /// The message at this place is sealed, with another counter than is due.
+    BadCounter { at: u64 },
+    /// The message at this place has more bytes than a unit may have.
+    TooLarge { at: u64 },
+    /// No whole unit begins at this place.
+    BadUnit { at: u64 },
 }
 
 /// Why a command stopped.
@@ -34,6 +46,10 @@ pub enum Stop<N> {
     CannotRead(N),
     /// The file of this name has more bytes than its kind may have.
     TooLong(N),
+    /// No message begins at this place of the file of this name.
+    BadSource(N, BadMessage),
+    /// The file of this name has messages of two managers, or of the manager of a file before it.
+    Instance(N),
     Refused(Refusal),
     CannotWrite,
     NoMemory,

@@ -1,5 +1,5 @@
 -- What the input files of a command deserve, stage by stage.
-use Rattle.run_spec.proofs.Names.{◌≡◌, ◌≢◌, ℕ, List, length, Option, None, Some, Ok, Err, IsTrue, refl, sym, subst, ◌∙◌, inl, inr, arith, Result, Contains, nat_lt, bytes_eq, false_from_ne_true, cases_Bool, bytes_eq-Decides, Wanted, Refusal, MayRefuse, configuration, Parts, MessageParts, messages_read, BadMessage, CountsFault, Files, SameFiles, SameOthers, Shelved, Read, Turn, ConfigFault, BadConfig, BadJournal, BadTrace, BadMessages, Stop, CannotRead, TooLong, Refused, CannotWrite, NoMemory, Command, Recording, recording_of, FoldFiles, CheckFiles, MigrateFiles, fold, check, decode, gen, migrate, replay, ReplayFiles, AskedFor, asked_in, trace_judged, trace_in, Round, read_by, folded_in, file_of, without, config_found, journal_judged, judge, Task, does, replays, Recorded, recorded_in, check_judged, fold_work, decode_work, gen_work, migrate_work, bytes_of, KeepsConfig, StopsFor, ReadStops, StopsAs, plain_stop, stop_of_config, messages_of}
+use Rattle.run_spec.proofs.Names.{◌≡◌, ◌≢◌, ℕ, List, length, Option, None, Some, Ok, Err, IsTrue, refl, sym, subst, ◌∙◌, inl, inr, arith, Result, Contains, nat_lt, bytes_eq, false_from_ne_true, cases_Bool, bytes_eq-Decides, Wanted, MayRefuse, MayStop, configuration, Parts, MessageParts, messages_read, BadMessage, CountsFault, Files, SameFiles, SameOthers, Shelved, Read, Turn, ConfigFault, BadConfig, BadJournal, BadTrace, BadMessages, Stop, CannotRead, TooLong, BadSource, Instance, Refused, CannotWrite, NoMemory, Command, Recording, recording_of, FoldFiles, CheckFiles, PairFiles, fold, check, decode, gen, migrate, replay, sign, verify, bundle, unbundle, report, ReplayFiles, AskedFor, asked_in, trace_judged, trace_in, Round, read_by, folded_in, file_of, without, config_found, journal_judged, judge, Task, does, replays, Recorded, recorded_in, check_judged, fold_work, decode_work, gen_work, migrate_work, bytes_of, KeepsConfig, StopsFor, ReadStops, StopsAs, plain_stop, stop_of_config, messages_of}
 use Rattle.std.proofs.lemmas.Option.{same_Some, none-some}
 use Rattle.text_spec.specs.Lines.{BadLine}
 use Rattle.text_spec.specs.JournalText.{Told}
@@ -38,11 +38,13 @@ unread command limit name old middle new (CannotRead other) may comes tells faul
 unread command limit name old middle new (TooLong other) may comes tells faults stays same why =
     subst (λ n. StopsFor command (TooLong n) old new) (sym why.0) (record {
       may = may;
-      judged = λ told. comes told old.files (TooLong name) (λ n differ. refl)
-          (rw (stays told name) at (why.2 (subst IsTrue (sym tells) told)));
+      deserved = λ told. inl (comes told old.files (TooLong name) (λ n differ. refl)
+          (rw (stays told name) at (why.2 (subst IsTrue (sym tells) told))));
       no_fault = why.1 ∙ faults;
       same = same;
     })
+unread command limit name old middle new (BadSource other bad) may comes tells faults stays same why = absurd why
+unread command limit name old middle new (Instance other) may comes tells faults stays same why = absurd why
 unread command limit name old middle new (Refused refusal) may comes tells faults stays same why = absurd why
 unread command limit name old middle new CannotWrite may comes tells faults stays same why = absurd why
 unread command limit name old middle new NoMemory may comes tells faults stays same why = inl same
@@ -50,14 +52,18 @@ unread command limit name old middle new NoMemory may comes tells faults stays s
 -- a command stopped where what a file holds was judged
 pub refused : {A : Type 0} (command : Command) (found : Result A (Stop (List ℕ))) (old new : Shelved)
     (reason : Stop (List ℕ))
-    → ((refusal : Refusal) → found ≡ Err (Refused refusal) → MayRefuse command refusal)
+    → ((why : Stop (List ℕ)) → found ≡ Err why → MayStop command why)
     → (IsTrue old.tells → found ≡ Err reason → judge command old.files ≡ Err reason)
     → new.faults ≡ old.faults → (IsTrue old.tells → SameFiles old.files new.files)
     → StopsAs found reason → StopsFor command reason old new
 refused command found old new (CannotRead name) may judged faults same is = absurd is
 refused command found old new (TooLong name) may judged faults same is = absurd is
+refused command found old new (BadSource name bad) may judged faults same is =
+    record { may = may _ is; deserved = λ told. inl (judged told is); no_fault = faults; same = same }
+refused command found old new (Instance name) may judged faults same is =
+    record { may = may _ is; deserved = λ told. inl (judged told is); no_fault = faults; same = same }
 refused command found old new (Refused refusal) may judged faults same is =
-    record { may = may refusal is; judged = λ told. judged told is; no_fault = faults; same = same }
+    record { may = may _ is; deserved = λ told. inl (judged told is); no_fault = faults; same = same }
 refused command found old new CannotWrite may judged faults same is = absurd is
 refused command found old new NoMemory may judged faults same is = inl same
 
@@ -85,6 +91,11 @@ module _ (names : Recording) (command : Command) (reads : recording_of command �
       go (gen wanted) is = absurd (none-some names is)
       go (migrate files) is = absurd (none-some names is)
       go (replay files) is = absurd (none-some names is)
+      go (sign files) is = absurd (none-some names is)
+      go (verify files) is = absurd (none-some names is)
+      go (bundle files) is = absurd (none-some names is)
+      go (unbundle files) is = absurd (none-some names is)
+      go (report files) is = absurd (none-some names is)
 
   pub reads_config : Contains (read_by command) names.config
   reads_config = by_command (λ c n. Contains (read_by c) n.config) (λ f. (0, omega arith, refl)) (λ f. (0, omega arith, refl))
@@ -107,16 +118,18 @@ module _ (names : Recording) (command : Command) (reads : recording_of command �
       (λ f is. rw is refl) (λ f is. rw is refl)
 
   -- the refusals of a journal
-  pub journal_may : (found : Result Told BadLine) (refusal : Refusal) → journal_judged found ≡ Err (Refused refusal)
-      → MayRefuse command refusal
-  journal_may (Ok told) refusal is = absurd cc
-  journal_may (Err bad) refusal is =
-      subst (MayRefuse command) (cc is) (may_journal bad.line bad.fault)
+  pub journal_may : (found : Result Told BadLine) (why : Stop (List ℕ)) → journal_judged found ≡ Err why
+      → MayStop command why
+  journal_may (Ok told) why is = absurd cc
+  journal_may (Err bad) why is =
+      let same : Refused (BadJournal bad.line bad.fault) ≡ why = cc is in
+      subst (MayStop command) same (may_journal bad.line bad.fault)
 
-  pub config_may : (found : Result Parts ConfigFault) (refusal : Refusal) → config_found found ≡ Err (Refused refusal)
-      → MayRefuse command refusal
-  config_may (Ok config) refusal is = absurd cc
-  config_may (Err fault) refusal is = subst (MayRefuse command) (cc is) (may_config fault)
+  pub config_may : (found : Result Parts ConfigFault) (why : Stop (List ℕ)) → config_found found ≡ Err why
+      → MayStop command why
+  config_may (Ok config) why is = absurd cc
+  config_may (Err fault) why is =
+      let same : Refused (BadConfig fault) ≡ why = cc is in subst (MayStop command) same (may_config fault)
 
   module _ (files : Files) where
     pub config_first : ComesTo command 1048576 names.config files
@@ -181,28 +194,28 @@ bytes_read limit name bytes (Some held) is = elim (cases_Bool (nat_lt limit (len
 ]
 
 -- a new file whose bytes have the configuration of the old ones
-pub config_kept : (names : MigrateFiles) (old new : Files) (bytes text : List ℕ) (config : Parts)
-    → file_of 1048576 names.config old ≡ Ok bytes → configuration bytes ≡ Ok config
+pub config_kept : (names : PairFiles) (old new : Files) (bytes text : List ℕ) (config : Parts)
+    → file_of 1048576 names.source old ≡ Ok bytes → configuration bytes ≡ Ok config
     → new names.target ≡ Some text → configuration text ≡ Ok config → KeepsConfig (migrate names) old new
 config_kept names old new bytes text config read is written again =
-    rw (written, bytes_read 1048576 names.config bytes (old names.config) read, is, again) refl
+    rw (written, bytes_read 1048576 names.source bytes (old names.source) read, is, again) refl
 
 -- it stopped where its configuration was not read
-pub unread_config : (names : MigrateFiles) (found : Result Parts ConfigFault) (fault : JsonFault) (old new : Shelved)
+pub unread_config : (names : PairFiles) (found : Result Parts ConfigFault) (fault : JsonFault) (old new : Shelved)
     → (IsTrue old.tells → (reason : ConfigFault) → found ≡ Err reason
     → judge (migrate names) old.files ≡ Err (Refused (BadConfig reason)))
     → new.faults ≡ old.faults → (IsTrue old.tells → SameFiles old.files new.files)
     → Tells found (Err fault) → StopsFor (migrate names) (plain_stop (stop_of_config fault)) old new
 unread_config names found (faults.Config fault) old new judged no_fault same is =
-    record { may = tt; judged = λ told. judged told fault is; no_fault = no_fault; same = same }
+    record { may = tt; deserved = λ told. inl (judged told fault is); no_fault = no_fault; same = same }
 unread_config names found faults.NoMemory old new judged no_fault same is = inl same
 
-module _ (names : MigrateFiles) (files : Files) where
-  pub source_first : ComesTo (migrate names) 1048576 names.config files
+module _ (names : PairFiles) (files : Files) where
+  pub source_first : ComesTo (migrate names) 1048576 names.source files
   unfolding Judge.judge
   source_first other reason same is = rw is refl
 
-  module _ (text : List ℕ) (read : file_of 1048576 names.config files ≡ Ok text) where
+  module _ (text : List ℕ) (read : file_of 1048576 names.source files ≡ Ok text) where
     pub source_refused : (fault : ConfigFault) → configuration text ≡ Err fault
         → judge (migrate names) files ≡ Err (Refused (BadConfig fault))
     unfolding Judge.judge
@@ -216,18 +229,18 @@ module _ (names : MigrateFiles) (files : Files) where
 -- ---- the stages of `replay`
 
 -- it stopped where its configuration was refused
-pub replay_config : (names : ReplayFiles) (found : Result Parts ConfigFault) (refusal : Refusal)
-    → config_found found ≡ Err (Refused refusal) → MayRefuse (replay names) refusal
-replay_config names (Ok config) refusal is = absurd cc
-replay_config names (Err fault) refusal is =
-    let same : BadConfig fault ≡ refusal = cc is in subst (MayRefuse (replay names)) same tt
+pub replay_config : (names : ReplayFiles) (found : Result Parts ConfigFault) (why : Stop (List ℕ))
+    → config_found found ≡ Err why → MayStop (replay names) why
+replay_config names (Ok config) why is = absurd cc
+replay_config names (Err fault) why is =
+    let same : Refused (BadConfig fault) ≡ why = cc is in subst (MayStop (replay names)) same tt
 
 -- and where its trace was
-pub replay_trace : (names : ReplayFiles) (found : Result (List Round) BadLine) (refusal : Refusal)
-    → trace_judged found ≡ Err (Refused refusal) → MayRefuse (replay names) refusal
-replay_trace names (Ok rounds) refusal is = absurd cc
-replay_trace names (Err bad) refusal is =
-    let same : BadTrace bad.line bad.fault ≡ refusal = cc is in subst (MayRefuse (replay names)) same tt
+pub replay_trace : (names : ReplayFiles) (found : Result (List Round) BadLine) (why : Stop (List ℕ))
+    → trace_judged found ≡ Err why → MayStop (replay names) why
+replay_trace names (Ok rounds) why is = absurd cc
+replay_trace names (Err bad) why is =
+    let same : Refused (BadTrace bad.line bad.fault) ≡ why = cc is in subst (MayStop (replay names)) same tt
 
 module _ (names : ReplayFiles) (files : Files) where
   pub asked_first : ComesTo (replay names) 1048576 names.config files

@@ -1,6 +1,9 @@
 -- How a command ended, how that was told, and what the files deserve.
-use Rattle.run_spec.proofs.Names.{◌≡◌, ℕ, Bool, true, false, List, Option, None, Some, Ok, Err, Bor, IsTrue, refl, sym, subst, inl, inr, no_memory_text, Result, IfOk, IfErr, Vec, ⊤, Global, SameFiles, Shelved, Heard, PutCause, WriteFault, Failed, MemoryRefused, Stop, CannotRead, TooLong, Refused, CannotWrite, NoMemory, Command, EndsWith, EndsOrFails, Task, judge, Ran, RanCommand, EndsAs, StopsFor, WasDone, WasRefused, OneFails, Puts, Says, Tells, put_status, plain_stop, plain_end, stop_text, stop_status, answer_text, answer_status, DidWork, Does}
+use Rattle.run_spec.proofs.Names.{◌≡◌, ℕ, Bool, true, false, List, Option, None, Some, Ok, Err, Bor, IsTrue, refl, sym, subst, inl, inr, no_memory_text, Result, IfOk, IfErr, Vec, ⊤, Global, SameFiles, Shelved, Heard, PutCause, WriteFault, Failed, MemoryRefused, Stop, CannotRead, TooLong, BadSource, Instance, Refused, CannotWrite, NoMemory, Command, EndsWith, EndsOrFails, CanBeDone, IsOfBytes, Task, Work, judge, Refuses, Deserves, refusal_status, ap, ◌∙◌, Ran, RanCommand, EndsAs, StopsFor, WasDone, WasRefused, OneFails, Puts, Says, Tells, put_status, plain_stop, plain_end, stop_text, stop_status, answer_text, answer_status, DidWork, Does}
 use Rattle.std.proofs.Common.{◌≢◌, arith}
+use Rattle.run_files.specs.declared.stop.Refusal.{Refusal}
+use Rattle.run_files.specs.declared.stop.Refusal.TheVariants.{BadConfig, BadCounter, BadJournal, BadMessages, BadTag, BadTrace, BadUnit, Differ, EmptyKey, Signed, TooLarge}
+use Rattle.run_spec.proofs.TaskLemmas.{done_or_refused, one_refusal}
 
 module _ (command : Command) (status : ℕ) (old new : Shelved) (before after : Heard) where
   -- where there was no memory to tell that the inputs do not serve, memory was wanted
@@ -15,11 +18,18 @@ module _ (command : Command) (status : ℕ) (old new : Shelved) (before after : 
       → RanCommand command status old new before after
   stop_ran (CannotRead name) stops tells = says_ran (CannotRead name) stops stops.same tells
   stop_ran (TooLong name) stops tells = says_ran (TooLong name) stops stops.same tells
+  stop_ran (BadSource name bad) stops tells = says_ran (BadSource name bad) stops stops.same tells
+  stop_ran (Instance name) stops tells = says_ran (Instance name) stops stops.same tells
   stop_ran (Refused refusal) stops tells = says_ran (Refused refusal) stops stops.same tells
   stop_ran CannotWrite stops tells = record { answer = Err CannotWrite; ends = stops; puts = tells }
   stop_ran NoMemory stops tells = record { answer = Err NoMemory; ends = stops; puts = tells }
 
   -- a command that ended so, and told it
+  pub ended_ran : (end : Result (Vec ℕ Global) (Stop (Bor (List ℕ)))) → EndsAs command (plain_end end) old new
+      → Tells (plain_end end) status before after → RanCommand command status old new before after
+  ended_ran (Ok said) ends tells = record { answer = Ok said.items; ends = ends; puts = tells }
+  ended_ran (Err reason) ends tells = stop_ran (plain_stop reason) ends tells
+
   pub end_ran : (end : Result (Vec ℕ Global) (Stop (Bor (List ℕ))))
       → IfOk end (λ text. WasDone command text.items old new)
       → IfErr end (λ reason. StopsFor command (plain_stop reason) old new)
@@ -51,9 +61,12 @@ module _ (command : Command) (status : ℕ) (old new : Shelved) (before after : 
     as_deserved : (reason wanted : Stop (List ℕ)) → judge command old.files ≡ Err wanted
         → WasRefused command reason old new → Puts (stop_text reason) (stop_status reason) status before after
         → EndsWith (stop_status wanted) command status old new before after
-    as_deserved reason wanted deserved was puts =
-        let same : reason ≡ wanted = cc (was.judged told, deserved) in
-        subst (λ r. EndsWith (stop_status r) command status old new before after) same (put_ends _ _ puts)
+    as_deserved reason wanted deserved was puts = elim (was.deserved told) [
+      | inl judged ↦
+          let same : reason ≡ wanted = cc (judged, deserved) in
+          subst (λ r. EndsWith (stop_status r) command status old new before after) same (put_ends _ _ puts)
+      | inr cannot ↦ absurd (cc (cannot.judged, deserved))
+    ]
 
     pub refused_ends : (answer : Result (List ℕ) (Stop (List ℕ))) (wanted : Stop (List ℕ))
         → judge command old.files ≡ Err wanted → EndsAs command answer old new
@@ -64,6 +77,10 @@ module _ (command : Command) (status : ℕ) (old new : Shelved) (before after : 
         inr (inr (inr (record { name = name; unread = ends })))
     refused_ends (Err (TooLong name)) wanted deserved ends puts =
         as_deserved (TooLong name) wanted deserved ends puts
+    refused_ends (Err (BadSource name bad)) wanted deserved ends puts =
+        as_deserved (BadSource name bad) wanted deserved ends puts
+    refused_ends (Err (Instance name)) wanted deserved ends puts =
+        as_deserved (Instance name) wanted deserved ends puts
     refused_ends (Err (Refused refusal)) wanted deserved ends puts =
         as_deserved (Refused refusal) wanted deserved ends puts
     refused_ends (Err CannotWrite) wanted deserved ends puts = absurd (cc ((ends.part told).judged, deserved))
@@ -75,24 +92,82 @@ module _ (command : Command) (status : ℕ) (old new : Shelved) (before after : 
     unwritten fails (inl is) = inr (is, fails)
     unwritten fails (inr other) = inl (inr other)
 
-    -- files that serve are not refused
-    pub served_ends : (answer : Result (List ℕ) (Stop (List ℕ))) (task : Task)
-        → judge command old.files ≡ Ok task → EndsAs command answer old new
-        → Puts (answer_text answer) (answer_status answer) status before after
-        → EndsOrFails 0 command status old new before after
-    served_ends (Ok said) task serves ends puts = inl (put_ends 0 _ puts)
-    served_ends (Err (CannotRead name)) task serves ends puts =
-        inl (inr (inr (inr (record { name = name; unread = ends }))))
-    served_ends (Err (TooLong name)) task serves ends puts = absurd (cc (ends.judged told, serves))
-    served_ends (Err (Refused refusal)) task serves ends puts = absurd (cc (ends.judged told, serves))
-    served_ends (Err CannotWrite) task serves ends puts = unwritten ends.fails (put_ends 7 _ puts)
-    served_ends (Err NoMemory) task serves ends puts = inl (starved 0 (put_ends 8 _ puts))
+    module _ (task : Task) (serves : judge command old.files ≡ Ok task) where
+      -- files whose task can be done are not refused
+      none_deserved : (reason : Stop (List ℕ)) → CanBeDone task → Deserves command old.files reason → ⊥
+      none_deserved reason can (inl judged) = absurd (cc (judged, serves))
+      none_deserved reason can (inr cannot) =
+          let same : cannot.task ≡ task = cc (sym cannot.judged, serves) in
+          can cannot.refusal (subst (λ (t : Task). Refuses t cannot.refusal) same cannot.refuses)
+
+      pub served_ends : (answer : Result (List ℕ) (Stop (List ℕ))) → CanBeDone task → EndsAs command answer old new
+          → Puts (answer_text answer) (answer_status answer) status before after
+          → EndsOrFails 0 command status old new before after
+      served_ends (Ok said) can ends puts = inl (put_ends 0 _ puts)
+      served_ends (Err (CannotRead name)) can ends puts =
+          inl (inr (inr (inr (record { name = name; unread = ends }))))
+      served_ends (Err (TooLong name)) can ends puts = absurd (none_deserved _ can (ends.deserved told))
+      served_ends (Err (BadSource name bad)) can ends puts = absurd (none_deserved _ can (ends.deserved told))
+      served_ends (Err (Instance name)) can ends puts = absurd (none_deserved _ can (ends.deserved told))
+      served_ends (Err (Refused refusal)) can ends puts = absurd (none_deserved _ can (ends.deserved told))
+      served_ends (Err CannotWrite) can ends puts = unwritten ends.fails (put_ends 7 _ puts)
+      served_ends (Err NoMemory) can ends puts = inl (starved 0 (put_ends 8 _ puts))
+
+      module _ (refusal : Refusal) (bytes : IsOfBytes task) (refuses : Refuses task refusal) where
+        -- a task that cannot be done was not done, nor refused for another reason
+        not_done : (other : Task) (work : Work) → judge command old.files ≡ Ok other → Does other work → ⊥
+        not_done other work judged is =
+            let same : other ≡ task = cc (sym judged, serves) in
+            done_or_refused task work refusal bytes (subst (λ (t : Task). Does t work) same is) refuses
+
+        was_told : (reason : Stop (List ℕ)) → Deserves command old.files reason → reason ≡ Refused refusal
+        was_told reason (inl judged) = absurd (cc (judged, serves))
+        was_told reason (inr cannot) =
+            let same : cannot.task ≡ task = cc (sym cannot.judged, serves) in
+            cannot.is
+            ∙ ap Refused (one_refusal task cannot.refusal refusal bytes
+            (subst (λ (t : Task). Refuses t cannot.refusal) same cannot.refuses) refuses)
+
+        as_told : (reason : Stop (List ℕ)) → WasRefused command reason old new
+            → Puts (stop_text reason) (stop_status reason) status before after
+            → EndsWith (refusal_status refusal) command status old new before after
+        as_told reason was puts =
+            subst (λ r. EndsWith (stop_status r) command status old new before after)
+            (was_told reason (was.deserved told)) (put_ends _ _ puts)
+
+        pub unfit_ends : (answer : Result (List ℕ) (Stop (List ℕ))) → EndsAs command answer old new
+            → Puts (answer_text answer) (answer_status answer) status before after
+            → EndsWith (refusal_status refusal) command status old new before after
+        unfit_ends (Ok said) ends puts =
+            let all = ends.written told in absurd (not_done all.task all.work all.judged all.is_work)
+        unfit_ends (Err (CannotRead name)) ends puts = inr (inr (inr (record { name = name; unread = ends })))
+        unfit_ends (Err (TooLong name)) ends puts = as_told (TooLong name) ends puts
+        unfit_ends (Err (BadSource name bad)) ends puts = as_told (BadSource name bad) ends puts
+        unfit_ends (Err (Instance name)) ends puts = as_told (Instance name) ends puts
+        unfit_ends (Err (Refused other)) ends puts = as_told (Refused other) ends puts
+        unfit_ends (Err CannotWrite) ends puts =
+            let part = ends.part told in absurd (not_done part.task part.work part.judged part.is_work)
+        unfit_ends (Err NoMemory) ends puts = starved _ (put_ends 8 _ puts)
 
 -- a status that is not 0 stays none, however its text was put
 never_done : (wanted : ℕ) (put : Result ⊤ WriteFault) → wanted ≢ 0 → 0 ≢ put_status wanted put
 never_done wanted (Ok done) some is = some (sym is)
 never_done wanted (Err Failed) some is = absurd cc
 never_done wanted (Err MemoryRefused) some is = absurd cc
+
+-- no refusal has status 0
+pub refusal_some : (refusal : Refusal) → refusal_status refusal ≢ 0
+refusal_some (BadConfig fault) is = absurd cc
+refusal_some (BadJournal line number) is = absurd cc
+refusal_some (BadTrace line number) is = absurd cc
+refusal_some (BadMessages bad) is = absurd cc
+refusal_some (Differ at) is = absurd cc
+refusal_some EmptyKey is = absurd cc
+refusal_some (Signed at) is = absurd cc
+refusal_some (BadTag at) is = absurd cc
+refusal_some (BadCounter at) is = absurd cc
+refusal_some (TooLarge at) is = absurd cc
+refusal_some (BadUnit at) is = absurd cc
 
 module _ (command : Command) (old new : Shelved) (before after : Heard) (told : IsTrue old.tells) (task : Task)
     (serves : judge command old.files ≡ Ok task) where
@@ -104,8 +179,11 @@ module _ (command : Command) (old new : Shelved) (before after : Heard) (told : 
       let same : all.task ≡ task = cc (sym all.judged, serves) in
       record { work = all.work; is_work = subst (λ (t : Task). Does t all.work) same all.is_work; written = all.written }
   did_work (Err (CannotRead name)) ends puts = absurd (never_done 3 puts.put (omega arith) puts.is)
-  did_work (Err (TooLong name)) ends puts = absurd (cc (ends.judged told, serves))
-  did_work (Err (Refused refusal)) ends puts = absurd (cc (ends.judged told, serves))
+  did_work (Err (TooLong name)) ends puts = absurd (never_done 4 puts.put (omega arith) puts.is)
+  did_work (Err (BadSource name bad)) ends puts = absurd (never_done 10 puts.put (omega arith) puts.is)
+  did_work (Err (Instance name)) ends puts = absurd (never_done 11 puts.put (omega arith) puts.is)
+  did_work (Err (Refused refusal)) ends puts =
+      absurd (never_done (refusal_status refusal) puts.put (refusal_some refusal) puts.is)
   did_work (Err CannotWrite) ends puts = absurd (never_done 7 puts.put (omega arith) puts.is)
   did_work (Err NoMemory) ends puts = absurd (never_done 8 puts.put (omega arith) puts.is)
 

@@ -1,6 +1,8 @@
 -- The work of a command, from its inputs to its outputs.
 use Rattle.run_spec.proofs.Names.{◌≡◌, ℕ, List, Ok, Err, IsTrue, sym, subst, inr, Result, Contains, IfErr, Faults, written_by, WriteFails, WantsMemory, SameFiles, Shelved, WriteFault, Failed, MemoryRefused, Command, Task, Does, Work, judge, KeepsConfig, WasDone, StopsFor, OneFails, PartWritten, plain_stop, AreWritten, StandUpTo, stop_of_write}
+use Rattle.run_spec.proofs.Names.{Bor, Vec, Global, Stop, EndsAs, plain_end}
 use Rattle.run_files.proofs.WritingLemmas.{StandUpTo-before}
+use Rattle.std.specs.Result.{IsErrAnd}
 
 module _ (command : Command) (task : Task) (work : Work) (is : Does task work) (old middle new : Shelved)
     (found : IsTrue old.tells → judge command old.files ≡ Ok task) (tells : middle.tells ≡ old.tells) where
@@ -57,3 +59,11 @@ pub fails_so : {T : Type 0} (command : Command) (name : List ℕ) (answer : Resu
 fails_so command name (Ok done) old middle new is same fails = tt
 fails_so command name (Err fault) old middle new is same fails =
     record { name = name; is_output = is; fails = subst (λ f. WriteFails f new name fault) same fails }
+
+-- what a command ends with that left early
+pub left_ends : (command : Command) (answer : Result (Vec ℕ Global) (Stop (Bor (List ℕ)))) (reason : Stop (Bor (List ℕ)))
+    (old new : Shelved) → IsErrAnd answer (λ y. y ≡ reason) → StopsFor command (plain_stop reason) old new
+    → EndsAs command (plain_end answer) old new
+left_ends command (Ok text) reason old new left stops = absurd left
+left_ends command (Err other) reason old new left stops =
+    subst (λ r. StopsFor command (plain_stop r) old new) (sym left) stops

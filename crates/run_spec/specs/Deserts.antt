@@ -1,8 +1,9 @@
 -- What the input files deserve decides the answer of a run.
-use Rattle.std.specs.Prelude.{◌≡◌, ◌⊎◌, ℕ, List}
-use Rattle.run_spec.specs.Names.{Shelved, Heard, MissesOne, Failed}
+use Rattle.std.specs.Prelude.{◌≡◌, ◌⊎◌, ⊤, ℕ, List}
+use Rattle.ids_frame.specs.Bytes.{AreBytes}
+use Rattle.run_spec.specs.Names.{Shelved, Heard, MissesOne, Failed, Refusal}
 use Rattle.run_words.specs.Command.{Command}
-use Rattle.run_spec.specs.Judge.{Task, Does}
+use Rattle.run_spec.specs.Judge.{Task, Does, Refuses, seals, unseals, packs}
 use Rattle.run_spec.specs.Run.{OneFails, WasUnread}
 use Rattle.run_files.specs.Writing.{Work, AreWritten}
 
@@ -29,3 +30,14 @@ pub record DidWork (task : Task) (new : Shelved) : Type 0 where
   pub work : Work
   pub is_work : Does task work
   pub written : AreWritten work.outputs new.files
+
+-- the task can be done
+abbrev pub CanBeDone : Task → Type 0
+CanBeDone task = (refusal : Refusal) → Refuses task refusal → ⊥
+
+-- what the task is made of are bytes
+abbrev pub IsOfBytes : Task → Type 0
+IsOfBytes (seals target key start bytes) = AreBytes bytes
+IsOfBytes (unseals target key start bytes) = AreBytes bytes
+IsOfBytes (packs target size bytes) = AreBytes bytes
+IsOfBytes other = ⊤

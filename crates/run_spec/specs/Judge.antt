@@ -1,16 +1,30 @@
 -- What the input files of a command deserve: what they ask for, or why the command has to stop,
 -- in the order in which files are read and judged.
 -- Source: docs/COMMANDS.md, "Order of work".
-use Rattle.std.specs.Prelude.{◌≡◌, ℕ, nat_eq, List, [], ◌∷◌, codes, length, nat_lt, Option, Some, None, Result, Ok, Err, if◌then◌else◌, bytes_eq}
+use Rattle.std.specs.Prelude.{◌≡◌, ℕ, nat_eq, List, [], ◌∷◌, codes, Option, Some, None, Result, Ok, Err, if◌then◌else◌, bytes_eq}
 use Rattle.std.specs.List.{common_prefix_len}
-use Rattle.run_spec.specs.Names.{configuration, config_text, Parts, ConfigFault, MessageParts, messages_read, BadMessage, Files, Turn, Round, decoded_text, messages_of, rows_of, memory_text, trace_in, BadLine, Told, BadConfig, BadJournal, BadTrace, BadMessages, Differ, Stop, CannotRead, TooLong, Refused}
+use Rattle.run_spec.specs.Names.{configuration, config_text, Parts, ConfigFault, MessageParts, messages_read, BadMessage, Files, Turn, Round, decoded_text, messages_of, rows_of, memory_text, trace_in, BadLine, Told, BadConfig, BadJournal, BadTrace, BadMessages, Differ, EmptyKey, Refusal, Stop, Refused}
 use Rattle.gen_options.specs.Given.{Wanted}
 use Rattle.trace_gen.specs.Generated.{config_for, trace_for, journal_for, line_for}
-use Rattle.run_words.specs.Command.{Command, fold, check, decode, gen, migrate, replay, Recording, FoldFiles, MigrateFiles, ReplayFiles}
+use Rattle.frame_auth.specs.Faults.{GivesSealed, GivesUnsealed}
+use Rattle.frame_auth.specs.Sealing.{joined_sealed}
+use Rattle.frame_auth.specs.Tags.{filled}
+use Rattle.frame_auth.specs.declared.fault.SealFault.{SealFault}
+use Rattle.frame_auth.specs.declared.fault.UnsealFault.{UnsealFault}
+use Rattle.ids_bundle.specs.Packing.{Packs}
+use Rattle.ids_bundle.specs.Unpacking.{Unpacks}
+use Rattle.ids_bundle.specs.declared.fault.PackFault.{PackFault}
+use Rattle.ids_bundle.specs.declared.fault.UnpackFault.{UnpackFault}
+use Rattle.ids_frame.specs.Messages.{joined}
+use Rattle.run_words.specs.Command.{Command, fold, check, decode, gen, migrate, replay, sign, verify, bundle, unbundle, report, Recording, FoldFiles, PairFiles, KeyedFiles, ReplayFiles}
+use Rattle.run_spec.specs.Copying.{IsCopyWork, one_file, seal_refusal, unseal_refusal}
+use Rattle.ids_reporter.specs.Sources.{Sources}
+use Rattle.run_spec.specs.Report.{IsReportWork, sources_in}
+use Rattle.run_spec.specs.Packing.{IsPackWork, IsUnpackWork, pack_refusal, unpack_refusal}
 use Rattle.run_spec.specs.Fold.{fold_outputs, fold_text}
 use Rattle.run_spec.specs.FoldedJournal.{folded_in, ◌>>=◌}
 use Rattle.run_spec.specs.Replay.{IsReplayWork}
-use Rattle.run_files.specs.Writing.{Output, Work}
+use Rattle.run_files.specs.Writing.{Work}
 use Rattle.run_files.specs.Contents.{file_of}
 
 -- ---- what they hold
@@ -65,15 +79,40 @@ asked_in names files = do
 
 -- ---- the work of commands
 
--- what a command has to do: this work, or a replay of these rounds
+-- what a command has to do: this work, a replay of these rounds, to make of the bytes of one file those of another, or
+-- to merge these sources
 pub data Task : Type 0 where
   does : Work → Task
   replays : ReplayFiles → Parts → List Round → Task
+  seals : (target key : List ℕ) (start : ℕ) (bytes : List ℕ) → Task
+  unseals : (target key : List ℕ) (start : ℕ) (bytes : List ℕ) → Task
+  packs : (target : List ℕ) (size : ℕ) (bytes : List ℕ) → Task
+  unpacks : (target bytes : List ℕ) → Task
+  reports : (target : List ℕ) → Sources → Task
 
--- the work is one that the task asks for: of a replay, that of one history
+-- the work is one that the task asks for: of a replay, that of one history; of a report, that of one merge
 abbrev pub Does : Task → Work → Type 0
 Does (does own) work = work ≡ own
 Does (replays names config rounds) work = IsReplayWork names config rounds work
+Does (seals target key start bytes) work =
+    IsCopyWork joined (joined_sealed key start) (codes "signed ") target bytes work
+Does (unseals target key start bytes) work =
+    IsCopyWork (joined_sealed key start) joined (codes "verified ") target bytes work
+Does (packs target size bytes) work = IsPackWork target size bytes work
+Does (unpacks target bytes) work = IsUnpackWork target bytes work
+Does (reports target sources) work = IsReportWork target sources work
+
+-- the task cannot be done: this is the first fault of the bytes
+abbrev pub Refuses : Task → Refusal → Type 0
+Refuses (seals target key start bytes) refusal =
+    (fault : SealFault) × GivesSealed key start bytes (Err fault) × (seal_refusal fault ≡ Some refusal)
+Refuses (unseals target key start bytes) refusal =
+    (fault : UnsealFault) × GivesUnsealed key start bytes (Err fault) × (unseal_refusal fault ≡ Some refusal)
+Refuses (packs target size bytes) refusal =
+    (fault : PackFault) × Packs size bytes (Err fault) × (pack_refusal fault ≡ Some refusal)
+Refuses (unpacks target bytes) refusal =
+    (fault : UnpackFault) × Unpacks bytes (Err fault) × (unpack_refusal fault ≡ Some refusal)
+Refuses other refusal = ⊥
 
 -- the messages that the chain sends for the turns, the text of its event memory, and the line that counts them
 abbrev pub fold_work : FoldFiles → Parts → List Turn → Work
@@ -108,11 +147,33 @@ gen_work wanted = record {
 }
 
 -- the configuration's text in the second form, by one file, and the line that says so
-abbrev pub migrate_work : MigrateFiles → Parts → Work
-migrate_work names config = record {
-  outputs = record { name = names.target; bytes = config_text config } ∷ [];
-  said = codes "form 2\n";
-}
+abbrev pub migrate_work : PairFiles → Parts → Work
+migrate_work names config = one_file names.target (config_text config) (codes "form 2\n")
+
+-- a key, filled to its 64 bytes
+abbrev pub key_judged : List ℕ → Result (List ℕ) (Stop (List ℕ))
+key_judged [] = Err (Refused EmptyKey)
+key_judged (byte ∷ bytes) = Ok (filled (byte ∷ bytes))
+
+-- a key, and the bytes of a file of messages
+pub record Keyed : Type 0 where
+  pub key : List ℕ
+  pub bytes : List ℕ
+
+-- what the input files of `sign` and `verify` hold, of messages at most so many bytes: the key is judged before the
+-- messages are read
+abbrev pub keyed_bytes : ℕ → KeyedFiles → Files → Result Keyed (Stop (List ℕ))
+keyed_bytes limit names files = do
+  text ← file_of 64 names.key files
+  key ← key_judged text
+  bytes ← file_of limit names.files.source files
+  Ok (record { key = key; bytes = bytes })
+
+-- the command reads a key and then messages of at most so many bytes
+abbrev pub keyed_by : Command → Option (ℕ × KeyedFiles)
+keyed_by (sign names) = Some (67108864, names)
+keyed_by (verify names) = Some (536870912, names)
+keyed_by other = None
 
 -- what a command has to do over these files, or why they do not serve: each file is read and judged before
 -- the next
@@ -130,9 +191,24 @@ judge (decode name) files = do
   Ok (does (decode_work messages))
 judge (gen wanted) files = Ok (does (gen_work wanted))
 judge (migrate names) files = do
-  text ← file_of 1048576 names.config files
+  text ← file_of 1048576 names.source files
   config ← config_found (configuration text)
   Ok (does (migrate_work names config))
 judge (replay names) files = do
   asked ← asked_in names files
   Ok (replays names asked.config asked.rounds)
+judge (sign names) files = do
+  keyed ← keyed_bytes 67108864 names files
+  Ok (seals names.files.target keyed.key names.start keyed.bytes)
+judge (verify names) files = do
+  keyed ← keyed_bytes 536870912 names files
+  Ok (unseals names.files.target keyed.key names.start keyed.bytes)
+judge (bundle names) files = do
+  bytes ← file_of 67108864 names.files.source files
+  Ok (packs names.files.target names.size bytes)
+judge (unbundle names) files = do
+  bytes ← file_of 134217728 names.source files
+  Ok (unpacks names.target bytes)
+judge (report names) files = do
+  sources ← sources_in [] names.sources files
+  Ok (reports names.target sources)

@@ -1,8 +1,11 @@
+pub mod Copying
 pub mod Deserts
 pub mod Fold
 pub mod FoldedJournal
 pub mod Headline
 pub mod Judge
 pub mod Names
+pub mod Packing
 pub mod Replay
+pub mod Report
 pub mod Run

@@ -2,9 +2,9 @@
 -- and its text.
 -- Source: docs/COMMANDS.md.
 use Rattle.std.specs.Prelude.{◌≡◌, ◌⊎◌, ℕ, Bool, true, false, List, [], IsTrue, Option, Some, None, option_map, Result, Ok, Err, Contains}
-use Rattle.run_spec.specs.Names.{configuration, Faults, Rose, CountsFault, Files, SameFiles, Shelved, Heard, Read, WriteFault, Failed, Refusal, BadConfig, BadTrace, BadMessages, Differ, Stop, CannotRead, TooLong, Refused, CannotWrite, NoMemory}
-use Rattle.run_words.specs.Command.{Command, fold, check, decode, gen, migrate, replay, read_by, written_by}
-use Rattle.run_spec.specs.Judge.{Task, Does, judge}
+use Rattle.run_spec.specs.Names.{configuration, Faults, Rose, CountsFault, Files, SameFiles, Shelved, Heard, Read, WriteFault, Failed, Refusal, BadConfig, BadJournal, BadTrace, BadMessages, Differ, EmptyKey, Signed, BadTag, BadCounter, TooLarge, BadUnit, Stop, CannotRead, TooLong, BadSource, Instance, Refused, CannotWrite, NoMemory}
+use Rattle.run_words.specs.Command.{Command, fold, check, decode, gen, migrate, replay, sign, verify, bundle, unbundle, report, read_by, written_by}
+use Rattle.run_spec.specs.Judge.{Task, Does, Refuses, judge}
 use Rattle.run_files.specs.Contents.{without}
 use Rattle.run_files.specs.Saying.{Puts, Says}
 use Rattle.run_files.specs.Texts.{usage, answer_text, answer_status}
@@ -14,13 +14,13 @@ use Rattle.run_files.specs.Writing.{Work, AreWritten, StandUpTo, WriteFails}
 
 -- the command may refuse so
 abbrev pub MayRefuse : Command → Refusal → Type 0
-MayRefuse (fold files) (BadMessages bad) = ⊥
-MayRefuse (fold files) (Differ at) = ⊥
-MayRefuse (fold files) (BadTrace line number) = ⊥
-MayRefuse (fold files) refusal = Unit {0}
-MayRefuse (check files) (BadMessages bad) = ⊥
-MayRefuse (check files) (BadTrace line number) = ⊥
-MayRefuse (check files) refusal = Unit {0}
+MayRefuse (fold files) (BadConfig fault) = Unit {0}
+MayRefuse (fold files) (BadJournal line number) = Unit {0}
+MayRefuse (fold files) refusal = ⊥
+MayRefuse (check files) (BadConfig fault) = Unit {0}
+MayRefuse (check files) (BadJournal line number) = Unit {0}
+MayRefuse (check files) (Differ at) = Unit {0}
+MayRefuse (check files) refusal = ⊥
 MayRefuse (decode name) (BadMessages bad) = Unit {0}
 MayRefuse (decode name) refusal = ⊥
 MayRefuse (gen wanted) refusal = ⊥
@@ -29,11 +29,28 @@ MayRefuse (migrate files) refusal = ⊥
 MayRefuse (replay files) (BadConfig fault) = Unit {0}
 MayRefuse (replay files) (BadTrace line number) = Unit {0}
 MayRefuse (replay files) refusal = ⊥
+MayRefuse (sign names) EmptyKey = Unit {0}
+MayRefuse (sign names) (BadMessages bad) = Unit {0}
+MayRefuse (sign names) (Signed at) = Unit {0}
+MayRefuse (sign names) refusal = ⊥
+MayRefuse (verify names) EmptyKey = Unit {0}
+MayRefuse (verify names) (BadMessages bad) = Unit {0}
+MayRefuse (verify names) (BadTag at) = Unit {0}
+MayRefuse (verify names) (BadCounter at) = Unit {0}
+MayRefuse (verify names) refusal = ⊥
+MayRefuse (bundle names) (BadMessages bad) = Unit {0}
+MayRefuse (bundle names) (TooLarge at) = Unit {0}
+MayRefuse (bundle names) refusal = ⊥
+MayRefuse (unbundle files) (BadUnit at) = Unit {0}
+MayRefuse (unbundle files) refusal = ⊥
+MayRefuse (report files) refusal = ⊥
 
 -- the command may stop so at its input files, whatever they hold
 abbrev pub MayStop : Command → Stop (List ℕ) → Type 0
 MayStop command (CannotRead name) = Contains (read_by command) name
 MayStop command (TooLong name) = Contains (read_by command) name
+MayStop (report files) (BadSource name bad) = Contains files.sources name
+MayStop (report files) (Instance name) = Contains files.sources name
 MayStop command (Refused refusal) = MayRefuse command refusal
 MayStop command other = ⊥
 
@@ -44,10 +61,22 @@ pub record WasUnread (command : Command) (name : List ℕ) (old new : Shelved) :
   pub first : IsTrue old.tells → judge command (without name old.files) ≡ Err (CannotRead name)
   pub same : IsTrue old.tells → SameFiles old.files new.files
 
+-- the files ask for a task that cannot be done, for this reason
+pub record CannotDo (command : Command) (files : Files) (reason : Stop (List ℕ)) : Type 0 where
+  pub task : Task
+  pub judged : judge command files ≡ Ok task
+  pub refusal : Refusal
+  pub refuses : Refuses task refusal
+  pub is : reason ≡ Refused refusal
+
+-- the files deserve that the command stops so: they do not serve, or what they ask for cannot be done
+abbrev pub Deserves : Command → Files → Stop (List ℕ) → Type 0
+Deserves command files reason = (judge command files ≡ Err reason) ⊎ CannotDo command files reason
+
 -- the input files were refused: where they are told, as they deserve
 pub record WasRefused (command : Command) (reason : Stop (List ℕ)) (old new : Shelved) : Type 0 where
   pub may : MayStop command reason
-  pub judged : IsTrue old.tells → judge command old.files ≡ Err reason
+  pub deserved : IsTrue old.tells → Deserves command old.files reason
   pub no_fault : new.faults ≡ old.faults
   pub same : IsTrue old.tells → SameFiles old.files new.files
 
@@ -56,7 +85,7 @@ pub record WasRefused (command : Command) (reason : Stop (List ℕ)) (old new : 
 -- the configuration that `migrate` wrote is the one that it read, not only its text
 abbrev pub KeepsConfig : Command → Files → Files → Type 0
 KeepsConfig (migrate names) old new =
-    option_map configuration (new names.target) ≡ option_map configuration (old names.config)
+    option_map configuration (new names.target) ≡ option_map configuration (old names.source)
 KeepsConfig other old new = Unit {0}
 
 -- the files hold what the work of their old contents asks for

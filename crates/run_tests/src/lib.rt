@@ -30,4 +30,8 @@ mod refusing;
 #[cfg(test)]
 mod replaying;
 #[cfg(test)]
+mod reporting;
+#[cfg(test)]
+mod sealing;
+#[cfg(test)]
 mod wanting;

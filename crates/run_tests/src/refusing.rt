@@ -27,6 +27,33 @@ replay
 replay c j m r
 replay c j m r r
 replay c j m r o x
+sign c 5 j
+sign c 5 j m r
+sign c j m
+sign c 05 j m
+sign c +5 j m
+sign c -1 j m
+sign c 5a j m
+sign c 4611686018427387905 j m
+sign c 18446744073709551616 j m
+sign c 5 c m
+sign c 5 j c
+sign c 5 j j
+verify c j m
+verify c 4611686018427387905 j m
+bundle c m
+bundle 63 c m
+bundle 064 c m
+bundle 65536 c m
+bundle 65600 c m
+bundle 64 c c
+unbundle c
+unbundle c c
+report
+report m
+report m c m
+report m c c
+report m a b c d e f g h i
 --help
 migrate c 
 replay c j m r 
@@ -34,7 +61,7 @@ decode ";
 
 /// The usage, and no file.
 const USAGE: &[u8] =
-    b"2 | usage: idsm replay CONFIG TRACE MESSAGES MEMORY JOURNAL/       idsm fold CONFIG JOURNAL MESSAGES MEMORY/       idsm check CONFIG JOURNAL MESSAGES/       idsm decode MESSAGES/       idsm gen [--start N] [--callers N] [--rounds N] [--events N] CONFIG TRACE JOURNAL/       idsm migrate CONFIG NEW/ | - | -";
+    b"2 | usage: idsm replay CONFIG TRACE MESSAGES MEMORY JOURNAL/       idsm fold CONFIG JOURNAL MESSAGES MEMORY/       idsm check CONFIG JOURNAL MESSAGES/       idsm decode MESSAGES/       idsm gen [--start N] [--callers N] [--rounds N] [--events N] CONFIG TRACE JOURNAL/       idsm migrate CONFIG NEW/       idsm report OUT FILE ../       idsm sign KEY START MESSAGES SIGNED/       idsm verify KEY START SIGNED MESSAGES/       idsm bundle SIZE MESSAGES UNITS/       idsm unbundle UNITS MESSAGES/ | - | -";
 
 #[test]
 fn words_that_are_no_command_end_with_the_usage(rt: HostRuntime) -> Result<(), Fail> {

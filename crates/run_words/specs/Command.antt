@@ -1,10 +1,12 @@
 -- The commands of the program, as its words give them.
 -- Source: docs/COMMANDS.md.
-use Rattle.std.specs.Prelude.{◌≡◌, ◌≢◌, ℕ, ◌&&◌, ◌==◌, not, bytes_eq, Bool, true, false, List, [], ◌∷◌, length, Option, Some, None, codes, if◌then◌else◌}
+use Rattle.std.specs.Prelude.{◌≡◌, ◌≢◌, ℕ, ◌^◌, ◌&&◌, ◌==◌, nat_le, not, bytes_eq, Bool, true, false, List, [], ◌∷◌, length, Option, Some, None, option_map, codes, if◌then◌else◌}
 use Rattle.gen_options.specs.Given.{Wanted}
 use Rattle.gen_options.specs.Words.{words_give}
 use Rattle.std.specs.List.{list_any}
 use Rattle.ids_outside.specs.Files.{Files}
+use Rattle.text_spec.specs.Maybe.{◌>>=◌}
+use Rattle.text_spec.specs.Numbers.{number_in}
 
 -- the files of a recording: a configuration, and a journal of its events
 pub record Recording : Type 0 where
@@ -22,10 +24,26 @@ pub record CheckFiles : Type 0 where
   pub from : Recording
   pub messages : List ℕ
 
--- the files that `migrate` names: one that it reads, and one that it writes
-pub record MigrateFiles : Type 0 where
-  pub config : List ℕ
+-- a file that a command reads, and one that it writes
+pub record PairFiles : Type 0 where
+  pub source : List ℕ
   pub target : List ℕ
+
+-- the files that `sign` and `verify` name: one that holds the key, and two more; and the first counter
+pub record KeyedFiles : Type 0 where
+  pub key : List ℕ
+  pub start : ℕ
+  pub files : PairFiles
+
+-- the files that `bundle` names, and how many bytes of messages a unit may have
+pub record SizedFiles : Type 0 where
+  pub size : ℕ
+  pub files : PairFiles
+
+-- the files that `report` names: one that it writes, and those of the managers
+pub record ReportFiles : Type 0 where
+  pub target : List ℕ
+  pub sources : List (List ℕ)
 
 -- the files that `replay` names: a configuration and a trace that it reads, and three that it writes
 pub record ReplayFiles : Type 0 where
@@ -41,8 +59,13 @@ pub data Command : Type 0 where
   check : CheckFiles → Command
   decode : List ℕ → Command
   gen : Wanted → Command
-  migrate : MigrateFiles → Command
+  migrate : PairFiles → Command
   replay : ReplayFiles → Command
+  sign : KeyedFiles → Command
+  verify : KeyedFiles → Command
+  bundle : SizedFiles → Command
+  unbundle : PairFiles → Command
+  report : ReportFiles → Command
 
 -- a word that may be a name: it is not empty
 abbrev pub is_name : List ℕ → Bool
@@ -97,14 +120,35 @@ abbrev pub are_read_by_clap : List (List ℕ) → Bool
 are_read_by_clap [] = false
 are_read_by_clap (word ∷ names) = bytes_eq word (codes "gen")
 
--- the command of the words behind `migrate`: the names of a configuration and of a new file
-abbrev pub migrate_of : List (List ℕ) → Option Command
-migrate_of (config ∷ target ∷ []) =
-    if are_names (config ∷ target ∷ []) then Some (migrate (record { config = config; target = target })) else None
-migrate_of names = None
+-- two names of different files
+abbrev pub pair_in : List (List ℕ) → Option PairFiles
+pair_in (source ∷ target ∷ []) =
+    if are_names (source ∷ target ∷ []) then Some (record { source = source; target = target }) else None
+pair_in names = None
 
--- the command of the words behind the program's name, none where they are not in form; those of a replay have
--- a reading of their own
+-- a number from the least to the most
+abbrev pub number_between : (least most : ℕ) → List ℕ → Option ℕ
+number_between least most word =
+    number_in word >>= λ n. if nat_le least n && nat_le n most then Some n else None
+
+-- the words behind `sign` and `verify`
+abbrev pub keyed_in : List (List ℕ) → Option KeyedFiles
+keyed_in (key ∷ start ∷ names) = do
+  first ← number_between 0 (2 ^ 62) start
+  files ← pair_in names
+  if are_names (key ∷ names) then Some (record { key = key; start = first; files = files }) else None
+keyed_in names = None
+
+-- the words behind `bundle`
+abbrev pub sized_in : List (List ℕ) → Option SizedFiles
+sized_in (size ∷ names) = do
+  most ← number_between 64 65535 size
+  files ← pair_in names
+  Some (record { size = most; files = files })
+sized_in [] = None
+
+-- the command of the words behind the program's name, none where they are not in form; those of a replay and of a
+-- report have readings of their own
 abbrev pub command_of : List (List ℕ) → Option Command
 command_of [] = None
 command_of (word ∷ names) =
@@ -112,7 +156,11 @@ command_of (word ∷ names) =
     else if bytes_eq word (codes "check") then check_of names
     else if bytes_eq word (codes "decode") then decode_of names
     else if bytes_eq word (codes "gen") then gen_of (word ∷ names)
-    else if bytes_eq word (codes "migrate") then migrate_of names
+    else if bytes_eq word (codes "migrate") then option_map migrate (pair_in names)
+    else if bytes_eq word (codes "sign") then option_map sign (keyed_in names)
+    else if bytes_eq word (codes "verify") then option_map verify (keyed_in names)
+    else if bytes_eq word (codes "bundle") then option_map bundle (sized_in names)
+    else if bytes_eq word (codes "unbundle") then option_map unbundle (pair_in names)
     else None
 
 -- the words ask for a replay
@@ -133,14 +181,37 @@ abbrev pub replay_of : List (List ℕ) → Option ReplayFiles
 replay_of [] = None
 replay_of (word ∷ names) = if bytes_eq word (codes "replay") then replay_names names else None
 
+-- the words ask for a report
+abbrev pub asks_report : List (List ℕ) → Bool
+asks_report [] = false
+asks_report (word ∷ names) = bytes_eq word (codes "report")
+
+-- the files of the words behind `report`: 1 to 8 of managers
+abbrev pub report_names : List (List ℕ) → Option ReportFiles
+report_names [] = None
+report_names (target ∷ sources) =
+    if are_names (target ∷ sources) && nat_le 1 (length sources) && nat_le (length sources) 8
+    then Some (record { target = target; sources = sources })
+    else None
+
+-- the files of a report that the words behind the program's name ask for, none where they are not in form
+abbrev pub report_of : List (List ℕ) → Option ReportFiles
+report_of [] = None
+report_of (word ∷ names) = if bytes_eq word (codes "report") then report_names names else None
+
 -- the files that the command reads, in the order in which it reads them
 abbrev pub read_by : Command → List (List ℕ)
 read_by (fold files) = files.from.config ∷ files.from.journal ∷ []
 read_by (check files) = files.from.config ∷ files.from.journal ∷ files.messages ∷ []
 read_by (decode messages) = messages ∷ []
 read_by (gen wanted) = []
-read_by (migrate files) = files.config ∷ []
+read_by (migrate files) = files.source ∷ []
 read_by (replay files) = files.config ∷ files.trace ∷ []
+read_by (sign names) = names.key ∷ names.files.source ∷ []
+read_by (verify names) = names.key ∷ names.files.source ∷ []
+read_by (bundle names) = names.files.source ∷ []
+read_by (unbundle files) = files.source ∷ []
+read_by (report files) = files.sources
 
 -- the recording that the command reads before all else, where it reads one
 abbrev pub recording_of : Command → Option Recording
@@ -156,6 +227,11 @@ written_by (decode messages) = []
 written_by (gen wanted) = wanted.config ∷ wanted.trace ∷ wanted.journal ∷ []
 written_by (migrate files) = files.target ∷ []
 written_by (replay files) = files.messages ∷ files.memory ∷ files.journal ∷ []
+written_by (sign names) = names.files.target ∷ []
+written_by (verify names) = names.files.target ∷ []
+written_by (bundle names) = names.files.target ∷ []
+written_by (unbundle files) = files.target ∷ []
+written_by (report files) = files.target ∷ []
 
 -- the name is none of these
 abbrev pub IsNoneOf : List (List ℕ) → List ℕ → Type 0

@@ -1,15 +1,18 @@
 -- A command as the program holds it, with its names lent from the words.
-use Rattle.std.specs.Prelude.{◌≢◌, IsTrue, ⊤}
+use Rattle.std.specs.Prelude.{◌≢◌, ◌^◌, ◌≤◌, IsTrue, length, map, string_bytes, ⊤}
 use Rattle.gen_options.specs.Given.{given_of}
 use Rattle.gen_options.specs.Ranges.{is_in_range}
 use Rattle.run_words.specs.declared.command.FoldNames.{FoldNames}
 use Rattle.run_words.specs.declared.command.CheckNames.{CheckNames}
 use Rattle.run_words.specs.declared.command.RecordingNames.{RecordingNames}
-use Rattle.run_words.specs.declared.command.MigrateNames.{MigrateNames}
+use Rattle.run_words.specs.declared.message_words.KeyedNames.{KeyedNames}
+use Rattle.run_words.specs.declared.message_words.PairNames.{PairNames}
+use Rattle.run_words.specs.declared.message_words.SizedNames.{SizedNames}
+use Rattle.run_words.specs.declared.report_words.ReportNames.{ReportNames}
 use Rattle.run_words.specs.declared.command.Request.{Request}
 use Rattle.run_words.specs.declared.replay_words.ReplayNames.{ReplayNames}
-use Rattle.run_words.specs.declared.command.Request.TheVariants.{Fold, Check, Decode, Gen, Migrate}
-use Rattle.run_words.specs.Command.{Recording, FoldFiles, CheckFiles, MigrateFiles, ReplayFiles, Command, fold, check, decode, gen, migrate}
+use Rattle.run_words.specs.declared.command.Request.TheVariants.{Fold, Check, Decode, Gen, Migrate, Sign, Verify, Bundle, Unbundle}
+use Rattle.run_words.specs.Command.{Recording, FoldFiles, CheckFiles, PairFiles, KeyedFiles, SizedFiles, ReplayFiles, ReportFiles, Command, fold, check, decode, gen, migrate, sign, verify, bundle, unbundle, are_names}
 
 -- the names of a recording as bytes
 abbrev pub recording : RecordingNames → Recording
@@ -27,9 +30,20 @@ files_of names = record {
 abbrev pub three_of : CheckNames → CheckFiles
 three_of names = record { from = recording names.from; messages = names.messages.now }
 
--- the same of `migrate`
-abbrev pub pair_of : MigrateNames → MigrateFiles
-pair_of names = record { config = names.config.now; target = names.target.now }
+-- the same of a file that is read and one that is written
+abbrev pub pair_of : PairNames → PairFiles
+pair_of names = record { source = names.source.now; target = names.target.now }
+
+-- and with a key, and with a size
+abbrev pub keyed_of : KeyedNames → KeyedFiles
+keyed_of names = record { key = names.key.now; start = names.start; files = pair_of names.files }
+
+abbrev pub sized_of : SizedNames → SizedFiles
+sized_of names = record { size = names.size; files = pair_of names.files }
+
+-- the same of `report`
+abbrev pub report_files_of : ReportNames → ReportFiles
+report_files_of names = record { target = names.target.now; sources = map string_bytes names.sources.now }
 
 -- the same of `replay`
 abbrev pub five_of : ReplayNames → ReplayFiles
@@ -48,8 +62,23 @@ asked (Check names) = check (three_of names)
 asked (Decode messages) = decode messages.now
 asked (Gen given) = gen (given_of given)
 asked (Migrate names) = migrate (pair_of names)
+asked (Sign names) = sign (keyed_of names)
+asked (Verify names) = verify (keyed_of names)
+asked (Bundle names) = bundle (sized_of names)
+asked (Unbundle names) = unbundle (pair_of names)
 
--- what is asked for can be done: names that have to differ do, and options are in their ranges
+-- a key and the other file that is read differ, and the first counter is in its range
+pub record CanKey (names : KeyedNames) : Type 0 where
+  pub inputs : names.key.now ≢ names.files.source.now
+  pub start : names.start ≤ 2 ^ 62
+
+-- the files of a report differ, and there are 1 to 8 of managers
+pub record CanReport (names : ReportNames) : Type 0 where
+  pub differ : IsTrue (are_names (map string_bytes names.sources.now))
+  pub some : 1 ≤ length names.sources.now
+  pub few : length names.sources.now ≤ 8
+
+-- what is asked for can be done: names that have to differ do, and options and numbers are in their ranges
 abbrev pub CanRun : Request → Type 0
 CanRun (Fold names) = (names.from.config.now ≢ names.from.journal.now) × (names.messages.now ≢ names.memory.now)
 CanRun (Check names) =
@@ -58,6 +87,9 @@ CanRun (Check names) =
 CanRun (Gen given) =
     IsTrue (is_in_range given.options) × (given.config.now ≢ given.trace.now)
     × (given.config.now ≢ given.journal.now) × (given.trace.now ≢ given.journal.now)
+CanRun (Sign names) = CanKey names
+CanRun (Verify names) = CanKey names
+CanRun (Bundle names) = 64 ≤ names.size
 CanRun other = ⊤
 
 -- a replay can be done: its names differ

@@ -4,9 +4,10 @@ ghost use Rattle.std.specs.Prelude.{◌≡◌, ◌&&◌, not, map, option_map, s
 ghost use Rattle.gen_options.specs.Given.{given_of};
 ghost use Rattle.gen_options.specs.Ranges.{is_in_range};
 ghost use Rattle.std.specs.List.{list_any};
-ghost use Rattle.run_words.specs.Command.{command_of, fold_of, check_of, decode_of, gen_of, gen_into, are_read_by_clap, migrate_of, is_name, are_names};
+ghost use Rattle.run_words.specs.Command.{command_of, fold_of, check_of, decode_of, gen_of, gen_into, are_read_by_clap, is_name, are_names};
 ghost use Rattle.run_words.specs.CommandView.{asked, CanRun};
 
+use crate::message_words::{KeyedNames, PairNames, SizedNames, keyed, pair, sized};
 use gen_options::Given;
 use ids_types::NoMemory;
 use std::alloc::Global;
@@ -33,13 +34,6 @@ pub struct CheckNames<'a> {
     pub messages: &'a str,
 }
 
-/// The files of the command `migrate`. The names are not empty and differ.
-#[derive(Clone, Copy, Debug)]
-pub struct MigrateNames<'a> {
-    pub config: &'a str,
-    pub target: &'a str,
-}
-
 /// What a run is asked to do.
 #[derive(Clone, Copy, Debug)]
 pub enum Request<'a> {
@@ -49,7 +43,11 @@ pub enum Request<'a> {
     Decode(&'a str),
     /// Generates a recording. The options are in their ranges.
     Gen(Given<'a>),
-    Migrate(MigrateNames<'a>),
+    Migrate(PairNames<'a>),
+    Sign(KeyedNames<'a>),
+    Verify(KeyedNames<'a>),
+    Bundle(SizedNames<'a>),
+    Unbundle(PairNames<'a>),
 }
 
 /// The command that the words ask for, `None` where they are not in form. Only the words of `gen` take
@@ -67,7 +65,11 @@ pub fn parse(alloc: Global, words: &[String]) -> Result<Option<Request<'_>>, NoM
         "check" => Ok(parse_check(names)),
         "decode" => Ok(parse_decode(names)),
         "gen" => parse_gen(alloc, words),
-        "migrate" => Ok(parse_migrate(names)),
+        "migrate" => Ok(pair(names).map(Request::Migrate)),
+        "sign" => Ok(keyed(names).map(Request::Sign)),
+        "verify" => Ok(keyed(names).map(Request::Verify)),
+        "bundle" => Ok(sized(names).map(Request::Bundle)),
+        "unbundle" => Ok(pair(names).map(Request::Unbundle)),
         _ => Ok(None),
     }
 }
@@ -154,22 +156,6 @@ fn parse_check(words: &[String]) -> Option<Request<'_>>
     }))
 }
 
-fn parse_migrate(words: &[String]) -> Option<Request<'_>>
-    ensures asked { option_map asked result ≡ migrate_of (map string_bytes words.now) }
-    ensures can { IfSome result CanRun }
-{
-    let [config, target] = words else {
-        return None;
-    };
-    if !names_differ(words) {
-        return None;
-    }
-    Some(Request::Migrate(MigrateNames {
-        config: config.as_str(),
-        target: target.as_str(),
-    }))
-}
-
 /// No word is empty, and no two are the same.
 pub(crate) fn names_differ(words: &[String]) -> bool
     ensures { result ≡ are_names (map string_bytes words.now) }
@@ -186,7 +172,7 @@ pub(crate) fn names_differ(words: &[String]) -> bool
 
 /// The word is not empty, and none of these.
 #[tactic(auto, using(crate::proofs::CommandLemmas::any_of_mapped))]
-fn may_precede(word: &str, names: &[String]) -> bool
+pub(crate) fn may_precede(word: &str, names: &[String]) -> bool
     ensures { result ≡ (is_name word.now
         && not (list_any (bytes_eq word.now) (map string_bytes names.now))) }
 {

@@ -1,4 +1,4 @@
-use Rattle.idsm_run.proofs.Names.{rules, refl, sym, decode_work, does}
+use Rattle.idsm_run.proofs.Names.{inl, rules, refl, sym, decode_work, does}
 use Rattle.run_files.proofs.ExitLemmas.{left_by}
 use Rattle.run_spec.proofs.JudgeLemmas.{unread, messages_first, messages_refused, messages_found}
 use Rattle.idsm_run.proofs.decode.decode_file.Goals as goal
@@ -27,8 +27,9 @@ returns-in-Ok-clause-done g c = record {
 pub returns-clause-stops : goal.returns-clause-stops
 returns-clause-stops g c = record {
   may = tt;
-  judged = λ told. messages_refused c.args.name.now _ c.deref.result.now
-      (rw c.deref.ensures.value (c.in_ok-bytes.ensures.found told)) _ (sym c.in-Err.ensures.value);
+  deserved = λ told.
+      inl (messages_refused c.args.name.now _ c.deref.result.now
+      (rw c.deref.ensures.value (c.in_ok-bytes.ensures.found told)) _ (sym c.in-Err.ensures.value));
   no_fault = c.in_ok-bytes.ensures.no_fault;
   same = c.read_file.ensures.same;
 }

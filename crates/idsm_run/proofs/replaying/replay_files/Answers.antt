@@ -1,7 +1,7 @@
-use Rattle.idsm_run.proofs.Names.{◌≡◌, ◌∙◌, List, ℕ, IsTrue, rules, refl, sym, ap, subst, inl, gives, told, memory_text, journal_text, rows_of, five_of, replay, replays, replay_work, replay_outputs, stop_of_write, StandUpTo, AreWritten, Loss, NoMemory}
+use Rattle.idsm_run.proofs.Names.{◌∙◌, IsTrue, rules, refl, sym, ap, subst, inl, gives, told, memory_text, journal_text, five_of, replay, replays, replay_work, stop_of_write, StandUpTo, AreWritten, NoMemory}
 use Rattle.run_files.proofs.ExitLemmas.{left_by}
 use Rattle.run_spec.proofs.JudgeLemmas.{replay_found}
-use Rattle.idsm_run.proofs.ReplayLemmas.{is_one, lost_are, sent_cut, replay_outputs_are}
+use Rattle.idsm_run.proofs.ReplayLemmas.{is_one, lost_are, sent_cut, replay_outputs_are, replayed_done}
 use Rattle.run_spec.proofs.WorkLemmas.{write_stopped}
 use Rattle.idsm_run.proofs.replaying.replay_files.Goals as goal
 
@@ -76,3 +76,6 @@ returns-clause-replayed g c tells =
       text = c.in_ok-line.ensures;
       manager_is = is;
     }
+
+pub returns-clause-done : goal.returns-clause-done
+returns-clause-done g c = replayed_done _ _ _ _ _ (returns-clause-replayed g c) (search rules)

@@ -1,5 +1,5 @@
 use Rattle.idsm_run.proofs.Names.{ap, sym, ◌∙◌, option_map, asked}
-use Rattle.run_spec.proofs.RunLemmas.{asked_ran, end_ran, words_starved}
+use Rattle.run_spec.proofs.RunLemmas.{asked_ran, end_ran, ended_ran, words_starved}
 use Rattle.idsm_run.proofs.run.run_plain.Goals as goal
 
 pub returns-in-Some-Fold-clause-ran : goal.returns-in-Some-Fold-clause-ran
@@ -25,7 +25,27 @@ returns-in-Some-Gen-clause-ran g c =
 pub returns-in-Some-Migrate-clause-ran : goal.returns-in-Some-Migrate-clause-ran
 returns-in-Some-Migrate-clause-ran g c =
     asked_ran _ _ _ _ _ _ _ _ _ (ap (option_map asked) (sym c.in-Some-Migrate.is) ∙ c.in-Ok.ensures.asked) (ap asked (rw c.in-Some-Migrate.is at c.in-Some-Migrate.field-0-is))
-    (end_ran _ _ _ _ _ _ c.migrate.result c.migrate.ensures.done c.migrate.ensures.stops c.tell-in-Some-Migrate.ensures)
+    (ended_ran _ _ _ _ _ _ c.migrate.result c.migrate.ensures.ends c.tell-in-Some-Migrate.ensures)
+
+pub returns-in-Some-Sign-clause-ran : goal.returns-in-Some-Sign-clause-ran
+returns-in-Some-Sign-clause-ran g c =
+    asked_ran _ _ _ _ _ _ _ _ _ (ap (option_map asked) (sym c.in-Some-Sign.is) ∙ c.in-Ok.ensures.asked) (ap asked (rw c.in-Some-Sign.is at c.in-Some-Sign.field-0-is))
+    (ended_ran _ _ _ _ _ _ c.sign.result c.sign.ensures.ends c.tell-in-Some-Sign.ensures)
+
+pub returns-in-Some-Verify-clause-ran : goal.returns-in-Some-Verify-clause-ran
+returns-in-Some-Verify-clause-ran g c =
+    asked_ran _ _ _ _ _ _ _ _ _ (ap (option_map asked) (sym c.in-Some-Verify.is) ∙ c.in-Ok.ensures.asked) (ap asked (rw c.in-Some-Verify.is at c.in-Some-Verify.field-0-is))
+    (ended_ran _ _ _ _ _ _ c.verify.result c.verify.ensures.ends c.tell-in-Some-Verify.ensures)
+
+pub returns-in-Some-Bundle-clause-ran : goal.returns-in-Some-Bundle-clause-ran
+returns-in-Some-Bundle-clause-ran g c =
+    asked_ran _ _ _ _ _ _ _ _ _ (ap (option_map asked) (sym c.in-Some-Bundle.is) ∙ c.in-Ok.ensures.asked) (ap asked (rw c.in-Some-Bundle.is at c.in-Some-Bundle.field-0-is))
+    (ended_ran _ _ _ _ _ _ c.bundle.result c.bundle.ensures.ends c.tell-in-Some-Bundle.ensures)
+
+pub returns-in-Some-Unbundle-clause-ran : goal.returns-in-Some-Unbundle-clause-ran
+returns-in-Some-Unbundle-clause-ran g c =
+    asked_ran _ _ _ _ _ _ _ _ _ (ap (option_map asked) (sym c.in-Some-Unbundle.is) ∙ c.in-Ok.ensures.asked) (ap asked (rw c.in-Some-Unbundle.is at c.in-Some-Unbundle.field-0-is))
+    (ended_ran _ _ _ _ _ _ c.unbundle.result c.unbundle.ensures.ends c.tell-in-Some-Unbundle.ensures)
 
 -- the words of `gen` wanted memory
 pub returns-in-Err-clause-ran : goal.returns-in-Err-clause-ran

@@ -1,4 +1,4 @@
-use Rattle.run_words.proofs.Names.{◌≡◌, true, map, string_bytes, subst, sym, ◌∙◌, [], ◌∷◌, are_names}
+use Rattle.run_words.proofs.Names.{◌≡◌, true, string_bytes, subst, sym, ◌∙◌, are_names}
 use Rattle.run_words.proofs.CommandLemmas.{check_apart, three_words}
 use Rattle.run_words.proofs.command.parse_check.Goals as goal
 

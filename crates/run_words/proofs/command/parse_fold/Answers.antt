@@ -1,4 +1,4 @@
-use Rattle.run_words.proofs.Names.{◌≡◌, true, map, string_bytes, subst, sym, ◌∙◌, [], ◌∷◌, are_names}
+use Rattle.run_words.proofs.Names.{◌≡◌, true, string_bytes, subst, sym, ◌∙◌, are_names}
 use Rattle.run_words.proofs.CommandLemmas.{fold_apart, four_words}
 use Rattle.run_words.proofs.command.parse_fold.Goals as goal
 

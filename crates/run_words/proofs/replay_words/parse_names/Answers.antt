@@ -1,4 +1,4 @@
-use Rattle.run_words.proofs.Names.{◌≡◌, true, map, string_bytes, subst, sym, ◌∙◌, [], ◌∷◌, are_names}
+use Rattle.run_words.proofs.Names.{◌≡◌, true, string_bytes, subst, sym, ◌∙◌, are_names}
 use Rattle.run_words.proofs.CommandLemmas.{replay_apart, five_words}
 use Rattle.run_words.proofs.replay_words.parse_names.Goals as goal
 
