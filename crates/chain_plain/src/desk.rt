@@ -56,8 +56,8 @@ impl<'h> Desk<'h> {
         })
     }
 
-    /// Has the chain take a turn of these entries.
-    pub(crate) fn take<C: Chain<Plain<'h>>>(
+    /// Has the chain take a turn of these entries, for which it makes room before.
+    pub fn take<C: Chain<Plain<'h>>>(
         &mut self,
         chain: &mut C,
         head: &TurnHead,

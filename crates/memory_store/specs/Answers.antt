@@ -33,6 +33,7 @@ BeginAnswers shows old (Err (begin.NoMemory disk)) = disk ≡ old
 
 -- a save has the next sequence, or failed where a call of the disk did; at the last sequence it makes no call
 abbrev pub SaveAnswers : {D : Type 0} → (D → Shown) → StoreValue D → Result (StoreValue D) (SaveFault D) → Type 0
-SaveAnswers shows old (Ok store) = (old.sequence < 2 ^ 62) × (store.sequence ≡ old.sequence + 1)
+SaveAnswers shows old (Ok store) =
+    (old.sequence < 2 ^ 62) × (store.sequence ≡ old.sequence + 1) × ((shows store.disk).faults ≡ (shows old.disk).faults)
 SaveAnswers shows old (Err (save.Failed disk)) = (old.sequence < 2 ^ 62) × Rose (shows old.disk).faults (shows disk).faults
 SaveAnswers shows old (Err (save.Worn store)) = (old.sequence ≡ 2 ^ 62) × (store ≡ old)

@@ -72,6 +72,7 @@ impl<D: Disk> Store<D> {
         ensures keeps { IsTrue (D.shows disk).tells →
             IfOk result (λ begun. KeepsRows (bytes_of (D.shows begun.0.disk)) begun.0.sequence begun.1) }
         ensures same { IsTrue (D.shows disk).tells → bytes_of (D.shows (begun_disk result)) ≡ bytes_of (D.shows disk) }
+        ensures settled { IsTrue (D.shows disk).tells → OnOk result (IsSettled (D.shows (begun_disk result))) }
 
         // A crash at any moment of the call leaves what one before it might have left.
         ensures any_moment { IsTrue (D.shows disk).tells →

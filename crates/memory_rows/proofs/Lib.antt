@@ -1,0 +1,5 @@
+pub mod ChainLemmas
+pub mod JournalLemmas
+pub mod Names
+pub mod RowLemmas
+pub mod TickLemmas
