@@ -12,7 +12,6 @@ use ids_types::{History, Plain};
 use plain_chain::PlainChain;
 use std::alloc::Global;
 use std::test::Fail;
-use text_spec::what_a_fitting_journal_keeps;
 
 /// What a chain gives for a history.
 #[derive(Drop)]
@@ -69,8 +68,6 @@ fn told_by_plain(
 fn history_of(alloc: Global, config: &Config, journal: &[u8]) -> Result<History, Fail>
     ensures { IfOk result (λ history. CanFold (length config.now.events) history.turns) }
 {
-    // A journal that fits has its numbers in their ranges, and its turns in their order.
-    what_a_fitting_journal_keeps();
     let journal = journal::read(alloc, journal, config)?;
     Ok(journal.history)
 }

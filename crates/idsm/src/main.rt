@@ -1,16 +1,19 @@
-//! The program `idsm`: hands the words of its command line to the runs, to that of a replay or of a report where
-//! the first word is `replay` or `report`, and ends with their status.
+//! The program `idsm`: hands the words of its command line to the runs, to that of a replay, of a report or of work on a
+//! disk where the first word asks for it, and ends with their status.
 //!
-//! Layer 10, runs. Over `idsm_run`, whose contract says what a run does, and the host's files and
-//! standard output of `ids_outside`. That the words are the host's and that the program ends with the
-//! status of the run is shown by the stored run (`args`, `data`, `stdout`) alone.
+//! Layer 10, runs. Over `idsm_run`, whose contract says what a run does, the host's files and standard output of
+//! `ids_outside`, and the disk over a file of the host of `memory_disk`. That the words are the host's and that the
+//! program ends with the status of the run is shown by the stored run (`args`, `data`, `stdout`) alone.
 #![tactic(auto)]
 
 use ids_outside::{HostShelf, HostSink, Shelf, Sink};
-use idsm_run::{NO_MEMORY, OpenGate, is_replay, is_report, run_plain, run_replay, run_report};
+use idsm_run::{
+    NO_MEMORY, OpenGate, is_keep, is_replay, is_report, run_keep, run_plain, run_replay, run_report,
+};
+use memory_disk::HostDisk;
 use std::alloc::Global;
 use std::process::ExitCode;
-use std::rt::Env;
+use std::rt::{Env, Files};
 use std::sync::Wait;
 use std::thread::Threads;
 use std::{env, io};
@@ -23,11 +26,31 @@ fn main(rt: HostRuntime) -> ExitCode {
         Ok(words) => {
             let mut shelf = HostShelf::new(rt, rt.alloc());
             let mut out = HostSink::new(rt);
-            ExitCode::from(run(&rt, rt.alloc(), &words, &mut shelf, &mut out))
+            ExitCode::from(if is_keep(&words) {
+                run_on_disk(rt, rt.alloc(), &words, &mut shelf, &mut out)
+            } else {
+                run(&rt, rt.alloc(), &words, &mut shelf, &mut out)
+            })
         }
         Err(error) if error.kind() == io::ErrorKind::OutOfMemory => ExitCode::from(NO_MEMORY),
         Err(_) => ExitCode::from(NO_WORDS),
     }
+}
+
+/// Runs the work on a disk that the words ask for, over the file that the second word names, and returns its status.
+fn run_on_disk<R: Files + Drop, H: Shelf, K: Sink>(
+    rt: R,
+    alloc: Global,
+    words: &[String],
+    shelf: &mut H,
+    out: &mut K,
+) -> u8 {
+    let name = words.get(1).map_or("", |word| word.as_str());
+    let Ok(name) = String::from_str(alloc, name) else {
+        return NO_MEMORY;
+    };
+    let (status, _disk) = run_keep(alloc, words, shelf, out, HostDisk::new(rt, name));
+    status
 }
 
 /// Runs what the words ask for, and returns its status.

@@ -1,5 +1,5 @@
 -- How the comparison of a file with the messages of a recording ends.
-use Rattle.idsm_run.proofs.Names.{◌≡◌, ◌∙◌, ℕ, List, Ok, Err, Bor, IsTrue, refl, sym, ap, subst, inl, inr, Result, IfOk, IfErr, Vec, nat_eq, common_prefix_len, cases_Bool, MayStop, Global, SameFiles, Shelved, Stop, Refused, Differ, Recorded, recorded_in, file_of, CheckFiles, check, compared, check_judged, does, judge, Judges, StopsFor, WasDone, plain_stop, messages_of}
+use Rattle.run_steps.proofs.Names.{◌≡◌, ◌∙◌, ℕ, List, Ok, Err, Bor, IsTrue, refl, sym, ap, subst, inl, inr, Result, IfOk, IfErr, Vec, nat_eq, common_prefix_len, cases_Bool, MayStop, Global, SameFiles, Shelved, Stop, Refused, Differ, Recorded, recorded_in, file_of, CheckFiles, check, only_said, check_judged, does, judge, Judges, StopsFor, WasDone, plain_stop, messages_of}
 use Rattle.std.specs.Prelude.{bytes_eq}
 use Rattle.run_spec.proofs.JudgeLemmas.{refused, check_found}
 
@@ -23,13 +23,13 @@ module _ (names : CheckFiles) (recorded : Recorded) (bytes sent : List ℕ) (old
   ]
 
   pub done_so : (answer : Result (Vec ℕ Global) (Stop (Bor (List ℕ))))
-      → Judges (λ text. does (compared text.items)) (check_judged bytes sent) answer
+      → Judges (λ text. does (only_said text.items)) (check_judged bytes sent) answer
       → IfOk answer (λ text. WasDone (check names) text.items old new)
   done_so (Ok text) is = record {
     written = λ told. record {
-      task = does (compared text.items);
+      task = does (only_said text.items);
       judged = judged told ∙ is;
-      work = compared text.items;
+      work = only_said text.items;
       is_work = refl;
       written = tt;
       text = refl;
@@ -40,7 +40,7 @@ module _ (names : CheckFiles) (recorded : Recorded) (bytes sent : List ℕ) (old
   done_so (Err reason) is = tt
 
   pub stopped_so : (answer : Result (Vec ℕ Global) (Stop (Bor (List ℕ))))
-      → Judges (λ text. does (compared text.items)) (check_judged bytes sent) answer
+      → Judges (λ text. does (only_said text.items)) (check_judged bytes sent) answer
       → IfErr answer (λ reason. StopsFor (check names) (plain_stop reason) old new)
   stopped_so (Ok text) is = tt
   stopped_so (Err reason) is =

@@ -1,5 +1,5 @@
 -- What `fold` holds of a journal is the work that the journal asks for.
-use Rattle.idsm_run.proofs.Names.{◌≡◌, List, ℕ, length, reverse, refl, sym, ap, ◌∙◌, length-reverse, Parts, Turn, Folded, entries_of, FoldFiles, fold_line, fold_text, fold_outputs, fold_work, rows_of, memory_text, IsOutcome}
+use Rattle.run_steps.proofs.Names.{◌≡◌, List, ℕ, length, reverse, refl, sym, ap, ◌∙◌, length-reverse, Parts, Turn, Folded, entries_of, FoldFiles, fold_line, fold_text, fold_outputs, fold_work, rows_of, memory_text, IsOutcome}
 
 module _ (config : Parts) (turns : List Turn) (folded : Folded) (is : IsOutcome config turns folded) where
   -- the files that are written

@@ -1,5 +1,7 @@
 -- What a replay gives is the work that its input files ask for, and how its run ends.
-use Rattle.idsm_run.proofs.Names.{◌≡◌, ◌∙◌, ℕ, List, length, IsTrue, refl, sym, sum-map, Parts, Round, told, rows_of, memory_text, journal_text, Cuts, Shelved, ReplayFiles, replay, replays, replay_outputs, replay_work, lost_contexts, without_context, IsOneHistory, RunManager, Replayed, WasDone, Gives, IsReplay, chain_stands}
+use Rattle.run_steps.proofs.Names.{◌≡◌, ◌∙◌, ℕ, List, length, IsTrue, refl, sym, sum-map, Parts, Round, told, rows_of, memory_text, journal_text, Cuts, Shelved, ReplayFiles, replay, replays, replay_outputs, replay_work, lost_contexts, without_context, IsOneHistory, WasDone}
+use Rattle.idsm_run.specs.Replayed.{RunManager, Replayed}
+use Rattle.trace_replay.specs.Replayed.{Gives, IsReplay, chain_stands}
 use Rattle.run_spec.proofs.JournalLemmas.{cut_at_ends}
 use Rattle.run_spec.proofs.JudgeLemmas.{replay_found}
 

@@ -4,8 +4,8 @@ use Rattle.buffer_classes.specs.Buffers.{Buffer}
 use Rattle.event_chain.specs.Chained.{Chained}
 use Rattle.main_function.specs.declared.manager.Manager.{Manager}
 use Rattle.trace_replay.specs.Replayed.{Gives, IsReplay, chain_stands}
-use Rattle.idsm_run.specs.Answered.{RanWith, RunsWith}
-use Rattle.idsm_run.specs.Names.{Parts, Round, Files, Shelved, Heard}
+use Rattle.run_steps.specs.Answered.{RanWith, RunsWith}
+use Rattle.run_steps.specs.Names.{Parts, Round, Files, Shelved, Heard}
 use Rattle.run_words.specs.Command.{ReplayFiles, replay}
 use Rattle.run_spec.specs.Headline.{IsOneHistory}
 use Rattle.run_spec.specs.Judge.{asked_in}

@@ -2,11 +2,11 @@
 
 ghost use Rattle.std.specs.Prelude.{◌≡◌, ◌≢◌, nat_eq, IsTrue, IfOk, IfErr};
 ghost use Rattle.std.specs.List.{common_prefix_len};
-ghost use Rattle.idsm_run.specs.Words.{SameFiles, check as check_command, check_judged, compared, does, three_of, Judges, WasDone, StopsFor, plain_stop};
+ghost use Rattle.run_steps.specs.Words.{SameFiles, check as check_command, check_judged, only_said, does, three_of, Judges, WasDone, StopsFor, plain_stop};
 
-use crate::inputs::read_inputs;
 use ids_outside::Shelf;
 use run_files::{MAX_MESSAGES_BYTES, Refusal, Stop, read_file};
+use run_steps::read_inputs;
 use run_words::CheckNames;
 use std::alloc::Global;
 
@@ -34,7 +34,7 @@ pub(crate) fn check<'a, H: Shelf>(
 
 /// The line that tells that the bytes are those that were sent.
 fn compare<'a>(alloc: Global, bytes: &[u8], sent: &[u8]) -> Result<Vec<u8>, Stop<&'a str>>
-    ensures { Judges (λ text. does (compared text.items)) (check_judged bytes.now sent.now) result }
+    ensures { Judges (λ text. does (only_said text.items)) (check_judged bytes.now sent.now) result }
 {
     if bytes == sent {
         return Ok(Vec::from_slice(alloc, b"same\n")?);

@@ -1,14 +1,13 @@
 //! The command `fold`: the messages and the event memory of a recorded history.
 
 ghost use Rattle.std.specs.Prelude.{◌≡◌, ◌≢◌, length, reverse, IsTrue, IfOk, OnOk, OnErr, IfErr};
-ghost use Rattle.idsm_run.specs.Words.{SameBut, written_by, fold as fold_command, files_of, entries_of, fold_line as line_of, fold_outputs, WasDone, StopsFor, OneFails, plain_stop, AreWritten, StandUpTo, Cuts};
+ghost use Rattle.run_steps.specs.Words.{SameBut, written_by, fold as fold_command, files_of, entries_of, fold_line as line_of, fold_outputs, WasDone, StopsFor, OneFails, plain_stop, AreWritten, StandUpTo, Cuts};
 
-use crate::inputs::read_inputs;
-use crate::journals::Judged;
 use chain_plain::Folded;
 use ids_outside::{Shelf, WriteFault};
 use ids_types::NoMemory;
 use run_files::{Stop, write_file};
+use run_steps::{Judged, read_inputs};
 use run_words::FoldNames;
 use std::alloc::Global;
 

@@ -4,7 +4,7 @@ ghost use Rattle.std.specs.Prelude.{◌≡◌, ◌≢◌, IsTrue, IfOk, IfErr, O
 ghost use Rattle.gen_options.specs.Given.{given_of};
 ghost use Rattle.gen_options.specs.Ranges.{is_in_range};
 ghost use Rattle.trace_gen.specs.Generated.{config_for, journal_for, trace_for};
-ghost use Rattle.idsm_run.specs.Words.{SameBut, written_by, gen as gen_command, gen_work, WasDone, StopsFor, OneFails, plain_stop, AreWritten, StandUpTo};
+ghost use Rattle.run_steps.specs.Words.{SameBut, written_by, gen as gen_command, gen_work, WasDone, StopsFor, OneFails, plain_stop, AreWritten, StandUpTo};
 
 use gen_options::Given;
 use ids_outside::{Shelf, WriteFault};

@@ -2,13 +2,13 @@
 
 ghost use Rattle.std.specs.Prelude.{◌≡◌, codes, IsTrue, IfOk, Ok};
 ghost use Rattle.config_json.specs.Configured.{configuration};
-ghost use Rattle.idsm_run.specs.Words.{EndsAs, SameBut, config_text, migrate as migrate_command, pair_of, plain_end, written_by};
+ghost use Rattle.run_steps.specs.Words.{EndsAs, SameBut, config_text, migrate as migrate_command, pair_of, plain_end, written_by};
 
-use crate::making::{Made, write_made};
 use ids_config::Config;
 use ids_outside::Shelf;
 use ids_types::NoMemory;
 use run_files::{MAX_CONFIG_BYTES, Stop, read_file};
+use run_steps::{Made, write_made};
 use run_words::PairNames;
 use std::alloc::Global;
 

@@ -1,13 +1,14 @@
 //! The command `replay`: the messages, the event memory and the journal of a trace that is replayed by threads.
 
 ghost use Rattle.std.specs.Prelude.{◌≡◌, ◌<◌, ◌^◌, length, IsTrue, IfOk, OnOk, OnErr, IfErr};
-ghost use Rattle.idsm_run.specs.Words.{SameBut, written_by, replay as replay_command, five_of, entries_of, replay_line as line_of, replay_text as text_of, without_context, lost_contexts, replay_outputs, CanReplay, Replayed as HasReplayed, StopsFor, WasDone, OneFails, plain_stop, AreWritten, StandUpTo, Cuts};
+ghost use Rattle.run_steps.specs.Words.{SameBut, written_by, replay as replay_command, five_of, entries_of, replay_line as line_of, replay_text as text_of, without_context, lost_contexts, replay_outputs, CanReplay, StopsFor, WasDone, OneFails, plain_stop, AreWritten, StandUpTo, Cuts};
+ghost use Rattle.idsm_run.specs.Replayed.{Replayed as HasReplayed};
 
-use crate::answering::Finished;
 use crate::traces::read_asked;
 use ids_outside::{Shelf, WriteFault};
 use ids_types::{History, NoMemory};
 use run_files::{Stop, write_file};
+use run_steps::Finished;
 use run_words::ReplayNames;
 use std::alloc::Global;
 use std::thread::Threads;

@@ -1,39 +1,21 @@
 ghost use Rattle.std.specs.Prelude.{IsTrue, map, string_bytes};
-ghost use Rattle.idsm_run.specs.Words.{command_of, are_read_by_clap, SameBut, Ran, written_of, replay, replay_of, Replays, report, report_of, Reports, written_in};
+ghost use Rattle.run_steps.specs.Words.{command_of, are_read_by_clap, SameBut, Ran, written_of, replay, replay_of, written_in};
+ghost use Rattle.idsm_run.specs.Replayed.{Replays};
 
-use crate::answering::tell_finished;
-use crate::bundling::{bundle, unbundle};
 use crate::check::check;
-use crate::decode::decode_file;
 use crate::fold::fold;
 use crate::generating::generate_files;
 use crate::migrate::migrate;
 use crate::replaying::replay_files;
-use crate::reporting::report_files;
-use crate::sealing::{sign, verify};
 use ids_outside::{Shelf, Sink};
-use ids_reporter::Drain;
 use ids_types::NoMemory;
-use run_files::{BAD_WORDS, NO_MEMORY, say, tell};
-use run_words::{Request, parse, parse_replay, parse_report};
+use run_files::{NO_MEMORY, say, say_usage, tell};
+use run_messages::{bundle, decode_file, sign, unbundle, verify};
+use run_steps::tell_finished;
+use run_words::{Request, parse, parse_replay};
 use std::alloc::Global;
-use std::sync::Wait;
 use std::thread::Threads;
 use trace_replay::{Gate, RunManager};
-
-/// The usage, with the commands that are built.
-const USAGE: &[u8] = b"usage: idsm replay CONFIG TRACE MESSAGES MEMORY JOURNAL
-       idsm fold CONFIG JOURNAL MESSAGES MEMORY
-       idsm check CONFIG JOURNAL MESSAGES
-       idsm decode MESSAGES
-       idsm gen [--start N] [--callers N] [--rounds N] [--events N] CONFIG TRACE JOURNAL
-       idsm migrate CONFIG NEW
-       idsm report OUT FILE ..
-       idsm sign KEY START MESSAGES SIGNED
-       idsm verify KEY START SIGNED MESSAGES
-       idsm bundle SIZE MESSAGES UNITS
-       idsm unbundle UNITS MESSAGES
-";
 
 /// Runs the command that the words behind the program's name ask for, and returns its status: 0 where
 /// it was done, and else why not. It waits for nobody.
@@ -64,7 +46,7 @@ pub fn run_plain<H: Shelf, K: Sink>(
         Err(NoMemory) => return say(b"no memory\n", NO_MEMORY, out),
     };
     match request {
-        None => say(USAGE, BAD_WORDS, out),
+        None => say_usage(out),
         Some(Request::Fold(names)) => tell(alloc, fold(alloc, names, shelf), out),
         Some(Request::Check(names)) => tell(alloc, check(alloc, names, shelf), out),
         Some(Request::Decode(name)) => tell(alloc, decode_file(alloc, name, shelf), out),
@@ -101,34 +83,7 @@ pub fn run_replay<R: Threads + Sync, H: Shelf, K: Sink, G: Gate + Sync>(
         (H.shows shelf.old).files (H.shows shelf.new).files }
 {
     match parse_replay(words) {
-        None => (say(USAGE, BAD_WORDS, out), None),
+        None => (say_usage(out), None),
         Some(names) => tell_finished(alloc, replay_files(rt, alloc, names, shelf, gate), out),
-    }
-}
-
-/// Runs the report that the words behind the program's name ask for, and returns its status, with the drain that took
-/// all messages where the status is 0.
-///
-/// `report OUT FILE ..` forwards the messages of 1 to 8 managers, a file each, into one file: a feeder for each, in a
-/// thread of its own, through one queue, beside the drain that writes them. Each manager's messages are in their order.
-pub fn run_report<R: Threads + Wait + Sync, H: Shelf, K: Sink>(
-    rt: &R,
-    alloc: Global,
-    words: &[String],
-    shelf: &mut H,
-    out: &mut K,
-) -> (u8, Option<Drain>)
-    // What the run did or why it stopped, with its status, its text, what stands in the files, and its drain.
-    ensures ran { Reports (report_of (map string_bytes words.now)) result.1 result.0
-        (H.shows shelf.old) (H.shows shelf.new) (K.hears out.old) (K.hears out.new) }
-
-    // Whatever the status, no file changes but the one that the report writes.
-    ensures others { IsTrue (H.shows shelf.old).tells → SameBut
-        (written_in report (report_of (map string_bytes words.now)))
-        (H.shows shelf.old).files (H.shows shelf.new).files }
-{
-    match parse_report(words) {
-        None => (say(USAGE, BAD_WORDS, out), None),
-        Some(names) => tell_finished(alloc, report_files(rt, alloc, names, shelf), out),
     }
 }

@@ -2,7 +2,7 @@
 
 ghost use Rattle.std.specs.Prelude.{◌≡◌, ◌≢◌, Ok, IsTrue, IfOk, OnOk, IfErr};
 ghost use Rattle.text_spec.specs.TraceReading.{AreRounds};
-ghost use Rattle.idsm_run.specs.Words.{SameFiles, replay as replay_command, five_of, asked_in, trace_in, trace_judged, Judges, StopsFor, plain_stop};
+ghost use Rattle.run_steps.specs.Words.{SameFiles, replay as replay_command, five_of, asked_in, trace_in, trace_judged, Judges, StopsFor, plain_stop};
 
 use ids_config::Config;
 use ids_outside::Shelf;

@@ -6,9 +6,9 @@ use Rattle.ids_outside.specs.Shelved.{Shelved}
 use Rattle.ids_outside.specs.Sinks.{Heard}
 use Rattle.run_words.specs.Command.{ReplayFiles}
 use Rattle.run_spec.specs.Deserts.{EndsWith, EndsOrFails}
-use Rattle.run_spec.specs.Judge.{does, judge, recorded_in, fold_work, compared}
+use Rattle.run_spec.specs.Judge.{does, judge, recorded_in, fold_work, only_said}
 use Rattle.run_files.specs.Contents.{file_of}
-use Rattle.idsm_run.specs.Words.{Turn, messages_of, journal_text, told}
+use Rattle.run_steps.specs.Words.{Turn, messages_of, journal_text, told}
 use Rattle.idsm_run.specs.Replayed.{Replayed}
 use Rattle.run_spec.specs.Run.{RanCommand}
 use Rattle.run_files.specs.Writing.{Work, AreWritten}
@@ -58,7 +58,7 @@ module _ (names : ReplayFiles) (old left found : Shelved) (was : WasReplayed nam
       ≡ Ok (does (fold_work (record { from = left_by names; messages = messages; memory = memory }) history.config turns))
   fold_serves messages memory = fold_found (record { from = left_by names; messages = messages; memory = memory }) found.files _ recorded
 
-  check_serves : judge (check_again names) found.files ≡ Ok (does (compared (codes "same\n")))
+  check_serves : judge (check_again names) found.files ≡ Ok (does (only_said (codes "same\n")))
   check_serves =
       let sent = messages_of history.config turns in
       check_found (record { from = left_by names; messages = names.messages }) found.files _ recorded sent _ messages_found
@@ -70,7 +70,8 @@ module _ (names : ReplayFiles) (old left found : Shelved) (was : WasReplayed nam
 nothing_fails : (names : ReplayFiles) (status : ℕ) (found new : Shelved) (before after : Heard)
     → EndsOrFails 0 (check_again names) status found new before after → EndsWith 0 (check_again names) status found new before after
 nothing_fails names status found new before after (inl ends) = ends
-nothing_fails names status found new before after (inr fails) = absurd (omega (arith, fails.1.is_output.1))
+nothing_fails names status found new before after (inr (inl fails)) = absurd (omega (arith, fails.1.is_output.1))
+nothing_fails names status found new before after (inr (inr stopped)) = absurd stopped.may
 
 -- ---- the law
 

@@ -18,7 +18,7 @@ use Rattle.run_words.specs.Command.{ReplayFiles, are_names, is_name, replay, rep
 use Rattle.run_spec.specs.FoldedJournal.{◌>>=◌}
 use Rattle.run_spec.specs.Judge.{AskedFor, asked_in, config_found, trace_judged}
 use Rattle.run_files.specs.Contents.{file_of}
-use Rattle.idsm_run.specs.Words.{Round, list_any, trace_in}
+use Rattle.run_steps.specs.Words.{Round, list_any, trace_in}
 
 -- ---- steps that found something
 

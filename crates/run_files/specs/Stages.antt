@@ -1,7 +1,7 @@
 -- What the stages of reading answer: what their bytes deserve, or want of memory.
 use Rattle.std.specs.Borrow.{Bor}
 use Rattle.std.specs.Prelude.{◌≡◌, ℕ, List, IsTrue, Result, Ok, Err, Vec, ⊤}
-use Rattle.run_files.specs.Names.{Global, CountsFault, Shelved, Read, BadConfig, Stop, CannotRead, TooLong, BadSource, Instance, Refused, CannotWrite, NoMemory}
+use Rattle.run_files.specs.Names.{Global, CountsFault, Shelved, Read, BadConfig, Stop, CannotRead, TooLong, BadSource, Instance, Refused, OnDisk, CannotWrite, NoMemory}
 use Rattle.config_json.specs.declared.fault.JsonFault.{JsonFault}
 use Rattle.run_files.specs.Contents.{file_of}
 use Rattle.config_json.specs.declared.fault.JsonFault.TheVariants as faults
@@ -13,6 +13,7 @@ plain_stop (TooLong name) = TooLong name.now
 plain_stop (BadSource name bad) = BadSource name.now bad
 plain_stop (Instance name) = Instance name.now
 plain_stop (Refused refusal) = Refused refusal
+plain_stop (OnDisk stop) = OnDisk stop
 plain_stop CannotWrite = CannotWrite
 plain_stop NoMemory = NoMemory
 

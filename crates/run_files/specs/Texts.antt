@@ -1,7 +1,8 @@
 -- The statuses and the texts of how a run ends.
 -- Source: docs/COMMANDS.md.
 use Rattle.std.specs.Prelude.{ℕ, ◌++◌, List, Result, Ok, Err, codes, decimal}
-use Rattle.run_files.specs.Names.{ConfigFault, BadMessage, Refusal, BadConfig, BadJournal, BadTrace, BadMessages, Differ, EmptyKey, Signed, BadTag, BadCounter, TooLarge, BadUnit, Stop, CannotRead, TooLong, BadSource, Instance, Refused, CannotWrite, NoMemory}
+use Rattle.run_files.specs.Names.{ConfigFault, BadMessage, Refusal, BadConfig, BadJournal, BadTrace, BadMessages, Differ, EmptyKey, Signed, BadTag, BadCounter, TooLarge, BadUnit, DiskStop, Stop, CannotRead, TooLong, BadSource, Instance, Refused, OnDisk, CannotWrite, NoMemory}
+use Rattle.run_files.specs.declared.stop.DiskStop.TheVariants.{Failed, FailedAfter, Damaged, WornAfter}
 use Rattle.ids_config.specs.declared.fault.ConfigPlace.{ConfigPlace}
 use Rattle.ids_config.specs.declared.fault.ConfigPlace.TheVariants.{Top, Class, Event}
 use Rattle.ids_frame.specs.declared.fault.FrameFault.{FrameFault}
@@ -15,6 +16,7 @@ usage =
     ++ codes "       idsm decode MESSAGES\n"
     ++ codes "       idsm gen [--start N] [--callers N] [--rounds N] [--events N] CONFIG TRACE JOURNAL\n"
     ++ codes "       idsm migrate CONFIG NEW\n" ++ codes "       idsm report OUT FILE ..\n"
+    ++ codes "       idsm keep DISK CONFIG JOURNAL\n" ++ codes "       idsm recall DISK MEMORY\n"
     ++ codes "       idsm sign KEY START MESSAGES SIGNED\n" ++ codes "       idsm verify KEY START SIGNED MESSAGES\n"
     ++ codes "       idsm bundle SIZE MESSAGES UNITS\n" ++ codes "       idsm unbundle UNITS MESSAGES\n"
 
@@ -92,6 +94,20 @@ refusal_status (BadUnit at) = 21
 
 -- ---- the texts of stops
 
+-- the text of a stop on a disk
+abbrev pub disk_text : DiskStop → List ℕ
+disk_text Failed = codes "disk failed\n"
+disk_text (FailedAfter saves) = at_text (codes "disk failed after ") saves
+disk_text (Damaged slot) = at_text (codes "bad disk: slot ") slot
+disk_text (WornAfter saves) = at_text (codes "worn after ") saves
+
+-- its status
+abbrev pub disk_status : DiskStop → ℕ
+disk_status Failed = 13
+disk_status (FailedAfter saves) = 13
+disk_status (Damaged slot) = 14
+disk_status (WornAfter saves) = 15
+
 abbrev pub no_memory_text : List ℕ
 no_memory_text = codes "no memory\n"
 
@@ -102,6 +118,7 @@ stop_text (TooLong name) = codes "too long " ++ (name ++ codes "\n")
 stop_text (BadSource name bad) = bad_source_text name bad
 stop_text (Instance name) = codes "instance " ++ (name ++ codes "\n")
 stop_text (Refused refusal) = refusal_text refusal
+stop_text (OnDisk stop) = disk_text stop
 stop_text CannotWrite = codes "cannot write\n"
 stop_text NoMemory = no_memory_text
 
@@ -112,6 +129,7 @@ stop_status (TooLong name) = 4
 stop_status (BadSource name bad) = 10
 stop_status (Instance name) = 11
 stop_status (Refused refusal) = refusal_status refusal
+stop_status (OnDisk stop) = disk_status stop
 stop_status CannotWrite = 7
 stop_status NoMemory = 8
 

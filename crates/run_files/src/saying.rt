@@ -3,18 +3,42 @@
 ghost use Rattle.std.specs.Prelude.{◌≡◌, List, ℕ, Err, IfOk, string_bytes};
 ghost use Rattle.run_files.specs.Saying.{Puts, Says, Tells};
 ghost use Rattle.run_files.specs.Stages.{plain_end};
-ghost use Rattle.run_files.specs.Texts.{bad_config_text, bad_message_text, bad_source_text, fault_word};
-ghost use Rattle.run_files.specs.declared.stop.Stop.TheVariants.{Refused};
+ghost use Rattle.run_files.specs.Texts.{bad_config_text, bad_message_text, bad_source_text, fault_word, usage};
+ghost use Rattle.run_files.specs.declared.stop.Stop.TheVariants.{OnDisk, Refused};
 
 use crate::status::{
-    BAD_CONFIG, BAD_COUNTER, BAD_JOURNAL, BAD_MESSAGE, BAD_TAG, BAD_UNIT, CANNOT_READ,
-    CANNOT_WRITE, DIFFERS, DONE, EMPTY_KEY, INSTANCE, NO_MEMORY, SIGNED, TOO_LARGE, TOO_LONG,
+    BAD_CONFIG, BAD_COUNTER, BAD_DISK, BAD_JOURNAL, BAD_MESSAGE, BAD_TAG, BAD_UNIT, BAD_WORDS,
+    CANNOT_READ, CANNOT_WRITE, DIFFERS, DISK_FAILED, DONE, EMPTY_KEY, INSTANCE, NO_MEMORY, SIGNED,
+    TOO_LARGE, TOO_LONG, WORN,
 };
-use crate::stop::{Refusal, Stop};
+use crate::stop::{DiskStop, Refusal, Stop};
 use ids_config::{ConfigFault, ConfigPlace};
 use ids_frame::{BadMessage, FrameFault};
 use ids_outside::{Sink, WriteFault};
 use std::alloc::{AllocError, Global};
+
+/// The usage, with the commands that are built.
+const USAGE: &[u8] = b"usage: idsm replay CONFIG TRACE MESSAGES MEMORY JOURNAL
+       idsm fold CONFIG JOURNAL MESSAGES MEMORY
+       idsm check CONFIG JOURNAL MESSAGES
+       idsm decode MESSAGES
+       idsm gen [--start N] [--callers N] [--rounds N] [--events N] CONFIG TRACE JOURNAL
+       idsm migrate CONFIG NEW
+       idsm report OUT FILE ..
+       idsm keep DISK CONFIG JOURNAL
+       idsm recall DISK MEMORY
+       idsm sign KEY START MESSAGES SIGNED
+       idsm verify KEY START SIGNED MESSAGES
+       idsm bundle SIZE MESSAGES UNITS
+       idsm unbundle UNITS MESSAGES
+";
+
+/// Puts the usage, where the words are not in form, and returns the status.
+pub fn say_usage<K: Sink>(out: &mut K) -> u8
+    ensures { Puts usage 2 result (K.hears out.old) (K.hears out.new) }
+{
+    say(USAGE, BAD_WORDS, out)
+}
 
 /// Puts the text, where it has bytes, and returns the status: the one that goes with it, or that of
 /// the put's own fault.
@@ -52,6 +76,7 @@ pub fn tell<K: Sink>(alloc: Global, end: Result<Vec<u8>, Stop<&str>>, out: &mut 
             out,
         ),
         Err(Stop::Refused(refusal)) => tell_refusal(alloc, refusal, out),
+        Err(Stop::OnDisk(stop)) => tell_disk(alloc, stop, out),
         Err(Stop::CannotWrite) => say(b"cannot write\n", CANNOT_WRITE, out),
         Err(Stop::NoMemory) => say(b"no memory\n", NO_MEMORY, out),
     }
@@ -83,6 +108,28 @@ fn tell_refusal<K: Sink>(alloc: Global, refusal: Refusal, out: &mut K) -> u8
             say_line(format!(in alloc; "too large at {at}\n"), TOO_LARGE, out)
         }
         Refusal::BadUnit { at } => say_line(format!(in alloc; "bad unit at {at}\n"), BAD_UNIT, out),
+    }
+}
+
+/// Tells why work on a disk stopped.
+fn tell_disk<K: Sink>(alloc: Global, stop: DiskStop, out: &mut K) -> u8
+    ensures { Tells (Err (OnDisk stop)) result (K.hears out.old) (K.hears out.new) }
+{
+    match stop {
+        DiskStop::Failed => say(b"disk failed\n", DISK_FAILED, out),
+        DiskStop::FailedAfter { saves } => {
+            say_line(
+                format!(in alloc; "disk failed after {saves}\n"),
+                DISK_FAILED,
+                out,
+            )
+        }
+        DiskStop::Damaged { slot } => {
+            say_line(format!(in alloc; "bad disk: slot {slot}\n"), BAD_DISK, out)
+        }
+        DiskStop::WornAfter { saves } => {
+            say_line(format!(in alloc; "worn after {saves}\n"), WORN, out)
+        }
     }
 }
 

@@ -33,6 +33,15 @@ pub const BAD_MESSAGE: u8 = 10;
 /// A file of messages has those of two managers, or of the manager of a file before it.
 pub const INSTANCE: u8 = 11;
 
+/// A call of a disk failed.
+pub const DISK_FAILED: u8 = 13;
+
+/// A slot of a disk is damaged.
+pub const BAD_DISK: u8 = 14;
+
+/// A disk has no sequence left.
+pub const WORN: u8 = 15;
+
 /// A key has no bytes.
 pub const EMPTY_KEY: u8 = 16;
 

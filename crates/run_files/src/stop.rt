@@ -39,6 +39,19 @@ pub enum Refusal {
     BadUnit { at: u64 },
 }
 
+/// Why work on a disk stopped.
+#[derive(Clone, Copy, Debug)]
+pub enum DiskStop {
+    /// A call of the disk failed.
+    Failed,
+    /// A call of the disk failed, behind so many saves.
+    FailedAfter { saves: u64 },
+    /// The slot that would be kept is damaged.
+    Damaged { slot: u8 },
+    /// No sequence was left, behind so many saves.
+    WornAfter { saves: u64 },
+}
+
 /// Why a command stopped.
 #[derive(Clone, Copy, Debug)]
 pub enum Stop<N> {
@@ -51,6 +64,7 @@ pub enum Stop<N> {
     /// The file of this name has messages of two managers, or of the manager of a file before it.
     Instance(N),
     Refused(Refusal),
+    OnDisk(DiskStop),
     CannotWrite,
     NoMemory,
 }

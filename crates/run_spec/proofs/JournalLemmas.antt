@@ -8,9 +8,11 @@ use Rattle.chain_spec.specs.Items.{kept_parcel}
 use Rattle.std.proofs.lemmas.List.Elements.{All-from_recursion}
 use Rattle.ids_types.specs.declared.entry.TurnHead.{TurnHead}
 use Rattle.run_files.proofs.WritingLemmas.{cuts_go_on}
-use Rattle.text_spec.specs.JournalReading.{Follows}
+use Rattle.text_spec.specs.JournalReading.{Fits, Follows, journal_grammar}
+use Rattle.text_spec.specs.Lines.{AreFaultless}
+use Rattle.text_spec.proofs.JournalFits.{all_in_ranges, in_order, turns_few}
 use Rattle.ids_types.specs.declared.loss.Loss.{Loss}
-use Rattle.text_spec.specs.JournalFaults.{is_call, is_context, is_act, has_event, is_in_ranges}
+use Rattle.text_spec.specs.JournalFaults.{start, is_call, is_context, is_act, has_event, is_in_ranges}
 use Rattle.text_spec.specs.Words.{text_of}
 use Rattle.text_spec.proofs.JournalFacts.{sensor_is_there}
 
@@ -101,13 +103,20 @@ ticks_rise (turn ∷ turns) tail order = (
 )
 
 -- the chain can take the turns of a journal that fits
-pub can_fold : (config : Parts) (turns : List Turn) (losses : List Loss)
-    → AllByRecursion (InRanges config) (lines_told (told turns losses))
-    → AreInOrder (lines_told (told turns losses))
-    → AllByRecursion (λ turn. length turn.entries ≤ 1024) turns → CanFold (length config.events) turns
-can_fold config turns losses ranges order few =
-    let fit = (split_all (InRanges config) (flat_map turn_told turns) (map loses losses) ranges).0 in
-    record { turns_fit = turns_fit config turns fit few; ticks = ticks_rise turns (map loses losses) order }
+pub can_fold : (config : Parts) (turns : List Turn) (losses : List Loss) → Fits config (told turns losses)
+    → CanFold (length config.events) turns
+can_fold config turns losses fits =
+    let faultless = fits.faultless in
+    let lost = map loses losses in
+    let ranges = all_in_ranges config start (lines_told (told turns losses)) faultless in
+    let order : AreInOrder (lines_told (told turns losses)) = λ before middle behind first last are.
+    in_order config start before first middle last behind refl
+    (subst (AreFaultless (journal_grammar config) start) are faultless) in
+    record {
+      turns_fit = turns_fit config turns (split_all (InRanges config) (flat_map turn_told turns) lost ranges).0
+          (turns_few config start turns lost faultless);
+      ticks = ticks_rise turns lost order;
+    }
 
 -- ---- what is given for them
 

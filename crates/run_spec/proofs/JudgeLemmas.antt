@@ -1,5 +1,5 @@
 -- What the input files of a command deserve, stage by stage.
-use Rattle.run_spec.proofs.Names.{◌≡◌, ◌≢◌, ℕ, List, length, Option, None, Some, Ok, Err, IsTrue, refl, sym, subst, ◌∙◌, inl, inr, arith, Result, Contains, nat_lt, bytes_eq, false_from_ne_true, cases_Bool, bytes_eq-Decides, Wanted, MayRefuse, MayStop, configuration, Parts, MessageParts, messages_read, BadMessage, CountsFault, Files, SameFiles, SameOthers, Shelved, Read, Turn, ConfigFault, BadConfig, BadJournal, BadTrace, BadMessages, Stop, CannotRead, TooLong, BadSource, Instance, Refused, CannotWrite, NoMemory, Command, Recording, recording_of, FoldFiles, CheckFiles, PairFiles, fold, check, decode, gen, migrate, replay, sign, verify, bundle, unbundle, report, ReplayFiles, AskedFor, asked_in, trace_judged, trace_in, Round, read_by, folded_in, file_of, without, config_found, journal_judged, judge, Task, does, replays, Recorded, recorded_in, check_judged, fold_work, decode_work, gen_work, migrate_work, bytes_of, KeepsConfig, StopsFor, ReadStops, StopsAs, plain_stop, stop_of_config, messages_of}
+use Rattle.run_spec.proofs.Names.{◌≡◌, ◌≢◌, ℕ, List, length, Option, None, Some, Ok, Err, IsTrue, refl, sym, subst, ◌∙◌, inl, inr, arith, Result, Contains, nat_lt, bytes_eq, false_from_ne_true, cases_Bool, bytes_eq-Decides, Wanted, MayRefuse, MayStop, configuration, Parts, MessageParts, messages_read, BadMessage, CountsFault, Files, SameFiles, SameOthers, Shelved, Read, Turn, ConfigFault, BadConfig, BadJournal, BadTrace, BadMessages, Stop, CannotRead, TooLong, BadSource, Instance, Refused, OnDisk, CannotWrite, NoMemory, Command, Recording, recording_of, FoldFiles, CheckFiles, KeepFiles, PairFiles, fold, check, decode, gen, migrate, replay, sign, verify, bundle, unbundle, report, keep, recall, ReplayFiles, AskedFor, asked_in, trace_judged, trace_in, Round, read_by, folded_in, file_of, without, config_found, journal_judged, judge, Task, does, replays, keeps, recalls, Recorded, recorded_in, check_judged, fold_work, decode_work, gen_work, migrate_work, bytes_of, KeepsConfig, StopsFor, ReadStops, StopsAs, plain_stop, stop_of_config, messages_of}
 use Rattle.std.proofs.lemmas.Option.{same_Some, none-some}
 use Rattle.text_spec.specs.Lines.{BadLine}
 use Rattle.text_spec.specs.JournalText.{Told}
@@ -46,6 +46,7 @@ unread command limit name old middle new (TooLong other) may comes tells faults 
 unread command limit name old middle new (BadSource other bad) may comes tells faults stays same why = absurd why
 unread command limit name old middle new (Instance other) may comes tells faults stays same why = absurd why
 unread command limit name old middle new (Refused refusal) may comes tells faults stays same why = absurd why
+unread command limit name old middle new (OnDisk stop) may comes tells faults stays same why = absurd why
 unread command limit name old middle new CannotWrite may comes tells faults stays same why = absurd why
 unread command limit name old middle new NoMemory may comes tells faults stays same why = inl same
 
@@ -64,6 +65,7 @@ refused command found old new (Instance name) may judged faults same is =
     record { may = may _ is; deserved = λ told. inl (judged told is); no_fault = faults; same = same }
 refused command found old new (Refused refusal) may judged faults same is =
     record { may = may _ is; deserved = λ told. inl (judged told is); no_fault = faults; same = same }
+refused command found old new (OnDisk stop) may judged faults same is = absurd is
 refused command found old new CannotWrite may judged faults same is = absurd is
 refused command found old new NoMemory may judged faults same is = inl same
 
@@ -78,11 +80,11 @@ read_since limit name bytes old middle tells same found told =
 -- ---- the stages of a recording, for each command that reads it
 
 module _ (names : Recording) (command : Command) (reads : recording_of command ≡ Some names) where
-  -- it is one of these two, with these names
+  -- it is one of these three, with these names
   by_command : (Q : Command → Recording → Type 0)
       → ((files : FoldFiles) → Q (fold files) files.from) → ((files : CheckFiles) → Q (check files) files.from)
-      → Q command names
-  by_command Q folds checks = go command reads
+      → ((files : KeepFiles) → Q (keep files) files.from) → Q command names
+  by_command Q folds checks keeps_it = go command reads
     where
       go : (c : Command) → recording_of c ≡ Some names → Q c names
       go (fold files) is = subst (Q (fold files)) (same_Some files.from names is) (folds files)
@@ -96,18 +98,22 @@ module _ (names : Recording) (command : Command) (reads : recording_of command �
       go (bundle files) is = absurd (none-some names is)
       go (unbundle files) is = absurd (none-some names is)
       go (report files) is = absurd (none-some names is)
+      go (keep files) is = subst (Q (keep files)) (same_Some files.from names is) (keeps_it files)
+      go (recall files) is = absurd (none-some names is)
 
   pub reads_config : Contains (read_by command) names.config
   reads_config = by_command (λ c n. Contains (read_by c) n.config) (λ f. (0, omega arith, refl)) (λ f. (0, omega arith, refl))
+      (λ f. (0, omega arith, refl))
 
   pub reads_journal : Contains (read_by command) names.journal
   reads_journal = by_command (λ c n. Contains (read_by c) n.journal) (λ f. (1, omega arith, refl)) (λ f. (1, omega arith, refl))
+      (λ f. (1, omega arith, refl))
 
   pub may_config : (fault : ConfigFault) → MayRefuse command (BadConfig fault)
-  may_config fault = by_command (λ c n. MayRefuse c (BadConfig fault)) (λ f. tt) (λ f. tt)
+  may_config fault = by_command (λ c n. MayRefuse c (BadConfig fault)) (λ f. tt) (λ f. tt) (λ f. tt)
 
   pub may_journal : (line number : ℕ) → MayRefuse command (BadJournal line number)
-  may_journal line number = by_command (λ c n. MayRefuse c (BadJournal line number)) (λ f. tt) (λ f. tt)
+  may_journal line number = by_command (λ c n. MayRefuse c (BadJournal line number)) (λ f. tt) (λ f. tt) (λ f. tt)
 
   -- it is refused as its recording is
   recording_refused : (files : Files) (reason : Stop (List ℕ)) → recorded_in names files ≡ Err reason
@@ -115,7 +121,7 @@ module _ (names : Recording) (command : Command) (reads : recording_of command �
   unfolding Judge.judge
   recording_refused files reason =
       by_command (λ c n. recorded_in n files ≡ Err reason → judge c files ≡ Err reason)
-      (λ f is. rw is refl) (λ f is. rw is refl)
+      (λ f is. rw is refl) (λ f is. rw is refl) (λ f is. rw is refl)
 
   -- the refusals of a journal
   pub journal_may : (found : Result Told BadLine) (why : Stop (List ℕ)) → journal_judged found ≡ Err why
@@ -162,6 +168,17 @@ pub fold_found : (names : FoldFiles) (files : Files) (recorded : Recorded) → r
     → judge (fold names) files ≡ Ok (does (fold_work names recorded.config recorded.turns))
 unfolding Judge.judge
 fold_found names files recorded is = rw is refl
+
+-- what `keep` has to do with it
+pub keep_found : (names : KeepFiles) (files : Files) (recorded : Recorded) → recorded_in names.from files ≡ Ok recorded
+    → judge (keep names) files ≡ Ok (keeps recorded.config recorded.turns)
+unfolding Judge.judge
+keep_found names files recorded is = rw is refl
+
+-- and what `recall` has to do, whatever the files hold
+pub recall_found : (names : PairFiles) (files : Files) → judge (recall names) files ≡ Ok (recalls names.target)
+unfolding Judge.judge
+recall_found names files = refl
 
 -- a command stopped where its configuration was not read
 pub config_exit : (found : Result Parts ConfigFault) (fault : JsonFault) → Tells found (Err fault)

@@ -31,12 +31,12 @@ pub use Rattle.run_files.specs.Writing.{AreWritten, Cuts, StandUpTo, Work, Write
 pub use Rattle.run_files.specs.declared.stop.Refusal.{Refusal}
 pub use Rattle.run_files.specs.declared.stop.Refusal.TheVariants.{BadConfig, BadJournal, BadMessages, BadTrace, EmptyKey}
 pub use Rattle.run_files.specs.declared.stop.Stop.{Stop}
-pub use Rattle.run_files.specs.declared.stop.Stop.TheVariants.{BadSource, CannotRead, CannotWrite, Instance, NoMemory, Refused, TooLong}
+pub use Rattle.run_files.specs.declared.stop.Stop.TheVariants.{BadSource, CannotRead, CannotWrite, Instance, NoMemory, OnDisk, Refused, TooLong}
 pub use Rattle.run_spec.specs.Deserts.{CanBeDone, DidWork, EndsOrFails, EndsWith, IsOfBytes}
 pub use Rattle.run_spec.specs.FoldedJournal.{folded_in}
-pub use Rattle.run_spec.specs.Judge.{AskedFor, Does, Keyed, Recorded, Refuses, Task, asked_in, check_judged, config_found, decode_work, does, fold_work, gen_work, journal_judged, judge, key_judged, keyed_bytes, migrate_work, packs, recorded_in, replays, reports, seals, trace_judged, unpacks, unseals}
+pub use Rattle.run_spec.specs.Judge.{AskedFor, Does, Keyed, Recorded, Refuses, Task, asked_in, check_judged, config_found, decode_work, does, fold_work, gen_work, journal_judged, judge, keeps, key_judged, keyed_bytes, migrate_work, packs, recalls, recorded_in, replays, reports, seals, trace_judged, unpacks, unseals}
 pub use Rattle.run_spec.specs.Run.{CannotDo, Deserves, EndsAs, KeepsConfig, MayRefuse, MayStop, OneFails, PartWritten, Ran, RanCommand, StopsFor, WasDone, WasRefused}
-pub use Rattle.run_words.specs.Command.{CheckFiles, Command, FoldFiles, KeyedFiles, PairFiles, Recording, ReplayFiles, ReportFiles, SizedFiles, bundle, check, decode, fold, gen, migrate, read_by, recording_of, replay, report, sign, unbundle, verify, written_by}
+pub use Rattle.run_words.specs.Command.{CheckFiles, Command, FoldFiles, KeepFiles, KeyedFiles, PairFiles, Recording, ReplayFiles, ReportFiles, SizedFiles, bundle, check, decode, fold, gen, keep, migrate, read_by, recall, recording_of, replay, report, sign, unbundle, verify, written_by}
 pub use Rattle.std.proofs.Common.{Bool, Bor, Err, IfSome, IsTrue, List, None, Ok, Option, Some, [], ap, append_assoc, arith, false, inl, inr, length, length-append, map, refl, reverse, subst, sym, true, ℕ, ◌++◌, ◌+◌, ◌∙◌, ◌∷◌, ◌≡◌, ◌≢◌, ◌≤◌}
 pub use Rattle.std.proofs.lemmas.Bool.{and_parts, cases_Bool, false_from_ne_true}
 pub use Rattle.std.proofs.lemmas.Grind.{reverse_onto}

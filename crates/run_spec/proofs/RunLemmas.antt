@@ -1,41 +1,60 @@
 -- How a command ended, how that was told, and what the files deserve.
-use Rattle.run_spec.proofs.Names.{◌≡◌, ℕ, Bool, true, false, List, Option, None, Some, Ok, Err, Bor, IsTrue, refl, sym, subst, inl, inr, no_memory_text, Result, IfOk, IfErr, Vec, ⊤, Global, SameFiles, Shelved, Heard, PutCause, WriteFault, Failed, MemoryRefused, Stop, CannotRead, TooLong, BadSource, Instance, Refused, CannotWrite, NoMemory, Command, EndsWith, EndsOrFails, CanBeDone, IsOfBytes, Task, Work, judge, Refuses, Deserves, refusal_status, ap, ◌∙◌, Ran, RanCommand, EndsAs, StopsFor, WasDone, WasRefused, OneFails, Puts, Says, Tells, put_status, plain_stop, plain_end, stop_text, stop_status, answer_text, answer_status, DidWork, Does}
+use Rattle.run_spec.proofs.Names.{◌≡◌, ℕ, Bool, true, false, List, Option, None, Some, Ok, Err, Bor, IsTrue, refl, sym, subst, inl, inr, no_memory_text, Result, IfOk, IfErr, Vec, ⊤, Global, SameFiles, Shelved, Heard, PutCause, WriteFault, Failed, MemoryRefused, Stop, CannotRead, TooLong, BadSource, Instance, Refused, OnDisk, CannotWrite, NoMemory, Command, EndsWith, EndsOrFails, CanBeDone, IsOfBytes, Task, Work, judge, Refuses, Deserves, refusal_status, ap, ◌∙◌, Ran, RanCommand, EndsAs, StopsFor, WasDone, WasRefused, OneFails, Puts, Says, Tells, put_status, plain_stop, plain_end, stop_text, stop_status, answer_text, answer_status, DidWork, Does}
 use Rattle.std.proofs.Common.{◌≢◌, arith}
 use Rattle.run_files.specs.declared.stop.Refusal.{Refusal}
 use Rattle.run_files.specs.declared.stop.Refusal.TheVariants.{BadConfig, BadCounter, BadJournal, BadMessages, BadTag, BadTrace, BadUnit, Differ, EmptyKey, Signed, TooLarge}
+use Rattle.run_files.specs.Texts.{disk_status}
+use Rattle.run_files.specs.declared.stop.DiskStop.{DiskStop}
+use Rattle.run_files.specs.declared.stop.DiskStop.TheVariants as disk
+use Rattle.run_spec.specs.Keeping.{MayStopOnDisk}
 use Rattle.run_spec.proofs.TaskLemmas.{done_or_refused, one_refusal}
 
 module _ (command : Command) (status : ℕ) (old new : Shelved) (before after : Heard) where
-  -- where there was no memory to tell that the inputs do not serve, memory was wanted
-  says_ran : (reason : Stop (List ℕ)) → StopsFor command reason old new
-      → (IsTrue old.tells → SameFiles old.files new.files)
-      → Says (stop_text reason) (stop_status reason) status before after
-      → RanCommand command status old new before after
-  says_ran reason stops same (inl puts) = record { answer = Err reason; ends = stops; puts = puts }
-  says_ran reason stops same (inr puts) = record { answer = Err NoMemory; ends = inl same; puts = puts }
+  -- a run that ended so, of whose answer this holds
+  pub record RanSo (Q : Result (List ℕ) (Stop (List ℕ)) → Type 0) : Type 0 where
+    pub ran : RanCommand command status old new before after
+    pub holds : Q ran.answer
 
-  stop_ran : (reason : Stop (List ℕ)) → StopsFor command reason old new → Tells (Err reason) status before after
-      → RanCommand command status old new before after
-  stop_ran (CannotRead name) stops tells = says_ran (CannotRead name) stops stops.same tells
-  stop_ran (TooLong name) stops tells = says_ran (TooLong name) stops stops.same tells
-  stop_ran (BadSource name bad) stops tells = says_ran (BadSource name bad) stops stops.same tells
-  stop_ran (Instance name) stops tells = says_ran (Instance name) stops stops.same tells
-  stop_ran (Refused refusal) stops tells = says_ran (Refused refusal) stops stops.same tells
-  stop_ran CannotWrite stops tells = record { answer = Err CannotWrite; ends = stops; puts = tells }
-  stop_ran NoMemory stops tells = record { answer = Err NoMemory; ends = stops; puts = tells }
+  module _ (Q : Result (List ℕ) (Stop (List ℕ)) → Type 0) (wanting : Q (Err NoMemory)) where
+    -- where there was no memory to tell why it stopped, memory was wanted
+    says_so : (reason : Stop (List ℕ)) → StopsFor command reason old new → (IsTrue old.tells → SameFiles old.files new.files)
+        → Says (stop_text reason) (stop_status reason) status before after → Q (Err reason) → RanSo Q
+    says_so reason stops same (inl puts) holds =
+        record { ran = record { answer = Err reason; ends = stops; puts = puts }; holds = holds }
+    says_so reason stops same (inr puts) holds =
+        record { ran = record { answer = Err NoMemory; ends = inl same; puts = puts }; holds = wanting }
 
-  -- a command that ended so, and told it
+    stop_so : (reason : Stop (List ℕ)) → StopsFor command reason old new → Tells (Err reason) status before after
+        → Q (Err reason) → RanSo Q
+    stop_so (CannotRead name) stops tells holds = says_so (CannotRead name) stops stops.same tells holds
+    stop_so (TooLong name) stops tells holds = says_so (TooLong name) stops stops.same tells holds
+    stop_so (BadSource name bad) stops tells holds = says_so (BadSource name bad) stops stops.same tells holds
+    stop_so (Instance name) stops tells holds = says_so (Instance name) stops stops.same tells holds
+    stop_so (Refused refusal) stops tells holds = says_so (Refused refusal) stops stops.same tells holds
+    stop_so (OnDisk stop) stops tells holds = says_so (OnDisk stop) stops stops.same tells holds
+    stop_so CannotWrite stops tells holds =
+        record { ran = record { answer = Err CannotWrite; ends = stops; puts = tells }; holds = holds }
+    stop_so NoMemory stops tells holds =
+        record { ran = record { answer = Err NoMemory; ends = stops; puts = tells }; holds = holds }
+
+    -- a command that ended so, and told it
+    pub ended_so : (end : Result (Vec ℕ Global) (Stop (Bor (List ℕ)))) → EndsAs command (plain_end end) old new
+        → Tells (plain_end end) status before after → Q (plain_end end) → RanSo Q
+    ended_so (Ok said) ends tells holds =
+        record { ran = record { answer = Ok said.items; ends = ends; puts = tells }; holds = holds }
+    ended_so (Err reason) ends tells holds = stop_so (plain_stop reason) ends tells holds
+
+  -- whatever holds of its answer
   pub ended_ran : (end : Result (Vec ℕ Global) (Stop (Bor (List ℕ)))) → EndsAs command (plain_end end) old new
       → Tells (plain_end end) status before after → RanCommand command status old new before after
-  ended_ran (Ok said) ends tells = record { answer = Ok said.items; ends = ends; puts = tells }
-  ended_ran (Err reason) ends tells = stop_ran (plain_stop reason) ends tells
+  ended_ran end ends tells = (ended_so (λ answer. ⊤) tt end ends tells tt).ran
 
   pub end_ran : (end : Result (Vec ℕ Global) (Stop (Bor (List ℕ))))
       → IfOk end (λ text. WasDone command text.items old new)
       → IfErr end (λ reason. StopsFor command (plain_stop reason) old new)
       → Tells (plain_end end) status before after → RanCommand command status old new before after
-  end_ran (Ok said) done stops tells = record { answer = Ok said.items; ends = done; puts = tells }
-  end_ran (Err reason) done stops tells = stop_ran (plain_stop reason) stops tells
+  end_ran (Ok said) done stops tells = ended_ran (Ok said) done tells
+  end_ran (Err reason) done stops tells = ended_ran (Err reason) stops tells
 
   -- ---- what the files deserve decides how a run ends
 
@@ -83,14 +102,21 @@ module _ (command : Command) (status : ℕ) (old new : Shelved) (before after : 
         as_deserved (Instance name) wanted deserved ends puts
     refused_ends (Err (Refused refusal)) wanted deserved ends puts =
         as_deserved (Refused refusal) wanted deserved ends puts
+    refused_ends (Err (OnDisk stop)) wanted deserved ends puts = absurd (cc ((ends.serve told).judged, deserved))
     refused_ends (Err CannotWrite) wanted deserved ends puts = absurd (cc ((ends.part told).judged, deserved))
     refused_ends (Err NoMemory) wanted deserved ends puts = starved _ (put_ends 8 _ puts)
 
     -- where a file was not written, its text may not have been put either
     unwritten : OneFails command old.faults new.faults Failed
         → EndsWith 7 command status old new before after → EndsOrFails 0 command status old new before after
-    unwritten fails (inl is) = inr (is, fails)
+    unwritten fails (inl is) = inr (inl (is, fails))
     unwritten fails (inr other) = inl (inr other)
+
+    -- the text of a stop on a disk may not have been put either
+    stopped : (stop : DiskStop) → MayStopOnDisk command stop
+        → EndsWith (disk_status stop) command status old new before after → EndsOrFails 0 command status old new before after
+    stopped stop may (inl is) = inr (inr (record { stop = stop; may = may; is = is }))
+    stopped stop may (inr other) = inl (inr other)
 
     module _ (task : Task) (serves : judge command old.files ≡ Ok task) where
       -- files whose task can be done are not refused
@@ -110,6 +136,7 @@ module _ (command : Command) (status : ℕ) (old new : Shelved) (before after : 
       served_ends (Err (BadSource name bad)) can ends puts = absurd (none_deserved _ can (ends.deserved told))
       served_ends (Err (Instance name)) can ends puts = absurd (none_deserved _ can (ends.deserved told))
       served_ends (Err (Refused refusal)) can ends puts = absurd (none_deserved _ can (ends.deserved told))
+      served_ends (Err (OnDisk stop)) can ends puts = stopped stop ends.may (put_ends (disk_status stop) _ puts)
       served_ends (Err CannotWrite) can ends puts = unwritten ends.fails (put_ends 7 _ puts)
       served_ends (Err NoMemory) can ends puts = inl (starved 0 (put_ends 8 _ puts))
 
@@ -145,6 +172,10 @@ module _ (command : Command) (status : ℕ) (old new : Shelved) (before after : 
         unfit_ends (Err (BadSource name bad)) ends puts = as_told (BadSource name bad) ends puts
         unfit_ends (Err (Instance name)) ends puts = as_told (Instance name) ends puts
         unfit_ends (Err (Refused other)) ends puts = as_told (Refused other) ends puts
+        unfit_ends (Err (OnDisk stop)) ends puts =
+            let serve = ends.serve told in
+            let same : serve.task ≡ task = cc (sym serve.judged, serves) in
+            absurd (subst (λ (t : Task). (r : Refusal) → Refuses t r → ⊥) same serve.can refusal refuses)
         unfit_ends (Err CannotWrite) ends puts =
             let part = ends.part told in absurd (not_done part.task part.work part.judged part.is_work)
         unfit_ends (Err NoMemory) ends puts = starved _ (put_ends 8 _ puts)
@@ -169,6 +200,13 @@ refusal_some (BadCounter at) is = absurd cc
 refusal_some (TooLarge at) is = absurd cc
 refusal_some (BadUnit at) is = absurd cc
 
+-- nor has a stop on a disk
+pub disk_some : (stop : DiskStop) → disk_status stop ≢ 0
+disk_some disk.Failed is = absurd cc
+disk_some (disk.FailedAfter saves) is = absurd cc
+disk_some (disk.Damaged slot) is = absurd cc
+disk_some (disk.WornAfter saves) is = absurd cc
+
 module _ (command : Command) (old new : Shelved) (before after : Heard) (told : IsTrue old.tells) (task : Task)
     (serves : judge command old.files ≡ Ok task) where
   -- a run that ended with 0 did work that its files ask for
@@ -184,6 +222,7 @@ module _ (command : Command) (old new : Shelved) (before after : Heard) (told : 
   did_work (Err (Instance name)) ends puts = absurd (never_done 11 puts.put (omega arith) puts.is)
   did_work (Err (Refused refusal)) ends puts =
       absurd (never_done (refusal_status refusal) puts.put (refusal_some refusal) puts.is)
+  did_work (Err (OnDisk stop)) ends puts = absurd (never_done (disk_status stop) puts.put (disk_some stop) puts.is)
   did_work (Err CannotWrite) ends puts = absurd (never_done 7 puts.put (omega arith) puts.is)
   did_work (Err NoMemory) ends puts = absurd (never_done 8 puts.put (omega arith) puts.is)
 

@@ -1,5 +1,5 @@
 -- What the input files of commands over messages deserve, stage by stage.
-use Rattle.run_spec.proofs.Names.{◌≡◌, ◌≢◌, ℕ, List, [], Some, Ok, Err, refl, subst, arith, Contains, Files, Stop, Refused, Refusal, EmptyKey, MayRefuse, Command, KeyedFiles, SizedFiles, PairFiles, fold, check, decode, gen, migrate, replay, sign, verify, bundle, unbundle, report, read_by, file_of, judge, key_judged, keyed_bytes, Keyed, seals, unseals, packs, unpacks}
+use Rattle.run_spec.proofs.Names.{◌≡◌, ◌≢◌, ℕ, List, [], Some, Ok, Err, refl, subst, arith, Contains, Files, Stop, Refused, Refusal, EmptyKey, MayRefuse, Command, KeyedFiles, SizedFiles, PairFiles, fold, check, decode, gen, migrate, replay, sign, verify, bundle, unbundle, report, keep, recall, read_by, file_of, judge, key_judged, keyed_bytes, Keyed, seals, unseals, packs, unpacks}
 use Rattle.std.proofs.lemmas.Option.{same_Some, none-some}
 use Rattle.frame_auth.specs.declared.fault.SealFault.{SealFault}
 use Rattle.frame_auth.specs.declared.fault.SealFault.TheVariants as sealing
@@ -94,6 +94,8 @@ module _ (limit : ℕ) (names : KeyedFiles) (command : Command) (reads : keyed_b
       go (bundle files) is = absurd (none-some _ is)
       go (unbundle files) is = absurd (none-some _ is)
       go (report files) is = absurd (none-some _ is)
+      go (keep files) is = absurd (none-some _ is)
+      go (recall files) is = absurd (none-some _ is)
 
   pub reads_key : Contains (read_by command) names.key
   reads_key = by_command (λ c l n. Contains (read_by c) n.key) (λ f. (0, omega arith, refl)) (λ f. (0, omega arith, refl))

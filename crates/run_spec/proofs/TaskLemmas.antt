@@ -1,5 +1,5 @@
 -- Tasks that cannot be done: there is one first fault.
-use Rattle.run_spec.proofs.Names.{◌≡◌, Ok, Err, Refusal, Task, Work, Does, Refuses, IsOfBytes, does, replays, seals, unseals, packs, unpacks, reports}
+use Rattle.run_spec.proofs.Names.{◌≡◌, Ok, Err, Refusal, Task, Work, Does, Refuses, IsOfBytes, does, replays, seals, unseals, packs, unpacks, reports, keeps, recalls}
 use Rattle.frame_auth.proofs.OneAnswer.{one_sealing_lem, one_unsealing_lem}
 use Rattle.ids_bundle.proofs.PackLemmas.{one_pack_answer_lem}
 use Rattle.ids_bundle.proofs.UnpackLemmas.{one_unpack_answer_lem}
@@ -16,6 +16,8 @@ one_refusal (unpacks target bytes) a b fits x y =
 one_refusal (does own) a b fits x y = absurd x
 one_refusal (replays names config rounds) a b fits x y = absurd x
 one_refusal (reports target sources) a b fits x y = absurd x
+one_refusal (keeps config turns) a b fits x y = absurd x
+one_refusal (recalls target) a b fits x y = absurd x
 
 pub done_or_refused : (task : Task) (work : Work) (refusal : Refusal) → IsOfBytes task → Does task work
     → Refuses task refusal → ⊥
@@ -30,3 +32,5 @@ done_or_refused (unpacks target bytes) work refusal fits is x =
 done_or_refused (does own) work refusal fits is x = absurd x
 done_or_refused (replays names config rounds) work refusal fits is x = absurd x
 done_or_refused (reports target sources) work refusal fits is x = absurd x
+done_or_refused (keeps config turns) work refusal fits is x = absurd x
+done_or_refused (recalls target) work refusal fits is x = absurd x

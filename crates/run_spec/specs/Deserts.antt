@@ -1,7 +1,9 @@
 -- What the input files deserve decides the answer of a run.
 use Rattle.std.specs.Prelude.{◌≡◌, ◌⊎◌, ⊤, ℕ, List}
 use Rattle.ids_frame.specs.Bytes.{AreBytes}
-use Rattle.run_spec.specs.Names.{Shelved, Heard, MissesOne, Failed, Refusal}
+use Rattle.run_files.specs.Texts.{disk_status}
+use Rattle.run_spec.specs.Keeping.{MayStopOnDisk}
+use Rattle.run_spec.specs.Names.{Shelved, Heard, MissesOne, Failed, DiskStop, Refusal}
 use Rattle.run_words.specs.Command.{Command}
 use Rattle.run_spec.specs.Judge.{Task, Does, Refuses, seals, unseals, packs}
 use Rattle.run_spec.specs.Run.{OneFails, WasUnread}
@@ -19,11 +21,17 @@ EndsWith wanted command status old new before after =
     ⊎ ((status ≡ 8)
     ⊎ (((status ≡ 7) × MissesOne before.misses after.misses) ⊎ FailedBefore command old new))
 
--- or where a file was written
+-- the work of the command on its disk stopped, with this status
+pub record EndsOnDisk (command : Command) (status : ℕ) : Type 0 where
+  pub stop : DiskStop
+  pub may : MayStopOnDisk command stop
+  pub is : status ≡ disk_status stop
+
+-- or where a file was written, or on a disk
 abbrev pub EndsOrFails : ℕ → Command → ℕ → Shelved → Shelved → Heard → Heard → Type 0
 EndsOrFails wanted command status old new before after =
     EndsWith wanted command status old new before after
-    ⊎ ((status ≡ 7) × OneFails command old.faults new.faults Failed)
+    ⊎ (((status ≡ 7) × OneFails command old.faults new.faults Failed) ⊎ EndsOnDisk command status)
 
 -- work that the task asks for was done: each of its files is there, whole
 pub record DidWork (task : Task) (new : Shelved) : Type 0 where

@@ -1,7 +1,7 @@
 -- What the input files of a command deserve: what they ask for, or why the command has to stop,
 -- in the order in which files are read and judged.
 -- Source: docs/COMMANDS.md, "Order of work".
-use Rattle.std.specs.Prelude.{◌≡◌, ℕ, nat_eq, List, [], ◌∷◌, codes, Option, Some, None, Result, Ok, Err, if◌then◌else◌, bytes_eq}
+use Rattle.std.specs.Prelude.{◌≡◌, ℕ, nat_eq, List, [], ◌∷◌, length, codes, Option, Some, None, Result, Ok, Err, if◌then◌else◌, bytes_eq}
 use Rattle.std.specs.List.{common_prefix_len}
 use Rattle.run_spec.specs.Names.{configuration, config_text, Parts, ConfigFault, MessageParts, messages_read, BadMessage, Files, Turn, Round, decoded_text, messages_of, rows_of, memory_text, trace_in, BadLine, Told, BadConfig, BadJournal, BadTrace, BadMessages, Differ, EmptyKey, Refusal, Stop, Refused}
 use Rattle.gen_options.specs.Given.{Wanted}
@@ -16,9 +16,10 @@ use Rattle.ids_bundle.specs.Unpacking.{Unpacks}
 use Rattle.ids_bundle.specs.declared.fault.PackFault.{PackFault}
 use Rattle.ids_bundle.specs.declared.fault.UnpackFault.{UnpackFault}
 use Rattle.ids_frame.specs.Messages.{joined}
-use Rattle.run_words.specs.Command.{Command, fold, check, decode, gen, migrate, replay, sign, verify, bundle, unbundle, report, Recording, FoldFiles, PairFiles, KeyedFiles, ReplayFiles}
+use Rattle.run_words.specs.Command.{Command, fold, check, decode, gen, migrate, replay, sign, verify, bundle, unbundle, report, keep, recall, Recording, FoldFiles, PairFiles, KeyedFiles, ReplayFiles}
 use Rattle.run_spec.specs.Copying.{IsCopyWork, one_file, seal_refusal, unseal_refusal}
 use Rattle.ids_reporter.specs.Sources.{Sources}
+use Rattle.run_spec.specs.Keeping.{IsRecallWork, saved_text}
 use Rattle.run_spec.specs.Report.{IsReportWork, sources_in}
 use Rattle.run_spec.specs.Packing.{IsPackWork, IsUnpackWork, pack_refusal, unpack_refusal}
 use Rattle.run_spec.specs.Fold.{fold_outputs, fold_text}
@@ -79,8 +80,8 @@ asked_in names files = do
 
 -- ---- the work of commands
 
--- what a command has to do: this work, a replay of these rounds, to make of the bytes of one file those of another, or
--- to merge these sources
+-- what a command has to do: this work, a replay of these rounds, to make of the bytes of one file those of another, to
+-- merge these sources, to keep the event memory of these turns on a disk, or to write what a disk keeps
 pub data Task : Type 0 where
   does : Work → Task
   replays : ReplayFiles → Parts → List Round → Task
@@ -89,8 +90,15 @@ pub data Task : Type 0 where
   packs : (target : List ℕ) (size : ℕ) (bytes : List ℕ) → Task
   unpacks : (target bytes : List ℕ) → Task
   reports : (target : List ℕ) → Sources → Task
+  keeps : Parts → List Turn → Task
+  recalls : (target : List ℕ) → Task
 
--- the work is one that the task asks for: of a replay, that of one history; of a report, that of one merge
+-- no file, and a line
+abbrev pub only_said : List ℕ → Work
+only_said said = record { outputs = []; said = said }
+
+-- the work is one that the task asks for: of a replay, that of one history; of a report, that of one merge; of a disk's
+-- records, that of some
 abbrev pub Does : Task → Work → Type 0
 Does (does own) work = work ≡ own
 Does (replays names config rounds) work = IsReplayWork names config rounds work
@@ -101,6 +109,8 @@ Does (unseals target key start bytes) work =
 Does (packs target size bytes) work = IsPackWork target size bytes work
 Does (unpacks target bytes) work = IsUnpackWork target bytes work
 Does (reports target sources) work = IsReportWork target sources work
+Does (keeps config turns) work = work ≡ only_said (saved_text (length turns))
+Does (recalls target) work = IsRecallWork target work
 
 -- the task cannot be done: this is the first fault of the bytes
 abbrev pub Refuses : Task → Refusal → Type 0
@@ -121,20 +131,16 @@ fold_work names config turns = record {
   said = fold_text config turns;
 }
 
--- no file, and a line
-abbrev pub compared : List ℕ → Work
-compared said = record { outputs = []; said = said }
-
 -- no file and a line that says so, where the bytes are those that were sent; else the first place at which they
 -- differ, which is the end of the shorter ones where these are a first part of the others
 abbrev pub check_judged : (bytes sent : List ℕ) → Result Task (Stop (List ℕ))
 check_judged bytes sent =
-    if bytes_eq bytes sent then Ok (does (compared (codes "same\n")))
+    if bytes_eq bytes sent then Ok (does (only_said (codes "same\n")))
     else Err (Refused (Differ (common_prefix_len nat_eq bytes sent)))
 
 -- no file, and a line for each message
 abbrev pub decode_work : List MessageParts → Work
-decode_work messages = record { outputs = []; said = decoded_text messages }
+decode_work messages = only_said (decoded_text messages)
 
 -- the three files that options give, and the line that tells of them
 abbrev pub gen_work : Wanted → Work
@@ -212,3 +218,7 @@ judge (unbundle names) files = do
 judge (report names) files = do
   sources ← sources_in [] names.sources files
   Ok (reports names.target sources)
+judge (keep names) files = do
+  recorded ← recorded_in names.from files
+  Ok (keeps recorded.config recorded.turns)
+judge (recall names) files = Ok (recalls names.target)

@@ -4,6 +4,7 @@ pub mod Fold
 pub mod FoldedJournal
 pub mod Headline
 pub mod Judge
+pub mod Keeping
 pub mod Names
 pub mod Packing
 pub mod Replay

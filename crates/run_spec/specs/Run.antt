@@ -2,9 +2,10 @@
 -- and its text.
 -- Source: docs/COMMANDS.md.
 use Rattle.std.specs.Prelude.{◌≡◌, ◌⊎◌, ℕ, Bool, true, false, List, [], IsTrue, Option, Some, None, option_map, Result, Ok, Err, Contains}
-use Rattle.run_spec.specs.Names.{configuration, Faults, Rose, CountsFault, Files, SameFiles, Shelved, Heard, Read, WriteFault, Failed, Refusal, BadConfig, BadJournal, BadTrace, BadMessages, Differ, EmptyKey, Signed, BadTag, BadCounter, TooLarge, BadUnit, Stop, CannotRead, TooLong, BadSource, Instance, Refused, CannotWrite, NoMemory}
-use Rattle.run_words.specs.Command.{Command, fold, check, decode, gen, migrate, replay, sign, verify, bundle, unbundle, report, read_by, written_by}
+use Rattle.run_spec.specs.Names.{configuration, Faults, Rose, CountsFault, Files, SameFiles, Shelved, Heard, Read, WriteFault, Failed, Refusal, BadConfig, BadJournal, BadTrace, BadMessages, Differ, EmptyKey, Signed, BadTag, BadCounter, TooLarge, BadUnit, DiskStop, Stop, CannotRead, TooLong, BadSource, Instance, Refused, OnDisk, CannotWrite, NoMemory}
+use Rattle.run_words.specs.Command.{Command, fold, check, decode, gen, migrate, replay, sign, verify, bundle, unbundle, report, keep, recall, read_by, written_by}
 use Rattle.run_spec.specs.Judge.{Task, Does, Refuses, judge}
+use Rattle.run_spec.specs.Keeping.{MayStopOnDisk}
 use Rattle.run_files.specs.Contents.{without}
 use Rattle.run_files.specs.Saying.{Puts, Says}
 use Rattle.run_files.specs.Texts.{usage, answer_text, answer_status}
@@ -44,6 +45,10 @@ MayRefuse (bundle names) refusal = ⊥
 MayRefuse (unbundle files) (BadUnit at) = Unit {0}
 MayRefuse (unbundle files) refusal = ⊥
 MayRefuse (report files) refusal = ⊥
+MayRefuse (keep names) (BadConfig fault) = Unit {0}
+MayRefuse (keep names) (BadJournal line number) = Unit {0}
+MayRefuse (keep names) refusal = ⊥
+MayRefuse (recall names) refusal = ⊥
 
 -- the command may stop so at its input files, whatever they hold
 abbrev pub MayStop : Command → Stop (List ℕ) → Type 0
@@ -77,6 +82,21 @@ Deserves command files reason = (judge command files ≡ Err reason) ⊎ CannotD
 pub record WasRefused (command : Command) (reason : Stop (List ℕ)) (old new : Shelved) : Type 0 where
   pub may : MayStop command reason
   pub deserved : IsTrue old.tells → Deserves command old.files reason
+  pub no_fault : new.faults ≡ old.faults
+  pub same : IsTrue old.tells → SameFiles old.files new.files
+
+-- ---- work on a disk
+
+-- the files ask for a task that can be done
+pub record CanWork (command : Command) (files : Files) : Type 0 where
+  pub task : Task
+  pub judged : judge command files ≡ Ok task
+  pub can : (refusal : Refusal) → Refuses task refusal → ⊥
+
+-- the work on a disk stopped so: the input files serve, and no file was touched
+pub record StoppedOnDisk (command : Command) (stop : DiskStop) (old new : Shelved) : Type 0 where
+  pub may : MayStopOnDisk command stop
+  pub serve : IsTrue old.tells → CanWork command old.files
   pub no_fault : new.faults ≡ old.faults
   pub same : IsTrue old.tells → SameFiles old.files new.files
 
@@ -134,6 +154,7 @@ WantedMemory command old new =
 -- why a command stopped, and what stands then
 abbrev pub StopsFor : Command → Stop (List ℕ) → Shelved → Shelved → Type 0
 StopsFor command (CannotRead name) old new = WasUnread command name old new
+StopsFor command (OnDisk stop) old new = StoppedOnDisk command stop old new
 StopsFor command CannotWrite old new = WasNotWritten command old new
 StopsFor command NoMemory old new = WantedMemory command old new
 StopsFor command reason old new = WasRefused command reason old new

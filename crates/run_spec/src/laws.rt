@@ -13,8 +13,8 @@ ghost use Rattle.run_spec.specs.Run.{RanCommand};
 
 /// What the input files deserve decides how a run over a shelf that tells them ends: with the status of
 /// their refusal, with that of the first fault of what they ask for, or with 0. Only want of memory, the put of the
-/// text, a write, or an earlier read that failed can end it otherwise. A run that ended with 0 did work that they ask
-/// for.
+/// text, a write, a disk, or an earlier read that failed can end it otherwise. A run that ended with 0 did work that they
+/// ask for.
 pub fn files_decide_the_answer()
     ensures refused { (command : Command) (status : ℕ) (old new : Shelved) (before after : Heard)
         (reason : Stop (List ℕ)) → RanCommand command status old new before after →

@@ -1,6 +1,6 @@
 -- The commands of the program, as its words give them.
 -- Source: docs/COMMANDS.md.
-use Rattle.std.specs.Prelude.{◌≡◌, ◌≢◌, ℕ, ◌^◌, ◌&&◌, ◌==◌, nat_le, not, bytes_eq, Bool, true, false, List, [], ◌∷◌, length, Option, Some, None, option_map, codes, if◌then◌else◌}
+use Rattle.std.specs.Prelude.{◌≡◌, ◌≢◌, ℕ, ◌^◌, ◌&&◌, ◌||◌, ◌==◌, nat_le, not, bytes_eq, Bool, true, false, List, [], ◌∷◌, length, Option, Some, None, option_map, codes, if◌then◌else◌}
 use Rattle.gen_options.specs.Given.{Wanted}
 use Rattle.gen_options.specs.Words.{words_give}
 use Rattle.std.specs.List.{list_any}
@@ -53,7 +53,12 @@ pub record ReplayFiles : Type 0 where
   pub memory : List ℕ
   pub journal : List ℕ
 
--- what a run is asked to do
+-- what `keep` names: the disk, and the recording that it reads
+pub record KeepFiles : Type 0 where
+  pub disk : List ℕ
+  pub from : Recording
+
+-- what a run is asked to do; of the names of `recall` the first is that of the disk
 pub data Command : Type 0 where
   fold : FoldFiles → Command
   check : CheckFiles → Command
@@ -66,6 +71,8 @@ pub data Command : Type 0 where
   bundle : SizedFiles → Command
   unbundle : PairFiles → Command
   report : ReportFiles → Command
+  keep : KeepFiles → Command
+  recall : PairFiles → Command
 
 -- a word that may be a name: it is not empty
 abbrev pub is_name : List ℕ → Bool
@@ -147,8 +154,8 @@ sized_in (size ∷ names) = do
   Some (record { size = most; files = files })
 sized_in [] = None
 
--- the command of the words behind the program's name, none where they are not in form; those of a replay and of a
--- report have readings of their own
+-- the command of the words behind the program's name, none where they are not in form; those of a replay, of a report
+-- and of work on a disk have readings of their own
 abbrev pub command_of : List (List ℕ) → Option Command
 command_of [] = None
 command_of (word ∷ names) =
@@ -199,6 +206,27 @@ abbrev pub report_of : List (List ℕ) → Option ReportFiles
 report_of [] = None
 report_of (word ∷ names) = if bytes_eq word (codes "report") then report_names names else None
 
+-- the words ask for work on a disk
+abbrev pub asks_disk : List (List ℕ) → Bool
+asks_disk [] = false
+asks_disk (word ∷ names) = bytes_eq word (codes "keep") || bytes_eq word (codes "recall")
+
+-- the command of the words behind `keep`
+abbrev pub keep_of : List (List ℕ) → Option Command
+keep_of (disk ∷ config ∷ journal ∷ []) =
+    if are_names (disk ∷ config ∷ journal ∷ []) then
+    Some (keep (record { disk = disk; from = record { config = config; journal = journal } }))
+    else None
+keep_of names = None
+
+-- the command over a disk that the words behind the program's name ask for, none where they are not in form
+abbrev pub disk_command_of : List (List ℕ) → Option Command
+disk_command_of [] = None
+disk_command_of (word ∷ names) =
+    if bytes_eq word (codes "keep") then keep_of names
+    else if bytes_eq word (codes "recall") then option_map recall (pair_in names)
+    else None
+
 -- the files that the command reads, in the order in which it reads them
 abbrev pub read_by : Command → List (List ℕ)
 read_by (fold files) = files.from.config ∷ files.from.journal ∷ []
@@ -212,11 +240,14 @@ read_by (verify names) = names.key ∷ names.files.source ∷ []
 read_by (bundle names) = names.files.source ∷ []
 read_by (unbundle files) = files.source ∷ []
 read_by (report files) = files.sources
+read_by (keep names) = names.from.config ∷ names.from.journal ∷ []
+read_by (recall names) = []
 
 -- the recording that the command reads before all else, where it reads one
 abbrev pub recording_of : Command → Option Recording
 recording_of (fold files) = Some files.from
 recording_of (check files) = Some files.from
+recording_of (keep names) = Some names.from
 recording_of other = None
 
 -- the files that the command writes, in the order in which it writes them
@@ -232,6 +263,8 @@ written_by (verify names) = names.files.target ∷ []
 written_by (bundle names) = names.files.target ∷ []
 written_by (unbundle files) = files.target ∷ []
 written_by (report files) = files.target ∷ []
+written_by (keep names) = []
+written_by (recall names) = names.target ∷ []
 
 -- the name is none of these
 abbrev pub IsNoneOf : List (List ℕ) → List ℕ → Type 0

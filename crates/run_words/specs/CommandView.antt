@@ -5,6 +5,9 @@ use Rattle.gen_options.specs.Ranges.{is_in_range}
 use Rattle.run_words.specs.declared.command.FoldNames.{FoldNames}
 use Rattle.run_words.specs.declared.command.CheckNames.{CheckNames}
 use Rattle.run_words.specs.declared.command.RecordingNames.{RecordingNames}
+use Rattle.run_words.specs.declared.disk_words.DiskRequest.{DiskRequest}
+use Rattle.run_words.specs.declared.disk_words.KeepNames.{KeepNames}
+use Rattle.run_words.specs.declared.disk_words.DiskRequest.TheVariants.{Keep, Recall}
 use Rattle.run_words.specs.declared.message_words.KeyedNames.{KeyedNames}
 use Rattle.run_words.specs.declared.message_words.PairNames.{PairNames}
 use Rattle.run_words.specs.declared.message_words.SizedNames.{SizedNames}
@@ -12,7 +15,7 @@ use Rattle.run_words.specs.declared.report_words.ReportNames.{ReportNames}
 use Rattle.run_words.specs.declared.command.Request.{Request}
 use Rattle.run_words.specs.declared.replay_words.ReplayNames.{ReplayNames}
 use Rattle.run_words.specs.declared.command.Request.TheVariants.{Fold, Check, Decode, Gen, Migrate, Sign, Verify, Bundle, Unbundle}
-use Rattle.run_words.specs.Command.{Recording, FoldFiles, CheckFiles, PairFiles, KeyedFiles, SizedFiles, ReplayFiles, ReportFiles, Command, fold, check, decode, gen, migrate, sign, verify, bundle, unbundle, are_names}
+use Rattle.run_words.specs.Command.{Recording, FoldFiles, CheckFiles, PairFiles, KeyedFiles, SizedFiles, ReplayFiles, ReportFiles, KeepFiles, Command, fold, check, decode, gen, migrate, sign, verify, bundle, unbundle, keep, recall, are_names}
 
 -- the names of a recording as bytes
 abbrev pub recording : RecordingNames → Recording
@@ -66,6 +69,20 @@ asked (Sign names) = sign (keyed_of names)
 asked (Verify names) = verify (keyed_of names)
 asked (Bundle names) = bundle (sized_of names)
 asked (Unbundle names) = unbundle (pair_of names)
+
+-- the names of `keep` as bytes
+abbrev pub keep_files_of : KeepNames → KeepFiles
+keep_files_of names = record { disk = names.disk.now; from = recording names.from }
+
+-- the command over a disk that is asked for
+abbrev pub disk_asked : DiskRequest → Command
+disk_asked (Keep names) = keep (keep_files_of names)
+disk_asked (Recall names) = recall (pair_of names)
+
+-- the files of a recording differ that is to be kept
+abbrev pub CanKeep : DiskRequest → Type 0
+CanKeep (Keep names) = names.from.config.now ≢ names.from.journal.now
+CanKeep (Recall names) = ⊤
 
 -- a key and the other file that is read differ, and the first counter is in its range
 pub record CanKey (names : KeyedNames) : Type 0 where

@@ -1,4 +1,4 @@
-use Rattle.idsm_run.proofs.Names.{rules, refl, ◌∙◌, arith, check, three_of}
+use Rattle.run_steps.proofs.Names.{rules, refl, ◌∙◌, arith, check, three_of}
 use Rattle.run_files.proofs.ExitLemmas.{left_by}
 use Rattle.idsm_run.proofs.CheckLemmas.{done_so, stopped_so}
 use Rattle.run_spec.proofs.JudgeLemmas.{unread, read_since, messages_next}

@@ -1,4 +1,4 @@
-use Rattle.idsm_run.proofs.Names.{rules, refl, subst, ◌∙◌, fold, files_of, fold_work, stop_of_write, StandUpTo, AreWritten}
+use Rattle.run_steps.proofs.Names.{rules, refl, subst, ◌∙◌, fold, files_of, fold_work, stop_of_write, StandUpTo, AreWritten}
 use Rattle.run_files.proofs.ExitLemmas.{left_by}
 use Rattle.idsm_run.proofs.FoldLemmas.{outputs_are, line_is}
 use Rattle.run_spec.proofs.JudgeLemmas.{fold_found}

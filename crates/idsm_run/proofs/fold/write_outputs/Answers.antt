@@ -1,4 +1,4 @@
-use Rattle.idsm_run.proofs.Names.{rules, refl, arith, fold, files_of}
+use Rattle.run_steps.proofs.Names.{rules, refl, arith, fold, files_of}
 use Rattle.run_spec.proofs.WorkLemmas.{fails_so}
 use Rattle.idsm_run.proofs.fold.write_outputs.Goals as goal
 

@@ -1,4 +1,4 @@
-use Rattle.idsm_run.proofs.Names.{refl, given_of, gen, gen_work, stop_of_write}
+use Rattle.run_steps.proofs.Names.{refl, given_of, gen, gen_work, stop_of_write}
 use Rattle.run_files.proofs.ExitLemmas.{left_by}
 use Rattle.run_spec.proofs.JudgeLemmas.{gen_found}
 use Rattle.run_spec.proofs.WorkLemmas.{all_written, write_stopped}

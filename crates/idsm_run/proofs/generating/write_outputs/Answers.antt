@@ -1,4 +1,4 @@
-use Rattle.idsm_run.proofs.Names.{rules, refl, arith, given_of, gen}
+use Rattle.run_steps.proofs.Names.{rules, refl, arith, given_of, gen}
 use Rattle.run_spec.proofs.WorkLemmas.{fails_so}
 use Rattle.idsm_run.proofs.generating.write_outputs.Goals as goal
 

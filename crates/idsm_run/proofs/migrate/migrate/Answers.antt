@@ -1,4 +1,4 @@
-use Rattle.idsm_run.proofs.Names.{rules, refl, does, migrate, migrate_work, pair_of, stop_of_config}
+use Rattle.run_steps.proofs.Names.{rules, refl, does, migrate, migrate_work, pair_of, stop_of_config}
 use Rattle.run_spec.proofs.JudgeLemmas.{unread, unread_config, source_first, source_refused, source_found, config_kept}
 use Rattle.run_spec.proofs.WorkLemmas.{left_ends}
 use Rattle.idsm_run.proofs.migrate.migrate.Goals as goal

@@ -1,4 +1,4 @@
-use Rattle.idsm_run.proofs.Names.{◌≡◌, take, lost_contexts}
+use Rattle.run_steps.proofs.Names.{◌≡◌, take, lost_contexts}
 use Rattle.idsm_run.proofs.replaying.contexts_lost.Given as goal
 
 -- what the turns so far tell

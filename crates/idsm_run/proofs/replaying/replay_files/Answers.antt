@@ -1,4 +1,5 @@
-use Rattle.idsm_run.proofs.Names.{◌∙◌, IsTrue, rules, refl, sym, ap, subst, inl, gives, told, memory_text, journal_text, five_of, replay, replays, replay_work, stop_of_write, StandUpTo, AreWritten, NoMemory}
+use Rattle.run_steps.proofs.Names.{◌∙◌, IsTrue, rules, refl, sym, ap, subst, inl, told, memory_text, journal_text, five_of, replay, replays, replay_work, stop_of_write, StandUpTo, AreWritten, NoMemory}
+use Rattle.trace_replay.specs.Replayed.{gives}
 use Rattle.run_files.proofs.ExitLemmas.{left_by}
 use Rattle.run_spec.proofs.JudgeLemmas.{replay_found}
 use Rattle.idsm_run.proofs.ReplayLemmas.{is_one, lost_are, sent_cut, replay_outputs_are, replayed_done}

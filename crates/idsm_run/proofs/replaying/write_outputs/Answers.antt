@@ -1,4 +1,4 @@
-use Rattle.idsm_run.proofs.Names.{rules, refl, arith, replay, five_of}
+use Rattle.run_steps.proofs.Names.{rules, refl, arith, replay, five_of}
 use Rattle.run_spec.proofs.WorkLemmas.{fails_so}
 use Rattle.idsm_run.proofs.replaying.write_outputs.Goals as goal
 

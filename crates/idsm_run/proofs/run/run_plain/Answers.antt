@@ -1,4 +1,4 @@
-use Rattle.idsm_run.proofs.Names.{ap, sym, ◌∙◌, option_map, asked}
+use Rattle.run_steps.proofs.Names.{ap, sym, ◌∙◌, option_map, asked}
 use Rattle.run_spec.proofs.RunLemmas.{asked_ran, end_ran, ended_ran, words_starved}
 use Rattle.idsm_run.proofs.run.run_plain.Goals as goal
 

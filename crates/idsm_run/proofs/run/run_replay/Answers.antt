@@ -1,9 +1,9 @@
-use Rattle.idsm_run.proofs.Names.{five_of}
-use Rattle.idsm_run.proofs.AnsweredLemmas.{asked_with, misused_with, run_ran}
+use Rattle.run_steps.proofs.Names.{five_of}
+use Rattle.run_steps.proofs.AnsweredLemmas.{asked_with, misused_with, run_ran}
 use Rattle.idsm_run.proofs.run.run_replay.Goals as goal
 
 pub returns-in-None-clause-ran : goal.returns-in-None-clause-ran
-returns-in-None-clause-ran g c = misused_with _ _ _ _ _ (g.H.Shelf.shows c.args.shelf.now) _ _ c.in-None.ensures.asked c.say.ensures
+returns-in-None-clause-ran g c = misused_with _ _ _ _ _ (g.H.Shelf.shows c.args.shelf.now) _ _ c.in-None.ensures.asked c.say_usage.ensures
 
 pub returns-in-Some-clause-ran : goal.returns-in-Some-clause-ran
 returns-in-Some-clause-ran g c =

@@ -1,4 +1,4 @@
-use Rattle.idsm_run.proofs.Names.{rules, refl, arith, configuration, five_of, replay, plain_stop, stop_of_config}
+use Rattle.run_steps.proofs.Names.{rules, refl, arith, configuration, five_of, replay, plain_stop, stop_of_config}
 use Rattle.run_files.proofs.ExitLemmas.{left_by}
 use Rattle.run_spec.proofs.JudgeLemmas.{unread, refused, read_since, config_exit, replay_config, replay_trace, asked_first, asked_refused, trace_next, trace_refused, trace_found}
 use Rattle.idsm_run.proofs.traces.read_asked.Goals as goal

@@ -1,0 +1,4 @@
+pub mod EndLemmas
+pub mod KeepLemmas
+pub mod RunLemmas
+pub mod SavingLemmas

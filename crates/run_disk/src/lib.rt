@@ -1,0 +1,17 @@
+//! The commands over an event memory on a disk: `keep` saves the memory of a recording behind each of its turns, and
+//! `recall` writes what a disk keeps.
+//!
+//! Layer 10, runs. Over `run_steps`, which reads the recording, over `chain_plain` and `event_chain`, which fold it, and
+//! over `memory_store`, which saves records so that power may fail at any moment; `idsm_run` passes `run_keep` on.
+//! What the files of a command deserve, and how its run ends, is `run_spec`'s; `specs/Keeping.antt` says what a crash at
+//! any moment of a `keep` leaves on its disk and what any crash behind it does, and `specs/Runs.antt` what a run does as a
+//! whole. Where the shelf or the disk tells nothing of what it holds, only the causes of its failures are said.
+#![tactic(auto)]
+
+mod ended;
+mod keeping;
+mod recalling;
+mod run;
+mod saving;
+
+pub use run::run_keep;

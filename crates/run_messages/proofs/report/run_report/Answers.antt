@@ -1,0 +1,12 @@
+use Rattle.run_words.specs.CommandView.{report_files_of}
+use Rattle.run_steps.proofs.AnsweredLemmas.{asked_with, misused_with, run_ran}
+use Rattle.run_messages.proofs.report.run_report.Goals as goal
+
+pub returns-in-None-clause-ran : goal.returns-in-None-clause-ran
+returns-in-None-clause-ran g c = misused_with _ _ _ _ _ (g.H.Shelf.shows c.args.shelf.now) _ _ c.in-None.ensures.asked c.say_usage.ensures
+
+pub returns-in-Some-clause-ran : goal.returns-in-Some-clause-ran
+returns-in-Some-clause-ran g c =
+    asked_with _ _ _ _ _ _ _ _ (report_files_of c.in-Some.names) _ c.in-Some.ensures.asked
+    (run_ran _ _ _ _ _ _ _ c.report_files.result _ c.report_files.ensures.reported c.report_files.ensures.done
+    c.report_files.ensures.stops c.tell_finished.ensures)

@@ -1,0 +1,27 @@
+use Rattle.run_steps.proofs.Names.{keyed_of, refl, unseals, verify}
+use Rattle.run_spec.proofs.StageLemmas.{may_unseal, unsealed_found}
+use Rattle.run_spec.proofs.WorkLemmas.{left_ends}
+use Rattle.run_steps.proofs.MadeLemmas.{keeps_any}
+use Rattle.run_messages.proofs.sealing.verify.Goals as goal
+
+pub returns-in_err-key-clause-ends : goal.returns-in_err-key-clause-ends
+returns-in_err-key-clause-ends g c =
+    left_ends _ _ c.in_err-key.field-0.0 _ _ c.from_residual.ensures.1
+    (c.in_err-key.ensures.stops (verify (keyed_of c.args.names)) refl)
+
+pub returns-clause-ends : goal.returns-clause-ends
+returns-clause-ends g c =
+    let names = keyed_of c.args.names in
+    c.write_made.ensures.ends (verify names) (unseals names.files.target c.in_ok-key.key names.start c.in_ok-key.bytes.items)
+    (g.H.Shelf.shows c.args.shelf.now)
+    (record {
+      read = record {
+        tells = c.read_keyed.ensures.tells;
+        same = c.read_keyed.ensures.same;
+        no_fault = c.in_ok-key.ensures.no_fault;
+      };
+      found = λ told. unsealed_found names _ _ (c.in_ok-key.ensures.found told);
+      writes = refl;
+      may = λ refusal refuses. may_unseal names refuses.0 refusal refuses.2;
+    })
+    (rw c.deref.ensures.value at (c.make_unsealed-made.ensures names.files.target)) (λ told. keeps_any (verify names) names.files.target (g.H.Shelf.shows c.args.shelf.now).files (λ old new. tt) _)

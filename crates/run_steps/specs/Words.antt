@@ -1,0 +1,58 @@
+-- The names that the contracts of runs cite.
+pub use Rattle.chain.specs.History.{messages_of, count_of, rows_of}
+pub use Rattle.chain_plain.specs.Telling.{ends_of, handed_by}
+pub use Rattle.chain_plain.specs.declared.folded.Folded.{Folded}
+pub use Rattle.config_json.specs.Configured.{configuration}
+pub use Rattle.config_json.specs.Printed.{config_text}
+pub use Rattle.ids_config.specs.Parts.{Parts}
+pub use Rattle.ids_config.specs.declared.fault.ConfigFault.{ConfigFault}
+pub use Rattle.ids_frame.specs.Message.{MessageParts}
+pub use Rattle.ids_frame.specs.Messages.{messages_read}
+pub use Rattle.ids_frame.specs.declared.fault.BadMessage.{BadMessage}
+pub use Rattle.ids_outside.specs.Faults.{CountsFault, WantsMemory}
+pub use Rattle.ids_outside.specs.Files.{SameFiles, SameOthers, Changes, Files, AppendMakes}
+pub use Rattle.ids_outside.specs.Shelved.{Shelved}
+pub use Rattle.ids_outside.specs.Sinks.{Heard, PutCause}
+pub use Rattle.ids_outside.specs.declared.faults.FaultKind.TheVariants.{Read}
+pub use Rattle.ids_outside.specs.declared.faults.WriteFault.{WriteFault}
+pub use Rattle.ids_outside.specs.declared.faults.WriteFault.TheVariants.{Failed, NoMemory as MemoryRefused}
+pub use Rattle.ids_types.specs.Turns.{entries_of, Turn}
+pub use Rattle.ids_types.specs.declared.entry.Act.{Act}
+pub use Rattle.ids_types.specs.declared.entry.Act.TheVariants.{Report, State, SetMode}
+pub use Rattle.ids_types.specs.declared.entry.Carried.{Carried}
+pub use Rattle.ids_types.specs.declared.entry.Carried.TheVariants.{Absent, Kept, Missing}
+pub use Rattle.ids_types.specs.declared.entry.Entry.{Entry}
+pub use Rattle.ids_types.specs.declared.loss.Loss.{Loss}
+pub use Rattle.run_steps.specs.Answered.{Finished, RanWith, RunsWith, IsAnswered, TellsFinished, written_in}
+pub use Rattle.run_steps.specs.Made.{Made, HasRead, HasCome, Makes, WouldKeep}
+pub use Rattle.run_steps.specs.Outcome.{IsFoldable, IsOutcome}
+pub use Rattle.journal.specs.Answers.{told}
+pub use Rattle.merge_spec.specs.Contexts.{misses_context}
+pub use Rattle.merge_spec.specs.Rounds.{Round}
+pub use Rattle.run_files.specs.Contents.{bytes_of, file_of, without}
+pub use Rattle.run_files.specs.Saying.{Puts, Says, Tells, put_status}
+pub use Rattle.run_files.specs.Stages.{plain_end, plain_stop, stop_of_config, Judges, ReadStops, StopsAs}
+pub use Rattle.run_files.specs.Texts.{bad_config_text, bad_message_text, stop_status, stop_text, answer_text, answer_status}
+pub use Rattle.run_files.specs.Writing.{Cuts, StandsInPart, HoldsPart, WriteFails, AreWritten, StandUpTo, stop_of_write, Output, Work, AreUntouched}
+pub use Rattle.run_files.specs.declared.stop.Refusal.TheVariants.{BadConfig, BadJournal, BadTrace, BadMessages, Differ, EmptyKey}
+pub use Rattle.run_files.specs.declared.stop.Stop.{Stop}
+pub use Rattle.run_files.specs.declared.stop.Stop.TheVariants.{CannotRead, TooLong, BadSource, Instance, Refused, OnDisk, CannotWrite, NoMemory}
+pub use Rattle.run_spec.specs.Copying.{one_file, count_text, seal_refusal, unseal_refusal, task_stop}
+pub use Rattle.run_spec.specs.Deserts.{EndsWith, EndsOrFails, DidWork}
+pub use Rattle.run_spec.specs.Fold.{fold_text, fold_line, fold_outputs}
+pub use Rattle.run_spec.specs.FoldedJournal.{folded_in, held_back_line, due_to}
+pub use Rattle.run_spec.specs.Headline.{IsOneHistory}
+pub use Rattle.run_spec.specs.Judge.{Task, does, replays, seals, unseals, packs, unpacks, reports, Does, Refuses, keyed_by, keyed_bytes, judge, AskedFor, asked_in, trace_judged, config_found, fold_work, Recorded, recorded_in, only_said, check_judged, journal_judged, decode_work, gen_work, migrate_work}
+pub use Rattle.run_spec.specs.Packing.{units_text, runs_text, pack_refusal, unpack_refusal}
+pub use Rattle.run_spec.specs.Replay.{replay_line, replay_text, without_context, lost_contexts, replay_outputs, replay_work, IsReplayWork}
+pub use Rattle.run_spec.specs.Report.{clashes, is_of, report_text, source_found, source_in, sources_in}
+pub use Rattle.run_spec.specs.Run.{KeepsConfig, MayRefuse, WasDone, StopsFor, Ran, RanCommand, SaysUsage, written_of, OneFails, EndsAs, WasRefused, PartWritten}
+pub use Rattle.run_words.specs.Command.{decode, gen, gen_of, gen_into, gen_for, are_read_by_clap, migrate, sign, verify, bundle, unbundle, report, check, Command, command_of, SameBut, fold, written_by, fold_of, check_of, decode_of, is_name, are_names, Recording, recording_of, FoldFiles, CheckFiles, PairFiles, KeyedFiles, SizedFiles, ReplayFiles, replay, asks_replay, replay_of, replay_names, report_of, read_by}
+pub use Rattle.run_words.specs.CommandView.{recording, files_of, three_of, pair_of, keyed_of, sized_of, five_of, report_files_of, asked, CanRun, CanKey, CanReplay, CanReport}
+pub use Rattle.std.specs.List.{AllByRecursion, flat_map, list_any}
+pub use Rattle.std.specs.declared.alloc.Global.{Global}
+pub use Rattle.text_spec.specs.DecodedText.{decoded_text}
+pub use Rattle.text_spec.specs.JournalReading.{IsJournal}
+pub use Rattle.text_spec.specs.JournalText.{Line, begins, enters, loses, turn_told, lines_told, line_for, journal_text}
+pub use Rattle.text_spec.specs.MemoryText.{memory_text}
+pub use Rattle.text_spec.specs.TraceReading.{trace_in}

@@ -1,0 +1,41 @@
+//! What a run puts and answers at its end that answers something beside its status.
+
+ghost use Rattle.run_steps.specs.Words.{IsAnswered, TellsFinished};
+
+use ids_outside::Sink;
+use run_files::{DONE, Stop, say, tell};
+use std::alloc::Global;
+
+/// A run that was done.
+#[derive(Debug, Drop)]
+pub struct Finished<M> {
+    /// The line that tells what was done.
+    pub line: Vec<u8>,
+    /// What the run answers.
+    pub made: M,
+}
+
+/// Puts the line of a run that was done, or tells why it stopped, and returns the status, with what was made where it
+/// is 0.
+pub fn tell_finished<M: Drop, K: Sink>(
+    alloc: Global,
+    end: Result<Finished<M>, Stop<&str>>,
+    out: &mut K,
+) -> (u8, Option<M>)
+    ensures { TellsFinished end.entry result.1 result.0 (K.hears out.old) (K.hears out.new) }
+{
+    match end {
+        Ok(finished) => {
+            let status = say(&finished.line, DONE, out);
+            (status, answered(status, finished.made))
+        }
+        Err(stop) => (tell(alloc, Err(stop), out), None),
+    }
+}
+
+/// What a run made, where its status is 0.
+fn answered<M: Drop>(status: u8, made: M) -> Option<M>
+    ensures { IsAnswered status made result }
+{
+    if status == DONE { Some(made) } else { None }
+}
