@@ -6,9 +6,9 @@ pub use Rattle.ids_frame.specs.Bytes.{AreBytes}
 pub use Rattle.ids_frame.specs.Message.{MessageParts}
 pub use Rattle.ids_frame.specs.Messages.{Held, joined, messages_of, messages_read}
 pub use Rattle.ids_frame.specs.Spelling.{spelling}
-pub use Rattle.ids_reporter.specs.Forwarding.{AreMerged, named, named_by, IsWorking, SameFeeders}
+pub use Rattle.ids_reporter.specs.Forwarding.{AreFeeding, AreMerged, named, named_by, IsWorking, SameFeeders}
 pub use Rattle.ids_reporter.specs.Pairs.{indexes, upto, AreInOrder}
-pub use Rattle.ids_reporter.specs.Relays.{AreAllTaken, back_of, feeders_of, number_of, puts_of, taken_of, IsAt, AreAt, IsDrainOf, known, IsBackIn}
+pub use Rattle.ids_reporter.specs.Relays.{AreAllTaken, back_of, feeders_of, number_of, puts_of, taken_of, IsAt, AreAt, IsFeeding, IsDrainOf, known, IsBackIn}
 pub use Rattle.ids_reporter.specs.Rule.{AddsUp, AreWithin, Fits, HasEnded, HasPut, HasTaken, IsBack, IsDraining, IsRelayed, new_feeder, with_back, with_feeder, with_taken, taken_in, made_in, back_in}
 pub use Rattle.ids_reporter.specs.Sources.{IsIndexOf, IsIndexed, end_of, instance_of, spelling_at, AreApart, AreSmall, Sources, count_at, source_at}
 pub use Rattle.ids_reporter.specs.declared.drain.Drain.{Drain}

@@ -1,16 +1,17 @@
 -- What is forwarded: the messages that the taken pairs name, which are all sources merged.
-use Rattle.std.specs.Prelude.{◌≡◌, ℕ, ◌<◌, ◌==◌, List, length, filter, Option, slice_get, OnOk}
+use Rattle.std.specs.Prelude.{◌≡◌, ℕ, ◌<◌, ◌≤◌, ◌==◌, List, length, filter, Option, slice_get, slice_index_or, OnOk}
 use Rattle.std.specs.List.{filter_map, AllByRecursion}
 use Rattle.ids_frame.specs.Message.{MessageParts}
 use Rattle.ids_frame.specs.Messages.{joined}
 use Rattle.ids_reporter.specs.declared.drain.Drain.{Drain}
+use Rattle.ids_reporter.specs.declared.feeder.Feeder.{Feeder}
 use Rattle.ids_reporter.specs.declared.index.Instance.TheVariants.{One}
 use Rattle.ids_reporter.specs.declared.outlet.Outlet.{Outlet}
 use Rattle.ids_reporter.specs.declared.relay.Relay.{Relay}
 use Rattle.ids_reporter.specs.declared.rule.Taken.{Taken}
 use Rattle.ids_reporter.specs.Pairs.{indexes, upto, AreInOrder}
-use Rattle.ids_reporter.specs.Relays.{IsDrainOf, taken_of, feeders_of, back_of}
-use Rattle.ids_reporter.specs.Sources.{Sources, count_at, instance_of, source_at}
+use Rattle.ids_reporter.specs.Relays.{IsDrainOf, IsFeeding, taken_of, feeders_of, back_of}
+use Rattle.ids_reporter.specs.Sources.{AreSmall, Sources, count_at, instance_of, source_at}
 
 -- the message that a pair names
 abbrev pub named_by : Sources → Taken → Option MessageParts
@@ -37,6 +38,13 @@ pub record IsForwarded (sources : Sources) (drain : Drain) (out : List ℕ) : Ty
 pub record IsWorking (relay : Relay) (sources : Sources) (outlet : Outlet) : Type 0 where
   pub drain : IsDrainOf relay outlet.drain
   pub out : OnOk outlet.written (outlet.out.items ≡ joined (named sources (taken_of outlet.drain)))
+
+-- there are sources that can be put; each has its feeder, of this relay, which put no more pairs than it has messages
+pub record AreFeeding (relay : Relay) (sources : Sources) (feeders : List Feeder) : Type 0 where
+  pub some : 1 ≤ length sources
+  pub small : AreSmall sources
+  pub all : length feeders ≡ length sources
+  pub each : (i : ℕ) (d : Feeder) → i < length feeders → IsFeeding relay i (count_at sources i) (slice_index_or feeders i d)
 
 -- the same feeders were made, and the same are back
 abbrev pub SameFeeders : Outlet → Outlet → Type 0

@@ -1,5 +1,5 @@
 -- What contracts see of a relay's ends.
-use Rattle.std.specs.Prelude.{◌≡◌, ℕ, ◌<◌, List, [], length, slice_index_or}
+use Rattle.std.specs.Prelude.{◌≡◌, ℕ, ◌<◌, ◌≤◌, List, [], length, slice_index_or}
 use Rattle.crossbeam_queue.specs.Passes.{view, IsPassOf, ruled_capacity}
 use Rattle.ids_reporter.specs.declared.drain.Drain.{Drain}
 use Rattle.ids_reporter.specs.declared.feeder.Feeder.{Feeder}
@@ -32,6 +32,11 @@ IsFeederOf relay feeder = IsAt relay (number_of feeder) (puts_of feeder) feeder
 -- feeders of this relay, in the order of their numbers; each put so many pairs
 abbrev pub AreAt : Relay → (ℕ → ℕ) → List Feeder → Type 0
 AreAt relay puts feeders = (i : ℕ) (d : Feeder) → i < length feeders → IsAt relay i (puts i) (slice_index_or feeders i d)
+
+-- it is the feeder of this number, of this relay, and put at most so many pairs
+pub record IsFeeding (relay : Relay) (s most : ℕ) (feeder : Feeder) : Type 0 where
+  pub at : IsAt relay s (puts_of feeder) feeder
+  pub few : puts_of feeder ≤ most
 
 -- what the drain knows
 abbrev pub known : Drain → Known

@@ -34,6 +34,17 @@ impl Drain {
         pair.ok_or(Empty)
     }
 
+    /// As `take`, in one attempt, which fails also where a feeder is still at the pair.
+    pub(crate) fn try_take(&mut self, relay: &Relay) -> Result<Taken, Empty>
+        requires mine { IsDrainOf relay.now self.old }
+        ensures mine { IsDrainOf relay.now self.new }
+        ensures taken { IfOk result (λ pair. known self.new ≡ with_taken pair (known self.old)) }
+        ensures empty { OnErr result (known self.new ≡ known self.old) }
+    {
+        let pair = relay.line.try_pop_as::<Takes>(&mut self.pass);
+        pair.ok_or(Empty)
+    }
+
     /// Takes a feeder back.
     pub fn welcome(&mut self, relay: &Relay, feeder: Feeder)
         requires mine { IsDrainOf relay.now self.old }
@@ -71,6 +82,8 @@ impl Drain {
             pass,
             source,
             puts: 0,
+            told: 0,
+            apart: [0; 16],
         }
     }
 }

@@ -1,7 +1,7 @@
 //! Where a feeder stops for a word of whoever started it.
 
-/// Is told before the first try of each put, in the thread that makes it. A test's gate lets feeders wait for each
-/// other here.
+/// Is told before the first try of each put, in the thread that makes it, and not before a later one. A test's gate
+/// lets feeders wait for each other here.
 pub trait FeedGate {
     /// A feeder is about to put the pair of this index.
     fn before(&self, feeder: u8, index: u64);

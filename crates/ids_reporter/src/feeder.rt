@@ -1,12 +1,12 @@
 //! A feeder: one source's end of a relay.
 ghost use Rattle.std.specs.Prelude.{◌≡◌, ◌+◌, ◌<◌, ◌≤◌, ◌^◌, OnOk, OnErr};
-ghost use Rattle.ids_reporter.specs.Relays.{IsAt, IsFeederOf, number_of, puts_of};
+ghost use Rattle.ids_reporter.specs.Relays.{IsAt, IsFeederOf, IsFeeding, number_of, puts_of};
 
 use crate::feed_gate::FeedGate;
+use crate::presence::{Presence, TRIES, pause};
 use crate::relay::Relay;
 use crate::rule::{Knower, Puts, Taken};
 use std::sync::Wait;
-use std::thread;
 
 /// The relay's queue was full, and nothing was put.
 #[derive(Clone, Copy, Debug, PartialEq, Eq)]
@@ -18,6 +18,10 @@ pub struct Feeder {
     pub(crate) pass: Knower,
     pub(crate) source: u8,
     pub(crate) puts: u64,
+    // How many puts a gate was told of: a put that was given up counts.
+    pub(crate) told: u64,
+    // Feeders lie side by side, and each is written at each put: so no two share a cache line.
+    pub(crate) apart: [u64; 16],
 }
 
 impl Feeder {
@@ -39,44 +43,59 @@ impl Feeder {
             source: self.source,
             index: self.puts,
         };
-        match relay.line.push_as::<Puts, R>(rt, &mut self.pass, pair) {
-            Ok(()) => {
-                self.puts += 1;
-                Ok(())
-            }
-            Err(_) => Err(Full),
-        }
+        let pushed = relay.line.push_as::<Puts, R>(rt, &mut self.pass, pair);
+        pushed.map_err(|_| Full)?;
+        self.puts += 1;
+        Ok(())
     }
 
-    /// Puts the next pair, once there is room.
-    fn put_next<R: Wait>(&mut self, rt: &R, relay: &Relay)
+    /// Puts the next pair, or gives it up: not while the drain is at work. It tries again where another feeder is in
+    /// the way, too.
+    fn put_next(&mut self, relay: &Relay, presence: &Presence) -> Result<(), Full>
         requires mine { IsFeederOf relay.now self.old }
         requires few { puts_of self.old < 2 ^ 40 }
-        ensures { IsAt relay.now (number_of self.old) (puts_of self.old + 1) self.new }
+        ensures put { OnOk result (IsAt relay.now (number_of self.old) (puts_of self.old + 1) self.new) }
+        ensures full { OnErr result (IsAt relay.now (number_of self.old) (puts_of self.old) self.new) }
     {
-        for _ in rt.forever() {
-            if self.put(rt, relay).is_ok() {
+        for tries in 0..TRIES {
+            let pair = Taken {
+                source: self.source,
+                index: self.puts,
+            };
+            let pushed = relay.line.try_push_as::<Puts>(&mut self.pass, pair);
+            if pushed.is_ok() {
+                self.puts += 1;
+                return Ok(());
+            }
+            if !presence.has_drain() {
                 break;
             }
-            thread::yield_now();
+            pause(tries);
         }
+        Err(Full)
     }
 
-    /// Puts all pairs of a source of so many messages, each behind a word to the gate.
-    pub(crate) fn put_all<R: Wait, G: FeedGate>(
+    /// Puts the pairs of a source of so many messages, each behind one word to the gate, until all are put or one is
+    /// given up.
+    pub(crate) fn put_some<G: FeedGate>(
         &mut self,
-        rt: &R,
         relay: &Relay,
         messages: u64,
         gate: &G,
+        presence: &Presence,
     )
-        requires new { IsAt relay.now (number_of self.old) 0 self.old }
         requires few { messages ≤ 2 ^ 40 }
-        ensures { IsAt relay.now (number_of self.old) messages self.new }
+        requires feeding { IsFeeding relay.now (number_of self.old) messages self.old }
+        ensures feeding { IsFeeding relay.now (number_of self.old) messages self.new }
     {
-        for index in 0..messages {
-            gate.before(self.source, index);
-            self.put_next(rt, relay);
+        while self.puts < messages {
+            if self.told <= self.puts {
+                gate.before(self.source, self.puts);
+                self.told = self.puts + 1;
+            }
+            if let Err(Full) = self.put_next(relay, presence) {
+                return;
+            }
         }
     }
 }

@@ -1,14 +1,15 @@
-//! Forwarding: a feeder for each source, in a thread of its own, beside the drain.
-ghost use Rattle.std.specs.Prelude.{◌≡◌, ℕ, ◌<◌, ◌≤◌, ◌^◌, length, IfOk};
+//! Forwarding: in rounds, a feeder for each source, in a thread of its own, beside the drain.
+ghost use Rattle.std.specs.Prelude.{◌≡◌, ℕ, ◌<◌, ◌≤◌, length, slice_index_or, IfOk, IsTrue};
 ghost use Rattle.std.specs.Thread.{IsSync};
-ghost use Rattle.ids_reporter.specs.Forwarding.{IsForwarded, IsWorking, SameFeeders};
-ghost use Rattle.ids_reporter.specs.Relays.{AreAt, IsAt};
+ghost use Rattle.ids_reporter.specs.Forwarding.{AreFeeding, IsForwarded, IsWorking, SameFeeders};
+ghost use Rattle.ids_reporter.specs.Relays.{AreAt, IsFeeding, puts_of};
 ghost use Rattle.ids_reporter.specs.Sources.{AreApart, AreSmall, count_at};
 
 use crate::drain::Drain;
 use crate::feed_gate::FeedGate;
 use crate::feeder::Feeder;
 use crate::outlet::Outlet;
+use crate::presence::Presence;
 use crate::relay::{MadeRelay, Relay, make};
 use crate::source::Source;
 use ids_types::NoMemory;
@@ -47,12 +48,7 @@ pub fn forward<R: Threads + Wait + Sync, G: FeedGate + Sync>(
         drain,
         feeders,
     } = make(alloc, CAPACITY, sources.len() as u8)?;
-    let size = sources.iter().fold(0, |size: usize, source| size.saturating_add(source.size()));
-    let mut outlet = Outlet {
-        drain,
-        out: Vec::with_capacity(alloc, size)?,
-        written: Ok(()),
-    };
+    let mut outlet = Outlet::make(alloc, drain, sources)?;
     let feeders = run(rt, &relay, sources, gate, feeders, &mut outlet);
     outlet.drain.welcome_all(&relay, feeders);
     outlet.take_rest(rt, &relay, sources);
@@ -63,7 +59,7 @@ pub fn forward<R: Threads + Wait + Sync, G: FeedGate + Sync>(
     })
 }
 
-/// The feeders put all pairs, beside the drain, which takes as many.
+/// Rounds, until the feeders have put all pairs.
 fn run<R: Threads + Wait + Sync, G: FeedGate + Sync>(
     rt: &R,
     relay: &Relay,
@@ -72,59 +68,90 @@ fn run<R: Threads + Wait + Sync, G: FeedGate + Sync>(
     mut feeders: Vec<Feeder>,
     outlet: &mut Outlet,
 ) -> Vec<Feeder>
-    requires some { 1 ≤ length sources.now }
-    requires small { AreSmall sources.now }
-    requires feeders { AreAt relay.now (λ i. 0) feeders.items }
-    requires all { length feeders.items ≡ length sources.now }
+    requires feeders { AreFeeding relay.now sources.now feeders.items }
     requires works { IsWorking relay.now sources.now outlet.old }
     ensures feeders { AreAt relay.now (count_at sources.now) result.items }
     ensures all { length result.items ≡ length sources.now }
     ensures works { IsWorking relay.now sources.now outlet.new }
     ensures same { SameFeeders outlet.old outlet.new }
 {
-    let count = sources
+    for _ in rt.forever() {
+        if have_put_all(sources, &feeders) {
+            return feeders;
+        }
+        feeders = round(rt, relay, sources, gate, feeders, outlet);
+    }
+    unreachable!()
+}
+
+/// Whether each feeder has put all pairs of its source.
+fn have_put_all(sources: &[Source], feeders: &[Feeder]) -> bool
+    requires { length feeders.now ≡ length sources.now }
+    ensures { IsTrue result → (i : ℕ) (d : Feeder) → i < length feeders.now
+        → puts_of (slice_index_or feeders.now i d) ≡ count_at sources.now i }
+{
+    feeders
         .iter()
-        .fold(0, |count: u64, source| count.saturating_add(source.len()));
+        .zip(sources)
+        .all(|(feeder, source)| feeder.puts() == source.len())
+}
+
+/// A round: the feeders put what they can, beside the drain, which takes what it can. Where the host begins no thread
+/// they do so one after another, the drain first.
+fn round<R: Threads + Sync, G: FeedGate + Sync>(
+    rt: &R,
+    relay: &Relay,
+    sources: &[Source],
+    gate: &G,
+    mut feeders: Vec<Feeder>,
+    outlet: &mut Outlet,
+) -> Vec<Feeder>
+    requires feeders { AreFeeding relay.now sources.now feeders.items }
+    requires works { IsWorking relay.now sources.now outlet.old }
+    ensures feeders { AreFeeding relay.now sources.now result.items }
+    ensures works { IsWorking relay.now sources.now outlet.new }
+    ensures same { SameFeeders outlet.old outlet.new }
+{
+    let presence = &Presence::new(rt);
     let ends = feeders.as_mut_slice();
     join_mut(
         rt,
         &mut || -> ()
-            requires { IsSync R.row × IsSync G.row × (1 ≤ length sources.now) × AreSmall sources.now
-                × (length ends.now ≡ length sources.now) × AreAt relay.now (λ i. 0) ends.now }
-            ensures { AreAt relay.entry.now (count_at sources.entry.now) ends.exit.now
-                × (length ends.exit.now ≡ length ends.entry.now) }
-        { feed(rt, relay, sources, gate, ends) },
+            requires { IsSync R.row × IsSync G.row × AreFeeding relay.now sources.now ends.now }
+            ensures { AreFeeding relay.entry.now sources.entry.now ends.exit.now }
+        { feed(rt, relay, sources, gate, ends, presence) },
         &mut || -> ()
             requires { IsWorking relay.now sources.now outlet.now }
-            ensures { IsWorking relay.entry.now sources.entry.now outlet.exit.now × SameFeeders outlet.entry.now outlet.exit.now }
-        { outlet.take_some(rt, relay, sources, count) },
+            ensures { IsWorking relay.entry.now sources.entry.now outlet.exit.now
+                × SameFeeders outlet.entry.now outlet.exit.now }
+        { outlet.take_some(relay, sources, presence) },
     );
     feeders
 }
 
-/// Each feeder puts all pairs of its source, in a thread of its own.
-fn feed<R: Threads + Wait + Sync, G: FeedGate + Sync>(
+/// Each feeder puts what it can, in a thread of its own.
+fn feed<R: Threads + Sync, G: FeedGate + Sync>(
     rt: &R,
     relay: &Relay,
     sources: &[Source],
     gate: &G,
     feeders: &mut [Feeder],
+    presence: &Presence,
 )
-    requires some { 1 ≤ length sources.now }
-    requires small { AreSmall sources.now }
-    requires feeders { AreAt relay.now (λ i. 0) feeders.old }
-    requires all { length feeders.old ≡ length sources.now }
-    ensures feeders { AreAt relay.now (count_at sources.now) feeders.new }
-    ensures all { length feeders.new ≡ length feeders.old }
+    requires { AreFeeding relay.now sources.now feeders.old }
+    ensures { AreFeeding relay.now sources.now feeders.new }
 {
+    presence.set_feeders(true);
     let threads = feeders.len();
     thread::for_each_mut(
         rt,
         feeders,
         threads,
         &|i, feeder: &mut Feeder|
-            requires { (i < length sources.now) × AreSmall sources.now × IsAt relay.now i 0 feeder.old }
-            ensures { IsAt relay.entry.now i (count_at sources.entry.now i) feeder.new }
-        { feeder.put_all(rt, relay, sources[i].len(), gate) },
+            requires { (i < length sources.now) × AreSmall sources.now
+                × IsFeeding relay.now i (count_at sources.now i) feeder.old }
+            ensures { IsFeeding relay.entry.now i (count_at sources.entry.now i) feeder.new }
+        { feeder.put_some(relay, sources[i].len(), gate, presence) },
     );
+    presence.set_feeders(false);
 }

@@ -14,6 +14,7 @@ mod feeder;
 mod forwarding;
 mod index;
 mod outlet;
+mod presence;
 mod relay;
 mod rule;
 mod source;

@@ -1,17 +1,18 @@
 //! The drain of a run, which writes the message that each pair names as it takes it.
-ghost use Rattle.std.specs.Prelude.{◌≡◌, [], ◌∷◌, OnErr};
+ghost use Rattle.std.specs.Prelude.{◌≡◌, [], ◌∷◌, ◌++◌, List, IfOk, OnOk};
 ghost use Rattle.ids_frame.specs.Messages.{joined};
 ghost use Rattle.ids_reporter.specs.Forwarding.{IsWorking, SameFeeders, named};
 ghost use Rattle.ids_reporter.specs.Relays.{AreAllTaken};
 ghost use Rattle.ids_reporter.specs.Sources.{Sources};
 
 use crate::drain::{Drain, Empty};
+use crate::presence::{Presence, TRIES, pause};
 use crate::relay::Relay;
 use crate::rule::Taken;
 use crate::source::Source;
 use ids_types::NoMemory;
+use std::alloc::Global;
 use std::sync::Wait;
-use std::thread;
 
 /// A drain with the bytes that were written. Want of memory is told at the end: a drain that stopped would leave its
 /// feeders waiting.
@@ -20,38 +21,65 @@ pub(crate) struct Outlet {
     pub(crate) drain: Drain,
     pub(crate) out: Vec<u8>,
     pub(crate) written: Result<(), NoMemory>,
+    // How many pairs are still to be taken, so that none is waited for in vain.
+    left: u64,
 }
 
 impl Outlet {
-    /// Takes so many pairs, each once it is there.
-    pub(crate) fn take_some<R: Wait>(
-        &mut self,
-        rt: &R,
-        relay: &Relay,
-        sources: &[Source],
-        count: u64,
-    )
-        requires { IsWorking relay.now sources.now self.old }
-        ensures works { IsWorking relay.now sources.now self.new }
-        ensures same { SameFeeders self.old self.new }
+    /// With room for all messages of the sources.
+    pub(crate) fn make(alloc: Global, drain: Drain, sources: &[Source]) -> Result<Outlet, NoMemory>
+        ensures drain { IfOk result (λ outlet. outlet.drain ≡ drain) }
+        ensures out { IfOk result (λ outlet. outlet.out.items ≡ []) }
     {
-        for _ in 0..count {
-            self.take_next(rt, relay, sources);
-        }
+        let size = sources.iter().fold(0, |size: usize, source| size.saturating_add(source.size()));
+        let left = sources
+            .iter()
+            .fold(0, |left: u64, source| left.saturating_add(source.len()));
+        let out = Vec::with_capacity(alloc, size)?;
+        Ok(Outlet {
+            drain,
+            out,
+            written: Ok(()),
+            left,
+        })
     }
 
-    /// Takes the next pair, once it is there.
-    fn take_next<R: Wait>(&mut self, rt: &R, relay: &Relay, sources: &[Source])
+    /// Takes pairs until all are taken, or one is given up.
+    pub(crate) fn take_some(&mut self, relay: &Relay, sources: &[Source], presence: &Presence)
         requires { IsWorking relay.now sources.now self.old }
         ensures works { IsWorking relay.now sources.now self.new }
         ensures same { SameFeeders self.old self.new }
     {
-        for _ in rt.forever() {
-            if self.take(rt, relay, sources).is_ok() {
+        for _ in 0..self.left {
+            if let Err(Empty) = self.take_next(relay, sources, presence) {
                 break;
             }
-            thread::yield_now();
         }
+        presence.end_drain();
+    }
+
+    /// Takes the next pair, or gives it up: not while feeders are at work.
+    fn take_next(
+        &mut self,
+        relay: &Relay,
+        sources: &[Source],
+        presence: &Presence,
+    ) -> Result<(), Empty>
+        requires { IsWorking relay.now sources.now self.old }
+        ensures works { IsWorking relay.now sources.now self.new }
+        ensures same { SameFeeders self.old self.new }
+    {
+        for tries in 0..TRIES {
+            if let Ok(pair) = self.drain.try_take(relay) {
+                self.write(sources, pair);
+                return Ok(());
+            }
+            if !presence.has_feeders(tries) {
+                break;
+            }
+            pause(tries);
+        }
+        Err(Empty)
     }
 
     /// Takes all pairs of feeders that are back.
@@ -62,27 +90,26 @@ impl Outlet {
         ensures all { AreAllTaken self.new.drain }
     {
         for _ in rt.forever() {
-            if let Err(Empty) = self.take(rt, relay, sources) {
-                return;
+            match self.drain.take(rt, relay) {
+                Ok(pair) => self.write(sources, pair),
+                Err(Empty) => return,
             }
         }
         unreachable!()
     }
 
-    // Takes a pair, and writes the message that it names.
+    /// Writes the message that a pair names, behind those of the pairs before it.
     #[tactic(auto, using(crate::proofs::ForwardLemmas::named_more, crate::proofs::ForwardLemmas::written_more))]
-    fn take<R: Wait>(&mut self, rt: &R, relay: &Relay, sources: &[Source]) -> Result<(), Empty>
-        requires { IsWorking relay.now sources.now self.old }
-        ensures works { IsWorking relay.now sources.now self.new }
-        ensures same { SameFeeders self.old self.new }
-        ensures all { OnErr result (AreAllTaken self.new.drain) }
+    fn write(&mut self, sources: &[Source], pair: Taken)
+        ensures drain { self.new.drain ≡ self.old.drain }
+        ensures out { (pairs : List Taken) → OnOk self.old.written (self.old.out.items ≡ joined (named sources.now pairs))
+            → OnOk self.new.written (self.new.out.items ≡ joined (named sources.now (pairs ++ pair ∷ []))) }
     {
-        let pair = self.drain.take(rt, relay)?;
+        self.left = self.left.saturating_sub(1);
         if self.written.is_ok() {
             let message = message_named(sources, pair);
             self.written = self.out.extend_from_slice(message).map_err(|_| NoMemory);
         }
-        Ok(())
     }
 }
 

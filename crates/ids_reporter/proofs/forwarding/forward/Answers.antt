@@ -10,7 +10,7 @@ returns g c =
     let rest = c.take_rest.ensures in
     let same = rest.same.0 ∙ c.welcome_all.ensures.same.0 ∙ c.run-feeders.ensures.same.0 in
     let new = ap made_in c.in_ok-relay.ensures.is_new in
-    let made : feeders_of drain ≡ length sources = same ∙ new in
+    let made : feeders_of drain ≡ length sources = same ∙ ap feeders_of c.in_ok-outlet.ensures.drain ∙ new in
     let all = all_indexes sources feeders drain (λ s d lt. let is = c.run-feeders.ensures.feeders s d lt in (is.number, is.puts))
     c.run-feeders.ensures.all made
     (λ k d lt. subst (IsBack (number_of (get_or feeders k d)) (puts_of (get_or feeders k d))) (sym rest.same.1) (c.welcome_all.ensures.back k d lt))
@@ -18,6 +18,6 @@ returns g c =
     record {
       in_order = rest.works.drain.in_order;
       all = all;
-      bytes = subst (λ written. OnOk written (c.take_rest.new.self.out.items ≡ joined (named sources (taken_of drain)))) c.in_ok-outlet.was rest.works.out;
+      bytes = subst (λ written. OnOk written (c.take_rest.new.self.out.items ≡ joined (named sources (taken_of drain)))) c.in_ok-outlet-2.was rest.works.out;
       merged = merged sources (taken_of drain) c.requires.apart all;
     }
