@@ -2,9 +2,9 @@
 //! the listed one fails: where a run leaves it to the test's own next call to fail, it made as many
 //! calls as that call's number.
 
-use crate::given::{Given, Runs, first_wrong, shelf_of, sink_of, split_words};
 use ids_outside::{MemoryShelf, Shelf};
 use idsm_run::run_plain;
+use run_given::{Given, Runs, first_wrong, shelf_of, sink_of, split_words};
 use std::alloc::Global;
 use std::test::Fail;
 use text_spec::push_number;

@@ -3,8 +3,8 @@
 //! A table has a line for each run, as `GIVEN => WANTED`: given are the files `c`, `j` and `m`, and then the
 //! calls of the shelf and the puts that fail. The making of `m` is call 0, so the reads are calls 1, 2 and 3.
 
-use crate::given::{Given, bytes_of, first_wrong, run, shelf_of};
 use ids_outside::Shelf;
+use run_given::{Given, bytes_of, first_wrong, run, shelf_of};
 use std::alloc::Global;
 use std::test::Fail;
 

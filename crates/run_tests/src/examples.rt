@@ -1,9 +1,9 @@
 //! The recorded runs of the folder examples. Their files stand here byte for byte; what each run gives was
 //! worked out from the rules before it was run. docs/EXAMPLES.md tells what happens in each.
 
-use crate::given::{bytes_of, is_same, shelf_over, sink_of, split_words};
 use ids_outside::MemoryShelf;
 use idsm_run::run_plain;
+use run_given::{bytes_of, is_same, shelf_over, sink_of, split_words};
 use std::alloc::Global;
 use std::test::Fail;
 

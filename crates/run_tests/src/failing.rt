@@ -1,6 +1,6 @@
 //! Runs in which a call of the shelf or the sink fails.
 
-use crate::given::{Runs, first_wrong};
+use run_given::{Runs, first_wrong};
 use std::test::Fail;
 
 /// Three turns, each with a message of eight bytes. The shelf's calls are two reads, the creation of `m`,

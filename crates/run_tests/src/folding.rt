@@ -1,8 +1,8 @@
 //! Runs that are done.
 
-use crate::given::{Runs, bytes_of, first_wrong, split_words};
 use ids_outside::{MemorySink, SteadyShelf};
 use idsm_run::run_plain;
+use run_given::{Runs, bytes_of, first_wrong, split_words};
 use std::test::Fail;
 
 /// Journals and their messages. The configuration of the second line writes out each member that has a default.

@@ -2,8 +2,8 @@
 //! takes. The digests of 0 and of 100 rounds come from two programs of others, those of more from a third that
 //! agrees with them.
 
-use crate::given::{is_same, run};
 use ids_outside::MemoryShelf;
+use run_given::{is_same, run};
 use std::alloc::Global;
 use std::test::Fail;
 

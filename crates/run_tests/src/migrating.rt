@@ -1,7 +1,7 @@
 //! Configurations that are written anew in the second form.
 
-use crate::given::{shelf_of, sink_of, split_words};
 use idsm_run::run_plain;
+use run_given::{shelf_of, sink_of, split_words};
 use std::alloc::Global;
 use std::test::Fail;
 

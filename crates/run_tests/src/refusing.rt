@@ -1,7 +1,7 @@
 //! Runs that end with a status of their own although no call fails, and write nothing.
 
-use crate::given::{Runs, bytes_of, first_wrong, replay, run, shelf_of, shelf_over};
 use idsm_run::OpenGate;
+use run_given::{Runs, USAGE, bytes_of, first_wrong, replay, run, shelf_of, shelf_over};
 use std::alloc::Global;
 use std::test::Fail;
 
@@ -54,23 +54,21 @@ report m
 report m c m
 report m c c
 report m a b c d e f g h i
+keep d c j
+recall d m
 --help
 migrate c 
 replay c j m r 
 decode ";
-
-/// The usage, and no file.
-const USAGE: &[u8] =
-    b"2 | usage: idsm replay CONFIG TRACE MESSAGES MEMORY JOURNAL/       idsm fold CONFIG JOURNAL MESSAGES MEMORY/       idsm check CONFIG JOURNAL MESSAGES/       idsm decode MESSAGES/       idsm gen [--start N] [--callers N] [--rounds N] [--events N] CONFIG TRACE JOURNAL/       idsm migrate CONFIG NEW/       idsm report OUT FILE ../       idsm sign KEY START MESSAGES SIGNED/       idsm verify KEY START SIGNED MESSAGES/       idsm bundle SIZE MESSAGES UNITS/       idsm unbundle UNITS MESSAGES/ | - | -";
 
 #[test]
 fn words_that_are_no_command_end_with_the_usage(rt: HostRuntime) -> Result<(), Fail> {
     for words in BAD_WORDS.lines() {
         let mut shelf = shelf_of(rt.alloc(), ".", "", "-")?;
         let told = run(rt.alloc(), words, &mut shelf, "-")?;
-        assert!(rt; told.as_slice() == USAGE, "{words}");
+        assert!(rt; told.as_slice() == USAGE.as_bytes(), "{words}");
         let told = replay(&rt, rt.alloc(), words, &mut shelf, "-", &OpenGate)?;
-        assert!(rt; told.as_slice() == USAGE, "{words}");
+        assert!(rt; told.as_slice() == USAGE.as_bytes(), "{words}");
         assert!(rt; shelf.contents("o").is_none(), "{words}");
     }
     Ok(())

@@ -1,7 +1,7 @@
 //! Runs of `sign`, `verify`, `bundle` and `unbundle`, over the files `c` and `j`, into `m`. The tags were made by another
 //! implementation of HMAC with SHA-256.
 
-use crate::given::{Runs, first_wrong};
+use run_given::{Runs, first_wrong};
 use std::test::Fail;
 
 /// The key is in `c`, the messages are in `j`.

@@ -4,9 +4,9 @@ ghost use Rattle.std.specs.Prelude.{◌-◌, ◌^◌, None};
 ghost use Rattle.ids_outside.specs.Shelved.{silent};
 ghost use Rattle.ids_outside.specs.Sinks.{deaf};
 
-use crate::given::{Given, first_wrong, shelf_of, sink_of, split_words, told};
 use ids_outside::{MemoryShelf, MemorySink, ReadFault, Shelf, Sink, WriteFault};
 use idsm_run::run_plain;
+use run_given::{Given, first_wrong, shelf_of, sink_of, split_words, told};
 use std::alloc::Global;
 use std::test::Fail;
 

@@ -1,10 +1,10 @@
 //! Replays of one caller, whose history does not depend on how threads run, and replays that end before.
 //!
-//! A table has a line for each run, as those of `given`: the file `j` is the trace, and behind the files `m` and `r`
+//! A table has a line for each run, as those of `run_given`: the file `j` is the trace, and behind the files `m` and `r`
 //! that are left stands the journal `o`.
 
-use crate::given::{push_file, replay, shelf_of};
 use idsm_run::OpenGate;
+use run_given::{push_file, replay, shelf_of};
 use std::alloc::Global;
 use std::test::Fail;
 use std::thread::Threads;

@@ -1,9 +1,9 @@
 //! Replays of many reports, by callers beside each other and beside turns. Whatever order their steps had, `check`
 //! finds that the messages are those of the journal.
 
-use crate::given::{bytes_of, is_same, replay, run, shelf_of, shelf_over};
 use ids_outside::MemoryShelf;
 use idsm_run::{Gate, OpenGate};
+use run_given::{bytes_of, is_same, replay, run, shelf_of, shelf_over};
 use std::alloc::Global;
 use std::sync::atomic::{AtomicU64, Ordering};
 use std::test::Fail;

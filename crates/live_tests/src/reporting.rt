@@ -1,9 +1,9 @@
 //! Runs of `report`, over files in memory. The order between managers is left open, so a table has each order that may
 //! come.
 
-use crate::given::{bytes_of, numbers, sink_of, split_words, told};
 use ids_outside::MemoryShelf;
 use idsm_run::{is_report, run_report};
+use run_given::{bytes_of, numbers, sink_of, split_words, told};
 use std::alloc::Global;
 use std::sync::Wait;
 use std::test::Fail;
