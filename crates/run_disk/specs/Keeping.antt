@@ -100,9 +100,9 @@ StopsKeeping reason = ⊥
 
 -- the end of work whose store could not be begun
 abbrev pub not_begun : {T D : Type 0} → DiskStop → BeginFault D → Ended T D
-not_begun failed (begin.Failed disk) = record { end = Err (OnDisk failed); disk = disk }
-not_begun failed (begin.Damaged slot disk) = record { end = Err (OnDisk (Damaged slot)); disk = disk }
-not_begun failed (begin.NoMemory disk) = record { end = Err NoMemory; disk = disk }
+not_begun why (begin.Failed disk) = record { end = Err (OnDisk why); disk = disk }
+not_begun why (begin.Damaged slot disk) = record { end = Err (OnDisk (Damaged slot)); disk = disk }
+not_begun why (begin.NoMemory disk) = record { end = Err NoMemory; disk = disk }
 
 -- why saving ended
 abbrev pub HasSaveCause : {A N D : Type 0} → (D → Shown) → StoreValue D → D → Result A (Stop N) → Type 0
