@@ -12,9 +12,9 @@ use run_given::{Given, numbers, shelf_of, sink_of, split_words, told};
 use std::alloc::Global;
 use std::test::Fail;
 
-/// Three events that are stored, in an event memory of two records. A table writes it `three`.
+/// Three events that are stored and not sent, in an event memory of two records. A table writes it `three`.
 pub(crate) const CONFIG: &str =
-    r#"{"form":1,"instance":18,"memory":2,"events":[{"id":1,"sensor":0,"store":true},{"id":2,"sensor":0,"store":true},{"id":3,"sensor":0,"store":true}]}"#;
+    r#"{"form":1,"instance":18,"memory":2,"events":[{"id":1,"sensor":0,"send":false,"store":true},{"id":2,"sensor":0,"send":false,"store":true},{"id":3,"sensor":0,"send":false,"store":true}]}"#;
 
 /// Five turns, each with a report: of the events 0, 1, 0, 2 and 1. A table writes it `five`.
 pub(crate) const JOURNAL: &str =
@@ -34,14 +34,14 @@ fn named(written: &str) -> &str {
     }
 }
 
-/// A disk that a table writes so, with room for 60 calls, of which these fail.
+/// A disk that a table writes so, with room for 1,000 calls and 4,194,304 bytes. These calls fail.
 pub(crate) fn disk_of(alloc: Global, written: &str, fails: Vec<u64>) -> Result<MemoryDisk, Fail> {
     let (first, second) = written.split_once("+").ok_or("a plus")?;
     let mut bytes = hex::decode(alloc, named(first))?;
     bytes.resize(270_864, 0)?;
     bytes.extend_from_slice(&hex::decode(alloc, named(second))?)?;
     bytes.resize(541_728, 0)?;
-    Ok(MemoryDisk::make(alloc, bytes, fails, 60, 1000)?)
+    Ok(MemoryDisk::make(alloc, bytes, fails, 1000, 4_194_304)?)
 }
 
 /// Runs the words over a disk. Tells how the run ended, and hands the disk back.

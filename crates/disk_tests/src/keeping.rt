@@ -1,7 +1,7 @@
 //! Runs of `keep`, and what a `recall` behind them gives.
 
 use crate::disks::{CONFIG, Disks, JOURNAL, disk_of, run};
-use run_given::{first_wrong, push_file, shelf_of};
+use run_given::{each_line_holds, push_file, shelf_of};
 use std::test::Fail;
 
 /// The records of the last turn stand in place of what was there, and a journal without turns leaves that. A memory
@@ -17,8 +17,7 @@ keep d c j | {"form":1,"instance":18,"memory":1,"events":[{"id":42,"sensor":3,"s
 
 #[test]
 fn the_memory_behind_the_last_turn_is_recalled(rt: HostRuntime) -> Result<(), Fail> {
-    assert_eq!(rt; first_wrong::<Disks>(rt.alloc(), KEPT)?, None);
-    Ok(())
+    each_line_holds::<Disks>(rt.alloc(), KEPT)
 }
 
 #[test]
@@ -49,8 +48,7 @@ keep d c j | three |  | 01400000000000000000000000+ => 0 | saved 0/ | - | - then
 
 #[test]
 fn the_last_sequence_ends_a_keep(rt: HostRuntime) -> Result<(), Fail> {
-    assert_eq!(rt; first_wrong::<Disks>(rt.alloc(), WORN)?, None);
-    Ok(())
+    each_line_holds::<Disks>(rt.alloc(), WORN)
 }
 
 /// The put is the last step: where it fails, all turns were saved.
@@ -60,6 +58,5 @@ keep d c j | three | five | one+ | 3 | - | 0 => 7 |  | - | - then 0 | records 1/
 
 #[test]
 fn a_put_that_fails_undoes_no_save(rt: HostRuntime) -> Result<(), Fail> {
-    assert_eq!(rt; first_wrong::<Disks>(rt.alloc(), UNTOLD)?, None);
-    Ok(())
+    each_line_holds::<Disks>(rt.alloc(), UNTOLD)
 }

@@ -3,7 +3,7 @@
 
 use crate::disks::Disks;
 use idsm_run::is_keep;
-use run_given::{Given, USAGE, first_wrong, split_words};
+use run_given::{Given, USAGE, each_line_holds, split_words};
 use std::test::Fail;
 
 /// Recordings that are none, and files that are not there or cannot be read: CONFIG is judged before JOURNAL is read.
@@ -22,8 +22,7 @@ keep d c j | {} | five | + | 0 | - | 0 => 7 |  | - | - then 13 | disk failed/ | 
 
 #[test]
 fn a_bad_recording_leaves_the_disk_alone(rt: HostRuntime) -> Result<(), Fail> {
-    assert_eq!(rt; first_wrong::<Disks>(rt.alloc(), REFUSED)?, None);
-    Ok(())
+    each_line_holds::<Disks>(rt.alloc(), REFUSED)
 }
 
 /// Words that are no command over a disk; some have an empty name.

@@ -1,5 +1,5 @@
 //! Forwarding: in rounds, a feeder for each source, in a thread of its own, beside the drain.
-ghost use Rattle.std.specs.Prelude.{◌≡◌, ℕ, ◌<◌, ◌≤◌, length, slice_index_or, IfOk, IsTrue};
+ghost use Rattle.std.specs.Prelude.{◌≡◌, ◌↔◌, ℕ, ◌<◌, ◌≤◌, length, slice_index_or, IfOk, IsTrue};
 ghost use Rattle.std.specs.Thread.{IsSync};
 ghost use Rattle.ids_reporter.specs.Forwarding.{AreFeeding, IsForwarded, IsWorking, SameFeeders};
 ghost use Rattle.ids_reporter.specs.Relays.{AreAt, IsFeeding, puts_of};
@@ -87,8 +87,8 @@ fn run<R: Threads + Wait + Sync, G: FeedGate + Sync>(
 /// Whether each feeder has put all pairs of its source.
 fn have_put_all(sources: &[Source], feeders: &[Feeder]) -> bool
     requires { length feeders.now ≡ length sources.now }
-    ensures { IsTrue result → (i : ℕ) (d : Feeder) → i < length feeders.now
-        → puts_of (slice_index_or feeders.now i d) ≡ count_at sources.now i }
+    ensures { IsTrue result ↔ ((i : ℕ) (d : Feeder) → i < length feeders.now
+        → puts_of (slice_index_or feeders.now i d) ≡ count_at sources.now i) }
 {
     feeders
         .iter()

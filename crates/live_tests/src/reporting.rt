@@ -1,7 +1,7 @@
 //! Runs of `report`, over files in memory. The order between managers is left open, so a table has each order that may
 //! come.
 
-use ids_outside::MemoryShelf;
+use ids_outside::{MemoryShelf, Shelf};
 use idsm_run::{is_report, run_report};
 use run_given::{bytes_of, numbers, sink_of, split_words, told};
 use std::alloc::Global;
@@ -35,12 +35,12 @@ fn report<R: Threads + Wait + Sync>(rt: &R, alloc: Global, given: &str) -> Resul
     told(alloc, if is_right { status } else { 255 }, &shelf, &out)
 }
 
-/// The first line of which something else comes than one of what it wants.
-fn first_wrong<R: Threads + Wait + Sync>(
+/// Fails with the first line of which something else comes than one of what it wants.
+fn each_line_holds<R: Threads + Wait + Sync>(
     rt: &R,
     alloc: Global,
     table: &'static str,
-) -> Result<Option<&'static str>, Fail> {
+) -> Result<(), Fail> {
     for line in table.lines() {
         let (given, wanted) = line.split_once(" => ").unwrap_or((line, ""));
         let told = report(rt, alloc, given)?;
@@ -48,10 +48,10 @@ fn first_wrong<R: Threads + Wait + Sync>(
             .split(" or ")
             .any(|one| told.as_slice() == one.as_bytes())
         {
-            return Ok(Some(line));
+            return Err(Fail::new(line));
         }
     }
-    Ok(None)
+    Ok(())
 }
 
 /// Two managers, of instances 18 and 0, and a third of instance 1.
@@ -63,8 +63,7 @@ report m k | # | # | #100040000100010010004000010002001000400001000300 => 0 | so
 
 #[test]
 fn messages_of_managers_are_merged(rt: HostRuntime) -> Result<(), Fail> {
-    assert_eq!(rt; first_wrong(&rt, rt.alloc(), MERGES)?, None);
-    Ok(())
+    each_line_holds(&rt, rt.alloc(), MERGES)
 }
 
 /// The first file that does not serve is told, before the next is read.
@@ -79,19 +78,75 @@ report m x | # | # | # => 3 | cannot read x/ | - | -";
 
 #[test]
 fn files_that_do_not_serve_are_told(rt: HostRuntime) -> Result<(), Fail> {
-    assert_eq!(rt; first_wrong(&rt, rt.alloc(), REFUSES)?, None);
-    Ok(())
+    each_line_holds(&rt, rt.alloc(), REFUSES)
 }
 
-/// Each call fails in turn: two reads, the creation of `m`, and one append.
+/// Each call fails in turn: two reads, the creation of `m`, and one append, where there is a message.
 const FAILS: &str = "report m c j | #100483002a000100 | # | # | 0 => 3 | cannot read c/ | - | -
 report m c j | #100483002a000100 | # | # | 1 => 3 | cannot read j/ | - | -
 report m c j | #100483002a000100 | # | # | 2 => 7 | cannot write/ | - | -
 report m c j | #100483002a000100 | # | # | 3 => 7 | cannot write/ | # | -
+report m c j | #100483002a000100 | # | # | 4 => 0 | sources 2 messages 1/ | #100483002a000100 | -
+report m c j | # | # | # | 3 => 0 | sources 2 messages 0/ | # | -
 report m c j | #100483002a000100 | # | # | - | 0 => 7 |  | #100483002a000100 | -";
 
 #[test]
 fn each_failing_call_of_a_report_is_told(rt: HostRuntime) -> Result<(), Fail> {
-    assert_eq!(rt; first_wrong(&rt, rt.alloc(), FAILS)?, None);
+    each_line_holds(&rt, rt.alloc(), FAILS)
+}
+
+/// Eight files, and the two bytes that tell their manager's instance: 1 to 8.
+const MANAGERS: [(&str, [u8; 2]); 8] = [
+    ("a", [0, 0x40]),
+    ("b", [0, 0x80]),
+    ("c", [0, 0xc0]),
+    ("d", [1, 0]),
+    ("e", [1, 0x40]),
+    ("f", [1, 0x80]),
+    ("g", [1, 0xc0]),
+    ("h", [2, 0]),
+];
+
+/// A shelf of the eight files, each of 100 messages with the counts 1 to 100: more than the queue of a report has room
+/// for.
+fn eight_files(alloc: Global) -> Result<MemoryShelf, Fail> {
+    let mut shelf = MemoryShelf::make(alloc, Vec::new(alloc), Vec::new(alloc))?;
+    for (name, [high, low]) in MANAGERS {
+        for count in 1..101u8 {
+            shelf.append(name, &[0x10, high, low, 0, 42, 0, count, 0])?;
+        }
+    }
+    Ok(shelf)
+}
+
+/// Whether the messages of a manager have the counts 1 to 100, in their order.
+fn is_in_order(stream: &[u8], manager: [u8; 2]) -> bool {
+    let mut next = 1u8;
+    for message in stream.chunks(8) {
+        match message {
+            [0x10, high, low, 0, 42, 0, count, 0] if [*high, *low] == manager => {
+                if *count != next {
+                    return false;
+                }
+                next = next.wrapping_add(1);
+            }
+            _ => {}
+        }
+    }
+    next == 101
+}
+
+#[test]
+fn each_message_of_eight_managers_comes_in_its_order(rt: HostRuntime) -> Result<(), Fail> {
+    let mut shelf = eight_files(rt.alloc())?;
+    let mut out = sink_of(rt.alloc(), "-")?;
+    let words = split_words(rt.alloc(), "report m a b c d e f g h")?;
+    let (status, _drain) = run_report(&rt, rt.alloc(), &words, &mut shelf, &mut out);
+    assert!(rt; status == 0 && out.taken() == b"sources 8 messages 800\n".as_slice());
+    let stream = shelf.contents("m").ok_or("a file")?;
+    assert!(rt; stream.len() == 6400);
+    for (name, manager) in MANAGERS {
+        assert!(rt; is_in_order(stream, manager), "{name}");
+    }
     Ok(())
 }

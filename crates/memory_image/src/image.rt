@@ -1,5 +1,5 @@
 //! The image of a memory, written and read.
-ghost use Rattle.std.specs.Prelude.{◌≡◌, ◌+◌, ◌≤◌, ◌++◌, List, length, reverse, vec_capacity, vec_len};
+ghost use Rattle.std.specs.Prelude.{◌≡◌, ◌+◌, ◌≤◌, ◌++◌, ℕ, List, length, reverse, vec_capacity, vec_len};
 ghost use Rattle.std.specs.Bool.{OnTrue, OnFalse};
 ghost use Rattle.chain_spec.specs.Memory.{Stored};
 ghost use Rattle.event_memory.specs.Held.{Stands, no_rows};
@@ -56,6 +56,12 @@ pub fn restore(memory: &mut Memory, image: &[u8]) -> bool
     }
     true
 }
+
+/// Bytes are the image of one list of records at most.
+#[tactic(auto, using(crate::proofs::OneLemmas::one_list))]
+pub fn one_list_for_an_image()
+    ensures { (a b : List MemoryRow) (image : List ℕ) → IsImageOf a image → IsImageOf b image → a ≡ b }
+{}
 
 /// Adds a record as the newest one, and answers true; or there was no room, or one of its event.
 fn add(memory: &mut Memory, row: &Row<'_>) -> bool

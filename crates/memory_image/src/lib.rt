@@ -8,4 +8,4 @@
 mod fields;
 mod image;
 
-pub use image::{image_len, put_image, restore};
+pub use image::{image_len, one_list_for_an_image, put_image, restore};

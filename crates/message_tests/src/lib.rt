@@ -1,14 +1,10 @@
-//! The tests of what is made of whole messages, over public names: sealed with a counter and a tag, packed into units,
-//! and forwarded from several managers.
+//! The tests of what is made of whole messages, over public names: sealed with a counter and a tag, and packed into units.
 //!
-//! Layer 11, beyond one manager. Over `frame_auth`, `ids_bundle` and `ids_reporter`. They show what no contract says:
-//! that the calls answer with ample memory, published tags, rows that were worked out by hand, when a relay is full or
-//! empty, and that feeders run beside each other.
+//! Layer 11, beyond one manager. Over `frame_auth` and `ids_bundle`. They show what no contract says: that the calls answer
+//! with ample memory, published tags, and rows that were worked out by hand.
 #![tactic(auto)]
 
 #[cfg(test)]
 mod packing;
-#[cfg(test)]
-mod relays;
 #[cfg(test)]
 mod sealing;

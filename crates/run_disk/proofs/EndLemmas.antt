@@ -18,7 +18,7 @@ use Rattle.run_files.specs.declared.stop.DiskStop.TheVariants.{Failed, FailedAft
 use Rattle.run_steps.specs.Words.{Stop, CannotRead, TooLong, BadSource, Instance, Refused, OnDisk, CannotWrite, NoMemory}
 
 -- a disk keeps its records under one sequence
-one_sequence : (kept : Kept) (a b : ℕ) (r s : List Row) → KeptIs kept a r → KeptIs kept b s → a ≡ b
+pub one_sequence : (kept : Kept) (a b : ℕ) (r s : List Row) → KeptIs kept a r → KeptIs kept b s → a ≡ b
 one_sequence Nothing a b r s x y = x.0 ∙ sym y.0
 one_sequence (Holds slot) a b r s x y = sym x.numbered ∙ y.numbered
 one_sequence Tied a b r s x y = absurd x

@@ -1,3 +1,4 @@
+pub mod CompletenessLemmas
 pub mod EndLemmas
 pub mod KeepLemmas
 pub mod RunLemmas

@@ -1,6 +1,6 @@
 -- What `keep` leaves on its disk: the event memory behind each turn of a recording, saved one after another; and why
 -- work on a disk ends.
-use Rattle.std.specs.Prelude.{◌≡◌, ◌⊎◌, ◌+◌, ◌^◌, ◌≤◌, ⊤, ℕ, zero, suc, List, [], take, length, IsTrue, Result, Ok, Err}
+use Rattle.std.specs.Prelude.{◌≡◌, ◌⊎◌, ◌+◌, ◌^◌, ◌<◌, ◌≤◌, ⊤, ℕ, zero, suc, List, [], take, length, IsTrue, Result, Ok, Err}
 use Rattle.ids_config.specs.Parts.{Parts}
 use Rattle.ids_outside.specs.Faults.{Rose}
 use Rattle.ids_types.specs.MemoryRow.{Row}
@@ -43,11 +43,12 @@ pub record KeepsSome (keeping : Keeping) (bytes : List ℕ) : Type 0 where
 abbrev pub KeepsOneOf : Keeping → ℕ → List ℕ → Type 0
 KeepsOneOf keeping saves bytes = KeepsBehind keeping saves bytes ⊎ KeepsBehind keeping (suc saves) bytes
 
--- what any crash behind the end leaves: all turns are kept, or as many as were saved; where a save failed, maybe one
--- more, if all was synced before
+-- what any crash behind the end leaves: all turns are kept, or as many as were saved, and where no sequence was left
+-- there was a turn more to save; where a save failed, maybe one more is kept, if all was synced before
 abbrev pub KeptAtEnd : {A N : Type 0} → Type 0 → Keeping → Result A (Stop N) → State → Type 0
 KeptAtEnd Synced keeping (Ok done) state = LeavesOnly (KeepsBehind keeping (length keeping.turns)) state
-KeptAtEnd Synced keeping (Err (OnDisk (WornAfter saves))) state = LeavesOnly (KeepsBehind keeping saves) state
+KeptAtEnd Synced keeping (Err (OnDisk (WornAfter saves))) state =
+    (saves < length keeping.turns) × LeavesOnly (KeepsBehind keeping saves) state
 KeptAtEnd Synced keeping (Err (OnDisk (FailedAfter saves))) state = Synced → LeavesOnly (KeepsOneOf keeping saves) state
 KeptAtEnd Synced keeping (Err reason) state = ⊤
 
@@ -76,14 +77,14 @@ pub record IsWornAfter (saves : ℕ) (bytes : List ℕ) : Type 0 where
   pub kept : HasKept bytes
   pub last : kept.sequence + saves ≡ 2 ^ 62
 
--- a call of the disk failed, its chosen slot is damaged, or it has no sequence left; a command that stopped before made
--- no call of it
+-- a call of the disk failed; or its chosen slot is damaged, and then it has the bytes that it had before; or it has no
+-- sequence left; a command that stopped before made no call of it
 abbrev pub HasDiskCause : {A N D : Type 0} → (D → Shown) → D → D → Result A (Stop N) → Type 0
 HasDiskCause shows old new (Ok done) = IsTrue (shows old).tells → HasKept (bytes_of (shows old))
 HasDiskCause shows old new (Err (OnDisk Failed)) = Rose (shows old).faults (shows new).faults
 HasDiskCause shows old new (Err (OnDisk (FailedAfter saves))) = Rose (shows old).faults (shows new).faults
 HasDiskCause shows old new (Err (OnDisk (Damaged slot))) = IsTrue (shows old).tells →
-    IsDamaged (slot_at 0 (bytes_of (shows old))) (slot_at 1 (bytes_of (shows old))) slot
+    IsDamaged (slot_at 0 (bytes_of (shows old))) (slot_at 1 (bytes_of (shows old))) slot × (bytes_of (shows new) ≡ bytes_of (shows old))
 HasDiskCause shows old new (Err (OnDisk (WornAfter saves))) = IsTrue (shows old).tells → IsWornAfter saves (bytes_of (shows old))
 HasDiskCause shows old new (Err CannotWrite) = IsTrue (shows old).tells → HasKept (bytes_of (shows old))
 HasDiskCause shows old new (Err NoMemory) = ⊤

@@ -16,6 +16,6 @@ mod written;
 
 pub use running::{is_same, replay, run};
 pub use shelves::{shelf_of, shelf_over, sink_of};
-pub use tables::{Given, Runs, first_wrong};
+pub use tables::{Given, Runs, each_line_holds};
 pub use telling::{push_file, told};
 pub use written::{CONFIG, USAGE, bytes_of, numbers, split_words};

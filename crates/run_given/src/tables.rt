@@ -27,16 +27,13 @@ impl Given for Runs {
     }
 }
 
-/// The first line of the table of which something else comes than it wants.
-pub fn first_wrong<G: Given>(
-    alloc: Global,
-    table: &'static str,
-) -> Result<Option<&'static str>, Fail> {
+/// Fails with the first line of the table of which something else comes than it wants.
+pub fn each_line_holds<G: Given>(alloc: Global, table: &'static str) -> Result<(), Fail> {
     for line in table.lines() {
         let (given, wanted) = line.split_once(" => ").unwrap_or((line, ""));
         if G::told(alloc, given)?.as_slice() != wanted.as_bytes() {
-            return Ok(Some(line));
+            return Err(Fail::new(line));
         }
     }
-    Ok(None)
+    Ok(())
 }

@@ -4,7 +4,7 @@
 
 use ids_outside::{MemoryShelf, Shelf};
 use idsm_run::run_plain;
-use run_given::{Given, Runs, first_wrong, shelf_of, sink_of, split_words};
+use run_given::{Given, Runs, each_line_holds, shelf_of, sink_of, split_words};
 use std::alloc::Global;
 use std::test::Fail;
 use text_spec::push_number;
@@ -46,8 +46,7 @@ migrate c m | . |  | 3 => 0";
 
 #[test]
 fn what_is_refused_makes_no_call_more(rt: HostRuntime) -> Result<(), Fail> {
-    assert_eq!(rt; first_wrong::<Counts>(rt.alloc(), REFUSED)?, None);
-    Ok(())
+    each_line_holds::<Counts>(rt.alloc(), REFUSED)
 }
 
 /// Of the four turns of the first line two send nothing, and one sends two messages. The calls are two
@@ -65,7 +64,6 @@ fold c j m r | . | T 1 0 0 0/T 2 0 0 0/R 0 0 0 1 - -/R 0 1 0 2 - -/T 3 0 0 0/T 4
 
 #[test]
 fn each_turn_that_sends_is_one_append(rt: HostRuntime) -> Result<(), Fail> {
-    assert_eq!(rt; first_wrong::<Counts>(rt.alloc(), TURNS)?, None);
-    assert_eq!(rt; first_wrong::<Runs>(rt.alloc(), CUT)?, None);
-    Ok(())
+    each_line_holds::<Counts>(rt.alloc(), TURNS)?;
+    each_line_holds::<Runs>(rt.alloc(), CUT)
 }

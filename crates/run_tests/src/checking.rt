@@ -4,7 +4,7 @@
 //! calls of the shelf and the puts that fail. The making of `m` is call 0, so the reads are calls 1, 2 and 3.
 
 use ids_outside::Shelf;
-use run_given::{Given, bytes_of, first_wrong, run, shelf_of};
+use run_given::{Given, bytes_of, each_line_holds, run, shelf_of};
 use std::alloc::Global;
 use std::test::Fail;
 
@@ -36,8 +36,7 @@ const SAME: &str =
 
 #[test]
 fn what_the_journal_gives_is_the_same(rt: HostRuntime) -> Result<(), Fail> {
-    assert_eq!(rt; first_wrong::<Checks>(rt.alloc(), SAME)?, None);
-    Ok(())
+    each_line_holds::<Checks>(rt.alloc(), SAME)
 }
 
 /// Files that hold something else. The first place at which they differ is told, or the shorter length where
@@ -61,8 +60,7 @@ const DIFFERENT: &str =
 
 #[test]
 fn the_first_place_that_differs_is_told(rt: HostRuntime) -> Result<(), Fail> {
-    assert_eq!(rt; first_wrong::<Checks>(rt.alloc(), DIFFERENT)?, None);
-    Ok(())
+    each_line_holds::<Checks>(rt.alloc(), DIFFERENT)
 }
 
 /// Runs that end before they compare, or whose text is not put. Each file is judged before the next is read,
@@ -83,8 +81,7 @@ const REFUSED: &str = r##"{} | ? | # => 5 | bad config 4 at top/ | # | -
 
 #[test]
 fn what_comes_first_is_told(rt: HostRuntime) -> Result<(), Fail> {
-    assert_eq!(rt; first_wrong::<Checks>(rt.alloc(), REFUSED)?, None);
-    Ok(())
+    each_line_holds::<Checks>(rt.alloc(), REFUSED)
 }
 
 #[test]

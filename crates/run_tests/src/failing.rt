@@ -1,6 +1,6 @@
 //! Runs in which a call of the shelf or the sink fails.
 
-use run_given::{Runs, first_wrong};
+use run_given::{Runs, each_line_holds};
 use std::test::Fail;
 
 /// Three turns, each with a message of eight bytes. The shelf's calls are two reads, the creation of `m`,
@@ -21,8 +21,7 @@ fold c j m r | . | T 1 0 0 0/R 0 0 0 1 - -/T 2 0 0 0/R 0 1 0 1 - -/T 3 0 0 0/R 0
 
 #[test]
 fn each_failing_call_leaves_a_first_part(rt: HostRuntime) -> Result<(), Fail> {
-    assert_eq!(rt; first_wrong::<Runs>(rt.alloc(), FOLDS)?, None);
-    Ok(())
+    each_line_holds::<Runs>(rt.alloc(), FOLDS)
 }
 
 /// One report that is stored. The shelf's calls are two reads, the creation of `m`, one append where the report
@@ -37,8 +36,7 @@ fold c j m r | {"form":1,"instance":18,"memory":1,"events":[{"id":42,"sensor":3,
 
 #[test]
 fn the_event_memory_is_written_last(rt: HostRuntime) -> Result<(), Fail> {
-    assert_eq!(rt; first_wrong::<Runs>(rt.alloc(), STORES)?, None);
-    Ok(())
+    each_line_holds::<Runs>(rt.alloc(), STORES)
 }
 
 /// The command `decode` calls the shelf once, and puts once.
@@ -50,8 +48,7 @@ decode x | #110483002a00010002a1b2 |  => 3 | cannot read x/ | - | -";
 
 #[test]
 fn decode_tells_its_faults(rt: HostRuntime) -> Result<(), Fail> {
-    assert_eq!(rt; first_wrong::<Runs>(rt.alloc(), DECODES)?, None);
-    Ok(())
+    each_line_holds::<Runs>(rt.alloc(), DECODES)
 }
 
 /// The command `migrate` reads once, creates `m` and appends to it once.
@@ -63,8 +60,7 @@ migrate c m | {} |  | - | 0 => 7 |  | - | -";
 
 #[test]
 fn migrate_tells_its_faults(rt: HostRuntime) -> Result<(), Fail> {
-    assert_eq!(rt; first_wrong::<Runs>(rt.alloc(), MIGRATES)?, None);
-    Ok(())
+    each_line_holds::<Runs>(rt.alloc(), MIGRATES)
 }
 
 /// The first put would fail.
@@ -72,6 +68,5 @@ const EMPTY: &str = "decode c |  |  | - | 0 => 0 |  | - | -";
 
 #[test]
 fn decode_of_an_empty_file_puts_nothing(rt: HostRuntime) -> Result<(), Fail> {
-    assert_eq!(rt; first_wrong::<Runs>(rt.alloc(), EMPTY)?, None);
-    Ok(())
+    each_line_holds::<Runs>(rt.alloc(), EMPTY)
 }

@@ -2,7 +2,7 @@
 
 use ids_outside::{MemorySink, SteadyShelf};
 use idsm_run::run_plain;
-use run_given::{Runs, bytes_of, first_wrong, split_words};
+use run_given::{Runs, bytes_of, each_line_holds, split_words};
 use std::test::Fail;
 
 /// Journals and their messages. The configuration of the second line writes out each member that has a default.
@@ -18,8 +18,7 @@ fold c j m r | . | T 5 0 0 0/R 0 1 0 1 - -/R 1 0 0 1 - -/R 0 2 0 1 - -/ => 0 | t
 
 #[test]
 fn folds_journals_into_their_messages(rt: HostRuntime) -> Result<(), Fail> {
-    assert_eq!(rt; first_wrong::<Runs>(rt.alloc(), FOLDED)?, None);
-    Ok(())
+    each_line_holds::<Runs>(rt.alloc(), FOLDED)
 }
 
 /// The first journal above under both profiles: byte 7 is the version of the context data where the profile
@@ -34,8 +33,7 @@ fold c j m r | {"form":2,"instance":18,"events":[{"id":42,"sensor":3,"version":7
 
 #[test]
 fn sends_by_the_configured_profile(rt: HostRuntime) -> Result<(), Fail> {
-    assert_eq!(rt; first_wrong::<Runs>(rt.alloc(), PROFILES)?, None);
-    Ok(())
+    each_line_holds::<Runs>(rt.alloc(), PROFILES)
 }
 
 /// Files of messages and their lines.
@@ -51,8 +49,7 @@ decode c | #100483002a000100100483002a000100100483002a000100 |  => 0 | M 18 3 42
 
 #[test]
 fn decodes_messages(rt: HostRuntime) -> Result<(), Fail> {
-    assert_eq!(rt; first_wrong::<Runs>(rt.alloc(), DECODED)?, None);
-    Ok(())
+    each_line_holds::<Runs>(rt.alloc(), DECODED)
 }
 
 #[test]

@@ -1,7 +1,7 @@
 //! Runs that end with a status of their own although no call fails, and write nothing.
 
 use idsm_run::OpenGate;
-use run_given::{Runs, USAGE, bytes_of, first_wrong, replay, run, shelf_of, shelf_over};
+use run_given::{Runs, USAGE, bytes_of, each_line_holds, replay, run, shelf_of, shelf_over};
 use std::alloc::Global;
 use std::test::Fail;
 
@@ -92,8 +92,7 @@ decode c | {"form":1} |  => 10 | bad message at 0: version/ | - | -"##;
 
 #[test]
 fn refuses_inputs_in_their_order(rt: HostRuntime) -> Result<(), Fail> {
-    assert_eq!(rt; first_wrong::<Runs>(rt.alloc(), IN_ORDER)?, None);
-    Ok(())
+    each_line_holds::<Runs>(rt.alloc(), IN_ORDER)
 }
 
 /// Configurations that are none.
@@ -106,8 +105,7 @@ fold c j m r | {"form":1,"instance":18,"classes":[{"size":0,"number":1}],"events
 
 #[test]
 fn tells_the_first_fault_of_a_configuration(rt: HostRuntime) -> Result<(), Fail> {
-    assert_eq!(rt; first_wrong::<Runs>(rt.alloc(), BAD_CONFIGS)?, None);
-    Ok(())
+    each_line_holds::<Runs>(rt.alloc(), BAD_CONFIGS)
 }
 
 /// Journals that are none, and some with another number of held-back events than the chain's.
@@ -144,8 +142,7 @@ fold c j m r | {"form":1,"instance":18,"rate":{"interval":1000,"events":2},"inte
 
 #[test]
 fn tells_the_first_bad_line_of_a_journal(rt: HostRuntime) -> Result<(), Fail> {
-    assert_eq!(rt; first_wrong::<Runs>(rt.alloc(), BAD_JOURNALS)?, None);
-    Ok(())
+    each_line_holds::<Runs>(rt.alloc(), BAD_JOURNALS)
 }
 
 /// Files of messages with one that cannot be read.
@@ -159,8 +156,7 @@ decode c | #110483002a00010002a1b229 |  => 10 | bad message at 11: part/ | - | -
 
 #[test]
 fn tells_the_first_bad_message(rt: HostRuntime) -> Result<(), Fail> {
-    assert_eq!(rt; first_wrong::<Runs>(rt.alloc(), BAD_MESSAGES)?, None);
-    Ok(())
+    each_line_holds::<Runs>(rt.alloc(), BAD_MESSAGES)
 }
 
 /// How the words end over a file of so many equal bytes: `j` where they fold it, else `c`.
@@ -221,6 +217,5 @@ fold c j m r | . | T 5 0 0 0/C 0 0 S 1/T 6 0 0 1/ => 6 | bad journal line 3: 8/ 
 
 #[test]
 fn a_turn_that_tells_another_number_is_the_bad_line(rt: HostRuntime) -> Result<(), Fail> {
-    assert_eq!(rt; first_wrong::<Runs>(rt.alloc(), MISCOUNTED)?, None);
-    Ok(())
+    each_line_holds::<Runs>(rt.alloc(), MISCOUNTED)
 }

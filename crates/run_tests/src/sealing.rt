@@ -1,7 +1,7 @@
 //! Runs of `sign`, `verify`, `bundle` and `unbundle`, over the files `c` and `j`, into `m`. The tags were made by another
 //! implementation of HMAC with SHA-256.
 
-use run_given::{Runs, first_wrong};
+use run_given::{Runs, each_line_holds};
 use std::test::Fail;
 
 /// The key is in `c`, the messages are in `j`.
@@ -22,8 +22,7 @@ sign c 5 x m | #4a656665 | #110483002a00010002a1b2 => 3 | cannot read x/ | - | -
 
 #[test]
 fn messages_are_sealed_from_the_first_counter_on(rt: HostRuntime) -> Result<(), Fail> {
-    assert_eq!(rt; first_wrong::<Runs>(rt.alloc(), SIGNS)?, None);
-    Ok(())
+    each_line_holds::<Runs>(rt.alloc(), SIGNS)
 }
 
 /// Sealed messages, and such that were changed, repeated, moved, or left out.
@@ -44,8 +43,7 @@ verify c 5 j m | # | #150483002a00010002a1b200280000000000000005e2ac6bcdcebf0b1d
 
 #[test]
 fn seals_are_checked_and_taken_off(rt: HostRuntime) -> Result<(), Fail> {
-    assert_eq!(rt; first_wrong::<Runs>(rt.alloc(), VERIFIES)?, None);
-    Ok(())
+    each_line_holds::<Runs>(rt.alloc(), VERIFIES)
 }
 
 /// The messages, or the units, are in `c`.
@@ -70,8 +68,7 @@ unbundle c m | #00010008100483002a0001000001 |  => 21 | bad unit at 12/ | - | -"
 
 #[test]
 fn messages_are_packed_and_unpacked(rt: HostRuntime) -> Result<(), Fail> {
-    assert_eq!(rt; first_wrong::<Runs>(rt.alloc(), BUNDLES)?, None);
-    Ok(())
+    each_line_holds::<Runs>(rt.alloc(), BUNDLES)
 }
 
 /// Each call fails in turn: one read or two, the creation of `m`, and one append.
@@ -94,6 +91,5 @@ unbundle c m | #00080040100483002a000100100483002a000100100483002a00010010048300
 
 #[test]
 fn each_failing_call_is_told(rt: HostRuntime) -> Result<(), Fail> {
-    assert_eq!(rt; first_wrong::<Runs>(rt.alloc(), FAILS)?, None);
-    Ok(())
+    each_line_holds::<Runs>(rt.alloc(), FAILS)
 }

@@ -6,7 +6,7 @@ ghost use Rattle.ids_outside.specs.Sinks.{deaf};
 
 use ids_outside::{MemoryShelf, MemorySink, ReadFault, Shelf, Sink, WriteFault};
 use idsm_run::run_plain;
-use run_given::{Given, first_wrong, shelf_of, sink_of, split_words, told};
+use run_given::{Given, each_line_holds, shelf_of, sink_of, split_words, told};
 use std::alloc::Global;
 use std::test::Fail;
 
@@ -119,6 +119,5 @@ const WANTING: &str = "0 - => 8 | no memory/ | - | -
 
 #[test]
 fn want_of_memory_ends_a_run_with_its_status_and_its_text(rt: HostRuntime) -> Result<(), Fail> {
-    assert_eq!(rt; first_wrong::<Wants>(rt.alloc(), WANTING)?, None);
-    Ok(())
+    each_line_holds::<Wants>(rt.alloc(), WANTING)
 }

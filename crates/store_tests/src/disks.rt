@@ -58,7 +58,7 @@ fn zeros(alloc: Global, count: usize) -> Result<Vec<u8>, Fail>
     Ok(vec![in alloc; 0; count]?)
 }
 
-/// A disk of zeros but for these bytes, with room for 40 calls, of which this one fails.
+/// A disk of zeros but for these bytes, with room for 1,000 calls and 4,194,304 bytes. This call fails.
 pub fn disk(alloc: Global, places: &[(usize, u8)], fails: u64) -> Result<MemoryDisk, Fail> {
     let mut bytes = zeros(alloc, 541_728)?;
     for &(place, byte) in places {
@@ -66,7 +66,14 @@ pub fn disk(alloc: Global, places: &[(usize, u8)], fails: u64) -> Result<MemoryD
             bytes[place] = byte;
         }
     }
-    Ok(MemoryDisk::make(alloc, bytes, vec![in alloc; fails]?, 40, 1000)?)
+    let fails = vec![in alloc; fails]?;
+    Ok(MemoryDisk::make(alloc, bytes, fails, 1000, 4_194_304)?)
+}
+
+/// A disk of zeros with room for so many calls, of which none fails.
+pub fn disk_for(alloc: Global, calls: u64) -> Result<MemoryDisk, Fail> {
+    let bytes = zeros(alloc, 541_728)?;
+    Ok(MemoryDisk::make(alloc, bytes, Vec::new(alloc), calls, 4_194_304)?)
 }
 
 /// A disk on which one record was saved, then two, and so on; this call behind that fails. Each save has seven calls.

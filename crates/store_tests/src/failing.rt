@@ -1,6 +1,6 @@
 //! Saves in which a call fails, and what a crash leaves of them.
 
-use crate::disks::{begin, kept, memory, save, text};
+use crate::disks::{NEVER, begin, kept, memory, save, text};
 use std::alloc::Global;
 use std::test::*;
 
@@ -16,6 +16,16 @@ const ROWS: [(usize, u8, &str); 6] = [
     (2, 0, "oooooooooN"),
     (2, 1, "oooooooNNN"),
     (2, 255, "oooooooooN"),
+];
+
+/// How many saves went before, which call of one more fails, and the gates of the first and the second slot then.
+/// The first save goes to the first slot. A save to an open slot writes a 0 to its gate by call 3, and the body by
+/// call 5.
+const GATES: [(usize, u64, u8, u8); 4] = [
+    (0, NEVER, 1, 0),
+    (1, NEVER, 1, 1),
+    (2, 3, 1, 1),
+    (2, 5, 0, 1),
 ];
 
 /// Which records are begun with after a crash behind a save of one more, and whether it answered that they are saved.
@@ -55,5 +65,17 @@ fn a_crash_leaves_old_or_new_records(rt: HostRuntime) -> Result<(), Fail> {
         runs = runs.saturating_add(found.len());
     }
     assert_eq!(rt; runs, 54);
+    Ok(())
+}
+
+#[test]
+fn a_save_shuts_an_open_gate_before_its_body(rt: HostRuntime) -> Result<(), Fail> {
+    for (count, fails, first, second) in GATES {
+        let memory = memory(rt.alloc(), count.saturating_add(1))?;
+        let (disk, is_saved) = save(rt.alloc(), kept(rt.alloc(), count, fails)?, &memory);
+        assert_eq!(rt; is_saved, fails == NEVER);
+        assert_eq!(rt; disk.contents().first().copied(), Some(first));
+        assert_eq!(rt; disk.contents().get(270_864).copied(), Some(second));
+    }
     Ok(())
 }

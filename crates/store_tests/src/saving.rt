@@ -1,6 +1,6 @@
 //! Saves in which no call fails, and disks that no save made.
 
-use crate::disks::{NEVER, begin, disk, image, kept, memory, save, text};
+use crate::disks::{NEVER, begin, disk, disk_for, image, kept, memory, save, text};
 use memory_disk::{Disk, MemoryDisk};
 use std::alloc::Global;
 use std::test::*;
@@ -54,7 +54,7 @@ fn damaged_slots_are_named(rt: HostRuntime) -> Result<(), Fail> {
 
 #[test]
 fn a_disk_without_room_fails(rt: HostRuntime) -> Result<(), Fail> {
-    let mut disk = disk(rt.alloc(), &[], NEVER)?;
+    let mut disk = disk_for(rt.alloc(), 40)?;
     for _ in 0..36 {
         disk.sync()?;
     }

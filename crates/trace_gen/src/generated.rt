@@ -1,10 +1,10 @@
 //! What is generated.
 
-ghost use Rattle.std.specs.Prelude.{◌≡◌, [], List, IfOk, IsTrue, length, string_bytes};
+ghost use Rattle.std.specs.Prelude.{◌≡◌, [], List, IfOk, IsTrue, length};
 ghost use Rattle.ids_config.specs.Parts.{Parts};
 ghost use Rattle.chain.specs.History.{count_of, messages_of, rows_of};
 ghost use Rattle.gen_options.specs.Ranges.{is_in_range};
-ghost use Rattle.trace_gen.specs.Generated.{config_for, digest_of, gen_line as line_of, journal_for, line_for, trace_for};
+ghost use Rattle.trace_gen.specs.Generated.{IsGenerated, IsMade, digest_of, gen_line as line_of};
 ghost use Rattle.trace_gen.specs.Quiet.{Plan};
 ghost use Rattle.trace_gen.specs.Recording.{IsAt};
 
@@ -13,9 +13,11 @@ use crate::drawing::draw_trace;
 use crate::recorder::Recorder;
 use chain::Chain;
 use gen_options::Options;
+use ids_config::Config;
 use ids_types::NoMemory;
 use sha2::{Digest, Sha256};
 use std::alloc::Global;
+use trace_text::Trace;
 
 /// A generated recording: the texts of its three files, and the line that tells of it.
 #[derive(Debug, Drop)]
@@ -29,24 +31,50 @@ pub struct Generated {
 /// The recording of these options.
 pub fn generate(alloc: Global, options: &Options) -> Result<Generated, NoMemory>
     requires { IsTrue (is_in_range options.now) }
-    ensures config { IfOk result (λ g. string_bytes g.config ≡ config_for options.now) }
-    ensures trace { IfOk result (λ g. g.trace.items ≡ trace_for options.now) }
-    ensures journal { IfOk result (λ g. g.journal.items ≡ journal_for options.now) }
-    ensures line { IfOk result (λ g. g.line.items ≡ line_for options.now) }
+    ensures { IfOk result (IsGenerated options.now) }
 {
     let config = make_config(alloc, options)?;
     let trace = draw_trace(alloc, options, &config)?;
-    let mut recorder = Recorder::make(alloc, &config)?;
-    recorder.take_all(&config, &trace)?;
-    Ok(Generated {
-        config: config_json::print(alloc, &config)?,
-        trace: trace_text::print(alloc, &trace)?,
-        journal: journal::print(alloc, &recorder.history, &[])?,
-        line: recorder.line(alloc, 4 * options.callers * options.rounds)?,
-    })
+    recorded(alloc, options, &config, &trace)
 }
 
+/// The recording of these options, whose configuration and trace are made.
+fn recorded(
+    alloc: Global,
+    options: &Options,
+    config: &Config,
+    trace: &Trace,
+) -> Result<Generated, NoMemory>
+    requires { IsMade options.now config.now trace.now }
+    ensures { IfOk result (IsGenerated options.now) }
+{
+    let mut recorder = Recorder::make(alloc, config)?;
+    recorder.recording(alloc, options, config, trace)
+}
+
+// Each `?` of these functions drops little: what is large is lent to the next.
 impl<'t> Recorder<'t> {
+    /// Takes the whole trace, and gives the recording.
+    fn recording(
+        &mut self,
+        alloc: Global,
+        options: &Options,
+        config: &Config,
+        trace: &'t Trace,
+    ) -> Result<Generated, NoMemory>
+        requires made { IsMade options.now config.now trace.now }
+        requires new { IsAt config.now [] [] self.old }
+        ensures { IfOk result (IsGenerated options.now) }
+    {
+        self.take_all(config, trace)?;
+        Ok(Generated {
+            config: config_json::print(alloc, config)?,
+            trace: trace_text::print(alloc, trace)?,
+            journal: journal::print(alloc, &self.history, &[])?,
+            line: self.line(alloc, 4 * options.callers * options.rounds)?,
+        })
+    }
+
     /// The line that tells of so many reports, and of what the filter chain gave for them.
     fn line(&self, alloc: Global, reports: u64) -> Result<Vec<u8>, NoMemory>
         ensures { IfOk result (λ line. (config : Parts) (before : List Plan) → IsAt config before [] self.now →

@@ -79,13 +79,19 @@ returns-in-Err-Failed-clause-saved g c tells was only =
       at_end = λ synced. save_fails keeping saves sequence before.sequence next.1 old mid new all rows is since;
     })
 
--- no sequence was left, and no call made
+-- no sequence was left for the turn that was taken, and no call made
 pub returns-in-Err-Worn-clause-saved : goal.returns-in-Err-Worn-clause-saved
 returns-in-Err-Worn-clause-saved g c tells was only =
-    let is = c.loop-head.invariant.saved tells was only in
+    let before = c.loop-head.invariant in
+    let turn = turn_with c.in-Some.head c.in-Some.entries in
+    let rest = c.pop_front.new.self in
+    let left : c.loop-head.turns ≡ turn ∷ rest = grind (arith, common_steps) in
+    let next = next_turn before.taken turn rest c.args.history.now.turns c.loop-head.saves
+    (ap (λ ts. before.taken ++ ts) (sym left) ∙ before.whole) before.saves_are in
+    let is = before.saved tells was only in
     let worn = rw c.in-Err-Worn.field-0-is at c.in-Err-Worn.ensures.answers in
     let same = c.finish-in-Err-Worn.ensures ∙ ap (λ s. s.disk) (c.in-Err-Worn.store-is ∙ worn.1) in
-    rw same (record { any_moment = λ synced. is.any_moment; at_end = is.now })
+    rw same (record { any_moment = λ synced. is.any_moment; at_end = (next.1, is.now) })
 
 -- one more was saved
 pub loop-head-preserved : goal.loop-head-preserved

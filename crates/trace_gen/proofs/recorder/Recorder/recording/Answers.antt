@@ -1,0 +1,30 @@
+use Rattle.trace_gen.proofs.Names.{[], ap, ◌∙◌, arith, Traced, ranges}
+use Rattle.config_json.specs.Printed.{config_text}
+use Rattle.journal.specs.Answers.{told}
+use Rattle.text_spec.specs.JournalText.{journal_text}
+use Rattle.text_spec.specs.TraceText.{trace_text}
+use Rattle.trace_gen.specs.Generated.{config_for, journal_for, line_for, trace_for}
+use Rattle.trace_gen.proofs.FitLemmas.{rounds_fit}
+use Rattle.trace_gen.proofs.GenerateLemmas.{line_is, recorded}
+use Rattle.trace_gen.proofs.recorder.Recorder.recording.Goals as goal
+
+pub take_all-requires-clause-can : goal.take_all-requires-clause-can
+take_all-requires-clause-can c =
+    let made = c.requires.made in
+    rw (made.config, made.trace) (rounds_fit c.args.options.now (ranges c.args.options.now made.range))
+
+pub returns : goal.returns
+unfolding config_for trace_for journal_for line_for
+returns c =
+    let made = c.requires.made in
+    let options = c.args.options.now in
+    record {
+      config = c.in_ok-print.ensures.text ∙ ap config_text made.config;
+      trace = c.in_ok-print-2.ensures.text ∙ ap (λ (t : Traced). trace_text t.rounds) made.trace;
+      journal = c.in_ok-print-3.ensures.text
+          ∙ ap (λ turns. journal_text (told turns []))
+          (recorded options c.args.config.now c.args.trace.now c.take_all.new.self made.config made.trace c.in_ok-take_all.ensures);
+      line = c.in_ok-line.ensures _ _ c.in_ok-take_all.ensures
+          ∙ line_is options c.args.config.now c.args.trace.now c.take_all.new.self made.config made.trace c.in_ok-take_all.ensures
+          _ _ (omega arith);
+    }
