@@ -15,13 +15,22 @@ const CONFIG: &[u8] =
 const MOST: usize = 7308;
 
 // The caller and its manager.
-fn ports(alloc: Global) -> Result<Ports, Fail>
-    ensures callers { IfOk result (λ ports. All IsFitCaller ports.callers.items) }
-    ensures manager { IfOk result (λ ports. IsFitManager ports.manager) }
+fn ports(alloc: Global) -> Result<(CallerPort, ManagerPort), Fail>
+    ensures caller { IfOk result (λ ports. IsFitCaller ports.0) }
+    ensures manager { IfOk result (λ ports. IsFitManager ports.1) }
 {
-    match make(alloc, CONFIG) {
-        Ok(ports) => Ok(ports),
-        Err(_) => Err("a manager".into()),
+    let Ok(
+        Ports {
+            mut callers,
+            manager,
+        },
+    ) = make(alloc, CONFIG)
+    else {
+        return Err("a manager".into());
+    };
+    match last_of(&mut callers) {
+        Some(caller) => Ok((caller, manager)),
+        None => Err("a caller".into()),
     }
 }
 
@@ -57,6 +66,37 @@ fn turn(manager: &mut ManagerPort, tick: u64, buffer: &mut [u8]) -> (u8, u64, u3
     )
 }
 
+// The answers to four reports, of which the second tells of no event, and the last finds no buffer.
+fn reports(caller: &mut CallerPort) -> [u8; 4]
+    requires { IsFitCaller caller.old }
+    ensures { IsFitCaller caller.new }
+{
+    [
+        report(caller, 1),
+        report(caller, 0),
+        report(caller, 1),
+        report(caller, 1),
+    ]
+}
+
+// Three turns: a buffer that is a byte too small makes none, the next one takes all, and a tick may not fall.
+fn turns(manager: &mut ManagerPort, buffer: &mut [u8; MOST]) -> [(u8, u64, u32, u64, u64); 3]
+    requires { IsFitManager manager.old }
+    ensures { IsFitManager manager.new }
+{
+    [
+        turn(manager, 5, &mut buffer[1..]),
+        turn(manager, 5, buffer),
+        turn(manager, 4, buffer),
+    ]
+}
+
+// How often the event of a record occurred, its first and its last tick, and how many bytes of context it has.
+fn record_of(manager: &ManagerPort, index: u16, buffer: &mut [u8]) -> Option<(u16, u64, u64, u64)> {
+    let row = manager.row(index, buffer).row?;
+    Some((row.occurrences, row.first, row.last, row.bytes))
+}
+
 // Asks a manager for a report.
 fn other_role(manager: ManagerPort) -> u8
     requires { IsFitManager manager }
@@ -67,31 +107,20 @@ fn other_role(manager: ManagerPort) -> u8
 
 #[test]
 fn each_call_tells_its_number(rt: HostRuntime) -> Result<(), Fail> {
-    let Ports {
-        mut callers,
-        mut manager,
-    } = ports(rt.alloc())?;
-    let mut caller = last_of(&mut callers).ok_or("a caller")?;
-    assert_eq!(rt; (report(&mut caller, 1), report(&mut caller, 0)), (0, 6));
-    assert_eq!(rt; (report(&mut caller, 1), report(&mut caller, 1)), (0, 3));
+    let (mut caller, mut manager) = ports(rt.alloc())?;
+    assert!(rt; reports(&mut caller) == [0, 6, 0, 3]);
+    assert!(rt; manager.most_bytes() == 7308);
     let mut buffer = [0; MOST];
-    assert_eq!(rt; manager.most_bytes(), 7308);
-    // A buffer that is a byte too small makes no turn, and the next one takes all.
-    assert_eq!(rt; turn(&mut manager, 5, &mut buffer[1..]), (13, 0, 0, 0, 0));
-    assert_eq!(rt; turn(&mut manager, 5, &mut buffer), (0, 24, 3, 2, 1));
+    let told = turns(&mut manager, &mut buffer);
+    assert!(rt; told == [(13, 0, 0, 0, 0), (0, 24, 3, 2, 1), (8, 0, 0, 0, 0)]);
     assert!(rt;
         buffer.starts_with(
             b"\x10\x04\x80\0\x07\0\x01\0\x10\x04\x83\0\x2a\0\x01\0\x10\x04\x83\0\x2a\0\x01\0"
         )
     );
-    assert_eq!(rt; turn(&mut manager, 4, &mut buffer), (8, 0, 0, 0, 0));
-    assert_eq!(rt; (manager.rows(), manager.late(0)), (1, None));
-    let row = manager.row(0, &mut buffer).row.ok_or("a record")?;
-    assert_eq!(rt;
-        (row.occurrences, row.first, row.last, row.bytes),
-        (2, 5, 5, 0)
-    );
-    assert_eq!(rt; manager.row(1, &mut buffer).answer.code(), 10);
-    assert_eq!(rt; other_role(manager), 2);
+    assert!(rt; manager.rows() == 1 && manager.late(0).is_none());
+    assert!(rt; record_of(&manager, 0, &mut buffer) == Some((2, 5, 5, 0)));
+    assert!(rt; manager.row(1, &mut buffer).answer.code() == 10);
+    assert!(rt; other_role(manager) == 2);
     Ok(())
 }

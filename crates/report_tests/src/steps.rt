@@ -198,8 +198,8 @@ fn tell_fault(told: &mut Vec<u8>, fault: TurnFault) -> Result<(), NoMemory> {
     Ok(told.extend_from_slice(text.as_bytes())?)
 }
 
-/// The first line of the table whose step has another answer.
-pub fn first_wrong(alloc: Global, table: &'static str) -> Result<Option<&'static str>, Fail> {
+/// Fails with the first line of the table whose step has another answer.
+pub fn each_step_holds(alloc: Global, table: &'static str) -> Result<(), Fail> {
     let (config, steps) = table.split_once("\n").unwrap_or((table, ""));
     let config = read(alloc, config.as_bytes())?;
     let chain = EventChain::make(alloc, &config)?;
@@ -207,5 +207,9 @@ pub fn first_wrong(alloc: Global, table: &'static str) -> Result<Option<&'static
         made: make(alloc, &config, chain)?,
         classes: config.parts().classes.len(),
     };
-    Ok(run.first_unlike(alloc, steps)?)
+    match run.first_unlike(alloc, steps) {
+        Ok(None) => Ok(()),
+        Ok(Some(step)) => Err(Fail::new(step)),
+        Err(NoMemory) => Err(Fail::new("no memory")),
+    }
 }

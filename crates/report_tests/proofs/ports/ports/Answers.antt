@@ -13,8 +13,8 @@ are_fit : (found : Result Parts ConfigFault) (ports : Ports) → MakesPorts foun
 are_fit (Ok config) ports new = (new.callers_fit, new.manager_fits)
 are_fit (Err fault) ports new = absurd new
 
-pub returns-in-Ok-clause-callers : goal.returns-in-Ok-clause-callers
-returns-in-Ok-clause-callers c = (are_fit _ c.in-Ok.ports c.in-Ok.ensures).0
+pub last_of-requires : goal.last_of-requires
+last_of-requires c = (are_fit _ c.in-Ok.field-0 c.in-Ok.ensures).0
 
-pub returns-in-Ok-clause-manager : goal.returns-in-Ok-clause-manager
-returns-in-Ok-clause-manager c = (are_fit _ c.in-Ok.ports c.in-Ok.ensures).1
+pub returns-in-Some-clause-manager : goal.returns-in-Some-clause-manager
+returns-in-Some-clause-manager c = (are_fit _ c.in-Ok.field-0 c.in-Ok.ensures).1
