@@ -1,11 +1,11 @@
 -- The start of a replay: what may be asked, and where callers and manager stand before the first round.
-use Rattle.trace_replay.proofs.Names.{◌≡◌, ℕ, zero, suc, ◌≤◌, ◌<◌, ◌⊎◌, ⊎_elim, true, nat_le, nat_lt, ◌&&◌, List, [], ◌∷◌, ◌++◌, length, map, refl, sym, ap, subst, ◌∙◌, arith, leb-true, ltb-true, AllByRecursion, and_parts, get_or_past, length-map, flat_map-cons, All-from_recursion, Turn, Parts, is_sensor, Asked, Round, reports, changes, sets, lines_at, act_asked, begun_round, is_allowed, IsAllowedRound, MayAsk, Buffer, there, Pass, Shared, or_at, Manager, line_at, Traced, round_at, MayBeAsked, IsRecordOf, tick_of, IsBetween, AreAtRest, MayAllBeAsked, losses_by, passes_of, Caller, Gathered}
+use Rattle.trace_replay.proofs.Names.{◌≡◌, ℕ, zero, suc, ◌≤◌, ◌<◌, ◌⊎◌, ⊎_elim, true, nat_le, nat_lt, ◌&&◌, List, [], ◌∷◌, ◌++◌, length, map, refl, sym, ap, subst, ◌∙◌, arith, leb-true, ltb-true, AllByRecursion, and_parts, get_or_past, length-map, flat_map-cons, All-from_recursion, Turn, Parts, is_sensor, Asked, Round, reports, changes, sets, lines_at, act_asked, begun_round, is_allowed, IsAllowedRound, MayAsk, Buffer, there, Pass, Shared, or_at, line_at, Traced, round_at, MayBeAsked, IsRecordOf, tick_of, IsBetween, AreAtRest, MayAllBeAsked, losses_by, passes_of, Caller, Recorder}
 use mathlib.Core.Option.{some, some-injective}
 use lib.ListN.{get_elem?}
 use Rattle.text_spec.specs.JournalFaults.{is_act}
 use Rattle.report_api.specs.Making.{IsOfConfig}
 use Rattle.report_api.specs.declared.terms.ReportTerms.{ReportTerms}
-use Rattle.main_function.specs.Making.{IsNewManager}
+use Rattle.trace_replay.specs.Recording.{IsNewRecorder}
 use Rattle.trace_replay.proofs.RoundLemmas.{map_at}
 
 module _ (config : Parts) (terms : ReportTerms) (is : IsOfConfig config terms) where
@@ -49,13 +49,13 @@ none_listed (first ∷ callers) none (suc i) caller at =
     none_listed callers (back_empty first.losses.items (losses_by callers) parts) i caller at
 
 module _ {C : Type 0} (stands : C → Parts → List Turn → Type 0) (events : C → ℕ) (kept : C → List Buffer) (config : Parts) (shared : Shared)
-    (trace : Traced) (passes : List Pass) (callers : List Caller) (m : Manager C) (g : Gathered) (new : IsNewManager stands events kept config shared passes m)
-    (are : passes_of callers ≡ passes) (none : losses_by callers ≡ []) (no_turns : g.history.turns ≡ []) (of_config : trace.callers ≡ config.callers) where
+    (trace : Traced) (passes : List Pass) (callers : List Caller) (r : Recorder C) (new : IsNewRecorder stands events kept config shared passes r)
+    (are : passes_of callers ≡ passes) (none : losses_by callers ≡ []) (of_config : trace.callers ≡ config.callers) where
   begin_at_rest : AreAtRest shared trace.rounds 0 callers
   begin_at_rest = λ i d low.
       let caller = there callers i low in
       let at = subst (λ ps. get_elem? ps i ≡ some caller.0.pass) are (map_at (λ (c : Caller). c.pass) callers i caller.0 caller.1) in
-      let is = new.making.each i caller.0.pass at in
+      let is = new.manager_is.making.each i caller.0.pass at in
       rw (or_at callers i d caller.0 caller.1) record {
         is_pass = is.is_pass;
         listed = rw is.shows record {
@@ -66,22 +66,27 @@ module _ {C : Type 0} (stands : C → Parts → List Turn → Type 0) (events : 
       }
 
   -- before the first round
-  pub begins : IsBetween events kept shared trace 0 callers (record { manager = m; gathered = g })
+  pub begins : IsBetween events kept shared trace 0 callers r
   begins =
       let many : length callers ≡ length passes = sym (length-map callers (λ (c : Caller). c.pass)) ∙ ap length are in
       record {
-        manager_is = new.is_manager;
+        manager_is = new.manager_is.is_manager;
         at_rest = begin_at_rest;
-        as_many = many ∙ new.making.all_made ∙ sym of_config;
-        all = many ∙ new.passes_are.all;
-        ticks_are = ap (map tick_of) no_turns;
-        small = rw no_turns tt;
-        rests_are = new.no_rests;
-        last_is = new.stands_for_none.tick_is;
-        count_is = new.stands_for_none.count_is;
+        as_many = many ∙ new.manager_is.making.all_made ∙ sym of_config;
+        all = many ∙ new.manager_is.passes_are.all;
+        ticks_are = ap (map tick_of) new.no_turns;
+        small = rw new.no_turns tt;
+        rests_are = new.manager_is.no_rests;
+        last_is = new.manager_is.stands_for_none.tick_is;
+        count_is = new.manager_is.stands_for_none.count_is;
       }
 
   -- nothing was gathered yet
-  pub begins_record : g.sent.items ≡ [] → g.ends.items ≡ [] → g.messages ≡ 0 → IsRecordOf stands config (record { manager = m; gathered = g })
-  begins_record sent ends messages =
-      rw no_turns record { stands_for = new.stands_for_none; sent = sent; ends = ends; messages = messages; causal = tt }
+  pub begins_record : IsRecordOf stands config r
+  begins_record = rw new.no_turns record {
+    stands_for = new.manager_is.stands_for_none;
+    sent = new.no_bytes;
+    ends = new.no_ends;
+    messages = new.no_messages;
+    causal = tt;
+  }

@@ -11,10 +11,12 @@ use Rattle.buffer_classes.specs.Buffers.{Buffer}
 use Rattle.report_queue.specs.Parts.{queue_positions}
 use Rattle.report_api.specs.Desks.{desk_view}
 use Rattle.report_api.specs.Names.{PassView}
+use Rattle.report_api.specs.declared.pass.Pass.{Pass}
 use Rattle.report_api.specs.declared.shared.Shared.{Shared}
 use Rattle.desk_closing.specs.Calls.{HaveAllCalls}
 use Rattle.desk_closing.specs.Closed.{IsMadeFor}
 use Rattle.main_function.specs.Closing.{AreCountsOf, AreSumsOf}
+use Rattle.main_function.specs.Making.{IsNewManager}
 use Rattle.main_function.specs.Standing.{IsManagerOf, Stands, StaysSo, fits_turn, last_of, rests_of, turns_of}
 use Rattle.main_function.specs.Turning.{IsSmallHead}
 use Rattle.main_function.specs.declared.manager.Manager.{Manager}
@@ -54,6 +56,14 @@ module _ {C : Type 0} (stands : C → Parts → List Turn → Type 0) where
   StillRecords old new = (config : Parts) → IsRecordOf config old → IsRecordOf config new
 
 module _ {C : Type 0} (stands : C → Parts → List Turn → Type 0) (events : C → ℕ) (kept : C → List Buffer) where
+  -- the manager and its passes have just been made, and nothing was gathered
+  pub record IsNewRecorder (config : Parts) (shared : Shared) (passes : List Pass) (r : Recorder C) : Type 0 where
+    pub manager_is : IsNewManager stands events kept config shared passes r.manager
+    pub no_turns : turns_in r ≡ []
+    pub no_bytes : r.gathered.sent.items ≡ []
+    pub no_ends : r.gathered.ends.items ≡ []
+    pub no_messages : r.gathered.messages ≡ 0
+
   -- room was made, and nothing else was changed
   pub record StaysSame (old new : Recorder C) : Type 0 where
     pub manager_is : StaysSo stands events kept old.manager new.manager

@@ -1,6 +1,7 @@
 //! The replay of a trace.
 ghost use Rattle.std.specs.Prelude.{◌≡◌, [], length, IfOk};
 ghost use Rattle.text_spec.specs.TraceReading.{AreRounds};
+ghost use Rattle.trace_replay.specs.Recording.{IsNewRecorder};
 ghost use Rattle.trace_replay.specs.Replayed.{IsReplay, chain_stands, given, gives};
 
 use crate::callers::{callers_of, part};
@@ -13,7 +14,7 @@ use event_chain::EventChain;
 use ids_config::Config;
 use ids_types::{History, Loss, NoMemory};
 use main_function::{Made, Manager, make};
-use report_api::CtxBuf;
+use report_api::{CtxBuf, Pass, Shared};
 use std::alloc::Global;
 use std::thread::Threads;
 use trace_text::Trace;
@@ -87,27 +88,46 @@ fn run<R: Threads + Sync, G: Gate + Sync, C: Chain<CtxBuf> + Drop>(
     requires kept { C.kept chain ≡ [] }
     ensures { IfOk result (λ run. IsReplay C.stands config.now trace.now.rounds run.recorder.manager (given run.recorder run.losses.items)) }
 {
-    let positions = config.parts().ring;
+    let gathered = Gathered::make(alloc)?;
     let Made {
         shared,
         manager,
         passes,
     } = make(alloc, config, chain)?;
-    let mut recorder = Recorder {
-        manager,
-        gathered: Gathered::make(alloc)?,
-    };
-    let mut callers = callers_of(alloc, passes)?;
-    play_rounds(
+    let mut recorder = Recorder { manager, gathered };
+    let losses = play(
         rt,
-        &shared,
-        positions,
+        alloc,
+        config,
         trace,
         gate,
+        &shared,
+        passes,
         &mut recorder,
-        &mut callers,
     )?;
-    let (mut passes, losses) = part(alloc, callers)?;
-    recorder.close(&shared, &mut passes, trace.last_tick())?;
     Ok(Ended { recorder, losses })
+}
+
+/// Plays a trace from its first round on and closes, and answers the losses of the callers.
+fn play<R: Threads + Sync, G: Gate + Sync, C: Chain<CtxBuf>>(
+    rt: &R,
+    alloc: Global,
+    config: &Config,
+    trace: &Trace,
+    gate: &G,
+    shared: &Shared,
+    passes: Vec<Pass>,
+    recorder: &mut Recorder<C>,
+) -> Result<Vec<Loss>, NoMemory>
+    requires callers { trace.now.callers ≡ config.now.callers }
+    requires rounds { AreRounds config.now trace.now.rounds }
+    requires new { IsNewRecorder C.stands C.events C.kept config.now shared.now passes.items recorder.old }
+    ensures { IfOk result (λ losses. IsReplay C.stands config.now trace.now.rounds recorder.new.manager (given recorder.new losses.items)) }
+{
+    let positions = config.parts().ring;
+    let mut callers = callers_of(alloc, passes)?;
+    play_rounds(rt, shared, positions, trace, gate, recorder, &mut callers)?;
+    let (mut passes, losses) = part(alloc, callers)?;
+    recorder.close(shared, &mut passes, trace.last_tick())?;
+    Ok(losses)
 }
