@@ -1,6 +1,7 @@
 -- What `keep` leaves on its disk: the event memory behind each turn of a recording, saved one after another; and why
 -- work on a disk ends.
 use Rattle.std.specs.Prelude.{◌≡◌, ◌⊎◌, ◌+◌, ◌^◌, ◌<◌, ◌≤◌, ⊤, ℕ, zero, suc, List, [], take, length, IsTrue, Result, Ok, Err}
+use Rattle.chain_plain.specs.Telling.{IsReady}
 use Rattle.ids_config.specs.Parts.{Parts}
 use Rattle.ids_outside.specs.Faults.{Rose}
 use Rattle.ids_types.specs.MemoryRow.{Row}
@@ -11,6 +12,7 @@ use Rattle.memory_store.specs.Stores.{StoreValue}
 use Rattle.memory_store.specs.declared.store.BeginFault.{BeginFault}
 use Rattle.memory_store.specs.declared.store.BeginFault.TheVariants as begin
 use Rattle.run_disk.specs.declared.ended.Ended.{Ended}
+use Rattle.run_disk.specs.declared.saving.Folding.{Folding}
 use Rattle.run_files.specs.declared.stop.DiskStop.{DiskStop}
 use Rattle.run_files.specs.declared.stop.DiskStop.TheVariants.{Failed, FailedAfter, Damaged, WornAfter}
 use Rattle.run_steps.specs.Words.{Stop, OnDisk, CannotWrite, NoMemory, rows_of}
@@ -98,6 +100,14 @@ StopsKeeping NoMemory = ⊤
 StopsKeeping reason = ⊥
 
 -- ---- the steps of `keep`
+
+-- the chain is that of this configuration and took no turn yet, and the desk has room for its turns
+pub record IsNewFolding {B C : Type 0} (stands : C → Parts → List Turn → Type 0) (events : C → ℕ) (kept : C → List B)
+    (config : Parts) (folding : Folding C) : Type 0 where
+  pub stands_for_none : stands folding.chain config []
+  pub all_events : events folding.chain ≡ length config.events
+  pub nothing_kept : kept folding.chain ≡ []
+  pub ready : IsReady (length config.events) folding.desk
 
 -- the end of work whose store could not be begun
 abbrev pub not_begun : {T D : Type 0} → DiskStop → BeginFault D → Ended T D

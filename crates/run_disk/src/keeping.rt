@@ -1,7 +1,7 @@
 //! The command `keep`: the event memory of a recording, saved on a disk behind each turn.
 
 ghost use Rattle.std.specs.Prelude.{◌≡◌, ◌≢◌, IsTrue, IfOk, IfErr};
-ghost use Rattle.run_disk.specs.Keeping.{HasDiskCause, LeavesBehind, StopsKeeping};
+ghost use Rattle.run_disk.specs.Keeping.{HasDiskCause, IsNewFolding, LeavesBehind, StopsKeeping};
 ghost use Rattle.run_disk.specs.Runs.{LeavesRecorded};
 ghost use Rattle.run_spec.specs.Keeping.{saved_text};
 ghost use Rattle.run_steps.specs.Words.{EndsAs, IsFoldable, SameFiles, plain_end};
@@ -10,11 +10,12 @@ ghost use Rattle.run_words.specs.CommandView.{keep_files_of};
 
 use crate::ended::{Ended, not_begun};
 use crate::saving::{Folding, save_turns};
+use chain::Chain;
 use chain_plain::Desk;
 use event_chain::EventChain;
 use ids_config::Config;
 use ids_outside::Shelf;
-use ids_types::{History, NoMemory};
+use ids_types::{History, NoMemory, Plain};
 use memory_disk::Disk;
 use memory_store::Store;
 use run_files::{DiskStop, Stop};
@@ -91,9 +92,26 @@ fn keep_history<'a, D: Disk>(
             disk,
         };
     };
-    let mut folding = Folding { desk, chain };
+    save_history(alloc, config, history, &mut Folding { desk, chain }, disk)
+}
+
+/// Begins the store, and saves the event memory behind each turn of a history.
+fn save_history<'h, 'a, C: Chain<Plain<'h>>, D: Disk>(
+    alloc: Global,
+    config: &Config,
+    history: &'h History,
+    folding: &mut Folding<'h, C>,
+    disk: D,
+) -> Ended<'a, (), D>
+    requires new { IsNewFolding C.stands C.events C.kept config.now folding.old }
+    requires foldable { IsFoldable config.now history.now.turns }
+    ensures stops { IfErr result.end StopsKeeping }
+    ensures cause { HasDiskCause D.shows disk result.disk result.end }
+    ensures leaves { IsTrue (D.shows disk).tells →
+        LeavesBehind config.now history.now.turns (D.shows disk) (D.shows result.disk) result.end }
+{
     match Store::begin(alloc, disk) {
-        Ok((store, _)) => save_turns(config, history, &mut folding, store),
+        Ok((store, _)) => save_turns(config, history, folding, store),
         Err(fault) => not_begun(fault, DiskStop::FailedAfter { saves: 0 }),
     }
 }

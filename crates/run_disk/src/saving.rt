@@ -1,9 +1,8 @@
 //! The turns of a history, each folded and the event memory behind it saved.
 
-ghost use Rattle.std.specs.Prelude.{◌≡◌, [], IsTrue, length};
-ghost use Rattle.run_disk.specs.Keeping.{HasSaveCause, SavedAll};
+ghost use Rattle.std.specs.Prelude.{◌≡◌, IsTrue};
+ghost use Rattle.run_disk.specs.Keeping.{HasSaveCause, IsNewFolding, SavedAll};
 ghost use Rattle.run_steps.specs.Words.{IsFoldable};
-ghost use Rattle.chain_plain.specs.Telling.{IsReady};
 
 use crate::ended::Ended;
 use chain::Chain;
@@ -29,10 +28,7 @@ pub(crate) fn save_turns<'h, 'a, C: Chain<Plain<'h>>, D: Disk>(
     folding: &mut Folding<'h, C>,
     store: Store<D>,
 ) -> Ended<'a, (), D>
-    requires stands { C.stands folding.old.chain config.now [] }
-    requires events { C.events folding.old.chain ≡ length config.now.events }
-    requires kept { C.kept folding.old.chain ≡ [] }
-    requires ready { IsReady (length config.now.events) folding.old.desk }
+    requires new { IsNewFolding C.stands C.events C.kept config.now folding.old }
     requires foldable { IsFoldable config.now history.now.turns }
     ensures tells { (D.shows result.disk).tells ≡ (D.shows store.disk).tells }
     ensures cause { HasSaveCause D.shows store result.disk result.end }
