@@ -1,28 +1,33 @@
-//! The tests of the commands: runs over files in memory, by the public names of the crates below.
+//! The tests of the commands that no command over files can show: calls that fail, want of memory, gates, and counts of
+//! calls. The tables of tools/commands.d have all others.
 //!
-//! Layer 10, runs. Over `idsm_run`, `ids_outside` and `run_given`. Each module runs tables of cases that were worked out
-//! by hand: what a run writes and puts, the recorded runs of `examples/`, each
-//! refusal with its text, each call that fails, want of memory, and each limit at its last byte.
-//! Statuses, limits and ranges stand here as numbers.
+//! Layer 10, runs. Over `idsm_run`, `ids_outside` and `memory_disk`. What a run over files and disks in memory leaves
+//! was worked out by hand. Statuses, limits and places on a disk stand here as numbers.
 #![tactic(auto)]
 
 #[cfg(test)]
 mod calls;
 #[cfg(test)]
-mod checking;
+mod crashing;
 #[cfg(test)]
-mod examples;
+mod disks;
 #[cfg(test)]
 mod failing;
 #[cfg(test)]
-mod folding;
+mod failing_disks;
 #[cfg(test)]
-mod generating;
+mod meeting;
 #[cfg(test)]
-mod migrating;
+mod shelves;
 #[cfg(test)]
-mod refusing;
+mod steady;
 #[cfg(test)]
-mod sealing;
+mod tables;
+#[cfg(test)]
+mod telling;
 #[cfg(test)]
 mod wanting;
+#[cfg(test)]
+mod words;
+#[cfg(test)]
+mod written;

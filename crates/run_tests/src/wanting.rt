@@ -4,9 +4,11 @@ ghost use Rattle.std.specs.Prelude.{◌-◌, ◌^◌, None};
 ghost use Rattle.ids_outside.specs.Shelved.{silent};
 ghost use Rattle.ids_outside.specs.Sinks.{deaf};
 
+use crate::shelves::{shelf_of, sink_of, words_of};
+use crate::tables::{Lines, each_line_holds};
+use crate::telling::push_end;
 use ids_outside::{MemoryShelf, MemorySink, ReadFault, Shelf, Sink, WriteFault};
 use idsm_run::run_plain;
-use run_given::{Given, each_line_holds, shelf_of, sink_of, split_words, told};
 use std::alloc::Global;
 use std::test::Fail;
 
@@ -86,38 +88,39 @@ fn wants_at(at: &str) -> Wanting {
     Wanting { at, calls: 0 }
 }
 
-/// Lines that give the call of the shelf and the put that want memory, and want how one report is folded.
-struct Wants;
-
-impl Given for Wants {
-    fn told(alloc: Global, given: &str) -> Result<Vec<u8>, Fail> {
-        let (shelf_at, put_at) = given.split_once(" ").unwrap_or((given, ""));
-        let mut shelf = WantingShelf {
-            inner: shelf_of(alloc, ".", "T 5 0 0 0/R 0 0 0 1 - 0:0:a1b2/", "-")?,
-            wanting: wants_at(shelf_at),
-        };
-        let mut out = WantingSink {
-            inner: sink_of(alloc, "-")?,
-            wanting: wants_at(put_at),
-        };
-        let words = split_words(alloc, "fold c j m r")?;
-        let status = run_plain(alloc, &words, &mut shelf, &mut out);
-        told(alloc, status, &shelf.inner, &out.inner)
-    }
+/// Appends how a run ends in which this call of the shelf and this put want memory.
+pub(crate) fn tell_wanting(
+    alloc: Global,
+    given: &str,
+    wanting: &str,
+    told: &mut Vec<u8>,
+) -> Result<(), Fail> {
+    let (call, put) = wanting.split_once(" ").unwrap_or((wanting, "-"));
+    let words = words_of(alloc, given)?;
+    let mut out = WantingSink {
+        inner: sink_of(alloc, "-")?,
+        wanting: wants_at(put),
+    };
+    let mut shelf = WantingShelf {
+        inner: shelf_of(alloc, given, "-")?,
+        wanting: wants_at(call),
+    };
+    let status = run_plain(alloc, &words, &mut shelf, &mut out);
+    push_end(told, status, &shelf.inner, &out.inner)
 }
 
-/// Given are the call of the shelf and the put that want memory, or `-`. The shelf's calls are two reads,
-/// the creation of `m`, one append and the creation of `r`.
-const WANTING: &str = "0 - => 8 | no memory/ | - | -
-1 - => 8 | no memory/ | - | -
-2 - => 8 | no memory/ | - | -
-3 - => 8 | no memory/ | # | -
-4 - => 8 | no memory/ | #110483002a00010002a1b2 | -
-- 0 => 8 |  | #110483002a00010002a1b2 | =
-2 0 => 8 |  | - | -
-5 1 => 0 | turns 1 entries 1 messages 1 records 0/ | #110483002a00010002a1b2 | =";
+/// The calls of the shelf are two reads, the creation of `m`, one append and the creation of `r`.
+const WANTING: &str = "fold c j m r | . | T 5 0 0 0/R 0 0 0 1 - 0:0:a1b2/
+0 - => 8 | no memory/
+1 - => 8 | no memory/
+2 - => 8 | no memory/
+3 - => 8 | no memory/ | m=#
+4 - => 8 | no memory/ | m=#110483002a00010002a1b2
+- 0 => 8 | m=#110483002a00010002a1b2 | r=
+2 0 => 8
+5 1 => 0 | turns 1 entries 1 messages 1 records 0/ | m=#110483002a00010002a1b2 | r=";
 
 #[test]
 fn want_of_memory_ends_a_run_with_its_status_and_its_text(rt: HostRuntime) -> Result<(), Fail> {
-    each_line_holds::<Wants>(rt.alloc(), WANTING)
+    each_line_holds(&rt, rt.alloc(), Lines::Wanting, WANTING)
 }
