@@ -1,9 +1,11 @@
 -- What a run of `replay` does, with the manager that it answers.
-use Rattle.std.specs.Prelude.{◌≡◌, ℕ, List, Option, Ok}
+use Rattle.std.specs.Prelude.{◌≡◌, ℕ, List, IsTrue, Option, Ok}
 use Rattle.buffer_classes.specs.Buffers.{Buffer}
 use Rattle.event_chain.specs.Chained.{Chained}
+use Rattle.ids_outside.specs.Files.{SameFiles}
 use Rattle.main_function.specs.declared.manager.Manager.{Manager}
-use Rattle.trace_replay.specs.Replayed.{Gives, IsReplay, chain_stands}
+use Rattle.trace_replay.specs.Replayed.{Gives, IsReplay, chain_stands, gives}
+use Rattle.trace_replay.specs.declared.replaying.Replayed.{Replayed as Given}
 use Rattle.run_steps.specs.Answered.{RanWith, RunsWith}
 use Rattle.run_steps.specs.Names.{Parts, Round, Files, Shelved, Heard}
 use Rattle.run_words.specs.Command.{ReplayFiles, replay}
@@ -15,6 +17,17 @@ use Rattle.run_files.specs.Writing.{AreWritten}
 -- the manager of a replay
 abbrev pub RunManager : Type 0
 RunManager = Manager (Chained Buffer)
+
+-- a replay of these rounds under this configuration gave this
+abbrev pub IsReplayed : Parts → List Round → Given → Type 0
+IsReplayed config rounds replayed = IsReplay chain_stands config rounds replayed.manager (gives replayed)
+
+-- the input files were read and nothing was written yet: what stood before they were read asks for these rounds
+pub record HasAsked (names : ReplayFiles) (config : Parts) (rounds : List Round) (before old : Shelved) : Type 0 where
+  pub tells : old.tells ≡ before.tells
+  pub same : IsTrue before.tells → SameFiles before.files old.files
+  pub found : IsTrue before.tells → asked_in names before.files ≡ Ok (record { config = config; rounds = rounds })
+  pub no_fault : old.faults ≡ before.faults
 
 -- the files tell one history of the rounds that the input files ask for, and this manager made it
 pub record Replayed (names : ReplayFiles) (manager : RunManager) (said : List ℕ) (old new : Files) : Type 0 where

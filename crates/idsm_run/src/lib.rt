@@ -14,6 +14,7 @@ mod check;
 mod fold;
 mod generating;
 mod migrate;
+mod replay_texts;
 mod replaying;
 mod run;
 mod traces;

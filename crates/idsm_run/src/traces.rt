@@ -1,8 +1,9 @@
 //! The input files of a replay.
 
-ghost use Rattle.std.specs.Prelude.{◌≡◌, ◌≢◌, Ok, IsTrue, IfOk, OnOk, IfErr};
+ghost use Rattle.std.specs.Prelude.{◌≡◌, ◌≢◌, IsTrue, IfOk, IfErr};
 ghost use Rattle.text_spec.specs.TraceReading.{AreRounds};
-ghost use Rattle.run_steps.specs.Words.{SameFiles, replay as replay_command, five_of, asked_in, trace_in, trace_judged, Judges, StopsFor, plain_stop};
+ghost use Rattle.run_steps.specs.Words.{SameFiles, replay as replay_command, five_of, trace_in, trace_judged, Judges, StopsFor, plain_stop};
+ghost use Rattle.idsm_run.specs.Replayed.{HasAsked};
 
 use ids_config::Config;
 use ids_outside::Shelf;
@@ -25,15 +26,12 @@ pub(crate) fn read_asked<'a, H: Shelf>(
     shelf: &mut H,
 ) -> Result<Asked, Stop<&'a str>>
     requires { names.config.now ≢ names.trace.now }
-    ensures tells { (H.shows shelf.new).tells ≡ (H.shows shelf.old).tells }
     ensures same { IsTrue (H.shows shelf.old).tells →
         SameFiles (H.shows shelf.old).files (H.shows shelf.new).files }
-    ensures found { IsTrue (H.shows shelf.old).tells → IfOk result (λ asked.
-        asked_in (five_of names.entry) (H.shows shelf.old).files
-        ≡ Ok (record { config = asked.config; rounds = asked.trace.rounds })) }
+    ensures asked { IfOk result (λ asked. HasAsked (five_of names.entry) asked.config asked.trace.rounds
+        (H.shows shelf.old) (H.shows shelf.new)) }
     ensures callers { IfOk result (λ asked. asked.trace.callers ≡ asked.config.callers) }
     ensures rounds { IfOk result (λ asked. AreRounds asked.config asked.trace.rounds) }
-    ensures no_fault { OnOk result ((H.shows shelf.new).faults ≡ (H.shows shelf.old).faults) }
     ensures stops { IfErr result (λ reason. StopsFor (replay_command (five_of names.entry))
         (plain_stop reason) (H.shows shelf.old) (H.shows shelf.new)) }
 {

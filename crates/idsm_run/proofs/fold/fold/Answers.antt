@@ -1,4 +1,4 @@
-use Rattle.run_steps.proofs.Names.{rules, refl, subst, ◌∙◌, fold, files_of, fold_work, stop_of_write, StandUpTo, AreWritten}
+use Rattle.run_steps.proofs.Names.{rules, refl, subst, ◌∙◌, fold, files_of, fold_work, inl, stop_of_write, NoMemory, StandUpTo, AreWritten}
 use Rattle.run_files.proofs.ExitLemmas.{left_by}
 use Rattle.idsm_run.proofs.FoldLemmas.{outputs_are, line_is}
 use Rattle.run_spec.proofs.JudgeLemmas.{fold_found}
@@ -9,6 +9,10 @@ pub returns-in_err-inputs-clause-stops : goal.returns-in_err-inputs-clause-stops
 returns-in_err-inputs-clause-stops g c =
     left_by _ c.in_err-inputs.field-0.0 _ c.from_residual.ensures.1
     (c.in_err-inputs.ensures.stops (fold (files_of c.args.names)) refl)
+
+-- where memory is refused, no file was touched
+pub returns-in_err-text-clause-stops : goal.returns-in_err-text-clause-stops
+returns-in_err-text-clause-stops g c = left_by _ NoMemory _ c.from_residual-in_err-text.ensures.1 (inl c.read_inputs.ensures.same)
 
 pub returns-in_err-write_outputs-clause-stops : goal.returns-in_err-write_outputs-clause-stops
 returns-in_err-write_outputs-clause-stops g c =

@@ -1,5 +1,5 @@
 use Rattle.run_steps.proofs.Names.{◌≡◌, take, lost_contexts}
-use Rattle.idsm_run.proofs.replaying.contexts_lost.Given as goal
+use Rattle.idsm_run.proofs.replay_texts.contexts_lost.Given as goal
 
 -- what the turns so far tell
 abbrev pub invariant-loop-turn : goal.invariant-loop-turn

@@ -1,5 +1,5 @@
 use Rattle.run_steps.proofs.Names.{List, ℕ, arith, common_steps, length-filter, count_by-le-length, entries_of, misses_context, Entry}
-use Rattle.idsm_run.proofs.replaying.replay_text.Goals as goal
+use Rattle.idsm_run.proofs.replay_texts.replay_text.Goals as goal
 
 -- the contexts that turns tell as lost are no more than their entries
 pub contexts_lost-requires : goal.contexts_lost-requires

@@ -1,4 +1,4 @@
-use Rattle.run_steps.proofs.Names.{rules, refl, arith, configuration, five_of, replay, plain_stop, stop_of_config}
+use Rattle.run_steps.proofs.Names.{◌∙◌, rules, refl, arith, configuration, five_of, replay, plain_stop, stop_of_config}
 use Rattle.run_files.proofs.ExitLemmas.{left_by}
 use Rattle.run_spec.proofs.JudgeLemmas.{unread, refused, read_since, config_exit, replay_config, replay_trace, asked_first, asked_refused, trace_next, trace_refused, trace_found}
 use Rattle.idsm_run.proofs.traces.read_asked.Goals as goal
@@ -44,12 +44,17 @@ returns-in_err-trace-clause-stops g c =
     (search rules) (search rules)
     c.in_err-trace.ensures.judges)
 
-pub returns-clause-found : goal.returns-clause-found
-returns-clause-found g c told =
-    trace_found (five_of c.args.names) (g.H.Shelf.shows c.args.shelf.now).files c.deref.result.now
-    (rw c.deref.ensures.value (c.in_ok-text.ensures.found told)) c.in_ok-config.config c.in_ok-config.ensures
-    c.in_ok-text-2.text.items
-    (read_since _ _ c.in_ok-text-2.text.items (g.H.Shelf.shows c.args.shelf.now)
-    (g.H.Shelf.shows c.read_file.new.shelf) c.read_file.ensures.tells c.read_file.ensures.same
-    c.in_ok-text-2.ensures.found told)
-    c.in_ok-trace.trace.rounds c.in_ok-trace.ensures.judges
+pub returns-clause-asked : goal.returns-clause-asked
+returns-clause-asked g c = record {
+  tells = c.read_file-2.ensures.tells ∙ c.read_file.ensures.tells;
+  same = search rules;
+  found = λ told.
+      trace_found (five_of c.args.names) (g.H.Shelf.shows c.args.shelf.now).files c.deref.result.now
+      (rw c.deref.ensures.value (c.in_ok-text.ensures.found told)) c.in_ok-config.config c.in_ok-config.ensures
+      c.in_ok-text-2.text.items
+      (read_since _ _ c.in_ok-text-2.text.items (g.H.Shelf.shows c.args.shelf.now)
+      (g.H.Shelf.shows c.read_file.new.shelf) c.read_file.ensures.tells c.read_file.ensures.same
+      c.in_ok-text-2.ensures.found told)
+      c.in_ok-trace.trace.rounds c.in_ok-trace.ensures.judges;
+  no_fault = c.in_ok-text-2.ensures.no_fault ∙ c.in_ok-text.ensures.no_fault;
+}
