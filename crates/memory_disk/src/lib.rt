@@ -11,8 +11,6 @@ mod disk;
 mod host_disk;
 mod memory_disk;
 mod recording;
-#[cfg(test)]
-mod tests;
 
 pub use disk::{Disk, DiskFailed, Span};
 pub use host_disk::HostDisk;

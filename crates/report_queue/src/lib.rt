@@ -12,8 +12,6 @@ mod making;
 mod seat;
 mod sharing;
 mod taker;
-#[cfg(test)]
-mod tests;
 
 pub use cargo::{Cargo, Item, Items};
 pub use laws::giving_back_keeps_what_was_taken;

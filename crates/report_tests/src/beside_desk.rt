@@ -9,8 +9,11 @@ ghost use Rattle.report_tests.specs.Running.{AreSamePasses};
 
 use crate::callers::{Answers, FOUR_CALLERS, Tally, report_beside};
 use config_json::read;
+use ids_config::Config;
 use ids_types::{Act, Carried, NoMemory};
+use main_function::Totals;
 use report_api::{CtxBuf, Desk, Parts, Pass, Shared, make};
+use std::alloc::Global;
 use std::sync::atomic::{AtomicU64, Ordering};
 use std::test::*;
 use std::thread;
@@ -128,32 +131,55 @@ fn welcome_all(shared: &Shared, desk: &mut Desk, passes: &mut Vec<Pass>)
     }
 }
 
-#[test]
-fn four_callers_report_beside_the_desk(rt: HostRuntime) -> Result<(), Fail> {
+/// Whether more was there to be taken once the callers were done, what is found of their calls, and how many lost events
+/// and contexts the desk swept.
+type Found = (bool, Option<Totals>, (u64, u64));
+
+// Four callers report beside the desk, which takes them back when they are done.
+fn report_beside_desk<R: Threads + Sync>(
+    rt: &R,
+    shared: &Shared,
+    desk: &mut Desk,
+    back: &mut Vec<CtxBuf>,
+    passes: &mut Vec<Pass>,
+    answers: &[Answers; 4],
+) -> Result<Found, Fail>
+    requires desk { IsDeskOf shared.now desk.old }
+    requires back { AreBuffersIn (sizes_of shared.now) back.old.items }
+    requires passes { All (IsPassOf shared.now) passes.old.items }
+{
+    let mut tally = Tally::new();
+    run(rt, shared, desk, back, &mut tally, passes, answers)?;
+    welcome_all(shared, desk, passes);
+    let more = take_some(shared, desk, back, &mut tally)?;
+    Ok((more, tally.totals(answers), desk.sweep(shared)))
+}
+
+// The desk is the one of this configuration.
+fn found_of<R: Threads + Sync>(rt: &R, alloc: Global, config: &Config) -> Result<Found, Fail> {
     let Parts {
         shared,
         mut passes,
         mut desk,
-    } = make(rt.alloc(), &read(rt.alloc(), FOUR_CALLERS.as_bytes())?)?;
+    } = make(alloc, config)?;
     let answers = Answers::of_four();
-    let mut back = Vec::new(rt.alloc());
-    let mut tally = Tally::new();
-    run(
-        &rt,
-        &shared,
-        &mut desk,
-        &mut back,
-        &mut tally,
-        &mut passes,
-        &answers,
-    )?;
-    welcome_all(&shared, &mut desk, &mut passes);
-    let rest = take_some(&shared, &mut desk, &mut back, &mut tally)?;
-    assert!(rt; !rest);
-    let totals = tally.totals(&answers).expect(&rt, "each call");
-    assert_eq!(rt;
-        desk.sweep(&shared),
-        (totals.lost_events, totals.lost_contexts)
-    );
+    let mut back = Vec::new(alloc);
+    report_beside_desk(rt, &shared, &mut desk, &mut back, &mut passes, &answers)
+}
+
+// It is the one of four callers.
+fn of_four_callers<R: Threads + Sync>(rt: &R, alloc: Global) -> Result<Found, Fail> {
+    match read(alloc, FOUR_CALLERS.as_bytes()) {
+        Ok(config) => found_of(rt, alloc, &config),
+        Err(_) => Err("a configuration".into()),
+    }
+}
+
+#[test]
+fn four_callers_report_beside_the_desk(rt: HostRuntime) -> Result<(), Fail> {
+    let (more, calls, lost) = of_four_callers(&rt, rt.alloc())?;
+    assert!(rt; !more);
+    let totals = calls.ok_or("each call")?;
+    assert_eq!(rt; lost, (totals.lost_events, totals.lost_contexts));
     Ok(())
 }

@@ -10,9 +10,11 @@ use crate::callers::{Answers, FOUR_CALLERS, Tally, report_beside};
 use chain::Chain;
 use config_json::read;
 use event_chain::EventChain;
-use ids_types::TurnOut;
+use ids_config::Config;
+use ids_types::{NoMemory, TurnOut};
 use main_function::{Made, Manager, Totals, make};
 use report_api::{CtxBuf, Pass, Shared};
+use std::alloc::Global;
 use std::sync::atomic::{AtomicU64, Ordering};
 use std::test::*;
 use std::thread;
@@ -128,25 +130,58 @@ fn close<C: Chain<CtxBuf>>(
     }
 }
 
-#[test]
-fn four_callers_report_beside_turns(rt: HostRuntime) -> Result<(), Fail> {
-    let config = read(rt.alloc(), FOUR_CALLERS.as_bytes())?;
-    let chain = EventChain::make(rt.alloc(), &config)?;
-    let Made {
-        shared,
-        mut manager,
-        mut passes,
-    } = make(rt.alloc(), &config, chain)?;
+/// What is found of the callers' calls, the manager's totals, and how many lost events and contexts its turns told.
+type Found = (Option<Totals>, Option<Totals>, (u64, u64));
+
+// Four callers report beside turns of a manager, which is closed when they are done.
+fn report_beside_turns<R: Threads + Sync, C: Chain<CtxBuf>>(
+    rt: &R,
+    shared: &Shared,
+    manager: &mut Manager<C>,
+    passes: &mut Vec<Pass>,
+) -> Found
+    requires manager { IsManagerOf C.events C.kept shared.now manager.old }
+    requires passes { AreAllPasses shared.now (desk_view manager.old.desk) passes.old.items }
+{
     let answers = Answers::of_four();
     let mut told = Told {
         tally: Tally::new(),
         lost_events: 0,
         lost_contexts: 0,
     };
-    run(&rt, &shared, &mut manager, &mut told, &mut passes, &answers);
-    let totals = close(&shared, &mut manager, &mut passes, &mut told).expect(&rt, "totals");
-    assert_eq!(rt; told.tally.totals(&answers), Some(totals));
-    let swept = (told.lost_events, told.lost_contexts);
-    assert_eq!(rt; swept, (totals.lost_events, totals.lost_contexts));
+    run(rt, shared, manager, &mut told, passes, &answers);
+    let totals = close(shared, manager, passes, &mut told);
+    let lost = (told.lost_events, told.lost_contexts);
+    (told.tally.totals(&answers), totals, lost)
+}
+
+// The manager is the one of this configuration, over its filter chain.
+fn found_of<R: Threads + Sync>(rt: &R, alloc: Global, config: &Config) -> Result<Found, NoMemory> {
+    let chain = EventChain::make(alloc, config)?;
+    let Made {
+        shared,
+        mut manager,
+        mut passes,
+    } = make(alloc, config, chain)?;
+    Ok(report_beside_turns(rt, &shared, &mut manager, &mut passes))
+}
+
+// It is the one of four callers.
+fn of_four_callers<R: Threads + Sync>(rt: &R, alloc: Global) -> Result<Found, Fail> {
+    let Ok(config) = read(alloc, FOUR_CALLERS.as_bytes()) else {
+        return Err("a configuration".into());
+    };
+    match found_of(rt, alloc, &config) {
+        Ok(found) => Ok(found),
+        Err(NoMemory) => Err("no memory".into()),
+    }
+}
+
+#[test]
+fn four_callers_report_beside_turns(rt: HostRuntime) -> Result<(), Fail> {
+    let (calls, totals, lost) = of_four_callers(&rt, rt.alloc())?;
+    let totals = totals.ok_or("totals")?;
+    assert_eq!(rt; calls, Some(totals));
+    assert_eq!(rt; lost, (totals.lost_events, totals.lost_contexts));
     Ok(())
 }

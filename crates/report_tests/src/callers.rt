@@ -3,6 +3,7 @@ ghost use Rattle.std.specs.Prelude.{All};
 ghost use Rattle.report_api.specs.Passes.{IsPassOf};
 ghost use Rattle.report_tests.specs.Running.{AreSamePasses, IsSamePass};
 
+use crate::order::Order;
 use ids_types::{Act, Carried, EventIndex, Parcel};
 use main_function::Totals;
 use report_api::{Pass, Report, Shared};
@@ -115,14 +116,14 @@ pub fn report_beside<R: Threads + Sync>(
     );
 }
 
-/// What is found of the calls of each of four callers: how many are there, how many of these miss their context,
-/// and the least call that may come next; and whether all came as they were to come.
+/// What is found of the calls of each of four callers: how many are there, how many of these miss their context, in
+/// which order they came, and whether each was as its caller makes it.
 #[derive(Drop)]
 pub struct Tally {
     found: [u64; 4],
     without: [u64; 4],
-    next: [u64; 4],
-    fair: bool,
+    order: Order,
+    whole: bool,
 }
 
 impl Tally {
@@ -131,16 +132,16 @@ impl Tally {
         Tally {
             found: [0; 4],
             without: [0; 4],
-            next: [0; 4],
-            fair: true,
+            order: Order::new(),
+            whole: true,
         }
     }
 
     /// Counts a call that is found.
     pub fn add<B: Parcel>(&mut self, caller: u8, call: u64, act: &Act<B>) {
         let at = (caller % 4) as usize;
-        self.fair = self.fair && caller < 4 && self.next[at] <= call && is_whole(caller, call, act);
-        self.next[at] = call.wrapping_add(1);
+        self.order.add(caller, call);
+        self.whole = self.whole && is_whole(caller, call, act);
         self.found[at] = self.found[at].wrapping_add(1);
         if misses_context(act) {
             self.without[at] = self.without[at].wrapping_add(1);
@@ -167,7 +168,7 @@ impl Tally {
             lost_events = lost_events.wrapping_add(lost);
             lost_contexts = lost_contexts.wrapping_add(without);
         }
-        if !self.fair {
+        if !self.whole || !self.order.is_rising() {
             return None;
         }
         Some(Totals {

@@ -11,17 +11,23 @@ mod beside_desk;
 #[cfg(test)]
 mod beside_manager;
 #[cfg(test)]
+mod beside_taker;
+#[cfg(test)]
 mod callers;
 #[cfg(test)]
 mod calls;
 #[cfg(test)]
 mod closing;
 #[cfg(test)]
+mod numbers;
+#[cfg(test)]
+mod order;
+#[cfg(test)]
 mod ports;
 #[cfg(test)]
-mod reporting;
+mod queue;
 #[cfg(test)]
-mod stalled;
+mod reporting;
 #[cfg(test)]
 mod steps;
 #[cfg(test)]

@@ -51,19 +51,19 @@ fn report(caller: &mut CallerPort, count: u16) -> u8
 }
 
 // Makes a turn, and tells the number of the answer, the bytes and the messages, the entries and the lost reports.
-fn turn(manager: &mut ManagerPort, tick: u64, buffer: &mut [u8]) -> (u8, u64, u32, u64, u64)
+fn turn(manager: &mut ManagerPort, tick: u64, buffer: &mut [u8]) -> [u64; 5]
     requires { IsFitManager manager.old }
     ensures { IsFitManager manager.new }
 {
     let made = manager.turn(tick, buffer);
     let told = made.told;
-    (
-        made.answer.code(),
+    [
+        u64::from(made.answer.code()),
         told.bytes,
-        told.messages,
+        u64::from(told.messages),
         told.entries,
         told.lost_events,
-    )
+    ]
 }
 
 // The answers to four reports, of which the second tells of no event, and the last finds no buffer.
@@ -80,7 +80,7 @@ fn reports(caller: &mut CallerPort) -> [u8; 4]
 }
 
 // Three turns: a buffer that is a byte too small makes none, the next one takes all, and a tick may not fall.
-fn turns(manager: &mut ManagerPort, buffer: &mut [u8; MOST]) -> [(u8, u64, u32, u64, u64); 3]
+fn turns(manager: &mut ManagerPort, buffer: &mut [u8; MOST]) -> [[u64; 5]; 3]
     requires { IsFitManager manager.old }
     ensures { IsFitManager manager.new }
 {
@@ -92,9 +92,46 @@ fn turns(manager: &mut ManagerPort, buffer: &mut [u8; MOST]) -> [(u8, u64, u32, 
 }
 
 // How often the event of a record occurred, its first and its last tick, and how many bytes of context it has.
-fn record_of(manager: &ManagerPort, index: u16, buffer: &mut [u8]) -> Option<(u16, u64, u64, u64)> {
+fn record_of(manager: &ManagerPort, index: u16, buffer: &mut [u8]) -> Option<[u64; 4]> {
     let row = manager.row(index, buffer).row?;
-    Some((row.occurrences, row.first, row.last, row.bytes))
+    Some([u64::from(row.occurrences), row.first, row.last, row.bytes])
+}
+
+// What calls of a caller and its manager tell.
+#[derive(Drop)]
+struct Told {
+    reports: [u8; 4],
+    most_bytes: u64,
+    turns: [[u64; 5]; 3],
+    sent: [u8; 24],
+    rows: u16,
+    late: Option<u16>,
+    record: Option<[u64; 4]>,
+    no_row: u8,
+}
+
+// Makes them.
+fn told_by(caller: &mut CallerPort, manager: &mut ManagerPort) -> Told
+    requires caller { IsFitCaller caller.old }
+    requires manager { IsFitManager manager.old }
+    ensures { IsFitManager manager.new }
+{
+    let mut buffer = [0; MOST];
+    let reports = reports(caller);
+    let most_bytes = manager.most_bytes();
+    let turns = turns(manager, &mut buffer);
+    let mut sent = [0; 24];
+    sent.copy_from_slice(&buffer[..24]);
+    Told {
+        reports,
+        most_bytes,
+        turns,
+        sent,
+        rows: manager.rows(),
+        late: manager.late(0),
+        record: record_of(manager, 0, &mut buffer),
+        no_row: manager.row(1, &mut buffer).answer.code(),
+    }
 }
 
 // Asks a manager for a report.
@@ -105,22 +142,26 @@ fn other_role(manager: ManagerPort) -> u8
     role.report(EventIndex(0), 1, None, &[]).code()
 }
 
+// What they tell, and what the manager answers when it is asked for a report.
+fn all_told(alloc: Global) -> Result<(Told, u8), Fail> {
+    let (mut caller, mut manager) = ports(alloc)?;
+    let told = told_by(&mut caller, &mut manager);
+    Ok((told, other_role(manager)))
+}
+
 #[test]
 fn each_call_tells_its_number(rt: HostRuntime) -> Result<(), Fail> {
-    let (mut caller, mut manager) = ports(rt.alloc())?;
-    assert!(rt; reports(&mut caller) == [0, 6, 0, 3]);
-    assert!(rt; manager.most_bytes() == 7308);
-    let mut buffer = [0; MOST];
-    let told = turns(&mut manager, &mut buffer);
-    assert!(rt; told == [(13, 0, 0, 0, 0), (0, 24, 3, 2, 1), (8, 0, 0, 0, 0)]);
+    let (told, other_role) = all_told(rt.alloc())?;
+    assert!(rt; told.reports == [0, 6, 0, 3]);
+    assert!(rt; told.most_bytes == 7308);
+    assert!(rt; told.turns == [[13, 0, 0, 0, 0], [0, 24, 3, 2, 1], [8, 0, 0, 0, 0]]);
     assert!(rt;
-        buffer.starts_with(
-            b"\x10\x04\x80\0\x07\0\x01\0\x10\x04\x83\0\x2a\0\x01\0\x10\x04\x83\0\x2a\0\x01\0"
-        )
+        told.sent
+            == *b"\x10\x04\x80\0\x07\0\x01\0\x10\x04\x83\0\x2a\0\x01\0\x10\x04\x83\0\x2a\0\x01\0"
     );
-    assert!(rt; manager.rows() == 1 && manager.late(0).is_none());
-    assert!(rt; record_of(&manager, 0, &mut buffer) == Some((2, 5, 5, 0)));
-    assert!(rt; manager.row(1, &mut buffer).answer.code() == 10);
-    assert!(rt; other_role(manager) == 2);
+    assert!(rt; told.rows == 1 && told.late.is_none());
+    assert!(rt; told.record == Some([2, 5, 5, 0]));
+    assert!(rt; told.no_row == 10);
+    assert!(rt; other_role == 2);
     Ok(())
 }

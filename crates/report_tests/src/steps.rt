@@ -11,6 +11,7 @@ use crate::calls::{call, number, word};
 use chain::Chain;
 use config_json::read;
 use event_chain::EventChain;
+use ids_config::Config;
 use ids_types::{NoMemory, TurnOut};
 use main_function::{Made, Totals, TurnFault, make};
 use report_api::CtxBuf;
@@ -31,13 +32,14 @@ impl<C: Chain<CtxBuf>> Run<C> {
         &mut self,
         alloc: Global,
         steps: &'static str,
+        told: &mut Vec<u8>,
     ) -> Result<Option<&'static str>, NoMemory>
         requires { IsRunning C.events C.kept self.old.classes self.old.made }
     {
         for line in steps.lines() {
             let (step, wanted) = line.split_once(" => ").unwrap_or((line, ""));
-            let mut told = Vec::new(alloc);
-            self.answer(alloc, step, &mut told)?;
+            told.clear();
+            self.answer(alloc, step, told)?;
             if told.as_slice() != wanted.as_bytes() {
                 return Ok(Some(line));
             }
@@ -198,16 +200,25 @@ fn tell_fault(told: &mut Vec<u8>, fault: TurnFault) -> Result<(), NoMemory> {
     Ok(told.extend_from_slice(text.as_bytes())?)
 }
 
+// The first of these lines whose step has another answer of a manager of this configuration.
+fn first_unlike(
+    alloc: Global,
+    config: &Config,
+    steps: &'static str,
+) -> Result<Option<&'static str>, NoMemory> {
+    let chain = EventChain::make(alloc, config)?;
+    let mut run = Run {
+        made: make(alloc, config, chain)?,
+        classes: config.parts().classes.len(),
+    };
+    run.first_unlike(alloc, steps, &mut Vec::new(alloc))
+}
+
 /// Fails with the first line of the table whose step has another answer.
 pub fn each_step_holds(alloc: Global, table: &'static str) -> Result<(), Fail> {
     let (config, steps) = table.split_once("\n").unwrap_or((table, ""));
     let config = read(alloc, config.as_bytes())?;
-    let chain = EventChain::make(alloc, &config)?;
-    let mut run = Run {
-        made: make(alloc, &config, chain)?,
-        classes: config.parts().classes.len(),
-    };
-    match run.first_unlike(alloc, steps) {
+    match first_unlike(alloc, &config, steps) {
         Ok(None) => Ok(()),
         Ok(Some(step)) => Err(Fail::new(step)),
         Err(NoMemory) => Err(Fail::new("no memory")),

@@ -1,6 +1,7 @@
 //! Saves in which a call fails, and what a crash leaves of them.
 
 use crate::disks::{NEVER, begin, kept, memory, save, text};
+use memory_disk::MemoryDisk;
 use std::alloc::Global;
 use std::test::*;
 
@@ -28,19 +29,36 @@ const GATES: [(usize, u64, u8, u8); 4] = [
     (2, 5, 0, 1),
 ];
 
+/// The disk behind a save of one more, and whether it answered that the records are saved.
+fn save_one_more(alloc: Global, count: usize, fails: u64) -> Result<(MemoryDisk, bool), Fail> {
+    let memory = memory(alloc, count.saturating_add(1))?;
+    let disk = kept(alloc, count, fails)?;
+    Ok(save(alloc, disk, &memory))
+}
+
+/// Which records these are: those of so many saves, or of one more.
+fn which(alloc: Global, found: &[u8], count: usize) -> Result<u8, Fail> {
+    if found == text(alloc, count)?.as_slice() {
+        return Ok(b'o');
+    }
+    if found == text(alloc, count.saturating_add(1))?.as_slice() {
+        return Ok(b'N');
+    }
+    Ok(b'?')
+}
+
 /// Which records are begun with after a crash behind a save of one more, and whether it answered that they are saved.
 fn left(alloc: Global, count: usize, fails: u64, fill: u8) -> Result<(u8, bool), Fail> {
-    let more = count.saturating_add(1);
-    let (disk, is_saved) = save(alloc, kept(alloc, count, fails)?, &memory(alloc, more)?);
+    let (disk, is_saved) = save_one_more(alloc, count, fails)?;
     let found = begin(alloc, disk.crash(fill))?.ok().ok_or("sound")?;
-    let which = if found == text(alloc, count)? {
-        b'o'
-    } else if found == text(alloc, more)? {
-        b'N'
-    } else {
-        b'?'
-    };
-    Ok((which, is_saved))
+    Ok((which(alloc, &found, count)?, is_saved))
+}
+
+/// The gates of both slots behind a save of one more, and whether it answered that the records are saved.
+fn gates(alloc: Global, count: usize, fails: u64) -> Result<(bool, Option<u8>, Option<u8>), Fail> {
+    let (disk, is_saved) = save_one_more(alloc, count, fails)?;
+    let first = disk.contents().first().copied();
+    Ok((is_saved, first, disk.contents().get(270_864).copied()))
 }
 
 /// Which records are left where each call in turn fails, until a save in which none does.
@@ -71,11 +89,8 @@ fn a_crash_leaves_old_or_new_records(rt: HostRuntime) -> Result<(), Fail> {
 #[test]
 fn a_save_shuts_an_open_gate_before_its_body(rt: HostRuntime) -> Result<(), Fail> {
     for (count, fails, first, second) in GATES {
-        let memory = memory(rt.alloc(), count.saturating_add(1))?;
-        let (disk, is_saved) = save(rt.alloc(), kept(rt.alloc(), count, fails)?, &memory);
-        assert_eq!(rt; is_saved, fails == NEVER);
-        assert_eq!(rt; disk.contents().first().copied(), Some(first));
-        assert_eq!(rt; disk.contents().get(270_864).copied(), Some(second));
+        let found = gates(rt.alloc(), count, fails)?;
+        assert!(rt; found == (fails == NEVER, Some(first), Some(second)));
     }
     Ok(())
 }

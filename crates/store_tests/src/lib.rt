@@ -9,4 +9,6 @@ mod disks;
 #[cfg(test)]
 mod failing;
 #[cfg(test)]
+mod host;
+#[cfg(test)]
 mod saving;

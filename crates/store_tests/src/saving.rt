@@ -26,39 +26,61 @@ fn holds_first(alloc: Global, disk: &MemoryDisk) -> Result<bool, Fail> {
     Ok(rest.iter().all(|byte| *byte == 0))
 }
 
+/// Whether so many records that were saved are begun with.
+fn is_begun_with(alloc: Global, count: usize) -> Result<bool, Fail> {
+    let found = begin(alloc, kept(alloc, count, NEVER)?)?
+        .ok()
+        .ok_or("sound")?;
+    Ok(found == text(alloc, count)?)
+}
+
 #[test]
 fn what_is_saved_is_begun_with(rt: HostRuntime) -> Result<(), Fail> {
     for count in 0..4 {
-        let found = begin(rt.alloc(), kept(rt.alloc(), count, NEVER)?)?;
-        assert!(rt; found.ok().ok_or("sound")? == text(rt.alloc(), count)?);
+        assert!(rt; is_begun_with(rt.alloc(), count)?);
     }
     Ok(())
 }
 
+/// Whether a first save of two records makes the disk hold it, and answers that they are saved.
+fn saves_first(alloc: Global) -> Result<bool, Fail> {
+    let memory = memory(alloc, 2)?;
+    let (disk, is_saved) = save(alloc, disk(alloc, &[], NEVER)?, &memory);
+    Ok(is_saved && holds_first(alloc, &disk)?)
+}
+
 #[test]
 fn the_first_slot_is_as_the_layout_says(rt: HostRuntime) -> Result<(), Fail> {
-    let fresh = disk(rt.alloc(), &[], NEVER)?;
-    let (disk, is_saved) = save(rt.alloc(), fresh, &memory(rt.alloc(), 2)?);
-    assert!(rt; is_saved && holds_first(rt.alloc(), &disk)?);
+    assert!(rt; saves_first(rt.alloc())?);
     Ok(())
+}
+
+/// The slot that is damaged, of a disk of zeros but for these bytes.
+fn damaged(alloc: Global, places: &[(usize, u8)]) -> Result<Option<u8>, Fail> {
+    Ok(begin(alloc, disk(alloc, places, NEVER)?)?.err())
 }
 
 #[test]
 fn damaged_slots_are_named(rt: HostRuntime) -> Result<(), Fail> {
     for (places, slot) in ROWS {
-        let found = begin(rt.alloc(), disk(rt.alloc(), places, NEVER)?)?;
-        assert_eq!(rt; found.err(), slot);
+        let found = damaged(rt.alloc(), places)?;
+        assert_eq!(rt; found, slot);
     }
     Ok(())
 }
 
-#[test]
-fn a_disk_without_room_fails(rt: HostRuntime) -> Result<(), Fail> {
-    let mut disk = disk_for(rt.alloc(), 40)?;
+/// Makes 36 calls of a disk that has room for 40, and saves. Answers whether that fails, and a call behind it.
+fn fails_without_room(alloc: Global) -> Result<bool, Fail> {
+    let mut disk = disk_for(alloc, 40)?;
     for _ in 0..36 {
         disk.sync()?;
     }
-    let (mut disk, is_saved) = save(rt.alloc(), disk, &memory(rt.alloc(), 1)?);
-    assert!(rt; !is_saved && disk.sync().is_err());
+    let (mut disk, is_saved) = save(alloc, disk, &memory(alloc, 1)?);
+    Ok(!is_saved && disk.sync().is_err())
+}
+
+#[test]
+fn a_disk_without_room_fails(rt: HostRuntime) -> Result<(), Fail> {
+    assert!(rt; fails_without_room(rt.alloc())?);
     Ok(())
 }
