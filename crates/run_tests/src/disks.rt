@@ -1,7 +1,7 @@
 //! Runs over a disk in memory, and how tables write them.
 //!
-//! Given are the words and the files of a run, and behind `over` the first bytes of the two slots of a disk, in digits
-//! around a `+`; all others are zero. Wanted is how the run ended, and behind `then` how a `recall` of the disk that it
+//! Given are the words and the files of a run, and after `over` the first bytes of the two slots of a disk, in digits
+//! around a `+`; all others are zero. Wanted is how the run ended, and after `then` how a `recall` of the disk that it
 //! handed back ended, over the same shelf.
 
 use crate::shelves::{shelf_of, sink_of, words_of};

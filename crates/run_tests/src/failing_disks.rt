@@ -41,7 +41,7 @@ fn each_failing_call_of_a_recall_is_told(rt: HostRuntime) -> Result<(), Fail> {
     each_line_holds(&rt, rt.alloc(), Lines::Disks, RECALLS)
 }
 
-/// Recordings that are none or cannot be read. Call 0 of the disk is the one that fails, so the `recall` behind each run
+/// Recordings that are none or cannot be read. Call 0 of the disk is the one that fails, so the `recall` after each run
 /// tells that it is still to come.
 const REFUSED: &str =
     r##"keep d c j | {"form":1,"instance":18,"memory":2,"events":[{"id":1,"sensor":0,"send":false,"store":true},{"id":2,"sensor":0,"send":false,"store":true},{"id":3,"sensor":0,"send":false,"store":true}]} | T 1 0 0 0/R 0 0 0 1 - -/T 2 0 0 0/R 0 1 1 1 - -/T 3 0 0 0/R 0 2 0 1 - -/T 4 0 0 0/R 0 3 2 1 - -/T 5 0 0 0/R 0 4 1 1 - -/ over +

@@ -1,6 +1,7 @@
 //! A replay whose callers and turn wait for each other.
 
 use crate::shelves::{shelf_of, sink_of, words_of};
+use ids_outside::{MemoryShelf, MemorySink};
 use idsm_run::{Gate, run_plain, run_replay};
 use std::alloc::Global;
 use std::sync::atomic::{AtomicU64, Ordering};
@@ -43,22 +44,34 @@ impl Gate for Meeting {
 const GIVEN: &str =
     r#"replay c j m r o | {"form":1,"instance":18,"callers":2,"ring":4,"events":[{"id":42,"sensor":3}]} | N 5/R 0 0 1 - -/R 0 0 1 - -/R 1 0 1 - -/R 1 0 1 - -/E 5/"#;
 
-/// Whether the replay ends well, and a check of what it wrote finds the same, with how many came to the gate.
-fn met<R: Threads + Sync>(rt: &R, alloc: Global) -> Result<(bool, u64), Fail> {
-    let replay = words_of(alloc, GIVEN)?;
+/// Whether the replay ends well, with how many came to the gate.
+fn replayed<R: Threads + Sync>(
+    rt: &R,
+    alloc: Global,
+    words: &[String],
+    shelf: &mut MemoryShelf,
+    out: &mut MemorySink,
+) -> (bool, u64) {
+    let gate = Meeting(AtomicU64::new(0));
+    let (status, manager) = run_replay(rt, alloc, words, shelf, out, &gate);
+    let is_done = status == 0 && manager.is_some();
+    (is_done, gate.0.load(Ordering::SeqCst))
+}
+
+/// Whether all three meet in a replay, and a check of what it wrote finds the same.
+fn meet<R: Threads + Sync>(rt: &R, alloc: Global) -> Result<bool, Fail> {
+    let words = words_of(alloc, GIVEN)?;
     let check = words_of(alloc, "check c o m")?;
     let mut out = sink_of(alloc, "-")?;
     let mut shelf = shelf_of(alloc, GIVEN, "-")?;
-    let gate = Meeting(AtomicU64::new(0));
-    let (status, manager) = run_replay(rt, alloc, &replay, &mut shelf, &mut out, &gate);
-    let is_done = status == 0 && manager.is_some();
+    let have_met = replayed(rt, alloc, &words, &mut shelf, &mut out) == (true, 3);
     let is_same = run_plain(alloc, &check, &mut shelf, &mut out) == 0;
-    let is_told = out.taken() == b"turns 3 entries 4 losses 0 without 0\nsame\n".as_slice();
-    Ok((is_done && is_same && is_told, gate.0.load(Ordering::SeqCst)))
+    let told = b"turns 3 entries 4 losses 0 without 0\nsame\n".as_slice();
+    Ok(have_met && is_same && out.taken() == told)
 }
 
 #[test]
 fn two_callers_and_the_turn_beside_them_meet(rt: HostRuntime) -> Result<(), Fail> {
-    assert!(rt; met(&rt, rt.alloc())? == (true, 3));
+    assert!(rt; meet(&rt, rt.alloc())?);
     Ok(())
 }

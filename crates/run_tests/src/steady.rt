@@ -14,9 +14,11 @@ fn is_folded(alloc: Global) -> Result<bool, Fail> {
     let files = vec![in alloc; (String::from_str(alloc, "c")?, bytes_of(alloc, ".")?)]?;
     let mut shelf = SteadyShelf::make(alloc, files)?;
     let status = run_plain(alloc, &words, &mut shelf, &mut out);
-    let is_made = |name| shelf.contents(name) == Some([].as_slice());
-    let is_told = out.taken() == b"turns 0 entries 0 messages 0 records 0\n".as_slice();
-    Ok(status == 0 && is_told && is_made("m") && is_made("r") && shelf.contents("j").is_none())
+    let is_told = status == 0
+        && out.taken() == b"turns 0 entries 0 messages 0 records 0\n".as_slice();
+    let is_sent = shelf.contents("m") == Some([].as_slice());
+    let is_stored = shelf.contents("r") == Some([].as_slice());
+    Ok(is_told && is_sent && is_stored && shelf.contents("j").is_none())
 }
 
 #[test]

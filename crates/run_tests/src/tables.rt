@@ -27,7 +27,7 @@ pub(crate) enum Lines {
     Counts,
     /// As `Ends`, but the call and the put want memory.
     Wanting,
-    /// As `Ends` over a disk, with the number of its call that fails behind the two.
+    /// As `Ends` over a disk, with the number of its call that fails after the two.
     Disks,
 }
 

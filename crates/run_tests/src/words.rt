@@ -83,7 +83,7 @@ fn words_of_another_run_are_not_replayed(rt: HostRuntime) -> Result<(), Fail> {
     each_line_holds(&rt, rt.alloc(), Lines::Replay, NOT_TO_REPLAY)
 }
 
-/// Words that it hands to another run than `run_keep`. Call 0 of the disk is the one that fails, so the `recall` behind
+/// Words that it hands to another run than `run_keep`. Call 0 of the disk is the one that fails, so the `recall` after
 /// each run tells that it is still to come.
 const NOT_OVER_A_DISK: &str = "- - 0 => 2 | usage then 13 | disk failed/
  over +
