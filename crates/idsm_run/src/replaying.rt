@@ -39,7 +39,7 @@ pub(crate) fn replay_files<'a, R: Threads + Sync, H: Shelf, G: Gate + Sync>(
     replay_asked(rt, alloc, names, &asked, shelf, gate)
 }
 
-/// Replays the trace of a configuration that were read from these files, and returns the line and the manager.
+/// Replays what was read from the input files, and returns the line that tells what was replayed, with the manager.
 fn replay_asked<'a, R: Threads + Sync, H: Shelf, G: Gate + Sync>(
     rt: &R,
     alloc: Global,
