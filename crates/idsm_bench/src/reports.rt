@@ -1,134 +1,99 @@
-//! Reports through a pass, and the desk that takes them, in batches.
-ghost use Rattle.std.specs.Prelude.{◌≤◌, IsTrue};
+//! Reports through a pass, and the desk that takes them.
 ghost use Rattle.buffer_classes.specs.Givers.{AreBuffersIn};
 ghost use Rattle.report_api.specs.Desks.{IsDeskOf};
 ghost use Rattle.report_api.specs.Passes.{IsPassOf, IsShared, sizes_of};
-ghost use Rattle.report_api.specs.Terms.{AdmitsItem};
+ghost use Rattle.report_api.specs.Terms.{AdmitsAct};
 
-use crate::work::{Caller, TAKES, Taker};
+use crate::bench::Bench;
+use crate::configured::config;
+use crate::queued::BATCH;
+use crate::rounds::Ring;
 use ids_types::{Act, Carried, EventIndex};
-use report_api::{CtxBuf, Desk, Item, Pass, Report, Shared};
+use report_api::{CtxBuf, Desk, Parts, Pass, Report, Shared, make};
+use std::alloc::AllocError;
+use std::io;
+use std::rt::Clock;
+use std::thread::Threads;
 
-/// A caller that reports one event again and again, with this context.
+/// What passes and a desk share, and the context of each report.
 #[derive(Drop)]
-pub struct ReportCaller<'s> {
-    shared: &'s Shared,
-    pass: Pass,
-    context: &'s [u8],
-    batch: u64,
+pub struct Reporting<'c> {
+    pub shared: Shared,
+    pub context: &'c [u8],
 }
 
-impl<'s> ReportCaller<'s> {
-    ghost use Rattle.idsm_bench.specs.Ready.{IsReadyPass};
+impl Ring for Reporting<'_> {
+    type Caller = Pass;
 
-    pub fn new(shared: &'s Shared, pass: Pass, context: &'s [u8], batch: u64) -> ReportCaller<'s>
-        requires { IsPassOf shared.now pass }
-        ensures { IsReadyPass result }
-    {
-        ReportCaller {
-            shared,
-            pass,
-            context,
-            batch,
+    // The desk, and the buffers that it is to give back.
+    type Taker = (Desk, Vec<CtxBuf>);
+
+    ghost calls = { λ reporting. IsPassOf reporting.shared };
+
+    ghost takes = { λ reporting taker. IsDeskOf reporting.shared taker.0 × AreBuffersIn (sizes_of reporting.shared) taker.1.items };
+
+    fn put(&self, pass: &mut Pass, batch: u64) -> u64 {
+        let mut count: u64 = 0;
+        for _ in 0..batch {
+            let report = pass.report(&self.shared, EventIndex(0), 1, None, self.context);
+            if let Report::Accepted(_) = report {
+                count = count.wrapping_add(1);
+            }
         }
-    }
-}
-
-impl Caller for ReportCaller<'_> {
-    ghost use Rattle.idsm_bench.specs.Ready.{IsReadyPass};
-
-    ghost is_ready = { IsReadyPass };
-
-    fn batch(&self) -> u64 {
-        self.batch
+        count
     }
 
-    fn put_batch(&mut self) -> u64 {
-        report_all(self.shared, &mut self.pass, self.context, self.batch)
-    }
-}
-
-// Makes so many reports, and counts what is accepted whole.
-fn report_all(shared: &Shared, pass: &mut Pass, context: &[u8], batch: u64) -> u64
-    requires { IsPassOf shared.now pass.old }
-    ensures mine { IsPassOf shared.now pass.new }
-    ensures count { result ≤ batch }
-{
-    let mut count = 0;
-    for _ in 0..batch {
-        if let Report::Accepted(_) = pass.report(shared, EventIndex(0), 1, None, context) {
-            count += 1;
+    fn take(&self, taker: &mut (Desk, Vec<CtxBuf>), batch: u64) -> u64 {
+        let (desk, back) = taker;
+        let mut count = 0;
+        for number in 0..batch {
+            let Ok(item) = desk.take(&self.shared) else {
+                break
+            };
+            if keep(&self.shared, item.payload, back).is_err() {
+                break;
+            }
+            count = number + 1;
         }
-    }
-    count
-}
-
-/// The desk, with room for the buffers of a batch.
-#[derive(Drop)]
-pub struct DeskTaker<'s> {
-    shared: &'s Shared,
-    desk: Desk,
-    back: Vec<CtxBuf>,
-}
-
-impl<'s> DeskTaker<'s> {
-    ghost use Rattle.idsm_bench.specs.Ready.{IsReadyDesk};
-
-    pub fn new(shared: &'s Shared, desk: Desk, back: Vec<CtxBuf>) -> DeskTaker<'s>
-        requires desk { IsDeskOf shared.now desk }
-        requires back { AreBuffersIn (sizes_of shared.now) back.items }
-        ensures { IsReadyDesk result }
-    {
-        DeskTaker { shared, desk, back }
+        desk.give_back(&self.shared, back);
+        count
     }
 }
 
-impl Taker for DeskTaker<'_> {
-    ghost use Rattle.idsm_bench.specs.Ready.{IsReadyDesk};
-
-    ghost is_ready = { IsReadyDesk };
-
-    fn batch(&self) -> u64 {
-        TAKES
-    }
-
-    fn take_batch(&mut self) -> u64 {
-        take_ready(self.shared, &mut self.desk, &mut self.back)
-    }
-}
-
-// Takes what is ready, at most a batch, and gives positions and buffers back.
-fn take_ready(shared: &Shared, desk: &mut Desk, back: &mut Vec<CtxBuf>) -> u64
-    requires desk { IsDeskOf shared.now desk.old }
-    requires back { AreBuffersIn (sizes_of shared.now) back.old.items }
-    ensures desk { IsDeskOf shared.now desk.new }
-    ensures back { AreBuffersIn (sizes_of shared.now) back.new.items }
-    ensures count { result ≤ 64 }
-{
-    let mut count = 0;
-    for number in 0..TAKES {
-        let Ok(item) = desk.take(shared) else { break };
-        if !keep(shared, item, back) {
-            break;
-        }
-        count = number + 1;
-    }
-    desk.give_back(shared, back);
-    count
-}
-
-// Keeps the buffer of an item, if it has one. Answers whether there was memory for it.
-fn keep(shared: &Shared, item: Item<Act<CtxBuf>>, back: &mut Vec<CtxBuf>) -> bool
+// Keeps the buffer of an act, if it has one.
+fn keep(shared: &Shared, act: Act<CtxBuf>, back: &mut Vec<CtxBuf>) -> Result<(), AllocError>
     requires shared { IsShared shared.now }
-    requires item { AdmitsItem shared.now.terms item }
+    requires act { AdmitsAct shared.now.terms act }
     requires back { AreBuffersIn (sizes_of shared.now) back.old.items }
     ensures { AreBuffersIn (sizes_of shared.now) back.new.items }
 {
-    match item.payload {
-        Act::Report {
-            context: Carried::Kept { parcel, .. },
-            ..
-        } => back.push(parcel).is_ok(),
-        _ => true,
+    let Act::Report { context, .. } = act else {
+        return Ok(());
+    };
+    if let Carried::Kept { parcel, .. } = context {
+        back.push(parcel)?;
+    }
+    Ok(())
+}
+
+impl<R: Print + Clock + AllocGlobal + Threads + Sync> Bench<'_, R> {
+    /// Prints what reports with this context, at most 16 bytes, and their takes at the desk cost, over 256 event
+    /// buffers and as many context data buffers.
+    pub fn reports(&self, title: &str, context: &[u8], rounds: u64) -> io::Result<()> {
+        let config = config(self.rt.alloc(), 256, false)?;
+        let Ok(made) = make(self.rt.alloc(), &config) else {
+            return Err(AllocError.into());
+        };
+        let Parts {
+            shared,
+            passes,
+            desk,
+        } = made;
+        let reporting = Reporting { shared, context };
+        let taker = (desk, Vec::new(self.rt.alloc()));
+        let reports = self.measure(&reporting, passes, taker, BATCH, rounds)?;
+        let rings = 1 + u8::from(!context.is_empty());
+        let bare = self.bare(1, rings, BATCH, rounds)?;
+        self.pair(title, reports, bare)
     }
 }

@@ -1,123 +1,174 @@
-//! Rounds of batches: on one thread, and by callers in threads of their own beside a taker.
+//! Rounds of batches of a ring's calls: on one thread, and by callers in threads of their own beside a taker.
+ghost use Rattle.std.specs.Prelude.{All};
+ghost use Rattle.std.specs.Thread.{IsSync};
 
-use crate::samples::Samples;
-use crate::work::{Caller, Taker};
-use std::alloc::Global;
+use crate::bench::Bench;
+use crate::times::{Pair, Times};
+use std::alloc::AllocError;
 use std::hint::spin_loop;
+use std::io;
 use std::rt::Clock;
 use std::sync::atomic::{AtomicU64, Ordering};
-use std::thread::Threads;
+use std::thread::{Threads, join, map_vec, yield_now};
 use std::time::Instant;
-use std::{io, thread};
 
-/// How many seconds the rounds of one measurement may take.
-const LIMIT: u64 = 4;
+/// What callers and a taker share.
+pub trait Ring: Sync {
+    type Caller: Send + Drop;
 
-/// How often a caller looks whether the next round is open, and a taker for items.
-const LOOKS: u64 = 20_000_000;
+    type Taker: Send + Drop;
 
-/// How often a caller looks before it lets other threads run at each look.
+    /// The caller is one of this ring, between two calls.
+    ghost calls: { Self → Self.Caller → Type 0 };
+
+    /// The taker is this ring's, between two calls.
+    ghost takes: { Self → Self.Taker → Type 0 };
+
+    /// Puts a batch of so many items, and answers how many found room.
+    fn put(&self, caller: &mut Self::Caller, batch: u64) -> u64
+        requires ready { calls self.now caller.old }
+        ensures ready { calls self.now caller.new };
+
+    /// Takes what is ready, at most a batch, makes its room free, and answers how many items there were.
+    fn take(&self, taker: &mut Self::Taker, batch: u64) -> u64
+        requires ready { takes self.now taker.old }
+        ensures ready { takes self.now taker.new };
+}
+
+/// How often a caller looks whether the next round is open, before it lets other threads run and in all.
 const QUICK_LOOKS: u64 = 10_000;
 
-/// How often a taker that found too few items pauses.
-const PAUSES: u64 = 64;
+const LOOKS: u64 = 20_000_000;
+/// How often a taker looks for items at most, which takes some four seconds, and how often it pauses where there are few.
+const TAKER_LOOKS: u64 = 1_000_000;
 
+const PAUSES: u64 = 64;
 /// What the word of the round says once there is none left.
 const CLOSED: u64 = u64::MAX;
 
-/// What was measured: the batches of all callers, and those of the taker.
+/// Rounds of batches of so many puts and takes: how many are open, and how many batches callers put in them.
 #[derive(Drop)]
-pub struct Measured {
-    pub puts: Samples,
-    pub takes: Samples,
-}
-
-/// How many nanoseconds have gone by.
-pub fn nanos_since<R: Clock>(rt: &R, start: Instant) -> io::Result<u64> {
-    let nanos = start.elapsed(rt)?.as_nanos();
-    Ok(u64::try_from(nanos).unwrap_or(u64::MAX))
-}
-
-fn time_puts<R: Clock, C: Caller>(rt: &R, caller: &mut C, puts: &mut Samples) -> io::Result<()>
-    requires { C.is_ready caller.old }
-    ensures { C.is_ready caller.new }
-{
-    let start = Instant::now(rt)?;
-    let count = caller.put_batch();
-    let nanos = nanos_since(rt, start)?;
-    puts.add(nanos, count)?;
-    Ok(())
-}
-
-fn time_takes<R: Clock, T: Taker>(rt: &R, taker: &mut T, takes: &mut Samples) -> io::Result<u64>
-    requires { T.is_ready taker.old }
-    ensures { T.is_ready taker.new }
-{
-    let start = Instant::now(rt)?;
-    let count = taker.take_batch();
-    let nanos = nanos_since(rt, start)?;
-    takes.add(nanos, count)?;
-    Ok(count)
-}
-
-/// On one thread: in each round a batch of puts, and then takes until nothing is left.
-pub fn alone<R: Clock, C: Caller, T: Taker>(
-    rt: &R,
-    alloc: Global,
-    mut caller: C,
-    mut taker: T,
+struct Rounds<'r, R, G> {
+    rt: &'r R,
+    ring: &'r G,
+    batch: (u64, u64),
     rounds: u64,
-) -> io::Result<Measured>
-    requires caller { C.is_ready caller }
-    requires taker { T.is_ready taker }
-{
-    let mut puts = Samples::new(alloc, caller.batch());
-    let mut takes = Samples::new(alloc, taker.batch());
-    for _ in 0..rounds {
-        time_puts(rt, &mut caller, &mut puts)?;
-        for _ in 0..puts.batch {
-            if time_takes(rt, &mut taker, &mut takes)? == 0 {
-                break;
-            }
-        }
-    }
-    Ok(Measured { puts, takes })
-}
-
-/// On one thread: in each round a batch of takes of the first taker, and one of the second.
-pub fn takes_beside<R: Clock, T: Taker>(
-    rt: &R,
-    alloc: Global,
-    takers: (T, T),
-    rounds: u64,
-) -> io::Result<(Samples, Samples)>
-    requires { T.is_ready takers.0 × T.is_ready takers.1 }
-{
-    let (mut first, mut second) = takers;
-    let mut of_first = Samples::new(alloc, first.batch());
-    let mut of_second = Samples::new(alloc, second.batch());
-    for _ in 0..rounds {
-        time_takes(rt, &mut first, &mut of_first)?;
-        time_takes(rt, &mut second, &mut of_second)?;
-    }
-    Ok((of_first, of_second))
-}
-
-/// Where callers and their taker meet between two rounds.
-#[derive(Drop)]
-struct Meeting {
-    // How many rounds are open.
     open: AtomicU64,
-    // How many batches the callers have put.
     arrived: AtomicU64,
 }
 
-impl Meeting {
-    fn new() -> Meeting {
-        Meeting {
+impl<R: Clock + AllocGlobal + Threads + Sync> Bench<'_, R> {
+    /// Measures callers of a ring and its taker, in batches of so many puts and takes: in turn on one thread where
+    /// there is one caller, and else each in a thread of its own.
+    pub fn measure<G: Ring>(
+        &self,
+        ring: &G,
+        mut callers: Vec<G::Caller>,
+        mut taker: G::Taker,
+        batch: (u64, u64),
+        rounds: u64,
+    ) -> io::Result<Pair>
+        requires callers { All (G.calls ring.now) callers.items }
+        requires taker { G.takes ring.now taker }
+    {
+        let rounds = Rounds {
+            rt: self.rt,
+            ring,
+            batch,
+            rounds,
             open: AtomicU64::new(0),
             arrived: AtomicU64::new(0),
+        };
+        if callers.len() == 1 {
+            rounds.alone(&mut callers[0], &mut taker)
+        } else {
+            rounds.beside(callers, &mut taker)
         }
+    }
+}
+
+impl<R: Clock + AllocGlobal + Threads + Sync, G: Ring> Rounds<'_, R, G> {
+    // A batch of puts.
+    fn put(&self, caller: &mut G::Caller, puts: &mut Times) -> io::Result<()>
+        requires { G.calls self.now.ring.now caller.old }
+        ensures { G.calls self.now.ring.now caller.new }
+    {
+        let start = Instant::now(self.rt)?;
+        let count = self.ring.put(caller, puts.batch);
+        puts.add(start.elapsed(self.rt)?.as_nanos(), count)
+    }
+
+    // A batch of takes. Answers how many items there were.
+    fn take(&self, taker: &mut G::Taker, takes: &mut Times) -> io::Result<u64>
+        requires { G.takes self.now.ring.now taker.old }
+        ensures { G.takes self.now.ring.now taker.new }
+    {
+        let start = Instant::now(self.rt)?;
+        let count = self.ring.take(taker, takes.batch);
+        takes.add(start.elapsed(self.rt)?.as_nanos(), count)?;
+        Ok(count)
+    }
+
+    // In each round a batch of puts, and then takes until nothing is left. Behind no puts there is one batch of takes.
+    fn alone(&self, caller: &mut G::Caller, taker: &mut G::Taker) -> io::Result<Pair>
+        requires caller { G.calls self.now.ring.now caller.old }
+        requires taker { G.takes self.now.ring.now taker.old }
+    {
+        let mut puts = Times::new(self.rt.alloc(), self.batch.0);
+        let mut takes = Times::new(self.rt.alloc(), self.batch.1);
+        for _ in 0..self.rounds {
+            self.put(caller, &mut puts)?;
+            for _ in 0..puts.batch.max(1) {
+                if self.take(taker, &mut takes)? == 0 {
+                    break;
+                }
+            }
+        }
+        Ok((puts, takes))
+    }
+
+    // Each caller in a thread of its own, beside the taker.
+    fn beside(&self, callers: Vec<G::Caller>, taker: &mut G::Taker) -> io::Result<Pair>
+        requires callers { All (G.calls self.now.ring.now) callers.items }
+        requires taker { G.takes self.now.ring.now taker.old }
+    {
+        let number = callers.len() as u64;
+        let (all, takes) = join(
+            self.rt,
+            move || -> Result<Vec<Times>, AllocError>
+                requires { IsSync R.row × IsSync G.row × All (G.calls self.now.ring.now) callers.items }
+            {
+                map_vec(
+                    self.rt,
+                    callers,
+                    &|caller: G::Caller| -> Times
+                        requires { G.calls self.now.ring.now caller }
+                    { self.call(caller) },
+                )
+            },
+            move || -> Times
+                requires { IsSync G.row × G.takes self.now.ring.now taker.now }
+            { self.serve(taker, number) },
+        );
+        let mut puts = Times::new(self.rt.alloc(), self.batch.0);
+        for times in &all? {
+            puts.join(times)?;
+        }
+        Ok((puts, takes))
+    }
+
+    // A caller's batches, one a round.
+    fn call(&self, mut caller: G::Caller) -> Times
+        requires { G.calls self.now.ring.now caller }
+    {
+        let mut puts = Times::new(self.rt.alloc(), self.batch.0);
+        for round in 0..self.rounds {
+            if !self.wait_for(round) || self.put(&mut caller, &mut puts).is_err() {
+                break;
+            }
+            self.arrived.fetch_add(1, Ordering::SeqCst);
+        }
+        puts
     }
 
     // Waits until a round is open. Answers whether it came.
@@ -130,195 +181,42 @@ impl Meeting {
             if look < QUICK_LOOKS {
                 spin_loop();
             } else {
-                thread::yield_now();
+                yield_now();
             }
         }
         false
     }
-}
 
-// A caller's batches, one a round.
-fn call<R: Clock, C: Caller>(
-    rt: &R,
-    alloc: Global,
-    meeting: &Meeting,
-    mut caller: C,
-    rounds: u64,
-) -> io::Result<Samples>
-    requires { C.is_ready caller }
-{
-    let mut puts = Samples::new(alloc, caller.batch());
-    for round in 0..rounds {
-        if !meeting.wait_for(round) {
-            break;
-        }
-        time_puts(rt, &mut caller, &mut puts)?;
-        meeting.arrived.fetch_add(1, Ordering::SeqCst);
-    }
-    Ok(puts)
-}
-
-// The taker's batches. It opens a round once all callers have put their batches of the last one and
-// none of their items is left.
-fn serve<R: Clock, T: Taker>(
-    rt: &R,
-    alloc: Global,
-    meeting: &Meeting,
-    mut taker: T,
-    callers: u64,
-    rounds: u64,
-) -> io::Result<Samples>
-    requires { T.is_ready taker }
-{
-    let mut takes = Samples::new(alloc, taker.batch());
-    let begun = Instant::now(rt)?;
-    let mut open: u64 = 0;
-    for _ in 0..LOOKS {
-        let arrived = meeting.arrived.load(Ordering::SeqCst);
-        let count = time_takes(rt, &mut taker, &mut takes)?;
-        if count == 0 && begun.elapsed(rt)?.as_secs() >= LIMIT {
-            break;
-        }
-        if count == 0 && arrived == callers.wrapping_mul(open) {
-            if open == rounds {
+    // The taker's batches. It opens a round once all callers have put their batches of the last one and none of their
+    // items is left, and closes them behind the last one.
+    fn serve(&self, taker: &mut G::Taker, callers: u64) -> Times
+        requires { G.takes self.now.ring.now taker.old }
+    {
+        let mut takes = Times::new(self.rt.alloc(), self.batch.1);
+        let mut open: u64 = 0;
+        for _ in 0..TAKER_LOOKS {
+            let arrived = self.arrived.load(Ordering::SeqCst);
+            let Ok(count) = self.take(taker, &mut takes) else {
                 break;
+            };
+            if count == 0 && arrived == callers.wrapping_mul(open) {
+                if open == self.rounds {
+                    break;
+                }
+                open = open.wrapping_add(1);
+                self.open.store(open, Ordering::SeqCst);
             }
-            open = open.wrapping_add(1);
-            meeting.open.store(open, Ordering::SeqCst);
+            if count < takes.batch {
+                pause();
+            }
         }
-        if count < takes.batch {
-            pause();
-        }
+        self.open.store(CLOSED, Ordering::SeqCst);
+        takes
     }
-    Ok(takes)
 }
 
 fn pause() {
     for _ in 0..PAUSES {
         spin_loop();
     }
-}
-
-// The taker's batches, after which no round is open.
-fn serve_and_close<R: Clock, T: Taker>(
-    rt: &R,
-    alloc: Global,
-    meeting: &Meeting,
-    taker: T,
-    callers: u64,
-    rounds: u64,
-) -> io::Result<Samples>
-    requires { T.is_ready taker }
-{
-    let takes = serve(rt, alloc, meeting, taker, callers, rounds);
-    meeting.open.store(CLOSED, Ordering::SeqCst);
-    takes
-}
-
-// Two callers beside each other.
-fn call_beside<R: Clock + Threads + Sync, C: Caller>(
-    rt: &R,
-    alloc: Global,
-    meeting: &Meeting,
-    callers: (C, C),
-    rounds: u64,
-) -> io::Result<Samples>
-    requires { C.is_ready callers.0 × C.is_ready callers.1 }
-{
-    let (first, second) = callers;
-    let (mine, other) = thread::join(
-        rt,
-        move ||
-            requires { C.is_ready first }
-        { call(rt, alloc, meeting, first, rounds) },
-        move ||
-            requires { C.is_ready second }
-        { call(rt, alloc, meeting, second, rounds) },
-    );
-    let mut puts = mine?;
-    puts.join(&other?)?;
-    Ok(puts)
-}
-
-/// Two callers beside a taker.
-pub fn by_two<R: Clock + Threads + Sync, C: Caller, T: Taker>(
-    rt: &R,
-    alloc: Global,
-    callers: (C, C),
-    taker: T,
-    rounds: u64,
-) -> io::Result<Measured>
-    requires callers { C.is_ready callers.0 × C.is_ready callers.1 }
-    requires taker { T.is_ready taker }
-{
-    let place = Meeting::new();
-    let meeting = &place;
-    let (takes, puts) = thread::join(
-        rt,
-        move ||
-            requires { T.is_ready taker }
-        { serve_and_close(rt, alloc, meeting, taker, 2, rounds) },
-        move ||
-            requires { C.is_ready callers.0 × C.is_ready callers.1 }
-        { call_beside(rt, alloc, meeting, callers, rounds) },
-    );
-    Ok(Measured {
-        puts: puts?,
-        takes: takes?,
-    })
-}
-
-// Four callers beside each other.
-fn call_by_four<R: Clock + Threads + Sync, C: Caller>(
-    rt: &R,
-    alloc: Global,
-    meeting: &Meeting,
-    callers: ((C, C), (C, C)),
-    rounds: u64,
-) -> io::Result<Samples>
-    requires front { C.is_ready callers.0.0 × C.is_ready callers.0.1 }
-    requires back { C.is_ready callers.1.0 × C.is_ready callers.1.1 }
-{
-    let (front, back) = callers;
-    let (mine, other) = thread::join(
-        rt,
-        move ||
-            requires { C.is_ready front.0 × C.is_ready front.1 }
-        { call_beside(rt, alloc, meeting, front, rounds) },
-        move ||
-            requires { C.is_ready back.0 × C.is_ready back.1 }
-        { call_beside(rt, alloc, meeting, back, rounds) },
-    );
-    let mut puts = mine?;
-    puts.join(&other?)?;
-    Ok(puts)
-}
-
-/// Four callers beside a taker.
-pub fn by_four<R: Clock + Threads + Sync, C: Caller, T: Taker>(
-    rt: &R,
-    alloc: Global,
-    callers: ((C, C), (C, C)),
-    taker: T,
-    rounds: u64,
-) -> io::Result<Measured>
-    requires front { C.is_ready callers.0.0 × C.is_ready callers.0.1 }
-    requires back { C.is_ready callers.1.0 × C.is_ready callers.1.1 }
-    requires taker { T.is_ready taker }
-{
-    let place = Meeting::new();
-    let meeting = &place;
-    let (takes, puts) = thread::join(
-        rt,
-        move ||
-            requires { T.is_ready taker }
-        { serve_and_close(rt, alloc, meeting, taker, 4, rounds) },
-        move ||
-            requires { C.is_ready callers.0.0 × C.is_ready callers.0.1 × C.is_ready callers.1.0 × C.is_ready callers.1.1 }
-        { call_by_four(rt, alloc, meeting, callers, rounds) },
-    );
-    Ok(Measured {
-        puts: puts?,
-        takes: takes?,
-    })
 }

@@ -1,4 +1,0 @@
-use Rattle.idsm_bench.proofs.rounds.serve.Given as goal
-
-abbrev pub invariant-loop : goal.invariant-loop
-invariant-loop g l = g.T.Taker.is_ready l.taker

@@ -1,0 +1,69 @@
+//! How long batches took.
+ghost use Rattle.std.specs.Prelude.{◌≡◌, ◌≢◌, ◌+◌, ◌%◌, ◌^◌, ◌≤◌, ◌<◌, [], ◌∷◌, ◌++◌, All, OnOk};
+
+use std::alloc::{AllocError, Global};
+use std::io;
+
+/// The times of puts, and those of takes.
+pub type Pair = (Times, Times);
+
+/// The nanoseconds of each batch that was whole, and how many items all batches had.
+#[derive(Drop)]
+pub struct Times {
+    nanos: Vec<u64>,
+    pub items: u64,
+    /// How many items a whole batch has.
+    pub batch: u64,
+}
+
+impl Times {
+    pub fn new(alloc: Global, batch: u64) -> Times
+        ensures { (result.nanos.items ≡ []) × (result.items ≡ 0) × (result.batch ≡ batch) }
+    {
+        let nanos = Vec::new(alloc);
+        let items = 0;
+        Times {
+            nanos,
+            items,
+            batch,
+        }
+    }
+
+    /// Adds a batch of so many items. Only a whole one counts for its time.
+    pub fn add(&mut self, nanos: u128, items: u64) -> io::Result<()>
+        ensures items { self.new.items ≡ (self.old.items + items) % 2 ^ 64 }
+        ensures whole { items ≡ self.old.batch → nanos < 2 ^ 64 → OnOk result (self.new.nanos.items ≡ self.old.nanos.items ++ nanos ∷ []) }
+        ensures part { items ≢ self.old.batch → self.new.nanos.items ≡ self.old.nanos.items }
+        ensures batch { self.new.batch ≡ self.old.batch }
+    {
+        self.items = self.items.wrapping_add(items);
+        if items == self.batch {
+            let nanos = u64::try_from(nanos).unwrap_or(u64::MAX);
+            self.nanos.push(nanos)?;
+        }
+        Ok(())
+    }
+
+    /// Adds the batches of another.
+    pub fn join(&mut self, other: &Times) -> Result<(), AllocError>
+        ensures items { self.new.items ≡ (self.old.items + other.now.items) % 2 ^ 64 }
+        ensures nanos { OnOk result (self.new.nanos.items ≡ self.old.nanos.items ++ other.now.nanos.items) }
+        ensures batch { self.new.batch ≡ self.old.batch }
+    {
+        self.items = self.items.wrapping_add(other.items);
+        self.nanos.extend_from_slice(other.nanos.as_slice())
+    }
+
+    /// The time of the fastest batch, and of the middle one by their order: 0 where there is none.
+    pub fn fastest_and_middle(&mut self) -> (u64, u64)
+        ensures fastest { All (λ nanos. result.0 ≤ nanos) self.new.nanos.items }
+        ensures same { (self.new.items ≡ self.old.items) × (self.new.batch ≡ self.old.batch) }
+    {
+        self.nanos.sort_unstable();
+        let middle = self.nanos.len() / 2;
+        match (self.nanos.first(), self.nanos.get(middle)) {
+            (Some(fastest), Some(middle)) => (*fastest, *middle),
+            _ => (0, 0),
+        }
+    }
+}
