@@ -2,7 +2,7 @@
 ghost use Rattle.std.specs.Prelude.{◌≡◌, length};
 
 use crate::bench::Bench;
-use crate::rounds::Ring;
+use crate::rounds::{Ring, Rounds};
 use crate::times::Pair;
 use std::alloc::{AllocError, Global};
 use std::io;
@@ -127,6 +127,11 @@ impl<R: Print + Clock + AllocGlobal + Threads + Sync> Bench<'_, R> {
         let alloc = self.rt.alloc();
         let rings = rings_of(alloc, rings)?;
         let slots = vec![in alloc; vec![in alloc; 0; 1024]?; callers as usize]?;
-        self.measure(&rings, slots, 0, batch, rounds)
+        let calls = Rounds::new(self.rt, &rings, batch, rounds);
+        if callers == 1 {
+            calls.alone(slots, &mut 0)
+        } else {
+            calls.beside(slots, &mut 0)
+        }
     }
 }

@@ -3,7 +3,7 @@ ghost use Rattle.std.specs.Prelude.{◌≤◌};
 ghost use Rattle.report_queue.specs.Parts.{IsIdle, IsTakerOf};
 
 use crate::bench::Bench;
-use crate::rounds::Ring;
+use crate::rounds::{Ring, Rounds};
 use report_queue::{Cargo, MadeQueue, Queue, QueueSeat, Taker, make};
 use std::alloc::AllocError;
 use std::io;
@@ -75,10 +75,15 @@ impl<R: Print + Clock + AllocGlobal + Threads + Sync> Bench<'_, R> {
         };
         let MadeQueue {
             queue,
-            taker,
+            mut taker,
             seats,
         } = made;
-        let queued = self.measure(&queue, seats, taker, BATCH, rounds)?;
+        let calls = Rounds::new(self.rt, &queue, BATCH, rounds);
+        let queued = if callers == 1 {
+            calls.alone(seats, &mut taker)?
+        } else {
+            calls.beside(seats, &mut taker)?
+        };
         let bare = self.bare(callers, 1, BATCH, rounds)?;
         self.pair(title, queued, bare)
     }

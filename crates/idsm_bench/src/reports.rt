@@ -2,14 +2,14 @@
 ghost use Rattle.buffer_classes.specs.Givers.{AreBuffersIn};
 ghost use Rattle.report_api.specs.Desks.{IsDeskOf};
 ghost use Rattle.report_api.specs.Passes.{IsPassOf, IsShared, sizes_of};
-ghost use Rattle.report_api.specs.Terms.{AdmitsAct};
+ghost use Rattle.report_api.specs.Terms.{AdmitsItem};
 
 use crate::bench::Bench;
 use crate::configured::config;
 use crate::queued::BATCH;
-use crate::rounds::Ring;
+use crate::rounds::{Ring, Rounds};
 use ids_types::{Act, Carried, EventIndex};
-use report_api::{CtxBuf, Desk, Parts, Pass, Report, Shared, make};
+use report_api::{CtxBuf, Desk, Item, Parts, Pass, Report, Shared, make};
 use std::alloc::AllocError;
 use std::io;
 use std::rt::Clock;
@@ -50,7 +50,7 @@ impl Ring for Reporting<'_> {
             let Ok(item) = desk.take(&self.shared) else {
                 break
             };
-            if keep(&self.shared, item.payload, back).is_err() {
+            if keep(&self.shared, item, back).is_err() {
                 break;
             }
             count = number + 1;
@@ -60,17 +60,18 @@ impl Ring for Reporting<'_> {
     }
 }
 
-// Keeps the buffer of an act, if it has one.
-fn keep(shared: &Shared, act: Act<CtxBuf>, back: &mut Vec<CtxBuf>) -> Result<(), AllocError>
+// Keeps the buffer of an item, if it has one.
+fn keep(shared: &Shared, item: Item<Act<CtxBuf>>, back: &mut Vec<CtxBuf>) -> Result<(), AllocError>
     requires shared { IsShared shared.now }
-    requires act { AdmitsAct shared.now.terms act }
+    requires item { AdmitsItem shared.now.terms item }
     requires back { AreBuffersIn (sizes_of shared.now) back.old.items }
     ensures { AreBuffersIn (sizes_of shared.now) back.new.items }
 {
-    let Act::Report { context, .. } = act else {
-        return Ok(());
-    };
-    if let Carried::Kept { parcel, .. } = context {
+    if let Act::Report {
+        context: Carried::Kept { parcel, .. },
+        ..
+    } = item.payload
+    {
         back.push(parcel)?;
     }
     Ok(())
@@ -90,8 +91,9 @@ impl<R: Print + Clock + AllocGlobal + Threads + Sync> Bench<'_, R> {
             desk,
         } = made;
         let reporting = Reporting { shared, context };
-        let taker = (desk, Vec::new(self.rt.alloc()));
-        let reports = self.measure(&reporting, passes, taker, BATCH, rounds)?;
+        let mut taker = (desk, Vec::new(self.rt.alloc()));
+        let calls = Rounds::new(self.rt, &reporting, BATCH, rounds);
+        let reports = calls.alone(passes, &mut taker)?;
         let rings = 1 + u8::from(!context.is_empty());
         let bare = self.bare(1, rings, BATCH, rounds)?;
         self.pair(title, reports, bare)

@@ -1,8 +1,7 @@
 //! Rounds of batches of a ring's calls: on one thread, and by callers in threads of their own beside a taker.
-ghost use Rattle.std.specs.Prelude.{All};
+ghost use Rattle.std.specs.Prelude.{◌≡◌, All};
 ghost use Rattle.std.specs.Thread.{IsSync};
 
-use crate::bench::Bench;
 use crate::times::{Pair, Times};
 use std::alloc::AllocError;
 use std::hint::spin_loop;
@@ -48,7 +47,7 @@ const CLOSED: u64 = u64::MAX;
 
 /// Rounds of batches of so many puts and takes: how many are open, and how many batches callers put in them.
 #[derive(Drop)]
-struct Rounds<'r, R, G> {
+pub struct Rounds<'r, R, G> {
     rt: &'r R,
     ring: &'r G,
     batch: (u64, u64),
@@ -57,37 +56,20 @@ struct Rounds<'r, R, G> {
     arrived: AtomicU64,
 }
 
-impl<R: Clock + AllocGlobal + Threads + Sync> Bench<'_, R> {
-    /// Measures callers of a ring and its taker, in batches of so many puts and takes: in turn on one thread where
-    /// there is one caller, and else each in a thread of its own.
-    pub fn measure<G: Ring>(
-        &self,
-        ring: &G,
-        mut callers: Vec<G::Caller>,
-        mut taker: G::Taker,
-        batch: (u64, u64),
-        rounds: u64,
-    ) -> io::Result<Pair>
-        requires callers { All (G.calls ring.now) callers.items }
-        requires taker { G.takes ring.now taker }
+impl<'r, R: Clock + AllocGlobal + Threads + Sync, G: Ring> Rounds<'r, R, G> {
+    pub fn new(rt: &'r R, ring: &'r G, batch: (u64, u64), rounds: u64) -> Rounds<'r, R, G>
+        ensures { result.ring.now ≡ ring.now }
     {
-        let rounds = Rounds {
-            rt: self.rt,
+        Rounds {
+            rt,
             ring,
             batch,
             rounds,
             open: AtomicU64::new(0),
             arrived: AtomicU64::new(0),
-        };
-        if callers.len() == 1 {
-            rounds.alone(&mut callers[0], &mut taker)
-        } else {
-            rounds.beside(callers, &mut taker)
         }
     }
-}
 
-impl<R: Clock + AllocGlobal + Threads + Sync, G: Ring> Rounds<'_, R, G> {
     // A batch of puts.
     fn put(&self, caller: &mut G::Caller, puts: &mut Times) -> io::Result<()>
         requires { G.calls self.now.ring.now caller.old }
@@ -109,13 +91,17 @@ impl<R: Clock + AllocGlobal + Threads + Sync, G: Ring> Rounds<'_, R, G> {
         Ok(count)
     }
 
-    // In each round a batch of puts, and then takes until nothing is left. Behind no puts there is one batch of takes.
-    fn alone(&self, caller: &mut G::Caller, taker: &mut G::Taker) -> io::Result<Pair>
-        requires caller { G.calls self.now.ring.now caller.old }
+    /// In turn, where there is one caller: in each round a batch of puts, and then takes until nothing is left. Behind
+    /// no puts there is one batch of takes.
+    pub fn alone(&self, mut callers: Vec<G::Caller>, taker: &mut G::Taker) -> io::Result<Pair>
+        requires callers { All (G.calls self.now.ring.now) callers.items }
         requires taker { G.takes self.now.ring.now taker.old }
     {
         let mut puts = Times::new(self.rt.alloc(), self.batch.0);
         let mut takes = Times::new(self.rt.alloc(), self.batch.1);
+        let [caller] = callers.as_mut_slice() else {
+            return Ok((puts, takes));
+        };
         for _ in 0..self.rounds {
             self.put(caller, &mut puts)?;
             for _ in 0..puts.batch.max(1) {
@@ -127,8 +113,8 @@ impl<R: Clock + AllocGlobal + Threads + Sync, G: Ring> Rounds<'_, R, G> {
         Ok((puts, takes))
     }
 
-    // Each caller in a thread of its own, beside the taker.
-    fn beside(&self, callers: Vec<G::Caller>, taker: &mut G::Taker) -> io::Result<Pair>
+    /// Each caller in a thread of its own, beside the taker.
+    pub fn beside(&self, callers: Vec<G::Caller>, taker: &mut G::Taker) -> io::Result<Pair>
         requires callers { All (G.calls self.now.ring.now) callers.items }
         requires taker { G.takes self.now.ring.now taker.old }
     {

@@ -5,7 +5,7 @@ ghost use Rattle.main_function.specs.Standing.{IsManagerOf};
 use crate::bench::Bench;
 use crate::configured::config;
 use crate::reports::Reporting;
-use crate::rounds::Ring;
+use crate::rounds::{Ring, Rounds};
 use crate::times::Pair;
 use chain::Chain;
 use event_chain::EventChain;
@@ -118,7 +118,7 @@ impl<R: Print + Clock + AllocGlobal + Threads + Sync> Bench<'_, R> {
         };
         let Made {
             shared,
-            manager,
+            mut manager,
             passes,
         } = made;
         let turning = Turning {
@@ -126,6 +126,6 @@ impl<R: Print + Clock + AllocGlobal + Threads + Sync> Bench<'_, R> {
             empty: batch.0 == 0,
             chain: PhantomData,
         };
-        self.measure(&turning, passes, manager, batch, rounds)
+        Rounds::new(self.rt, &turning, batch, rounds).alone(passes, &mut manager)
     }
 }
