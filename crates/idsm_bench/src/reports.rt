@@ -1,4 +1,5 @@
 //! Reports through a pass, and the desk that takes them.
+ghost use Rattle.std.specs.Prelude.{◌≤◌};
 ghost use Rattle.buffer_classes.specs.Givers.{AreBuffersIn};
 ghost use Rattle.report_api.specs.Desks.{IsDeskOf};
 ghost use Rattle.report_api.specs.Passes.{IsPassOf, IsShared, sizes_of};
@@ -44,43 +45,51 @@ impl Ring for Reporting<'_> {
     }
 
     fn take(&self, taker: &mut (Desk, Vec<CtxBuf>), batch: u64) -> u64 {
-        let (desk, back) = taker;
-        let mut count = 0;
-        for number in 0..batch {
-            let Ok(item) = desk.take(&self.shared) else {
-                break
-            };
-            if keep(&self.shared, item, back).is_err() {
-                break;
-            }
-            count = number + 1;
-        }
-        desk.give_back(&self.shared, back);
-        count
+        take_ready(&self.shared, &mut taker.0, &mut taker.1, batch)
     }
 }
 
-// Keeps the buffer of an item, if it has one.
-fn keep(shared: &Shared, item: Item<Act<CtxBuf>>, back: &mut Vec<CtxBuf>) -> Result<(), AllocError>
+// Takes what is ready, at most a batch, and gives positions and buffers back.
+fn take_ready(shared: &Shared, desk: &mut Desk, back: &mut Vec<CtxBuf>, batch: u64) -> u64
+    requires desk { IsDeskOf shared.now desk.old }
+    requires back { AreBuffersIn (sizes_of shared.now) back.old.items }
+    ensures desk { IsDeskOf shared.now desk.new }
+    ensures back { AreBuffersIn (sizes_of shared.now) back.new.items }
+    ensures count { result ≤ batch }
+{
+    let mut count = 0;
+    for number in 0..batch {
+        let Ok(item) = desk.take(shared) else { break };
+        if !keep(shared, item, back) {
+            break;
+        }
+        count = number + 1;
+    }
+    desk.give_back(shared, back);
+    count
+}
+
+// Keeps the buffer of an item, if it has one. Answers whether there was memory for it.
+fn keep(shared: &Shared, item: Item<Act<CtxBuf>>, back: &mut Vec<CtxBuf>) -> bool
     requires shared { IsShared shared.now }
     requires item { AdmitsItem shared.now.terms item }
     requires back { AreBuffersIn (sizes_of shared.now) back.old.items }
     ensures { AreBuffersIn (sizes_of shared.now) back.new.items }
 {
-    if let Act::Report {
-        context: Carried::Kept { parcel, .. },
-        ..
-    } = item.payload
-    {
-        back.push(parcel)?;
+    match item.payload {
+        Act::Report {
+            context: Carried::Kept { parcel, .. },
+            ..
+        } => back.push(parcel).is_ok(),
+        _ => true,
     }
-    Ok(())
 }
 
 impl<R: Print + Clock + AllocGlobal + Threads + Sync> Bench<'_, R> {
     /// Prints what reports with this context, at most 16 bytes, and their takes at the desk cost, over 256 event
     /// buffers and as many context data buffers.
     pub fn reports(&self, title: &str, context: &[u8], rounds: u64) -> io::Result<()> {
+        let back = Vec::with_capacity(self.rt.alloc(), 64)?;
         let config = config(self.rt.alloc(), 256, false)?;
         let Ok(made) = make(self.rt.alloc(), &config) else {
             return Err(AllocError.into());
@@ -91,7 +100,7 @@ impl<R: Print + Clock + AllocGlobal + Threads + Sync> Bench<'_, R> {
             desk,
         } = made;
         let reporting = Reporting { shared, context };
-        let mut taker = (desk, Vec::new(self.rt.alloc()));
+        let mut taker = (desk, back);
         let calls = Rounds::new(self.rt, &reporting, BATCH, rounds);
         let reports = calls.alone(passes, &mut taker)?;
         let rings = 1 + u8::from(!context.is_empty());

@@ -1,7 +1,0 @@
-use Rattle.buffer_classes.specs.Givers.{AreBuffersIn}
-use Rattle.report_api.specs.Desks.{IsDeskOf}
-use Rattle.report_api.specs.Passes.{sizes_of}
-use Rattle.idsm_bench.proofs.reports.ReportingRing.take.Given as goal
-
-abbrev pub invariant-loop-number : goal.invariant-loop-number
-invariant-loop-number l = IsDeskOf l.self.shared l.desk × AreBuffersIn (sizes_of l.self.shared) l.back.items
