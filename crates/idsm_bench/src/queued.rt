@@ -1,6 +1,6 @@
 //! The calls of a report queue.
-ghost use Rattle.std.specs.Prelude.{◌≤◌};
-ghost use Rattle.report_queue.specs.Parts.{IsIdle, IsTakerOf};
+ghost use Rattle.std.specs.Prelude.{◌≡◌, ◌+◌, ◌<◌, ◌≤◌, ◌^◌, length};
+ghost use Rattle.report_queue.specs.Parts.{IsIdle, IsTakerOf, calls_of, taker_view, to_give_back};
 
 use crate::bench::Bench;
 use crate::rounds::{Ring, Rounds};
@@ -39,20 +39,32 @@ impl Ring for Queue<Numbers> {
 
     ghost takes = { IsTakerOf };
 
-    fn put(&self, seat: &mut QueueSeat<Numbers>, batch: u64) -> u64 {
-        let mut count: u64 = 0;
-        if seat.calls().max(batch) < MANY_CALLS {
-            for number in 0..batch {
-                if seat.claim(self).is_ok() {
-                    seat.fill(self, number);
-                    count = count.wrapping_add(1);
-                }
+    fn put(&self, seat: &mut QueueSeat<Numbers>, batch: u64) -> u64
+        requires ready { IsIdle self.now seat.old }
+        ensures ready { IsIdle self.now seat.new }
+        ensures calls { calls_of seat.old < 2 ^ 32 → batch < 2 ^ 32 → calls_of seat.new ≡ calls_of seat.old + batch }
+        ensures count { result ≤ batch }
+    {
+        if seat.calls().max(batch) >= MANY_CALLS {
+            return 0;
+        }
+        let mut count = 0;
+        for number in 0..batch {
+            if seat.claim(self).is_ok() {
+                seat.fill(self, number);
+                count += 1;
             }
         }
         count
     }
 
-    fn take(&self, taker: &mut Taker<Numbers>, batch: u64) -> u64 {
+    fn take(&self, taker: &mut Taker<Numbers>, batch: u64) -> u64
+        requires ready { IsTakerOf self.now taker.old }
+        ensures ready { IsTakerOf self.now taker.new }
+        ensures taken { length (taker_view taker.new).items ≡ length (taker_view taker.old).items + result }
+        ensures given_back { to_give_back taker.new ≡ 0 }
+        ensures count { result ≤ batch }
+    {
         let mut count = 0;
         for number in 0..batch {
             if taker.take(self).is_err() {

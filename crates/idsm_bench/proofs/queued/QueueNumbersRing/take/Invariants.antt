@@ -1,5 +1,9 @@
-use Rattle.report_queue.specs.Parts.{IsTakerOf}
+use Rattle.std.proofs.Common.{◌≡◌, ◌+◌, length}
+use Rattle.report_queue.specs.Parts.{IsTakerOf, taker_view}
 use Rattle.idsm_bench.proofs.queued.QueueNumbersRing.take.Given as goal
 
 abbrev pub invariant-loop-number : goal.invariant-loop-number
-invariant-loop-number l = IsTakerOf l.self l.taker
+invariant-loop-number l =
+    IsTakerOf l.self l.taker
+    × (length (taker_view l.taker).items ≡ length (taker_view l.fn.taker).items + l.count)
+    × (l.count ≡ l.number)
