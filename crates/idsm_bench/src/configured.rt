@@ -4,14 +4,21 @@ use ids_config::{Config, ConfigParts, EventParts, Window};
 use ids_types::Mode;
 use std::alloc::{AllocError, Global};
 
+/// Windows that hold nothing back: of a threshold, and of a limit.
+const ONE: Window = Window {
+    interval: 1_000,
+    number: 1,
+};
+
+const MANY: Window = Window {
+    interval: 1_000,
+    number: 4_294_967_295,
+};
+
 /// A configuration of one event and one caller, with so many event buffers and as many context data buffers of 16
 /// bytes. Where it is filtered, each filter of single reports looks at each report and lets it through, the event
 /// memory stores it, and both limits let its message out; else no filter looks at more than the event's mode.
 pub fn config(alloc: Global, ring: u64, filtered: bool) -> Result<Config, AllocError> {
-    let window = |number| filtered.then_some(Window {
-        interval: 1_000,
-        number,
-    });
     let mut block = Vec::new(alloc);
     if filtered {
         block.push(1)?;
@@ -26,7 +33,7 @@ pub fn config(alloc: Global, ring: u64, filtered: bool) -> Result<Config, AllocE
         block,
         nth: 1,
         aggregate: None,
-        threshold: window(1),
+        threshold: filtered.then_some(ONE),
     };
     let parts = ConfigParts {
         profile: 1,
@@ -36,8 +43,8 @@ pub fn config(alloc: Global, ring: u64, filtered: bool) -> Result<Config, AllocE
         memory: u64::from(filtered),
         state: 0,
         classes: vec![in alloc; (16, ring)]?,
-        rate: window(4_294_967_295),
-        traffic: window(4_294_967_295),
+        rate: filtered.then_some(MANY),
+        traffic: filtered.then_some(MANY),
         events: vec![in alloc; event]?,
         lost_events: None,
         lost_contexts: None,

@@ -3,8 +3,8 @@ use Rattle.std.specs.Prelude.{if◌then◌else◌, is_ok}
 use Rattle.permit_ring.specs.Hands.{AllAdmitted}
 use Rattle.buffer_classes.specs.Givers.{IsBufferIn}
 use Rattle.buffer_classes.proofs.GiveLemmas.{admitted_more}
-use Rattle.report_api.specs.Terms.{AdmitsAct, AdmitsContext}
-use Rattle.report_api.specs.Names.{Kept}
+use Rattle.report_api.specs.Terms.{AdmitsAct, AdmitsContext, IsKept}
+use Rattle.report_api.specs.Names.{Kept, Report}
 use Rattle.report_api.specs.Passes.{sizes_of}
 use Rattle.idsm_bench.proofs.reports.keep.Goals as goal
 
@@ -17,8 +17,11 @@ pub returns-in-Report-default-default-default-Kept : goal.returns-in-Report-defa
 returns-in-Report-default-default-default-Kept c =
     let shared = c.args.shared.now in
     let taken = c.in-Report-default-default-default-Kept in
-    let context : taken.context ≡ Kept taken.context-0 taken.context-1 taken.parcel = grind (arith, taken.context-is, taken.parcel-is) in
-    let kept = subst (AdmitsContext shared.terms) context (subst (AdmitsAct shared.terms) taken.is c.requires.item.act).1 in
+    let act : c.args.item.payload ≡ Report taken.event taken.count taken.stamp taken.context = taken.is in
+    let context : taken.context ≡ Kept taken.context-0 taken.context-1 taken.parcel = grind (arith, taken.context-is, taken.parcel-is, act) in
+    let kept : IsKept shared.terms taken.context-0 taken.context-1 taken.parcel =
+    subst (AdmitsContext shared.terms) context (subst (AdmitsAct shared.terms) act c.requires.item.act).1 in
     let one : IsBufferIn (sizes_of shared) taken.parcel = grind (arith, kept, c.requires.shared) in
-    admitted_pushed (IsBufferIn (sizes_of shared)) (is_ok c.push.result) c.args.back.now.items taken.parcel
-    (grind (arith, c.push.ensures.items, taken.parcel-is)) c.requires.back one
+    let items : c.push.new.self.items ≡ (if is_ok c.push.result then c.args.back.now.items ++ taken.parcel ∷ [] else c.args.back.now.items) =
+    grind (arith, c.push.ensures.items, taken.context-is, taken.parcel-is) in
+    admitted_pushed (IsBufferIn (sizes_of shared)) (is_ok c.push.result) c.args.back.now.items taken.parcel items c.requires.back one
