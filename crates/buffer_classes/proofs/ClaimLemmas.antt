@@ -1,98 +1,164 @@
 -- A claim from class to class.
-use Rattle.buffer_classes.proofs.Names.{◌≡◌, ◌≢◌, ℕ, zero, suc, ◌+◌, ◌<◌, ◌≤◌, ◌==◌, List, [], ◌∷◌, ◌++◌, length, set, get_or, if◌then◌else◌, refl, sym, ap, subst, ◌∙◌, arith, ne_eqb, eq-eqb, at_index, at_map, ring_seats, ring_terms, seat_calls, seat_memo, seat_number, Buffer, IsBufferOf, Asks, lost_at, RiseFrom, class_sizes, first_fitting, Class, ClassSeat, ClassTerms, Lost, Got, Outcome, IsClaimSeatOf, IsClassSeat, IsHisSeat, memo_in, Classes, ClaimSeat}
-use mathlib.Core.Option.{some, some-injective, some-ne-none}
+use Rattle.buffer_classes.proofs.Names.{◌≡◌, ◌≢◌, ℕ, ◌+◌, ◌-◌, ◌*◌, ◌<◌, ◌≤◌, ◌^◌, List, [], ◌∷◌, ◌++◌, length, set, get_or, refl, sym, ap, ◌∙◌, arith, inl, inr, eq-eqb, ne_eqb, All, sum_by, append-nil, length-map, length_push, at_index, at_length, at_map, there, ring_seats, ring_terms, seat_calls, seat_memo, Buffer, IsBufferOf, AllOf, Asks, AsksClass, ClaimTells, asked, lost_at, RiseFrom, class_sizes, first_fitting, Class, ClassSeat, Lost, Got, Outcome, IsClaimSeatOf, IsClassSeat, claimant_of, claims_of, log_of, memo_in, memo_at, steps_of, Classes, ClaimSeat}
+use Rattle.std.proofs.lemmas.List.Elements.{All-push}
+use Rattle.std.proofs.lemmas.List.Sums.{sum_by-set}
+use mathlib.Core.Option.{some, some-injective}
 use lib.ListN.{get_elem?}
-use Rattle.buffer_classes.proofs.AskLemmas.{AsksAll, asks_more, log_asked, lost_else, lost_here, lost_past}
+use Rattle.buffer_classes.specs.Claims.{AreSmall, HoldsSoMany}
+use Rattle.buffer_classes.specs.declared.seat.Claim.{Claim}
+use Rattle.buffer_classes.specs.declared.seat.Claim.TheVariants as answers
+use Rattle.buffer_classes.proofs.AskLemmas.{asked_past, asks_log, below_or, lost_else, lost_here, lost_past, nothing_past}
+use Rattle.buffer_classes.proofs.ByIndexLemmas.{all_more}
+use Rattle.buffer_classes.proofs.FittingLemmas.{fits_from}
 
--- each later size is above the ones before it
-above_all : (above i size : ℕ) (sizes : List ℕ) → RiseFrom above sizes → get_elem? sizes i ≡ some size → above < size
-above_all above i size [] rise e = absurd (some-ne-none size (sym e))
-above_all above zero size (x ∷ sizes) rise e = subst (λ (k : ℕ). above < k) (some-injective x size e) rise.0
-above_all above (suc i) size (x ∷ sizes) rise e = omega (arith, rise.0, above_all x i size sizes rise.1 e)
+-- a buffer that a claim got holds as much as was asked for
+holds_so : (bytes : ℕ) (sizes : List ℕ) (result : Claim) → RiseFrom 0 sizes → ClaimTells (first_fitting bytes sizes) sizes result
+    → HoldsSoMany bytes result
+holds_so bytes sizes (answers.Got buf skipped) rise told = fits_from bytes 0 buf.class buf.size sizes rise (omega (arith, told.0)) told.1
+holds_so bytes sizes (answers.NoneFree looks) rise told = tt
 
--- a class from the first fitting one on fits
-pub fits_from : (bytes above i size : ℕ) (sizes : List ℕ) → RiseFrom above sizes → first_fitting bytes sizes ≤ i
-    → get_elem? sizes i ≡ some size → bytes ≤ size
-fits_from bytes above i size [] rise from e = absurd (some-ne-none size (sym e))
-fits_from bytes above zero size (x ∷ sizes) rise from e = grind arith
-fits_from bytes above (suc i) size (x ∷ sizes) rise from e =
-    grind (arith, fits_from bytes x i size sizes rise.1, above_all x i size sizes rise.1 e)
+-- the seat of class i made these calls, and is the same where it made none
+abbrev pub AskedSo : Classes → (ℕ → List Outcome) → ℕ → ClassSeat → ClassSeat → Type 0
+AskedSo classes calls i old new = (class : Class) → get_elem? classes.classes.items i ≡ some class
+    → (calls i ≡ [] → new ≡ old) × AsksClass class old (calls i) new
 
-module _ {classes : Classes} {me : ClaimSeat} (mine : IsClaimSeatOf classes me) where
-  abbrev AsksHis : List ClassSeat → (ℕ → List Outcome) → Type 0
-  AsksHis news what = AsksAll me.number (me.claims + 1) classes.classes.items me.seats.items news what
+-- a claim of so many bytes so far: the fitting classes before this one were asked in vain, and those from it on were not asked
+pub record AskedTo (classes : Classes) (me : ClaimSeat) (bytes place : ℕ) (looks : List ℕ) (now : ClaimSeat) : Type 0 where
+  pub many : first_fitting bytes (class_sizes classes) + length looks ≡ place
+  pub small : All (λ claimed. claimed ≤ 2 ^ 45) looks
+  pub number_is : now.number ≡ me.number
+  pub claims_are : now.claims ≡ me.claims + 1
+  pub asked : AllOf (AskedSo classes (lost_at (first_fitting bytes (class_sizes classes)) looks)) me.seats.items now.seats.items
+  pub steps : steps_of now ≤ steps_of me + 3 * length looks
 
-  still_his : (class : Class) (s : ClassSeat) → IsHisSeat me.number me.claims class s → IsHisSeat me.number (me.claims + 1) class s
-  still_his class s his = record { is_seat = his.is_seat; number_is = his.number_is; calls_within = omega (arith, his.calls_within) }
+module _ {classes : Classes} {me : ClaimSeat} (mine : IsClaimSeatOf classes me) (bytes : ℕ) where
+  abbrev sizes : List ℕ
+  sizes = class_sizes classes
+
+  abbrev first : ℕ
+  first = first_fitting bytes sizes
 
   -- before the first class is asked
-  pub asks_none : (first : ℕ) → AsksHis me.seats.items (lost_at first [])
-  asks_none first = record { as_many = refl; each = λ i class s at e. still_his class s (mine.each i class s at e); asks = λ i class at. refl }
-
-  -- the claimant when all was asked
-  pub claimed : (now : ClaimSeat) (what : ℕ → List Outcome) → now.number ≡ me.number → now.claims ≡ me.claims + 1 → AsksHis now.seats.items what
-      → IsClaimSeatOf classes now
-  claimed now what number claims all = record {
-    are = mine.are;
-    all = all.as_many ∙ mine.all;
-    each = λ i class s at e. rw (number, claims) (all.each i class s at e);
+  pub asked_none : AllOf (AskedSo classes (lost_at first [])) me.seats.items me.seats.items
+  asked_none = record {
+    as_many = refl;
+    each = λ i old new was is class at.
+        let same : new ≡ old = some-injective new old (sym is ∙ was) in
+        let his = mine.each i class old at was in
+        ((λ _. same), grind (arith, same, his));
   }
 
-  -- and its logs
-  pub claimed_logs : (news : List ClassSeat) (what : ℕ → List Outcome) → AsksHis news what
-      → ((i : ℕ) → length classes.classes.items ≤ i → what i ≡ [])
-      → (i : ℕ) → (memo_in (get_elem? news i)).log ≡ (memo_in (get_elem? me.seats.items i)).log ++ what i
-  claimed_logs news what all past = log_asked me.number (me.claims + 1) classes.classes.items me.seats.items news what all mine.all past
+  -- what a claim leaves
+  abbrev Leaves : Claim → ClaimSeat → Type 0
+  Leaves result now = record {
+    mine : IsClaimSeatOf classes now;
+    told : ClaimTells first sizes result;
+    holds : HoldsSoMany bytes result;
+    small : AreSmall result;
+    counted : (claims_of now ≡ claims_of me + 1) × (claimant_of now ≡ claimant_of me);
+    steps : (i : ℕ) (class : Class) → get_elem? classes.classes.items i ≡ some class
+        → Asks (ring_seats class.ring) (memo_at me i) (asked first result i) (memo_at now i);
+    few_steps : steps_of now ≤ steps_of me + 3 * (length sizes - first);
+    logs : (i : ℕ) → log_of now i ≡ log_of me i ++ asked first result i;
+  }
 
-  module _ (first : ℕ) (looks : List ℕ) (place : ℕ) (news : List ClassSeat) (many : first + length looks ≡ place)
-      (before : AsksHis news (lost_at first looks)) (rest : (i : ℕ) → place ≤ i → get_elem? news i ≡ get_elem? me.seats.items i)
-      (below : place < length news) (class : Class) (class_at : class ≡ get_or classes.classes.items place class)
-      (seat : ClassSeat) (seat_at : seat ≡ get_or news place seat) where
+  module _ (result : Claim) (now : ClaimSeat) (number : now.number ≡ me.number) (claims : now.claims ≡ me.claims + 1)
+      (all : AllOf (AskedSo classes (asked first result)) me.seats.items now.seats.items) (told : ClaimTells first sizes result) where
+    all_asked : (i : ℕ) (class : Class) → get_elem? classes.classes.items i ≡ some class
+        → Asks (ring_seats class.ring) (memo_at me i) (asked first result i) (memo_at now i)
+    all_asked i class at =
+        let low = at_length classes.classes.items i class at in
+        let old = there me.seats.items i (omega (arith, low, mine.all)) in
+        let new = there now.seats.items i (omega (arith, low, mine.all, all.as_many)) in
+        rw (old.1, new.1, memo_at) (all.each i old.0 new.0 old.1 new.1 class at).1.told
+
+    pub leaves : AreSmall result → steps_of now ≤ steps_of me + 3 * (length sizes - first) → Leaves result now
+    leaves small few = record {
+      mine = record {
+        are = mine.are;
+        all = all.as_many ∙ mine.all;
+        each = λ i class s at e.
+            let old = there me.seats.items i (omega (arith, at_length now.seats.items i s e, all.as_many)) in
+            let was = mine.each i class old.0 at old.1 in
+            let did = (all.each i old.0 s old.1 e class at).1 in
+            grind (arith, was, did, number, claims);
+      };
+      told = told;
+      holds = holds_so bytes sizes result mine.are.rise told;
+      small = small;
+      counted = (claims, number);
+      steps = all_asked;
+      few_steps = few;
+      logs = λ i. elim (below_or classes.classes.items i) [
+        | inl at ↦ asks_log (ring_seats at.0.ring) (memo_at me i) (memo_at now i) (asked first result i) (all_asked i at.0 at.1)
+        | inr past ↦
+            let none = asked_past first i sizes result told (omega (arith, past, length-map classes.classes.items (λ (class : Class). class.size))) in
+            let old = nothing_past me.seats.items i (omega (arith, past, mine.all)) in
+            let new = nothing_past now.seats.items i (omega (arith, past, mine.all, all.as_many)) in
+            rw none (ap (λ s. (memo_in s).log) (new ∙ sym old) ∙ sym (append-nil (log_of me i)))
+      ];
+    }
+
+  module _ {place : ℕ} {looks : List ℕ} {now : ClaimSeat} (l : AskedTo classes me bytes place looks now)
+      (below : place < length now.seats.items) (class : Class) (class_at : class ≡ get_or classes.classes.items place class)
+      (seat : ClassSeat) (seat_at : seat ≡ get_or now.seats.items place seat) where
     class_there : get_elem? classes.classes.items place ≡ some class
-    class_there = at_index classes.classes.items place class (omega (arith, below, before.as_many, mine.all)) class_at
+    class_there = at_index classes.classes.items place class (omega (arith, below, l.asked.as_many, mine.all)) class_at
 
-    seat_there : get_elem? me.seats.items place ≡ some seat
-    seat_there = sym (rest place (omega arith)) ∙ at_index news place seat below seat_at
+    seat_there : get_elem? now.seats.items place ≡ some seat
+    seat_there = at_index now.seats.items place seat below seat_at
 
-    -- the seat of the class that is next
-    pub his_next : IsHisSeat me.number me.claims class seat
-    his_next = mine.each place class seat class_there seat_there
+    not_yet : lost_at first looks place ≡ []
+    not_yet = lost_past first place looks (omega (arith, l.many))
 
-    module _ (new : ClassSeat) (is : IsClassSeat class new) (calls : seat_calls new ≡ seat_calls seat + 1)
-        (number : seat_number new ≡ seat_number seat) where
-      now_his : IsHisSeat me.number (me.claims + 1) class new
-      now_his = record { is_seat = is; number_is = number ∙ his_next.number_is; calls_within = omega (arith, calls, his_next.calls_within) }
+    -- the seat of the class that is next was not asked yet
+    pub seat_ready : IsClassSeat class seat × (seat_calls seat ≤ me.claims)
+    seat_ready =
+        let old = there me.seats.items place (omega (arith, below, l.asked.as_many)) in
+        let same = (l.asked.each place old.0 seat old.1 seat_there class class_there).0 not_yet in
+        let his = mine.each place class old.0 class_there old.1 in
+        rw same (his.is_seat, his.calls_within)
 
-      asks_next : (done : ℕ → List Outcome) → Asks (ring_seats class.ring) (seat_memo seat) (done place) (seat_memo new)
-          → ((i : ℕ) → i ≢ place → done i ≡ lost_at first looks i) → AsksHis (set news place new) done
-      asks_next done told others = asks_more before place class seat new done class_there seat_there below now_his told others
+    module _ (new : ClassSeat) (after : ClaimSeat) (seats : after.seats.items ≡ set now.seats.items place new) where
+      asks_more : (call : Outcome) (done : ℕ → List Outcome) → AsksClass class seat (call ∷ []) new → done place ≡ call ∷ []
+          → ((i : ℕ) → i ≢ place → done i ≡ lost_at first looks i) → AllOf (AskedSo classes done) me.seats.items after.seats.items
+      asks_more call done did here others = rw seats (all_more place seat new seat_there l.asked
+          (λ old was its at.
+          let same : seat ≡ old = (was class class_there).0 not_yet in
+          let one : class ≡ its = some-injective class its (sym class_there ∙ at) in
+          ((λ none. cc), rw (← one, ← same, here) did))
+          (λ j old now away was its at. rw (others j away) (was its at)))
+
+      more_steps : (call : Outcome) → AsksClass class seat (call ∷ []) new → steps_of after ≤ steps_of me + 3 * length looks + 3
+      more_steps call did =
+          let moves : ClassSeat → ℕ = λ s. length (seat_memo s).moves in
+          let sums = sum_by-set moves now.seats.items place new seat below in
+          omega (arith, sums, ap moves seat_at, ap (sum_by moves) seats, did.few_steps, l.steps)
 
       -- it had none free
-      pub in_vain : (g : ℕ) → Asks (ring_seats class.ring) (seat_memo seat) (Lost g ∷ []) (seat_memo new)
-          → AsksHis (set news place new) (lost_at first (looks ++ g ∷ []))
-      in_vain g told = asks_next (lost_at first (looks ++ g ∷ []))
-          (subst (λ (what : List Outcome). Asks (ring_seats class.ring) (seat_memo seat) what (seat_memo new))
-          (sym (subst (λ (k : ℕ). lost_at first (looks ++ g ∷ []) k ≡ Lost g ∷ []) many (lost_here first g looks))) told)
-          (λ i apart. lost_else first g i looks (λ e. apart (e ∙ many)))
+      pub in_vain : (claimed : ℕ) → AsksClass class seat (Lost claimed ∷ []) new → claimed ≤ 2 ^ 45
+          → after.number ≡ now.number → after.claims ≡ now.claims → AskedTo classes me bytes (place + 1) (looks ++ claimed ∷ []) after
+      in_vain claimed did small number claims = record {
+        many = omega (arith, l.many, length_push looks claimed);
+        small = All-push (λ (claimed : ℕ). claimed ≤ 2 ^ 45) looks claimed l.small small;
+        number_is = number ∙ l.number_is;
+        claims_are = claims ∙ l.claims_are;
+        asked = asks_more (Lost claimed) (lost_at first (looks ++ claimed ∷ [])) did (lost_here first claimed place looks l.many)
+            (λ i apart. lost_else first claimed place i looks l.many apart);
+        steps = omega (arith, more_steps (Lost claimed) did, length_push looks claimed);
+      }
 
       -- it gave a buffer
-      pub got_there : (buf : Buffer) → buf.class ≡ place → Asks (ring_seats class.ring) (seat_memo seat) (Got buf.claim tt ∷ []) (seat_memo new)
-          → AsksHis (set news place new) (λ i. if i == buf.class then Got buf.claim tt ∷ [] else lost_at first looks i)
-      got_there buf is_place told = asks_next (λ i. if i == buf.class then Got buf.claim tt ∷ [] else lost_at first looks i)
-          (rw (eq-eqb place buf.class (sym is_place)) told)
-          (λ i apart. rw (ne_eqb i buf.class (λ e. apart (e ∙ is_place))) refl)
-
-    module _ (buf : Buffer) (its : IsBufferOf (ring_terms class.ring) buf) where
-      -- it is of the class that was asked
-      pub class_is : buf.class ≡ place
-      class_is = its.class_is ∙ ap (λ (t : ClassTerms). t.class) (mine.are.terms place class class_there)
-
-      pub size_there : get_elem? (class_sizes classes) buf.class ≡ some buf.size
-      size_there = rw class_is (at_map (λ (c : Class). c.size) classes.classes.items place class class_there
-          ∙ ap (λ (k : ℕ). some k) (sym (its.size_is ∙ ap (λ (t : ClassTerms). t.size) (mine.are.terms place class class_there))))
-
--- past the classes nothing was asked
-pub got_past : (first i : ℕ) (looks : List ℕ) (buf : Buffer) (classes : ℕ) → first + length looks ≡ buf.class → buf.class < classes → classes ≤ i
-    → (if i == buf.class then Got buf.claim tt ∷ [] else lost_at first looks i) ≡ []
-got_past first i looks buf classes many below past =
-    rw (ne_eqb i buf.class (λ e. omega (arith, e, below, past))) (lost_past first i looks (omega (arith, many, below, past)))
+      pub got : (buf : Buffer) → AsksClass class seat (Got buf.claim tt ∷ []) new → IsBufferOf (ring_terms class.ring) buf → buf.claim ≤ 2 ^ 45
+          → after.number ≡ now.number → after.claims ≡ now.claims → Leaves (answers.Got buf looks) after
+      got buf did its small number claims =
+          let terms = mine.are.terms place class class_there in
+          let size = at_map (λ (class : Class). class.size) classes.classes.items place class class_there in
+          let told : ClaimTells first sizes (answers.Got buf looks) = grind (arith, terms, size, its, l.many) in
+          let is : buf.class ≡ place = sym told.0 ∙ l.many in
+          let low = length-map classes.classes.items (λ (class : Class). class.size) in
+          leaves (answers.Got buf looks) after (number ∙ l.number_is) (claims ∙ l.claims_are)
+          (asks_more (Got buf.claim tt) (asked first (answers.Got buf looks)) did
+          (rw (eq-eqb place buf.class (sym is)) refl) (λ i apart. rw (ne_eqb i buf.class (λ e. apart (e ∙ is))) refl))
+          told (small, l.small)
+          (omega (arith, more_steps (Got buf.claim tt) did, l.many, below, l.asked.as_many, mine.all, low))

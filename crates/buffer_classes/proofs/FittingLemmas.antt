@@ -1,42 +1,39 @@
 -- Which class is the first that fits.
-use Rattle.buffer_classes.proofs.Names.{◌≡◌, ℕ, zero, suc, ◌<◌, ◌≤◌, List, [], ◌∷◌, length, map, refl, sym, ap, subst, ◌+◌, arith, lt-ltb, le-ltb, first_fitting, Class}
+use Rattle.buffer_classes.proofs.Names.{◌≡◌, ℕ, zero, suc, ◌<◌, ◌≤◌, List, [], ◌∷◌, length, get_or, map, drop, sym, subst, ◌+◌, refl, arith, add-one, lt-ltb, le-ltb, at_index, drop_at, RiseFrom, first_fitting, Class}
+use Rattle.std.proofs.Math.Seq.{drop-length}
 use mathlib.Core.Option.{some, some-injective, some-ne-none}
 use lib.ListN.{get_elem?}
 
--- the classes before place i are too small for so many bytes
-abbrev pub AreTooSmall : ℕ → ℕ → List Class → Type 0
-AreTooSmall bytes i xs = (j : ℕ) (class : Class) → j < i → get_elem? xs j ≡ some class → class.size < bytes
+-- each later size is above the ones before it
+above_all : (above i size : ℕ) (sizes : List ℕ) → RiseFrom above sizes → get_elem? sizes i ≡ some size → above < size
+above_all above i size [] rise e = absurd (some-ne-none size (sym e))
+above_all above zero size (x ∷ sizes) rise e = subst (λ (k : ℕ). above < k) (some-injective x size e) rise.0
+above_all above (suc i) size (x ∷ sizes) rise e = omega (arith, rise.0, above_all x i size sizes rise.1 e)
 
-abbrev size_of : Class → ℕ
-size_of class = class.size
-
-too_small_on : (bytes i : ℕ) (x : Class) (xs : List Class) → AreTooSmall bytes (suc i) (x ∷ xs) → AreTooSmall bytes i xs
-too_small_on bytes i x xs small j class below e = small (suc j) class (omega (arith, below)) e
-
--- the first class that fits is there
-pub fits_at : (bytes i : ℕ) (xs : List Class) (class : Class) → AreTooSmall bytes i xs → get_elem? xs i ≡ some class
-    → bytes ≤ class.size → i ≡ first_fitting bytes (map size_of xs)
-fits_at bytes i [] class small e fits = absurd (some-ne-none class (sym e))
-fits_at bytes zero (x ∷ xs) class small e fits =
-    let same : x ≡ class = some-injective x class e in
-    rw (le-ltb x.size bytes (subst (λ (c : Class). bytes ≤ c.size) (sym same) fits)) refl
-fits_at bytes (suc i) (x ∷ xs) class small e fits =
-    rw (lt-ltb x.size bytes (small 0 x (omega arith) refl))
-    (ap suc (fits_at bytes i xs class (too_small_on bytes i x xs small) e fits))
-
--- none fits
-pub fits_nowhere : (bytes : ℕ) (xs : List Class) → AreTooSmall bytes (length xs) xs → length xs ≡ first_fitting bytes (map size_of xs)
-fits_nowhere bytes [] small = refl
-fits_nowhere bytes (x ∷ xs) small =
-    rw (lt-ltb x.size bytes (small 0 x (omega arith) refl))
-    (ap suc (fits_nowhere bytes xs (too_small_on bytes (length xs) x xs small)))
-
--- one class more that is too small
-pub too_small_more : (bytes i : ℕ) (xs : List Class) (class : Class) → AreTooSmall bytes i xs → get_elem? xs i ≡ some class
-    → class.size < bytes → AreTooSmall bytes (i + 1) xs
-too_small_more bytes i xs class small at less j other below e = grind (arith, small j other, at, less, e)
+-- a class from the first fitting one on fits
+pub fits_from : (bytes above i size : ℕ) (sizes : List ℕ) → RiseFrom above sizes → first_fitting bytes sizes ≤ i
+    → get_elem? sizes i ≡ some size → bytes ≤ size
+fits_from bytes above i size [] rise from e = absurd (some-ne-none size (sym e))
+fits_from bytes above zero size (x ∷ sizes) rise from e = grind arith
+fits_from bytes above (suc i) size (x ∷ sizes) rise from e =
+    grind (arith, fits_from bytes x i size sizes rise.1, above_all x i size sizes rise.1 e)
 
 -- it is one of the classes, or behind the last
 pub first_within : (bytes : ℕ) (sizes : List ℕ) → first_fitting bytes sizes ≤ length sizes
 first_within bytes [] = omega arith
 first_within bytes (size ∷ sizes) = grind (arith, first_within bytes sizes)
+
+-- the first that fits among the classes from place i on
+abbrev pub first_from : ℕ → ℕ → List Class → ℕ
+first_from bytes i xs = first_fitting bytes (map (λ (class : Class). class.size) (drop i xs))
+
+module _ (bytes i : ℕ) (xs : List Class) where
+  pub fits_nowhere : i ≡ length xs → first_from bytes i xs ≡ 0
+  fits_nowhere end = rw (end, drop-length xs) refl
+
+  module _ (class : Class) (low : i < length xs) (at : class ≡ get_or xs i class) where
+    pub fits_here : bytes ≤ class.size → first_from bytes i xs ≡ 0
+    fits_here fits = rw (drop_at xs i class (at_index xs i class low at), le-ltb class.size bytes fits) refl
+
+    pub fits_later : class.size < bytes → first_from bytes i xs ≡ suc (first_from bytes (i + 1) xs)
+    fits_later small = rw (drop_at xs i class (at_index xs i class low at), lt-ltb class.size bytes small, add-one i) refl

@@ -1,7 +1,8 @@
 -- What the givers of all classes keep where one of them changes.
-use Rattle.buffer_classes.proofs.Names.{◌≡◌, ℕ, ◌<◌, length, get_or, set, sym, ap, ◌∙◌, arith, length-map, length-set, at_index, at_map, at_set, ring_terms, at_length, Buffer, IsBufferOf, class_sizes, AreGiversOf, IsBufferIn, givers_of, IsGiverOf, Class, Giver, Givers, Classes}
-use mathlib.Core.Option.{some, some-injective}
+use Rattle.buffer_classes.proofs.Names.{◌≡◌, ℕ, ◌<◌, List, [], ◌∷◌, ◌++◌, length, get_or, set, ap, ◌∙◌, arith, length-map, length-set, at_index, at_map, at_set, ring_terms, at_length, Buffer, IsBufferOf, class_sizes, AreBuffersIn, AreGiversOf, IsBufferIn, givers_of, IsGiverOf, Class, Giver, Givers, Classes}
+use mathlib.Core.Option.{some}
 use lib.ListN.{get_elem?}
+use Rattle.buffer_classes.proofs.GiveLemmas.{admitted_last}
 
 module _ {classes : Classes} {givers : Givers} (are : AreGiversOf classes givers) (i : ℕ) (low : i < length (givers_of givers))
     (class : Class) (its : class ≡ get_or classes.classes.items i class) where
@@ -29,16 +30,13 @@ module _ {classes : Classes} {givers : Givers} (are : AreGiversOf classes givers
   buffer_there b here is =
       let terms = are.are.terms i class class_there in
       let size = at_map (λ (class : Class). class.size) classes.classes.items i class class_there in
-      let same = some-injective class.size b.size (sym size ∙ rw (← here) at is) in
-      rw terms record { class_is = sym here; size_is = sym same }
+      grind (arith, terms, size, here, is)
 
--- a buffer's class has a giver
-pub class_of : {classes : Classes} {givers : Givers} → AreGiversOf classes givers → (i : ℕ) (b : Buffer) → i ≡ b.class
-    → IsBufferIn (class_sizes classes) b → i < length (givers_of givers)
-class_of {classes} are i b here is =
-    omega (
-      arith,
-      are.all,
-      at_length (class_sizes classes) b.class b.size is,
-      length-map classes.classes.items (λ (class : Class). class.size),
-    )
+-- the last of some buffers is of a class that has a giver
+pub last_in : {classes : Classes} {givers : Givers} {back : List Buffer} → AreGiversOf classes givers → AreBuffersIn (class_sizes classes) back
+    → (left : List Buffer) (b : Buffer) → back ≡ left ++ b ∷ [] → (i : ℕ) → i ≡ b.class
+    → IsBufferIn (class_sizes classes) b × (i < length (givers_of givers))
+last_in {classes} are all left b is i here =
+    let last = admitted_last (IsBufferIn (class_sizes classes)) left b is all in
+    let low = at_length (class_sizes classes) b.class b.size last in
+    (last, omega (arith, are.all, low, length-map classes.classes.items (λ (class : Class). class.size)))

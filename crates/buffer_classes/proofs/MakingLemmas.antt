@@ -1,24 +1,9 @@
 -- Classes that are made one after another.
-use Rattle.buffer_classes.proofs.Names.{◌≡◌, ℕ, zero, suc, ◌<◌, ◌≤◌, ◌⊎◌, List, [], ◌∷◌, ◌++◌, length, map, take, refl, sym, ◌∙◌, ap, ap₂, arith, length-map, length_push, map-append, ClassSpec, IsNewSeat, made_memo, seat_memo, new_memo, IsBufferOf, AllOf, AreClasses, RiseFrom, class_sizes, AreGiversOf, givers_of, ClassMemo, AreNewClasses, GetsOne, GetsSeat, IsNewClaimant, IsNewClass, spec_sizes, Class, ClassSeat, IsHisSeat, memo_in, Classes, Giver, Givers, ClaimSeat}
+use Rattle.buffer_classes.proofs.Names.{◌≡◌, ℕ, zero, suc, ◌+◌, ◌<◌, ◌⊎◌, List, [], ◌∷◌, ◌++◌, length, take, refl, sym, ◌∙◌, ap, arith, length-map, length_push, map_push, at_end, at_length, there, ClassSpec, IsNewSeat, seat_memo, new_memo, IsBufferOf, AllOf, AreClasses, RiseFrom, class_sizes, AreGiversOf, givers_of, AreNewClasses, GetsOne, GetsSeat, IsNewClaimant, IsNewClass, spec_sizes, Class, ClassSeat, IsHisSeat, memo_in, Classes, Giver, Givers, ClaimSeat}
 use mathlib.Core.Option as maybe
-use mathlib.Core.Option.{some, none, some-injective, some-ne-none}
+use mathlib.Core.Option.{some, none}
 use lib.ListN.{get_elem?}
-use Rattle.permit_ring.proofs.{at_end, at_length, there, new_ordered}
-
--- what a keeper knows once so many seats are made
-pub record IsMade (n seats : ℕ) (k : ClassMemo) : Type 0 where
-  pub made_is : k.made ≡ seats
-  pub back_is : length k.back ≡ seats
-  pub fronts_from : (j front : ℕ) → get_elem? k.fronts j ≡ some front → n ≤ front
-  pub offered_is : k.offered ≡ n
-
-at_first : (n j front : ℕ) → get_elem? (n ∷ []) j ≡ some front → n ≤ front
-at_first n zero front e = omega (arith, some-injective n front e)
-at_first n (suc j) front e = absurd (some-ne-none front (sym e))
-
-pub made_so : (n seats : ℕ) → IsMade n seats (made_memo n seats)
-made_so n zero = record { made_is = refl; back_is = refl; fronts_from = at_first n; offered_is = refl }
-made_so n (suc seats) = grind (arith, made_so n seats, length_push (made_memo {N = Unit {0}} n seats).back)
+use Rattle.permit_ring.proofs.{new_ordered}
 
 -- sizes that rise do so up to any place
 pub rise_taken : (above n : ℕ) (specs : List ClassSpec) → RiseFrom above (spec_sizes specs) → RiseFrom above (spec_sizes (take n specs))
@@ -27,70 +12,60 @@ rise_taken above (suc n) [] rise = tt
 rise_taken above (suc n) (spec ∷ specs) rise = (rise.0, rise_taken spec.size n specs rise.1)
 
 -- two lists with one more each have the same place's elements from before, or their last
-pub both_end : {A B : Type 0} (xs : List A) (ys : List B) (x a : A) (y b : B) (i : ℕ) → length xs ≡ length ys
+both_end : {A B : Type 0} (xs : List A) (ys : List B) (x a : A) (y b : B) (i : ℕ) → length xs ≡ length ys
     → get_elem? (xs ++ x ∷ []) i ≡ some a → get_elem? (ys ++ y ∷ []) i ≡ some b
     → ((get_elem? xs i ≡ some a) × (get_elem? ys i ≡ some b)) ⊎ ((i ≡ length xs) × (x ≡ a) × (y ≡ b))
 both_end xs ys x a y b i many at bt =
     grind (arith, at_end xs x a i at, at_end ys y b i bt, at_length xs i a, at_length ys i b, many)
 
 -- who made no call at any class has no log there
-pub no_log : (i : ℕ) (o : maybe.Option ClassSeat) → ((s : ClassSeat) → o ≡ some s → seat_memo s ≡ new_memo i) → (memo_in o).log ≡ []
+no_log : (i : ℕ) (o : maybe.Option ClassSeat) → ((s : ClassSeat) → o ≡ some s → seat_memo s ≡ new_memo i) → (memo_in o).log ≡ []
 no_log i none new = refl
 no_log i (some s) new = ap (λ m. m.log) (new s refl)
-
--- a new seat is its claimant's
-his_new : (i : ℕ) (class : Class) (s : ClassSeat) → IsNewSeat IsBufferOf class.ring i s → IsHisSeat i 0 class s
-his_new i class s new = grind (arith, new, new_ordered {N = Unit {0}} i)
 
 -- a claimant that got a seat, and which
 pub got_of : (seats : List ClassSeat) {olds news : List ClaimSeat} → AllOf (GetsSeat seats) olds news → length seats ≡ length olds
     → (i : ℕ) (now : ClaimSeat) → get_elem? news i ≡ some now
     → (old : ClaimSeat) × (s : ClassSeat) × (get_elem? olds i ≡ some old) × (get_elem? seats i ≡ some s) × GetsOne s old now
 got_of seats {olds} {news} gets many i now at =
-    let old = there olds i (omega (arith, gets.as_many, at_length news i now at)) in
-    let s = there seats i (omega (arith, many, gets.as_many, at_length news i now at)) in
+    let low = at_length news i now at in
+    let old = there olds i (omega (arith, gets.as_many, low)) in
+    let s = there seats i (omega (arith, many, gets.as_many, low)) in
     (old.0, s.0, old.1, s.1, gets.each i old.0 now old.1 at s.0 s.1)
 
 -- there are as many classes as were made
 pub as_many : {done : List ClassSpec} {limit : ℕ} {classes : Classes} {givers : Givers} {seats : List ClaimSeat}
     → AreNewClasses done limit classes givers seats → length classes.classes.items ≡ length done
-as_many {done} {classes = classes} was = omega (
-  arith,
-  ap length was.sizes_are,
-  length-map classes.classes.items (λ (class : Class). class.size),
-  length-map done (λ (spec : ClassSpec). spec.size),
-)
+as_many {done} {classes = classes} was =
+    let sizes = length-map classes.classes.items (λ (class : Class). class.size) in
+    omega (arith, ap length was.sizes_are, sizes, length-map done (λ (spec : ClassSpec). spec.size))
 
 module _ {done : List ClassSpec} {limit : ℕ} {classes : Classes} {givers : Givers} {olds : List ClaimSeat}
     (was : AreNewClasses done limit classes givers olds)
-    {spec : ClassSpec} {class : Class} {giver : Giver} {seats : List ClassSeat} (new : IsNewClass (length done) spec limit class giver seats)
-    (few : length done < 4) (rise : RiseFrom 0 (spec_sizes (done ++ spec ∷ [])))
+    {spec : ClassSpec} {class : Class} {giver : Giver} {seats : List ClassSeat} {place : ℕ} (new : IsNewClass place spec limit class giver seats)
+    (last : place ≡ length done) (few : length done < 4) (rise : RiseFrom 0 (spec_sizes (done ++ spec ∷ [])))
     (classes' : Classes) (givers' : Givers) (news : List ClaimSeat)
     (classes_are : classes'.classes.items ≡ classes.classes.items ++ class ∷ []) (givers_are : givers_of givers' ≡ givers_of givers ++ giver ∷ [])
     (gets : AllOf (GetsSeat seats) olds news) where
-  many : length classes.classes.items ≡ length done
-  many = as_many was
+  one_more : length classes'.classes.items ≡ length classes.classes.items + 1
+  one_more = ap length classes_are ∙ length_push classes.classes.items class
 
   sizes_more : class_sizes classes' ≡ spec_sizes (done ++ spec ∷ [])
-  sizes_more = ap (λ (l : List Class). map (λ (class : Class). class.size) l) classes_are
-      ∙ map-append (λ (class : Class). class.size) classes.classes.items (class ∷ [])
-      ∙ ap₂ (λ (l : List ℕ) (size : ℕ). l ++ size ∷ []) was.sizes_are new.size_is
-      ∙ sym (map-append (λ (spec : ClassSpec). spec.size) done (spec ∷ []))
+  sizes_more = simp (classes_are, map_push, was.sizes_are, new.size_is)
 
   classes_more : AreClasses classes'
   classes_more = record {
-    few = omega (arith, ap length classes_are, length_push classes.classes.items class, many, few);
+    few = omega (arith, one_more, as_many was, few);
     rise = rw sizes_more rise;
     terms = λ i other is.
         let c = at_end classes.classes.items class other i (rw (← classes_are) is) in
-        grind (arith, c, many, new.terms_are, was.givers_are.are.terms i other);
+        grind (arith, c, as_many was, last, new.terms_are, was.givers_are.are.terms i other);
   }
 
   givers_more : AreGiversOf classes' givers'
   givers_more = record {
     are = classes_more;
-    all = let more = length_push classes.classes.items class in let behind = length_push (givers_of givers) giver in
-        omega (arith, ap length classes_are, more, ap length givers_are, behind, was.givers_are.all);
+    all = omega (arith, one_more, ap length givers_are, length_push (givers_of givers) giver, was.givers_are.all);
     each = λ i other g at gt.
         let both = both_end classes.classes.items (givers_of givers) class other giver g i (sym was.givers_are.all)
         (rw (← classes_are) at) (rw (← givers_are) gt) in
@@ -98,29 +73,23 @@ module _ {done : List ClassSpec} {limit : ℕ} {classes : Classes} {givers : Giv
   }
 
   claimant_more : (i : ℕ) (old now : ClaimSeat) (s : ClassSeat) → IsNewClaimant classes i old → IsNewSeat IsBufferOf class.ring i s
-      → now.seats.items ≡ old.seats.items ++ s ∷ [] → now.number ≡ old.number → now.claims ≡ old.claims → IsNewClaimant classes' i now
-  claimant_more i old now s is seat items number claims =
+      → GetsOne s old now → IsNewClaimant classes' i now
+  claimant_more i old now s is seat got =
+      let order = new_ordered {N = Unit {0}} i in
+      let his : IsHisSeat i 0 class s = grind (arith, seat, order) in
       let knows : (k : ℕ) (t : ClassSeat) → get_elem? now.seats.items k ≡ some t → seat_memo t ≡ new_memo i = λ k t there.
-      let c = at_end old.seats.items s t k (rw (← items) there) in grind (arith, c, is.knows k t, seat.knows) in
-      let his = his_new i class s seat in
+      let c = at_end old.seats.items s t k (rw (← got.0) there) in grind (arith, c, is.knows k t, seat.knows) in
       record {
         is_claimant = record {
           are = classes_more;
-          all = omega (
-            arith,
-            ap length classes_are,
-            length_push classes.classes.items class,
-            ap length items,
-            length_push old.seats.items s,
-            is.is_claimant.all,
-          );
+          all = omega (arith, one_more, ap length got.0, length_push old.seats.items s, is.is_claimant.all);
           each = λ k other t at st.
               let both = both_end classes.classes.items old.seats.items class other s t k (sym is.is_claimant.all)
-              (rw (← classes_are) at) (rw (← items) st) in
-              grind (arith, both, is.is_claimant.each k other t, his, number, claims, is.number_is, is.no_claims);
+              (rw (← classes_are) at) (rw (← got.0) st) in
+              grind (arith, both, is.is_claimant.each k other t, his, got, is.number_is, is.no_claims);
         };
-        number_is = number ∙ is.number_is;
-        no_claims = claims ∙ is.no_claims;
+        number_is = got.2 ∙ is.number_is;
+        no_claims = got.3 ∙ is.no_claims;
         knows = knows;
         no_logs = λ k. no_log i (get_elem? now.seats.items k) (knows k);
       }
@@ -131,11 +100,11 @@ module _ {done : List ClassSpec} {limit : ℕ} {classes : Classes} {givers : Giv
     sizes_are = sizes_more;
     givers_are = givers_more;
     each_giver = λ i other g at gt.
-        let both = both_end done (givers_of givers) spec other giver g i (omega (arith, many, was.givers_are.all)) at
+        let both = both_end done (givers_of givers) spec other giver g i (omega (arith, as_many was, was.givers_are.all)) at
         (rw (← givers_are) gt) in
         grind (arith, both, was.each_giver i other g, new.is_new);
     all_made = gets.as_many ∙ was.all_made;
     each = λ i now at.
         let got = got_of seats gets (new.seats_are.all_made ∙ sym was.all_made) i now at in
-        claimant_more i got.0 now got.1 (was.each i got.0 got.2) (new.seats_are.each i got.1 got.3) got.4.0 got.4.2 got.4.3;
+        claimant_more i got.0 now got.1 (was.each i got.0 got.2) (new.seats_are.each i got.1 got.3) got.4;
   }

@@ -1,12 +1,14 @@
 -- What a claim does at each class: it asks the fitting ones from the smallest on, until one has a buffer free.
-use Rattle.std.specs.Prelude.{◌≡◌, ℕ, suc, ◌+◌, ◌≤◌, ◌==◌, if◌then◌else◌, List, [], ◌∷◌, length, Result, Ok, Err, ⊤, ◌^◌, All}
+use Rattle.std.specs.Prelude.{◌≡◌, ℕ, suc, ◌+◌, ◌*◌, ◌≤◌, ◌==◌, if◌then◌else◌, List, [], ◌∷◌, length, Result, Ok, Err, ⊤, ◌^◌, All}
 use mathlib.Core.Option.{some}
 use lib.ListN.{get_elem?}
 use Rattle.ids_types.specs.declared.names.Ticket.{Ticket}
 use Rattle.permit_ring.specs.Calls as ring
+use Rattle.permit_ring.specs.Seats.{ring_seats, seat_calls, seat_memo, seat_number}
 use Rattle.permit_ring.specs.Steps.{finishes}
 use Rattle.buffer_classes.specs.Buffers.{Buffer, found_full}
-use Rattle.buffer_classes.specs.Names.{Lost, Got, Outcome, SeatMemo}
+use Rattle.buffer_classes.specs.Names.{Class, ClassSeat, Lost, Got, Outcome, SeatMemo}
+use Rattle.buffer_classes.specs.Seats.{IsClassSeat}
 use Rattle.buffer_classes.specs.declared.seat.Claim.{Claim}
 use Rattle.buffer_classes.specs.declared.seat.Claim.TheVariants as claims
 
@@ -31,6 +33,15 @@ Asks limit old (Lost g ∷ []) new = ring.ClaimTells limit old (Err (found_full 
 Asks limit old (Got t x ∷ []) new = (mid : SeatMemo) × ring.ClaimTells limit old (Ok (ticket t)) mid × (new ≡ finishes x mid)
 Asks limit old (call ∷ next ∷ calls) new = ⊥
 
+-- the seat of a class made these calls: one, of at most three steps, or none
+pub record AsksClass (class : Class) (old : ClassSeat) (calls : List Outcome) (new : ClassSeat) : Type 0 where
+  pub is_seat : IsClassSeat class new
+  pub number_is : seat_number new ≡ seat_number old
+  pub told : Asks (ring_seats class.ring) (seat_memo old) calls (seat_memo new)
+  pub once : length calls ≤ 1
+  pub calls_are : seat_calls new ≡ seat_calls old + length calls
+  pub few_steps : length (seat_memo new).moves ≤ length (seat_memo old).moves + 3 * length calls
+
 -- what a call at one class gave, as the seat has it
 abbrev pub outcome_of : Result Buffer ℕ → List Outcome
 outcome_of (Ok buf) = Got buf.claim tt ∷ []
@@ -40,11 +51,6 @@ outcome_of (Err claimed) = Lost claimed ∷ []
 abbrev pub ClaimTells : ℕ → List ℕ → Claim → Type 0
 ClaimTells first sizes (claims.Got buf skipped) = (first + length skipped ≡ buf.class) × (get_elem? sizes buf.class ≡ some buf.size)
 ClaimTells first sizes (claims.NoneFree looks) = first + length looks ≡ length sizes
-
--- how many buffers had been claimed where a call at one class got this answer
-abbrev pub claimed_at : Result Buffer ℕ → ℕ
-claimed_at (Ok buf) = buf.claim
-claimed_at (Err claimed) = claimed
 
 -- no claim has a number above 2^45
 abbrev pub AreSmall : Claim → Type 0

@@ -1,13 +1,13 @@
 -- Those who give the buffers of all classes back.
-use Rattle.std.specs.Prelude.{◌≡◌, ℕ, ◌+◌, ◌<◌, ◌==◌, List, ◌++◌, count_by, length}
+use Rattle.std.specs.Prelude.{◌≡◌, ℕ, ◌+◌, ◌*◌, ◌<◌, ◌≤◌, ◌==◌, List, ◌++◌, count_by, length}
 use mathlib.Core.Option.{Option, some, none}
 use lib.ListN.{get_elem?}
-use Rattle.permit_ring.specs.{AreAllBack, IsSettled, AllAdmitted}
+use Rattle.permit_ring.specs.{ReapsToEnd, OffersAll, AreAllBack, IsSettled, AllAdmitted}
 use Rattle.buffer_classes.specs.declared.giver.Giver.{Giver}
 use Rattle.buffer_classes.specs.declared.givers.Givers.{Givers}
 use Rattle.buffer_classes.specs.Buffers.{Buffer}
 use Rattle.buffer_classes.specs.Classes.{AreClasses}
-use Rattle.buffer_classes.specs.Giving.{Accounts, ClassMemo, EndsUnready, IsFilledUp, IsGiverOf, OffersOnce, OnlyReaps, Takes, filled_count, giver_memo, late_count}
+use Rattle.buffer_classes.specs.Giving.{Accounts, ClassMemo, IsFilledUp, IsGiverOf, Takes, filled_count, giver_memo, late_count}
 use Rattle.buffer_classes.specs.Names.{Class, Classes, ClassSeat}
 use Rattle.buffer_classes.specs.declared.seat.ClaimSeat.{ClaimSeat}
 
@@ -54,17 +54,20 @@ pub record LateGoFirst (offered : ℕ) (old new : Giver) : Type 0 where
 
 -- what a class did with the buffers that came back: it was reaped to its end, and what was filled then is offered in one step
 pub record GaveBack (bufs : List Buffer) (i : ℕ) (old new : Giver) : Type 0 where
+  pub notes : List (Unit {0})
   pub reaped : ClassMemo
-  pub reaps : OnlyReaps (giver_memo old) reaped
-  pub unready : EndsUnready (giver_memo new)
+  pub run : ReapsToEnd notes (giver_memo old) reaped
+  pub few : length notes ≤ old.number
+  pub offered : ℕ
+  pub told : OffersAll old.number (giver_memo old).made offered reaped (giver_memo new)
+  -- it reads a mark for each buffer that is reaped and one more, looks, and tries at most once more than there are positions and seats
+  pub steps : length (giver_memo new).moves ≤ length (giver_memo old).moves + 2 * old.number + (giver_memo old).made + 3
   pub settled : AreAllBack (giver_memo old) → IsSettled (giver_memo new)
   pub account : Accounts (class_count i bufs) old new
-  pub filled_up : IsFilledUp new
-  pub offered : ℕ
   pub late : LateGoFirst offered old new
-  pub told : OffersOnce new.number offered reaped (giver_memo new)
-  pub back_is : (giver_memo new).back ≡ (giver_memo old).back
+  pub filled_up : IsFilledUp new
   pub none_filled : filled_count new ≡ 0
+  pub back_is : (giver_memo new).back ≡ (giver_memo old).back
   pub number_is : new.number ≡ old.number
 
 -- the claimant's seat of class i came back

@@ -1,10 +1,9 @@
 -- How the buffers of one class are given back.
-use Rattle.std.specs.Prelude.{◌≡◌, ◌≢◌, ℕ, ◌+◌, ◌<◌, ◌≤◌, ◌⊎◌, List, [], ◌∷◌, ◌++◌, length, vec_capacity}
+use Rattle.std.specs.Prelude.{◌≡◌, ℕ, ◌+◌, ◌<◌, ◌≤◌, ◌⊎◌, List, ◌++◌, length, vec_capacity}
 use mathlib.Core.Option.{some}
 use lib.ListN.{get_elem?}
-use Rattle.permit_ring.specs.declared.memo.Move.{Move}
 use Rattle.permit_ring.specs.declared.ring.Ring.{Ring}
-use Rattle.permit_ring.specs.{OfferTells, AreAllBack, IsSettled, AllAdmitted, IsKeeperOf, keeper_memo, seat_memo, vacant_of, filled_of, ring_positions, ring_seats, ring_terms, welcomes}
+use Rattle.permit_ring.specs.{ReapsToEnd, OffersAll, AreAllBack, IsSettled, AllAdmitted, IsKeeperOf, keeper_memo, seat_memo, vacant_of, filled_of, ring_positions, ring_seats, ring_terms, welcomes}
 use Rattle.buffer_classes.specs.declared.giver.Giver.{Giver}
 use Rattle.buffer_classes.specs.Buffers.{Buffer, IsBufferOf}
 use Rattle.buffer_classes.specs.Names.{ClassSeat, ClassTerms, KeeperMemo}
@@ -45,28 +44,15 @@ pub record IsGiverOf (ring : Ring _ Buffer (Unit {0}) ClassTerms (Unit {0})) (g 
   pub offered_from : g.number ≤ (giver_memo g).offered
   pub fronts_from : (j front : ℕ) → get_elem? (giver_memo g).fronts j ≡ some front → g.number ≤ front
 
--- all that was done between them was to look at marks and to reap
-pub record OnlyReaps (old new : ClassMemo) : Type 0 where
-  pub notes : List (Unit {0})
-  pub marks : List ℕ
-  pub moves : List Move
-  pub is : new ≡ record old { notes = old.notes ++ notes; marks = old.marks ++ marks; moves = old.moves ++ moves }
-
--- the mark that was read last is not that of the next ticket
-pub record EndsUnready (k : ClassMemo) : Type 0 where
-  pub earlier : List ℕ
-  pub mark : ℕ
-  pub read : k.marks ≡ earlier ++ mark ∷ []
-  pub not_next : mark ≢ length k.notes + 1
-
 -- a buffer is late only where no position is vacant
 abbrev pub IsFilledUp : Giver → Type 0
 IsFilledUp g = 0 < late_count g → vacant_count g ≡ 0
 
--- all that was finished is reaped, up to a ticket that was not
-pub record ReapsToEnd (old new : Giver) : Type 0 where
-  pub reaps : OnlyReaps (giver_memo old) (giver_memo new)
-  pub unready : EndsUnready (giver_memo new)
+-- all that was finished is reaped, up to a ticket that was not: no more of them than the class has buffers
+pub record ReapsAll (old new : Giver) : Type 0 where
+  pub notes : List (Unit {0})
+  pub run : ReapsToEnd notes (giver_memo old) (giver_memo new)
+  pub few : length notes ≤ old.number
   pub settled : AreAllBack (giver_memo old) → IsSettled (giver_memo new)
   pub filled_is : filled_count new ≡ filled_count old
   pub late_is : new.late ≡ old.late
@@ -82,16 +68,8 @@ pub record FillsLate (old new : Giver) : Type 0 where
   pub number_is : new.number ≡ old.number
 
 -- the class is reaped to its end, and then late buffers go first
-pub record Begins (old new : Giver) : Type 0 where
-  pub reaps : OnlyReaps (giver_memo old) (giver_memo new)
-  pub unready : EndsUnready (giver_memo new)
-  pub settled : AreAllBack (giver_memo old) → IsSettled (giver_memo new)
-  pub account : in_all new ≡ in_all old
-  -- those that stay late are the first
-  pub gone : List Buffer
-  pub late_is : old.late.items ≡ new.late.items ++ gone
-  pub filled_up : IsFilledUp new
-  pub number_is : new.number ≡ old.number
+abbrev pub Begins : Giver → Giver → Type 0
+Begins old new = (mid : Giver) × ReapsAll old mid × FillsLate mid new × IsFilledUp new
 
 -- so many more are offered, filled or late; or else the late list is full, and they are no more than that
 abbrev pub Accounts : ℕ → Giver → Giver → Type 0
@@ -107,16 +85,10 @@ pub record Puts (count : ℕ) (old new : Giver) : Type 0 where
   pub none_vacant : vacant_count old ≡ 0 → (vacant_count new ≡ 0) × (filled_count new ≡ filled_count old)
   pub number_is : new.number ≡ old.number
 
--- an offer of so many of n positions, or no step where there are none
-abbrev pub OffersOnce : ℕ → ℕ → ClassMemo → ClassMemo → Type 0
-OffersOnce n count old new = (count ≡ 0 → new ≡ old)
-    × (0 < count → (tries : ℕ) × (tries ≤ n + old.made + 1) × OfferTells old.made count old tries new)
-
 -- all that was filled is offered
 pub record Offers (old new : Giver) : Type 0 where
-  pub told : OffersOnce old.number (filled_count old) (giver_memo old) (giver_memo new)
+  pub told : OffersAll old.number (giver_memo old).made (filled_count old) (giver_memo old) (giver_memo new)
   pub none_filled : filled_count new ≡ 0
-  pub account : in_all new ≡ in_all old
   pub vacant_is : vacant_count new ≡ vacant_count old
   pub late_is : new.late ≡ old.late
   pub number_is : new.number ≡ old.number

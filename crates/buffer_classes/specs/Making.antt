@@ -3,7 +3,7 @@ use Rattle.std.specs.Prelude.{◌≡◌, ℕ, ◌<◌, ◌≤◌, List, [], ◌�
 use mathlib.Core.Option.{some}
 use lib.ListN.{get_elem?}
 use Rattle.ids_types.specs.declared.class_spec.ClassSpec.{ClassSpec}
-use Rattle.permit_ring.specs.{AllAdmitted, AreNewSeats, made_memo, ring_terms, seat_memo, new_memo}
+use Rattle.permit_ring.specs.{AllAdmitted, AreNewSeats, IsUntouched, ring_terms, seat_memo, new_memo}
 use Rattle.buffer_classes.specs.Buffers.{IsBufferOf}
 use Rattle.buffer_classes.specs.Classes.{RiseFrom, class_sizes, class_terms}
 use Rattle.buffer_classes.specs.Givers.{AreGiversOf, givers_of}
@@ -32,7 +32,7 @@ pub record AreSpecs (specs : List ClassSpec) : Type 0 where
 
 -- all buffers of a class are free, and no seat is back
 pub record IsNewGiver (number seats : ℕ) (g : Giver) : Type 0 where
-  pub knows : giver_memo g ≡ made_memo number seats
+  pub untouched : IsUntouched number seats (giver_memo g)
   pub number_is : g.number ≡ number
   pub none_late : late_count g ≡ 0
   pub none_filled : filled_count g ≡ 0
@@ -46,17 +46,11 @@ pub record IsNewClass (place : ℕ) (spec : ClassSpec) (limit : ℕ) (class : Cl
   pub is_new : IsNewGiver spec.number limit g
   pub seats_are : AreNewSeats IsBufferOf class.ring limit seats
 
--- claimant i, which has no seat yet, but room for so many
-pub record IsUnseated (room i : ℕ) (seat : ClaimSeat) : Type 0 where
-  pub no_seats : seat.seats.items ≡ []
-  pub room_is : vec_capacity seat.seats ≡ room
-  pub number_is : claimant_of seat ≡ i
-  pub no_claims : claims_of seat ≡ 0
-
--- so many of them
+-- so many claimants by number, which have no seat yet, but room for so many
 pub record AreUnseated (room made : ℕ) (seats : List ClaimSeat) : Type 0 where
   pub all_made : length seats ≡ made
-  pub each : (i : ℕ) (seat : ClaimSeat) → get_elem? seats i ≡ some seat → IsUnseated room i seat
+  pub each : (i : ℕ) (seat : ClaimSeat) → get_elem? seats i ≡ some seat
+      → (seat.seats.items ≡ []) × (vec_capacity seat.seats ≡ room) × (claimant_of seat ≡ i) × (claims_of seat ≡ 0)
 
 -- there is room for one seat more
 abbrev pub HasRoom : ClaimSeat → Type 0

@@ -1,5 +1,5 @@
 -- One who claims buffers: a seat at the ring of each class, idle between two claims.
-use Rattle.std.specs.Prelude.{◌≡◌, ℕ, ◌≤◌, List, length, None}
+use Rattle.std.specs.Prelude.{◌≡◌, ℕ, ◌≤◌, List, length, sum_by, None}
 use mathlib.Core.Option as maybe
 use mathlib.Core.Option.{some, none}
 use lib.ListN.{get_elem?}
@@ -15,6 +15,10 @@ claimant_of seat = seat.number
 
 abbrev pub claims_of : ClaimSeat → ℕ
 claims_of seat = seat.claims
+
+-- how many steps its seats have made
+abbrev pub steps_of : ClaimSeat → ℕ
+steps_of seat = sum_by (λ (s : ClassSeat). length (seat_memo s).moves) seat.seats.items
 
 -- what a seat knows, where there is one
 abbrev pub memo_in : maybe.Option ClassSeat → SeatMemo

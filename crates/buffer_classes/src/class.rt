@@ -1,5 +1,5 @@
 //! The classes of context data buffers, each a ring of its own.
-ghost use Rattle.std.specs.Prelude.{◌≡◌, length};
+ghost use Rattle.std.specs.Prelude.{◌≡◌};
 ghost use Rattle.buffer_classes.specs.Classes.{class_sizes, first_fitting};
 
 use crate::buffer::CtxBuf;
@@ -48,13 +48,6 @@ pub struct Classes {
 }
 
 impl Classes {
-    /// How many classes there are.
-    pub fn len(&self) -> usize
-        ensures { result ≡ length (class_sizes self.now) }
-    {
-        self.classes.len()
-    }
-
     // The first class whose buffers hold so many bytes, or their number where none does.
     pub(crate) fn first_fitting(&self, len: u64) -> usize
         ensures { result ≡ first_fitting len (class_sizes self.now) }

@@ -2,7 +2,7 @@
 ghost use Rattle.std.specs.Prelude.{◌≡◌, ◌<◌, None};
 ghost use Rattle.permit_ring.specs.Seats.{IsSeatOf, filled_of, ring_terms, seat_ticket, vacant_of};
 ghost use Rattle.buffer_classes.specs.Buffers.{IsBufferOf};
-ghost use Rattle.buffer_classes.specs.Giving.{Begins, FillsLate, IsFilledUp, IsGiverOf, Offers, Puts, ReapsToEnd, Takes, late_count};
+ghost use Rattle.buffer_classes.specs.Giving.{Begins, FillsLate, IsFilledUp, IsGiverOf, Offers, Puts, ReapsAll, Takes, late_count};
 
 use crate::buffer::CtxBuf;
 use crate::class::Buffers;
@@ -28,11 +28,11 @@ impl Giver {
         self.put_late(ring);
     }
 
-    // Reaps until the next ticket is not finished.
+    // Reaps until the next ticket is not finished, and reads no mark behind that.
     fn reap_all(&mut self, ring: &Ring<Buffers>)
         requires mine { IsGiverOf ring.now self.old }
         ensures mine { IsGiverOf ring.now self.new }
-        ensures did { ReapsToEnd self.old self.new }
+        ensures did { ReapsAll self.old self.new }
     {
         loop {
             match self.keeper.reap(ring) {

@@ -1,13 +1,13 @@
 //! One who claims context data buffers.
-ghost use Rattle.std.specs.Prelude.{◌≡◌, ℕ, ◌+◌, ◌++◌, ◌<◌, ◌≤◌, ◌^◌, length, IfOk};
+ghost use Rattle.std.specs.Prelude.{◌≡◌, ℕ, ◌+◌, ◌-◌, ◌*◌, ◌++◌, ◌<◌, ◌≤◌, ◌^◌, length, IfErr, IfOk};
 ghost use mathlib.Core.Option.{some};
 ghost use lib.ListN.{get_elem?};
-ghost use Rattle.permit_ring.specs.Seats.{ring_seats, ring_terms, seat_calls, seat_memo, seat_number};
+ghost use Rattle.permit_ring.specs.Seats.{ring_seats, ring_terms, seat_calls};
 ghost use Rattle.buffer_classes.specs.Buffers.{IsBufferOf};
-ghost use Rattle.buffer_classes.specs.Claims.{AreSmall, Asks, asked, claimed_at, outcome_of, ClaimTells, HoldsSoMany};
+ghost use Rattle.buffer_classes.specs.Claims.{AreSmall, Asks, AsksClass, asked, outcome_of, ClaimTells, HoldsSoMany};
 ghost use Rattle.buffer_classes.specs.Classes.{class_sizes, first_fitting};
 ghost use Rattle.buffer_classes.specs.Names.{Class as ClassValue};
-ghost use Rattle.buffer_classes.specs.Seats.{IsClassSeat, IsClaimSeatOf, claimant_of, claims_of, log_of, memo_at};
+ghost use Rattle.buffer_classes.specs.Seats.{IsClassSeat, IsClaimSeatOf, claimant_of, claims_of, log_of, memo_at, steps_of};
 
 use crate::buffer::CtxBuf;
 use crate::class::{Buffers, Class, Classes};
@@ -32,14 +32,8 @@ pub struct ClaimSeat {
 }
 
 impl ClaimSeat {
-    /// How many claims it has made.
-    pub fn claims(&self) -> u64
-        ensures { result ≡ claims_of self.now }
-    {
-        self.claims
-    }
-
-    /// Claims a buffer for so many bytes. The fitting classes are asked from the smallest on.
+    /// Claims a buffer for so many bytes. The fitting classes are asked from the smallest on. A claimed buffer keeps
+    /// the bytes of its last user until it is filled.
     pub fn claim(&mut self, classes: &Classes, len: u64) -> Claim
         requires mine { IsClaimSeatOf classes.now self.old }
         requires some { 1 ≤ len }
@@ -54,6 +48,8 @@ impl ClaimSeat {
         // Each look, and the claim, is the word of a step of this call at its class.
         ensures steps { (i : ℕ) (class : ClassValue) → get_elem? classes.now.classes.items i ≡ some class
             → Asks (ring_seats class.ring) (memo_at self.old i) (asked (first_fitting len (class_sizes classes.now)) result i) (memo_at self.new i) }
+        // At most three steps at each class that fits.
+        ensures few_steps { steps_of self.new ≤ steps_of self.old + 3 * (length (class_sizes classes.now) - first_fitting len (class_sizes classes.now)) }
         ensures logs { (i : ℕ) → log_of self.new i ≡ log_of self.old i ++ asked (first_fitting len (class_sizes classes.now)) result i }
     {
         self.claims += 1;
@@ -78,11 +74,9 @@ impl ClaimSeat {
 fn ask(seat: &mut Seat<Buffers>, class: &Class) -> Result<CtxBuf, u64>
     requires mine { IsClassSeat class.now seat.old }
     requires few { seat_calls seat.old < 2 ^ 40 }
-    ensures mine { IsClassSeat class.now seat.new }
-    ensures told { Asks (ring_seats class.now.ring) (seat_memo seat.old) (outcome_of result) (seat_memo seat.new) }
-    ensures small { claimed_at result ≤ 2 ^ 45 }
-    ensures buffer { IfOk result (IsBufferOf (ring_terms class.now.ring)) }
-    ensures counted { (seat_calls seat.new ≡ seat_calls seat.old + 1) × (seat_number seat.new ≡ seat_number seat.old) }
+    ensures did { AsksClass class.now seat.old (outcome_of result) seat.new }
+    ensures buffer { IfOk result (λ buf. IsBufferOf (ring_terms class.now.ring) buf × (buf.claim ≤ 2 ^ 45)) }
+    ensures small { IfErr result (λ claimed. claimed ≤ 2 ^ 45) }
 {
     match seat.claim(&class.ring) {
         Ok(ticket) => {

@@ -1,14 +1,15 @@
 -- How many entries all callers have.
-use Rattle.std.proofs.Common.{◌≡◌, ◌≢◌, ℕ, zero, suc, ◌+◌, ◌<◌, ◌≤◌, Some, List, [], ◌∷◌, length, map, refl, sym, subst, ap, ◌∙◌, arith, sum_by, inl, inr, ne_eqb}
+use Rattle.std.proofs.Common.{◌≡◌, ◌≢◌, ℕ, zero, suc, ◌+◌, ◌<◌, ◌≤◌, List, [], ◌∷◌, length, map, refl, sym, subst, ap, ◌∙◌, arith, sum_by, inl, inr, ne_eqb}
 use Rattle.std.proofs.lemmas.Bool.{cases_eq}
 use Rattle.std.proofs.lemmas.List.{length-map}
 use Rattle.std.proofs.lemmas.List.Sums.{sum_by-cons}
 use mathlib.Core.Option.{some}
 use lib.ListN.{get_elem?}
-use Rattle.report_queue.specs.{IsAllTaken, items_of, TakerView}
+use Rattle.permit_ring.specs.Steps.{ended}
+use Rattle.report_queue.specs.{IsAllTaken, items_of}
 use Rattle.report_queue.specs.declared.cargo.Item.{Item}
-use Rattle.report_api.specs.Names.{Act, PassView}
-use Rattle.desk_closing.specs.Calls.{accepted_in}
+use Rattle.report_api.specs.Names.{Act, DeskMemo, PassMemo}
+use Rattle.desk_closing.specs.{accepted_in, came}
 use Rattle.atomic_table.proofs.Lists.{at_map}
 
 -- how many of the items are those of a caller
@@ -60,8 +61,8 @@ all_owned n [] within = by_none 0 n
 all_owned n (item ∷ items) within =
     omega (arith, by_one 0 n item items (omega arith) (omega (arith, within 0 item refl)), all_owned n items (λ t. within (suc t)))
 
-each_accepted : (i : ℕ) (passes : List PassView) (items : List (Item Act))
-    → ((j k : ℕ) (pass : PassView) → j ≡ i + k → get_elem? passes k ≡ some pass → accepted_in pass ≡ owned j items)
+each_accepted : (i : ℕ) (passes : List PassMemo) (items : List (Item Act))
+    → ((j k : ℕ) (pass : PassMemo) → j ≡ i + k → get_elem? passes k ≡ some pass → accepted_in pass ≡ owned j items)
     → sum_by accepted_in passes ≡ owned_by i (length passes) items
 each_accepted i [] items each = refl
 each_accepted i (pass ∷ passes) items each =
@@ -69,12 +70,12 @@ each_accepted i (pass ∷ passes) items each =
     omega (arith, sum_by-cons accepted_in pass passes, each i 0 pass (omega arith) refl, rest)
 
 -- so the accepted calls of all passes are as many as the items
-pub all_accepted : (taker : TakerView Act) (passes : List PassView) → IsAllTaken taker → taker.back ≡ map Some passes
-    → length taker.items ≡ sum_by accepted_in passes
-all_accepted taker passes all came =
-    let as_long : length taker.back ≡ length passes = ap length came ∙ length-map passes Some in
-    let each = λ (k : ℕ) (pass : PassView) (at : get_elem? passes k ≡ some pass).
-    ap length (all.whole k pass (rw came (at_map Some passes k pass at))).accepted in
-    sym (each_accepted 0 passes taker.items (λ j k pass is at.
-    let same : k ≡ j = omega (arith, is) in subst (λ n. accepted_in pass ≡ owned n taker.items) same (each k pass at))
-    ∙ all_owned (length passes) taker.items (λ t item at. omega (arith, all.of_callers t item at, as_long)))
+pub all_accepted : (desk : DeskMemo) (passes : List PassMemo) → IsAllTaken desk → desk.back ≡ map came passes
+    → length desk.notes ≡ sum_by accepted_in passes
+all_accepted desk passes all back =
+    let as_long : length desk.back ≡ length passes = ap length back ∙ length-map passes came in
+    let each = λ (k : ℕ) (pass : PassMemo) (at : get_elem? passes k ≡ some pass).
+    ap length (all.whole k (ended pass) (rw back (at_map came passes k pass at))).accepted in
+    sym (each_accepted 0 passes desk.notes (λ j k pass is at.
+    let same : k ≡ j = omega (arith, is) in subst (λ n. accepted_in pass ≡ owned n desk.notes) same (each k pass at))
+    ∙ all_owned (length passes) desk.notes (λ t item at. omega (arith, all.of_callers t item at, as_long)))

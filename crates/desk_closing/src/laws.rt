@@ -1,18 +1,18 @@
 //! What closed rings make of a history: each function has a law as its contract, and no body.
 
-ghost use Rattle.std.specs.Prelude.{◌≡◌, ℕ, Some, List, length, map, sum_by};
+ghost use Rattle.std.specs.Prelude.{◌≡◌, ℕ, List, length, map, sum_by};
 ghost use Rattle.ids_config.specs.Parts.{Parts};
 ghost use Rattle.merge_spec.specs.Contexts.{too_small};
 ghost use Rattle.buffer_classes.specs.{AreClasses, class_sizes, first_fitting, AreGiversOf, givers_of};
 ghost use Rattle.buffer_classes.specs.declared.class.Classes.{Classes};
 ghost use Rattle.buffer_classes.specs.declared.givers.Givers.{Givers};
-ghost use Rattle.report_queue.specs.{IsAllTaken, TakerView};
-ghost use Rattle.report_api.specs.Names.{Act, PassView};
-ghost use Rattle.desk_closing.specs.{HaveAllCalls, accepted_in, ClosedDesk, GiversHaveNumbers, HaveNumbers, HaveSizes};
+ghost use Rattle.report_queue.specs.{IsAllTaken};
+ghost use Rattle.report_api.specs.Names.{DeskMemo, PassMemo};
+ghost use Rattle.desk_closing.specs.{HaveAllCalls, accepted_in, came, ClosedDesk, GiversHaveNumbers, HaveNumbers, HaveSizes};
 
 /// Once all passes are back and the report ring and the ring of each class is settled, the turns have all calls of
 /// the passes, and nothing else. The entries of each caller are its accepted calls, in order and with what they
-/// carried; each lost call found no place free; the claims of each class are 0, 1, 2 and so on, each once; and where
+/// carried, and all entries stand in the order in which their calls claimed their places; each lost call found none free; the claims of each class are 0, 1, 2 and so on, each once; and where
 /// a context is missing with a number for each class that would have held it, none of these had a buffer free.
 pub fn closed_desks_have_all_calls()
     ghost closed: { ClosedDesk }
@@ -21,12 +21,11 @@ pub fn closed_desks_have_all_calls()
 
 /// What was taken is as many items as calls of the passes were accepted.
 pub fn as_many_items_as_accepted_calls()
-    ensures { (taker : TakerView Act) (passes : List PassView) → IsAllTaken taker → taker.back ≡ map Some passes →
-        length taker.items ≡ sum_by accepted_in passes }
+    ensures { (desk : DeskMemo) (passes : List PassMemo) → IsAllTaken desk → desk.back ≡ map came passes →
+        length desk.notes ≡ sum_by accepted_in passes }
 {}
 
-/// The ring of each class has as many positions as its giver has buffers to give.
-#[tactic(auto, using(crate::proofs::ClosedLemmas::rings_have))]
+/// The ring of each class has as many positions as its giver has buffers to give, and a seat for each caller.
 pub fn rings_have_their_givers_numbers()
     ensures { (config : Parts) (classes : Classes) (givers : Givers) → AreGiversOf classes givers →
         GiversHaveNumbers config (givers_of givers) → HaveNumbers config classes }

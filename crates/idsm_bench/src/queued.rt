@@ -1,6 +1,6 @@
 //! The calls of a report queue.
 ghost use Rattle.std.specs.Prelude.{◌≡◌, ◌+◌, ◌<◌, ◌≤◌, ◌^◌, length};
-ghost use Rattle.report_queue.specs.Parts.{IsIdle, IsTakerOf, calls_of, taker_view, to_give_back};
+ghost use Rattle.report_queue.specs.Parts.{IsIdle, IsTakerOf, calls_of, taker_memo, to_give_back};
 
 use crate::bench::Bench;
 use crate::rounds::{Ring, Rounds};
@@ -61,7 +61,7 @@ impl Ring for Queue<Numbers> {
     fn take(&self, taker: &mut Taker<Numbers>, batch: u64) -> u64
         requires ready { IsTakerOf self.now taker.old }
         ensures ready { IsTakerOf self.now taker.new }
-        ensures taken { length (taker_view taker.new).items ≡ length (taker_view taker.old).items + result }
+        ensures taken { length (taker_memo taker.new).notes ≡ length (taker_memo taker.old).notes + result }
         ensures given_back { to_give_back taker.new ≡ 0 }
         ensures count { result ≤ batch }
     {

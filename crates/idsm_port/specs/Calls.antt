@@ -2,10 +2,8 @@
 use Rattle.std.specs.Prelude.{◌≡◌, ℕ}
 use Rattle.ids_types.specs.declared.mode.Mode.{Mode}
 use Rattle.ids_types.specs.declared.names.EventIndex.{EventIndex}
-use Rattle.report_queue.specs.Parts.{caller_memo, queue_seats}
-use Rattle.report_api.specs.Answers.{ControlSteps, ControlTells, Given, ModeTells, ReportAsks, ReportSteps, ReportTells}
-use Rattle.report_api.specs.Names.{PassView, State}
-use Rattle.report_api.specs.Passes.{pass_view}
+use Rattle.report_api.specs.Answers.{ControlTells, Controls, Given, ModeTells, Reports as PassReports}
+use Rattle.report_api.specs.Names.{PassMemo, State}
 use Rattle.report_api.specs.declared.answer.Control.{Control}
 use Rattle.report_api.specs.declared.answer.Report.{Report}
 use Rattle.report_api.specs.declared.shared.Shared.{Shared}
@@ -14,31 +12,28 @@ use Rattle.idsm_port.specs.declared.caller.CallerPort.{CallerPort}
 use Rattle.idsm_port.specs.Answers.{control_answer, report_answer}
 use Rattle.idsm_port.specs.Roles.{caller_shares}
 
--- a report was answered so: by its cause, with what it left in the history, and with what it asked of the buffers
+-- a report was answered so: by its cause, with what it left in the history, what it asked of the buffers, and its steps
 pub record Reports (given : Given) (old : CallerPort) (answer : Answer) (new : CallerPort) : Type 0 where
   pub report : Report
   pub answer_is : answer ≡ report_answer report
-  pub tells : ReportTells (caller_shares old) given (pass_view old.pass) report (pass_view new.pass)
-  pub steps : ReportSteps (queue_seats (caller_shares old).queue) (caller_memo old.pass.seat) report
-  pub asks : ReportAsks (caller_shares old) given.bytes old.pass.claimant report new.pass.claimant
+  pub reports : PassReports (caller_shares old) given old.pass report new.pass
   pub shares : new.shared ≡ old.shared
 
 -- what a control asks for: each of its answers with its cause
 abbrev pub AsksFor : Type 1
-AsksFor = Shared → PassView → Control → PassView → Type 0
+AsksFor = Shared → PassMemo → Control → PassMemo → Type 0
 
 -- a change of the state
 abbrev pub asked_state : ℕ → AsksFor
-asked_state state shared old control new = ControlTells (State state) old control new
+asked_state state = ControlTells (State state)
 
 -- another mode of an event
 abbrev pub asked_mode : EventIndex → Mode → AsksFor
-asked_mode event mode shared old control new = ModeTells shared event mode old control new
+asked_mode event mode = ModeTells event mode
 
 -- a control was answered so
 pub record Sets (asks : AsksFor) (old : CallerPort) (answer : Answer) (new : CallerPort) : Type 0 where
   pub control : Control
   pub answer_is : answer ≡ control_answer control
-  pub tells : asks (caller_shares old) (pass_view old.pass) control (pass_view new.pass)
-  pub steps : ControlSteps (queue_seats (caller_shares old).queue) (caller_memo old.pass.seat) control
+  pub controls : Controls asks (caller_shares old) old.pass control new.pass
   pub shares : new.shared ≡ old.shared

@@ -3,14 +3,14 @@ use Rattle.std.specs.Prelude.{◌≡◌, ℕ, ◌≤◌, ◌<◌, ◌^◌, List,
 use Rattle.ids_types.specs.Output.{Output}
 use Rattle.ids_types.specs.Turns.{turn_at}
 use Rattle.buffer_classes.specs.Givers.{givers_of}
-use Rattle.report_api.specs.Desks.{desk_view}
+use Rattle.report_api.specs.Desks.{desk_memo}
 use Rattle.main_function.specs.Standing.{last_of, turns_of}
-use Rattle.main_function.specs.Turning.{Turned}
+use Rattle.main_function.specs.Turning.{IsQuick, Turned}
 use Rattle.idsm_port.specs.declared.answer.Answer.{Answer}
 use Rattle.idsm_port.specs.declared.answer.Answer.TheVariants.{Done, Spent, TickBack, TickTooLarge, SmallBuffer}
 use Rattle.idsm_port.specs.declared.manager.ManagerPort.{ManagerPort}
 use Rattle.idsm_port.specs.declared.turning.Told.{Told}
-use Rattle.idsm_port.specs.Roles.{chain_kept, chain_stands}
+use Rattle.idsm_port.specs.Roles.{chain_kept, chain_stands, manager_shares}
 use Rattle.idsm_port.specs.Writing.{IsWritten}
 
 -- what is told where no turn was made
@@ -42,12 +42,13 @@ pub record CanTurn (old : ManagerPort) (buffer : List ℕ) : Type 0 where
   pub room : old.most ≤ length buffer
   pub few : turns_of old.manager < 2 ^ 62
 
--- a turn of this tick was made, which may be, and all its messages are written
+-- a turn of this tick was made, which may be, in few steps, and all its messages are written
 pub record TurnMade (tick : ℕ) (old : ManagerPort) (buffer : List ℕ) (new : ManagerPort) (after : List ℕ) : Type 0 where
   pub can : CanTurn old buffer
   pub later : last_of old.manager ≤ tick
   pub within : tick ≤ 2 ^ 62
-  pub turned : Turned chain_stands chain_kept tick (desk_view old.manager.desk) (givers_of old.manager.desk.givers) old.manager new.manager
+  pub turned : Turned chain_stands chain_kept tick (desk_memo old.manager.desk) (givers_of old.manager.desk.givers) old.manager new.manager
+  pub quick : IsQuick (manager_shares old) 0 old.manager.desk new.manager.desk
   pub same : new ≡ record old { manager = new.manager }
   pub written : IsWritten new.manager.out.sent buffer after
 

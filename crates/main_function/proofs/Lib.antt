@@ -3,6 +3,7 @@ mod ClosingLemmas
 mod FittingLemmas
 mod MakingLemmas
 mod PassesLemmas
+mod QuickLemmas
 mod ReportLemmas
 mod StepLemmas
 mod TakingLemmas

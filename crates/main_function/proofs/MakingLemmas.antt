@@ -1,5 +1,5 @@
 -- A manager that has just been made.
-use Rattle.main_function.proofs.Names.{◌≡◌, ℕ, zero, suc, ◌+◌, ◌≤◌, ◌<◌, max, None, Some, List, [], ◌∷◌, ◌++◌, get_or, length, map, take, refl, subst, sym, ap, ◌∙◌, arith, rules, All, AllByRecursion, common_steps, length-map, length-replicate, map-append, take_more, All-cons, All-nil, All-pop, All-push, All-weaker, recursion_from_All, Turn, Parts, class_of, AllAdmitted, Buffer, IsSpec, spec_sizes, givers_of, IsHeld, IsBuilt, IsLargest, IsNewManager, AreAllPasses, desk_view, to_give_back, IsNewMaking, sizes_of, Desk, Pass, Shared, at_length, there, IsMadeFor, rings_have, or_at, Manager}
+use Rattle.main_function.proofs.Names.{◌≡◌, ℕ, zero, suc, ◌+◌, ◌≤◌, ◌<◌, max, None, Some, List, [], ◌∷◌, ◌++◌, get_or, length, map, take, refl, subst, sym, ap, ◌∙◌, arith, rules, All, AllByRecursion, common_steps, length-map, length-replicate, map-append, take_more, All-cons, All-nil, All-pop, All-push, All-weaker, recursion_from_All, Turn, Parts, class_of, AllAdmitted, Buffer, IsSpec, spec_sizes, givers_of, IsHeld, IsBuilt, IsLargest, IsNewManager, AreAllPasses, desk_memo, to_give_back, IsNewMaking, sizes_of, Desk, Pass, Shared, at_length, there, IsMadeFor, rings_have, or_at, Manager}
 use Rattle.std.proofs.Math.Nat.{le-max_left, le-max_right, max-le}
 use Rattle.ids_types.specs.declared.class_spec.ClassSpec.{ClassSpec}
 use Rattle.buffer_classes.specs.declared.class.Class.{Class}
@@ -44,15 +44,14 @@ module _ {C : Type 0} (stands : C → Parts → List Turn → Type 0) (events : 
       let reaped = making.is_desk.taker.is_keeper.reaped_is in
       let vacant = making.is_desk.taker.none_vacant in
       let positions = making.positions_are in
-      let items = ap (λ view. length view.items) making.shows in
-      let offered = ap (λ view. view.offered) making.shows in
-      omega (arith, account, reaped, vacant, positions, items, offered)
+      let items = ap length making.untouched.none_taken in
+      omega (arith, account, reaped, vacant, positions, items, making.untouched.offered_is)
 
   -- the passes are all
-  all_passes : AreAllPasses shared (desk_view m.desk) passes
+  all_passes : AreAllPasses shared (desk_memo m.desk) passes
   all_passes = record {
-    all = making.all_made ∙ sym (ap (λ view. length view.back) making.shows ∙ length-replicate config.callers None);
-    each = λ i pass is. let new = making.each i pass is in (new.is_pass, ap (λ view. view.caller) new.shows);
+    all = making.all_made ∙ sym (ap length making.untouched.back_is ∙ length-replicate config.callers None);
+    each = λ i pass is. let new = making.each i pass is in (new.is_pass, ap (λ memo. memo.number) new.knows);
   }
 
   -- the ring and the classes are those of the configuration
@@ -64,10 +63,12 @@ module _ {C : Type 0} (stands : C → Parts → List Turn → Type 0) (events : 
       ∙ length-map config.classes (λ (spec : ClassSpec). spec.size) in
       record {
         positions_are = making.positions_are;
+        callers_are = making.callers_are;
         sizes = sizes;
         numbers = rings_have config shared.classes m.desk.givers making.is_desk.givers (λ i giver at.
             let spec = there config.classes i (omega (arith, all, at_length (givers_of m.desk.givers) i giver at)) in
-            (making.givers_are i spec.0 giver spec.1 at).number_is ∙ ap (λ spec. spec.number) (sym (or_at config.classes i _ spec.0 spec.1)));
+            let new = making.givers_are i spec.0 giver spec.1 at in
+            (new.number_is ∙ ap (λ spec. spec.number) (sym (or_at config.classes i _ spec.0 spec.1)), new.untouched.made_is));
       }
 
   -- all is new
@@ -79,13 +80,12 @@ module _ {C : Type 0} (stands : C → Parts → List Turn → Type 0) (events : 
       let number : events m.chain ≡ length config.events = ap events built.chain_is ∙ are in
       let within = admitted_at (λ size. size ≤ largest) (spec_sizes config.classes) (recursion_from_All _ _ is.within) in
       let kept_none : [] ≡ kept m.chain = sym (ap kept built.chain_is ∙ none) in
-      let items = ap (λ view. view.items) making.shows in
       let held = All-nil (IsHeld (sizes_of shared)) in
       record {
         making = making;
         made_for = made_for;
-        is_manager = grind (arith, common_steps, making, built, none_taken, number, sizes, within, held, kept_none, few, short, items);
-        stands_for_none = grind (arith, common_steps, making.shows, built, fresh);
+        is_manager = grind (arith, common_steps, making, built, none_taken, number, sizes, within, held, kept_none, few, short);
+        stands_for_none = grind (arith, common_steps, making.untouched, built, fresh);
         passes_are = all_passes;
         no_rests = built.no_rests;
         positions_are = built.positions_are;

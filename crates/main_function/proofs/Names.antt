@@ -11,7 +11,7 @@ pub use Rattle.buffer_classes.specs.Making.{spec_sizes, AreSpecs}
 pub use Rattle.chain.specs.Parcels.{HandsBack, IsShort, all_parcels, parcel_of}
 pub use Rattle.chain.specs.Turning.{FitsAct, FitsTurn, bytes_in, turn_by, HasTurnRoom}
 pub use Rattle.desk_closing.proofs.{all_calls, all_accepted, rings_have, or_at}
-pub use Rattle.desk_closing.specs.Closed.{IsMadeFor, plain_item}
+pub use Rattle.desk_closing.specs.Closed.{IsMadeFor, came, plain_item}
 pub use Rattle.ids_config.specs.Parts.{Parts, class_of}
 pub use Rattle.ids_types.specs.Carries.{act_by, entry_by}
 pub use Rattle.ids_types.specs.Turns.{Turn}
@@ -19,15 +19,16 @@ pub use Rattle.ids_types.specs.declared.entry.Entry.{Entry}
 pub use Rattle.ids_types.specs.declared.entry.TurnHead.{TurnHead}
 pub use Rattle.permit_ring.proofs.ListLemmas.{at_length, there}
 pub use Rattle.permit_ring.specs.Hands.{AllAdmitted}
-pub use Rattle.report_api.specs.{EachSettled, Act, PassView, missing_in, Report, State, SetMode, Absent, Kept, Missing, AdmitsAct, AdmitsItem, is_sensor, term_sizes, IsNewMaking, sizes_of, same_item, IsPassOf}
-pub use Rattle.report_api.specs.Desks.{IsDeskOf, desk_view, to_give_back}
-pub use Rattle.report_api.specs.Passes.{pass_view}
+pub use Rattle.report_api.specs.{EachSettled, Act, DeskMemo, PassMemo, lost_events, lost_contexts, missing_in, Report, State, SetMode, Absent, Kept, Missing, AdmitsAct, AdmitsItem, is_sensor, term_sizes, IsNewMaking, sizes_of, same_item, IsPassOf}
+pub use Rattle.report_api.specs.Desks.{IsDeskOf, desk_memo, to_give_back}
+pub use Rattle.report_api.specs.Passes.{pass_memo}
 pub use Rattle.report_api.specs.declared.desk.Desk.{Desk}
 pub use Rattle.report_api.specs.declared.pass.Pass.{Pass}
 pub use Rattle.report_api.specs.declared.shared.Shared.{Shared}
 pub use Rattle.report_api.specs.declared.terms.ReportTerms.{ReportTerms}
-pub use Rattle.report_queue.specs.{GivesBack, AreAllSwept, AreCallersBack, IsAllTaken, contexts_back, events_back, TakerView, sweeps_both, queue_positions, TakeTells, welcomes_caller, most_tries}
-pub use Rattle.main_function.specs.{AreCountsOf, AreSumsOf, Closed, OnlyWelcomes, all_back, ShowsHistory, AreTotals, IsManagerOf, Stands, has_taken, Turned, IsHeld, held, items_of, AreAllPasses, MakesTurn, EndsUnready, Took, item_of}
+pub use Rattle.report_queue.specs.{AreAllBack, AreAllSwept, IsAllTaken, OffersAll, ReapTells, ReapsToEnd, queue_positions, queue_seats, reaps_all, sweeps, welcomes}
+pub use Rattle.report_queue.specs.declared.cargo.Item.{Item}
+pub use Rattle.main_function.specs.{AreCountsOf, AreSumsOf, Closed, IsQuick, OnlyWelcomes, all_back, ShowsHistory, AreTotals, IsManagerOf, Stands, Turned, IsHeld, held, items_of, AreAllPasses, MakesTurn, Took, item_of, sweeps_for}
 pub use Rattle.main_function.specs.Making.{IsBuilt, IsLargest, IsNewManager}
 pub use Rattle.main_function.specs.declared.manager.Manager.{Manager}
 pub use Rattle.main_function.specs.declared.rest.Totals.{Totals}

@@ -1,5 +1,5 @@
 -- All passes of a making, and the givers of its desk.
-use Rattle.main_function.proofs.Names.{◌≡◌, ℕ, suc, inl, inr, ◌≤◌, ◌<◌, ◌^◌, List, [], ◌∷◌, length, map, sum_by, refl, subst, arith, get_or-map, length-map, sum_by-cons, All, AllByRecursion, All-from_recursion, there, AreGiversOf, givers_of, late_of, TakerView, Act, pass_view, Pass, Shared}
+use Rattle.main_function.proofs.Names.{◌≡◌, ℕ, suc, inl, inr, ◌≤◌, ◌<◌, ◌^◌, List, [], ◌∷◌, length, map, sum_by, refl, subst, arith, get_or-map, length-map, sum_by-cons, All, AllByRecursion, All-from_recursion, there, AreGiversOf, givers_of, late_of, DeskMemo, pass_memo, Pass, Shared}
 use mathlib.Core.Option.{some}
 use Rattle.std.proofs.lemmas.Bool.{cases_lt}
 use lib.ListN.{get_elem?}
@@ -20,7 +20,7 @@ from_each : {A : Type 0} (P : A → Type 0) (xs : List A) → ((i : ℕ) (x : A)
 from_each P [] each = tt
 from_each P (x ∷ xs) each = (each 0 x refl, from_each P xs (λ i y is. each (suc i) y is))
 
-module _ (shared : Shared) (reports : TakerView Act) (passes : List Pass) (are : AreAllPasses shared reports passes) where
+module _ (shared : Shared) (desk : DeskMemo) (passes : List Pass) (are : AreAllPasses shared desk passes) where
   -- they are at most 32, since each has another number below that
   pub few_passes : length passes ≤ 32
   few_passes = elim (cases_lt 32 (length passes)) [
@@ -39,13 +39,13 @@ module _ (shared : Shared) (reports : TakerView Act) (passes : List Pass) (are :
 
 module _ {P : Type 0} (its : P → Pass) where
   -- the calls of passes, counted where these are kept
-  pub calls_kept : (xs : List P) → sum_by (λ x. (pass_view (its x)).calls) xs ≡ all_calls (map its xs)
+  pub calls_kept : (xs : List P) → sum_by (λ x. (pass_memo (its x)).view.calls) xs ≡ all_calls (map its xs)
   calls_kept [] = refl
   calls_kept (x ∷ xs) = omega (
     arith,
     calls_kept xs,
-    sum_by-cons (λ (x : P). (pass_view (its x)).calls) x xs,
-    sum_by-cons (λ (pass : Pass). (pass_view pass).calls) (its x) (map its xs),
+    sum_by-cons (λ (x : P). (pass_memo (its x)).view.calls) x xs,
+    sum_by-cons (λ (pass : Pass). (pass_memo pass).view.calls) (its x) (map its xs),
   )
 
   -- they are few, one by one

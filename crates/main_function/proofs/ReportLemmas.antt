@@ -1,67 +1,65 @@
 -- What a turn adds to the desk, and to what it shows of a history.
-use Rattle.main_function.proofs.Names.{◌≡◌, ℕ, ◌+◌, ◌<◌, List, [], ◌∷◌, ◌++◌, length, map, refl, subst, sym, ap, arith, common_steps, flat_map-append, length-map, map-append, sum_by_push, entry_by, Entry, TurnHead, Turn, turn_by, Buffer, GivesBack, sweeps_both, TakerView, Act, ReportTerms, MakesTurn, ShowsHistory, held, EndsUnready, Took, item_of, items_of, AreTotals, plain_item, Totals}
+use Rattle.main_function.proofs.Names.{◌≡◌, ℕ, zero, suc, ◌+◌, ◌*◌, ◌≤◌, ◌<◌, List, [], ◌∷◌, ◌++◌, length, map, refl, ap, arith, common_steps, flat_map-append, length-map, map-append, sum_by_push, entry_by, Entry, Turn, Buffer, DeskMemo, MakesTurn, ShowsHistory, held, item_of, items_of, sweeps_for, AreTotals, plain_item, Totals}
+use Rattle.merge_spec.specs.Fronts.{and_front}
 use Rattle.merge_spec.proofs.FrontLemmas.{fronts_more}
+use Rattle.permit_ring.proofs.{end_steps, gave_of, only_reaps}
 
 -- the entries of a turn are the items that were taken
 entries_same : (taken : List (Entry Buffer)) → map plain_item (items_of taken) ≡ map (entry_by held) taken
 entries_same [] = refl
 entries_same (e ∷ taken) = ap (λ es. plain_item (record { caller = e.caller; call = e.call; payload = e.act }) ∷ es) (entries_same taken)
 
-module _ (terms : ReportTerms) (positions bound : ℕ) (old mid new : TakerView Act) (head : TurnHead) where
-  makes : (taken : List (Entry Buffer)) → Took terms positions (sweeps_both (head.lost_events, head.lost_contexts) old) taken mid
-      → (length taken ≡ 0 → new ≡ mid) → (0 < length taken → GivesBack bound (length taken) mid new)
-      → MakesTurn positions old taken (turn_by held head taken) new
-  makes [] took none some = record {
-    marks = took.marks;
-    tries = 0;
-    is = grind (arith, common_steps, none refl, took.is);
-    entries_are = refl;
-    few = took.few;
-    unready = subst (λ (taker : TakerView Act). EndsUnready took.marks (length taker.items + 1)) (sym (none refl)) took.unready;
-  }
-  makes (e ∷ taken) took none some =
-      let gave = some (omega arith) in
-      record {
-        marks = took.marks;
-        tries = gave.0;
-        is = grind (arith, common_steps, gave.3, took.is, length-map taken (entry_by held));
-        entries_are = refl;
-        few = took.few;
-        unready = subst (λ (taker : TakerView Act). EndsUnready took.marks (length taker.items + 1)) (sym gave.3) took.unready;
-      }
+-- the fronts after an offer
+front_as : (offered count : ℕ) (fronts new : List ℕ) → (count ≡ 0 → new ≡ fronts) → (0 < count → new ≡ fronts ++ (offered + count) ∷ [])
+    → new ≡ and_front offered count fronts
+front_as offered zero fronts new none more = none refl
+front_as offered (suc count) fronts new none more = more (omega arith)
 
-  -- what is swept, taken and given back is a turn
-  pub makes_turn : (swept : TakerView Act) (taken : List (Entry Buffer)) (count : ℕ) → swept ≡ sweeps_both (head.lost_events, head.lost_contexts) old
-      → Took terms positions swept taken mid → count ≡ length taken
-      → (count ≡ 0 → new ≡ mid) → (0 < count → GivesBack bound count mid new)
-      → MakesTurn positions old taken (turn_by held head taken) new
-  makes_turn swept taken count is took same none some =
-      makes taken (subst (λ (taker : TakerView Act). Took terms positions taker taken mid) is took)
-      (subst (λ n. n ≡ 0 → new ≡ mid) same none) (subst (λ n. 0 < n → GivesBack bound n mid new) same some)
+-- what a turn adds to what the desk knows
+pub record TurnAdds (positions : ℕ) (old : DeskMemo) (taken : List (Entry Buffer)) (turn : Turn) (new : DeskMemo) : Type 0 where
+  pub notes_are : new.notes ≡ old.notes ++ items_of taken
+  pub fronts_are : new.fronts ≡ and_front old.offered (length taken) old.fronts
+  pub offered_is : new.offered ≡ old.offered + length taken
+  pub swept0_is : new.swept0 ≡ old.swept0 ++ turn.head.lost_events ∷ []
+  pub swept1_is : new.swept1 ≡ old.swept1 ++ turn.head.lost_contexts ∷ []
+  pub made_is : new.made ≡ old.made
+  pub back_is : new.back ≡ old.back
+  pub few_moves : length new.moves ≤ length old.moves + 2 * positions + old.made + 5
 
-module _ (positions : ℕ) (old new : TakerView Act) (turn : Turn) (taken : List (Entry Buffer)) where
+module _ (positions : ℕ) (old new : DeskMemo) (turn : Turn) (taken : List (Entry Buffer)) (makes : MakesTurn positions old taken turn new) where
+  pub turn_adds : TurnAdds positions old taken turn new
+  turn_adds =
+      let swept = sweeps_for turn old in
+      let only = only_reaps (items_of taken) swept in
+      let steps = end_steps (items_of taken) swept makes.took makes.takes in
+      let gave = gave_of positions old.made (length taken) makes.took new makes.gives in
+      let fronts = front_as old.offered (length taken) old.fronts new.fronts in
+      grind (arith, common_steps, only, steps, gave, fronts, makes.takes, makes.few, length-map taken item_of)
+
   -- a desk that shows turns shows one turn more
-  pub shows_more : (turns : List Turn) → old.offered ≡ positions + length old.items → ShowsHistory positions old turns → MakesTurn positions old taken turn new
+  pub shows_more : (turns : List Turn) → old.offered ≡ positions + length old.notes → ShowsHistory positions old turns
       → ShowsHistory positions new (turns ++ turn ∷ [])
-  shows_more turns offered shows makes =
-      let items = map-append plain_item old.items (items_of taken) in
+  shows_more turns offered shows =
+      let adds = turn_adds in
+      let items = map-append plain_item old.notes (items_of taken) in
       let more = flat_map-append (λ (t : Turn). t.entries) turns (turn ∷ []) in
-      let count = length-map old.items plain_item in
+      let count = length-map old.notes plain_item in
+      let entries = length-map taken (entry_by held) in
       let fronts = fronts_more positions turns turn (positions ∷ []) in
       let events = map-append (λ (t : Turn). t.head.lost_events) turns (turn ∷ []) in
       let contexts = map-append (λ (t : Turn). t.head.lost_contexts) turns (turn ∷ []) in
-      grind (arith, common_steps, makes.is, makes.entries_are, entries_same taken, items, more, shows, events, contexts, fronts, count, offered)
+      grind (arith, common_steps, adds, makes.entries_are, entries_same taken, items, more, shows, events, contexts, fronts, count, entries, offered)
 
   -- the totals of all turns with it
-  pub totals_more : (before after : Totals) → AreTotals old before → MakesTurn positions old taken turn new
-      → after.entries ≡ before.entries + length taken → after.lost_events ≡ before.lost_events + turn.head.lost_events
+  pub totals_more : (before after : Totals) → AreTotals old before → after.entries ≡ before.entries + length taken
+      → after.lost_events ≡ before.lost_events + turn.head.lost_events
       → after.lost_contexts ≡ before.lost_contexts + turn.head.lost_contexts → AreTotals new after
-  totals_more before after are makes entries events contexts =
-      let swept_events = sum_by_push (λ n. n) old.lost_events turn.head.lost_events in
-      let swept_contexts = sum_by_push (λ n. n) old.lost_contexts turn.head.lost_contexts in
-      grind (arith, common_steps, are, entries, events, contexts, makes.is, length-map taken item_of, swept_events, swept_contexts)
+  totals_more before after are entries events contexts =
+      let adds = turn_adds in
+      let swept_events = sum_by_push (λ n. n) old.swept0 turn.head.lost_events in
+      let swept_contexts = sum_by_push (λ n. n) old.swept1 turn.head.lost_contexts in
+      grind (arith, common_steps, are, entries, events, contexts, adds, length-map taken item_of, swept_events, swept_contexts)
 
   -- and what was offered
-  pub offered_more : old.offered ≡ positions + length old.items → MakesTurn positions old taken turn new → new.offered ≡ positions + length new.items
-  offered_more offered makes =
-      grind (arith, common_steps, offered, makes.is, makes.entries_are, length-map taken item_of, length-map taken (entry_by held))
+  pub offered_more : old.offered ≡ positions + length old.notes → new.offered ≡ positions + length new.notes
+  offered_more offered = let adds = turn_adds in grind (arith, common_steps, offered, adds, length-map taken item_of)

@@ -1,5 +1,5 @@
 -- What a manager between two calls can do, and what it is after a turn.
-use Rattle.main_function.proofs.Names.{◌≡◌, ℕ, ◌≤◌, List, [], ◌++◌, length, subst, sym, arith, rules, All, common_steps, recursion_from_All, Entry, AllAdmitted, HandsBack, IsShort, all_parcels, FitsTurn, HasTurnRoom, bytes_in, Buffer, AreBuffersIn, queue_positions, TakerView, Act, sizes_of, term_sizes, Shared, IsHeld, held, IsManagerOf, Took, Manager}
+use Rattle.main_function.proofs.Names.{◌≡◌, ℕ, ◌≤◌, List, [], ◌++◌, length, subst, sym, arith, rules, All, common_steps, recursion_from_All, Entry, AllAdmitted, HandsBack, IsShort, all_parcels, FitsTurn, HasTurnRoom, bytes_in, Buffer, AreBuffersIn, queue_positions, DeskMemo, sizes_of, term_sizes, Shared, IsHeld, held, IsManagerOf, Took, Manager}
 use Rattle.std.specs.List.Sorted.{IsPermutation}
 use Rattle.main_function.proofs.FittingLemmas.{bytes_fit, come_out, held_in, held_short, items_fit}
 
@@ -14,7 +14,7 @@ module _ {C : Type 0} (events : C → ℕ) (kept : C → List Buffer) (shared : 
   pub kept_short : All (IsShort held) (kept m.chain)
   kept_short = held_short shared.terms m.largest within mine.roomy.short (kept m.chain) are_held
 
-  module _ (old new : TakerView Act) (taken : List (Entry Buffer)) (took : Took shared.terms (queue_positions shared.queue) old taken new) where
+  module _ (old new : DeskMemo) (taken : List (Entry Buffer)) (took : Took shared.terms (queue_positions shared.queue) old taken new) where
     few_taken : length taken ≤ m.positions
     few_taken = omega (arith, took.few, mine.positions_are)
 

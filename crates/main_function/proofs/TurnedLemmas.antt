@@ -1,5 +1,5 @@
 -- For which turns a manager stands after one more.
-use Rattle.main_function.proofs.Names.{◌≡◌, ℕ, ◌+◌, ◌≤◌, ◌^◌, List, [], ◌∷◌, ◌++◌, length, sum, ap, arith, rules, common_steps, sum_by_push, Entry, Turn, Parts, Buffer, desk_view, MakesTurn, Stands, Manager}
+use Rattle.main_function.proofs.Names.{◌≡◌, ℕ, ◌+◌, ◌≤◌, ◌^◌, List, [], ◌∷◌, ◌++◌, length, sum, ap, arith, rules, common_steps, sum_by_push, Entry, Turn, Parts, Buffer, desk_memo, MakesTurn, Stands, Manager}
 use Rattle.chain.specs.History.{last_tick}
 use Rattle.main_function.proofs.ReportLemmas.{shows_more}
 
@@ -15,15 +15,15 @@ module _ {C : Type 0} (stands : C → Parts → List Turn → Type 0) (config : 
   -- the manager stands for one turn more where its chain does
   pub stands_more : (old new : Manager C) (turn : Turn) (taken : List (Entry Buffer)) → Stands stands config old turns
       → (last_tick turns ≤ turn.head.tick → stands new.chain config (turns ++ turn ∷ [])) → old.last ≤ turn.head.tick
-      → MakesTurn old.positions (desk_view old.desk) taken turn (desk_view new.desk)
-      → (desk_view old.desk).offered ≡ old.positions + length (desk_view old.desk).items
+      → MakesTurn old.positions (desk_memo old.desk) taken turn (desk_memo new.desk)
+      → (desk_memo old.desk).offered ≡ old.positions + length (desk_memo old.desk).notes
       → new.positions ≡ old.positions → new.last ≡ turn.head.tick → new.turns ≡ old.turns + 1
       → Stands stands config new (turns ++ turn ∷ [])
   stands_more old new turn taken is chain later makes offered positions last count =
       let before = is.tick_is in
       record {
         chain_stands = chain (omega (arith, before, later));
-        reports_show = search (rules, positions, shows_more old.positions (desk_view old.desk) (desk_view new.desk) turn taken turns offered is.reports_show makes);
+        reports_show = search (rules, positions, shows_more old.positions (desk_memo old.desk) (desk_memo new.desk) turn taken makes turns offered is.reports_show);
         tick_is = grind (arith, common_steps, last, tick_more turns turn);
         count_is = grind (arith, common_steps, count, is.count_is);
       }

@@ -1,28 +1,30 @@
 -- The close: all passes come back, and a last turn takes what is left.
 use Rattle.std.specs.Borrow.{Bor}
-use Rattle.std.specs.Prelude.{◌≡◌, ℕ, Some, List, [], ◌∷◌, ◌++◌, length, map, sum, sum_by, Result, Ok, Err}
+use Rattle.std.specs.Prelude.{◌≡◌, ℕ, ◌+◌, List, [], ◌∷◌, ◌++◌, length, map, sum, sum_by, Result, Ok, Err}
 use Rattle.ids_types.specs.Output.{Output}
 use Rattle.ids_types.specs.Turns.{Turn, entries_of}
 use Rattle.ids_config.specs.Parts.{Parts}
 use Rattle.buffer_classes.specs.{Buffer, AllOf, givers_of, filled_count, giver_memo, vacant_count}
 use Rattle.buffer_classes.specs.declared.giver.Giver.{Giver}
-use Rattle.report_queue.specs.Views.{TakerView}
-use Rattle.report_api.specs.{desk_view, Act, PassView, missing_in}
+use Rattle.report_queue.specs.{welcomes}
+use Rattle.report_api.specs.{DeskMemo, PassMemo, desk_memo, lost_events, missing_in}
 use Rattle.report_api.specs.declared.shared.Shared.{Shared}
-use Rattle.desk_closing.specs.{HaveAllCalls, accepted_in, IsMadeFor}
+use Rattle.desk_closing.specs.{HaveAllCalls, accepted_in, came, IsMadeFor}
 use Rattle.main_function.specs.Standing.{IsManagerOf, Stands}
-use Rattle.main_function.specs.Turning.{Turned}
+use Rattle.main_function.specs.Turning.{IsQuick, Turned}
 use Rattle.main_function.specs.declared.manager.Manager.{Manager}
 use Rattle.main_function.specs.declared.rest.Totals.{Totals}
 use Rattle.main_function.specs.declared.rest.TurnFault.{TurnFault}
 
--- what the desk shows, with all these passes back
-abbrev pub all_back : List PassView → TakerView Act → TakerView Act
-all_back passes reports = record reports { back = map Some passes }
+-- what the desk knows once all these passes came back, the last first
+abbrev pub all_back : List PassMemo → DeskMemo → DeskMemo
+all_back [] desk = desk
+all_back (pass ∷ passes) desk = welcomes pass (all_back passes desk)
 
--- the giver has claimants back; no buffer came or went
-pub record OnlyWelcomes (old new : Giver) : Type 0 where
+-- the giver has so many claimants back, each in one step; no buffer came or went
+pub record OnlyWelcomes (came : ℕ) (old new : Giver) : Type 0 where
   pub memo_is : giver_memo new ≡ record (giver_memo old) { back = (giver_memo new).back; moves = (giver_memo new).moves }
+  pub moves_are : length (giver_memo new).moves ≡ length (giver_memo old).moves + came
   pub late_is : new.late ≡ old.late
   pub filled_is : filled_count new ≡ filled_count old
   pub vacant_is : vacant_count new ≡ vacant_count old
@@ -35,17 +37,18 @@ pub record AreSumsOf (turns : List Turn) (totals : Totals) : Type 0 where
   pub lost_contexts_are : totals.lost_contexts ≡ sum (map (λ turn. turn.head.lost_contexts) turns)
 
 -- the totals are the numbers of the passes' accepted calls, lost reports and missing contexts
-pub record AreCountsOf (passes : List PassView) (totals : Totals) : Type 0 where
+pub record AreCountsOf (passes : List PassMemo) (totals : Totals) : Type 0 where
   pub entries_are : totals.entries ≡ sum_by accepted_in passes
-  pub lost_events_are : totals.lost_events ≡ sum_by (λ pass. pass.lost_events) passes
+  pub lost_events_are : totals.lost_events ≡ sum_by lost_events passes
   pub lost_contexts_are : totals.lost_contexts ≡ sum_by (λ pass. missing_in pass.log) passes
 
 module _ {C : Type 0} (stands : C → Parts → List Turn → Type 0) (kept : C → List Buffer) (shared : Shared) where
   -- these passes came back, and a last turn of this tick took all that was left
-  pub record Closed (tick : ℕ) (passes : List PassView) (old new : Manager C) : Type 0 where
+  pub record Closed (tick : ℕ) (passes : List PassMemo) (old new : Manager C) : Type 0 where
     pub givers : List Giver
-    pub welcomed : AllOf (λ i. OnlyWelcomes) (givers_of old.desk.givers) givers
-    pub turned : Turned stands kept tick (all_back passes (desk_view old.desk)) givers old new
+    pub welcomed : AllOf (λ i. OnlyWelcomes (length passes)) (givers_of old.desk.givers) givers
+    pub turned : Turned stands kept tick (all_back passes (desk_memo old.desk)) givers old new
+    pub are_back : (desk_memo new.desk).back ≡ map came passes
     -- for each history that it stood for, that with this turn has all calls of the passes, and nothing else
     pub all_calls : (config : Parts) (turns : List Turn) → IsMadeFor config shared → Stands stands config old turns
         → HaveAllCalls config passes (turns ++ turned.turn ∷ [])
@@ -55,7 +58,7 @@ module _ {C : Type 0} (stands : C → Parts → List Turn → Type 0) (kept : C 
 
 module _ {C : Type 0} (stands : C → Parts → List Turn → Type 0) (events : C → ℕ) (kept : C → List Buffer) (shared : Shared) where
   -- what a close of this tick leaves: all closed, with the output lent and the totals told; or nothing changed
-  abbrev pub CloseLeaves : ℕ → List PassView → Manager C → Result (Bor Output × Totals) TurnFault → Manager C → Type 0
+  abbrev pub CloseLeaves : ℕ → List PassMemo → Manager C → Result (Bor Output × Totals) TurnFault → Manager C → Type 0
   CloseLeaves tick passes old (Ok closed) new = IsManagerOf events kept shared new × (closed.0.now ≡ new.out) × (closed.1 ≡ new.totals)
-      × Closed stands kept shared tick passes old new
+      × Closed stands kept shared tick passes old new × IsQuick shared (length passes) old.desk new.desk
   CloseLeaves tick passes old (Err fault) new = new ≡ old

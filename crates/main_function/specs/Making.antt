@@ -4,7 +4,7 @@ use Rattle.std.specs.List.{All}
 use Rattle.ids_types.specs.Turns.{Turn}
 use Rattle.ids_config.specs.Parts.{Parts}
 use Rattle.buffer_classes.specs.{Buffer, spec_sizes}
-use Rattle.report_api.specs.{desk_view, IsNewMaking}
+use Rattle.report_api.specs.{desk_memo, IsNewMaking}
 use Rattle.report_api.specs.declared.desk.Desk.{Desk}
 use Rattle.report_api.specs.declared.pass.Pass.{Pass}
 use Rattle.report_api.specs.declared.shared.Shared.{Shared}
@@ -42,7 +42,7 @@ module _ {C : Type 0} where
     pub made_for : IsMadeFor config shared
     pub is_manager : IsManagerOf events kept shared m
     pub stands_for_none : Stands stands config m []
-    pub passes_are : AreAllPasses shared (desk_view m.desk) passes
+    pub passes_are : AreAllPasses shared (desk_memo m.desk) passes
     pub no_rests : rests_of m ≡ []
     pub positions_are : m.positions ≡ config.ring
     pub largest_is : IsLargest (spec_sizes config.classes) m.largest

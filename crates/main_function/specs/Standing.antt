@@ -9,8 +9,8 @@ use Rattle.ids_config.specs.Parts.{Parts}
 use Rattle.chain.specs.History.{last_tick}
 use Rattle.permit_ring.specs.Hands.{AllAdmitted}
 use Rattle.buffer_classes.specs.Buffers.{Buffer}
-use Rattle.report_queue.specs.{calls_of, queue_positions, TakerView}
-use Rattle.report_api.specs.{IsDeskOf, desk_view, to_give_back, Act, IsPassOf, pass_view, sizes_of}
+use Rattle.report_queue.specs.{calls_of, queue_positions}
+use Rattle.report_api.specs.{DeskMemo, IsDeskOf, desk_memo, to_give_back, IsPassOf, pass_memo, sizes_of}
 use Rattle.report_api.specs.declared.pass.Pass.{Pass}
 use Rattle.report_api.specs.declared.shared.Shared.{Shared}
 use Rattle.main_function.specs.Buffers.{IsHeld}
@@ -20,10 +20,10 @@ use Rattle.main_function.specs.declared.rest.Rest.{Rest}
 use Rattle.main_function.specs.declared.rest.Totals.{Totals}
 
 -- the totals are those of what was taken and swept
-pub record AreTotals (reports : TakerView Act) (totals : Totals) : Type 0 where
-  pub entries_are : totals.entries ≡ length reports.items
-  pub lost_events_are : totals.lost_events ≡ sum reports.lost_events
-  pub lost_contexts_are : totals.lost_contexts ≡ sum reports.lost_contexts
+pub record AreTotals (desk : DeskMemo) (totals : Totals) : Type 0 where
+  pub entries_are : totals.entries ≡ length desk.notes
+  pub lost_events_are : totals.lost_events ≡ sum desk.swept0
+  pub lost_contexts_are : totals.lost_contexts ≡ sum desk.swept1
 
 -- an output has room for so many entries with so many bytes, and just for the messages of a turn of so many events
 pub record HasRoomFor (entries bytes events : ℕ) (out : Output) : Type 0 where
@@ -32,18 +32,18 @@ pub record HasRoomFor (entries bytes events : ℕ) (out : Output) : Type 0 where
   pub sent_room : (room_of out).sent ≡ 1044 * (entries + events + 3)
 
 -- these are all passes of the making, caller 0 first
-pub record AreAllPasses (shared : Shared) (reports : TakerView Act) (passes : List Pass) : Type 0 where
-  pub all : length passes ≡ length reports.back
-  pub each : (i : ℕ) (pass : Pass) → get_elem? passes i ≡ some pass → IsPassOf shared pass × ((pass_view pass).caller ≡ i)
+pub record AreAllPasses (shared : Shared) (desk : DeskMemo) (passes : List Pass) : Type 0 where
+  pub all : length passes ≡ length desk.back
+  pub each : (i : ℕ) (pass : Pass) → get_elem? passes i ≡ some pass → IsPassOf shared pass × ((pass_memo pass).number ≡ i)
 
 -- the pass made as many calls as it counts, and those are few
 pub record HasFewCalls (pass : Pass) : Type 0 where
-  pub calls_are : calls_of pass.seat ≡ (pass_view pass).calls
-  pub calls_within : (pass_view pass).calls ≤ 2 ^ 40
+  pub calls_are : calls_of pass.seat ≡ (pass_memo pass).view.calls
+  pub calls_within : (pass_memo pass).view.calls ≤ 2 ^ 40
 
 -- how many calls they made
 abbrev pub all_calls : List Pass → ℕ
-all_calls passes = sum_by (λ pass. (pass_view pass).calls) passes
+all_calls passes = sum_by (λ pass. (pass_memo pass).view.calls) passes
 
 module _ {C : Type 0} where
   -- how many turns the manager made
@@ -65,7 +65,7 @@ module _ {C : Type 0} where
   -- the manager stands for these turns of the configuration, the first of them first
   pub record Stands (stands : C → Parts → List Turn → Type 0) (config : Parts) (m : Manager C) (turns : List Turn) : Type 0 where
     pub chain_stands : stands m.chain config turns
-    pub reports_show : ShowsHistory m.positions (desk_view m.desk) turns
+    pub reports_show : ShowsHistory m.positions (desk_memo m.desk) turns
     pub tick_is : m.last ≡ last_tick turns
     pub count_is : m.turns ≡ length turns
 
@@ -85,9 +85,9 @@ module _ {C : Type 0} where
     pub desk_is : IsDeskOf shared m.desk
     pub positions_are : m.positions ≡ queue_positions shared.queue
     pub none_taken : to_give_back m.desk ≡ 0
-    pub offered_is : (desk_view m.desk).offered ≡ m.positions + length (desk_view m.desk).items
-    pub items_within : length (desk_view m.desk).items ≤ 2 ^ 45
-    pub totals_are : AreTotals (desk_view m.desk) m.totals
+    pub offered_is : (desk_memo m.desk).offered ≡ m.positions + length (desk_memo m.desk).notes
+    pub items_within : length (desk_memo m.desk).notes ≤ 2 ^ 45
+    pub totals_are : AreTotals (desk_memo m.desk) m.totals
     pub events_are : events m.chain ≡ shared.terms.events
     pub sizes_within : AllAdmitted (λ size. size ≤ m.largest) (sizes_of shared)
     pub kept_are : All (IsHeld (sizes_of shared)) (kept m.chain)
@@ -103,7 +103,7 @@ module _ {C : Type 0} where
   pub record HasPasses (events : C → ℕ) (kept : C → List Buffer) (passes : List Pass) (m : Manager C) : Type 0 where
     pub shared : Shared
     pub is_manager : IsManagerOf events kept shared m
-    pub passes_are : AreAllPasses shared (desk_view m.desk) passes
+    pub passes_are : AreAllPasses shared (desk_memo m.desk) passes
 
   -- nothing but the chain's room or the rests is changed: the manager stands for the same turns, and is of the same making
   pub record StaysSo (stands : C → Parts → List Turn → Type 0) (events : C → ℕ) (kept : C → List Buffer)

@@ -1,6 +1,8 @@
 -- A turn of the manager.
 use Rattle.std.specs.Borrow.{Bor}
-use Rattle.std.specs.Prelude.{◌≡◌, ℕ, ◌+◌, ◌≤◌, ◌<◌, ◌^◌, List, [], ◌∷◌, ◌++◌, Result, Ok, Err}
+use mathlib.Core.Option.{some}
+use lib.ListN.{get_elem?}
+use Rattle.std.specs.Prelude.{◌≡◌, ℕ, ◌+◌, ◌*◌, ◌≤◌, ◌<◌, ◌^◌, List, [], ◌∷◌, ◌++◌, length, Result, Ok, Err}
 use Rattle.ids_types.specs.declared.entry.Entry.{Entry}
 use Rattle.ids_types.specs.declared.entry.TurnHead.{TurnHead}
 use Rattle.ids_types.specs.Output.{Output, room_of}
@@ -8,11 +10,13 @@ use Rattle.ids_types.specs.Turns.{Turn}
 use Rattle.ids_config.specs.Parts.{Parts}
 use Rattle.chain.specs.History.{Sends, handed_of}
 use Rattle.chain.specs.Parcels.{all_parcels}
-use Rattle.buffer_classes.specs.{Buffer, givers_of}
+use Rattle.buffer_classes.specs.{Buffer, giver_memo, givers_of}
 use Rattle.buffer_classes.specs.declared.giver.Giver.{Giver}
-use Rattle.report_queue.specs.Views.{TakerView}
-use Rattle.report_api.specs.{desk_view, Act}
+use Rattle.merge_spec.specs.Contexts.{class_at}
+use Rattle.report_api.specs.{DeskMemo, desk_memo}
+use Rattle.report_api.specs.declared.desk.Desk.{Desk}
 use Rattle.report_api.specs.declared.shared.Shared.{Shared}
+use Rattle.desk_closing.specs.Closed.{IsMadeFor}
 use Rattle.main_function.specs.Buffers.{ReturnsBuffers}
 use Rattle.main_function.specs.Reports.{MakesTurn}
 use Rattle.main_function.specs.Standing.{IsManagerOf, Stands}
@@ -27,14 +31,15 @@ pub record IsSmallHead (head : TurnHead) : Type 0 where
   pub limited : head.limited ≤ 2 ^ 45
 
 module _ {C : Type 0} (stands : C → Parts → List Turn → Type 0) (kept : C → List Buffer) where
-  -- a turn of this tick was made, of a desk that showed these reports, with these givers
-  pub record Turned (tick : ℕ) (reports : TakerView Act) (givers : List Giver) (old new : Manager C) : Type 0 where
+  -- a turn of this tick was made, of a desk that knew this, with these givers
+  pub record Turned (tick : ℕ) (desk : DeskMemo) (givers : List Giver) (old new : Manager C) : Type 0 where
     pub turn : Turn
     pub taken : List (Entry Buffer)
     pub log_is : new.out.log.turns ≡ turn ∷ []
     pub tick_is : turn.head.tick ≡ tick
     pub head_is : IsSmallHead turn.head
-    pub makes : MakesTurn old.positions reports taken turn (desk_view new.desk)
+    pub makes : MakesTurn old.positions desk taken turn (desk_memo new.desk)
+    pub back_is : (desk_memo new.desk).back ≡ desk.back
     pub buffers : ReturnsBuffers (all_parcels taken) (kept old.chain) (kept new.chain)
         givers (givers_of new.desk.givers)
     -- for each history that it stood for, it stands for that with this turn, and sends what that has more to send
@@ -47,6 +52,22 @@ module _ {C : Type 0} (stands : C → Parts → List Turn → Type 0) (kept : C 
     pub rests_are : new.rests ≡ old.rests
     pub turns_are : new.turns ≡ old.turns + 1
     pub last_is : new.last ≡ tick
+
+-- how many steps a turn makes at most at the report ring: two sweeps, a mark for each place and one more, a look at the permit word, and an offer that each place and each caller may make miss once
+abbrev pub most_steps : Parts → ℕ
+most_steps config = 2 * config.ring + config.callers + 5
+
+-- and at the ring of class i, which it does not sweep
+abbrev pub most_class_steps : Parts → ℕ → ℕ
+most_class_steps config i = 2 * (class_at config i).number + config.callers + 3
+
+-- it made no more steps than these at any ring, and one more for each pass that came back before
+pub record IsQuick (shared : Shared) (came : ℕ) (old new : Desk) : Type 0 where
+  pub at_reports : (config : Parts) → IsMadeFor config shared
+      → length (desk_memo new).moves ≤ length (desk_memo old).moves + most_steps config + came
+  pub at_class : (config : Parts) → IsMadeFor config shared → (i : ℕ) (before after : Giver)
+      → get_elem? (givers_of old.givers) i ≡ some before → get_elem? (givers_of new.givers) i ≡ some after
+      → length (giver_memo after).moves ≤ length (giver_memo before).moves + most_class_steps config i + came
 
 -- the output logged one turn, of this tick
 abbrev pub LogsOne : ℕ → Output → Type 0
@@ -62,5 +83,5 @@ module _ {C : Type 0} (stands : C → Parts → List Turn → Type 0) (events : 
   -- what a call of this tick leaves: a turn made, whose output is lent; or nothing changed
   abbrev pub TurnLeaves : ℕ → Manager C → Result (Bor Output) TurnFault → Manager C → Type 0
   TurnLeaves tick old (Ok out) new = IsManagerOf events kept shared new × (out.now ≡ new.out)
-      × Turned stands kept tick (desk_view old.desk) (givers_of old.desk.givers) old new
+      × Turned stands kept tick (desk_memo old.desk) (givers_of old.desk.givers) old new × IsQuick shared 0 old.desk new.desk
   TurnLeaves tick old (Err fault) new = new ≡ old

@@ -7,9 +7,9 @@ ghost use Rattle.chain.specs.History.{rows_of};
 ghost use Rattle.buffer_classes.specs.Givers.{givers_of, late_of};
 ghost use Rattle.main_function.specs.Closing.{AreCountsOf, CloseLeaves, Closed};
 ghost use Rattle.main_function.specs.Standing.{AreAllPasses, HasPasses, IsManager, IsManagerOf, Stands, StaysSo, all_calls, fits_turn, last_of, rests_of, turns_of};
-ghost use Rattle.report_queue.specs.Closing.{AreAllSwept, AreCallersBack, IsAllTaken};
-ghost use Rattle.report_api.specs.{EachSettled, desk_view, pass_view};
-ghost use Rattle.main_function.specs.Turning.{LogsOne, TurnFails, TurnLeaves, Turned};
+ghost use Rattle.report_queue.specs.{AreAllBack, AreAllSwept, IsAllTaken};
+ghost use Rattle.report_api.specs.{EachSettled, desk_memo, pass_memo};
+ghost use Rattle.main_function.specs.Turning.{IsQuick, LogsOne, TurnFails, TurnLeaves, Turned};
 
 use crate::closing::welcome_all;
 use crate::rest::{HasPass, Rest, Totals, TurnFault, all_calls};
@@ -52,7 +52,8 @@ impl<C: Chain<CtxBuf>> Manager<C> {
 
     /// Makes a turn: what was lost since the turn before is swept, the items that are ready are taken, up to as many
     /// as there are event buffers, the chain judges them, and all buffers that nothing holds are given back. Its
-    /// output is lent. A refusal makes no step and changes nothing. It takes no memory.
+    /// output is lent. A refusal makes no step and changes nothing. It takes no memory, and the number of its steps is
+    /// bounded by the numbers of the configuration, whatever the callers do (`IsQuick`).
     pub fn turn(&mut self, shared: &Shared, tick: u64) -> Result<&TurnOut, TurnFault>
         requires mine { IsManagerOf C.events C.kept shared.now self.old }
         requires fits { fits_turn C.has_room self.old ≡ true }
@@ -81,15 +82,15 @@ impl<C: Chain<CtxBuf>> Manager<C> {
         requires mine { IsManagerOf C.events C.kept shared.now self.old }
         requires fits { fits_turn C.has_room self.old ≡ true }
         requires few { turns_of self.old < 2 ^ 62 }
-        requires passes { AreAllPasses shared.now (desk_view self.old.desk) passes.old.items }
+        requires passes { AreAllPasses shared.now (desk_memo self.old.desk) passes.old.items }
         ensures fault { TurnFails (last_of self.old) tick result }
         ensures lent { IfOk result (λ closed. LogsOne tick closed.0.now) }
-        ensures counts { IfOk result (λ closed. AreCountsOf (map pass_view passes.old.items) closed.1) }
+        ensures counts { IfOk result (λ closed. AreCountsOf (map pass_memo passes.old.items) closed.1) }
         ensures ok { OnOk result (passes.new.items ≡ []) }
         ensures err { OnErr result (passes.new ≡ passes.old) }
         // Once the output is given back, all holds that the close leaves.
         ensures* after_borrow { sem 𝓛 (Rests (the_row C.row) self.entry (λ new.
-            CloseLeaves C.stands C.events C.kept shared.now tick (map pass_view passes.old.items) self.old result new)) }
+            CloseLeaves C.stands C.events C.kept shared.now tick (map pass_memo passes.old.items) self.old result new)) }
     {
         self.check(tick)?;
         self.finish(shared, passes, tick);
@@ -185,9 +186,10 @@ impl<C: Chain<CtxBuf>> Manager<C> {
         requires few { turns_of self.old < 2 ^ 62 }
         requires later { last_of self.old ≤ tick }
         requires within { tick ≤ 2 ^ 62 }
-        requires passes { AreAllPasses shared.now (desk_view self.old.desk) passes.old.items }
+        requires passes { AreAllPasses shared.now (desk_memo self.old.desk) passes.old.items }
         ensures mine { IsManagerOf C.events C.kept shared.now self.new }
-        ensures closed { Closed C.stands C.kept shared.now tick (map pass_view passes.old.items) self.old self.new }
+        ensures quick { IsQuick shared.now (length passes.old.items) self.old.desk self.new.desk }
+        ensures closed { Closed C.stands C.kept shared.now tick (map pass_memo passes.old.items) self.old self.new }
         ensures empty { passes.new.items ≡ [] }
     {
         welcome_all(&mut self.desk, shared, passes);
@@ -202,11 +204,12 @@ impl<C: Chain<CtxBuf>> Manager<C> {
         requires later { last_of self.old ≤ tick }
         requires within { tick ≤ 2 ^ 62 }
         ensures mine { IsManagerOf C.events C.kept shared.now self.new }
-        ensures turned { Turned C.stands C.kept tick (desk_view self.old.desk) (givers_of self.old.desk.givers) self.old self.new }
+        ensures turned { Turned C.stands C.kept tick (desk_memo self.old.desk) (givers_of self.old.desk.givers) self.old self.new }
+        ensures quick { IsQuick shared.now 0 self.old.desk self.new.desk }
         // Once all passes are back, it takes all that was accepted, sweeps all that was marked, and settles each class.
-        ensures all_taken { AreCallersBack (desk_view self.old.desk) → IsAllTaken (desk_view self.new.desk) }
-        ensures swept { AreCallersBack (desk_view self.old.desk) → AreAllSwept (desk_view self.new.desk) }
-        ensures settled { AreCallersBack (desk_view self.old.desk) → EachSettled self.new.desk }
+        ensures all_taken { AreAllBack (desk_memo self.old.desk) → IsAllTaken (desk_memo self.new.desk) }
+        ensures swept { AreAllBack (desk_memo self.old.desk) → AreAllSwept 0 (desk_memo self.new.desk) × AreAllSwept 1 (desk_memo self.new.desk) }
+        ensures settled { AreAllBack (desk_memo self.old.desk) → EachSettled self.new.desk }
     {
         let (lost_events, lost_contexts) = self.desk.sweep(shared);
         let head = TurnHead {

@@ -1,7 +1,7 @@
 //! What a turn refuses, what a rest records, and what closing tells.
 ghost use Rattle.std.specs.Prelude.{◌≡◌, ◌+◌, ◌≤◌, ◌^◌, length, sum_by};
 ghost use Rattle.std.specs.List.{All};
-ghost use Rattle.report_api.specs.Passes.{pass_view};
+ghost use Rattle.report_api.specs.Passes.{pass_memo};
 ghost use Rattle.report_api.specs.declared.pass.Pass.{Pass as PassValue};
 ghost use Rattle.main_function.specs.Standing.{HasFewCalls};
 
@@ -73,7 +73,7 @@ impl HasPass for Pass {
 pub(crate) fn all_calls<P: HasPass>(passes: &[P]) -> u64
     requires few { length passes.now ≤ 32 }
     requires within { All (λ has. HasFewCalls (P.its has)) passes.now }
-    ensures { result ≡ sum_by (λ has. (pass_view (P.its has)).calls) passes.now }
+    ensures { result ≡ sum_by (λ has. (pass_memo (P.its has)).view.calls) passes.now }
 {
     let mut calls = 0;
     for has in passes {

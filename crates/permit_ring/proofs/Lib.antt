@@ -6,7 +6,9 @@ pub mod LogLemmas
 pub mod MoveLemmas
 pub mod Names
 pub mod NewRings
+pub mod OrderLemmas
 pub mod Positions
+pub mod RunLemmas
 pub mod RuleLaws
 pub mod SeatSteps
 pub mod Settled
@@ -16,7 +18,8 @@ pub use Rattle.permit_ring.proofs.KeeperSteps.{see_ready, offer_ready}
 pub use Rattle.permit_ring.proofs.ListLemmas.{at_length, there, at_end}
 pub use Rattle.permit_ring.proofs.Lives.{splits_allowed}
 pub use Rattle.permit_ring.proofs.LogLemmas.{kept_log, lost_log, got_from, taken_in}
-pub use Rattle.permit_ring.proofs.NewRings.{opens_running, fresh, new_ordered, one_seat_more}
+pub use Rattle.permit_ring.proofs.NewRings.{opens_running, untouched, new_ordered, one_seat_more}
 pub use Rattle.permit_ring.proofs.RuleLaws.{fate_of, logged_is_claimed, machine_holds, open_of, slot_at, place_from}
+pub use Rattle.permit_ring.proofs.RunLemmas.{OnlyReaps, only_reaps, reaps_push, end_steps, Gave, gave_of}
 pub use Rattle.permit_ring.proofs.Settled.{some_there, more_fronts}
 pub use Rattle.permit_ring.proofs.States.{ring_of}

@@ -1,5 +1,5 @@
 -- A ring that has just been made: it keeps the rule, and its keeper and seats stand.
-use Rattle.permit_ring.proofs.Names.{◌≡◌, ℕ, zero, suc, ◌+◌, ◌%◌, ◌<◌, List, [], ◌∷◌, ◌++◌, length, refl, sym, ◌∙◌, ap, inl, inr, mod-eq_of_lt, arith, map, replicate, length_push, length-map, all_free, opening, IsRing, packed, Slot, View, Ring, Seat, Key, Offered, IsOrdered, made_memo, IsNewSeat, AreNewSeats, new_memo, first_memo, AllAdmitted, HasOffered, IsKey, first_view, AreFates, AreSlots, IsKeeperMemo, IsViewAt, Runs, at_map}
+use Rattle.permit_ring.proofs.Names.{◌≡◌, ℕ, zero, suc, ◌+◌, ◌%◌, ◌<◌, List, [], ◌∷◌, ◌++◌, length, refl, sym, ◌∙◌, ap, inl, inr, mod-eq_of_lt, arith, map, replicate, length_push, length-map, all_free, opening, IsRing, packed, Slot, View, Ring, Seat, Key, Offered, IsOrdered, made_memo, IsNewSeat, AreNewSeats, new_memo, IsUntouched, SeatMemo, Option, None, replicate_more, first_memo, AllAdmitted, HasOffered, IsKey, first_view, AreFates, AreSlots, IsKeeperMemo, IsViewAt, Runs, at_map}
 use mathlib.Core.Option.{some-ne-none, some, some-injective}
 use Rattle.permit_ring.proofs.ListLemmas.{at_end, there}
 use lib.ListN.{get_elem?}
@@ -62,11 +62,25 @@ module _ {O D T N : Type 0} (note : D → N) (Ao : T → O → Type 0) (An : T �
         each_seat = λ i back e. absurd (some-ne-none back (sym e));
       }
 
--- what making seats leaves as it was, and how many it made
-pub fresh : {N : Type 0} (n made : ℕ) → ((made_memo {N = N} n made).notes ≡ []) × ((made_memo {N = N} n made).offered ≡ n)
-    × ((made_memo {N = N} n made).seen ≡ all_free n) × ((made_memo {N = N} n made).made ≡ made)
-fresh n zero = (refl, refl, refl, refl)
-fresh {N = N} n (suc made) = let was = fresh {N = N} n made in (was.0, was.1, was.2, omega (arith, was.3))
+-- once all seats are made, nothing was taken or swept
+pub untouched : {N : Type 0} (n made : ℕ) → IsUntouched {N = N} n made (made_memo n made)
+untouched n zero = record {
+  none_taken = refl;
+  no_marks = refl;
+  fronts_are = refl;
+  offered_is = refl;
+  none_swept0 = refl;
+  none_swept1 = refl;
+  seen_is = refl;
+  made_is = refl;
+  back_is = refl;
+}
+untouched {N = N} n (suc made) =
+    let was = untouched {N = N} n made in
+    let one : made + 1 ≡ suc made = omega arith in
+    let back = ap (λ (l : List (Option (SeatMemo N))). l ++ None ∷ []) was.back_is ∙ replicate_more made None
+    ∙ ap (λ (m : ℕ). replicate m None) one in
+    grind (arith, was, back)
 
 -- the log of a seat that has just been made is in order
 pub new_ordered : {N : Type 0} (i : ℕ) → IsOrdered (new_memo {N = N} i)

@@ -1,5 +1,5 @@
 -- What the calls of seats and of the keeper do, as equations on what they know.
-use Rattle.std.specs.Prelude.{◌≡◌, ◌≢◌, ℕ, ◌+◌, ◌<◌, ◌⊎◌, List, [], ◌∷◌, ◌++◌, map, length, Option, Some, None, Result, Ok, Err}
+use Rattle.std.specs.Prelude.{◌≡◌, ◌≢◌, ℕ, ◌+◌, ◌<◌, ◌≤◌, ◌⊎◌, List, [], ◌∷◌, ◌++◌, map, length, Option, Some, None, Result, Ok, Err}
 use Rattle.ids_types.specs.declared.names.Ticket.{Ticket}
 use Rattle.ring_core.specs.{offered_to, packed}
 use Rattle.permit_ring.specs.declared.answer.Look.{Look as Shown}
@@ -43,6 +43,15 @@ module _ {D N : Type 0} (note : D → N) where
   ReapTells old (Ok value) new = new ≡ reaps (length old.notes + 1) (note value) old
   ReapTells old (Err unready) new = (unready.mark ≢ length old.notes + 1) × (new ≡ waits unready.mark old)
 
+-- the keeper once the next tickets were reaped, whose values have these notes: one mark is read for each
+abbrev pub reaps_all : {N : Type 0} → List N → KeeperMemo N → KeeperMemo N
+reaps_all [] k = k
+reaps_all (x ∷ xs) k = reaps_all xs (reaps (length k.notes + 1) x k)
+
+-- the next tickets are reaped in order, up to one that is not finished, whose mark is read last
+abbrev pub ReapsToEnd : {N : Type 0} → List N → KeeperMemo N → KeeperMemo N → Type 0
+ReapsToEnd xs old new = (mark : ℕ) × (mark ≢ length (reaps_all xs old).notes + 1) × (new ≡ waits mark (reaps_all xs old))
+
 -- a reap that succeeded makes one position more vacant
 abbrev pub vacant_after : {D : Type 0} → ℕ → Result D Unready → ℕ
 vacant_after vacant (Ok value) = vacant + 1
@@ -76,3 +85,8 @@ TriesTell limit count old tries new = (missed : List PermitWord) × (tries ≡ l
 -- an offer of some positions: a look at the permit word, and then the tries
 abbrev pub OfferTells : {N : Type 0} → ℕ → ℕ → KeeperMemo N → ℕ → KeeperMemo N → Type 0
 OfferTells limit count old tries new = (first : PermitWord) × TriesTell limit count (reads limit first old) tries new
+
+-- an offer of so many of n positions, by at most one try more than there are positions and seats; no step where there are none
+abbrev pub OffersAll : {N : Type 0} → ℕ → ℕ → ℕ → KeeperMemo N → KeeperMemo N → Type 0
+OffersAll n limit count old new = (count ≡ 0 → new ≡ old)
+    × (0 < count → (tries : ℕ) × (tries ≤ n + limit + 1) × OfferTells limit count old tries new)

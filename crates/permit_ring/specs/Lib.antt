@@ -5,18 +5,20 @@ pub mod Logs
 pub mod Making
 pub mod Moves
 pub mod Names
+pub mod Order
 pub mod Places
 pub mod Rule
 pub mod Seats
 pub mod Steps
 pub mod Told
-pub use Rattle.permit_ring.specs.Calls.{ClaimTells, TriesTell, OfferTells}
-pub use Rattle.permit_ring.specs.Closing.{AreAllBack, IsAllReaped, IsWholeLog, IsSettled, marks_back}
+pub use Rattle.permit_ring.specs.Calls.{ClaimTells, ReapTells, reaps_all, ReapsToEnd, TriesTell, OfferTells, OffersAll, claimed_at, ticket_got, vacant_after}
+pub use Rattle.permit_ring.specs.Closing.{AreAllBack, AreAllSwept, IsAllReaped, IsWholeLog, IsSettled, marks_back}
 pub use Rattle.permit_ring.specs.Hands.{hand_from, filled_then, AllAdmitted}
 pub use Rattle.permit_ring.specs.Logs.{start_of, end_of, RisesFrom, end_from, got_of, taken_by, undecided, IsOrdered}
-pub use Rattle.permit_ring.specs.Making.{made_memo, IsNewSeat, AreNewSeats}
+pub use Rattle.permit_ring.specs.Making.{IsUntouched, made_memo, IsNewSeat, AreNewSeats}
 pub use Rattle.permit_ring.specs.Moves.{found_at, move, Leads, is_of_seat, is_of_keeper, by_seat, by_keeper}
 pub use Rattle.permit_ring.specs.Names.{SeatView, Step, Look, Claim, Finish, See, Read, Offer, Mark, Sweep, Split, Join, PermitWord, Key, KeeperMemo, Move, Outcome, Lost, Got, SeatMemo, Slot, Empty, Offered, Finished, View, Sits, Keeps, Spent, Ring, Seat}
+pub use Rattle.permit_ring.specs.Order.{is_claim, gets_ticket, ticket_at, tickets_got, AreCounted, AreInOrder}
 pub use Rattle.permit_ring.specs.Places.{ShowsRing, SitsThere, CameBack, IsMemoThere, IsOneSeats, IsHeldOnce, IsLoggedOnce, HasOnePlace, IsNotedAs, IsInOrder, IsAdmittedSlot}
 pub use Rattle.permit_ring.specs.Rule.{IsKey, first_view, words_of, StandsIn, Counts, AreFates, IsSeatMemo, IsKeeperMemo, Home, HasFinished, HasOffered, IsOut, IsSlot, AreSlots, IsViewAt, IsSomewhere, Runs, RunningRing}
 pub use Rattle.permit_ring.specs.Seats.{machine_ticket, ring_positions, ring_seats, ring_terms, seat_memo, seat_number, seat_calls, seat_ticket, keeper_memo, vacant_of, filled_of, IsKeeping, HasInHand, KeepsInHand, IsSeatOf, IsKeeperOf}

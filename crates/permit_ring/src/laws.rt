@@ -3,7 +3,8 @@
 ghost use Rattle.std.specs.Prelude.{◌≡◌, ℕ, ◌+◌, ◌%◌, ◌<◌, ◌≤◌};
 ghost use mathlib.Core.Option.{some};
 ghost use lib.ListN.{get_elem?};
-ghost use Rattle.permit_ring.specs.{SeatMemo, Slot, Key, KeeperMemo, Sits, Lost, Got, HasOnePlace, IsOneSeats, IsMemoThere, IsInOrder, IsNotedAs, IsAdmittedSlot, ShowsRing, IsOrdered, RunningRing, StandsIn, HasFinished, HasOffered, IsOut, OfferTells, AreAllBack, IsAllReaped, IsSettled};
+ghost use Rattle.permit_ring.specs.{SeatMemo, Slot, Key, KeeperMemo, Sits, Lost, Got, HasOnePlace, IsOneSeats, IsMemoThere, IsInOrder, IsNotedAs, IsAdmittedSlot, ShowsRing, IsOrdered, RunningRing, StandsIn, HasFinished, HasOffered, IsOut, OfferTells, AreAllBack, IsAllReaped, IsSettled, AreCounted, AreInOrder, tickets_got, by_seat, by_keeper};
+ghost use Rattle.ring_core.specs.Machine.{seat_at};
 ghost use Rattle.ring_core.specs.Sound.{Holds};
 
 use crate::freight::Freight;
@@ -13,6 +14,28 @@ use crate::freight::Freight;
 pub fn words_show_the_machine<F: Freight>()
     ghost r: { RunningRing F.note F.admits_offered F.admits_note }
     ensures { ShowsRing r.key r.table.words r.rule.moves r.rule.machine }
+{}
+
+/// A seat's memo, where the seat sits or as it came back, shows the seat of the machine's state.
+pub fn each_memo_shows_its_seat<F: Freight>()
+    ghost r: { RunningRing F.note F.admits_offered F.admits_note }
+    ensures { (memo : SeatMemo F.Note) → IsMemoThere r.table.views memo → memo.view ≡ seat_at r.rule.machine.seats memo.number }
+{}
+
+/// The moves of a memo are its own among all, in their order.
+pub fn each_memo_has_its_moves<F: Freight>()
+    ghost r: { RunningRing F.note F.admits_offered F.admits_note }
+    ensures seats { (memo : SeatMemo F.Note) → IsMemoThere r.table.views memo → memo.moves ≡ by_seat memo.number r.rule.moves }
+    ensures keeper { r.rule.keeper.moves ≡ by_keeper r.rule.moves }
+{}
+
+/// Ticket t is that of the t-th claim that found a position free, counted from 0 in the order of all moves, whoever
+/// made them. So of two claims the later one has the greater ticket.
+pub fn tickets_are_in_the_order_of_claims<F: Freight>()
+    ghost r: { RunningRing F.note F.admits_offered F.admits_note }
+    ensures counted { AreCounted r.key.limit r.rule.moves }
+    ensures all { r.rule.machine.word.claimed ≡ tickets_got r.key.limit r.rule.moves }
+    ensures order { AreInOrder r.key.limit r.rule.moves }
 {}
 
 /// Each ticket that was claimed is held by one live seat, or stands in one log, there once.

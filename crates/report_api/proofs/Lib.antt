@@ -1,12 +1,12 @@
+pub mod AnswerLemmas
 pub mod AskLemmas
 pub mod ControlLemmas
 pub mod MakingLemmas
 pub mod Names
 pub mod PassLemmas
-pub mod StepLemmas
 pub mod TiedLemmas
 pub mod WelcomeLemmas
+pub use Rattle.report_api.proofs.AnswerLemmas.{OneCall, fitting_some, lost_call, lost_event, put_call, put_without, put_tells, refused, report_moves, same_ticket}
 pub use Rattle.report_api.proofs.AskLemmas.{kept_asks, missing_asks}
 pub use Rattle.report_api.proofs.ControlLemmas.{control_asks, control_misses}
-pub use Rattle.report_api.proofs.PassLemmas.{pass_after, same_logs, contexts_within}
-pub use Rattle.report_api.proofs.StepLemmas.{same_ticket, put_steps}
+pub use Rattle.report_api.proofs.PassLemmas.{AddsCall, call_adds, contexts_within, missed_adds, pass_after, put_adds, same_logs}

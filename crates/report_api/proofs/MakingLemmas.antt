@@ -1,5 +1,5 @@
 -- What reports and takes, just made.
-use Rattle.report_api.proofs.Names.{◌≡◌, ℕ, zero, suc, ◌≤◌, ◌<◌, None, List, [], ◌∷◌, get_or, length, map, replicate, subst, sym, ap, ◌∙◌, arith, All, slice_index_or, get_or_default, length-map, length-replicate, Parts, class_of, at_index, at_map, at_length, there, RiseFrom, givers_of, AreNewClasses, AreSpecs, IsNewClaimant, IsSpec, spec_sizes, IsNewQueue, IsUnused, caller_number, AreTied, desk_view, Caller, IsNewMaking, IsNewPass, IsOfConfig, as_passes, pass_of, IsPassOf, IsShared, pass_view, sizes_of, Pass, Shared}
+use Rattle.report_api.proofs.Names.{◌≡◌, ℕ, zero, suc, ◌≤◌, ◌<◌, None, List, [], ◌∷◌, get_or, length, map, replicate, subst, sym, ap, ◌∙◌, arith, All, slice_index_or, get_or_default, length-map, length-replicate, Parts, class_of, at_index, at_map, at_length, there, RiseFrom, givers_of, AreNewClasses, AreSpecs, IsNewClaimant, IsSpec, spec_sizes, IsNewQueue, IsUnused, caller_number, AreTied, Caller, IsNewMaking, IsNewPass, IsOfConfig, as_passes, pass_of, IsPassOf, IsShared, pass_memo, sizes_of, Pass, Shared}
 use Rattle.std.proofs.lemmas.Slice.Zip.{length-zip}
 use Rattle.std.specs.List.{zip}
 use mathlib.Core.Option.{some, some-injective, some-ne-none}
@@ -10,7 +10,7 @@ use Rattle.permit_ring.specs.Hands.{AllAdmitted}
 use Rattle.buffer_classes.specs.declared.class.Classes.{Classes}
 use Rattle.buffer_classes.specs.declared.givers.Givers.{Givers}
 use Rattle.buffer_classes.specs.declared.seat.ClaimSeat.{ClaimSeat}
-use Rattle.buffer_classes.proofs.MakingLemmas.{as_many, made_so}
+use Rattle.buffer_classes.proofs.MakingLemmas.{as_many}
 use Rattle.report_queue.proofs.{at_map_back, none_there}
 use Rattle.report_api.specs.declared.desk.Desk.{Desk}
 
@@ -50,13 +50,13 @@ at_zip (x ∷ xs) (y ∷ ys) (suc i) p at = at_zip xs ys i p at
 new_pass : (shared : Shared) → IsShared shared → (i : ℕ) (pass : Pass) → IsUnused shared.queue pass.seat → caller_number pass.seat ≡ i
     → IsNewClaimant shared.classes i pass.claimant → IsNewPass shared i pass
 new_pass shared is_shared i pass unused number new =
-    let log : (pass_view pass).log ≡ [] = ap (λ v. v.log) unused.shows in
+    let log : (pass_memo pass).log ≡ [] = ap (λ k. k.log) unused.knows in
     record {
       is_pass = record {
         at = let none = new.no_logs in grind (arith, is_shared, unused, new, none, number, log);
         is_idle = unused.is_idle;
       };
-      shows = rw (← number) unused.shows;
+      knows = rw (← number) unused.knows;
     }
 
 -- no pass came back yet
@@ -66,8 +66,7 @@ new_tied number limit specs classes givers claimants new = record {
   as_many = λ i giver at.
       let low = at_length (givers_of givers) i giver at in
       let spec = there specs i (omega (arith, low, as_many new, new.givers_are.all)) in
-      let knows = (new.each_giver i spec.0 giver spec.1 at).knows in
-      ap (λ k. length k.back) knows ∙ (made_so spec.0.number limit).back_is ∙ sym (length-replicate limit None);
+      ap length (new.each_giver i spec.0 giver spec.1 at).untouched.back_is ∙ length-replicate limit None ∙ sym (length-replicate limit None);
   both = λ i caller giver pass at back. none_there limit caller pass back;
   follows = λ i caller pass back. none_there limit caller pass back;
   missing = λ caller pass back. none_there limit caller pass back;
@@ -79,7 +78,6 @@ pub new_making : (config : Parts) (shared : Shared) (desk : Desk) (callers : Lis
     → IsNewMaking config shared (as_passes callers claimants) desk
 new_making config shared desk callers claimants of queue classes =
     let is_shared : IsShared shared = record { terms_are = queue.terms_are; sizes_are = classes.sizes_are ∙ sym of.sizes } in
-    let back : (desk_view desk).back ≡ replicate config.callers None = ap (λ v. v.back) queue.shows in
     let tied = new_tied (length (sizes_of shared)) config.callers config.classes shared.classes desk.givers claimants classes in
     record {
       is_config = of;
@@ -90,9 +88,9 @@ new_making config shared desk callers claimants of queue classes =
         is_shared = is_shared;
         taker = queue.is_taker;
         givers = classes.givers_are;
-        tied = rw back tied;
+        tied = rw queue.untouched.back_is tied;
       };
-      shows = queue.shows;
+      untouched = queue.untouched;
       givers_are = classes.each_giver;
       all_made = length-map (zip callers claimants) pass_of ∙ length-zip callers claimants ∙ omega (arith, queue.all_made, classes.all_made);
       each = λ i pass at.

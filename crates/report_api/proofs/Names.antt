@@ -1,5 +1,5 @@
 -- The names of other crates and of this crate's specs that more than one of its proofs stands on.
-pub use Rattle.std.proofs.Common.{◌≡◌, ℕ, suc, ◌+◌, ◌-◌, ◌==◌, if◌then◌else◌, List, [], ◌∷◌, length, map, refl, ap, ◌∙◌, inl, arith, eq-eqb, ne_eqb, Some, zero, ◌≤◌, ◌<◌, None, get_or, replicate, subst, sym, All, slice_index_or, ◌^◌, is_none, is_some, true, false, Option, ◌++◌, Ok, true≢false, inr, ◌≢◌, ◌⊎◌, slice_set, eq-zero-or-pos, take}
+pub use Rattle.std.proofs.Common.{◌≡◌, ℕ, suc, ◌+◌, ◌-◌, ◌==◌, if◌then◌else◌, List, [], ◌∷◌, length, map, refl, ap, ◌∙◌, inl, arith, eq-eqb, ne_eqb, Some, zero, ◌≤◌, ◌<◌, None, get_or, replicate, subst, sym, All, slice_index_or, ◌^◌, is_none, is_some, true, false, Option, ◌++◌, Ok, Err, rules, true≢false, inr, ◌≢◌, ◌⊎◌, slice_set, eq-zero-or-pos, take}
 pub use Rattle.std.proofs.lemmas.List.{get_or_default, length-map, length-replicate, append-nil, length_push, map-append, map_push, length-set}
 pub use Rattle.atomic_table.proofs.Lists.{at_index, at_map, at_set, set_here, set_else}
 pub use Rattle.buffer_classes.proofs.AskLemmas.{lost_past, below_or, nothing_past}
@@ -11,7 +11,7 @@ pub use Rattle.ids_types.specs.declared.names.Ticket.{Ticket}
 pub use Rattle.merge_spec.specs.Follows.{KeptAsks, LostAtMost, lost_number, CallAsks, Follows}
 pub use Rattle.permit_ring.proofs.ListLemmas.{at_length, there}
 pub use Rattle.permit_ring.specs.{undecided, machine_ticket, seat_memo, ended}
-pub use Rattle.report_queue.specs.{IsNewQueue, IsUnused, caller_number, taker_view, TakerView, puts, caller_memo, item_of, queue_seats, ticket_of, marks_context, CallerView, marks_event}
-pub use Rattle.report_api.specs.{Got, fate_of, IsControl, Act, misses_context, plain_act, AreTied, desk_view, Caller, IsNewMaking, IsNewPass, IsOfConfig, as_passes, pass_of, IsPassOf, IsShared, pass_view, sizes_of, Outcome, PassView, Lost, IsPassAt, asks_of, call_of, calls_in, missing_in, IsUnder, ReportSteps, StepsTell, PassMemo, back_log, log_at, asks_back, to_give_back}
+pub use Rattle.report_queue.specs.{IsNewQueue, IsUnused, IsUntouched, caller_number, caller_memo, queue_seats, ticket_of, ClaimTells, adds_mark, finishes, item_by}
+pub use Rattle.report_api.specs.{Got, fate_of, IsControl, Act, misses_context, plain_act, AreTied, desk_memo, Caller, IsNewMaking, IsNewPass, IsOfConfig, as_passes, pass_of, IsPassOf, IsShared, pass_memo, lost_events, lost_contexts, sizes_of, Outcome, DeskMemo, Lost, IsPassAt, asks_of, call_of, calls_in, missing_in, IsUnder, PassMemo, back_log, log_at, asks_back, to_give_back}
 pub use Rattle.report_api.specs.declared.pass.Pass.{Pass}
 pub use Rattle.report_api.specs.declared.shared.Shared.{Shared}

@@ -1,11 +1,11 @@
 -- What ties the passes that came back to their claimants.
-use Rattle.report_api.proofs.Names.{◌≡◌, ℕ, ◌<◌, true, is_some, true≢false, Option, Some, None, List, length, refl, sym, ap, subst, ◌∙◌, ◌≤◌, map, inl, inr, at_length, there, Giver, Buffer, AllOf, GaveBack, giver_memo, below_or, nothing_past, Follows, AreTied, back_log, log_at, PassView, calls_in, fate_of}
+use Rattle.report_api.proofs.Names.{◌≡◌, ℕ, ◌<◌, true, is_some, true≢false, Option, Some, None, List, length, refl, sym, ap, subst, ◌∙◌, ◌≤◌, map, inl, inr, at_length, there, Giver, Buffer, AllOf, GaveBack, giver_memo, below_or, nothing_past, Follows, AreTied, back_log, log_at, PassMemo, calls_in, fate_of}
 use mathlib.Core.Option.{some, some-injective}
 use lib.ListN.{get_elem?}
 use Rattle.permit_ring.specs.Closing.{AreAllBack, IsSettled}
 use Rattle.buffer_classes.specs.Names as classes
 
-module _ {number : ℕ} {back : List (Option PassView)} {olds : List Giver} (news : List Giver) (tied : AreTied number back olds)
+module _ {number : ℕ} {back : List (Option PassMemo)} {olds : List Giver} (news : List Giver) (tied : AreTied number back olds)
     (as_many : length news ≡ length olds)
     (same : (i : ℕ) (old new : Giver) → get_elem? olds i ≡ some old → get_elem? news i ≡ some new → (giver_memo new).back ≡ (giver_memo old).back) where
   -- the giver that stands at a place now stood there before
@@ -33,9 +33,9 @@ module _ {number : ℕ} {back : List (Option PassView)} {olds : List Giver} (new
     missing = tied.missing;
   }
 
-module _ {number : ℕ} {back : List (Option PassView)} {givers : List Giver} (tied : AreTied number back givers)
-    (all : (i : ℕ) (came : Option PassView) → get_elem? back i ≡ some came → is_some came ≡ true) where
-  came_back : (i caller : ℕ) (giver : Giver) (its : Option classes.SeatMemo) (pass : Option PassView) → get_elem? givers i ≡ some giver
+module _ {number : ℕ} {back : List (Option PassMemo)} {givers : List Giver} (tied : AreTied number back givers)
+    (all : (i : ℕ) (came : Option PassMemo) → get_elem? back i ≡ some came → is_some came ≡ true) where
+  came_back : (i caller : ℕ) (giver : Giver) (its : Option classes.SeatMemo) (pass : Option PassMemo) → get_elem? givers i ≡ some giver
       → get_elem? back caller ≡ some pass → is_some pass ≡ true → get_elem? (giver_memo giver).back caller ≡ some its → is_some its ≡ true
   came_back i caller giver its None at came is there_now = absurd (true≢false (sym is))
   came_back i caller giver its (Some pass) at came is there_now =
@@ -49,14 +49,14 @@ module _ {number : ℕ} {back : List (Option PassView)} {givers : List Giver} (t
       came_back i caller giver its pass.0 at pass.1 (all caller pass.0 pass.1) e
 
 -- then giving back settles each class
-pub settles : {number : ℕ} {back : List (Option PassView)} {olds news : List Giver} {bufs : List Buffer} (tied : AreTied number back olds)
-    → ((i : ℕ) (came : Option PassView) → get_elem? back i ≡ some came → is_some came ≡ true) → AllOf (GaveBack bufs) olds news
+pub settles : {number : ℕ} {back : List (Option PassMemo)} {olds news : List Giver} {bufs : List Buffer} (tied : AreTied number back olds)
+    → ((i : ℕ) (came : Option PassMemo) → get_elem? back i ≡ some came → is_some came ≡ true) → AllOf (GaveBack bufs) olds news
     → (i : ℕ) (giver : Giver) → get_elem? news i ≡ some giver → IsSettled (giver_memo giver)
 settles {olds = olds} {news = news} tied all gave i giver at =
     let old = there olds i (subst (λ (n : ℕ). i < n) gave.as_many (at_length news i giver at)) in
     (gave.each i old.0 giver old.1 at).settled (claimants_back tied all i old.0 old.1)
 
 -- and leaves them tied
-pub tied_given : {number : ℕ} {back : List (Option PassView)} {olds news : List Giver} {bufs : List Buffer} → AreTied number back olds
+pub tied_given : {number : ℕ} {back : List (Option PassMemo)} {olds news : List Giver} {bufs : List Buffer} → AreTied number back olds
     → AllOf (GaveBack bufs) olds news → AreTied number back news
 tied_given {news = news} tied gave = tied_on news tied gave.as_many (λ i old new was is. (gave.each i old new was is).back_is)

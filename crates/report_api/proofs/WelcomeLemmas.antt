@@ -1,17 +1,17 @@
 -- A pass that comes back with its claimant.
-use Rattle.report_api.proofs.Names.{◌≡◌, ℕ, ◌<◌, ◌≢◌, ◌⊎◌, Option, Some, List, length, slice_set, refl, sym, ap, subst, ◌∙◌, inl, inr, arith, length-set, at_set, set_here, set_else, Follows, at_length, there, seat_memo, ended, Giver, AllOf, Welcomed, ClassMemo, giver_memo, log_of, below_or, nothing_past, AreTied, asks_back, log_at, PassView, IsPassOf, calls_in, missing_in, pass_view, sizes_of, Pass, Shared}
+use Rattle.report_api.proofs.Names.{◌≡◌, ℕ, ◌<◌, ◌≢◌, ◌⊎◌, Option, Some, List, length, slice_set, refl, sym, ap, subst, ◌∙◌, inl, inr, arith, length-set, at_set, set_here, set_else, Follows, at_length, there, seat_memo, ended, Giver, AllOf, Welcomed, ClassMemo, giver_memo, log_of, below_or, nothing_past, AreTied, asks_back, log_at, PassMemo, lost_contexts, IsPassOf, calls_in, missing_in, pass_memo, sizes_of, Pass, Shared}
 use mathlib.Core.Option.{some}
 use lib.ListN.{get_elem?}
 use Rattle.buffer_classes.specs.Names as classes
 
-module _ {shared : Shared} {pass : Pass} {back : List (Option PassView)} {olds news : List Giver} (its : IsPassOf shared pass)
+module _ {shared : Shared} {pass : Pass} {back : List (Option PassMemo)} {olds news : List Giver} (its : IsPassOf shared pass)
     (as_many : length olds ≡ length shared.classes.classes.items)
     (tied : AreTied (length (sizes_of shared)) back olds) (welcomed : AllOf (Welcomed pass.claimant) olds news) where
   abbrev caller : ℕ
-  caller = (pass_view pass).caller
+  caller = (pass_memo pass).number
 
-  abbrev new_back : List (Option PassView)
-  new_back = slice_set back caller (Some (pass_view pass))
+  abbrev new_back : List (Option PassMemo)
+  new_back = slice_set back caller (Some (ended (pass_memo pass)))
 
   -- what a giver knew before, and the seat that came back there
   pub record Came (i : ℕ) (new : Giver) : Type 0 where
@@ -39,11 +39,11 @@ module _ {shared : Shared} {pass : Pass} {back : List (Option PassView)} {olds n
       }
 
   -- where a pass stands now, either it is this one, or it stood there before
-  stands : (c : ℕ) (other : PassView) → get_elem? new_back c ≡ some (Some other)
-      → ((c ≡ caller) × (caller < length back) × (pass_view pass ≡ other)) ⊎ ((c ≢ caller) × (get_elem? back c ≡ some (Some other)))
+  stands : (c : ℕ) (other : PassMemo) → get_elem? new_back c ≡ some (Some other)
+      → ((c ≡ caller) × (caller < length back) × (ended (pass_memo pass) ≡ other)) ⊎ ((c ≢ caller) × (get_elem? back c ≡ some (Some other)))
   stands c other at =
-      let there = at_set back caller c (Some (pass_view pass)) (Some other) at in
-      let long = length-set back caller (Some (pass_view pass)) in
+      let there = at_set back caller c (Some (ended (pass_memo pass))) (Some other) at in
+      let long = length-set back caller (Some (ended (pass_memo pass))) in
       grind (arith, there, long, at_length new_back c (Some other) at)
 
   log_there : (i : ℕ) → caller < length back → log_at (get_elem? news i) caller ≡ log_of pass.claimant i
@@ -65,7 +65,7 @@ module _ {shared : Shared} {pass : Pass} {back : List (Option PassView)} {olds n
     | inr past ↦ rw (nothing_past news i past, nothing_past olds i (omega (arith, past, welcomed.as_many))) refl
   ]
 
-  both_there : (i c : ℕ) (giver : Giver) (other : PassView) → get_elem? news i ≡ some giver → get_elem? new_back c ≡ some (Some other)
+  both_there : (i c : ℕ) (giver : Giver) (other : PassMemo) → get_elem? news i ≡ some giver → get_elem? new_back c ≡ some (Some other)
       → (memo : classes.SeatMemo) × (get_elem? (giver_memo giver).back c ≡ some (Some memo))
   both_there i c giver other at e =
       let was = came i giver at in
@@ -78,12 +78,12 @@ module _ {shared : Shared} {pass : Pass} {back : List (Option PassView)} {olds n
             (memo.0, grind (arith, was, apart, else, memo))
       ]
 
-  follows_there : (i c : ℕ) (other : PassView) → get_elem? new_back c ≡ some (Some other)
+  follows_there : (i c : ℕ) (other : PassMemo) → get_elem? new_back c ≡ some (Some other)
       → Follows (length (sizes_of shared)) i (calls_in other.log) (asks_back news c i)
   follows_there i c other e =
       grind (arith, stands c other e, log_there i, log_else i c, its.at.asks i, tied.follows i c other)
 
-  missing_there : (c : ℕ) (other : PassView) → get_elem? new_back c ≡ some (Some other) → other.lost_contexts ≡ missing_in other.log
+  missing_there : (c : ℕ) (other : PassMemo) → get_elem? new_back c ≡ some (Some other) → lost_contexts other ≡ missing_in other.log
   missing_there c other e = grind (arith, stands c other e, its.at.contexts_are, tied.missing c other)
 
   -- the pass and its claimant take the same place
@@ -92,7 +92,7 @@ module _ {shared : Shared} {pass : Pass} {back : List (Option PassView)} {olds n
     as_many = λ i giver at.
         let was = came i giver at in
         ap length was.back_is ∙ length-set (giver_memo was.old).back caller (Some (ended (seat_memo was.seat))) ∙ tied.as_many i was.old was.old_at
-        ∙ sym (length-set back caller (Some (pass_view pass)));
+        ∙ sym (length-set back caller (Some (ended (pass_memo pass))));
     both = both_there;
     follows = follows_there;
     missing = missing_there;

@@ -1,25 +1,26 @@
--- The answers of a pass's calls, each with its cause and with what it leaves.
-use Rattle.std.specs.Prelude.{◌≡◌, ℕ, ◌+◌, ◌-◌, ◌≤◌, ◌<◌, ◌^◌, true, false, List, [], length, Option, Some, Result, Ok, Err, ⊤}
+-- The answers of a pass's calls, each with its cause, and with the steps that the call made.
+use Rattle.std.specs.Prelude.{◌≡◌, ℕ, suc, ◌+◌, ◌-◌, ◌*◌, ◌≤◌, ◌<◌, ◌^◌, true, false, List, [], ◌∷◌, length, Option, Some, Ok, Err}
 use mathlib.Core.Option.{some}
 use lib.ListN.{get_elem?}
 use Rattle.ids_types.specs.declared.mode.Mode.{Mode}
 use Rattle.ids_types.specs.declared.names.Ticket.{Ticket}
-use Rattle.permit_ring.specs.declared.answer.Look.{Look}
-use Rattle.buffer_classes.specs.{Buffer, Asks, ClaimTells, asked, lost_at, ticket, first_fitting, memo_at}
-use Rattle.buffer_classes.specs.Names as classes
+use Rattle.buffer_classes.specs.{Buffer, Asks, asked, lost_at, first_fitting, memo_at}
+use Rattle.buffer_classes.specs.Claims as classes
+use Rattle.buffer_classes.specs.Names.{Outcome as ClassOutcome}
 use Rattle.buffer_classes.specs.declared.class.Class.{Class}
 use Rattle.buffer_classes.specs.declared.seat.Claim.TheVariants as claims
 use Rattle.buffer_classes.specs.declared.seat.ClaimSeat.{ClaimSeat}
 use Rattle.permit_ring.specs.Seats.{ring_seats}
-use Rattle.report_queue.specs.Calls as ring
-use Rattle.report_queue.specs.Calls.{calls_once, puts, marks_event, marks_context}
-use Rattle.report_api.specs.Names.{Act, Report, SetMode, Carried, Absent, Kept, Missing, EventIndex, Stamp, PassMemo, PassView}
-use Rattle.report_api.specs.Passes.{sizes_of}
+use Rattle.buffer_classes.specs.Seats.{steps_of as claim_steps}
+use Rattle.report_queue.specs.{ClaimTells, adds_mark, finishes, item_by, queue_seats, ticket_of}
+use Rattle.report_api.specs.Names.{Act, Report, SetMode, Carried, Absent, Kept, Missing, EventIndex, Stamp, PassMemo}
+use Rattle.report_api.specs.Passes.{IsPassOf, pass_memo, sizes_of, steps_of}
 use Rattle.report_api.specs.Terms.{IsReported, is_sensor}
 use Rattle.report_api.specs.declared.answer.Control.{Control}
 use Rattle.report_api.specs.declared.answer.Control.TheVariants as controls
 use Rattle.report_api.specs.declared.answer.Report.{Report as ReportAnswer}
 use Rattle.report_api.specs.declared.answer.Report.TheVariants as reports
+use Rattle.report_api.specs.declared.pass.Pass.{Pass}
 use Rattle.report_api.specs.declared.shared.Shared.{Shared}
 
 -- what a report is given; no bytes are no context
@@ -36,15 +37,6 @@ given event count stamp bytes = record { event = event; count = count; stamp = s
 abbrev pub act_with : Given → Carried Buffer → Act
 act_with given context = Report given.event given.count given.stamp context
 
--- the pass with one call more, which was lost
-abbrev pub loses : Look → PassView → PassView
-loses look pass = calls_once (Err look) pass
-
--- the pass with one call more, whose act stands under this ticket
-abbrev pub accepts : ℕ → Act → PassView → PassView
-accepts number act pass =
-    puts number (record { caller = pass.caller; call = pass.calls; payload = act }) (calls_once (Ok (ticket number)) pass)
-
 -- the context is all of these bytes, where there are any, in a buffer of a class that holds so many
 abbrev pub CarriesAll : List ℕ → List ℕ → Carried Buffer → Type 0
 CarriesAll sizes bytes Absent = bytes ≡ []
@@ -57,35 +49,18 @@ abbrev pub IsReport : Shared → Given → Type 0
 IsReport shared given = IsReported shared.terms given.event.0 given.count
 
 -- and the pass may make a call
-abbrev pub IsCall : Shared → Given → PassView → Type 0
-IsCall shared given pass = IsReport shared given × (pass.calls < 2 ^ 40)
+abbrev pub IsCall : Shared → Given → PassMemo → Type 0
+IsCall shared given pass = IsReport shared given × (pass.view.calls < 2 ^ 40)
 
--- each answer of a report with its cause, and the pass after it
-abbrev pub ReportTells : Shared → Given → PassView → ReportAnswer → PassView → Type 0
-ReportTells shared given old reports.UnknownEvent new = (is_sensor shared.terms given.event.0 ≡ false) × (new ≡ old)
-ReportTells shared given old reports.ZeroCount new = (is_sensor shared.terms given.event.0 ≡ true) × (given.count ≡ 0) × (new ≡ old)
-ReportTells shared given old reports.PassSpent new = IsReport shared given × (old.calls ≡ 2 ^ 40) × (new ≡ old)
-ReportTells shared given old (reports.LostEvent look) new =
-    IsCall shared given old × (look.free ≡ 0) × (new ≡ marks_event (loses look old))
-ReportTells shared given old (reports.Accepted t) new =
-    IsCall shared given old × ((context : Carried Buffer) × CarriesAll (sizes_of shared) given.bytes context × (new ≡ accepts t.0 (act_with given context) old))
-ReportTells shared given old (reports.WithoutContext t looks) new =
-    IsCall shared given old × (0 < length given.bytes)
-    × (first_fitting (length given.bytes) (sizes_of shared) + length looks ≡ length (sizes_of shared))
-    × (new ≡ marks_context (accepts t.0 (act_with given (Missing looks)) old))
-
--- the pass that held a ticket, whose act stands under it now; it made its call when it got the ticket
-abbrev pub puts_act : ℕ → Act → PassView → PassView
-puts_act number act pass = puts number (record { caller = pass.caller; call = pass.calls - 1; payload = act }) pass
-
--- what putting a report under the ticket that is held answers, and the pass after it
-abbrev pub PutTells : Shared → Given → PassView → ReportAnswer → PassView → Type 0
+-- a pass that holds a ticket puts a report there, and then marks a context that is lost
+abbrev pub PutTells : Shared → Given → PassMemo → ReportAnswer → PassMemo → Type 0
 PutTells shared given old (reports.Accepted t) new =
-    (context : Carried Buffer) × CarriesAll (sizes_of shared) given.bytes context × (new ≡ puts_act t.0 (act_with given context) old)
+    (context : Carried Buffer) × CarriesAll (sizes_of shared) given.bytes context
+    × (new ≡ finishes (item_by old (act_with given context)) old)
 PutTells shared given old (reports.WithoutContext t looks) new =
     (0 < length given.bytes)
     × (first_fitting (length given.bytes) (sizes_of shared) + length looks ≡ length (sizes_of shared))
-    × (new ≡ marks_context (puts_act t.0 (act_with given (Missing looks)) old))
+    × ((found : ℕ) × (new ≡ adds_mark 1 found (finishes (item_by old (act_with given (Missing looks))) old)))
 PutTells shared given old other new = ⊥
 
 -- a report that was put stands under the ticket that was held
@@ -94,8 +69,25 @@ IsUnder held (reports.Accepted t) = held ≡ Some t
 IsUnder held (reports.WithoutContext t looks) = held ≡ Some t
 IsUnder held other = ⊥
 
+-- a claim got this ticket, and then the report was put there
+abbrev pub ClaimsAndPuts : Shared → Given → PassMemo → Ticket → ReportAnswer → PassMemo → Type 0
+ClaimsAndPuts shared given old t answer new =
+    (mid : PassMemo) × ClaimTells (queue_seats shared.queue) old (Ok t) mid × PutTells shared given mid answer new
+
+-- each answer of a report with its cause: what the pass did at the report ring, step by step
+abbrev pub ReportTells : Shared → Given → PassMemo → ReportAnswer → PassMemo → Type 0
+ReportTells shared given old reports.UnknownEvent new = (is_sensor shared.terms given.event.0 ≡ false) × (new ≡ old)
+ReportTells shared given old reports.ZeroCount new = (is_sensor shared.terms given.event.0 ≡ true) × (given.count ≡ 0) × (new ≡ old)
+ReportTells shared given old reports.PassSpent new = IsReport shared given × (old.view.calls ≡ 2 ^ 40) × (new ≡ old)
+ReportTells shared given old (reports.LostEvent look) new = IsCall shared given old
+    × ((mid : PassMemo) × (found : ℕ) × ClaimTells (queue_seats shared.queue) old (Err look) mid × (new ≡ adds_mark 0 found mid))
+ReportTells shared given old (reports.Accepted t) new =
+    IsCall shared given old × ClaimsAndPuts shared given old t (reports.Accepted t) new
+ReportTells shared given old (reports.WithoutContext t looks) new =
+    IsCall shared given old × ClaimsAndPuts shared given old t (reports.WithoutContext t looks) new
+
 -- each class was asked so by a claimant, at steps of its own
-abbrev pub AsksEach : Shared → ClaimSeat → (ℕ → List classes.Outcome) → ClaimSeat → Type 0
+abbrev pub AsksEach : Shared → ClaimSeat → (ℕ → List ClassOutcome) → ClaimSeat → Type 0
 AsksEach shared old what new = (i : ℕ) (class : Class) → get_elem? shared.classes.classes.items i ≡ some class
     → Asks (ring_seats class.ring) (memo_at old i) (what i) (memo_at new i)
 
@@ -103,7 +95,7 @@ AsksEach shared old what new = (i : ℕ) (class : Class) → get_elem? shared.cl
 abbrev pub GotBuffer : Shared → ℕ → ClaimSeat → ClaimSeat → Type 0
 GotBuffer shared bytes old new =
     let first = first_fitting bytes (sizes_of shared) in
-    (buf : Buffer) × (skipped : List ℕ) × ClaimTells first (sizes_of shared) (claims.Got buf skipped)
+    (buf : Buffer) × (skipped : List ℕ) × classes.ClaimTells first (sizes_of shared) (claims.Got buf skipped)
     × AsksEach shared old (asked first (claims.Got buf skipped)) new
 
 -- what a report with these bytes asked of the classes: all that fit where it is without its context, and none where it is lost or refused
@@ -113,31 +105,45 @@ ReportAsks shared bytes old (reports.WithoutContext t looks) new =
     AsksEach shared old (lost_at (first_fitting (length bytes) (sizes_of shared)) looks) new
 ReportAsks shared bytes old refused new = new ≡ old
 
--- whose word an answer shows: that of a step of this call at the report ring
-abbrev pub StepsTell : ℕ → PassMemo → Result Ticket Look → Type 0
-StepsTell limit old answer = (mid : PassMemo) × ring.ClaimTells limit old answer mid
+-- how many classes hold so many bytes; no bytes need none
+abbrev pub fitting : List ℕ → List ℕ → ℕ
+fitting sizes [] = 0
+fitting sizes (byte ∷ bytes) = length sizes - first_fitting (suc (length bytes)) sizes
 
--- of a report
-abbrev pub ReportSteps : ℕ → PassMemo → ReportAnswer → Type 0
-ReportSteps limit old (reports.LostEvent look) = StepsTell limit old (Err look)
-ReportSteps limit old (reports.Accepted t) = StepsTell limit old (Ok t)
-ReportSteps limit old (reports.WithoutContext t looks) = StepsTell limit old (Ok t)
-ReportSteps limit old refused = ⊤
+-- a report was put under the ticket that the pass held, and asked so of the classes
+pub record PutsUnder (shared : Shared) (given : Given) (old : Pass) (answer : ReportAnswer) (new : Pass) : Type 0 where
+  pub mine : IsPassOf shared new
+  pub ticket : IsUnder (ticket_of old.seat) answer
+  pub told : PutTells shared given (pass_memo old) answer (pass_memo new)
+  pub classes : ReportAsks shared given.bytes old.claimant answer new.claimant
+  pub few : claim_steps new.claimant ≤ claim_steps old.claimant + 3 * fitting (sizes_of shared) given.bytes
 
--- of a control
-abbrev pub ControlSteps : ℕ → PassMemo → Control → Type 0
-ControlSteps limit old (controls.LostEvent look) = StepsTell limit old (Err look)
-ControlSteps limit old (controls.Accepted t) = StepsTell limit old (Ok t)
-ControlSteps limit old refused = ⊤
+-- a report was answered so
+pub record Reports (shared : Shared) (given : Given) (old : Pass) (answer : ReportAnswer) (new : Pass) : Type 0 where
+  pub mine : IsPassOf shared new
+  pub told : ReportTells shared given (pass_memo old) answer (pass_memo new)
+  pub classes : ReportAsks shared given.bytes old.claimant answer new.claimant
+  -- a look, a claim and a finish at the report ring, a mark of a loss, and as many as a look, a claim and a finish at each fitting class
+  pub steps : steps_of new ≤ steps_of old + 4 + 3 * fitting (sizes_of shared) given.bytes
 
--- each answer of a control with its cause, and the pass after it
-abbrev pub ControlTells : Act → PassView → Control → PassView → Type 0
-ControlTells act old controls.PassSpent new = (old.calls ≡ 2 ^ 40) × (new ≡ old)
-ControlTells act old (controls.LostEvent look) new = (old.calls < 2 ^ 40) × (look.free ≡ 0) × (new ≡ loses look old)
-ControlTells act old (controls.Accepted t) new = (old.calls < 2 ^ 40) × (new ≡ accepts t.0 act old)
-ControlTells act old controls.UnknownEvent new = ⊥
+-- each answer of a control with its cause: what the pass did at the report ring, step by step
+abbrev pub ControlTells : Act → Shared → PassMemo → Control → PassMemo → Type 0
+ControlTells act shared old controls.PassSpent new = (old.view.calls ≡ 2 ^ 40) × (new ≡ old)
+ControlTells act shared old (controls.LostEvent look) new =
+    (old.view.calls < 2 ^ 40) × ClaimTells (queue_seats shared.queue) old (Err look) new
+ControlTells act shared old (controls.Accepted t) new = (old.view.calls < 2 ^ 40)
+    × ((mid : PassMemo) × ClaimTells (queue_seats shared.queue) old (Ok t) mid × (new ≡ finishes (item_by mid act) mid))
+ControlTells act shared old controls.UnknownEvent new = ⊥
 
 -- and of one that sets the mode of an event
-abbrev pub ModeTells : Shared → EventIndex → Mode → PassView → Control → PassView → Type 0
-ModeTells shared event mode old controls.UnknownEvent new = (shared.terms.events ≤ event.0) × (new ≡ old)
-ModeTells shared event mode old answer new = (event.0 < shared.terms.events) × ControlTells (SetMode event mode) old answer new
+abbrev pub ModeTells : EventIndex → Mode → Shared → PassMemo → Control → PassMemo → Type 0
+ModeTells event mode shared old controls.UnknownEvent new = (shared.terms.events ≤ event.0) × (new ≡ old)
+ModeTells event mode shared old answer new = (event.0 < shared.terms.events) × ControlTells (SetMode event mode) shared old answer new
+
+-- a control was answered so: it made at most a look, a claim and a finish at the report ring
+pub record Controls (tells : Shared → PassMemo → Control → PassMemo → Type 0) (shared : Shared) (old : Pass) (answer : Control)
+    (new : Pass) : Type 0 where
+  pub mine : IsPassOf shared new
+  pub told : tells shared (pass_memo old) answer (pass_memo new)
+  pub claimant_is : new.claimant ≡ old.claimant
+  pub steps : steps_of new ≤ steps_of old + 3

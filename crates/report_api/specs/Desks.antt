@@ -10,16 +10,16 @@ use Rattle.buffer_classes.specs.declared.giver.Giver.{Giver}
 use Rattle.buffer_classes.specs.{AreGiversOf, givers_of, giver_memo}
 use Rattle.buffer_classes.specs.Names as classes
 use Rattle.report_queue.specs.Parts as queue
-use Rattle.report_queue.specs.{IsTakerOf, taker_view, TakerView}
+use Rattle.report_queue.specs.{IsTakerOf, taker_memo}
 use Rattle.report_queue.specs.declared.cargo.Item.{Item}
-use Rattle.report_api.specs.Names.{Act, PassView}
-use Rattle.report_api.specs.Passes.{IsShared, calls_in, fate_of, missing_in, sizes_of}
+use Rattle.report_api.specs.Names.{Act, DeskMemo, PassMemo}
+use Rattle.report_api.specs.Passes.{IsShared, calls_in, fate_of, lost_contexts, missing_in, sizes_of}
 use Rattle.report_api.specs.declared.desk.Desk.{Desk}
 use Rattle.report_api.specs.declared.shared.Shared.{Shared}
 
--- what the desk shows
-abbrev pub desk_view : Desk → TakerView Act
-desk_view desk = taker_view desk.taker
+-- what the desk knows of the report ring
+abbrev pub desk_memo : Desk → DeskMemo
+desk_memo desk = taker_memo desk.taker
 
 -- how many items were taken whose positions are not given back
 abbrev pub to_give_back : Desk → ℕ
@@ -44,20 +44,20 @@ abbrev pub asks_back : List Giver → ℕ → ℕ → List Fate
 asks_back givers caller i = map fate_of (log_at (get_elem? givers i) caller)
 
 -- the passes that came back, with their claimants at each class, whose asks are what the calls show
-pub record AreTied (number : ℕ) (back : List (Option PassView)) (givers : List Giver) : Type 0 where
+pub record AreTied (number : ℕ) (back : List (Option PassMemo)) (givers : List Giver) : Type 0 where
   pub as_many : (i : ℕ) (giver : Giver) → get_elem? givers i ≡ some giver → length (giver_memo giver).back ≡ length back
-  pub both : (i caller : ℕ) (giver : Giver) (pass : PassView) → get_elem? givers i ≡ some giver → get_elem? back caller ≡ some (Some pass)
+  pub both : (i caller : ℕ) (giver : Giver) (pass : PassMemo) → get_elem? givers i ≡ some giver → get_elem? back caller ≡ some (Some pass)
       → (memo : classes.SeatMemo) × (get_elem? (giver_memo giver).back caller ≡ some (Some memo))
-  pub follows : (i caller : ℕ) (pass : PassView) → get_elem? back caller ≡ some (Some pass)
+  pub follows : (i caller : ℕ) (pass : PassMemo) → get_elem? back caller ≡ some (Some pass)
       → Follows number i (calls_in pass.log) (asks_back givers caller i)
-  pub missing : (caller : ℕ) (pass : PassView) → get_elem? back caller ≡ some (Some pass) → pass.lost_contexts ≡ missing_in pass.log
+  pub missing : (caller : ℕ) (pass : PassMemo) → get_elem? back caller ≡ some (Some pass) → lost_contexts pass ≡ missing_in pass.log
 
 -- the desk is the one of this making, between two calls
 pub record IsDeskOf (shared : Shared) (desk : Desk) : Type 0 where
   pub is_shared : IsShared shared
   pub taker : IsTakerOf shared.queue desk.taker
   pub givers : AreGiversOf shared.classes desk.givers
-  pub tied : AreTied (length (sizes_of shared)) (desk_view desk).back (givers_of desk.givers)
+  pub tied : AreTied (length (sizes_of shared)) (desk_memo desk).back (givers_of desk.givers)
 
 -- the ring of each class is settled
 abbrev pub EachSettled : Desk → Type 0

@@ -9,10 +9,10 @@ use Rattle.buffer_classes.specs.declared.giver.Giver.{Giver}
 use Rattle.buffer_classes.specs.declared.seat.ClaimSeat.{ClaimSeat}
 use Rattle.buffer_classes.specs.{givers_of, IsNewGiver, spec_sizes}
 use Rattle.report_queue.specs.declared.seat.QueueSeat.{QueueSeat}
-use Rattle.report_queue.specs.{new_caller, new_taker, queue_positions, queue_seats}
-use Rattle.report_api.specs.Desks.{IsDeskOf, desk_view}
+use Rattle.report_queue.specs.{IsUntouched, new_memo, queue_positions, queue_seats}
+use Rattle.report_api.specs.Desks.{IsDeskOf, desk_memo}
 use Rattle.report_api.specs.Names.{Act}
-use Rattle.report_api.specs.Passes.{IsPassOf, IsShared, pass_view}
+use Rattle.report_api.specs.Passes.{IsPassOf, IsShared, pass_memo}
 use Rattle.report_api.specs.Terms.{is_sensor, term_sizes}
 use Rattle.report_api.specs.declared.desk.Desk.{Desk}
 use Rattle.report_api.specs.declared.pass.Pass.{Pass}
@@ -42,7 +42,7 @@ as_passes callers claimants = map pass_of (zip callers claimants)
 -- pass i, which made no call
 pub record IsNewPass (shared : Shared) (i : ℕ) (pass : Pass) : Type 0 where
   pub is_pass : IsPassOf shared pass
-  pub shows : pass_view pass ≡ new_caller i
+  pub knows : pass_memo pass ≡ new_memo i
 
 -- all buffers are free, nothing was called, and nothing was taken
 pub record IsNewMaking (config : Parts) (shared : Shared) (passes : List Pass) (desk : Desk) : Type 0 where
@@ -51,7 +51,7 @@ pub record IsNewMaking (config : Parts) (shared : Shared) (passes : List Pass) (
   pub callers_are : queue_seats shared.queue ≡ config.callers
   pub is_shared : IsShared shared
   pub is_desk : IsDeskOf shared desk
-  pub shows : desk_view desk ≡ new_taker config.ring config.callers
+  pub untouched : IsUntouched config.ring config.callers (desk_memo desk)
   pub givers_are : (i : ℕ) (spec : ClassSpec) (giver : Giver) → get_elem? config.classes i ≡ some spec
       → get_elem? (givers_of desk.givers) i ≡ some giver → IsNewGiver spec.number config.callers giver
   pub all_made : length passes ≡ config.callers

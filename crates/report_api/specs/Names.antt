@@ -1,9 +1,9 @@
 -- The types that the definitions of this crate are about.
 use Rattle.ids_types.specs.declared.entry.Act.{Act as ActOver}
 use Rattle.buffer_classes.specs.Buffers.{Buffer}
-use Rattle.report_queue.specs.Views.{CallerView}
 use Rattle.report_queue.specs.declared.cargo.Item.{Item}
 use Rattle.permit_ring.specs.declared.memo.Outcome.{Outcome as OutcomeOf}
+use Rattle.permit_ring.specs.declared.memo.KeeperMemo.{KeeperMemo}
 use Rattle.permit_ring.specs.declared.memo.SeatMemo.{SeatMemo}
 pub use Rattle.ids_types.specs.declared.entry.Act.TheVariants.{Report, State, SetMode}
 pub use Rattle.ids_types.specs.declared.entry.Carried.{Carried}
@@ -20,10 +20,10 @@ Act = ActOver Buffer
 abbrev pub Outcome : Type 0
 Outcome = OutcomeOf (Item Act)
 
--- what a pass shows: its number, its calls and what became of each, and the losses that it marked
-abbrev pub PassView : Type 0
-PassView = CallerView Act
-
--- what a pass knows of the report ring
+-- what a pass knows of the report ring: its number, its calls and what became of each, the losses that it marked, and its moves
 abbrev pub PassMemo : Type 0
 PassMemo = SeatMemo (Item Act)
+
+-- what the desk knows of it: what was taken and swept, each pass as it came back, and its moves
+abbrev pub DeskMemo : Type 0
+DeskMemo = KeeperMemo (Item Act)

@@ -5,9 +5,10 @@ use Rattle.ids_types.specs.declared.entry.Act.{Act as ActOver}
 use Rattle.merge_spec.specs.Fates.{Fate, lost, accepted}
 use Rattle.merge_spec.specs.Follows.{Calls, Follows}
 use Rattle.buffer_classes.specs.{class_sizes, IsClaimSeatOf, claimant_of, claims_of, log_of}
+use Rattle.buffer_classes.specs.Seats as classes
 use Rattle.permit_ring.specs.declared.memo.Outcome.{Outcome as OutcomeOf}
-use Rattle.report_queue.specs.Parts.{IsCallerOf, caller_number, caller_view, queue_terms, ticket_of}
-use Rattle.report_api.specs.Names.{Act, Report, Missing, Outcome, PassView, Lost, Got}
+use Rattle.report_queue.specs.Parts.{IsCallerOf, caller_memo, caller_number, queue_terms, ticket_of}
+use Rattle.report_api.specs.Names.{Act, Report, Missing, Outcome, PassMemo, Lost, Got}
 use Rattle.report_api.specs.Terms.{term_sizes}
 use Rattle.report_api.specs.declared.pass.Pass.{Pass}
 use Rattle.report_api.specs.declared.shared.Shared.{Shared}
@@ -21,9 +22,20 @@ pub record IsShared (shared : Shared) : Type 0 where
   pub terms_are : queue_terms shared.queue ≡ shared.terms
   pub sizes_are : sizes_of shared ≡ term_sizes shared.terms
 
--- what a pass shows
-abbrev pub pass_view : Pass → PassView
-pass_view pass = caller_view pass.seat
+-- what a pass knows of the report ring
+abbrev pub pass_memo : Pass → PassMemo
+pass_memo pass = caller_memo pass.seat
+
+-- the losses that it marked: events of reports that found no event buffer, and contexts of reports that kept none
+abbrev pub lost_events : PassMemo → ℕ
+lost_events pass = pass.view.marks0
+
+abbrev pub lost_contexts : PassMemo → ℕ
+lost_contexts pass = pass.view.marks1
+
+-- how many steps it made, at the report ring and at those of the classes
+abbrev pub steps_of : Pass → ℕ
+steps_of pass = length (pass_memo pass).moves + classes.steps_of pass.claimant
 
 -- the act without its buffer, of which the bytes stay
 abbrev pub plain_act : Act → ActOver (List ℕ)
@@ -65,11 +77,11 @@ pub record IsPassAt (shared : Shared) (pass : Pass) : Type 0 where
   pub claimant : IsClaimSeatOf shared.classes pass.claimant
   pub number_is : claimant_of pass.claimant ≡ caller_number pass.seat
   -- call by call, what was asked of each class is what the calls show
-  pub asks : (i : ℕ) → Follows (length (sizes_of shared)) i (calls_in (pass_view pass).log) (asks_of pass i)
-  pub claims_within : claims_of pass.claimant ≤ length (pass_view pass).log
-  pub events_within : (pass_view pass).lost_events ≤ length (pass_view pass).log
+  pub asks : (i : ℕ) → Follows (length (sizes_of shared)) i (calls_in (pass_memo pass).log) (asks_of pass i)
+  pub claims_within : claims_of pass.claimant ≤ length (pass_memo pass).log
+  pub events_within : lost_events (pass_memo pass) ≤ length (pass_memo pass).log
   -- each context that is missing was marked
-  pub contexts_are : (pass_view pass).lost_contexts ≡ missing_in (pass_view pass).log
+  pub contexts_are : lost_contexts (pass_memo pass) ≡ missing_in (pass_memo pass).log
 
 -- the pass is one of this making, between two calls
 pub record IsPassOf (shared : Shared) (pass : Pass) : Type 0 where

@@ -60,6 +60,11 @@ AdmitsAct terms (Report event count stamp context) = IsReported terms event.0 co
 AdmitsAct terms (State state) = state ≤ 255
 AdmitsAct terms (SetMode event mode) = event.0 < terms.events
 
+-- it is a control, which has no context
+abbrev pub IsControl : Act → Type 0
+IsControl (Report event count stamp context) = ⊥
+IsControl other = ⊤
+
 -- the item names a caller and a call in range, and its act is admitted
 pub record AdmitsItem (terms : ReportTerms) (item : Item Act) : Type 0 where
   pub caller : item.caller < 32

@@ -1,7 +1,6 @@
 //! Controls: what callers tell the filters.
-ghost use Rattle.std.specs.Prelude.{◌≡◌};
-ghost use Rattle.report_queue.specs.Parts.{caller_memo, queue_seats};
-ghost use Rattle.report_api.specs.{ControlSteps, ControlTells, ModeTells, IsPassOf, pass_view, State, IsControl, AdmitsAct};
+ghost use Rattle.report_api.specs.{ControlTells, Controls, ModeTells, IsPassOf, State, IsControl};
+ghost use Rattle.report_api.specs.Terms.{AdmitsAct};
 
 use crate::answer::Control;
 use crate::pass::Pass;
@@ -14,9 +13,7 @@ impl Pass {
     /// Tells the block state filter that the state changed.
     pub fn state_changed(&mut self, shared: &Shared, state: u8) -> Control
         requires mine { IsPassOf shared.now self.old }
-        ensures mine { IsPassOf shared.now self.new }
-        ensures told { ControlTells (State state) (pass_view self.old) result (pass_view self.new) }
-        ensures steps { ControlSteps (queue_seats shared.now.queue) (caller_memo self.old.seat) result }
+        ensures { Controls (ControlTells (State state)) shared.now self.old result self.new }
     {
         self.control(shared, Act::State(state))
     }
@@ -24,9 +21,7 @@ impl Pass {
     /// Sets the reporting mode of an event, of an internal one too.
     pub fn set_mode(&mut self, shared: &Shared, event: EventIndex, mode: Mode) -> Control
         requires mine { IsPassOf shared.now self.old }
-        ensures mine { IsPassOf shared.now self.new }
-        ensures told { ModeTells shared.now event mode (pass_view self.old) result (pass_view self.new) }
-        ensures steps { ControlSteps (queue_seats shared.now.queue) (caller_memo self.old.seat) result }
+        ensures { Controls (ModeTells event mode) shared.now self.old result self.new }
     {
         if !shared.terms.has_event(event) {
             return Control::UnknownEvent;
@@ -39,9 +34,7 @@ impl Pass {
         requires mine { IsPassOf shared.now self.old }
         requires admitted { AdmitsAct shared.now.terms act }
         requires control { IsControl act }
-        ensures mine { IsPassOf shared.now self.new }
-        ensures told { ControlTells act (pass_view self.old) result (pass_view self.new) }
-        ensures steps { ControlSteps (queue_seats shared.now.queue) (caller_memo self.old.seat) result }
+        ensures { Controls (ControlTells act) shared.now self.old result self.new }
     {
         if self.seat.calls() == MOST_CALLS {
             return Control::PassSpent;

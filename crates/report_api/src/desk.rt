@@ -1,10 +1,9 @@
 //! Where the one who takes the reports sits.
 ghost use Rattle.std.specs.Prelude.{◌≡◌, ◌<◌, ◌≤◌, ◌^◌, [], length, sum, vec_capacity, IfErr, IfOk};
-ghost use Rattle.permit_ring.specs.Steps.{sweeps};
 ghost use Rattle.buffer_classes.specs.{AllOf, AreBuffersIn, GaveBack, Welcomed, givers_of, late_of};
-ghost use Rattle.report_queue.specs.{GivesBack, TakeTells, sweeps_both, vacant_after, welcomes_caller, AreAllSwept, AreCallersBack, IsAllTaken};
-ghost use Rattle.report_api.specs.Desks.{EachSettled, IsDeskOf, desk_view, same_item, to_give_back};
-ghost use Rattle.report_api.specs.Passes.{IsPassOf, pass_view, sizes_of};
+ghost use Rattle.report_queue.specs.{OffersAll, ReapTells, sweeps, vacant_after, welcomes, AreAllBack, AreAllSwept, IsAllTaken, queue_positions, queue_seats};
+ghost use Rattle.report_api.specs.Desks.{EachSettled, IsDeskOf, desk_memo, same_item, to_give_back};
+ghost use Rattle.report_api.specs.Passes.{IsPassOf, pass_memo, sizes_of};
 ghost use Rattle.report_api.specs.Terms.{AdmitsItem};
 
 use crate::pass::Pass;
@@ -15,8 +14,8 @@ use report_queue::{Item, Taker, Unready};
 
 /// Where the one who takes the reports sits, and gives their buffers back.
 ///
-/// Contracts see it by `desk_view`: the items that were taken, the fronts that were given back to, the losses that
-/// were swept, and each pass that came back; and by what its givers remember of each class.
+/// Contracts see it by `desk_memo`: the items that were taken, the fronts that were given back to, the losses that
+/// were swept, each pass that came back, and its steps at the report ring; and by what its givers remember of each class.
 #[derive(Drop)]
 pub struct Desk {
     pub(crate) taker: Taker<Reports>,
@@ -24,17 +23,14 @@ pub struct Desk {
 }
 
 impl Desk {
-    ghost use Rattle.report_queue.specs.Parts.{most_tries, queue_positions, taker_memo};
-
     /// Sweeps the lost events and then the lost contexts, and answers how many were marked of each since they were
     /// last swept. Once all passes are back, all that they marked is swept.
     pub fn sweep(&mut self, shared: &Shared) -> (u64, u64)
         requires mine { IsDeskOf shared.now self.old }
         ensures mine { IsDeskOf shared.now self.new }
-        ensures told { desk_view self.new ≡ sweeps_both result (desk_view self.old) }
-        ensures steps { taker_memo self.new.taker ≡ sweeps 1 result.1 (sweeps 0 result.0 (taker_memo self.old.taker)) }
-        ensures bounds { (sum (desk_view self.new).lost_events ≤ 2 ^ 45) × (sum (desk_view self.new).lost_contexts ≤ 2 ^ 45) }
-        ensures all_swept { AreCallersBack (desk_view self.old) → AreAllSwept (desk_view self.new) }
+        ensures told { desk_memo self.new ≡ sweeps 1 result.1 (sweeps 0 result.0 (desk_memo self.old)) }
+        ensures bounds { (sum (desk_memo self.new).swept0 ≤ 2 ^ 45) × (sum (desk_memo self.new).swept1 ≤ 2 ^ 45) }
+        ensures all_swept { AreAllBack (desk_memo self.old) → AreAllSwept 0 (desk_memo self.new) × AreAllSwept 1 (desk_memo self.new) }
         ensures same { (to_give_back self.new ≡ to_give_back self.old) × (self.new.givers ≡ self.old.givers) }
     {
         self.taker.sweep(&shared.queue)
@@ -46,13 +42,13 @@ impl Desk {
     pub fn take(&mut self, shared: &Shared) -> Result<Item<Act<CtxBuf>>, Unready>
         requires mine { IsDeskOf shared.now self.old }
         ensures mine { IsDeskOf shared.now self.new }
-        ensures told { TakeTells same_item (desk_view self.old) result (desk_view self.new) }
+        ensures told { ReapTells same_item (desk_memo self.old) result (desk_memo self.new) }
         ensures admitted { IfOk result (AdmitsItem shared.now.terms) }
         ensures counts { to_give_back self.new ≡ vacant_after (to_give_back self.old) result }
         ensures few { to_give_back self.new ≤ queue_positions shared.now.queue }
-        ensures within { length (desk_view self.new).items ≤ 2 ^ 45 }
-        ensures over { IfOk result (λ _. AreCallersBack (desk_view self.old) → ¬ IsAllTaken (desk_view self.old)) }
-        ensures all_taken { IfErr result (λ _. AreCallersBack (desk_view self.old) → IsAllTaken (desk_view self.new)) }
+        ensures within { length (desk_memo self.new).notes ≤ 2 ^ 45 }
+        ensures over { IfOk result (λ _. AreAllBack (desk_memo self.old) → ¬ IsAllTaken (desk_memo self.old)) }
+        ensures all_taken { IfErr result (λ _. AreAllBack (desk_memo self.old) → IsAllTaken (desk_memo self.new)) }
         ensures same { self.new.givers ≡ self.old.givers }
     {
         self.taker.take(&shared.queue)
@@ -64,11 +60,10 @@ impl Desk {
         requires mine { IsDeskOf shared.now self.old }
         requires back { AreBuffersIn (sizes_of shared.now) back.old.items }
         ensures mine { IsDeskOf shared.now self.new }
-        ensures none { to_give_back self.old ≡ 0 → desk_view self.new ≡ desk_view self.old }
-        ensures told { 0 < to_give_back self.old → GivesBack (most_tries shared.now.queue) (to_give_back self.old) (desk_view self.old) (desk_view self.new) }
+        ensures told { OffersAll (queue_positions shared.now.queue) (queue_seats shared.now.queue) (to_give_back self.old) (desk_memo self.old) (desk_memo self.new) }
         ensures counts { to_give_back self.new ≡ 0 }
         ensures gave { AllOf (GaveBack back.old.items) (givers_of self.old.givers) (givers_of self.new.givers) }
-        ensures settled { AreCallersBack (desk_view self.old) → EachSettled self.new }
+        ensures settled { AreAllBack (desk_memo self.old) → EachSettled self.new }
         ensures empty { back.new.items ≡ [] }
         ensures room { vec_capacity back.new ≡ vec_capacity back.old }
     {
@@ -89,7 +84,7 @@ impl Desk {
         requires mine { IsDeskOf shared.now self.old }
         requires pass { IsPassOf shared.now pass }
         ensures mine { IsDeskOf shared.now self.new }
-        ensures told { desk_view self.new ≡ welcomes_caller (pass_view pass) (desk_view self.old) }
+        ensures told { desk_memo self.new ≡ welcomes (pass_memo pass) (desk_memo self.old) }
         ensures counts { to_give_back self.new ≡ to_give_back self.old }
         ensures givers { AllOf (Welcomed pass.claimant) (givers_of self.old.givers) (givers_of self.new.givers) }
     {

@@ -1,6 +1,5 @@
 //! One who reports: a caller with its place at the report ring and at each class of context data buffers.
 ghost use Rattle.std.specs.Prelude.{◌≡◌};
-ghost use Rattle.report_api.specs.Passes.{pass_view};
 
 use crate::shared::Reports;
 use buffer_classes::ClaimSeat;
@@ -8,7 +7,8 @@ use report_queue::QueueSeat;
 
 /// One who reports, from any one thread at a time. Its calls take no memory and wait for nobody.
 ///
-/// Contracts see a pass by `pass_view`: its number, its calls and what became of each, and the losses that it marked.
+/// Contracts see a pass by `pass_memo`: its number, its calls and what became of each, the losses that it marked, and
+/// its steps at the report ring.
 #[derive(Drop)]
 pub struct Pass {
     pub(crate) seat: QueueSeat<Reports>,

@@ -1,7 +1,7 @@
 //! Reports of security events.
 ghost use Rattle.std.specs.Prelude.{◌≡◌, ◌<◌, [], None, is_none, false, length};
-ghost use Rattle.report_queue.specs.Parts.{caller_memo, queue_seats, ticket_of};
-ghost use Rattle.report_api.specs.{IsUnder, PutTells, ReportAsks, ReportSteps, ReportTells, given, IsPassAt, IsPassOf, pass_view, IsReported};
+ghost use Rattle.report_queue.specs.Parts.{ticket_of};
+ghost use Rattle.report_api.specs.{PutsUnder, Reports, given, IsPassAt, IsPassOf, IsReported};
 
 use crate::answer::Report;
 use crate::pass::Pass;
@@ -13,7 +13,8 @@ use ids_types::{Act, Carried, EventIndex, Stamp};
 pub(crate) const MOST_CALLS: u64 = 1 << 40;
 
 impl Pass {
-    /// Reports a security event, seen `count` times, with its context data. No bytes are no context.
+    /// Reports a security event, seen `count` times, with its context data. No bytes are no context. It makes at most
+    /// 4 steps at the report ring and 3 at each class that fits, whatever the other callers do.
     pub fn report(
         &mut self,
         shared: &Shared,
@@ -23,10 +24,7 @@ impl Pass {
         context: &[u8],
     ) -> Report
         requires mine { IsPassOf shared.now self.old }
-        ensures mine { IsPassOf shared.now self.new }
-        ensures told { ReportTells shared.now (given event count stamp context.now) (pass_view self.old) result (pass_view self.new) }
-        ensures steps { ReportSteps (queue_seats shared.now.queue) (caller_memo self.old.seat) result }
-        ensures classes { ReportAsks shared.now context.now self.old.claimant result self.new.claimant }
+        ensures { Reports shared.now (given event count stamp context.now) self.old result self.new }
     {
         if !shared.terms.is_sensor(event) {
             return Report::UnknownEvent;
@@ -49,10 +47,7 @@ impl Pass {
     /// Reports a security event, seen once, without a timestamp and without context.
     pub fn report_event(&mut self, shared: &Shared, event: EventIndex) -> Report
         requires mine { IsPassOf shared.now self.old }
-        ensures mine { IsPassOf shared.now self.new }
-        ensures told { ReportTells shared.now (given event 1 None []) (pass_view self.old) result (pass_view self.new) }
-        ensures steps { ReportSteps (queue_seats shared.now.queue) (caller_memo self.old.seat) result }
-        ensures classes { ReportAsks shared.now [] self.old.claimant result self.new.claimant }
+        ensures { Reports shared.now (given event 1 None []) self.old result self.new }
     {
         self.report(shared, event, 1, None, &[])
     }
@@ -60,10 +55,7 @@ impl Pass {
     /// Reports a security event, seen `count` times, without a timestamp and without context.
     pub fn report_count(&mut self, shared: &Shared, event: EventIndex, count: u16) -> Report
         requires mine { IsPassOf shared.now self.old }
-        ensures mine { IsPassOf shared.now self.new }
-        ensures told { ReportTells shared.now (given event count None []) (pass_view self.old) result (pass_view self.new) }
-        ensures steps { ReportSteps (queue_seats shared.now.queue) (caller_memo self.old.seat) result }
-        ensures classes { ReportAsks shared.now [] self.old.claimant result self.new.claimant }
+        ensures { Reports shared.now (given event count None []) self.old result self.new }
     {
         self.report(shared, event, count, None, &[])
     }
@@ -71,10 +63,7 @@ impl Pass {
     /// Reports a security event, seen once, with its context data and without a timestamp.
     pub fn report_context(&mut self, shared: &Shared, event: EventIndex, context: &[u8]) -> Report
         requires mine { IsPassOf shared.now self.old }
-        ensures mine { IsPassOf shared.now self.new }
-        ensures told { ReportTells shared.now (given event 1 None context.now) (pass_view self.old) result (pass_view self.new) }
-        ensures steps { ReportSteps (queue_seats shared.now.queue) (caller_memo self.old.seat) result }
-        ensures classes { ReportAsks shared.now context.now self.old.claimant result self.new.claimant }
+        ensures { Reports shared.now (given event 1 None context.now) self.old result self.new }
     {
         self.report(shared, event, 1, None, context)
     }
@@ -91,10 +80,7 @@ impl Pass {
         requires at { IsPassAt shared.now self.old }
         requires busy { is_none (ticket_of self.old.seat) ≡ false }
         requires reported { IsReported shared.now.terms event.0 count }
-        ensures mine { IsPassOf shared.now self.new }
-        ensures ticket { IsUnder (ticket_of self.old.seat) result }
-        ensures told { PutTells shared.now (given event count stamp context.now) (pass_view self.old) result (pass_view self.new) }
-        ensures classes { ReportAsks shared.now context.now self.old.claimant result self.new.claimant }
+        ensures { PutsUnder shared.now (given event count stamp context.now) self.old result self.new }
     {
         if !context.is_empty() {
             return self.put_with_context(shared, event, count, stamp, context);
@@ -121,10 +107,7 @@ impl Pass {
         requires busy { is_none (ticket_of self.old.seat) ≡ false }
         requires reported { IsReported shared.now.terms event.0 count }
         requires some { 0 < length context.now }
-        ensures mine { IsPassOf shared.now self.new }
-        ensures ticket { IsUnder (ticket_of self.old.seat) result }
-        ensures told { PutTells shared.now (given event count stamp context.now) (pass_view self.old) result (pass_view self.new) }
-        ensures classes { ReportAsks shared.now context.now self.old.claimant result self.new.claimant }
+        ensures { PutsUnder shared.now (given event count stamp context.now) self.old result self.new }
     {
         match self.claimant.claim(&shared.classes, context.len() as u64) {
             Claim::Got { mut buf, .. } => {

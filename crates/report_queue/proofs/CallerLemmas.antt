@@ -1,8 +1,9 @@
 -- How a caller stands after each of its calls.
-use Rattle.std.proofs.Common.{◌≡◌, ℕ, ◌+◌, ◌≤◌, ◌^◌, List, [], ◌∷◌, ◌++◌, length, Option, Some, Result, Ok, Err, ap, ap₂, ◌∙◌, subst, inl, inr, arith}
-use Rattle.report_queue.specs.{Ticket, Outcome, Lost, Got, SeatMemo, Item, Queue, QueueSeat, and_answer, calls_once, admits_all, IsCallerOf, ticket_of, CallerView, NamesItsCalls, caller_in}
+use Rattle.std.proofs.Common.{◌≡◌, ℕ, ◌+◌, ◌≤◌, ◌^◌, List, [], ◌∷◌, ◌++◌, length, Option, Some, Result, Ok, Err, ◌∙◌, subst, inl, inr, arith}
+use Rattle.report_queue.specs.{Ticket, Outcome, Lost, Got, SeatMemo, Item, Queue, QueueSeat, ClaimTells, admits_all, IsCallerOf, ticket_of, NamesItsCalls}
 use Rattle.permit_ring.specs.declared.answer.Look.{Look}
-use Rattle.permit_ring.specs.{ClaimTells, HasInHand, ring_terms, and_lost}
+use Rattle.std.proofs.lemmas.Grind.{common_steps}
+use Rattle.permit_ring.specs.{HasInHand, ring_terms, and_lost, ticket_in}
 use Rattle.permit_ring.proofs.{at_end, kept_log, lost_log}
 
 module _ {N : Type 0} (i : ℕ) (log : List (Outcome (Item N))) (names : NamesItsCalls i log) where
@@ -15,25 +16,40 @@ module _ {N : Type 0} (i : ℕ) (log : List (Outcome (Item N))) (names : NamesIt
   names-got u item its_caller its_call j t x e = let place = at_end log (Got u item) (Got t x) j e in grind (arith, names, place)
 
 module _ {N : Type 0} where
-  -- one call more, with what became of it
-  once : (old : SeatMemo (Item N)) {log after : List (Outcome (Item N))} → log ≡ after
-      → ◌≡◌ {A = CallerView N} (record (caller_in old) { calls = old.view.calls + 1; log = log })
-      (record (caller_in old) { calls = old.view.calls + 1; log = after })
-  once old e = ap (λ (log : List (Outcome (Item N))). record (caller_in old) { calls = old.view.calls + 1; log = log }) e
+  -- the log after a call: one lost call more where no position was free
+  abbrev pub and_answer : List (Outcome N) → Result Ticket Look → List (Outcome N)
+  and_answer log (Ok ticket) = log
+  and_answer log (Err look) = log ++ Lost look.claimed ∷ []
 
-  -- what a claim shows
-  pub claim_shown : (limit : ℕ) (old : SeatMemo (Item N)) (answer : Result Ticket Look) (new : SeatMemo (Item N))
-      → ClaimTells limit old answer new → caller_in new ≡ calls_once answer (caller_in old)
-  claim_shown limit old (Ok ticket) new tells = ap caller_in tells.5
-      ∙ once old (kept_log tells.1 (and_lost tells.0 old.log) tells.3 ∙ kept_log tells.0 old.log tells.2)
-  claim_shown limit old (Err look) new tells = elim tells.1 [
-    | inl at_look ↦ ap caller_in at_look.3 ∙ once old (lost_log at_look.0 old.log at_look.1
-        ∙ ap (λ (g : ℕ). old.log ++ Lost g ∷ []) at_look.2)
+  -- what a claim makes of its caller: one call more, with what became of it, in one step or two
+  pub record Claims (old : SeatMemo N) (answer : Result Ticket Look) (new : SeatMemo N) : Type 0 where
+    pub number_is : new.number ≡ old.number
+    pub calls_are : new.view.calls ≡ old.view.calls + 1
+    pub log_is : new.log ≡ and_answer old.log answer
+    pub marks0_are : new.view.marks0 ≡ old.view.marks0
+    pub marks1_are : new.view.marks1 ≡ old.view.marks1
+    pub few_moves : length new.moves ≤ length old.moves + 2
+
+  pub claimed : (limit : ℕ) (old : SeatMemo N) (answer : Result Ticket Look) (new : SeatMemo N) → ClaimTells limit old answer new
+      → Claims old answer new
+  claimed limit old (Ok ticket) new tells =
+      let log = kept_log tells.1 (and_lost tells.0 old.log) tells.3 ∙ kept_log tells.0 old.log tells.2 in
+      grind (arith, common_steps, tells.5, log)
+  claimed limit old (Err look) new tells = elim tells.1 [
+    | inl at_look ↦
+        let lost = lost_log at_look.0 old.log at_look.1 in
+        grind (arith, common_steps, at_look.2, at_look.3, lost)
     | inr at_claim ↦
         let lost = lost_log at_claim.1 (and_lost at_claim.0 old.log) at_claim.3 in
         let kept = kept_log at_claim.0 old.log at_claim.2 in
-        ap caller_in at_claim.5 ∙ once old (lost ∙ ap₂ (λ (log : List (Outcome (Item N))) (g : ℕ). log ++ Lost g ∷ []) kept at_claim.4)
+        grind (arith, common_steps, at_claim.4, at_claim.5, lost, kept)
   ]
+
+module _ {N : Type 0} where
+  -- a claim that got a ticket holds it
+  pub holds_ticket : (limit : ℕ) (old : SeatMemo N) (ticket : Ticket) (new : SeatMemo N) → ClaimTells limit old (Ok ticket) new
+      → ticket_in new.view.held ≡ ticket.0
+  holds_ticket limit old ticket new tells = grind (arith, common_steps, tells)
 
   pub names-claim : (i : ℕ) (log : List (Outcome (Item N))) (answer : Result Ticket Look) → NamesItsCalls i log
       → NamesItsCalls i (and_answer log answer)

@@ -1,14 +1,14 @@
 -- What was taken once all callers are back, from what the ring's keeper knows.
-use Rattle.std.proofs.Common.{◌≡◌, ℕ, zero, suc, ◌<◌, ◌==◌, if◌then◌else◌, true, is_some, List, [], ◌∷◌, map, length, Option, Some, None, refl, sym, ap, ap₂, ◌∙◌, subst, true≢false, arith}
+use Rattle.std.proofs.Common.{◌≡◌, ℕ, zero, suc, ◌<◌, ◌==◌, if◌then◌else◌, true, is_some, List, [], ◌∷◌, map, length, Option, Some, None, refl, sym, ap, ap₂, ◌∙◌, subst, true≢false, inl, inr, eq-zero-or-pos, arith}
 use Rattle.std.proofs.lemmas.List.{length-map}
 use mathlib.Core.Option.{some, some-injective, some-ne-none}
 use lib.ListN.{get_elem?}
 use Rattle.atomic_table.proofs.Lists.{at_map}
-use Rattle.report_queue.specs.{KeeperMemo, SeatMemo, Item, IsAllTaken, IsWholeCaller, items_of, GivesBack, CallerView, TakerView, back_in, caller_in, taker_in}
-use Rattle.permit_ring.specs.{AreAllBack, IsSettled, taken_by, waits}
+use Rattle.report_queue.specs.{KeeperMemo, SeatMemo, Item, AreAllBack, OffersAll, IsAllTaken, IsWholeCaller, items_of}
+use Rattle.permit_ring.specs.{IsSettled, taken_by, waits}
 use Rattle.permit_ring.proofs.{there, got_from, taken_in, more_fronts}
-use Rattle.report_queue.specs.Closing as queue
-use Rattle.report_queue.proofs.TakerLemmas.{NameTheirs, all_back}
+use Rattle.permit_ring.proofs.Settled.{offer_keeps_back}
+use Rattle.report_queue.proofs.TakerLemmas.{NameTheirs}
 
 -- an element of a mapped list is that of the list, mapped
 pub at_map_back : {A B : Type 0} (f : A → B) (l : List A) (i : ℕ) (b : B) → get_elem? (map f l) i ≡ some b → (a : A)
@@ -44,15 +44,10 @@ module _ {N : Type 0} where
         owner_back t p.0 p.1 at.0 e at.1 (all p.0 at.0 at.1)
 
     whole_caller : (i : ℕ) (memo : SeatMemo (Item N)) → get_elem? k.back i ≡ some (Some memo)
-        → IsWholeCaller k.fronts k.notes i (caller_in memo)
+        → IsWholeCaller k.fronts k.notes i memo
     whole_caller i memo at =
         let own = same_items i 0 s.taken owner in
         grind (arith, names i memo at, s.logs_are i memo at, s.notes_are, own, length-map s.taken (λ (x : ℕ × Item N). x.1))
-
-    whole_back : (i : ℕ) (caller : CallerView N) (back : Option (SeatMemo (Item N))) → get_elem? k.back i ≡ some back
-        → back_in back ≡ Some caller → IsWholeCaller k.fronts k.notes i caller
-    whole_back i caller None at e = cc
-    whole_back i caller (Some memo) at e = let whole = whole_caller i memo at in grind (arith, whole)
 
     of_caller : (t : ℕ) (item : Item N) → get_elem? k.notes t ≡ some item → item.caller < length k.back
     of_caller t item e =
@@ -61,28 +56,29 @@ module _ {N : Type 0} where
         let p = found.0 in
         omega (arith, made, owner t p found.1, ap (λ (x : Item N). x.caller) found.2, s.seats_are t p.0 p.1 found.1)
 
-    pub all_taken : IsAllTaken (taker_in k)
-    all_taken = record {
-      of_callers = λ t item e. subst (λ (n : ℕ). item.caller < n) (sym (length-map k.back back_in)) (of_caller t item e);
-      whole = λ i caller e. let found = at_map_back back_in k.back i (Some caller) e in whole_back i caller found.0 found.1 found.2;
-    }
+    pub all_taken : IsAllTaken k
+    all_taken = record { of_callers = of_caller; whole = whole_caller }
 
 -- a take in vain once all callers are back
 pub taken_by_then : {N : Type 0} (k new : KeeperMemo (Item N)) (mark : ℕ) → new ≡ waits mark k → k.made ≡ length k.back
-    → NameTheirs k.back → queue.AreCallersBack (taker_in k) → (AreAllBack k → IsSettled new) → IsAllTaken (taker_in new)
+    → NameTheirs k.back → AreAllBack k → (AreAllBack k → IsSettled new) → IsAllTaken new
 taken_by_then k new mark told made names all settled =
-    let were = all_back k all in
-    subst (λ (m : KeeperMemo _). IsAllTaken (taker_in m)) (sym told)
-    (all_taken (waits mark k) made names were (subst IsSettled told (settled were)))
+    subst IsAllTaken (sym told) (all_taken (waits mark k) made names all (subst IsSettled told (settled all)))
 
-module _ {N : Type 0} (bound count : ℕ) (old new : TakerView N) (gave : GivesBack bound count old new) where
+module _ {N : Type 0} (n seats count : ℕ) (old new : KeeperMemo (Item N)) (gave : OffersAll n seats count old new) where
   -- giving back leaves who is back
-  pub back_on : queue.AreCallersBack old → queue.AreCallersBack new
-  back_on = subst queue.AreCallersBack (sym gave.3)
+  pub back_on : AreAllBack old → AreAllBack new
+  back_on back = elim (eq-zero-or-pos count) [
+    | inl none ↦ subst AreAllBack (sym (gave.0 none)) back
+    | inr more ↦ let did = gave.1 more in offer_keeps_back seats count did.0 old new did.2 back
+  ]
 
   -- and what was taken
   pub taken_on : IsAllTaken old → IsAllTaken new
-  taken_on is = subst IsAllTaken (sym gave.3) record {
-    of_callers = is.of_callers;
-    whole = λ i caller e. let its = is.whole i caller e in search (more_fronts, its, its.lost_at_front);
-  }
+  taken_on is = elim (eq-zero-or-pos count) [
+    | inl none ↦ subst IsAllTaken (sym (gave.0 none)) is
+    | inr more ↦ subst IsAllTaken (sym (gave.1 more).2.1.3) record {
+        of_callers = is.of_callers;
+        whole = λ i caller e. let its = is.whole i caller e in search (more_fronts, its, its.lost_at_front);
+      }
+  ]

@@ -1,43 +1,22 @@
 -- A queue that has just been made, from its ring.
-use Rattle.std.proofs.Common.{◌≡◌, ℕ, zero, suc, ◌+◌, ◌<◌, ◌≤◌, List, [], ◌∷◌, ◌++◌, map, length, replicate, Option, Some, None, refl, sym, ap, ◌∙◌, subst, arith, All, slice_index_or}
-use Rattle.std.proofs.lemmas.List.{get_or_default, length-map, length-replicate, replicate_more}
+use Rattle.std.proofs.Common.{◌≡◌, ℕ, zero, suc, ◌<◌, ◌≤◌, List, length, replicate, Option, Some, None, sym, ap, ◌∙◌, subst, arith, All, slice_index_or}
+use Rattle.std.proofs.lemmas.List.{get_or_default, length-map, length-replicate}
 use mathlib.Core.Option.{some}
 use lib.ListN.{get_elem?}
 use Rattle.atomic_table.proofs.Lists.{at_index}
-use Rattle.report_queue.specs.{KeeperMemo, SeatMemo, Item, Queue, QueueSeat, Taker, admits_all, IsNewQueue, IsUnused, as_callers, new_taker, IsTakerOf, caller_number, back_in, taker_in}
+use Rattle.report_queue.specs.{SeatMemo, Item, Queue, QueueSeat, Taker, admits_all, IsNewQueue, IsUnused, as_callers, IsTakerOf, caller_number}
 use Rattle.permit_ring.specs.declared.seat.Seat.{Seat}
 use Rattle.permit_ring.specs.Making as ring
 use Rattle.permit_ring.specs.Seats.{seat_number}
-use Rattle.permit_ring.proofs.{at_length, new_ordered}
+use Rattle.permit_ring.proofs.{at_length, new_ordered, untouched}
 use Rattle.report_queue.specs.declared.cargo.Items.{Items}
 use Rattle.report_queue.proofs.ClosingLemmas.{at_map_back}
-
-map-replicate : {A B : Type 0} (f : A → B) (n : ℕ) (a : A) → map f (replicate n a) ≡ replicate n (f a)
-map-replicate f zero a = refl
-map-replicate f (suc n) a = ap (λ l. f a ∷ l) (map-replicate f n a)
 
 -- a list of nothing has nothing
 pub none_there : {A C : Type 0} (n i : ℕ) (a : A) → get_elem? (replicate n None) i ≡ some (Some a) → C
 none_there zero i a e = cc
 none_there (suc n) zero a e = cc
 none_there (suc n) (suc i) a e = none_there n i a e
-
--- what the ring's keeper knows once so many seats are made
-record IsMade {N : Type 0} (n seats : ℕ) (k : KeeperMemo (Item N)) : Type 0 where
-  pub shows : taker_in k ≡ new_taker n seats
-  pub back_is : k.back ≡ replicate seats None
-  pub made_is : k.made ≡ seats
-
-module _ {N : Type 0} where
-  all_made : (n seats : ℕ) → IsMade {N = N} n seats (ring.made_memo n seats)
-  all_made n zero = record { shows = refl; back_is = refl; made_is = refl }
-  all_made n (suc seats) =
-      let was : IsMade {N = N} n seats (ring.made_memo n seats) = all_made n seats in
-      let one : seats + 1 ≡ suc seats = omega arith in
-      let back = ap (λ (l : List (Option (SeatMemo (Item N)))). l ++ None ∷ []) was.back_is ∙ replicate_more seats None
-      ∙ ap (λ (m : ℕ). replicate m None) one in
-      let shown = ap (map back_in) back ∙ map-replicate back_in (suc seats) None in
-      grind (arith, was, back, shown)
 
 module _ {P L T N : Type 0} (queue : Queue P L T N) where
   new_caller_is : (i : ℕ) (seat : Seat (Items P) (Unit {0}) (Item L) T (Item N)) → i < 32 → ring.IsNewSeat admits_all queue.ring i seat
@@ -49,7 +28,7 @@ module _ {P L T N : Type 0} (queue : Queue P L T N) where
       (callers : List (QueueSeat P L T N)) → seats ≤ 32 → ring.IsNewRing admits_all n seats terms queue.ring taker.keeper ring_seats
       → callers ≡ as_callers ring_seats → IsNewQueue n seats terms queue taker callers
   new_queue_is n seats terms taker ring_seats callers within is are =
-      let made = all_made {N = N} n seats in
+      let made = untouched {N = Item N} n seats in
       let count = is.seats_are.all_made in
       let none = λ (i : ℕ) (memo : SeatMemo (Item N)). none_there {C = ⊥} seats i memo in
       let taker_is : IsTakerOf queue taker = grind (arith, is, made, none, length-replicate {A = Option (SeatMemo (Item N))} seats None) in
@@ -58,7 +37,7 @@ module _ {P L T N : Type 0} (queue : Queue P L T N) where
         seats_may_be = is.seats_may_be;
         terms_are = is.terms_are;
         is_taker = taker_is;
-        shows = ap taker_in is.knows ∙ made.shows;
+        untouched = rw is.knows made;
         none_to_give_back = is.none_filled;
         all_made = ap length are ∙ length-map ring_seats (λ seat. record { seat = seat }) ∙ count;
         each = λ i seat e.

@@ -1,30 +1,12 @@
 -- A queue that has just been made.
-use Rattle.std.specs.Prelude.{◌≡◌, ℕ, List, [], ◌∷◌, length, map, replicate, None}
+use Rattle.std.specs.Prelude.{◌≡◌, ℕ, List, length, map, None}
 use mathlib.Core.Option.{some}
 use lib.ListN.{get_elem?}
 use Rattle.permit_ring.specs.declared.seat.Seat.{Seat}
 use Rattle.report_queue.specs.Names.{Item, Queue, QueueSeat, Taker}
 use Rattle.report_queue.specs.declared.cargo.Items.{Items}
-use Rattle.report_queue.specs.Parts.{IsCallerOf, IsTakerOf, calls_of, caller_number, caller_view, queue_positions, queue_seats, queue_terms, taker_view, ticket_of, to_give_back}
-use Rattle.report_queue.specs.Views.{CallerView, TakerView}
-
-module _ {N : Type 0} where
-  -- a caller that made no call
-  abbrev pub new_caller : ℕ → CallerView N
-  new_caller i = record { caller = i; calls = 0; log = []; lost_events = 0; lost_contexts = 0 }
-
-  -- the taker that took nothing, of a queue of n positions with so many callers
-  abbrev pub new_taker : ℕ → ℕ → TakerView N
-  new_taker n seats = record {
-    items = [];
-    marks = [];
-    fronts = n ∷ [];
-    offered = n;
-    offers = 0;
-    lost_events = [];
-    lost_contexts = [];
-    back = replicate seats None;
-  }
+use Rattle.report_queue.specs.Parts.{IsCallerOf, IsTakerOf, calls_of, caller_number, caller_memo, queue_positions, queue_seats, queue_terms, taker_memo, ticket_of, to_give_back}
+use Rattle.permit_ring.specs.{IsUntouched, new_memo}
 
 module _ {P L T N : Type 0} where
   -- the callers of a ring's seats
@@ -34,7 +16,7 @@ module _ {P L T N : Type 0} where
   -- a caller that made no call
   pub record IsUnused (queue : Queue P L T N) (seat : QueueSeat P L T N) : Type 0 where
     pub is_caller : IsCallerOf queue seat
-    pub shows : caller_view seat ≡ new_caller (caller_number seat)
+    pub knows : caller_memo seat ≡ new_memo (caller_number seat)
     pub no_calls : calls_of seat ≡ 0
     pub is_idle : ticket_of seat ≡ None
 
@@ -45,7 +27,7 @@ module _ {P L T N : Type 0} where
     pub seats_may_be : queue_seats queue ≡ seats
     pub terms_are : queue_terms queue ≡ terms
     pub is_taker : IsTakerOf queue taker
-    pub shows : taker_view taker ≡ new_taker n seats
+    pub untouched : IsUntouched n seats (taker_memo taker)
     pub none_to_give_back : to_give_back taker ≡ 0
     pub all_made : length callers ≡ seats
     pub each : (i : ℕ) (seat : QueueSeat P L T N) → get_elem? callers i ≡ some seat → IsUnused queue seat × (caller_number seat ≡ i)

@@ -1,11 +1,10 @@
 -- Who belongs to a queue, and what it shows between two calls.
-use Rattle.std.specs.Prelude.{◌≡◌, ℕ, ◌+◌, ◌-◌, ◌<◌, ◌≤◌, ◌^◌, length, Option, Some, None}
+use Rattle.std.specs.Prelude.{◌≡◌, ℕ, ◌<◌, ◌≤◌, ◌^◌, length, Option, Some, None}
 use mathlib.Core.Option.{some}
 use lib.ListN.{get_elem?}
 use Rattle.report_queue.specs.Names.{Ticket, KeeperMemo, SeatMemo, Item, Queue, QueueSeat, Taker}
 use Rattle.permit_ring.specs.{IsOrdered, IsKeeperOf, IsSeatOf, filled_of, keeper_memo, ring_positions, ring_seats, ring_terms, seat_calls, seat_memo, seat_number, seat_ticket, vacant_of}
-use Rattle.report_queue.specs.Items.{admits_all}
-use Rattle.report_queue.specs.Views.{CallerView, NamesItsCalls, TakerView, caller_in, taker_in}
+use Rattle.report_queue.specs.Items.{admits_all, NamesItsCalls}
 
 module _ {P L T N : Type 0} where
   abbrev pub queue_positions : Queue P L T N → ℕ
@@ -13,10 +12,6 @@ module _ {P L T N : Type 0} where
 
   abbrev pub queue_seats : Queue P L T N → ℕ
   queue_seats queue = ring_seats queue.ring
-
-  -- how many steps giving back may try
-  abbrev pub most_tries : Queue P L T N → ℕ
-  most_tries queue = queue_positions queue + queue_seats queue + 1
 
   abbrev pub queue_terms : Queue P L T N → T
   queue_terms queue = ring_terms queue.ring
@@ -32,22 +27,13 @@ module _ {P L T N : Type 0} where
   abbrev pub ticket_of : QueueSeat P L T N → Option Ticket
   ticket_of seat = seat_ticket seat.seat
 
-  -- the item of the call that holds a ticket, with this note: it names the caller and the call
-  abbrev pub item_of : QueueSeat P L T N → N → Item N
-  item_of seat note = record { caller = caller_number seat; call = calls_of seat - 1; payload = note }
-
-  -- what the caller's steps were, and what became of its calls
+  -- the caller's moves, and what became of its calls
   abbrev pub caller_memo : QueueSeat P L T N → SeatMemo (Item N)
   caller_memo seat = seat_memo seat.seat
 
-  abbrev pub caller_view : QueueSeat P L T N → CallerView N
-  caller_view seat = caller_in (caller_memo seat)
-
+  -- the taker's moves, what it took and swept, and each caller as it came back
   abbrev pub taker_memo : Taker P L T N → KeeperMemo (Item N)
   taker_memo taker = keeper_memo taker.keeper
-
-  abbrev pub taker_view : Taker P L T N → TakerView N
-  taker_view taker = taker_in (taker_memo taker)
 
   -- how many items were taken whose positions are not given back
   abbrev pub to_give_back : Taker P L T N → ℕ
@@ -58,10 +44,10 @@ module _ {P L T N : Type 0} where
     pub is_seat : IsSeatOf admits_all queue.ring seat.seat
     pub below_32 : caller_number seat < 32
     pub calls_within : calls_of seat ≤ 2 ^ 40
-    pub number_is : caller_number seat ≡ (caller_view seat).caller
-    pub calls_are : calls_of seat ≡ (caller_view seat).calls
+    pub number_is : caller_number seat ≡ (caller_memo seat).number
+    pub calls_are : calls_of seat ≡ (caller_memo seat).view.calls
     pub in_order : IsOrdered (caller_memo seat)
-    pub names : NamesItsCalls (caller_number seat) (caller_view seat).log
+    pub names : NamesItsCalls (caller_number seat) (caller_memo seat).log
 
   -- a caller of this queue that holds no ticket
   abbrev pub IsIdle : Queue P L T N → QueueSeat P L T N → Type 0
@@ -72,6 +58,7 @@ module _ {P L T N : Type 0} where
     pub is_keeper : IsKeeperOf admits_all queue.ring taker.keeper
     pub none_vacant : vacant_of taker.keeper ≡ 0
     pub made_are : (taker_memo taker).made ≡ length (taker_memo taker).back
+    pub seats_are : (taker_memo taker).made ≡ queue_seats queue
     -- each caller that came back named its calls
     pub names : (i : ℕ) (memo : SeatMemo (Item N)) → get_elem? (taker_memo taker).back i ≡ some (Some memo)
         → NamesItsCalls memo.number memo.log

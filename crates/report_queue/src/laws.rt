@@ -1,11 +1,11 @@
 //! What stays of a queue's end, as the contract of a function that does nothing.
-ghost use Rattle.report_queue.specs.{GivesBack, AreCallersBack, IsAllTaken, TakerView};
+ghost use Rattle.report_queue.specs.{OffersAll, AreAllBack, IsAllTaken, Item, KeeperMemo};
 
 use crate::cargo::Cargo;
 
 /// Giving back once more changes nothing of what was taken.
-pub fn giving_back_keeps_what_was_taken<P: Cargo>(tries: u16, count: u16)
-    ghost view: { TakerView P.Note × TakerView P.Note }
-    ensures back { GivesBack tries count view.0 view.1 → AreCallersBack view.0 → AreCallersBack view.1 }
-    ensures taken { GivesBack tries count view.0 view.1 → IsAllTaken view.0 → IsAllTaken view.1 }
+pub fn giving_back_keeps_what_was_taken<P: Cargo>(n: u16, seats: u8, count: u16)
+    ghost memo: { KeeperMemo (Item P.Note) × KeeperMemo (Item P.Note) }
+    ensures back { OffersAll n seats count memo.0 memo.1 → AreAllBack memo.0 → AreAllBack memo.1 }
+    ensures taken { OffersAll n seats count memo.0 memo.1 → IsAllTaken memo.0 → IsAllTaken memo.1 }
 {}

@@ -1,6 +1,6 @@
 //! The queue that is shared, and one who puts items into it.
-ghost use Rattle.std.specs.Prelude.{◌≡◌, ◌<◌, ◌≤◌, ◌^◌, false, None, Some, is_none, IfErr};
-ghost use Rattle.report_queue.specs.Calls.{ClaimTells, claimed_at, ticket_got, calls_once, puts, marks_event, marks_context};
+ghost use Rattle.std.specs.Prelude.{◌≡◌, ℕ, ◌+◌, ◌<◌, ◌≤◌, ◌^◌, false, None, Some, is_none};
+ghost use Rattle.report_queue.specs.{ClaimTells, claimed_at, ticket_got, finishes, adds_mark, item_by, marks_made};
 
 use crate::cargo::{Cargo, Item, Items};
 use ids_types::Ticket;
@@ -19,7 +19,7 @@ pub struct QueueSeat<P: Cargo> {
 }
 
 impl<P: Cargo> QueueSeat<P> {
-    ghost use Rattle.report_queue.specs.Parts.{IsCallerOf, caller_memo, caller_number, caller_view, calls_of, item_of, queue_seats, queue_terms, ticket_of};
+    ghost use Rattle.report_queue.specs.Parts.{IsCallerOf, caller_memo, caller_number, calls_of, queue_seats, queue_terms, ticket_of};
 
     /// The caller's number, from 0.
     pub fn caller(&self) -> u8
@@ -49,11 +49,11 @@ impl<P: Cargo> QueueSeat<P> {
         requires idle { ticket_of self.old ≡ None }
         requires few { calls_of self.old < 2 ^ 40 }
         ensures mine { IsCallerOf queue.now self.new }
-        ensures told { caller_view self.new ≡ calls_once result (caller_view self.old) }
+        ensures told { ClaimTells (queue_seats queue.now) (caller_memo self.old) result (caller_memo self.new) }
+        ensures calls { calls_of self.new ≡ calls_of self.old + 1 }
+        ensures marks { marks_made (caller_memo self.new) ≡ marks_made (caller_memo self.old) }
         ensures held { ticket_of self.new ≡ ticket_got result }
         ensures small { claimed_at result ≤ 2 ^ 45 }
-        ensures none_free { IfErr result (λ look. look.free ≡ 0) }
-        ensures steps { ClaimTells (queue_seats queue.now) (caller_memo self.old) result (caller_memo self.new) }
     {
         self.seat.claim(&queue.ring)
     }
@@ -67,7 +67,7 @@ impl<P: Cargo> QueueSeat<P> {
         ensures mine { IsCallerOf queue.now self.new }
         ensures ticket { ticket_of self.old ≡ Some result }
         ensures small { result.0 ≤ 2 ^ 45 }
-        ensures told { caller_view self.new ≡ puts result.0 (item_of self.old (P.note payload)) (caller_view self.old) }
+        ensures told { caller_memo self.new ≡ finishes (item_by (caller_memo self.old) (P.note payload)) (caller_memo self.old) }
         ensures held { ticket_of self.new ≡ None }
     {
         let ticket = self.seat.held().unwrap();
@@ -83,9 +83,9 @@ impl<P: Cargo> QueueSeat<P> {
     /// Marks one lost event.
     pub fn mark_lost_event(&mut self, queue: &Queue<P>)
         requires mine { IsCallerOf queue.now self.old }
-        requires few { (caller_view self.old).lost_events < 2 ^ 40 }
+        requires few { (caller_memo self.old).view.marks0 < 2 ^ 40 }
         ensures mine { IsCallerOf queue.now self.new }
-        ensures told { caller_view self.new ≡ marks_event (caller_view self.old) }
+        ensures told { (found : ℕ) × (caller_memo self.new ≡ adds_mark 0 found (caller_memo self.old)) }
         ensures held { ticket_of self.new ≡ ticket_of self.old }
     {
         self.seat.mark(&queue.ring, 0);
@@ -94,9 +94,9 @@ impl<P: Cargo> QueueSeat<P> {
     /// Marks one lost context.
     pub fn mark_lost_context(&mut self, queue: &Queue<P>)
         requires mine { IsCallerOf queue.now self.old }
-        requires few { (caller_view self.old).lost_contexts < 2 ^ 40 }
+        requires few { (caller_memo self.old).view.marks1 < 2 ^ 40 }
         ensures mine { IsCallerOf queue.now self.new }
-        ensures told { caller_view self.new ≡ marks_context (caller_view self.old) }
+        ensures told { (found : ℕ) × (caller_memo self.new ≡ adds_mark 1 found (caller_memo self.old)) }
         ensures held { ticket_of self.new ≡ ticket_of self.old }
     {
         self.seat.mark(&queue.ring, 1);

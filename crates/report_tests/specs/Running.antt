@@ -1,10 +1,9 @@
 -- What tests keep from one step to the next.
 use Rattle.std.specs.Prelude.{◌≡◌, ℕ, ◌<◌, ◌⊎◌, List, [], length, slice_index_or}
 use Rattle.buffer_classes.specs.Buffers.{Buffer}
-use Rattle.report_queue.specs.Views.{TakerView}
-use Rattle.report_api.specs.Desks.{desk_view}
-use Rattle.report_api.specs.Names.{Act}
-use Rattle.report_api.specs.Passes.{IsPassOf, pass_view, sizes_of}
+use Rattle.report_api.specs.Desks.{desk_memo}
+use Rattle.report_api.specs.Names.{DeskMemo}
+use Rattle.report_api.specs.Passes.{IsPassOf, pass_memo, sizes_of}
 use Rattle.report_api.specs.declared.pass.Pass.{Pass}
 use Rattle.report_api.specs.declared.shared.Shared.{Shared}
 use Rattle.main_function.specs.Standing.{AreAllPasses, IsManagerOf}
@@ -14,7 +13,7 @@ use Rattle.main_function.specs.declared.manager.Manager.{Manager}
 -- the pass is of the making, and of the same caller
 pub record IsSamePass (shared : Shared) (old new : Pass) : Type 0 where
   pub is_pass : IsPassOf shared new
-  pub same : (pass_view new).caller ≡ (pass_view old).caller
+  pub same : (pass_memo new).number ≡ (pass_memo old).number
 
 -- these passes are of the making, and one by one of the same callers
 pub record AreSamePasses (shared : Shared) (old new : List Pass) : Type 0 where
@@ -22,17 +21,17 @@ pub record AreSamePasses (shared : Shared) (old new : List Pass) : Type 0 where
   pub each : (i : ℕ) (d : Pass) → i < length new → IsSamePass shared (slice_index_or old i d) (slice_index_or new i d)
 
 -- these are all passes of the making, or none, since the manager took them back
-abbrev pub ArePassesLeft : Shared → TakerView Act → List Pass → Type 0
-ArePassesLeft shared reports passes = (passes ≡ []) ⊎ AreAllPasses shared reports passes
+abbrev pub ArePassesLeft : Shared → DeskMemo → List Pass → Type 0
+ArePassesLeft shared desk passes = (passes ≡ []) ⊎ AreAllPasses shared desk passes
 
 module _ {C : Type 0} (events : C → ℕ) (kept : C → List Buffer) where
   -- the manager is the one of its making, between two calls, with so many classes
   pub record IsRunning (classes : ℕ) (made : Made C) : Type 0 where
     pub manager_is : IsManagerOf events kept made.shared made.manager
     pub classes_are : classes ≡ length (sizes_of made.shared)
-    pub passes_are : ArePassesLeft made.shared (desk_view made.manager.desk) made.passes.items
+    pub passes_are : ArePassesLeft made.shared (desk_memo made.manager.desk) made.passes.items
 
   -- it is that still, and took no pass back meanwhile
   pub record IsSameManager (shared : Shared) (old new : Manager C) : Type 0 where
     pub manager_is : IsManagerOf events kept shared new
-    pub none_back : (desk_view new.desk).back ≡ (desk_view old.desk).back
+    pub none_back : (desk_memo new.desk).back ≡ (desk_memo old.desk).back

@@ -1,7 +1,7 @@
 //! Callers in threads of their own, beside turns of a manager.
 ghost use Rattle.std.specs.Prelude.{◌≡◌, true, All, OnOk};
 ghost use Rattle.std.specs.Thread.{IsSync};
-ghost use Rattle.report_api.specs.Desks.{desk_view};
+ghost use Rattle.report_api.specs.Desks.{desk_memo};
 ghost use Rattle.report_api.specs.Passes.{IsPassOf};
 ghost use Rattle.report_tests.specs.Running.{AreSamePasses, IsSameManager};
 ghost use Rattle.main_function.specs.Standing.{AreAllPasses, IsManagerOf};
@@ -115,7 +115,7 @@ fn close<C: Chain<CtxBuf>>(
     told: &mut Told,
 ) -> Option<Totals>
     requires manager { IsManagerOf C.events C.kept shared.now manager.old }
-    requires passes { AreAllPasses shared.now (desk_view manager.old.desk) passes.old.items }
+    requires passes { AreAllPasses shared.now (desk_memo manager.old.desk) passes.old.items }
 {
     let tick = manager.turns();
     if !manager.fits() || tick > MOST_TURNS {
@@ -141,7 +141,7 @@ fn report_beside_turns<R: Threads + Sync, C: Chain<CtxBuf>>(
     passes: &mut Vec<Pass>,
 ) -> Found
     requires manager { IsManagerOf C.events C.kept shared.now manager.old }
-    requires passes { AreAllPasses shared.now (desk_view manager.old.desk) passes.old.items }
+    requires passes { AreAllPasses shared.now (desk_memo manager.old.desk) passes.old.items }
 {
     let answers = Answers::of_four();
     let mut told = Told {

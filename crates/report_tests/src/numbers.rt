@@ -1,7 +1,8 @@
 //! Queues whose items carry numbers: the steps of a caller and of the taker, and what each answers.
 ghost use Rattle.std.specs.Prelude.{◌≡◌, ◌+◌, ◌<◌, ◌^◌, None, All, IfSome};
 ghost use Rattle.report_queue.specs.Making.{IsUnused};
-ghost use Rattle.report_queue.specs.Parts.{IsCallerOf, IsTakerOf, caller_view, calls_of, ticket_of};
+ghost use Rattle.report_queue.specs.Parts.{IsCallerOf, IsTakerOf, caller_memo, calls_of, ticket_of};
+ghost use Rattle.report_queue.specs.{marks_made};
 
 use crate::order::Order;
 use ids_types::Ticket;
@@ -65,7 +66,7 @@ pub fn put(queue: &Queue<Numbers>, seat: &mut QueueSeat<Numbers>, payload: u64) 
     ensures mine { IsCallerOf queue.now seat.new }
     ensures idle { ticket_of seat.new ≡ None }
     ensures calls { calls_of seat.new ≡ calls_of seat.old + 1 }
-    ensures marks { (caller_view seat.new).lost_events ≡ (caller_view seat.old).lost_events }
+    ensures marks { marks_made (caller_memo seat.new) ≡ marks_made (caller_memo seat.old) }
 {
     match seat.claim(queue) {
         Ok(_) => Told::Got(seat.fill(queue, payload).0),

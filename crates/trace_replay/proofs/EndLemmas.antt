@@ -1,5 +1,5 @@
 -- The end of a replay: from where its callers and its manager stand to what it gives.
-use Rattle.trace_replay.proofs.Names.{◌≡◌, ℕ, suc, ◌+◌, ◌≤◌, ◌<◌, ◌⊎◌, ⊎_elim, List, [], ◌∷◌, ◌++◌, length, map, take, refl, sym, ap, subst, ◌∙◌, arith, AllByRecursion, length-map, map-append, take_all, flat_map-cons, Turn, Parts, IsValid, all_losses, losses_from, IsMerge, last_tick, lines_of, ticks_of, AreRounds, IsAllowedRound, Buffer, desk_view, PassView, pass_view, Shared, HaveAllCalls, fates_in, losses_in, Traced, HavePlayed, sizes_in, Closes, IsRecordOf, IsSmallTurn, tick_of, turns_in, IsBetween, rests_from, AreFew, HasListed, losses_by, passes_of, told, Caller, Recorder}
+use Rattle.trace_replay.proofs.Names.{◌≡◌, ℕ, suc, ◌+◌, ◌≤◌, ◌<◌, ◌⊎◌, ⊎_elim, List, [], ◌∷◌, ◌++◌, length, map, take, refl, sym, ap, subst, ◌∙◌, arith, AllByRecursion, length-map, map-append, take_all, flat_map-cons, Turn, Parts, IsValid, all_losses, losses_from, IsMerge, last_tick, lines_of, ticks_of, AreRounds, IsAllowedRound, Buffer, desk_memo, PassMemo, pass_memo, Shared, HaveAllCalls, fates_in, losses_in, Traced, HavePlayed, sizes_in, Closes, IsRecordOf, IsSmallTurn, tick_of, turns_in, IsBetween, rests_from, AreFew, HasListed, losses_by, passes_of, told, Caller, Recorder}
 use mathlib.Core.Option.{some}
 use lib.ListN.{get_elem?}
 use Rattle.merge_texts.specs.Small.{AreSmall}
@@ -12,19 +12,19 @@ use Rattle.trace_replay.proofs.RecordingLemmas.{all_push}
 use Rattle.trace_replay.proofs.RoundLemmas.{at_rest, mapped_at}
 
 -- what the passes of callers show
-abbrev pub views_of : List Caller → List PassView
-views_of callers = map pass_view (passes_of callers)
+abbrev pub views_of : List Caller → List PassMemo
+views_of callers = map pass_memo (passes_of callers)
 
 -- the losses of callers that list what they lost, one caller after another
 all_listed : (n from : ℕ) (callers : List Caller)
     → ((i j : ℕ) (caller : Caller) → j ≡ from + i → get_elem? callers i ≡ some caller
-    → caller.losses.items ≡ losses_from n j 0 (fates_in (pass_view caller.pass)))
+    → caller.losses.items ≡ losses_from n j 0 (fates_in (pass_memo caller.pass)))
     → losses_by callers ≡ all_losses n from (map fates_in (views_of callers))
 all_listed n from [] each = refl
 all_listed n from (caller ∷ callers) each =
     flat_map-cons (λ (c : Caller). c.losses.items) caller callers
     ∙ ap (λ losses. losses ++ losses_by callers) (each 0 from caller (omega arith) refl)
-    ∙ ap (λ losses. losses_from n from 0 (fates_in (pass_view caller.pass)) ++ losses)
+    ∙ ap (λ losses. losses_from n from 0 (fates_in (pass_memo caller.pass)) ++ losses)
     (all_listed n (suc from) callers (λ i j c is. each (suc i) j c (omega (arith, is))))
 
 all_map : {A : Type 0} (P Q : A → Type 0) → ((x : A) → P x → Q x) → (xs : List A) → AllByRecursion P xs → AllByRecursion Q xs
@@ -37,7 +37,7 @@ module _ {C : Type 0} (stands : C → Parts → List Turn → Type 0) (events : 
     (few : AreFew trace.callers trace.rounds) (made_for : IsMadeFor config shared)
     (between : IsBetween events kept shared trace (length trace.rounds) callers r1) (was : IsRecordOf stands config r1)
     (closes : Closes stands events kept shared tick (views_of callers) r1 r2) (tick_is : tick ≡ last_tick trace.rounds) where
-  abbrev views : List PassView
+  abbrev views : List PassMemo
   views = views_of callers
 
   whole : take (length trace.rounds) trace.rounds ≡ trace.rounds
@@ -58,9 +58,9 @@ module _ {C : Type 0} (stands : C → Parts → List Turn → Type 0) (events : 
 
   played : HavePlayed config trace.rounds views
   played = record {
-    all = length-map (passes_of callers) pass_view ∙ length-map callers (λ (c : Caller). c.pass) ∙ between.as_many ∙ of_config;
+    all = length-map (passes_of callers) pass_memo ∙ length-map callers (λ (c : Caller). c.pass) ∙ between.as_many ∙ of_config;
     each = λ i view at.
-        let pass = mapped_at pass_view (passes_of callers) i view at in
+        let pass = mapped_at pass_memo (passes_of callers) i view at in
         let caller = mapped_at (λ (c : Caller). c.pass) callers i pass.0 pass.1 in
         rw (sym pass.2, sym caller.2) (listed i caller.0 caller.1).played;
   }
@@ -93,7 +93,7 @@ module _ {C : Type 0} (stands : C → Parts → List Turn → Type 0) (events : 
   losses_are : losses_by callers ≡ losses_in config.ring views
   losses_are = all_listed config.ring 0 callers (λ i j caller is at.
       let same : i ≡ j = omega (arith, is) in
-      subst (λ k. caller.losses.items ≡ losses_from config.ring k 0 (fates_in (pass_view caller.pass))) same (listed i caller at).losses_are)
+      subst (λ k. caller.losses.items ≡ losses_from config.ring k 0 (fates_in (pass_memo caller.pass))) same (listed i caller at).losses_are)
 
   are_small : AreSmall trace.rounds (turns_in r2)
   are_small = record {
@@ -105,7 +105,7 @@ module _ {C : Type 0} (stands : C → Parts → List Turn → Type 0) (events : 
       arith,
       closes.advances.manager_is.items_within,
       ap length recorded.stands_for.reports_show.items_are,
-      length-map (desk_view r2.manager.desk).items plain_item,
+      length-map (desk_memo r2.manager.desk).notes plain_item,
     );
     heads = all_map (IsSmallTurn config.ring) _
         (λ turn is. record { lost_events = is.head_is.lost_events; lost_contexts = is.head_is.lost_contexts; limited = is.head_is.limited }) (turns_in r2) small;

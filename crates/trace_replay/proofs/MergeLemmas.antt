@@ -1,5 +1,5 @@
 -- What the passes of a replay did is a merge of their callers' lines.
-use Rattle.trace_replay.proofs.Names.{◌≡◌, ℕ, zero, suc, ◌+◌, ◌<◌, ◌≤◌, ◌==◌, if◌then◌else◌, nat_lt, Some, Bool, List, [], ◌∷◌, length, map, filter, sum_by, slice_index_or, refl, sym, ap, subst, ◌∙◌, arith, eq-eqb, inl, inr, le-ltb, length-append, AllByRecursion, AllZip, cases_lt, get_or_past, length-map, filter-append, sum_by-cons, Turn, entries_of, Parts, class_of, AreClasses, IsValid, there, all_losses, losses_from, AreMerged, IsAsAsked, IsItsLine, IsMerge, StandsIn, Asked, reports, changes, sets, Round, is_lost_report, is_report, lines_of, ticks_of, Act, Report, State, SetMode, Absent, Kept, Missing, Outcome, Lost, Got, PassView, call_of, calls_in, fate_of, missing_in, plain_act, missed_by, HaveAllCalls, calls_by, fates_in, losses_in, or_at, Answers, IsAsked, lost_report, lost_reports, HavePlayed, sizes_in, HasPlayed}
+use Rattle.trace_replay.proofs.Names.{◌≡◌, ℕ, zero, suc, ◌+◌, ◌<◌, ◌≤◌, ◌==◌, if◌then◌else◌, nat_lt, Some, Bool, List, [], ◌∷◌, length, map, filter, sum_by, slice_index_or, refl, sym, ap, subst, ◌∙◌, arith, eq-eqb, inl, inr, le-ltb, length-append, AllByRecursion, AllZip, cases_lt, get_or_past, length-map, filter-append, sum_by-cons, Turn, entries_of, Parts, class_of, AreClasses, IsValid, there, all_losses, losses_from, AreMerged, IsAsAsked, IsItsLine, IsMerge, StandsIn, Asked, reports, changes, sets, Round, is_lost_report, is_report, lines_of, ticks_of, Act, Report, State, SetMode, Absent, Kept, Missing, Outcome, Lost, Got, PassMemo, lost_events, call_of, calls_in, fate_of, missing_in, plain_act, missed_by, HaveAllCalls, calls_by, fates_in, losses_in, or_at, Answers, IsAsked, lost_report, lost_reports, HavePlayed, sizes_in, HasPlayed}
 use Rattle.std.proofs.Math.Path.{fun_ext}
 use Rattle.std.specs.Prelude.{sum}
 use mathlib.Core.Option.{some, some-injective}
@@ -18,8 +18,8 @@ use Rattle.trace_replay.proofs.PlayedLemmas.{zip_length}
 use Rattle.trace_replay.proofs.RoundLemmas.{map_at}
 
 -- the turns tell how many reports the passes lost, and how many contexts they missed
-pub record TellLosses (passes : List PassView) (turns : List Turn) : Type 0 where
-  pub lost_events : sum (map (λ turn. turn.head.lost_events) turns) ≡ sum_by (λ pass. pass.lost_events) passes
+pub record TellLosses (passes : List PassMemo) (turns : List Turn) : Type 0 where
+  pub lost_events : sum (map (λ turn. turn.head.lost_events) turns) ≡ sum_by lost_events passes
   pub lost_contexts : sum (map (λ turn. turn.head.lost_contexts) turns) ≡ sum_by (λ pass. missing_in pass.log) passes
 
 -- ---- lists
@@ -124,8 +124,8 @@ module _ (sizes : List ℕ) (rounds : List Round) (n : ℕ) where
       omega (arith, lost_by i (suc call) lines log own.1 all.1, got_none asked ticket item)
 
   -- and those of all passes
-  lost_by_all : (i : ℕ) (passes : List PassView) → EachFrom (λ j pass. HasPlayed sizes (lines_of j rounds) pass) i passes
-      → length (filter (is_lost_report rounds) (all_losses n i (map fates_in passes))) ≡ sum_by (λ pass. pass.lost_events) passes
+  lost_by_all : (i : ℕ) (passes : List PassMemo) → EachFrom (λ j pass. HasPlayed sizes (lines_of j rounds) pass) i passes
+      → length (filter (is_lost_report rounds) (all_losses n i (map fates_in passes))) ≡ sum_by lost_events passes
   lost_by_all i [] each = refl
   lost_by_all i (pass ∷ passes) each =
       let test = is_lost_report rounds in
@@ -135,7 +135,7 @@ module _ (sizes : List ℕ) (rounds : List Round) (n : ℕ) where
       let both = ap length (filter-append test own others) ∙ length-append (filter test own) (filter test others) in
       let here = lost_by i 0 lines pass.log (by_place (λ j asked. get_elem? lines j ≡ some asked) lines (λ j asked at. at)) each.0.each in
       let rest = lost_by_all (suc i) passes each.1 in
-      omega (arith, both, here, rest, each.0.lost_events_are, sum_by-cons (λ (p : PassView). p.lost_events) pass passes)
+      omega (arith, both, here, rest, each.0.lost_events_are, sum_by-cons lost_events pass passes)
 
 -- ---- missing contexts
 
@@ -182,7 +182,7 @@ missed_in caller call (Got ticket item ∷ log) =
     let one = missed_plainly item.payload in grind (arith, rest, one)
 
 -- and those of all passes
-missed_by_all : (es : List (Entry (List ℕ))) (i : ℕ) (passes : List PassView)
+missed_by_all : (es : List (Entry (List ℕ))) (i : ℕ) (passes : List PassMemo)
     → ((e : Entry (List ℕ)) → StandsIn es e → e.caller < i + length passes)
     → EachFrom (λ j pass. entries_by j es ≡ entries_from j 0 (calls_in pass.log)) i passes
     → missed_from i es ≡ sum_by (λ pass. missing_in pass.log) passes
@@ -190,7 +190,7 @@ missed_by_all es i [] within each = missed_none i es (λ e stands. omega (arith,
 missed_by_all es i (pass ∷ passes) within each =
     let here = ap (λ xs. length (filter missed xs)) each.0 ∙ missed_in i 0 pass.log in
     let rest = missed_by_all es (suc i) passes (λ e stands. omega (arith, within e stands)) each.1 in
-    omega (arith, missed_one i es, here, rest, sum_by-cons (λ (p : PassView). missing_in p.log) pass passes)
+    omega (arith, missed_one i es, here, rest, sum_by-cons (λ (p : PassMemo). missing_in p.log) pass passes)
 
 -- ---- all together
 
@@ -201,20 +201,20 @@ no_lines n caller [] each past = refl
 no_lines n caller (round ∷ rounds) each past =
     rw (get_or_past round.lines caller [] (omega (arith, each.0, past))) (no_lines n caller rounds each.1 past)
 
-module _ (passes : List PassView) (i : ℕ) where
+module _ (passes : List PassMemo) (i : ℕ) where
   -- what each pass called
   abbrev logs : List Calls
-  logs = map (λ (pass : PassView). calls_in pass.log) passes
+  logs = map (λ (pass : PassMemo). calls_in pass.log) passes
 
   -- the calls of a caller are those of its pass
-  calls_at : (pass : PassView) → get_elem? passes i ≡ some pass → calls_by passes i ≡ calls_in pass.log
-  calls_at pass at = or_at logs i [] (calls_in pass.log) (map_at (λ (p : PassView). calls_in p.log) passes i pass at)
+  calls_at : (pass : PassMemo) → get_elem? passes i ≡ some pass → calls_by passes i ≡ calls_in pass.log
+  calls_at pass at = or_at logs i [] (calls_in pass.log) (map_at (λ (p : PassMemo). calls_in p.log) passes i pass at)
 
   -- and none, where it has no pass
   no_calls : length passes ≤ i → calls_by passes i ≡ []
-  no_calls past = get_or_past logs i [] (omega (arith, past, length-map passes (λ (p : PassView). calls_in p.log)))
+  no_calls past = get_or_past logs i [] (omega (arith, past, length-map passes (λ (p : PassMemo). calls_in p.log)))
 
-module _ (config : Parts) (rounds : List Round) (turns : List Turn) (passes : List PassView) (valid : IsValid config)
+module _ (config : Parts) (rounds : List Round) (turns : List Turn) (passes : List PassMemo) (valid : IsValid config)
     (each : AllByRecursion (λ round. length round.lines ≡ config.callers) rounds) (played : HavePlayed config rounds passes)
     (have : HaveAllCalls config passes turns) where
   -- each caller made as many calls as it has lines
@@ -254,7 +254,7 @@ module _ (config : Parts) (rounds : List Round) (turns : List Turn) (passes : Li
       (found.0, found.2, subst (IsAsAsked config turns e.caller e.call found.0) found.4 same)
 
   -- the lost reports are those of the passes
-  lost_reports_are : length (filter (is_lost_report rounds) (losses_in config.ring passes)) ≡ sum_by (λ pass. pass.lost_events) passes
+  lost_reports_are : length (filter (is_lost_report rounds) (losses_in config.ring passes)) ≡ sum_by lost_events passes
   lost_reports_are =
       let sizes = sizes_in config in
       lost_by_all sizes rounds config.ring 0 passes (by_place (λ i. HasPlayed sizes (lines_of i rounds)) passes played.each)

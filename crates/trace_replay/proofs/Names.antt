@@ -24,12 +24,11 @@ pub use Rattle.merge_spec.specs.Merge.{IsMerge, AreMerged, IsAsAsked, IsItsLine}
 pub use Rattle.merge_spec.specs.Orders.{StandsIn, KeepUpFrom}
 pub use Rattle.merge_spec.specs.Rounds.{Asked, reports, changes, sets, last_tick, lines_of, ticks_of, Round, is_lost_report, is_report, lines_at, round_ticks}
 pub use Rattle.permit_ring.proofs.ListLemmas.{there, at_length}
-pub use Rattle.report_api.specs.Desks.{desk_view}
-pub use Rattle.report_api.specs.Names.{Act, Carried, Absent, Kept, Missing, Lost, Got, PassView, Report, State, SetMode, Outcome}
-pub use Rattle.report_api.specs.Passes.{sizes_of, pass_view, call_of, calls_in, fate_of, missing_in, plain_act, misses_context as missed_by}
+pub use Rattle.report_api.specs.Desks.{desk_memo}
+pub use Rattle.report_api.specs.Names.{Act, Carried, Absent, Kept, Missing, Lost, Got, DeskMemo, PassMemo, Report, State, SetMode, Outcome}
+pub use Rattle.report_api.specs.Passes.{sizes_of, lost_events, pass_memo, call_of, calls_in, fate_of, missing_in, plain_act, misses_context as missed_by}
 pub use Rattle.report_api.specs.declared.pass.Pass.{Pass}
 pub use Rattle.report_api.specs.declared.shared.Shared.{Shared}
-pub use Rattle.report_queue.specs.Views.{TakerView}
 pub use Rattle.text_spec.proofs.JournalFacts.{flat_map-push}
 pub use Rattle.text_spec.proofs.TraceFacts.{keep_split, last_from-push, last_of_all, last_small}
 pub use Rattle.text_spec.specs.TraceFaults.{begun_round, last_from, act_asked, is_allowed}

@@ -1,5 +1,5 @@
 -- A caller with one call more, and with those of one round more.
-use Rattle.trace_replay.proofs.Names.{◌≡◌, ℕ, suc, ◌+◌, ◌-◌, ◌≤◌, ◌<◌, ◌^◌, List, [], ◌∷◌, ◌++◌, length, map, take, refl, sym, ap, ◌∙◌, arith, append_assoc, length-append, length_push, length-take-le, take_all, take_more, length-flat_map-take, AllZip, losses_from, Asked, Round, changes, lines_at, lines_of, begun_round, flat_map-push, line_at, round_at, Outcome, Lost, Got, PassView, fate_of, Answers, CallsOnce, Told, loss_of, lost_report, lost_reports, HasListed, HasPlayed, lines_before}
+use Rattle.trace_replay.proofs.Names.{◌≡◌, ℕ, suc, ◌+◌, ◌-◌, ◌≤◌, ◌<◌, ◌^◌, List, [], ◌∷◌, ◌++◌, length, map, take, refl, sym, ap, ◌∙◌, arith, append_assoc, length-append, length_push, length-take-le, take_all, take_more, length-flat_map-take, AllZip, losses_from, Asked, Round, changes, lines_at, lines_of, begun_round, flat_map-push, line_at, round_at, Outcome, Lost, Got, PassMemo, fate_of, Answers, CallsOnce, Told, loss_of, lost_report, lost_reports, HasListed, HasPlayed, lines_before}
 
 module _ {A B : Type 0} (R : A → B → Type 0) where
   -- one more of each
@@ -52,9 +52,9 @@ module _ {sizes : List ℕ} {n i : ℕ} {old new : Told} where
               (once.lost_events_are ∙ ap (λ k. k + lost_report asked once.outcome) before.played.lost_events_are
               ∙ sym (lost_push lines old.pass.log asked once.outcome as_many));
         };
-        number_is = once.caller_is ∙ before.number_is;
+        number_is = once.number_is ∙ before.number_is;
         losses_are =
-            let place : old.pass.calls ≡ 0 + length old.pass.log = omega (arith, before.played.calls_are, as_many) in
+            let place : old.pass.view.calls ≡ 0 + length old.pass.log = omega (arith, before.played.calls_are, as_many) in
             once.losses_are ∙ rw (before.losses_are, before.number_is, place, once.log_is) (sym (losses_push n i 0 old.pass.log once.outcome));
       }
 
@@ -68,8 +68,8 @@ module _ {sizes : List ℕ} {n i : ℕ} {old new : Told} where
 pub one_loss : {sizes : List ℕ} {n : ℕ} {asked : Asked} {old new : Told} → CallsOnce sizes n asked old new
     → length new.losses ≤ length old.losses + 1
 one_loss {n = n} {old = old} once =
-    let one = at_most n old.pass.caller old.pass.calls once.outcome in
-    omega (arith, ap length once.losses_are, length-append old.losses (loss_of n old.pass.caller old.pass.calls once.outcome), one)
+    let one = at_most n old.pass.number old.pass.view.calls once.outcome in
+    omega (arith, ap length once.losses_are, length-append old.losses (loss_of n old.pass.number old.pass.view.calls once.outcome), one)
 
 -- the lines of one round more
 pub lines_more : (rounds : List Round) (k caller : ℕ) → k < length rounds
@@ -78,9 +78,9 @@ lines_more rounds k caller less =
     rw (take_more rounds k (begun_round 0 [] 0) less, flat_map-push (lines_at caller) (take k rounds) (round_at rounds k), take_all (length (lines_at caller (round_at rounds k))) (lines_at caller (round_at rounds k)) (omega arith)) refl
 
 -- the calls of the first lines of a round are few, where all calls are
-pub few_calls : {sizes : List ℕ} {pass : PassView} (rounds : List Round) (k caller i : ℕ) → k < length rounds
+pub few_calls : {sizes : List ℕ} {pass : PassMemo} (rounds : List Round) (k caller i : ℕ) → k < length rounds
     → i ≤ length (lines_at caller (round_at rounds k)) → length (lines_of caller rounds) < 2 ^ 32
-    → HasPlayed sizes (lines_before rounds k caller ++ take i (lines_at caller (round_at rounds k))) pass → pass.calls < 2 ^ 40
+    → HasPlayed sizes (lines_before rounds k caller ++ take i (lines_at caller (round_at rounds k))) pass → pass.view.calls < 2 ^ 40
 few_calls rounds k caller i less within few played =
     let lines = lines_at caller (round_at rounds k) in
     let here : length (lines_before rounds k caller ++ take i lines) ≤ length (lines_before rounds k caller) + length lines =

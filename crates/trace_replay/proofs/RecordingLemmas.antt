@@ -1,5 +1,5 @@
 -- What was gathered, with one turn more, and with those of one list of ticks behind those of another.
-use Rattle.trace_replay.proofs.Names.{◌≡◌, ℕ, zero, suc, ◌+◌, ◌-◌, ◌≤◌, ◌<◌, ◌^◌, List, [], ◌∷◌, ◌++◌, length, min, take, get_or, refl, sym, ap, ◌∙◌, arith, append_assoc, append-nil, length-append, AllByRecursion, length-map, map-append, Output, Turn, Parts, KeepUpFrom, last_from, Buffer, TakerView, desk_view, Act, PassView, Shared, Closed, all_back, IsManagerOf, Turned, Manager, Advances, Closes, Continues, StaysSame, tick_of, turns_in, Gathered, Recorder}
+use Rattle.trace_replay.proofs.Names.{◌≡◌, ℕ, zero, suc, ◌+◌, ◌-◌, ◌≤◌, ◌<◌, ◌^◌, List, [], ◌∷◌, ◌++◌, length, min, take, get_or, refl, sym, ap, ◌∙◌, arith, append_assoc, append-nil, length-append, AllByRecursion, length-map, map-append, Output, Turn, Parts, KeepUpFrom, last_from, Buffer, DeskMemo, desk_memo, PassMemo, Shared, Closed, all_back, IsManagerOf, Turned, Manager, Advances, Closes, Continues, StaysSame, tick_of, turns_in, Gathered, Recorder}
 use Rattle.ids_types.specs.Carries.{entry_by}
 use Rattle.chain.specs.History.{handed_of}
 use Rattle.chain_plain.specs.Telling.{Tells, Told, handed_by}
@@ -72,9 +72,9 @@ module _ {C : Type 0} (stands : C → Parts → List Turn → Type 0) (events : 
       (same : StaysSame stands events kept old (record { manager = m0; gathered = old.gathered })) (adds : Adds old.gathered m1.out g)
       (now : IsManagerOf events kept shared m1) where
     -- a turn that was made and gathered
-    pub advances : (tick : ℕ) (reports : TakerView Act) (givers : List Giver) → Turned stands kept tick reports givers m0 m1
+    pub advances : (tick : ℕ) (desk : DeskMemo) (givers : List Giver) → Turned stands kept tick desk givers m0 m1
         → Advances stands events kept shared (tick ∷ []) old (record { manager = m1; gathered = g })
-    advances tick reports givers turned =
+    advances tick desk givers turned =
         let before = turns_in old in
         let history : g.history.turns ≡ before ++ turned.turn ∷ [] = adds.history ∙ ap (λ turns. before ++ turns) turned.log_is in
         record {
@@ -115,23 +115,23 @@ module _ {C : Type 0} (stands : C → Parts → List Turn → Type 0) (events : 
         }
 
     -- and no pass came back meanwhile
-    pub continues : (tick : ℕ) (givers : List Giver) → Turned stands kept tick (desk_view m0.desk) givers m0 m1
+    pub continues : (tick : ℕ) (givers : List Giver) → Turned stands kept tick (desk_memo m0.desk) givers m0 m1
         → Continues stands events kept shared (tick ∷ []) old (record { manager = m1; gathered = g })
     continues tick givers turned = record {
-      advances = advances tick (desk_view m0.desk) givers turned;
-      back_is = ap (λ view. view.back) turned.makes.is ∙ ap (λ desk. (desk_view desk).back) same.manager_is.desk_is;
+      advances = advances tick (desk_memo m0.desk) givers turned;
+      back_is = turned.back_is ∙ ap (λ desk. (desk_memo desk).back) same.manager_is.desk_is;
     }
 
     -- a last turn, behind which all passes are back
-    pub closes : (tick : ℕ) (passes : List PassView) → Closed stands kept shared tick passes m0 m1
+    pub closes : (tick : ℕ) (passes : List PassMemo) → Closed stands kept shared tick passes m0 m1
         → Closes stands events kept shared tick passes old (record { manager = m1; gathered = g })
     closes tick passes closed =
         let before = turns_in old in
         let turned = closed.turned in
         let history : g.history.turns ≡ before ++ turned.turn ∷ [] = adds.history ∙ ap (λ turns. before ++ turns) turned.log_is in
         record {
-          advances = advances tick (all_back passes (desk_view m0.desk)) closed.givers turned;
-          back_is = ap (λ view. view.back) turned.makes.is;
+          advances = advances tick (all_back passes (desk_memo m0.desk)) closed.givers turned;
+          back_is = closed.are_back;
           counts = closed.counts;
           all_calls = λ config made_for was. rw history
               (closed.all_calls config before made_for (same.manager_is.stands_then config before was.stands_for));

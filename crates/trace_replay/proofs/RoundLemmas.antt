@@ -1,5 +1,5 @@
 -- One round more.
-use Rattle.trace_replay.proofs.Names.{◌≡◌, ℕ, zero, suc, ◌+◌, ◌≤◌, ◌<◌, ◌^◌, List, [], ◌∷◌, ◌++◌, length, map, sum_by, take, drop, refl, sym, ap, subst, ◌∙◌, arith, append_assoc, length-append, All, AllByRecursion, flat_map, length-map, length_push, map-append, take_more, take-append-drop, flat_map-cons, All-from_recursion, sum_by-cons, sum_by_push, Turn, Parts, KeepUpFrom, Round, lines_of, round_ticks, begun_round, last_from, AreTicks, flat_map-push, keep_split, last_from-push, Buffer, at_length, TakerView, desk_view, Act, pass_view, Pass, Shared, or_at, AreAllPasses, StaysSo, all_calls, last_of, rests_of, turns_of, Traced, round_at, Continues, StillRecords, tick_of, turns_in, CanPlay, IsBetween, lines_in, rests_from, ticks_before, AreAtRest, IsAtRest, SameCallers, passes_of, Caller, Recorder}
+use Rattle.trace_replay.proofs.Names.{◌≡◌, ℕ, zero, suc, ◌+◌, ◌≤◌, ◌<◌, ◌^◌, List, [], ◌∷◌, ◌++◌, length, map, sum_by, take, drop, refl, sym, ap, subst, ◌∙◌, arith, append_assoc, length-append, All, AllByRecursion, flat_map, length-map, length_push, map-append, take_more, take-append-drop, flat_map-cons, All-from_recursion, sum_by-cons, sum_by_push, Turn, Parts, KeepUpFrom, Round, lines_of, round_ticks, begun_round, last_from, AreTicks, flat_map-push, keep_split, last_from-push, Buffer, at_length, DeskMemo, desk_memo, pass_memo, Pass, Shared, or_at, AreAllPasses, StaysSo, all_calls, last_of, rests_of, turns_of, Traced, round_at, Continues, StillRecords, tick_of, turns_in, CanPlay, IsBetween, lines_in, rests_from, ticks_before, AreAtRest, IsAtRest, SameCallers, passes_of, Caller, Recorder}
 use Rattle.std.proofs.lemmas.Grind.{flat_map-append}
 use mathlib.Core.Option.{some, some-injective}
 use lib.ListN.{get_elem?}
@@ -117,8 +117,8 @@ module _ (shared : Shared) (rounds : List Round) (k : ℕ) (callers : List Calle
       (rest i caller (at_length callers i caller at))
 
   -- they have all passes of a desk that gave out as many
-  pub all_passes : (reports : TakerView Act) → length callers ≡ length reports.back → AreAllPasses shared reports (passes_of callers)
-  all_passes reports all = record {
+  pub all_passes : (desk : DeskMemo) → length callers ≡ length desk.back → AreAllPasses shared desk (passes_of callers)
+  all_passes desk all = record {
     all = length-map callers (λ (caller : Caller). caller.pass) ∙ all;
     each = λ i pass at.
         let its = mapped_at (λ (caller : Caller). caller.pass) callers i pass at in
@@ -130,11 +130,11 @@ module _ (shared : Shared) (rounds : List Round) (k : ℕ) (callers : List Calle
   pub calls_made : AllByRecursion (λ round. length round.lines ≡ length callers) rounds
       → all_calls (passes_of callers) ≡ sum_by lines_in (take k rounds)
   calls_made each =
-      sum_total (λ (pass : Pass). (pass_view pass).calls) (λ i. length (lines_of i (take k rounds))) 0 (passes_of callers) (λ i j pass is at.
+      sum_total (λ (pass : Pass). (pass_memo pass).view.calls) (λ i. length (lines_of i (take k rounds))) 0 (passes_of callers) (λ i j pass is at.
       let its = mapped_at (λ (caller : Caller). caller.pass) callers i pass at in
       let same : i ≡ j = omega (arith, is) in
-      subst (λ place. (pass_view pass).calls ≡ length (lines_of place (take k rounds))) same
-      (subst (λ (p : Pass). (pass_view p).calls ≡ length (lines_of i (take k rounds))) its.2 (at_rest i its.0 its.1).listed.played.calls_are))
+      subst (λ place. (pass_memo pass).view.calls ≡ length (lines_of place (take k rounds))) same
+      (subst (λ (p : Pass). (pass_memo p).view.calls ≡ length (lines_of i (take k rounds))) its.2 (at_rest i its.0 its.1).listed.played.calls_are))
       ∙ rw (length-map callers (λ (caller : Caller). caller.pass)) (all_lines (take k rounds) (length callers) (all_first _ k rounds each))
 
 -- ---- one round more
@@ -186,8 +186,8 @@ module _ {C : Type 0} (stands : C → Parts → List Turn → Type 0) (events : 
           manager_is = after.manager_is.is_manager shared turn.advances.manager_is;
           at_rest = played;
           as_many = as_many ∙ between.as_many;
-          all = as_many ∙ between.all ∙ sym (ap (λ desk. length (desk_view desk).back) after.manager_is.desk_is ∙ ap length turn.back_is
-              ∙ ap (λ desk. length (desk_view desk).back) before.manager_is.desk_is ∙ ap length beside.back_is);
+          all = as_many ∙ between.all ∙ sym (ap (λ desk. length (desk_memo desk).back) after.manager_is.desk_is ∙ ap length turn.back_is
+              ∙ ap (λ desk. length (desk_memo desk).back) before.manager_is.desk_is ∙ ap length beside.back_is);
           ticks_are = rw (turns_more, more) (map-append tick_of (turns_in r0) (beside.advances.turns ++ turn.advances.turns)
               ∙ rw (between.ticks_are, map-append tick_of beside.advances.turns turn.advances.turns, beside.advances.ticks_are, turn.advances.ticks_are) refl);
           small = rw turns_more (all_push _ (turns_in r0) _ between.small (all_push _ beside.advances.turns turn.advances.turns beside.advances.small turn.advances.small));

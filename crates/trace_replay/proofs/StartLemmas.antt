@@ -58,7 +58,7 @@ module _ {C : Type 0} (stands : C → Parts → List Turn → Type 0) (events : 
       let is = new.manager_is.making.each i caller.0.pass at in
       rw (or_at callers i d caller.0 caller.1) record {
         is_pass = is.is_pass;
-        listed = rw is.shows record {
+        listed = rw is.knows record {
           played = record { each = tt; calls_are = refl; lost_events_are = refl };
           number_is = refl;
           losses_are = none_listed callers none i caller.0 caller.1;

@@ -6,7 +6,8 @@ use Rattle.buffer_classes.specs.Buffers.{Buffer}
 use Rattle.buffer_classes.specs.Classes.{first_fitting}
 use Rattle.permit_ring.specs.declared.answer.Look.{Look}
 use Rattle.report_api.specs.Answers.{CarriesAll}
-use Rattle.report_api.specs.Names.{Act, Report, State, SetMode, Carried, Missing, Outcome, Lost, Got, PassView}
+use Rattle.report_api.specs.Names.{Act, Report, State, SetMode, Carried, Missing, Outcome, Lost, Got, PassMemo}
+use Rattle.report_api.specs.Passes.{lost_events}
 use Rattle.report_api.specs.Terms.{IsReported}
 use Rattle.report_api.specs.declared.answer.Control.{Control}
 use Rattle.report_api.specs.declared.answer.Control.TheVariants as controls
@@ -66,18 +67,18 @@ TellsOf (Got ticket item) None = ⊤
 TellsOf outcome other = ⊥
 
 -- the call that was asked for was made
-pub record AsksOnce (sizes : List ℕ) (asked : Asked) (old : PassView) (look : Option Look) (new : PassView) : Type 0 where
+pub record AsksOnce (sizes : List ℕ) (asked : Asked) (old : PassMemo) (look : Option Look) (new : PassMemo) : Type 0 where
   pub outcome : Outcome
   pub answers : Answers sizes asked outcome
   pub tells : TellsOf outcome look
-  pub caller_is : new.caller ≡ old.caller
-  pub calls_are : new.calls ≡ old.calls + 1
+  pub number_is : new.number ≡ old.number
+  pub calls_are : new.view.calls ≡ old.view.calls + 1
   pub log_is : new.log ≡ old.log ++ outcome ∷ []
-  pub lost_events_are : new.lost_events ≡ old.lost_events + lost_report asked outcome
+  pub lost_events_are : lost_events new ≡ lost_events old + lost_report asked outcome
 
--- what a caller tells: what its pass shows, and the losses that it lists
+-- what a caller tells: what its pass knows, and the losses that it lists
 pub record Told : Type 0 where
-  pub pass : PassView
+  pub pass : PassMemo
   pub losses : List Loss
 
 -- the loss of a call, where it was lost over a ring of so many positions
@@ -89,8 +90,8 @@ loss_of positions caller call (Got ticket item) = []
 pub record CallsOnce (sizes : List ℕ) (positions : ℕ) (asked : Asked) (old new : Told) : Type 0 where
   pub outcome : Outcome
   pub answers : Answers sizes asked outcome
-  pub caller_is : new.pass.caller ≡ old.pass.caller
-  pub calls_are : new.pass.calls ≡ old.pass.calls + 1
+  pub number_is : new.pass.number ≡ old.pass.number
+  pub calls_are : new.pass.view.calls ≡ old.pass.view.calls + 1
   pub log_is : new.pass.log ≡ old.pass.log ++ outcome ∷ []
-  pub lost_events_are : new.pass.lost_events ≡ old.pass.lost_events + lost_report asked outcome
-  pub losses_are : new.losses ≡ old.losses ++ loss_of positions old.pass.caller old.pass.calls outcome
+  pub lost_events_are : lost_events new.pass ≡ lost_events old.pass + lost_report asked outcome
+  pub losses_are : new.losses ≡ old.losses ++ loss_of positions old.pass.number old.pass.view.calls outcome

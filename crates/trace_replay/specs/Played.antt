@@ -5,7 +5,7 @@ use lib.ListN.{get_elem?}
 use Rattle.ids_types.specs.declared.class_spec.ClassSpec.{ClassSpec}
 use Rattle.ids_config.specs.Parts.{Parts}
 use Rattle.merge_spec.specs.Rounds.{Round, lines_of}
-use Rattle.report_api.specs.Names.{PassView}
+use Rattle.report_api.specs.Names.{PassMemo}
 use Rattle.trace_replay.specs.Standing.{HasPlayed}
 
 -- the sizes of the classes
@@ -13,6 +13,6 @@ abbrev pub sizes_in : Parts → List ℕ
 sizes_in config = map (λ (class : ClassSpec). class.size) config.classes
 
 -- each pass made the calls that the lines of its caller ask for, and each caller has one
-pub record HavePlayed (config : Parts) (rounds : List Round) (passes : List PassView) : Type 0 where
+pub record HavePlayed (config : Parts) (rounds : List Round) (passes : List PassMemo) : Type 0 where
   pub all : length passes ≡ config.callers
-  pub each : (i : ℕ) (pass : PassView) → get_elem? passes i ≡ some pass → HasPlayed (sizes_in config) (lines_of i rounds) pass
+  pub each : (i : ℕ) (pass : PassMemo) → get_elem? passes i ≡ some pass → HasPlayed (sizes_in config) (lines_of i rounds) pass

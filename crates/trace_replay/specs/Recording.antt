@@ -1,5 +1,5 @@
 -- What a replay gathers of the turns of its manager.
-use Rattle.std.specs.Prelude.{◌≡◌, ℕ, ◌+◌, ◌≤◌, ◌<◌, ◌^◌, Bool, true, Some, List, [], ◌∷◌, ◌++◌, length, map, reverse}
+use Rattle.std.specs.Prelude.{◌≡◌, ℕ, ◌+◌, ◌≤◌, ◌<◌, ◌^◌, Bool, true, List, [], ◌∷◌, ◌++◌, length, map, reverse}
 use Rattle.std.specs.List.{AllByRecursion}
 use Rattle.ids_types.specs.Turns.{Turn}
 use Rattle.ids_config.specs.Parts.{Parts}
@@ -9,12 +9,12 @@ use Rattle.chain_plain.specs.Telling.{ends_of}
 use Rattle.chain_spec.specs.Chain.{IsCausal}
 use Rattle.buffer_classes.specs.Buffers.{Buffer}
 use Rattle.report_queue.specs.Parts.{queue_positions}
-use Rattle.report_api.specs.Desks.{desk_view}
-use Rattle.report_api.specs.Names.{PassView}
+use Rattle.report_api.specs.Desks.{desk_memo}
+use Rattle.report_api.specs.Names.{PassMemo}
 use Rattle.report_api.specs.declared.pass.Pass.{Pass}
 use Rattle.report_api.specs.declared.shared.Shared.{Shared}
 use Rattle.desk_closing.specs.Calls.{HaveAllCalls}
-use Rattle.desk_closing.specs.Closed.{IsMadeFor}
+use Rattle.desk_closing.specs.Closed.{IsMadeFor, came}
 use Rattle.main_function.specs.Closing.{AreCountsOf, AreSumsOf}
 use Rattle.main_function.specs.Making.{IsNewManager}
 use Rattle.main_function.specs.Standing.{IsManagerOf, Stands, StaysSo, fits_turn, last_of, rests_of, turns_of}
@@ -85,12 +85,12 @@ module _ {C : Type 0} (stands : C → Parts → List Turn → Type 0) (events : 
   -- and no pass came back
   pub record Continues (shared : Shared) (ticks : List ℕ) (old new : Recorder C) : Type 0 where
     pub advances : Advances shared ticks old new
-    pub back_is : (desk_view new.manager.desk).back ≡ (desk_view old.manager.desk).back
+    pub back_is : (desk_memo new.manager.desk).back ≡ (desk_memo old.manager.desk).back
 
   -- these passes came back, and a last turn of this tick took all that was left
-  pub record Closes (shared : Shared) (tick : ℕ) (passes : List PassView) (old new : Recorder C) : Type 0 where
+  pub record Closes (shared : Shared) (tick : ℕ) (passes : List PassMemo) (old new : Recorder C) : Type 0 where
     pub advances : Advances shared (tick ∷ []) old new
-    pub back_is : (desk_view new.manager.desk).back ≡ map Some passes
+    pub back_is : (desk_memo new.manager.desk).back ≡ map came passes
     pub counts : AreCountsOf passes new.manager.totals
     pub all_calls : (config : Parts) → IsMadeFor config shared → IsRecordOf stands config old → HaveAllCalls config passes (turns_in new)
     pub sums : (config : Parts) → IsRecordOf stands config old → AreSumsOf (turns_in new) new.manager.totals

@@ -1,5 +1,5 @@
 -- What a replay of a trace gives, for whatever order the steps of its threads had.
-use Rattle.std.specs.Prelude.{◌≡◌, ℕ, Some, List, map, reverse}
+use Rattle.std.specs.Prelude.{◌≡◌, ℕ, List, map, reverse}
 use Rattle.ids_types.specs.Turns.{Turn}
 use Rattle.ids_types.specs.declared.loss.Loss.{Loss}
 use Rattle.ids_config.specs.Parts.{Parts}
@@ -12,9 +12,10 @@ use Rattle.chain_spec.specs.Chain.{IsCausal}
 use Rattle.buffer_classes.specs.Buffers.{Buffer}
 use Rattle.event_chain.specs.Chained.{Chained}
 use Rattle.event_chain.specs.Standing.{Stands as ChainStands}
-use Rattle.report_api.specs.Desks.{desk_view}
-use Rattle.report_api.specs.Names.{PassView}
+use Rattle.report_api.specs.Desks.{desk_memo}
+use Rattle.report_api.specs.Names.{PassMemo}
 use Rattle.desk_closing.specs.Calls.{HaveAllCalls, losses_in}
+use Rattle.desk_closing.specs.Closed.{came}
 use Rattle.main_function.specs.Standing.{Stands, rests_of}
 use Rattle.main_function.specs.declared.manager.Manager.{Manager}
 use Rattle.trace_replay.specs.Played.{HavePlayed}
@@ -47,8 +48,8 @@ module _ {C : Type 0} (stands : C → Parts → List Turn → Type 0) (config : 
     pub rests_are : rests_of m ≡ rests_from 0 0 rounds
     -- the passes that came back to it made the calls of the lines; the turns have those that were accepted, and the
     -- losses are the others
-    pub passes : List PassView
-    pub are_back : (desk_view m.desk).back ≡ map Some passes
+    pub passes : List PassMemo
+    pub are_back : (desk_memo m.desk).back ≡ map came passes
     pub played : HavePlayed config rounds passes
     pub calls : HaveAllCalls config passes gives.turns
     pub losses_are : gives.losses ≡ losses_in config.ring passes

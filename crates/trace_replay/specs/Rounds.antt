@@ -6,7 +6,7 @@ use Rattle.text_spec.specs.TraceFaults.{last_from}
 use Rattle.text_spec.specs.TraceReading.{AreTicks}
 use Rattle.buffer_classes.specs.Buffers.{Buffer}
 use Rattle.report_queue.specs.Parts.{queue_positions}
-use Rattle.report_api.specs.Desks.{desk_view}
+use Rattle.report_api.specs.Desks.{desk_memo}
 use Rattle.report_api.specs.declared.shared.Shared.{Shared}
 use Rattle.main_function.specs.Standing.{IsManagerOf, last_of, rests_of, turns_of}
 use Rattle.main_function.specs.declared.rest.Rest.{Rest}
@@ -48,7 +48,7 @@ module _ {C : Type 0} (events : C → ℕ) (kept : C → List Buffer) where
     pub manager_is : IsManagerOf events kept shared r.manager
     pub at_rest : AreAtRest shared trace.rounds k callers
     pub as_many : length callers ≡ trace.callers
-    pub all : length callers ≡ length (desk_view r.manager.desk).back
+    pub all : length callers ≡ length (desk_memo r.manager.desk).back
     pub ticks_are : map tick_of (turns_in r) ≡ ticks_before trace.rounds k
     pub small : AllByRecursion (IsSmallTurn (queue_positions shared.queue)) (turns_in r)
     pub rests_are : rests_of r.manager ≡ rests_from 0 0 (take k trace.rounds)

@@ -6,8 +6,8 @@ use Rattle.merge_spec.specs.Decided.{losses_from}
 use Rattle.merge_spec.specs.Rounds.{Asked, Round, lines_at, lines_of}
 use Rattle.desk_closing.specs.Calls.{fates_in}
 use Rattle.report_queue.specs.Parts.{queue_positions}
-use Rattle.report_api.specs.Names.{PassView}
-use Rattle.report_api.specs.Passes.{IsPassOf, pass_view, sizes_of}
+use Rattle.report_api.specs.Names.{PassMemo}
+use Rattle.report_api.specs.Passes.{IsPassOf, lost_events, pass_memo, sizes_of}
 use Rattle.report_api.specs.declared.pass.Pass.{Pass}
 use Rattle.report_api.specs.declared.shared.Shared.{Shared}
 use Rattle.report_api.specs.declared.terms.ReportTerms.{ReportTerms}
@@ -18,7 +18,7 @@ use Rattle.trace_replay.specs.declared.caller.Caller.{Caller}
 
 -- what a caller tells
 abbrev pub told : Caller → Told
-told caller = record { pass = pass_view caller.pass; losses = caller.losses.items }
+told caller = record { pass = pass_memo caller.pass; losses = caller.losses.items }
 
 -- the lines of a caller in the first k rounds
 abbrev pub lines_before : List Round → ℕ → ℕ → List Asked
@@ -30,15 +30,15 @@ MayAllBeAsked terms rounds = (k caller i : ℕ) → k < length rounds → i < le
     → MayBeAsked terms (line_at (lines_at caller (round_at rounds k)) i)
 
 -- the pass made the calls that these lines ask for, one by one
-pub record HasPlayed (sizes : List ℕ) (lines : List Asked) (pass : PassView) : Type 0 where
+pub record HasPlayed (sizes : List ℕ) (lines : List Asked) (pass : PassMemo) : Type 0 where
   pub each : AllZip (Answers sizes) lines pass.log
-  pub calls_are : pass.calls ≡ length lines
-  pub lost_events_are : pass.lost_events ≡ lost_reports lines pass.log
+  pub calls_are : pass.view.calls ≡ length lines
+  pub lost_events_are : lost_events pass ≡ lost_reports lines pass.log
 
 -- and this is caller i, which lists what it lost over a ring of so many positions
 pub record HasListed (sizes : List ℕ) (positions i : ℕ) (lines : List Asked) (caller : Told) : Type 0 where
   pub played : HasPlayed sizes lines caller.pass
-  pub number_is : caller.pass.caller ≡ i
+  pub number_is : caller.pass.number ≡ i
   pub losses_are : caller.losses ≡ losses_from positions i 0 (fates_in caller.pass)
 
 -- caller i made the calls of these lines, and makes none now

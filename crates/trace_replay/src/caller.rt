@@ -2,7 +2,7 @@
 ghost use Rattle.std.specs.Prelude.{◌≡◌, ◌+◌, ◌<◌, ◌≤◌, ◌^◌, length, vec_len, vec_capacity, OnOk};
 ghost use Rattle.merge_spec.specs.Rounds.{lines_at, lines_of};
 ghost use Rattle.report_queue.specs.Parts.{queue_positions};
-ghost use Rattle.report_api.specs.Passes.{IsPassOf, pass_view, sizes_of};
+ghost use Rattle.report_api.specs.Passes.{IsPassOf, pass_memo, sizes_of};
 ghost use Rattle.trace_text.specs.Lines.{act_asked, line_asked};
 ghost use Rattle.trace_text.specs.TraceView.{round_at};
 ghost use Rattle.trace_replay.specs.Calls.{AsksOnce, CallsOnce, MayBeAsked, control_look, report_look};
@@ -70,7 +70,7 @@ impl Caller {
     // Makes the call that a line asks for, and lists it where it was lost.
     fn call(&mut self, shared: &Shared, positions: u64, line: &Line<'_>)
         requires mine { IsPassOf shared.now self.old.pass }
-        requires few { (pass_view self.old.pass).calls < 2 ^ 40 }
+        requires few { (pass_memo self.old.pass).view.calls < 2 ^ 40 }
         requires asked { MayBeAsked shared.now.terms (line_asked line.now) }
         requires room { vec_len self.old.losses < vec_capacity self.old.losses }
         ensures mine { IsPassOf shared.now self.new.pass }
@@ -91,10 +91,10 @@ impl Caller {
 /// Makes the call that is asked for, and answers what it found where it was lost.
 fn ask(pass: &mut Pass, shared: &Shared, act: &TraceAct<'_>) -> Option<Look>
     requires mine { IsPassOf shared.now pass.old }
-    requires few { (pass_view pass.old).calls < 2 ^ 40 }
+    requires few { (pass_memo pass.old).view.calls < 2 ^ 40 }
     requires asked { MayBeAsked shared.now.terms (act_asked act.now) }
     ensures mine { IsPassOf shared.now pass.new }
-    ensures once { AsksOnce (sizes_of shared.now) (act_asked act.now) (pass_view pass.old) result (pass_view pass.new) }
+    ensures once { AsksOnce (sizes_of shared.now) (act_asked act.now) (pass_memo pass.old) result (pass_memo pass.new) }
 {
     match *act {
         TraceAct::Report {

@@ -2,8 +2,8 @@
 ghost use Rattle.std.specs.Prelude.{◌≡◌, ◌≤◌, ◌^◌, ◌∷◌, [], true, map, OnOk};
 ghost use Rattle.std.specs.List.{All};
 ghost use Rattle.merge_spec.specs.Orders.{KeepUpFrom};
-ghost use Rattle.report_api.specs.Desks.{desk_view};
-ghost use Rattle.report_api.specs.Passes.{pass_view};
+ghost use Rattle.report_api.specs.Desks.{desk_memo};
+ghost use Rattle.report_api.specs.Passes.{pass_memo};
 ghost use Rattle.main_function.specs.Standing.{AreAllPasses, IsManagerOf, last_of};
 ghost use Rattle.trace_replay.specs.Recording.{CanTurn, Closes, Continues, StaysSame};
 
@@ -69,8 +69,8 @@ impl<C: Chain<CtxBuf>> Recorder<C> {
         requires mine { IsManagerOf C.events C.kept shared.now self.old.manager }
         requires later { last_of self.old.manager ≤ tick }
         requires small { tick ≤ 2 ^ 62 }
-        requires passes { AreAllPasses shared.now (desk_view self.old.manager.desk) passes.old.items }
-        ensures { OnOk result (Closes C.stands C.events C.kept shared.now tick (map pass_view passes.old.items) self.old self.new) }
+        requires passes { AreAllPasses shared.now (desk_memo self.old.manager.desk) passes.old.items }
+        ensures { OnOk result (Closes C.stands C.events C.kept shared.now tick (map pass_memo passes.old.items) self.old self.new) }
     {
         self.ready()?;
         let Ok((out, _)) = self.manager.close(shared, passes, tick) else {

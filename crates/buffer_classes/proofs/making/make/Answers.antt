@@ -1,4 +1,4 @@
-use Rattle.buffer_classes.proofs.Names.{◌≡◌, ◌+◌, ◌∙◌, arith, get_or, length, take, subst, sym, get_or_default, length-take-le, take_more, at_index, ClassSpec, IsNewClass}
+use Rattle.buffer_classes.proofs.Names.{◌≡◌, ◌+◌, ◌∙◌, arith, length, take, sym, get_or_default, length-take-le, take_more, at_index}
 use Rattle.buffer_classes.proofs.MakingLemmas.{as_many, class_made, got_of, rise_taken}
 use Rattle.buffer_classes.proofs.making.make.Goals as goal
 
@@ -17,8 +17,8 @@ hand_out-requires-clause-room c = λ j seat at.
 pub push_reserved-requires : goal.push_reserved-requires
 push_reserved-requires c =
     let was = c.loop-spec.invariant in
-    let done = as_many was.0 ∙ length-take-le c.loop-spec.spec-index c.args.specs.now (omega (arith, c.loop-spec-test.true)) in
-    omega (arith, was.0.givers_are.all, done, was.2, c.loop-spec-test.true)
+    let done = length-take-le c.loop-spec.spec-index c.args.specs.now (omega (arith, c.loop-spec-test.true)) in
+    omega (arith, was.0.givers_are.all, as_many was.0, done, was.2, c.loop-spec-test.true)
 
 pub loop-spec-preserved : goal.loop-spec-preserved
 loop-spec-preserved c =
@@ -28,18 +28,16 @@ loop-spec-preserved c =
     let now = c.in_ok-new.new in
     let low = c.loop-spec-test.true in
     let long : length (take i specs) ≡ i = length-take-le i specs (omega (arith, low)) in
-    let spec : ClassSpec = get_or specs i (record { size = 0; number = 0 }) in
     let more = take_more specs i (record { size = 0; number = 0 }) low in
-    let new : IsNewClass (length (take i specs)) spec c.args.seats now.class now.giver now.seats.items =
-    subst (λ k. IsNewClass k spec c.args.seats now.class now.giver now.seats.items) (omega (arith, c.len.ensures, as_many was.0)) c.in_ok-new.ensures in
     let rise = rw more at (rise_taken 0 (i + 1) specs c.requires.classes.rise) in
-    let made = class_made was.0 new (omega (arith, long, low, c.requires.classes.few)) rise
+    let made = class_made was.0 c.in_ok-new.ensures (omega (arith, c.len.ensures, as_many was.0))
+    (omega (arith, long, low, c.requires.classes.few)) rise
     (record { classes = c.push_reserved-in-loop-spec.new.self }) (record { givers = c.push_reserved.new.self }) c.hand_out.new.claimants.items
     c.push_reserved-in-loop-spec.ensures.items c.push_reserved.ensures.items c.hand_out.ensures in (
       rw more made,
       c.push_reserved-in-loop-spec.ensures.capacity ∙ was.1,
       c.push_reserved.ensures.capacity ∙ was.2,
       λ j seat at.
-          let got = got_of now.seats.items c.hand_out.ensures (new.seats_are.all_made ∙ sym was.0.all_made) j seat at in
+          let got = got_of now.seats.items c.hand_out.ensures (c.in_ok-new.ensures.seats_are.all_made ∙ sym was.0.all_made) j seat at in
           got.4.1 ∙ was.3 j got.0 got.2,
     )

@@ -1,9 +1,14 @@
-use Rattle.buffer_classes.proofs.Names.{arith}
-use Rattle.buffer_classes.proofs.MakingLemmas.{made_so}
+use Rattle.buffer_classes.proofs.Names.{◌≤◌, ◌∙◌, [], ap, arith, length, length-replicate}
+use Rattle.std.proofs.Common.{None}
+use Rattle.permit_ring.proofs.{untouched}
+use Rattle.buffer_classes.proofs.GiveLemmas.{admitted_more}
 use Rattle.buffer_classes.proofs.making.make_class.Goals as goal
 
 pub returns : goal.returns
 returns c =
     let made = c.in_ok-made.ensures in
-    let so = made_so c.args.spec.number c.args.seats in
-    grind (arith, made, so, c.in_ok-late.ensures)
+    let n = c.args.spec.number in
+    let is = untouched {N = Unit {0}} n c.args.seats in
+    let back = ap length is.back_is ∙ length-replicate c.args.seats None in
+    let fronts = admitted_more (λ front. n ≤ front) [] n is.fronts_are (λ j front e. cc) (omega arith) in
+    grind (arith, made, is, back, fronts, c.in_ok-late.ensures)

@@ -1,6 +1,6 @@
 use Rattle.permit_ring.proofs.Names.{arith, ◌∙◌, [], refl, mod-eq_of_lt, KeepsInHand}
 use native.Mathlib.Nat.{add-mod_right}
-use Rattle.permit_ring.proofs.{none_filled, opens_running, fresh}
+use Rattle.permit_ring.proofs.{none_filled, opens_running, untouched}
 use Rattle.permit_ring.proofs.making.make.Goals as goal
 
 pub new-requires : goal.new-requires
@@ -15,7 +15,7 @@ returns g c =
     let made = c.in_ok-seats.ensures in
     let n = c.args.n in
     let positions = c.requires.positions in
-    let is = fresh {N = g.row.F-Note.Denot} n c.args.seats in
+    let is = untouched {N = g.row.F-Note.Denot} n c.args.seats in
     let hand : KeepsInHand {D = g.row.F-Finished.Denot} (g.F.Freight.admits_offered c.args.terms) n n 0 0 [] = none_filled refl in
     let first = mod-eq_of_lt positions.0 in
     grind (arith, made, c.of-keeper.ensures, is, hand, first, add-mod_right 0 n, c.requires, c.in-Ok.ensures.ok, c.in-Ok.table-is)

@@ -1,6 +1,6 @@
 use Rattle.std.proofs.Common.{rules, subst}
 use Rattle.std.proofs.lemmas.List.{with_items_is}
-use Rattle.report_api.specs.Desks.{desk_view}
+use Rattle.report_api.specs.Desks.{desk_memo}
 use Rattle.report_tests.proofs.PassesLemmas.{all_called, pass_at}
 use Rattle.report_tests.specs.Running.{AreSamePasses}
 use Rattle.report_tests.proofs.beside_manager.report_beside_turns.Goals as goal
@@ -15,4 +15,4 @@ close-totals-requires-clause-passes g c =
     let many = c.run.ensures.passes.as_many in
     let same = subst (λ olds. AreSamePasses c.args.shared.now olds news) c.deref_mut.ensures.value c.run.ensures.passes in
     rw (with_items_is olds news (search (rules, many)))
-    (all_called c.requires.passes (desk_view c.run.new.manager.desk) news c.run.ensures.manager.none_back same)
+    (all_called c.requires.passes (desk_memo c.run.new.manager.desk) news c.run.ensures.manager.none_back same)

@@ -1,4 +1,4 @@
-use Rattle.trace_replay.proofs.Names.{◌≡◌, ◌∙◌, List, length, map, sym, ap, subst, rules, arith, flat_map, take_all, with_items_is, Round, round_ticks, last_from, last_of_all, last_small, desk_view, pass_view, Pass, Closes, losses_by, passes_of}
+use Rattle.trace_replay.proofs.Names.{◌≡◌, ◌∙◌, List, length, map, sym, ap, subst, rules, arith, flat_map, take_all, with_items_is, Round, round_ticks, last_from, last_of_all, last_small, desk_memo, pass_memo, Pass, Closes, losses_by, passes_of}
 use Rattle.trace_replay.proofs.EndLemmas.{is_replay}
 use Rattle.trace_replay.proofs.RoundLemmas.{all_passes}
 use Rattle.trace_replay.proofs.StartLemmas.{all_may_be_asked, begins, begins_record}
@@ -37,7 +37,7 @@ close-requires-clause-passes g c =
     let many : length news ≡ length old.items = between.as_many ∙ sym start.as_many in
     rw (c.in_ok-passes.ensures.passes, with_items_is old news (search (rules, many)))
     (all_passes shared c.args.trace.now.rounds (length c.args.trace.now.rounds) news between.at_rest
-    (desk_view c.play_rounds.new.recorder.manager.desk) between.all)
+    (desk_memo c.play_rounds.new.recorder.manager.desk) between.all)
 
 pub returns : goal.returns
 returns g c =
@@ -59,7 +59,7 @@ returns g c =
     let same = with_items_is old news (search (rules, many)) in
     let passes : c.in_ok-passes.passes.items ≡ passes_of news = c.in_ok-passes.ensures.passes ∙ ap passes_of same in
     let losses : c.in_ok-passes.losses.items ≡ losses_by news = c.in_ok-passes.ensures.losses ∙ ap losses_by same in
-    let closes = subst (λ (ps : List Pass). Closes chain.stands chain.events chain.kept shared c.last_tick.result (map pass_view ps) r1 r2) passes
+    let closes = subst (λ (ps : List Pass). Closes chain.stands chain.events chain.kept shared c.last_tick.result (map pass_memo ps) r1 r2) passes
     c.in_ok-close.ensures in
     rw losses (is_replay chain.stands chain.events chain.kept config shared trace news r1 r2 c.last_tick.result c.parts.ensures.valid
     c.requires.callers c.requires.rounds c.in_ok-play_rounds.ensures.few c.requires.new.manager_is.made_for between was closes

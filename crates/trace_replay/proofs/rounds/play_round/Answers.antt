@@ -1,4 +1,4 @@
-use Rattle.trace_replay.proofs.Names.{◌≡◌, ◌+◌, ◌∙◌, [], ◌∷◌, length, refl, sym, ap, subst, arith, desk_view, last_from, all_calls, round_at, Continues, passes_of, Recorder}
+use Rattle.trace_replay.proofs.Names.{◌≡◌, ◌+◌, ◌∙◌, [], ◌∷◌, length, refl, sym, ap, subst, arith, desk_memo, last_from, all_calls, round_at, Continues, passes_of, Recorder}
 use Rattle.trace_replay.proofs.RoundLemmas.{RestsOnce, all_passes, next_round_keeps, round_played, same_rest, still_records}
 use Rattle.trace_replay.proofs.rounds.play_round.Goals as goal
 
@@ -17,14 +17,14 @@ play_beside-requires-clause-small g c κs within =
 pub rest-requires : goal.rest-requires
 rest-requires g c =
     let turns = c.in_ok-play_beside.ensures.turns in
-    let all : length c.play_beside.new.callers ≡ length (desk_view c.play_beside.new.recorder.manager.desk).back =
+    let all : length c.play_beside.new.callers ≡ length (desk_memo c.play_beside.new.recorder.manager.desk).back =
     c.in_ok-play_beside.ensures.count ∙ c.reserve_all.ensures.same.as_many ∙ c.requires.between.all ∙ sym (ap length turns.back_is) in
     record {
       passes = record {
         shared = c.args.shared.now;
         is_manager = turns.advances.manager_is;
         passes_are = all_passes c.args.shared.now c.args.trace.now.rounds (c.args.round + 1) c.play_beside.new.callers
-            c.in_ok-play_beside.ensures.rest (desk_view c.play_beside.new.recorder.manager.desk) all;
+            c.in_ok-play_beside.ensures.rest (desk_memo c.play_beside.new.recorder.manager.desk) all;
       };
     }
 
@@ -51,15 +51,15 @@ pub rest-requires-2 : goal.rest-requires-2
 rest-requires-2 g c =
     let turns = c.in_ok-play_beside.ensures.turns in
     let turn = c.in_ok-turn.ensures in
-    let back = ap length turn.back_is ∙ ap (λ desk. length (desk_view desk).back) c.rest.ensures.same.desk_is ∙ ap length turns.back_is in
-    let all : length c.play_beside.new.callers ≡ length (desk_view c.turn.new.self.manager.desk).back =
+    let back = ap length turn.back_is ∙ ap (λ desk. length (desk_memo desk).back) c.rest.ensures.same.desk_is ∙ ap length turns.back_is in
+    let all : length c.play_beside.new.callers ≡ length (desk_memo c.turn.new.self.manager.desk).back =
     c.in_ok-play_beside.ensures.count ∙ c.reserve_all.ensures.same.as_many ∙ c.requires.between.all ∙ sym back in
     record {
       passes = record {
         shared = c.args.shared.now;
         is_manager = turn.advances.manager_is;
         passes_are = all_passes c.args.shared.now c.args.trace.now.rounds (c.args.round + 1) c.play_beside.new.callers
-            c.in_ok-play_beside.ensures.rest (desk_view c.turn.new.self.manager.desk) all;
+            c.in_ok-play_beside.ensures.rest (desk_memo c.turn.new.self.manager.desk) all;
       };
     }
 

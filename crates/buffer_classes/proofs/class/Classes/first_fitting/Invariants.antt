@@ -1,8 +1,7 @@
-use Rattle.buffer_classes.proofs.Names.{ℕ, ◌<◌, ◌≡◌, Class}
-use mathlib.Core.Option.{some}
-use lib.ListN.{get_elem?}
+use Rattle.buffer_classes.proofs.Names.{◌≡◌, ◌+◌, class_sizes, first_fitting}
+use Rattle.buffer_classes.proofs.FittingLemmas.{first_from}
 use Rattle.buffer_classes.proofs.class.Classes.first_fitting.Given as goal
 
--- the classes before this one are too small
+-- the first that fits is one of those that are left
 abbrev pub invariant-loop-class : goal.invariant-loop-class
-invariant-loop-class l = (j : ℕ) (class : Class) → j < l.class → get_elem? l.self.classes.items j ≡ some class → class.size < l.len
+invariant-loop-class l = first_fitting l.len (class_sizes l.self) ≡ l.class + first_from l.len l.class l.self.classes.items

@@ -1,15 +1,14 @@
-use Rattle.buffer_classes.proofs.Names.{◌≡◌, ◌++◌, ◌∷◌, [], ◌∙◌, ap, arith, length, append_assoc, length_push}
+use Rattle.buffer_classes.proofs.Names.{◌++◌, ◌∷◌, [], ◌∙◌, ap, arith, length, append_assoc, length_push}
 use Rattle.buffer_classes.proofs.GiveLemmas.{admitted_before, admitted_last}
 use Rattle.buffer_classes.proofs.giver.Giver.put_late.Goals as goal
 
 pub refill-requires-clause-admitted : goal.refill-requires-clause-admitted
 refill-requires-clause-admitted c = λ _.
-    let is : c.loop-self.self.late.items ≡ c.pop.new.self.items ++ c.in-Some.buf ∷ [] = rw c.in-Some.is at c.pop.ensures.items in
-    admitted_last _ c.pop.new.self.items c.in-Some.buf is c.loop-self.invariant.0.late_are
+    admitted_last _ c.pop.new.self.items c.in-Some.buf c.in-Some.ensures.items c.loop-self.invariant.0.late_are
 
 pub loop-self-preserved : goal.loop-self-preserved
 loop-self-preserved c =
-    let is : c.loop-self.self.late.items ≡ c.pop.new.self.items ++ c.in-Some.buf ∷ [] = rw c.in-Some.is at c.pop.ensures.items in
+    let is = c.in-Some.ensures.items in
     let was = c.loop-self.invariant in
     let did = c.refill.ensures in
     let long = length_push c.pop.new.self.items c.in-Some.buf in

@@ -1,10 +1,11 @@
-use Rattle.buffer_classes.proofs.Names.{◌≡◌, ◌-◌, ◌^◌, length, IsGiverOf, OnlyReaps, filled_count, giver_memo}
+use Rattle.buffer_classes.proofs.Names.{◌≡◌, ◌+◌, ◌-◌, ◌^◌, List, length, reaps_all, IsGiverOf, filled_count, giver_memo, vacant_count}
 use Rattle.buffer_classes.proofs.giver.Giver.reap_all.Given as goal
 
 abbrev pub invariant-loop-unready : goal.invariant-loop-unready
 invariant-loop-unready l =
     IsGiverOf l.ring l.self
-    × OnlyReaps (giver_memo l.initial.self) (giver_memo l.self)
+    × ((notes : List (Unit {0})) × (giver_memo l.self ≡ reaps_all notes (giver_memo l.initial.self))
+    × (vacant_count l.self ≡ vacant_count l.initial.self + length notes))
     × (filled_count l.self ≡ filled_count l.initial.self)
     × (l.self.late ≡ l.initial.self.late)
     × (l.self.number ≡ l.initial.self.number)

@@ -1,27 +1,41 @@
-use Rattle.buffer_classes.proofs.Names.{◌≡◌, ◌++◌, ◌∷◌, [], arith, length, sym, append-nil, givers_of, Takes}
-use Rattle.buffer_classes.proofs.ByIndexLemmas.{from_all, from_end, last_left, last_taken}
+use Rattle.buffer_classes.proofs.Names.{◌≡◌, ◌<◌, [], refl, arith, at_index, length, sym, append-nil, givers_of, Takes}
+use Rattle.std.proofs.lemmas.Grind.{common_steps}
+use Rattle.buffer_classes.proofs.{all_from, class_there, giver_there, givers_with, last_left, last_taken, none_from}
 use Rattle.buffer_classes.proofs.givers.Givers.welcome.Goals as goal
 
 pub loop-its-init : goal.loop-its-init
 loop-its-init c = (
   c.requires.mine,
   ([], sym (append-nil c.args.seat.seats.items)),
-  from_end (givers_of c.args.self.now) (length c.args.seat.seats.items) (omega (arith, c.requires.mine.all, c.requires.seat.all)),
+  none_from (omega (arith, c.requires.mine.all, c.requires.seat.all)),
 )
 
-pub take_back-requires-clause-seat : goal.take_back-requires-clause-seat
-take_back-requires-clause-seat c = λ its at.
-    let len : c.len.result ≡ length c.pop.new.self.items = omega (arith, c.len.ensures) in
-    let was = c.loop-its.invariant.1 in
-    let last = last_left Takes c.pop.new.self.items was.0 c.in-Some.its (rw c.in-Some.is at c.pop.ensures.items) was.1 in
-    (c.requires.seat.each c.len.result its c.in-Some.its at (rw len last)).is_seat
+pub take_back-requires : goal.take_back-requires
+take_back-requires c =
+    let is = c.loop-its.invariant in
+    let i = c.len-class.result in
+    let class = c.index.result.now in
+    let len : i ≡ length c.pop.new.self.items = omega (arith, c.len-class.ensures) in
+    let last = rw (← len) at (last_left Takes c.pop.new.self.items is.1.0 c.in-Some.its c.in-Some.ensures.items is.1.1) in
+    let low : i < length (givers_of c.loop-its.self) = grind (arith, common_steps) in
+    let seat = (c.requires.seat.each i class c.in-Some.its (class_there is.0 i low class c.index.ensures) last).is_seat in
+    record {
+      mine = giver_there is.0 i low class c.index.ensures c.index_mut.result.now c.index_mut.ensures.value;
+      seat = seat.is_seat;
+      idle = seat.is_idle;
+    }
 
 pub loop-its-preserved : goal.loop-its-preserved
 loop-its-preserved c =
-    let was = c.loop-its.invariant in
-    let is : c.loop-its.seat.seats.items ≡ c.pop.new.self.items ++ c.in-Some.its ∷ [] = rw c.in-Some.is at c.pop.ensures.items in
-    let now = last_taken Takes c.pop.new.self.items was.1.0 c.in-Some.its is was.1.1 (omega (arith, c.len.ensures)) was.2 c.take_back.ensures.did in
-    (c.take_back.ensures.mine, now.0, now.1)
+    let is = c.loop-its.invariant in
+    let i = c.len-class.result in
+    let g = c.index_mut.result.now in
+    let left = c.pop.new.self.items in
+    let low : i < length (givers_of c.loop-its.self) = grind (arith, common_steps) in
+    let here = at_index (givers_of c.loop-its.self) i g low c.index_mut.ensures.value in
+    let now = last_taken Takes left is.1.0 c.in-Some.its c.in-Some.ensures.items is.1.1 i g c.take_back.new.self
+    (omega (arith, c.len-class.ensures)) here is.2 c.take_back.ensures.did in
+    (givers_with is.0 i low c.index.result.now c.index.ensures c.take_back.new.self _ refl c.take_back.ensures.mine, now.0, now.1)
 
 pub returns-clause-told : goal.returns-clause-told
-returns-clause-told c = from_all (omega (arith, c.in_default.ensures.cases.0)) c.loop-its.invariant.2
+returns-clause-told c = all_from c.loop-its.invariant.2 (omega (arith, c.in_default.ensures.cases.0))

@@ -1,7 +1,5 @@
-use Rattle.idsm_port.proofs.Names.{◌≡◌, ◌*◌, ◌∙◌, rules, refl, ap, subst, arith, arc_value, Output, Shared, IsManagerOf, chain_events, chain_kept, chain_stands}
-use Rattle.ids_types.specs.Output.{room_of}
-use Rattle.main_function.specs.Turning.{TurnLeaves}
-use Rattle.idsm_port.specs.declared.turning.TurnAnswer.{TurnAnswer}
+use Rattle.idsm_port.proofs.Names.{◌≡◌, ◌*◌, rules, refl, ap, subst, arith, arc_value, Output, Shared, IsManagerOf, chain_events, chain_kept, chain_stands}
+use Rattle.main_function.specs.Turning.{IsQuick, TurnLeaves}
 use Rattle.idsm_port.specs.Turning.{TurnMade, told_in}
 use Rattle.idsm_port.specs.Writing.{IsWritten}
 use Rattle.idsm_port.proofs.manager.ManagerPort.turn.Goals as goal
@@ -34,12 +32,14 @@ returns-in-Ok-clause-told c =
     let new = c.turn.follows.lender-at-none in
     let left = subst (λ answer. TurnLeaves chain_stands chain_events chain_kept c.deref.result.now c.args.tick c.args.self.now.manager answer new) c.in-Ok.is
     c.turn.follows.holds-at-none in
+    let same : c.deref.result.now ≡ arc_value c.args.self.now.shared = search rules in
     let after = c.hand_over.new.buffer in
     let made : TurnMade c.args.tick c.args.self.now c.args.buffer.now (record c.args.self.now { manager = new }) after = record {
       can = record { room = omega arith; few = omega arith };
       later = c.in-Ok.ensures.fault.0;
       within = c.in-Ok.ensures.fault.1;
       turned = left.2;
+      quick = subst (λ (shared : Shared). IsQuick shared 0 c.args.self.now.manager.desk new.desk) same left.3;
       same = refl;
       written = subst (λ (out : Output). IsWritten out.sent c.args.buffer.now after) left.1 c.hand_over.ensures.written;
     } in

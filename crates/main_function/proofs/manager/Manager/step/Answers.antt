@@ -1,6 +1,9 @@
-use Rattle.main_function.proofs.Names.{rules, ◌≤◌, refl, ◌∙◌, length, ap, sym, subst, arith, common_steps, TurnHead, turn_by, most_tries, TakerView, desk_view, Act, MakesTurn, held, Took}
-use Rattle.main_function.proofs.ClosingLemmas.{same_back, still_swept, still_taken}
-use Rattle.main_function.proofs.ReportLemmas.{makes_turn, offered_more, totals_more}
+use Rattle.main_function.proofs.Names.{rules, ◌≤◌, refl, ◌∙◌, length, ap, subst, arith, common_steps, TurnHead, turn_by, DeskMemo, desk_memo, MakesTurn, ReapsToEnd, held, item_of, items_of, length-map}
+use Rattle.permit_ring.proofs.{gave_of, only_reaps}
+use Rattle.report_queue.proofs.ClosingLemmas.{taken_on}
+use Rattle.main_function.proofs.ClosingLemmas.{same_back, same_swept}
+use Rattle.main_function.proofs.QuickLemmas.{turn_is_quick}
+use Rattle.main_function.proofs.ReportLemmas.{offered_more, totals_more, turn_adds}
 use Rattle.main_function.proofs.StepLemmas.{can_take, come_back, few_bytes, has_room, kept_short}
 use Rattle.main_function.proofs.TurnedLemmas.{last_within, stands_more}
 use Rattle.main_function.proofs.manager.Manager.step.Goals as goal
@@ -20,6 +23,14 @@ turn-requires-clause-kept g c = kept_short g.C.Chain.events g.C.Chain.kept _ _ c
 pub turn-requires-clause-out : goal.turn-requires-clause-out
 turn-requires-clause-out g c = has_room g.C.Chain.events g.C.Chain.kept _ _ c.requires.mine _ _ _ c.take_ready.ensures.took
 
+pub with-self-requires-clause-entries : goal.with-self-requires-clause-entries
+with-self-requires-clause-entries g c =
+    let taken = c.take_ready.new.items.items in
+    let only = only_reaps (items_of taken) (desk_memo c.sweep-lost_events.new.self) in
+    let swept = ap (λ (k : DeskMemo). k.notes) c.sweep-lost_events.ensures.told in
+    let took = ap (λ (k : DeskMemo). k.notes) c.take_ready.ensures.took.run.2 in
+    grind (arith, common_steps, c.requires.mine.totals_are, only.notes_are, swept, took, length-map taken item_of, c.take_ready.ensures.within)
+
 pub give_back-requires-clause-back : goal.give_back-requires-clause-back
 give_back-requires-clause-back g c =
     (come_back g.C.Chain.events g.C.Chain.kept _ _ c.requires.mine _ _ _ c.take_ready.ensures.took _ _ _ c.turn.ensures.parcels c.requires.mine.roomy.no_back).0
@@ -29,10 +40,15 @@ returns-clause-turned g c =
     let mine = c.requires.mine in
     let head : TurnHead = record { tick = c.args.tick; lost_events = c.sweep-lost_events.result.0; lost_contexts = c.sweep-lost_events.result.1; limited = c.limited.result } in
     let taken = c.take_ready.new.items.items in
-    let took = subst (λ n. Took c.args.shared.now.terms n (desk_view c.sweep-lost_events.new.self) taken (desk_view c.take_ready.new.desk)) (sym mine.positions_are) c.take_ready.ensures.took in
-    let makes : MakesTurn c.args.self.now.positions (desk_view c.args.self.now.desk) taken (turn_by held head taken) (desk_view c.give_back.new.self) =
-    makes_turn c.args.shared.now.terms c.args.self.now.positions (most_tries c.args.shared.now.queue) (desk_view c.args.self.now.desk) (desk_view c.take_ready.new.desk) (desk_view c.give_back.new.self) head
-    (desk_view c.sweep-lost_events.new.self) taken _ c.sweep-lost_events.ensures.told took c.take_ready.ensures.counts c.give_back.ensures.none c.give_back.ensures.told in
+    let makes : MakesTurn c.args.self.now.positions (desk_memo c.args.self.now.desk) taken (turn_by held head taken) (desk_memo c.give_back.new.self) =
+    record {
+      took = desk_memo c.take_ready.new.desk;
+      takes = subst (λ (k : DeskMemo). ReapsToEnd (items_of taken) k (desk_memo c.take_ready.new.desk)) c.sweep-lost_events.ensures.told
+          c.take_ready.ensures.took.run;
+      gives = rw (mine.positions_are, mine.desk_is.taker.seats_are, ← c.take_ready.ensures.counts) c.give_back.ensures.told;
+      entries_are = refl;
+      few = omega (arith, c.take_ready.ensures.took.few, mine.positions_are);
+    } in
     let out = come_back g.C.Chain.events g.C.Chain.kept _ _ mine _ _ _ c.take_ready.ensures.took _ _ _ c.turn.ensures.parcels mine.roomy.no_back in
     record {
       turn = turn_by held head taken;
@@ -40,11 +56,12 @@ returns-clause-turned g c =
       log_is = c.turn.ensures.logs;
       tick_is = refl;
       head_is = record {
-        lost_events = last_within _ _ _ (ap (λ (view : TakerView Act). view.lost_events) c.sweep-lost_events.ensures.told) c.sweep-lost_events.ensures.bounds.0;
-        lost_contexts = last_within _ _ _ (ap (λ (view : TakerView Act). view.lost_contexts) c.sweep-lost_events.ensures.told) c.sweep-lost_events.ensures.bounds.1;
+        lost_events = last_within _ _ _ (ap (λ (k : DeskMemo). k.swept0) c.sweep-lost_events.ensures.told) c.sweep-lost_events.ensures.bounds.0;
+        lost_contexts = last_within _ _ _ (ap (λ (k : DeskMemo). k.swept1) c.sweep-lost_events.ensures.told) c.sweep-lost_events.ensures.bounds.1;
         limited = c.limited.ensures.bound;
       };
       makes = makes;
+      back_is = (turn_adds _ _ _ _ _ makes).back_is;
       buffers = record {
         back = c.turn.new.back.items;
         same = out.2;
@@ -72,9 +89,9 @@ returns-clause-mine g c =
       desk_is = c.give_back.ensures.mine;
       positions_are = mine.positions_are;
       none_taken = c.give_back.ensures.counts;
-      offered_is = offered_more _ _ _ _ _ mine.offered_is turned.makes;
+      offered_is = offered_more _ _ _ _ _ turned.makes mine.offered_is;
       items_within = search rules;
-      totals_are = totals_more _ _ _ _ _ _ _ mine.totals_are turned.makes (search (rules, c.with-self.ensures.entries)) c.with-self.ensures.lost_events c.with-self.ensures.lost_contexts;
+      totals_are = totals_more _ _ _ _ _ turned.makes _ _ mine.totals_are (search (rules, c.with-self.ensures.entries)) c.with-self.ensures.lost_events c.with-self.ensures.lost_contexts;
       events_are = c.turn.ensures.events ∙ mine.events_are;
       sizes_within = mine.sizes_within;
       kept_are = out.1;
@@ -82,19 +99,38 @@ returns-clause-mine g c =
       roomy = grind (arith, common_steps, room, c.turn.ensures, c.give_back.ensures.empty);
     }
 
+pub returns-clause-quick : goal.returns-clause-quick
+unfolding returns-clause-turned
+returns-clause-quick g c =
+    let mine = c.requires.mine in
+    let turned = returns-clause-turned g c in
+    turn_is_quick c.args.shared.now c.args.self.now.positions c.args.self.now.desk c.give_back.new.self turned.taken turned.turn turned.buffers.back
+    mine.desk_is mine.positions_are turned.makes turned.buffers.gave
+
 -- no sweep and no take brings a pass back
 pub returns-clause-all_taken : goal.returns-clause-all_taken
 returns-clause-all_taken g c = λ all.
-    let same = ap (λ (view : TakerView Act). view.back) c.sweep-lost_events.ensures.told in
-    still_taken _ _ _ _ c.give_back.ensures.none c.give_back.ensures.told
-    (c.take_ready.ensures.all_taken (same_back (desk_view c.sweep-lost_events.new.self) (desk_view c.args.self.now.desk) same all))
+    let same = ap (λ (k : DeskMemo). k.back) c.sweep-lost_events.ensures.told in
+    taken_on _ _ _ _ _ c.give_back.ensures.told
+    (c.take_ready.ensures.all_taken (same_back (desk_memo c.sweep-lost_events.new.self) (desk_memo c.args.self.now.desk) same all))
 
+-- and nothing is swept behind the takes
 pub returns-clause-swept : goal.returns-clause-swept
 returns-clause-swept g c = λ all.
-    still_swept _ _ _ _ _ _ _ c.take_ready.ensures.took.is c.give_back.ensures.none c.give_back.ensures.told (c.sweep-lost_events.ensures.all_swept all)
+    let swept = c.sweep-lost_events.ensures.all_swept all in
+    let only = only_reaps (items_of c.take_ready.new.items.items) (desk_memo c.sweep-lost_events.new.self) in
+    let run = c.take_ready.ensures.took.run in
+    let gave = gave_of _ _ _ _ _ c.give_back.ensures.told in
+    let events = gave.swept0_is ∙ ap (λ (k : DeskMemo). k.swept0) run.2 ∙ only.swept0_is in
+    let contexts = gave.swept1_is ∙ ap (λ (k : DeskMemo). k.swept1) run.2 ∙ only.swept1_is in
+    let back = gave.back_is ∙ ap (λ (k : DeskMemo). k.back) run.2 ∙ only.back_is in
+    let now = desk_memo c.give_back.new.self in
+    let before = desk_memo c.sweep-lost_events.new.self in
+    (same_swept 0 now before events contexts back swept.0, same_swept 1 now before events contexts back swept.1)
 
 pub returns-clause-settled : goal.returns-clause-settled
 returns-clause-settled g c = λ all.
-    let same = ap (λ (view : TakerView Act). view.back) (c.take_ready.ensures.took.is)
-    ∙ ap (λ (view : TakerView Act). view.back) c.sweep-lost_events.ensures.told in
-    c.give_back.ensures.settled (same_back (desk_view c.take_ready.new.desk) (desk_view c.args.self.now.desk) same all)
+    let only = only_reaps (items_of c.take_ready.new.items.items) (desk_memo c.sweep-lost_events.new.self) in
+    let same = ap (λ (k : DeskMemo). k.back) c.take_ready.ensures.took.run.2 ∙ only.back_is
+    ∙ ap (λ (k : DeskMemo). k.back) c.sweep-lost_events.ensures.told in
+    c.give_back.ensures.settled (same_back (desk_memo c.take_ready.new.desk) (desk_memo c.args.self.now.desk) same all)

@@ -1,5 +1,4 @@
-use Rattle.report_api.proofs.Names.{ap, Act}
-use Rattle.report_queue.specs.Views.{TakerView}
+use Rattle.report_api.proofs.Names.{ap, DeskMemo}
 use Rattle.report_api.proofs.WelcomeLemmas.{tied_welcome}
 use Rattle.report_api.proofs.desk.Desk.welcome.Goals as goal
 
@@ -8,6 +7,6 @@ returns-clause-mine c = record {
   is_shared = c.requires.mine.is_shared;
   taker = c.welcome.ensures.mine;
   givers = c.welcome-2.ensures.mine;
-  tied = rw (ap (λ (v : TakerView Act). v.back) c.welcome.ensures.told)
+  tied = rw (ap (λ (k : DeskMemo). k.back) c.welcome.ensures.told)
       (tied_welcome c.requires.pass c.requires.mine.givers.all c.requires.mine.tied c.welcome-2.ensures.told);
 }

@@ -1,12 +1,21 @@
-use Rattle.report_api.proofs.Names.{[], refl, arith, Pass}
-use Rattle.report_api.proofs.PassLemmas.{pass_after, same_logs}
+use Rattle.report_api.proofs.Names.{◌≡◌, [], length, refl, arith, Pass}
+use Rattle.std.proofs.lemmas.List.{nil_from_length}
+use Rattle.report_api.specs.Names.{Absent}
+use Rattle.report_api.proofs.{pass_after, put_adds, same_logs}
 use Rattle.report_api.proofs.pass.Pass.put_report.Goals as goal
 
-pub returns-clause-mine : goal.returns-clause-mine
-returns-clause-mine c =
+pub returns : goal.returns
+returns c =
     let now : Pass = record { seat = c.fill.new.self; claimant = c.args.self.now.claimant } in
+    let none : length c.args.context.now ≡ 0 = grind (arith, c.if-not-is_empty.false, c.is_empty.ensures) in
     record {
-      at = pass_after c.requires.at now c.fill.ensures.mine c.requires.at.claimant refl (omega arith) _ (λ i. []) (same_logs now) (λ i. refl)
-          _ c.fill.ensures.told refl refl (omega arith) (omega arith);
-      is_idle = c.fill.ensures.held;
+      mine = record {
+        at = pass_after c.requires.at now c.fill.ensures.mine c.requires.at.claimant refl (omega arith) _ (λ i. []) (same_logs now) (λ i. refl)
+            (put_adds _ _ _ refl c.fill.ensures.told);
+        is_idle = c.fill.ensures.held;
+      };
+      ticket = c.fill.ensures.ticket;
+      told = (Absent, nil_from_length c.args.context.now none, c.fill.ensures.told);
+      classes = (λ _. refl, λ any. absurd (omega (arith, any, none)));
+      few = omega arith;
     }

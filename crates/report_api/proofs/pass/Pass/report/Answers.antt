@@ -1,16 +1,33 @@
-use Rattle.report_api.proofs.Names.{[], refl, ap, ◌∙◌, arith, marks_event, caller_memo, queue_seats, ticket_of, Lost, Pass}
-use Rattle.report_api.proofs.{pass_after, same_logs, put_steps}
+use Rattle.report_api.proofs.Names.{[], rules, refl, ◌∙◌, arith, caller_memo, queue_seats, ticket_of, Lost, Pass}
+use Rattle.report_api.proofs.{call_adds, lost_event, pass_after, put_tells, report_moves, same_logs}
 use Rattle.report_api.proofs.pass.Pass.report.Goals as goal
 
-pub returns-in-Ok-clause-steps : goal.returns-in-Ok-clause-steps
-returns-in-Ok-clause-steps c = put_steps (queue_seats c.args.shared.now.queue) (caller_memo c.args.self.now.seat) (ticket_of c.claim.new.self) c.in-Ok.field-0
-    c.put_report.result c.in-Ok.ensures.held (caller_memo c.claim.new.self, c.in-Ok.ensures.steps) c.put_report.ensures.ticket
-
-pub returns-in-Err-clause-mine : goal.returns-in-Err-clause-mine
-returns-in-Err-clause-mine c =
-    let now : Pass = record { seat = c.mark_lost_event.new.self; claimant = c.args.self.now.claimant } in
+pub returns-in-Ok : goal.returns-in-Ok
+returns-in-Ok c =
+    let shared = c.args.shared.now in
+    let put = c.put_report.ensures in
+    let told = put_tells shared _ (caller_memo c.args.self.now.seat) _ (caller_memo c.claim.new.self) (ticket_of c.claim.new.self) c.in-Ok.field-0
+    c.put_report.result (search rules) c.in-Ok.ensures.told c.in-Ok.ensures.held put.ticket put.told in
     record {
-      at = pass_after c.requires.mine.at now c.mark_lost_event.ensures.mine c.requires.mine.at.claimant refl (omega arith) (Lost c.in-Err.look.claimed) (λ i. [])
-          (same_logs now) (λ i. refl) _ (c.mark_lost_event.ensures.told ∙ ap marks_event c.in-Err.ensures.told) refl refl (omega arith) (omega arith);
-      is_idle = c.mark_lost_event.ensures.held ∙ c.in-Err.ensures.held;
+      mine = put.mine;
+      told = told;
+      classes = put.classes;
+      steps = omega (arith, put.few, report_moves shared _ _ _ _ told);
+    }
+
+pub returns-in-Err : goal.returns-in-Err
+returns-in-Err c =
+    let shared = c.args.shared.now in
+    let now : Pass = record { seat = c.mark_lost_event.new.self; claimant = c.args.self.now.claimant } in
+    let marked = c.mark_lost_event.ensures.told in
+    let call = lost_event (queue_seats shared.queue) _ _ c.in-Err.look marked.0 _ c.in-Err.ensures.told marked.1 in
+    record {
+      mine = record {
+        at = pass_after c.requires.mine.at now c.mark_lost_event.ensures.mine c.requires.mine.at.claimant refl (omega arith) (Lost c.in-Err.look.claimed)
+            (λ i. []) (same_logs now) (λ i. refl) (call_adds (omega arith) refl call);
+        is_idle = c.mark_lost_event.ensures.held ∙ c.in-Err.ensures.held;
+      };
+      told = (search rules, (_, marked.0, c.in-Err.ensures.told, marked.1));
+      classes = refl;
+      steps = omega (arith, call.few_moves);
     }

@@ -1,7 +1,7 @@
-use Rattle.std.proofs.Common.{◌≡◌, arith, length, refl, sym, ◌∙◌}
+use Rattle.std.proofs.Common.{◌≡◌, arith, length, sym, ◌∙◌}
 use Rattle.std.proofs.lemmas.Grind.{common_steps}
 use Rattle.permit_ring.specs.Steps.{ticket_in}
-use Rattle.report_queue.specs.Parts.{caller_memo, caller_number, item_of}
+use Rattle.report_queue.specs.{caller_memo, caller_number, item_by}
 use Rattle.report_queue.proofs.CallerLemmas.{held_is_small, names-got}
 use Rattle.report_queue.proofs.seat.QueueSeat.fill.Goals as goal
 
@@ -10,9 +10,9 @@ returns-clause-mine g c =
     let did = c.finish.ensures in
     let was = c.requires.mine in
     let old = caller_memo c.args.self.now in
-    let item = item_of c.args.self.now (g.P.Cargo.note c.args.payload) in
+    let item = item_by old (g.P.Cargo.note c.args.payload) in
     let call : item.call ≡ length old.log = grind (arith, common_steps, was, c.requires.busy) in
-    let last = names-got (caller_number c.args.self.now) old.log was.names (ticket_in old.view.held) item refl call in
+    let last = names-got (caller_number c.args.self.now) old.log was.names (ticket_in old.view.held) item (sym was.number_is) call in
     grind (arith, was, did, last, c.number.ensures, c.calls.ensures)
 
 pub returns-clause-small : goal.returns-clause-small

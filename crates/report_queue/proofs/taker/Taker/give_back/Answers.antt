@@ -1,5 +1,5 @@
-use Rattle.std.proofs.Common.{arith, ap, inl, inr, eq-zero-or-pos}
-use Rattle.report_queue.specs.{to_give_back, taker_in}
+use Rattle.std.proofs.Common.{arith, inl, inr, eq-zero-or-pos}
+use Rattle.report_queue.specs.{to_give_back}
 use Rattle.report_queue.proofs.taker.Taker.give_back.Goals as goal
 
 pub returns-clause-mine : goal.returns-clause-mine
@@ -11,6 +11,5 @@ returns-clause-mine g c =
     ]
 
 pub returns-clause-told : goal.returns-clause-told
-returns-clause-told g c = λ some.
-    let tells = c.offer.ensures.told some in
-    (c.offer.result, omega (arith, tells.1.1), c.offer.ensures.bound, ap taker_in tells.1.3)
+returns-clause-told g c =
+    let did = c.offer.ensures in (λ none. (did.none none).1, λ some. (c.offer.result, did.bound, did.told some))

@@ -1,7 +1,7 @@
 use Rattle.std.proofs.Common.{◌≤◌, ◌^◌, arith, length, sym, subst}
 use Rattle.permit_ring.specs.Seats.{keeper_memo}
 use Rattle.report_queue.specs.Parts.{taker_memo}
-use Rattle.report_queue.proofs.{taken_by_then, all_back, taken_is_reaped}
+use Rattle.report_queue.proofs.{taken_by_then, taken_is_reaped}
 use Rattle.report_queue.proofs.taker.Taker.take.Goals as goal
 
 pub returns-in-Ok-clause-mine : goal.returns-in-Ok-clause-mine
@@ -24,5 +24,4 @@ pub returns-in-Ok-clause-within : goal.returns-in-Ok-clause-within
 returns-in-Ok-clause-within g c = subst (λ k. length k.notes ≤ 2 ^ 45) (sym c.refill.ensures.told) c.reap.ensures.within.1
 
 pub returns-in-Ok-clause-over : goal.returns-in-Ok-clause-over
-returns-in-Ok-clause-over g c = λ all taken. c.in-Ok.ensures.over (all_back (taker_memo c.args.self.now) all)
-    (taken_is_reaped (taker_memo c.args.self.now) taken)
+returns-in-Ok-clause-over g c = λ all taken. c.in-Ok.ensures.over all (taken_is_reaped (taker_memo c.args.self.now) taken)

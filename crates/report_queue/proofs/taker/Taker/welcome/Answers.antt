@@ -1,8 +1,8 @@
-use Rattle.std.proofs.Common.{Some, arith, ap, ◌∙◌}
+use Rattle.std.proofs.Common.{Some, arith}
 use Rattle.std.proofs.lemmas.List.{length-set}
 use Rattle.permit_ring.specs.Steps.{ended}
-use Rattle.report_queue.specs.{caller_memo, taker_memo, taker_in}
-use Rattle.report_queue.proofs.TakerLemmas.{names-welcome, welcome_shown}
+use Rattle.report_queue.specs.{caller_memo, taker_memo}
+use Rattle.report_queue.proofs.TakerLemmas.{names-welcome}
 use Rattle.report_queue.proofs.taker.Taker.welcome.Goals as goal
 
 pub returns-clause-mine : goal.returns-clause-mine
@@ -12,6 +12,3 @@ returns-clause-mine g c =
     let back = (taker_memo c.args.self.now).back in
     let names = names-welcome back memo was.names (grind (arith, c.requires.seat)) in
     grind (arith, was, c.welcome.ensures, names, length-set back memo.number (Some (ended memo)))
-
-pub returns-clause-told : goal.returns-clause-told
-returns-clause-told g c = ap taker_in c.welcome.ensures.told ∙ welcome_shown (taker_memo c.args.self.now) (caller_memo c.args.seat)

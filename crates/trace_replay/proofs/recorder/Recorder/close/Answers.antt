@@ -1,4 +1,4 @@
-use Rattle.trace_replay.proofs.Names.{rules, refl, subst, Output, CloseLeaves, Gathered, map, pass_view}
+use Rattle.trace_replay.proofs.Names.{rules, refl, subst, Output, CloseLeaves, Gathered, map, pass_memo}
 use Rattle.trace_replay.proofs.RecordingLemmas.{Adds, closes}
 use Rattle.trace_replay.proofs.recorder.Recorder.close.Goals as goal
 
@@ -7,7 +7,7 @@ returns g c =
     let chain = g.C.Chain in
     let m0 = c.ready.new.self.manager in
     let m1 = c.close.follows.lender-at-none in
-    let passes = map pass_view c.args.passes.now.items in
+    let passes = map pass_memo c.args.passes.now.items in
     let made = subst (λ answer. CloseLeaves chain.stands chain.events chain.kept c.args.shared.now c.args.tick passes m0 answer m1) c.in-Ok.is
     c.close.follows.holds-at-none in
     let same = c.in_ok-ready.ensures.same in

@@ -1,0 +1,62 @@
+-- What runs of the keeper's steps add: reaps one after the other, and an offer.
+use Rattle.permit_ring.proofs.Names.{◌≡◌, ℕ, ◌+◌, ◌≤◌, ◌<◌, List, [], ◌∷◌, ◌++◌, length, refl, inl, inr, arith, common_steps, KeeperMemo, append_assoc, append-nil, length_push, length-map}
+use Rattle.std.proofs.Common.{eq-zero-or-pos}
+use Rattle.permit_ring.specs.Calls.{reaps_all, ReapsToEnd, OffersAll, tried, last_word}
+use Rattle.permit_ring.specs.Steps.{reaps, reads}
+
+module _ {N : Type 0} where
+  -- one reap more
+  pub reaps_push : (xs : List N) (x : N) (k : KeeperMemo N)
+      → reaps_all (xs ++ x ∷ []) k ≡ reaps (length (reaps_all xs k).notes + 1) x (reaps_all xs k)
+  reaps_push [] x k = refl
+  reaps_push (y ∷ xs) x k = reaps_push xs x (reaps (length k.notes + 1) y k)
+
+  -- the notes, marks and moves are more; all else is as before
+  pub record OnlyReaps (xs : List N) (old new : KeeperMemo N) : Type 0 where
+    pub notes_are : new.notes ≡ old.notes ++ xs
+    pub marks_are : length new.marks ≡ length old.marks + length xs
+    pub moves_are : length new.moves ≡ length old.moves + length xs
+    pub fronts_are : new.fronts ≡ old.fronts
+    pub offered_is : new.offered ≡ old.offered
+    pub swept0_is : new.swept0 ≡ old.swept0
+    pub swept1_is : new.swept1 ≡ old.swept1
+    pub made_is : new.made ≡ old.made
+    pub back_is : new.back ≡ old.back
+
+  pub only_reaps : (xs : List N) (k : KeeperMemo N) → OnlyReaps xs k (reaps_all xs k)
+  only_reaps [] k = let none = append-nil k.notes in grind (arith, none)
+  only_reaps (x ∷ xs) k =
+      let rest = only_reaps xs (reaps (length k.notes + 1) x k) in
+      let notes = append_assoc k.notes (x ∷ []) xs in
+      let marks = length_push k.marks (length k.notes + 1) in
+      grind (arith, common_steps, rest, notes, marks)
+
+  -- a run to the end makes one move for each ticket, and one more
+  pub end_steps : (xs : List N) (old new : KeeperMemo N) → ReapsToEnd xs old new → length new.moves ≡ length old.moves + length xs + 1
+  end_steps xs old new run =
+      let only = only_reaps xs old in
+      grind (arith, common_steps, run, only)
+
+  -- what an offer leaves, with or without a step
+  pub record Gave (most count : ℕ) (old new : KeeperMemo N) : Type 0 where
+    pub notes_are : new.notes ≡ old.notes
+    pub fronts_are : (count ≡ 0 → new.fronts ≡ old.fronts) × (0 < count → new.fronts ≡ old.fronts ++ (old.offered + count) ∷ [])
+    pub offered_is : new.offered ≡ old.offered + count
+    pub swept0_is : new.swept0 ≡ old.swept0
+    pub swept1_is : new.swept1 ≡ old.swept1
+    pub made_is : new.made ≡ old.made
+    pub back_is : new.back ≡ old.back
+    pub few_moves : length new.moves ≤ length old.moves + most
+
+  pub gave_of : (n limit count : ℕ) (old new : KeeperMemo N) → OffersAll n limit count old new → Gave (n + limit + 2) count old new
+  gave_of n limit count old new gave = elim (eq-zero-or-pos count) [
+    | inl none ↦ let same = gave.0 none in grind (arith, none, same)
+    | inr some ↦
+        let did = gave.1 some in
+        let first = did.2.0 in
+        let missed = did.2.1.0 in
+        let all = missed ++ last_word (reads limit first old).seen missed ∷ [] in
+        let long = length-map all (tried limit count) in
+        let more = length_push missed (last_word (reads limit first old).seen missed) in
+        grind (arith, common_steps, did, long, more)
+  ]

@@ -1,0 +1,34 @@
+-- In which order tickets were got.
+use Rattle.std.specs.Prelude.{◌≡◌, ℕ, ◌+◌, ◌<◌, Bool, true, false, ◌&&◌, nat_lt, if◌then◌else◌, List, [], ◌∷◌, take}
+use mathlib.Core.Option.{some}
+use lib.ListN.{get_elem?}
+use Rattle.ring_core.specs.{unpacked}
+use Rattle.permit_ring.specs.Names.{Step, Claim, Move}
+
+-- the step is a claim
+abbrev pub is_claim : Step → Bool
+is_claim (Claim i) = true
+is_claim _ = false
+
+-- the move is a claim that found a position free, at a ring for so many seats
+abbrev pub gets_ticket : ℕ → Move → Bool
+gets_ticket limit v = is_claim v.step && nat_lt 0 (unpacked limit v.found).free
+
+-- the number of claims that its word showed, which is the ticket that it got
+abbrev pub ticket_at : ℕ → Move → ℕ
+ticket_at limit v = (unpacked limit v.found).claimed
+
+-- how many of the moves got a ticket
+abbrev pub tickets_got : ℕ → List Move → ℕ
+tickets_got limit [] = 0
+tickets_got limit (v ∷ vs) = if gets_ticket limit v then 1 + tickets_got limit vs else tickets_got limit vs
+
+-- each move that got a ticket got the one whose number is how many were got before it
+abbrev pub AreCounted : ℕ → List Move → Type 0
+AreCounted limit moves = (p : ℕ) (v : Move) → get_elem? moves p ≡ some v → gets_ticket limit v ≡ true
+    → ticket_at limit v ≡ tickets_got limit (take p moves)
+
+-- of two moves that got a ticket, the later one got the greater
+abbrev pub AreInOrder : ℕ → List Move → Type 0
+AreInOrder limit moves = (p q : ℕ) (a b : Move) → p < q → get_elem? moves p ≡ some a → get_elem? moves q ≡ some b
+    → gets_ticket limit a ≡ true → gets_ticket limit b ≡ true → ticket_at limit a < ticket_at limit b
