@@ -39,7 +39,7 @@ all_counted m now (v ∷ vs) r led =
     let none = claims_none m r v led.1 in
     let next = gets_next m r v led.1 in
     let each : (p : ℕ) (x : Move) → get_elem? (v ∷ vs) p ≡ some x → gets_ticket m.limit x ≡ true
-        → ticket_at m.limit x ≡ m.word.claimed + tickets_got m.limit (take p (v ∷ vs)) = λ p. elim p [
+    → ticket_at m.limit x ≡ m.word.claimed + tickets_got m.limit (take p (v ∷ vs)) = λ p. elim p [
       | zero ↦ λ x at gets. grind (arith, next)
       | suc q ↦ λ x at gets. grind (arith, rest.0 q x, one, none)
     ] in
@@ -57,8 +57,12 @@ got_rises limit (x ∷ xs) (suc p) (suc q) v less within at gets =
 -- so tickets rise with the moves that got them
 pub rise : (limit : ℕ) (moves : List Move) → AreCounted limit moves → AreInOrder limit moves
 rise limit moves counted = λ p q a b less at_a at_b gets_a gets_b.
-    omega (arith, counted p a at_a gets_a, counted q b at_b gets_b,
-    got_rises limit moves p q a less (omega (arith, at_length moves q b at_b)) at_a gets_a)
+    omega (
+      arith,
+      counted p a at_a gets_a,
+      counted q b at_b gets_b,
+      got_rises limit moves p q a less (omega (arith, at_length moves q b at_b)) at_a gets_a,
+    )
 
 module _ {O D T N : Type 0} {note : D → N} {Ao : T → O → Type 0} {An : T → N → Type 0} {key : Key T} {s : State (Slot O D) (View T N)}
     (r : Runs note Ao An key s) where
@@ -66,5 +70,5 @@ module _ {O D T N : Type 0} {note : D → N} {Ao : T → O → Type 0} {An : T �
   pub ring_counted : AreCounted key.limit r.moves × (r.machine.word.claimed ≡ tickets_got key.limit r.moves)
   ring_counted =
       let all = all_counted (opening key.positions key.limit) r.machine r.moves
-          (opens key.positions key.limit r.sizes.some_position r.sizes.most_positions r.sizes.some_seat r.sizes.most_seats) r.reached in
+      (opens key.positions key.limit r.sizes.some_position r.sizes.most_positions r.sizes.some_seat r.sizes.most_seats) r.reached in
       (λ p v at gets. omega (arith, all.0 p v at gets), omega (arith, all.1))

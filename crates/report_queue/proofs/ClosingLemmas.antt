@@ -78,7 +78,7 @@ module _ {N : Type 0} (n seats count : ℕ) (old new : KeeperMemo (Item N)) (gav
   taken_on is = elim (eq-zero-or-pos count) [
     | inl none ↦ subst IsAllTaken (sym (gave.0 none)) is
     | inr more ↦ subst IsAllTaken (sym (gave.1 more).2.1.3) record {
-        of_callers = is.of_callers;
-        whole = λ i caller e. let its = is.whole i caller e in search (more_fronts, its, its.lost_at_front);
-      }
+      of_callers = is.of_callers;
+      whole = λ i caller e. let its = is.whole i caller e in search (more_fronts, its, its.lost_at_front);
+    }
   ]
