@@ -10,9 +10,12 @@ use Rattle.permit_ring.proofs.{some_there, at_length, there}
 use Rattle.ids_config.specs.Parts.{Parts}
 use Rattle.ids_types.specs.Turns.{entries_of}
 use Rattle.ids_types.specs.declared.class_spec.ClassSpec.{ClassSpec}
+use Rattle.ids_types.specs.Fates.{AreAllDecided}
+use Rattle.ids_types.proofs.FatesLemmas.{decided_on}
 use Rattle.merge_spec.specs.Contexts.{class_at}
 use Rattle.merge_spec.specs.Decided.{AreDecided, IsDecided, tickets_of}
 use Rattle.merge_spec.specs.Follows.{Follows}
+use Rattle.merge_spec.specs.Fronts.{IsFront}
 use Rattle.merge_spec.specs.Losses.{entries_by}
 use Rattle.merge_spec.specs.Names.{Entry}
 use Rattle.merge_spec.specs.Orders.{StandsIn}
@@ -34,7 +37,7 @@ use Rattle.desk_closing.specs.{HaveAllCalls, came, calls_by, fates_in, IsOfTicke
 use Rattle.report_queue.proofs.{at_map_back}
 use Rattle.desk_closing.proofs.EntryLemmas.{call_of_ticket, no_entries, no_tickets, whole_entries, whole_tickets}
 use Rattle.desk_closing.proofs.PlaceLemmas.{or_at}
-use Rattle.desk_closing.proofs.FateLemmas.{claimed_none, end_as, lost_as, none_settled, rises_as, whole_settled}
+use Rattle.desk_closing.proofs.FateLemmas.{claimed_none, none_settled, whole_settled}
 
 -- the ring of class i has the number of its giver
 pub rings_have : (config : Parts) (classes : Classes) (givers : Givers) → AreGiversOf classes givers
@@ -157,20 +160,17 @@ module _ (closed : ClosedDesk) where
       let whole = closed.all_taken.whole caller (ended pass) its_back in
       record {
         calls_are = length-map pass.log fate_of ∙ sym (length-map pass.log call_of);
-        rises = rises_as 0 pass.log whole.rises;
-        within = omega (arith, end_as 0 pass.log, whole.within, as_many_entries);
+        decided = subst (λ n. AreAllDecided n (IsFront config.ring closed.turns) (fates_in pass)) (sym as_many_entries)
+            (decided_on whole.decided (λ claimed front. front_was config.ring claimed closed.turns
+            (subst (λ fronts. StandsIn fronts claimed) closed.fronts_are front)));
         are_entries = whole_tickets whole ∙ ap (tickets_of caller 0) (sym closed.shows);
-        at_front = λ place claimed lost. front_was config.ring claimed closed.turns
-            (subst (λ fronts. StandsIn fronts claimed) closed.fronts_are (whole.lost_at_front place claimed (lost_as pass.log place claimed lost)));
       }
 
   none_decided : (caller : ℕ) → length closed.passes ≤ caller → IsDecided config.ring closed.turns caller 0 []
   none_decided caller past = record {
     calls_are = refl;
-    rises = tt;
-    within = omega arith;
+    decided = record { rises = tt; within = omega arith; at_front = λ place claimed lost. cc };
     are_entries = sym (rw closed.shows (no_tickets caller 0 (desk_memo closed.desk).notes (none_his caller past)));
-    at_front = λ place claimed lost. cc;
   }
 
   are_decided : AreDecided config.ring (λ caller. length (calls_by closed.passes caller)) closed.turns (map fates_in closed.passes)

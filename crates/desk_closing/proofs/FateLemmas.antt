@@ -1,39 +1,22 @@
 -- The logs of rings as plain data.
-use Rattle.std.proofs.Common.{◌≡◌, ◌≢◌, ℕ, zero, suc, ◌+◌, ◌≤◌, Some, List, [], ◌∷◌, map, refl, sym, ap, ◌∙◌, ne_eqb, arith}
+use Rattle.std.proofs.Common.{◌≡◌, ◌≢◌, ℕ, suc, ◌≤◌, Some, List, [], ◌∷◌, map, refl, sym, ap, subst, ◌∙◌, ne_eqb, arith}
 use mathlib.Core.Option.{some}
 use lib.ListN.{get_elem?}
-use Rattle.merge_spec.specs.Fates as fates
-use Rattle.merge_spec.specs.Fates.{lost, FatesFrom, claims_got}
+use Rattle.ids_types.specs.Fates.{AreAllDecided, claims_got}
+use Rattle.ids_types.proofs.FatesLemmas.{decided_on}
 use Rattle.std.proofs.lemmas.List.{length-map}
 use Rattle.merge_spec.specs.Settled.{IsSettledLog, claims_by}
-use Rattle.permit_ring.specs.{IsWholeLog, RisesFrom, end_from, got_of, taken_by}
+use Rattle.permit_ring.specs.{IsWholeLog, fate_of, got_of, taken_by}
 use Rattle.permit_ring.specs.declared.memo.Outcome.{Outcome}
 use Rattle.permit_ring.specs.declared.memo.Outcome.TheVariants.{Lost, Got}
 use Rattle.buffer_classes.specs.Names.{SeatMemo}
-use Rattle.report_api.specs.Passes.{fate_of}
 
 module _ {N : Type 0} where
-  -- what became of each call stands as it stood
-  pub rises_as : (low : ℕ) (log : List (Outcome N)) → RisesFrom low log → FatesFrom low (map fate_of log)
-  rises_as low [] rises = tt
-  rises_as low (Lost g ∷ log) rises = (rises.0, rises_as g log rises.1)
-  rises_as low (Got t x ∷ log) rises = (rises.0, rises_as (t + 1) log rises.1)
-
-  pub end_as : (low : ℕ) (log : List (Outcome N)) → fates.end_from low (map fate_of log) ≡ end_from low log
-  end_as low [] = refl
-  end_as low (Lost g ∷ log) = end_as g log
-  end_as low (Got t x ∷ log) = end_as (t + 1) log
-
+  -- the tickets of a log
   pub got_as : (log : List (Outcome N)) → claims_got (map fate_of log) ≡ map (λ x. x.0) (got_of log)
   got_as [] = refl
   got_as (Lost g ∷ log) = got_as log
   got_as (Got t x ∷ log) = ap (λ ts. t ∷ ts) (got_as log)
-
-  pub lost_as : (log : List (Outcome N)) (j g : ℕ) → get_elem? (map fate_of log) j ≡ some (lost g) → get_elem? log j ≡ some (Lost g)
-  lost_as [] j g at = cc
-  lost_as (Lost its ∷ log) zero g at = cc
-  lost_as (Got t x ∷ log) zero g at = cc
-  lost_as (r ∷ log) (suc j) g at = lost_as log j g at
 
 -- the seats of the tickets that were taken are the claimants
 pub claimed_as : (i t : ℕ) (taken : List (ℕ × Unit {0}))
@@ -51,13 +34,12 @@ claimed_none i t (x ∷ taken) other = rw (ne_eqb i x.0 (other 0 x refl)) (claim
 pub whole_settled : {number i : ℕ} {fronts : List ℕ} {taken : List (ℕ × Unit {0})} {memo : SeatMemo} → IsWholeLog fronts taken i memo
     → ((j front : ℕ) → get_elem? fronts j ≡ some front → number ≤ front)
     → IsSettledLog number (map (λ x. x.0) taken) i (map fate_of memo.log)
-whole_settled {i = i} {taken = taken} {memo = memo} whole large = record {
-  rises = rises_as 0 memo.log whole.rises;
-  within = rw length-map (omega (arith, end_as 0 memo.log, whole.within));
+whole_settled {number = number} {i = i} {taken = taken} {memo = memo} whole large = record {
+  decided = subst (λ n. AreAllDecided n (λ claimed. number ≤ claimed) (map fate_of memo.log)) (sym (length-map taken (λ x. x.0)))
+      (decided_on whole.decided (λ g front. large front.0 g front.1));
   got = got_as memo.log ∙ ap (map (λ x. x.0)) whole.got ∙ sym (claimed_as i 0 taken);
-  all_out = λ j g at. let front = whole.lost_at_front j g (lost_as memo.log j g at) in large front.0 g front.1;
 }
 
 -- and so is that of one who claimed nothing
 pub none_settled : {number i : ℕ} {claimants : List ℕ} → claims_by i 0 claimants ≡ [] → IsSettledLog number claimants i []
-none_settled none = record { rises = tt; within = omega arith; got = sym none; all_out = λ j g at. cc }
+none_settled none = record { decided = record { rises = tt; within = omega arith; at_front = λ j g at. cc }; got = sym none }

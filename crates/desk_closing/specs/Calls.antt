@@ -5,7 +5,7 @@ use lib.ListN.{get_elem?}
 use Rattle.ids_types.specs.Turns.{Turn, entries_of}
 use Rattle.ids_config.specs.Parts.{Parts}
 use Rattle.merge_spec.specs.Decided.{all_losses}
-use Rattle.merge_spec.specs.Fates.{Fate}
+use Rattle.ids_types.specs.Fates.{Fate}
 use Rattle.merge_spec.specs.Follows.{Calls}
 use Rattle.merge_spec.specs.Losses.{entries_by}
 use Rattle.merge_spec.specs.Merge.{AreMerged}

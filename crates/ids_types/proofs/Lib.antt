@@ -1,2 +1,3 @@
+pub mod FatesLemmas
 pub mod HistoryLemmas
 pub mod OutputLemmas

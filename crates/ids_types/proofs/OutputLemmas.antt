@@ -6,7 +6,7 @@ use Rattle.std.proofs.lemmas.List.{append-nil}
 use Rattle.ids_types.specs.Names.{Entry, TurnHead}
 use Rattle.ids_types.specs.Plain.{kept_bytes}
 use Rattle.ids_types.specs.Turns.{Turn, HasRoom, with_entry, entries_of, context_bytes}
-use Rattle.ids_types.specs.Output.{Output, room_of, has_begun, has_logged, has_sent}
+use Rattle.ids_types.specs.Output.{Output, room_of, has_begun, has_logged, has_sent, without_messages}
 use Rattle.ids_types.proofs.HistoryLemmas.{entries_of-with_entry}
 
 -- the bytes of context of turns with one entry more
@@ -22,6 +22,10 @@ pub length_with_entry : (turns : List Turn) (entry : Entry (List ℕ)) → lengt
 length_with_entry [] entry = refl
 length_with_entry (turn ∷ []) entry = refl
 length_with_entry (turn ∷ next ∷ turns) entry = ap suc (length_with_entry (next ∷ turns) entry)
+
+-- by letting its messages go
+pub room_without : (out : Output) → room_of (without_messages out) ≡ room_of out
+room_without out = grind arith
 
 -- by the beginning of a turn
 pub room_begun : (head : TurnHead) (out : Output) → room_of (has_begun head out) ≡ room_of out

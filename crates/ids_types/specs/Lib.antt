@@ -1,4 +1,5 @@
 pub mod Carries
+pub mod Fates
 pub mod MemoryRow
 pub mod ModeNames
 pub mod Names

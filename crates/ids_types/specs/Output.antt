@@ -43,6 +43,10 @@ turns_begun head log = record { turns = log.turns ++ begun head ∷ []; room = r
 abbrev pub turns_logged : Entry (List ℕ) → Turns → Turns
 turns_logged entry log = record { turns = with_entry log.turns entry; room = room_after log.room 0 1 (length (kept_bytes entry)) }
 
+-- without its messages, whose room is free again
+abbrev pub without_messages : Output → Output
+without_messages out = record { log = out.log; sent = []; messages = 0; sent_left = out.sent_left + length out.sent }
+
 -- emptied, and the log has one turn that has begun
 abbrev pub has_begun : TurnHead → Output → Output
 has_begun head out = record {
@@ -61,14 +65,22 @@ has_logged entry out = record {
   sent_left = out.sent_left;
 }
 
+-- with a piece of a message more
+abbrev pub has_put : List ℕ → Output → Output
+has_put piece out = record {
+  log = out.log;
+  sent = out.sent ++ piece;
+  messages = out.messages;
+  sent_left = out.sent_left - length piece;
+}
+
+-- its last message is whole
+abbrev pub has_ended : Output → Output
+has_ended out = record { log = out.log; sent = out.sent; messages = out.messages + 1; sent_left = out.sent_left }
+
 -- with one message more
 abbrev pub has_sent : List ℕ → Output → Output
-has_sent message out = record {
-  log = out.log;
-  sent = out.sent ++ message;
-  messages = out.messages + 1;
-  sent_left = out.sent_left - length message;
-}
+has_sent message out = has_ended (has_put message out)
 
 -- what the fields hold
 abbrev pub output_of : Inside → Output

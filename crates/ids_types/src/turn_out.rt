@@ -1,7 +1,7 @@
 ghost use Rattle.std.specs.Prelude.{◌≡◌, ◌<◌, ◌≤◌, ◌-◌, ◌^◌, length, IfOk};
 ghost use Rattle.ids_types.specs.Plain.{plain_entry, kept_bytes};
 ghost use Rattle.ids_types.specs.Turns.{HasRoom};
-ghost use Rattle.ids_types.specs.Output.{empty_output, has_begun, has_logged, has_sent};
+ghost use Rattle.ids_types.specs.Output.{empty_output, has_begun, has_ended, has_logged, has_put, has_sent, without_messages};
 
 use crate::entry::{Entry, TurnHead};
 use crate::history::History;
@@ -74,6 +74,13 @@ impl TurnOut {
     {
         self.log.clear();
         self.log.begin(head);
+        self.clear_messages();
+    }
+
+    /// Lets its messages go, and keeps their room. Its log stays as it is.
+    pub fn clear_messages(&mut self)
+        ensures { self.new ≡ without_messages self.old }
+    {
         self.sent_left += self.sent.len() as u64;
         self.sent.clear();
         self.messages = 0;
@@ -95,8 +102,24 @@ impl TurnOut {
         requires few { self.old.messages < 2 ^ 32 - 1 }
         ensures { self.new ≡ has_sent message.now self.old }
     {
-        put_bytes(&mut self.sent, message);
-        self.sent_left -= message.len() as u64;
+        self.put(message);
+        self.end_message();
+    }
+
+    /// Adds a piece of a message.
+    pub fn put(&mut self, piece: &[u8])
+        requires { length piece.now ≤ self.old.sent_left }
+        ensures { self.new ≡ has_put piece.now self.old }
+    {
+        put_bytes(&mut self.sent, piece);
+        self.sent_left -= piece.len() as u64;
+    }
+
+    /// Ends a message, of which all pieces were put.
+    pub fn end_message(&mut self)
+        requires { self.old.messages < 2 ^ 32 - 1 }
+        ensures { self.new ≡ has_ended self.old }
+    {
         self.messages += 1;
     }
 }

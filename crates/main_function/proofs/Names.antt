@@ -19,14 +19,14 @@ pub use Rattle.ids_types.specs.declared.entry.Entry.{Entry}
 pub use Rattle.ids_types.specs.declared.entry.TurnHead.{TurnHead}
 pub use Rattle.permit_ring.proofs.ListLemmas.{at_length, there}
 pub use Rattle.permit_ring.specs.Hands.{AllAdmitted}
-pub use Rattle.report_api.specs.{EachSettled, Act, DeskMemo, PassMemo, lost_events, lost_contexts, missing_in, Report, State, SetMode, Absent, Kept, Missing, AdmitsAct, AdmitsItem, is_sensor, term_sizes, IsNewMaking, sizes_of, same_item, IsPassOf}
+pub use Rattle.report_api.specs.{EachSettled, Act, DeskMemo, PassMemo, lost_events, lost_contexts, missing_in, Report, State, SetMode, Absent, Kept, Missing, AdmitsAct, AdmitsItem, is_sensor, term_sizes, IsNewMaking, sizes_of, IsPassOf}
 pub use Rattle.report_api.specs.Desks.{IsDeskOf, desk_memo, to_give_back}
 pub use Rattle.report_api.specs.Passes.{pass_memo}
 pub use Rattle.report_api.specs.declared.desk.Desk.{Desk}
 pub use Rattle.report_api.specs.declared.pass.Pass.{Pass}
 pub use Rattle.report_api.specs.declared.shared.Shared.{Shared}
 pub use Rattle.report_api.specs.declared.terms.ReportTerms.{ReportTerms}
-pub use Rattle.report_queue.specs.{AreAllBack, AreAllSwept, IsAllTaken, OffersAll, ReapTells, ReapsToEnd, queue_positions, queue_seats, reaps_all, sweeps, welcomes}
+pub use Rattle.report_queue.specs.{AreAllBack, AreAllSwept, IsAllTaken, OffersAll, ReapTells, ReapsToEnd, queue_positions, queue_seats, item_note, reaps_all, sweeps, welcomes}
 pub use Rattle.report_queue.specs.declared.cargo.Item.{Item}
 pub use Rattle.main_function.specs.{AreCountsOf, AreSumsOf, Closed, IsQuick, OnlyWelcomes, all_back, ShowsHistory, AreTotals, IsManagerOf, Stands, Turned, IsHeld, held, items_of, AreAllPasses, MakesTurn, Took, item_of, sweeps_for}
 pub use Rattle.main_function.specs.Making.{IsBuilt, IsLargest, IsNewManager}

@@ -1,5 +1,5 @@
 -- A run of takes, one more at a time.
-use Rattle.main_function.proofs.Names.{◌≡◌, ◌≢◌, ℕ, ◌+◌, ◌≤◌, ◌<◌, List, [], ◌∷◌, ◌++◌, length, Ok, Err, sym, ap, ◌∙◌, subst, arith, All, common_steps, map-append, All-push, Entry, Buffer, same_item, AdmitsItem, DeskMemo, ReapTells, reaps_all, ReportTerms, Took, item_of, items_of}
+use Rattle.main_function.proofs.Names.{◌≡◌, ◌≢◌, ℕ, ◌+◌, ◌≤◌, ◌<◌, List, [], ◌∷◌, ◌++◌, length, Ok, Err, sym, ap, ◌∙◌, subst, arith, All, common_steps, map-append, All-push, Entry, Buffer, AdmitsItem, DeskMemo, ReapTells, Act, item_note, reaps_all, ReportTerms, Took, item_of, items_of}
 use Rattle.permit_ring.proofs.{reaps_push}
 use Rattle.permit_ring.specs.Steps.{reaps, waits}
 use Rattle.permit_ring.specs.declared.answer.Unready.{Unready}
@@ -13,7 +13,7 @@ pub record TakesOn (terms : ReportTerms) (most : ℕ) (old : DeskMemo) (taken : 
 module _ (terms : ReportTerms) (most : ℕ) (old mid new : DeskMemo) (taken : List (Entry Buffer)) (on : TakesOn terms most old taken mid) where
   -- one item more
   pub took_one : (entry : Entry Buffer) → length taken < most → AdmitsItem terms (item_of entry)
-      → ReapTells same_item mid (Ok (item_of entry)) new → TakesOn terms most old (taken ++ entry ∷ []) new
+      → ReapTells (item_note (λ (act : Act). act)) mid (Ok (item_of entry)) new → TakesOn terms most old (taken ++ entry ∷ []) new
   took_one entry more admitted told =
       let items = map-append item_of taken (entry ∷ []) in
       record {
@@ -24,7 +24,7 @@ module _ (terms : ReportTerms) (most : ℕ) (old mid new : DeskMemo) (taken : Li
       }
 
   -- one was not ready
-  pub took_till : (unready : Unready) → ReapTells same_item mid (Err unready) new → Took terms most old taken new
+  pub took_till : (unready : Unready) → ReapTells (item_note (λ (act : Act). act)) mid (Err unready) new → Took terms most old taken new
   took_till unready told = record {
     run = subst (λ (k : DeskMemo). (mark : ℕ) × (mark ≢ length k.notes + 1) × (new ≡ waits mark k)) on.is (unready.mark, told.0, told.1);
     few = on.few;

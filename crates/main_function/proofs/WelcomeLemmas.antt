@@ -1,5 +1,6 @@
 -- All passes come back, the last first.
 use Rattle.main_function.proofs.Names.{◌≡◌, ℕ, zero, suc, ◌+◌, ◌<◌, List, [], ◌∷◌, ◌++◌, length, map, slice_set, take, refl, sym, ap, ◌∙◌, arith, append-nil, append_assoc, at_length, there, AllOf, Welcomed, Takes, ClassSeat, welcomes, DeskMemo, PassMemo, IsPassOf, pass_memo, Pass, Shared, OnlyWelcomes, all_back, AreAllPasses, came, common_steps, length-map}
+use Rattle.std.proofs.lemmas.List.{length-take-le, take-take, take_all}
 use mathlib.Core.Option.{some}
 use lib.ListN.{get_elem?}
 use Rattle.buffer_classes.specs.declared.giver.Giver.{Giver}
@@ -62,32 +63,16 @@ set_last (y ∷ []) rest zero x long = refl
 set_last (y ∷ z ∷ before) rest zero x long = absurd (omega (arith, long))
 set_last (y ∷ before) rest (suc n) x long = ap (λ l. y ∷ l) (set_last before rest n x (omega (arith, long)))
 
-take_shorter : {A : Type 0} (n : ℕ) (xs : List A) → take n (take (suc n) xs) ≡ take n xs
-take_shorter zero xs = refl
-take_shorter (suc n) [] = refl
-take_shorter (suc n) (x ∷ xs) = ap (λ l. x ∷ l) (take_shorter n xs)
-
-take_first : {A : Type 0} (n : ℕ) (xs : List A) → n < length xs → length (take (suc n) xs) ≡ suc n
-take_first n [] low = absurd (omega (arith, low))
-take_first zero (x ∷ xs) low = refl
-take_first (suc n) (x ∷ xs) low = omega (arith, take_first n xs (omega (arith, low)))
-
-take_whole : {A : Type 0} (n : ℕ) (xs : List A) → length xs ≡ n → take n xs ≡ xs
-take_whole zero [] long = refl
-take_whole zero (x ∷ xs) long = absurd (omega (arith, long))
-take_whole (suc n) [] long = refl
-take_whole (suc n) (x ∷ xs) long = ap (λ l. x ∷ l) (take_whole n xs (omega (arith, long)))
-
 back_from : (i : ℕ) (passes : List PassMemo) (desk : DeskMemo) → NumberFrom i passes → length desk.back ≡ i + length passes
     → (all_back passes desk).back ≡ take i desk.back ++ map came passes
-back_from i [] desk numbers long = sym (append-nil (take i desk.back) ∙ take_whole i desk.back (omega (arith, long)))
+back_from i [] desk numbers long = sym (append-nil (take i desk.back) ∙ take_all i desk.back (omega (arith, long)))
 back_from i (pass ∷ passes) desk numbers long =
     let rest = back_from (suc i) passes desk numbers.1 (omega (arith, long)) in
-    let first = take_first i desk.back (omega (arith, long)) in
+    let first = length-take-le (suc i) desk.back (omega (arith, long)) in
     ap (λ n. slice_set (all_back passes desk).back n (came pass)) numbers.0
     ∙ ap (λ back. slice_set back i (came pass)) rest
     ∙ set_last (take (suc i) desk.back) (map came passes) i (came pass) first
-    ∙ ap (λ back. back ++ came pass ∷ map came passes) (take_shorter i desk.back)
+    ∙ ap (λ back. back ++ came pass ∷ map came passes) (take-take i (suc i) desk.back (omega arith))
 
 numbers_from : (i : ℕ) (passes : List Pass)
     → ((j : ℕ) (pass : Pass) → get_elem? passes j ≡ some pass → (pass_memo pass).number ≡ i + j) → NumberFrom i (map pass_memo passes)

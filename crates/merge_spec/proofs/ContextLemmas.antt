@@ -2,7 +2,8 @@
 use Rattle.merge_spec.proofs.Names.{◌≡◌, ℕ, ◌+◌, ◌==◌, Some, List, length, refl, sym, ◌∙◌, subst, eq-eqb, arith, Turn, entries_of, Parts, Act, Entry, too_small, claims_of, IsLegalMiss, Fate, lost, accepted, claims_got, Calls, entries_by, StandsIn, claims_by, AreSettled, AreLegalContexts}
 use mathlib.Core.Option.{some}
 use lib.ListN.{get_elem?}
-use Rattle.merge_spec.proofs.FatesLemmas.{fate_within, got_rise}
+use Rattle.ids_types.proofs.FatesLemmas.{fate_within}
+use Rattle.merge_spec.proofs.FatesLemmas.{got_rise}
 use Rattle.merge_spec.proofs.FollowsLemmas.{Shows, call_was, calls_got, log_shows, shown_in_order}
 use Rattle.merge_spec.proofs.PlaceLemmas.{stands_kept, stands_where_counted}
 use Rattle.merge_spec.proofs.TotalLemmas.{as_many_claims, each_claim_once}
@@ -31,14 +32,14 @@ module _ (config : Parts) (turns : List Turn) (calls : ℕ → Calls) (log : ℕ
       let settled = s.settled c i in
       let here = its_call c e stands refl in
       let place = log_shows (length config.classes) i e.call (calls c) (log c i) e.act (lost claimed) (s.follows c i) here shows in
-      let within = fate_within 0 (log c i) place.0 (lost claimed) settled.rises place.1 in
+      let within = fate_within 0 (log c i) place.0 (lost claimed) settled.decided.rises place.1 in
       let long = as_many_claims i (entries_of turns) (claimants i) (kept_are_claims i) in
       let order = λ (j k : ℕ) (act other : Act (List ℕ)) (fate next : Fate).
-      shown_in_order (length config.classes) i j k 0 (calls c) (log c i) act other fate next (s.follows c i) settled.rises in
+      shown_in_order (length config.classes) i j k 0 (calls c) (log c i) act other fate next (s.follows c i) settled.decided.rises in
       record {
-        all_out = settled.all_out place.0 claimed place.1;
+        all_out = settled.decided.at_front place.0 claimed place.1;
         by_entries = λ claim less. let once = each_claim_once i (entries_of turns) (claimants i) (kept_are_claims i) claim in
-            stands_where_counted claim (claims_of i (entries_of turns)) (grind (arith, once, within.1, settled.within, long));
+            stands_where_counted claim (claims_of i (entries_of turns)) (grind (arith, once, within.1, settled.decided.within, long));
         earlier = λ other claim at is less kept. let its = its_call c other at is in
             omega (arith, order other.call e.call other.act e.act (accepted claim) (lost claimed) its here less kept shows);
         later = λ other claim at is less kept. let its = its_call c other at is in
@@ -49,7 +50,7 @@ module _ (config : Parts) (turns : List Turn) (calls : ℕ → Calls) (log : ℕ
   legal_contexts = record {
     claims = record {
       each_claim = λ i. each_claim_once i (entries_of turns) (claimants i) (kept_are_claims i);
-      claims_rise = λ i c. rw (kept_are_got i c) (got_rise 0 0 (log c i) (omega arith) (s.settled c i).rises);
+      claims_rise = λ i c. rw (kept_are_got i c) (got_rise 0 0 (log c i) (omega arith) (s.settled c i).decided.rises);
     };
     missing = λ e bytes numbers stands misses fit. record {
       each_class = fit;

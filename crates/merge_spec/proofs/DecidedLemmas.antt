@@ -2,7 +2,7 @@
 use Rattle.merge_spec.proofs.Names.{◌≡◌, ℕ, zero, suc, ◌+◌, ◌≤◌, ◌==◌, if◌then◌else◌, List, [], ◌∷◌, map, refl, inr, sym, ap, ◌∙◌, subst, eq-eqb, arith, length-map, Turn, entries_of, Entry, Loss, fates_of, AreDecided, tickets_from, tickets_of, IsDecided, losses_from, all_losses, Fate, lost, accepted, end_of, calls_of, losses_by, IsTicket, IsLegalLoss, AreMerged, StandsIn, times, once_below, RiseFrom}
 use mathlib.Core.Option.{some, some-injective}
 use lib.ListN.{get_elem?}
-use Rattle.merge_spec.proofs.FatesLemmas.{fate_within, fates_in_order}
+use Rattle.ids_types.proofs.FatesLemmas.{fate_within, fates_in_order}
 use Rattle.merge_spec.proofs.LossLemmas.{of_caller, loss_is, givens_keep_up, losses_ordered}
 use Rattle.merge_spec.proofs.PlaceLemmas.{stands_either, stands_kept}
 use Rattle.merge_spec.proofs.TotalLemmas.{tickets, total_of, once_behind}
@@ -63,17 +63,17 @@ module _ (n : ℕ) (turns : List Turn) where
       → StandsIn (losses_from n loss.caller 0 fates) loss → IsLegalLoss n turns loss
   legal_loss loss calls fates decided stands =
       let its = loss_is n loss.caller 0 fates loss stands in
-      let front = decided.at_front its.0 its.1 its.2 in
-      let within = fate_within 0 fates its.0 (lost its.1) decided.rises its.2 in
+      let front = decided.decided.at_front its.0 its.1 its.2 in
+      let within = fate_within 0 fates its.0 (lost its.1) decided.decided.rises its.2 in
       let got = its_ticket loss.caller calls fates decided in
       record {
         given_back = (front.0, front.1, omega (arith, its.4, front.2));
-        claimed = omega (arith, its.4, front.2, within.1, decided.within);
+        claimed = omega (arith, its.4, front.2, within.1, decided.decided.within);
         earlier = λ call ticket less is.
-            let order = fates_in_order 0 fates call its.0 (accepted ticket) (lost its.1) decided.rises (got call ticket is) its.2 in
+            let order = fates_in_order 0 fates call its.0 (accepted ticket) (lost its.1) decided.decided.rises (got call ticket is) its.2 in
             omega (arith, its.4, front.2, order (omega (arith, its.3)));
         later = λ call ticket less is.
-            let order = fates_in_order 0 fates its.0 call (lost its.1) (accepted ticket) decided.rises its.2 (got call ticket is) in
+            let order = fates_in_order 0 fates its.0 call (lost its.1) (accepted ticket) decided.decided.rises its.2 (got call ticket is) in
             omega (arith, its.4, front.2, order (omega (arith, its.3)));
       }
 
@@ -94,6 +94,6 @@ module _ (n : ℕ) (turns : List Turn) where
           (subst (λ xs. StandsIn xs loss) (own_losses loss.caller)
           (stands_kept (λ (l : Loss). loss.caller == l.caller) (all_losses n 0 callers) loss stands
           (eq-eqb loss.caller loss.caller refl)));
-      looks_keep_up = λ c. rw (own_losses c) (givens_keep_up n 0 c 0 0 (fates_of callers c) (omega arith) (decided c).rises);
+      looks_keep_up = λ c. rw (own_losses c) (givens_keep_up n 0 c 0 0 (fates_of callers c) (omega arith) (decided c).decided.rises);
       losses_in_order = losses_ordered n 0 callers 0 0 (inr (refl, omega arith));
     }

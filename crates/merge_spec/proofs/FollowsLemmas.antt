@@ -2,7 +2,8 @@
 use Rattle.merge_spec.proofs.Names.{◌≡◌, ℕ, zero, suc, ◌+◌, ◌-◌, ◌<◌, ◌≤◌, Option, Some, None, List, [], ◌∷◌, ◌++◌, length, refl, sym, ap, ap₂, ◌∙◌, append_assoc, subst, arith, append-nil, Carried, Absent, Kept, Missing, Act, Report, State, SetMode, Entry, claim_in, claim_of, claims_of, Misses, Fate, lost, accepted, start_of, end_of, FatesFrom, end_from, claims_got, Calls, Follows, CallAsks, CarriedAsks, lost_number, StandsIn, entries_from}
 use mathlib.Core.Option.{some, some-injective}
 use lib.ListN.{get_elem?}
-use Rattle.merge_spec.proofs.FatesLemmas.{fate_within, rises_apart, claims_got-append, got_stands}
+use Rattle.ids_types.proofs.FatesLemmas.{fate_within}
+use Rattle.merge_spec.proofs.FatesLemmas.{rises_apart, claims_got-append, got_stands}
 use Rattle.merge_spec.proofs.PlaceLemmas.{stands_left, stands_right}
 
 module _ (classes i : ℕ) where

@@ -6,7 +6,7 @@ pub use Rattle.ids_config.specs.Parts.{Parts, class_of}
 pub use Rattle.ids_types.specs.Turns.{Turn, entries_of}
 pub use Rattle.merge_spec.specs.Contexts.{too_small, claims_of, IsLegalMiss, claim_in, claim_of, Misses, class_at}
 pub use Rattle.merge_spec.specs.Decided.{fates_of, AreDecided, tickets_from, tickets_of, IsDecided, losses_from, all_losses}
-pub use Rattle.merge_spec.specs.Fates.{Fate, lost, accepted, claims_got, end_of, start_of, FatesFrom, end_from}
+pub use Rattle.ids_types.specs.Fates.{Fate, lost, accepted, claims_got, end_of, start_of, FatesFrom, end_from}
 pub use Rattle.merge_spec.specs.Follows.{Calls, Follows, CallAsks, CarriedAsks, lost_number, KeptAsks}
 pub use Rattle.merge_spec.specs.Losses.{entries_by, calls_of, losses_by, IsTicket, IsLegalLoss}
 pub use Rattle.merge_spec.specs.Merge.{AreMerged, IsKeptIn, IsItsLine, IsMerge}

@@ -47,20 +47,20 @@ behind t claimed (suc place) fates at = (place, at)
 decided : AreDecided 2 (λ caller. length (lines_of caller rounds)) turns callers
 decided zero = record {
   calls_are = refl;
-  rises = (omega arith, (omega arith, tt));
-  within = omega arith;
+  decided = record {
+    rises = (omega arith, (omega arith, tt));
+    within = omega arith;
+    at_front = λ place claimed at. let one = behind 0 claimed place (accepted 1 ∷ []) at in let none = behind 1 claimed one.0 [] one.1 in cc;
+  };
   are_entries = refl;
-  at_front = λ place claimed at. let one = behind 0 claimed place (accepted 1 ∷ []) at in let none = behind 1 claimed one.0 [] one.1 in cc;
 }
 decided (suc zero) = record {
   calls_are = refl;
-  rises = (omega arith, tt);
-  within = omega arith;
+  decided = record { rises = (omega arith, tt); within = omega arith; at_front = λ place claimed at. (0, omega arith, sym (only 2 claimed place at)) };
   are_entries = refl;
-  at_front = λ place claimed at. (0, omega arith, sym (only 2 claimed place at));
 }
 decided (suc (suc caller)) =
-    record { calls_are = refl; rises = tt; within = omega arith; are_entries = grind arith; at_front = λ place claimed at. cc }
+    record { calls_are = refl; decided = record { rises = tt; within = omega arith; at_front = λ place claimed at. cc }; are_entries = grind arith }
 
 abbrev calls : ℕ → Calls
 calls zero = Some first ∷ Some second ∷ []
@@ -77,7 +77,7 @@ claimants zero = 0 ∷ []
 claimants (suc i) = []
 
 empty_log : (number caller : ℕ) (its : List ℕ) → [] ≡ claims_by caller 0 its → IsSettledLog number its caller []
-empty_log number caller its none = record { rises = tt; within = omega arith; got = none; all_out = λ place claimed at. cc }
+empty_log number caller its none = record { decided = record { rises = tt; within = omega arith; at_front = λ place claimed at. cc }; got = none }
 
 module _ (config : Parts) (ring_is : config.ring ≡ 2) (classes_are : config.classes ≡ class_of (8, 1) ∷ []) where
   follows : (caller i : ℕ) → Follows (length config.classes) i (calls caller) (log caller i)
@@ -94,11 +94,13 @@ module _ (config : Parts) (ring_is : config.ring ≡ 2) (classes_are : config.cl
 
   settled_log : (caller i : ℕ) → IsSettledLog (class_at config i).number (claimants i) caller (log caller i)
   settled_log zero zero = record {
-    rises = (omega arith, (omega arith, tt));
-    within = omega arith;
+    decided = record {
+      rises = (omega arith, (omega arith, tt));
+      within = omega arith;
+      at_front = λ place claimed at.
+          let one = behind 0 claimed place (lost 1 ∷ []) at in rw classes_are (omega (arith, only 1 claimed one.0 one.1));
+    };
     got = refl;
-    all_out = λ place claimed at.
-        let one = behind 0 claimed place (lost 1 ∷ []) at in rw classes_are (omega (arith, only 1 claimed one.0 one.1));
   }
   settled_log zero (suc i) = empty_log _ 0 [] refl
   settled_log (suc caller) zero = empty_log _ (suc caller) (0 ∷ []) (grind arith)

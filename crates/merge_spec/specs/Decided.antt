@@ -1,10 +1,8 @@
 -- What became of all callers' calls on the report ring, and the losses that it makes.
-use Rattle.std.specs.Prelude.{◌≡◌, ℕ, suc, ◌-◌, ◌≤◌, ◌==◌, if◌then◌else◌, List, [], ◌∷◌, ◌++◌, length, slice_index_or}
-use mathlib.Core.Option.{some}
-use lib.ListN.{get_elem?}
+use Rattle.std.specs.Prelude.{◌≡◌, ℕ, suc, ◌-◌, ◌==◌, if◌then◌else◌, List, [], ◌∷◌, ◌++◌, length, slice_index_or}
 use Rattle.ids_types.specs.Turns.{Turn, entries_of}
 use Rattle.merge_spec.specs.Names.{Entry, Loss}
-use Rattle.merge_spec.specs.Fates.{Fate, lost, accepted, FatesFrom, end_from}
+use Rattle.ids_types.specs.Fates.{Fate, lost, accepted, AreAllDecided}
 use Rattle.merge_spec.specs.Fronts.{IsFront}
 
 -- the accepted calls from one on, each with its ticket
@@ -22,11 +20,9 @@ tickets_of caller ticket (e ∷ entries) =
 -- a caller's calls, so many, decided on a report ring of n places, are its entries of the turns and calls that found none free
 pub record IsDecided (n : ℕ) (turns : List Turn) (caller calls : ℕ) (fates : List Fate) : Type 0 where
   pub calls_are : length fates ≡ calls
-  pub rises : FatesFrom 0 fates
-  pub within : end_from 0 fates ≤ length (entries_of turns)
+  -- each was lost only where all n, and all that some first turns had given back, had been claimed
+  pub decided : AreAllDecided (length (entries_of turns)) (IsFront n turns) fates
   pub are_entries : tickets_from 0 fates ≡ tickets_of caller 0 (entries_of turns)
-  -- it was lost only where all n, and all that some first turns had given back, had been claimed
-  pub at_front : (place claimed : ℕ) → get_elem? fates place ≡ some (lost claimed) → IsFront n turns claimed
 
 -- what became of a caller's calls; callers beyond the list made none
 abbrev pub fates_of : List (List Fate) → ℕ → List Fate

@@ -1,7 +1,7 @@
 -- What the calls of a caller asked of a class of context data buffers.
 use Rattle.std.specs.Prelude.{◌≡◌, ℕ, suc, ◌-◌, ◌<◌, ◌⊎◌, ◌==◌, if◌then◌else◌, Option, Some, List, [], ◌∷◌, ◌++◌, length}
 use Rattle.merge_spec.specs.Names.{Carried, Absent, Kept, Missing, Act, Report}
-use Rattle.merge_spec.specs.Fates.{Fate, lost, accepted}
+use Rattle.ids_types.specs.Fates.{Fate, lost, accepted}
 
 -- each call of a caller: the act that was accepted, nothing where the call was lost
 abbrev pub Calls : Type 0

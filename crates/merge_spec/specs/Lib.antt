@@ -1,6 +1,5 @@
 pub mod Contexts
 pub mod Decided
-pub mod Fates
 pub mod Follows
 pub mod Fronts
 pub mod Losses

@@ -1,12 +1,10 @@
 -- The logs of class rings when all is over, and what they make of a history.
 use Rattle.std.specs.Prelude.{◌≡◌, ℕ, suc, ◌+◌, ◌≤◌, ◌==◌, if◌then◌else◌, Some, None, List, [], ◌∷◌, length}
-use mathlib.Core.Option.{some}
-use lib.ListN.{get_elem?}
 use Rattle.merge_spec.specs.Names.{Entry}
 use Rattle.ids_types.specs.Turns.{Turn, entries_of}
 use Rattle.ids_config.specs.Parts.{Parts}
 use Rattle.merge_spec.specs.Contexts.{class_at, too_small, Misses, AreClaims, IsLegalMissing}
-use Rattle.merge_spec.specs.Fates.{Fate, lost, FatesFrom, end_from, claims_got}
+use Rattle.ids_types.specs.Fates.{Fate, AreAllDecided, claims_got}
 use Rattle.merge_spec.specs.Follows.{Calls, Follows}
 use Rattle.merge_spec.specs.Losses.{entries_by}
 use Rattle.merge_spec.specs.Orders.{StandsIn}
@@ -25,12 +23,10 @@ entries_from caller call (Some act ∷ calls) = record { caller = caller; call =
 
 -- a caller's log of a class ring of so many buffers, all of whose claims are known
 pub record IsSettledLog (number : ℕ) (claimants : List ℕ) (caller : ℕ) (log : List Fate) : Type 0 where
-  pub rises : FatesFrom 0 log
-  pub within : end_from 0 log ≤ length claimants
+  -- it was lost only where all buffers had been claimed
+  pub decided : AreAllDecided (length claimants) (λ claimed. number ≤ claimed) log
   -- it got just the tickets that are its own
   pub got : claims_got log ≡ claims_by caller 0 claimants
-  -- it was lost only where all buffers had been claimed
-  pub all_out : (place claimed : ℕ) → get_elem? log place ≡ some (lost claimed) → number ≤ claimed
 
 -- each caller's logs are what its calls asked of the classes, they are settled, and its entries are its accepted calls
 pub record AreSettled (config : Parts) (turns : List Turn) (calls : ℕ → Calls)

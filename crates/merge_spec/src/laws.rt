@@ -4,7 +4,7 @@ ghost use Rattle.std.specs.Prelude.{ℕ, List, [], ◌∷◌};
 ghost use Rattle.ids_types.specs.Turns.{Turn};
 ghost use Rattle.ids_config.specs.Parts.{Parts};
 ghost use Rattle.merge_spec.specs.Decided.{AreDecided, all_losses};
-ghost use Rattle.merge_spec.specs.Fates.{Fate};
+ghost use Rattle.ids_types.specs.Fates.{Fate};
 ghost use Rattle.merge_spec.specs.Follows.{Calls};
 ghost use Rattle.merge_spec.specs.Fronts.{fronts_from, IsFront};
 ghost use Rattle.merge_spec.specs.Merge.{AreMerged};

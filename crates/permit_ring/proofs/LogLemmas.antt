@@ -1,7 +1,10 @@
 -- The log of a seat and what became of tickets, with one call or one ticket more.
-use Rattle.permit_ring.proofs.Names.{◌≡◌, ◌≢◌, ℕ, zero, suc, ◌+◌, ◌<◌, ◌≤◌, ◌⊎◌, Bool, true, false, cond, List, [], ◌∷◌, ◌++◌, set, Option, Some, None, refl, sym, ◌∙◌, ap, inl, inr, eqb, eq-eqb, ne_eqb, eqb-true, arith, lt-ltb, le-ltb, common_steps, append-nil, at_snoc, PermitWord, Outcome, Lost, Got, start_of, end_of, RisesFrom, end_from, got_of, taken_by, StandsIn, and_lost}
+use Rattle.permit_ring.proofs.Names.{◌≡◌, ◌≢◌, ℕ, zero, suc, ◌+◌, ◌<◌, ◌≤◌, ◌⊎◌, Bool, true, false, cond, List, [], ◌∷◌, ◌++◌, set, Option, Some, None, refl, sym, ◌∙◌, ap, inl, inr, eqb, eq-eqb, ne_eqb, eqb-true, arith, lt-ltb, le-ltb, common_steps, append-nil, at_snoc, at_map, map, PermitWord, Outcome, Lost, Got, start_of, end_of, RisesFrom, end_from, got_of, taken_by, StandsIn, and_lost}
 use mathlib.Core.Option.{some, some-injective}
 use lib.ListN.{get_elem?}
+use Rattle.ids_types.specs.Fates.{lost}
+use Rattle.ids_types.proofs.FatesLemmas.{fate_within, fates_in_order}
+use Rattle.permit_ring.specs.Logs.{fate_of}
 
 module _ {N : Type 0} where
   -- a call that does not stand before the last one's end
@@ -89,34 +92,23 @@ module _ {N : Type 0} where
     | inr later ↦ let rest = taken_from i (suc from) fates later.0 t x later.1 in (suc rest.0, omega arith, rest.2)
   ]
 
-  -- no call ends before it starts
-  start_end : (r : Outcome N) → start_of r ≤ end_of r
-  start_end r = grind arith
-
-  -- no call stands below where its log begins
-  above_low : (low : ℕ) (log : List (Outcome N)) (l : ℕ) (b : Outcome N) → RisesFrom low log → get_elem? log l ≡ some b → low ≤ start_of b
-  above_low low [] l b rises e = cc
-  above_low low (r ∷ log) zero b rises e = rw (← some-injective r b e) rises.0
-  above_low low (r ∷ log) (suc l) b rises e = omega (arith, start_end r, above_low (end_of r) log l b rises.1 e)
-
-  -- nor before the end of one before it
+  -- no call stands before the end of one before it
   pub rises_apart : (low : ℕ) (log : List (Outcome N)) (j l : ℕ) (a b : Outcome N) → RisesFrom low log → j < l → get_elem? log j ≡ some a
       → get_elem? log l ≡ some b → end_of a ≤ start_of b
-  rises_apart low (r ∷ log) zero (suc l) a b rises less ea eb = rw (← some-injective r a ea) (above_low (end_of r) log l b rises.1 eb)
-  rises_apart low (r ∷ log) (suc j) (suc l) a b rises less ea eb = rises_apart (end_of r) log j l a b rises.1 (omega arith) ea eb
-  rises_apart low _ _ _ a b rises less ea eb = grind arith
+  rises_apart low log j l a b rises less ea eb =
+      fates_in_order low (map fate_of log) j l (fate_of a) (fate_of b) rises (at_map fate_of log j a ea) (at_map fate_of log l b eb) less
 
-  -- the end of the last is above where the log begins
-  low_to_end : (low : ℕ) (log : List (Outcome N)) → RisesFrom low log → low ≤ end_from low log
-  low_to_end low [] rises = omega arith
-  low_to_end low (r ∷ log) rises = omega (arith, start_end r, low_to_end (end_of r) log rises.1)
-
-  -- and above that of each
+  -- and the end of the last is that of each, or above it
   pub within_end : (low : ℕ) (log : List (Outcome N)) (j : ℕ) (a : Outcome N) → RisesFrom low log → get_elem? log j ≡ some a
       → end_of a ≤ end_from low log
-  within_end low [] j a rises e = cc
-  within_end low (r ∷ log) zero a rises e = rw (← some-injective r a e) (low_to_end (end_of r) log rises.1)
-  within_end low (r ∷ log) (suc j) a rises e = within_end (end_of r) log j a rises.1 e
+  within_end low log j a rises e = (fate_within low (map fate_of log) j (fate_of a) rises (at_map fate_of log j a e)).1
+
+  -- a lost fate is that of a lost call
+  pub lost_in : (log : List (Outcome N)) (j g : ℕ) → get_elem? (map fate_of log) j ≡ some (lost g) → get_elem? log j ≡ some (Lost g)
+  lost_in [] j g at = cc
+  lost_in (Lost its ∷ log) zero g at = cc
+  lost_in (Got t x ∷ log) zero g at = cc
+  lost_in (r ∷ log) (suc j) g at = lost_in log j g at
 
 abbrev Fates : Type 0 → Type 0
 Fates N = List (Option (ℕ × N))

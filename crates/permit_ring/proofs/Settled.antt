@@ -2,7 +2,10 @@
 use Rattle.permit_ring.proofs.Names.{◌≡◌, ◌≢◌, ℕ, zero, suc, ◌+◌, ◌-◌, ◌%◌, ◌<◌, is_some, List, [], ◌∷◌, ◌++◌, map, length, get_or, sum_by, Option, Some, None, refl, sym, ◌∙◌, ap, ap₂, subst, inl, inr, mod-lt, arith, cases_lt, false≢true, common_steps, length-map, nil_from_length, sum_by-cons, at_longer, at_map, State, SeatView, Key, KeeperMemo, Got, SeatMemo, Slot, View, OfferTells, AreAllBack, IsAllReaped, IsSettled, IsWholeLog, marks_back, taken_by, StandsIn, Runs, Machine, marks_of, new_seat, nobody, mark_at, seat_at, Holds, IsRing, all_but_a_turn_reaped, live_is_made, one_turn}
 use mathlib.Core.Option.{some}
 use lib.ListN.{get_elem?}
-use Rattle.permit_ring.proofs.LogLemmas.{got_from, taken_in, within_end}
+use Rattle.ids_types.specs.Fates.{lost}
+use Rattle.ids_types.proofs.FatesLemmas.{decided_on}
+use Rattle.permit_ring.specs.Logs.{fate_of}
+use Rattle.permit_ring.proofs.LogLemmas.{got_from, lost_in, taken_in, within_end}
 use Rattle.permit_ring.proofs.States.{ring_of}
 
 -- where each ticket has its note, something became of each
@@ -60,7 +63,7 @@ more_fronts fronts next g f = (f.0, at_longer fronts (next ∷ []) f.0 g f.1)
 module _ {N : Type 0} where
   -- what is settled is all reaped
   pub settled_is_reaped : (k : KeeperMemo N) → IsSettled k → IsAllReaped k
-  settled_is_reaped k s i memo at = rw (s.notes_are, length-map) (s.logs_are i memo at).within
+  settled_is_reaped k s i memo at = rw (s.notes_are, length-map) (s.logs_are i memo at).decided.within
 
   -- an offer changes nothing of what is settled but the fronts
   module _ (limit count tries : ℕ) (old new : KeeperMemo N) (tells : OfferTells limit count old tries new) where
@@ -75,7 +78,12 @@ module _ {N : Type 0} where
       taken = s.taken;
       notes_are = s.notes_are;
       seats_are = s.seats_are;
-      logs_are = λ i memo e. let its = s.logs_are i memo e in search (more_fronts, its, its.lost_at_front);
+      logs_are = λ i memo e. let its = s.logs_are i memo e in record {
+        number_is = its.number_is;
+        calls_are = its.calls_are;
+        decided = decided_on its.decided (more_fronts old.fronts (old.offered + count));
+        got = its.got;
+      };
     }
 
 module _ {O D T N : Type 0} {note : D → N} {Ao : T → O → Type 0} {An : T → N → Type 0} {key : Key T} {s : State (Slot O D) (View T N)}
@@ -103,7 +111,14 @@ module _ {O D T N : Type 0} {note : D → N} {Ao : T → O → Type 0} {An : T �
   whole_log taken all i memo at =
       let p = r.each_seat i (Some memo) at in
       let seat = rw (← shown i memo at) at ((ring_of r).seats.each i) in
-      grind (arith, common_steps, p, seat, r.are_fates.each_claimed, all, length-map taken Some)
+      let front = λ (j g : ℕ) (e : get_elem? (map fate_of memo.log) j ≡ some (lost g)). p.2.lost_at_front j g (lost_in memo.log j g e) in
+      let claimed : r.machine.word.claimed ≡ length taken = sym r.are_fates.each_claimed ∙ ap length all ∙ length-map taken Some in
+      record {
+        number_is = p.0;
+        calls_are = grind (arith, common_steps, p, seat);
+        decided = record { rises = p.2.ordered.rises; within = omega (arith, p.2.below_claims, claimed); at_front = front };
+        got = grind (arith, p, all);
+      }
 
   -- and where the next ticket is not finished, nothing is left
   pub settled : mark_at r.machine.marks (r.machine.reaped % r.machine.positions) ≢ r.machine.reaped + 1 → AreAllBack r.keeper

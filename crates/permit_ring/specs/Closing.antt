@@ -3,8 +3,9 @@ use Rattle.std.specs.Prelude.{◌≡◌, ℕ, zero, suc, ◌<◌, ◌≤◌, Lis
 use mathlib.Core.Option.{some}
 use lib.ListN.{get_elem?}
 use Rattle.ring_core.specs.Machine.{marks_of}
-use Rattle.permit_ring.specs.Names.{KeeperMemo, SeatMemo, Lost}
-use Rattle.permit_ring.specs.Logs.{RisesFrom, end_from, got_of, taken_by}
+use Rattle.ids_types.specs.Fates.{AreAllDecided}
+use Rattle.permit_ring.specs.Names.{KeeperMemo, SeatMemo}
+use Rattle.permit_ring.specs.Logs.{end_from, fate_of, got_of, taken_by}
 use Rattle.permit_ring.specs.Rule.{StandsIn}
 
 module _ {N : Type 0} where
@@ -20,11 +21,9 @@ module _ {N : Type 0} where
   pub record IsWholeLog (fronts : List ℕ) (taken : List (ℕ × N)) (i : ℕ) (memo : SeatMemo N) : Type 0 where
     pub number_is : memo.number ≡ i
     pub calls_are : memo.view.calls ≡ length memo.log
-    pub rises : RisesFrom 0 memo.log
-    pub within : end_from 0 memo.log ≤ length taken
+    pub decided : AreAllDecided (length taken) (StandsIn fronts) (map fate_of memo.log)
     -- it got just the tickets that are its own
     pub got : got_of memo.log ≡ taken_by i 0 (map Some taken)
-    pub lost_at_front : (j g : ℕ) → get_elem? memo.log j ≡ some (Lost g) → StandsIn fronts g
 
   -- all that was claimed was reaped: the notes are the logs of all seats merged, each ticket once
   pub record IsSettled (k : KeeperMemo N) : Type 0 where

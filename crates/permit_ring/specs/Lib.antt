@@ -14,7 +14,7 @@ pub mod Told
 pub use Rattle.permit_ring.specs.Calls.{ClaimTells, ReapTells, reaps_all, ReapsToEnd, TriesTell, OfferTells, OffersAll, claimed_at, ticket_got, vacant_after}
 pub use Rattle.permit_ring.specs.Closing.{AreAllBack, AreAllSwept, IsAllReaped, IsWholeLog, IsSettled, marks_back}
 pub use Rattle.permit_ring.specs.Hands.{hand_from, filled_then, AllAdmitted}
-pub use Rattle.permit_ring.specs.Logs.{start_of, end_of, RisesFrom, end_from, got_of, taken_by, undecided, IsOrdered}
+pub use Rattle.permit_ring.specs.Logs.{fate_of, start_of, end_of, RisesFrom, end_from, got_of, taken_by, undecided, IsOrdered}
 pub use Rattle.permit_ring.specs.Making.{IsUntouched, made_memo, IsNewSeat, AreNewSeats}
 pub use Rattle.permit_ring.specs.Moves.{found_at, move, Leads, is_of_seat, is_of_keeper, by_seat, by_keeper}
 pub use Rattle.permit_ring.specs.Names.{SeatView, Step, Look, Claim, Finish, See, Read, Offer, Mark, Sweep, Split, Join, PermitWord, Key, KeeperMemo, Move, Outcome, Lost, Got, SeatMemo, Slot, Empty, Offered, Finished, View, Sits, Keeps, Spent, Ring, Seat}

@@ -1,28 +1,30 @@
 -- What became of the calls of a seat, and of the tickets of a ring.
-use Rattle.std.specs.Prelude.{◌≡◌, ℕ, suc, ◌+◌, ◌≤◌, ◌==◌, ◌||◌, is_some, if◌then◌else◌, List, [], ◌∷◌, length, Option, Some, None}
+use Rattle.std.specs.Prelude.{◌≡◌, ℕ, suc, ◌+◌, ◌≤◌, ◌==◌, ◌||◌, is_some, if◌then◌else◌, List, [], ◌∷◌, map, length, Option, Some, None}
+use Rattle.ids_types.specs.Fates as fates
+use Rattle.ids_types.specs.Fates.{Fate, lost, accepted, FatesFrom}
 use Rattle.ring_core.specs.Sound.{Holds}
 use Rattle.permit_ring.specs.Names.{SeatView, Outcome, Lost, Got, SeatMemo}
 
 module _ {N : Type 0} where
-  -- a lost call stands where the claims were then, and a call that got a ticket at its ticket
-  abbrev pub start_of : Outcome N → ℕ
-  start_of (Lost g) = g
-  start_of (Got t x) = t
+  -- what became of a call, without its note
+  abbrev pub fate_of : Outcome N → Fate
+  fate_of (Lost g) = lost g
+  fate_of (Got t x) = accepted t
 
-  -- the least place at which the seat's next call may stand
+  -- where a call stands, and the least place at which the seat's next one may
+  abbrev pub start_of : Outcome N → ℕ
+  start_of r = fates.start_of (fate_of r)
+
   abbrev pub end_of : Outcome N → ℕ
-  end_of (Lost g) = g
-  end_of (Got t x) = t + 1
+  end_of r = fates.end_of (fate_of r)
 
   -- no call stands before the end of the one before it
   abbrev pub RisesFrom : ℕ → List (Outcome N) → Type 0
-  RisesFrom low [] = Unit {0}
-  RisesFrom low (r ∷ log) = (low ≤ start_of r) × RisesFrom (end_of r) log
+  RisesFrom low log = FatesFrom low (map fate_of log)
 
   -- the end of the last call
   abbrev pub end_from : ℕ → List (Outcome N) → ℕ
-  end_from low [] = low
-  end_from low (r ∷ log) = end_from (end_of r) log
+  end_from low log = fates.end_from low (map fate_of log)
 
   -- the tickets that a log got, with their notes
   abbrev pub got_of : List (Outcome N) → List (ℕ × N)

@@ -3,17 +3,17 @@ use Rattle.std.specs.Prelude.{◌≡◌, ℕ, Option, Some, List, [], length, ma
 use mathlib.Core.Option as maybe
 use mathlib.Core.Option.{some, none}
 use lib.ListN.{get_elem?}
-use Rattle.merge_spec.specs.Fates.{Fate}
+use Rattle.ids_types.specs.Fates.{Fate}
 use Rattle.merge_spec.specs.Follows.{Follows}
 use Rattle.permit_ring.specs.Closing.{IsSettled}
+use Rattle.permit_ring.specs.Logs.{fate_of}
 use Rattle.buffer_classes.specs.declared.giver.Giver.{Giver}
 use Rattle.buffer_classes.specs.{AreGiversOf, givers_of, giver_memo}
 use Rattle.buffer_classes.specs.Names as classes
 use Rattle.report_queue.specs.Parts as queue
 use Rattle.report_queue.specs.{IsTakerOf, taker_memo}
-use Rattle.report_queue.specs.declared.cargo.Item.{Item}
-use Rattle.report_api.specs.Names.{Act, DeskMemo, PassMemo}
-use Rattle.report_api.specs.Passes.{IsShared, calls_in, fate_of, lost_contexts, missing_in, sizes_of}
+use Rattle.report_api.specs.Names.{DeskMemo, PassMemo}
+use Rattle.report_api.specs.Passes.{IsShared, calls_in, lost_contexts, missing_in, sizes_of}
 use Rattle.report_api.specs.declared.desk.Desk.{Desk}
 use Rattle.report_api.specs.declared.shared.Shared.{Shared}
 
@@ -24,10 +24,6 @@ desk_memo desk = taker_memo desk.taker
 -- how many items were taken whose positions are not given back
 abbrev pub to_give_back : Desk → ℕ
 to_give_back desk = queue.to_give_back desk.taker
-
--- an item that is taken is told as it is
-abbrev pub same_item : Item Act → Item Act
-same_item item = item
 
 -- what a claimant asked of a class, as it came back; nothing where it did not
 abbrev pub back_log : maybe.Option (Option classes.SeatMemo) → List classes.Outcome

@@ -2,11 +2,11 @@
 use Rattle.std.specs.Prelude.{◌≡◌, ℕ, ◌+◌, ◌≤◌, Option, Some, None, List, [], ◌∷◌, length, map}
 use Rattle.ids_types.specs.Carries.{act_by}
 use Rattle.ids_types.specs.declared.entry.Act.{Act as ActOver}
-use Rattle.merge_spec.specs.Fates.{Fate, lost, accepted}
+use Rattle.ids_types.specs.Fates.{Fate}
 use Rattle.merge_spec.specs.Follows.{Calls, Follows}
 use Rattle.buffer_classes.specs.{class_sizes, IsClaimSeatOf, claimant_of, claims_of, log_of}
 use Rattle.buffer_classes.specs.Seats as classes
-use Rattle.permit_ring.specs.declared.memo.Outcome.{Outcome as OutcomeOf}
+use Rattle.permit_ring.specs.Logs.{fate_of}
 use Rattle.report_queue.specs.Parts.{IsCallerOf, caller_memo, caller_number, queue_terms, ticket_of}
 use Rattle.report_api.specs.Names.{Act, Report, Missing, Outcome, PassMemo, Lost, Got}
 use Rattle.report_api.specs.Terms.{term_sizes}
@@ -49,11 +49,6 @@ call_of (Got ticket item) = Some (plain_act item.payload)
 -- all calls of a log
 abbrev pub calls_in : List Outcome → Calls
 calls_in log = map call_of log
-
--- what became of a call at a ring
-abbrev pub fate_of : {N : Type 0} → OutcomeOf N → Fate
-fate_of (Lost claimed) = lost claimed
-fate_of (Got ticket note) = accepted ticket
 
 -- what a pass asked of class i
 abbrev pub asks_of : Pass → ℕ → List Fate

@@ -1,10 +1,10 @@
 //! Where the one who takes the reports sits.
-ghost use Rattle.std.specs.Prelude.{◌≡◌, ◌<◌, ◌≤◌, ◌^◌, [], length, sum, vec_capacity, IfErr, IfOk};
+ghost use Rattle.std.specs.Prelude.{◌≡◌, ◌<◌, [], length, vec_capacity, IfOk};
 ghost use Rattle.buffer_classes.specs.{AllOf, AreBuffersIn, GaveBack, Welcomed, givers_of, late_of};
-ghost use Rattle.report_queue.specs.{OffersAll, ReapTells, sweeps, vacant_after, welcomes, AreAllBack, AreAllSwept, IsAllTaken, queue_positions, queue_seats};
-ghost use Rattle.report_api.specs.Desks.{EachSettled, IsDeskOf, desk_memo, same_item, to_give_back};
-ghost use Rattle.report_api.specs.Passes.{IsPassOf, pass_memo, sizes_of};
-ghost use Rattle.report_api.specs.Terms.{AdmitsItem};
+ghost use Rattle.report_queue.specs.{AreAllBack, GivesBack, Sweeps, Takes, Welcomes};
+ghost use Rattle.report_api.specs.Desks.{EachSettled, IsDeskOf, desk_memo};
+ghost use Rattle.report_api.specs.Passes.{IsPassOf, sizes_of};
+ghost use Rattle.report_api.specs.Terms.{AdmitsAct, AdmitsItem};
 
 use crate::pass::Pass;
 use crate::shared::{Reports, Shared};
@@ -28,10 +28,8 @@ impl Desk {
     pub fn sweep(&mut self, shared: &Shared) -> (u64, u64)
         requires mine { IsDeskOf shared.now self.old }
         ensures mine { IsDeskOf shared.now self.new }
-        ensures told { desk_memo self.new ≡ sweeps 1 result.1 (sweeps 0 result.0 (desk_memo self.old)) }
-        ensures bounds { (sum (desk_memo self.new).swept0 ≤ 2 ^ 45) × (sum (desk_memo self.new).swept1 ≤ 2 ^ 45) }
-        ensures all_swept { AreAllBack (desk_memo self.old) → AreAllSwept 0 (desk_memo self.new) × AreAllSwept 1 (desk_memo self.new) }
-        ensures same { (to_give_back self.new ≡ to_give_back self.old) × (self.new.givers ≡ self.old.givers) }
+        ensures swept { Sweeps shared.now.queue self.old.taker result self.new.taker }
+        ensures same { self.new.givers ≡ self.old.givers }
     {
         self.taker.sweep(&shared.queue)
     }
@@ -42,13 +40,8 @@ impl Desk {
     pub fn take(&mut self, shared: &Shared) -> Result<Item<Act<CtxBuf>>, Unready>
         requires mine { IsDeskOf shared.now self.old }
         ensures mine { IsDeskOf shared.now self.new }
-        ensures told { ReapTells same_item (desk_memo self.old) result (desk_memo self.new) }
+        ensures took { Takes shared.now.queue self.old.taker (λ act. act) AdmitsAct result self.new.taker }
         ensures admitted { IfOk result (AdmitsItem shared.now.terms) }
-        ensures counts { to_give_back self.new ≡ vacant_after (to_give_back self.old) result }
-        ensures few { to_give_back self.new ≤ queue_positions shared.now.queue }
-        ensures within { length (desk_memo self.new).notes ≤ 2 ^ 45 }
-        ensures over { IfOk result (λ _. AreAllBack (desk_memo self.old) → ¬ IsAllTaken (desk_memo self.old)) }
-        ensures all_taken { IfErr result (λ _. AreAllBack (desk_memo self.old) → IsAllTaken (desk_memo self.new)) }
         ensures same { self.new.givers ≡ self.old.givers }
     {
         self.taker.take(&shared.queue)
@@ -60,8 +53,7 @@ impl Desk {
         requires mine { IsDeskOf shared.now self.old }
         requires back { AreBuffersIn (sizes_of shared.now) back.old.items }
         ensures mine { IsDeskOf shared.now self.new }
-        ensures told { OffersAll (queue_positions shared.now.queue) (queue_seats shared.now.queue) (to_give_back self.old) (desk_memo self.old) (desk_memo self.new) }
-        ensures counts { to_give_back self.new ≡ 0 }
+        ensures places { GivesBack shared.now.queue self.old.taker self.new.taker }
         ensures gave { AllOf (GaveBack back.old.items) (givers_of self.old.givers) (givers_of self.new.givers) }
         ensures settled { AreAllBack (desk_memo self.old) → EachSettled self.new }
         ensures empty { back.new.items ≡ [] }
@@ -84,8 +76,7 @@ impl Desk {
         requires mine { IsDeskOf shared.now self.old }
         requires pass { IsPassOf shared.now pass }
         ensures mine { IsDeskOf shared.now self.new }
-        ensures told { desk_memo self.new ≡ welcomes (pass_memo pass) (desk_memo self.old) }
-        ensures counts { to_give_back self.new ≡ to_give_back self.old }
+        ensures came { Welcomes shared.now.queue self.old.taker pass.seat self.new.taker }
         ensures givers { AllOf (Welcomed pass.claimant) (givers_of self.old.givers) (givers_of self.new.givers) }
     {
         self.taker.welcome(&shared.queue, pass.seat);

@@ -1,11 +1,13 @@
 -- What was taken once all callers are back, from what the ring's keeper knows.
-use Rattle.std.proofs.Common.{◌≡◌, ℕ, zero, suc, ◌<◌, ◌==◌, if◌then◌else◌, true, is_some, List, [], ◌∷◌, map, length, Option, Some, None, refl, sym, ap, ap₂, ◌∙◌, subst, true≢false, inl, inr, eq-zero-or-pos, arith}
+use Rattle.std.proofs.Common.{◌≡◌, ℕ, zero, suc, ◌+◌, ◌<◌, ◌==◌, if◌then◌else◌, true, is_some, List, [], ◌∷◌, map, length, Option, Some, None, refl, sym, ap, ap₂, ◌∙◌, subst, true≢false, inl, inr, eq-zero-or-pos, arith}
 use Rattle.std.proofs.lemmas.List.{length-map}
 use mathlib.Core.Option.{some, some-injective, some-ne-none}
 use lib.ListN.{get_elem?}
 use Rattle.atomic_table.proofs.Lists.{at_map}
-use Rattle.report_queue.specs.{KeeperMemo, SeatMemo, Item, AreAllBack, OffersAll, IsAllTaken, IsWholeCaller, items_of}
-use Rattle.permit_ring.specs.{IsSettled, taken_by, waits}
+use Rattle.report_queue.specs.{KeeperMemo, SeatMemo, Item, AreAllBack, OffersAll, IsAllTaken, IsWholeCaller, NamesItsCalls, items_of}
+use Rattle.ids_types.specs.Fates.{AreAllDecided}
+use Rattle.ids_types.proofs.FatesLemmas.{decided_on}
+use Rattle.permit_ring.specs.{IsSettled, StandsIn, fate_of, taken_by, waits}
 use Rattle.permit_ring.proofs.{there, got_from, taken_in, more_fronts}
 use Rattle.permit_ring.proofs.Settled.{offer_keeps_back}
 use Rattle.report_queue.proofs.TakerLemmas.{NameTheirs}
@@ -46,8 +48,16 @@ module _ {N : Type 0} where
     whole_caller : (i : ℕ) (memo : SeatMemo (Item N)) → get_elem? k.back i ≡ some (Some memo)
         → IsWholeCaller k.fronts k.notes i memo
     whole_caller i memo at =
-        let own = same_items i 0 s.taken owner in
-        grind (arith, names i memo at, s.logs_are i memo at, s.notes_are, own, length-map s.taken (λ (x : ℕ × Item N). x.1))
+        let its = s.logs_are i memo at in
+        let notes = sym s.notes_are in
+        let long : length s.taken ≡ length k.notes = sym (length-map s.taken (λ (x : ℕ × Item N). x.1)) ∙ ap length notes in
+        record {
+          number_is = its.number_is;
+          calls_are = its.calls_are;
+          names = subst (λ n. NamesItsCalls n memo.log) its.number_is (names i memo at);
+          decided = subst (λ n. AreAllDecided n (StandsIn k.fronts) (map fate_of memo.log)) long its.decided;
+          accepted = its.got ∙ same_items i 0 s.taken owner ∙ ap (items_of i 0) notes;
+        }
 
     of_caller : (t : ℕ) (item : Item N) → get_elem? k.notes t ≡ some item → item.caller < length k.back
     of_caller t item e =
@@ -79,6 +89,12 @@ module _ {N : Type 0} (n seats count : ℕ) (old new : KeeperMemo (Item N)) (gav
     | inl none ↦ subst IsAllTaken (sym (gave.0 none)) is
     | inr more ↦ subst IsAllTaken (sym (gave.1 more).2.1.3) record {
       of_callers = is.of_callers;
-      whole = λ i caller e. let its = is.whole i caller e in search (more_fronts, its, its.lost_at_front);
+      whole = λ i caller e. let its = is.whole i caller e in record {
+        number_is = its.number_is;
+        calls_are = its.calls_are;
+        names = its.names;
+        decided = decided_on its.decided (more_fronts old.fronts (old.offered + count));
+        accepted = its.accepted;
+      };
     }
   ]

@@ -13,7 +13,7 @@ NameTheirs {N = N} back = (i : ℕ) (memo : SeatMemo (Item N)) → get_elem? bac
 module _ {N : Type 0} where
   -- where all that was put was taken, all is reaped
   pub taken_is_reaped : (k : KeeperMemo (Item N)) → IsAllTaken k → IsAllReaped k
-  taken_is_reaped k taken i memo e = (taken.whole i memo e).within
+  taken_is_reaped k taken i memo e = (taken.whole i memo e).decided.within
 
   pub names-welcome : (back : List (Option (SeatMemo (Item N)))) (memo : SeatMemo (Item N)) → NameTheirs back
       → NamesItsCalls memo.number memo.log → NameTheirs (set back memo.number (Some (ended memo)))

@@ -1,9 +1,10 @@
 -- What the taker knows once all callers are back.
-use Rattle.std.specs.Prelude.{◌≡◌, ℕ, suc, ◌<◌, ◌≤◌, ◌==◌, if◌then◌else◌, List, [], ◌∷◌, length, Some}
+use Rattle.std.specs.Prelude.{◌≡◌, ℕ, suc, ◌<◌, ◌==◌, if◌then◌else◌, List, [], ◌∷◌, map, length, Some}
 use mathlib.Core.Option.{some}
 use lib.ListN.{get_elem?}
-use Rattle.permit_ring.specs.{RisesFrom, end_from, got_of, StandsIn}
-use Rattle.report_queue.specs.Names.{KeeperMemo, Lost, SeatMemo, Item}
+use Rattle.ids_types.specs.Fates.{AreAllDecided}
+use Rattle.permit_ring.specs.{fate_of, got_of, StandsIn}
+use Rattle.report_queue.specs.Names.{KeeperMemo, SeatMemo, Item}
 use Rattle.report_queue.specs.Items.{NamesItsCalls}
 
 module _ {N : Type 0} where
@@ -17,11 +18,9 @@ module _ {N : Type 0} where
     pub number_is : caller.number ≡ i
     pub calls_are : caller.view.calls ≡ length caller.log
     pub names : NamesItsCalls i caller.log
-    pub rises : RisesFrom 0 caller.log
-    pub within : end_from 0 caller.log ≤ length items
+    pub decided : AreAllDecided (length items) (StandsIn fronts) (map fate_of caller.log)
     -- the items taken of it are those that its calls got, under the same tickets, in the order of its calls
     pub accepted : got_of caller.log ≡ items_of i 0 items
-    pub lost_at_front : (j g : ℕ) → get_elem? caller.log j ≡ some (Lost g) → StandsIn fronts g
 
   -- all that was put was taken
   pub record IsAllTaken (k : KeeperMemo (Item N)) : Type 0 where

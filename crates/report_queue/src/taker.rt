@@ -1,6 +1,6 @@
 //! The one who takes the items.
-ghost use Rattle.std.specs.Prelude.{◌≡◌, ◌^◌, ◌<◌, ◌≤◌, None, length, sum, IfOk, IfErr};
-ghost use Rattle.report_queue.specs.{ReapTells, OffersAll, vacant_after, sweeps, welcomes, AreAllBack, AreAllSwept, IsAllTaken, admits_item, item_note};
+ghost use Rattle.std.specs.Prelude.{◌≡◌, None};
+ghost use Rattle.report_queue.specs.{GivesBack, Sweeps, Takes, Welcomes};
 
 use crate::cargo::{Cargo, Item, Items};
 use crate::seat::{Queue, QueueSeat};
@@ -13,21 +13,14 @@ pub struct Taker<P: Cargo> {
 }
 
 impl<P: Cargo> Taker<P> {
-    ghost use Rattle.report_queue.specs.Parts.{IsCallerOf, IsTakerOf, caller_memo, queue_positions, queue_seats, queue_terms, taker_memo, ticket_of, to_give_back};
+    ghost use Rattle.report_queue.specs.Parts.{IsCallerOf, IsTakerOf, ticket_of};
 
     /// Takes the item of the next ticket. `Err` comes exactly where the mark that was read at this
     /// call's step is not that ticket's, and then nothing is taken. Once all callers are back, it
     /// comes only where all that was put was taken, and from then on always.
     pub fn take(&mut self, queue: &Queue<P>) -> Result<Item<P::Load>, Unready>
         requires mine { IsTakerOf queue.now self.old }
-        ensures mine { IsTakerOf queue.now self.new }
-        ensures told { ReapTells (item_note P.note) (taker_memo self.old) result (taker_memo self.new) }
-        ensures admitted { IfOk result (λ item. admits_item P.admits_note (queue_terms queue.now) (item_note P.note item)) }
-        ensures counts { to_give_back self.new ≡ vacant_after (to_give_back self.old) result }
-        ensures few { to_give_back self.new ≤ queue_positions queue.now }
-        ensures within { length (taker_memo self.new).notes ≤ 2 ^ 45 }
-        ensures over { IfOk result (λ _. AreAllBack (taker_memo self.old) → ¬ IsAllTaken (taker_memo self.old)) }
-        ensures all_taken { IfErr result (λ _. AreAllBack (taker_memo self.old) → IsAllTaken (taker_memo self.new)) }
+        ensures { Takes queue.now self.old P.note P.admits_note result self.new }
     {
         match self.keeper.reap(&queue.ring) {
             Ok(item) => {
@@ -42,11 +35,7 @@ impl<P: Cargo> Taker<P> {
     /// since they were last swept. Once all callers are back, all that they marked is swept.
     pub fn sweep(&mut self, queue: &Queue<P>) -> (u64, u64)
         requires mine { IsTakerOf queue.now self.old }
-        ensures mine { IsTakerOf queue.now self.new }
-        ensures told { taker_memo self.new ≡ sweeps 1 result.1 (sweeps 0 result.0 (taker_memo self.old)) }
-        ensures counts { to_give_back self.new ≡ to_give_back self.old }
-        ensures bounds { (sum (taker_memo self.new).swept0 ≤ 2 ^ 45) × (sum (taker_memo self.new).swept1 ≤ 2 ^ 45) }
-        ensures all_swept { AreAllBack (taker_memo self.old) → AreAllSwept 0 (taker_memo self.new) × AreAllSwept 1 (taker_memo self.new) }
+        ensures { Sweeps queue.now self.old result self.new }
     {
         let events = self.keeper.sweep(&queue.ring, 0);
         let contexts = self.keeper.sweep(&queue.ring, 1);
@@ -57,9 +46,7 @@ impl<P: Cargo> Taker<P> {
     /// taken it makes no step.
     pub fn give_back(&mut self, queue: &Queue<P>)
         requires mine { IsTakerOf queue.now self.old }
-        ensures mine { IsTakerOf queue.now self.new }
-        ensures told { OffersAll (queue_positions queue.now) (queue_seats queue.now) (to_give_back self.old) (taker_memo self.old) (taker_memo self.new) }
-        ensures counts { to_give_back self.new ≡ 0 }
+        ensures { GivesBack queue.now self.old self.new }
     {
         self.keeper.offer(&queue.ring);
     }
@@ -69,9 +56,7 @@ impl<P: Cargo> Taker<P> {
         requires mine { IsTakerOf queue.now self.old }
         requires seat { IsCallerOf queue.now seat }
         requires idle { ticket_of seat ≡ None }
-        ensures mine { IsTakerOf queue.now self.new }
-        ensures told { taker_memo self.new ≡ welcomes (caller_memo seat) (taker_memo self.old) }
-        ensures counts { to_give_back self.new ≡ to_give_back self.old }
+        ensures { Welcomes queue.now self.old seat self.new }
     {
         self.keeper.welcome(&queue.ring, seat.seat);
     }

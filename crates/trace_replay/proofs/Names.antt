@@ -26,7 +26,8 @@ pub use Rattle.merge_spec.specs.Rounds.{Asked, reports, changes, sets, last_tick
 pub use Rattle.permit_ring.proofs.ListLemmas.{there, at_length}
 pub use Rattle.report_api.specs.Desks.{desk_memo}
 pub use Rattle.report_api.specs.Names.{Act, Carried, Absent, Kept, Missing, Lost, Got, DeskMemo, PassMemo, Report, State, SetMode, Outcome}
-pub use Rattle.report_api.specs.Passes.{sizes_of, lost_events, pass_memo, call_of, calls_in, fate_of, missing_in, plain_act, misses_context as missed_by}
+pub use Rattle.permit_ring.specs.Logs.{fate_of}
+pub use Rattle.report_api.specs.Passes.{sizes_of, lost_events, pass_memo, call_of, calls_in, missing_in, plain_act, misses_context as missed_by}
 pub use Rattle.report_api.specs.declared.pass.Pass.{Pass}
 pub use Rattle.report_api.specs.declared.shared.Shared.{Shared}
 pub use Rattle.text_spec.proofs.JournalFacts.{flat_map-push}

@@ -30,8 +30,8 @@ loop-pass-preserved c =
     record {
       mine = c.welcome.ensures.mine;
       so_far = welcome_one c.args.shared.now passes left c.in-Some.pass (desk_memo c.args.desk.now) (desk_memo c.loop-pass.desk)
-          c.requires.passes so_far (desk_memo c.welcome.new.self) c.welcome.ensures.told;
-      counts = c.welcome.ensures.counts ∙ was.counts;
+          c.requires.passes so_far (desk_memo c.welcome.new.self) c.welcome.ensures.came.told;
+      counts = c.welcome.ensures.came.counts ∙ was.counts;
       givers = subst (λ n. AllOf (λ i. OnlyWelcomes n) (givers_of c.args.desk.now.givers) (givers_of c.welcome.new.self.givers)) one
           (only_more _ c.args.shared.now c.in-Some.pass _ _ _
           (is_pass c.args.shared.now passes left c.in-Some.pass (desk_memo c.args.desk.now) (desk_memo c.loop-pass.desk) c.requires.passes so_far)

@@ -27,7 +27,7 @@ pub with-self-requires-clause-entries : goal.with-self-requires-clause-entries
 with-self-requires-clause-entries g c =
     let taken = c.take_ready.new.items.items in
     let only = only_reaps (items_of taken) (desk_memo c.sweep-lost_events.new.self) in
-    let swept = ap (λ (k : DeskMemo). k.notes) c.sweep-lost_events.ensures.told in
+    let swept = ap (λ (k : DeskMemo). k.notes) c.sweep-lost_events.ensures.swept.told in
     let took = ap (λ (k : DeskMemo). k.notes) c.take_ready.ensures.took.run.2 in
     grind (arith, common_steps, c.requires.mine.totals_are, only.notes_are, swept, took, length-map taken item_of, c.take_ready.ensures.within)
 
@@ -43,9 +43,9 @@ returns-clause-turned g c =
     let makes : MakesTurn c.args.self.now.positions (desk_memo c.args.self.now.desk) taken (turn_by held head taken) (desk_memo c.give_back.new.self) =
     record {
       took = desk_memo c.take_ready.new.desk;
-      takes = subst (λ (k : DeskMemo). ReapsToEnd (items_of taken) k (desk_memo c.take_ready.new.desk)) c.sweep-lost_events.ensures.told
+      takes = subst (λ (k : DeskMemo). ReapsToEnd (items_of taken) k (desk_memo c.take_ready.new.desk)) c.sweep-lost_events.ensures.swept.told
           c.take_ready.ensures.took.run;
-      gives = rw (mine.positions_are, mine.desk_is.taker.seats_are, ← c.take_ready.ensures.counts) c.give_back.ensures.told;
+      gives = rw (mine.positions_are, mine.desk_is.taker.seats_are, ← c.take_ready.ensures.counts) c.give_back.ensures.places.told;
       entries_are = refl;
       few = omega (arith, c.take_ready.ensures.took.few, mine.positions_are);
     } in
@@ -56,8 +56,8 @@ returns-clause-turned g c =
       log_is = c.turn.ensures.logs;
       tick_is = refl;
       head_is = record {
-        lost_events = last_within _ _ _ (ap (λ (k : DeskMemo). k.swept0) c.sweep-lost_events.ensures.told) c.sweep-lost_events.ensures.bounds.0;
-        lost_contexts = last_within _ _ _ (ap (λ (k : DeskMemo). k.swept1) c.sweep-lost_events.ensures.told) c.sweep-lost_events.ensures.bounds.1;
+        lost_events = last_within _ _ _ (ap (λ (k : DeskMemo). k.swept0) c.sweep-lost_events.ensures.swept.told) c.sweep-lost_events.ensures.swept.bounds.0;
+        lost_contexts = last_within _ _ _ (ap (λ (k : DeskMemo). k.swept1) c.sweep-lost_events.ensures.swept.told) c.sweep-lost_events.ensures.swept.bounds.1;
         limited = c.limited.ensures.bound;
       };
       makes = makes;
@@ -65,7 +65,7 @@ returns-clause-turned g c =
       buffers = record {
         back = c.turn.new.back.items;
         same = out.2;
-        gave = search (rules, c.give_back.ensures.gave, c.take_ready.ensures.same, c.sweep-lost_events.ensures.same.1);
+        gave = search (rules, c.give_back.ensures.gave, c.take_ready.ensures.same, c.sweep-lost_events.ensures.same);
       };
       stands_then = λ config turns is. stands_more g.C.Chain.stands config turns _ _ _ taken is
           (c.turn.ensures.stands config turns is.chain_stands) c.requires.later makes mine.offered_is refl refl refl;
@@ -88,7 +88,7 @@ returns-clause-mine g c =
     record {
       desk_is = c.give_back.ensures.mine;
       positions_are = mine.positions_are;
-      none_taken = c.give_back.ensures.counts;
+      none_taken = c.give_back.ensures.places.counts;
       offered_is = offered_more _ _ _ _ _ turned.makes mine.offered_is;
       items_within = search rules;
       totals_are = totals_more _ _ _ _ _ turned.makes _ _ mine.totals_are (search (rules, c.with-self.ensures.entries)) c.with-self.ensures.lost_events c.with-self.ensures.lost_contexts;
@@ -110,17 +110,17 @@ returns-clause-quick g c =
 -- no sweep and no take brings a pass back
 pub returns-clause-all_taken : goal.returns-clause-all_taken
 returns-clause-all_taken g c = λ all.
-    let same = ap (λ (k : DeskMemo). k.back) c.sweep-lost_events.ensures.told in
-    taken_on _ _ _ _ _ c.give_back.ensures.told
+    let same = ap (λ (k : DeskMemo). k.back) c.sweep-lost_events.ensures.swept.told in
+    taken_on _ _ _ _ _ c.give_back.ensures.places.told
     (c.take_ready.ensures.all_taken (same_back (desk_memo c.sweep-lost_events.new.self) (desk_memo c.args.self.now.desk) same all))
 
 -- and nothing is swept behind the takes
 pub returns-clause-swept : goal.returns-clause-swept
 returns-clause-swept g c = λ all.
-    let swept = c.sweep-lost_events.ensures.all_swept all in
+    let swept = c.sweep-lost_events.ensures.swept.all_swept all in
     let only = only_reaps (items_of c.take_ready.new.items.items) (desk_memo c.sweep-lost_events.new.self) in
     let run = c.take_ready.ensures.took.run in
-    let gave = gave_of _ _ _ _ _ c.give_back.ensures.told in
+    let gave = gave_of _ _ _ _ _ c.give_back.ensures.places.told in
     let events = gave.swept0_is ∙ ap (λ (k : DeskMemo). k.swept0) run.2 ∙ only.swept0_is in
     let contexts = gave.swept1_is ∙ ap (λ (k : DeskMemo). k.swept1) run.2 ∙ only.swept1_is in
     let back = gave.back_is ∙ ap (λ (k : DeskMemo). k.back) run.2 ∙ only.back_is in
@@ -132,5 +132,5 @@ pub returns-clause-settled : goal.returns-clause-settled
 returns-clause-settled g c = λ all.
     let only = only_reaps (items_of c.take_ready.new.items.items) (desk_memo c.sweep-lost_events.new.self) in
     let same = ap (λ (k : DeskMemo). k.back) c.take_ready.ensures.took.run.2 ∙ only.back_is
-    ∙ ap (λ (k : DeskMemo). k.back) c.sweep-lost_events.ensures.told in
+    ∙ ap (λ (k : DeskMemo). k.back) c.sweep-lost_events.ensures.swept.told in
     c.give_back.ensures.settled (same_back (desk_memo c.take_ready.new.desk) (desk_memo c.args.self.now.desk) same all)

@@ -1,5 +1,7 @@
--- What became of a caller's calls on a ring.
-use Rattle.std.specs.Prelude.{ℕ, ◌+◌, ◌≤◌, List, [], ◌∷◌}
+-- What became of the calls of one who claims at a ring.
+use Rattle.std.specs.Prelude.{◌≡◌, ℕ, ◌+◌, ◌≤◌, List, [], ◌∷◌}
+use mathlib.Core.Option.{some}
+use lib.ListN.{get_elem?}
 
 -- a call was lost where so many tickets had been claimed, or it got this ticket
 pub data Fate : Type 0 where
@@ -31,3 +33,9 @@ abbrev pub claims_got : List Fate → List ℕ
 claims_got [] = []
 claims_got (lost claimed ∷ fates) = claims_got fates
 claims_got (accepted ticket ∷ fates) = ticket ∷ claims_got fates
+
+-- calls all of which are decided, where so many tickets were claimed: each in order, and lost only at such numbers
+pub record AreAllDecided (claimed : ℕ) (IsFront : ℕ → Type 0) (fates : List Fate) : Type 0 where
+  pub rises : FatesFrom 0 fates
+  pub within : end_from 0 fates ≤ claimed
+  pub at_front : (place number : ℕ) → get_elem? fates place ≡ some (lost number) → IsFront number
