@@ -31,9 +31,13 @@ pub record FitsTurn {B : Type 0} (held : B → List ℕ) (events : ℕ) (items :
   pub few : length items ≤ 1024
   pub acts : All (λ entry. FitsAct held events entry.act) items
 
--- the output, counted as where it is empty, has room for the entries with their bytes, and for a message of
--- 1,044 bytes for each of them, for each event and for three internal events
+-- how many bytes the messages of a turn have at most: 1,044 for each of so many entries and events, and for three
+-- internal events
+abbrev pub most_sent : ℕ → ℕ → ℕ
+most_sent entries events = 1044 * (entries + events + 3)
+
+-- the output, counted as where it is empty, has room for the entries with their bytes, and for the turn's messages
 pub record HasTurnRoom {B : Type 0} (held : B → List ℕ) (events : ℕ) (items : List (Entry B)) (out : Output) : Type 0 where
   pub entries : length items ≤ (room_of out).entries
   pub bytes : bytes_in held items ≤ (room_of out).bytes
-  pub sent : 1044 * (length items + events + 3) ≤ (room_of out).sent
+  pub sent : most_sent (length items) events ≤ (room_of out).sent

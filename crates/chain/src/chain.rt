@@ -5,8 +5,9 @@ ghost use Rattle.ids_types.specs.Turns.{Turn};
 ghost use Rattle.ids_config.specs.Parts.{Parts};
 ghost use Rattle.chain.specs.History.{last_tick, handed_of, rows_of, Sends};
 ghost use Rattle.chain.specs.Parcels.{HandsBack, IsShort, all_parcels};
-ghost use Rattle.chain.specs.Turning.{FitsTurn, HasTurnRoom, bytes_in, turn_by};
+ghost use Rattle.chain.specs.Turning.{FitsTurn, HasTurnRoom, bytes_in, most_sent, turn_by};
 
+use crate::logging::log_turn;
 use event_memory::Memory;
 use ids_types::{Entry, NoMemory, Parcel, TurnHead, TurnOut};
 
@@ -47,7 +48,40 @@ pub trait Chain<B: Parcel> {
         ensures { (config : Parts) (turns : List Turn) →
             stands self.now config turns → reverse result.now.rows ≡ rows_of config turns };
 
-    /// Takes a turn: its head and its items, whose parcels it keeps or hands back. Takes no memory.
+    /// Judges a turn: its head and its items, whose parcels it keeps or hands back. The output's messages are those
+    /// of the turn, and its log stays as it is. Takes no memory.
+    fn judge(
+        &mut self,
+        head: &TurnHead,
+        items: &mut Vec<Entry<B>>,
+        back: &mut Vec<B>,
+        out: &mut TurnOut,
+    )
+        requires fits { has_room self.old (length items.old.items) (bytes_in B.held items.old.items) ≡ true }
+        requires items { FitsTurn B.held (events self.old) items.old.items }
+        requires kept { All (IsShort B.held) (kept self.old) }
+        requires back { vec_len back.old + vec_len items.old + events self.old ≤ vec_capacity back.old }
+        requires out { most_sent (length items.old.items) (events self.old) ≤ (room_of out.old).sent }
+        // It stands for the turns with this one, where this tick is no earlier than the last, and sends what
+        // these have more to send.
+        ensures stands { (config : Parts) (turns : List Turn) → stands self.old config turns →
+            last_tick turns ≤ head.now.tick →
+            stands self.new config (turns ++ turn_by B.held head.now items.old.items ∷ []) }
+        ensures sends { (config : Parts) (turns : List Turn) → stands self.old config turns →
+            last_tick turns ≤ head.now.tick →
+            Sends config turns (turn_by B.held head.now items.old.items) out.new }
+        ensures log { out.new.log ≡ out.old.log }
+        ensures events { events self.new ≡ events self.old }
+
+        // Each parcel is kept or handed back, and no room is lowered.
+        ensures parcels { HandsBack (all_parcels items.old.items) (kept self.old) (kept self.new)
+            back.old.items back.new.items }
+        ensures items { items.new.items ≡ [] }
+        ensures items_room { vec_capacity items.old ≤ vec_capacity items.new }
+        ensures back_room { vec_capacity back.old ≤ vec_capacity back.new }
+        ensures out_room { room_of out.new ≡ room_of out.old };
+
+    /// Takes a turn: logs it, and judges it.
     fn turn(
         &mut self,
         head: &TurnHead,
@@ -60,8 +94,6 @@ pub trait Chain<B: Parcel> {
         requires kept { All (IsShort B.held) (kept self.old) }
         requires back { vec_len back.old + vec_len items.old + events self.old ≤ vec_capacity back.old }
         requires out { HasTurnRoom B.held (events self.old) items.old.items out.old }
-        // It stands for the turns with this one, where this tick is no earlier than the last, and sends what
-        // these have more to send.
         ensures stands { (config : Parts) (turns : List Turn) → stands self.old config turns →
             last_tick turns ≤ head.now.tick →
             stands self.new config (turns ++ turn_by B.held head.now items.old.items ∷ []) }
@@ -70,14 +102,16 @@ pub trait Chain<B: Parcel> {
             Sends config turns (turn_by B.held head.now items.old.items) out.new }
         ensures logs { out.new.log.turns ≡ turn_by B.held head.now items.old.items ∷ [] }
         ensures events { events self.new ≡ events self.old }
-
-        // Each parcel is kept or handed back, and no room is lowered.
         ensures parcels { HandsBack (all_parcels items.old.items) (kept self.old) (kept self.new)
             back.old.items back.new.items }
         ensures items { items.new.items ≡ [] }
         ensures items_room { vec_capacity items.old ≤ vec_capacity items.new }
         ensures back_room { vec_capacity back.old ≤ vec_capacity back.new }
-        ensures out_room { room_of out.new ≡ room_of out.old };
+        ensures out_room { room_of out.new ≡ room_of out.old }
+    {
+        log_turn(head, items, out);
+        self.judge(head, items, back, out);
+    }
 
     /// Where there is room for a turn, there is room for each smaller one.
     ghost smaller: { (chain : Self) (entries bytes fewer less : ℕ) → fewer ≤ entries → less ≤ bytes →

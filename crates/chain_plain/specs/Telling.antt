@@ -53,8 +53,6 @@ pub record HasDeskRoom (events : ℕ) (desk : Desk) : Type 0 where
   pub nothing_back : desk.back.items ≡ []
   pub items_room : 1024 ≤ vec_capacity desk.items
   pub back_room : 1024 + events ≤ vec_capacity desk.back
-  pub entries_room : 1024 ≤ (room_of desk.out).entries
-  pub bytes_room : 1024 * 1024 ≤ (room_of desk.out).bytes
   pub sent_room : 1044 * (1024 + events + 3) ≤ (room_of desk.out).sent
 
 -- nothing on it, and such room

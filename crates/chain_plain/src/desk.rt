@@ -11,7 +11,7 @@ ghost use Rattle.chain.specs.Turning.{FitsTurn, turn_by};
 ghost use Rattle.chain_plain.specs.Recorded.{CanTake, turn_with};
 ghost use Rattle.chain_plain.specs.Telling.{HasDeskRoom, IsReady};
 
-use chain::Chain;
+use chain::{Chain, most_sent};
 use ids_types::{Entry, EntryWalk, NoMemory, Plain, TurnHead, TurnOut};
 use std::alloc::Global;
 
@@ -21,19 +21,13 @@ const MOST_ENTRIES: u64 = 1024;
 /// How many bytes of context data a turn has at most: 1,024 for each entry.
 const MOST_BYTES: u64 = 1024 * MOST_ENTRIES;
 
-/// How many bytes a message has at most.
-const MOST_OF_A_MESSAGE: u64 = 1044;
-
-/// How many internal events a turn begins with at most.
-const MOST_HEADS: u64 = 3;
-
 /// Room for the entries of a turn, for the parcels that come back, and for what the turn gives.
 #[derive(Debug, Drop)]
 pub struct Desk<'h> {
     /// The entries of the next turn.
     pub items: Vec<Entry<Plain<'h>>>,
     pub back: Vec<Plain<'h>>,
-    /// What the last turn gave.
+    /// What the last turn sent. Its log stays empty.
     pub out: TurnOut,
 }
 
@@ -43,16 +37,10 @@ impl<'h> Desk<'h> {
         requires { events ≤ 256 }
         ensures { IfOk result (IsReady events) }
     {
-        let messages = MOST_ENTRIES + events + MOST_HEADS;
         Ok(Desk {
             items: Vec::with_capacity(alloc, MOST_ENTRIES as usize)?,
             back: Vec::with_capacity(alloc, (MOST_ENTRIES + events) as usize)?,
-            out: TurnOut::make(
-                alloc,
-                MOST_ENTRIES,
-                MOST_BYTES,
-                MOST_OF_A_MESSAGE * messages,
-            )?,
+            out: TurnOut::make(alloc, 0, 0, most_sent(MOST_ENTRIES, events))?,
         })
     }
 
@@ -100,7 +88,7 @@ impl<'h> Desk<'h> {
         ensures ready { OnOk result (IsReady (C.events chain.old) self.new) }
     {
         chain.reserve(MOST_ENTRIES, MOST_BYTES)?;
-        chain.turn(head, &mut self.items, &mut self.back, &mut self.out);
+        chain.judge(head, &mut self.items, &mut self.back, &mut self.out);
         self.back.clear();
         Ok(())
     }

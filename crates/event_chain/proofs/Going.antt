@@ -1,5 +1,5 @@
 -- What lasts while moments come one after another.
-use Rattle.event_chain.proofs.Names.{◌≡◌, ℕ, ◌+◌, ◌<◌, ◌≤◌, List, [], ◌∷◌, ◌++◌, length, get_or, map, drop, reverse, Some, add-one, drop-cons, ap, sym, subst, ◌∙◌, arith, rules, slice_get, range_with_len, reverse-append, entry_by, Output, Entry, Parts, Moment, act_moment, closes, head_moment, with_all, with_all-append, head_told, Head, Start, Filters, IsBehind, CanSend, HasPlaces, IsReady, SettledAt, Stays}
+use Rattle.event_chain.proofs.Names.{◌≡◌, ℕ, ◌+◌, ◌<◌, ◌≤◌, List, [], ◌∷◌, ◌++◌, length, get_or, map, drop, reverse, Some, add-one, drop-cons, drop-drop, ap, sym, subst, ◌∙◌, arith, rules, slice_get, range_with_len, reverse-append, entry_by, Output, Entry, Parts, Moment, act_moment, closes, head_moment, with_all, with_all-append, head_told, Head, Start, Filters, IsBehind, CanSend, HasPlaces, IsReady, SettledAt, Stays}
 use Rattle.std.proofs.lemmas.List.FromFn.{map-range_with_len_more}
 use Rattle.std.proofs.lemmas.Option.{get_or_from_slice_get, slice_get_within}
 
@@ -22,9 +22,14 @@ pub dropped_one : {A : Type 0} (xs : List A) (i : ℕ) (x : A) → slice_get xs 
 dropped_one xs i x is =
     drop_one xs i x (slice_get_within xs i x is) ∙ ap (λ y. y ∷ drop (i + 1) xs) (get_or_from_slice_get xs i x x is)
 
--- the last of a list that stands in reverse comes first
-pub popped : {A : Type 0} (old new : List A) (x : A) → old ≡ new ++ x ∷ [] → reverse old ≡ x ∷ reverse new
-popped old new x is = rw is (reverse-append new (x ∷ []))
+-- of two lists of one length with the same left, the next is the same, and what is left behind it
+pub same_next : {A : Type 0} (xs ys : List A) (i : ℕ) (x : A) → drop i xs ≡ drop i ys → length xs ≡ length ys → i < length xs
+    → x ≡ get_or xs i x → (x ≡ get_or ys i x) × (drop i ys ≡ x ∷ drop (i + 1) ys) × (drop (i + 1) xs ≡ drop (i + 1) ys)
+same_next xs ys i x same count low is =
+    let first = drop_one xs i x low in
+    let second = drop_one ys i x (omega (arith, count, low)) in
+    let it = is ∙ ap (λ left. get_or left 0 x) (sym first ∙ same ∙ second) in
+    (it, second ∙ ap (λ y. y ∷ drop (i + 1) ys) (sym it), sym (drop-drop 1 i xs) ∙ ap (drop 1) same ∙ drop-drop 1 i ys)
 
 module _ {B : Type 0} where
   -- the moments of entries

@@ -1,5 +1,5 @@
 -- The names of other crates and of this crate's specs that more than one of its proofs stands on.
-pub use Rattle.std.proofs.Common.{◌≡◌, ℕ, ◌≤◌, Bool, true, false, List, [], ◌∷◌, ◌++◌, length, Option, Some, None, IfSome, is_some, option_to_list, option_and_then, option_map, refl, arith, ◌+◌, ◌<◌, zero, suc, map, filter, sym, ap, subst, ◌∙◌, below_more, slice_set, if◌then◌else◌, rules, get_or, drop, reverse, add-one, drop-cons, append_assoc, append-nil, length-append, vec_capacity, ◌-◌, vec_len}
+pub use Rattle.std.proofs.Common.{◌≡◌, ℕ, ◌≤◌, Bool, true, false, List, [], ◌∷◌, ◌++◌, length, Option, Some, None, IfSome, is_some, option_to_list, option_and_then, option_map, refl, arith, ◌+◌, ◌<◌, zero, suc, map, filter, sym, ap, subst, ◌∙◌, below_more, slice_set, if◌then◌else◌, rules, get_or, drop, reverse, add-one, drop-cons, drop-drop, drop-set-lt, length-set, append_assoc, append-nil, length-append, vec_capacity, ◌-◌, vec_len}
 pub use Rattle.std.proofs.lemmas.Bool.Decides.{nat_tests}
 pub use Rattle.std.proofs.lemmas.Grind.{common_steps}
 pub use Rattle.std.proofs.lemmas.List.{length-map, set-get_or, reverse-append, get_or-map, get_or_past, drop_all}
@@ -32,6 +32,7 @@ pub use Rattle.ids_config.specs.Parts.{Parts, event_at, Event, index_of, interna
 pub use Rattle.ids_types.specs.Carries.{act_by, entry_by}
 pub use Rattle.ids_types.specs.Output.{Output}
 pub use Rattle.ids_types.specs.Turns.{Turn}
+pub use Rattle.ids_types.specs.declared.entry.Act.{Act}
 pub use Rattle.ids_types.specs.declared.entry.Entry.{Entry}
 pub use Rattle.ids_types.specs.declared.event.Qualified.{Qualified}
 pub use Rattle.ids_types.specs.declared.internal.Internal.{Internal}
@@ -43,7 +44,7 @@ pub use Rattle.sending.specs.Sending.{Start, Stands as SenderStands, start_of}
 pub use Rattle.event_chain.specs.Behind.{IsBehind, kept_told}
 pub use Rattle.event_chain.specs.Chained.{IsOneOf, IsSound, Chained}
 pub use Rattle.event_chain.specs.Flow.{CountingStands, Flows, joined_with, items_with, EndAt}
-pub use Rattle.event_chain.specs.Outlets.{OutletStands, Stores, naming_of}
+pub use Rattle.event_chain.specs.Outlets.{OutletStands, Stores}
 pub use Rattle.event_chain.specs.Ready.{Windowed, aggregating_in, is_aggregated, CanSend, HasPlaces, IsReady, SettledAt, Stays, AreOwn, HasEvent}
 pub use Rattle.event_chain.specs.Standing.{Stands}
 pub use Rattle.event_chain.specs.declared.filters.Filters.{Filters}

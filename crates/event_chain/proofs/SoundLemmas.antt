@@ -1,5 +1,5 @@
 -- How many parcels a chain keeps, and what holds of its fields when it is made and while it takes turns.
-use Rattle.event_chain.proofs.Names.{◌≡◌, ℕ, ◌<◌, ◌≤◌, Bool, true, List, [], ◌∷◌, ◌++◌, length, map, filter, is_some, Option, Some, None, option_map, option_to_list, refl, sym, ap, subst, ◌∙◌, arith, IsFalse, range_with_len, nat_tests, common_steps, get_or-map, get_or_past, length-map, Entry, Internal, Event, Parts, index_of, internal_of, plain_event, all_parcels, parcel_of, all_kept, Slot, fresh_slot, is_due, slot_at, GateStands, ThresholdsStand, source_of, SenderStands, Filters, IsOneOf, IsSound, Stores, naming_of, AreOwn, HasPlaces, SettledAt, aggregating_in, is_aggregated}
+use Rattle.event_chain.proofs.Names.{◌≡◌, ℕ, ◌<◌, ◌≤◌, Bool, true, List, [], ◌∷◌, ◌++◌, length, map, filter, is_some, Option, Some, None, option_map, option_to_list, refl, sym, ap, subst, ◌∙◌, arith, IsFalse, range_with_len, nat_tests, common_steps, get_or-map, get_or_past, length-map, Entry, Internal, Event, Parts, index_of, internal_of, plain_event, all_parcels, parcel_of, all_kept, Slot, fresh_slot, is_due, slot_at, GateStands, ThresholdsStand, source_of, SenderStands, Filters, IsOneOf, IsSound, Stores, AreOwn, HasPlaces, SettledAt, aggregating_in, is_aggregated}
 use Rattle.std.proofs.Math.Path.{fun_ext}
 use Rattle.ids_config.specs.Valid.{IsValid}
 use Rattle.ids_config.specs.Values.{is_within}
@@ -76,7 +76,6 @@ module _ {B : Type 0} where
           gate = λ k less. omega (arith, less, count, gate.events);
           has = λ k less. record {
             threshold = omega (arith, less, count, thresholds.events);
-            name = omega (arith, less, count, ap length stores.names, length-map events naming_of);
             source = omega (arith, less, count, ap length sender.sources, length-map events source_of);
           };
           own = subst (λ (ws : List (Slot B)). AreOwn ws) (sym slots) (own_fresh B events);

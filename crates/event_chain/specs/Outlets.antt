@@ -1,26 +1,15 @@
 -- Where qualified events go: the event memory, and the sender.
-use Rattle.std.specs.Prelude.{◌≡◌, ◌≤◌, List, map}
+use Rattle.std.specs.Prelude.{◌≡◌, List}
 use Rattle.ids_types.specs.Output.{Output}
-use Rattle.ids_config.specs.Parts.{Event, Parts}
+use Rattle.ids_config.specs.Parts.{Parts}
 use Rattle.chain_spec.specs.Items.{Item}
 use Rattle.chain_spec.specs.Storing.{stored}
 use Rattle.event_memory.specs.Held.{Stands as MemoryStands}
 use Rattle.sending.specs.Sending.{Start, IsSending}
-use Rattle.event_chain.specs.declared.naming.Naming.{Naming}
 use Rattle.event_chain.specs.declared.outlet.Outlet.{Outlet}
-
--- what the event memory tells of an event
-abbrev pub naming_of : Event → Naming
-naming_of event = record { id = event.id; sensor = event.sensor; store = event.store }
-
--- an event's id and sensor are in their ranges
-pub record IsNamed (event : Event) : Type 0 where
-  pub id : event.id ≤ 65535
-  pub sensor : event.sensor ≤ 63
 
 -- the event memory has stored what is to be stored of these qualified events
 pub record Stores (config : Parts) (items : List Item) (outlet : Outlet) : Type 0 where
-  pub names : outlet.names.items ≡ map naming_of config.events
   pub room : outlet.memory.room ≡ config.memory
   pub memory : MemoryStands outlet.memory (stored config items)
 

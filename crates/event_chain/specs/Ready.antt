@@ -13,7 +13,6 @@ use Rattle.event_chain.specs.declared.filters.Filters.{Filters}
 -- event k has its place in each list of the threshold filter and behind it
 pub record HasEvent (k : ℕ) (counting : Counting) : Type 0 where
   pub threshold : k < length counting.thresholds
-  pub name : k < length counting.outlet.names.items
   pub source : k < length counting.outlet.sender.sources
 
 -- an item can be counted

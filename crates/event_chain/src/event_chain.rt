@@ -96,7 +96,7 @@ impl<B: Parcel> Chain<B> for EventChain<B> {
         &self.filters.counting.outlet.memory
     }
 
-    fn turn(
+    fn judge(
         &mut self,
         head: &TurnHead,
         items: &mut Vec<Entry<B>>,
@@ -105,7 +105,7 @@ impl<B: Parcel> Chain<B> for EventChain<B> {
     ) {
         let tick = head.tick;
         let filters = &mut self.filters;
-        filters.begin(head, items, out);
+        filters.begin(out);
         filters.close_all(&self.aggregating, tick, back, out);
         filters.take_heads(&heads(&self.internal, head), tick, back, out);
         filters.take_entries(items, tick, back, out);

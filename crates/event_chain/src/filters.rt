@@ -9,7 +9,7 @@ ghost use Rattle.chain_spec.specs.Items.{Item, item_at, told_by};
 ghost use Rattle.chain_spec.specs.Moments.{Moment, act_moment, closes, comes};
 ghost use Rattle.chain_spec.specs.Windows.{EndBy};
 ghost use Rattle.chain.specs.Parcels.{HandsBack, IsShort, parcel_of};
-ghost use Rattle.chain.specs.Turning.{FitsAct, HasTurnRoom, turn_by};
+ghost use Rattle.chain.specs.Turning.{FitsAct, most_sent};
 ghost use Rattle.filter_aggregate.specs.Account.{all_kept};
 ghost use Rattle.filter_aggregate.specs.Slots.{is_due, slot_at};
 ghost use Rattle.sending.specs.Sending.{Start, TakesOne, start_of};
@@ -21,10 +21,10 @@ ghost use Rattle.event_chain.specs.Ready.{HasPlaces, IsReady, SettledAt, Stays, 
 
 use crate::counting::Counting;
 use crate::joining::{go_on, lent, pass};
-use chain::{give_back, kept, log_turn};
+use chain::{give_back, kept};
 use filter_aggregate::Windows;
 use filter_gate::{GateState, Verdict};
-use ids_types::{Act, Entry, EventIndex, Parcel, Qualified, TurnHead, TurnOut};
+use ids_types::{Act, EventIndex, Parcel, Qualified, TurnOut};
 
 /// All filters, one behind the other.
 #[derive(Debug, Drop)]
@@ -35,21 +35,19 @@ pub(crate) struct Filters<B> {
 }
 
 impl<B: Parcel> Filters<B> {
-    /// A turn begins: it is logged, and nothing is held back in it yet.
-    pub(crate) fn begin(&mut self, head: &TurnHead, items: &[Entry<B>], out: &mut TurnOut)
-        requires windows { length self.old.windows ≤ 256 }
-        requires items { length items.now ≤ 1024 }
-        requires out { HasTurnRoom B.held (length self.old.windows) items.now out.old }
-        ensures behind { (config : Parts) (tick : ℕ) (moments : List Moment)
-            → Rests B.held config tick moments self.old → tick ≤ head.now.tick
-            → IsBehind B.held config (start_of config (qualified config moments)) head.now.tick moments self.new out.new }
-        ensures logs { out.new.log.turns ≡ turn_by B.held head.now items.now ∷ [] }
+    /// A turn begins: nothing is sent in it yet, and nothing is held back.
+    pub(crate) fn begin(&mut self, out: &mut TurnOut)
+        ensures behind { (config : Parts) (before now : ℕ) (moments : List Moment)
+            → Rests B.held config before moments self.old → before ≤ now
+            → IsBehind B.held config (start_of config (qualified config moments)) now moments self.new out.new }
+        ensures log { out.new.log ≡ out.old.log }
         ensures room { room_of out.new ≡ room_of out.old }
-        ensures can { CanSend (length items.now + length self.old.windows + 3) self.new out.new }
+        ensures can { (entries events : ℕ) → entries ≤ 1024 → events ≤ 256 → most_sent entries events ≤ (room_of out.old).sent
+            → CanSend (entries + events + 3) self.new out.new }
         ensures places { HasPlaces self.old → HasPlaces self.new }
         ensures windows { self.new.windows ≡ self.old.windows }
     {
-        log_turn(head, items, out);
+        out.clear_messages();
         self.counting.outlet.sender.begin();
     }
 

@@ -11,7 +11,6 @@ mod counting;
 mod event_chain;
 mod filters;
 mod joining;
-mod naming;
 mod outlet;
 mod turns;
 

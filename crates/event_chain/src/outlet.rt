@@ -1,15 +1,13 @@
-ghost use Rattle.std.specs.Prelude.{◌≡◌, ◌<◌, ◌≤◌, ℕ, List, [], ◌∷◌, length, map, IfOk, IfSome};
-ghost use Rattle.std.specs.List.{All};
+ghost use Rattle.std.specs.Prelude.{◌≡◌, ◌<◌, ℕ, List, [], ◌∷◌, length, map, IfOk, IfSome};
 ghost use Rattle.ids_config.specs.Parts.{Parts};
 ghost use Rattle.chain_spec.specs.Items.{Item};
 ghost use Rattle.chain_spec.specs.Windows.{EndBy};
-ghost use Rattle.sending.specs.Sender.{CanQualify, IsShort};
+ghost use Rattle.sending.specs.Sender.{CanQualify, IsShort, source_of};
 ghost use Rattle.sending.specs.Sending.{Start, TakesOne, Stands as SenderStands};
-ghost use Rattle.event_chain.specs.Outlets.{Stores, OutletStands, IsNamed, naming_of};
+ghost use Rattle.event_chain.specs.Outlets.{Stores, OutletStands};
 
-use crate::naming::Naming;
 use event_memory::Memory;
-use ids_config::{Config, EventParts};
+use ids_config::Config;
 use ids_types::{Key, NoMemory, TurnOut};
 use sending::{Report, Sender};
 use std::alloc::Global;
@@ -17,8 +15,6 @@ use std::alloc::Global;
 /// Where qualified events go: into the event memory, and to the sender.
 #[derive(Debug, Drop)]
 pub(crate) struct Outlet {
-    /// One for each event.
-    pub(crate) names: Vec<Naming>,
     pub(crate) memory: Memory,
     pub(crate) sender: Sender,
 }
@@ -32,7 +28,6 @@ impl Outlet {
     {
         let parts = config.parts();
         Ok(Outlet {
-            names: names_of(alloc, &parts.events)?,
             memory: Memory::make(alloc, parts.memory as u16)?,
             sender: Sender::make(alloc, config)?,
         })
@@ -40,14 +35,12 @@ impl Outlet {
 
     /// Takes a qualified event.
     pub(crate) fn qualify(&mut self, report: &Report<'_>, out: &mut TurnOut)
-        requires name { report.now.event < length self.old.names.items }
         requires can { CanQualify self.old.sender report.now out.old }
         ensures stands { (config : Parts) (start : Start) (items : List Item)
             → OutletStands config start items self.old out.old
             → EndBy (λ item. item.tick) report.now.tick items
             → OutletStands config start (report.now ∷ items) self.new out.new }
         ensures one { TakesOne self.old.sender self.new.sender out.old out.new }
-        ensures names { self.new.names ≡ self.old.names }
     {
         self.store(report);
         self.sender.qualify(report, out);
@@ -55,21 +48,20 @@ impl Outlet {
 
     // Stores the event, where this is configured of it.
     fn store(&mut self, report: &Report<'_>)
-        requires name { report.now.event < length self.old.names.items }
+        requires event { report.now.event < length self.old.sender.sources }
         requires context { IfSome report.now.context IsShort }
-        ensures stores { (config : Parts) (items : List Item) → Stores config items self.old
-            → Stores config (report.now ∷ items) self.new }
-        ensures names { self.new.names ≡ self.old.names }
+        ensures stores { (config : Parts) (items : List Item) → self.old.sender.sources ≡ map source_of config.events
+            → Stores config items self.old → Stores config (report.now ∷ items) self.new }
         ensures sender { self.new.sender ≡ self.old.sender }
     {
-        let name = self.names[usize::from(report.event.0)];
-        if !name.store {
+        let source = self.sender.source(report.event);
+        if !source.store {
             return;
         }
         let key = Key {
             event: report.event,
-            id: name.id,
-            sensor: name.sensor,
+            id: source.id,
+            sensor: source.sensor,
         };
         let context = match report.context {
             Some(bytes) => bytes,
@@ -78,11 +70,4 @@ impl Outlet {
         self.memory
             .store(report.tick, key, report.count, report.stamp, context);
     }
-}
-
-fn names_of(alloc: Global, events: &[EventParts]) -> Result<Vec<Naming>, NoMemory>
-    requires { All IsNamed events.now }
-    ensures { IfOk result (λ names. names.items ≡ map naming_of events.now) }
-{
-    Ok(events.iter().map(Naming::of).collect(alloc)?)
 }

@@ -15,8 +15,9 @@ ghost use Rattle.event_chain.specs.Behind.{IsBehind};
 ghost use Rattle.event_chain.specs.Ready.{CanSend, HasPlaces, SettledAt, Stays, aggregating_in};
 
 use crate::filters::Filters;
-use ids_types::{Entry, EventIndex, Parcel, Qualified, TurnOut};
+use ids_types::{Act, Entry, EventIndex, Parcel, Qualified, TurnOut};
 use internal_events::HeadList;
+use std::mem::replace;
 
 impl<B: Parcel> Filters<B> {
     /// The windows of these events close, each where it is due at the tick.
@@ -109,9 +110,10 @@ impl<B: Parcel> Filters<B> {
         ensures items { items.new.items ≡ [] }
         ensures items_room { vec_capacity items.new ≡ vec_capacity items.old }
     {
-        items.reverse();
-        while let Some(entry) = items.pop() {
-            self.enter(tick, entry.act, back, out);
+        for i in 0..items.len() {
+            let act = replace(&mut items[i].act, Act::State(0));
+            self.enter(tick, act, back, out);
         }
+        items.clear();
     }
 }

@@ -1,9 +1,9 @@
 pub mod Bytes
 pub mod Context
 pub mod Decoding
-pub mod Frame
 pub mod Message
 pub mod MessageView
 pub mod Messages
 pub mod Reading
+pub mod Room
 pub mod Spelling

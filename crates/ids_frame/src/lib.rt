@@ -10,7 +10,7 @@
 //! bytes, and `Messages` as the list of those to be taken.
 //!
 //! No clause says what a call costs, or where a message's context and signature lie. No call takes
-//! memory. `encode` copies the context once, `decode` looks at each byte at most once, and
+//! memory. `encode` and `spell` copy the context once, `decode` looks at each byte at most once, and
 //! `Messages::read` goes over the bytes before each message is read again as it is taken.
 #![tactic(auto)]
 
@@ -21,6 +21,7 @@ mod measuring;
 mod message;
 mod messages;
 mod reading;
+mod room;
 mod writing;
 
 pub use context::{Context, Form};
@@ -28,4 +29,5 @@ pub use decoding::{decode, one_message, what_bytes_begin_with};
 pub use fault::{BadMessage, FrameFault};
 pub use message::Message;
 pub use messages::{Messages, what_a_file_holds};
-pub use writing::{MAX_BYTES, TooLong, encode};
+pub use room::Room;
+pub use writing::{MAX_BYTES, TooLong, encode, spell};

@@ -1,13 +1,13 @@
 //! A message's spelling, written part by part.
-ghost use Rattle.std.specs.Prelude.{◌≡◌, ℕ, ◌+◌, ◌≤◌, ◌<◌, ◌^◌, ◌++◌, ◌↔◌, length, IsOk, OnOk, OnErr, IfSome, option_copied};
-ghost use Rattle.arrayvec.specs.ArrayVec.{Extends};
+ghost use Rattle.std.specs.Prelude.{◌≡◌, ◌≤◌, ◌↔◌, length, IsOk, OnOk, OnErr, IfSome, option_copied};
 ghost use Rattle.ids_frame.specs.Context.{most_bytes};
-ghost use Rattle.ids_frame.specs.Frame.{CanAdd};
+ghost use Rattle.ids_frame.specs.Room.{PutsPiece};
 ghost use Rattle.ids_frame.specs.Spelling.{flag, header, event_part, stamp_part, length_in, context_part, signature_part, spelling};
 ghost use Rattle.ids_frame.specs.declared.writing.TheConstants.{MAX_BYTES};
 
 use crate::context::{Context, Form};
 use crate::message::Message;
+use crate::room::Room;
 use arrayvec::ArrayVec;
 use ids_types::Stamp;
 
@@ -28,30 +28,39 @@ pub fn encode(message: &Message<'_>, out: &mut ArrayVec<u8, MAX_BYTES>) -> Resul
         return Err(TooLong);
     }
     out.clear();
-    put_event(message, out);
-    put_stamp(message.stamp(), out);
-    put_context(&message.context(), out);
-    put_signature(message.signature(), out);
+    spell(message, out);
     Ok(())
 }
 
-fn put(piece: &[u8], out: &mut ArrayVec<u8, MAX_BYTES>)
-    requires { CanAdd out.old piece.now }
-    ensures { Extends out.old piece.now out.new }
+/// Puts the message's spelling behind what was written before.
+pub fn spell<R: Room>(message: &Message<'_>, room: &mut R)
+    requires { length (spelling message.now) ≤ R.left room.old }
+    ensures { PutsPiece R.left R.extends room.old (spelling message.now) room.new }
 {
-    out.try_extend_from_slice(piece).unwrap();
+    room.put(&event_of(message));
+    put_stamp(message.stamp(), room);
+    put_context(&message.context(), room);
+    put_signature(message.signature(), room);
 }
 
-fn put_event(message: &Message<'_>, out: &mut ArrayVec<u8, MAX_BYTES>)
-    requires { CanAdd out.old (event_part message.now) }
-    ensures { Extends out.old (event_part message.now) out.new }
+/// The event part, in its eight bytes.
+fn event_of(message: &Message<'_>) -> [u8; 8]
+    ensures { result ≡ event_part message.now }
 {
     let place = message.instance() * 64 + u16::from(message.sensor());
-    put(&[message.version() * 16 + header_of(message)], out);
-    put(&place.to_be_bytes(), out);
-    put(&message.event().to_be_bytes(), out);
-    put(&message.count().to_be_bytes(), out);
-    put(&[message.reserved()], out);
+    let [place_high, place_low] = place.to_be_bytes();
+    let [event_high, event_low] = message.event().to_be_bytes();
+    let [count_high, count_low] = message.count().to_be_bytes();
+    [
+        message.version() * 16 + header_of(message),
+        place_high,
+        place_low,
+        event_high,
+        event_low,
+        count_high,
+        count_low,
+        message.reserved(),
+    ]
 }
 
 fn header_of(message: &Message<'_>) -> u8
@@ -68,42 +77,43 @@ fn flag_of<T>(part: &Option<T>) -> u8
     u8::from(part.is_some())
 }
 
-fn put_stamp(stamp: Option<Stamp>, out: &mut ArrayVec<u8, MAX_BYTES>)
-    requires { CanAdd out.old (stamp_part stamp) }
-    ensures { Extends out.old (stamp_part stamp) out.new }
+fn put_stamp<R: Room>(stamp: Option<Stamp>, room: &mut R)
+    requires { length (stamp_part stamp) ≤ R.left room.old }
+    ensures { PutsPiece R.left R.extends room.old (stamp_part stamp) room.new }
 {
     if let Some(stamp) = stamp {
-        put(&stamp.0.to_be_bytes(), out);
+        room.put(&stamp.0.to_be_bytes());
     }
 }
 
-fn put_context(context: &Option<Context<'_>>, out: &mut ArrayVec<u8, MAX_BYTES>)
-    requires { CanAdd out.old (context_part context.now) }
-    ensures { Extends out.old (context_part context.now) out.new }
+fn put_context<R: Room>(context: &Option<Context<'_>>, room: &mut R)
+    requires { length (context_part context.now) ≤ R.left room.old }
+    ensures { PutsPiece R.left R.extends room.old (context_part context.now) room.new }
 {
     if let Some(context) = context {
-        put_length(context.form(), context.bytes().len(), out);
-        put(context.bytes(), out);
+        put_length(context.form(), context.bytes().len(), room);
+        room.put(context.bytes());
     }
 }
 
-fn put_length(form: Form, len: usize, out: &mut ArrayVec<u8, MAX_BYTES>)
+fn put_length<R: Room>(form: Form, len: usize, room: &mut R)
     requires fits { len ≤ most_bytes form }
-    requires room { CanAdd out.old (length_in form len) }
-    ensures { Extends out.old (length_in form len) out.new }
+    requires room { length (length_in form len) ≤ R.left room.old }
+    ensures { PutsPiece R.left R.extends room.old (length_in form len) room.new }
 {
     match form {
-        Form::Short => put(&[len as u8], out),
-        Form::Long => put(&(0x8000_0000 + len as u32).to_be_bytes(), out),
+        Form::Short => room.put(&[len as u8]),
+        Form::Long => room.put(&(0x8000_0000 + len as u32).to_be_bytes()),
     }
 }
 
-fn put_signature(signature: Option<&[u8]>, out: &mut ArrayVec<u8, MAX_BYTES>)
-    requires { CanAdd out.old (signature_part (option_copied signature)) }
-    ensures { Extends out.old (signature_part (option_copied signature.entry)) out.new }
+fn put_signature<R: Room>(signature: Option<&[u8]>, room: &mut R)
+    requires short { IfSome signature (λ bytes. length bytes.now ≤ 65535) }
+    requires room { length (signature_part (option_copied signature)) ≤ R.left room.old }
+    ensures { PutsPiece R.left R.extends room.old (signature_part (option_copied signature.entry)) room.new }
 {
     if let Some(bytes) = signature {
-        put(&(bytes.len() as u16).to_be_bytes(), out);
-        put(bytes, out);
+        room.put(&(bytes.len() as u16).to_be_bytes());
+        room.put(bytes);
     }
 }

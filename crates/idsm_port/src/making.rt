@@ -8,6 +8,7 @@ ghost use Rattle.idsm_port.specs.Roles.{caller_shares};
 
 use crate::caller::CallerPort;
 use crate::manager::ManagerPort;
+use chain::most_sent;
 use config_json::{JsonFault, read};
 use event_chain::EventChain;
 use ids_config::Config;
@@ -15,12 +16,6 @@ use ids_types::NoMemory;
 use report_api::{Pass, Shared};
 use std::alloc::Global;
 use std::sync::Arc;
-
-/// How many bytes a message has at most.
-const MOST_OF_A_MESSAGE: u64 = 1044;
-
-/// How many internal events a turn begins with at most.
-const MOST_HEADS: u64 = 3;
 
 /// The callers by their numbers, and their manager.
 #[derive(Drop)]
@@ -61,7 +56,7 @@ fn ports_of(alloc: Global, config: &Config) -> Result<Ports, NoMemory>
     let manager = ManagerPort {
         shared,
         manager: made.manager,
-        most: MOST_OF_A_MESSAGE * (parts.ring + events + MOST_HEADS),
+        most: most_sent(parts.ring, events),
         classes: parts.classes.len() as u8,
     };
     Ok(Ports { callers, manager })

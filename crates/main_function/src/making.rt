@@ -6,17 +6,11 @@ ghost use Rattle.main_function.specs.Making.{IsBuilt, IsLargest, IsNewManager};
 
 use crate::manager::Manager;
 use crate::rest::Totals;
-use chain::Chain;
+use chain::{Chain, most_sent};
 use ids_config::Config;
 use ids_types::{NoMemory, TurnOut};
 use report_api::{CtxBuf, Desk, Pass, Shared};
 use std::alloc::Global;
-
-/// How many bytes a message has at most.
-const MOST_OF_A_MESSAGE: u64 = 1044;
-
-/// How many internal events a turn begins with at most.
-const MOST_HEADS: u64 = 3;
 
 /// What callers and the manager share, the manager, and the passes by their callers' numbers.
 #[derive(Drop)]
@@ -52,13 +46,12 @@ fn build<C: Drop>(
     ensures { IfOk result (IsBuilt desk chain positions events largest) }
 {
     let most_bytes = positions * largest;
-    let messages = positions + events + MOST_HEADS;
     Ok(Manager {
         desk,
         chain,
         items: Vec::with_capacity(alloc, positions as usize)?,
         back: Vec::with_capacity(alloc, (positions + events) as usize)?,
-        out: TurnOut::make(alloc, positions, most_bytes, MOST_OF_A_MESSAGE * messages)?,
+        out: TurnOut::make(alloc, positions, most_bytes, most_sent(positions, events))?,
         rests: Vec::new(alloc),
         totals: Totals {
             entries: 0,

@@ -20,10 +20,6 @@ module _ (events : ℕ) where
   entries_short entries fits = All-weaker (λ (e : Entry (List ℕ)). FitsAct (λ bytes. bytes) events e.act) IsShort
       (λ e. entry_short e.act) entries fits.acts
 
--- the bytes that entries keep
-abbrev pub told_bytes : List (Entry (List ℕ)) → ℕ
-told_bytes entries = sum_by (λ e. length (kept_bytes e)) entries
-
 module _ {B : Type 0} (held : B → List ℕ) where
   act_told : (events : ℕ) (act : Act B) → FitsAct held events act → FitsAct (λ bytes. bytes) events (act_by held act)
   act_told events (Report event count stamp Absent) fits = fits
@@ -45,29 +41,13 @@ module _ {B : Type 0} (held : B → List ℕ) where
     acts = All-from_recursion _ (map (entry_by held) items) (acts_told events items (recursion_from_All _ items fits.acts));
   }
 
-  -- the bytes that items keep are those that they tell
-  pub bytes_told : (items : List (Entry B)) → bytes_in held items ≡ told_bytes (map (entry_by held) items)
-  bytes_told [] = refl
-  bytes_told (e ∷ items) =
-      sum_by-cons (λ (one : Entry B). length (kept_bytes (entry_by held one))) e items
-      ∙ ap (λ n. length (kept_bytes (entry_by held e)) + n) (bytes_told items)
-      ∙ sym (sum_by-cons (λ (one : Entry (List ℕ)). length (kept_bytes one)) (entry_by held e) (map (entry_by held) items))
-
 -- copies that tell what items tell can be taken where these can, with the same room
-pub copies_fit : {B : Type 0} (held : B → List ℕ) {events many : ℕ} {copies : List (Entry Copied)} {items : List (Entry B)} {out : Output}
+pub copies_fit : {B : Type 0} (held : B → List ℕ) {events many : ℕ} {copies : List (Entry Copied)} {items : List (Entry B)} (room : ℕ)
     → many ≡ events → map (entry_by copied_bytes) copies ≡ map (entry_by held) items
-    → FitsTurn held events items → HasTurnRoom held events items out
-    → FitsTurn copied_bytes many copies × HasTurnRoom copied_bytes many copies out
-copies_fit held {events} {many} {copies} {items} {out} is same fits has =
+    → FitsTurn held events items → most_sent (length items) events ≤ room
+    → FitsTurn copied_bytes many copies × (most_sent (length copies) many ≤ room)
+copies_fit held {events} {many} {copies} {items} room is same fits has =
     let count : length copies ≡ length items =
     sym (length-map copies (entry_by copied_bytes)) ∙ ap length same ∙ length-map items (entry_by held) in
-    let bytes = bytes_told copied_bytes copies ∙ ap told_bytes same ∙ sym (bytes_told held items) in
-    let room : HasTurnRoom copied_bytes events copies out = record {
-      entries = subst (λ n. n ≤ (room_of out).entries) (sym count) has.entries;
-      bytes = subst (λ n. n ≤ (room_of out).bytes) (sym bytes) has.bytes;
-      sent = subst (λ n. 1044 * (n + events + 3) ≤ (room_of out).sent) (sym count) has.sent;
-    } in
-    let fit = items_fit copied_bytes events copies (map (entry_by held) items) same (told_fits held events items fits) in (
-      subst (λ (n : ℕ). FitsTurn copied_bytes n copies) (sym is) fit,
-      subst (λ (n : ℕ). HasTurnRoom copied_bytes n copies out) (sym is) room,
-    )
+    let fit = items_fit copied_bytes events copies (map (entry_by held) items) same (told_fits held events items fits) in
+    (subst (λ (n : ℕ). FitsTurn copied_bytes n copies) (sym is) fit, omega (arith, has, count, is))

@@ -20,6 +20,4 @@ pub record IsReady (desk : Desk) : Type 0 where
   pub nothing_back : desk.back.items ≡ []
   pub items_room : 1024 ≤ vec_capacity desk.items
   pub back_room : 1024 + 256 ≤ vec_capacity desk.back
-  pub entries_room : 1024 ≤ (room_of desk.out).entries
-  pub bytes_room : 1024 * 1024 ≤ (room_of desk.out).bytes
   pub sent_room : 1044 * (1024 + 256 + 3) ≤ (room_of desk.out).sent

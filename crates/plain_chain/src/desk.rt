@@ -11,7 +11,7 @@ ghost use Rattle.plain_chain.specs.Copying.{copied_bytes, IsReady, IsShort};
 ghost use Rattle.plain_chain.specs.Standing.{AreInOrder};
 
 use crate::copied::{Copied, copy_of};
-use chain::Chain;
+use chain::{Chain, most_sent};
 use ids_types::{Entry, EntryWalk, History, NoMemory, TurnHead, TurnOut};
 use std::alloc::Global;
 
@@ -20,9 +20,6 @@ const MOST_ENTRIES: u64 = 1024;
 
 /// How many events there are at most.
 const MOST_EVENTS: u64 = 256;
-
-/// How many messages of 1,044 bytes a turn sends at most: one for each entry, event and internal event.
-const MOST_MESSAGES: u64 = MOST_ENTRIES + MOST_EVENTS + 3;
 
 /// Room for the largest turn.
 #[derive(Debug, Drop)]
@@ -40,12 +37,7 @@ impl Desk {
         Ok(Desk {
             items: Vec::with_capacity(alloc, MOST_ENTRIES as usize)?,
             back: Vec::with_capacity(alloc, (MOST_ENTRIES + MOST_EVENTS) as usize)?,
-            out: TurnOut::make(
-                alloc,
-                MOST_ENTRIES,
-                1024 * MOST_ENTRIES,
-                1044 * MOST_MESSAGES,
-            )?,
+            out: TurnOut::make(alloc, 0, 0, most_sent(MOST_ENTRIES, MOST_EVENTS))?,
         })
     }
 
@@ -78,7 +70,7 @@ impl Desk {
         ensures ready { IsReady self.new }
     {
         put_entries(entries, &mut self.items);
-        chain.turn(head, &mut self.items, &mut self.back, &mut self.out);
+        chain.judge(head, &mut self.items, &mut self.back, &mut self.out);
         self.back.clear();
     }
 }

@@ -4,7 +4,7 @@ ghost use Rattle.ids_types.specs.Turns.{Turn, room_after, wider_room};
 ghost use Rattle.ids_config.specs.Parts.{Parts};
 ghost use Rattle.chain.specs.History.{last_tick, Sends};
 ghost use Rattle.chain.specs.Parcels.{HandsBack, all_parcels};
-ghost use Rattle.chain.specs.Turning.{FitsTurn, HasTurnRoom, bytes_in, turn_by};
+ghost use Rattle.chain.specs.Turning.{FitsTurn, most_sent, bytes_in, turn_by};
 ghost use Rattle.plain_chain.specs.Room.{has_turn_room};
 ghost use Rattle.plain_chain.specs.Standing.{Stands};
 
@@ -116,7 +116,7 @@ impl<'c, B: Parcel> Chain<B> for PlainChain<'c, B> {
     }
 
     /// Takes the turn behind all that were before it, and hands each parcel back. It takes its size from the room.
-    fn turn(
+    fn judge(
         &mut self,
         head: &TurnHead,
         items: &mut Vec<Entry<B>>,
@@ -127,14 +127,14 @@ impl<'c, B: Parcel> Chain<B> for PlainChain<'c, B> {
             (bytes_in B.held items.old.items) ≡ true }
         requires items { FitsTurn B.held (length self.old.config.events) items.old.items }
         requires back { vec_len back.old + vec_len items.old + length self.old.config.events ≤ vec_capacity back.old }
-        requires out { HasTurnRoom B.held (length self.old.config.events) items.old.items out.old }
+        requires out { most_sent (length items.old.items) (length self.old.config.events) ≤ (room_of out.old).sent }
         ensures stands { (config : Parts) (turns : List Turn) → Stands config turns self.old →
             last_tick turns ≤ head.now.tick →
             Stands config (turns ++ turn_by B.held head.now items.old.items ∷ []) self.new }
         ensures sends { (config : Parts) (turns : List Turn) → Stands config turns self.old →
             last_tick turns ≤ head.now.tick →
             Sends config turns (turn_by B.held head.now items.old.items) out.new }
-        ensures logs { out.new.log.turns ≡ turn_by B.held head.now items.old.items ∷ [] }
+        ensures log { out.new.log ≡ out.old.log }
         ensures events { length self.new.config.events ≡ length self.old.config.events }
         ensures room { self.new.history.room ≡
             room_after self.old.history.room 1 (length items.old.items) (bytes_in B.held items.old.items) }
@@ -149,7 +149,7 @@ impl<'c, B: Parcel> Chain<B> for PlainChain<'c, B> {
         let mut chain = next(&mut self.fresh);
         self.desk.fold(&mut chain, &self.history);
         keep(head, items, &mut self.history, &mut self.desk.items);
-        chain.turn(head, &mut self.desk.items, &mut self.desk.back, out);
+        chain.judge(head, &mut self.desk.items, &mut self.desk.back, out);
         self.desk.back.clear();
         self.limited = chain.limited();
         self.memory = chain.into_memory();

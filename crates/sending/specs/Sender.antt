@@ -23,7 +23,7 @@ pub record SenderParts : Type 0 where
 
 -- the source of an event
 abbrev pub source_of : Event → Source
-source_of event = record { id = event.id; sensor = event.sensor; version = event.version; send = event.send }
+source_of event = record { id = event.id; sensor = event.sensor; version = event.version; send = event.send; store = event.store }
 
 -- an event's names are in their ranges
 pub record IsNamed (event : Event) : Type 0 where
@@ -37,7 +37,7 @@ HasSixBits source = source.sensor ≤ 63
 
 -- the source of event k
 abbrev pub source_at : SenderParts → ℕ → Source
-source_at sender k = slice_index_or sender.sources k (record { id = 0; sensor = 0; version = 0; send = false })
+source_at sender k = slice_index_or sender.sources k (record { id = 0; sensor = 0; version = 0; send = false; store = false })
 
 -- the message of an item
 abbrev pub message_by : SenderParts → Item → MessageParts

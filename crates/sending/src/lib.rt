@@ -13,3 +13,4 @@ mod source;
 
 pub use report::Report;
 pub use sender::Sender;
+pub use source::Source;

@@ -12,9 +12,8 @@ ghost use Rattle.sending.specs.Sending.{Stands, Start, start_of, IsSending, Take
 
 use crate::report::Report;
 use crate::source::Source;
-use arrayvec::ArrayVec;
 use ids_config::{Config, EventParts};
-use ids_frame::{Context, MAX_BYTES, Message, encode};
+use ids_frame::{Context, Message, spell};
 use ids_types::{EventIndex, NoMemory, TurnOut};
 use limits::{Admit, LimitState};
 use std::alloc::Global;
@@ -34,8 +33,6 @@ pub struct Sender {
     limits: LimitState,
     /// At most 2^45.
     held: u64,
-    /// A message is spelled in it.
-    room: ArrayVec<u8, MAX_BYTES>,
 }
 
 impl Model for Sender {
@@ -64,7 +61,6 @@ impl Sender {
             limited: parts.limited,
             limits: LimitState::make(config),
             held: 0,
-            room: ArrayVec::new(),
         })
     }
 
@@ -88,9 +84,17 @@ impl Sender {
             → IsSending config start (report.now ∷ items) self.new out.new }
         ensures one { TakesOne self.old self.new out.old out.new }
     {
-        if self.sources[report.event.0 as usize].send {
+        if self.source(report.event).send {
             self.offer(report, out);
         }
+    }
+
+    /// What messages and records tell of an event.
+    pub fn source(&self, event: EventIndex) -> Source
+        requires { event.0 < length self.now.sources }
+        ensures { result ≡ source_at self.now event.0 }
+    {
+        self.sources[usize::from(event.0)]
     }
 
     /// How many events the limits held back since the turn began: what it hands on to the next.
@@ -128,7 +132,7 @@ impl Sender {
         ensures parts { result ≡ message_by self.now report.now }
         ensures short { length (spelling result) ≤ 1044 }
     {
-        let source = &self.sources[report.event.0 as usize];
+        let source = self.source(report.event);
         let context = context_of(report.context);
         Message::make(
             self.profile,
@@ -155,7 +159,7 @@ impl Sender {
         ensures one { TakesOne self.old self.new out.old out.new }
     {
         match answer {
-            Admit::Sent => send(message, &mut self.room, out),
+            Admit::Sent => send(message, out),
             Admit::Rate | Admit::Traffic => self.hold_back(event),
         }
     }
@@ -202,12 +206,12 @@ fn byte_7(profile: u8, version: u8, context: &Option<&[u8]>) -> u8
 }
 
 // Spells a message and sends it.
-fn send(message: &Message<'_>, room: &mut ArrayVec<u8, MAX_BYTES>, out: &mut TurnOut)
+fn send(message: &Message<'_>, out: &mut TurnOut)
     requires short { length (spelling message.now) ≤ 1044 }
     requires room { 1044 ≤ out.old.sent_left }
     requires few { out.old.messages < 2 ^ 32 - 1 }
     ensures { out.new ≡ has_sent (spelling message.now) out.old }
 {
-    encode(message, room).unwrap();
-    out.send(room);
+    spell(message, out);
+    out.end_message();
 }

@@ -3,15 +3,18 @@ ghost use Rattle.sending.specs.Sender.{IsNamed, source_of};
 
 use ids_config::EventParts;
 
-/// What messages tell of an event, and whether it is sent.
-#[derive(Clone, Copy, Debug)]
-pub(crate) struct Source {
-    pub(crate) id: u16,
+/// What messages and records tell of an event, and where it goes.
+#[derive(Clone, Copy, Debug, PartialEq, Eq)]
+pub struct Source {
+    pub id: u16,
     /// 0 to 63.
-    pub(crate) sensor: u8,
+    pub sensor: u8,
     /// The version of its context data.
-    pub(crate) version: u8,
-    pub(crate) send: bool,
+    pub version: u8,
+    /// Whether it is sent.
+    pub send: bool,
+    /// Whether the event memory stores it.
+    pub store: bool,
 }
 
 impl Source {
@@ -25,6 +28,7 @@ impl Source {
             sensor: event.sensor as u8,
             version: event.version as u8,
             send: event.send,
+            store: event.store,
         }
     }
 }

@@ -26,7 +26,7 @@ returns c =
       callers_fit = callers_fit c.args.config.now shared passes made.manager new callers c.in_ok-callers.ensures.passes c.in_ok-callers.ensures.shares;
       manager_fits = record {
         is_manager = new.is_manager;
-        most_is = ap (λ (n : ℕ). 1044 * (c.parts.inside.ring + n + 3)) events ∙ most_made config shared passes made.manager made_of;
+        most_is = c.most_sent.ensures ∙ ap (λ (n : ℕ). 1044 * (c.parts.inside.ring + n + 3)) events ∙ most_made config shared passes made.manager made_of;
         classes_are = classes ∙ sym (length-map c.parts.inside.classes.items class_of) ∙ classes_made config shared passes made.manager made_of;
       };
     }

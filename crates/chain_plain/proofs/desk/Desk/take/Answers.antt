@@ -21,8 +21,6 @@ turn-requires g c κs =
           nothing_back = before.nothing_back;
           items_room = room;
           back_room = before.back_room;
-          entries_room = before.entries_room;
-          bytes_room = before.bytes_room;
           sent_room = before.sent_room;
         },
         (items_fit held _ _ c.args.entries same c.requires.entries, c.requires.kept),

@@ -1,11 +1,12 @@
-use Rattle.event_chain.proofs.Names.{length, ap, rules, qualified, SenderParts}
+use Rattle.event_chain.proofs.Names.{length, ap, rules, qualified, Output, SenderParts}
 use Rattle.event_chain.proofs.FlowLemmas.{ends_later}
 use Rattle.event_chain.proofs.filters.Filters.begin.Goals as goal
 
 pub returns-clause-behind : goal.returns-clause-behind
-returns-clause-behind g c config tick moments rests le =
-    let logged = c.log_turn.ensures in
-    let sending = c.begin.ensures.sending config (qualified config moments) c.log_turn.new.out rests.sender logged.sent logged.messages in
+returns-clause-behind g c config before now moments rests le =
+    let sent = ap (λ (out : Output). out.sent) c.clear_messages.ensures in
+    let messages = ap (λ (out : Output). out.messages) c.clear_messages.ensures in
+    let sending = c.begin.ensures.sending config (qualified config moments) c.clear_messages.new.self rests.sender sent messages in
     search (rules, ends_later, sending)
 
 pub returns-clause-places : goal.returns-clause-places
@@ -13,6 +14,6 @@ returns-clause-places g c places =
     let same = ap (λ (s : SenderParts). length s.sources) c.begin.ensures.none in
     record {
       gate = places.gate;
-      has = λ k less. let has = places.has k less in record { threshold = has.threshold; name = has.name; source = rw same has.source };
+      has = λ k less. let has = places.has k less in record { threshold = has.threshold; source = rw same has.source };
       own = places.own;
     }

@@ -5,27 +5,21 @@ use Rattle.plain_chain.proofs.desk.Desk.take.Goals as goal
 pub put_entries-requires-clause-short : goal.put_entries-requires-clause-short
 put_entries-requires-clause-short g c = entries_short _ c.args.entries c.requires.entries
 
-pub turn-requires-clause-fits : goal.turn-requires-clause-fits
-turn-requires-clause-fits g c = c.requires.room c.args.chain.now _ _
+pub judge-requires-clause-fits : goal.judge-requires-clause-fits
+judge-requires-clause-fits g c = c.requires.room c.args.chain.now _ _
 
 -- they fit, since the entries do
-pub turn-requires-clause-items : goal.turn-requires-clause-items
-turn-requires-clause-items g c =
+pub judge-requires-clause-items : goal.judge-requires-clause-items
+judge-requires-clause-items g c =
     let same : map (entry_by copied_bytes) c.put_entries.new.items.items ≡ c.args.entries = grind (arith, common_steps) in
     items_fit copied_bytes _ _ c.args.entries same c.requires.entries
 
-pub turn-requires-clause-kept : goal.turn-requires-clause-kept
-turn-requires-clause-kept g c = copies_short _
+pub judge-requires-clause-kept : goal.judge-requires-clause-kept
+judge-requires-clause-kept g c = copies_short _
 
 -- the output has room for the largest turn, and so for this one
-pub turn-requires-clause-out : goal.turn-requires-clause-out
-turn-requires-clause-out g c =
+pub judge-requires-clause-out : goal.judge-requires-clause-out
+judge-requires-clause-out g c =
     let same : map (entry_by copied_bytes) c.put_entries.new.items.items ≡ c.args.entries = grind (arith, common_steps) in
     let fits = items_fit copied_bytes _ _ c.args.entries same c.requires.entries in
-    let few = fits.few in
-    let short = bytes_few copied_bytes _ _ fits in
-    record {
-      entries = grind (arith, few, c.requires.ready.entries_room);
-      bytes = grind (arith, short, c.requires.ready.bytes_room);
-      sent = grind (arith, few, c.requires.few, c.requires.ready.sent_room);
-    }
+    grind (arith, fits.few, c.requires.few, c.requires.ready.sent_room)

@@ -35,8 +35,6 @@ returns-clause-at c before calls at =
         nothing_back = at.room.nothing_back;
         items_room = omega (arith, at.room.items_room, c.push_reserved.ensures.capacity);
         back_room = at.room.back_room;
-        entries_room = at.room.entries_room;
-        bytes_room = at.room.bytes_room;
         sent_room = at.room.sent_room;
       };
     }

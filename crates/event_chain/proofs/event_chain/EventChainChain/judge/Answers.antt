@@ -6,17 +6,20 @@ use Rattle.event_chain.proofs.HandsLemmas.{hands_last, hands_length, hands_then}
 use Rattle.event_chain.proofs.HeadLemmas.{heads_few, heads_within}
 use Rattle.event_chain.proofs.SoundLemmas.{kept_few, parcels_few, sound_kept}
 use Rattle.event_chain.proofs.TurnLemmas.{three_parts, turn_ends}
-use Rattle.event_chain.proofs.event_chain.EventChainChain.turn.Given.{Over}
-use Rattle.event_chain.proofs.event_chain.EventChainChain.turn.Goals.{After-take_entries}
-use Rattle.event_chain.proofs.event_chain.EventChainChain.turn.Goals as goal
+use Rattle.event_chain.proofs.event_chain.EventChainChain.judge.Given.{Over}
+use Rattle.event_chain.proofs.event_chain.EventChainChain.judge.Goals.{After-take_entries}
+use Rattle.event_chain.proofs.event_chain.EventChainChain.judge.Goals as goal
 
 pub close_all-requires-clause-events : goal.close_all-requires-clause-events
-close_all-requires-clause-events g c = (asked c.deref-2.ensures.value c.self.invariant.aggregating c.begin.ensures.windows).1.0
+close_all-requires-clause-events g c = (asked c.deref.ensures.value c.self.invariant.aggregating c.begin.ensures.windows).1.0
 
 pub close_all-requires-clause-can : goal.close_all-requires-clause-can
 close_all-requires-clause-can g c =
-    let few = (asked c.deref-2.ensures.value c.self.invariant.aggregating c.begin.ensures.windows).1.1 in
-    search (rules, c.begin.ensures.can, few)
+    let few = (asked c.deref.ensures.value c.self.invariant.aggregating c.begin.ensures.windows).1.1 in
+    let same = ap (λ (v : Chained g.row.B.Denot). length v.filters.windows) c.self.view_is in
+    let can = c.begin.ensures.can (length c.args.items.now.items) (length c.self.inside.filters.windows)
+    c.requires.items.few c.self.invariant.few (omega (arith, c.requires.out, same)) in
+    search (rules, can, few)
 
 pub close_all-requires-clause-back : goal.close_all-requires-clause-back
 close_all-requires-clause-back g c =
@@ -26,7 +29,7 @@ close_all-requires-clause-back g c =
 
 pub take_heads-requires-clause-settled : goal.take_heads-requires-clause-settled
 take_heads-requires-clause-settled g c =
-    c.close_all.ensures.settled (asked c.deref-2.ensures.value c.self.invariant.aggregating c.begin.ensures.windows).0
+    c.close_all.ensures.settled (asked c.deref.ensures.value c.self.invariant.aggregating c.begin.ensures.windows).0
 
 pub take_heads-requires-clause-events : goal.take_heads-requires-clause-events
 take_heads-requires-clause-events g c =
@@ -41,8 +44,11 @@ pub take_heads-requires-clause-can : goal.take_heads-requires-clause-can
 take_heads-requires-clause-can g c =
     let three = heads_few c.self.inside.internal c.args.head.now c.heads.result c.heads.ensures in
     let count = ap length c.begin.ensures.windows in
-    let few = (asked c.deref-2.ensures.value c.self.invariant.aggregating c.begin.ensures.windows).1.1 in
-    can_left (omega (arith, three, few, count)) c.begin.ensures.can c.close_all.ensures.stays
+    let few = (asked c.deref.ensures.value c.self.invariant.aggregating c.begin.ensures.windows).1.1 in
+    let same = ap (λ (v : Chained g.row.B.Denot). length v.filters.windows) c.self.view_is in
+    let can = c.begin.ensures.can (length c.args.items.now.items) (length c.self.inside.filters.windows)
+    c.requires.items.few c.self.invariant.few (omega (arith, c.requires.out, same)) in
+    can_left (omega (arith, three, few, count)) can c.close_all.ensures.stays
 
 pub take_heads-requires-clause-back : goal.take_heads-requires-clause-back
 take_heads-requires-clause-back g c =
@@ -54,15 +60,17 @@ take_heads-requires-clause-back g c =
 pub take_entries-requires-clause-settled : goal.take_entries-requires-clause-settled
 take_entries-requires-clause-settled g c k =
     c.take_heads.ensures.stays.windows.settled k
-    (c.close_all.ensures.settled (asked c.deref-2.ensures.value c.self.invariant.aggregating c.begin.ensures.windows).0 k)
+    (c.close_all.ensures.settled (asked c.deref.ensures.value c.self.invariant.aggregating c.begin.ensures.windows).0 k)
 
 pub take_entries-requires-clause-can : goal.take_entries-requires-clause-can
 take_entries-requires-clause-can g c =
     let three = heads_few c.self.inside.internal c.args.head.now c.heads.result c.heads.ensures in
-    let same : length c.deref.result.now ≡ length c.args.items.now.items = ap length c.deref.ensures.value in
     let count = ap length c.begin.ensures.windows in
-    let few = (asked c.deref-2.ensures.value c.self.invariant.aggregating c.begin.ensures.windows).1.1 in
-    can_left (omega (arith, three, few, same, count)) c.begin.ensures.can (stays_more c.close_all.ensures.stays c.take_heads.ensures.stays)
+    let few = (asked c.deref.ensures.value c.self.invariant.aggregating c.begin.ensures.windows).1.1 in
+    let same = ap (λ (v : Chained g.row.B.Denot). length v.filters.windows) c.self.view_is in
+    let can = c.begin.ensures.can (length c.args.items.now.items) (length c.self.inside.filters.windows)
+    c.requires.items.few c.self.invariant.few (omega (arith, c.requires.out, same)) in
+    can_left (omega (arith, three, few, count)) can (stays_more c.close_all.ensures.stays c.take_heads.ensures.stays)
 
 pub take_entries-requires-clause-back : goal.take_entries-requires-clause-back
 take_entries-requires-clause-back g c =
@@ -94,8 +102,8 @@ turned g c config turns stood le =
     let inside = c.self.inside in
     let stands = subst (λ (v : Chained g.row.B.Denot). Stands held config before v) (sym c.self.view_is) stood in
     let start = start_of config (qualified_of config before) in
-    let begun = c.begin.ensures.behind config (newest_tick before) (moments config before) stands.filters le in
-    let events = (asked c.deref-2.ensures.value c.self.invariant.aggregating c.begin.ensures.windows).0 in
+    let begun = c.begin.ensures.behind config (newest_tick before) tick (moments config before) stands.filters le in
+    let events = (asked c.deref.ensures.value c.self.invariant.aggregating c.begin.ensures.windows).0 in
     let closed = c.close_all.ensures.behind events config start (moments config before) begun in
     let headed = c.take_heads.ensures.behind config start _ closed in
     let entered = c.take_entries.ensures.behind config start _ headed in

@@ -2,7 +2,7 @@ use Rattle.plain_chain.proofs.Names.{ℕ, ◌≤◌, List, ◌∷◌, [], ◌++�
 use Rattle.plain_chain.proofs.CopyLemmas.{copies_fit, copies_short, entries_short, told_fits}
 use Rattle.plain_chain.proofs.SoundLemmas.{took_all}
 use Rattle.plain_chain.proofs.StandingLemmas.{in_order_more}
-use Rattle.plain_chain.proofs.plain_chain.PlainChainChain.turn.Goals as goal
+use Rattle.plain_chain.proofs.plain_chain.PlainChainChain.judge.Goals as goal
 
 pub fold-requires-clause-few : goal.fold-requires-clause-few
 fold-requires-clause-few g c =
@@ -28,34 +28,34 @@ keep-requires-clause-short g c =
     (entries_short _ (told c.args.items.now.items) (told_fits g.B.Parcel.held _ c.args.items.now.items c.requires.items))
 
 -- the copies tell what the items tell
-pub turn-requires-clause-items : goal.turn-requires-clause-items
-turn-requires-clause-items g c =
+pub judge-requires-clause-items : goal.judge-requires-clause-items
+judge-requires-clause-items g c =
     let held = g.B.Parcel.held in
     let fresh = (c.next-chain.ensures.fresh c.self.inside.config.now c.self.invariant.fresh).1 in
     let many = c.fold.ensures.events ∙ fresh.events ∙ ap (λ (v : Remembered). length v.config.events) c.self.view_is in
     let same = c.keep.ensures.items ∙ ap (map (entry_by held)) c.deref.ensures.value in
-    (copies_fit held many same c.requires.items c.requires.out).0
+    (copies_fit held _ many same c.requires.items c.requires.out).0
 
-pub turn-requires-clause-kept : goal.turn-requires-clause-kept
-turn-requires-clause-kept g c = copies_short _
+pub judge-requires-clause-kept : goal.judge-requires-clause-kept
+judge-requires-clause-kept g c = copies_short _
 
-pub turn-requires-clause-back : goal.turn-requires-clause-back
-turn-requires-clause-back g c =
+pub judge-requires-clause-back : goal.judge-requires-clause-back
+judge-requires-clause-back g c =
     let held = g.B.Parcel.held in
     let fresh = (c.next-chain.ensures.fresh c.self.inside.config.now c.self.invariant.fresh).1 in
     let many = c.fold.ensures.events ∙ fresh.events ∙ ap (λ (v : Remembered). length v.config.events) c.self.view_is in
     let same = c.keep.ensures.items ∙ ap (map (entry_by held)) c.deref.ensures.value in
-    let few = (copies_fit held many same c.requires.items c.requires.out).0.few in
+    let few = (copies_fit held _ many same c.requires.items c.requires.out).0.few in
     let events : length c.fold.new.chain.filters.windows ≤ 256 = omega (arith, c.fold.ensures.events, fresh.events, c.self.invariant.few_events) in
     grind (arith, common_steps, few, events, c.fold.ensures.ready.nothing_back, c.fold.ensures.ready.back_room)
 
-pub turn-requires-clause-out : goal.turn-requires-clause-out
-turn-requires-clause-out g c =
+pub judge-requires-clause-out : goal.judge-requires-clause-out
+judge-requires-clause-out g c =
     let held = g.B.Parcel.held in
     let fresh = (c.next-chain.ensures.fresh c.self.inside.config.now c.self.invariant.fresh).1 in
     let many = c.fold.ensures.events ∙ fresh.events ∙ ap (λ (v : Remembered). length v.config.events) c.self.view_is in
     let same = c.keep.ensures.items ∙ ap (map (entry_by held)) c.deref.ensures.value in
-    (copies_fit held many same c.requires.items c.requires.out).1
+    (copies_fit held _ many same c.requires.items c.requires.out).1
 
 -- the turn is kept, and a chain is used up for it
 pub invariant_of-self : goal.invariant_of-self
@@ -79,12 +79,10 @@ invariant_of-self g c =
       fresh = (c.next-chain.ensures.fresh config sound.fresh).0;
       enough = omega (arith, left, sound.enough, c.next-chain.ensures.len);
       ready = record {
-        no_items = c.turn.ensures.items;
+        no_items = c.judge.ensures.items;
         nothing_back = c.clear.ensures.items;
-        items_room = omega (arith, desk.items_room, c.keep.ensures.capacity, c.turn.ensures.items_room);
-        back_room = omega (arith, desk.back_room, c.turn.ensures.back_room, c.clear.ensures.capacity);
-        entries_room = desk.entries_room;
-        bytes_room = desk.bytes_room;
+        items_room = omega (arith, desk.items_room, c.keep.ensures.capacity, c.judge.ensures.items_room);
+        back_room = omega (arith, desk.back_room, c.judge.ensures.back_room, c.clear.ensures.capacity);
         sent_room = desk.sent_room;
       };
       few = c.limited-self-inside.ensures.bound;
@@ -101,8 +99,8 @@ returns-clause-stands g c config turns stood later =
     let stands = subst (Stands config turns) (sym c.self.view_is) stood in
     let took = took_all c.fold.new.chain stands fresh c.fold.ensures.stands in
     let same = c.keep.ensures.items ∙ ap (map (entry_by held)) c.deref.ensures.value in
-    let now = subst (λ (es : List (Entry (List ℕ))). ChainStands copied_bytes config (reverse (turns ++ turn_with head es ∷ [])) c.turn.new.self)
-    same (c.turn.ensures.stands config turns took later) in
+    let now = subst (λ (es : List (Entry (List ℕ))). ChainStands copied_bytes config (reverse (turns ++ turn_with head es ∷ [])) c.judge.new.self)
+    same (c.judge.ensures.stands config turns took later) in
     record {
       same = stands.same;
       all = c.keep.ensures.turns
@@ -119,5 +117,5 @@ returns-clause-sends g c config turns stood later =
     let stands = subst (Stands config turns) (sym c.self.view_is) stood in
     let took = took_all c.fold.new.chain stands fresh c.fold.ensures.stands in
     let same = c.keep.ensures.items ∙ ap (map (entry_by g.B.Parcel.held)) c.deref.ensures.value in
-    subst (λ (es : List (Entry (List ℕ))). Sends config turns (turn_with c.args.head.now es) c.turn.new.out) same
-    (c.turn.ensures.sends config turns took later)
+    subst (λ (es : List (Entry (List ℕ))). Sends config turns (turn_with c.args.head.now es) c.judge.new.out) same
+    (c.judge.ensures.sends config turns took later)
