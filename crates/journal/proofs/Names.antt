@@ -5,9 +5,11 @@ pub use Rattle.std.proofs.lemmas.List.{take_more_set, map-append}
 pub use Rattle.std.specs.BTreeSet.{contains}
 pub use Rattle.std.specs.List.{flat_map, join_with_byte, list_any, list_all}
 pub use Rattle.std.specs.Ordering.{nat_cmp}
-pub use Rattle.std.specs.Prelude.{Option, Some, decimal, Result, Ok, Err, IfOk, IfErr, slice_get}
+pub use Rattle.std.specs.Prelude.{Option, Some, decimal, Result, Ok, Err, IfOk, IfErr, option_map, slice_get}
 pub use Rattle.ids_types.specs.Turns.{Turn, turn_at, begun}
 pub use Rattle.text_spec.proofs.JournalFacts.{flat_map-push, entry_passes}
+pub use Rattle.text_spec.proofs.FrontLemmas.{bind_again}
+pub use Rattle.text_spec.proofs.LastLemmas.{last_context, last_hex}
 pub use Rattle.text_spec.proofs.NumberLists.{with_front, front_more, numbers_more}
 pub use Rattle.text_spec.proofs.WordsLemmas.{text_of-map, one_more}
 pub use Rattle.text_spec.specs.Contexts.{numbers_in, point}

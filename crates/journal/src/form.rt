@@ -12,10 +12,10 @@ ghost use Rattle.ids_types.specs.declared.entry.Carried.TheVariants.{Missing};
 
 use crate::line::{RawAct, RawContext, RawEntry, RawLine, RawLoss};
 use ids_types::{Mode, Numbers, TurnHead};
-use text_spec::{HexText, Pieces};
+use text_spec::{HexText, Pieces, Words};
 
 /// What a line of these words tells, `None` where it has no form.
-pub(crate) fn line_of(words: Pieces<'_>) -> Option<RawLine<'_>>
+pub(crate) fn line_of(words: Words<'_>) -> Option<RawLine<'_>>
     ensures { option_map line_told result ≡ told_by words.entry }
 {
     let (kind, words) = words.first()?;
@@ -35,7 +35,7 @@ pub(crate) fn line_of(words: Pieces<'_>) -> Option<RawLine<'_>>
 }
 
 /// The words behind `T`.
-fn head_of(words: Pieces<'_>) -> Option<RawLine<'_>>
+fn head_of(words: Words<'_>) -> Option<RawLine<'_>>
     ensures { option_map line_told result ≡ behind turn_form words.entry }
 {
     let (tick, words) = words.any_number()?;
@@ -50,8 +50,8 @@ fn head_of(words: Pieces<'_>) -> Option<RawLine<'_>>
     }))
 }
 
-/// The words behind `R`.
-fn report_of(words: Pieces<'_>) -> Option<RawLine<'_>>
+/// The words behind `R`. The last of them is read as what is left of the line: no context has a space.
+fn report_of(words: Words<'_>) -> Option<RawLine<'_>>
     ensures { option_map line_told result ≡ behind report_form words.entry }
 {
     let (caller, words) = words.any_number()?;
@@ -59,8 +59,8 @@ fn report_of(words: Pieces<'_>) -> Option<RawLine<'_>>
     let (event, words) = words.any_number()?;
     let (count, words) = words.any_number()?;
     let (stamp, words) = words.stamp()?;
-    let (context, words) = context_first(words)?;
-    words.ended(RawLine::Entry(RawEntry {
+    let context = context_of(words.text()?)?;
+    Some(RawLine::Entry(RawEntry {
         caller,
         call,
         act: RawAct::Report {
@@ -73,7 +73,7 @@ fn report_of(words: Pieces<'_>) -> Option<RawLine<'_>>
 }
 
 /// The words behind `C`.
-fn change_of(words: Pieces<'_>) -> Option<RawLine<'_>>
+fn change_of(words: Words<'_>) -> Option<RawLine<'_>>
     ensures { option_map line_told result ≡
         or_else (behind state_form words.entry) (behind setting_form words.entry) }
 {
@@ -90,7 +90,7 @@ fn change_of(words: Pieces<'_>) -> Option<RawLine<'_>>
 }
 
 /// A new state.
-fn state_of(caller: u64, call: u64, words: Pieces<'_>) -> Option<RawLine<'_>>
+fn state_of(caller: u64, call: u64, words: Words<'_>) -> Option<RawLine<'_>>
     ensures { option_map line_told result ≡
         read_by (a_number ∷ []) (λ state. enters (entry_of caller call (State state))) words.entry }
 {
@@ -103,7 +103,7 @@ fn state_of(caller: u64, call: u64, words: Pieces<'_>) -> Option<RawLine<'_>>
 }
 
 /// An event and its new mode.
-fn setting_of(caller: u64, call: u64, words: Pieces<'_>) -> Option<RawLine<'_>>
+fn setting_of(caller: u64, call: u64, words: Words<'_>) -> Option<RawLine<'_>>
     ensures { option_map line_told result ≡ read_by (a_number ∷ a_mode ∷ [])
         (λ event mode. enters (entry_of caller call (SetMode (index event) mode))) words.entry }
 {
@@ -117,7 +117,7 @@ fn setting_of(caller: u64, call: u64, words: Pieces<'_>) -> Option<RawLine<'_>>
 }
 
 /// The words behind `L`.
-fn loss_of(words: Pieces<'_>) -> Option<RawLine<'_>>
+fn loss_of(words: Words<'_>) -> Option<RawLine<'_>>
     ensures { option_map line_told result ≡ behind loss_form words.entry }
 {
     let (caller, words) = words.any_number()?;
@@ -128,16 +128,6 @@ fn loss_of(words: Pieces<'_>) -> Option<RawLine<'_>>
         call,
         given,
     }))
-}
-
-/// The context at the front, and the words behind it.
-#[inline(always)]
-fn context_first(words: Pieces<'_>) -> Option<(RawContext<'_>, Pieces<'_>)>
-    ensures { option_map (λ x. (context_told x.0, x.1)) result ≡ first_as a_context words.entry }
-{
-    let (word, words) = words.first()?;
-    let context = context_of(word)?;
-    Some((context, words))
 }
 
 /// `-`, `CLASS:CLAIM:HEX`, or `!` and numbers.
@@ -152,7 +142,7 @@ fn context_of(word: &[u8]) -> Option<RawContext<'_>>
     if word == b"-".as_slice() {
         return Some(RawContext::Absent);
     }
-    kept_of(Pieces::of(word, b':'))
+    kept_of(Pieces::of(word))
 }
 
 /// The numbers of a missing context.
@@ -163,15 +153,15 @@ fn missing_of<'a>(word: &[u8]) -> Option<RawContext<'a>>
     Some(RawContext::Missing(claims_of(word)?))
 }
 
+/// `CLASS:CLAIM:HEX`. What is left behind the two numbers is the hexadecimal: it has no colon.
 #[inline(never)]
-fn kept_of(pieces: Pieces<'_>) -> Option<RawContext<'_>>
+fn kept_of(pieces: Pieces<'_, b':'>) -> Option<RawContext<'_>>
     ensures { option_map context_told result ≡ kept_in pieces.entry }
 {
     let (class, pieces) = pieces.any_number()?;
     let (claim, pieces) = pieces.any_number()?;
-    let (hex, pieces) = pieces.first()?;
-    let bytes = HexText::of(hex)?;
-    pieces.ended(RawContext::Kept {
+    let bytes = HexText::of(pieces.text()?)?;
+    Some(RawContext::Kept {
         class,
         claim,
         bytes,
@@ -185,11 +175,11 @@ fn claims_of(word: &[u8]) -> Option<Numbers>
     if word.is_empty() {
         return Some(Numbers::make(&[]));
     }
-    numbers_of(Pieces::of(word, b'.'))
+    numbers_of(Pieces::of(word))
 }
 
 /// At most four numbers.
-fn numbers_of(pieces: Pieces<'_>) -> Option<Numbers>
+fn numbers_of(pieces: Pieces<'_, b'.'>) -> Option<Numbers>
     ensures { result ≡ numbers_in 4 pieces.entry }
 {
     let mut values = [0; 4];

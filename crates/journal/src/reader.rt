@@ -13,7 +13,7 @@ use ids_config::{Config, asks};
 use ids_types::{History, Loss, NoMemory, TurnHead};
 use std::alloc::Global;
 use std::collections::BTreeSet;
-use text_spec::{LineFault, Pieces};
+use text_spec::{LineFault, Words};
 
 /// The most entries of a turn.
 const MAX_ENTRIES: u64 = 1024;
@@ -75,7 +75,7 @@ impl<'a> Reader<'a> {
             (after_line (journal_grammar self.old.config.now) (past_of self.old) line.now) result }
         ensures config { self.new.config.now ≡ self.old.config.now }
     {
-        match line_of(Pieces::of(line, b' ')) {
+        match line_of(Words::of(line)) {
             None => Err(LineFault::Fault(1)),
             Some(RawLine::Turn(head)) => self.begin(&head),
             Some(RawLine::Entry(entry)) => self.enter(&entry),

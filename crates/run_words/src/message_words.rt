@@ -6,7 +6,7 @@ ghost use Rattle.text_spec.specs.Numbers.{capped, number_in};
 ghost use Rattle.run_words.specs.CommandView.{CanKey, keyed_of, pair_of, sized_of};
 
 use crate::command::{may_precede, names_differ};
-use text_spec::Pieces;
+use text_spec::Words;
 
 /// The greatest counter with which a file of messages may begin.
 const LAST_START: u64 = 1 << 62;
@@ -101,6 +101,6 @@ fn number(word: &str, least: u64, most: u64) -> Option<u64>
 fn any_number(word: &str) -> Option<u64>
     ensures { result ≡ option_map capped (number_in word.now) }
 {
-    let (number, behind) = Pieces::of(word.as_bytes(), b' ').any_number()?;
+    let (number, behind) = Words::of(word.as_bytes()).any_number()?;
     behind.ended(number)
 }

@@ -7,6 +7,7 @@ pub mod JournalFacts
 pub mod JournalFits
 pub mod JournalForms
 pub mod JournalLaws
+pub mod LastLemmas
 pub mod LinesLaws
 pub mod ModesLemmas
 pub mod Names

@@ -30,6 +30,6 @@ pub use journal::{one_journal_for_a_text, what_a_fitting_journal_keeps, which_li
 pub use lines::{LineReader, read_lines};
 pub use modes::{one_name_for_a_mode, push_mode};
 pub use numbers::{one_text_for_a_number, push_field, push_number};
-pub use pieces::{Pieces, cut};
+pub use pieces::{Pieces, Words, cut};
 pub use stamps::{one_text_for_a_stamp, push_stamp, stamp};
 pub use trace::a_trace_is_read_as_its_rounds;

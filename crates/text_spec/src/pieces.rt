@@ -13,51 +13,55 @@ use std::marker::Model;
 /// The pieces of a text between separators that are still to be read: the words of a line, or the
 /// parts of a word. A text without a separator is one piece.
 #[derive(Debug, Drop)]
-pub struct Pieces<'a> {
+pub struct Pieces<'a, const SEPARATOR: u8> {
     rest: Option<&'a [u8]>,
-    separator: u8,
 }
 
-impl<'a> Model for Pieces<'a> {
+/// The words of a line.
+pub type Words<'a> = Pieces<'a, b' '>;
+
+impl<'a, const SEPARATOR: u8> Model for Pieces<'a, SEPARATOR> {
     ghost Value = { List (List ℕ) };
 
-    ghost view = { λ p. pieces_left p.separator (option_map (λ r. r.now) p.rest) };
+    ghost view = { λ p. pieces_left SEPARATOR (option_map (λ r. r.now) p.rest) };
 }
 
-impl<'a> Pieces<'a> {
+impl<'a, const SEPARATOR: u8> Pieces<'a, SEPARATOR> {
     /// All pieces of a text.
-    pub fn of(text: &'a [u8], separator: u8) -> Pieces<'a>
-        ensures { result ≡ pieces_of separator text.now }
+    pub fn of(text: &'a [u8]) -> Pieces<'a, SEPARATOR>
+        ensures { result ≡ pieces_of SEPARATOR text.now }
     {
-        Pieces {
-            rest: Some(text),
-            separator,
-        }
+        Pieces { rest: Some(text) }
+    }
+
+    /// The text of all pieces that are left, not cut; none behind the last piece.
+    pub fn text(self) -> Option<&'a [u8]>
+        ensures { pieces_left SEPARATOR (option_map (λ r. r.now) result) ≡ self.entry }
+    {
+        self.rest
     }
 
     /// The first piece, and those behind it.
     #[inline(always)]
-    pub fn first(self) -> Option<(&'a [u8], Pieces<'a>)>
+    pub fn first(self) -> Option<(&'a [u8], Pieces<'a, SEPARATOR>)>
         ensures { option_map (λ x. (x.0.now, x.1)) result ≡ first_of self.entry }
     {
-        let separator = self.separator;
-        let (piece, rest) = cut_short(self.rest?, separator);
-        Some((piece, Pieces { rest, separator }))
+        let (piece, rest) = cut_short(self.rest?, SEPARATOR);
+        Some((piece, Pieces { rest }))
     }
 
     /// The number at the front, of any length, and the pieces behind it. A number that is greater is
     /// told as `u64::MAX`, so that a number out of its range is not taken for a word that is no number.
-    pub fn any_number(self) -> Option<(u64, Pieces<'a>)>
+    pub fn any_number(self) -> Option<(u64, Pieces<'a, SEPARATOR>)>
         ensures { result ≡ first_as a_number self.entry }
     {
-        let separator = self.separator;
-        let (number, rest) = cut_number(self.rest?, separator)?;
-        Some((number, Pieces { rest, separator }))
+        let (number, rest) = cut_number(self.rest?, SEPARATOR)?;
+        Some((number, Pieces { rest }))
     }
 
     /// The optional timestamp at the front, and the pieces behind it.
     #[inline(always)]
-    pub fn stamp(self) -> Option<(Option<Stamp>, Pieces<'a>)>
+    pub fn stamp(self) -> Option<(Option<Stamp>, Pieces<'a, SEPARATOR>)>
         ensures { result ≡ first_as a_stamp self.entry }
     {
         let (word, rest) = self.first()?;
@@ -66,7 +70,7 @@ impl<'a> Pieces<'a> {
     }
 
     /// The mode at the front, and the pieces behind it.
-    pub fn mode(self) -> Option<(Mode, Pieces<'a>)>
+    pub fn mode(self) -> Option<(Mode, Pieces<'a, SEPARATOR>)>
         ensures { result ≡ first_as a_mode self.entry }
     {
         let (word, rest) = self.first()?;
@@ -125,7 +129,7 @@ fn cut_short(text: &[u8], separator: u8) -> (&[u8], Option<&[u8]>)
 }
 
 /// The number that the first piece writes, and what stands behind the piece: quick where it has one
-/// digit, as many numbers have.
+/// digit or two, as many numbers have.
 #[inline(always)]
 fn cut_number(text: &[u8], separator: u8) -> Option<(u64, Option<&[u8]>)>
     ensures { option_map (λ x. (x.0, pieces_left separator (option_map (λ r. r.now) x.1))) result
@@ -135,6 +139,10 @@ fn cut_number(text: &[u8], separator: u8) -> Option<(u64, Option<&[u8]>)>
         [digit, next, rest @ ..]
             if digit.is_ascii_digit() && *digit != separator && *next == separator => {
             Some((u64::from(*digit - b'0'), Some(rest)))
+        }
+        [tens @ b'1'..=b'9', ones @ b'0'..=b'9', next, rest @ ..]
+            if *tens != separator && *ones != separator && *next == separator => {
+            Some((u64::from(*tens - b'0') * 10 + u64::from(*ones - b'0'), Some(rest)))
         }
         _ => cut_digits(text, separator),
     }

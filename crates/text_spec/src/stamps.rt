@@ -1,7 +1,7 @@
 ghost use Rattle.std.specs.Prelude.{◌≡◌, ℕ, ◌<◌, ◌^◌, ◌≤◌, List, Option, ◌++◌, OnOk, OnErr, ◌+◌, length, vec_len, vec_capacity, option_and_then};
 ghost use Rattle.text_spec.specs.Names.{stamp_in, stamp_text, stamp_of_bytes, hex_in, Stamp};
 
-use crate::hexadecimal::{hex_into, push_hex, put_hex};
+use crate::hexadecimal::{are_lower_digits, push_hex, put_bytes, put_hex};
 use ids_types::{NoMemory, Stamp};
 
 /// The optional timestamp that the word writes, `None` where it is no text of one.
@@ -17,14 +17,16 @@ pub fn stamp(word: &[u8]) -> Option<Option<Stamp>>
 
 /// The timestamp of sixteen digits.
 #[inline(never)]
+#[tactic(auto, using(crate::proofs::HexadecimalLemmas::readings))]
 fn stamp_of_digits(word: &[u8]) -> Option<Option<Stamp>>
     ensures { result ≡ option_and_then stamp_of_bytes (hex_in word.now) }
 {
-    let mut bytes = [0; 8];
-    match hex_into(word, &mut bytes)? {
-        8 => Some(Some(Stamp(u64::from_be_bytes(bytes)))),
-        _ => None,
+    if word.len() != 16 || !are_lower_digits(word) {
+        return None;
     }
+    let mut bytes = [0; 8];
+    put_bytes(word, &mut bytes);
+    Some(Some(Stamp(u64::from_be_bytes(bytes))))
 }
 
 /// Appends the text of the optional timestamp.

@@ -7,6 +7,7 @@ pub use Rattle.ids_config.specs.Parts.{Parts}
 pub use Rattle.merge_spec.specs.Orders.{KeepUpFrom}
 pub use Rattle.merge_spec.specs.Rounds.{lines_at, lines_of, last_tick}
 pub use Rattle.text_spec.proofs.JournalFacts.{flat_map-push}
+pub use Rattle.text_spec.proofs.LastLemmas.{last_bytes}
 pub use Rattle.text_spec.proofs.TraceFacts.{all_append, all_at, all_replicate, all_split, by_last, last_tick-push, with_last-push, IsSmall, opening_keeps_up, opening_small, ticks_ended, ticks_asked, ticks_pushed}
 pub use Rattle.text_spec.proofs.TraceLaws.{trace_again, trace_fits}
 pub use Rattle.text_spec.proofs.WordsLemmas.{text_of-map, one_more}

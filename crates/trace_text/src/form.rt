@@ -7,7 +7,7 @@ ghost use Rattle.text_spec.specs.TraceForm.{asked_mode_form, asked_report_form, 
 ghost use Rattle.trace_text.specs.RawLines.{context_told, line_told, where_all};
 
 use ids_types::{Mode, NoMemory, Stamp};
-use text_spec::{HexText, Pieces};
+use text_spec::{HexText, Words};
 
 /// What a caller asks for, its numbers not yet in their ranges and its context's bytes still as text.
 #[derive(Debug, Drop)]
@@ -33,7 +33,7 @@ pub(crate) enum RawLine<'a> {
 }
 
 /// What a line of this first word and these behind it tells, `None` where it has no form.
-pub(crate) fn line_of<'a>(kind: &[u8], words: Pieces<'a>) -> Option<RawLine<'a>>
+pub(crate) fn line_of<'a>(kind: &[u8], words: Words<'a>) -> Option<RawLine<'a>>
     ensures { option_map line_told result ≡ told_in_one trace_forms (kind.now ∷ words.entry) }
 {
     if kind == b"R".as_slice() {
@@ -51,16 +51,17 @@ pub(crate) fn line_of<'a>(kind: &[u8], words: Pieces<'a>) -> Option<RawLine<'a>>
     None
 }
 
-/// The words behind `R`.
-fn report_of(words: Pieces<'_>) -> Option<RawLine<'_>>
+/// The words behind `R`. The last of them is read as what is left of the line: no context has a space.
+#[tactic(auto, using(crate::proofs::Names::last_bytes))]
+fn report_of(words: Words<'_>) -> Option<RawLine<'_>>
     ensures { option_map line_told result ≡ behind asked_report_form words.entry }
 {
     let (caller, words) = words.any_number()?;
     let (event, words) = words.any_number()?;
     let (count, words) = words.any_number()?;
     let (stamp, words) = words.stamp()?;
-    let (context, words) = context_first(words)?;
-    words.ended(RawLine::Call {
+    let context = context_of(words.text()?)?;
+    Some(RawLine::Call {
         caller,
         act: RawAct::Report {
             event,
@@ -72,7 +73,7 @@ fn report_of(words: Pieces<'_>) -> Option<RawLine<'_>>
 }
 
 /// The words behind `S`.
-fn state_of(words: Pieces<'_>) -> Option<RawLine<'_>>
+fn state_of(words: Words<'_>) -> Option<RawLine<'_>>
     ensures { option_map line_told result ≡ behind asked_state_form words.entry }
 {
     let (caller, words) = words.any_number()?;
@@ -84,7 +85,7 @@ fn state_of(words: Pieces<'_>) -> Option<RawLine<'_>>
 }
 
 /// The words behind `M`.
-fn setting_of(words: Pieces<'_>) -> Option<RawLine<'_>>
+fn setting_of(words: Words<'_>) -> Option<RawLine<'_>>
     ensures { option_map line_told result ≡ behind asked_mode_form words.entry }
 {
     let (caller, words) = words.any_number()?;
@@ -97,21 +98,11 @@ fn setting_of(words: Pieces<'_>) -> Option<RawLine<'_>>
 }
 
 /// The words behind `E`.
-fn end_of(words: Pieces<'_>) -> Option<RawLine<'_>>
+fn end_of(words: Words<'_>) -> Option<RawLine<'_>>
     ensures { option_map line_told result ≡ behind round_end_form words.entry }
 {
     let (tick, words) = words.any_number()?;
     words.ended(RawLine::Close(tick))
-}
-
-/// The context at the front, and the words behind it.
-#[inline(always)]
-fn context_first(words: Pieces<'_>) -> Option<(Option<HexText<'_>>, Pieces<'_>)>
-    ensures { option_map (λ x. (context_told x.0, x.1)) result ≡ first_as any_bytes words.entry }
-{
-    let (word, words) = words.first()?;
-    let context = context_of(word)?;
-    Some((context, words))
 }
 
 /// `-`, or a byte or more.
@@ -126,7 +117,7 @@ fn context_of(word: &[u8]) -> Option<Option<HexText<'_>>>
 }
 
 /// Reads words as ticks, and tells whether all of them are numbers.
-pub(crate) fn read_ticks(words: Pieces<'_>, ticks: &mut Vec<u64>) -> Result<bool, NoMemory>
+pub(crate) fn read_ticks(words: Words<'_>, ticks: &mut Vec<u64>) -> Result<bool, NoMemory>
     ensures { IfOk result (λ all.
         where_all all ticks.new.items ≡ numbers_in (length words.entry) words.entry) }
 {

@@ -8,7 +8,7 @@ use crate::trace::Trace;
 use ids_config::{Config, asks};
 use ids_types::NoMemory;
 use std::alloc::Global;
-use text_spec::{LineFault, Pieces};
+use text_spec::{LineFault, Words};
 
 /// What the lines read so far tell.
 #[derive(Debug, Drop)]
@@ -56,7 +56,7 @@ impl<'a> Reader<'a> {
             (after_line (trace_grammar self.old.config.now) (past_of self.old) line.now) result }
         ensures config { self.new.config.now ≡ self.old.config.now }
     {
-        let Some((kind, words)) = Pieces::of(line, b' ').first() else {
+        let Some((kind, words)) = Words::of(line).first() else {
             return Err(LineFault::Fault(1));
         };
         if kind == b"N".as_slice() {
@@ -70,7 +70,7 @@ impl<'a> Reader<'a> {
     }
 
     /// Opens a round, whose ticks beside these words are.
-    fn open(&mut self, words: Pieces<'_>) -> Result<(), LineFault>
+    fn open(&mut self, words: Words<'_>) -> Result<(), LineFault>
         ensures took { Took (past_of self.new)
             (past_with (trace_grammar self.old.config.now) (past_of self.old)
             (option_map opens (numbers_in (length words.entry) words.entry))) result }
