@@ -1,5 +1,6 @@
 -- The message at the front of bytes, as it is read.
-use Rattle.frame_auth.proofs.Names.{◌≡◌, ℕ, ◌<◌, ◌≤◌, get_or, List, length, take, drop, Result, Ok, Err, sym, subst, arith, AreBytes, MessageParts, spelling, BeginsWith, BeginsSo, Begins, CauseOf, Begun, common_steps}
+use Rattle.frame_auth.proofs.Names.{◌≡◌, ℕ, ◌≤◌, get_or, List, length, take, drop, Result, Ok, Err, sym, subst, arith, AreBytes, MessageParts, spelling, BeginsWith, BeginsSo, Begins, CauseOf, Begun, common_steps}
+use Rattle.std.proofs.Common.{Fits, w8}
 use Rattle.std.specs.Result.{result_map_both}
 use Rattle.std.proofs.lemmas.List.{get_or_default}
 use Rattle.ids_frame.specs.declared.fault.FrameFault.{FrameFault}
@@ -23,11 +24,12 @@ tells : (bytes : List ℕ) (read : Begun) → Begins bytes read
 tells bytes read begins = grind (arith, common_steps)
 
 -- each answer of `decode` says so
-pub decode_tells : (bytes : List ℕ) (read : Result (MessageParts × ℕ) FrameFault) → ((i : ℕ) → get_or bytes i 0 < 256)
-    → read ≡ decoded bytes → Tells bytes read
-decode_tells bytes read fit e =
-    let are_bytes : AreBytes bytes = λ k d within. rw (get_or_default bytes k d 0 within) (fit k) in
-    subst (Tells bytes) (sym e) (tells bytes (message_at bytes) (told bytes are_bytes))
+pub decode_tells : (bytes : List ℕ) (read : Result (MessageParts × ℕ) FrameFault) → AreBytes bytes → read ≡ decoded bytes → Tells bytes read
+decode_tells bytes read fit e = subst (Tells bytes) (sym e) (tells bytes (message_at bytes) (told bytes fit))
+
+-- what a slice holds are bytes
+pub are_bytes : (bytes : List ℕ) → ((i : ℕ) → Fits w8 (get_or bytes i 0)) → AreBytes bytes
+are_bytes bytes fits k d within = omega (arith, fits k, get_or_default bytes k d 0 within)
 
 -- what holds of the message that the bytes begin with
 pub begins_so : {P : MessageParts → Type 0} {bytes behind : List ℕ} {m : MessageParts} → BeginsWith bytes m behind → P m → BeginsSo P bytes

@@ -1,4 +1,5 @@
 pub mod Faults
+pub mod KeyView
 pub mod Layout
 pub mod Sealing
 pub mod Tags

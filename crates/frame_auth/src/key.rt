@@ -1,5 +1,6 @@
 //! Keys, and the tags that they make.
 ghost use Rattle.std.specs.Prelude.{◌≡◌, ◌++◌, ◌≤◌, ◌↔◌, length, drop, IsSome, IfSome};
+ghost use Rattle.sha2.specs.Hashers.{Holds256};
 ghost use Rattle.frame_auth.specs.Tags.{IsKeyLength, filled, masked, hmac};
 
 use sha2::{Digest, Sha256};
@@ -14,18 +15,24 @@ const INNER: u8 = 0x36;
 const OUTER: u8 = 0x5c;
 
 /// A key of 1 to 64 bytes, filled with zeros to 64. So keys that differ in zeros at the end alone
-/// are one key, as RFC 2104 has it.
+/// are one key, as RFC 2104 has it. It keeps the two digests that have taken it in, which every tag
+/// goes on from.
 #[derive(Drop)]
 pub struct Key {
     block: [u8; BLOCK],
+    inner: Sha256,
+    outer: Sha256,
 }
 
 impl Model for Key {
     ghost use Rattle.std.specs.Prelude.{ℕ, List};
+    ghost use Rattle.frame_auth.specs.KeyView.{IsTakenIn};
 
     ghost Value = { List ℕ };
 
     ghost view = { λ key. key.block };
+
+    ghost invariant = { IsTakenIn };
 }
 
 impl Key {
@@ -39,18 +46,11 @@ impl Key {
         }
         let mut block = [0; BLOCK];
         put_front(&mut block, bytes);
-        Some(Key { block })
-    }
-
-    #[tactic(auto, using(crate::proofs::TagLemmas::mask_more))]
-    fn masked(&self, mask: u8) -> [u8; BLOCK]
-        ensures { result ≡ masked mask self.now }
-    {
-        let mut block = self.block;
-        for byte in &mut block {
-            *byte ^= mask;
-        }
-        block
+        Some(Key {
+            block,
+            inner: taken_in(block, INNER),
+            outer: taken_in(block, OUTER),
+        })
     }
 }
 
@@ -61,14 +61,26 @@ fn put_front(block: &mut [u8], bytes: &[u8])
     block[..bytes.len()].copy_from_slice(bytes);
 }
 
+/// A digest that has taken in the block, masked.
+#[tactic(auto, using(crate::proofs::TagLemmas::mask_more))]
+fn taken_in(block: [u8; BLOCK], mask: u8) -> Sha256
+    ensures { Holds256 result (masked mask block) }
+{
+    let mut bytes = block;
+    for byte in &mut bytes {
+        *byte ^= mask;
+    }
+    Sha256::new_with_prefix(&bytes)
+}
+
 /// The tag of `front` and then `back` under the key: HMAC with SHA-256.
 pub fn tag(key: &Key, front: &[u8], back: &[u8]) -> [u8; 32]
     ensures { result ≡ hmac key.now (front.now ++ back.now) }
 {
-    let mut inner = Sha256::new_with_prefix(&key.masked(INNER));
+    let mut inner = key.inner.clone().unwrap();
     inner.update(front);
     inner.update(back);
-    let mut outer = Sha256::new_with_prefix(&key.masked(OUTER));
+    let mut outer = key.outer.clone().unwrap();
     outer.update(&inner.finalize());
     outer.finalize()
 }

@@ -1,7 +1,7 @@
 use Rattle.frame_auth.proofs.Names.{◌≡◌, ◌++◌, take, drop}
 use Rattle.frame_auth.specs.Tags.{masked}
-use Rattle.frame_auth.proofs.key.Key.masked.Given as goal
+use Rattle.frame_auth.proofs.key.taken_in.Given as goal
 
 -- the bytes so far are combined with the mask
 abbrev pub invariant-loop-byte : goal.invariant-loop-byte
-invariant-loop-byte l = l.byte-items ≡ masked l.mask (take l.byte-index l.self) ++ drop l.byte-index l.self
+invariant-loop-byte l = l.byte-items ≡ masked l.mask (take l.byte-index l.fn.block) ++ drop l.byte-index l.fn.block
