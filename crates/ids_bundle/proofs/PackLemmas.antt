@@ -1,10 +1,7 @@
 -- Packing: messages are judged, cut and written, one at a time.
-use Rattle.ids_bundle.proofs.Names.{◌≡◌, ℕ, ◌+◌, ◌-◌, ◌<◌, ◌≤◌, List, [], ◌∷◌, ◌++◌, length, take, drop, Ok, Err, refl, sym, ap, subst, ◌∙◌, append_assoc, arith, append-nil, length-append, AllByRecursion, Result, w16, to_be_bytes, AreBytes, Begins, CauseOf, MessageParts, joined, spelling, IsPacked, Run, load, unit, units, rules, common_steps}
-use Rattle.ids_frame.specs.declared.fault.FrameFault.{FrameFault}
+use Rattle.ids_bundle.proofs.Names.{◌≡◌, ℕ, ◌+◌, ◌-◌, ◌<◌, ◌≤◌, List, [], ◌∷◌, ◌++◌, length, take, drop, Ok, Err, refl, sym, ap, subst, ◌∙◌, append_assoc, arith, append-nil, length-append, AllByRecursion, Result, w16, to_be_bytes, AreBytes, MessageParts, joined, spelling, IsPacked, Run, load, unit, units, rules, common_steps}
 use Rattle.ids_frame.specs.Reading.{Begun, message_at}
-use Rattle.ids_frame.specs.Decoding.{decoded}
-use Rattle.std.specs.Result.{result_map_both}
-use Rattle.ids_frame.proofs.MessageLemmas.{again, told, read_of, one_message_lem}
+use Rattle.ids_frame.proofs.MessageLemmas.{again, read_of, one_message_lem}
 use Rattle.ids_frame.proofs.PartLemmas.{behind_bytes}
 use Rattle.ids_bundle.specs.declared.fault.PackFault.{PackFault}
 use Rattle.ids_bundle.specs.declared.fault.PackFault.TheVariants.{Bad, TooLarge, NoMemory}
@@ -12,20 +9,6 @@ use Rattle.ids_bundle.specs.Packing.{FitsIn, BeginsLong, StopsAt, ArePacked, Pac
 use Rattle.ids_bundle.proofs.ListLemmas.{one_ok, one_err, all_append, one_more, one_answer, Settles}
 use Rattle.ids_bundle.proofs.UnitLemmas.{load-append, no_message}
 use Rattle.ids_bundle.proofs.CutLemmas.{one_packing_lem, greedy, keeps, closes, greedy_packed}
-
--- ---- judging
-
--- what an answer of `decode` tells of the bytes
-abbrev Tells : List ℕ → Result (MessageParts × ℕ) FrameFault → Type 0
-Tells bytes (Ok x) = BeginsLong bytes x.1
-Tells bytes (Err fault) = CauseOf fault bytes
-
-tells_by : (bytes : List ℕ) (read : Begun) (answer : Result (MessageParts × ℕ) FrameFault) → Begins bytes read
-    → answer ≡ result_map_both {U = MessageParts × ℕ} (λ x. (x.0, length (spelling x.0))) (λ fault. fault) read → Tells bytes answer
-tells_by bytes read answer begins e = search rules
-
-pub tells : (bytes : List ℕ) (answer : Result (MessageParts × ℕ) FrameFault) → AreBytes bytes → answer ≡ decoded bytes → Tells bytes answer
-tells bytes answer fits e = tells_by bytes (message_at bytes) answer (told bytes fits) e
 
 -- ---- cutting and writing
 

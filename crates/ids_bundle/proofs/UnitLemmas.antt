@@ -1,12 +1,16 @@
 -- Runs, their units, and how these are known again.
-use Rattle.ids_bundle.proofs.Names.{◌≡◌, ℕ, ◌+◌, ◌*◌, ◌/◌, ◌%◌, ◌<◌, ◌≤◌, ◌↔◌, Bool, false, IsTrue, List, [], ◌∷◌, ◌++◌, length, get_or, take, drop, Ok, Err, refl, sym, ap, subst, ◌∙◌, arith, length-append, take_at, drop_at, append-nil, flat_map-append, w16, to_be_bytes, AreBytes, MessageParts, FitsMessage, joined, AreMessages, IsJoined, messages_read, spelling, Run, load, unit, FitsUnit, IsUnit, AreSoMany, IsBody, unit_size, IsPart, IsBad, common_steps}
+use Rattle.ids_bundle.proofs.Names.{◌≡◌, ℕ, ◌+◌, ◌*◌, ◌/◌, ◌%◌, ◌<◌, ◌≤◌, ◌↔◌, Bool, IsTrue, List, [], ◌∷◌, ◌++◌, length, get_or, take, drop, Ok, Err, refl, sym, ap, subst, ◌∙◌, arith, length-append, take_at, drop_at, append-nil, flat_map-append, w16, to_be_bytes, AreBytes, BeginsWith, MessageParts, FitsMessage, Begins, CauseOf, Result, joined, AreMessages, IsJoined, messages_read, spelling, Run, load, unit, FitsUnit, IsUnit, AreSoMany, IsBody, unit_size, IsPart, IsBad, common_steps}
 use Rattle.std.proofs.Common.{Fits, w8, rules}
-use Rattle.std.proofs.lemmas.List.{get_or_default}
+use Rattle.std.proofs.lemmas.List.{get_or_default, nil_from_length}
 use Rattle.std.proofs.lemmas.Nat.{from_be_bytes-to_be_bytes_2}
-use Rattle.ids_frame.specs.declared.fault.BadMessage.{BadMessage}
-use Rattle.ids_frame.proofs.MessageLemmas.{one_message_lem}
+use Rattle.std.specs.Result.{result_map_both}
+use Rattle.ids_frame.specs.declared.fault.FrameFault.{FrameFault}
+use Rattle.ids_frame.specs.Decoding.{decoded}
+use Rattle.ids_frame.specs.Reading.{Begun, message_at}
+use Rattle.ids_frame.proofs.MessageLemmas.{one_message_lem, read_of, told}
 use Rattle.ids_frame.proofs.MessagesLemmas.{read_is_held}
-use Rattle.ids_bundle.proofs.ListLemmas.{one_ok, IsPrefixFree, IsStuck, one_way}
+use Rattle.ids_bundle.specs.Packing.{BeginsLong}
+use Rattle.ids_bundle.proofs.ListLemmas.{IsPrefixFree, IsStuck, one_way}
 
 -- ---- how many bytes runs have
 
@@ -71,18 +75,58 @@ are_bytes bytes fits k d lt = omega (arith, fits k, get_or_default bytes k d 0 l
 pub joined_read : (bytes : List ℕ) (run : Run) → AreBytes bytes → IsJoined bytes run → messages_read bytes ≡ Ok run
 joined_read bytes run fits joins = (read_is_held bytes (Ok run) fits).1 joins
 
--- counting what is read tells whether they are so many
-pub counted : (bytes : List ℕ) (run : Run) (number : ℕ) (answer : Bool) → AreBytes bytes → Ok run ≡ messages_read bytes
-    → IsTrue answer ↔ (length run ≡ number) → IsTrue answer ↔ AreSoMany number bytes
-counted bytes run number answer fits e known = (
-  λ yes. (run, (read_is_held bytes (Ok run) fits).0 (sym e), known.0 yes),
-  λ has. known.1 (ap (λ r. length r) (one_ok (sym e) (joined_read bytes has.0 fits has.1)) ∙ has.2),
-)
+-- what an answer of `decode` tells of the bytes
+abbrev Tells : List ℕ → Result (MessageParts × ℕ) FrameFault → Type 0
+Tells bytes (Ok x) = BeginsLong bytes x.1
+Tells bytes (Err fault) = CauseOf fault bytes
 
--- what is not read is none
-pub not_counted : (bytes : List ℕ) (bad : BadMessage) (number : ℕ) → AreBytes bytes → Err bad ≡ messages_read bytes
-    → IsTrue false ↔ AreSoMany number bytes
-not_counted bytes bad number fits e = (λ no. absurd (search rules), λ has. absurd (cc (e, joined_read bytes has.0 fits has.1)))
+tells_by : (bytes : List ℕ) (read : Begun) (answer : Result (MessageParts × ℕ) FrameFault) → Begins bytes read
+    → answer ≡ result_map_both {U = MessageParts × ℕ} (λ x. (x.0, length (spelling x.0))) (λ fault. fault) read → Tells bytes answer
+tells_by bytes read answer begins e = search rules
+
+pub tells : (bytes : List ℕ) (answer : Result (MessageParts × ℕ) FrameFault) → AreBytes bytes → answer ≡ decoded bytes → Tells bytes answer
+tells bytes answer fits e = tells_by bytes (message_at bytes) answer (told bytes fits) e
+
+-- a message that stands at the front has no more bytes
+pub few_bytes : (bytes : List ℕ) (len : ℕ) → BeginsLong bytes len → len ≤ length bytes
+few_bytes bytes len is = omega (arith, is.long, ap (λ l. length l) is.begins.whole, length-append (spelling is.message) is.rest)
+
+-- where messages stand one stands at the front, and then one fewer
+first_of : (bytes : List ℕ) (number : ℕ) → AreSoMany (number + 1) bytes → (x : MessageParts × List ℕ) × BeginsWith bytes x.0 x.1 × AreSoMany number x.1
+first_of bytes number so = from so.0 so.1 so.2
+  where
+    from : (run : Run) → IsJoined bytes run → length run ≡ number + 1 → (x : MessageParts × List ℕ) × BeginsWith bytes x.0 x.1 × AreSoMany number x.1
+    from [] joins e = absurd (omega (arith, e))
+    from (m ∷ run) joins e = ((m, joined run), record { fits = joins.fit.0; whole = joins.whole }, (run, record { fit = joins.fit.1; whole = refl }, omega (arith, e)))
+
+-- behind a message of this length stands one fewer
+pub one_fewer : (bytes : List ℕ) (len number : ℕ) → BeginsLong bytes len → AreSoMany (number + 1) bytes ↔ AreSoMany number (drop len bytes)
+one_fewer bytes len number is =
+    let begins = is.begins in
+    let behind : drop len bytes ≡ is.rest = ap (drop len) begins.whole ∙ drop_at (spelling is.message) is.rest len (sym is.long) in (
+      λ so.
+          let first = first_of bytes number so in
+          let same = one_message_lem is.message first.0.0 is.rest first.0.1 begins.fits first.1.fits (sym begins.whole ∙ first.1.whole) in
+          subst (AreSoMany number) (sym (behind ∙ same.1)) first.2,
+      λ so. (
+        is.message ∷ so.0,
+        record { fit = (begins.fits, so.1.fit); whole = begins.whole ∙ ap (λ l. spelling is.message ++ l) (sym behind ∙ so.1.whole) },
+        omega (arith, so.2),
+      ),
+    )
+
+-- where no message can be read none stands
+pub none_more : (bytes : List ℕ) (fault : FrameFault) (number : ℕ) → AreBytes bytes → CauseOf fault bytes → AreSoMany (number + 1) bytes → ⊥
+none_more bytes fault number fits cause so =
+    let first = first_of bytes number so in
+    absurd (cc (read_of bytes (Err fault) fits cause, read_of bytes (Ok first.0) fits first.1))
+
+-- no messages are no bytes
+pub none_at_all : (bytes : List ℕ) → AreSoMany 0 bytes ↔ (length bytes ≡ 0)
+none_at_all bytes = (
+  λ so. ap (λ l. length l) (so.1.whole ∙ ap joined (nil_from_length so.0 so.2)),
+  λ none. ([], record { fit = tt; whole = nil_from_length bytes none }, refl),
+)
 
 -- a head and so many messages are a unit
 is_unit_if : (a b c d : ℕ) (body : List ℕ) → AreBytes (a ∷ b ∷ c ∷ d ∷ body) → IsBody (a * 256 + b) (c * 256 + d) body

@@ -1,11 +1,11 @@
 //! The unit of a run of messages: written, and known again.
 
-ghost use Rattle.std.specs.Prelude.{◌≡◌, ◌≤◌, ◌<◌, ◌^◌, ◌++◌, ◌↔◌, IsTrue, OnOk, length, ℕ};
+ghost use Rattle.std.specs.Prelude.{◌≡◌, ◌≤◌, ◌<◌, ◌^◌, ◌++◌, ◌↔◌, IsTrue, OnOk, length};
 ghost use Rattle.std.specs.Int.{w16, to_be_bytes};
 ghost use Rattle.ids_frame.specs.Bytes.{AreBytes};
 ghost use Rattle.ids_bundle.specs.Units.{AreSoMany, IsBody, IsUnit, unit_size};
 
-use ids_frame::Messages;
+use ids_frame::decode;
 use std::alloc::AllocError;
 
 /// How many bytes of a unit stand before its messages.
@@ -67,20 +67,12 @@ fn is_body(number: u16, size: u16, bytes: &[u8]) -> bool
 fn are_messages(number: u16, bytes: &[u8]) -> bool
     ensures { IsTrue result ↔ AreSoMany number bytes.now }
 {
-    match Messages::read(bytes) {
-        Ok(messages) => are_so_many(number, messages),
-        Err(_) => false,
-    }
-}
-
-fn are_so_many(number: u16, messages: Messages<'_>) -> bool
-    ensures { IsTrue result ↔ (length messages.entry ≡ number) }
-{
-    let mut rest = messages;
+    let mut rest = bytes;
     for _ in 0..number {
-        if rest.pop_front().is_none() {
+        let Ok((_, size)) = decode(rest) else {
             return false;
-        }
+        };
+        rest = &rest[size..];
     }
-    rest.pop_front().is_none()
+    rest.is_empty()
 }
