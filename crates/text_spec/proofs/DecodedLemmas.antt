@@ -1,11 +1,40 @@
 -- The line of a decoded message.
-use Rattle.text_spec.proofs.Names.{◌≡◌, ◌+◌, ◌++◌, ℕ, List, append_assoc, length, length-append, arith, decimal, layout_word, message_line, shown_context, shown_signature, stamp_text}
-use Rattle.ids_frame.specs.Message.{MessageParts}
+use Rattle.text_spec.proofs.Names.{◌≡◌, ◌+◌, ◌<◌, ◌≤◌, ◌^◌, ◌++◌, ℕ, List, Option, Some, None, Stamp, w64, to_be_bytes, append_assoc, length, length-append, arith, decimal, layout_word, message_line, shown_context, shown_signature, stamp_text}
+use Rattle.std.proofs.lemmas.Grind.{common_steps}
+use Rattle.ids_frame.specs.Message.{MessageParts, FitsMessage}
+use Rattle.text_spec.proofs.HexadecimalLemmas.{length_hex}
+use Rattle.text_spec.proofs.NumbersLemmas.{few_digits}
 
 -- the parts of a line
 pub length_line : (m : MessageParts) → length (message_line m) ≡ 8 + length (layout_word m.version) + length (decimal m.instance) + length (decimal m.sensor) + length (decimal m.event) + length (decimal m.count)
     + length (decimal m.reserved) + length (stamp_text m.stamp) + length (shown_context m.context) + length (shown_signature m.signature)
 length_line m = simp length-append (omega arith)
+
+-- the words in front of the context and of the signature are short
+pub few_in_front : (m : MessageParts) → FitsMessage m
+    → length (message_line m) < 127 + length (shown_context m.context) + length (shown_signature m.signature)
+few_in_front m fits =
+    omega (
+      arith,
+      length_line m,
+      digits m.instance (omega (arith, fits.room.ten_bits)),
+      digits m.sensor (omega (arith, fits.room.six_bits)),
+      digits m.event fits.event,
+      digits m.count fits.count,
+      digits m.reserved (omega (arith, fits.reserved)),
+      length_layout m.version,
+      length_stamp m.stamp,
+    )
+  where
+    digits : (n : ℕ) → n < 2 ^ 16 → length (decimal n) ≤ 20
+    digits n small = few_digits n (omega arith)
+
+    length_layout : (version : ℕ) → length (layout_word version) ≤ 2
+    length_layout version = grind (arith, common_steps)
+
+    length_stamp : (stamp : Option Stamp) → length (stamp_text stamp) ≤ 16
+    length_stamp None = omega arith
+    length_stamp (Some stamp) = omega (arith, length_hex (to_be_bytes w64 stamp.0))
 
 -- texts that are put one after another
 pub texts_put : (before a b c d e f g h i j k l end : List ℕ)

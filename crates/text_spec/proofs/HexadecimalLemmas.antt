@@ -2,6 +2,9 @@
 use Rattle.text_spec.proofs.Names.{◌≡◌, ◌⊎◌, ◌+◌, ◌*◌, ◌-◌, ◌/◌, ◌%◌, ◌<◌, ◌≤◌, ◌∷◌, ◌++◌, take_all, take_more, length-encode_with, decode_of-encode_lower, decode_of-odd, ℕ, zero, suc, true, false, inl, inr, List, [], add-one, append_assoc, length, slice_index, take, unwrap_or, refl, sym, ap, subst, ◌∙◌, arith, Option, Some, None, option_and_then, is_in_range, list_all, agree_below_at, and_from, and_parts, cases_Bool, cond-true, cond-false, lt-leb, or_cases, IsBytes, decode_of, encode_lower, lower_digits, hex_in, hex_upto, fitting, is_lower_digit, some_bytes, some_hex, bytes_of, IsWritten, ◌>>=◌}
 use Rattle.std.specs.Result.{result_ok}
 use Rattle.hex.specs.Hex.{decode_pairs, encode_with}
+use Rattle.std.proofs.Common.{Bool, ◌&&◌, ◌==◌}
+use Rattle.std.proofs.lemmas.Bool.{eqb-true}
+use Rattle.text_spec.specs.declared.hexadecimal.TheConstants.{PAIRS}
 
 -- the text of bytes is twice as long
 pub length_hex : (bytes : List ℕ) → length (encode_lower bytes) ≡ 2 * length bytes
@@ -27,6 +30,15 @@ lower_text (b ∷ bytes) all =
 pub hex_in-encode_lower : (bytes : List ℕ) → IsBytes bytes → hex_in (encode_lower bytes) ≡ Some bytes
 hex_in-encode_lower bytes all =
     cond-true _ (result_ok (decode_of (encode_lower bytes))) None (lower_text bytes all) ∙ ap result_ok (decode_of-encode_lower bytes all)
+
+-- the table has the two digits of each byte
+pub pair_at : (b : ℕ) → b < 256 → (slice_index PAIRS.now (2 * b) ≡ slice_index lower_digits (b / 16)) × (slice_index PAIRS.now (2 * b + 1) ≡ slice_index lower_digits (b % 16))
+pair_at b small =
+    let both = and_parts _ _ (agree_below_at is_pair_at (λ _. true) 256 b refl small) in
+    (eqb-true _ _ both.0, eqb-true _ _ both.1)
+  where
+    is_pair_at : ℕ → Bool
+    is_pair_at k = slice_index PAIRS.now (2 * k) == slice_index lower_digits (k / 16) && slice_index PAIRS.now (2 * k + 1) == slice_index lower_digits (k % 16)
 
 -- ---- from the text to the bytes
 

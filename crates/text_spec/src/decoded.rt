@@ -1,6 +1,7 @@
 //! Decoded messages as lines.
 
 ghost use Rattle.std.specs.Prelude.{◌≡◌, ◌+◌, ◌<◌, ◌≤◌, ◌++◌, ◌∷◌, [], OnOk, OnErr, option_copied, codes, decimal, length, IfSome, vec_len, vec_capacity, ◌^◌};
+ghost use Rattle.ids_frame.specs.Message.{FitsMessage};
 ghost use Rattle.text_spec.specs.Names.{line_feed, space, message_line, form_letter, layout_word, shown_context, shown_signature};
 
 use crate::hexadecimal::put_hex;
@@ -18,8 +19,9 @@ pub fn push_message(out: &mut Vec<u8>, message: &Message<'_>) -> Result<(), NoMe
     ensures full { let line = message_line message.now ++ line_feed ∷ [] in
         OnErr result (vec_capacity out.old < vec_len out.old + length line) }
 {
-    out.reserve(line_len(message) + 1)?;
-    put_layout(out, message.version());
+    let version = message.version();
+    reserve_line(out, message)?;
+    put_layout(out, version);
     put_field(out, u64::from(message.instance()));
     put_field(out, u64::from(message.sensor()));
     put_field(out, u64::from(message.event()));
@@ -33,6 +35,25 @@ pub fn push_message(out: &mut Vec<u8>, message: &Message<'_>) -> Result<(), NoMe
     put_signature(out, message.signature());
     out.push_reserved(b'\n');
     Ok(())
+}
+
+/// How many bytes of a line are of none of its last two words, at most.
+const MOST_FRONT: usize = 127;
+
+/// Makes room for the line of a message, whose length is told only where there may be too little.
+#[tactic(auto, using(crate::proofs::DecodedLemmas::length_line, crate::proofs::DecodedLemmas::few_in_front))]
+fn reserve_line(out: &mut Vec<u8>, message: &Message<'_>) -> Result<(), NoMemory>
+    requires { FitsMessage message.now }
+    ensures items { out.new.items ≡ out.old.items }
+    ensures len { vec_len out.new ≡ vec_len out.old }
+    ensures room { OnOk result (vec_len out.new + length (message_line message.now) < vec_capacity out.new) }
+    ensures full { OnErr result (vec_capacity out.old < vec_len out.old + length (message_line message.now) + 1) }
+{
+    let back = context_len(&message.context()) + signature_len(message.signature());
+    if out.capacity() - out.len() >= MOST_FRONT + back {
+        return Ok(());
+    }
+    Ok(out.reserve(line_len(message) + 1)?)
 }
 
 #[tactic(auto, using(crate::proofs::DecodedLemmas::length_line))]
@@ -89,7 +110,7 @@ fn put_context(out: &mut Vec<u8>, context: &Option<Context<'_>>)
     requires { vec_len out.old + length (shown_context context.now) ≤ vec_capacity out.old }
     ensures items { out.new.items ≡ out.old.items ++ shown_context context.now }
     ensures len { vec_len out.new ≡ vec_len out.old + length (shown_context context.now) }
-    ensures capacity { vec_capacity out.new ≡ vec_capacity out.old }
+    ensures capacity { vec_capacity out.old ≤ vec_capacity out.new }
 {
     match context {
         Some(context) => {
@@ -131,7 +152,7 @@ fn put_signature(out: &mut Vec<u8>, signature: Option<&[u8]>)
         out.old.items ++ shown_signature (option_copied signature.entry) }
     ensures len { vec_len out.new ≡
         vec_len out.old + length (shown_signature (option_copied signature.entry)) }
-    ensures capacity { vec_capacity out.new ≡ vec_capacity out.old }
+    ensures capacity { vec_capacity out.old ≤ vec_capacity out.new }
 {
     match signature {
         Some(bytes) => {

@@ -102,7 +102,8 @@ pub(crate) fn put_field(out: &mut Vec<u8>, number: u64)
     if number < 100 {
         return put_pair(out, number);
     }
-    put_digits(out, number);
+    put_digits(out, number / 100);
+    put_pair(out, number % 100);
 }
 
 /// How many digits a number has at most.

@@ -60,7 +60,7 @@ pub(crate) fn put_stamp(out: &mut Vec<u8>, stamp: Option<Stamp>)
     requires { vec_len out.old + length (stamp_text stamp) ≤ vec_capacity out.old }
     ensures items { out.new.items ≡ out.old.items ++ stamp_text stamp }
     ensures len { vec_len out.new ≡ vec_len out.old + length (stamp_text stamp) }
-    ensures capacity { vec_capacity out.new ≡ vec_capacity out.old }
+    ensures capacity { vec_capacity out.old ≤ vec_capacity out.new }
 {
     match stamp {
         None => out.push_reserved(b'-'),
