@@ -1,4 +1,5 @@
-use Rattle.run_steps.proofs.Names.{inl, rules, refl, sym, decode_work, does}
+use Rattle.run_steps.proofs.Names.{inl, inr, rules, refl, decode_work, does, ◌≡◌}
+use Rattle.std.proofs.lemmas.Result.{IfErr-weaker, IfOk-weaker}
 use Rattle.run_files.proofs.ExitLemmas.{left_by}
 use Rattle.run_spec.proofs.JudgeLemmas.{unread, messages_first, messages_refused, messages_found}
 use Rattle.run_messages.proofs.decode.decode_file.Goals as goal
@@ -9,27 +10,32 @@ returns-in_err-bytes-clause-stops g c =
     (unread _ _ c.args.name.now _ _ _ _ (search rules) (λ told. messages_first c.args.name.now _) refl refl
     (λ told name. refl) c.read_file.ensures.same c.in_err-bytes.ensures.stops)
 
-pub returns-in-Ok-clause-done : goal.returns-in-Ok-clause-done
-returns-in-Ok-clause-done g c = record {
-  written = λ told. record {
-    task = does (decode_work c.in-Ok.messages);
-    judged = messages_found c.args.name.now _ c.deref.result.now
-        (rw c.deref.ensures.value (c.in_ok-bytes.ensures.found told)) _ (sym c.in-Ok.ensures.value);
-    work = decode_work c.in-Ok.messages;
-    is_work = refl;
-    written = tt;
-    text = c.in_ok-lines_of-in-Ok.ensures;
-    keeps = tt;
-  };
-  no_fault = c.in_ok-bytes.ensures.no_fault;
-}
+pub returns-clause-done : goal.returns-clause-done
+returns-clause-done g c =
+    IfOk-weaker c.lines_of.result _ _ (λ lines found. record {
+      written = λ told. record {
+        task = does (decode_work found.0);
+        judged = messages_found c.args.name.now _ c.deref.result.now
+            (rw c.deref.ensures.value (c.in_ok-bytes.ensures.found told)) _ found.1;
+        work = decode_work found.0;
+        is_work = refl;
+        written = tt;
+        text = found.2;
+        keeps = tt;
+      };
+      no_fault = c.in_ok-bytes.ensures.no_fault;
+    }) c.lines_of.ensures.found
 
 pub returns-clause-stops : goal.returns-clause-stops
-returns-clause-stops g c = record {
-  may = tt;
-  deserved = λ told.
-      inl (messages_refused c.args.name.now _ c.deref.result.now
-      (rw c.deref.ensures.value (c.in_ok-bytes.ensures.found told)) _ (sym c.in-Err.ensures.value));
-  no_fault = c.in_ok-bytes.ensures.no_fault;
-  same = c.read_file.ensures.same;
-}
+returns-clause-stops g c =
+    IfErr-weaker c.lines_of.result _ _ (λ reason why. elim why [
+      | inl none ↦ rw none (inl c.read_file.ensures.same)
+      | inr bad ↦ rw bad.2 (record {
+        may = tt;
+        deserved = λ told.
+            inl (messages_refused c.args.name.now _ c.deref.result.now
+            (rw c.deref.ensures.value (c.in_ok-bytes.ensures.found told)) _ bad.1);
+        no_fault = c.in_ok-bytes.ensures.no_fault;
+        same = c.read_file.ensures.same;
+      })
+    ]) c.lines_of.ensures.stops

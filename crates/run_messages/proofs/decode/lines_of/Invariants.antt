@@ -1,9 +1,9 @@
-use Rattle.run_steps.proofs.Names.{◌≡◌, ◌++◌, length, decoded_text}
+use Rattle.std.proofs.Common.{length}
+use Rattle.run_messages.proofs.LinesLemmas.{ArePrinted}
 use Rattle.run_messages.proofs.decode.lines_of.Given as goal
 
--- the lines so far and those of the messages that are left are the lines of all
-abbrev pub invariant-loop-message : goal.invariant-loop-message
-invariant-loop-message l = l.lines.items ++ decoded_text l.rest ≡ decoded_text l.fn.messages
+abbrev pub invariant-loop-rest : goal.invariant-loop-rest
+invariant-loop-rest l = ArePrinted l.bytes l.rest l.lines.items
 
-abbrev pub decreases-loop-message : goal.decreases-loop-message
-decreases-loop-message l = length l.rest
+abbrev pub decreases-loop-rest : goal.decreases-loop-rest
+decreases-loop-rest l = length l.rest
