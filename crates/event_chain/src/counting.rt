@@ -1,4 +1,4 @@
-ghost use Rattle.std.specs.Prelude.{◌≡◌, ◌<◌, ◌++◌, ℕ, List, [], ◌∷◌, length, option_to_list, IfOk};
+ghost use Rattle.std.specs.Prelude.{◌≡◌, ◌<◌, ◌++◌, ℕ, List, [], ◌∷◌, option_to_list, IfOk};
 ghost use Rattle.ids_config.specs.Parts.{Parts};
 ghost use Rattle.chain_spec.specs.Filtering.{thresholded_at};
 ghost use Rattle.chain_spec.specs.Items.{Item};

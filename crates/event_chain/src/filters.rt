@@ -1,23 +1,20 @@
-ghost use Rattle.std.specs.Prelude.{◌≡◌, ◌<◌, ◌≤◌, ◌+◌, ◌++◌, ℕ, List, [], ◌∷◌, length, option_to_list, vec_len, vec_capacity, IfOk, IfSome, if◌then◌else◌};
+ghost use Rattle.std.specs.Prelude.{◌≡◌, ◌<◌, ◌≤◌, ◌+◌, ◌++◌, ℕ, List, [], ◌∷◌, length, option_to_list, vec_len, vec_capacity, IfSome, if◌then◌else◌};
 ghost use Rattle.std.specs.Bool.{IsFalse};
 ghost use Rattle.std.specs.List.{All};
 ghost use Rattle.ids_types.specs.Carries.{act_by};
 ghost use Rattle.ids_types.specs.Output.{room_of};
 ghost use Rattle.ids_config.specs.Parts.{Parts};
 ghost use Rattle.chain_spec.specs.Filtering.{qualified};
-ghost use Rattle.chain_spec.specs.Items.{Item, item_at, told_by};
+ghost use Rattle.chain_spec.specs.Items.{item_at, told_by};
 ghost use Rattle.chain_spec.specs.Moments.{Moment, act_moment, closes, comes};
-ghost use Rattle.chain_spec.specs.Windows.{EndBy};
 ghost use Rattle.chain.specs.Parcels.{HandsBack, IsShort, parcel_of};
 ghost use Rattle.chain.specs.Turning.{FitsAct, most_sent};
 ghost use Rattle.filter_aggregate.specs.Account.{all_kept};
 ghost use Rattle.filter_aggregate.specs.Slots.{is_due, slot_at};
-ghost use Rattle.sending.specs.Sending.{Start, TakesOne, start_of};
-ghost use Rattle.sending.specs.Sender.{CanQualify};
+ghost use Rattle.sending.specs.Sending.{Start, start_of};
 ghost use Rattle.event_chain.specs.Behind.{IsBehind, kept_told};
-ghost use Rattle.event_chain.specs.Outlets.{OutletStands};
 ghost use Rattle.event_chain.specs.Standing.{Rests};
-ghost use Rattle.event_chain.specs.Ready.{HasPlaces, IsReady, SettledAt, Stays, AreOwn, CanSend};
+ghost use Rattle.event_chain.specs.Ready.{HasPlaces, IsReady, Stays, CanSend};
 
 use crate::counting::Counting;
 use crate::joining::{go_on, lent, pass};

@@ -1,6 +1,6 @@
 //! The aggregation filter, and how an item goes on behind it.
 
-ghost use Rattle.std.specs.Prelude.{◌≡◌, ◌<◌, ◌≤◌, ◌+◌, ◌++◌, ℕ, List, [], ◌∷◌, length, option_copied, option_map, option_to_list, vec_len, vec_capacity, IsSome};
+ghost use Rattle.std.specs.Prelude.{◌≡◌, ◌<◌, ◌≤◌, ◌+◌, ◌++◌, ℕ, List, ◌∷◌, length, option_copied, option_map, option_to_list, vec_len, vec_capacity, IsSome};
 ghost use Rattle.std.specs.Bool.{IsFalse};
 ghost use Rattle.ids_config.specs.Parts.{Parts};
 ghost use Rattle.chain_spec.specs.Calls.{Call, arrives, call_tick};

@@ -1,6 +1,6 @@
 //! The three parts of a turn: windows close, the internal events come, and then the entries.
 
-ghost use Rattle.std.specs.Prelude.{◌≡◌, ◌<◌, ◌≤◌, ◌+◌, ℕ, List, [], length, map, reverse, vec_len, vec_capacity};
+ghost use Rattle.std.specs.Prelude.{◌≡◌, ◌<◌, ◌≤◌, ◌+◌, List, [], length, map, vec_len, vec_capacity};
 ghost use Rattle.std.specs.List.{All};
 ghost use Rattle.ids_types.specs.Carries.{entry_by};
 ghost use Rattle.ids_config.specs.Parts.{Parts};

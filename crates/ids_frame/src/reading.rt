@@ -1,6 +1,6 @@
 //! The parts of a message, each read from the front of bytes, with the bytes that are left. None is
 //! where the bytes end before the part does.
-ghost use Rattle.std.specs.Prelude.{◌≡◌, ◌≤◌, ◌<◌, ◌^◌, length, IfSome, option_copied};
+ghost use Rattle.std.specs.Prelude.{◌≤◌, ◌<◌, length, IfSome, option_copied};
 ghost use Rattle.std.specs.Int.{w16};
 ghost use Rattle.ids_frame.specs.Context.{most_bytes};
 ghost use Rattle.ids_frame.specs.Reading.{Gives, byte_at, number_at, has, optional, stamp_at, length_at, context_at, signature_at};

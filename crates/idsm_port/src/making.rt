@@ -1,5 +1,5 @@
 //! How a manager and its callers are made, from the text of a configuration.
-ghost use Rattle.std.specs.Prelude.{◌≡◌, map, IfOk};
+ghost use Rattle.std.specs.Prelude.{◌≡◌, IfOk};
 ghost use Rattle.std.specs.Arc.{arc_value};
 ghost use Rattle.std.specs.List.{All};
 ghost use Rattle.config_json.specs.Configured.{configuration};

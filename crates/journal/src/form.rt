@@ -1,8 +1,8 @@
 //! The forms of a journal's lines.
 
-ghost use Rattle.std.specs.Prelude.{◌≡◌, ℕ, List, [], ◌∷◌, option_map, Some, None};
-ghost use Rattle.text_spec.specs.Contexts.{numbers_in, claims_in, context_in, kept_in, a_context};
-ghost use Rattle.text_spec.specs.Fields.{a_number, a_mode, behind, first_as, read_by};
+ghost use Rattle.std.specs.Prelude.{◌≡◌, [], ◌∷◌, option_map, Some, None};
+ghost use Rattle.text_spec.specs.Contexts.{numbers_in, claims_in, context_in, kept_in};
+ghost use Rattle.text_spec.specs.Fields.{a_number, a_mode, behind, read_by};
 ghost use Rattle.text_spec.specs.JournalForm.{turn_form, report_form, state_form, setting_form, loss_form, told_by, index, entry_of};
 ghost use Rattle.text_spec.specs.JournalText.{enters};
 ghost use Rattle.text_spec.specs.Maybe.{or_else};

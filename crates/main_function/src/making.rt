@@ -1,7 +1,7 @@
 //! How a manager is made, for one configuration and its chain.
-ghost use Rattle.std.specs.Prelude.{◌≡◌, ℕ, ◌+◌, ◌*◌, ◌≤◌, [], length, map, vec_capacity, IfOk};
+ghost use Rattle.std.specs.Prelude.{◌≡◌, ◌+◌, ◌*◌, ◌≤◌, [], length, map, IfOk};
 ghost use Rattle.ids_config.specs.Parts.{class_of};
-ghost use Rattle.buffer_classes.specs.Making.{AreSpecs, spec_sizes};
+ghost use Rattle.buffer_classes.specs.Making.{spec_sizes};
 ghost use Rattle.main_function.specs.Making.{IsBuilt, IsLargest, IsNewManager};
 
 use crate::manager::Manager;

@@ -1,5 +1,5 @@
 -- Hexadecimal: the readings of a word against the text of some bytes, into a room and byte by byte.
-use Rattle.text_spec.proofs.Names.{◌≡◌, ◌⊎◌, ◌+◌, ◌*◌, ◌-◌, ◌/◌, ◌%◌, ◌<◌, ◌≤◌, ◌∷◌, ◌++◌, take_all, take_more, length-encode_with, decode_of-encode_lower, decode_of-odd, ℕ, zero, suc, true, false, inl, inr, List, [], add-one, append_assoc, length, slice_index, take, unwrap_or, refl, sym, ap, subst, ◌∙◌, arith, Option, Some, None, option_and_then, is_in_range, list_all, agree_below_at, and_from, and_parts, cases_Bool, cond-true, cond-false, lt-leb, or_cases, IsBytes, decode_of, encode_lower, lower_digits, hex_in, hex_upto, fitting, is_lower_digit, some_bytes, some_hex, bytes_of, IsWritten, ◌>>=◌}
+use Rattle.text_spec.proofs.Names.{◌≡◌, ◌⊎◌, ◌+◌, ◌*◌, ◌-◌, ◌/◌, ◌%◌, ◌<◌, ◌≤◌, ◌∷◌, ◌++◌, take_all, take_more, length-encode_with, decode_of-encode_lower, decode_of-odd, ℕ, zero, suc, true, false, inl, inr, List, [], add-one, append_assoc, length, slice_index, take, unwrap_or, refl, sym, ap, subst, ◌∙◌, arith, Option, Some, None, is_in_range, list_all, agree_below_at, and_from, and_parts, cases_Bool, cond-true, cond-false, or_cases, IsBytes, decode_of, encode_lower, lower_digits, hex_in, is_lower_digit, some_bytes, some_hex, bytes_of, IsWritten, ◌>>=◌}
 use Rattle.std.specs.Result.{result_ok}
 use Rattle.hex.specs.Hex.{decode_pairs, encode_with}
 use Rattle.std.proofs.Common.{Bool, ◌&&◌, ◌==◌}
@@ -123,22 +123,6 @@ pub hex_in-odd : (word : List ℕ) → length word % 2 ≡ 1 → hex_in word ≡
 hex_in-odd word odd = elim (hex_cases word) [
   | inl some ↦ absurd (omega (arith, odd, length-hex_in word some.0 (hex_in-text word some.0 some.1)))
   | inr none ↦ none
-]
-
--- ---- into a room
-
--- what is not read does not fit a room
-pub hex_upto-none : (room : ℕ) (word : List ℕ) → hex_in word ≡ None → hex_upto room word ≡ None
-hex_upto-none room word none = ap (option_and_then (fitting room)) none
-
--- no bytes fit a room for less than half the word's length
-pub hex_upto-short : (room : ℕ) (word : List ℕ) → room < length word / 2 → hex_upto room word ≡ None
-hex_upto-short room word short = elim (hex_cases word) [
-  | inl some ↦
-      let read = hex_in-text word some.0 some.1 in
-      let more : room < length some.0 = omega (arith, length-hex_in word some.0 read) in
-      ap (option_and_then (fitting room)) read ∙ cond-false _ (Some some.0) None (lt-leb (length some.0) room more)
-  | inr none ↦ hex_upto-none room word none
 ]
 
 -- the byte at a place is written by the two digits there

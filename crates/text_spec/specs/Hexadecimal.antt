@@ -2,7 +2,7 @@
 -- the crate hex.
 -- Source: the text formats of this project.
 use Rattle.std.specs.Prelude.{◌≡◌, ◌/◌, ◌%◌, ◌||◌, ◌∷◌, if◌then◌else◌}
-use Rattle.text_spec.specs.Below.{ℕ, slice_index, nat_le, Bool, List, [], length, Option, Some, None, option_and_then, unwrap_or, is_in_range, list_all, decode_of, lower_digits}
+use Rattle.text_spec.specs.Below.{ℕ, slice_index, Bool, List, [], Option, Some, None, unwrap_or, is_in_range, list_all, decode_of, lower_digits}
 use Rattle.std.specs.Result.{result_ok}
 use Rattle.text_spec.specs.Maybe.{◌>>=◌}
 
@@ -18,14 +18,6 @@ hex_in word = if list_all is_lower_digit word then result_ok (decode_of word) el
 pub record IsWritten (byte first second : ℕ) : Type 0 where
   pub high : slice_index lower_digits (byte / 16) ≡ first
   pub low : slice_index lower_digits (byte % 16) ≡ second
-
--- these bytes, where they fit the room
-abbrev pub fitting : ℕ → List ℕ → Option (List ℕ)
-fitting room bytes = if nat_le (length bytes) room then Some bytes else None
-
--- the bytes that a word writes in lower-case hexadecimal, where they fit the room
-abbrev pub hex_upto : ℕ → List ℕ → Option (List ℕ)
-hex_upto room word = option_and_then (fitting room) (hex_in word)
 
 -- a byte or more
 abbrev pub some_bytes : List ℕ → Option (List ℕ)

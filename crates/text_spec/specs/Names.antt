@@ -3,7 +3,7 @@ pub use Rattle.text_spec.specs.Below.{All, AllByRecursion, Err, IfSome, IsBytes,
 pub use Rattle.text_spec.specs.Contexts.{IsContext, IsContextWord, IsExactContext, a_context, claims_in, colon, context_in, context_word, kept_fields, kept_in, kept_places, mark, numbers_in, point}
 pub use Rattle.text_spec.specs.DecodedText.{form_letter, layout_word, message_line, shown_context, shown_signature}
 pub use Rattle.text_spec.specs.Fields.{AreExact, AreHeld, AreWritten, Field, Filled, Form, HasForm, Makes, a_mode, a_number, a_stamp, first_as, hex_bytes, put, read_by, simple, the, told_in, told_in_one, words_of_fields}
-pub use Rattle.text_spec.specs.Hexadecimal.{IsWritten, bytes_of, fitting, hex_in, hex_upto, is_lower_digit, some_bytes, some_hex}
+pub use Rattle.text_spec.specs.Hexadecimal.{IsWritten, bytes_of, hex_in, is_lower_digit, some_bytes, some_hex}
 pub use Rattle.text_spec.specs.JournalFaults.{Past, entry_fault, fault_of, has_event, has_pair, is_act, is_call, is_claim, is_context, is_in_ranges, is_pair, loss_fault, next, pair_of, start}
 pub use Rattle.text_spec.specs.JournalForm.{entry_of, line_forms, loss_form, report_form, setting_form, state_form, told_by, turn_form}
 pub use Rattle.text_spec.specs.JournalReading.{Fits, Follows, IsHeld, IsJournal, journal_grammar, journal_in}

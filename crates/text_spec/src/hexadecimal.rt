@@ -1,30 +1,10 @@
-ghost use Rattle.std.specs.Prelude.{◌≡◌, ℕ, ◌/◌, ◌%◌, ◌<◌, ◌≤◌, List, length, take, drop, option_map, IfSome, IfNone, IsTrue, ◌++◌, ◌*◌, OnOk, OnErr, ◌∷◌, [], ◌+◌, vec_len, vec_capacity, slice_index};
+ghost use Rattle.std.specs.Prelude.{◌≡◌, ℕ, ◌/◌, ◌%◌, ◌<◌, ◌≤◌, List, length, take, drop, IsTrue, ◌++◌, ◌*◌, OnOk, OnErr, ◌∷◌, [], ◌+◌, vec_len, vec_capacity, slice_index};
 ghost use Rattle.std.specs.List.{list_all};
 ghost use Rattle.hex.specs.Hex.{IsBytes, encode_lower, lower_digits};
 ghost use Rattle.text_spec.specs.Fields.{bytes_word};
-ghost use Rattle.text_spec.specs.Hexadecimal.{hex_in, hex_upto, is_lower_digit as writes_digit, IsWritten};
+ghost use Rattle.text_spec.specs.Hexadecimal.{hex_in, is_lower_digit as writes_digit, IsWritten};
 
 use ids_types::NoMemory;
-
-/// Decodes a word of lower-case hexadecimal into the front of `room`, and returns how many bytes.
-///
-/// `None` where the word is no such text, or its bytes do not fit the room. An empty word has no bytes.
-pub fn hex_into(word: &[u8], room: &mut [u8]) -> Option<usize>
-    ensures count { result ≡ option_map length (hex_upto (length room.old) word.now) }
-    ensures bytes { IfSome result (λ n. hex_in word.now ≡ Some (take n room.new)) }
-    ensures rest { IfSome result (λ n. drop n room.new ≡ drop n room.old) }
-    ensures same { IfNone result (room.new ≡ room.old) }
-{
-    let count = word.len() / 2;
-    if word.len() % 2 == 1 || room.len() < count {
-        return None;
-    }
-    if !are_lower_digits(word) {
-        return None;
-    }
-    put_bytes(word, room);
-    Some(count)
-}
 
 /// Decodes pairs of digits into the front of `room`. That they are digits is not looked at again.
 pub(crate) fn put_bytes(digits: &[u8], room: &mut [u8])

@@ -25,7 +25,7 @@ pub use decoded::push_message;
 pub use events::is_sensor;
 pub use fault::{LineFault, TextFault};
 pub use hex_text::HexText;
-pub use hexadecimal::{hex_into, one_text_for_bytes, push_bytes, push_hex};
+pub use hexadecimal::{one_text_for_bytes, push_bytes, push_hex};
 pub use journal::{one_journal_for_a_text, what_a_fitting_journal_keeps, which_lines_have_a_form};
 pub use lines::{LineReader, read_lines};
 pub use modes::{one_name_for_a_mode, push_mode};
