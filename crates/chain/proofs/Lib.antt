@@ -1,1 +1,2 @@
 pub mod ParcelLemmas
+pub mod LogLemmas

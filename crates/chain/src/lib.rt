@@ -4,8 +4,8 @@
 //! trait, and the main function is written over it.
 //! Contracts say for which configuration and which turns, the first of them first, a chain stands
 //! (`specs/History.antt`), which turns it can take (`specs/Turning.antt`), and where each parcel is
-//! (`specs/Parcels.antt`). Beside the trait stands what every chain needs: `log_turn`, the room that messages need (`most_sent`), and a parcel on its
-//! way out of an entry and back to its owner.
+//! (`specs/Parcels.antt`). Beside the trait stands what every chain needs: `log_turn` and `record_turn`, the room that
+//! messages need (`most_sent`), and a parcel on its way out of an entry and back to its owner.
 #![tactic(auto)]
 
 mod chain;
@@ -14,6 +14,6 @@ mod parcels;
 mod room;
 
 pub use chain::Chain;
-pub use logging::log_turn;
+pub use logging::{log_turn, record_turn};
 pub use parcels::{give_back, kept, lent};
 pub use room::most_sent;

@@ -1,9 +1,10 @@
-ghost use Rattle.std.specs.Prelude.{◌≡◌, ◌≤◌, [], ◌∷◌, length};
+ghost use Rattle.std.specs.Prelude.{◌≡◌, ◌≤◌, [], ◌∷◌, ◌++◌, length};
 ghost use Rattle.ids_types.specs.Output.{room_of};
+ghost use Rattle.ids_types.specs.Turns.{HasRoom, room_after};
 ghost use Rattle.chain.specs.Turning.{bytes_in, turn_by};
 
 use crate::parcels::lent;
-use ids_types::{Entry, Parcel, TurnHead, TurnOut};
+use ids_types::{Entry, History, Parcel, TurnHead, TurnOut};
 
 /// Empties the output, and logs the turn.
 pub fn log_turn<B: Parcel>(head: &TurnHead, items: &[Entry<B>], out: &mut TurnOut)
@@ -17,5 +18,18 @@ pub fn log_turn<B: Parcel>(head: &TurnHead, items: &[Entry<B>], out: &mut TurnOu
     out.begin(head);
     for entry in items {
         out.add(&lent(entry));
+    }
+}
+
+/// Adds the turn to a history.
+#[tactic(auto, using(std::proofs::lemmas::Grind::common_steps, crate::proofs::LogLemmas::with_entry_last, crate::proofs::LogLemmas::room_more))]
+pub fn record_turn<B: Parcel>(head: &TurnHead, items: &[Entry<B>], history: &mut History)
+    requires { HasRoom history.old.room 1 (length items.now) (bytes_in B.held items.now) }
+    ensures turns { history.new.turns ≡ history.old.turns ++ turn_by B.held head.now items.now ∷ [] }
+    ensures room { history.new.room ≡ room_after history.old.room 1 (length items.now) (bytes_in B.held items.now) }
+{
+    history.begin(head);
+    for entry in items {
+        history.add(&lent(entry));
     }
 }

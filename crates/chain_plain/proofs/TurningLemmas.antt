@@ -2,7 +2,7 @@
 use Rattle.std.proofs.Common.{◌≡◌, ℕ, ◌*◌, ◌≤◌, List, [], ◌∷◌, length, map, IfSome, subst, sym, ap, ◌∙◌, arith}
 use Rattle.std.specs.List.{All, AllByRecursion}
 use Rattle.std.proofs.lemmas.List.{length-map}
-use Rattle.std.proofs.lemmas.List.Elements.{All-from_recursion, All-weaker, recursion_from_All}
+use Rattle.std.proofs.lemmas.List.Elements.{All-from_recursion, All-map, All-weaker, recursion_from_All}
 use Rattle.std.proofs.lemmas.List.Sums.{sum_by-cons}
 use Rattle.ids_types.specs.Carries.{act_by, entry_by}
 use Rattle.ids_types.specs.declared.entry.Act.{Act}
@@ -37,6 +37,22 @@ module _ {B : Type 0} (held : B → List ℕ) (events : ℕ) where
         few = subst (λ n. n ≤ 1024) (ap length (sym same) ∙ length-map items (entry_by held)) fits.few;
         acts = All-from_recursion (λ e. FitsAct held events e.act) items (acts_fit items (recursion_from_All _ _ acts));
       }
+
+  act_told : (act : Act B) → FitsAct held events act → FitsAct (λ bytes. bytes) events (act_by held act)
+  act_told (Report event count stamp Absent) fits = fits
+  act_told (Report event count stamp (Kept class claim parcel)) fits = fits
+  act_told (Report event count stamp (Missing numbers)) fits = fits
+  act_told (State state) fits = fits
+  act_told (SetMode event mode) fits = fits
+
+  -- what items tell can be taken where they can
+  pub told_fits : (items : List (Entry B)) → FitsTurn held events items → FitsTurn (λ bytes. bytes) events (map (entry_by held) items)
+  told_fits items fits = record {
+    few = subst (λ n. n ≤ 1024) (sym (length-map items (entry_by held))) fits.few;
+    acts = All-map (λ e. FitsAct (λ bytes. bytes) events e.act) (entry_by held) items
+        (All-weaker (λ (e : Entry B). FitsAct held events e.act) (λ (e : Entry B). FitsAct (λ bytes. bytes) events (act_by held e.act))
+        (λ e. act_told e.act) items fits.acts);
+  }
 
   act_short : (act : Act B) → FitsAct held events act → length (act_bytes (act_by held act)) ≤ 1024
   act_short (Report event count stamp Absent) fits = omega arith

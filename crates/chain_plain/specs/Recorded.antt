@@ -4,6 +4,7 @@ use Rattle.std.specs.List.{AllByRecursion}
 use Rattle.ids_types.specs.declared.entry.Entry.{Entry}
 use Rattle.ids_types.specs.declared.entry.TurnHead.{TurnHead}
 use Rattle.ids_types.specs.Turns.{Turn}
+use Rattle.chain.specs.History.{newest_tick}
 use Rattle.chain.specs.Turning.{FitsTurn}
 
 -- the turn of this head and these entries
@@ -18,6 +19,11 @@ CanTake events turn = FitsTurn (λ bytes. bytes) events turn.entries
 abbrev pub RiseFrom : ℕ → List Turn → Type 0
 RiseFrom tick [] = ⊤
 RiseFrom tick (turn ∷ turns) = (tick ≤ turn.head.tick) × RiseFrom turn.head.tick turns
+
+-- no tick is below that of the turn before, the newest turn first
+abbrev pub AreInOrder : List Turn → Type 0
+AreInOrder [] = ⊤
+AreInOrder (turn ∷ before) = (newest_tick before ≤ turn.head.tick) × AreInOrder before
 
 -- a chain of so many events can take these turns, the first of them first
 pub record CanFold (events : ℕ) (turns : List Turn) : Type 0 where

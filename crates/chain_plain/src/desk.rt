@@ -1,6 +1,6 @@
 //! What a chain is handed at each turn, made once.
 
-ghost use Rattle.std.specs.Prelude.{◌≡◌, ◌+◌, ◌≤◌, ◌∷◌, ◌++◌, [], ℕ, List, length, map, vec_len, vec_capacity, IfOk, OnOk};
+ghost use Rattle.std.specs.Prelude.{◌≡◌, ◌+◌, ◌*◌, ◌≤◌, ◌∷◌, ◌++◌, [], ℕ, true, List, length, map, vec_len, vec_capacity, IfOk};
 ghost use Rattle.std.specs.List.{All};
 ghost use Rattle.ids_types.specs.Plain.{plain_entry};
 ghost use Rattle.ids_types.specs.Turns.{Turn};
@@ -16,10 +16,10 @@ use ids_types::{Entry, EntryWalk, NoMemory, Plain, TurnHead, TurnOut};
 use std::alloc::Global;
 
 /// How many entries a turn has at most.
-const MOST_ENTRIES: u64 = 1024;
+pub const MOST_ENTRIES: u64 = 1024;
 
 /// How many bytes of context data a turn has at most: 1,024 for each entry.
-const MOST_BYTES: u64 = 1024 * MOST_ENTRIES;
+pub const MOST_BYTES: u64 = 1024 * MOST_ENTRIES;
 
 /// Room for the entries of a turn, for the parcels that come back, and for what the turn gives.
 #[derive(Debug, Drop)]
@@ -44,53 +44,49 @@ impl<'h> Desk<'h> {
         })
     }
 
-    /// Has the chain take a turn of these entries, for which it makes room before.
+    /// Has a chain that has room for the largest turn take one of these entries.
     pub fn take<C: Chain<Plain<'h>>>(
         &mut self,
         chain: &mut C,
         head: &TurnHead,
         entries: EntryWalk<'h>,
-    ) -> Result<(), NoMemory>
+    )
+        requires fits { C.has_room chain.old 1024 (1024 * 1024) ≡ true }
         requires ready { IsReady (C.events chain.old) self.old }
         requires entries { CanTake (C.events chain.old) (turn_with head.now entries) }
         requires kept { All (IsShort (λ p. p.0.now)) (C.kept chain.old) }
-        ensures stands { OnOk result ((config : Parts) (turns : List Turn) → C.stands chain.old config turns →
+        ensures stands { (config : Parts) (turns : List Turn) → C.stands chain.old config turns →
             last_tick turns ≤ head.now.tick →
-            C.stands chain.new config (turns ++ turn_with head.now entries.entry ∷ [])) }
-        ensures sends { OnOk result ((config : Parts) (turns : List Turn) → C.stands chain.old config turns →
+            C.stands chain.new config (turns ++ turn_with head.now entries.entry ∷ []) }
+        ensures sends { (config : Parts) (turns : List Turn) → C.stands chain.old config turns →
             last_tick turns ≤ head.now.tick →
-            Sends config turns (turn_with head.now entries.entry) self.new.out) }
-        ensures events { OnOk result (C.events chain.new ≡ C.events chain.old) }
-        ensures kept { OnOk result (All (IsShort (λ p. p.0.now)) (C.kept chain.new)) }
-        ensures ready { OnOk result (IsReady (C.events chain.old) self.new) }
+            Sends config turns (turn_with head.now entries.entry) self.new.out }
+        ensures events { C.events chain.new ≡ C.events chain.old }
+        ensures kept { All (IsShort (λ p. p.0.now)) (C.kept chain.new) }
+        ensures ready { IsReady (C.events chain.old) self.new }
     {
         put_entries(entries, &mut self.items);
-        self.turn(chain, head)
+        self.turn(chain, head);
     }
 
-    /// Has the chain take a turn of the items, for which it makes room before.
-    pub fn turn<C: Chain<Plain<'h>>>(
-        &mut self,
-        chain: &mut C,
-        head: &TurnHead,
-    ) -> Result<(), NoMemory>
+    /// Has a chain that has room for the largest turn take one of the items.
+    pub fn turn<C: Chain<Plain<'h>>>(&mut self, chain: &mut C, head: &TurnHead)
+        requires fits { C.has_room chain.old 1024 (1024 * 1024) ≡ true }
         requires room { HasDeskRoom (C.events chain.old) self.old }
         requires items { FitsTurn (λ p. p.0.now) (C.events chain.old) self.old.items.items }
         requires kept { All (IsShort (λ p. p.0.now)) (C.kept chain.old) }
-        ensures stands { OnOk result ((config : Parts) (turns : List Turn) → C.stands chain.old config turns →
+        ensures stands { (config : Parts) (turns : List Turn) → C.stands chain.old config turns →
             last_tick turns ≤ head.now.tick →
-            C.stands chain.new config (turns ++ turn_by (λ p. p.0.now) head.now self.old.items.items ∷ [])) }
-        ensures sends { OnOk result ((config : Parts) (turns : List Turn) → C.stands chain.old config turns →
+            C.stands chain.new config (turns ++ turn_by (λ p. p.0.now) head.now self.old.items.items ∷ []) }
+        ensures sends { (config : Parts) (turns : List Turn) → C.stands chain.old config turns →
             last_tick turns ≤ head.now.tick →
-            Sends config turns (turn_by (λ p. p.0.now) head.now self.old.items.items) self.new.out) }
-        ensures events { OnOk result (C.events chain.new ≡ C.events chain.old) }
-        ensures kept { OnOk result (All (IsShort (λ p. p.0.now)) (C.kept chain.new)) }
-        ensures ready { OnOk result (IsReady (C.events chain.old) self.new) }
+            Sends config turns (turn_by (λ p. p.0.now) head.now self.old.items.items) self.new.out }
+        ensures events { C.events chain.new ≡ C.events chain.old }
+        ensures kept { All (IsShort (λ p. p.0.now)) (C.kept chain.new) }
+        ensures ready { IsReady (C.events chain.old) self.new }
     {
-        chain.reserve(MOST_ENTRIES, MOST_BYTES)?;
         chain.judge(head, &mut self.items, &mut self.back, &mut self.out);
         self.back.clear();
-        Ok(())
     }
 }
 

@@ -1,10 +1,9 @@
 ghost use Rattle.std.specs.Prelude.{◌≡◌, [], length, IfOk, OnOk};
-ghost use Rattle.std.specs.List.{All};
 ghost use Rattle.chain.specs.Parcels.{IsShort};
 ghost use Rattle.chain_plain.specs.Recorded.{CanFold};
 ghost use Rattle.chain_plain.specs.Telling.{told_of, Tells};
 
-use crate::desk::Desk;
+use crate::desk::{Desk, MOST_BYTES, MOST_ENTRIES};
 use crate::tally::Tally;
 use chain::Chain;
 use ids_config::Config;
@@ -29,7 +28,8 @@ pub fn fold<'h, C: Chain<Plain<'h>>>(
     let mut tally = Tally::make(alloc, history.turns())?;
     let mut turns = history.walk();
     while let Some((head, entries)) = turns.pop_front() {
-        desk.take(chain, &head, entries)?;
+        chain.reserve(MOST_ENTRIES, MOST_BYTES)?;
+        desk.take(chain, &head, entries);
         tally.add(&desk.out, chain.limited())?;
     }
     Ok(tally)

@@ -9,9 +9,11 @@
 mod desk;
 mod folded;
 mod folding;
+mod retaking;
 mod tally;
 
-pub use desk::Desk;
+pub use desk::{Desk, MOST_BYTES, MOST_ENTRIES};
 pub use folded::{Folded, outcome};
 pub use folding::fold;
+pub use retaking::retake;
 pub use tally::Tally;

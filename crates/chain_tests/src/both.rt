@@ -50,7 +50,7 @@ fn told_by_events(alloc: Global, config: &Config, history: &History) -> Result<T
     told_by(alloc, config, history, &mut chain)
 }
 
-/// What the chain by its definition gives, with room for so many bytes of context data.
+/// What the chain that begins anew gives, with room for so many bytes of context data.
 fn told_by_plain(
     alloc: Global,
     config: &Config,

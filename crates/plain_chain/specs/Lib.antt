@@ -1,4 +1,2 @@
-pub mod Copying
 pub mod Remembered
 pub mod Room
-pub mod Standing

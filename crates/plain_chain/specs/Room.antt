@@ -20,18 +20,10 @@ has_room room entries bytes is =
       bytes = leb-true bytes room.bytes both.1;
     }
 
--- where there is that room the test holds
-pub room_tested : (room : Room) (entries bytes : ℕ) → HasRoom room 1 entries bytes → has_turn_room room entries bytes ≡ true
-room_tested room entries bytes has =
-    both_true (both_true (le-leb 1 room.turns has.turns) (le-leb entries room.entries has.entries)) (le-leb bytes room.bytes has.bytes)
-
 -- where there is room for a turn, there is room for a smaller one
 pub smaller_turn_room : (room : Room) (entries bytes fewer less : ℕ) → fewer ≤ entries → less ≤ bytes
     → has_turn_room room entries bytes ≡ true → has_turn_room room fewer less ≡ true
 smaller_turn_room room entries bytes fewer less few small is =
     let has = has_room room entries bytes is in
-    room_tested room fewer less (record {
-      turns = has.turns;
-      entries = le_trans few has.entries;
-      bytes = le_trans small has.bytes;
-    })
+    both_true (both_true (le-leb 1 room.turns has.turns) (le-leb fewer room.entries (le_trans few has.entries)))
+    (le-leb less room.bytes (le_trans small has.bytes))

@@ -5,22 +5,21 @@ ghost use Rattle.ids_config.specs.Parts.{Parts};
 ghost use Rattle.chain.specs.History.{last_tick, Sends};
 ghost use Rattle.chain.specs.Parcels.{HandsBack, all_parcels};
 ghost use Rattle.chain.specs.Turning.{FitsTurn, most_sent, bytes_in, turn_by};
+ghost use Rattle.plain_chain.specs.Remembered.{Stands};
 ghost use Rattle.plain_chain.specs.Room.{has_turn_room};
-ghost use Rattle.plain_chain.specs.Standing.{Stands};
 
-use crate::copied::Copied;
-use crate::desk::Desk;
-use crate::fresh::{fill, next};
-use crate::keeping::{hand_back, keep};
-use chain::Chain;
+use crate::fresh::{Fresh, fill, next};
+use crate::handing::hand_back;
+use chain::{Chain, record_turn};
+use chain_plain::retake;
 use event_chain::EventChain;
 use event_memory::Memory;
 use ids_config::Config;
-use ids_types::{Entry, History, NoMemory, Parcel, TurnHead, TurnOut};
+use ids_types::{Entry, History, NoMemory, Parcel, Plain, TurnHead, TurnOut};
 use std::alloc::Global;
 use std::marker::{Model, PhantomData};
 
-/// A filter chain that keeps the whole history and no parcel, and folds the history again at each turn.
+/// A filter chain that keeps the whole history and no parcel, and takes all of it again at each turn.
 ///
 /// A turn takes no memory: there is a fresh chain for each turn that there is room for.
 #[derive(Debug, Drop)]
@@ -28,8 +27,7 @@ pub struct PlainChain<'c, B> {
     alloc: Global,
     config: &'c Config,
     history: History,
-    fresh: Vec<EventChain<Copied>>,
-    desk: Desk,
+    fresh: Vec<Fresh<'static>>,
     /// What the last turn left.
     limited: u64,
     memory: Memory,
@@ -37,11 +35,9 @@ pub struct PlainChain<'c, B> {
 }
 
 impl<'c, B> Model for PlainChain<'c, B> {
-    ghost use Rattle.plain_chain.specs.Remembered.{Remembered};
+    ghost use Rattle.plain_chain.specs.Remembered.{Remembered, remembered, IsSound};
 
     ghost Value = { Remembered };
-
-    ghost use Rattle.plain_chain.specs.Remembered.{remembered, IsSound};
 
     ghost view = { remembered };
 
@@ -63,8 +59,6 @@ impl<'c, B: Parcel> PlainChain<'c, B> {
         ensures room { IfOk result (λ chain.
             chain.history.room ≡ record { turns = turns; entries = entries; bytes = bytes }) }
     {
-        // Names the parts, so that the proof knows that they are valid.
-        let _parts = config.parts();
         let mut fresh = Vec::new(alloc);
         fill(alloc, config, turns, &mut fresh)?;
         Ok(PlainChain {
@@ -72,9 +66,8 @@ impl<'c, B: Parcel> PlainChain<'c, B> {
             config,
             history: History::make(alloc, turns, entries, bytes)?,
             fresh,
-            desk: Desk::make(alloc)?,
             limited: 0,
-            memory: EventChain::<Copied>::make(alloc, config)?.into_memory(),
+            memory: EventChain::<Plain<'_>>::make(alloc, config)?.into_memory(),
             parcel: PhantomData,
         })
     }
@@ -146,13 +139,11 @@ impl<'c, B: Parcel> Chain<B> for PlainChain<'c, B> {
         ensures back_room { vec_capacity back.old ≤ vec_capacity back.new }
         ensures out_room { room_of out.new ≡ room_of out.old }
     {
-        let mut chain = next(&mut self.fresh);
-        self.desk.fold(&mut chain, &self.history);
-        keep(head, items, &mut self.history, &mut self.desk.items);
-        chain.judge(head, &mut self.desk.items, &mut self.desk.back, out);
-        self.desk.back.clear();
+        let Fresh { chain, desk } = next(&mut self.fresh);
+        let chain = retake(chain, desk, &self.history, head, items, out);
         self.limited = chain.limited();
         self.memory = chain.into_memory();
+        record_turn(head, items, &mut self.history);
         hand_back(items, back);
     }
 

@@ -6,7 +6,7 @@ ghost use Rattle.run_steps.specs.Words.{IsFoldable};
 
 use crate::ended::Ended;
 use chain::Chain;
-use chain_plain::Desk;
+use chain_plain::{Desk, MOST_BYTES, MOST_ENTRIES};
 use ids_config::Config;
 use ids_types::{History, Plain};
 use memory_disk::Disk;
@@ -43,12 +43,13 @@ pub(crate) fn save_turns<'h, 'a, C: Chain<Plain<'h>>, D: Disk>(
     let mut saves = 0;
     let mut turns = history.walk();
     while let Some((head, entries)) = turns.pop_front() {
-        let Ok(()) = folding.desk.take(&mut folding.chain, &head, entries) else {
+        let Ok(()) = folding.chain.reserve(MOST_ENTRIES, MOST_BYTES) else {
             return Ended {
                 end: Err(Stop::NoMemory),
                 disk: current.finish(),
             };
         };
+        folding.desk.take(&mut folding.chain, &head, entries);
         current = match current.save(folding.chain.memory()) {
             Ok(store) => store,
             Err(SaveFault::Failed(disk)) => return Ended {

@@ -78,7 +78,7 @@ impl<'t> Recorder<'t> {
             limited: self.chain.limited(),
         };
         log_turn(&mut self.history, &head, &self.desk.items)?;
-        self.desk.turn(&mut self.chain, &head)?;
+        self.desk.turn(&mut self.chain, &head);
         self.tally.add(&self.desk.out, self.chain.limited())
     }
 }

@@ -16,7 +16,8 @@ add-requires g c =
     let left : c.loop-head.turns ≡ turn ∷ c.pop_front.new.self = grind (arith, common_steps) in
     let rises : RiseFrom (last_tick before.taken) (turn ∷ c.pop_front.new.self) =
     subst (RiseFrom (last_tick before.taken)) left before.ticks in
-    let sends = c.in_ok-take.ensures.sends config before.taken before.stands rises.0 in
+    let stood = c.in_ok-reserve.ensures.stands config before.taken before.stands in
+    let sends = c.take.ensures.sends config before.taken stood rises.0 in
     told_few config before.taken turn (told_of c.loop-head.tally) c.take.new.self.out before.tells sends
 
 -- one turn more was taken
@@ -30,8 +31,10 @@ loop-head-preserved g c =
     let left : c.loop-head.turns ≡ turn ∷ rest = grind (arith, common_steps) in
     let rises : RiseFrom (last_tick before.taken) (turn ∷ rest) = subst (RiseFrom (last_tick before.taken)) left before.ticks in
     let fit : AllByRecursion (CanTake many) (turn ∷ rest) = subst (AllByRecursion (CanTake many)) left before.turns_fit in
-    let stands = c.in_ok-take.ensures.stands config before.taken before.stands rises.0 in
-    let sends = c.in_ok-take.ensures.sends config before.taken before.stands rises.0 in
+    let stood = c.in_ok-reserve.ensures.stands config before.taken before.stands in
+    let stands = c.take.ensures.stands config before.taken stood rises.0 in
+    let sends = c.take.ensures.sends config before.taken stood rises.0 in
+    let same = c.in_ok-reserve.ensures.events ∙ before.all_events in
     let limited = c.limited.ensures.value config (before.taken ++ turn ∷ []) stands in
     let told = tells_more config before.taken turn (told_of c.loop-head.tally) c.take.new.self.out c.limited.result limited
     before.tells sends in
@@ -40,9 +43,9 @@ loop-head-preserved g c =
       whole = append_assoc before.taken (turn ∷ []) rest ∙ ap (λ ts. before.taken ++ ts) (sym left) ∙ before.whole;
       stands = stands;
       tells = subst (Tells config (before.taken ++ turn ∷ [])) (sym c.in_ok-add.ensures) told;
-      all_events = c.in_ok-take.ensures.events ∙ before.all_events;
-      kept = c.in_ok-take.ensures.kept;
-      ready = subst (λ (n : ℕ). IsReady n c.take.new.self) before.all_events c.in_ok-take.ensures.ready;
+      all_events = c.take.ensures.events ∙ same;
+      kept = c.take.ensures.kept;
+      ready = subst (λ (n : ℕ). IsReady n c.take.new.self) same c.take.ensures.ready;
       turns_fit = fit.1;
       ticks = subst (λ (n : ℕ). RiseFrom n rest) (sym (last_of before.taken turn)) rises.1;
     }

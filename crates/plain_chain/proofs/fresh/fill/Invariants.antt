@@ -1,4 +1,6 @@
-use Rattle.plain_chain.proofs.Names.{◌-◌, ◌≤◌, vec_len, All, IsFresh}
+use Rattle.std.proofs.Common.{◌-◌, ◌≤◌, vec_len}
+use Rattle.std.specs.List.{All}
+use Rattle.plain_chain.specs.Remembered.{IsFresh}
 use Rattle.plain_chain.proofs.fresh.fill.Given as goal
 
 -- all took no turn, if those did that were there

@@ -14,15 +14,19 @@ pub turn-requires : goal.turn-requires
 turn-requires g c κs =
     let same : map plain_entry c.put_entries.new.items.items ≡ c.args.entries = grind (arith, common_steps) in
     let before = c.requires.ready.room in
-    let room : 1024 ≤ vec_capacity c.put_entries.new.items = grind (arith, common_steps, before.items_room) in (
+    let room : 1024 ≤ vec_capacity c.put_entries.new.items = grind (arith, common_steps, before.items_room) in
+    let fits = items_fit held _ _ c.args.entries same c.requires.entries in (
       (refl, tt),
       (
-        record {
-          nothing_back = before.nothing_back;
-          items_room = room;
-          back_room = before.back_room;
-          sent_room = before.sent_room;
-        },
-        (items_fit held _ _ c.args.entries same c.requires.entries, c.requires.kept),
+        c.requires.fits,
+        (
+          record {
+            nothing_back = before.nothing_back;
+            items_room = room;
+            back_room = before.back_room;
+            sent_room = before.sent_room;
+          },
+          (fits, c.requires.kept),
+        ),
       ),
     )

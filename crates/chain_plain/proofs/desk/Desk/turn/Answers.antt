@@ -1,8 +1,5 @@
-use Rattle.std.proofs.Common.{ℕ, List, subst, sym, arith, rules}
-use Rattle.std.specs.List.{All}
+use Rattle.std.proofs.Common.{ℕ, List, arith, rules}
 use Rattle.ids_types.specs.declared.parcel.Plain.{Plain}
-use Rattle.chain.specs.Parcels.{IsShort}
-use Rattle.chain.specs.Turning.{FitsTurn}
 use Rattle.chain_plain.proofs.TurningLemmas.{bytes_few, kept_short}
 use Rattle.chain_plain.proofs.desk.Desk.turn.Goals as goal
 
@@ -15,19 +12,12 @@ pub judge-requires-clause-fits : goal.judge-requires-clause-fits
 judge-requires-clause-fits g c =
     let few = c.requires.items.few in
     let short = bytes_few held _ _ c.requires.items in
-    search (rules, few, short, c.in_ok-reserve.ensures.ok)
-
--- the items fit as before
-pub judge-requires-clause-items : goal.judge-requires-clause-items
-judge-requires-clause-items g c =
-    subst (λ (n : ℕ). FitsTurn held n c.args.self.now.items.items) (sym c.reserve.ensures.events) c.requires.items
+    search (rules, few, short, c.requires.fits)
 
 -- the output has room for it
 pub judge-requires-clause-out : goal.judge-requires-clause-out
-judge-requires-clause-out g c = grind (arith, c.requires.items.few, c.requires.room.sent_room, c.reserve.ensures.events)
+judge-requires-clause-out g c = grind (arith, c.requires.items.few, c.requires.room.sent_room)
 
 -- what is kept is short
 pub returns-clause-kept : goal.returns-clause-kept
-returns-clause-kept g c =
-    let before = subst (All (IsShort held)) (sym c.reserve.ensures.kept) c.requires.kept in
-    kept_short held _ _ _ _ _ _ c.requires.items before c.judge.ensures.parcels
+returns-clause-kept g c = kept_short held _ _ _ _ _ _ c.requires.items c.requires.kept c.judge.ensures.parcels

@@ -1,4 +1,4 @@
-use Rattle.plain_chain.proofs.Names.{[], refl}
+use Rattle.std.proofs.Common.{[], refl}
 use Rattle.plain_chain.proofs.plain_chain.PlainChain.make.Goals as goal
 
 -- no turns, and the memory of a chain that took none
@@ -8,5 +8,5 @@ returns-clause-stands g c = record {
   all = c.in_ok-make.ensures.turns;
   order = tt;
   handed = refl;
-  rows = c.into_memory.ensures c.args.config.now [] c.in_ok-make-3.ensures.stands;
+  rows = c.into_memory.ensures c.args.config.now [] c.in_ok-make-2.ensures.stands;
 }

@@ -12,7 +12,7 @@ add-requires c =
     let config = c.args.config.now in
     let stands : Stands held config (reverse c.args.self.now.history.turns) c.args.self.now.chain =
     subst (λ ts. Stands held config ts c.args.self.now.chain) (sym at.turns) at.stands in
-    let sends = c.in_ok-turn.ensures.sends config c.args.self.now.history.turns stands c.requires.tick in
+    let sends = c.turn.ensures.sends config c.args.self.now.history.turns stands c.requires.tick in
     told_few config c.args.self.now.history.turns _ (told_of c.args.self.now.tally) c.turn.new.self.out at.tells sends
 
 -- the turn that was planned was made
@@ -32,8 +32,8 @@ returns-clause-at c = on_ok_weaker c.add.result (λ told before calls at.
     c.in_ok-log_turn.ensures ∙ ap (λ items. history ++ turn_by held head items ∷ []) c.deref.ensures.value in
     let newest : reverse (history ++ turn ∷ []) ≡ turns_of config (record { tick = c.args.tick; calls = calls } ∷ before) =
     reverse-append history (turn ∷ []) ∙ ap₂ (λ t ts. t ∷ ts) is at.turns in
-    let now = c.in_ok-turn.ensures.stands config history stands c.requires.tick in
-    let sends = c.in_ok-turn.ensures.sends config history stands c.requires.tick in
+    let now = c.turn.ensures.stands config history stands c.requires.tick in
+    let sends = c.turn.ensures.sends config history stands c.requires.tick in
     let handed = c.limited-2.ensures.value config (history ++ turn ∷ []) now in
     let tells = tells_more config history turn (told_of c.args.self.now.tally) c.turn.new.self.out c.limited-2.result handed
     at.tells sends in
@@ -43,12 +43,12 @@ returns-clause-at c = on_ok_weaker c.add.result (λ told before calls at.
       tells = subst (λ ts. Tells config ts (told_of c.add.new.self)) (sym logged)
           (subst (Tells config (history ++ turn ∷ [])) (sym told) tells);
       counts = at.counts;
-      entries = ap (map plain_entry) c.in_ok-turn.ensures.ready.no_items;
-      fits = subst (FitsTurn held (length config.events)) (sym c.in_ok-turn.ensures.ready.no_items) (record {
+      entries = ap (map plain_entry) c.turn.ensures.ready.no_items;
+      fits = subst (FitsTurn held (length config.events)) (sym c.turn.ensures.ready.no_items) (record {
         few = omega arith;
         acts = All-nil (λ (e : Entry Plain). FitsAct held (length config.events) e.act);
       });
-      kept = c.in_ok-turn.ensures.kept;
-      events = c.in_ok-turn.ensures.events ∙ at.events;
-      room = subst (λ n. HasDeskRoom n c.turn.new.self) at.events c.in_ok-turn.ensures.ready.room;
+      kept = c.turn.ensures.kept;
+      events = c.turn.ensures.events ∙ at.events;
+      room = subst (λ n. HasDeskRoom n c.turn.new.self) at.events c.turn.ensures.ready.room;
     }) c.add.ensures

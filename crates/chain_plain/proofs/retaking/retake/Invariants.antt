@@ -1,5 +1,11 @@
-use Rattle.plain_chain.proofs.Names.{◌≡◌, [], ◌++◌, List, length, reverse, AllByRecursion, Turn, Parts, CanTake, IsReady, AreInOrder}
-use Rattle.plain_chain.proofs.desk.Desk.fold.Given as goal
+use Rattle.std.proofs.Common.{◌≡◌, ◌++◌, [], List, length, reverse}
+use Rattle.std.specs.List.{All, AllByRecursion}
+use Rattle.ids_types.specs.Turns.{Turn}
+use Rattle.ids_config.specs.Parts.{Parts}
+use Rattle.chain.specs.Parcels.{IsShort}
+use Rattle.chain_plain.specs.Recorded.{AreInOrder, CanTake}
+use Rattle.chain_plain.specs.Telling.{IsReady}
+use Rattle.chain_plain.proofs.retaking.retake.Given as goal
 
 -- the chain stands for the turns that were taken, if they are in order, and what is left can be taken
 abbrev pub invariant-loop-head : goal.invariant-loop-head
@@ -10,8 +16,9 @@ invariant-loop-head g l =
       whole : taken ++ l.turns ≡ l.history.turns;
       stands : (config : Parts) → g.C.Chain.stands l.fn.chain config [] → AreInOrder (reverse taken)
           → g.C.Chain.stands l.chain config taken;
-      same_events : g.C.Chain.events l.chain ≡ many;
-      ready : IsReady l.self;
+      all_events : g.C.Chain.events l.chain ≡ many;
+      kept : All (IsShort (λ p. p.0.now)) (g.C.Chain.kept l.chain);
+      ready : IsReady many l.desk;
       turns_fit : AllByRecursion (CanTake many) l.turns;
     }
 

@@ -1,6 +1,0 @@
-mod CopyLemmas
-mod KeepLemmas
-mod Names
-mod RoomLemmas
-mod SoundLemmas
-mod StandingLemmas
