@@ -1,6 +1,5 @@
 -- Windows that close: each gives its one item at the first tick of a turn at which it is due.
-use Rattle.chain_spec.proofs.Names.{◌≡◌, ℕ, ◌+◌, ◌<◌, ◌≤◌, ◌==◌, ◌||◌, not, Bool, true, false, List, [], ◌∷◌, ◌++◌, filter, filter_map, Option, Some, None, IfSome, is_some, nat_le, option_to_list, option_and_then, option_map, if◌then◌else◌, refl, sym, ap, subst, ◌∙◌, arith, le-leb, ltb-true, ltb-false, option_or, lt-leb, AllByRecursion, list_any, cons_option, Aggregate, first_from, closed_item, Call, Arrival, closes_due, arrives, arrived, windows_in, is_due, is_open, newest_where, due_item, closing_item, Item, is_of, item_at, where_true, Window, EndBy, opened, extended, covers, with_item, windows_of}
-use Rattle.chain_spec.specs.Aggregation.{joined}
+use Rattle.chain_spec.proofs.Names.{◌≡◌, ℕ, ◌+◌, ◌<◌, ◌≤◌, ◌==◌, ◌||◌, not, Bool, true, false, List, [], ◌∷◌, ◌++◌, filter, filter_map, Option, Some, None, IfSome, is_some, nat_le, option_to_list, option_and_then, option_map, if◌then◌else◌, refl, sym, ap, subst, ◌∙◌, arith, le-leb, ltb-true, ltb-false, option_or, lt-leb, AllByRecursion, list_any, cons_option, Aggregate, first_from, closed_item, Call, Arrival, closes_due, arrives, arrived, windows_in, is_due, is_open, newest_where, due_item, closing_item, Item, is_of, item_at, where_true, Window, EndBy, opened, extended, covers, with_item, windows_of, joined}
 use Rattle.chain_spec.proofs.FilterLemmas.{keeps_own}
 use Rattle.chain_spec.proofs.WindowsLemmas.{newest_decides}
 
@@ -23,7 +22,7 @@ came_at one = one.tick
 -- ---- the first of some ticks
 
 -- there is a first one exactly where one of the ticks is late enough
-any_is_first : (least : ℕ) (ticks : List ℕ) → list_any (λ tick. nat_le least tick) ticks ≡ is_some (first_from least ticks)
+pub any_is_first : (least : ℕ) (ticks : List ℕ) → list_any (λ tick. nat_le least tick) ticks ≡ is_some (first_from least ticks)
 any_is_first least [] = refl
 any_is_first least (tick ∷ before) =
     elim (nat_le least tick) as (λ (b : Bool). (b || list_any (λ t. nat_le least t) before) ≡ is_some
@@ -35,7 +34,7 @@ any_is_first least (tick ∷ before) =
     ]
 
 -- none, where all ticks are too early
-none_first : (least n : ℕ) (ticks : List ℕ) → n < least → AllByRecursion (λ tick. tick ≤ n) ticks → first_from least ticks ≡ None
+pub none_first : (least n : ℕ) (ticks : List ℕ) → n < least → AllByRecursion (λ tick. tick ≤ n) ticks → first_from least ticks ≡ None
 none_first least n [] less by = refl
 none_first least n (tick ∷ before) less by =
     rw (none_first least n before less by.1, lt-leb least tick (omega (arith, less, by.0))) refl
@@ -126,7 +125,7 @@ module _ (setting : Aggregate) where
   -- ---- an item arrives
 
   -- the window has closed by its end
-  closed_by : (tick : ℕ) (rest : List ℕ) (w : AWindow) → w.opener.tick + setting.interval ≤ tick → is_some (first_due (tick ∷ rest) w)
+  pub closed_by : (tick : ℕ) (rest : List ℕ) (w : AWindow) → w.opener.tick + setting.interval ≤ tick → is_some (first_due (tick ∷ rest) w)
       ≡ true
   closed_by tick rest w le =
       rw (le-leb (w.opener.tick + setting.interval) tick le)

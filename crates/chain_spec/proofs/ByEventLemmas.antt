@@ -1,9 +1,7 @@
 -- The aggregated items of one event over its whole lists: one for each window that closes, at the first turn
 -- at which it is due.
-use Rattle.chain_spec.proofs.Names.{◌≡◌, ℕ, zero, suc, ◌+◌, ◌<◌, ◌≤◌, ◌==◌, ◌&&◌, Bool, true, false, List, [], ◌∷◌, ◌++◌, length, map, filter, filter_map, Option, Some, None, IfSome, option_to_list, option_map, if◌then◌else◌, refl, sym, ap, subst, ◌∙◌, arith, eq-eqb, eqb-true, ne_eqb, eq-or-lt_of_le, inl, inr, AllByRecursion, range_with_len, cons_option, eqb-false, map-append, Turn, Report, State, SetMode, Act, Parts, event_at, internal_of, Aggregate, tick_of, arrival_of, every, closed_item, closed_items, reaching, closes_due, arrives, arrived, closing_ticks, windows_in, aggregated_at, gated, aggregated, thresholded, arrival, alone, is_nth, is_arriving, mode_at, item_in, arrivals, sampled_at, sampled, Item, is_of, told_of, item_at, Moment, closes, comes, state_is, mode_is, closings, turn_moments, moments, head_moment, act_moment, added, where_true, with_all, EndBy, windows_of}
-use Rattle.ids_types.specs.declared.entry.Entry.{Entry}
-use Rattle.ids_types.specs.declared.event.Qualified.{Qualified}
-use Rattle.chain_spec.specs.Heads.{Head, heads_of}
+use Rattle.chain_spec.proofs.Names.{◌≡◌, ℕ, zero, suc, ◌+◌, ◌<◌, ◌≤◌, ◌==◌, ◌&&◌, Bool, true, false, List, [], ◌∷◌, ◌++◌, length, map, filter, filter_map, Option, Some, None, IfSome, option_to_list, option_map, if◌then◌else◌, refl, sym, ap, subst, ◌∙◌, arith, eq-eqb, eqb-true, ne_eqb, eq-or-lt_of_le, inl, inr, AllByRecursion, range_with_len, cons_option, eqb-false, map-append, Turn, Report, State, SetMode, Act, Parts, event_at, internal_of, Aggregate, tick_of, arrival_of, every, closed_item, closed_items, reaching, closes_due, arrives, arrived, closing_ticks, windows_in, aggregated_at, gated, aggregated, thresholded, arrival, alone, is_nth, is_arriving, mode_at, item_in, arrivals, sampled_at, sampled, Item, is_of, told_of, item_at, Moment, closes, comes, state_is, mode_is, closings, turn_moments, moments, head_moment, act_moment, added, where_true, with_all, EndBy, windows_of, Entry, Qualified, heads_of}
+use Rattle.chain_spec.specs.Heads.{Head}
 use Rattle.chain_spec.proofs.AggregationLemmas.{ACall, AnArrival, AWindow, came_at, AreOlderClosed, closing_gives, older_more, arriving_keeps, by_later, arrived_own, windows_own, closing_item_of}
 use Rattle.chain_spec.proofs.FilterLemmas.{drops_other, keeps_own, sampled_every, thresholded_reaching}
 use Rattle.chain_spec.proofs.StageLemmas.{with_all-append}
@@ -11,11 +9,11 @@ use Rattle.chain_spec.proofs.WindowsLemmas.{open_later, open_with}
 
 -- at a tick: the items of an event are those of its windows by the ticks of turns, none of which is later, and
 -- each window but the newest has closed
-record StandsBy (event : ℕ) (setting : Aggregate) (t : ℕ) (ticks : List ℕ) (ws : List AWindow) (items : List Item) : Type 0 where
-  same : filter (is_of event) items ≡ filter_map (closed_item setting ticks) ws
-  below : AllByRecursion (λ tick. tick ≤ t) ticks
-  opens : EndBy (λ w. w.opener.tick) t ws
-  older : AreOlderClosed setting ticks ws
+pub record StandsBy (event : ℕ) (setting : Aggregate) (t : ℕ) (ticks : List ℕ) (ws : List AWindow) (items : List Item) : Type 0 where
+  pub same : filter (is_of event) items ≡ filter_map (closed_item setting ticks) ws
+  pub below : AllByRecursion (λ tick. tick ≤ t) ticks
+  pub opens : EndBy (λ w. w.opener.tick) t ws
+  pub older : AreOlderClosed setting ticks ws
 
 module _ (config : Parts) (event : ℕ) where
   -- a turn that closes another event's windows adds no tick
@@ -37,7 +35,7 @@ module _ (config : Parts) (event : ℕ) where
   alone_other (Some setting) item is = tt
 
   -- the ticks of turns that closed the event's windows, after a turn that closes these
-  abbrev ticks_after : ℕ → ℕ → ℕ → List Moment → List ℕ
+  abbrev pub ticks_after : ℕ → ℕ → ℕ → List Moment → List ℕ
   ticks_after tick n first before = closing_ticks event (gated config (with_all before (map (closes tick) (range_with_len first n))))
 
   ticks_beyond : (tick n first : ℕ) (before : List Moment) → event < first → ticks_after tick n first before ≡ closing_ticks event
@@ -47,7 +45,7 @@ module _ (config : Parts) (event : ℕ) where
       ticks_beyond tick n (first + 1) (closes tick first ∷ before) (omega arith)
       ∙ ticks_other tick first (gated config before) (ne_eqb first event (λ same. absurd (omega arith)))
 
-  ticks_with : (tick n first : ℕ) (before : List Moment) → first ≤ event → event < first + n → ticks_after tick n first before
+  pub ticks_with : (tick n first : ℕ) (before : List Moment) → first ≤ event → event < first + n → ticks_after tick n first before
       ≡ tick ∷ closing_ticks event (gated config before)
   ticks_with tick zero first before le less = absurd (omega arith)
   ticks_with tick (suc n) first before le less =
@@ -127,7 +125,7 @@ module _ (config : Parts) (event : ℕ) where
   coming item before false c true is = refl
   coming item before false c false is = refl
 
-  arrived_sampled : (moments : List Moment) → arrived event (gated config moments) ≡ map arrival_of (sampled config event moments)
+  pub arrived_sampled : (moments : List Moment) → arrived event (gated config moments) ≡ map arrival_of (sampled config event moments)
   arrived_sampled [] = refl
   arrived_sampled (closes tick other ∷ before) = nothing_sampled before (arrived_sampled before) _
       (none_either (is_nth config event before))
@@ -159,7 +157,7 @@ module _ (config : Parts) (event : ℕ) where
   module _ (setting : Aggregate) (aggregates : (event_at config event).aggregate ≡ Some setting) (some : 1 ≤ setting.interval)
       (there : event < length config.events) where
     -- it stands so after calls
-    abbrev Stands : ℕ → List ACall → Type 0
+    abbrev pub Stands : ℕ → List ACall → Type 0
     Stands t calls = StandsBy event setting t (closing_ticks event calls) (windows_in setting.interval event calls)
         (added (aggregated_at config) calls)
 
@@ -194,13 +192,13 @@ module _ (config : Parts) (event : ℕ) where
         ] refl
 
     -- this turn has closed the event's window, behind other turns
-    abbrev HasClosed : ℕ → List ℕ → List ACall → Type 0
+    abbrev pub HasClosed : ℕ → List ℕ → List ACall → Type 0
     HasClosed tick rest calls = closing_ticks event calls ≡ tick ∷ rest
 
     -- ---- the moments of a turn
 
     -- it stands so, and this turn has closed the event's window
-    abbrev Inside : ℕ → List ℕ → List ACall → Type 0
+    abbrev pub Inside : ℕ → List ℕ → List ACall → Type 0
     Inside tick rest calls = Stands tick calls × HasClosed tick rest calls
 
     arriving : (tick at : ℕ) (rest : List ℕ) (told : Qualified (List ℕ)) (calls : List ACall) → at ≡ tick → Inside tick rest calls
@@ -223,13 +221,13 @@ module _ (config : Parts) (event : ℕ) where
         ] refl)
 
     -- an item comes at this tick, or a control
-    abbrev IsAt : ℕ → Moment → Type 0
+    abbrev pub IsAt : ℕ → Moment → Type 0
     IsAt tick (closes at other) = ⊥
     IsAt tick (comes item) = item.tick ≡ tick
     IsAt tick (state_is state) = Unit {0}
     IsAt tick (mode_is other mode) = Unit {0}
 
-    happening : (tick : ℕ) (rest : List ℕ) (moment : Moment) (before : List Moment) → IsAt tick moment → Inside tick rest
+    pub happening : (tick : ℕ) (rest : List ℕ) (moment : Moment) (before : List Moment) → IsAt tick moment → Inside tick rest
         (gated config before) → Inside tick rest (gated config (moment ∷ before))
     happening tick rest (closes at other) before is h = absurd is
     happening tick rest (comes item) before is h =
@@ -253,7 +251,7 @@ module _ (config : Parts) (event : ℕ) where
     all_happen tick rest (moment ∷ all) before are h =
         all_happen tick rest all (moment ∷ before) are.1 (happening tick rest moment before are.0 h)
 
-    after_closings : (n first t tick : ℕ) (before : List Moment) → t ≤ tick → Stands t (gated config before)
+    pub after_closings : (n first t tick : ℕ) (before : List Moment) → t ≤ tick → Stands t (gated config before)
         → Stands tick (gated config (with_all before (map (closes tick) (range_with_len first n))))
     after_closings zero first t tick before le h = stands_later t tick (gated config before) le h
     after_closings (suc n) first t tick before le h =
@@ -261,7 +259,7 @@ module _ (config : Parts) (event : ℕ) where
 
     -- ---- turns
 
-    heads_at : (tick : ℕ) (heads : List Head) → AllByRecursion (IsAt tick) (map (head_moment tick) heads)
+    pub heads_at : (tick : ℕ) (heads : List Head) → AllByRecursion (IsAt tick) (map (head_moment tick) heads)
     heads_at tick [] = tt
     heads_at tick (head ∷ heads) = (refl, heads_at tick heads)
 
@@ -270,7 +268,7 @@ module _ (config : Parts) (event : ℕ) where
     act_at tick (State state) = tt
     act_at tick (SetMode event mode) = tt
 
-    entries_at : (tick : ℕ) (entries : List (Entry (List ℕ))) → AllByRecursion (IsAt tick)
+    pub entries_at : (tick : ℕ) (entries : List (Entry (List ℕ))) → AllByRecursion (IsAt tick)
         (map (λ entry. act_moment tick entry.act) entries)
     entries_at tick [] = tt
     entries_at tick (entry ∷ entries) = (act_at tick entry.act, entries_at tick entries)
@@ -295,7 +293,7 @@ module _ (config : Parts) (event : ℕ) where
         (with_all-append before first heads) in
         subst (λ (ms : List Moment). Inside tick rest (gated config ms)) (sym in_order) entered
 
-    turns_stand : (turns : List Turn) (t : ℕ) → EndBy tick_of t turns
+    pub turns_stand : (turns : List Turn) (t : ℕ) → EndBy tick_of t turns
         → Stands t (gated config (moments config turns)) × (closing_ticks event (gated config (moments config turns)) ≡ map tick_of turns)
     turns_stand [] t by = (record { same = refl; below = tt; opens = tt; older = tt }, refl)
     turns_stand (turn ∷ before) t by =

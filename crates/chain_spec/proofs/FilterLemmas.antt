@@ -1,7 +1,6 @@
 -- The filters of one event, said over whole lists.
-use Rattle.chain_spec.proofs.Names.{◌≡◌, ℕ, ◌+◌, ◌%◌, ◌==◌, ◌&&◌, not, Bool, true, false, List, [], ◌∷◌, ◌++◌, length, map, filter, Option, Some, None, option_to_list, option_and_then, option_map, IfSome, ◌↔◌, ◌⊎◌, inl, inr, if◌then◌else◌, refl, sym, ap, subst, ◌∙◌, eqb-true, option_or, Mode, Off, Brief, Detailed, BriefBypassing, DetailedBypassing, Parts, event_at, Setting, every, reaching, Call, gated_at, aggregated_at, thresholded_at, filtered_at, qualified_at, counted, gated, thresholded, arrival, is_filtered, is_bypassing, is_blocked, is_nth, mode_at, item_in, arrival_at, arrivals, sampled_at, sampled, bypassing_at, Item, is_of, Moment, closes, comes, state_is, mode_is, added, behind, where_true}
-use Rattle.chain_spec.specs.Counting.{Occurrence, among}
-use Rattle.chain_spec.specs.Threshold.{verdict}
+use Rattle.chain_spec.proofs.Names.{◌≡◌, ℕ, ◌+◌, ◌%◌, ◌==◌, ◌&&◌, not, Bool, true, false, List, [], ◌∷◌, ◌++◌, length, map, filter, Option, Some, None, option_to_list, option_and_then, option_map, IfSome, ◌↔◌, ◌⊎◌, inl, inr, if◌then◌else◌, refl, sym, ap, subst, ◌∙◌, eqb-true, option_or, Mode, Off, Brief, Detailed, BriefBypassing, DetailedBypassing, Parts, event_at, Setting, every, reaching, Call, gated_at, aggregated_at, thresholded_at, filtered_at, qualified_at, counted, gated, thresholded, arrival, is_filtered, is_bypassing, is_blocked, is_nth, mode_at, item_in, arrival_at, arrivals, sampled_at, sampled, bypassing_at, Item, is_of, Moment, closes, comes, state_is, mode_is, added, behind, where_true, Occurrence, verdict}
+use Rattle.chain_spec.specs.Counting.{among}
 use Rattle.chain_spec.proofs.StageLemmas.{added_behind, added_same}
 
 -- ---- forward every nth
@@ -30,7 +29,7 @@ filtered_thresholded config moments =
     ∙ ap (added (thresholded_at config)) (added_behind (gated_at config) (aggregated_at config) moments)
 
 -- a mode that bypasses the filters does not go through them
-not_filtered : (mode : Mode) → is_bypassing mode ≡ true → is_filtered mode ≡ false
+pub not_filtered : (mode : Mode) → is_bypassing mode ≡ true → is_filtered mode ≡ false
 not_filtered Off is = refl
 not_filtered Brief is = cc
 not_filtered Detailed is = cc
@@ -111,7 +110,7 @@ verdict_by_own None item xs ys same = refl
 verdict_by_own (Some setting) item xs ys same = rw same refl
 
 -- whatever the verdict, the item is the event's own
-own_where : (event : ℕ) (b c : Bool) (item : Item) → is_of event item ≡ c → IfSome (where_true b item) (λ one. is_of event one ≡ c)
+pub own_where : (event : ℕ) (b c : Bool) (item : Item) → is_of event item ≡ c → IfSome (where_true b item) (λ one. is_of event one ≡ c)
 own_where event true c item is = is
 own_where event false c item is = tt
 

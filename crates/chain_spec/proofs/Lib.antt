@@ -1,10 +1,18 @@
+pub mod AccountLemmas
 pub mod AggregationLemmas
 pub mod ByEventLemmas
+pub mod CourseLemmas
 pub mod CoverLemmas
+pub mod EndingsLemmas
 pub mod FilterLemmas
 pub mod GrowthLemmas
 pub mod LimitsLemmas
 pub mod Names
 pub mod StageLemmas
+pub mod OpenWindowLemmas
+pub mod SumLemmas
+pub mod TallyLemmas
+pub mod WaitingLemmas
 pub mod WindowsLemmas
+mod WorkedEndings
 mod WorkedHistories

@@ -1,7 +1,6 @@
 -- What is sent, in the words of the limits.
-use Rattle.chain_spec.proofs.Names.{◌≡◌, ◌+◌, ◌<◌, ◌≤◌, ◌&&◌, ◌↔◌, IsTrue, Bool, true, false, List, [], ◌∷◌, ◌++◌, length, map, sum_by, Some, option_to_list, refl, ap, ◌∙◌, arith, le-leb, leb-true, Parts, Limit, sent_at, is_out, Item, weighed, added, where_true}
-use Rattle.std.proofs.lemmas.List.Sums.{sum_by-cons}
-use Rattle.chain_spec.specs.Limits.{Candidate, window_at, those_in, passes_rate, passes_traffic, sent_of}
+use Rattle.chain_spec.proofs.Names.{◌≡◌, ◌+◌, ◌<◌, ◌≤◌, ◌&&◌, ◌↔◌, IsTrue, Bool, true, false, List, [], ◌∷◌, ◌++◌, length, map, sum_by, Some, option_to_list, refl, ap, ◌∙◌, arith, le-leb, leb-true, Parts, Limit, sent_at, is_out, Item, weighed, added, where_true, sum_by-cons, passes_rate, passes_traffic, sent_of}
+use Rattle.chain_spec.specs.Limits.{Candidate, window_at, those_in}
 
 -- a sum of ones is how many there are
 sum_of_ones : {A : Type 0} (xs : List A) → sum_by (λ x. 1) xs ≡ length xs

@@ -9,7 +9,7 @@ use Rattle.chain_spec.specs.Storing.{memory}
 -- ---- configurations
 
 -- instance 18 with these events, and all else by default
-abbrev instance_18 : List Event → Parts
+abbrev pub instance_18 : List Event → Parts
 instance_18 events = record {
   profile = 1;
   instance = 18;
@@ -27,7 +27,7 @@ instance_18 events = record {
 }
 
 -- an event with id 42 by sensor 3
-abbrev door : Event
+abbrev pub door : Event
 door = plain_event 42 3
 
 -- that event alone
@@ -37,7 +37,7 @@ just_door = instance_18 (door ∷ [])
 -- ---- histories, here with the oldest turn first
 
 -- a report of an event, seen so often
-abbrev seen : ℕ → ℕ → Act (List ℕ)
+abbrev pub seen : ℕ → ℕ → Act (List ℕ)
 seen event count = Report (record { 0 = event }) count None Absent
 
 -- a report of event 0, seen once, with these bytes of context data
@@ -49,14 +49,14 @@ abbrev becomes : Mode → Act (List ℕ)
 becomes mode = SetMode (record { 0 = 0 }) mode
 
 -- a turn at a tick with its three numbers and these acts
-abbrev turn_with : ℕ → ℕ → ℕ → ℕ → List (Act (List ℕ)) → Turn
+abbrev pub turn_with : ℕ → ℕ → ℕ → ℕ → List (Act (List ℕ)) → Turn
 turn_with tick lost_events lost_contexts limited acts = record {
   head = record { tick = tick; lost_events = lost_events; lost_contexts = lost_contexts; limited = limited };
   entries = map (λ act. record { caller = 0; call = 0; act = act }) acts;
 }
 
 -- a turn at a tick with these acts
-abbrev turn : ℕ → List (Act (List ℕ)) → Turn
+abbrev pub turn : ℕ → List (Act (List ℕ)) → Turn
 turn tick acts = turn_with tick 0 0 0 acts
 
 -- one report with two bytes of context data
@@ -64,7 +64,7 @@ abbrev a_parcel : List Turn
 a_parcel = turn 5 (with_context (161 ∷ 178 ∷ []) ∷ []) ∷ []
 
 -- three reports in a turn, of which one is held back, and the turn behind it
-abbrev three_at_once : List Turn
+abbrev pub three_at_once : List Turn
 three_at_once = turn 0 (seen 0 1 ∷ seen 0 1 ∷ seen 0 1 ∷ []) ∷ turn_with 1 0 0 1 [] ∷ []
 
 -- ---- what is expected
@@ -135,7 +135,7 @@ all_internal = record (instance_18 (plain_event 1 0 ∷ plain_event 2 0 ∷ plai
 }
 
 -- at most two messages in 1,000 ticks, and an internal event of id 9 for what is held back
-abbrev two_in_1000 : Parts
+abbrev pub two_in_1000 : Parts
 two_in_1000 = record (instance_18 (door ∷ plain_event 9 0 ∷ [])) { rate = Some (record { interval = 1000; number = 2 }); limited = Some 1 }
 
 -- the rate holds the third back, which the next turn tells

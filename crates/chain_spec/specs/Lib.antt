@@ -1,9 +1,11 @@
+pub mod Accounts
 pub mod Aggregation
 pub mod ByEvent
 pub mod Calls
 pub mod Chain
 pub mod Closing
 pub mod Counting
+pub mod Endings
 pub mod Filtering
 pub mod Gate
 pub mod Growth

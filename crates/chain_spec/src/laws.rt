@@ -1,12 +1,14 @@
 //! What the definitions say in other words: each function has a law as its contract, and no body.
 
-ghost use Rattle.std.specs.Prelude.{◌≡◌, ℕ, ◌+◌, ◌<◌, ◌≤◌, List, [], ◌∷◌, ◌++◌, Option, Some, None, IfSome, IsTrue, ◌↔◌, ◌⊎◌, length, map, filter, flat_map, sum_by};
+ghost use Rattle.std.specs.Prelude.{◌≡◌, ℕ, ◌+◌, ◌<◌, ◌≤◌, List, [], ◌∷◌, ◌++◌, Option, Some, None, IfSome, IsTrue, ◌↔◌, ◌⊎◌, length, map, filter, flat_map, sum, sum_by, not, ◌&&◌, ◌==◌, if◌then◌else◌};
 ghost use Rattle.ids_types.specs.Turns.{Turn};
-ghost use Rattle.ids_config.specs.Parts.{Parts, event_at};
+ghost use Rattle.ids_config.specs.Parts.{Parts, event_at, is_given};
 ghost use Rattle.ids_config.specs.declared.parts.Window.{Window as Limit};
+ghost use Rattle.chain_spec.specs.Accounts.{account_of, after_ending, comers, number_of, AreConfigured, TellsWindows, events_in, limited_events_in};
 ghost use Rattle.chain_spec.specs.ByEvent.{tick_of, every, closed_items, reaching};
-ghost use Rattle.chain_spec.specs.Chain.{candidates, sent, held, messages, ends, handed, handed_on, held_count, qualified_of};
-ghost use Rattle.chain_spec.specs.Filtering.{gated, aggregated, thresholded, filtered_at, qualified_at, qualified};
+ghost use Rattle.chain_spec.specs.Chain.{candidates, sent, held, messages, ends, handed, handed_on, held_count, message_count, qualified_of};
+ghost use Rattle.chain_spec.specs.Endings.{ending_at, endings, is_qualified, is_limited, is_message, items_with, items_stored};
+ghost use Rattle.chain_spec.specs.Filtering.{gated, aggregated, thresholded, filtered_at, qualified_at, qualified, counted};
 ghost use Rattle.chain_spec.specs.Gate.{arrivals, sampled, bypassing_at};
 ghost use Rattle.chain_spec.specs.Growth.{Grows, GrowsAtEnd};
 ghost use Rattle.chain_spec.specs.Items.{Item, is_of};
@@ -16,7 +18,7 @@ ghost use Rattle.chain_spec.specs.Moments.{Moment, moments};
 ghost use Rattle.chain_spec.specs.Openers.{openers, IsBeyond, AreApart};
 ghost use Rattle.chain_spec.specs.Places.{placed, HaveOwnPlaces};
 ghost use Rattle.chain_spec.specs.Stages.{Stage, added, behind};
-ghost use Rattle.chain_spec.specs.Storing.{stored};
+ghost use Rattle.chain_spec.specs.Storing.{stored, stored_of};
 ghost use Rattle.chain_spec.specs.Windows.{EndBy, opened, members, in_newest, windows_of};
 
 /// Two stages one behind the other add what the second adds to the list of the first.
@@ -121,4 +123,86 @@ pub fn which_events_are_qualified()
         ↔ ((bypassing_at config before moment ≡ Some item) ⊎ (filtered_at config before moment ≡ Some item)) }
     ensures alone { (config : Parts) (before : List Moment) (moment : Moment) (item : Item) →
         bypassing_at config before moment ≡ Some item → filtered_at config before moment ≡ None }
+{}
+
+/// Where the items of an event stay on their way: each stage's size is that of the next, with the numbers of
+/// the account that end between the two. `bypassing` passes by the filters, and closing windows give again.
+#[tactic(auto, using(crate::proofs::AccountLemmas::account_laws))]
+pub fn the_numbers_are_the_sizes_of_the_stages()
+    ensures gate { (config : Parts) (event : ℕ) (moments : List Moment) →
+        let account = account_of config event moments in
+        let bypassing = number_of event (added (bypassing_at config) moments) in
+        number_of event (comers moments)
+        ≡ account.mode + account.block + bypassing + length (arrivals config event moments) }
+    ensures nth { (config : Parts) (event : ℕ) (moments : List Moment) →
+        let account = account_of config event moments in
+        length (arrivals config event moments) ≡ account.nth + length (sampled config event moments) }
+    ensures aggregation { (config : Parts) (event : ℕ) (moments : List Moment) →
+        let account = account_of config event moments in
+        length (sampled config event moments) + account.closed
+        ≡ account.aggregate + number_of event (aggregated config moments) }
+    ensures threshold { (config : Parts) (event : ℕ) (moments : List Moment) →
+        let account = account_of config event moments in
+        let bypassing = number_of event (added (bypassing_at config) moments) in
+        number_of event (aggregated config moments) + bypassing
+        ≡ account.threshold + number_of event (qualified config moments) }
+    ensures sending { (config : Parts) (event : ℕ) (moments : List Moment) →
+        let account = account_of config event moments in
+        number_of event (qualified config moments)
+        ≡ account.unsent + account.rate + account.traffic + account.sent }
+{}
+
+/// Nothing is left out: each item that comes is told once, in its place, with one fate, and what came of an
+/// event, together with what its windows gave when they closed, is the sum of what became of it.
+#[tactic(auto, using(crate::proofs::AccountLemmas::account_laws))]
+pub fn the_fates_add_up()
+    ensures each { (config : Parts) (moments : List Moment) →
+        map (λ one. counted one.item) (filter (λ one. not one.by_window) (endings config moments))
+        ≡ map counted (comers moments) }
+    ensures more { (config : Parts) (event : ℕ) (moment : Moment) (before : List Moment) →
+        account_of config event (moment ∷ before)
+        ≡ after_ending config event (ending_at config before moment) (account_of config event before) }
+    ensures came { (config : Parts) (event : ℕ) (moments : List Moment) →
+        (account_of config event moments).came ≡ number_of event (comers moments) }
+    ensures all { (config : Parts) (event : ℕ) (moments : List Moment) →
+        let account = account_of config event moments in
+        account.came + account.closed
+        ≡ account.mode + account.block + account.nth + account.aggregate + account.threshold
+        + account.unsent + account.rate + account.traffic + account.sent }
+{}
+
+/// What is told as sent are the messages, and what is told as held back by a limit, but for the internal event
+/// that tells of it, is what the turns hand on: item by item, and in the sums of the accounts.
+#[tactic(auto, using(crate::proofs::SumLemmas::sum_laws))]
+pub fn what_is_told_as_sent_and_held_back()
+    ensures qualified { (config : Parts) (moments : List Moment) →
+        items_with is_qualified (endings config moments) ≡ qualified config moments }
+    ensures sent { (config : Parts) (moments : List Moment) →
+        items_with is_message (endings config moments) ≡ sent config (qualified config moments) }
+    ensures held { (config : Parts) (moments : List Moment) →
+        filter (λ item. not (is_given config.limited item.event)) (items_with is_limited (endings config moments))
+        ≡ held config (qualified config moments) }
+    ensures messages { (config : Parts) (turns : List Turn) → AreConfigured config (moments config turns) →
+        sum_by (λ event. (account_of config event (moments config turns)).sent) (events_in config)
+        ≡ message_count config turns }
+    ensures limited { (config : Parts) (turns : List Turn) → AreConfigured config (moments config turns) →
+        sum_by (λ event. let account = account_of config event (moments config turns) in account.rate + account.traffic)
+        (limited_events_in config) ≡ held_count config turns }
+    ensures handed { (config : Parts) (turns : List Turn) → sum (handed config turns) ≡ held_count config turns }
+{}
+
+/// What the windows of an event held, and what of it is stored. Over turns whose ticks do not fall, each window
+/// that closed gave one item, and what joined a window was in one that closed, or waits in the open one. Every
+/// item that is told as stored is one, in the same order; a memory of no records has none.
+#[tactic(auto, using(crate::proofs::WaitingLemmas::storing_laws))]
+pub fn what_windows_hold_and_what_is_stored()
+    ensures windows { (config : Parts) (event : ℕ) (turns : List Turn) (tick : ℕ) → event < length config.events →
+        IfSome (event_at config event).aggregate (λ setting. 1 ≤ setting.interval) → EndBy tick_of tick turns →
+        TellsWindows config event (moments config turns) }
+    ensures number { (config : Parts) (event : ℕ) (moments : List Moment) → (account_of config event moments).stored
+        ≡ (if (event_at config event).store && not (config.memory == 0)
+        then number_of event (qualified config moments) else 0) }
+    ensures items { (config : Parts) (moments : List Moment) →
+        map (stored_of config) (items_stored config (endings config moments))
+        ≡ (if config.memory == 0 then [] else stored config (qualified config moments)) }
 {}

@@ -1,0 +1,58 @@
+-- A history with what became of each of its items, worked out by hand from the filters' rules, so that a wrong
+-- definition does not check.
+use Rattle.chain_spec.proofs.Names.{◌≡◌, ℕ, Bool, true, false, List, [], ◌∷◌, map, reverse, Some, None, refl, Turn, State, SetMode, DetailedBypassing, Off, Parts, plain_event, moments, Account, account_of, Fate, at_mode, at_block, at_nth, in_window, at_threshold, unsent, at_rate, at_traffic, let_out, endings}
+use Rattle.chain_spec.specs.Accounts.{nothing}
+use Rattle.chain_spec.proofs.WorkedHistories.{instance_18, door, seen, turn, two_in_1000, three_at_once}
+
+-- every second of event 0, blocked in state 1; event 1 in windows of 10 ticks, from 3 on in 100 ticks; event 2
+-- stored and not sent; event 3 switched off. Three candidates and 20 bytes in 1,000 ticks, and one record
+abbrev four_events : Parts
+four_events = record (instance_18 (record door { nth = 2; block = 1 ∷ [] } ∷ record (plain_event 43 3) {
+  aggregate = Some (record { interval = 10; last = false });
+  threshold = Some (record { interval = 100; number = 3 });
+} ∷ record (plain_event 44 3) { send = false; store = true } ∷ record (plain_event 45 3) { mode = Off } ∷ [])) {
+  memory = 1;
+  rate = Some (record { interval = 1000; number = 3 });
+  traffic = Some (record { interval = 1000; number = 20 });
+}
+
+-- three turns with the oldest first; each message has 8 bytes
+abbrev three_turns : List Turn
+three_turns =
+    turn 5 (seen 0 1 ∷ seen 0 1 ∷ State 1 ∷ seen 0 1 ∷ State 0 ∷ seen 1 2 ∷ seen 2 4 ∷ seen 3 1 ∷ [])
+    ∷ turn 15 (seen 1 1 ∷ SetMode (record { 0 = 3 }) DetailedBypassing ∷ seen 3 1 ∷ [])
+    ∷ turn 25 (seen 0 1 ∷ seen 0 1 ∷ seen 1 5 ∷ [])
+    ∷ []
+
+-- an event's account of turns, the oldest first
+abbrev account_in : Parts → List Turn → ℕ → Account
+account_in config turns event = account_of config event (moments config (reverse turns))
+
+-- an event's account of the three
+abbrev account : Parts → ℕ → Account
+account config event = account_in config three_turns event
+
+-- an ending's fate, after whether a window gave its item
+abbrev told : Parts → List (Bool × Fate)
+told config = reverse (map (λ one. (one.by_window, one.fate)) (endings config (moments config (reverse three_turns))))
+
+record AreWorkedOut : Type 0 where
+  -- the window of tick 5 gives 2 at tick 15, too few; that of tick 15 gives 1 at tick 25, which with these is 3, but
+  -- two messages left 4 bytes; and then the rate has counted three candidates
+  fates : told four_events ≡ (false, at_nth) ∷ (false, let_out) ∷ (false, at_block) ∷ (false, in_window) ∷ (false, unsent)
+      ∷ (false, at_mode) ∷ (true, at_threshold) ∷ (false, in_window) ∷ (false, let_out) ∷ (true, at_traffic)
+      ∷ (false, at_nth) ∷ (false, at_rate) ∷ (false, in_window) ∷ []
+  sampled_and_blocked : account four_events 0 ≡ record nothing { came = 5; block = 1; nth = 2; rate = 1; sent = 1 }
+  in_three_windows : account four_events 1 ≡ record nothing { came = 3; closed = 2; aggregate = 3; threshold = 1; traffic = 1; waiting = 1 }
+  stored_and_not_sent : account four_events 2 ≡ record nothing { came = 1; unsent = 1; stored = 1 }
+  off_and_then_past_the_filters : account four_events 3 ≡ record nothing { came = 2; mode = 1; sent = 1 }
+  no_such_event : account four_events 4 ≡ nothing
+  no_memory : account (record four_events { memory = 0 }) 2 ≡ record nothing { came = 1; unsent = 1 }
+  -- without a limit of bytes the third message fits
+  no_traffic_limit : account (record four_events { traffic = None }) 1 ≡ record nothing { came = 3; closed = 2; aggregate = 3; threshold = 1; sent = 1; waiting = 1 }
+  -- the rate holds the third report back, and in the next turn the event that tells of it, too
+  held_back : account_in two_in_1000 three_at_once 0 ≡ record nothing { came = 3; rate = 1; sent = 2 }
+  telling_held_back : account_in two_in_1000 three_at_once 1 ≡ record nothing { came = 1; rate = 1 }
+
+worked_out : AreWorkedOut
+worked_out = assumption (refl)
