@@ -87,6 +87,7 @@ pub(crate) fn digits_len(number: u64) -> usize
 }
 
 /// Writes a space and a number into room that is there.
+#[inline(always)]
 #[tactic(auto, using(crate::proofs::NumbersLemmas::written))]
 pub(crate) fn put_field(out: &mut Vec<u8>, number: u64)
     requires { vec_len out.old + (1 + length (decimal number)) ≤ vec_capacity out.old }
@@ -95,15 +96,29 @@ pub(crate) fn put_field(out: &mut Vec<u8>, number: u64)
     ensures capacity { vec_capacity out.new ≡ vec_capacity out.old }
 {
     out.push_reserved(b' ');
-    // Most numbers have one digit or two.
+    if number < 100 {
+        return put_short(out, number);
+    }
+    put_short(out, number / 100);
+    put_pair(out, number % 100);
+}
+
+/// Writes a number into room that is there. Most have one digit or two.
+#[inline(always)]
+#[tactic(auto, using(crate::proofs::NumbersLemmas::written))]
+fn put_short(out: &mut Vec<u8>, number: u64)
+    requires { vec_len out.old + length (decimal number) ≤ vec_capacity out.old }
+    ensures items { out.new.items ≡ out.old.items ++ decimal number }
+    ensures len { vec_len out.new ≡ vec_len out.old + length (decimal number) }
+    ensures capacity { vec_capacity out.new ≡ vec_capacity out.old }
+{
     if number < 10 {
         return put_digit(out, number);
     }
     if number < 100 {
         return put_pair(out, number);
     }
-    put_digits(out, number / 100);
-    put_pair(out, number % 100);
+    put_digits(out, number);
 }
 
 /// How many digits a number has at most.
