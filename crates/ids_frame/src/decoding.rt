@@ -13,6 +13,7 @@ use crate::reading::{context_of, signature_of, stamp_of, u8_of, u16_of};
 
 /// The message whose spelling the bytes begin with, and how many bytes that spelling has. What
 /// stands behind them is not looked at. The message's context and signature are slices of `bytes`.
+#[inline(always)]
 pub fn decode(bytes: &[u8]) -> Result<(Message<'_>, usize), FrameFault>
     ensures { result ≡ decoded bytes.now }
 {
