@@ -1,14 +1,14 @@
 -- What a replay gives is the work that its input files ask for, and how its run ends.
 use Rattle.run_steps.proofs.Names.{◌≡◌, ◌∙◌, ℕ, List, length, IsTrue, refl, sym, sum-map, Parts, Round, told, rows_of, memory_text, journal_text, Cuts, Shelved, ReplayFiles, replay, replays, replay_outputs, replay_work, lost_contexts, without_context, IsOneHistory, WasDone}
 use Rattle.idsm_run.specs.Replayed.{RunManager, Replayed}
-use Rattle.trace_replay.specs.Replayed.{Gives, IsReplay, chain_stands}
+use Rattle.trace_replay.specs.Replayed.{Gives, IsReplay}
 use Rattle.run_spec.proofs.JournalLemmas.{cut_at_ends}
 use Rattle.run_spec.proofs.JudgeLemmas.{replay_found}
 
 -- ---- what a replay gives
 
 module _ (config : Parts) (rounds : List Round) (manager : RunManager) (gives : Gives)
-    (is : IsReplay chain_stands config rounds manager gives) where
+    (is : IsReplay config rounds manager gives) where
   pub is_one : IsOneHistory config rounds gives.turns gives.losses
   is_one = record { merged = is.merged; fits = is.fits; causal = is.causal }
 

@@ -4,7 +4,7 @@ use Rattle.buffer_classes.specs.Buffers.{Buffer}
 use Rattle.event_chain.specs.Chained.{Chained}
 use Rattle.ids_outside.specs.Files.{SameFiles}
 use Rattle.main_function.specs.declared.manager.Manager.{Manager}
-use Rattle.trace_replay.specs.Replayed.{Gives, IsReplay, chain_stands, gives}
+use Rattle.trace_replay.specs.Replayed.{Gives, IsReplay, gives}
 use Rattle.trace_replay.specs.declared.replaying.Replayed.{Replayed as Given}
 use Rattle.run_steps.specs.Answered.{RanWith, RunsWith}
 use Rattle.run_steps.specs.Names.{Parts, Round, Files, Shelved, Heard}
@@ -20,7 +20,7 @@ RunManager = Manager (Chained Buffer)
 
 -- a replay of these rounds under this configuration gave this
 abbrev pub IsReplayed : Parts → List Round → Given → Type 0
-IsReplayed config rounds replayed = IsReplay chain_stands config rounds replayed.manager (gives replayed)
+IsReplayed config rounds replayed = IsReplay config rounds replayed.manager (gives replayed)
 
 -- the input files were read and nothing was written yet: what stood before they were read asks for these rounds
 pub record HasAsked (names : ReplayFiles) (config : Parts) (rounds : List Round) (before old : Shelved) : Type 0 where
@@ -41,7 +41,7 @@ pub record Replayed (names : ReplayFiles) (manager : RunManager) (said : List �
   pub written : AreWritten (replay_work names config gives.turns gives.losses).outputs new
   pub text : said ≡ (replay_work names config gives.turns gives.losses).said
   -- the manager stands for it, and rested before and after the last turn of each round
-  pub manager_is : IsReplay chain_stands config rounds manager gives
+  pub manager_is : IsReplay config rounds manager gives
 
 -- what a run of `replay` over these files does
 abbrev pub RanReplay : ReplayFiles → Option RunManager → ℕ → Shelved → Shelved → Heard → Heard → Type 0

@@ -62,9 +62,9 @@ pub fn run_plain<H: Shelf, K: Sink>(
 /// Runs the replay that the words behind the program's name ask for, and returns its status, with the manager that
 /// made the turns where the status is 0.
 ///
-/// `replay CONFIG TRACE MESSAGES MEMORY JOURNAL` replays a trace: its callers, each in a thread of its own, beside
-/// the turns of a manager; and it writes the messages, the event memory and the journal of the history that this
-/// gave.
+/// `replay CONFIG TRACE MESSAGES MEMORY JOURNAL` replays a trace: a thread for each of its callers, beside the turns of
+/// a manager, which makes what no thread has begun; and it writes the messages, the event memory and the journal of the
+/// history that this gave.
 pub fn run_replay<R: Threads + Sync, H: Shelf, K: Sink, G: Gate + Sync>(
     rt: &R,
     alloc: Global,

@@ -2,11 +2,14 @@
 //!
 //! Layer 10, runs. Over `trace_replay`, `trace_text`, `journal` and the crates below them. They show what no contract
 //! says: the histories of traces that were worked out by hand, that callers truly run beside each other and beside
-//! turns, and that a flood of reports into a ring of one or two event buffers is accounted for, call by call.
+//! turns, that a gate is told of each call once, and that a flood of reports into a ring of one or two event buffers is
+//! accounted for, call by call.
 #![tactic(auto)]
 
 #[cfg(test)]
 mod floods;
+#[cfg(test)]
+mod gates;
 #[cfg(test)]
 mod meeting;
 #[cfg(test)]

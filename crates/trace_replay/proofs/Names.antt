@@ -1,5 +1,5 @@
 -- The names of other crates and of this crate's specs that more than one of its proofs stands on.
-pub use Rattle.std.proofs.Common.{◌≡◌, ℕ, ◌<◌, ◌^◌, true≢false, refl, sym, ◌∙◌, arith, suc, ◌+◌, ◌≤◌, ◌⊎◌, ⊎_elim, List, [], ◌∷◌, ◌++◌, length, map, take, ap, subst, length-append, zero, ◌==◌, if◌then◌else◌, nat_lt, Some, Bool, filter, sum_by, slice_index_or, eq-eqb, inl, inr, le-ltb, ◌-◌, append_assoc, min, get_or, append-nil, drop, true, nat_le, ◌&&◌, leb-true, ltb-true, vec_len, vec_capacity, rules}
+pub use Rattle.std.proofs.Common.{◌≡◌, ℕ, ◌<◌, ◌^◌, true≢false, refl, sym, ◌∙◌, arith, suc, ◌+◌, ◌≤◌, ◌⊎◌, ⊎_elim, List, [], ◌∷◌, ◌++◌, length, map, take, ap, subst, length-append, zero, ◌==◌, if◌then◌else◌, nat_lt, Some, Bool, filter, sum_by, slice_index_or, eq-eqb, inl, inr, le-ltb, ◌-◌, append_assoc, min, get_or, append-nil, drop, true, nat_le, ◌&&◌, leb-true, ltb-true, vec_len, vec_capacity, rules, sum, ◌*◌}
 pub use Rattle.std.proofs.lemmas.Bool.{cases_lt, and_parts}
 pub use Rattle.std.proofs.lemmas.List.{length-map, map-append, take_all, take_more, get_or_past, length_push, length-take-le, take-append-drop, with_items_is}
 pub use Rattle.std.proofs.lemmas.List.Concat.{flat_map-cons}
@@ -24,6 +24,7 @@ pub use Rattle.merge_spec.specs.Merge.{IsMerge, AreMerged, IsAsAsked, IsItsLine}
 pub use Rattle.merge_spec.specs.Orders.{StandsIn, KeepUpFrom}
 pub use Rattle.merge_spec.specs.Rounds.{Asked, reports, changes, sets, last_tick, lines_of, ticks_of, Round, is_lost_report, is_report, lines_at, round_ticks}
 pub use Rattle.permit_ring.proofs.ListLemmas.{there, at_length}
+pub use Rattle.report_queue.specs.Parts.{calls_of}
 pub use Rattle.report_api.specs.Desks.{desk_memo}
 pub use Rattle.report_api.specs.Names.{Act, Carried, Absent, Kept, Missing, Lost, Got, DeskMemo, PassMemo, Report, State, SetMode, Outcome}
 pub use Rattle.permit_ring.specs.Logs.{fate_of}
@@ -39,8 +40,9 @@ pub use Rattle.trace_text.specs.TraceView.{Traced, round_at}
 pub use Rattle.trace_replay.specs.Calls.{AsksOnce, CarriesAsked, IsAsked, control_look, lost_report, report_look, Answers, lost_reports, CallsOnce, Told, loss_of, MayBeAsked}
 pub use Rattle.trace_replay.specs.Played.{HavePlayed, sizes_in}
 pub use Rattle.trace_replay.specs.Recording.{Closes, IsRecordOf, IsSmallTurn, tick_of, turns_in, Advances, Continues, StaysSame, StillRecords}
-pub use Rattle.trace_replay.specs.Rounds.{IsBetween, rests_from, CanPlay, lines_in, ticks_before}
-pub use Rattle.trace_replay.specs.Standing.{AreFew, HasListed, losses_by, passes_of, told, HasPlayed, lines_before, AreAtRest, IsAtRest, SameCallers, MayAllBeAsked, HasRoom}
+pub use Rattle.trace_replay.specs.Rests.{all_rests, as_rest, lines_from, rests_before, ticks_before}
+pub use Rattle.trace_replay.specs.Rounds.{IsBetween, CanPlay, EndsRound, RestsOnce}
+pub use Rattle.trace_replay.specs.Standing.{AreFew, HasListed, losses_by, passes_of, told, HasPlayed, lines_before, AreAtRest, IsAtRest, MayAllBeAsked, HasRoom, calls_of_each}
 pub use Rattle.trace_replay.specs.declared.caller.Caller.{Caller}
 pub use Rattle.trace_replay.specs.declared.gathered.Gathered.{Gathered}
 pub use Rattle.trace_replay.specs.declared.recorder.Recorder.{Recorder}

@@ -1,6 +1,10 @@
 pub mod Calls
+pub mod Hands
+pub mod Places
 pub mod Played
 pub mod Recording
 pub mod Replayed
+pub mod Rests
 pub mod Rounds
+pub mod Stages
 pub mod Standing

@@ -1,5 +1,6 @@
 -- What a replay of a trace gives, for whatever order the steps of its threads had.
-use Rattle.std.specs.Prelude.{◌≡◌, ℕ, List, map, reverse}
+use Rattle.std.specs.Prelude.{◌≡◌, ℕ, List, length, map, reverse}
+use Rattle.std.specs.List.{flat_map}
 use Rattle.ids_types.specs.Turns.{Turn}
 use Rattle.ids_types.specs.declared.loss.Loss.{Loss}
 use Rattle.ids_config.specs.Parts.{Parts}
@@ -10,30 +11,34 @@ use Rattle.chain.specs.History.{count_of, messages_of}
 use Rattle.chain_plain.specs.Telling.{ends_of}
 use Rattle.chain_spec.specs.Chain.{IsCausal}
 use Rattle.buffer_classes.specs.Buffers.{Buffer}
+use Rattle.filter_aggregate.specs.Account.{all_kept}
 use Rattle.event_chain.specs.Chained.{Chained}
 use Rattle.event_chain.specs.Standing.{Stands as ChainStands}
 use Rattle.report_api.specs.Desks.{desk_memo}
 use Rattle.report_api.specs.Names.{PassMemo}
+use Rattle.report_api.specs.declared.shared.Shared.{Shared}
 use Rattle.desk_closing.specs.Calls.{HaveAllCalls, losses_in}
-use Rattle.desk_closing.specs.Closed.{came}
-use Rattle.main_function.specs.Standing.{Stands, rests_of}
+use Rattle.desk_closing.specs.Closed.{IsMadeFor, came}
+use Rattle.main_function.specs.Standing.{IsManagerOf, Stands, rests_of}
 use Rattle.main_function.specs.declared.manager.Manager.{Manager}
 use Rattle.trace_replay.specs.Played.{HavePlayed}
-use Rattle.trace_replay.specs.Rounds.{rests_from}
+use Rattle.trace_replay.specs.Rests.{all_rests, as_rest}
 use Rattle.trace_replay.specs.declared.recorder.Recorder.{Recorder}
 use Rattle.trace_replay.specs.declared.replaying.Replayed.{Replayed}
 
--- what a replay gives besides its manager: the turns, the losses, and what was sent
+-- what a replay gives besides its manager: the turns, the losses, what was sent, and the calls of each caller at each rest
 pub record Gives : Type 0 where
   pub turns : List Turn
   pub losses : List Loss
   pub sent : List ℕ
   pub ends : List ℕ
   pub messages : ℕ
+  pub calls : List ℕ
 
-module _ {C : Type 0} (stands : C → Parts → List Turn → Type 0) (config : Parts) (rounds : List Round) where
-  -- a manager that replayed these rounds, and what that gave
-  pub record IsReplay (m : Manager C) (gives : Gives) : Type 0 where
+module _ {C : Type 0} (stands : C → Parts → List Turn → Type 0) (events : C → ℕ) (kept : C → List Buffer) (config : Parts)
+    (rounds : List Round) where
+  -- a manager that replayed these rounds, over a chain with these words, and what that gave
+  pub record IsReplayOver (m : Manager C) (gives : Gives) : Type 0 where
     -- the turns and the losses are one merge of the callers' lines, and a journal under the configuration
     pub merged : IsMerge config rounds gives.turns gives.losses
     pub fits : Fits config (record { turns = gives.turns; losses = gives.losses })
@@ -43,9 +48,14 @@ module _ {C : Type 0} (stands : C → Parts → List Turn → Type 0) (config : 
     pub sent : gives.sent ≡ messages_of config gives.turns
     pub ends : gives.ends ≡ ends_of config gives.turns
     pub messages : gives.messages ≡ count_of config gives.turns
-    -- the manager stands for them, and it rested before and after the last turn of each round
+    -- the manager is one of the configuration, and stands for them
+    pub shared : Shared
+    pub made_for : IsMadeFor config shared
+    pub is_manager : IsManagerOf events kept shared m
     pub stands_for : Stands stands config m gives.turns
-    pub rests_are : rests_of m ≡ rests_from 0 0 rounds
+    -- it rested before and after the last turn of each round, when each caller had made its lines of the rounds so far
+    pub rests_are : rests_of m ≡ map as_rest (all_rests config.callers rounds)
+    pub calls_are : gives.calls ≡ flat_map (λ rest. rest.calls) (all_rests config.callers rounds)
     -- the passes that came back to it made the calls of the lines; the turns have those that were accepted, and the
     -- losses are the others
     pub passes : List PassMemo
@@ -58,16 +68,28 @@ module _ {C : Type 0} (stands : C → Parts → List Turn → Type 0) (config : 
 abbrev pub chain_stands : Chained Buffer → Parts → List Turn → Type 0
 chain_stands chain config turns = ChainStands (λ (buf : Buffer). buf.bytes) config (reverse turns) chain
 
+-- for how many events it counts, and the buffers that it keeps
+abbrev pub chain_events : Chained Buffer → ℕ
+chain_events chain = length chain.filters.windows
+
+abbrev pub chain_kept : Chained Buffer → List Buffer
+chain_kept chain = all_kept chain.filters.windows
+
+-- a manager over it that replayed these rounds, and what that gave
+abbrev pub IsReplay : Parts → List Round → Manager (Chained Buffer) → Gives → Type 0
+IsReplay config rounds m gives = IsReplayOver chain_stands chain_events chain_kept config rounds m gives
+
 -- what is given besides the manager
 abbrev pub gives : Replayed → Gives
-gives r = record { turns = r.history.turns; losses = r.losses.items; sent = r.sent.items; ends = r.ends.items; messages = r.messages }
+gives r = record { turns = r.history.turns; losses = r.losses.items; sent = r.sent.items; ends = r.ends.items; messages = r.messages; calls = r.calls.items }
 
--- and what a recorder and its callers' losses give
-abbrev pub given : {C : Type 0} → Recorder C → List Loss → Gives
-given r losses = record {
+-- and what a recorder gives, with its callers' losses and calls
+abbrev pub given : {C : Type 0} → Recorder C → List Loss → List ℕ → Gives
+given r losses calls = record {
   turns = r.gathered.history.turns;
   losses = losses;
   sent = r.gathered.sent.items;
   ends = r.gathered.ends.items;
   messages = r.gathered.messages;
+  calls = calls;
 }

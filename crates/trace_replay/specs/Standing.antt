@@ -5,7 +5,7 @@ use Rattle.ids_types.specs.declared.loss.Loss.{Loss}
 use Rattle.merge_spec.specs.Decided.{losses_from}
 use Rattle.merge_spec.specs.Rounds.{Asked, Round, lines_at, lines_of}
 use Rattle.desk_closing.specs.Calls.{fates_in}
-use Rattle.report_queue.specs.Parts.{queue_positions}
+use Rattle.report_queue.specs.Parts.{calls_of, queue_positions}
 use Rattle.report_api.specs.Names.{PassMemo}
 use Rattle.report_api.specs.Passes.{IsPassOf, lost_events, pass_memo, sizes_of}
 use Rattle.report_api.specs.declared.pass.Pass.{Pass}
@@ -50,11 +50,6 @@ pub record IsAtRest (shared : Shared) (i : ℕ) (lines : List Asked) (caller : C
 abbrev pub HasRoom : ℕ → Caller → Type 0
 HasRoom lines caller = vec_len caller.losses + lines ≤ vec_capacity caller.losses
 
--- for what each caller may lose in round k
-abbrev pub AreReady : List Round → ℕ → List Caller → Type 0
-AreReady rounds k callers =
-    (i : ℕ) (d : Caller) → i < length callers → HasRoom (length (lines_at i (round_at rounds k))) (slice_index_or callers i d)
-
 -- no caller of so many makes 2^32 calls or more
 abbrev pub AreFew : ℕ → List Round → Type 0
 AreFew callers rounds = (caller : ℕ) → caller < callers → length (lines_of caller rounds) < 2 ^ 32
@@ -63,15 +58,13 @@ AreFew callers rounds = (caller : ℕ) → caller < callers → length (lines_of
 abbrev pub passes_of : List Caller → List Pass
 passes_of callers = map (λ (caller : Caller). caller.pass) callers
 
+-- how many calls each of them made
+abbrev pub calls_of_each : List Caller → List ℕ
+calls_of_each callers = map (λ (caller : Caller). calls_of caller.pass.seat) callers
+
 -- what callers list as lost, one caller after another
 abbrev pub losses_by : List Caller → List Loss
 losses_by callers = flat_map (λ (caller : Caller). caller.losses.items) callers
-
--- one by one, these are the same callers, with what they listed, and perhaps more room
-pub record SameCallers (old new : List Caller) : Type 0 where
-  pub as_many : length new ≡ length old
-  pub each : (i : ℕ) (d : Caller) → i < length new → (slice_index_or new i d).pass ≡ (slice_index_or old i d).pass
-  pub listed : (i : ℕ) (d : Caller) → i < length new → (slice_index_or new i d).losses.items ≡ (slice_index_or old i d).losses.items
 
 -- each caller made the calls of the first k rounds
 abbrev pub AreAtRest : Shared → List Round → ℕ → List Caller → Type 0

@@ -1,10 +1,12 @@
-//! A trace replayed: its callers, each in a thread of its own, beside the turns of one manager.
+//! A trace replayed: a thread for each of its callers, beside the turns of one manager.
 //!
 //! Layer 9, traces. Over `trace_text`, `report_api`, `main_function` and `event_chain`; the command `replay` writes what
 //! it answers. `specs/Replayed.antt` says what a replay gives, for whatever order the steps of the threads had: one
 //! history that is a merge of the callers' lines, with each loss where no event buffer was free, and the messages
 //! that the filter chain sends for this history.
-//! That callers run beside each other and beside turns is shown by a test alone: a replay on one thread would meet
+//! The threads live through the replay. In each round every caller is put at its place (`place.rt`), where its thread
+//! finds it; the main function makes what no thread has begun, so that no host's lack of threads stops a replay.
+//! That callers run beside each other and beside turns is shown by tests alone: a replay on one thread would meet
 //! each contract too.
 #![tactic(auto)]
 
@@ -12,9 +14,17 @@ mod caller;
 mod callers;
 mod gate;
 mod gathered;
+mod handing;
+mod laws;
+mod patience;
+mod place;
 mod recorder;
 mod replaying;
+mod rests;
 mod rounds;
+mod serving;
+mod stage;
 
 pub use gate::{Gate, OpenGate};
+pub use laws::a_call_lies_in_its_round;
 pub use replaying::{Replayed, RunManager, replay};

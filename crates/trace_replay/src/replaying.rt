@@ -2,13 +2,16 @@
 ghost use Rattle.std.specs.Prelude.{◌≡◌, [], length, IfOk};
 ghost use Rattle.text_spec.specs.TraceReading.{AreRounds};
 ghost use Rattle.trace_replay.specs.Recording.{IsNewRecorder};
-ghost use Rattle.trace_replay.specs.Replayed.{IsReplay, chain_stands, given, gives};
+ghost use Rattle.trace_replay.specs.Replayed.{IsReplay, IsReplayOver, given, gives};
+ghost use Rattle.trace_replay.specs.Stages.{IsSet};
 
 use crate::callers::{callers_of, part};
 use crate::gate::Gate;
 use crate::gathered::Gathered;
 use crate::recorder::Recorder;
-use crate::rounds::play_rounds;
+use crate::rests::Rests;
+use crate::rounds::play_beside;
+use crate::stage::Stage;
 use chain::Chain;
 use event_chain::EventChain;
 use ids_config::Config;
@@ -16,6 +19,7 @@ use ids_types::{History, Loss, NoMemory};
 use main_function::{Made, Manager, make};
 use report_api::{CtxBuf, Pass, Shared};
 use std::alloc::Global;
+use std::sync::atomic::AtomicBool;
 use std::thread::Threads;
 use trace_text::Trace;
 
@@ -35,12 +39,15 @@ pub struct Replayed {
     pub ends: Vec<u64>,
     /// How many messages were sent.
     pub messages: u64,
+    /// How many calls each caller had made at each rest of the manager: a number for each caller, rest by rest.
+    pub calls: Vec<u64>,
     /// The manager, closed. It has the event memory.
     pub manager: RunManager,
 }
 
-/// Replays a trace: in each round its callers, each in a thread of its own, make the calls that their lines ask for,
-/// beside the turns of the ticks beside; and then a turn is made that takes what is left.
+/// Replays a trace: in each round its callers make the calls that their lines ask for, beside the turns of the ticks
+/// beside; and then a turn is made that takes what is left. There is a thread for each caller; the main function makes
+/// what no thread has begun.
 pub fn replay<R: Threads + Sync, G: Gate + Sync>(
     rt: &R,
     alloc: Global,
@@ -50,10 +57,14 @@ pub fn replay<R: Threads + Sync, G: Gate + Sync>(
 ) -> Result<Replayed, NoMemory>
     requires callers { trace.now.callers ≡ config.now.callers }
     requires rounds { AreRounds config.now trace.now.rounds }
-    ensures { IfOk result (λ r. IsReplay chain_stands config.now trace.now.rounds r.manager (gives r)) }
+    ensures { IfOk result (λ r. IsReplay config.now trace.now.rounds r.manager (gives r)) }
 {
     let chain = EventChain::make(alloc, config)?;
-    let Ended { recorder, losses } = run(rt, alloc, config, trace, gate, chain)?;
+    let Ended {
+        recorder,
+        losses,
+        calls,
+    } = run(rt, alloc, config, trace, gate, chain)?;
     let Recorder { manager, gathered } = recorder;
     Ok(Replayed {
         history: gathered.history,
@@ -61,15 +72,17 @@ pub fn replay<R: Threads + Sync, G: Gate + Sync>(
         sent: gathered.sent,
         ends: gathered.ends,
         messages: gathered.messages,
+        calls,
         manager,
     })
 }
 
-/// A manager that is closed, with what was gathered of its turns, and the losses of its callers.
+/// A manager that is closed, with what was gathered of its turns, and the losses and the calls of its callers.
 #[derive(Drop)]
 struct Ended<C> {
     recorder: Recorder<C>,
     losses: Vec<Loss>,
+    calls: Vec<u64>,
 }
 
 /// Replays a trace over a chain that took no turn yet.
@@ -86,7 +99,8 @@ fn run<R: Threads + Sync, G: Gate + Sync, C: Chain<CtxBuf> + Drop>(
     requires fresh { C.stands chain config.now [] }
     requires events { C.events chain ≡ length config.now.events }
     requires kept { C.kept chain ≡ [] }
-    ensures { IfOk result (λ run. IsReplay C.stands config.now trace.now.rounds run.recorder.manager (given run.recorder run.losses.items)) }
+    ensures { IfOk result (λ run. IsReplayOver C.stands C.events C.kept config.now trace.now.rounds run.recorder.manager
+        (given run.recorder run.losses.items run.calls.items)) }
 {
     let gathered = Gathered::make(alloc)?;
     let Made {
@@ -95,17 +109,16 @@ fn run<R: Threads + Sync, G: Gate + Sync, C: Chain<CtxBuf> + Drop>(
         passes,
     } = make(alloc, config, chain)?;
     let mut recorder = Recorder { manager, gathered };
-    let losses = play(
-        rt,
-        alloc,
-        config,
-        trace,
-        gate,
-        &shared,
-        passes,
-        &mut recorder,
-    )?;
-    Ok(Ended { recorder, losses })
+    let mut rests = Rests::make(alloc, trace)?;
+    let over = AtomicBool::new(false);
+    let positions = config.parts().ring;
+    let stage = Stage::make(alloc, &shared, positions, trace, gate, &over)?;
+    let losses = play(rt, alloc, config, &stage, passes, &mut recorder, &mut rests)?;
+    Ok(Ended {
+        recorder,
+        losses,
+        calls: rests.into_calls(),
+    })
 }
 
 /// Plays a trace from its first round on and closes, and answers the losses of the callers.
@@ -113,21 +126,23 @@ fn play<R: Threads + Sync, G: Gate + Sync, C: Chain<CtxBuf>>(
     rt: &R,
     alloc: Global,
     config: &Config,
-    trace: &Trace,
-    gate: &G,
-    shared: &Shared,
+    stage: &Stage<'_, G>,
     passes: Vec<Pass>,
     recorder: &mut Recorder<C>,
+    rests: &mut Rests,
 ) -> Result<Vec<Loss>, NoMemory>
-    requires callers { trace.now.callers ≡ config.now.callers }
-    requires rounds { AreRounds config.now trace.now.rounds }
-    requires new { IsNewRecorder C.stands C.events C.kept config.now shared.now passes.items recorder.old }
-    ensures { IfOk result (λ losses. IsReplay C.stands config.now trace.now.rounds recorder.new.manager (given recorder.new losses.items)) }
+    requires callers { stage.now.trace.now.callers ≡ config.now.callers }
+    requires rounds { AreRounds config.now stage.now.trace.now.rounds }
+    requires set { IsSet stage.now }
+    requires none { rests.old.calls.items ≡ [] }
+    requires new { IsNewRecorder C.stands C.events C.kept config.now stage.now.shared.now passes.items recorder.old }
+    ensures { IfOk result (λ losses. IsReplayOver C.stands C.events C.kept config.now stage.now.trace.now.rounds recorder.new.manager
+        (given recorder.new losses.items rests.new.calls.items)) }
 {
-    let positions = config.parts().ring;
+    let _valid = config.parts();
     let mut callers = callers_of(alloc, passes)?;
-    play_rounds(rt, shared, positions, trace, gate, recorder, &mut callers)?;
+    play_beside(rt, stage, recorder, &mut callers, rests)?;
     let (mut passes, losses) = part(alloc, callers)?;
-    recorder.close(shared, &mut passes, trace.last_tick())?;
+    recorder.close(stage.shared, &mut passes, stage.trace.last_tick())?;
     Ok(losses)
 }

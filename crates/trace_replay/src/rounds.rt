@@ -3,110 +3,162 @@ ghost use Rattle.std.specs.Prelude.{◌≡◌, ℕ, ◌+◌, ◌<◌, ◌≤◌,
 ghost use Rattle.std.specs.List.{All};
 ghost use Rattle.std.specs.Thread.{IsSync};
 ghost use Rattle.merge_spec.specs.Orders.{KeepUpFrom};
-ghost use Rattle.report_queue.specs.Parts.{queue_positions};
+ghost use Rattle.report_api.specs.Desks.{desk_memo};
 ghost use Rattle.main_function.specs.Standing.{IsManagerOf, last_of};
 ghost use Rattle.trace_text.specs.TraceView.{round_at};
 ghost use Rattle.trace_replay.specs.Recording.{Continues, StillRecords};
-ghost use Rattle.trace_replay.specs.Rounds.{CanPlay, IsBetween};
-ghost use Rattle.trace_replay.specs.Standing.{AreAtRest, AreFew, AreReady, MayAllBeAsked};
+ghost use Rattle.trace_replay.specs.Rounds.{EndsRound, IsBetween};
+ghost use Rattle.trace_replay.specs.Stages.{IsSet};
+ghost use Rattle.trace_replay.specs.Standing.{AreAtRest};
 
 use crate::caller::Caller;
-use crate::callers::{play_all, reserve_all};
 use crate::gate::Gate;
+use crate::handing::{hand_over, take_back};
+use crate::patience::Patience;
 use crate::recorder::Recorder;
+use crate::rests::Rests;
+use crate::serving::serve_all;
+use crate::stage::Stage;
 use chain::Chain;
 use ids_types::NoMemory;
-use report_api::{CtxBuf, Shared};
+use report_api::CtxBuf;
 use std::thread::{Threads, join_mut};
-use trace_text::Trace;
 
-/// Plays all rounds of a trace, one behind the other.
-pub(crate) fn play_rounds<R: Threads + Sync, G: Gate + Sync, C: Chain<CtxBuf>>(
+/// Plays a trace: the main function's turns, round by round, beside the threads of the callers, which last through all
+/// rounds.
+pub(crate) fn play_beside<R: Threads + Sync, G: Gate + Sync, C: Chain<CtxBuf>>(
     rt: &R,
-    shared: &Shared,
-    positions: u64,
-    trace: &Trace,
-    gate: &G,
+    stage: &Stage<'_, G>,
     recorder: &mut Recorder<C>,
-    callers: &mut [Caller],
+    callers: &mut Vec<Caller>,
+    rests: &mut Rests,
 ) -> Result<(), NoMemory>
-    requires positions { positions ≡ queue_positions shared.now.queue }
-    requires few_callers { trace.now.callers ≤ 32 }
-    requires asked { MayAllBeAsked shared.now.terms trace.now.rounds }
-    requires between { IsBetween C.events C.kept shared.now trace.now 0 callers.old recorder.old }
-    ensures between { OnOk result (IsBetween C.events C.kept shared.now trace.now (length trace.now.rounds) callers.new recorder.new) }
+    requires set { IsSet stage.now }
+    requires between { IsBetween C.events C.kept stage.now.shared.now stage.now.trace.now 0 callers.old.items rests.old.calls.items recorder.old }
+    ensures between { OnOk result (IsBetween C.events C.kept stage.now.shared.now stage.now.trace.now (length stage.now.trace.now.rounds)
+        callers.new.items rests.new.calls.items recorder.new) }
     ensures records { OnOk result (StillRecords C.stands recorder.old recorder.new) }
-    ensures few { AreFew trace.now.callers trace.now.rounds }
 {
-    for round in 0..trace.rounds() {
-        play_round(rt, shared, positions, trace, round, gate, recorder, callers)?;
+    let ((), made) = join_mut(
+        rt,
+        &mut || -> ()
+            requires { IsSync R.row × IsSync G.row × IsSet stage.now }
+        { serve_all(rt, stage) },
+        &mut || -> Result<(), NoMemory>
+            requires { IsSet stage.now × IsBetween C.events C.kept stage.now.shared.now stage.now.trace.now 0
+                callers.now.items rests.now.calls.items recorder.now }
+            ensures { OnOk result (IsBetween C.events C.kept stage.entry.now.shared.now stage.entry.now.trace.now
+                (length stage.entry.now.trace.now.rounds) callers.exit.now.items rests.exit.now.calls.items recorder.exit.now)
+                × OnOk result (StillRecords C.stands recorder.entry.now recorder.exit.now) }
+        { play_to_end(stage, recorder, callers, rests) },
+    );
+    made
+}
+
+/// Plays all rounds, and then tells the threads of the callers that the replay is over.
+fn play_to_end<G: Gate, C: Chain<CtxBuf>>(
+    stage: &Stage<'_, G>,
+    recorder: &mut Recorder<C>,
+    callers: &mut Vec<Caller>,
+    rests: &mut Rests,
+) -> Result<(), NoMemory>
+    requires set { IsSet stage.now }
+    requires between { IsBetween C.events C.kept stage.now.shared.now stage.now.trace.now 0 callers.old.items rests.old.calls.items recorder.old }
+    ensures between { OnOk result (IsBetween C.events C.kept stage.now.shared.now stage.now.trace.now (length stage.now.trace.now.rounds)
+        callers.new.items rests.new.calls.items recorder.new) }
+    ensures records { OnOk result (StillRecords C.stands recorder.old recorder.new) }
+{
+    let made = play_rounds(stage, recorder, callers, rests);
+    stage.end();
+    made
+}
+
+/// Plays all rounds of a trace, one after the other.
+fn play_rounds<G: Gate, C: Chain<CtxBuf>>(
+    stage: &Stage<'_, G>,
+    recorder: &mut Recorder<C>,
+    callers: &mut Vec<Caller>,
+    rests: &mut Rests,
+) -> Result<(), NoMemory>
+    requires set { IsSet stage.now }
+    requires between { IsBetween C.events C.kept stage.now.shared.now stage.now.trace.now 0 callers.old.items rests.old.calls.items recorder.old }
+    ensures between { OnOk result (IsBetween C.events C.kept stage.now.shared.now stage.now.trace.now (length stage.now.trace.now.rounds)
+        callers.new.items rests.new.calls.items recorder.new) }
+    ensures records { OnOk result (StillRecords C.stands recorder.old recorder.new) }
+{
+    let mut patience = Patience::new();
+    for round in 0..stage.trace.rounds() {
+        play_round(stage, round, &mut patience, recorder, callers, rests)?;
     }
     Ok(())
 }
 
 /// Plays a round: the callers' calls beside the turns of its ticks beside, and then one turn more, between two rests.
-fn play_round<R: Threads + Sync, G: Gate + Sync, C: Chain<CtxBuf>>(
-    rt: &R,
-    shared: &Shared,
-    positions: u64,
-    trace: &Trace,
+fn play_round<G: Gate, C: Chain<CtxBuf>>(
+    stage: &Stage<'_, G>,
     round: u64,
-    gate: &G,
+    patience: &mut Patience,
     recorder: &mut Recorder<C>,
-    callers: &mut [Caller],
+    callers: &mut Vec<Caller>,
+    rests: &mut Rests,
 ) -> Result<(), NoMemory>
-    requires can { CanPlay shared.now positions trace.now }
-    requires round { round < length trace.now.rounds }
-    requires between { IsBetween C.events C.kept shared.now trace.now round callers.old recorder.old }
-    ensures between { OnOk result (IsBetween C.events C.kept shared.now trace.now (round + 1) callers.new recorder.new) }
+    requires set { IsSet stage.now }
+    requires round { round < length stage.now.trace.now.rounds }
+    requires between { IsBetween C.events C.kept stage.now.shared.now stage.now.trace.now round callers.old.items rests.old.calls.items recorder.old }
+    ensures between { OnOk result (IsBetween C.events C.kept stage.now.shared.now stage.now.trace.now (round + 1)
+        callers.new.items rests.new.calls.items recorder.new) }
     ensures records { OnOk result (StillRecords C.stands recorder.old recorder.new) }
 {
-    reserve_all(trace, round, callers)?;
-    play_beside(rt, shared, positions, trace, round, gate, recorder, callers)?;
-    recorder.manager.rest(callers)?;
-    recorder.turn(shared, trace.after(round))?;
-    recorder.manager.rest(callers)?;
+    play_calls(stage, round, patience, recorder, callers)?;
+    end_round(stage, round, recorder, callers.as_slice(), rests)?;
     Ok(())
 }
 
 /// The callers' calls of a round, beside the turns of its ticks beside.
-fn play_beside<R: Threads + Sync, G: Gate + Sync, C: Chain<CtxBuf>>(
-    rt: &R,
-    shared: &Shared,
-    positions: u64,
-    trace: &Trace,
+fn play_calls<G: Gate, C: Chain<CtxBuf>>(
+    stage: &Stage<'_, G>,
     round: u64,
-    gate: &G,
+    patience: &mut Patience,
     recorder: &mut Recorder<C>,
-    callers: &mut [Caller],
+    callers: &mut Vec<Caller>,
 ) -> Result<(), NoMemory>
-    requires can { CanPlay shared.now positions trace.now }
-    requires round { round < length trace.now.rounds }
-    requires rest { AreAtRest shared.now trace.now.rounds round callers.old }
-    requires callers { length callers.old ≡ trace.now.callers }
-    requires ready { AreReady trace.now.rounds round callers.old }
-    requires mine { IsManagerOf C.events C.kept shared.now recorder.old.manager }
-    requires later { KeepUpFrom (last_of recorder.old.manager) (round_at trace.now.rounds round).beside }
-    requires small { All (λ tick. tick ≤ 2 ^ 62) (round_at trace.now.rounds round).beside }
-    ensures rest { AreAtRest shared.now trace.now.rounds (round + 1) callers.new }
-    ensures count { length callers.new ≡ length callers.old }
-    ensures turns { OnOk result (Continues C.stands C.events C.kept shared.now (round_at trace.now.rounds round).beside recorder.old recorder.new) }
+    requires set { IsSet stage.now }
+    requires round { round < length stage.now.trace.now.rounds }
+    requires rest { AreAtRest stage.now.shared.now stage.now.trace.now.rounds round callers.old.items }
+    requires callers { length callers.old.items ≡ stage.now.trace.now.callers }
+    requires mine { IsManagerOf C.events C.kept stage.now.shared.now recorder.old.manager }
+    requires later { KeepUpFrom (last_of recorder.old.manager) (round_at stage.now.trace.now.rounds round).beside }
+    requires small { All (λ tick. tick ≤ 2 ^ 62) (round_at stage.now.trace.now.rounds round).beside }
+    ensures rest { OnOk result (AreAtRest stage.now.shared.now stage.now.trace.now.rounds (round + 1) callers.new.items) }
+    ensures callers { OnOk result (length callers.new.items ≡ stage.now.trace.now.callers) }
+    ensures turns { OnOk result (Continues C.stands C.events C.kept stage.now.shared.now
+        (round_at stage.now.trace.now.rounds round).beside recorder.old recorder.new) }
 {
-    let ticks = trace.beside(round);
-    let ((), made) = join_mut(
-        rt,
-        &mut || -> ()
-            requires { IsSync R.row × IsSync G.row × CanPlay shared.now positions trace.now × (round < length trace.now.rounds)
-                × (length callers.now ≡ trace.now.callers) × AreAtRest shared.now trace.now.rounds round callers.now
-                × AreReady trace.now.rounds round callers.now }
-            ensures { AreAtRest shared.entry.now trace.entry.now.rounds (round + 1) callers.exit.now
-                × (length callers.exit.now ≡ length callers.entry.now) }
-        { play_all(rt, shared, positions, trace, round, gate, callers) },
-        &mut || -> Result<(), NoMemory>
-            requires { IsManagerOf C.events C.kept shared.now recorder.now.manager × KeepUpFrom (last_of recorder.now.manager) ticks.now
-                × All (λ tick. tick ≤ 2 ^ 62) ticks.now }
-            ensures { OnOk result (Continues C.stands C.events C.kept shared.entry.now ticks.entry.now recorder.entry.now recorder.exit.now) }
-        { recorder.turns_beside(shared, ticks, gate) },
-    );
+    hand_over(stage, round, callers)?;
+    let made = recorder.turns_beside(stage.shared, stage.trace.beside(round), stage.gate);
+    take_back(stage, round, patience, callers)?;
     made
+}
+
+/// The turn that takes what is left of a round, between two rests.
+fn end_round<G: Gate, C: Chain<CtxBuf>>(
+    stage: &Stage<'_, G>,
+    round: u64,
+    recorder: &mut Recorder<C>,
+    callers: &[Caller],
+    rests: &mut Rests,
+) -> Result<(), NoMemory>
+    requires round { round < length stage.now.trace.now.rounds }
+    requires rest { AreAtRest stage.now.shared.now stage.now.trace.now.rounds (round + 1) callers.now }
+    requires all { length callers.now ≡ length (desk_memo recorder.old.manager.desk).back }
+    requires mine { IsManagerOf C.events C.kept stage.now.shared.now recorder.old.manager }
+    requires later { last_of recorder.old.manager ≤ (round_at stage.now.trace.now.rounds round).after }
+    requires small { (round_at stage.now.trace.now.rounds round).after ≤ 2 ^ 62 }
+    ensures { OnOk result (EndsRound C.stands C.events C.kept stage.now.shared.now (round_at stage.now.trace.now.rounds round).after
+        callers.now rests.old.calls.items rests.new.calls.items recorder.old recorder.new) }
+{
+    rests.rest(&mut recorder.manager, callers)?;
+    recorder.turn(stage.shared, stage.trace.after(round))?;
+    rests.rest(&mut recorder.manager, callers)?;
+    Ok(())
 }

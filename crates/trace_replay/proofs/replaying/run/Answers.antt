@@ -1,8 +1,13 @@
+use Rattle.trace_replay.proofs.StartLemmas.{all_may_be_asked}
 use Rattle.trace_replay.proofs.replaying.run.Goals as goal
+
+pub make-requires-4-clause-asked : goal.make-requires-4-clause-asked
+make-requires-4-clause-asked g c = all_may_be_asked c.args.config.now c.in_ok-shared.field-0.shared.terms
+    c.in_ok-shared.ensures.making.is_config c.args.trace.now.rounds c.requires.rounds.allowed
 
 pub play-requires-clause-new : goal.play-requires-clause-new
 play-requires-clause-new g c κs within = record {
-  manager_is = c.in_ok-shared.ensures;
+  manager_is = rw c.in_ok-stage.ensures.shared c.in_ok-shared.ensures;
   no_turns = c.in_ok-gathered.ensures.history;
   no_bytes = c.in_ok-gathered.ensures.sent;
   no_ends = c.in_ok-gathered.ensures.ends;

@@ -1,0 +1,6 @@
+use Rattle.trace_replay.specs.Hands.{StandsAt}
+use Rattle.trace_replay.proofs.place.Place.put.Given as goal
+
+-- the caller is still in hand
+abbrev pub invariant-loop-looks : goal.invariant-loop-looks
+invariant-loop-looks l = StandsAt l.self.slot.shared.value l.self.slot.trace.value l.self.slot.number l.hand

@@ -1,0 +1,55 @@
+-- The rests of a replay: when no call was under way, how many turns there were, and how many calls by each caller.
+use Rattle.std.specs.Prelude.{◌≡◌, ℕ, zero, suc, ◌+◌, ◌*◌, ◌-◌, ◌<◌, ◌≤◌, List, [], ◌∷◌, ◌++◌, length, sum, take}
+use mathlib.Core.Option.{some}
+use lib.ListN.{get_elem?}
+use Rattle.std.specs.List.{flat_map}
+use Rattle.merge_spec.specs.Rounds.{Round, lines_of, round_ticks}
+use Rattle.main_function.specs.declared.rest.Rest.{Rest}
+
+-- the ticks of the turns of the first k rounds
+abbrev pub ticks_before : List Round → ℕ → List ℕ
+ticks_before rounds k = flat_map round_ticks (take k rounds)
+
+-- how many lines caller i and those behind it, n in all, have in these rounds
+abbrev pub lines_from : ℕ → ℕ → List Round → List ℕ
+lines_from i zero rounds = []
+lines_from i (suc n) rounds = length (lines_of i rounds) ∷ lines_from (suc i) n rounds
+
+-- a rest: how many turns there were, and how many calls by each caller
+pub record CallerRest : Type 0 where
+  pub turns : ℕ
+  pub calls : List ℕ
+
+-- as the manager tells it: with the calls of all callers together
+abbrev pub as_rest : CallerRest → Rest
+as_rest rest = record { turns = rest.turns; calls = sum rest.calls }
+
+-- the rests of the first k rounds of n callers: before each round's last turn and after it, each caller having made its
+-- lines of the rounds so far
+abbrev pub rests_before : ℕ → List Round → ℕ → List CallerRest
+rests_before n rounds zero = []
+rests_before n rounds (suc k) =
+    let turns = length (ticks_before rounds (suc k)) in
+    let calls = lines_from 0 n (take (suc k) rounds) in
+    rests_before n rounds k ++ record { turns = turns - 1; calls = calls } ∷ record { turns = turns; calls = calls } ∷ []
+
+-- and of all rounds
+abbrev pub all_rests : ℕ → List Round → List CallerRest
+all_rests n rounds = rests_before n rounds (length rounds)
+
+-- there is rest j, when there were so many turns, and it tells so many calls of the caller
+pub record TellsCalls (n : ℕ) (rounds : List Round) (j turns caller calls : ℕ) : Type 0 where
+  pub rest : CallerRest
+  pub is_there : get_elem? (all_rests n rounds) j ≡ some rest
+  pub turns_are : rest.turns ≡ turns
+  pub calls_are : get_elem? rest.calls caller ≡ some calls
+
+-- a caller's call was made after the turn that ended the round before round k, where there is one, and before the turn
+-- that ended round k: the rest after the one tells that it was not made, and the rest before the other that it was
+pub record LiesInItsRound (n : ℕ) (rounds : List Round) (k caller call : ℕ) : Type 0 where
+  pub calls_before : ℕ
+  pub calls_after : ℕ
+  pub not_made : calls_before ≤ call
+  pub made : call < calls_after
+  pub after_the_last : 0 < k → TellsCalls n rounds (2 * k - 1) (length (ticks_before rounds k)) caller calls_before
+  pub before_its_own : TellsCalls n rounds (2 * k) (length (ticks_before rounds (k + 1)) - 1) caller calls_after
