@@ -142,7 +142,10 @@ fn cut_number(text: &[u8], separator: u8) -> Option<(u64, Option<&[u8]>)>
         }
         [tens @ b'1'..=b'9', ones @ b'0'..=b'9', next, rest @ ..]
             if *tens != separator && *ones != separator && *next == separator => {
-            Some((u64::from(*tens - b'0') * 10 + u64::from(*ones - b'0'), Some(rest)))
+            Some((
+                u64::from(*tens - b'0') * 10 + u64::from(*ones - b'0'),
+                Some(rest),
+            ))
         }
         _ => cut_digits(text, separator),
     }
