@@ -2,11 +2,12 @@
 //! fails: where a run leaves it to the test's own next call to fail, it made as many calls as that call's number.
 
 use crate::shelves::{shelf_of, sink_of, words_of};
-use crate::tables::{Lines, each_line_holds};
+use crate::tables::{Lines, each_line_holds, run};
 use ids_outside::{MemoryShelf, Shelf};
-use idsm_run::run_plain;
 use std::alloc::Global;
+use std::sync::Wait;
 use std::test::Fail;
+use std::thread::Threads;
 use text_spec::push_number;
 
 /// Whether no call has failed, and the next one does.
@@ -15,7 +16,8 @@ fn fails_next(alloc: Global, shelf: &mut MemoryShelf) -> bool {
 }
 
 /// Appends the status of the run where it makes exactly so many calls.
-pub(crate) fn tell_count(
+pub(crate) fn tell_count<R: Threads + Wait + Sync>(
+    rt: &R,
     alloc: Global,
     given: &str,
     calls: &str,
@@ -24,7 +26,7 @@ pub(crate) fn tell_count(
     let words = words_of(alloc, given)?;
     let mut out = sink_of(alloc, "-")?;
     let mut shelf = shelf_of(alloc, given, calls)?;
-    let status = run_plain(alloc, &words, &mut shelf, &mut out);
+    let status = run(rt, alloc, Lines::Counts, &words, &mut shelf, &mut out);
     if fails_next(alloc, &mut shelf) {
         push_number(told, status as u64)?;
     }
@@ -62,7 +64,8 @@ fn what_is_refused_makes_no_call_more(rt: HostRuntime) -> Result<(), Fail> {
 }
 
 /// Of the four turns of the first run two send nothing, and one sends two messages. The calls are two reads, the creation
-/// of `m`, two appends, and the creation of `r`.
+/// of `m`, two appends, and the creation of `r`. The replay of two turns that send and three that do not creates and appends
+/// its journal besides.
 const TURNS: &str =
     "fold c j m r | . | T 1 0 0 0/T 2 0 0 0/R 0 0 0 1 - -/R 0 1 0 2 - -/T 3 0 0 0/T 4 0 0 0/R 0 2 0 3 - -/
 6 => 0
@@ -71,7 +74,10 @@ fold c j m r | .
 4 => 0
 
 fold c j m r | . | T 1 0 0 0/T 2 0 0 0/
-4 => 0";
+4 => 0
+
+replay c j m r o | . | N/R 0 0 1 - -/E 5/N 6/E 7/N/R 0 0 1 - -/E 8/
+8 => 0";
 
 #[test]
 fn each_turn_that_sends_is_one_append(rt: HostRuntime) -> Result<(), Fail> {

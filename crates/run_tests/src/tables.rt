@@ -23,7 +23,7 @@ pub(crate) enum Lines {
     Plain,
     /// As `Ends`, by `run_replay` whatever the words are.
     Replay,
-    /// How many calls of the shelf it makes. Wanted is its status.
+    /// How many calls of the shelf it makes, by the run that its words choose. Wanted is its status.
     Counts,
     /// As `Ends`, but the call and the put want memory.
     Wanting,
@@ -64,7 +64,7 @@ fn report<R: Threads + Wait + Sync>(
 }
 
 /// Runs the words as the lines ask for, and returns the status.
-fn run<R: Threads + Wait + Sync>(
+pub(crate) fn run<R: Threads + Wait + Sync>(
     rt: &R,
     alloc: Global,
     lines: Lines,
@@ -74,7 +74,7 @@ fn run<R: Threads + Wait + Sync>(
 ) -> u8 {
     match lines {
         Lines::Replay => replay(rt, alloc, words, shelf, out),
-        Lines::Ends if is_replay(words) => replay(rt, alloc, words, shelf, out),
+        Lines::Ends | Lines::Counts if is_replay(words) => replay(rt, alloc, words, shelf, out),
         Lines::Ends if is_report(words) => report(rt, alloc, words, shelf, out),
         _ => run_plain(alloc, words, shelf, out),
     }
@@ -107,7 +107,7 @@ fn tell<R: Threads + Wait + Sync>(
     told: &mut Vec<u8>,
 ) -> Result<(), Fail> {
     match lines {
-        Lines::Counts => tell_count(alloc, given, fails, told),
+        Lines::Counts => tell_count(rt, alloc, given, fails, told),
         Lines::Wanting => tell_wanting(alloc, given, fails, told),
         Lines::Disks => tell_over_disk(alloc, given, fails, told),
         _ => tell_end(rt, alloc, lines, given, fails, told),
