@@ -12,6 +12,7 @@ use idsm_run::{
 };
 use memory_disk::HostDisk;
 use std::alloc::Global;
+use std::fs::File;
 use std::process::ExitCode;
 use std::rt::{Env, Files};
 use std::sync::Wait;
@@ -21,7 +22,17 @@ use std::{env, io};
 /// The host did not give the words of the command line.
 const NO_WORDS: u8 = 22;
 
+/// A file that is there on each host, and holds nothing.
+const NO_FILE: &str = "/dev/null";
+
 fn main(rt: HostRuntime) -> ExitCode {
+    // Where a standard file is closed, this takes its place. Else the next file that is opened would, and
+    // what is put on standard output would be written into it.
+    let _standard = (
+        File::open(&rt, NO_FILE),
+        File::open(&rt, NO_FILE),
+        File::open(&rt, NO_FILE),
+    );
     match words(&rt) {
         Ok(words) => {
             let mut shelf = HostShelf::new(rt, rt.alloc());
