@@ -1,2 +1,3 @@
 pub mod ParcelLemmas
 pub mod LogLemmas
+pub mod TranscriptLemmas

@@ -1,3 +1,4 @@
 pub mod History
 pub mod Parcels
+pub mod Transcripts
 pub mod Turning

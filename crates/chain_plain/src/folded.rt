@@ -5,6 +5,7 @@ ghost use Rattle.chain_plain.specs.Telling.{ends_of, handed_by};
 
 use crate::folding::fold;
 use crate::tally::Tally;
+use chain::Transcript;
 use event_chain::EventChain;
 use event_memory::Memory;
 use ids_config::Config;
@@ -37,11 +38,14 @@ pub fn outcome(alloc: Global, config: &Config, history: &History) -> Result<Fold
 {
     let mut chain = EventChain::make(alloc, config)?;
     let Tally {
+        transcript,
+        limited,
+    } = fold(alloc, config, history, &mut chain)?;
+    let Transcript {
         sent,
         ends,
-        limited,
         messages,
-    } = fold(alloc, config, history, &mut chain)?;
+    } = transcript;
     Ok(Folded {
         sent,
         ends,

@@ -1,7 +1,7 @@
 ghost use Rattle.std.specs.Prelude.{◌≡◌, [], length, IfOk, OnOk};
 ghost use Rattle.chain.specs.Parcels.{IsShort};
 ghost use Rattle.chain_plain.specs.Recorded.{CanFold};
-ghost use Rattle.chain_plain.specs.Telling.{told_of, Tells};
+ghost use Rattle.chain_plain.specs.Telling.{Tells};
 
 use crate::desk::{Desk, MOST_BYTES, MOST_ENTRIES};
 use crate::tally::Tally;
@@ -21,7 +21,7 @@ pub fn fold<'h, C: Chain<Plain<'h>>>(
     requires events { C.events chain.old ≡ length config.now.events }
     requires kept { C.kept chain.old ≡ [] }
     requires turns { CanFold (length config.now.events) history.now.turns }
-    ensures tells { IfOk result (λ tally. Tells config.now history.now.turns (told_of tally)) }
+    ensures tells { IfOk result (Tells config.now history.now.turns) }
     ensures stands { OnOk result (C.stands chain.new config.now history.now.turns) }
 {
     let mut desk = Desk::make(alloc, config.parts().events.len() as u64)?;

@@ -24,10 +24,11 @@ pub(crate) struct Told {
 
 impl Told {
     fn is_as(&self, other: &Told) -> bool {
-        self.tally.sent == other.tally.sent
-            && self.tally.ends == other.tally.ends
+        let (own, its) = (&self.tally.transcript, &other.tally.transcript);
+        own.sent == its.sent
+            && own.ends == its.ends
+            && own.messages == its.messages
             && self.tally.limited == other.tally.limited
-            && self.tally.messages == other.tally.messages
             && self.memory == other.memory
     }
 }

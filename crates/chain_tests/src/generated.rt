@@ -20,8 +20,8 @@ fn a_generated_history_gives_the_same_by_both_chains(rt: HostRuntime) -> Result<
     let made = generate(alloc, &options)?;
     let told = told_by_both(alloc, made.config.as_str(), &made.journal)?;
     let records = told.memory.iter().filter(|&&byte| byte == b'\n').count();
-    let digest = hex::encode(alloc, &Sha256::digest(&told.tally.sent))?;
-    assert_eq!(rt; told.tally.messages, 409);
+    let digest = hex::encode(alloc, &Sha256::digest(&told.tally.transcript.sent))?;
+    assert_eq!(rt; told.tally.transcript.messages, 409);
     assert_eq!(rt; records, 11);
     assert_eq!(rt;
         digest.as_str(),

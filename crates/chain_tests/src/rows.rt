@@ -111,9 +111,9 @@ fn told(alloc: Global, given: &str) -> Result<Vec<u8>, Fail> {
     let journal = journal.replace(alloc, "/", "\n")?;
     let told = told_by_both(alloc, config.as_str(), journal.as_bytes())?;
     let mut text = Vec::new(alloc);
-    push_number(&mut text, told.tally.messages)?;
+    push_number(&mut text, told.tally.transcript.messages)?;
     text.extend_from_slice(b" #")?;
-    push_hex(&mut text, &told.tally.sent)?;
+    push_hex(&mut text, &told.tally.transcript.sent)?;
     text.extend_from_slice(b" =")?;
     for &byte in &told.memory {
         text.push(if byte == b'\n' { b'/' } else { byte })?;

@@ -48,7 +48,7 @@ pub fn push_number(out: &mut Vec<u8>, number: u64) -> Result<(), NoMemory>
         OnErr result (vec_capacity out.old < vec_len out.old + length text) }
 {
     if out.capacity() - out.len() >= MOST_DIGITS {
-        put_digits(out, number);
+        put_short(out, number);
         return Ok(());
     }
     let mut digits = Buffer::new();
@@ -66,8 +66,7 @@ pub fn push_field(out: &mut Vec<u8>, number: u64) -> Result<(), NoMemory>
     if out.capacity() - out.len() <= MOST_DIGITS {
         return push_field_at_end(out, number);
     }
-    out.push_reserved(b' ');
-    put_digits(out, number);
+    put_field(out, number);
     Ok(())
 }
 

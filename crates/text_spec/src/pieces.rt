@@ -151,9 +151,47 @@ fn cut_number(text: &[u8], separator: u8) -> Option<(u64, Option<&[u8]>)>
     }
 }
 
-/// The same, digit by digit.
+/// The same for more digits: quick where they are three or four.
 #[inline(never)]
 fn cut_digits(text: &[u8], separator: u8) -> Option<(u64, Option<&[u8]>)>
+    ensures { option_map (λ x. (x.0, pieces_left separator (option_map (λ r. r.now) x.1))) result
+        ≡ first_as a_number (pieces_of separator text.now) }
+{
+    match text {
+        [
+            a @ b'1'..=b'9',
+            b @ b'0'..=b'9',
+            c @ b'0'..=b'9',
+            next,
+            rest @ ..,
+        ] if *a != separator && *b != separator && *c != separator && *next == separator => {
+            let value = u64::from(*a - b'0') * 100
+                + u64::from(*b - b'0') * 10
+                + u64::from(*c - b'0');
+            Some((value, Some(rest)))
+        }
+        [
+            a @ b'1'..=b'9',
+            b @ b'0'..=b'9',
+            c @ b'0'..=b'9',
+            d @ b'0'..=b'9',
+            next,
+            rest @ ..,
+        ] if *a != separator
+            && *b != separator
+            && *c != separator
+            && *d != separator
+            && *next == separator => {
+            let high = u64::from(*a - b'0') * 10 + u64::from(*b - b'0');
+            let low = u64::from(*c - b'0') * 10 + u64::from(*d - b'0');
+            Some((high * 100 + low, Some(rest)))
+        }
+        _ => cut_each_digit(text, separator),
+    }
+}
+
+/// The same, digit by digit.
+fn cut_each_digit(text: &[u8], separator: u8) -> Option<(u64, Option<&[u8]>)>
     ensures { option_map (λ x. (x.0, pieces_left separator (option_map (λ r. r.now) x.1))) result
         ≡ first_as a_number (pieces_of separator text.now) }
 {

@@ -1,5 +1,5 @@
 -- Counts of calls and claims, with one call more.
-use Rattle.trace_gen.proofs.Names.{◌≡◌, ◌≢◌, ℕ, ◌+◌, ◌<◌, ◌==◌, Bool, true, false, List, [], ◌∷◌, length, filter, map, get_or, set, refl, sym, ap, ◌∙◌, arith, inl, inr, Option, cond, count_by, nat_lt, cases_Bool, eq-eqb, eqb-true, ne_eqb, false_from_ne_true, get_or-set_same, get_or-set_other, ClassSpec, Parts, class_of, too_small, EventIndex, Stamp, Asked, reports, changes, sets, AreCalls, AreClaims, Call, calls_before, claims_before, is_by, keeps_in}
+use Rattle.trace_gen.proofs.Names.{◌≡◌, ◌≢◌, ℕ, ◌+◌, ◌<◌, ◌==◌, Bool, true, false, List, [], ◌∷◌, length, filter, map, get_or, set, refl, sym, ap, ◌∙◌, arith, inl, inr, Option, cond, count_by, nat_lt, cases_Bool, eq-eqb, eqb-true, ne_eqb, get_or-set_same, get_or-set_other, ClassSpec, Parts, class_of, too_small, EventIndex, Stamp, Asked, reports, AreCalls, AreClaims, Call, calls_before, claims_before, is_by, keeps_in}
 use Rattle.std.proofs.lemmas.List.Sums.{sum_by-cons}
 use Rattle.std.proofs.Math.ListN.{length-set}
 

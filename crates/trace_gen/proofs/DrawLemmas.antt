@@ -1,5 +1,5 @@
 -- Numbers that wrap at 64 bits, and the draws that they give.
-use Rattle.trace_gen.proofs.Names.{◌≡◌, ◌≤◌, ◌<◌, ℕ, zero, suc, ◌+◌, ◌-◌, ◌*◌, ◌%◌, ◌^◌, List, [], ◌∷◌, ◌++◌, length, map, take, drop, refl, sym, ap, ap₂, ◌∙◌, add-one, arith, range_with_len, slice_range, length-range_with_len, draw, drawn_below, next_number, context_of, report_of}
+use Rattle.trace_gen.proofs.Names.{◌≡◌, ◌≤◌, ℕ, zero, suc, ◌+◌, ◌-◌, ◌*◌, ◌%◌, ◌^◌, [], ◌∷◌, ◌++◌, length, map, take, drop, refl, sym, ap, ap₂, ◌∙◌, add-one, arith, range_with_len, slice_range, length-range_with_len, next_number, context_of, report_of}
 use Rattle.trace_gen.specs.Drawing.{ramp}
 use Rattle.trace_gen.specs.Draws.{number_after}
 

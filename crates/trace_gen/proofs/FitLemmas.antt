@@ -1,5 +1,5 @@
 -- The generated trace can be recorded.
-use Rattle.trace_gen.proofs.Names.{◌≡◌, ◌≤◌, ◌<◌, ◌+◌, ◌*◌, ◌%◌, ◌/◌, ◌==◌, ◌^◌, ℕ, zero, suc, Bool, true, false, List, [], ◌∷◌, ◌++◌, length, map, get_or, refl, sym, ap, subst, ◌∙◌, inl, inr, arith, length-append, add-one, ◌&&◌, if◌then◌else◌, nat_lt, slice_index, AllByRecursion, flat_map, range_with_len, cases_Bool, false_from_ne_true, ltb-true, ltb-false, get_or_past, length-map, length-map-range_with_len, length-range_with_len, get_or-map-range_with_len, map-range_with_len_more, ClassSpec, class_of, too_small, KeepUpFrom, Asked, Round, changes, reports, last_tick, lines_at, round_ticks, ticks_of, Options, IsInRange, Traced, HasClassFor, draw, number_after, config_of, changes_by, generated_round, lines_by, rounds_of, tick_after, ticks_beside, call_by, calls_from, CanAsk, context_of, report_at, size_of}
+use Rattle.trace_gen.proofs.Names.{◌≡◌, ◌≤◌, ◌<◌, ◌+◌, ◌*◌, ◌%◌, ◌/◌, ◌==◌, ℕ, zero, suc, Bool, true, false, List, [], ◌∷◌, ◌++◌, length, map, refl, sym, ap, subst, ◌∙◌, inl, inr, arith, length-append, ◌&&◌, if◌then◌else◌, nat_lt, AllByRecursion, flat_map, range_with_len, cases_Bool, false_from_ne_true, ltb-true, ltb-false, get_or_past, length-map, length-map-range_with_len, get_or-map-range_with_len, map-range_with_len_more, ClassSpec, class_of, too_small, KeepUpFrom, changes, last_tick, lines_at, round_ticks, Options, IsInRange, HasClassFor, draw, config_of, changes_by, generated_round, lines_by, rounds_of, tick_after, call_by, calls_from, CanAsk, context_of, report_at, size_of}
 use Rattle.trace_gen.specs.Recordable.{CanAskAll, CanRecord, CanTake}
 use Rattle.trace_gen.proofs.ConfigLemmas.{length-all_events}
 use Rattle.trace_gen.proofs.RecordingLemmas.{last_round, ticks_apart}

@@ -1,5 +1,5 @@
 -- Rounds with more lines.
-use Rattle.trace_gen.proofs.Names.{◌≡◌, ◌≤◌, ◌<◌, ◌+◌, ◌-◌, ◌*◌, ℕ, zero, suc, List, [], ◌∷◌, ◌++◌, length, set, map, get_or, refl, sym, ap, ap₂, ◌∙◌, arith, append_assoc, append-nil, length-append, replicate, range_with_len, get_or-set_same, set-get_or, length-map-range_with_len, map-range_with_len_more, length-replicate, Asked, Round, last_tick, lines_at, with_last, Traced, with_line, Options, HasCaller, OnLast, asking, with_lines, draw, report_at, report_of}
+use Rattle.trace_gen.proofs.Names.{◌≡◌, ◌≤◌, ◌<◌, ◌+◌, ◌-◌, ◌*◌, ℕ, zero, suc, List, [], ◌∷◌, ◌++◌, length, set, map, get_or, refl, sym, ap, ◌∙◌, arith, append_assoc, append-nil, length-append, replicate, range_with_len, get_or-set_same, set-get_or, length-map-range_with_len, map-range_with_len_more, length-replicate, Asked, Round, lines_at, with_last, Traced, Options, HasCaller, OnLast, asking, with_lines, draw, report_at, report_of}
 
 -- ---- the last round
 

@@ -1,5 +1,5 @@
 -- A trace that is drawn line by line.
-use Rattle.std.specs.Prelude.{◌≡◌, ℕ, ◌<◌, List, [], ◌∷◌, ◌++◌, length, set, ⊤}
+use Rattle.std.specs.Prelude.{ℕ, ◌<◌, List, [], ◌∷◌, ◌++◌, length, set, ⊤}
 use Rattle.std.specs.List.{range_with_len}
 use Rattle.merge_spec.specs.Rounds.{Asked, Round, lines_at}
 use Rattle.text_spec.specs.TraceFaults.{with_last}

@@ -6,7 +6,7 @@ use Rattle.ids_types.specs.Plain.{plain_entry}
 use Rattle.ids_config.specs.Parts.{Parts}
 use Rattle.chain.specs.Parcels.{IsShort}
 use Rattle.chain.specs.Turning.{FitsTurn}
-use Rattle.chain_plain.specs.Telling.{HasDeskRoom, Tells, told_of}
+use Rattle.chain_plain.specs.Telling.{HasDeskRoom, Tells}
 use Rattle.event_chain.specs.Standing.{Stands}
 use Rattle.filter_aggregate.specs.Account.{all_kept}
 use Rattle.merge_spec.specs.Rounds.{Asked, reports, changes, sets}
@@ -23,7 +23,7 @@ held parcel = parcel.0.now
 pub record IsAt (config : Parts) (before : List Plan) (calls : List Call) (r : Recorder) : Type 0 where
   pub turns : reverse r.history.turns ≡ turns_of config before
   pub stands : Stands held config (turns_of config before) r.chain
-  pub tells : Tells config r.history.turns (told_of r.tally)
+  pub tells : Tells config r.history.turns r.tally
   pub counts : AreCounts config (reverse calls ++ calls_of before) r.counts
   pub entries : map plain_entry r.desk.items.items ≡ entries_of config (calls_of before) calls
   pub fits : FitsTurn held (length config.events) r.desk.items.items

@@ -82,8 +82,14 @@ impl<'t> Recorder<'t> {
             (count_of config turns) (length (rows_of config turns)) (digest_of (messages_of config turns))) }
     {
         let records = self.chain.memory().len();
-        let digest = digest(&self.tally.sent);
-        make_line(alloc, reports, self.tally.messages, records, &digest)
+        let digest = digest(&self.tally.transcript.sent);
+        make_line(
+            alloc,
+            reports,
+            self.tally.transcript.messages,
+            records,
+            &digest,
+        )
     }
 }
 

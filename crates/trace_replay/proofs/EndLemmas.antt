@@ -117,9 +117,9 @@ module _ {C : Type 0} (stands : C → Parts → List Turn → Type 0) (events : 
     merged = rw losses_are merge;
     fits = rw losses_are (merge_fits config trace.rounds (turns_in r2) (losses_in config.ring views) valid rounds are_small merge);
     causal = recorded.causal;
-    sent = recorded.sent;
-    ends = recorded.ends;
-    messages = recorded.messages;
+    sent = recorded.transcript.sent;
+    ends = recorded.transcript.ends;
+    messages = recorded.transcript.messages;
     shared = shared;
     made_for = made_for;
     is_manager = closes.advances.manager_is;

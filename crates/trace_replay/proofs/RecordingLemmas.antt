@@ -1,19 +1,10 @@
 -- What was gathered, with one turn more, and with those of one list of ticks behind those of another.
 use Rattle.trace_replay.proofs.Names.{◌≡◌, ℕ, zero, suc, ◌+◌, ◌-◌, ◌≤◌, ◌<◌, ◌^◌, List, [], ◌∷◌, ◌++◌, length, min, take, get_or, refl, sym, ap, ◌∙◌, arith, append_assoc, append-nil, length-append, AllByRecursion, length-map, map-append, Output, Turn, Parts, KeepUpFrom, last_from, Buffer, DeskMemo, desk_memo, PassMemo, Shared, Closed, all_back, IsManagerOf, Turned, Manager, Advances, Closes, Continues, StaysSame, tick_of, turns_in, Gathered, Recorder}
 use Rattle.ids_types.specs.Carries.{entry_by}
-use Rattle.chain.specs.History.{handed_of}
-use Rattle.chain_plain.specs.Telling.{Tells, Told, handed_by}
-use Rattle.chain_plain.proofs.TellingLemmas.{newest_first, tells_more, told_few}
+use Rattle.chain.proofs.TranscriptLemmas.{newest_first, transcript_more}
+use Rattle.trace_replay.specs.Recording.{Gathers}
 use Rattle.buffer_classes.specs.declared.giver.Giver.{Giver}
 use Rattle.main_function.specs.Reports.{held}
-
--- what a turn adds to what was gathered
-pub record Adds (old : Gathered) (out : Output) (new : Gathered) : Type 0 where
-  pub history : new.history.turns ≡ old.history.turns ++ out.log.turns
-  pub sent : new.sent.items ≡ old.sent.items ++ out.sent
-  pub ends : new.ends.items ≡ old.ends.items ++ length new.sent.items ∷ []
-  pub messages : new.messages ≡ min (old.messages + out.messages) (2 ^ 64 - 1)
-  pub fits : length new.sent.items < 2 ^ 64
 
 pub all_push : {A : Type 0} (P : A → Type 0) (xs ys : List A) → AllByRecursion P xs → AllByRecursion P ys → AllByRecursion P (xs ++ ys)
 all_push P [] ys all more = more
@@ -69,7 +60,7 @@ module _ {C : Type 0} (stands : C → Parts → List Turn → Type 0) (events : 
       }
 
   module _ (old : Recorder C) (is : IsManagerOf events kept shared old.manager) (m0 m1 : Manager C) (g : Gathered)
-      (same : StaysSame stands events kept old (record { manager = m0; gathered = old.gathered })) (adds : Adds old.gathered m1.out g)
+      (same : StaysSame stands events kept old (record { manager = m0; gathered = old.gathered })) (adds : Gathers m1.out old.gathered g)
       (now : IsManagerOf events kept shared m1) where
     -- a turn that was made and gathered
     pub advances : (tick : ℕ) (desk : DeskMemo) (givers : List Giver) → Turned stands kept tick desk givers m0 m1
@@ -98,15 +89,9 @@ module _ {C : Type 0} (stands : C → Parts → List Turn → Type 0) (events : 
           records = λ config was.
               let stood = same.manager_is.stands_then config before was.stands_for in
               let sends = turned.sends config before stood in
-              let told : Told = record { sent = old.gathered.sent.items; ends = old.gathered.ends.items; limited = handed_by config before; messages = old.gathered.messages } in
-              let tells : Tells config before told = record { sent_bytes = was.sent; turn_ends = was.ends; numbers = refl; count = was.messages } in
-              let more = tells_more config before turned.turn told m1.out (handed_of config (before ++ turned.turn ∷ [])) refl tells sends in
-              let few = told_few config before turned.turn told m1.out tells sends in
               record {
                 stands_for = rw history (turned.stands_then config before stood);
-                sent = rw history (adds.sent ∙ more.sent_bytes);
-                ends = rw history (adds.ends ∙ rw adds.sent more.turn_ends);
-                messages = rw history (adds.messages ∙ omega (arith, few, adds.fits, ap length adds.sent) ∙ more.count);
+                transcript = rw history (transcript_more was.transcript sends adds.transcript);
                 causal = rw (history, newest_first before turned.turn) (turned.limited_is config before stood, was.causal);
               };
           rests_are = ap (λ rests. rests.items) turned.rests_are ∙ same.rests_are;

@@ -109,9 +109,7 @@ module _ {C : Type 0} (stands : C → Parts → List Turn → Type 0) (events : 
   still_records : {calls : ℕ} {old new : Recorder C} → RestsOnce stands events kept calls old new → StillRecords stands old new
   still_records {old = old} {new = new} rests config was = rw rests.gathered_is record {
     stands_for = rests.manager_is.stands_then config (turns_in old) was.stands_for;
-    sent = was.sent;
-    ends = was.ends;
-    messages = was.messages;
+    transcript = was.transcript;
     causal = was.causal;
   }
 

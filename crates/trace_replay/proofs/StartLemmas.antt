@@ -86,8 +86,6 @@ module _ {C : Type 0} (stands : C → Parts → List Turn → Type 0) (events : 
   pub begins_record : IsRecordOf stands config r
   begins_record = rw new.no_turns record {
     stands_for = new.manager_is.stands_for_none;
-    sent = new.no_bytes;
-    ends = new.no_ends;
-    messages = new.no_messages;
+    transcript = record { sent = new.nothing_sent.no_bytes; ends = new.nothing_sent.no_ends; messages = new.nothing_sent.no_messages };
     causal = tt;
   }

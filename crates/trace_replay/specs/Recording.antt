@@ -1,11 +1,11 @@
 -- What a replay gathers of the turns of its manager.
 use Rattle.std.specs.Prelude.{◌≡◌, ℕ, ◌+◌, ◌≤◌, ◌<◌, ◌^◌, Bool, true, List, [], ◌∷◌, ◌++◌, length, map, reverse}
 use Rattle.std.specs.List.{AllByRecursion}
+use Rattle.ids_types.specs.Output.{Output}
 use Rattle.ids_types.specs.Turns.{Turn}
 use Rattle.ids_config.specs.Parts.{Parts}
 use Rattle.text_spec.specs.TraceFaults.{last_from}
-use Rattle.chain.specs.History.{count_of, messages_of}
-use Rattle.chain_plain.specs.Telling.{ends_of}
+use Rattle.chain.specs.Transcripts.{Adds, IsEmpty, IsTranscript}
 use Rattle.chain_spec.specs.Chain.{IsCausal}
 use Rattle.buffer_classes.specs.Buffers.{Buffer}
 use Rattle.report_queue.specs.Parts.{queue_positions}
@@ -20,6 +20,7 @@ use Rattle.main_function.specs.Making.{IsNewManager}
 use Rattle.main_function.specs.Standing.{IsManagerOf, Stands, StaysSo, fits_turn, last_of, rests_of, turns_of}
 use Rattle.main_function.specs.Turning.{IsSmallHead}
 use Rattle.main_function.specs.declared.manager.Manager.{Manager}
+use Rattle.trace_replay.specs.declared.gathered.Gathered.{Gathered}
 use Rattle.trace_replay.specs.declared.recorder.Recorder.{Recorder}
 
 -- the tick of a turn
@@ -30,6 +31,11 @@ tick_of turn = turn.head.tick
 pub record IsSmallTurn (positions : ℕ) (turn : Turn) : Type 0 where
   pub head_is : IsSmallHead turn.head
   pub few : length turn.entries ≤ positions
+
+-- what a turn adds to what was gathered
+pub record Gathers (out : Output) (old new : Gathered) : Type 0 where
+  pub history : new.history.turns ≡ old.history.turns ++ out.log.turns
+  pub transcript : Adds out old.transcript new.transcript
 
 module _ {C : Type 0} where
   -- the turns so far
@@ -45,9 +51,7 @@ module _ {C : Type 0} (stands : C → Parts → List Turn → Type 0) where
   -- the manager stands for the turns that were gathered, and these gave what was gathered of them
   pub record IsRecordOf (config : Parts) (r : Recorder C) : Type 0 where
     pub stands_for : Stands stands config r.manager (turns_in r)
-    pub sent : r.gathered.sent.items ≡ messages_of config (turns_in r)
-    pub ends : r.gathered.ends.items ≡ ends_of config (turns_in r)
-    pub messages : r.gathered.messages ≡ count_of config (turns_in r)
+    pub transcript : IsTranscript config (turns_in r) r.gathered.transcript
     -- each turn tells how many events the limits had held back
     pub causal : IsCausal config (reverse (turns_in r))
 
@@ -60,9 +64,7 @@ module _ {C : Type 0} (stands : C → Parts → List Turn → Type 0) (events : 
   pub record IsNewRecorder (config : Parts) (shared : Shared) (passes : List Pass) (r : Recorder C) : Type 0 where
     pub manager_is : IsNewManager stands events kept config shared passes r.manager
     pub no_turns : turns_in r ≡ []
-    pub no_bytes : r.gathered.sent.items ≡ []
-    pub no_ends : r.gathered.ends.items ≡ []
-    pub no_messages : r.gathered.messages ≡ 0
+    pub nothing_sent : IsEmpty r.gathered.transcript
 
   -- room was made, and nothing else was changed
   pub record StaysSame (old new : Recorder C) : Type 0 where

@@ -88,8 +88,8 @@ abbrev pub given : {C : Type 0} → Recorder C → List Loss → List ℕ → Gi
 given r losses calls = record {
   turns = r.gathered.history.turns;
   losses = losses;
-  sent = r.gathered.sent.items;
-  ends = r.gathered.ends.items;
-  messages = r.gathered.messages;
+  sent = r.gathered.transcript.sent.items;
+  ends = r.gathered.transcript.ends.items;
+  messages = r.gathered.transcript.messages;
   calls = calls;
 }

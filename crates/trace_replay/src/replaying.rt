@@ -12,7 +12,7 @@ use crate::recorder::Recorder;
 use crate::rests::Rests;
 use crate::rounds::play_beside;
 use crate::stage::Stage;
-use chain::Chain;
+use chain::{Chain, Transcript};
 use event_chain::EventChain;
 use ids_config::Config;
 use ids_types::{History, Loss, NoMemory};
@@ -66,12 +66,21 @@ pub fn replay<R: Threads + Sync, G: Gate + Sync>(
         calls,
     } = run(rt, alloc, config, trace, gate, chain)?;
     let Recorder { manager, gathered } = recorder;
+    let Gathered {
+        history,
+        transcript,
+    } = gathered;
+    let Transcript {
+        sent,
+        ends,
+        messages,
+    } = transcript;
     Ok(Replayed {
-        history: gathered.history,
+        history,
         losses,
-        sent: gathered.sent,
-        ends: gathered.ends,
-        messages: gathered.messages,
+        sent,
+        ends,
+        messages,
         calls,
         manager,
     })

@@ -3,22 +3,10 @@ use Rattle.std.specs.List.{AllByRecursion}
 use Rattle.std.proofs.lemmas.Grind.{common_steps}
 use Rattle.chain.specs.History.{last_tick}
 use Rattle.chain_plain.specs.Recorded.{CanTake, RiseFrom, turn_with}
-use Rattle.chain_plain.specs.Telling.{IsReady, Tells, told_of}
-use Rattle.chain_plain.proofs.TellingLemmas.{last_of, tells_more, told_few}
+use Rattle.chain_plain.specs.Telling.{IsReady}
+use Rattle.chain.proofs.TranscriptLemmas.{last_of}
+use Rattle.chain_plain.proofs.TellingLemmas.{tells_more}
 use Rattle.chain_plain.proofs.folding.fold.Goals as goal
-
--- there are no more messages than bytes
-pub add-requires : goal.add-requires
-add-requires g c =
-    let config = c.args.config.now in
-    let before = c.loop-head.invariant in
-    let turn = turn_with c.in-Some.head c.in-Some.entries in
-    let left : c.loop-head.turns ≡ turn ∷ c.pop_front.new.self = grind (arith, common_steps) in
-    let rises : RiseFrom (last_tick before.taken) (turn ∷ c.pop_front.new.self) =
-    subst (RiseFrom (last_tick before.taken)) left before.ticks in
-    let stood = c.in_ok-reserve.ensures.stands config before.taken before.stands in
-    let sends = c.take.ensures.sends config before.taken stood rises.0 in
-    told_few config before.taken turn (told_of c.loop-head.tally) c.take.new.self.out before.tells sends
 
 -- one turn more was taken
 pub loop-head-preserved : goal.loop-head-preserved
@@ -36,13 +24,11 @@ loop-head-preserved g c =
     let sends = c.take.ensures.sends config before.taken stood rises.0 in
     let same = c.in_ok-reserve.ensures.events ∙ before.all_events in
     let limited = c.limited.ensures.value config (before.taken ++ turn ∷ []) stands in
-    let told = tells_more config before.taken turn (told_of c.loop-head.tally) c.take.new.self.out c.limited.result limited
-    before.tells sends in
     record {
       taken = before.taken ++ turn ∷ [];
       whole = append_assoc before.taken (turn ∷ []) rest ∙ ap (λ ts. before.taken ++ ts) (sym left) ∙ before.whole;
       stands = stands;
-      tells = subst (Tells config (before.taken ++ turn ∷ [])) (sym c.in_ok-add.ensures) told;
+      tells = tells_more limited before.tells sends c.in_ok-add.ensures;
       all_events = c.take.ensures.events ∙ same;
       kept = c.take.ensures.kept;
       ready = subst (λ (n : ℕ). IsReady n c.take.new.self) same c.take.ensures.ready;

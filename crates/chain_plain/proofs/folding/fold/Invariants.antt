@@ -4,7 +4,7 @@ use Rattle.ids_types.specs.Turns.{Turn}
 use Rattle.chain.specs.History.{last_tick}
 use Rattle.chain.specs.Parcels.{IsShort}
 use Rattle.chain_plain.specs.Recorded.{CanTake, RiseFrom}
-use Rattle.chain_plain.specs.Telling.{IsReady, Tells, told_of}
+use Rattle.chain_plain.specs.Telling.{IsReady, Tells}
 use Rattle.chain_plain.proofs.folding.fold.Given as goal
 
 -- the chain stands for the turns that were taken, the tally tells of them, and what is left can be taken
@@ -15,7 +15,7 @@ invariant-loop-head g l =
       taken : List Turn;
       whole : taken ++ l.turns ≡ l.history.turns;
       stands : g.C.Chain.stands l.chain l.config taken;
-      tells : Tells l.config taken (told_of l.tally);
+      tells : Tells l.config taken l.tally;
       all_events : g.C.Chain.events l.chain ≡ many;
       kept : All (IsShort (λ p. p.0.now)) (g.C.Chain.kept l.chain);
       ready : IsReady many l.desk;

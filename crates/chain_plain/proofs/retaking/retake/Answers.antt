@@ -8,7 +8,7 @@ use Rattle.chain.specs.History.{Sends}
 use Rattle.chain.specs.Turning.{FitsTurn}
 use Rattle.chain_plain.specs.Recorded.{AreInOrder, CanTake, turn_with}
 use Rattle.chain_plain.specs.Telling.{IsReady}
-use Rattle.chain_plain.proofs.TellingLemmas.{newest_first}
+use Rattle.chain.proofs.TranscriptLemmas.{newest_first}
 use Rattle.chain_plain.proofs.TurningLemmas.{items_fit, told_fits}
 use Rattle.chain_plain.proofs.retaking.retake.Goals as goal
 

@@ -5,7 +5,7 @@ use Rattle.std.specs.List.{AllByRecursion}
 use Rattle.chain.specs.History.{last_tick, rows_of}
 use Rattle.chain_plain.specs.Recorded.{CanTake, RiseFrom, turn_with}
 use Rattle.chain_plain.specs.Telling.{IsReady}
-use Rattle.chain_plain.proofs.TellingLemmas.{last_of}
+use Rattle.chain.proofs.TranscriptLemmas.{last_of}
 use Rattle.memory_disk.specs.Disks.{LeavesOnly}
 use Rattle.memory_image.specs.Images.{AreKeepable}
 use Rattle.text_spec.specs.JournalText.{Told}

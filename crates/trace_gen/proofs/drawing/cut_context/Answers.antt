@@ -1,4 +1,4 @@
-use Rattle.trace_gen.proofs.Names.{◌≡◌, ◌+◌, length, ap, ◌∙◌, arith, slice_range}
+use Rattle.trace_gen.proofs.Names.{◌+◌, length, ap, ◌∙◌, arith, slice_range}
 use Rattle.trace_gen.proofs.DrawLemmas.{cut_ramp, length-ramp}
 use Rattle.trace_gen.proofs.drawing.cut_context.Goals as goal
 

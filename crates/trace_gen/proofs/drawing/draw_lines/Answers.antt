@@ -1,4 +1,4 @@
-use Rattle.trace_gen.proofs.Names.{◌≡◌, ◌+◌, ◌*◌, ◌<◌, ◌++◌, ◌∷◌, [], length, map, ap, sym, ◌∙◌, arith, append-nil, range_with_len, Traced, line_asked, asking, with_lines, number_after, changes_by, draws_before, tick_after, report_at}
+use Rattle.trace_gen.proofs.Names.{◌≡◌, ◌+◌, ◌*◌, ◌++◌, ◌∷◌, [], length, map, ap, sym, ◌∙◌, arith, append-nil, range_with_len, Traced, line_asked, asking, with_lines, number_after, changes_by, draws_before, tick_after, report_at}
 use Rattle.trace_gen.proofs.TraceLemmas.{length-with_last, lines_more, report_is, reports_more}
 use Rattle.trace_gen.proofs.drawing.draw_lines.Goals as goal
 

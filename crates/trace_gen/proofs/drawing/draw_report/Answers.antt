@@ -1,4 +1,4 @@
-use Rattle.trace_gen.proofs.Names.{◌≡◌, ◌+◌, ap, ap₂, sym, ◌∙◌, arith, draw, drawn_below, number_after, reports}
+use Rattle.trace_gen.proofs.Names.{◌+◌, ap, ap₂, ◌∙◌, arith, draw, drawn_below, number_after, reports}
 use Rattle.trace_gen.proofs.DrawLemmas.{next_drawn, same_report}
 use Rattle.trace_gen.proofs.drawing.draw_report.Goals as goal
 

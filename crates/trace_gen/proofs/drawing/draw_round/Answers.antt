@@ -1,4 +1,4 @@
-use Rattle.trace_gen.proofs.Names.{◌≡◌, ◌+◌, ◌-◌, ◌*◌, ◌<◌, ◌++◌, ◌∷◌, [], length, map, ap, sym, subst, ◌∙◌, arith, replicate, range_with_len, Round, HasCaller, OnLast, asking, with_lines, lines_by, tick_after, ticks_beside}
+use Rattle.trace_gen.proofs.Names.{◌-◌, ◌<◌, ◌++◌, ◌∷◌, [], length, map, ap, sym, subst, ◌∙◌, arith, replicate, range_with_len, Round, HasCaller, asking, with_lines, lines_by, tick_after, ticks_beside}
 use Rattle.trace_gen.proofs.TraceLemmas.{caller_more, length-callers, on_last-append, with_last-append}
 use Rattle.trace_gen.proofs.drawing.draw_round.Goals as goal
 

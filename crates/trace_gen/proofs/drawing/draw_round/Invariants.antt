@@ -1,4 +1,4 @@
-use Rattle.trace_gen.proofs.Names.{◌≡◌, ◌≤◌, ◌-◌, ◌++◌, ◌∷◌, [], map, replicate, range_with_len, number_after, draws_before, lines_by, tick_after, ticks_beside}
+use Rattle.trace_gen.proofs.Names.{◌≡◌, ◌-◌, ◌++◌, ◌∷◌, [], map, replicate, range_with_len, number_after, draws_before, lines_by, tick_after, ticks_beside}
 use Rattle.trace_gen.proofs.drawing.draw_round.Given as goal
 
 -- the first callers' lines were drawn

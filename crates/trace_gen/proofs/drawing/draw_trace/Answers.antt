@@ -1,4 +1,4 @@
-use Rattle.trace_gen.proofs.Names.{◌≡◌, ◌+◌, ◌*◌, ◌++◌, ◌∷◌, [], map, ap, ap₂, sym, ◌∙◌, arith, range_with_len, map-range_with_len_more, Round, last_tick, Traced, no_rounds_of, generated_round}
+use Rattle.trace_gen.proofs.Names.{◌≡◌, ◌++◌, ◌∷◌, [], map, ap, sym, ◌∙◌, arith, range_with_len, map-range_with_len_more, last_tick, Traced, no_rounds_of, generated_round}
 use Rattle.trace_gen.proofs.DrawLemmas.{first_number}
 use Rattle.trace_gen.proofs.RecordingLemmas.{last_round}
 use Rattle.trace_gen.proofs.drawing.draw_trace.Goals as goal

@@ -1,4 +1,4 @@
-use Rattle.trace_gen.proofs.Names.{◌≡◌, sym, ◌∙◌, arith, common_steps}
+use Rattle.trace_gen.proofs.Names.{sym, ◌∙◌, arith, common_steps}
 use Rattle.trace_gen.proofs.DrawLemmas.{ramp_is, range_more}
 use Rattle.trace_gen.proofs.drawing.make_ramp.Goals as goal
 

@@ -1,4 +1,3 @@
-use Rattle.trace_gen.proofs.Names.{rules}
 use Rattle.trace_gen.proofs.entries.make_act.Goals as goal
 
 pub returns-in_ok-context-in-Report-clause-claims : goal.returns-in_ok-context-in-Report-clause-claims

@@ -1,4 +1,4 @@
-use Rattle.trace_gen.proofs.Names.{rules, line_asked}
+use Rattle.trace_gen.proofs.Names.{line_asked}
 use Rattle.trace_gen.proofs.CountLemmas.{calls_more}
 use Rattle.trace_gen.proofs.entries.make_entry.Goals as goal
 

@@ -9,7 +9,5 @@ pub play-requires-clause-new : goal.play-requires-clause-new
 play-requires-clause-new g c κs within = record {
   manager_is = rw c.in_ok-stage.ensures.shared c.in_ok-shared.ensures;
   no_turns = c.in_ok-gathered.ensures.history;
-  no_bytes = c.in_ok-gathered.ensures.sent;
-  no_ends = c.in_ok-gathered.ensures.ends;
-  no_messages = c.in_ok-gathered.ensures.messages;
+  nothing_sent = c.in_ok-gathered.ensures.transcript;
 }

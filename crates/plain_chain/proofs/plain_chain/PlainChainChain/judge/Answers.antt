@@ -6,7 +6,7 @@ use Rattle.ids_types.specs.Turns.{Room}
 use Rattle.ids_types.specs.declared.parcel.Plain.{Plain}
 use Rattle.chain.specs.History.{last_tick}
 use Rattle.chain.specs.Turning.{FitsTurn, most_sent, turn_by}
-use Rattle.chain_plain.proofs.TellingLemmas.{newest_first}
+use Rattle.chain.proofs.TranscriptLemmas.{newest_first}
 use Rattle.chain_plain.proofs.TurningLemmas.{told_fits}
 use Rattle.chain_plain.specs.Recorded.{AreInOrder, CanTake}
 use Rattle.chain_plain.specs.Telling.{IsReady}

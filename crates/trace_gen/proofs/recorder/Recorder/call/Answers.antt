@@ -1,4 +1,4 @@
-use Rattle.trace_gen.proofs.Names.{◌≡◌, ◌≤◌, ◌<◌, ℕ, List, [], ◌∷◌, ◌++◌, length, map, reverse, sym, subst, ap, ap₂, ◌∙◌, rules, arith, length-append, common_steps, map-append, All-push, plain_entry, Entry, Plain, FitsAct, FitsTurn, line_asked, AreCounts, Call, calls_of, entries_of, entry_of, act_of, held}
+use Rattle.trace_gen.proofs.Names.{◌≡◌, ℕ, List, [], ◌∷◌, ◌++◌, length, map, reverse, sym, subst, ap, ap₂, ◌∙◌, arith, length-append, common_steps, map-append, All-push, plain_entry, Entry, Plain, FitsAct, FitsTurn, line_asked, AreCounts, Call, calls_of, held}
 use Rattle.chain_plain.proofs.TurningLemmas.{fits_act}
 use Rattle.trace_gen.proofs.RecordingLemmas.{ask_fits, entries_more, reversed_more}
 use Rattle.trace_gen.proofs.recorder.Recorder.call.Goals as goal

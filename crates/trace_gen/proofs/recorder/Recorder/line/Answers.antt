@@ -1,4 +1,4 @@
-use Rattle.trace_gen.proofs.Names.{◌≡◌, reverse, ap, sym, subst, ◌∙◌, IfOk-weaker, length-reverse, length, Stands, digest_of, held}
+use Rattle.trace_gen.proofs.Names.{reverse, ap, sym, subst, ◌∙◌, IfOk-weaker, length-reverse, length, Stands, digest_of, held}
 use Rattle.trace_gen.proofs.GenerateLemmas.{same_line}
 use Rattle.trace_gen.proofs.recorder.Recorder.line.Goals as goal
 
@@ -9,6 +9,6 @@ returns c = IfOk-weaker c.make_line.result _ _ (λ line is config before at.
     let stands : Stands held config (reverse turns) c.args.self.now.chain =
     subst (λ ts. Stands held config ts c.args.self.now.chain) (sym at.turns) at.stands in
     let rows = c.memory.ensures config turns stands in
-    is ∙ same_line c.args.reports _ _ _ _ _ _ at.tells.count
+    is ∙ same_line c.args.reports _ _ _ _ _ _ at.tells.transcript.messages
     (c.len-records.ensures ∙ sym (length-reverse c.memory.result.now.rows) ∙ ap length rows)
-    (c.digest-digest.ensures ∙ ap digest_of (c.deref.ensures.value ∙ at.tells.sent_bytes))) c.make_line.ensures
+    (c.digest-digest.ensures ∙ ap digest_of (c.deref.ensures.value ∙ at.tells.transcript.sent))) c.make_line.ensures

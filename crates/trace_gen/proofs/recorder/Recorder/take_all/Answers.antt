@@ -1,4 +1,4 @@
-use Rattle.trace_gen.proofs.Names.{◌≡◌, ◌<◌, ◌≤◌, ◌∷◌, [], length, take, reverse, subst, sym, ap, ◌∙◌, arith, flat_map, on_ok_weaker, KeepUpFrom, last_of, round_ticks, round_at, idle, plans_in, IsAt}
+use Rattle.trace_gen.proofs.Names.{◌<◌, ◌≤◌, ◌∷◌, [], length, take, reverse, subst, sym, ap, ◌∙◌, arith, flat_map, on_ok_weaker, KeepUpFrom, last_of, round_ticks, round_at, idle, plans_in, IsAt}
 use Rattle.trace_gen.proofs.RecordingLemmas.{last_more, next_keeps, plans_end, plans_more}
 use Rattle.trace_gen.proofs.recorder.Recorder.take_all.Goals as goal
 

@@ -1,4 +1,4 @@
-use Rattle.trace_gen.proofs.Names.{◌≡◌, [], ◌∷◌, ◌++◌, List, reverse, take, drop, KeepUpFrom, last_of, round_ticks, flat_map, plans_in, IsAt}
+use Rattle.trace_gen.proofs.Names.{◌≡◌, [], ◌∷◌, ◌++◌, reverse, take, drop, KeepUpFrom, last_of, round_ticks, flat_map, plans_in, IsAt}
 use Rattle.chain.specs.History.{last_tick}
 use Rattle.trace_gen.proofs.recorder.Recorder.take_all.Given as goal
 

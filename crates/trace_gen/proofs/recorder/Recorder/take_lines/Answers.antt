@@ -1,4 +1,4 @@
-use Rattle.trace_gen.proofs.Names.{◌≡◌, ◌<◌, ◌≤◌, ◌+◌, ◌++◌, ◌∷◌, [], List, length, map, take, subst, sym, ap, ◌∙◌, arith, lines_at, round_at, line_asked, line_at, Call, call_by, IsAt}
+use Rattle.trace_gen.proofs.Names.{◌<◌, ◌++◌, ◌∷◌, [], length, map, take, subst, sym, ap, ◌∙◌, arith, lines_at, round_at, call_by, IsAt}
 use Rattle.trace_gen.proofs.RecordingLemmas.{calls_count, calls_more, items_are}
 use Rattle.trace_gen.proofs.recorder.Recorder.take_lines.Goals as goal
 

@@ -1,4 +1,4 @@
-use Rattle.trace_gen.proofs.Names.{◌≡◌, ◌+◌, ◌++◌, List, length, map, take, lines_at, round_at, Call, Plan, call_by, IsAt}
+use Rattle.trace_gen.proofs.Names.{◌≡◌, ◌++◌, List, map, take, lines_at, round_at, Call, Plan, call_by, IsAt}
 use Rattle.trace_gen.proofs.recorder.Recorder.take_lines.Given as goal
 
 -- the first lines became calls

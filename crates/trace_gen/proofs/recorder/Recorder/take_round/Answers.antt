@@ -1,4 +1,4 @@
-use Rattle.trace_gen.proofs.Names.{◌≡◌, ◌<◌, ◌≤◌, ◌+◌, ◌++◌, ◌∷◌, [], ℕ, List, length, map, take, drop, get_or, reverse, subst, sym, ap, ◌∙◌, arith, length-append, on_ok_weaker, length-map, KeepUpFrom, lines_at, round_at, Plan, call_by, calls_from, idle, IsAt}
+use Rattle.trace_gen.proofs.Names.{◌≡◌, ◌<◌, ◌≤◌, ◌+◌, ◌++◌, ◌∷◌, [], length, map, take, drop, get_or, reverse, subst, sym, ap, ◌∙◌, arith, length-append, on_ok_weaker, length-map, KeepUpFrom, round_at, call_by, calls_from, idle, IsAt}
 use Rattle.chain.specs.History.{last_tick}
 use Rattle.trace_gen.proofs.RecordingLemmas.{callers_more, calls_few, idle_more, items_are, keep_next, plans_all}
 use Rattle.trace_gen.proofs.recorder.Recorder.take_round.Goals as goal

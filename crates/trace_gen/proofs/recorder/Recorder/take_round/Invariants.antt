@@ -1,4 +1,4 @@
-use Rattle.trace_gen.proofs.Names.{◌≡◌, ◌+◌, ◌++◌, ◌∷◌, [], List, length, map, reverse, take, drop, KeepUpFrom, round_at, Plan, calls_from, idle, IsAt}
+use Rattle.trace_gen.proofs.Names.{◌≡◌, ◌++◌, ◌∷◌, [], List, map, reverse, take, drop, KeepUpFrom, round_at, Plan, calls_from, idle, IsAt}
 use Rattle.chain.specs.History.{last_tick}
 use Rattle.trace_gen.proofs.recorder.Recorder.take_round.Given as goal
 

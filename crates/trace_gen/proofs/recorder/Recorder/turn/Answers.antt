@@ -1,19 +1,9 @@
-use Rattle.trace_gen.proofs.Names.{◌≡◌, ◌≤◌, ◌<◌, ℕ, List, [], ◌∷◌, ◌++◌, length, map, reverse, sym, subst, ap, ap₂, ◌∙◌, rules, arith, common_steps, on_ok_weaker, reverse-append, plain_entry, handed_on, Plain, Entry, FitsAct, FitsTurn, turn_by, All-nil, Stands, calls_of, turns_of, turn_of, held}
+use Rattle.trace_gen.proofs.Names.{◌≡◌, [], ◌∷◌, ◌++◌, length, map, reverse, sym, subst, ap, ap₂, ◌∙◌, arith, on_ok_weaker, reverse-append, plain_entry, handed_on, Plain, Entry, FitsAct, FitsTurn, turn_by, All-nil, Stands, calls_of, turns_of, turn_of, held}
 use Rattle.ids_types.specs.declared.entry.TurnHead.{TurnHead}
-use Rattle.chain_plain.specs.Telling.{HasDeskRoom, Tells, told_of}
-use Rattle.chain_plain.proofs.TellingLemmas.{tells_more, told_few}
+use Rattle.chain_plain.specs.Telling.{HasDeskRoom, Tells}
+use Rattle.chain_plain.proofs.TellingLemmas.{tells_more}
 use Rattle.trace_gen.proofs.RecordingLemmas.{turn_is}
 use Rattle.trace_gen.proofs.recorder.Recorder.turn.Goals as goal
-
--- there are no more messages than bytes
-pub add-requires : goal.add-requires
-add-requires c =
-    let at = c.requires.recording.at in
-    let config = c.args.config.now in
-    let stands : Stands held config (reverse c.args.self.now.history.turns) c.args.self.now.chain =
-    subst (λ ts. Stands held config ts c.args.self.now.chain) (sym at.turns) at.stands in
-    let sends = c.turn.ensures.sends config c.args.self.now.history.turns stands c.requires.tick in
-    told_few config c.args.self.now.history.turns _ (told_of c.args.self.now.tally) c.turn.new.self.out at.tells sends
 
 -- the turn that was planned was made
 pub returns-clause-at : goal.returns-clause-at
@@ -35,13 +25,11 @@ returns-clause-at c = on_ok_weaker c.add.result (λ told before calls at.
     let now = c.turn.ensures.stands config history stands c.requires.tick in
     let sends = c.turn.ensures.sends config history stands c.requires.tick in
     let handed = c.limited-2.ensures.value config (history ++ turn ∷ []) now in
-    let tells = tells_more config history turn (told_of c.args.self.now.tally) c.turn.new.self.out c.limited-2.result handed
-    at.tells sends in
+    let tells = tells_more handed at.tells sends told in
     record {
       turns = ap reverse logged ∙ newest;
       stands = subst (λ ts. Stands held config ts c.turn.new.chain) newest now;
-      tells = subst (λ ts. Tells config ts (told_of c.add.new.self)) (sym logged)
-          (subst (Tells config (history ++ turn ∷ [])) (sym told) tells);
+      tells = subst (λ ts. Tells config ts c.add.new.self) (sym logged) tells;
       counts = at.counts;
       entries = ap (map plain_entry) c.turn.ensures.ready.no_items;
       fits = subst (FitsTurn held (length config.events)) (sym c.turn.ensures.ready.no_items) (record {

@@ -1,5 +1,6 @@
-use Rattle.trace_replay.proofs.Names.{rules, refl, subst, Output, TurnLeaves, Gathered}
-use Rattle.trace_replay.proofs.RecordingLemmas.{Adds, continues}
+use Rattle.trace_replay.proofs.Names.{refl, subst, Output, TurnLeaves, Gathered}
+use Rattle.trace_replay.specs.Recording.{Gathers}
+use Rattle.trace_replay.proofs.RecordingLemmas.{continues}
 use Rattle.trace_replay.proofs.recorder.Recorder.turn.Goals as goal
 
 pub returns : goal.returns
@@ -10,15 +11,8 @@ returns g c =
     let made = subst (λ answer. TurnLeaves chain.stands chain.events chain.kept c.args.shared.now c.args.tick m0 answer m1) c.in-Ok.is
     c.turn.follows.holds-at-none in
     let same = c.in_ok-ready.ensures.same in
-    let adds : Adds c.ready.new.self.gathered c.in-Ok.out.now c.add.new.self = record {
-      history = c.in_ok-add.ensures.history;
-      sent = c.in_ok-add.ensures.sent;
-      ends = c.in_ok-add.ensures.ends;
-      messages = c.in_ok-add.ensures.messages;
-      fits = search rules;
-    } in
     continues chain.stands chain.events chain.kept c.args.shared.now c.args.self.now c.requires.mine m0 m1 c.add.new.self
     (record { manager_is = same.manager_is; rests_are = same.rests_are; gathered_is = refl })
-    (subst (λ (old : Gathered). Adds old m1.out c.add.new.self) same.gathered_is
-    (subst (λ (out : Output). Adds c.ready.new.self.gathered out c.add.new.self) made.1 adds))
+    (subst (λ (old : Gathered). Gathers m1.out old c.add.new.self) same.gathered_is
+    (subst (λ (out : Output). Gathers out c.ready.new.self.gathered c.add.new.self) made.1 c.in_ok-add.ensures))
     made.0 c.args.tick _ made.2

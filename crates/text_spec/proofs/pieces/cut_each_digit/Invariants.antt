@@ -1,5 +1,5 @@
 use Rattle.text_spec.proofs.Names.{◌≡◌, ℕ, ◌<◌, ◌==◌, true, false, take, get_or, is_ascii_digit, list_all, digits_value, capped}
-use Rattle.text_spec.proofs.pieces.cut_digits.Given as goal
+use Rattle.text_spec.proofs.pieces.cut_each_digit.Given as goal
 
 -- the bytes so far are digits and no separators, and this is their value
 abbrev pub invariant-loop-i : goal.invariant-loop-i

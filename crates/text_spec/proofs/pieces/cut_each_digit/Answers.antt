@@ -2,7 +2,7 @@ use Rattle.text_spec.proofs.Names.{◌≡◌, ◌+◌, ◌==◌, true, false, ge
 use borrow.Author.Count.{below_more}
 use Rattle.text_spec.proofs.NumbersLemmas.{capped_more}
 use Rattle.text_spec.proofs.PiecesLemmas.{first_piece, whole_piece, no_number, number_first}
-use Rattle.text_spec.proofs.pieces.cut_digits.Goals as goal
+use Rattle.text_spec.proofs.pieces.cut_each_digit.Goals as goal
 
 pub loop-i-preserved : goal.loop-i-preserved
 loop-i-preserved c =
