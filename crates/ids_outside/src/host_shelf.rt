@@ -1,5 +1,6 @@
 ghost use Rattle.std.specs.Prelude.{◌≡◌, None, Some, IfOk, OnOk, OnErr, Ok, IfSome, string_bytes, length, ◌≤◌};
-ghost use Rattle.ids_outside.specs.Faults.{no_faults, WriteCause};
+ghost use Rattle.ids_outside.specs.Faults.{no_faults, ReadCause, WriteCause};
+ghost use Rattle.ids_outside.specs.HostFiles.{ReadsFile, WasWritten};
 ghost use Rattle.ids_outside.specs.declared.faults.FaultKind.TheVariants.{Create, Append};
 
 use crate::fault_log::FaultLog;
@@ -92,7 +93,8 @@ impl<R: Files + Drop> HostShelf<R> {
 
 /// Opens the file of this name and reads the whole of it.
 fn read_file<R: Files>(rt: &R, alloc: Global, name: &str, limit: u64) -> Result<Vec<u8>, ReadFault>
-    ensures { IfOk result (λ bytes. length bytes.items ≤ limit) }
+    ensures within { IfOk result (λ bytes. length bytes.items ≤ limit) }
+    ensures whole { ReadsFile R.File.remaining limit result }
 {
     let mut file = File::open(rt, name)?;
     read_up_to(&mut file, alloc, limit)
@@ -104,7 +106,11 @@ impl<R: Files + Drop> Shelf for HostShelf<R> {
 
     ghost shows = { λ shelf. silent (host_shelf_faults shelf) };
 
-    fn read(&mut self, alloc: Global, name: &str, limit: u64) -> Result<Vec<u8>, ReadFault> {
+    fn read(&mut self, alloc: Global, name: &str, limit: u64) -> Result<Vec<u8>, ReadFault>
+        ensures within { IfOk result (λ bytes. length bytes.items ≤ limit) }
+        ensures whole { ReadsFile R.File.remaining limit result }
+        ensures cause { ReadCause (host_shelf_faults self.old) (host_shelf_faults self.new) name.now result }
+    {
         let copy = self.faults.served(String::from_str(alloc, name))?;
         let result = read_file(&self.rt, alloc, name, limit);
         match result {
@@ -133,6 +139,8 @@ impl<R: Files + Drop> Shelf for HostShelf<R> {
         ensures cause { WriteCause Append (host_shelf_faults self.old)
             (host_shelf_faults self.new) name.now result }
         ensures open { OnOk result (open_name self.new ≡ Some name.now) }
+        ensures whole { OnOk result (WasWritten R.File.contents name.now piece.now
+            self.old.current self.new.current) }
     {
         let mut current = self.take_current(name)?;
         let result = write_whole(&mut current.file, piece);

@@ -10,10 +10,10 @@ const FIRST: [u8; 11] = *b"\x11\x04\x83\x00\x2a\x00\x01\x00\x02\xa1\xb2";
 /// The same with a timestamp, and no context.
 const STAMPED: [u8; 16] = *b"\x12\x04\x83\x00\x2a\x00\x01\x00\x80\x00\x00\x01\x00\x00\x0a\x00";
 
-/// Whether the manager's message with this context of at most 128 bytes is spelled in so many bytes, the first of which
+/// Whether the manager's message with this context of at most 1,089 bytes is spelled in so many bytes, the first of which
 /// are these.
 fn is_spelled(context: &[u8], front: &[u8], len: usize) -> bool {
-    if context.len() > 128 {
+    if context.len() > 1089 {
         return false;
     }
     let context = Some(Context::of(context));
@@ -32,6 +32,14 @@ fn the_manager_sends_short_forms_up_to_127_bytes(rt: HostRuntime) {
     assert!(rt; is_spelled(&bytes[..127], short, 136));
     let long = b"\x11\x04\x83\x00\x2a\x00\x01\x00\x80\x00\x00\x80\x07";
     assert!(rt; is_spelled(&bytes, long, 140));
+}
+
+#[test]
+fn a_message_has_at_most_1100_bytes(rt: HostRuntime) {
+    let bytes = [7; 1089];
+    let front = b"\x11\x04\x83\x00\x2a\x00\x01\x00\x80\x00\x04\x40\x07";
+    assert!(rt; is_spelled(&bytes[..1088], front, 1100));
+    assert!(rt; !is_spelled(&bytes, b"", 1101));
 }
 
 /// Whether `encode` gives the bytes that were read, where a message was.

@@ -1,6 +1,6 @@
-ghost use Rattle.std.specs.Prelude.{◌≡◌, length, IfSome, OnOk};
+ghost use Rattle.std.specs.Prelude.{◌≡◌, length, Some, IfOk, IfSome, IsOk, OnOk};
 ghost use Rattle.memory_disk.specs.Disks.{HasCause};
-ghost use Rattle.memory_disk.specs.Hosts.{host_faults, padded, silent};
+ghost use Rattle.memory_disk.specs.Hosts.{host_faults, padded, silent, BroughtTo, FillsFrom, TakesAt};
 
 use crate::disk::{Disk, DiskFailed};
 use std::fs::{OpenFile, OpenOptions};
@@ -34,7 +34,9 @@ impl<R: Files + Drop> HostDisk<R> {
 
     /// Keeps a file open, or counts a failure, up to 2^64 - 1.
     fn keep(&mut self, answer: io::Result<R::File>) -> Result<(), DiskFailed>
-        ensures { HasCause (host_faults self.old) (host_faults self.new) result }
+        ensures cause { HasCause (host_faults self.old) (host_faults self.new) result }
+        ensures ok { OnOk result (IsOk answer) }
+        ensures keeps { IfOk answer (λ file. self.new.file ≡ Some file) }
     {
         match answer {
             Ok(file) => {
@@ -50,7 +52,8 @@ impl<R: Files + Drop> HostDisk<R> {
 
     /// Takes the file out that is open, else opens it, and goes to this place.
     fn open_at(&mut self, at: u32) -> io::Result<R::File>
-        ensures { host_faults self.new ≡ host_faults self.old }
+        ensures faults { host_faults self.new ≡ host_faults self.old }
+        ensures there { IfOk result (λ file. BroughtTo R.File.stream_position at file) }
     {
         let mut file = match self.file.take() {
             Some(file) => file,
@@ -63,32 +66,59 @@ impl<R: Files + Drop> HostDisk<R> {
         file.seek(SeekFrom::Start(u64::from(at)))?;
         Ok(file)
     }
+
+    /// Reads from this place on, and gives the file back.
+    fn read_at(&mut self, at: u32, out: &mut [u8]) -> io::Result<R::File>
+        ensures faults { host_faults self.new ≡ host_faults self.old }
+        ensures fills { OnOk result (FillsFrom R.File.stream_position R.File.remaining at out.new) }
+    {
+        let mut file = self.open_at(at)?;
+        fill(&mut file, out)?;
+        Ok(file)
+    }
+
+    /// Writes the whole piece from this place on, and gives the file back.
+    fn write_at(&mut self, at: u32, piece: &[u8]) -> io::Result<R::File>
+        ensures faults { host_faults self.new ≡ host_faults self.old }
+        ensures takes { IfOk result (TakesAt R.File.stream_position R.File.contents at piece.now) }
+    {
+        let mut file = self.open_at(at)?;
+        file.write_all(piece)?;
+        Ok(file)
+    }
+
+    /// Syncs all that was written, and gives the file back.
+    fn sync_file(&mut self) -> io::Result<R::File>
+        ensures { host_faults self.new ≡ host_faults self.old }
+    {
+        let file = self.open_at(0)?;
+        file.sync_all()?;
+        Ok(file)
+    }
 }
 
 impl<R: Files + Drop> Disk for HostDisk<R> {
     ghost shows = { λ disk. silent (host_faults disk) };
 
-    fn read(&mut self, at: u32, out: &mut [u8]) -> Result<(), DiskFailed> {
-        let file = self.open_at(at).and_then(|mut file| {
-            fill(&mut file, out)?;
-            Ok(file)
-        });
+    fn read(&mut self, at: u32, out: &mut [u8]) -> Result<(), DiskFailed>
+        ensures cause { HasCause (host_faults self.old) (host_faults self.new) result }
+        ensures fills { OnOk result (FillsFrom R.File.stream_position R.File.remaining at out.new) }
+    {
+        let file = self.read_at(at, out);
         self.keep(file)
     }
 
-    fn write(&mut self, at: u32, piece: &[u8]) -> Result<(), DiskFailed> {
-        let file = self.open_at(at).and_then(|mut file| {
-            file.write_all(piece)?;
-            Ok(file)
-        });
+    fn write(&mut self, at: u32, piece: &[u8]) -> Result<(), DiskFailed>
+        ensures cause { HasCause (host_faults self.old) (host_faults self.new) result }
+        ensures takes { OnOk result (IfSome self.new.file
+            (TakesAt R.File.stream_position R.File.contents at piece.now)) }
+    {
+        let file = self.write_at(at, piece);
         self.keep(file)
     }
 
     fn sync(&mut self) -> Result<(), DiskFailed> {
-        let file = self.open_at(0).and_then(|file| {
-            file.sync_all()?;
-            Ok(file)
-        });
+        let file = self.sync_file();
         self.keep(file)
     }
 }

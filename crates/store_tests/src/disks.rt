@@ -4,7 +4,7 @@ ghost use Rattle.std.specs.Prelude.{◌≡◌, IfOk, length, reverse};
 ghost use Rattle.memory_image.specs.Images.{AreKeepable};
 
 use event_memory::Memory;
-use memory_disk::MemoryDisk;
+use memory_disk::{Disk, MemoryDisk};
 use memory_image::restore;
 use memory_store::{BeginFault, SaveFault, Store};
 use std::alloc::Global;
@@ -91,7 +91,7 @@ pub fn kept(alloc: Global, count: usize, fails: u64) -> Result<MemoryDisk, Fail>
 }
 
 /// Begins a store and saves in it. Answers whether both went well.
-pub fn save(alloc: Global, disk: MemoryDisk, memory: &Memory) -> (MemoryDisk, bool)
+pub fn save<D: Disk>(alloc: Global, disk: D, memory: &Memory) -> (D, bool)
     requires { AreKeepable (reverse memory.now.rows) }
 {
     let store = match Store::begin(alloc, disk) {

@@ -11,4 +11,8 @@ mod failing;
 #[cfg(test)]
 mod host;
 #[cfg(test)]
+mod host_calls;
+#[cfg(test)]
+mod host_edge;
+#[cfg(test)]
 mod saving;

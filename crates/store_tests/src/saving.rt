@@ -1,7 +1,7 @@
 //! Saves in which no call fails, and disks that no save made.
 
 use crate::disks::{NEVER, begin, disk, disk_for, image, kept, memory, save, text};
-use memory_disk::{Disk, MemoryDisk};
+use memory_disk::Disk;
 use std::alloc::Global;
 use std::test::*;
 
@@ -18,9 +18,9 @@ const ROWS: [(&[(usize, u8)], Option<u8>); 5] = [
     (&[(0, 1), (8, 5), (270_864, 1), (270_872, 6)], None),
 ];
 
-/// Whether the disk holds a first save of two records in its first slot, and zeros elsewhere.
-fn holds_first(alloc: Global, disk: &MemoryDisk) -> Result<bool, Fail> {
-    let rest = disk.contents().strip_prefix(&FIRST_HEAD).ok_or("a head")?;
+/// Whether the bytes of a disk hold a first save of two records in the first slot, and zeros elsewhere.
+pub fn holds_first(alloc: Global, bytes: &[u8]) -> Result<bool, Fail> {
+    let rest = bytes.strip_prefix(&FIRST_HEAD).ok_or("a head")?;
     let image = image(alloc, 2)?;
     let rest = rest.strip_prefix(image.as_slice()).ok_or("an image")?;
     Ok(rest.iter().all(|byte| *byte == 0))
@@ -46,7 +46,7 @@ fn what_is_saved_is_begun_with(rt: HostRuntime) -> Result<(), Fail> {
 fn saves_first(alloc: Global) -> Result<bool, Fail> {
     let memory = memory(alloc, 2)?;
     let (disk, is_saved) = save(alloc, disk(alloc, &[], NEVER)?, &memory);
-    Ok(is_saved && holds_first(alloc, &disk)?)
+    Ok(is_saved && holds_first(alloc, disk.contents())?)
 }
 
 #[test]
