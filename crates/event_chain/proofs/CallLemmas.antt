@@ -1,5 +1,5 @@
 -- One call of aggregation, and one moment, over what each filter tells of it.
-use Rattle.event_chain.proofs.Names.{◌≡◌, ℕ, ◌≤◌, Bool, true, false, List, [], ◌∷◌, ◌++◌, length, Option, Some, None, IfSome, is_some, option_to_list, option_and_then, option_map, refl, arith, All, common_steps, recursion_from_All, All-permutation, act_by, Output, Qualified, EventIndex, Parts, Call, call_tick, gated_at, aggregated_at, thresholded_at, gated, aggregated, qualified, Item, item_at, told_by, kept_parcel, Moment, act_moment, comes, IsShort, Accounts, item_due, slots_by, Slot, with_context, GateStands, Start, added_behind, Filters, IsBehind, kept_told, CountingStands, Flows, joined_with, items_with}
+use Rattle.event_chain.proofs.Names.{◌≡◌, ℕ, ◌≤◌, Bool, true, false, List, [], ◌∷◌, ◌++◌, length, Option, Some, None, IfSome, is_some, option_to_list, option_and_then, option_map, refl, arith, All, common_steps, recursion_from_All, All-permutation, act_by, Output, Qualified, EventIndex, Parts, Call, call_tick, gated_at, aggregated_at, thresholded_at, gated, aggregated, qualified, Item, item_at, told_by, kept_parcel, Moment, act_moment, comes, IsShort, Accounts, item_due, slots_by, Slot, with_context, GateStands, Start, added_behind, Filters, Knowing, IsBehind, kept_told, CountingStands, Flows, joined_with, items_with}
 use Rattle.ids_types.specs.declared.entry.Act.TheVariants.{Report}
 use Rattle.ids_types.specs.declared.entry.Carried.{Carried}
 use Rattle.ids_types.specs.declared.entry.Carried.TheVariants.{Absent, Kept, Missing}
@@ -60,26 +60,29 @@ module _ {B : Type 0} where
       windows counting out
   flows_with call o flows is stands counts = record { stands = stands; behind = rw is counts }
 
-  module _ {held : B → List ℕ} {config : Parts} {start : Start} {tick : ℕ} {before : List Moment} {moment : Moment} {old : Filters B}
-      {gate : Gate} {windows : List (Slot B)} {counting : Counting} {was out : Output}
-      (behind : IsBehind held config start tick before old was) (stands : GateStands config (moment ∷ before) gate) where
+  module _ {W : Type 0} {held : B → List ℕ} {knows : Knowing W} {config : Parts} {start : Start} {tick : ℕ} {before : List Moment}
+      {moment : Moment} {old : Filters B W} {gate : Gate} {windows : List (Slot B)} {counting : Counting} {witness : W} {was out : Output}
+      (behind : IsBehind held knows config start tick before old was) (stands : GateStands config (moment ∷ before) gate)
+      (known : knows witness config (moment ∷ before)) where
     -- one moment more, by which a call comes to aggregation
     pub behind_call : (call : Call (List ℕ)) → gated_at config before moment ≡ Some call → bypassing_at config before moment ≡ None
         → call_tick call ≡ tick
         → Flows held config start (call ∷ gated config before) (joined_with config (gated config before) call (aggregated config before))
         (items_with config (gated config before) call (aggregated config before) (qualified config before)) windows counting out
-        → IsBehind held config start tick (moment ∷ before) (record { gate = gate; windows = windows; counting = counting }) out
+        → IsBehind held knows config start tick (moment ∷ before)
+        (record { gate = gate; windows = windows; counting = counting; witness = witness }) out
     behind_call call is by at flows =
         let ends = ends_with_call config call at behind.ends in
         let passed = added_behind (gated_at config) (aggregated_at config) before in
-        record { gate = stands; flows = rw (by, is, passed) flows; ends = rw (by, is, passed) ends }
+        record { gate = stands; flows = rw (by, is, passed) flows; ends = rw (by, is, passed) ends; witness = known }
 
     -- one moment more, by which none comes
     pub behind_item : (o : Option Item) → gated_at config before moment ≡ None → bypassing_at config before moment ≡ o
         → IfSome o (λ item. item.tick ≡ tick)
         → Flows held config start (gated config before) (aggregated config before) (option_to_list o ++ qualified config before)
         windows counting out
-        → IsBehind held config start tick (moment ∷ before) (record { gate = gate; windows = windows; counting = counting }) out
+        → IsBehind held knows config start tick (moment ∷ before)
+        (record { gate = gate; windows = windows; counting = counting; witness = witness }) out
     behind_item o is by at flows =
         let ends = ends_with_item o at behind.ends in
-        record { gate = stands; flows = rw (is, by, or_none) flows; ends = rw (is, by, or_none) ends }
+        record { gate = stands; flows = rw (is, by, or_none) flows; ends = rw (is, by, or_none) ends; witness = known }

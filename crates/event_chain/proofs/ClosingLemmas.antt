@@ -1,5 +1,5 @@
 -- The windows of the events that are aggregated close, and it is as if those of all events did.
-use Rattle.event_chain.proofs.Names.{◌≡◌, ℕ, ◌+◌, ◌<◌, ◌≤◌, zero, suc, Bool, true, false, List, [], ◌∷◌, length, map, filter, Option, None, is_some, option_map, refl, sym, ap, subst, ◌∙◌, arith, below_more, slice_set, if◌then◌else◌, IsFalse, All, AllByRecursion, range_with_len, common_steps, length-map, set-get_or, All-from_recursion, Output, EventIndex, Parts, event_at, closes_due, gated, item_at, Moment, closes, with_all, fresh_slot, is_due, slot_at, slot_by, Slot, stands_closing, stands_with_closing, Start, Filters, IsBehind, Windowed, aggregating_in, is_aggregated}
+use Rattle.event_chain.proofs.Names.{◌≡◌, ℕ, ◌+◌, ◌<◌, ◌≤◌, zero, suc, Bool, true, false, List, [], ◌∷◌, length, map, filter, Option, None, is_some, option_map, refl, sym, ap, subst, ◌∙◌, arith, below_more, slice_set, if◌then◌else◌, IsFalse, All, AllByRecursion, range_with_len, common_steps, length-map, set-get_or, All-from_recursion, Output, EventIndex, Parts, event_at, closes_due, gated, item_at, Moment, closes, with_all, fresh_slot, is_due, slot_at, slot_by, Slot, stands_closing, stands_with_closing, Start, given, Filters, Knowing, IsSilent, IsBehind, Windowed, aggregating_in, is_aggregated}
 use Rattle.ids_config.specs.declared.parts.Aggregate.{Aggregate}
 use Rattle.chain_spec.specs.Closing.{closing_item}
 use Rattle.filter_aggregate.proofs.SlotLemmas.{slot_at_by}
@@ -79,16 +79,17 @@ asked {slots = slots} {events = events} same is windows =
 
 -- ---- events that close
 
-module _ {B : Type 0} where
-  -- that of an event that is not aggregated is never due
-  not_due : (tick : ℕ) (slot : Slot B) → is_some slot.setting ≡ false → IsFalse (is_due tick slot)
-  not_due tick slot is = grind (arith, common_steps, is)
+-- that of an event that is not aggregated is never due
+not_due : {B : Type 0} (tick : ℕ) (slot : Slot B) → is_some slot.setting ≡ false → IsFalse (is_due tick slot)
+not_due tick slot is = grind (arith, common_steps, is)
 
+module _ {B W : Type 0} where
   -- and its closing is nothing
-  skip_one : {held : B → List ℕ} {config : Parts} {start : Start} {tick : ℕ} {before : List Moment} {filters : Filters B} {out : Output}
-      (n : ℕ) → n < length filters.windows → is_aggregated filters.windows n ≡ false
-      → IsBehind held config start tick before filters out → IsBehind held config start tick (closes tick n ∷ before) filters out
-  skip_one {held} {config} {tick = tick} {before = before} {filters = filters} n less is behind =
+  skip_one : {held : B → List ℕ} {knows : Knowing W} {config : Parts} {start : Start} {tick : ℕ} {before : List Moment}
+      {filters : Filters B W} {out : Output} → IsSilent knows → (n : ℕ) → n < length filters.windows
+      → is_aggregated filters.windows n ≡ false
+      → IsBehind held knows config start tick before filters out → IsBehind held knows config start tick (closes tick n ∷ before) filters out
+  skip_one {held} {config = config} {tick = tick} {before = before} {filters = filters} silent n less is behind =
       let slots = filters.windows in
       let calls = gated config before in
       let stands = behind.flows.stands in
@@ -97,36 +98,37 @@ module _ {B : Type 0} where
       (ap (λ (s : Slot (List ℕ)). is_some s.setting) (sym there ∙ slot_at_by held slots n less) ∙ is) in
       let closed = ap (λ b. if b then fresh_slot (slot_at slots n).setting else slot_at slots n) (not_due tick (slot_at slots n) is) in
       let same = ap (slice_set slots n) closed ∙ set-get_or slots n (fresh_slot None) in
-      behind_call behind (stands_with_closing config before tick n filters.gate behind.gate) (closes_due tick n) refl refl refl
-      (flows_with (closes_due tick n) None behind.flows
-      (ap (λ (o : Option Aggregate). option_map (item_at tick) (closing_item o n tick calls)) none)
+      let gives = ap (λ (o : Option Aggregate). option_map (item_at tick) (closing_item o n tick calls)) none in
+      behind_call behind (stands_with_closing config before tick n filters.gate behind.gate)
+      (silent filters.witness config before (closes tick n) behind.witness (ap (option_map (given config before)) gives))
+      (closes_due tick n) refl refl refl (flows_with (closes_due tick n) None behind.flows gives
       (stands_closing held config calls slots stands n tick slots less (sym same)) behind.flows.behind)
 
   -- it is as if so many events closed, and none of their windows is due
-  pub record ClosedTo (held : B → List ℕ) (tick : ℕ) (old : Filters B) (before : Output) (new : Filters B) (after : Output)
-      (n : ℕ) : Type 0 where
-    pub behind : (config : Parts) (start : Start) (moments : List Moment) → IsBehind held config start tick moments old before
-        → IsBehind held config start tick (with_all moments (map (closes tick) (range_with_len 0 n))) new after
+  pub record ClosedTo (held : B → List ℕ) (knows : Knowing W) (tick : ℕ) (old : Filters B W) (before : Output) (new : Filters B W)
+      (after : Output) (n : ℕ) : Type 0 where
+    pub behind : (config : Parts) (start : Start) (moments : List Moment) → IsBehind held knows config start tick moments old before
+        → IsBehind held knows config start tick (with_all moments (map (closes tick) (range_with_len 0 n))) new after
     pub settled : (k : ℕ) → k < n → IsFalse (is_due tick (slot_at new.windows k))
 
-  module _ {held : B → List ℕ} {tick : ℕ} {old mid : Filters B} {before between : Output} where
+  module _ {held : B → List ℕ} {knows : Knowing W} {tick : ℕ} {old mid : Filters B W} {before between : Output} where
     -- one more closes
-    pub closed_more : (n : ℕ) {new : Filters B} {after : Output} → ((config : Parts) (start : Start) (moments : List Moment)
-        → IsBehind held config start tick moments mid between → IsBehind held config start tick (closes tick n ∷ moments) new after)
+    pub closed_more : (n : ℕ) {new : Filters B W} {after : Output} → ((config : Parts) (start : Start) (moments : List Moment)
+        → IsBehind held knows config start tick moments mid between → IsBehind held knows config start tick (closes tick n ∷ moments) new after)
         → ((k : ℕ) → IsFalse (is_due tick (slot_at mid.windows k)) → IsFalse (is_due tick (slot_at new.windows k)))
-        → IsFalse (is_due tick (slot_at new.windows n)) → ClosedTo held tick old before mid between n
-        → ClosedTo held tick old before new after (n + 1)
+        → IsFalse (is_due tick (slot_at new.windows n)) → ClosedTo held knows tick old before mid between n
+        → ClosedTo held knows tick old before new after (n + 1)
     closed_more n {new} {after} closing stays own so_far = record {
       behind = λ config start moments behind.
-          subst (λ (ms : List Moment). IsBehind held config start tick ms new after) (closing_more moments tick n)
+          subst (λ (ms : List Moment). IsBehind held knows config start tick ms new after) (closing_more moments tick n)
           (closing config start _ (so_far.behind config start moments behind));
       settled = below_more (λ k. IsFalse (is_due tick (slot_at new.windows k))) n (λ k less. stays k (so_far.settled k less)) own;
     }
 
     -- or is skipped
-    pub closed_skip : Windowed tick old.windows mid.windows → (n : ℕ) → n < length old.windows → is_aggregated old.windows n ≡ false
-        → ClosedTo held tick old before mid between n → ClosedTo held tick old before mid between (n + 1)
-    closed_skip on n less passes =
+    pub closed_skip : IsSilent knows → Windowed tick old.windows mid.windows → (n : ℕ) → n < length old.windows → is_aggregated old.windows n ≡ false
+        → ClosedTo held knows tick old before mid between n → ClosedTo held knows tick old before mid between (n + 1)
+    closed_skip silent on n less passes =
         let is = ap is_some (on.settings n) ∙ passes in
-        closed_more n (λ config start moments. skip_one n (omega (arith, less, on.events)) is) (λ k settled. settled)
+        closed_more n (λ config start moments. skip_one silent n (omega (arith, less, on.events)) is) (λ k settled. settled)
         (not_due tick (slot_at mid.windows n) is)

@@ -1,5 +1,5 @@
 -- What lasts while moments come one after another.
-use Rattle.event_chain.proofs.Names.{◌≡◌, ℕ, ◌+◌, ◌<◌, ◌≤◌, List, [], ◌∷◌, ◌++◌, length, get_or, map, drop, reverse, Some, add-one, drop-cons, drop-drop, ap, sym, subst, ◌∙◌, arith, rules, slice_get, range_with_len, reverse-append, entry_by, Output, Entry, Parts, Moment, act_moment, closes, head_moment, with_all, with_all-append, head_told, Head, Start, Filters, IsBehind, CanSend, HasPlaces, IsReady, SettledAt, Stays}
+use Rattle.event_chain.proofs.Names.{◌≡◌, ℕ, ◌+◌, ◌<◌, ◌≤◌, List, [], ◌∷◌, length, get_or, map, drop, Some, add-one, drop-cons, drop-drop, ap, sym, subst, ◌∙◌, arith, rules, slice_get, range_with_len, entry_by, Output, Entry, Parts, Moment, act_moment, closes, head_moment, with_all, with_all-append, head_told, Head, Start, Filters, Knowing, IsBehind, CanSend, HasPlaces, IsReady, SettledAt, Stays}
 use Rattle.std.proofs.lemmas.List.FromFn.{map-range_with_len_more}
 use Rattle.std.proofs.lemmas.Option.{get_or_from_slice_get, slice_get_within}
 
@@ -31,49 +31,49 @@ same_next xs ys i x same count low is =
     let it = is ∙ ap (λ left. get_or left 0 x) (sym first ∙ same ∙ second) in
     (it, second ∙ ap (λ y. y ∷ drop (i + 1) ys) (sym it), sym (drop-drop 1 i xs) ∙ ap (drop 1) same ∙ drop-drop 1 i ys)
 
-module _ {B : Type 0} where
-  -- the moments of entries
-  abbrev pub entry_moments : (B → List ℕ) → ℕ → List (Entry B) → List Moment
-  entry_moments held tick items = map (λ entry. act_moment tick entry.act) (map (entry_by held) items)
+-- the moments of entries
+abbrev pub entry_moments : {B : Type 0} → (B → List ℕ) → ℕ → List (Entry B) → List Moment
+entry_moments held tick items = map (λ entry. act_moment tick entry.act) (map (entry_by held) items)
 
+module _ {B W : Type 0} where
   -- the filters are behind some moments, and with those that are still to come behind all
-  pub record Reaches (held : B → List ℕ) (config : Parts) (start : Start) (tick : ℕ) (filters : Filters B) (out : Output)
+  pub record Reaches (held : B → List ℕ) (knows : Knowing W) (config : Parts) (start : Start) (tick : ℕ) (filters : Filters B W) (out : Output)
       (rest all : List Moment) : Type 0 where
     pub now : List Moment
-    pub behind : IsBehind held config start tick now filters out
+    pub behind : IsBehind held knows config start tick now filters out
     pub whole : with_all now rest ≡ all
 
   -- one moment more came
-  pub reaches_next : {held : B → List ℕ} {config : Parts} {start : Start} {tick : ℕ} {old new : Filters B} {before after : Output}
-      {moment : Moment} {rest all : List Moment} → Reaches held config start tick old before (moment ∷ rest) all
-      → ((now : List Moment) → IsBehind held config start tick now old before
-      → IsBehind held config start tick (moment ∷ now) new after) → Reaches held config start tick new after rest all
+  pub reaches_next : {held : B → List ℕ} {knows : Knowing W} {config : Parts} {start : Start} {tick : ℕ} {old new : Filters B W} {before after : Output}
+      {moment : Moment} {rest all : List Moment} → Reaches held knows config start tick old before (moment ∷ rest) all
+      → ((now : List Moment) → IsBehind held knows config start tick now old before
+      → IsBehind held knows config start tick (moment ∷ now) new after) → Reaches held knows config start tick new after rest all
   reaches_next {moment = moment} reaches step =
       record { now = moment ∷ reaches.now; behind = step reaches.now reaches.behind; whole = reaches.whole }
 
   -- none is still to come
-  pub reaches_all : {held : B → List ℕ} {config : Parts} {start : Start} {tick : ℕ} {filters : Filters B} {out : Output}
-      {rest all : List Moment} → rest ≡ [] → Reaches held config start tick filters out rest all
-      → IsBehind held config start tick all filters out
-  reaches_all {held = held} {config = config} {start = start} {tick = tick} {filters = filters} {out = out} none reaches =
-      subst (λ (ms : List Moment). IsBehind held config start tick ms filters out)
+  pub reaches_all : {held : B → List ℕ} {knows : Knowing W} {config : Parts} {start : Start} {tick : ℕ} {filters : Filters B W} {out : Output}
+      {rest all : List Moment} → rest ≡ [] → Reaches held knows config start tick filters out rest all
+      → IsBehind held knows config start tick all filters out
+  reaches_all {held = held} {knows = knows} {config = config} {start = start} {tick = tick} {filters = filters} {out = out} none reaches =
+      subst (λ (ms : List Moment). IsBehind held knows config start tick ms filters out)
       (ap (with_all reaches.now) (sym none) ∙ reaches.whole) reaches.behind
 
   -- no moment came yet
-  pub stays_none : (tick : ℕ) (old : Filters B) (before : Output) → Stays 0 tick old old before before
+  pub stays_none : (tick : ℕ) (old : Filters B W) (before : Output) → Stays 0 tick old old before before
   stays_none tick old before = search rules
 
   -- more moments came
-  pub stays_more : {n m tick : ℕ} {old mid new : Filters B} {before between after : Output} → Stays n tick old mid before between
+  pub stays_more : {n m tick : ℕ} {old mid new : Filters B W} {before between after : Output} → Stays n tick old mid before between
       → Stays m tick mid new between after → Stays (n + m) tick old new before after
   stays_more first second = search rules
 
   -- there is room for what is left of so many
-  pub can_left : {n m all tick : ℕ} {old new : Filters B} {before after : Output} → n + m ≤ all → CanSend all old before
+  pub can_left : {n m all tick : ℕ} {old new : Filters B W} {before after : Output} → n + m ≤ all → CanSend all old before
       → Stays n tick old new before after → CanSend m new after
   can_left le can stays = search rules
 
   -- another can enter
-  pub ready_next : {n all tick : ℕ} {old new : Filters B} {before after : Output} → n < all → HasPlaces old
+  pub ready_next : {n all tick : ℕ} {old new : Filters B W} {before after : Output} → n < all → HasPlaces old
       → SettledAt tick old.windows → CanSend all old before → Stays n tick old new before after → IsReady tick new after
   ready_next less places settled can stays = search rules

@@ -1,6 +1,7 @@
 pub mod Names
 mod CallLemmas
 mod ClosingLemmas
+mod FateLemmas
 mod FlowLemmas
 mod Going
 mod HandsLemmas

@@ -13,10 +13,11 @@ pub use Rattle.chain.specs.Turning.{turn_by, FitsAct}
 pub use Rattle.chain_spec.proofs.StageLemmas.{added_behind, with_all-append}
 pub use Rattle.chain_spec.specs.Calls.{Call, call_tick, closes_due, arrives}
 pub use Rattle.chain_spec.specs.Chain.{messages, message_count, qualified_of}
+pub use Rattle.chain_spec.specs.Endings.{Fate, ending_at, coming, given, qualified_fate}
 pub use Rattle.chain_spec.specs.Filtering.{gated_at, aggregated_at, thresholded_at, gated, aggregated, qualified, counted, arrival, alone}
 pub use Rattle.chain_spec.specs.Heads.{Head as Told, head_for, heads_of}
 pub use Rattle.chain_spec.specs.Items.{Item, item_at, told_by, kept_parcel}
-pub use Rattle.chain_spec.specs.Moments.{Moment, act_moment, comes, closes, head_moment, moments, closings}
+pub use Rattle.chain_spec.specs.Moments.{Moment, act_moment, comes, closes, mode_is, state_is, head_moment, moments, closings}
 pub use Rattle.chain_spec.specs.Stages.{with_all, where_true}
 pub use Rattle.chain_spec.specs.Threshold.{verdict}
 pub use Rattle.chain_spec.specs.Windows.{EndBy}
@@ -42,9 +43,10 @@ pub use Rattle.internal_events.specs.declared.head_list.Head.{Head}
 pub use Rattle.sending.specs.Sender.{source_of, SenderParts}
 pub use Rattle.sending.specs.Sending.{Start, Stands as SenderStands, start_of}
 pub use Rattle.event_chain.specs.Behind.{IsBehind, kept_told}
-pub use Rattle.event_chain.specs.Chained.{IsOneOf, IsSound, Chained}
+pub use Rattle.event_chain.specs.Chained.{IsOneOf, IsSound, Watched}
+pub use Rattle.event_chain.specs.Fates.{Knowing, IsSilent, bare, told, counted_fate, passed_fate}
 pub use Rattle.event_chain.specs.Flow.{CountingStands, Flows, joined_with, items_with, EndAt}
 pub use Rattle.event_chain.specs.Outlets.{OutletStands, Stores}
 pub use Rattle.event_chain.specs.Ready.{Windowed, aggregating_in, is_aggregated, CanSend, HasPlaces, IsReady, SettledAt, Stays, AreOwn, HasEvent}
-pub use Rattle.event_chain.specs.Standing.{Stands}
+pub use Rattle.event_chain.specs.Standing.{StandsWatched}
 pub use Rattle.event_chain.specs.declared.filters.Filters.{Filters}

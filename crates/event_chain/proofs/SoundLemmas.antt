@@ -50,9 +50,9 @@ own_fresh B events k =
     let past = get_or_past (fresh_slots {B = B} events) k (fresh_slot None) in
     grind (arith, common_steps, there, past)
 
-module _ {B : Type 0} where
+module _ {B W : Type 0} where
   -- the fields of a chain that was made of a configuration
-  pub sound_made : (config : Parts) (c : Inside B) → IsValid config → GateStands config [] c.filters.gate
+  pub sound_made : (config : Parts) (c : Inside B W) → IsValid config → GateStands config [] c.filters.gate
       → c.filters.windows ≡ map (λ event. fresh_slot event.aggregate) config.events
       → ThresholdsStand config [] c.filters.counting.thresholds → Stores config [] c.filters.counting.outlet
       → SenderStands config [] c.filters.counting.outlet.sender
@@ -88,7 +88,7 @@ module _ {B : Type 0} where
       }
 
   -- its fields with other filters, over as many windows that are aggregated as they were
-  pub sound_kept : (c : Inside B) (new : Filters B) → IsSound c → HasPlaces new → length new.windows ≡ length c.filters.windows
+  pub sound_kept : (c : Inside B W) (new : Filters B W) → IsSound c → HasPlaces new → length new.windows ≡ length c.filters.windows
       → ((k : ℕ) → (slot_at new.windows k).setting ≡ (slot_at c.filters.windows k).setting)
       → IsSound (record { filters = new; aggregating = c.aggregating; internal = c.internal })
   sound_kept c new sound places count settings =

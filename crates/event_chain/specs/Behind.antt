@@ -8,6 +8,7 @@ use Rattle.chain_spec.specs.Moments.{Moment}
 use Rattle.filter_gate.specs.Stands.{Stands as GateStands}
 use Rattle.sending.specs.Sending.{Start}
 use Rattle.event_chain.specs.declared.filters.Filters.{Filters}
+use Rattle.event_chain.specs.Fates.{Knowing}
 use Rattle.event_chain.specs.Flow.{Flows, EndAt}
 
 -- the item, with its context data or without
@@ -19,10 +20,12 @@ kept_told context item = record {
   context = if context then item.context else None;
 }
 
--- the gate stands for the moments, and all else for what comes of them; none of it has a later tick
-pub record IsBehind {B : Type 0} (held : B → List ℕ) (config : Parts) (start : Start) (tick : ℕ) (moments : List Moment)
-    (filters : Filters B) (out : Output) : Type 0 where
+-- the gate stands for the moments, and all else for what comes of them; none of it has a later tick; and the witness
+-- knows what became of all
+pub record IsBehind {B W : Type 0} (held : B → List ℕ) (knows : Knowing W) (config : Parts) (start : Start) (tick : ℕ) (moments : List Moment)
+    (filters : Filters B W) (out : Output) : Type 0 where
   pub gate : GateStands config moments filters.gate
   pub flows : Flows held config start (gated config moments) (aggregated config moments) (qualified config moments)
       filters.windows filters.counting out
   pub ends : EndAt tick (gated config moments) (aggregated config moments) (qualified config moments)
+  pub witness : knows filters.witness config moments

@@ -1,5 +1,6 @@
 pub mod Behind
 pub mod Chained
+pub mod Fates
 pub mod Flow
 pub mod Outlets
 pub mod Ready

@@ -45,25 +45,25 @@ pub record Windowed {B : Type 0} (tick : ℕ) (old new : List (Slot B)) : Type 0
   pub settled : (k : ℕ) → IsFalse (is_due tick (slot_at old k)) → IsFalse (is_due tick (slot_at new k))
 
 -- each event has its place in every list, and each open window is its event's own
-pub record HasPlaces {B : Type 0} (filters : Filters B) : Type 0 where
+pub record HasPlaces {B W : Type 0} (filters : Filters B W) : Type 0 where
   pub gate : (k : ℕ) → k < length filters.windows → k < length filters.gate.rows
   pub has : (k : ℕ) → k < length filters.windows → HasEvent k filters.counting
   pub own : AreOwn filters.windows
 
 -- there is room for so many messages more, and for as many that are held back
-pub record CanSend {B : Type 0} (n : ℕ) (filters : Filters B) (out : Output) : Type 0 where
+pub record CanSend {B W : Type 0} (n : ℕ) (filters : Filters B W) (out : Output) : Type 0 where
   pub few_held : filters.counting.outlet.sender.held + n ≤ 2 ^ 45
   pub room : 1044 * n ≤ out.sent_left
   pub few_messages : out.messages + n ≤ 2 ^ 32 - 1
 
 -- an act can enter at a tick: no window is due any more, and there is room
-pub record IsReady {B : Type 0} (tick : ℕ) (filters : Filters B) (out : Output) : Type 0 where
+pub record IsReady {B W : Type 0} (tick : ℕ) (filters : Filters B W) (out : Output) : Type 0 where
   pub places : HasPlaces filters
   pub settled : SettledAt tick filters.windows
   pub can : CanSend 1 filters out
 
 -- what so many moments leave as it was, and how much room they take at most
-pub record Stays {B : Type 0} (moments tick : ℕ) (old new : Filters B) (before after : Output) : Type 0 where
+pub record Stays {B W : Type 0} (moments tick : ℕ) (old new : Filters B W) (before after : Output) : Type 0 where
   pub places : HasPlaces old → HasPlaces new
   pub windows : Windowed tick old.windows new.windows
   pub counted : new.counting.outlet.sender.held ≤ old.counting.outlet.sender.held + moments

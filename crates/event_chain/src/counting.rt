@@ -5,10 +5,12 @@ ghost use Rattle.chain_spec.specs.Items.{Item};
 ghost use Rattle.chain_spec.specs.Windows.{EndBy};
 ghost use Rattle.sending.specs.Sending.{Start, TakesOne, Stands as SenderStands};
 ghost use Rattle.filter_threshold.specs.Counting.{Stands as ThresholdsStand};
+ghost use Rattle.event_chain.specs.Fates.{fate_of, counted_fate};
 ghost use Rattle.event_chain.specs.Flow.{CountingStands};
 ghost use Rattle.event_chain.specs.Outlets.{Stores};
 ghost use Rattle.event_chain.specs.Ready.{CanCount, HasEvent};
 
+use crate::fate::Fate;
 use crate::outlet::Outlet;
 use filter_threshold::Thresholds;
 use ids_config::Config;
@@ -38,7 +40,7 @@ impl Counting {
     }
 
     /// Takes an item, which qualifies where it passes the threshold of its event.
-    pub(crate) fn count(&mut self, report: &Report<'_>, out: &mut TurnOut)
+    pub(crate) fn count(&mut self, report: &Report<'_>, out: &mut TurnOut) -> Fate
         requires { CanCount self.old report.now out.old }
         ensures stands { (config : Parts) (start : Start) (joined items : List Item)
             → CountingStands config start joined items self.old out.old
@@ -46,6 +48,11 @@ impl Counting {
             → EndBy (λ item. item.tick) report.now.tick items
             → CountingStands config start (report.now ∷ joined)
             (option_to_list (thresholded_at config joined report.now) ++ items) self.new out.new }
+        ensures fate { (config : Parts) (start : Start) (joined items : List Item)
+            → CountingStands config start joined items self.old out.old
+            → EndBy (λ item. item.tick) report.now.tick joined
+            → EndBy (λ item. item.tick) report.now.tick items
+            → fate_of result ≡ counted_fate config joined items report.now }
         ensures one { TakesOne self.old.outlet.sender self.new.outlet.sender out.old out.new }
         ensures has { (k : ℕ) → HasEvent k self.old → HasEvent k self.new }
     {
@@ -53,7 +60,9 @@ impl Counting {
             .thresholds
             .arrive(report.event, report.tick, report.count)
         {
-            self.outlet.qualify(report, out);
+            Fate::Qualified(self.outlet.qualify(report, out))
+        } else {
+            Fate::Below
         }
     }
 }

@@ -2,12 +2,14 @@ ghost use Rattle.std.specs.Prelude.{◌≡◌, ◌<◌, [], List, true, length, 
 ghost use Rattle.ids_types.specs.Turns.{Turn};
 ghost use Rattle.ids_config.specs.Parts.{Parts};
 ghost use Rattle.chain.specs.History.{rows_of};
+ghost use Rattle.chain_spec.specs.Moments.{moments};
 ghost use Rattle.filter_aggregate.specs.Account.{all_kept};
 ghost use Rattle.event_chain.specs.Ready.{aggregating_in};
-ghost use Rattle.event_chain.specs.Standing.{Stands};
+ghost use Rattle.event_chain.specs.Standing.{Stands, StandsWatched};
 
 use crate::counting::Counting;
 use crate::filters::Filters;
+use crate::witness::{Unwatched, Witness};
 use chain::Chain;
 use event_memory::Memory;
 use filter_aggregate::Windows;
@@ -18,19 +20,20 @@ use internal_events::heads;
 use std::alloc::Global;
 use std::marker::Model;
 
-/// The filter chain, one turn after another. It never holds the history, and takes no memory but in `make`.
+/// The filter chain, one turn after another. It never holds the history, and takes no memory but in `make`; a witness
+/// may be told what becomes of each item.
 #[derive(Debug, Drop)]
-pub struct EventChain<B> {
-    filters: Filters<B>,
+pub struct EventChain<B, W = Unwatched> {
+    filters: Filters<B, W>,
     /// The events that are aggregated, in their order.
     aggregating: Vec<EventIndex>,
     internal: Internal,
 }
 
-impl<B> Model for EventChain<B> {
-    ghost use Rattle.event_chain.specs.Chained.{Chained};
+impl<B, W> Model for EventChain<B, W> {
+    ghost use Rattle.event_chain.specs.Chained.{Watched};
 
-    ghost Value = { Chained B };
+    ghost Value = { Watched B W };
 
     ghost use Rattle.event_chain.specs.Chained.{chained, IsSound};
 
@@ -46,6 +49,18 @@ impl<B: Parcel> EventChain<B> {
         ensures events { IfOk result (λ chain. length chain.filters.windows ≡ length config.now.events) }
         ensures kept { IfOk result (λ chain. all_kept chain.filters.windows ≡ []) }
     {
+        EventChain::watched(alloc, config, Unwatched)
+    }
+}
+
+impl<B: Parcel, W: Witness> EventChain<B, W> {
+    /// The chain of a configuration, before the first turn, with a witness who knows that nothing came yet.
+    pub fn watched(alloc: Global, config: &Config, witness: W) -> Result<EventChain<B, W>, NoMemory>
+        requires { W.knows witness config.now [] }
+        ensures stands { IfOk result (StandsWatched B.held W.knows config.now []) }
+        ensures events { IfOk result (λ chain. length chain.filters.windows ≡ length config.now.events) }
+        ensures kept { IfOk result (λ chain. all_kept chain.filters.windows ≡ []) }
+    {
         // Names the parts, so that the proof knows that they are valid.
         let _parts = config.parts();
         let windows = Windows::make(alloc, config)?;
@@ -55,14 +70,23 @@ impl<B: Parcel> EventChain<B> {
                 gate: GateState::make(alloc, config)?,
                 windows,
                 counting: Counting::make(alloc, config)?,
+                witness,
             },
             internal: config.internal(),
         })
     }
 
+    /// The witness, who knows of all turns that were taken.
+    pub fn witness(&self) -> &W
+        ensures { (config : Parts) (turns : List Turn) → StandsWatched B.held W.knows config turns self.now →
+            W.knows result.now config (moments config turns) }
+    {
+        &self.filters.witness
+    }
+
     /// The event memory behind the last turn, once the chain has no more to take.
     pub fn into_memory(self) -> Memory
-        ensures { (config : Parts) (turns : List Turn) → Stands B.held config (reverse turns) self →
+        ensures { (config : Parts) (turns : List Turn) → StandsWatched B.held W.knows config (reverse turns) self →
             reverse result.rows ≡ rows_of config turns }
     {
         let Filters { counting, .. } = self.filters;
@@ -71,8 +95,8 @@ impl<B: Parcel> EventChain<B> {
     }
 }
 
-impl<B: Parcel> Chain<B> for EventChain<B> {
-    ghost stands = { λ chain config turns. Stands B.held config (reverse turns) chain };
+impl<B: Parcel, W: Witness> Chain<B> for EventChain<B, W> {
+    ghost stands = { λ chain config turns. StandsWatched B.held W.knows config (reverse turns) chain };
 
     ghost events = { λ chain. length chain.filters.windows };
 

@@ -1,4 +1,4 @@
-ghost use Rattle.std.specs.Prelude.{◌≡◌, ◌<◌, ◌≤◌, ◌+◌, ◌++◌, ℕ, List, [], ◌∷◌, length, option_to_list, vec_len, vec_capacity, IfSome, if◌then◌else◌};
+ghost use Rattle.std.specs.Prelude.{◌≡◌, ◌<◌, ◌≤◌, ◌+◌, ◌++◌, ℕ, List, [], ◌∷◌, length, false, option_to_list, vec_len, vec_capacity, IfSome, if◌then◌else◌};
 ghost use Rattle.std.specs.Bool.{IsFalse};
 ghost use Rattle.std.specs.List.{All};
 ghost use Rattle.ids_types.specs.Carries.{act_by};
@@ -13,30 +13,34 @@ ghost use Rattle.filter_aggregate.specs.Account.{all_kept};
 ghost use Rattle.filter_aggregate.specs.Slots.{is_due, slot_at};
 ghost use Rattle.sending.specs.Sending.{Start, start_of};
 ghost use Rattle.event_chain.specs.Behind.{IsBehind, kept_told};
+ghost use Rattle.event_chain.specs.Fates.{ending_of, fate_of, told};
 ghost use Rattle.event_chain.specs.Standing.{Rests};
 ghost use Rattle.event_chain.specs.Ready.{HasPlaces, IsReady, Stays, CanSend};
 
 use crate::counting::Counting;
+use crate::fate::{Ending, Fate};
 use crate::joining::{go_on, lent, pass};
+use crate::witness::Witness;
 use chain::{give_back, kept};
 use filter_aggregate::Windows;
 use filter_gate::{GateState, Verdict};
 use ids_types::{Act, EventIndex, Parcel, Qualified, TurnOut};
 
-/// All filters, one behind the other.
+/// All filters, one behind the other, and who is told what became of each item.
 #[derive(Debug, Drop)]
-pub(crate) struct Filters<B> {
+pub(crate) struct Filters<B, W> {
     pub(crate) gate: GateState,
     pub(crate) windows: Windows<B>,
     pub(crate) counting: Counting,
+    pub(crate) witness: W,
 }
 
-impl<B: Parcel> Filters<B> {
+impl<B: Parcel, W: Witness> Filters<B, W> {
     /// A turn begins: nothing is sent in it yet, and nothing is held back.
     pub(crate) fn begin(&mut self, out: &mut TurnOut)
         ensures behind { (config : Parts) (before now : ℕ) (moments : List Moment)
-            → Rests B.held config before moments self.old → before ≤ now
-            → IsBehind B.held config (start_of config (qualified config moments)) now moments self.new out.new }
+            → Rests B.held W.knows config before moments self.old → before ≤ now
+            → IsBehind B.held W.knows config (start_of config (qualified config moments)) now moments self.new out.new }
         ensures log { out.new.log ≡ out.old.log }
         ensures room { room_of out.new ≡ room_of out.old }
         ensures can { (entries events : ℕ) → entries ≤ 1024 → events ≤ 256 → most_sent entries events ≤ (room_of out.old).sent
@@ -62,8 +66,8 @@ impl<B: Parcel> Filters<B> {
         requires short { All (IsShort B.held) (all_kept self.old.windows) }
         requires back { vec_len back.old + length (all_kept self.old.windows) ≤ vec_capacity back.old }
         ensures behind { (config : Parts) (start : Start) (moments : List Moment)
-            → IsBehind B.held config start tick moments self.old out.old
-            → IsBehind B.held config start tick (closes tick event.0 ∷ moments) self.new out.new }
+            → IsBehind B.held W.knows config start tick moments self.old out.old
+            → IsBehind B.held W.knows config start tick (closes tick event.0 ∷ moments) self.new out.new }
         ensures parcels { HandsBack [] (all_kept self.old.windows)
             (all_kept self.new.windows) back.old.items back.new.items }
         ensures capacity { vec_capacity back.new ≡ vec_capacity back.old }
@@ -71,7 +75,16 @@ impl<B: Parcel> Filters<B> {
         ensures settled { IsFalse (is_due tick (slot_at self.new.windows event.0)) }
     {
         match self.windows.close_due(event, tick) {
-            Some(item) => go_on(&mut self.counting, tick, item, back, out),
+            Some(item) => {
+                let (event, count) = (item.event, item.count);
+                let fate = go_on(&mut self.counting, tick, item, back, out);
+                self.witness.tell(Ending {
+                    event,
+                    count,
+                    by_window: true,
+                    fate,
+                });
+            }
             None => {}
         }
     }
@@ -83,8 +96,8 @@ impl<B: Parcel> Filters<B> {
         requires back { vec_len back.old + length (option_to_list (parcel_of act))
             + length (all_kept self.old.windows) ≤ vec_capacity back.old }
         ensures behind { (config : Parts) (start : Start) (moments : List Moment)
-            → IsBehind B.held config start tick moments self.old out.old
-            → IsBehind B.held config start tick (act_moment tick (act_by B.held act) ∷ moments) self.new out.new }
+            → IsBehind B.held W.knows config start tick moments self.old out.old
+            → IsBehind B.held W.knows config start tick (act_moment tick (act_by B.held act) ∷ moments) self.new out.new }
         ensures parcels { HandsBack (option_to_list (parcel_of act)) (all_kept self.old.windows)
             (all_kept self.new.windows) back.old.items back.new.items }
         ensures capacity { vec_capacity back.new ≡ vec_capacity back.old }
@@ -124,25 +137,44 @@ impl<B: Parcel> Filters<B> {
         requires back { vec_len back.old + length (option_to_list item.context)
             + length (all_kept self.old.windows) ≤ vec_capacity back.old }
         ensures behind { (config : Parts) (start : Start) (moments : List Moment)
-            → IsBehind B.held config start tick moments self.old out.old
-            → IsBehind B.held config start tick (comes (item_at tick (told_by B.held item)) ∷ moments) self.new out.new }
+            → IsBehind B.held W.knows config start tick moments self.old out.old
+            → IsBehind B.held W.knows config start tick (comes (item_at tick (told_by B.held item)) ∷ moments) self.new out.new }
         ensures parcels { HandsBack (option_to_list item.context) (all_kept self.old.windows)
             (all_kept self.new.windows) back.old.items back.new.items }
         ensures capacity { vec_capacity back.new ≡ vec_capacity back.old }
         ensures stays { Stays 1 tick self.old self.new out.old out.new }
     {
-        match self.gate.gate(item.event) {
-            Verdict::Dropped => give_back(item.context, back),
+        let (event, count) = (item.event, item.count);
+        match self.gate.gate(event) {
+            Verdict::Dropped(cause) => {
+                give_back(item.context, back);
+                self.witness.tell(came(event, count, Fate::Dropped(cause)));
+            }
             Verdict::Bypass { context } => {
                 let item = let_through(item, context, back);
-                self.counting.outlet.qualify(&lent(tick, &item), out);
+                let answer = self.counting.outlet.qualify(&lent(tick, &item), out);
                 give_back(item.context, back);
+                self.witness
+                    .tell(came(event, count, Fate::Qualified(answer)));
             }
             Verdict::Pass { context } => {
                 let item = let_through(item, context, back);
-                pass(&mut self.windows, &mut self.counting, tick, item, back, out);
+                let fate = pass(&mut self.windows, &mut self.counting, tick, item, back, out);
+                self.witness.tell(came(event, count, fate));
             }
         }
+    }
+}
+
+/// The ending of an item that came.
+fn came(event: EventIndex, count: u16, fate: Fate) -> Ending
+    ensures { ending_of result ≡ told event.0 count false (fate_of fate) }
+{
+    Ending {
+        event,
+        count,
+        by_window: false,
+        fate,
     }
 }
 

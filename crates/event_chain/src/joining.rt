@@ -12,10 +12,12 @@ ghost use Rattle.filter_aggregate.specs.Account.{all_kept};
 ghost use Rattle.filter_aggregate.specs.Slots.{is_due, slot_at, slots_by};
 ghost use Rattle.filter_aggregate.specs.Standing.{Stands as WindowsStand};
 ghost use Rattle.sending.specs.Sending.{Start, TakesOne};
+ghost use Rattle.event_chain.specs.Fates.{fate_of, counted_fate, passed_fate};
 ghost use Rattle.event_chain.specs.Flow.{CountingStands, Flows, EndAt, joined_with, items_with};
 ghost use Rattle.event_chain.specs.Ready.{CanCount, HasEvent, SettledAt, Windowed};
 
 use crate::counting::Counting;
+use crate::fate::Fate;
 use chain::give_back;
 use filter_aggregate::Windows;
 use ids_types::{Parcel, Qualified, TurnOut};
@@ -29,7 +31,7 @@ pub(crate) fn pass<B: Parcel>(
     item: Qualified<B>,
     back: &mut Vec<B>,
     out: &mut TurnOut,
-)
+) -> Fate
     requires count { CanCount counting.old (item_at tick (told_by B.held item)) out.old }
     requires window { item.event.0 < length windows.old }
     requires settled { SettledAt tick windows.old }
@@ -41,6 +43,10 @@ pub(crate) fn pass<B: Parcel>(
         → let call = arrives tick (told_by B.held item) in Flows B.held config start (call ∷ calls)
         (joined_with config calls call joined) (items_with config calls call joined items)
         windows.new counting.new out.new }
+    ensures fate { (config : Parts) (start : Start) (calls : List (Call (List ℕ))) (joined items : List Item)
+        → Flows B.held config start calls joined items windows.old counting.old out.old
+        → EndAt tick calls joined items
+        → fate_of result ≡ passed_fate config joined items (item_at tick (told_by B.held item)) }
     ensures parcels { HandsBack (option_to_list item.context) (all_kept windows.old)
         (all_kept windows.new) back.old.items back.new.items }
     ensures capacity { vec_capacity back.new ≡ vec_capacity back.old }
@@ -50,8 +56,9 @@ pub(crate) fn pass<B: Parcel>(
 {
     if windows.aggregates(item.event) {
         join(windows, tick, item, back);
+        Fate::Joined
     } else {
-        go_on(counting, tick, item, back, out);
+        go_on(counting, tick, item, back, out)
     }
 }
 
@@ -82,7 +89,7 @@ pub(crate) fn go_on<B: Parcel>(
     item: Qualified<B>,
     back: &mut Vec<B>,
     out: &mut TurnOut,
-)
+) -> Fate
     requires count { CanCount counting.old (item_at tick (told_by B.held item)) out.old }
     requires back { vec_len back.old + length (option_to_list item.context) ≤ vec_capacity back.old }
     ensures stands { (config : Parts) (start : Start) (joined items : List Item)
@@ -92,13 +99,19 @@ pub(crate) fn go_on<B: Parcel>(
         → let here = item_at tick (told_by B.held item) in
         CountingStands config start (here ∷ joined)
         (option_to_list (thresholded_at config joined here) ++ items) counting.new out.new }
+    ensures fate { (config : Parts) (start : Start) (joined items : List Item)
+        → CountingStands config start joined items counting.old out.old
+        → EndBy (λ item. item.tick) tick joined
+        → EndBy (λ item. item.tick) tick items
+        → fate_of result ≡ counted_fate config joined items (item_at tick (told_by B.held item)) }
     ensures one { TakesOne counting.old.outlet.sender counting.new.outlet.sender out.old out.new }
     ensures has { (k : ℕ) → HasEvent k counting.old → HasEvent k counting.new }
     ensures back { back.new.items ≡ back.old.items ++ option_to_list item.context }
     ensures capacity { vec_capacity back.new ≡ vec_capacity back.old }
 {
-    counting.count(&lent(tick, &item), out);
+    let fate = counting.count(&lent(tick, &item), out);
     give_back(item.context, back);
+    fate
 }
 
 /// The item at a tick, with its context data lent.

@@ -9,9 +9,13 @@
 
 mod counting;
 mod event_chain;
+mod fate;
 mod filters;
 mod joining;
 mod outlet;
 mod turns;
+mod witness;
 
 pub use event_chain::EventChain;
+pub use fate::{Ending, Fate};
+pub use witness::{Unwatched, Witness};

@@ -1,14 +1,16 @@
 ghost use Rattle.std.specs.Prelude.{◌≡◌, ◌<◌, List, [], ◌∷◌, length, map, IfOk, IfSome};
 ghost use Rattle.ids_config.specs.Parts.{Parts};
+ghost use Rattle.chain_spec.specs.Endings.{qualified_fate};
 ghost use Rattle.chain_spec.specs.Items.{Item};
 ghost use Rattle.chain_spec.specs.Windows.{EndBy};
 ghost use Rattle.sending.specs.Sender.{CanQualify, IsShort, source_of};
-ghost use Rattle.sending.specs.Sending.{Start, TakesOne, Stands as SenderStands};
+ghost use Rattle.sending.specs.Sending.{Start, TakesOne, Stands as SenderStands, answered_fate};
 ghost use Rattle.event_chain.specs.Outlets.{Stores, OutletStands};
 
 use event_memory::Memory;
 use ids_config::Config;
 use ids_types::{Key, NoMemory, TurnOut};
+use limits::Admit;
 use sending::{Report, Sender};
 use std::alloc::Global;
 
@@ -33,17 +35,21 @@ impl Outlet {
         })
     }
 
-    /// Takes a qualified event.
-    pub(crate) fn qualify(&mut self, report: &Report<'_>, out: &mut TurnOut)
+    /// Takes a qualified event, and answers what the limits say to its message, `None` where it has none.
+    pub(crate) fn qualify(&mut self, report: &Report<'_>, out: &mut TurnOut) -> Option<Admit>
         requires can { CanQualify self.old.sender report.now out.old }
         ensures stands { (config : Parts) (start : Start) (items : List Item)
             → OutletStands config start items self.old out.old
             → EndBy (λ item. item.tick) report.now.tick items
             → OutletStands config start (report.now ∷ items) self.new out.new }
+        ensures fate { (config : Parts) (start : Start) (items : List Item)
+            → OutletStands config start items self.old out.old
+            → EndBy (λ item. item.tick) report.now.tick items
+            → answered_fate result ≡ qualified_fate config items report.now }
         ensures one { TakesOne self.old.sender self.new.sender out.old out.new }
     {
         self.store(report);
-        self.sender.qualify(report, out);
+        self.sender.qualify(report, out)
     }
 
     // Stores the event, where this is configured of it.

@@ -15,11 +15,12 @@ ghost use Rattle.event_chain.specs.Behind.{IsBehind};
 ghost use Rattle.event_chain.specs.Ready.{CanSend, HasPlaces, SettledAt, Stays, aggregating_in};
 
 use crate::filters::Filters;
+use crate::witness::Witness;
 use ids_types::{Act, Entry, EventIndex, Parcel, Qualified, TurnOut};
 use internal_events::HeadList;
 use std::mem::replace;
 
-impl<B: Parcel> Filters<B> {
+impl<B: Parcel, W: Witness> Filters<B, W> {
     /// The windows of these events close, each where it is due at the tick.
     pub(crate) fn close_all(
         &mut self,
@@ -36,8 +37,8 @@ impl<B: Parcel> Filters<B> {
         // Where these are the events that are aggregated, it is as if each event closed.
         ensures behind { map (λ event. event.0) events.now ≡ aggregating_in self.old.windows
             → (config : Parts) (start : Start) (moments : List Moment)
-            → IsBehind B.held config start tick moments self.old out.old
-            → IsBehind B.held config start tick (with_all moments (closings config tick)) self.new out.new }
+            → IsBehind B.held W.knows config start tick moments self.old out.old
+            → IsBehind B.held W.knows config start tick (with_all moments (closings config tick)) self.new out.new }
         ensures parcels { HandsBack [] (all_kept self.old.windows)
             (all_kept self.new.windows) back.old.items back.new.items }
         ensures capacity { vec_capacity back.new ≡ vec_capacity back.old }
@@ -64,8 +65,8 @@ impl<B: Parcel> Filters<B> {
         requires can { CanSend (length heads.now) self.old out.old }
         requires back { vec_len back.old + length (all_kept self.old.windows) ≤ vec_capacity back.old }
         ensures behind { (config : Parts) (start : Start) (moments : List Moment)
-            → IsBehind B.held config start tick moments self.old out.old
-            → IsBehind B.held config start tick
+            → IsBehind B.held W.knows config start tick moments self.old out.old
+            → IsBehind B.held W.knows config start tick
             (with_all moments (map (head_moment tick) (map head_told heads.now))) self.new out.new }
         ensures parcels { HandsBack [] (all_kept self.old.windows)
             (all_kept self.new.windows) back.old.items back.new.items }
@@ -99,8 +100,8 @@ impl<B: Parcel> Filters<B> {
         requires back { vec_len back.old + (length (all_parcels items.old.items)
             + length (all_kept self.old.windows)) ≤ vec_capacity back.old }
         ensures behind { (config : Parts) (start : Start) (moments : List Moment)
-            → IsBehind B.held config start tick moments self.old out.old
-            → IsBehind B.held config start tick
+            → IsBehind B.held W.knows config start tick moments self.old out.old
+            → IsBehind B.held W.knows config start tick
             (with_all moments (map (λ entry. act_moment tick entry.act) (map (entry_by B.held) items.old.items)))
             self.new out.new }
         ensures parcels { HandsBack (all_parcels items.old.items) (all_kept self.old.windows)

@@ -5,13 +5,16 @@ use Rattle.std.proofs.lemmas.List.{length-set, get_or-set_same, get_or-set_other
 use Rattle.ids_types.specs.declared.mode.Mode.{Mode}
 use Rattle.ids_types.specs.declared.mode.Mode.TheVariants.{Off, Brief, Detailed, BriefBypassing, DetailedBypassing}
 use Rattle.ids_config.specs.Parts.{Event, Parts, event_at}
+use Rattle.chain_spec.specs.Endings.{Fate, at_mode, at_block, at_nth, coming, qualified_fate}
+use Rattle.chain_spec.specs.Filtering.{qualified}
 use Rattle.chain_spec.specs.Gate.{is_filtered, is_bypassing, is_detailed, mode_at, state_at, item_in, is_blocked, is_arriving, arrivals, is_nth, sampled_at}
 use Rattle.chain_spec.specs.Items.{Item}
 use Rattle.chain_spec.specs.Moments.{Moment, closes, comes}
 use Rattle.chain_spec.specs.Stages.{where_true}
+use Rattle.filter_gate.specs.declared.verdict.Cause.TheVariants.{Mode as ByMode, Block as ByBlock, Nth as ByNth}
 use Rattle.filter_gate.specs.declared.verdict.Verdict.TheVariants.{Dropped, Bypass, Pass}
 use Rattle.filter_gate.specs.Gate.{Gate, row_at, row_with, verdict_on, after_asking, gate_asked}
-use Rattle.filter_gate.specs.Stands.{row_after, Stands, with_context, let_through}
+use Rattle.filter_gate.specs.Stands.{row_after, Stands, with_context, let_through, fate_by, sampled_fate}
 
 -- ---- forward every nth
 
@@ -31,24 +34,25 @@ none_sampled true item = refl
 none_sampled false item = refl
 
 -- an nth item that no state blocks passes
-passes : (context unblocked nth : Bool) (item : Item)
-    → let_through (if unblocked && nth then Pass context else Dropped) item
-    ≡ (if nth then where_true unblocked (with_context context item) else None)
-passes context true true item = refl
-passes context true false item = refl
+passes : (context blocked nth : Bool) (item : Item)
+    → let_through (if blocked then Dropped ByBlock else if nth then Pass context else Dropped ByNth) item
+    ≡ (if nth then where_true (not blocked) (with_context context item) else None)
 passes context false true item = refl
 passes context false false item = refl
+passes context true true item = refl
+passes context true false item = refl
 
 -- what is let through under each mode
-sampled_under : (mode : Mode) (unblocked nth : Bool) (item : Item)
+sampled_under : (mode : Mode) (blocked nth : Bool) (item : Item)
     → let_through (if is_bypassing mode then Bypass (is_detailed mode)
-    else if is_filtered mode && unblocked && nth then Pass (is_detailed mode) else Dropped) item
-    ≡ (if nth then where_true (is_filtered mode && unblocked) (item_in mode item) else None)
-sampled_under Off unblocked nth item = none_sampled nth (item_in Off item)
-sampled_under Brief unblocked nth item = passes false unblocked nth item
-sampled_under Detailed unblocked nth item = passes true unblocked nth item
-sampled_under BriefBypassing unblocked nth item = none_sampled nth (item_in BriefBypassing item)
-sampled_under DetailedBypassing unblocked nth item = none_sampled nth (item_in DetailedBypassing item)
+    else if not (is_filtered mode) then Dropped ByMode else if blocked then Dropped ByBlock
+    else if nth then Pass (is_detailed mode) else Dropped ByNth) item
+    ≡ (if nth then where_true (is_filtered mode && not blocked) (item_in mode item) else None)
+sampled_under Off blocked nth item = none_sampled nth (item_in Off item)
+sampled_under Brief blocked nth item = passes false blocked nth item
+sampled_under Detailed blocked nth item = passes true blocked nth item
+sampled_under BriefBypassing blocked nth item = none_sampled nth (item_in BriefBypassing item)
+sampled_under DetailedBypassing blocked nth item = none_sampled nth (item_in DetailedBypassing item)
 
 -- what the verdict lets through of an item of event k
 pub sampled_by : (config : Parts) (before : List Moment) (item : Item) (gate : Gate) (k : ℕ) → item.event ≡ k
@@ -60,7 +64,41 @@ sampled_by config before item gate k is within stands =
     ap (λ state. let_through (verdict_on state (row_at gate k)) item) stands.state
     ∙ ap (λ row. let_through (verdict_on (state_at config before) row) item) (stands.rows k within)
     ∙ rw (rank (length (arrivals config k before)) (event_at config k).nth, own)
-    (sampled_under mode (not (is_blocked config k before)) (is_nth config k before) item)
+    (sampled_under mode (is_blocked config k before) (is_nth config k before) item)
+
+-- ---- where its way ends
+
+-- the fate by the verdict under each mode
+fate_under : (mode : Mode) (blocked nth : Bool) (bypassing sampled : Item → Fate) (item : Item)
+    → (if is_bypassing mode then bypassing (item_in mode item) else if not (is_filtered mode) then at_mode
+    else if blocked then at_block else if not nth then at_nth else sampled (item_in mode item))
+    ≡ fate_by (if is_bypassing mode then Bypass (is_detailed mode)
+    else if not (is_filtered mode) then Dropped ByMode else if blocked then Dropped ByBlock
+    else if nth then Pass (is_detailed mode) else Dropped ByNth) bypassing sampled item
+fate_under Off blocked nth bypassing sampled item = refl
+fate_under Brief true nth bypassing sampled item = refl
+fate_under Brief false true bypassing sampled item = refl
+fate_under Brief false false bypassing sampled item = refl
+fate_under Detailed true nth bypassing sampled item = refl
+fate_under Detailed false true bypassing sampled item = refl
+fate_under Detailed false false bypassing sampled item = refl
+fate_under BriefBypassing blocked nth bypassing sampled item = refl
+fate_under DetailedBypassing blocked nth bypassing sampled item = refl
+
+-- the fate of an item of event k
+pub fate_told : (config : Parts) (before : List Moment) (item : Item) (gate : Gate) (k : ℕ) → item.event ≡ k
+    → k < length gate.rows → Stands config before gate
+    → (coming config before item).fate ≡ fate_by (verdict_on gate.state (row_at gate k))
+    (qualified_fate config (qualified config before)) (sampled_fate config before) item
+fate_told config before item gate k is within stands =
+    let event = item.event in
+    let bypassing = qualified_fate config (qualified config before) in
+    let sampled = sampled_fate config before in
+    let row = subst (λ k. row_at gate k ≡ row_after config before event) is (stands.rows event (rw is within)) in
+    fate_under (mode_at config event before) (is_blocked config event before) (is_nth config event before) bypassing sampled item
+    ∙ sym (ap (λ state. fate_by (verdict_on state (row_at gate k)) bypassing sampled item) stands.state
+    ∙ ap (λ row. fate_by (verdict_on (state_at config before) row) bypassing sampled item) row
+    ∙ rw (rank (length (arrivals config event before)) (event_at config event).nth) refl)
 
 -- ---- one item more
 

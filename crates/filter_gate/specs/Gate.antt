@@ -5,6 +5,7 @@ use Rattle.ids_types.specs.declared.mode.Mode.{Mode}
 use Rattle.ids_types.specs.declared.mode.Mode.TheVariants.{Detailed}
 use Rattle.ids_config.specs.Parts.{Event}
 use Rattle.chain_spec.specs.Gate.{is_filtered, is_bypassing, is_detailed}
+use Rattle.filter_gate.specs.declared.verdict.Cause.TheVariants.{Mode as ByMode, Block as ByBlock, Nth as ByNth}
 use Rattle.filter_gate.specs.declared.verdict.Verdict.{Verdict}
 use Rattle.filter_gate.specs.declared.verdict.Verdict.TheVariants.{Dropped, Bypass, Pass}
 
@@ -31,9 +32,13 @@ row_with event mode since = record { mode = mode; nth = event.nth; since = since
 abbrev pub fresh_row : Event → Row
 fresh_row event = row_with event event.mode 0
 
+-- the state is one of those that block the event
+abbrev pub is_blocking : ℕ → Row → Bool
+is_blocking state row = list_any (λ blocked. blocked == state) row.block
+
 -- an item passes reporting mode and block state under this state
 abbrev pub lets_in : ℕ → Row → Bool
-lets_in state row = is_filtered row.mode && not (list_any (λ blocked. blocked == state) row.block)
+lets_in state row = is_filtered row.mode && not (is_blocking state row)
 
 -- how many arrived since the last nth one, with one more: 0 where that one is an nth one
 abbrev pub since_with_one : Row → ℕ
@@ -51,8 +56,10 @@ with_mode mode row = record { mode = mode; nth = row.nth; since = row.since; blo
 abbrev pub verdict_on : ℕ → Row → Verdict
 verdict_on state row =
     if is_bypassing row.mode then Bypass (is_detailed row.mode)
-    else if lets_in state row && since_with_one row == 0 then Pass (is_detailed row.mode)
-    else Dropped
+    else if not (is_filtered row.mode) then Dropped ByMode
+    else if is_blocking state row then Dropped ByBlock
+    else if since_with_one row == 0 then Pass (is_detailed row.mode)
+    else Dropped ByNth
 
 -- the row after an item under this state
 abbrev pub after_asking : ℕ → Row → Row

@@ -1,11 +1,13 @@
 ghost use Rattle.std.specs.Prelude.{◌≡◌, ◌<◌, ℕ, List, [], ◌∷◌, length, map, IfOk};
 ghost use Rattle.std.specs.List.{All};
 ghost use Rattle.ids_config.specs.Parts.{Parts};
+ghost use Rattle.chain_spec.specs.Endings.{coming, qualified_fate};
+ghost use Rattle.chain_spec.specs.Filtering.{qualified};
 ghost use Rattle.chain_spec.specs.Gate.{sampled_at, bypassing_at};
 ghost use Rattle.chain_spec.specs.Items.{Item};
 ghost use Rattle.chain_spec.specs.Moments.{Moment, comes, state_is, mode_is};
 ghost use Rattle.filter_gate.specs.Gate.{fresh_row, row_at, verdict_on, gate_asked, gate_with_mode};
-ghost use Rattle.filter_gate.specs.Stands.{Stands, let_through, let_by};
+ghost use Rattle.filter_gate.specs.Stands.{Stands, let_through, let_by, fate_by, sampled_fate};
 
 use crate::row::Row;
 use crate::verdict::Verdict;
@@ -53,6 +55,11 @@ impl GateState {
         ensures bypassing { (config : Parts) (before : List Moment) (item : Item)
             → item.event ≡ event.0 → Stands config before self.old
             → let_by result item ≡ bypassing_at config before (comes item) }
+        // What it drops ends here, for the cause that it tells.
+        ensures fate { (config : Parts) (before : List Moment) (item : Item)
+            → item.event ≡ event.0 → Stands config before self.old
+            → (coming config before item).fate ≡ fate_by result
+            (qualified_fate config (qualified config before)) (sampled_fate config before) item }
         ensures stands { (config : Parts) (before : List Moment) (item : Item)
             → item.event ≡ event.0 → Stands config before self.old
             → Stands config (comes item ∷ before) self.new }

@@ -12,4 +12,4 @@ mod row;
 mod verdict;
 
 pub use gate_state::GateState;
-pub use verdict::Verdict;
+pub use verdict::{Cause, Verdict};

@@ -17,6 +17,6 @@ mod reading;
 mod room;
 mod taking;
 
-pub use printing::print;
+pub use printing::{print, push_fields, push_head, push_loss};
 pub use reading::{Journal, read};
 pub use text_spec::TextFault as JournalFault;

@@ -60,7 +60,7 @@ fn push_turn(out: &mut Vec<u8>, history: &History, turn: u64) -> Result<(), NoMe
 }
 
 /// Appends `T TICK LOST_EVENTS LOST_CONTEXTS LIMITED` as a line.
-fn push_head(out: &mut Vec<u8>, head: &TurnHead) -> Result<(), NoMemory>
+pub fn push_head(out: &mut Vec<u8>, head: &TurnHead) -> Result<(), NoMemory>
     ensures { OnOk result (out.new.items ≡ out.old.items ++ ended_line (fields_of (begins head.now))) }
 {
     out.push(b'T')?;
@@ -72,7 +72,7 @@ fn push_head(out: &mut Vec<u8>, head: &TurnHead) -> Result<(), NoMemory>
 }
 
 /// Appends `L CALLER CALL GIVEN` as a line.
-fn push_loss(out: &mut Vec<u8>, loss: &Loss) -> Result<(), NoMemory>
+pub fn push_loss(out: &mut Vec<u8>, loss: &Loss) -> Result<(), NoMemory>
     ensures { OnOk result (out.new.items ≡ out.old.items ++ ended_line (fields_of (loses loss.now))) }
 {
     push_call(out, b'L', loss.caller, loss.call)?;
@@ -85,6 +85,14 @@ fn push_entry(out: &mut Vec<u8>, entry: &Entry<Plain<'_>>) -> Result<(), NoMemor
     ensures { OnOk result (out.new.items ≡
         out.old.items ++ ended_line (fields_of (enters (plain_entry entry.now)))) }
 {
+    push_fields(out, entry)?;
+    Ok(out.push(b'\n')?)
+}
+
+/// Appends the line of an entry, without its line feed.
+pub fn push_fields(out: &mut Vec<u8>, entry: &Entry<Plain<'_>>) -> Result<(), NoMemory>
+    ensures { OnOk result (out.new.items ≡ out.old.items ++ line_for (enters (plain_entry entry.now))) }
+{
     match &entry.act {
         Act::Report {
             event,
@@ -93,22 +101,21 @@ fn push_entry(out: &mut Vec<u8>, entry: &Entry<Plain<'_>>) -> Result<(), NoMemor
             context,
         } => {
             push_call(out, b'R', entry.caller, entry.call)?;
-            push_report(out, *event, *count, *stamp, context)?;
+            push_report(out, *event, *count, *stamp, context)
         }
         Act::State(state) => {
             push_call(out, b'C', entry.caller, entry.call)?;
             out.extend_from_slice(b" S")?;
-            push_field(out, u64::from(*state))?;
+            push_field(out, u64::from(*state))
         }
         Act::SetMode { event, mode } => {
             push_call(out, b'C', entry.caller, entry.call)?;
             out.extend_from_slice(b" M")?;
             push_field(out, u64::from(event.0))?;
             out.push(b' ')?;
-            push_mode(out, *mode)?;
+            push_mode(out, *mode)
         }
     }
-    Ok(out.push(b'\n')?)
 }
 
 /// Appends a line's letter, the caller and its call.

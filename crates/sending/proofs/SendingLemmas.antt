@@ -1,5 +1,5 @@
 -- One candidate more.
-use Rattle.std.proofs.Common.{◌≡◌, ℕ, ◌+◌, ◌<◌, ◌&&◌, Bool, true, false, List, [], ◌∷◌, ◌++◌, length, map, if◌then◌else◌, refl, sym, ap, subst, ◌∙◌, arith, append_assoc}
+use Rattle.std.proofs.Common.{◌≡◌, ℕ, ◌+◌, ◌<◌, ◌&&◌, not, Bool, true, false, Some, List, [], ◌∷◌, ◌++◌, length, map, if◌then◌else◌, refl, sym, ap, subst, ◌∙◌, arith, append_assoc}
 use Rattle.ids_types.specs.Output.{Output, has_sent}
 use Rattle.ids_config.specs.Parts.{Parts, event_at, is_given}
 use Rattle.ids_frame.specs.Message.{MessageParts}
@@ -9,13 +9,14 @@ use Rattle.limits.specs.declared.admit.Admit.TheVariants.{Sent, Rate, Traffic}
 use Rattle.limits.specs.Limiting.{Stands as LimitsStand, answer_to}
 use Rattle.limits.specs.Meters.{Meters}
 use Rattle.chain_spec.specs.Chain.{candidates, is_out}
+use Rattle.chain_spec.specs.Endings.{at_rate, at_traffic, let_out, qualified_fate}
 use Rattle.chain_spec.specs.Items.{Item}
 use Rattle.chain_spec.specs.Limits.{Candidate}
 use Rattle.chain_spec.specs.Messages.{weighed, message_of}
 use Rattle.chain_spec.specs.Windows.{EndBy}
 use Rattle.chain_spec.proofs.CoverLemmas.{end_of_some}
 use Rattle.sending.specs.Sender.{SenderParts, source_at, message_by, with_held, with_held_back, lets_out, after_answer, out_after}
-use Rattle.sending.specs.Sending.{Stands, Start, IsSending}
+use Rattle.sending.specs.Sending.{Stands, Start, IsSending, answered_fate}
 use Rattle.sending.proofs.MessageLemmas.{knows_source, knows_message}
 
 -- candidates end by a tick by which the items end
@@ -35,6 +36,13 @@ by_both : (rate traffic : Bool) → lets_out (if rate then (if traffic then Sent
 by_both true true = refl
 by_both true false = refl
 by_both false traffic = refl
+
+-- an answer tells the fate of what is to be sent
+by_answer : (rate traffic : Bool) → answered_fate (Some (if rate then (if traffic then Sent else Traffic) else Rate))
+    ≡ (if not rate then at_rate else if not traffic then at_traffic else let_out)
+by_answer true true = refl
+by_answer true false = refl
+by_answer false traffic = refl
 
 -- a candidate is offered, with the message that the sender makes of it
 pub record Offers (config : Parts) (start : Start) (items : List Item) (sender : SenderParts) (item : Item) (out : Output)
@@ -87,6 +95,13 @@ module _ (config : Parts) (start : Start) (items : List Item) (sender : SenderPa
       sym (by_both _ _)
       ∙ ap lets_out (sym (answers.answer_is config earlier sending.stands.limits earlier_end
       ∙ ap (answer_to config earlier) weighed_is))
+
+  -- the answer tells its fate
+  pub fate_is : answered_fate (Some answer) ≡ qualified_fate config items item
+  fate_is =
+      ap (λ a. answered_fate (Some a)) (answers.answer_is config earlier sending.stands.limits earlier_end
+      ∙ ap (answer_to config earlier) weighed_is)
+      ∙ rw sends (by_answer _ _)
 
   -- the sender once it was weighed
   abbrev weighing : SenderParts

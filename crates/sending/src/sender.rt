@@ -1,14 +1,15 @@
-ghost use Rattle.std.specs.Prelude.{◌≡◌, ◌<◌, ◌≤◌, ◌-◌, ◌^◌, true, List, [], ◌∷◌, length, map, All, option_copied, option_map, IfOk, IfSome};
+ghost use Rattle.std.specs.Prelude.{◌≡◌, ◌<◌, ◌≤◌, ◌-◌, ◌^◌, true, Some, List, [], ◌∷◌, length, map, All, option_copied, option_map, IfOk, IfSome};
 ghost use Rattle.ids_types.specs.Output.{Output, has_sent};
 ghost use Rattle.ids_config.specs.Parts.{Parts};
 ghost use Rattle.ids_frame.specs.Context.{context_of};
 ghost use Rattle.ids_frame.specs.Spelling.{spelling};
 ghost use Rattle.chain_spec.specs.Chain.{held};
+ghost use Rattle.chain_spec.specs.Endings.{qualified_fate};
 ghost use Rattle.chain_spec.specs.Items.{Item};
 ghost use Rattle.chain_spec.specs.Messages.{byte_7};
 ghost use Rattle.chain_spec.specs.Windows.{EndBy};
 ghost use Rattle.sending.specs.Sender.{HasSixBits, IsNamed, IsShort, CanQualify, source_of, source_at, message_by, with_held, with_held_back, after_answer, out_after};
-ghost use Rattle.sending.specs.Sending.{Stands, Start, start_of, IsSending, TakesOne};
+ghost use Rattle.sending.specs.Sending.{Stands, Start, start_of, IsSending, TakesOne, answered_fate};
 
 use crate::report::Report;
 use crate::source::Source;
@@ -75,17 +76,24 @@ impl Sender {
     }
 
     /// Takes a qualified event. Where it is to be sent and the limits let it out, its message is sent; where
-    /// they hold it back, it counts, unless it is the event that tells of these.
-    pub fn qualify(&mut self, report: &Report<'_>, out: &mut TurnOut)
+    /// they hold it back, it counts, unless it is the event that tells of these. Answers what the limits say,
+    /// `None` where it is not to be sent.
+    pub fn qualify(&mut self, report: &Report<'_>, out: &mut TurnOut) -> Option<Admit>
         requires { CanQualify self.old report.now out.old }
         ensures sending { (config : Parts) (start : Start) (items : List Item)
             → IsSending config start items self.old out.old
             → EndBy (λ item. item.tick) report.now.tick items
             → IsSending config start (report.now ∷ items) self.new out.new }
+        ensures fate { (config : Parts) (start : Start) (items : List Item)
+            → IsSending config start items self.old out.old
+            → EndBy (λ item. item.tick) report.now.tick items
+            → answered_fate result ≡ qualified_fate config items report.now }
         ensures one { TakesOne self.old self.new out.old out.new }
     {
         if self.source(report.event).send {
-            self.offer(report, out);
+            Some(self.offer(report, out))
+        } else {
+            None
         }
     }
 
@@ -109,19 +117,24 @@ impl Sender {
     }
 
     // Takes a candidate.
-    fn offer(&mut self, report: &Report<'_>, out: &mut TurnOut)
+    fn offer(&mut self, report: &Report<'_>, out: &mut TurnOut) -> Admit
         requires can { CanQualify self.old report.now out.old }
         requires sends { (source_at self.old report.now.event).send ≡ true }
         ensures sending { (config : Parts) (start : Start) (items : List Item)
             → IsSending config start items self.old out.old
             → EndBy (λ item. item.tick) report.now.tick items
             → IsSending config start (report.now ∷ items) self.new out.new }
+        ensures fate { (config : Parts) (start : Start) (items : List Item)
+            → IsSending config start items self.old out.old
+            → EndBy (λ item. item.tick) report.now.tick items
+            → answered_fate (Some result) ≡ qualified_fate config items report.now }
         ensures one { TakesOne self.old self.new out.old out.new }
     {
         let message = self.message(report);
         let bytes = message.spelling_len() as u32;
         let answer = self.limits.admit(report.tick, bytes);
         self.settle(answer, report.event, &message, out);
+        answer
     }
 
     // The message of a report.

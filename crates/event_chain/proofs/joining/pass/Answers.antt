@@ -1,4 +1,4 @@
-use Rattle.event_chain.proofs.Names.{◌≡◌, Some, None, sym, ◌∙◌, ap, arith, common_steps, event_at, arrives, alone, item_at, told_by, slots_by, stands_alone}
+use Rattle.event_chain.proofs.Names.{◌≡◌, Some, None, refl, sym, ◌∙◌, ap, arith, common_steps, event_at, arrives, alone, item_at, told_by, slots_by, stands_alone}
 use Rattle.event_chain.proofs.CallLemmas.{none_of, flows_with}
 use Rattle.event_chain.proofs.joining.pass.Goals as goal
 
@@ -19,3 +19,12 @@ returns-else-aggregates-clause-flows g c config start calls joined items flows e
     flows_with (arrives c.args.tick told) (Some item) flows (ap (λ setting. alone setting item) none)
     (stands_alone config calls (slots_by held c.args.windows.now) c.args.tick told none flows.stands)
     (c.go_on.ensures.stands config start joined items flows.behind ends.joined_end ends.items_end)
+
+pub returns-then-aggregates-clause-fate : goal.returns-then-aggregates-clause-fate
+returns-then-aggregates-clause-fate g c config start calls joined items flows ends =
+    sym (rw (sym (c.aggregates.ensures.configured config calls flows.stands) ∙ c.if-aggregates.true) refl)
+
+pub returns-else-aggregates-clause-fate : goal.returns-else-aggregates-clause-fate
+returns-else-aggregates-clause-fate g c config start calls joined items flows ends =
+    c.go_on.ensures.fate config start joined items flows.behind ends.joined_end ends.items_end
+    ∙ sym (rw (sym (c.aggregates.ensures.configured config calls flows.stands) ∙ c.if-aggregates.false) refl)

@@ -1,4 +1,4 @@
-use Rattle.event_chain.proofs.Names.{◌≡◌, ◌≤◌, ◌++◌, List, [], ◌∷◌, length, map, reverse, Option, sym, ap, subst, ◌∙◌, arith, rules, common_steps, Turn, Internal, EventIndex, Parts, qualified_of, heads_of, Moment, closings, head_moment, moments, with_all, Sends, last_tick, newest_tick, HandsBack, all_parcels, turn_by, all_kept, slot_at, Slot, head_told, start_of, IsBehind, Chained, IsOneOf, Stands}
+use Rattle.event_chain.proofs.Names.{◌≤◌, ◌++◌, List, [], ◌∷◌, length, map, reverse, Option, sym, ap, subst, ◌∙◌, arith, rules, common_steps, Turn, Internal, EventIndex, Parts, qualified_of, heads_of, Moment, closings, head_moment, moments, with_all, Sends, last_tick, newest_tick, HandsBack, all_parcels, turn_by, all_kept, slot_at, Slot, head_told, start_of, IsBehind, Watched, IsOneOf, StandsWatched}
 use Rattle.chain_spec.specs.Heads.{Head}
 use Rattle.event_chain.proofs.ClosingLemmas.{asked}
 use Rattle.event_chain.proofs.Going.{can_left, entry_moments, stays_more}
@@ -16,7 +16,7 @@ close_all-requires-clause-events g c = (asked c.deref.ensures.value c.self.invar
 pub close_all-requires-clause-can : goal.close_all-requires-clause-can
 close_all-requires-clause-can g c =
     let few = (asked c.deref.ensures.value c.self.invariant.aggregating c.begin.ensures.windows).1.1 in
-    let same = ap (λ (v : Chained g.row.B.Denot). length v.filters.windows) c.self.view_is in
+    let same = ap (λ (v : Watched g.row.B.Denot g.row.W.Denot). length v.filters.windows) c.self.view_is in
     let can = c.begin.ensures.can (length c.args.items.now.items) (length c.self.inside.filters.windows)
     c.requires.items.few c.self.invariant.few (omega (arith, c.requires.out, same)) in
     search (rules, can, few)
@@ -24,7 +24,7 @@ close_all-requires-clause-can g c =
 pub close_all-requires-clause-back : goal.close_all-requires-clause-back
 close_all-requires-clause-back g c =
     let slots = c.begin.new.self.windows in
-    let same = ap length c.begin.ensures.windows ∙ ap (λ (v : Chained g.row.B.Denot). length v.filters.windows) c.self.view_is in
+    let same = ap length c.begin.ensures.windows ∙ ap (λ (v : Watched g.row.B.Denot g.row.W.Denot). length v.filters.windows) c.self.view_is in
     omega (arith, same, kept_few slots, c.requires.back)
 
 pub take_heads-requires-clause-settled : goal.take_heads-requires-clause-settled
@@ -45,7 +45,7 @@ take_heads-requires-clause-can g c =
     let three = heads_few c.self.inside.internal c.args.head.now c.heads.result c.heads.ensures in
     let count = ap length c.begin.ensures.windows in
     let few = (asked c.deref.ensures.value c.self.invariant.aggregating c.begin.ensures.windows).1.1 in
-    let same = ap (λ (v : Chained g.row.B.Denot). length v.filters.windows) c.self.view_is in
+    let same = ap (λ (v : Watched g.row.B.Denot g.row.W.Denot). length v.filters.windows) c.self.view_is in
     let can = c.begin.ensures.can (length c.args.items.now.items) (length c.self.inside.filters.windows)
     c.requires.items.few c.self.invariant.few (omega (arith, c.requires.out, same)) in
     can_left (omega (arith, three, few, count)) can c.close_all.ensures.stays
@@ -53,7 +53,7 @@ take_heads-requires-clause-can g c =
 pub take_heads-requires-clause-back : goal.take_heads-requires-clause-back
 take_heads-requires-clause-back g c =
     let slots = c.begin.new.self.windows in
-    let same = ap length c.begin.ensures.windows ∙ ap (λ (v : Chained g.row.B.Denot). length v.filters.windows) c.self.view_is in
+    let same = ap length c.begin.ensures.windows ∙ ap (λ (v : Watched g.row.B.Denot g.row.W.Denot). length v.filters.windows) c.self.view_is in
     let first = hands_length c.close_all.ensures.parcels in
     grind (arith, common_steps, same, first, kept_few slots, c.close_all.ensures.capacity, c.requires.back)
 
@@ -67,7 +67,7 @@ take_entries-requires-clause-can g c =
     let three = heads_few c.self.inside.internal c.args.head.now c.heads.result c.heads.ensures in
     let count = ap length c.begin.ensures.windows in
     let few = (asked c.deref.ensures.value c.self.invariant.aggregating c.begin.ensures.windows).1.1 in
-    let same = ap (λ (v : Chained g.row.B.Denot). length v.filters.windows) c.self.view_is in
+    let same = ap (λ (v : Watched g.row.B.Denot g.row.W.Denot). length v.filters.windows) c.self.view_is in
     let can = c.begin.ensures.can (length c.args.items.now.items) (length c.self.inside.filters.windows)
     c.requires.items.few c.self.invariant.few (omega (arith, c.requires.out, same)) in
     can_left (omega (arith, three, few, count)) can (stays_more c.close_all.ensures.stays c.take_heads.ensures.stays)
@@ -75,7 +75,7 @@ take_entries-requires-clause-can g c =
 pub take_entries-requires-clause-back : goal.take_entries-requires-clause-back
 take_entries-requires-clause-back g c =
     let slots = c.begin.new.self.windows in
-    let same = ap length c.begin.ensures.windows ∙ ap (λ (v : Chained g.row.B.Denot). length v.filters.windows) c.self.view_is in
+    let same = ap length c.begin.ensures.windows ∙ ap (λ (v : Watched g.row.B.Denot g.row.W.Denot). length v.filters.windows) c.self.view_is in
     let lengths = hands_length (hands_then c.close_all.ensures.parcels c.take_heads.ensures.parcels) in
     let capacity = c.take_heads.ensures.capacity ∙ c.close_all.ensures.capacity in
     grind (arith, common_steps, same, lengths, kept_few slots, parcels_few c.args.items.now.items, capacity, c.requires.back)
@@ -89,18 +89,19 @@ invariant_of-self g c =
 
 -- the chain stands for the turns with this one, and sends what these have more to send
 turned : (g : Over) (c : After-take_entries g) (config : Parts) (turns : List Turn)
-    → Stands g.B.Parcel.held config (reverse turns) c.args.self.now → last_tick turns ≤ c.args.head.now.tick
+    → StandsWatched g.B.Parcel.held g.W.Witness.knows config (reverse turns) c.args.self.now → last_tick turns ≤ c.args.head.now.tick
     → let turn = turn_by g.B.Parcel.held c.args.head.now c.args.items.now.items in
-    let now : Chained g.row.B.Denot = record { filters = c.take_entries.new.self; internal = c.self.inside.internal } in
-    Stands g.B.Parcel.held config (reverse (turns ++ turn ∷ [])) now × Sends config turns turn c.take_entries.new.out
+    let now : Watched g.row.B.Denot g.row.W.Denot = record { filters = c.take_entries.new.self; internal = c.self.inside.internal } in
+    StandsWatched g.B.Parcel.held g.W.Witness.knows config (reverse (turns ++ turn ∷ [])) now × Sends config turns turn c.take_entries.new.out
 turned g c config turns stood le =
     let held = g.B.Parcel.held in
+    let knows = g.W.Witness.knows in
     let head = c.args.head.now in
     let tick = head.tick in
     let turn = turn_by held head c.args.items.now.items in
     let before = reverse turns in
     let inside = c.self.inside in
-    let stands = subst (λ (v : Chained g.row.B.Denot). Stands held config before v) (sym c.self.view_is) stood in
+    let stands = subst (λ (v : Watched g.row.B.Denot g.row.W.Denot). StandsWatched held knows config before v) (sym c.self.view_is) stood in
     let start = start_of config (qualified_of config before) in
     let begun = c.begin.ensures.behind config (newest_tick before) tick (moments config before) stands.filters le in
     let events = (asked c.deref.ensures.value c.self.invariant.aggregating c.begin.ensures.windows).0 in
@@ -112,7 +113,7 @@ turned g c config turns stood le =
     let whole = three_parts (moments config before) (closings config tick) (map (head_moment tick) (map head_told c.heads.result)) entries
     ∙ ap (λ (hs : List Head). with_all (moments config before) (closings config tick ++ map (head_moment tick) hs ++ entries)) heads in
     turn_ends turns turn inside.internal stands.internal
-    (subst (λ (ms : List Moment). IsBehind held config start tick ms c.take_entries.new.self c.take_entries.new.out) whole entered)
+    (subst (λ (ms : List Moment). IsBehind held knows config start tick ms c.take_entries.new.self c.take_entries.new.out) whole entered)
 
 pub returns-clause-stands : goal.returns-clause-stands
 returns-clause-stands g c config turns stood le = (turned g c config turns stood le).0
@@ -122,7 +123,7 @@ returns-clause-sends g c config turns stood le = (turned g c config turns stood 
 
 pub returns-clause-parcels : goal.returns-clause-parcels
 returns-clause-parcels g c =
-    let kept = ap all_kept (c.begin.ensures.windows ∙ ap (λ (v : Chained g.row.B.Denot). v.filters.windows) c.self.view_is) in
+    let kept = ap all_kept (c.begin.ensures.windows ∙ ap (λ (v : Watched g.row.B.Denot g.row.W.Denot). v.filters.windows) c.self.view_is) in
     subst (λ (ps : List g.row.B.Denot). HandsBack (all_parcels c.args.items.now.items) ps (all_kept c.take_entries.new.self.windows)
     c.args.back.now.items c.take_entries.new.back.items) kept
     (hands_last (hands_then c.close_all.ensures.parcels c.take_heads.ensures.parcels) c.take_entries.ensures.parcels)

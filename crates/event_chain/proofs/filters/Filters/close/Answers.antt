@@ -1,9 +1,10 @@
-use Rattle.event_chain.proofs.Names.{Some, None, option_map, refl, sym, subst, ap, arith, rules, length_permutation, common_steps, closes_due, gated, item_at, told_by, stands_with_closing, IsShort, all_kept, slot_at, HasEvent}
+use Rattle.event_chain.proofs.Names.{Some, None, option_map, refl, sym, subst, ap, arith, rules, length_permutation, common_steps, closes_due, closes, given, gated, item_at, told_by, stands_with_closing, IsShort, all_kept, slot_at, HasEvent}
 use Rattle.event_chain.proofs.CallLemmas.{behind_call, due_own, given_short, short_by, flows_with}
+use Rattle.event_chain.proofs.FateLemmas.{told_given}
 use Rattle.event_chain.proofs.filters.Filters.close.Goals as goal
 
-pub go_on-requires-clause-count : goal.go_on-requires-clause-count
-go_on-requires-clause-count g c =
+pub go_on-fate-requires-clause-count : goal.go_on-fate-requires-clause-count
+go_on-fate-requires-clause-count g c =
     let item = c.in-Some.item in
     let event = c.args.event.0 in
     let windows = c.args.self.now.windows in
@@ -14,8 +15,8 @@ go_on-requires-clause-count g c =
     let bytes = short_by g.B.Parcel.held item.context short in
     search (rules, has, bytes, c.requires.can)
 
-pub go_on-requires-clause-back : goal.go_on-requires-clause-back
-go_on-requires-clause-back g c =
+pub go_on-fate-requires-clause-back : goal.go_on-fate-requires-clause-back
+go_on-fate-requires-clause-back g c =
     let lengths = length_permutation _ _ c.in-Some.ensures.moved in
     grind (arith, common_steps, lengths, c.requires.back)
 
@@ -25,11 +26,14 @@ returns-in-Some-clause-behind g c config start moments behind =
     let event = c.args.event.0 in
     let call = closes_due tick event in
     let gives = c.in-Some.ensures.gives_over config (gated config moments) behind.flows.stands in
-    behind_call behind (stands_with_closing config moments tick event c.args.self.now.gate behind.gate) call refl refl refl
+    let fate = c.go_on-fate.ensures.fate config start _ _ behind.flows.behind behind.ends.joined_end behind.ends.items_end in
+    let known = c.tell.ensures config moments (closes tick event) behind.witness
+    (told_given config moments (item_at tick (told_by g.B.Parcel.held c.in-Some.item)) tick event refl (ap (option_map (item_at tick)) (sym gives)) (sym fate)) in
+    behind_call behind (stands_with_closing config moments tick event c.args.self.now.gate behind.gate) known call refl refl refl
     (flows_with call (Some (item_at tick (told_by g.B.Parcel.held c.in-Some.item))) behind.flows
     (ap (option_map (item_at tick)) (sym gives))
     (c.in-Some.ensures.stands_over config (gated config moments) behind.flows.stands)
-    (c.go_on.ensures.stands config start _ _ behind.flows.behind behind.ends.joined_end behind.ends.items_end))
+    (c.go_on-fate.ensures.stands config start _ _ behind.flows.behind behind.ends.joined_end behind.ends.items_end))
 
 pub returns-in-None-clause-behind : goal.returns-in-None-clause-behind
 returns-in-None-clause-behind g c config start moments behind =
@@ -37,6 +41,9 @@ returns-in-None-clause-behind g c config start moments behind =
     let event = c.args.event.0 in
     let call = closes_due tick event in
     let gives = c.in-None.ensures.gives_over config (gated config moments) behind.flows.stands in
-    behind_call behind (stands_with_closing config moments tick event c.args.self.now.gate behind.gate) call refl refl refl
-    (flows_with call None behind.flows (ap (option_map (item_at tick)) (sym gives))
+    let none = ap (option_map (item_at tick)) (sym gives) in
+    let known = g.met.W.Witness.silent c.args.self.now.witness config moments (closes tick event) behind.witness
+    (ap (option_map (given config moments)) none) in
+    behind_call behind (stands_with_closing config moments tick event c.args.self.now.gate behind.gate) known call refl refl refl
+    (flows_with call None behind.flows none
     (c.in-None.ensures.stands_over config (gated config moments) behind.flows.stands) behind.flows.behind)

@@ -33,7 +33,7 @@ loop-event-preserved g c =
     let all = c.loop-event.invariant in
     let left = drop_one c.args.events.now c.loop-event.event-index _ c.loop-event-test.true in
     record {
-      closed = λ is. reached_next (closed_skip all.stays.windows) (ap (map (λ (event : EventIndex). event.0)) left) (all.closed is)
+      closed = λ is. reached_next (closed_skip g.met.W.Witness.silent all.stays.windows) (ap (map (λ (event : EventIndex). event.0)) left) (all.closed is)
           (λ less. closed_more _ c.close.ensures.behind c.close.ensures.stays.windows.settled c.close.ensures.settled);
       stays = stays_more all.stays c.close.ensures.stays;
       hands = hands_then all.hands c.close.ensures.parcels;
@@ -43,17 +43,18 @@ loop-event-preserved g c =
 pub returns-clause-behind : goal.returns-clause-behind
 returns-clause-behind g c is config start moments behind =
     let held = g.B.Parcel.held in
+    let knows = g.W.Witness.knows in
     let tick = c.args.tick in
     let none = ap (map (λ (event : EventIndex). event.0)) (drop_all c.loop-event.event-index c.args.events.now c.loop-event-test.false) in
-    let all = reached_all (closed_skip c.loop-event.invariant.stays.windows) none (c.loop-event.invariant.closed is) in
+    let all = reached_all (closed_skip g.met.W.Witness.silent c.loop-event.invariant.stays.windows) none (c.loop-event.invariant.closed is) in
     let count = length-map c.args.self.now.windows (slot_by held) in
     let same : length c.args.self.now.windows ≡ length config.events = omega (arith, count, behind.flows.stands.events) in
-    subst (λ (n : ℕ). IsBehind held config start tick (with_all moments (map (closes tick) (range_with_len 0 n)))
+    subst (λ (n : ℕ). IsBehind held knows config start tick (with_all moments (map (closes tick) (range_with_len 0 n)))
     c.loop-event.self c.loop-event.out) same (all.behind config start moments behind)
 
 pub returns-clause-settled : goal.returns-clause-settled
 returns-clause-settled g c is =
     let none = ap (map (λ (event : EventIndex). event.0)) (drop_all c.loop-event.event-index c.args.events.now c.loop-event-test.false) in
     let stays = c.loop-event.invariant.stays.windows in
-    let all = reached_all (closed_skip stays) none (c.loop-event.invariant.closed is) in
+    let all = reached_all (closed_skip g.met.W.Witness.silent stays) none (c.loop-event.invariant.closed is) in
     settled_all c.args.tick c.loop-event.self.windows (λ k less. all.settled k (omega (arith, less, stays.events)))

@@ -9,7 +9,7 @@ invariant-loop-event g l =
     record {
       closed : map (λ event. event.0) l.events ≡ aggregating_in old.windows
           → Reached (is_aggregated old.windows) (map (λ event. event.0) (drop l.event-index l.events)) (length old.windows)
-          (ClosedTo g.B.Parcel.held l.tick old l.fn.out l.self l.out);
+          (ClosedTo g.B.Parcel.held g.W.Witness.knows l.tick old l.fn.out l.self l.out);
       stays : Stays l.event-index l.tick old l.self l.fn.out l.out;
       hands : HandsBack [] (all_kept old.windows) (all_kept l.self.windows) l.fn.back.items l.back.items;
       capacity : vec_capacity l.back ≡ vec_capacity l.fn.back;

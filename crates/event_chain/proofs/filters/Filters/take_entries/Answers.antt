@@ -1,4 +1,4 @@
-use Rattle.event_chain.proofs.Names.{◌≡◌, ◌+◌, ◌≤◌, List, ◌∷◌, ◌++◌, drop, length, option_to_list, sym, ap, subst, ◌∙◌, append_assoc, length-append, arith, drop_all, drop-set-lt, length-set, common_steps, act_by, Act, Entry, Moment, act_moment, with_all, HandsBack, all_parcels, parcel_of, all_kept, FitsAct, IsBehind}
+use Rattle.event_chain.proofs.Names.{◌+◌, ◌≤◌, List, ◌∷◌, ◌++◌, drop, length, option_to_list, sym, ap, subst, ◌∙◌, append_assoc, length-append, arith, drop_all, drop-set-lt, length-set, common_steps, act_by, Act, Entry, Moment, act_moment, with_all, HandsBack, all_parcels, parcel_of, all_kept, FitsAct, IsBehind}
 use Rattle.event_chain.proofs.Going.{Reaches, reaches_next, reaches_all, ready_next, stays_more, entry_moments, same_next}
 use Rattle.event_chain.proofs.HandsLemmas.{hands_next, hands_length}
 use Rattle.event_chain.proofs.SoundLemmas.{parcels_cons}
@@ -12,6 +12,7 @@ enter-requires-clause-ready g c =
 pub enter-requires-clause-fits : goal.enter-requires-clause-fits
 enter-requires-clause-fits g c =
     let held = g.B.Parcel.held in
+    let knows = g.W.Witness.knows in
     let entry = c.index_mut.result.now in
     let all = c.loop-i.invariant in
     let next = same_next c.loop-i.items.items c.args.items.now.items c.loop-i.i entry all.left all.count
@@ -38,6 +39,7 @@ enter-requires-clause-back g c =
 pub loop-i-preserved : goal.loop-i-preserved
 loop-i-preserved g c =
     let held = g.B.Parcel.held in
+    let knows = g.W.Witness.knows in
     let tick = c.args.tick in
     let i = c.loop-i.i in
     let entry = c.index_mut.result.now in
@@ -54,10 +56,10 @@ loop-i-preserved g c =
       left = drop-set-lt (i + 1) c.loop-i.items.items i _ (omega arith) ∙ next.2;
       count = length-set c.loop-i.items.items i _ ∙ all.count;
       behind = λ config start moments behind. reaches_next
-          (subst (λ (es : List (Entry g.row.B.Denot)). Reaches held config start tick c.loop-i.self c.loop-i.out
+          (subst (λ (es : List (Entry g.row.B.Denot)). Reaches held knows config start tick c.loop-i.self c.loop-i.out
           (entry_moments held tick es) (with_all moments (entry_moments held tick items))) next.1 (all.behind config start moments behind))
-          (subst (λ (a : Act g.row.B.Denot). (now : List Moment) → IsBehind held config start tick now c.loop-i.self c.loop-i.out
-          → IsBehind held config start tick (act_moment tick (act_by held a) ∷ now) c.enter.new.self c.enter.new.out)
+          (subst (λ (a : Act g.row.B.Denot). (now : List Moment) → IsBehind held knows config start tick now c.loop-i.self c.loop-i.out
+          → IsBehind held knows config start tick (act_moment tick (act_by held a) ∷ now) c.enter.new.self c.enter.new.out)
           c.replace-act.ensures.value (c.enter.ensures.behind config start));
       stays = stays_more all.stays c.enter.ensures.stays;
       hands = hands_next own (all_parcels left) mid

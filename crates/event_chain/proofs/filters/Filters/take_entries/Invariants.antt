@@ -6,13 +6,14 @@ use Rattle.event_chain.proofs.filters.Filters.take_entries.Given as goal
 abbrev pub invariant-loop-i : goal.invariant-loop-i
 invariant-loop-i g l =
     let held = g.B.Parcel.held in
+    let knows = g.W.Witness.knows in
     let items = l.fn.items.items in
     let rest = drop l.i items in
     record {
       left : drop l.i l.items.items ≡ rest;
       count : length l.items.items ≡ length items;
-      behind : (config : Parts) (start : Start) (moments : List Moment) → IsBehind held config start l.tick moments l.fn.self l.fn.out
-          → Reaches held config start l.tick l.self l.out (entry_moments held l.tick rest)
+      behind : (config : Parts) (start : Start) (moments : List Moment) → IsBehind held knows config start l.tick moments l.fn.self l.fn.out
+          → Reaches held knows config start l.tick l.self l.out (entry_moments held l.tick rest)
           (with_all moments (entry_moments held l.tick items));
       stays : Stays l.i l.tick l.fn.self l.self l.fn.out l.out;
       hands : HandsBack (all_parcels items) (all_kept l.fn.self.windows) (all_parcels rest ++ all_kept l.self.windows)

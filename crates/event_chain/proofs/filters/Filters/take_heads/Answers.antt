@@ -16,7 +16,7 @@ loop-i-preserved g c =
     let next = dropped_one heads c.loop-i.i c.unwrap-head.result (sym c.get.ensures ∙ c.unwrap-head.ensures) in
     record {
       behind = λ config start moments behind. reaches_next
-          (subst (λ (hs : List Head). Reaches g.B.Parcel.held config start tick c.loop-i.self c.loop-i.out (head_moments tick hs)
+          (subst (λ (hs : List Head). Reaches g.B.Parcel.held g.W.Witness.knows config start tick c.loop-i.self c.loop-i.out (head_moments tick hs)
           (with_all moments (head_moments tick heads))) next (all.behind config start moments behind)) (c.take.ensures.behind config start);
       stays = stays_more all.stays c.take.ensures.stays;
       hands = hands_then all.hands c.take.ensures.parcels;

@@ -6,9 +6,10 @@ use Rattle.event_chain.proofs.filters.Filters.take_heads.Given as goal
 abbrev pub invariant-loop-i : goal.invariant-loop-i
 invariant-loop-i g l =
     let held = g.B.Parcel.held in
+    let knows = g.W.Witness.knows in
     record {
-      behind : (config : Parts) (start : Start) (moments : List Moment) → IsBehind held config start l.tick moments l.fn.self l.fn.out
-          → Reaches held config start l.tick l.self l.out (map (head_moment l.tick) (map head_told (drop l.i l.heads)))
+      behind : (config : Parts) (start : Start) (moments : List Moment) → IsBehind held knows config start l.tick moments l.fn.self l.fn.out
+          → Reaches held knows config start l.tick l.self l.out (map (head_moment l.tick) (map head_told (drop l.i l.heads)))
           (with_all moments (map (head_moment l.tick) (map head_told l.heads)));
       stays : Stays l.i l.tick l.fn.self l.self l.fn.out l.out;
       hands : HandsBack [] (all_kept l.fn.self.windows) (all_kept l.self.windows) l.fn.back.items l.back.items;

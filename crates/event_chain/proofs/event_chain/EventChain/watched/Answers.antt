@@ -1,6 +1,6 @@
 use Rattle.event_chain.proofs.Names.{length, sym, ap, ◌∙◌, arith, length-map, all_kept, fresh_slot, aggregating_in}
 use Rattle.event_chain.proofs.SoundLemmas.{kept_fresh, sound_made}
-use Rattle.event_chain.proofs.event_chain.EventChain.make.Goals as goal
+use Rattle.event_chain.proofs.event_chain.EventChain.watched.Goals as goal
 
 pub invariant_of-result-2 : goal.invariant_of-result-2
 invariant_of-result-2 g c =

@@ -1,0 +1,3 @@
+pub mod AccountingLemmas
+pub mod HearingLemmas
+pub mod TurnsLemmas

@@ -1,0 +1,16 @@
+use Rattle.std.proofs.Common.{◌≡◌, ℕ, ◌++◌, List, length}
+use Rattle.ids_types.specs.declared.entry.Entry.{Entry}
+use Rattle.chain_endings.specs.Accounting.{CountsMissing}
+use Rattle.chain_endings.proofs.accounts.count_all.Given as goal
+
+-- the first entries are counted
+abbrev pub invariant-loop-entry : goal.invariant-loop-entry
+invariant-loop-entry l = record {
+  front : List (Entry (List ℕ));
+  whole : front ++ l.rest ≡ l.initial.rest;
+  counts : (done : List (Entry (List ℕ))) → CountsMissing done l.initial.missing.items → CountsMissing (done ++ front) l.missing.items;
+  count : length l.missing.items ≡ length l.initial.missing.items;
+}
+
+abbrev pub decreases-loop-entry : goal.decreases-loop-entry
+decreases-loop-entry l = length l.rest

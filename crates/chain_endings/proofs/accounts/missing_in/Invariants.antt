@@ -1,0 +1,17 @@
+use Rattle.std.proofs.Common.{◌≡◌, ℕ, ◌++◌, List, length}
+use Rattle.ids_types.specs.Turns.{entries_of}
+use Rattle.ids_types.specs.declared.entry.Entry.{Entry}
+use Rattle.chain_endings.specs.Accounting.{CountsMissing}
+use Rattle.chain_endings.proofs.accounts.missing_in.Given as goal
+
+-- the entries of the turns that were gone over are counted, and with those that are left they are all
+abbrev pub invariant-loop-entries : goal.invariant-loop-entries
+invariant-loop-entries l = record {
+  done : List (Entry (List ℕ));
+  whole : done ++ entries_of l.turns ≡ entries_of l.history.turns;
+  counts : CountsMissing done l.missing.items;
+  count : length l.missing.items ≡ l.events;
+}
+
+abbrev pub decreases-loop-entries : goal.decreases-loop-entries
+decreases-loop-entries l = length l.turns

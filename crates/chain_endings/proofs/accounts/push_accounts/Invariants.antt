@@ -1,0 +1,10 @@
+use Rattle.std.proofs.Common.{◌≡◌, ◌++◌, map}
+use Rattle.std.specs.List.{range_with_len}
+use Rattle.text_spec.specs.Words.{text_of}
+use Rattle.chain_endings.specs.ExplainedText.{account_line}
+use Rattle.chain_endings.proofs.accounts.push_accounts.Given as goal
+
+-- the accounts of the first events have been printed
+abbrev pub invariant-loop-event : goal.invariant-loop-event
+invariant-loop-event l =
+    l.out.items ≡ l.initial.out.items ++ text_of (map (account_line l.parts l.history.turns) (range_with_len 0 l.event))

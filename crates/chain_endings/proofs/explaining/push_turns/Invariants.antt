@@ -1,0 +1,34 @@
+use Rattle.std.proofs.Common.{◌≡◌, ◌++◌, [], List, length, reverse}
+use Rattle.std.specs.List.{All, AllByRecursion}
+use Rattle.ids_types.specs.Turns.{Turn}
+use Rattle.chain.specs.History.{last_tick}
+use Rattle.chain.specs.Parcels.{IsShort}
+use Rattle.chain_plain.specs.Recorded.{CanTake, RiseFrom}
+use Rattle.chain_plain.specs.Telling.{IsReady}
+use Rattle.event_chain.specs.Standing.{StandsWatched}
+use Rattle.filter_aggregate.specs.Account.{all_kept}
+use Rattle.text_spec.specs.Words.{text_of}
+use Rattle.chain_endings.specs.ExplainedText.{turns_lines}
+use Rattle.chain_endings.specs.Hearing.{Hears}
+use Rattle.chain_endings.proofs.explaining.push_turns.Given as goal
+
+-- the chain stands for the turns that were taken, their lines have been printed, and what is left can be taken
+abbrev pub invariant-loop-head : goal.invariant-loop-head
+invariant-loop-head l =
+    let many = length l.config.events in
+    record {
+      taken : List Turn;
+      whole : taken ++ l.turns ≡ l.history.turns;
+      stands : StandsWatched (λ p. p.0.now) Hears l.config (reverse taken) l.chain;
+      text : l.out.items ++ text_of (turns_lines l.config (reverse taken) l.turns)
+          ≡ l.initial.out.items ++ text_of (turns_lines l.config [] l.history.turns);
+      count : l.turn ≡ length taken;
+      all_events : length l.chain.filters.windows ≡ many;
+      kept : All (IsShort (λ p. p.0.now)) (all_kept l.chain.filters.windows);
+      ready : IsReady many l.desk;
+      turns_fit : AllByRecursion (CanTake many) l.turns;
+      ticks : RiseFrom (last_tick taken) l.turns;
+    }
+
+abbrev pub decreases-loop-head : goal.decreases-loop-head
+decreases-loop-head l = length l.turns

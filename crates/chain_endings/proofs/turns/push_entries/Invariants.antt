@@ -1,0 +1,18 @@
+use Rattle.std.proofs.Common.{◌≡◌, ◌++◌, List, drop, map}
+use Rattle.ids_types.specs.Turns.{turn_at}
+use Rattle.chain_spec.specs.Moments.{Moment}
+use Rattle.event_chain.specs.Fates.{bare, ending_of}
+use Rattle.text_spec.specs.Words.{text_of}
+use Rattle.chain_endings.specs.ExplainedText.{entry_lines}
+use Rattle.chain_endings.specs.Hearing.{endings_along, entry_moments}
+use Rattle.chain_endings.proofs.TurnsLemmas.{Left}
+use Rattle.chain_endings.proofs.turns.push_entries.Given as goal
+
+-- the first entries have been printed, and their endings are taken
+abbrev pub invariant-loop-i : goal.invariant-loop-i
+invariant-loop-i l =
+    let turn = turn_at l.history.turns l.turn in
+    let tick = turn.head.tick in
+    (before : List Moment) → map ending_of l.entered ≡ map bare (endings_along l.parts before (entry_moments turn))
+    → Left l.parts tick (drop l.i turn.entries) (map ending_of l.rest) l.out.items
+    (l.initial.out.items ++ text_of (entry_lines l.parts tick before turn.entries))

@@ -1,0 +1,3 @@
+pub mod Accounting
+pub mod ExplainedText
+pub mod Hearing

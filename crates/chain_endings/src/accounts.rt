@@ -1,0 +1,124 @@
+//! The lines of the accounts.
+
+ghost use Rattle.std.specs.Prelude.{◌≡◌, ◌<◌, ◌+◌, ◌^◌, ◌++◌, ◌∷◌, [], ℕ, List, length, map, reverse, slice_index_or, IfOk, OnOk, if◌then◌else◌, decimal, codes};
+ghost use Rattle.ids_types.specs.declared.entry.Entry.{Entry};
+ghost use Rattle.ids_types.specs.Plain.{plain_entry};
+ghost use Rattle.ids_config.specs.Parts.{event_at};
+ghost use Rattle.chain_spec.specs.Accounts.{events_in};
+ghost use Rattle.event_chain.specs.Fates.{ending_of};
+ghost use Rattle.text_spec.specs.Words.{line_feed, text_of};
+ghost use Rattle.chain_endings.specs.Accounting.{AreMissing, CountsMissing, account_in};
+ghost use Rattle.chain_endings.specs.ExplainedText.{account_fields, account_line, field, is_missing};
+ghost use Rattle.chain_endings.specs.Hearing.{told_in};
+ghost use Rattle.chain_spec.specs.Moments.{moments};
+
+use crate::account::{Account, accounts_of};
+use crate::lines::push_numbers;
+use event_chain::Ending;
+use ids_config::{ConfigParts, EventParts};
+use ids_types::{Act, Carried, Entry, EntryWalk, History, NoMemory, Plain};
+use std::alloc::Global;
+use text_spec::push_field;
+
+/// Appends the account of each event as a line, where these are the endings of the history.
+pub(crate) fn push_accounts(
+    alloc: Global,
+    parts: &ConfigParts,
+    history: &History,
+    told: &[Ending],
+    out: &mut Vec<u8>,
+) -> Result<(), NoMemory>
+    requires { map ending_of told.now ≡ told_in parts.now (moments parts.now (reverse history.now.turns)) }
+    ensures { OnOk result (out.new.items ≡
+        out.old.items ++ text_of (map (account_line parts.now history.now.turns) (events_in parts.now))) }
+{
+    let accounts = accounts_of(alloc, parts, told)?;
+    let missing = missing_in(alloc, parts.events.len(), history)?;
+    for event in 0..parts.events.len() {
+        push_account(
+            out,
+            event,
+            &parts.events[event],
+            &accounts[event],
+            missing[event],
+        )?;
+    }
+    Ok(())
+}
+
+/// Appends the account of an event as a line.
+fn push_account(
+    out: &mut Vec<u8>,
+    event: usize,
+    own: &EventParts,
+    account: &Account,
+    missing: u64,
+) -> Result<(), NoMemory>
+    ensures { OnOk result (out.new.items ≡ out.old.items
+        ++ (((codes "A" ++ field (decimal event) ++ field (decimal own.now.id) ++ field (decimal own.now.sensor))
+        ++ account_fields (account_in account.now) missing) ++ line_feed ∷ [])) }
+{
+    push_names(out, event, own)?;
+    push_numbers(out, account, missing)?;
+    out.push(b'\n')?;
+    Ok(())
+}
+
+/// Appends `A EVENT ID SENSOR`.
+fn push_names(out: &mut Vec<u8>, event: usize, own: &EventParts) -> Result<(), NoMemory>
+    ensures { OnOk result (out.new.items ≡ out.old.items
+        ++ (codes "A" ++ field (decimal event) ++ field (decimal own.now.id) ++ field (decimal own.now.sensor))) }
+{
+    out.push(b'A')?;
+    push_field(out, event as u64)?;
+    push_field(out, own.id)?;
+    push_field(out, own.sensor)
+}
+
+/// How many reports of each event lost their context data.
+fn missing_in(alloc: Global, events: usize, history: &History) -> Result<Vec<u64>, NoMemory>
+    ensures { IfOk result (λ missing. AreMissing events history.now.turns missing.items) }
+{
+    // Names how many entries there are, so that the proof knows that they can be counted.
+    let _entries = history.total_entries();
+    let mut missing = vec![in alloc; 0; events]?;
+    let mut turns = history.walk();
+    while let Some((_, entries)) = turns.pop_front() {
+        count_all(entries, &mut missing);
+    }
+    Ok(missing)
+}
+
+/// Counts those of the entries that are reports whose context data are missing.
+fn count_all(entries: EntryWalk<'_>, missing: &mut Vec<u64>)
+    requires { (done : List (Entry (List ℕ))) × (length done + length entries < 2 ^ 64) × CountsMissing done missing.old.items }
+    ensures len { length missing.new.items ≡ length missing.old.items }
+    ensures counts { (done : List (Entry (List ℕ))) → CountsMissing done missing.old.items
+        → CountsMissing (done ++ entries.entry) missing.new.items }
+{
+    let mut rest = entries;
+    while let Some(entry) = rest.pop_front() {
+        count_missing(&entry, missing);
+    }
+}
+
+/// Counts the entry where it is a report whose context data are missing.
+fn count_missing(entry: &Entry<Plain<'_>>, missing: &mut Vec<u64>)
+    requires { (k : ℕ) → k < length missing.old.items → slice_index_or missing.old.items k 0 + 1 < 2 ^ 64 }
+    ensures len { length missing.new.items ≡ length missing.old.items }
+    ensures each { (k : ℕ) → k < length missing.old.items → slice_index_or missing.new.items k 0
+        ≡ (if is_missing k (plain_entry entry.now).act then slice_index_or missing.old.items k 0 + 1 else slice_index_or missing.old.items k 0) }
+{
+    let Act::Report {
+        event,
+        context: Carried::Missing(_),
+        ..
+    } = &entry.act
+    else {
+        return;
+    };
+    let event = usize::from(event.0);
+    if event < missing.len() {
+        missing[event] += 1;
+    }
+}

@@ -1,0 +1,112 @@
+//! The words and lines that are told beside those of a journal.
+
+ghost use Rattle.std.specs.Prelude.{◌≡◌, ◌++◌, ◌∷◌, [], OnOk, codes, decimal};
+ghost use Rattle.event_chain.specs.Fates.{ending_of, fate_of};
+ghost use Rattle.text_spec.specs.Words.{line_feed};
+ghost use Rattle.chain_endings.specs.Accounting.{account_in};
+ghost use Rattle.chain_endings.specs.ExplainedText.{Pushes, account_fields, fate_fields, fate_word, field, given_line, letter_of, named, stored_word};
+
+use crate::account::{Account, is_stored};
+use event_chain::{Ending, Fate};
+use filter_gate::Cause;
+use ids_config::ConfigParts;
+use ids_types::NoMemory;
+use limits::Admit;
+use text_spec::push_field;
+
+/// Appends `W EVENT COUNT FATE STORED`, or with `I`, as a line.
+pub(crate) fn push_given(
+    out: &mut Vec<u8>,
+    parts: &ConfigParts,
+    ending: &Ending,
+) -> Result<(), NoMemory>
+    ensures { OnOk result (out.new.items ≡ out.old.items ++ (given_line parts.now (ending_of ending.now) ++ line_feed ∷ [])) }
+{
+    out.push(letter_of(ending))?;
+    push_field(out, u64::from(ending.event.0))?;
+    push_field(out, u64::from(ending.count))?;
+    push_fate(out, parts, ending)?;
+    Ok(out.push(b'\n')?)
+}
+
+fn letter_of(ending: &Ending) -> u8
+    ensures { result ∷ [] ≡ letter_of (ending_of ending.now) }
+{
+    if ending.by_window { b'W' } else { b'I' }
+}
+
+/// Appends ` FATE STORED`.
+pub(crate) fn push_fate(
+    out: &mut Vec<u8>,
+    parts: &ConfigParts,
+    ending: &Ending,
+) -> Result<(), NoMemory>
+    ensures { OnOk result (out.new.items ≡ out.old.items ++ fate_fields parts.now (ending_of ending.now)) }
+{
+    push_word(out, fate_word(ending.fate))?;
+    push_word(out, stored_word(is_stored(parts, ending)))
+}
+
+/// Appends a word behind a space.
+fn push_word(out: &mut Vec<u8>, word: &[u8]) -> Result<(), NoMemory>
+    ensures { OnOk result (out.new.items ≡ out.old.items ++ field word.now) }
+{
+    out.push(b' ')?;
+    Ok(out.extend_from_slice(word)?)
+}
+
+fn fate_word(fate: Fate) -> &'static [u8]
+    ensures { result.now ≡ fate_word (fate_of fate) }
+{
+    match fate {
+        Fate::Dropped(Cause::Mode) => b"mode",
+        Fate::Dropped(Cause::Block) => b"block",
+        Fate::Dropped(Cause::Nth) => b"nth",
+        Fate::Joined => b"aggregate",
+        Fate::Below => b"threshold",
+        Fate::Qualified(None) => b"unsent",
+        Fate::Qualified(Some(Admit::Rate)) => b"rate",
+        Fate::Qualified(Some(Admit::Traffic)) => b"traffic",
+        Fate::Qualified(Some(Admit::Sent)) => b"sent",
+    }
+}
+
+fn stored_word(stored: bool) -> &'static [u8]
+    ensures { result.now ≡ stored_word stored }
+{
+    if stored { b"stored" } else { b"-" }
+}
+
+/// Appends the numbers of an account, and how many context data are missing.
+pub(crate) fn push_numbers(
+    out: &mut Vec<u8>,
+    account: &Account,
+    missing: u64,
+) -> Result<(), NoMemory>
+    ensures { OnOk result (out.new.items ≡ out.old.items ++ account_fields (account_in account.now) missing) }
+{
+    push_named(out, b"came", account.came)?;
+    push_named(out, b"closed", account.closed)?;
+    push_named(out, b"mode", account.mode)?;
+    push_named(out, b"block", account.block)?;
+    push_named(out, b"nth", account.nth)?;
+    push_named(out, b"aggregate", account.aggregate)?;
+    push_named(out, b"threshold", account.threshold)?;
+    push_named(out, b"unsent", account.unsent)?;
+    push_named(out, b"rate", account.rate)?;
+    push_named(out, b"traffic", account.traffic)?;
+    push_named(out, b"sent", account.sent)?;
+    push_named(out, b"open", account.waiting)?;
+    push_named(out, b"stored", account.stored)?;
+    push_named(out, b"missing", missing)?;
+    Ok(())
+}
+
+/// Appends a name and its number.
+fn push_named(out: &mut Vec<u8>, name: &[u8], number: u64) -> Result<(), NoMemory>
+    ensures { OnOk result (Pushes out.old.items (named name.now number) out.new.items) }
+{
+    push_word(out, name)?;
+    push_field(out, number)?;
+    Ok(())
+}

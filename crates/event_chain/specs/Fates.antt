@@ -1,0 +1,62 @@
+-- Endings as a chain tells them, and the fates of items behind the gate.
+use Rattle.std.specs.Prelude.{◌≡◌, ℕ, ◌∷◌, not, Bool, List, None, map, is_some, if◌then◌else◌}
+use Rattle.ids_config.specs.Parts.{Parts, event_at}
+use Rattle.chain_spec.specs.Endings.{Fate, in_window, at_threshold, qualified_fate, Ending, ending_at}
+use Rattle.chain_spec.specs.Filtering.{counted}
+use Rattle.chain_spec.specs.Items.{Item}
+use Rattle.chain_spec.specs.Moments.{Moment}
+use Rattle.chain_spec.specs.Threshold.{verdict}
+use Rattle.filter_gate.specs.Stands.{dropped_fate}
+use Rattle.sending.specs.Sending.{answered_fate}
+use Rattle.event_chain.specs.declared.fate.Ending.{Ending as ToldEnding}
+use Rattle.event_chain.specs.declared.fate.Fate.{Fate as ToldFate}
+use Rattle.event_chain.specs.declared.fate.Fate.TheVariants.{Dropped, Joined, Below, Qualified}
+
+-- ---- what is told
+
+-- the fate that is told
+abbrev pub fate_of : ToldFate → Fate
+fate_of (Dropped cause) = dropped_fate cause
+fate_of Joined = in_window
+fate_of Below = at_threshold
+fate_of (Qualified answer) = answered_fate answer
+
+-- the ending of an item of which only its event and its count are told
+abbrev pub told : ℕ → ℕ → Bool → Fate → Ending
+told event count by_window fate = record {
+  item = record { event = event; tick = 0; count = count; stamp = None; context = None };
+  by_window = by_window;
+  fate = fate;
+}
+
+-- what is told of an ending
+abbrev pub bare : Ending → Ending
+bare ending = told ending.item.event ending.item.count ending.by_window ending.fate
+
+-- the ending that is told
+abbrev pub ending_of : ToldEnding → Ending
+ending_of ending = told ending.event.0 ending.count ending.by_window (fate_of ending.fate)
+
+-- ---- who is told
+
+-- what a witness knows, of a configuration and its moments
+abbrev pub Knowing : Type 0 → Type 1
+Knowing W = W → Parts → List Moment → Type 0
+
+-- where nothing ends by a moment, it knows this without being told
+abbrev pub IsSilent : {W : Type 0} → Knowing W → Type 0
+IsSilent {W} knows = (witness : W) (config : Parts) (before : List Moment) (moment : Moment)
+    → knows witness config before → ending_at config before moment ≡ None → knows witness config (moment ∷ before)
+
+-- ---- the fate of an item, where these were behind the aggregation filter before it and these were qualified
+
+-- behind the aggregation filter
+abbrev pub counted_fate : Parts → List Item → List Item → Item → Fate
+counted_fate config joined items item =
+    if not (verdict (event_at config item.event).threshold (counted item) (map counted joined)) then at_threshold
+    else qualified_fate config items item
+
+-- before it
+abbrev pub passed_fate : Parts → List Item → List Item → Item → Fate
+passed_fate config joined items item =
+    if is_some (event_at config item.event).aggregate then in_window else counted_fate config joined items item
