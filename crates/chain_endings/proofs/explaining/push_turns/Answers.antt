@@ -6,7 +6,7 @@ use Rattle.ids_types.specs.Turns.{turn_at}
 use Rattle.ids_types.specs.declared.parcel.Plain.{Plain}
 use Rattle.ids_config.specs.Parts.{Parts}
 use Rattle.chain.specs.History.{last_tick}
-use Rattle.chain_plain.proofs.TellingLemmas.{last_of, newest_first}
+use Rattle.chain.proofs.TranscriptLemmas.{last_of, newest_first}
 use Rattle.chain_plain.specs.Recorded.{CanTake, RiseFrom, turn_with}
 use Rattle.chain_plain.specs.Telling.{IsReady}
 use Rattle.chain_spec.specs.Moments.{moments}
