@@ -1,6 +1,7 @@
 pub mod LayoutLemmas
 pub mod Names
 pub mod OneAnswer
+pub mod OrderLemmas
 pub mod ReadLemmas
 pub mod TagLemmas
 pub mod WalkLemmas

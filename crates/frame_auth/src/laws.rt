@@ -1,10 +1,14 @@
 //! What sealing and unsealing give is decided by the key, the start and the bytes. So an answer comes
 //! exactly where its definition holds, want of memory aside.
-ghost use Rattle.std.specs.Prelude.{◌≡◌, ℕ, List, Result, Ok};
+ghost use Rattle.std.specs.Prelude.{◌≡◌, ◌≢◌, ◌↔◌, ℕ, ◌+◌, ◌<◌, ◌^◌, List, length, AllPairs, Result, Ok};
 ghost use Rattle.ids_frame.specs.Bytes.{AreBytes};
+ghost use Rattle.ids_frame.specs.Message.{MessageParts};
+ghost use Rattle.ids_frame.specs.Messages.{joined};
 ghost use Rattle.frame_auth.specs.declared.fault.SealFault.{SealFault};
 ghost use Rattle.frame_auth.specs.declared.fault.UnsealFault.{UnsealFault};
 ghost use Rattle.frame_auth.specs.Faults.{GivesSealed, GivesUnsealed};
+ghost use Rattle.frame_auth.specs.Order.{AreOf, AnswersInOrder};
+ghost use Rattle.frame_auth.specs.Sealing.{ArePlain, sealed_from};
 
 /// What was sealed unseals to the same bytes.
 #[tactic(auto, using(crate::proofs::OneAnswer::sealed_opens_lem))]
@@ -24,4 +28,15 @@ pub fn one_sealing()
 pub fn one_unsealing()
     ensures { (key : List ℕ) (start : ℕ) (bytes : List ℕ) (a b : Result (List ℕ) UnsealFault)
         → AreBytes bytes → GivesUnsealed key start bytes a → GivesUnsealed key start bytes b → a ≡ b }
+{}
+
+/// A sealed message that is left out, repeated or moved within its list is refused, and by its counter.
+/// Only messages left out at the end are not seen. `apart`: no message of a sealed list is another.
+#[tactic(auto, using(crate::proofs::OrderLemmas::in_order_lem, crate::proofs::OrderLemmas::apart_lem))]
+pub fn only_the_first_of_a_sealed_list_are_taken()
+    ensures answers { (key : List ℕ) (start : ℕ) (signed messages : List MessageParts) (answer : Result (List ℕ) UnsealFault)
+        → ArePlain signed → start + length signed < 2 ^ 64 → AreOf (sealed_from key start signed) messages
+        → GivesUnsealed key start (joined messages) answer ↔ AnswersInOrder key start signed messages answer }
+    ensures apart { (key : List ℕ) (start : ℕ) (signed : List MessageParts) → ArePlain signed → start + length signed < 2 ^ 64
+        → AllPairs (◌≢◌) (sealed_from key start signed) }
 {}
