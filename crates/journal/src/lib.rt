@@ -8,6 +8,7 @@
 #![tactic(auto)]
 
 mod form;
+mod laws;
 mod line;
 mod pairs;
 mod printing;
@@ -17,6 +18,7 @@ mod reading;
 mod room;
 mod taking;
 
+pub use laws::which_journals_fit;
 pub use printing::{print, push_fields, push_head, push_loss};
 pub use reading::{Journal, read};
 pub use text_spec::TextFault as JournalFault;
