@@ -1,3 +1,4 @@
+pub mod FormLemmas
 pub mod LaidLemmas
 pub mod Names
 pub mod PrintingLemmas

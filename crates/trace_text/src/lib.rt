@@ -8,6 +8,7 @@
 #![tactic(auto)]
 
 mod form;
+mod laws;
 mod line;
 mod printing;
 mod ranges;
@@ -18,6 +19,7 @@ mod rows;
 mod taking;
 mod trace;
 
+pub use laws::which_lines_of_a_trace_have_a_form;
 pub use line::{Line, TraceAct};
 pub use printing::print;
 pub use reading::read;

@@ -1,0 +1,20 @@
+//! The forms of a trace's lines.
+
+ghost use Rattle.std.specs.Prelude.{◌≡◌, ℕ, List, None, Some};
+ghost use Rattle.text_spec.specs.Fields.{AreExact, AreHeld, words_of_fields};
+ghost use Rattle.text_spec.specs.TraceForm.{trace_told_by};
+ghost use Rattle.text_spec.specs.TraceText.{TraceLine, trace_fields};
+ghost use Rattle.trace_text.specs.Forms.{HasTraceForm};
+
+/// The words of a line tell something exactly where they are those of one of the five forms: a number of any length,
+/// a timestamp, a context and so on, each at its place. So fault 1 of a line is that it has no form, and no other.
+/// They are the words that are printed for what they tell, but for a number that is too great. What can be held is
+/// read from the words that are printed for it.
+pub fn which_lines_of_a_trace_have_a_form()
+    ensures told { (words : List (List ℕ)) (line : TraceLine) → trace_told_by words ≡ Some line → HasTraceForm words }
+    ensures none { (words : List (List ℕ)) → trace_told_by words ≡ None → HasTraceForm words → ⊥ }
+    ensures printed { (words : List (List ℕ)) (line : TraceLine) → trace_told_by words ≡ Some line
+        → AreExact (trace_fields line) → words ≡ words_of_fields (trace_fields line) }
+    ensures again { (line : TraceLine) → AreHeld (trace_fields line) → AreExact (trace_fields line)
+        → trace_told_by (words_of_fields (trace_fields line)) ≡ Some line }
+{}
