@@ -2,9 +2,12 @@
 use Rattle.text_spec.proofs.Names.{◌≡◌, ◌⊎◌, ◌+◌, ◌*◌, ◌-◌, ◌/◌, ◌%◌, ◌<◌, ◌≤◌, ◌∷◌, ◌++◌, take_all, take_more, length-encode_with, decode_of-encode_lower, decode_of-odd, ℕ, zero, suc, true, false, inl, inr, List, [], add-one, append_assoc, length, slice_index, take, unwrap_or, refl, sym, ap, subst, ◌∙◌, arith, Option, Some, None, is_in_range, list_all, agree_below_at, and_from, and_parts, cases_Bool, cond-true, cond-false, or_cases, IsBytes, decode_of, encode_lower, lower_digits, hex_in, is_lower_digit, some_bytes, some_hex, bytes_of, IsWritten, ◌>>=◌}
 use Rattle.std.specs.Result.{result_ok}
 use Rattle.hex.specs.Hex.{decode_pairs, encode_with}
-use Rattle.std.proofs.Common.{Bool, ◌&&◌, ◌==◌}
-use Rattle.std.proofs.lemmas.Bool.{eqb-true}
-use Rattle.text_spec.specs.declared.hexadecimal.TheConstants.{PAIRS}
+use Rattle.std.proofs.Common.{◌==◌, ◌≢◌, drop, set, get_or-set_other, get_or-set_same}
+use Rattle.std.proofs.lemmas.Bool.{eq-eqb, eqb-true}
+use Rattle.std.proofs.lemmas.Grind.{drop_more_same}
+use Rattle.std.proofs.lemmas.List.{append-nil, drop-set-lt, drop_all, drop_more}
+use Rattle.std.proofs.lemmas.List.Folds.{drop_split}
+use Rattle.std.specs.Prelude.{slice_range}
 
 -- the text of bytes is twice as long
 pub length_hex : (bytes : List ℕ) → length (encode_lower bytes) ≡ 2 * length bytes
@@ -31,14 +34,41 @@ pub hex_in-encode_lower : (bytes : List ℕ) → IsBytes bytes → hex_in (encod
 hex_in-encode_lower bytes all =
     cond-true _ (result_ok (decode_of (encode_lower bytes))) None (lower_text bytes all) ∙ ap result_ok (decode_of-encode_lower bytes all)
 
--- the table has the two digits of each byte
-pub pair_at : (b : ℕ) → b < 256 → (slice_index PAIRS.now (2 * b) ≡ slice_index lower_digits (b / 16)) × (slice_index PAIRS.now (2 * b + 1) ≡ slice_index lower_digits (b % 16))
-pair_at b small =
-    let both = and_parts _ _ (agree_below_at is_pair_at (λ _. true) 256 b refl small) in
-    (eqb-true _ _ both.0, eqb-true _ _ both.1)
-  where
-    is_pair_at : ℕ → Bool
-    is_pair_at k = slice_index PAIRS.now (2 * k) == slice_index lower_digits (k / 16) && slice_index PAIRS.now (2 * k + 1) == slice_index lower_digits (k % 16)
+-- the text of bytes behind bytes
+encode-append : (xs ys : List ℕ) → encode_lower (xs ++ ys) ≡ encode_lower xs ++ encode_lower ys
+unfolding encode_with
+encode-append [] ys = refl
+encode-append (b ∷ xs) ys = ap (λ (ds : List ℕ). slice_index lower_digits (b / 16) ∷ slice_index lower_digits (b % 16) ∷ ds) (encode-append xs ys)
+
+-- the text of the bytes before this one is put behind an old text
+abbrev pub IsPut : ℕ → List ℕ → List ℕ → List ℕ → Type 0
+IsPut k bytes old now = now ++ encode_lower (drop k bytes) ≡ old ++ encode_lower bytes
+
+-- the text of some bytes more
+pub put_more : (a b : ℕ) (bytes old now piece : List ℕ) → a ≤ b → piece ≡ encode_lower (slice_range bytes a b) → IsPut a bytes old now
+    → IsPut b bytes old (now ++ piece)
+put_more a b bytes old now piece le is was =
+    append_assoc now piece (encode_lower (drop b bytes))
+    ∙ ap (λ ds. now ++ (ds ++ encode_lower (drop b bytes))) is
+    ∙ ap (λ ds. now ++ ds) (sym (encode-append (slice_range bytes a b) (drop b bytes)))
+    ∙ ap (λ bs. now ++ encode_lower bs) (sym (drop_split bytes a b le))
+    ∙ was
+
+-- and of one
+pub put_one : (k : ℕ) (bytes old now : List ℕ) → k < length bytes → IsPut k bytes old now
+    → IsPut (k + 1) bytes old (now ++ slice_index lower_digits (slice_index bytes k / 16) ∷ slice_index lower_digits (slice_index bytes k % 16) ∷ [])
+unfolding encode_with
+put_one k bytes old now there was =
+    let high = slice_index lower_digits (slice_index bytes k / 16) in
+    let low = slice_index lower_digits (slice_index bytes k % 16) in
+    let rest = encode_lower (drop (k + 1) bytes) in
+    append_assoc now (high ∷ low ∷ []) rest
+    ∙ ap (λ bs. now ++ encode_lower bs) (sym (drop_more bytes k 0 there)) ∙ was
+
+-- and of all
+pub put_done : (k : ℕ) (bytes old now : List ℕ) → length bytes ≤ k → IsPut k bytes old now → now ≡ old ++ encode_lower bytes
+unfolding encode_with
+put_done k bytes old now all was = sym (append-nil now) ∙ ap (λ bs. now ++ encode_lower bs) (sym (drop_all k bytes all)) ∙ was
 
 -- ---- from the text to the bytes
 
@@ -128,6 +158,34 @@ hex_in-odd word odd = elim (hex_cases word) [
 -- the byte at a place is written by the two digits there
 abbrev pub PairAt : List ℕ → List ℕ → ℕ → Type 0
 PairAt word room k = IsWritten (slice_index room k) (slice_index word (2 * k)) (slice_index word (2 * k + 1))
+
+-- the first n bytes of a room are written by the first digits, and the others are as they were
+pub record IsDecoded (n : ℕ) (word room old : List ℕ) : Type 0 where
+  pub pairs : (k : ℕ) → k < n → PairAt word room k
+  pub small : (k : ℕ) → k < n → slice_index room k < 256
+  pub rest : drop n room ≡ drop n old
+
+-- what holds of each of the first bytes, and of one that is written behind them
+pub below_set : (P : ℕ → ℕ → Type 0) (xs : List ℕ) (n byte : ℕ) → n < length xs → ((k : ℕ) → k < n → P k (slice_index xs k)) → P n byte
+    → (k : ℕ) → k < n + 1 → P k (slice_index (set xs n byte) k)
+below_set P xs n byte there before last k below = elim (cases_Bool (k == n)) [
+  | inl same ↦
+      let e : k ≡ n = eqb-true k n same in
+      subst (λ j. P j (slice_index (set xs n byte) j)) (sym e) (subst (P n) (sym (get_or-set_same xs n byte 0 there)) last)
+  | inr other ↦
+      let differ : k ≢ n = λ e. absurd (cc (other, eq-eqb k n e)) in
+      subst (P k) (sym (get_or-set_other xs n k byte 0 differ)) (before k (omega (arith, below, differ)))
+]
+
+-- one byte more
+pub decoded_more : (n : ℕ) (word room old : List ℕ) (byte : ℕ) → n < length room → byte < 256
+    → IsWritten byte (slice_index word (2 * n)) (slice_index word (2 * n + 1)) → IsDecoded n word room old
+    → IsDecoded (n + 1) word (set room n byte) old
+decoded_more n word room old byte there small written is = record {
+  pairs = below_set (λ k b. IsWritten b (slice_index word (2 * k)) (slice_index word (2 * k + 1))) room n byte there is.pairs written;
+  small = below_set (λ k b. b < 256) room n byte there is.small small;
+  rest = drop-set-lt (n + 1) room n byte (omega arith) ∙ drop_more_same room old n is.rest;
+}
 
 -- the text of one byte more
 encode-push : (bytes : List ℕ) (b : ℕ) → encode_lower (bytes ++ b ∷ []) ≡ encode_lower bytes ++ slice_index lower_digits (b / 16) ∷ slice_index lower_digits (b % 16) ∷ []

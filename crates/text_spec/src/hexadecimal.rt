@@ -6,7 +6,7 @@ ghost use Rattle.text_spec.specs.Hexadecimal.{hex_in, is_lower_digit as writes_d
 
 use ids_types::NoMemory;
 
-/// Decodes pairs of digits into the front of `room`. That they are digits is not looked at again.
+/// Decodes pairs of digits into the front of `room`, eight bytes at a time. That they are digits is not looked at again.
 pub(crate) fn put_bytes(digits: &[u8], room: &mut [u8])
     requires digits { IsTrue (list_all writes_digit digits.now) }
     requires pairs { length digits.now % 2 ≡ 0 }
@@ -15,9 +15,31 @@ pub(crate) fn put_bytes(digits: &[u8], room: &mut [u8])
     ensures rest { drop (length digits.now / 2) room.new ≡ drop (length digits.now / 2) room.old }
     ensures same { length room.new ≡ length room.old }
 {
-    for i in 0..digits.len() / 2 {
-        room[i] = byte_of(digits[2 * i], digits[2 * i + 1]);
+    let bytes = digits.len() / 2;
+    for k in 0..bytes / 8 {
+        let eight = eight_at(digits, 8 * k);
+        for i in 0..8 {
+            room[8 * k + i] = eight[i];
+        }
     }
+    for last in bytes / 8 * 8..bytes {
+        room[last] = byte_of(digits[2 * last], digits[2 * last + 1]);
+    }
+}
+
+/// Eight bytes from this one on. They lie apart from the room, so that the compiler decodes them all at once.
+fn eight_at(digits: &[u8], first: usize) -> [u8; 8]
+    requires digits { IsTrue (list_all writes_digit digits.now) }
+    requires there { 2 * (first + 8) ≤ length digits.now }
+    ensures small { (i : ℕ) → i < 8 → slice_index result i < 256 }
+    ensures written { (i : ℕ) → i < 8 → IsWritten (slice_index result i)
+        (slice_index digits.now (2 * (first + i))) (slice_index digits.now (2 * (first + i) + 1)) }
+{
+    let mut eight = [0; 8];
+    for i in 0..8 {
+        eight[i] = byte_of(digits[2 * (first + i)], digits[2 * (first + i) + 1]);
+    }
+    eight
 }
 
 /// The byte that two digits write.
@@ -64,60 +86,81 @@ pub fn push_bytes(out: &mut Vec<u8>, bytes: &[u8]) -> Result<(), NoMemory>
     }
 }
 
-/// Writes the text of the bytes into room that is there.
+/// Writes the text of the bytes into room that is there, that of eight bytes at a time.
 pub(crate) fn put_hex(out: &mut Vec<u8>, bytes: &[u8])
     requires { vec_len out.old + 2 * length bytes.now ≤ vec_capacity out.old }
     ensures items { out.new.items ≡ out.old.items ++ encode_lower bytes.now }
     ensures len { vec_len out.new ≡ vec_len out.old + 2 * length bytes.now }
     ensures capacity { vec_capacity out.old ≤ vec_capacity out.new }
 {
-    let from = out.len();
-    out.resize(from + 2 * bytes.len(), b'0').unwrap();
-    write_hex(out.slice_mut(from..), bytes);
-}
-
-/// The two digits of each byte, one byte behind the other.
-const PAIRS: &[u8; 512] = b"000102030405060708090a0b0c0d0e0f\
-    101112131415161718191a1b1c1d1e1f\
-    202122232425262728292a2b2c2d2e2f\
-    303132333435363738393a3b3c3d3e3f\
-    404142434445464748494a4b4c4d4e4f\
-    505152535455565758595a5b5c5d5e5f\
-    606162636465666768696a6b6c6d6e6f\
-    707172737475767778797a7b7c7d7e7f\
-    808182838485868788898a8b8c8d8e8f\
-    909192939495969798999a9b9c9d9e9f\
-    a0a1a2a3a4a5a6a7a8a9aaabacadaeaf\
-    b0b1b2b3b4b5b6b7b8b9babbbcbdbebf\
-    c0c1c2c3c4c5c6c7c8c9cacbcccdcecf\
-    d0d1d2d3d4d5d6d7d8d9dadbdcdddedf\
-    e0e1e2e3e4e5e6e7e8e9eaebecedeeef\
-    f0f1f2f3f4f5f6f7f8f9fafbfcfdfeff";
-
-fn write_hex(room: &mut [u8], bytes: &[u8])
-    requires { length room.old ≡ 2 * length bytes.now }
-    ensures { room.new ≡ encode_lower bytes.now }
-{
-    for i in 0..bytes.len() {
-        let [high, low] = digits_of(bytes[i]);
-        room[2 * i] = high;
-        room[2 * i + 1] = low;
+    for k in 0..bytes.len() / 8 {
+        put_eight(out, &bytes[8 * k..8 * k + 8]);
+    }
+    for last in bytes.len() / 8 * 8..bytes.len() {
+        put_byte(out, bytes[last]);
     }
 }
 
-fn digits_of(byte: u8) -> [u8; 2]
-    ensures { result ≡ slice_index lower_digits (byte / 16) ∷ slice_index lower_digits (byte % 16) ∷ [] }
+/// Writes the text of eight bytes.
+fn put_eight(out: &mut Vec<u8>, bytes: &[u8])
+    requires eight { length bytes.now ≡ 8 }
+    requires room { vec_len out.old + 16 ≤ vec_capacity out.old }
+    ensures items { out.new.items ≡ out.old.items ++ encode_lower bytes.now }
+    ensures len { vec_len out.new ≡ vec_len out.old + 16 }
+    ensures capacity { vec_capacity out.old ≤ vec_capacity out.new }
 {
-    let at = 2 * byte as usize;
-    [PAIRS[at], PAIRS[at + 1]]
+    out.extend_from_slice(&sixteen_of(bytes)).unwrap();
 }
 
+/// The digits of eight bytes, which the compiler makes all at once.
+fn sixteen_of(bytes: &[u8]) -> [u8; 16]
+    requires { length bytes.now ≡ 8 }
+    ensures { result ≡ encode_lower bytes.now }
+{
+    let mut digits = [0; 16];
+    for i in 0..8 {
+        digits[2 * i] = digit_of(bytes[i] / 16);
+        digits[2 * i + 1] = digit_of(bytes[i] % 16);
+    }
+    digits
+}
+
+/// Writes the two digits of a byte.
+fn put_byte(out: &mut Vec<u8>, byte: u8)
+    requires { vec_len out.old + 2 ≤ vec_capacity out.old }
+    ensures items { out.new.items ≡
+        out.old.items ++ slice_index lower_digits (byte / 16) ∷ slice_index lower_digits (byte % 16) ∷ [] }
+    ensures len { vec_len out.new ≡ vec_len out.old + 2 }
+    ensures capacity { vec_capacity out.new ≡ vec_capacity out.old }
+{
+    out.push_reserved(digit_of(byte / 16));
+    out.push_reserved(digit_of(byte % 16));
+}
+
+/// The digit of a value.
+fn digit_of(value: u8) -> u8
+    requires { value < 16 }
+    ensures { result ≡ slice_index lower_digits value }
+{
+    if value < 10 {
+        b'0' + value
+    } else {
+        b'a' + (value - 10)
+    }
+}
+
+/// Whether all bytes are digits, sixteen of them at a time.
 pub(crate) fn are_lower_digits(word: &[u8]) -> bool
     ensures { result ≡ list_all writes_digit word.now }
 {
     let mut all = true;
-    for byte in word {
-        all &= is_lower_digit(byte);
+    for k in 0..word.len() / 16 {
+        for i in 0..16 {
+            all &= is_lower_digit(&word[16 * k + i]);
+        }
+    }
+    for last in word.len() / 16 * 16..word.len() {
+        all &= is_lower_digit(&word[last]);
     }
     all
 }
