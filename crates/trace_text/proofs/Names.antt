@@ -19,9 +19,9 @@ pub use Rattle.text_spec.specs.Maybe.{first_of, or_else, ◌>>=◌}
 pub use Rattle.text_spec.specs.TraceFaults.{asked_more, begun_round, ended_at, with_last, PastRounds, last_from, keep_up, opening_fault}
 pub use Rattle.text_spec.specs.TraceForm.{opening_in, trace_forms, trace_told_by}
 pub use Rattle.text_spec.specs.TraceReading.{AreTicks, IsAllowedRound, MayAsk, trace_in, trace_grammar, AreRounds}
-pub use Rattle.text_spec.specs.TraceText.{Asked, Round, changes, TraceLine, asked_fields, calls, callers_told, closes, number_fields, opens, round_told, rounds_told, trace_fields, trace_line_for, trace_text}
+pub use Rattle.text_spec.specs.TraceText.{Asked, Round, reports, changes, sets, TraceLine, asked_fields, calls, callers_told, closes, number_fields, opens, round_told, rounds_told, trace_fields, trace_line_for, trace_text}
 pub use Rattle.text_spec.specs.Words.{line_of, space, text_of, words_of, line_feed}
-pub use Rattle.trace_text.specs.Lines.{line_at, callers_asked, row_asked, line_asked}
+pub use Rattle.trace_text.specs.Lines.{line_at, callers_asked, bytes_asked, row_asked, line_asked, AreWithin, IsRowWithin}
 pub use Rattle.trace_text.specs.Printing.{caller_text, lines_text, ticks_text}
 pub use Rattle.trace_text.specs.TraceView.{IsEnd, Laid, Lie, Traced, at_start, end_at, lines_between, round_at, round_between, rounds_laid, laid_of, with_line, with_round}
 pub use Rattle.trace_text.specs.declared.trace.RoundEnd.{RoundEnd}

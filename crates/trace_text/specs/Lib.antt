@@ -4,5 +4,6 @@ pub mod Lines
 pub mod Printing
 pub mod RawLines
 pub mod ReaderView
+pub mod RowsView
 pub mod TraceView
 pub mod Typed

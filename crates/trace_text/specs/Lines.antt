@@ -1,5 +1,6 @@
 -- What the lines of callers ask for.
-use Rattle.std.specs.Prelude.{ℕ, List, map, slice_index_or, Vec}
+use Rattle.std.specs.Prelude.{ℕ, ◌≤◌, List, [], map, slice_index_or, slice_range, Vec, ⊤}
+use Rattle.std.specs.List.{AllByRecursion}
 use Rattle.std.specs.declared.alloc.Global.{Global}
 use Rattle.text_spec.specs.TraceText.{Asked, reports, changes, sets}
 use Rattle.trace_text.specs.declared.line.Line.{Line}
@@ -18,15 +19,31 @@ act_asked (acts.SetMode event mode) = sets event mode
 abbrev pub line_asked : Line → Asked
 line_asked line = act_asked line.act
 
--- what a row asks for
-abbrev pub row_asked : Row → Asked
-row_asked (rows.Report event count stamp context) = reports event count stamp context.items
-row_asked (rows.State state) = changes state
-row_asked (rows.SetMode event mode) = sets event mode
+-- the context of what is asked for
+abbrev pub bytes_asked : Asked → List ℕ
+bytes_asked (reports event count stamp bytes) = bytes
+bytes_asked (changes state) = []
+bytes_asked (sets event mode) = []
+
+-- what a row asks for, over the bytes of all lines
+abbrev pub row_asked : List ℕ → Row → Asked
+row_asked bytes (rows.Report event count stamp start end) = reports event count stamp (slice_range bytes start end)
+row_asked bytes (rows.State state) = changes state
+row_asked bytes (rows.SetMode event mode) = sets event mode
 
 -- what the rows of each caller ask for
-abbrev pub callers_asked : List (Vec Row Global) → List (List Asked)
-callers_asked callers = map (λ (rows : Vec Row Global). map row_asked rows.items) callers
+abbrev pub callers_asked : List ℕ → List (Vec Row Global) → List (List Asked)
+callers_asked bytes callers = map (λ (rows : Vec Row Global). map (row_asked bytes) rows.items) callers
+
+-- the row's context lies among so many bytes
+abbrev pub IsRowWithin : ℕ → Row → Type 0
+IsRowWithin n (rows.Report event count stamp start end) = (start ≤ end) × (end ≤ n)
+IsRowWithin n (rows.State state) = ⊤
+IsRowWithin n (rows.SetMode event mode) = ⊤
+
+-- the contexts of all rows do
+abbrev pub AreWithin : ℕ → List (Vec Row Global) → Type 0
+AreWithin n callers = AllByRecursion (λ (rows : Vec Row Global). AllByRecursion (IsRowWithin n) rows.items) callers
 
 -- line i of some, from 0
 abbrev pub line_at : List Asked → ℕ → Asked

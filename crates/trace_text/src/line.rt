@@ -1,9 +1,24 @@
+ghost use Rattle.std.specs.Prelude.{◌≡◌};
+ghost use Rattle.trace_text.specs.Lines.{bytes_asked, line_asked};
+
 use ids_types::{EventIndex, Mode, Stamp};
 
 /// A line of a caller: what it asks for.
 #[derive(Clone, Copy, Debug)]
 pub struct Line<'a> {
     pub act: TraceAct<'a>,
+}
+
+impl<'a> Line<'a> {
+    /// The context of a report, no bytes where there is none.
+    pub(crate) fn context(&self) -> &'a [u8]
+        ensures { result.now ≡ bytes_asked (line_asked self.now) }
+    {
+        match self.act {
+            TraceAct::Report { context, .. } => context,
+            TraceAct::State(_) | TraceAct::SetMode { .. } => &[],
+        }
+    }
 }
 
 /// What a caller asks for.

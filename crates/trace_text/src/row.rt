@@ -1,18 +1,18 @@
-ghost use Rattle.std.specs.Prelude.{◌≡◌, IfOk};
-ghost use Rattle.trace_text.specs.Lines.{line_asked, row_asked};
+ghost use Rattle.std.specs.Prelude.{◌≡◌, ℕ, ◌+◌, List, ◌++◌, length};
+ghost use Rattle.trace_text.specs.Lines.{bytes_asked, line_asked, row_asked, IsRowWithin};
 
 use crate::line::{Line, TraceAct};
-use ids_types::{EventIndex, Mode, NoMemory, Stamp};
-use std::alloc::Global;
+use ids_types::{EventIndex, Mode, Stamp};
 
-/// A line of a caller, with its context's bytes.
-#[derive(Debug, Drop)]
+/// A line of a caller. Its context lies between two places of the bytes of all lines.
+#[derive(Clone, Copy, Debug)]
 pub(crate) enum Row {
     Report {
         event: EventIndex,
         count: u16,
         stamp: Option<Stamp>,
-        context: Vec<u8>,
+        start: usize,
+        end: usize,
     },
     State(u8),
     SetMode {
@@ -22,42 +22,48 @@ pub(crate) enum Row {
 }
 
 impl Row {
-    /// The row of a line. A report without context takes no memory.
-    pub(crate) fn of(alloc: Global, line: &Line<'_>) -> Result<Row, NoMemory>
-        ensures { IfOk result (λ row. row_asked row ≡ line_asked line.now) }
+    /// The row of a line whose context lies between these places.
+    pub(crate) fn of(line: &Line<'_>, start: usize, end: usize) -> Row
+        requires { end ≡ start + length (bytes_asked (line_asked line.now)) }
+        ensures asked { (before : List ℕ) → length before ≡ start →
+            row_asked (before ++ bytes_asked (line_asked line.now)) result ≡ line_asked line.now }
+        ensures within { IsRowWithin end result }
     {
-        Ok(match line.act {
+        match line.act {
             TraceAct::Report {
                 event,
                 count,
                 stamp,
-                context,
+                ..
             } => Row::Report {
                 event,
                 count,
                 stamp,
-                context: Vec::from_slice(alloc, context)?,
+                start,
+                end,
             },
             TraceAct::State(state) => Row::State(state),
             TraceAct::SetMode { event, mode } => Row::SetMode { event, mode },
-        })
+        }
     }
 
-    /// The line, with its context lent.
-    pub(crate) fn line(&self) -> Line<'_>
-        ensures { line_asked result ≡ row_asked self.now }
+    /// The line, with its context lent from the bytes of all lines.
+    pub(crate) fn line<'a>(&self, bytes: &'a [u8]) -> Line<'a>
+        requires { IsRowWithin (length bytes.now) self.now }
+        ensures { line_asked result ≡ row_asked bytes.now self.now }
     {
         let act = match self {
             Row::Report {
                 event,
                 count,
                 stamp,
-                context,
+                start,
+                end,
             } => TraceAct::Report {
                 event: *event,
                 count: *count,
                 stamp: *stamp,
-                context,
+                context: &bytes[*start..*end],
             },
             Row::State(state) => TraceAct::State(*state),
             Row::SetMode { event, mode } => TraceAct::SetMode {

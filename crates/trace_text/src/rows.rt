@@ -1,5 +1,5 @@
 ghost use Rattle.std.specs.Prelude.{◌≡◌, ◌<◌, ◌∷◌, ◌++◌, [], length, set, replicate, slice_index_or, IfOk, OnOk, OnErr};
-ghost use Rattle.trace_text.specs.Lines.{line_asked, line_at, row_asked};
+ghost use Rattle.trace_text.specs.Lines.{line_asked, line_at};
 
 use crate::line::Line;
 use crate::row::Row;
@@ -7,10 +7,11 @@ use ids_types::NoMemory;
 use std::alloc::Global;
 use std::marker::Model;
 
-/// The lines of each caller in all rounds, one behind the other.
+/// The lines of each caller in all rounds, one behind the other, and the contexts of all lines.
 #[derive(Debug, Drop)]
 pub(crate) struct CallerRows {
     callers: Vec<Vec<Row>>,
+    bytes: Vec<u8>,
 }
 
 impl Model for CallerRows {
@@ -19,9 +20,11 @@ impl Model for CallerRows {
 
     ghost Value = { List (List Asked) };
 
-    ghost use Rattle.trace_text.specs.Lines.{callers_asked};
+    ghost use Rattle.trace_text.specs.RowsView.{asked_of, AreSound};
 
-    ghost view = { λ r. callers_asked r.callers.items };
+    ghost view = { asked_of };
+
+    ghost invariant = { AreSound };
 }
 
 impl CallerRows {
@@ -33,13 +36,17 @@ impl CallerRows {
         for _ in 0..callers {
             made.push(Vec::new(alloc))?;
         }
-        Ok(CallerRows { callers: made })
+        Ok(CallerRows {
+            callers: made,
+            bytes: Vec::new(alloc),
+        })
     }
 
     /// How many callers there are.
     pub(crate) fn callers(&self) -> usize
         ensures { result ≡ length self.now }
     {
+        let _bytes = &self.bytes;
         self.callers.len()
     }
 
@@ -48,6 +55,7 @@ impl CallerRows {
         requires { caller < length self.now }
         ensures { result ≡ length (slice_index_or self.now caller []) }
     {
+        let _bytes = &self.bytes;
         self.callers[caller].len()
     }
 
@@ -57,16 +65,19 @@ impl CallerRows {
         requires line { i < length (slice_index_or self.now caller []) }
         ensures { line_asked result ≡ line_at (slice_index_or self.now caller []) i }
     {
-        self.callers[caller][i].line()
+        self.callers[caller][i].line(&self.bytes)
     }
 
-    /// Adds a row to a caller's.
-    pub(crate) fn push(&mut self, caller: usize, row: Row) -> Result<(), NoMemory>
+    /// Adds a line to a caller's.
+    pub(crate) fn push(&mut self, caller: usize, line: &Line<'_>) -> Result<(), NoMemory>
         requires { caller < length self.old }
         ensures ok { OnOk result (self.new ≡
-            set self.old caller (slice_index_or self.old caller [] ++ row_asked row ∷ [])) }
+            set self.old caller (slice_index_or self.old caller [] ++ line_asked line.now ∷ [])) }
         ensures err { OnErr result (self.new ≡ self.old) }
     {
+        let start = self.bytes.len();
+        self.bytes.extend_from_slice(line.context())?;
+        let row = Row::of(line, start, self.bytes.len());
         Ok(self.callers[caller].push(row)?)
     }
 }

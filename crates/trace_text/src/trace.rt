@@ -8,7 +8,6 @@ ghost use Rattle.trace_text.specs.Lines.{line_asked, line_at};
 ghost use Rattle.trace_text.specs.TraceView.{end_at as place_at, no_rounds_of, round_at, with_line, with_round};
 
 use crate::line::Line;
-use crate::row::Row;
 use crate::rows::CallerRows;
 use ids_config::Config;
 use ids_types::NoMemory;
@@ -34,7 +33,6 @@ const START: RoundEnd = RoundEnd {
 /// What a replay is asked to do: rounds, each with the lines of each caller and the ticks of its turns.
 #[derive(Debug, Drop)]
 pub struct Trace {
-    alloc: Global,
     beside: Vec<u64>,
     rows: CallerRows,
     /// Where the first round begins, and where each ends.
@@ -62,7 +60,6 @@ impl Trace {
         let mut ends = Vec::new(alloc);
         ends.push(START)?;
         Ok(Trace {
-            alloc,
             beside: Vec::new(alloc),
             rows: CallerRows::make(alloc, callers)?,
             ends,
@@ -98,8 +95,7 @@ impl Trace {
         let (caller, last) = (caller as usize, self.ends.len() - 1);
         let count = self.ends[last].lines[caller];
         let more = count.checked_add(1).ok_or(NoMemory)?;
-        let row = Row::of(self.alloc, line)?;
-        self.rows.push(caller, row)?;
+        self.rows.push(caller, line)?;
         self.ends[last].lines[caller] = more;
         Ok(())
     }

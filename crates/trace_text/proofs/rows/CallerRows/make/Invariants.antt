@@ -1,6 +1,9 @@
-use Rattle.trace_text.proofs.Names.{◌≡◌, [], replicate, callers_asked}
+use Rattle.trace_text.proofs.Names.{◌≡◌, [], replicate, callers_asked, AreWithin}
 use Rattle.trace_text.proofs.rows.CallerRows.make.Given as goal
 
 -- the first callers have no lines
 abbrev pub invariant-loop : goal.invariant-loop
-invariant-loop l = callers_asked l.made.items ≡ replicate l.counter []
+invariant-loop l = record {
+  asked : callers_asked [] l.made.items ≡ replicate l.counter [];
+  within : AreWithin 0 l.made.items;
+}
