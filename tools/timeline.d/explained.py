@@ -115,7 +115,10 @@ def take(run: Run, kind: str, words: tuple[str, ...]) -> Optional[str]:
     if run.accounts and kind != "account":
         return "an account stands before it, and all accounts stand at the end"
     if kind == "turn":
-        run.turns.append(Turn(*map(int, words)))
+        turn = Turn(*map(int, words))
+        if run.turns and turn.tick < run.turns[-1].tick:
+            return "its tick is below that of the turn before"
+        run.turns.append(turn)
     elif kind == "loss":
         run.losses.append(Loss(*map(int, words)))
     elif kind == "account":
@@ -142,10 +145,11 @@ def fault_of(line: str) -> str:
 def lost_numbers(run: Run) -> Iterator[str]:
     """Where an account is not what the lines above it tell, or does not add up."""
     told = [dict.fromkeys(COLUMNS, 0) for _ in run.accounts]
-    for _, item in run.items():
-        if item.event >= len(told):
-            yield f"there is no account of event {item.event}"
+    for event in (step.event for _, step in run.steps if isinstance(step, (Item, Mode))):
+        if event >= len(told):
+            yield f"there is no account of event {event}"
             return
+    for _, item in run.items():
         numbers = told[item.event]
         numbers["closed" if item.kind == "W" else "came"] += 1
         numbers[item.fate] += 1

@@ -57,6 +57,8 @@ def lost_in(run: Run, trace: str) -> list[list[tuple[int, int]]]:
             raise Unreadable(f"it is not that of the run: it has no call {loss.call} of caller {loss.caller}")
         lost.append(calls[loss.caller, loss.call])
     reports = [report for report in lost if report]
+    if any(event >= len(run.accounts) for event, _ in reports):
+        raise Unreadable("it is not that of the run: it has further events")
     by_turn, at = [], 0
     for turn in run.turns:
         by_turn.append(reports[at : at + turn.lost_reports])
