@@ -19,6 +19,6 @@ mod room;
 mod taking;
 
 pub use laws::which_journals_fit;
-pub use printing::{print, push_fields, push_head, push_loss};
+pub use printing::{print, push_entry, push_fields, push_head, push_loss};
 pub use reading::{Journal, read};
 pub use text_spec::TextFault as JournalFault;

@@ -81,7 +81,7 @@ pub fn push_loss(out: &mut Vec<u8>, loss: &Loss) -> Result<(), NoMemory>
 }
 
 /// Appends an entry as a line.
-fn push_entry(out: &mut Vec<u8>, entry: &Entry<Plain<'_>>) -> Result<(), NoMemory>
+pub fn push_entry(out: &mut Vec<u8>, entry: &Entry<Plain<'_>>) -> Result<(), NoMemory>
     ensures { OnOk result (out.new.items ≡
         out.old.items ++ ended_line (fields_of (enters (plain_entry entry.now)))) }
 {

@@ -34,6 +34,6 @@ pub use Rattle.trace_gen.specs.Generated.{digest_of, gen_line, turns_for}
 pub use Rattle.trace_gen.specs.GeneratedConfig.{all_events, config_of, internal_event, sensor_event}
 pub use Rattle.trace_gen.specs.GeneratedTrace.{changes_by, generated_round, lines_by, rounds_of, tick_after, ticks_beside, draws_before}
 pub use Rattle.trace_gen.specs.Quiet.{Call, calls_before, claims_before, is_by, keeps_in, call_by, calls_from, history_of, plans_of, Plan, act_of, calls_of, entries_of, idle, plans_in, entry_of, turn_of, turns_of}
-pub use Rattle.trace_gen.specs.Recording.{CanAsk, IsAt, held}
+pub use Rattle.trace_gen.specs.Recording.{CanAsk, IsAt, held, turns_made}
 pub use Rattle.trace_gen.specs.Reports.{context_of, report_of, report_at, size_of}
 pub use Rattle.trace_gen.specs.declared.recorder.Recorder.{Recorder}

@@ -1,14 +1,30 @@
 -- Calls and turns, one after another.
 use Rattle.trace_gen.proofs.Names.{◌≡◌, ◌<◌, ◌+◌, ℕ, suc, List, [], ◌∷◌, ◌++◌, length, map, take, drop, get_or, reverse, subst, append-nil, ◌≤◌, length-append, length-take-le, add-one, refl, sym, ap, ap₂, ◌∙◌, arith, append_assoc, flat_map, flat_map-append, length-map, map-append, reverse-append, take_more, take_all, take-append-drop, Plain, plain_entry, Parts, FitsAct, turn_by, handed_on, Entry, KeepUpFrom, Asked, Round, reports, changes, sets, round_ticks, last_of, Call, Plan, act_of, call_by, calls_from, calls_of, entries_of, idle, plans_in, plans_of, entry_of, turn_of, turns_of, CanAsk, IsAt, held, Recorder, begun_round, line_at, round_at}
 use Rattle.std.proofs.Math.Seq.{drop-cons}
-use Rattle.ids_types.specs.Turns.{Turn, extended, with_entry}
+use Rattle.ids_types.specs.Turns.{Turn}
+use Rattle.journal.proofs.PrintingLemmas.{entries-push, turns-push}
+use Rattle.journal.specs.Answers.{told}
+use Rattle.journal.specs.Printing.{lines_text}
+use Rattle.text_spec.specs.Fields.{ended_line}
+use Rattle.text_spec.specs.JournalText.{enters, fields_of, journal_text, turn_told}
 
--- an entry goes to the last turn
-pub with_entry_last : (turns : List Turn) (turn : Turn) (entry : Entry (List ℕ))
-    → with_entry (turns ++ turn ∷ []) entry ≡ turns ++ extended turn entry ∷ []
-with_entry_last [] turn entry = refl
-with_entry_last (first ∷ []) turn entry = refl
-with_entry_last (first ∷ next ∷ turns) turn entry = ap (λ ts. first ∷ ts) (with_entry_last (next ∷ turns) turn entry)
+-- the journal of turns, none of whose calls was lost
+no_losses : (turns : List Turn) → journal_text (told turns []) ≡ lines_text (flat_map turn_told turns)
+no_losses turns = ap lines_text (append-nil (flat_map turn_told turns))
+
+-- and with one turn more
+pub journal_more : (front : List Turn) (turn : Turn) (old new : List ℕ) (all : List Turn) → old ≡ journal_text (told front [])
+    → new ≡ old ++ lines_text (turn_told turn) → front ++ turn ∷ [] ≡ all → new ≡ journal_text (told all [])
+journal_more front turn old new all is more same =
+    more ∙ ap (λ text. text ++ lines_text (turn_told turn)) (is ∙ no_losses front)
+    ∙ sym (turns-push front turn) ∙ sym (no_losses (front ++ turn ∷ []))
+    ∙ ap (λ turns. journal_text (told turns [])) same
+
+-- the lines of entries, and of one more
+pub entries_push : (front : List (Entry Plain)) (entry : Entry Plain) → lines_text (map enters (map plain_entry (front ++ entry ∷ [])))
+    ≡ lines_text (map enters (map plain_entry front)) ++ ended_line (fields_of (enters (plain_entry entry)))
+entries_push front entry =
+    ap (λ es. lines_text (map enters es)) (map-append plain_entry front (entry ∷ [])) ∙ entries-push (map plain_entry front) (plain_entry entry)
 
 -- calls in the order in which they were made, behind others
 pub reversed_more : {A : Type 0} (xs : List A) (x : A) (others : List A) → reverse (xs ++ x ∷ []) ++ others ≡ x ∷ (reverse xs ++ others)

@@ -1,14 +1,18 @@
 -- A recording in the making.
-use Rattle.std.specs.Prelude.{◌≡◌, ℕ, ◌<◌, ◌≤◌, List, ◌++◌, length, map, reverse}
+use Rattle.std.specs.Prelude.{◌≡◌, ℕ, ◌<◌, ◌≤◌, List, [], ◌++◌, length, map, reverse}
 use Rattle.std.specs.List.{All}
 use Rattle.ids_types.specs.declared.parcel.Plain.{Plain}
 use Rattle.ids_types.specs.Plain.{plain_entry}
+use Rattle.ids_types.specs.Turns.{Turn}
 use Rattle.ids_config.specs.Parts.{Parts}
+use Rattle.chain.specs.History.{last_tick}
 use Rattle.chain.specs.Parcels.{IsShort}
 use Rattle.chain.specs.Turning.{FitsTurn}
 use Rattle.chain_plain.specs.Telling.{HasDeskRoom, Tells}
 use Rattle.event_chain.specs.Standing.{Stands}
 use Rattle.filter_aggregate.specs.Account.{all_kept}
+use Rattle.journal.specs.Answers.{told}
+use Rattle.text_spec.specs.JournalText.{journal_text}
 use Rattle.merge_spec.specs.Rounds.{Asked, reports, changes, sets}
 use Rattle.trace_gen.specs.Counted.{AreCounts, HasClassFor}
 use Rattle.trace_gen.specs.Quiet.{Call, Plan, calls_of, entries_of, turns_of}
@@ -18,12 +22,17 @@ use Rattle.trace_gen.specs.declared.recorder.Recorder.{Recorder}
 abbrev pub held : Plain → List ℕ
 held parcel = parcel.0.now
 
+-- turns as they were planned, the newest of which stands first: the first of them first
+abbrev pub turns_made : Parts → List Plan → List Turn
+turns_made config before = reverse (turns_of config before)
+
 -- the recorder behind turns as they were planned, the newest of which stands first, and these calls for the next one, the
 -- first of them first
 pub record IsAt (config : Parts) (before : List Plan) (calls : List Call) (r : Recorder) : Type 0 where
-  pub turns : reverse r.history.turns ≡ turns_of config before
+  pub journal : r.journal.items ≡ journal_text (told (turns_made config before) [])
+  pub tick : r.tick ≡ last_tick (turns_made config before)
   pub stands : Stands held config (turns_of config before) r.chain
-  pub tells : Tells config r.history.turns r.tally
+  pub tells : Tells config (turns_made config before) r.tally
   pub counts : AreCounts config (reverse calls ++ calls_of before) r.counts
   pub entries : map plain_entry r.desk.items.items ≡ entries_of config (calls_of before) calls
   pub fits : FitsTurn held (length config.events) r.desk.items.items

@@ -6,7 +6,7 @@ ghost use Rattle.chain.specs.History.{count_of, messages_of, rows_of};
 ghost use Rattle.gen_options.specs.Ranges.{is_in_range};
 ghost use Rattle.trace_gen.specs.Generated.{IsGenerated, IsMade, digest_of, gen_line as line_of};
 ghost use Rattle.trace_gen.specs.Quiet.{Plan};
-ghost use Rattle.trace_gen.specs.Recording.{IsAt};
+ghost use Rattle.trace_gen.specs.Recording.{IsAt, turns_made};
 
 use crate::config::make_config;
 use crate::drawing::draw_trace;
@@ -17,6 +17,7 @@ use ids_config::Config;
 use ids_types::NoMemory;
 use sha2::{Digest, Sha256};
 use std::alloc::Global;
+use std::mem;
 use trace_text::Trace;
 
 /// A generated recording: the texts of its three files, and the line that tells of it.
@@ -70,15 +71,15 @@ impl<'t> Recorder<'t> {
         Ok(Generated {
             config: config_json::print(alloc, config)?,
             trace: trace_text::print(alloc, trace)?,
-            journal: journal::print(alloc, &self.history, &[])?,
             line: self.line(alloc, 4 * options.callers * options.rounds)?,
+            journal: mem::replace(&mut self.journal, Vec::new(alloc)),
         })
     }
 
     /// The line that tells of so many reports, and of what the filter chain gave for them.
     fn line(&self, alloc: Global, reports: u64) -> Result<Vec<u8>, NoMemory>
         ensures { IfOk result (λ line. (config : Parts) (before : List Plan) → IsAt config before [] self.now →
-            let turns = self.now.history.turns in line.items ≡ line_of reports
+            let turns = turns_made config before in line.items ≡ line_of reports
             (count_of config turns) (length (rows_of config turns)) (digest_of (messages_of config turns))) }
     {
         let records = self.chain.memory().len();

@@ -1,7 +1,6 @@
 //! The history of a trace in which nothing is lost: one caller after the other makes its calls of a round.
 
 ghost use Rattle.std.specs.Prelude.{◌≡◌, ◌≤◌, ◌<◌, ◌+◌, ◌++◌, [], List, length, map, reverse, OnOk};
-ghost use Rattle.chain.specs.History.{last_tick};
 ghost use Rattle.merge_spec.specs.Orders.{KeepUpFrom};
 ghost use Rattle.merge_spec.specs.Rounds.{lines_at, round_ticks};
 ghost use Rattle.trace_text.specs.TraceView.{round_at};
@@ -35,10 +34,10 @@ impl<'t> Recorder<'t> {
         requires there { round < length trace.now.rounds }
         requires callers { trace.now.callers ≡ config.now.callers }
         requires can { CanTake config.now (round_at trace.now.rounds round) }
-        requires ticks { KeepUpFrom (last_tick self.old.history.turns) (round_ticks (round_at trace.now.rounds round)) }
+        requires ticks { KeepUpFrom self.old.tick (round_ticks (round_at trace.now.rounds round)) }
         ensures at { OnOk result ((before : List Plan) → IsAt config.now before [] self.old →
             IsAt config.now (reverse (plans_in (round_at trace.now.rounds round)) ++ before) [] self.new) }
-        ensures tick { OnOk result (last_tick self.new.history.turns ≡ (round_at trace.now.rounds round).after) }
+        ensures tick { OnOk result (self.new.tick ≡ (round_at trace.now.rounds round).after) }
     {
         for &tick in trace.beside(round) {
             self.turn(config, tick)?;
@@ -64,7 +63,7 @@ impl<'t> Recorder<'t> {
         requires can { CanAskAll config.now caller (lines_at caller (round_at trace.now.rounds round)) }
         ensures at { OnOk result ((before : List Plan) (calls : List Call) → IsAt config.now before calls self.old →
             IsAt config.now before (calls ++ map (call_by caller) (lines_at caller (round_at trace.now.rounds round))) self.new) }
-        ensures history { OnOk result (self.new.history ≡ self.old.history) }
+        ensures tick { OnOk result (self.new.tick ≡ self.old.tick) }
     {
         for i in 0..trace.lines(round, caller) {
             self.call(config, caller, trace.line(round, caller, i))?;

@@ -1,10 +1,9 @@
 //! A history in the making: turns of calls that lose nothing, which the filter chain takes one by one.
 
-ghost use Rattle.std.specs.Prelude.{◌≡◌, ◌≤◌, ◌<◌, ◌+◌, ◌*◌, ◌∷◌, ◌++◌, [], List, length, reverse, IfOk, OnOk};
-ghost use Rattle.std.specs.List.{All};
-ghost use Rattle.ids_types.specs.Plain.{kept_bytes, plain_entry};
-ghost use Rattle.chain.specs.History.{last_tick};
-ghost use Rattle.chain.specs.Turning.{FitsAct, turn_by};
+ghost use Rattle.std.specs.Prelude.{◌≡◌, ◌≤◌, ◌<◌, ◌∷◌, ◌++◌, [], List, length, IfOk, OnOk};
+ghost use Rattle.chain.specs.Turning.{turn_by};
+ghost use Rattle.journal.specs.Printing.{lines_text};
+ghost use Rattle.text_spec.specs.JournalText.{turn_told};
 ghost use Rattle.trace_text.specs.Lines.{line_asked};
 ghost use Rattle.trace_gen.specs.Counted.{HasClass};
 ghost use Rattle.trace_gen.specs.Quiet.{Call, Plan};
@@ -16,17 +15,20 @@ use chain::Chain;
 use chain_plain::{Desk, Tally};
 use event_chain::EventChain;
 use ids_config::Config;
-use ids_types::{Entry, History, NoMemory, Plain, TurnHead};
+use ids_types::{Entry, NoMemory, Plain, TurnHead};
+use journal::{push_entry, push_head};
 use std::alloc::Global;
 use trace_text::Line;
 
-/// A history in the making, and what the filter chain gives for it.
+/// The journal of a history in the making, and what the filter chain gives for it.
 #[derive(Debug, Drop)]
 pub(crate) struct Recorder<'t> {
     pub(crate) counts: Counts,
     pub(crate) desk: Desk<'t>,
     pub(crate) chain: EventChain<Plain<'t>>,
-    pub(crate) history: History,
+    pub(crate) journal: Vec<u8>,
+    /// The tick of the last turn.
+    pub(crate) tick: u64,
     pub(crate) tally: Tally,
 }
 
@@ -39,7 +41,8 @@ impl<'t> Recorder<'t> {
             counts: Counts::make(alloc, config)?,
             desk: Desk::make(alloc, config.parts().events.len() as u64)?,
             chain: EventChain::make(alloc, config)?,
-            history: History::make(alloc, 0, 0, 0)?,
+            journal: Vec::new(alloc),
+            tick: 0,
             tally: Tally::make(alloc, 0)?,
         })
     }
@@ -56,7 +59,7 @@ impl<'t> Recorder<'t> {
         requires line { CanAsk config.now caller (line_asked line) }
         ensures at { OnOk result ((before : List Plan) (calls : List Call) → IsAt config.now before calls self.old →
             IsAt config.now before (calls ++ record { caller = caller; asked = line_asked line.entry } ∷ []) self.new) }
-        ensures history { OnOk result (self.new.history ≡ self.old.history) }
+        ensures tick { OnOk result (self.new.tick ≡ self.old.tick) }
     {
         let entry = make_entry(config, caller, line, &mut self.counts)?;
         self.desk.items.push_reserved(entry);
@@ -66,10 +69,10 @@ impl<'t> Recorder<'t> {
     /// Makes the turn that takes all lines since the last one.
     pub(crate) fn turn(&mut self, config: &Config, tick: u64) -> Result<(), NoMemory>
         requires recording { IsRecording config.now self.old }
-        requires tick { last_tick self.old.history.turns ≤ tick }
+        requires tick { self.old.tick ≤ tick }
         ensures at { OnOk result ((before : List Plan) (calls : List Call) → IsAt config.now before calls self.old →
             IsAt config.now (record { tick = tick; calls = calls } ∷ before) [] self.new) }
-        ensures tick { OnOk result (last_tick self.new.history.turns ≡ tick) }
+        ensures tick { OnOk result (self.new.tick ≡ tick) }
     {
         let head = TurnHead {
             tick,
@@ -77,27 +80,21 @@ impl<'t> Recorder<'t> {
             lost_contexts: 0,
             limited: self.chain.limited(),
         };
-        log_turn(&mut self.history, &head, &self.desk.items)?;
+        push_turn(&mut self.journal, &head, &self.desk.items)?;
         self.desk.turn(&mut self.chain, &head);
+        self.tick = tick;
         self.tally.add(&self.desk.out, self.chain.limited())
     }
 }
 
-/// Adds a turn of these entries to the history.
-#[tactic(auto, using(std::proofs::lemmas::Grind::common_steps, crate::proofs::RecordingLemmas::with_entry_last))]
-fn log_turn(
-    history: &mut History,
-    head: &TurnHead,
-    items: &[Entry<Plain<'_>>],
-) -> Result<(), NoMemory>
-    requires few { length items.now ≤ 1024 }
-    requires short { All (λ entry. length (kept_bytes (plain_entry entry)) ≤ 1024) items.now }
-    ensures { OnOk result (history.new.turns ≡ history.old.turns ++ turn_by (λ p. p.0.now) head.now items.now ∷ []) }
+/// Appends the lines of a turn of these entries.
+fn push_turn(out: &mut Vec<u8>, head: &TurnHead, items: &[Entry<Plain<'_>>]) -> Result<(), NoMemory>
+    ensures { OnOk result (out.new.items ≡
+        out.old.items ++ lines_text (turn_told (turn_by (λ p. p.0.now) head.now items.now))) }
 {
-    history.reserve(1, items.len() as u64, 1024 * items.len() as u64)?;
-    history.begin(head);
+    push_head(out, head)?;
     for entry in items {
-        history.add(entry);
+        push_entry(out, entry)?;
     }
     Ok(())
 }

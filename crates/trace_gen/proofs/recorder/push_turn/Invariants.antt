@@ -1,10 +1,8 @@
-use Rattle.trace_gen.proofs.Names.{◌≡◌, ◌≤◌, ◌*◌, ◌∷◌, ◌++◌, [], length, take, drop, turn_by, held}
-use Rattle.trace_gen.proofs.recorder.log_turn.Given as goal
+use Rattle.trace_gen.proofs.Names.{◌≡◌, ◌++◌, map, take, plain_entry}
+use Rattle.journal.specs.Printing.{lines_text}
+use Rattle.text_spec.specs.JournalText.{enters}
+use Rattle.trace_gen.proofs.recorder.push_turn.Given as goal
 
--- the first entries are added, and there is room for the others
+-- the first entries have been printed
 abbrev pub invariant-loop-entry : goal.invariant-loop-entry
-invariant-loop-entry l = record {
-  turns : l.history.turns ≡ l.fn.history.turns ++ turn_by held l.head (take l.entry-index l.items) ∷ [];
-  entries : length (drop l.entry-index l.items) ≤ l.history.room.entries;
-  bytes : 1024 * length (drop l.entry-index l.items) ≤ l.history.room.bytes;
-}
+invariant-loop-entry l = l.out.items ≡ l.initial.out.items ++ lines_text (map enters (map plain_entry (take l.entry-index l.items)))

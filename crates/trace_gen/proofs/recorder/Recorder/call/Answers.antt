@@ -16,7 +16,8 @@ returns-clause-at c before calls at =
     (subst (FitsAct (λ bytes. bytes) (length config.events)) (sym (ap (λ (e : Entry (List ℕ)). e.act) is))
     (ask_fits config past c.args.caller (line_asked c.args.line) c.requires.line)) in
     record {
-      turns = at.turns;
+      journal = at.journal;
+      tick = at.tick;
       stands = at.stands;
       tells = at.tells;
       counts = subst (λ ps. AreCounts config ps c.make_entry.new.counts) (sym (reversed_more calls call (calls_of before)))

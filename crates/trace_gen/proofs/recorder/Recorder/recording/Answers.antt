@@ -1,4 +1,4 @@
-use Rattle.trace_gen.proofs.Names.{[], ap, ◌∙◌, arith, Traced, ranges}
+use Rattle.trace_gen.proofs.Names.{◌≡◌, [], ap, ◌∙◌, arith, rules, Traced, ranges}
 use Rattle.config_json.specs.Printed.{config_text}
 use Rattle.journal.specs.Answers.{told}
 use Rattle.text_spec.specs.JournalText.{journal_text}
@@ -18,13 +18,12 @@ unfolding config_for trace_for journal_for line_for
 returns c =
     let made = c.requires.made in
     let options = c.args.options.now in
+    let config = c.args.config.now in
+    let at = c.in_ok-take_all.ensures in
+    let kept : c.replace.result.items ≡ c.take_all.new.self.journal.items = search rules in
     record {
       config = c.in_ok-print.ensures.text ∙ ap config_text made.config;
       trace = c.in_ok-print-2.ensures.text ∙ ap (λ (t : Traced). trace_text t.rounds) made.trace;
-      journal = c.in_ok-print-3.ensures.text
-          ∙ ap (λ turns. journal_text (told turns []))
-          (recorded options c.args.config.now c.args.trace.now c.take_all.new.self made.config made.trace c.in_ok-take_all.ensures);
-      line = c.in_ok-line.ensures _ _ c.in_ok-take_all.ensures
-          ∙ line_is options c.args.config.now c.args.trace.now c.take_all.new.self made.config made.trace c.in_ok-take_all.ensures
-          _ _ (omega arith);
+      journal = kept ∙ at.journal ∙ ap (λ turns. journal_text (told turns [])) (recorded options config c.args.trace.now made.config made.trace);
+      line = c.in_ok-line.ensures _ _ at ∙ line_is options config c.args.trace.now made.config made.trace _ _ (omega arith);
     }

@@ -30,5 +30,5 @@ loop-i-preserved c =
           let more = c.in_ok-call.ensures.at before some (c.loop-i.invariant.at before calls start) in
           subst (λ cs. IsAt config before cs c.call.new.self)
           (ap (λ asked. some ++ call_by caller asked ∷ []) c.line.ensures ∙ sym (calls_more caller calls lines c.loop-i.i there)) more;
-      history = c.in_ok-call.ensures.history ∙ c.loop-i.invariant.history;
+      tick = c.in_ok-call.ensures.tick ∙ c.loop-i.invariant.tick;
     }

@@ -8,5 +8,5 @@ invariant-loop-i l =
     record {
       at : (before : List Plan) (calls : List Call) → IsAt l.config before calls l.initial.self
           → IsAt l.config before (calls ++ map (call_by l.caller) (take l.i lines)) l.self;
-      history : l.self.history ≡ l.initial.self.history;
+      tick : l.self.tick ≡ l.initial.self.tick;
     }

@@ -1,5 +1,4 @@
 use Rattle.trace_gen.proofs.Names.{◌≡◌, ◌<◌, ◌≤◌, ◌+◌, ◌++◌, ◌∷◌, [], length, map, take, drop, get_or, reverse, subst, sym, ap, ◌∙◌, arith, length-append, on_ok_weaker, length-map, KeepUpFrom, round_at, call_by, calls_from, idle, IsAt}
-use Rattle.chain.specs.History.{last_tick}
 use Rattle.trace_gen.proofs.RecordingLemmas.{callers_more, calls_few, idle_more, items_are, keep_next, plans_all}
 use Rattle.trace_gen.proofs.recorder.Recorder.take_round.Goals as goal
 
@@ -11,7 +10,7 @@ loop-tick-preserved c =
     let ticks = c.beside-tick-items.result.now in
     let is : ticks ≡ round.beside = c.beside-tick-items.ensures in
     let there : i < length round.beside = subst (λ ts. i < length ts) is c.loop-tick-test.true in
-    let next = keep_next (last_tick c.loop-tick.self.history.turns) round.beside i round.after there c.loop-tick.invariant.ticks in
+    let next = keep_next c.loop-tick.self.tick round.beside i round.after there c.loop-tick.invariant.ticks in
     let tick : get_or ticks i 0 ≡ get_or round.beside i 0 = ap (λ ts. get_or ts i 0) is in
     record {
       at = λ before start.
@@ -51,7 +50,7 @@ loop-caller-preserved c =
       at = λ before start.
           subst (λ cs. IsAt config before cs c.take_lines.new.self) (sym (callers_more round.lines caller there))
           (c.in_ok-take_lines.ensures.at before _ (c.loop-caller.invariant.at before start));
-      history = c.in_ok-take_lines.ensures.history ∙ c.loop-caller.invariant.history;
+      tick = c.in_ok-take_lines.ensures.tick ∙ c.loop-caller.invariant.tick;
     }
 
 pub returns-clause-at : goal.returns-clause-at

@@ -1,5 +1,4 @@
 use Rattle.trace_gen.proofs.Names.{◌≡◌, ◌++◌, ◌∷◌, [], List, map, reverse, take, drop, KeepUpFrom, round_at, Plan, calls_from, idle, IsAt}
-use Rattle.chain.specs.History.{last_tick}
 use Rattle.trace_gen.proofs.recorder.Recorder.take_round.Given as goal
 
 -- the first turns beside the calls were made
@@ -9,7 +8,7 @@ invariant-loop-tick l =
     record {
       at : (before : List Plan) → IsAt l.config before [] l.initial.self
           → IsAt l.config (reverse (map idle (take l.tick-index round.beside)) ++ before) [] l.self;
-      ticks : KeepUpFrom (last_tick l.self.history.turns) (drop l.tick-index round.beside ++ round.after ∷ []);
+      ticks : KeepUpFrom l.self.tick (drop l.tick-index round.beside ++ round.after ∷ []);
     }
 
 -- the first callers made their calls
@@ -19,5 +18,5 @@ invariant-loop-caller l =
     record {
       at : (before : List Plan) → IsAt l.config before [] l.initial.self
           → IsAt l.config before (calls_from 0 (take l.caller round.lines)) l.self;
-      history : l.self.history ≡ l.initial.self.history;
+      tick : l.self.tick ≡ l.initial.self.tick;
     }
