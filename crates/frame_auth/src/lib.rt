@@ -16,6 +16,8 @@ mod unsealing;
 
 pub use fault::{SealFault, UnsealFault};
 pub use key::{Key, tag};
-pub use laws::{one_sealing, one_unsealing, only_the_first_of_a_sealed_list_are_taken, sealed_opens};
+pub use laws::{
+    one_sealing, one_unsealing, only_the_first_of_a_sealed_list_are_taken, sealed_opens,
+};
 pub use sealing::seal;
 pub use unsealing::unseal;
