@@ -1,9 +1,10 @@
-ghost use Rattle.std.specs.Prelude.{◌≡◌, ◌≤◌, ◌+◌, ◌^◌, ℕ, Bool, true, [], ◌∷◌, ◌++◌, List, length, reverse, vec_len, vec_capacity, OnOk};
+ghost use Rattle.std.specs.Prelude.{◌≡◌, ◌≤◌, ◌+◌, ◌^◌, ℕ, Bool, true, [], ◌∷◌, ◌++◌, List, length, map, reverse, vec_len, vec_capacity, OnOk};
 ghost use Rattle.std.specs.List.{All};
 ghost use Rattle.ids_types.specs.Output.{room_of};
 ghost use Rattle.ids_types.specs.Turns.{Turn};
 ghost use Rattle.ids_config.specs.Parts.{Parts};
 ghost use Rattle.chain.specs.History.{last_tick, handed_of, rows_of, Sends};
+ghost use Rattle.chain.specs.Kept.{AreAmong, open_contexts};
 ghost use Rattle.chain.specs.Parcels.{HandsBack, IsShort, all_parcels};
 ghost use Rattle.chain.specs.Turning.{FitsTurn, HasTurnRoom, bytes_in, most_sent, turn_by};
 
@@ -19,7 +20,7 @@ pub trait Chain<B: Parcel> {
     /// How many events there are.
     ghost events: { Self → ℕ };
 
-    /// The parcels that open windows keep.
+    /// The parcels that are kept.
     ghost kept: { Self → List B };
 
     /// There is room for one more turn of so many entries and bytes of context data.
@@ -112,6 +113,10 @@ pub trait Chain<B: Parcel> {
         log_turn(head, items, out);
         self.judge(head, items, back, out);
     }
+
+    /// Each parcel that is kept has the context data of an open window, each window's at most once.
+    ghost keeps: { (chain : Self) (config : Parts) (turns : List Turn) → stands chain config turns →
+        AreAmong (open_contexts config turns) (map B.held (kept chain)) };
 
     /// Where there is room for a turn, there is room for each smaller one.
     ghost smaller: { (chain : Self) (entries bytes fewer less : ℕ) → fewer ≤ entries → less ≤ bytes →

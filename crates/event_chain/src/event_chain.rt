@@ -1,4 +1,4 @@
-ghost use Rattle.std.specs.Prelude.{◌≡◌, ◌<◌, [], List, true, length, map, refl, reverse, IfOk};
+ghost use Rattle.std.specs.Prelude.{◌≡◌, ◌<◌, [], List, true, length, map, refl, reverse, IfOk, IsOk};
 ghost use Rattle.ids_types.specs.Turns.{Turn};
 ghost use Rattle.ids_config.specs.Parts.{Parts};
 ghost use Rattle.chain.specs.History.{rows_of};
@@ -96,6 +96,9 @@ impl<B: Parcel, W: Witness> EventChain<B, W> {
 }
 
 impl<B: Parcel, W: Witness> Chain<B> for EventChain<B, W> {
+    ghost use Rattle.chain_spec.specs.Filtering.{gated};
+    ghost use Rattle.event_chain.specs.Kept.{kept_among};
+
     ghost stands = { λ chain config turns. StandsWatched B.held W.knows config (reverse turns) chain };
 
     ghost events = { λ chain. length chain.filters.windows };
@@ -108,7 +111,11 @@ impl<B: Parcel, W: Witness> Chain<B> for EventChain<B, W> {
         true
     }
 
-    fn reserve(&mut self, _entries: u64, _bytes: u64) -> Result<(), NoMemory> {
+    /// Has nothing to do, and always succeeds.
+    fn reserve(&mut self, _entries: u64, _bytes: u64) -> Result<(), NoMemory>
+        ensures done { IsOk result }
+        ensures same { self.new ≡ self.old }
+    {
         Ok(())
     }
 
@@ -134,6 +141,9 @@ impl<B: Parcel, W: Witness> Chain<B> for EventChain<B, W> {
         filters.take_heads(&heads(&self.internal, head), tick, back, out);
         filters.take_entries(items, tick, back, out);
     }
+
+    ghost keeps = { λ chain config turns stands.
+        kept_among B.held config (gated config (moments config (reverse turns))) chain.filters.windows stands.filters.windows };
 
     ghost smaller = { λ chain entries bytes fewer less _ _ _. refl };
 }

@@ -12,10 +12,12 @@ mod event_chain;
 mod fate;
 mod filters;
 mod joining;
+mod laws;
 mod outlet;
 mod turns;
 mod witness;
 
 pub use event_chain::EventChain;
 pub use fate::{Ending, Fate};
+pub use laws::a_chain_keeps_what_its_open_windows_do;
 pub use witness::{Unwatched, Witness};

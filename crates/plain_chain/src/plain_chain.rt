@@ -74,6 +74,8 @@ impl<'c, B: Parcel> PlainChain<'c, B> {
 }
 
 impl<'c, B: Parcel> Chain<B> for PlainChain<'c, B> {
+    ghost use Rattle.std.proofs.lemmas.List.Sorted.{IsPermutation-refl};
+    ghost use Rattle.chain.specs.Kept.{open_contexts};
     ghost use Rattle.plain_chain.specs.Room.{smaller_turn_room};
 
     ghost stands = { λ chain config turns. Stands config turns chain };
@@ -146,6 +148,9 @@ impl<'c, B: Parcel> Chain<B> for PlainChain<'c, B> {
         record_turn(head, items, &mut self.history);
         hand_back(items, back);
     }
+
+    ghost keeps = { λ chain config turns stands.
+        record { others = open_contexts config turns; same = IsPermutation-refl (open_contexts config turns) } };
 
     ghost smaller = { λ chain entries bytes fewer less few small room.
         smaller_turn_room chain.history.room entries bytes fewer less few small room };

@@ -1,0 +1,18 @@
+//! What a chain keeps.
+
+ghost use Rattle.std.specs.Prelude.{◌≡◌, List, map, reverse};
+ghost use Rattle.ids_types.specs.Turns.{Turn};
+ghost use Rattle.ids_config.specs.Parts.{Parts};
+ghost use Rattle.chain.specs.Kept.{open_contexts};
+ghost use Rattle.filter_aggregate.specs.Account.{all_kept};
+ghost use Rattle.event_chain.specs.Chained.{Watched};
+ghost use Rattle.event_chain.specs.Standing.{StandsWatched};
+
+use crate::witness::Witness;
+use ids_types::Parcel;
+
+/// The parcels that a chain keeps have the context data of the open windows, event by event: it keeps these and no other.
+pub fn a_chain_keeps_what_its_open_windows_do<B: Parcel, W: Witness>()
+    ensures { (config : Parts) (turns : List Turn) (chain : Watched B W) → StandsWatched B.held W.knows config (reverse turns) chain
+        → map B.held (all_kept chain.filters.windows) ≡ open_contexts config turns }
+{}
