@@ -1,8 +1,8 @@
 pub mod Names
 mod ClosingLemmas
 mod FittingLemmas
+mod GiverLemmas
 mod MakingLemmas
-mod PassesLemmas
 mod QuickLemmas
 mod ReportLemmas
 mod StepLemmas

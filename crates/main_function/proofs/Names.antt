@@ -1,7 +1,7 @@
 -- The names of other crates and of this crate's specs that more than one of its proofs stands on.
-pub use Rattle.std.proofs.Common.{◌≡◌, ℕ, zero, suc, ◌+◌, ◌<◌, true, is_some, Option, Some, List, [], ◌∷◌, ◌++◌, length, map, refl, sym, subst, ap, ◌∙◌, sum, sum_by, arith, ◌*◌, ◌≤◌, IfSome, rules, max, None, get_or, take, inl, inr, ◌^◌, ◌≢◌, Ok, Err, slice_set, ◌-◌, vec_capacity}
+pub use Rattle.std.proofs.Common.{◌≡◌, ℕ, zero, suc, ◌+◌, ◌<◌, true, is_some, Option, Some, List, [], ◌∷◌, ◌++◌, length, map, refl, sym, subst, ap, ◌∙◌, sum, sum_by, arith, ◌*◌, ◌≤◌, IfSome, rules, max, None, get_or, take, ◌^◌, ◌≢◌, Ok, Err, slice_set, ◌-◌, vec_capacity}
 pub use Rattle.std.proofs.lemmas.Grind.{common_steps, flat_map-append}
-pub use Rattle.std.proofs.lemmas.List.{length-map, length-replicate, map-append, take_more, get_or-map, append-nil, append_assoc, length_push, nil_from_length}
+pub use Rattle.std.proofs.lemmas.List.{length-map, length-replicate, map-append, take_more, append-nil, append_assoc}
 pub use Rattle.std.proofs.lemmas.List.Elements.{All-from_recursion, All-weaker, recursion_from_All, All-cons, All-nil, All-pop, All-push}
 pub use Rattle.std.proofs.lemmas.List.Sums.{sum_by-cons, sum_by_push}
 pub use Rattle.std.specs.List.{All, AllByRecursion}
@@ -26,8 +26,7 @@ pub use Rattle.report_api.specs.declared.desk.Desk.{Desk}
 pub use Rattle.report_api.specs.declared.pass.Pass.{Pass}
 pub use Rattle.report_api.specs.declared.shared.Shared.{Shared}
 pub use Rattle.report_api.specs.declared.terms.ReportTerms.{ReportTerms}
-pub use Rattle.report_queue.specs.{AreAllBack, AreAllSwept, IsAllTaken, OffersAll, ReapTells, ReapsToEnd, queue_positions, queue_seats, item_note, reaps_all, sweeps, welcomes}
-pub use Rattle.report_queue.specs.declared.cargo.Item.{Item}
+pub use Rattle.report_queue.specs.{AreAllBack, AreAllSwept, IsAllTaken, ReapTells, ReapsToEnd, queue_positions, item_note, reaps_all, welcomes}
 pub use Rattle.main_function.specs.{AreCountsOf, AreSumsOf, Closed, IsQuick, OnlyWelcomes, all_back, ShowsHistory, AreTotals, IsManagerOf, Stands, Turned, IsHeld, held, items_of, AreAllPasses, MakesTurn, Took, item_of, sweeps_for}
 pub use Rattle.main_function.specs.Making.{IsBuilt, IsLargest, IsNewManager}
 pub use Rattle.main_function.specs.declared.manager.Manager.{Manager}

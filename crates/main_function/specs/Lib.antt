@@ -2,6 +2,7 @@ pub mod Buffers
 pub mod Closing
 pub mod Making
 pub mod Reports
+pub mod Rests
 pub mod Standing
 pub mod Taking
 pub mod Turning

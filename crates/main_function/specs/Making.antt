@@ -9,6 +9,7 @@ use Rattle.report_api.specs.declared.desk.Desk.{Desk}
 use Rattle.report_api.specs.declared.pass.Pass.{Pass}
 use Rattle.report_api.specs.declared.shared.Shared.{Shared}
 use Rattle.desk_closing.specs.Closed.{IsMadeFor}
+use Rattle.main_function.specs.Rests.{no_rests}
 use Rattle.main_function.specs.Standing.{AreAllPasses, HasRoomFor, IsManagerOf, Stands, rests_of}
 use Rattle.main_function.specs.declared.manager.Manager.{Manager}
 
@@ -27,7 +28,7 @@ module _ {C : Type 0} where
     pub no_back : m.back.items ≡ []
     pub back_room : positions + events ≤ vec_capacity m.back
     pub out_room : HasRoomFor positions (positions * largest) events m.out
-    pub no_rests : rests_of m ≡ []
+    pub no_rests : rests_of m ≡ no_rests
     pub totals_are : m.totals ≡ record { entries = 0; lost_events = 0; lost_contexts = 0 }
     pub last_is : m.last ≡ 0
     pub turns_are : m.turns ≡ 0
@@ -43,6 +44,6 @@ module _ {C : Type 0} where
     pub is_manager : IsManagerOf events kept shared m
     pub stands_for_none : Stands stands config m []
     pub passes_are : AreAllPasses shared (desk_memo m.desk) passes
-    pub no_rests : rests_of m ≡ []
+    pub no_rests : rests_of m ≡ no_rests
     pub positions_are : m.positions ≡ config.ring
     pub largest_is : IsLargest (spec_sizes config.classes) m.largest

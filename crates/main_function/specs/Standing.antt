@@ -1,5 +1,5 @@
 -- For which turns a manager stands, and what holds of it between two calls.
-use Rattle.std.specs.Prelude.{◌≡◌, ℕ, ◌+◌, ◌*◌, ◌≤◌, ◌^◌, Bool, List, [], length, sum, sum_by, vec_capacity}
+use Rattle.std.specs.Prelude.{◌≡◌, ℕ, ◌+◌, ◌*◌, ◌≤◌, ◌^◌, Bool, List, [], length, sum, vec_capacity}
 use mathlib.Core.Option.{some}
 use lib.ListN.{get_elem?}
 use Rattle.std.specs.List.{All}
@@ -9,14 +9,14 @@ use Rattle.ids_config.specs.Parts.{Parts}
 use Rattle.chain.specs.History.{last_tick}
 use Rattle.permit_ring.specs.Hands.{AllAdmitted}
 use Rattle.buffer_classes.specs.Buffers.{Buffer}
-use Rattle.report_queue.specs.{calls_of, queue_positions}
+use Rattle.report_queue.specs.{queue_positions}
 use Rattle.report_api.specs.{DeskMemo, IsDeskOf, desk_memo, to_give_back, IsPassOf, pass_memo, sizes_of}
 use Rattle.report_api.specs.declared.pass.Pass.{Pass}
 use Rattle.report_api.specs.declared.shared.Shared.{Shared}
 use Rattle.main_function.specs.Buffers.{IsHeld}
 use Rattle.main_function.specs.Reports.{ShowsHistory}
+use Rattle.main_function.specs.Rests.{RestsTold, rests_told}
 use Rattle.main_function.specs.declared.manager.Manager.{Manager}
-use Rattle.main_function.specs.declared.rest.Rest.{Rest}
 use Rattle.main_function.specs.declared.rest.Totals.{Totals}
 
 -- the totals are those of what was taken and swept
@@ -36,15 +36,6 @@ pub record AreAllPasses (shared : Shared) (desk : DeskMemo) (passes : List Pass)
   pub all : length passes ≡ length desk.back
   pub each : (i : ℕ) (pass : Pass) → get_elem? passes i ≡ some pass → IsPassOf shared pass × ((pass_memo pass).number ≡ i)
 
--- the pass made as many calls as it counts, and those are few
-pub record HasFewCalls (pass : Pass) : Type 0 where
-  pub calls_are : calls_of pass.seat ≡ (pass_memo pass).view.calls
-  pub calls_within : (pass_memo pass).view.calls ≤ 2 ^ 40
-
--- how many calls they made
-abbrev pub all_calls : List Pass → ℕ
-all_calls passes = sum_by (λ pass. (pass_memo pass).view.calls) passes
-
 module _ {C : Type 0} where
   -- how many turns the manager made
   abbrev pub turns_of : Manager C → ℕ
@@ -55,8 +46,8 @@ module _ {C : Type 0} where
   last_of m = m.last
 
   -- the rests that it recorded
-  abbrev pub rests_of : Manager C → List Rest
-  rests_of m = m.rests.items
+  abbrev pub rests_of : Manager C → RestsTold
+  rests_of m = rests_told m.rests
 
   -- there is room for the largest turn
   abbrev pub fits_turn : (C → ℕ → ℕ → Bool) → Manager C → Bool

@@ -3,7 +3,7 @@
 //! Layer 8, turns. Over `report_api`'s desk, `desk_closing`'s laws and any `Chain`; the runs above make it, turn it and
 //! close it. For which turns a manager stands is told by `specs/Standing.antt`, what a turn does by `specs/Turning.antt`,
 //! and what a close leaves by `specs/Closing.antt`. A turn and a close take no memory: only making, a rest and
-//! `reserve` do.
+//! what makes room do.
 #![tactic(auto)]
 
 mod closing;
@@ -14,4 +14,4 @@ mod taking;
 
 pub use making::{Made, make};
 pub use manager::Manager;
-pub use rest::{HasPass, Rest, Totals, TurnFault};
+pub use rest::{HasPass, RestLog, Totals, TurnFault};

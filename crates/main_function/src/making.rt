@@ -5,7 +5,7 @@ ghost use Rattle.buffer_classes.specs.Making.{spec_sizes};
 ghost use Rattle.main_function.specs.Making.{IsBuilt, IsLargest, IsNewManager};
 
 use crate::manager::Manager;
-use crate::rest::Totals;
+use crate::rest::{RestLog, Totals};
 use chain::{Chain, most_sent};
 use ids_config::Config;
 use ids_types::{NoMemory, TurnOut};
@@ -52,7 +52,7 @@ fn build<C: Drop>(
         items: Vec::with_capacity(alloc, positions as usize)?,
         back: Vec::with_capacity(alloc, (positions + events) as usize)?,
         out: TurnOut::make(alloc, positions, most_bytes, most_sent(positions, events))?,
-        rests: Vec::new(alloc),
+        rests: RestLog::new(alloc),
         totals: Totals {
             entries: 0,
             lost_events: 0,
@@ -67,7 +67,8 @@ fn build<C: Drop>(
 }
 
 /// Makes all that one manager needs: what is shared, a pass for each caller, and the manager over its chain, which
-/// has taken no turn and is of this configuration. No other call of this crate takes memory, but `reserve` and `rest`.
+/// has taken no turn and is of this configuration. No other call of this crate takes memory, but `reserve`,
+/// `reserve_rests` and `rest`.
 pub fn make<C: Chain<CtxBuf> + Drop>(
     alloc: Global,
     config: &Config,

@@ -1,18 +1,19 @@
 //! The manager.
-ghost use Rattle.std.specs.Prelude.{◌≡◌, ◌≤◌, ◌<◌, ◌^◌, ◌++◌, ◌∷◌, [], true, List, length, map, reverse, IfOk, OnErr, OnOk};
+ghost use Rattle.std.specs.Prelude.{◌≡◌, ◌≤◌, ◌<◌, ◌^◌, [], true, List, length, map, reverse, IfOk, OnErr, OnOk};
 ghost use Rattle.ids_types.specs.Output.{room_of};
 ghost use Rattle.ids_types.specs.Turns.{Turn};
 ghost use Rattle.ids_config.specs.Parts.{Parts};
 ghost use Rattle.chain.specs.History.{rows_of};
 ghost use Rattle.buffer_classes.specs.Givers.{givers_of, late_of};
 ghost use Rattle.main_function.specs.Closing.{AreCountsOf, CloseLeaves, Closed};
-ghost use Rattle.main_function.specs.Standing.{AreAllPasses, HasPasses, IsManager, IsManagerOf, Stands, StaysSo, all_calls, fits_turn, last_of, rests_of, turns_of};
+ghost use Rattle.main_function.specs.Standing.{AreAllPasses, HasPasses, IsManager, IsManagerOf, Stands, StaysSo, fits_turn, last_of, rests_of, turns_of};
+ghost use Rattle.main_function.specs.Rests.{calls_by, rests_told, with_rest};
 ghost use Rattle.report_queue.specs.{AreAllBack, AreAllSwept, IsAllTaken};
 ghost use Rattle.report_api.specs.{EachSettled, desk_memo, pass_memo};
 ghost use Rattle.main_function.specs.Turning.{IsQuick, LogsOne, TurnFails, TurnLeaves, Turned};
 
 use crate::closing::welcome_all;
-use crate::rest::{HasPass, Rest, Totals, TurnFault, all_calls};
+use crate::rest::{HasPass, RestLog, Totals, TurnFault};
 use crate::taking::take_ready;
 use chain::Chain;
 use event_memory::Memory;
@@ -30,7 +31,7 @@ pub struct Manager<C> {
     pub(crate) items: Vec<Entry<CtxBuf>>,
     pub(crate) back: Vec<CtxBuf>,
     pub(crate) out: TurnOut,
-    pub(crate) rests: Vec<Rest>,
+    pub(crate) rests: RestLog,
     pub(crate) totals: Totals,
     // The tick of the last turn.
     pub(crate) last: u64,
@@ -105,30 +106,30 @@ impl<C: Chain<CtxBuf>> Manager<C> {
         self.turns
     }
 
-    /// The rests in order.
-    pub fn rests(&self) -> &[Rest]
-        ensures { result.now ≡ rests_of self.now }
+    /// The rests so far.
+    pub fn rests(&self) -> &RestLog
+        ensures { rests_told result.now ≡ rests_of self.now }
     {
         &self.rests
     }
 
-    /// Records a rest: how many turns were made, and how many calls by these passes. No call is under way, since the
-    /// passes are all lent to it.
-    #[tactic(auto, using(crate::proofs::PassesLemmas::calls_kept))]
+    /// Makes room for so many rests of so many passes, so that they take no memory when they come.
+    pub fn reserve_rests(&mut self, rests: u64, passes: u64) -> Result<(), NoMemory>
+        ensures same { StaysSo C.stands C.events C.kept self.old self.new }
+        ensures rests { rests_of self.new ≡ rests_of self.old }
+    {
+        self.rests.reserve(rests, passes)
+    }
+
+    /// Records a rest: how many turns were made, and how many calls by each of these passes. No call is under way,
+    /// since the passes are all lent to it.
     pub fn rest<P: HasPass>(&mut self, passes: &[P]) -> Result<(), NoMemory>
         requires passes { HasPasses C.events C.kept (map P.its passes.now) self.old }
-        ensures ok { OnOk result (rests_of self.new ≡
-            rests_of self.old ++ record { turns = turns_of self.old; calls = all_calls (map P.its passes.now) } ∷ []) }
+        ensures ok { OnOk result (rests_of self.new ≡ with_rest (turns_of self.old) (calls_by P.its passes.now) (rests_of self.old)) }
         ensures err { OnErr result (rests_of self.new ≡ rests_of self.old) }
         ensures same { StaysSo C.stands C.events C.kept self.old self.new }
     {
-        let calls = all_calls(passes);
-        self.rests.reserve(1)?;
-        self.rests.push_reserved(Rest {
-            turns: self.turns,
-            calls,
-        });
-        Ok(())
+        self.rests.add(self.turns, passes)
     }
 
     /// Whether there is room for the largest turn: as many entries as there are event buffers, each with as much
@@ -157,7 +158,7 @@ impl<C: Chain<CtxBuf>> Manager<C> {
     }
 
     /// How many buffers of a class wait for a free position.
-    #[tactic(auto, using(crate::proofs::PassesLemmas::few_late))]
+    #[tactic(auto, using(crate::proofs::GiverLemmas::few_late))]
     pub fn late(&self, class: u8) -> u16
         requires mine { IsManager C.events C.kept self.now }
         requires class { class < length (givers_of self.now.desk.givers) }

@@ -1,11 +1,11 @@
-//! What a turn refuses, what a rest records, and what closing tells.
-ghost use Rattle.std.specs.Prelude.{◌≡◌, ◌+◌, ◌≤◌, ◌^◌, length, sum_by};
-ghost use Rattle.std.specs.List.{All};
-ghost use Rattle.report_api.specs.Passes.{pass_memo};
+//! What a turn refuses, what rests record, and what closing tells.
+ghost use Rattle.std.specs.Prelude.{◌≡◌, ◌+◌, ◌≤◌, ◌^◌, OnErr, OnOk};
 ghost use Rattle.report_api.specs.declared.pass.Pass.{Pass as PassValue};
-ghost use Rattle.main_function.specs.Standing.{HasFewCalls};
+ghost use Rattle.main_function.specs.Rests.{calls_by, rests_told, no_rests, with_rest};
 
+use ids_types::NoMemory;
 use report_api::Pass;
+use std::alloc::Global;
 
 /// Why a turn is refused.
 #[derive(Clone, Copy, Debug, PartialEq, Eq)]
@@ -16,13 +16,48 @@ pub enum TurnFault {
     TickTooLarge = 2,
 }
 
-/// A time at which no call was under way.
-#[derive(Clone, Copy, Debug, PartialEq, Eq)]
-pub struct Rest {
-    /// How many turns had been made.
-    pub turns: u64,
-    /// How many calls the passes had made.
-    pub calls: u64,
+/// What a manager recorded at its rests, times at which no call was under way, in their order.
+#[derive(Debug, Drop)]
+pub struct RestLog {
+    /// How many turns had been made: a number for each rest.
+    pub turns: Vec<u64>,
+    /// How many calls each caller had made: a number for each caller, rest by rest.
+    pub calls: Vec<u64>,
+}
+
+impl RestLog {
+    /// No rest yet. It takes no memory.
+    pub(crate) fn new(alloc: Global) -> RestLog
+        ensures { rests_told result ≡ no_rests }
+    {
+        RestLog {
+            turns: Vec::new(alloc),
+            calls: Vec::new(alloc),
+        }
+    }
+
+    /// Makes room for so many rests of so many passes.
+    pub(crate) fn reserve(&mut self, rests: u64, passes: u64) -> Result<(), NoMemory>
+        ensures { rests_told self.new ≡ rests_told self.old }
+    {
+        self.turns.reserve(rests as usize)?;
+        self.calls.reserve(rests.saturating_mul(passes) as usize)?;
+        Ok(())
+    }
+
+    /// Adds a rest of these passes after so many turns.
+    pub(crate) fn add<P: HasPass>(&mut self, turns: u64, passes: &[P]) -> Result<(), NoMemory>
+        ensures ok { OnOk result (rests_told self.new ≡ with_rest turns (calls_by P.its passes.now) (rests_told self.old)) }
+        ensures err { OnErr result (rests_told self.new ≡ rests_told self.old) }
+    {
+        self.turns.reserve(1)?;
+        self.calls.reserve(passes.len())?;
+        self.turns.push_reserved(turns);
+        for has in passes {
+            self.calls.push_reserved(has.pass().calls());
+        }
+        Ok(())
+    }
 }
 
 /// What all turns together took and lost.
@@ -67,17 +102,4 @@ impl HasPass for Pass {
     fn pass(&self) -> &Pass {
         self
     }
-}
-
-/// How many calls these passes made.
-pub(crate) fn all_calls<P: HasPass>(passes: &[P]) -> u64
-    requires few { length passes.now ≤ 32 }
-    requires within { All (λ has. HasFewCalls (P.its has)) passes.now }
-    ensures { result ≡ sum_by (λ has. (pass_memo (P.its has)).view.calls) passes.now }
-{
-    let mut calls = 0;
-    for has in passes {
-        calls += has.pass().calls();
-    }
-    calls
 }

@@ -39,7 +39,7 @@ fn gives<R: Threads + Sync>(rt: &R, alloc: Global, row: &str) -> Result<bool, Fa
         is_journal
             && sent.as_slice() == messages.as_bytes()
             && told.ends as u64 == told.turns
-            && told.rests == rounds.saturating_mul(2),
+            && told.rests.len() == rounds.saturating_mul(2),
     )
 }
 
@@ -60,6 +60,7 @@ fn each_round_has_its_own_calls(rt: HostRuntime) -> Result<(), Fail> {
     let config = r#"{"form":1,"instance":18,"callers":2,"ring":8,"events":[{"id":42,"sensor":3}]}"#;
     let told = told_of(&rt, alloc, config, &lines(alloc, TWO_ROUNDS)?, &OpenGate)?;
     assert_eq!(rt; told.calls.as_str(), "5: 0.0 1.0\n9: 0.1 0.2 1.1\n9:\n");
+    assert_eq!(rt; told.rests.as_slice(), [0, 1, 1, 2].as_slice());
     assert_eq!(rt;
         told.at_rests.as_slice(),
         [1, 1, 1, 1, 3, 2, 3, 2].as_slice()

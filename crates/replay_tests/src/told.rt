@@ -9,8 +9,8 @@ use std::thread::Threads;
 use trace_replay::{Gate, Replayed, replay};
 use trace_text::read as read_trace;
 
-/// What was told of a replay: its journal and its messages, the calls of each turn, how many turns, entries, losses, ends
-/// and rests it had, and the calls of each caller at the rests.
+/// What was told of a replay: its journal and its messages, the calls of each turn, how many turns, entries, losses and
+/// ends it had, and the turns and the calls of each caller at the rests.
 #[derive(Drop)]
 pub struct Told {
     pub journal: Vec<u8>,
@@ -21,7 +21,7 @@ pub struct Told {
     pub entries: u64,
     pub losses: usize,
     pub ends: usize,
-    pub rests: usize,
+    pub rests: Vec<u64>,
     pub at_rests: Vec<u64>,
 }
 
@@ -56,9 +56,9 @@ fn tell(alloc: Global, replayed: Replayed) -> Result<Told, Fail> {
         entries: replayed.history.total_entries(),
         losses: replayed.losses.len(),
         ends: replayed.ends.len(),
-        rests: replayed.manager.rests().len(),
+        rests: Vec::from_slice(alloc, &replayed.manager.rests().turns)?,
+        at_rests: Vec::from_slice(alloc, &replayed.manager.rests().calls)?,
         sent: replayed.sent,
-        at_rests: replayed.calls,
     })
 }
 

@@ -150,10 +150,10 @@ impl<C: Chain<CtxBuf>> Run<C> {
             "late" => push_number(told, u64::from(self.late(number(step, 2)))),
             "fits" => push_number(told, u64::from(self.made.manager.fits())),
             "rests" => {
-                push_number(told, self.made.manager.rests().len() as u64)?;
-                for rest in self.made.manager.rests() {
-                    push_field(told, rest.turns)?;
-                    push_field(told, rest.calls)?;
+                let rests = self.made.manager.rests();
+                push_number(told, rests.turns.len() as u64)?;
+                for number in rests.turns.iter().chain(&rests.calls) {
+                    push_field(told, *number)?;
                 }
                 Ok(())
             }

@@ -1,5 +1,5 @@
 -- The end of a replay: from where its callers and its manager stand to what it gives.
-use Rattle.trace_replay.proofs.Names.{◌≡◌, ℕ, suc, ◌+◌, ◌≤◌, ◌<◌, ◌⊎◌, ⊎_elim, List, [], ◌∷◌, ◌++◌, length, map, take, refl, sym, ap, subst, ◌∙◌, arith, AllByRecursion, length-map, map-append, take_all, flat_map, flat_map-cons, Turn, Parts, IsValid, all_losses, losses_from, IsMerge, last_tick, lines_of, ticks_of, AreRounds, IsAllowedRound, Buffer, desk_memo, PassMemo, pass_memo, Shared, HaveAllCalls, fates_in, losses_in, Traced, HavePlayed, sizes_in, Closes, IsRecordOf, IsSmallTurn, tick_of, turns_in, IsBetween, all_rests, as_rest, AreFew, HasListed, losses_by, passes_of, told, Caller, Recorder}
+use Rattle.trace_replay.proofs.Names.{◌≡◌, ℕ, suc, ◌+◌, ◌≤◌, ◌<◌, ◌⊎◌, ⊎_elim, List, [], ◌∷◌, ◌++◌, length, map, take, refl, sym, ap, subst, ◌∙◌, arith, AllByRecursion, length-map, map-append, take_all, flat_map-cons, Turn, Parts, IsValid, all_losses, losses_from, IsMerge, last_tick, lines_of, ticks_of, AreRounds, IsAllowedRound, Buffer, desk_memo, PassMemo, pass_memo, Shared, HaveAllCalls, fates_in, losses_in, Traced, HavePlayed, sizes_in, Closes, IsRecordOf, IsSmallTurn, tick_of, turns_in, IsBetween, all_rests, as_told, AreFew, HasListed, losses_by, passes_of, told, Caller, Recorder}
 use mathlib.Core.Option.{some}
 use lib.ListN.{get_elem?}
 use Rattle.merge_texts.specs.Small.{AreSmall}
@@ -32,10 +32,10 @@ all_map P Q f [] all = tt
 all_map P Q f (x ∷ xs) all = (f x all.0, all_map P Q f xs all.1)
 
 module _ {C : Type 0} (stands : C → Parts → List Turn → Type 0) (events : C → ℕ) (kept : C → List Buffer) (config : Parts)
-    (shared : Shared) (trace : Traced) (callers : List Caller) (calls : List ℕ) (r1 r2 : Recorder C) (tick : ℕ)
+    (shared : Shared) (trace : Traced) (callers : List Caller) (r1 r2 : Recorder C) (tick : ℕ)
     (valid : IsValid config) (of_config : trace.callers ≡ config.callers) (rounds : AreRounds config trace.rounds)
     (few : AreFew trace.callers trace.rounds) (made_for : IsMadeFor config shared)
-    (between : IsBetween events kept shared trace (length trace.rounds) callers calls r1) (was : IsRecordOf stands config r1)
+    (between : IsBetween events kept shared trace (length trace.rounds) callers r1) (was : IsRecordOf stands config r1)
     (closes : Closes stands events kept shared tick (views_of callers) r1 r2) (tick_is : tick ≡ last_tick trace.rounds) where
   abbrev views : List PassMemo
   views = views_of callers
@@ -112,7 +112,7 @@ module _ {C : Type 0} (stands : C → Parts → List Turn → Type 0) (events : 
   }
 
   -- it is a replay of the rounds
-  pub is_replay : IsReplayOver stands events kept config trace.rounds r2.manager (given r2 (losses_by callers) calls)
+  pub is_replay : IsReplayOver stands events kept config trace.rounds r2.manager (given r2 (losses_by callers))
   is_replay = record {
     merged = rw losses_are merge;
     fits = rw losses_are (merge_fits config trace.rounds (turns_in r2) (losses_in config.ring views) valid rounds are_small merge);
@@ -124,8 +124,7 @@ module _ {C : Type 0} (stands : C → Parts → List Turn → Type 0) (events : 
     made_for = made_for;
     is_manager = closes.advances.manager_is;
     stands_for = recorded.stands_for;
-    rests_are = closes.advances.rests_are ∙ between.rests_are ∙ ap (λ n. map as_rest (all_rests n trace.rounds)) of_config;
-    calls_are = between.calls_are ∙ ap (λ n. flat_map (λ rest. rest.calls) (all_rests n trace.rounds)) of_config;
+    rests_are = closes.advances.rests_are ∙ between.rests_are ∙ ap (λ n. as_told (all_rests n trace.rounds)) of_config;
     passes = views;
     are_back = closes.back_is;
     played = played;

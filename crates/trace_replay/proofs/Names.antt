@@ -16,7 +16,8 @@ pub use Rattle.ids_types.specs.Output.{Output}
 pub use Rattle.ids_types.specs.Plain.{kept_bytes}
 pub use Rattle.ids_types.specs.Turns.{Turn, entry_at, extended, with_entry, entries_of, Room, turn_at}
 pub use Rattle.main_function.specs.Closing.{Closed, all_back, CloseLeaves}
-pub use Rattle.main_function.specs.Standing.{IsManagerOf, AreAllPasses, StaysSo, all_calls, last_of, rests_of, turns_of}
+pub use Rattle.main_function.specs.Standing.{IsManagerOf, AreAllPasses, StaysSo, last_of, rests_of, turns_of}
+pub use Rattle.main_function.specs.Rests.{RestsTold, rests_told, with_rest}
 pub use Rattle.main_function.specs.Turning.{Turned, TurnLeaves}
 pub use Rattle.main_function.specs.declared.manager.Manager.{Manager}
 pub use Rattle.merge_spec.specs.Decided.{all_losses, losses_from}
@@ -40,8 +41,8 @@ pub use Rattle.trace_text.specs.TraceView.{Traced, round_at}
 pub use Rattle.trace_replay.specs.Calls.{AsksOnce, CarriesAsked, IsAsked, control_look, lost_report, report_look, Answers, lost_reports, CallsOnce, Told, loss_of, MayBeAsked}
 pub use Rattle.trace_replay.specs.Played.{HavePlayed, sizes_in}
 pub use Rattle.trace_replay.specs.Recording.{Closes, IsRecordOf, IsSmallTurn, tick_of, turns_in, Advances, Continues, StaysSame, StillRecords}
-pub use Rattle.trace_replay.specs.Rests.{all_rests, as_rest, lines_from, rests_before, ticks_before}
-pub use Rattle.trace_replay.specs.Rounds.{IsBetween, CanPlay, EndsRound, RestsOnce}
+pub use Rattle.trace_replay.specs.Rests.{all_rests, as_told, lines_from, rests_before, ticks_before}
+pub use Rattle.trace_replay.specs.Rounds.{IsBetween, CanPlay, EndsRound, Plays, RestsOnce}
 pub use Rattle.trace_replay.specs.Standing.{AreFew, HasListed, losses_by, passes_of, told, HasPlayed, lines_before, AreAtRest, IsAtRest, MayAllBeAsked, HasRoom, calls_of_each}
 pub use Rattle.trace_replay.specs.declared.caller.Caller.{Caller}
 pub use Rattle.trace_replay.specs.declared.gathered.Gathered.{Gathered}

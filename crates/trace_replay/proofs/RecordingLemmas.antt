@@ -1,5 +1,5 @@
 -- What was gathered, with one turn more, and with those of one list of ticks behind those of another.
-use Rattle.trace_replay.proofs.Names.{◌≡◌, ℕ, zero, suc, ◌+◌, ◌-◌, ◌≤◌, ◌<◌, ◌^◌, List, [], ◌∷◌, ◌++◌, length, min, take, get_or, refl, sym, ap, ◌∙◌, arith, append_assoc, append-nil, length-append, AllByRecursion, length-map, map-append, Output, Turn, Parts, KeepUpFrom, last_from, Buffer, DeskMemo, desk_memo, PassMemo, Shared, Closed, all_back, IsManagerOf, Turned, Manager, Advances, Closes, Continues, StaysSame, tick_of, turns_in, Gathered, Recorder}
+use Rattle.trace_replay.proofs.Names.{◌≡◌, ℕ, zero, suc, ◌+◌, ◌-◌, ◌≤◌, ◌<◌, ◌^◌, List, [], ◌∷◌, ◌++◌, length, min, take, get_or, refl, sym, ap, ◌∙◌, arith, append_assoc, append-nil, length-append, AllByRecursion, length-map, map-append, Output, Turn, Parts, KeepUpFrom, last_from, Buffer, DeskMemo, desk_memo, PassMemo, Shared, Closed, all_back, IsManagerOf, rests_told, Turned, Manager, Advances, Closes, Continues, StaysSame, tick_of, turns_in, Gathered, Recorder}
 use Rattle.ids_types.specs.Carries.{entry_by}
 use Rattle.chain.proofs.TranscriptLemmas.{newest_first, transcript_more}
 use Rattle.trace_replay.specs.Recording.{Gathers}
@@ -94,7 +94,7 @@ module _ {C : Type 0} (stands : C → Parts → List Turn → Type 0) (events : 
                 transcript = rw history (transcript_more was.transcript sends adds.transcript);
                 causal = rw (history, newest_first before turned.turn) (turned.limited_is config before stood, was.causal);
               };
-          rests_are = ap (λ rests. rests.items) turned.rests_are ∙ same.rests_are;
+          rests_are = ap rests_told turned.rests_are ∙ same.rests_are;
           last_is = turned.last_is;
           count_is = omega (arith, turned.turns_are, same.manager_is.turns_are);
         }

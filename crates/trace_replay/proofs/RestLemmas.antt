@@ -1,9 +1,9 @@
 -- What the rests of a replay tell, round by round and caller by caller.
-use Rattle.trace_replay.proofs.Names.{◌⊎◌, ⊎_elim, ◌≡◌, ℕ, zero, suc, ◌+◌, ◌-◌, ◌*◌, ◌≤◌, ◌<◌, List, [], ◌∷◌, ◌++◌, length, sum, take, refl, sym, ap, subst, ◌∙◌, arith, length-append, sum_by-cons, append_assoc, map, map-append, Round, lines_of, all_calls, calls_of, pass_memo, Pass, calls_of_each, lines_before, passes_of, Caller}
-use Rattle.std.proofs.lemmas.List.Sums.{sum-map}
+use Rattle.trace_replay.proofs.Names.{◌⊎◌, ⊎_elim, ◌≡◌, ℕ, zero, suc, ◌+◌, ◌-◌, ◌*◌, ◌≤◌, ◌<◌, List, [], ◌∷◌, ◌++◌, length, take, refl, sym, ap, subst, ◌∙◌, arith, length-append, append-nil, append_assoc, map, map-append, flat_map, Round, lines_of, calls_of, RestsTold, with_rest, calls_of_each, lines_before, Caller}
+use Rattle.std.proofs.lemmas.Grind.{flat_map-append}
 use mathlib.Core.Option.{some}
 use lib.ListN.{get_elem?}
-use Rattle.trace_replay.specs.Rests.{as_rest, CallerRest, LiesInItsRound, TellsCalls, all_rests, lines_from, rests_before, ticks_before}
+use Rattle.trace_replay.specs.Rests.{as_told, CallerRest, LiesInItsRound, TellsCalls, all_rests, lines_from, rests_before, ticks_before}
 
 -- ---- callers
 
@@ -16,19 +16,6 @@ each_made rounds from (caller ∷ callers) each =
     let rest = each_made rounds (suc from) callers (λ i j c is at. each (suc i) j c (omega (arith, is)) at) in
     ap (λ calls. calls_of caller.pass.seat ∷ calls) rest
     ∙ ap (λ n. n ∷ lines_from (suc from) (length callers) rounds) (each 0 from caller (omega arith) refl)
-
--- all calls are those of each
-pub calls_summed : (callers : List Caller)
-    → ((i : ℕ) (caller : Caller) → get_elem? callers i ≡ some caller → calls_of caller.pass.seat ≡ (pass_memo caller.pass).view.calls)
-    → all_calls (passes_of callers) ≡ sum (calls_of_each callers)
-calls_summed [] each = refl
-calls_summed (caller ∷ callers) each =
-    let all : all_calls (passes_of (caller ∷ callers)) ≡ (pass_memo caller.pass).view.calls + all_calls (passes_of callers) =
-    sum_by-cons (λ (pass : Pass). (pass_memo pass).view.calls) caller.pass (passes_of callers) in
-    let added : sum (calls_of_each (caller ∷ callers)) ≡ calls_of caller.pass.seat + sum (calls_of_each callers) =
-    sum-map (λ (c : Caller). calls_of c.pass.seat) (caller ∷ callers) ∙ sum_by-cons (λ (c : Caller). calls_of c.pass.seat) caller callers
-    ∙ ap (λ n. calls_of caller.pass.seat + n) (sym (sum-map (λ (c : Caller). calls_of c.pass.seat) callers)) in
-    omega (arith, all, added, each 0 caller refl, calls_summed callers (λ i c at. each (suc i) c at))
 
 -- ---- places
 
@@ -49,12 +36,22 @@ line_at_place from (suc n) (suc i) j rounds low is = line_at_place (suc from) n 
 
 -- ---- rests
 
+abbrev log : List ℕ → List ℕ → RestsTold
+log turns calls = record { turns = turns; calls = calls }
+
 -- two rests more, as the manager tells them
-pub two_told : (rests : List CallerRest) (lines : List ℕ) (t1 t3 calls m1 m3 : ℕ) → t1 ≡ m1 → t3 ≡ m3 → calls ≡ sum lines
-    → (map as_rest rests ++ record { turns = t1; calls = calls } ∷ []) ++ record { turns = t3; calls = calls } ∷ []
-    ≡ map as_rest (rests ++ record { turns = m1; calls = lines } ∷ record { turns = m3; calls = lines } ∷ [])
-two_told rests lines t1 t3 calls m1 m3 first second summed = rw (first, second, summed) (append_assoc (map as_rest rests) (_ ∷ []) (_ ∷ [])
-    ∙ sym (map-append as_rest rests (record { turns = m1; calls = lines } ∷ record { turns = m3; calls = lines } ∷ [])))
+pub two_told : (rests : List CallerRest) (calls lines : List ℕ) (t1 t3 m1 m3 : ℕ) → t1 ≡ m1 → t3 ≡ m3 → calls ≡ lines
+    → with_rest t3 calls (with_rest t1 calls (as_told rests)) ≡ as_told (rests ++ record { turns = m1; calls = lines } ∷ record { turns = m3; calls = lines } ∷ [])
+two_told rests calls lines t1 t3 m1 m3 first second same =
+    let more : List CallerRest = record { turns = m1; calls = lines } ∷ record { turns = m3; calls = lines } ∷ [] in
+    let told : RestsTold = as_told rests in
+    let all : RestsTold = as_told (rests ++ more) in
+    let turns : (told.turns ++ t1 ∷ []) ++ t3 ∷ [] ≡ all.turns =
+    rw (first, second) (append_assoc told.turns (_ ∷ []) (_ ∷ []) ∙ sym (map-append (λ rest. rest.turns) rests more)) in
+    let made : (told.calls ++ calls) ++ calls ≡ all.calls =
+    rw same (append_assoc told.calls lines lines ∙ ap (λ ls. told.calls ++ (lines ++ ls)) (sym (append-nil lines))
+    ∙ sym (flat_map-append (λ rest. rest.calls) rests more)) in
+    ap (λ ts. log ts ((told.calls ++ calls) ++ calls)) turns ∙ ap (log all.turns) made
 
 module _ (n : ℕ) (rounds : List Round) where
   -- the two rests of round k

@@ -1,10 +1,10 @@
 -- One round more.
-use Rattle.trace_replay.proofs.Names.{◌≡◌, ℕ, zero, suc, ◌+◌, ◌≤◌, ◌<◌, ◌^◌, List, [], ◌∷◌, ◌++◌, length, map, take, drop, refl, sym, ap, subst, ◌∙◌, arith, append_assoc, length-append, append-nil, ◌-◌, sum, All, AllByRecursion, flat_map, length-map, length_push, map-append, take_more, take-append-drop, All-from_recursion, Turn, Parts, KeepUpFrom, Round, lines_of, round_ticks, begun_round, last_from, AreTicks, flat_map-push, keep_split, last_from-push, Buffer, at_length, DeskMemo, desk_memo, Shared, or_at, AreAllPasses, all_calls, last_of, turns_of, Traced, round_at, Continues, StillRecords, tick_of, turns_in, CanPlay, EndsRound, IsBetween, RestsOnce, as_rest, calls_of, calls_of_each, lines_from, rests_before, ticks_before, AreAtRest, IsAtRest, passes_of, Caller, Recorder}
+use Rattle.trace_replay.proofs.Names.{◌≡◌, ℕ, zero, suc, ◌+◌, ◌≤◌, ◌<◌, ◌^◌, List, [], ◌∷◌, ◌++◌, length, map, take, drop, refl, sym, ap, subst, ◌∙◌, arith, append_assoc, length-append, ◌-◌, All, AllByRecursion, flat_map, length-map, length_push, map-append, take_more, take-append-drop, All-from_recursion, Turn, Parts, KeepUpFrom, Round, lines_of, round_ticks, begun_round, last_from, AreTicks, flat_map-push, keep_split, last_from-push, Buffer, at_length, DeskMemo, desk_memo, Shared, or_at, AreAllPasses, last_of, turns_of, with_rest, Traced, round_at, Continues, StaysSame, StaysSo, StillRecords, tick_of, turns_in, CanPlay, EndsRound, IsBetween, Plays, as_told, calls_of, calls_of_each, lines_from, rests_before, ticks_before, AreAtRest, IsAtRest, passes_of, Caller, Recorder}
 use Rattle.std.proofs.lemmas.Grind.{flat_map-append}
 use mathlib.Core.Option.{some, some-injective}
 use lib.ListN.{get_elem?}
 use Rattle.trace_replay.proofs.RecordingLemmas.{all_push, last_on}
-use Rattle.trace_replay.proofs.RestLemmas.{calls_summed, each_made, rests_more, two_rests, two_told}
+use Rattle.trace_replay.proofs.RestLemmas.{each_made, rests_more, two_told}
 
 -- ---- lists
 
@@ -99,25 +99,38 @@ module _ (shared : Shared) (rounds : List Round) (k : ℕ) (callers : List Calle
       subst (λ place. calls_of caller.pass.seat ≡ length (lines_of place (take k rounds))) same
       (its.is_pass.at.caller.calls_are ∙ its.listed.played.calls_are))
 
-  pub calls_added : all_calls (passes_of callers) ≡ sum (lines_from 0 (length callers) (take k rounds))
-  calls_added = calls_summed callers (λ i caller at. (at_rest i caller at).is_pass.at.caller.calls_are) ∙ ap sum calls_made
-
 -- ---- one round more
 
 module _ {C : Type 0} (stands : C → Parts → List Turn → Type 0) (events : C → ℕ) (kept : C → List Buffer) where
   -- what was gathered is so still behind a rest
-  still_records : {calls : ℕ} {old new : Recorder C} → RestsOnce stands events kept calls old new → StillRecords stands old new
-  still_records {old = old} {new = new} rests config was = rw rests.gathered_is record {
-    stands_for = rests.manager_is.stands_then config (turns_in old) was.stands_for;
+  pub still_records : (old new : Recorder C) → StaysSo stands events kept old.manager new.manager → new.gathered ≡ old.gathered
+      → StillRecords stands old new
+  still_records old new stays same config was = rw same record {
+    stands_for = stays.stands_then config (turns_in old) was.stands_for;
     transcript = was.transcript;
     causal = was.causal;
   }
 
+  -- and what stands between two rounds stands so where room was made
+  pub between_still : (shared : Shared) (trace : Traced) (k : ℕ) (callers : List Caller) (old new : Recorder C) → StaysSame stands events kept old new
+      → IsBetween events kept shared trace k callers old → IsBetween events kept shared trace k callers new
+  between_still shared trace k callers old new same between = record {
+    manager_is = same.manager_is.is_manager shared between.manager_is;
+    at_rest = between.at_rest;
+    as_many = between.as_many;
+    all = between.all ∙ sym (ap (λ desk. length (desk_memo desk).back) same.manager_is.desk_is);
+    ticks_are = rw same.gathered_is between.ticks_are;
+    small = rw same.gathered_is between.small;
+    rests_are = same.rests_are ∙ between.rests_are;
+    last_is = same.manager_is.last_is ∙ between.last_is;
+    count_is = same.manager_is.turns_are ∙ between.count_is;
+  }
+
   module _ (shared : Shared) (positions : ℕ) (trace : Traced) (can : CanPlay shared positions trace) (k : ℕ) (less : k < length trace.rounds)
-      (r0 r1 r4 : Recorder C) (old new : List Caller) (calls now : List ℕ) (between : IsBetween events kept shared trace k old calls r0)
+      (r0 r1 r4 : Recorder C) (old new : List Caller) (between : IsBetween events kept shared trace k old r0)
       (beside : Continues stands events kept shared (round_at trace.rounds k).beside r0 r1)
       (played : AreAtRest shared trace.rounds (k + 1) new) (many : length new ≡ trace.callers)
-      (ends : EndsRound stands events kept shared (round_at trace.rounds k).after new calls now r1 r4) where
+      (ends : EndsRound stands events kept shared (round_at trace.rounds k).after new r1 r4) where
     abbrev r2 : Recorder C
     r2 = ends.rested
 
@@ -128,9 +141,9 @@ module _ {C : Type 0} (stands : C → Parts → List Turn → Type 0) (events : 
     as_many = many ∙ sym between.as_many
 
     -- the records stay so
-    pub round_records : StillRecords stands r0 r4
-    round_records = λ config was. still_records ends.after config (ends.turn.advances.records config
-        (still_records ends.before config (beside.advances.records config was)))
+    round_records : StillRecords stands r0 r4
+    round_records = λ config was. still_records r3 r4 ends.after.manager_is ends.after.gathered_is config (ends.turn.advances.records config
+        (still_records r1 r2 ends.before.manager_is ends.before.gathered_is config (beside.advances.records config was)))
 
     turns_more : turns_in r4 ≡ turns_in r0 ++ (beside.advances.turns ++ ends.turn.advances.turns)
     turns_more = ap (λ g. g.history.turns) ends.after.gathered_is ∙ ends.turn.advances.turns_are
@@ -138,20 +151,20 @@ module _ {C : Type 0} (stands : C → Parts → List Turn → Type 0) (events : 
         ∙ append_assoc (turns_in r0) beside.advances.turns ends.turn.advances.turns
 
     -- all stands as it does between rounds
-    pub round_played : IsBetween events kept shared trace (k + 1) new now r4
-    round_played =
+    round_between : IsBetween events kept shared trace (k + 1) new r4
+    round_between =
         let here = round_at trace.rounds k in
         let more = ticks_more trace.rounds k less in
         let n = trace.callers in
         let calls_now : calls_of_each new ≡ lines_from 0 n (take (k + 1) trace.rounds) =
         subst (λ n. calls_of_each new ≡ lines_from 0 n (take (k + 1) trace.rounds)) many (calls_made shared trace.rounds (k + 1) new played) in
-        let summed : all_calls (passes_of new) ≡ sum (lines_from 0 n (take (k + 1) trace.rounds)) =
-        subst (λ n. all_calls (passes_of new) ≡ sum (lines_from 0 n (take (k + 1) trace.rounds))) many (calls_added shared trace.rounds (k + 1) new played) in
         let made1 : turns_of r1.manager ≡ length (ticks_before trace.rounds k) + length here.beside =
         omega (arith, beside.advances.count_is, between.count_is) in
         let made3 : turns_of r3.manager ≡ turns_of r1.manager + 1 = omega (arith, ends.turn.advances.count_is, ends.before.manager_is.turns_are) in
-        let last2 : last_of r2.manager ≡ last_from (last_from 0 (ticks_before trace.rounds k)) here.beside =
-        ends.before.manager_is.last_is ∙ beside.advances.last_is ∙ ap (λ tick. last_from tick here.beside) between.last_is in
+        let ticks = ap length more ∙ length-append (ticks_before trace.rounds k) (here.beside ++ here.after ∷ []) in
+        let first : turns_of r1.manager ≡ length (ticks_before trace.rounds (k + 1)) - 1 = omega (arith, made1, ticks, length_push here.beside here.after) in
+        let second : turns_of r3.manager ≡ length (ticks_before trace.rounds (k + 1)) =
+        omega (arith, made3, made1, ticks, length_push here.beside here.after) in
         record {
           manager_is = ends.after.manager_is.is_manager shared ends.turn.advances.manager_is;
           at_rest = played;
@@ -161,32 +174,16 @@ module _ {C : Type 0} (stands : C → Parts → List Turn → Type 0) (events : 
           ticks_are = rw (turns_more, more) (map-append tick_of (turns_in r0) (beside.advances.turns ++ ends.turn.advances.turns)
               ∙ rw (between.ticks_are, map-append tick_of beside.advances.turns ends.turn.advances.turns, beside.advances.ticks_are, ends.turn.advances.ticks_are) refl);
           small = rw turns_more (all_push _ (turns_in r0) _ between.small (all_push _ beside.advances.turns ends.turn.advances.turns beside.advances.small ends.turn.advances.small));
-          rests_are =
-              let R = rests_before n trace.rounds k in
-              let ticks = ap length more ∙ length-append (ticks_before trace.rounds k) (here.beside ++ here.after ∷ []) in
-              let first : turns_of r1.manager ≡ length (ticks_before trace.rounds (k + 1)) - 1 =
-              omega (arith, made1, ticks, length_push here.beside here.after) in
-              let second : turns_of r3.manager ≡ length (ticks_before trace.rounds (k + 1)) =
-              omega (arith, made3, made1, ticks, length_push here.beside here.after) in
-              ends.after.rests_are
-              ∙ ap (λ rests. rests ++ record { turns = turns_of r3.manager; calls = all_calls (passes_of new) } ∷ []) (ends.turn.advances.rests_are ∙ ends.before.rests_are
-              ∙ ap (λ rests. rests ++ record { turns = turns_of r1.manager; calls = all_calls (passes_of new) } ∷ []) (beside.advances.rests_are ∙ between.rests_are))
-              ∙ two_told R (lines_from 0 n (take (k + 1) trace.rounds)) _ _ _ _ _ first second summed ∙ ap (map as_rest) (sym (rests_more n trace.rounds k));
-          calls_are =
-              let R = rests_before n trace.rounds k in
-              let lines = lines_from 0 n (take (k + 1) trace.rounds) in
-              ends.calls_are ∙ rw (between.calls_are, calls_now) (append_assoc (flat_map (λ rest. rest.calls) R) lines lines
-              ∙ ap (λ ls. flat_map (λ rest. rest.calls) R ++ (lines ++ ls)) (sym (append-nil lines))
-              ∙ sym (flat_map-append (λ rest. rest.calls) R (two_rests n trace.rounds k))
-              ∙ ap (flat_map (λ rest. rest.calls)) (sym (rests_more n trace.rounds k)));
+          rests_are = ends.after.rests_are
+              ∙ ap (with_rest (turns_of r3.manager) (calls_of_each new)) (ends.turn.advances.rests_are ∙ ends.before.rests_are
+              ∙ ap (with_rest (turns_of r1.manager) (calls_of_each new)) (beside.advances.rests_are ∙ between.rests_are))
+              ∙ two_told (rests_before n trace.rounds k) (calls_of_each new) (lines_from 0 n (take (k + 1) trace.rounds)) _ _ _ _ first second calls_now
+              ∙ ap as_told (sym (rests_more n trace.rounds k));
           last_is = ends.after.manager_is.last_is ∙ ends.turn.advances.last_is ∙ sym (rw more (last_on 0 (ticks_before trace.rounds k) (here.beside ++ here.after ∷ [])
               ∙ last_from-push _ here.beside here.after []));
-          count_is = rw more (omega (
-            arith,
-            ends.after.manager_is.turns_are,
-            made3,
-            made1,
-            length-append (ticks_before trace.rounds k) (here.beside ++ here.after ∷ []),
-            length_push here.beside here.after,
-          ));
+          count_is = ends.after.manager_is.turns_are ∙ second;
         }
+
+    -- one round more was played
+    pub round_played : Plays stands events kept shared trace (k + 1) new r0 r4
+    round_played = record { between = round_between; records = round_records }

@@ -66,7 +66,7 @@ module _ {C : Type 0} (stands : C → Parts → List Turn → Type 0) (events : 
       }
 
   -- before the first round
-  pub begins : IsBetween events kept shared trace 0 callers [] r
+  pub begins : IsBetween events kept shared trace 0 callers r
   begins =
       let many : length callers ≡ length passes = sym (length-map callers (λ (c : Caller). c.pass)) ∙ ap length are in
       record {
@@ -77,7 +77,6 @@ module _ {C : Type 0} (stands : C → Parts → List Turn → Type 0) (events : 
         ticks_are = ap (map tick_of) new.no_turns;
         small = rw new.no_turns tt;
         rests_are = new.manager_is.no_rests;
-        calls_are = refl;
         last_is = new.manager_is.stands_for_none.tick_is;
         count_is = new.manager_is.stands_for_none.count_is;
       }

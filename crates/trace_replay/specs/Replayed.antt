@@ -1,6 +1,5 @@
 -- What a replay of a trace gives, for whatever order the steps of its threads had.
 use Rattle.std.specs.Prelude.{◌≡◌, ℕ, List, length, map, reverse}
-use Rattle.std.specs.List.{flat_map}
 use Rattle.ids_types.specs.Turns.{Turn}
 use Rattle.ids_types.specs.declared.loss.Loss.{Loss}
 use Rattle.ids_config.specs.Parts.{Parts}
@@ -22,18 +21,17 @@ use Rattle.desk_closing.specs.Closed.{IsMadeFor, came}
 use Rattle.main_function.specs.Standing.{IsManagerOf, Stands, rests_of}
 use Rattle.main_function.specs.declared.manager.Manager.{Manager}
 use Rattle.trace_replay.specs.Played.{HavePlayed}
-use Rattle.trace_replay.specs.Rests.{all_rests, as_rest}
+use Rattle.trace_replay.specs.Rests.{all_rests, as_told}
 use Rattle.trace_replay.specs.declared.recorder.Recorder.{Recorder}
 use Rattle.trace_replay.specs.declared.replaying.Replayed.{Replayed}
 
--- what a replay gives besides its manager: the turns, the losses, what was sent, and the calls of each caller at each rest
+-- what a replay gives besides its manager: the turns, the losses, and what was sent
 pub record Gives : Type 0 where
   pub turns : List Turn
   pub losses : List Loss
   pub sent : List ℕ
   pub ends : List ℕ
   pub messages : ℕ
-  pub calls : List ℕ
 
 module _ {C : Type 0} (stands : C → Parts → List Turn → Type 0) (events : C → ℕ) (kept : C → List Buffer) (config : Parts)
     (rounds : List Round) where
@@ -54,8 +52,7 @@ module _ {C : Type 0} (stands : C → Parts → List Turn → Type 0) (events : 
     pub is_manager : IsManagerOf events kept shared m
     pub stands_for : Stands stands config m gives.turns
     -- it rested before and after the last turn of each round, when each caller had made its lines of the rounds so far
-    pub rests_are : rests_of m ≡ map as_rest (all_rests config.callers rounds)
-    pub calls_are : gives.calls ≡ flat_map (λ rest. rest.calls) (all_rests config.callers rounds)
+    pub rests_are : rests_of m ≡ as_told (all_rests config.callers rounds)
     -- the passes that came back to it made the calls of the lines; the turns have those that were accepted, and the
     -- losses are the others
     pub passes : List PassMemo
@@ -81,15 +78,14 @@ IsReplay config rounds m gives = IsReplayOver chain_stands chain_events chain_ke
 
 -- what is given besides the manager
 abbrev pub gives : Replayed → Gives
-gives r = record { turns = r.history.turns; losses = r.losses.items; sent = r.sent.items; ends = r.ends.items; messages = r.messages; calls = r.calls.items }
+gives r = record { turns = r.history.turns; losses = r.losses.items; sent = r.sent.items; ends = r.ends.items; messages = r.messages }
 
--- and what a recorder gives, with its callers' losses and calls
-abbrev pub given : {C : Type 0} → Recorder C → List Loss → List ℕ → Gives
-given r losses calls = record {
+-- and what a recorder gives, with its callers' losses
+abbrev pub given : {C : Type 0} → Recorder C → List Loss → Gives
+given r losses = record {
   turns = r.gathered.history.turns;
   losses = losses;
   sent = r.gathered.transcript.sent.items;
   ends = r.gathered.transcript.ends.items;
   messages = r.gathered.transcript.messages;
-  calls = calls;
 }

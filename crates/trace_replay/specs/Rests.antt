@@ -1,10 +1,10 @@
 -- The rests of a replay: when no call was under way, how many turns there were, and how many calls by each caller.
-use Rattle.std.specs.Prelude.{◌≡◌, ℕ, zero, suc, ◌+◌, ◌*◌, ◌-◌, ◌<◌, ◌≤◌, List, [], ◌∷◌, ◌++◌, length, sum, take}
+use Rattle.std.specs.Prelude.{◌≡◌, ℕ, zero, suc, ◌+◌, ◌*◌, ◌-◌, ◌<◌, ◌≤◌, List, [], ◌∷◌, ◌++◌, length, map, take}
 use mathlib.Core.Option.{some}
 use lib.ListN.{get_elem?}
 use Rattle.std.specs.List.{flat_map}
 use Rattle.merge_spec.specs.Rounds.{Round, lines_of, round_ticks}
-use Rattle.main_function.specs.declared.rest.Rest.{Rest}
+use Rattle.main_function.specs.Rests.{RestsTold}
 
 -- the ticks of the turns of the first k rounds
 abbrev pub ticks_before : List Round → ℕ → List ℕ
@@ -20,9 +20,9 @@ pub record CallerRest : Type 0 where
   pub turns : ℕ
   pub calls : List ℕ
 
--- as the manager tells it: with the calls of all callers together
-abbrev pub as_rest : CallerRest → Rest
-as_rest rest = record { turns = rest.turns; calls = sum rest.calls }
+-- rests as a manager tells them
+abbrev pub as_told : List CallerRest → RestsTold
+as_told rests = record { turns = map (λ rest. rest.turns) rests; calls = flat_map (λ rest. rest.calls) rests }
 
 -- the rests of the first k rounds of n callers: before each round's last turn and after it, each caller having made its
 -- lines of the rounds so far

@@ -1,6 +1,6 @@
 -- What stands between two rounds of a replay.
-use Rattle.std.specs.Prelude.{◌≡◌, ℕ, ◌≤◌, List, [], ◌∷◌, ◌++◌, length, map}
-use Rattle.std.specs.List.{AllByRecursion, flat_map}
+use Rattle.std.specs.Prelude.{◌≡◌, ℕ, ◌≤◌, List, [], ◌∷◌, length, map}
+use Rattle.std.specs.List.{AllByRecursion}
 use Rattle.ids_types.specs.Turns.{Turn}
 use Rattle.ids_config.specs.Parts.{Parts}
 use Rattle.text_spec.specs.TraceFaults.{last_from}
@@ -9,11 +9,12 @@ use Rattle.buffer_classes.specs.Buffers.{Buffer}
 use Rattle.report_queue.specs.Parts.{queue_positions}
 use Rattle.report_api.specs.Desks.{desk_memo}
 use Rattle.report_api.specs.declared.shared.Shared.{Shared}
-use Rattle.main_function.specs.Standing.{IsManagerOf, StaysSo, all_calls, last_of, rests_of, turns_of}
+use Rattle.main_function.specs.Standing.{IsManagerOf, StaysSo, last_of, rests_of, turns_of}
+use Rattle.main_function.specs.Rests.{with_rest}
 use Rattle.trace_text.specs.TraceView.{Traced}
-use Rattle.trace_replay.specs.Recording.{Continues, IsSmallTurn, tick_of, turns_in}
-use Rattle.trace_replay.specs.Rests.{as_rest, rests_before, ticks_before}
-use Rattle.trace_replay.specs.Standing.{AreAtRest, AreFew, MayAllBeAsked, calls_of_each, passes_of}
+use Rattle.trace_replay.specs.Recording.{Continues, IsSmallTurn, StillRecords, tick_of, turns_in}
+use Rattle.trace_replay.specs.Rests.{as_told, rests_before, ticks_before}
+use Rattle.trace_replay.specs.Standing.{AreAtRest, AreFew, MayAllBeAsked, calls_of_each}
 use Rattle.trace_replay.specs.declared.caller.Caller.{Caller}
 use Rattle.trace_replay.specs.declared.recorder.Recorder.{Recorder}
 
@@ -29,30 +30,33 @@ pub record CanPlay (shared : Shared) (positions : ℕ) (trace : Traced) : Type 0
 
 module _ {C : Type 0} (events : C → ℕ) (kept : C → List Buffer) where
   -- the first k rounds were played, and no call is under way
-  pub record IsBetween (shared : Shared) (trace : Traced) (k : ℕ) (callers : List Caller) (calls : List ℕ) (r : Recorder C) : Type 0 where
+  pub record IsBetween (shared : Shared) (trace : Traced) (k : ℕ) (callers : List Caller) (r : Recorder C) : Type 0 where
     pub manager_is : IsManagerOf events kept shared r.manager
     pub at_rest : AreAtRest shared trace.rounds k callers
     pub as_many : length callers ≡ trace.callers
     pub all : length callers ≡ length (desk_memo r.manager.desk).back
     pub ticks_are : map tick_of (turns_in r) ≡ ticks_before trace.rounds k
     pub small : AllByRecursion (IsSmallTurn (queue_positions shared.queue)) (turns_in r)
-    pub rests_are : rests_of r.manager ≡ map as_rest (rests_before trace.callers trace.rounds k)
-    pub calls_are : calls ≡ flat_map (λ rest. rest.calls) (rests_before trace.callers trace.rounds k)
+    pub rests_are : rests_of r.manager ≡ as_told (rests_before trace.callers trace.rounds k)
     pub last_is : last_of r.manager ≡ last_from 0 (ticks_before trace.rounds k)
     pub count_is : turns_of r.manager ≡ length (ticks_before trace.rounds k)
 
 module _ {C : Type 0} (stands : C → Parts → List Turn → Type 0) (events : C → ℕ) (kept : C → List Buffer) where
-  -- the manager rested, and told so many calls
-  pub record RestsOnce (calls : ℕ) (old new : Recorder C) : Type 0 where
+  -- the first k rounds were played, and what was gathered is so still
+  pub record Plays (shared : Shared) (trace : Traced) (k : ℕ) (callers : List Caller) (old new : Recorder C) : Type 0 where
+    pub between : IsBetween events kept shared trace k callers new
+    pub records : StillRecords stands old new
+
+  -- the manager rested, when its passes had made so many calls
+  pub record RestsOnce (calls : List ℕ) (old new : Recorder C) : Type 0 where
     pub manager_is : StaysSo stands events kept old.manager new.manager
     pub gathered_is : new.gathered ≡ old.gathered
-    pub rests_are : rests_of new.manager ≡ rests_of old.manager ++ record { turns = turns_of old.manager; calls = calls } ∷ []
+    pub rests_are : rests_of new.manager ≡ with_rest (turns_of old.manager) calls (rests_of old.manager)
 
-  -- a round's last turn was made between two rests, at each of which the calls of these callers were set down
-  pub record EndsRound (shared : Shared) (tick : ℕ) (callers : List Caller) (calls now : List ℕ) (old new : Recorder C) : Type 0 where
+  -- a round's last turn was made between two rests of these callers
+  pub record EndsRound (shared : Shared) (tick : ℕ) (callers : List Caller) (old new : Recorder C) : Type 0 where
     pub rested : Recorder C
     pub turned : Recorder C
-    pub before : RestsOnce (all_calls (passes_of callers)) old rested
+    pub before : RestsOnce (calls_of_each callers) old rested
     pub turn : Continues stands events kept shared (tick ∷ []) rested turned
-    pub after : RestsOnce (all_calls (passes_of callers)) turned new
-    pub calls_are : now ≡ (calls ++ calls_of_each callers) ++ calls_of_each callers
+    pub after : RestsOnce (calls_of_each callers) turned new

@@ -5,12 +5,13 @@ use Rattle.ids_types.specs.declared.loss.Loss.{Loss}
 use Rattle.merge_spec.specs.Decided.{losses_from}
 use Rattle.merge_spec.specs.Rounds.{Asked, Round, lines_at, lines_of}
 use Rattle.desk_closing.specs.Calls.{fates_in}
-use Rattle.report_queue.specs.Parts.{calls_of, queue_positions}
+use Rattle.report_queue.specs.Parts.{queue_positions}
 use Rattle.report_api.specs.Names.{PassMemo}
 use Rattle.report_api.specs.Passes.{IsPassOf, lost_events, pass_memo, sizes_of}
 use Rattle.report_api.specs.declared.pass.Pass.{Pass}
 use Rattle.report_api.specs.declared.shared.Shared.{Shared}
 use Rattle.report_api.specs.declared.terms.ReportTerms.{ReportTerms}
+use Rattle.main_function.specs.Rests.{calls_by}
 use Rattle.trace_text.specs.Lines.{line_at}
 use Rattle.trace_text.specs.TraceView.{round_at}
 use Rattle.trace_replay.specs.Calls.{Answers, MayBeAsked, Told, lost_reports}
@@ -60,7 +61,7 @@ passes_of callers = map (λ (caller : Caller). caller.pass) callers
 
 -- how many calls each of them made
 abbrev pub calls_of_each : List Caller → List ℕ
-calls_of_each callers = map (λ (caller : Caller). calls_of caller.pass.seat) callers
+calls_of_each callers = calls_by (λ (caller : Caller). caller.pass) callers
 
 -- what callers list as lost, one caller after another
 abbrev pub losses_by : List Caller → List Loss

@@ -20,7 +20,6 @@ mod patience;
 mod place;
 mod recorder;
 mod replaying;
-mod rests;
 mod rounds;
 mod serving;
 mod stage;

@@ -13,9 +13,13 @@ use chain::Chain;
 use ids_types::NoMemory;
 use main_function::Manager;
 use report_api::{CtxBuf, Pass, Shared};
+use trace_text::Trace;
 
 /// How many turns a manager makes at most.
 const MOST_TURNS: u64 = 1 << 62;
+
+/// How many rests each round has.
+const RESTS: u64 = 2;
 
 /// A manager, and what its turns gave so far.
 #[derive(Drop)]
@@ -25,6 +29,15 @@ pub(crate) struct Recorder<C> {
 }
 
 impl<C: Chain<CtxBuf>> Recorder<C> {
+    /// Makes room for the rests of all rounds of a trace.
+    pub(crate) fn reserve_rests(&mut self, trace: &Trace) -> Result<(), NoMemory>
+        ensures { StaysSame C.stands C.events C.kept self.old self.new }
+    {
+        let rests = trace.rounds().saturating_mul(RESTS);
+        self.manager
+            .reserve_rests(rests, u64::from(trace.callers()))
+    }
+
     /// Makes a turn.
     pub(crate) fn turn(&mut self, shared: &Shared, tick: u64) -> Result<(), NoMemory>
         requires mine { IsManagerOf C.events C.kept shared.now self.old.manager }

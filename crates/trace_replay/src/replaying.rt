@@ -9,7 +9,6 @@ use crate::callers::{callers_of, part};
 use crate::gate::Gate;
 use crate::gathered::Gathered;
 use crate::recorder::Recorder;
-use crate::rests::Rests;
 use crate::rounds::play_beside;
 use crate::stage::Stage;
 use chain::{Chain, Transcript};
@@ -39,9 +38,7 @@ pub struct Replayed {
     pub ends: Vec<u64>,
     /// How many messages were sent.
     pub messages: u64,
-    /// How many calls each caller had made at each rest of the manager: a number for each caller, rest by rest.
-    pub calls: Vec<u64>,
-    /// The manager, closed. It has the event memory.
+    /// The manager, closed. It has the event memory, and how many calls each caller had made at each rest.
     pub manager: RunManager,
 }
 
@@ -60,12 +57,7 @@ pub fn replay<R: Threads + Sync, G: Gate + Sync>(
     ensures { IfOk result (λ r. IsReplay config.now trace.now.rounds r.manager (gives r)) }
 {
     let chain = EventChain::make(alloc, config)?;
-    let Ended {
-        recorder,
-        losses,
-        calls,
-    } = run(rt, alloc, config, trace, gate, chain)?;
-    let Recorder { manager, gathered } = recorder;
+    let (Recorder { manager, gathered }, losses) = run(rt, alloc, config, trace, gate, chain)?;
     let Gathered {
         history,
         transcript,
@@ -81,20 +73,12 @@ pub fn replay<R: Threads + Sync, G: Gate + Sync>(
         sent,
         ends,
         messages,
-        calls,
         manager,
     })
 }
 
-/// A manager that is closed, with what was gathered of its turns, and the losses and the calls of its callers.
-#[derive(Drop)]
-struct Ended<C> {
-    recorder: Recorder<C>,
-    losses: Vec<Loss>,
-    calls: Vec<u64>,
-}
-
-/// Replays a trace over a chain that took no turn yet.
+/// Replays a trace over a chain that took no turn yet, and answers the manager, closed, with what was gathered of its
+/// turns, and the losses of the callers.
 fn run<R: Threads + Sync, G: Gate + Sync, C: Chain<CtxBuf> + Drop>(
     rt: &R,
     alloc: Global,
@@ -102,14 +86,14 @@ fn run<R: Threads + Sync, G: Gate + Sync, C: Chain<CtxBuf> + Drop>(
     trace: &Trace,
     gate: &G,
     chain: C,
-) -> Result<Ended<C>, NoMemory>
+) -> Result<(Recorder<C>, Vec<Loss>), NoMemory>
     requires callers { trace.now.callers ≡ config.now.callers }
     requires rounds { AreRounds config.now trace.now.rounds }
     requires fresh { C.stands chain config.now [] }
     requires events { C.events chain ≡ length config.now.events }
     requires kept { C.kept chain ≡ [] }
-    ensures { IfOk result (λ run. IsReplayOver C.stands C.events C.kept config.now trace.now.rounds run.recorder.manager
-        (given run.recorder run.losses.items run.calls.items)) }
+    ensures { IfOk result (λ run. IsReplayOver C.stands C.events C.kept config.now trace.now.rounds run.0.manager
+        (given run.0 run.1.items)) }
 {
     let gathered = Gathered::make(alloc)?;
     let Made {
@@ -118,16 +102,11 @@ fn run<R: Threads + Sync, G: Gate + Sync, C: Chain<CtxBuf> + Drop>(
         passes,
     } = make(alloc, config, chain)?;
     let mut recorder = Recorder { manager, gathered };
-    let mut rests = Rests::make(alloc, trace)?;
     let over = AtomicBool::new(false);
     let positions = config.parts().ring;
     let stage = Stage::make(alloc, &shared, positions, trace, gate, &over)?;
-    let losses = play(rt, alloc, config, &stage, passes, &mut recorder, &mut rests)?;
-    Ok(Ended {
-        recorder,
-        losses,
-        calls: rests.into_calls(),
-    })
+    let losses = play(rt, alloc, config, &stage, passes, &mut recorder)?;
+    Ok((recorder, losses))
 }
 
 /// Plays a trace from its first round on and closes, and answers the losses of the callers.
@@ -138,19 +117,18 @@ fn play<R: Threads + Sync, G: Gate + Sync, C: Chain<CtxBuf>>(
     stage: &Stage<'_, G>,
     passes: Vec<Pass>,
     recorder: &mut Recorder<C>,
-    rests: &mut Rests,
 ) -> Result<Vec<Loss>, NoMemory>
     requires callers { stage.now.trace.now.callers ≡ config.now.callers }
     requires rounds { AreRounds config.now stage.now.trace.now.rounds }
     requires set { IsSet stage.now }
-    requires none { rests.old.calls.items ≡ [] }
     requires new { IsNewRecorder C.stands C.events C.kept config.now stage.now.shared.now passes.items recorder.old }
     ensures { IfOk result (λ losses. IsReplayOver C.stands C.events C.kept config.now stage.now.trace.now.rounds recorder.new.manager
-        (given recorder.new losses.items rests.new.calls.items)) }
+        (given recorder.new losses.items)) }
 {
     let _valid = config.parts();
     let mut callers = callers_of(alloc, passes)?;
-    play_beside(rt, stage, recorder, &mut callers, rests)?;
+    recorder.reserve_rests(stage.trace)?;
+    play_beside(rt, stage, recorder, &mut callers)?;
     let (mut passes, losses) = part(alloc, callers)?;
     recorder.close(stage.shared, &mut passes, stage.trace.last_tick())?;
     Ok(losses)

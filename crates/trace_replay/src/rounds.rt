@@ -6,8 +6,8 @@ ghost use Rattle.merge_spec.specs.Orders.{KeepUpFrom};
 ghost use Rattle.report_api.specs.Desks.{desk_memo};
 ghost use Rattle.main_function.specs.Standing.{IsManagerOf, last_of};
 ghost use Rattle.trace_text.specs.TraceView.{round_at};
-ghost use Rattle.trace_replay.specs.Recording.{Continues, StillRecords};
-ghost use Rattle.trace_replay.specs.Rounds.{EndsRound, IsBetween};
+ghost use Rattle.trace_replay.specs.Recording.{Continues};
+ghost use Rattle.trace_replay.specs.Rounds.{EndsRound, IsBetween, Plays};
 ghost use Rattle.trace_replay.specs.Stages.{IsSet};
 ghost use Rattle.trace_replay.specs.Standing.{AreAtRest};
 
@@ -16,7 +16,6 @@ use crate::gate::Gate;
 use crate::handing::{hand_over, take_back};
 use crate::patience::Patience;
 use crate::recorder::Recorder;
-use crate::rests::Rests;
 use crate::serving::serve_all;
 use crate::stage::Stage;
 use chain::Chain;
@@ -25,19 +24,17 @@ use report_api::CtxBuf;
 use std::thread::{Threads, join_mut};
 
 /// Plays a trace: the main function's turns, round by round, beside the threads of the callers, which last through all
-/// rounds.
+/// rounds. After the last round the threads are told that the replay is over.
 pub(crate) fn play_beside<R: Threads + Sync, G: Gate + Sync, C: Chain<CtxBuf>>(
     rt: &R,
     stage: &Stage<'_, G>,
     recorder: &mut Recorder<C>,
     callers: &mut Vec<Caller>,
-    rests: &mut Rests,
 ) -> Result<(), NoMemory>
     requires set { IsSet stage.now }
-    requires between { IsBetween C.events C.kept stage.now.shared.now stage.now.trace.now 0 callers.old.items rests.old.calls.items recorder.old }
-    ensures between { OnOk result (IsBetween C.events C.kept stage.now.shared.now stage.now.trace.now (length stage.now.trace.now.rounds)
-        callers.new.items rests.new.calls.items recorder.new) }
-    ensures records { OnOk result (StillRecords C.stands recorder.old recorder.new) }
+    requires between { IsBetween C.events C.kept stage.now.shared.now stage.now.trace.now 0 callers.old.items recorder.old }
+    ensures { OnOk result (Plays C.stands C.events C.kept stage.now.shared.now stage.now.trace.now (length stage.now.trace.now.rounds)
+        callers.new.items recorder.old recorder.new) }
 {
     let ((), made) = join_mut(
         rt,
@@ -45,31 +42,15 @@ pub(crate) fn play_beside<R: Threads + Sync, G: Gate + Sync, C: Chain<CtxBuf>>(
             requires { IsSync R.row × IsSync G.row × IsSet stage.now }
         { serve_all(rt, stage) },
         &mut || -> Result<(), NoMemory>
-            requires { IsSet stage.now × IsBetween C.events C.kept stage.now.shared.now stage.now.trace.now 0
-                callers.now.items rests.now.calls.items recorder.now }
-            ensures { OnOk result (IsBetween C.events C.kept stage.entry.now.shared.now stage.entry.now.trace.now
-                (length stage.entry.now.trace.now.rounds) callers.exit.now.items rests.exit.now.calls.items recorder.exit.now)
-                × OnOk result (StillRecords C.stands recorder.entry.now recorder.exit.now) }
-        { play_to_end(stage, recorder, callers, rests) },
+            requires { IsSet stage.now × IsBetween C.events C.kept stage.now.shared.now stage.now.trace.now 0 callers.now.items recorder.now }
+            ensures { OnOk result (Plays C.stands C.events C.kept stage.entry.now.shared.now stage.entry.now.trace.now
+                (length stage.entry.now.trace.now.rounds) callers.exit.now.items recorder.entry.now recorder.exit.now) }
+        {
+            let made = play_rounds(stage, recorder, callers);
+            stage.end();
+            made
+        },
     );
-    made
-}
-
-/// Plays all rounds, and then tells the threads of the callers that the replay is over.
-fn play_to_end<G: Gate, C: Chain<CtxBuf>>(
-    stage: &Stage<'_, G>,
-    recorder: &mut Recorder<C>,
-    callers: &mut Vec<Caller>,
-    rests: &mut Rests,
-) -> Result<(), NoMemory>
-    requires set { IsSet stage.now }
-    requires between { IsBetween C.events C.kept stage.now.shared.now stage.now.trace.now 0 callers.old.items rests.old.calls.items recorder.old }
-    ensures between { OnOk result (IsBetween C.events C.kept stage.now.shared.now stage.now.trace.now (length stage.now.trace.now.rounds)
-        callers.new.items rests.new.calls.items recorder.new) }
-    ensures records { OnOk result (StillRecords C.stands recorder.old recorder.new) }
-{
-    let made = play_rounds(stage, recorder, callers, rests);
-    stage.end();
     made
 }
 
@@ -78,17 +59,15 @@ fn play_rounds<G: Gate, C: Chain<CtxBuf>>(
     stage: &Stage<'_, G>,
     recorder: &mut Recorder<C>,
     callers: &mut Vec<Caller>,
-    rests: &mut Rests,
 ) -> Result<(), NoMemory>
     requires set { IsSet stage.now }
-    requires between { IsBetween C.events C.kept stage.now.shared.now stage.now.trace.now 0 callers.old.items rests.old.calls.items recorder.old }
-    ensures between { OnOk result (IsBetween C.events C.kept stage.now.shared.now stage.now.trace.now (length stage.now.trace.now.rounds)
-        callers.new.items rests.new.calls.items recorder.new) }
-    ensures records { OnOk result (StillRecords C.stands recorder.old recorder.new) }
+    requires between { IsBetween C.events C.kept stage.now.shared.now stage.now.trace.now 0 callers.old.items recorder.old }
+    ensures { OnOk result (Plays C.stands C.events C.kept stage.now.shared.now stage.now.trace.now (length stage.now.trace.now.rounds)
+        callers.new.items recorder.old recorder.new) }
 {
     let mut patience = Patience::new();
     for round in 0..stage.trace.rounds() {
-        play_round(stage, round, &mut patience, recorder, callers, rests)?;
+        play_round(stage, round, &mut patience, recorder, callers)?;
     }
     Ok(())
 }
@@ -100,17 +79,15 @@ fn play_round<G: Gate, C: Chain<CtxBuf>>(
     patience: &mut Patience,
     recorder: &mut Recorder<C>,
     callers: &mut Vec<Caller>,
-    rests: &mut Rests,
 ) -> Result<(), NoMemory>
     requires set { IsSet stage.now }
     requires round { round < length stage.now.trace.now.rounds }
-    requires between { IsBetween C.events C.kept stage.now.shared.now stage.now.trace.now round callers.old.items rests.old.calls.items recorder.old }
-    ensures between { OnOk result (IsBetween C.events C.kept stage.now.shared.now stage.now.trace.now (round + 1)
-        callers.new.items rests.new.calls.items recorder.new) }
-    ensures records { OnOk result (StillRecords C.stands recorder.old recorder.new) }
+    requires between { IsBetween C.events C.kept stage.now.shared.now stage.now.trace.now round callers.old.items recorder.old }
+    ensures { OnOk result (Plays C.stands C.events C.kept stage.now.shared.now stage.now.trace.now (round + 1)
+        callers.new.items recorder.old recorder.new) }
 {
     play_calls(stage, round, patience, recorder, callers)?;
-    end_round(stage, round, recorder, callers.as_slice(), rests)?;
+    end_round(stage, round, recorder, callers.as_slice())?;
     Ok(())
 }
 
@@ -146,7 +123,6 @@ fn end_round<G: Gate, C: Chain<CtxBuf>>(
     round: u64,
     recorder: &mut Recorder<C>,
     callers: &[Caller],
-    rests: &mut Rests,
 ) -> Result<(), NoMemory>
     requires round { round < length stage.now.trace.now.rounds }
     requires rest { AreAtRest stage.now.shared.now stage.now.trace.now.rounds (round + 1) callers.now }
@@ -155,10 +131,10 @@ fn end_round<G: Gate, C: Chain<CtxBuf>>(
     requires later { last_of recorder.old.manager ≤ (round_at stage.now.trace.now.rounds round).after }
     requires small { (round_at stage.now.trace.now.rounds round).after ≤ 2 ^ 62 }
     ensures { OnOk result (EndsRound C.stands C.events C.kept stage.now.shared.now (round_at stage.now.trace.now.rounds round).after
-        callers.now rests.old.calls.items rests.new.calls.items recorder.old recorder.new) }
+        callers.now recorder.old recorder.new) }
 {
-    rests.rest(&mut recorder.manager, callers)?;
+    recorder.manager.rest(callers)?;
     recorder.turn(stage.shared, stage.trace.after(round))?;
-    rests.rest(&mut recorder.manager, callers)?;
+    recorder.manager.rest(callers)?;
     Ok(())
 }

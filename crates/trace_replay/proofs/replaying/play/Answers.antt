@@ -1,13 +1,14 @@
 use Rattle.trace_replay.proofs.Names.{◌∙◌, List, length, map, ap, subst, arith, flat_map, take_all, Round, round_ticks, last_from, last_of_all, last_small, desk_memo, pass_memo, Pass, Closes}
 use Rattle.trace_replay.proofs.EndLemmas.{is_replay}
-use Rattle.trace_replay.proofs.RoundLemmas.{all_passes}
+use Rattle.trace_replay.proofs.RoundLemmas.{all_passes, between_still, still_records}
 use Rattle.trace_replay.proofs.StartLemmas.{begins, begins_record}
 use Rattle.trace_replay.proofs.replaying.play.Goals as goal
 
 pub play_beside-requires-clause-between : goal.play_beside-requires-clause-between
 play_beside-requires-clause-between g c κs within =
     let chain = g.C.Chain in
-    rw c.requires.none (begins chain.stands chain.events chain.kept c.args.config.now c.args.stage.now.shared.now c.args.stage.now.trace.now c.args.passes.items
+    between_still chain.stands chain.events chain.kept c.args.stage.now.shared.now c.args.stage.now.trace.now 0 c.in_ok-callers.callers.items c.args.recorder.now
+    c.reserve_rests.new.self c.reserve_rests.ensures (begins chain.stands chain.events chain.kept c.args.config.now c.args.stage.now.shared.now c.args.stage.now.trace.now c.args.passes.items
     c.in_ok-callers.callers.items c.args.recorder.now c.requires.new c.in_ok-callers.ensures.passes c.in_ok-callers.ensures.losses
     c.requires.callers)
 
@@ -38,11 +39,12 @@ returns g c =
     let news = c.play_beside.new.callers.items in
     let r1 = c.play_beside.new.recorder in
     let r2 = c.close.new.self in
+    let room = c.reserve_rests.ensures in
     let was = c.in_ok-play_beside.ensures.records config
+    (still_records chain.stands chain.events chain.kept c.args.recorder.now c.reserve_rests.new.self room.manager_is room.gathered_is config
     (begins_record chain.stands chain.events chain.kept config shared trace c.args.passes.items c.in_ok-callers.callers.items c.args.recorder.now
-    c.requires.new c.in_ok-callers.ensures.passes c.in_ok-callers.ensures.losses c.requires.callers) in
+    c.requires.new c.in_ok-callers.ensures.passes c.in_ok-callers.ensures.losses c.requires.callers)) in
     let closes = subst (λ (ps : List Pass). Closes chain.stands chain.events chain.kept shared c.last_tick.result (map pass_memo ps) r1 r2)
     c.in_ok-passes.ensures.passes c.in_ok-close.ensures in
-    rw c.in_ok-passes.ensures.losses (is_replay chain.stands chain.events chain.kept config shared trace news c.play_beside.new.rests.calls.items
-    r1 r2 c.last_tick.result c.parts-valid.ensures.valid c.requires.callers c.requires.rounds c.requires.set.can.few c.requires.new.manager_is.made_for
+    rw c.in_ok-passes.ensures.losses (is_replay chain.stands chain.events chain.kept config shared trace news r1 r2 c.last_tick.result c.parts-valid.ensures.valid c.requires.callers c.requires.rounds c.requires.set.can.few c.requires.new.manager_is.made_for
     c.in_ok-play_beside.ensures.between was closes c.last_tick.ensures.tick)

@@ -1,8 +1,8 @@
 use Rattle.trace_replay.proofs.StartLemmas.{all_may_be_asked}
 use Rattle.trace_replay.proofs.replaying.run.Goals as goal
 
-pub make-requires-4-clause-asked : goal.make-requires-4-clause-asked
-make-requires-4-clause-asked g c = all_may_be_asked c.args.config.now c.in_ok-shared.field-0.shared.terms
+pub make-requires-3-clause-asked : goal.make-requires-3-clause-asked
+make-requires-3-clause-asked g c = all_may_be_asked c.args.config.now c.in_ok-shared.field-0.shared.terms
     c.in_ok-shared.ensures.making.is_config c.args.trace.now.rounds c.requires.rounds.allowed
 
 pub play-requires-clause-new : goal.play-requires-clause-new

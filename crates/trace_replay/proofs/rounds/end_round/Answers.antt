@@ -1,4 +1,4 @@
-use Rattle.trace_replay.proofs.Names.{◌++◌, calls_of_each, ◌+◌, ◌∙◌, [], ◌∷◌, length, refl, sym, ap, subst, arith, desk_memo, Continues, Recorder}
+use Rattle.trace_replay.proofs.Names.{◌+◌, ◌∙◌, [], ◌∷◌, length, refl, sym, ap, subst, arith, desk_memo, Continues, Recorder}
 use Rattle.trace_replay.proofs.RoundLemmas.{all_passes}
 use Rattle.trace_replay.proofs.rounds.end_round.Goals as goal
 
@@ -35,13 +35,12 @@ pub returns : goal.returns
 returns g c =
     let r1 = c.args.recorder.now in
     let r3 = c.turn.new.self in
-    let rested : Recorder _ = record { manager = c.rest.new.manager; gathered = r1.gathered } in
+    let rested : Recorder _ = record { manager = c.rest.new.self; gathered = r1.gathered } in
     record {
       rested = rested;
       turned = r3;
-      before = record { manager_is = c.in_ok-rest.ensures.same; gathered_is = refl; rests_are = c.in_ok-rest.ensures.rested };
+      before = record { manager_is = c.in_ok-rest.ensures.same; gathered_is = refl; rests_are = c.in_ok-rest.ensures.ok };
       turn = subst (λ tick. Continues g.C.Chain.stands g.C.Chain.events g.C.Chain.kept c.args.stage.now.shared.now (tick ∷ []) rested r3)
           c.after.ensures c.in_ok-turn.ensures;
-      after = record { manager_is = c.in_ok-rest-2.ensures.same; gathered_is = refl; rests_are = c.in_ok-rest-2.ensures.rested };
-      calls_are = c.in_ok-rest-2.ensures.each ∙ ap (λ calls. calls ++ calls_of_each c.args.callers.now) c.in_ok-rest.ensures.each;
+      after = record { manager_is = c.in_ok-rest-2.ensures.same; gathered_is = refl; rests_are = c.in_ok-rest-2.ensures.ok };
     }

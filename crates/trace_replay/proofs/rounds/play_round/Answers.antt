@@ -1,5 +1,5 @@
 use Rattle.trace_replay.proofs.Names.{◌≡◌, ◌∙◌, length, sym, ap, arith, desk_memo, last_from, round_at}
-use Rattle.trace_replay.proofs.RoundLemmas.{next_round_keeps, round_played, round_records}
+use Rattle.trace_replay.proofs.RoundLemmas.{next_round_keeps, round_played}
 use Rattle.trace_replay.proofs.rounds.play_round.Goals as goal
 
 pub play_calls-requires-clause-later : goal.play_calls-requires-clause-later
@@ -27,20 +27,11 @@ pub end_round-requires-clause-small : goal.end_round-requires-clause-small
 end_round-requires-clause-small g c =
     (next_round_keeps c.args.stage.now.trace.now.rounds c.args.round c.requires.round c.requires.set.can.ticks).small_after
 
-pub returns-clause-between : goal.returns-clause-between
-returns-clause-between g c =
+pub returns : goal.returns
+returns g c =
     let chain = g.C.Chain in
     let stage = c.args.stage.now in
     let played = c.in_ok-play_calls.ensures in
     round_played chain.stands chain.events chain.kept stage.shared.now stage.positions stage.trace.now c.requires.set.can c.args.round c.requires.round
-    c.args.recorder.now c.play_calls.new.recorder c.end_round.new.recorder c.args.callers.now.items c.play_calls.new.callers.items c.args.rests.now.calls.items
-    c.end_round.new.rests.calls.items c.requires.between played.turns played.rest played.callers (rw (sym c.as_slice.ensures.value) c.in_ok-end_round.ensures)
-
-pub returns-clause-records : goal.returns-clause-records
-returns-clause-records g c =
-    let chain = g.C.Chain in
-    let stage = c.args.stage.now in
-    let played = c.in_ok-play_calls.ensures in
-    round_records chain.stands chain.events chain.kept stage.shared.now stage.positions stage.trace.now c.requires.set.can c.args.round c.requires.round
-    c.args.recorder.now c.play_calls.new.recorder c.end_round.new.recorder c.args.callers.now.items c.play_calls.new.callers.items c.args.rests.now.calls.items
-    c.end_round.new.rests.calls.items c.requires.between played.turns played.rest played.callers (rw (sym c.as_slice.ensures.value) c.in_ok-end_round.ensures)
+    c.args.recorder.now c.play_calls.new.recorder c.end_round.new.recorder c.args.callers.now.items c.play_calls.new.callers.items c.requires.between
+    played.turns played.rest played.callers (rw (sym c.as_slice.ensures.value) c.in_ok-end_round.ensures)
