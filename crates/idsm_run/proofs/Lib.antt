@@ -1,3 +1,2 @@
-pub mod CheckLemmas
 pub mod FoldLemmas
 pub mod ReplayLemmas

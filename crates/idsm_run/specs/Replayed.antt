@@ -1,8 +1,7 @@
 -- What a run of `replay` does, with the manager that it answers.
-use Rattle.std.specs.Prelude.{◌≡◌, ℕ, List, IsTrue, Option, Ok}
+use Rattle.std.specs.Prelude.{◌≡◌, ℕ, List, Option, Ok}
 use Rattle.buffer_classes.specs.Buffers.{Buffer}
 use Rattle.event_chain.specs.Chained.{Chained}
-use Rattle.ids_outside.specs.Files.{SameFiles}
 use Rattle.main_function.specs.declared.manager.Manager.{Manager}
 use Rattle.trace_replay.specs.Replayed.{Gives, IsReplay, gives}
 use Rattle.trace_replay.specs.declared.replaying.Replayed.{Replayed as Given}
@@ -10,7 +9,9 @@ use Rattle.run_steps.specs.Answered.{RanWith, RunsWith}
 use Rattle.run_steps.specs.Names.{Parts, Round, Files, Shelved, Heard}
 use Rattle.run_words.specs.Command.{ReplayFiles, replay}
 use Rattle.run_spec.specs.Headline.{IsOneHistory}
-use Rattle.run_spec.specs.Judge.{asked_in}
+use Rattle.idsm_run.specs.declared.traces.Asked.{Asked}
+use Rattle.run_files.specs.Reading.{over}
+use Rattle.run_spec.specs.Judge.{AskedFor, asked_in}
 use Rattle.run_spec.specs.Replay.{replay_work}
 use Rattle.run_files.specs.Writing.{AreWritten}
 
@@ -22,18 +23,15 @@ RunManager = Manager (Chained Buffer)
 abbrev pub IsReplayed : Parts → List Round → Given → Type 0
 IsReplayed config rounds replayed = IsReplay config rounds replayed.manager (gives replayed)
 
--- the input files were read and nothing was written yet: what stood before they were read asks for these rounds
-pub record HasAsked (names : ReplayFiles) (config : Parts) (rounds : List Round) (before old : Shelved) : Type 0 where
-  pub tells : old.tells ≡ before.tells
-  pub same : IsTrue before.tells → SameFiles before.files old.files
-  pub found : IsTrue before.tells → asked_in names before.files ≡ Ok (record { config = config; rounds = rounds })
-  pub no_fault : old.faults ≡ before.faults
+-- what was read of the input files
+abbrev pub asked_of : Asked → AskedFor
+asked_of asked = record { config = asked.config; rounds = asked.trace.rounds }
 
 -- the files tell one history of the rounds that the input files ask for, and this manager made it
 pub record Replayed (names : ReplayFiles) (manager : RunManager) (said : List ℕ) (old new : Files) : Type 0 where
   pub config : Parts
   pub rounds : List Round
-  pub asked : asked_in names old ≡ Ok (record { config = config; rounds = rounds })
+  pub asked : over (asked_in names) old ≡ Ok (record { config = config; rounds = rounds })
   -- the turns and the losses are one history of these rounds
   pub gives : Gives
   pub history : IsOneHistory config rounds gives.turns gives.losses

@@ -1,8 +1,8 @@
 //! The command `check`: whether a file holds the messages of a recorded history.
 
-ghost use Rattle.std.specs.Prelude.{◌≡◌, ◌≢◌, nat_eq, IsTrue, IfOk, IfErr};
+ghost use Rattle.std.specs.Prelude.{◌≡◌, nat_eq};
 ghost use Rattle.std.specs.List.{common_prefix_len};
-ghost use Rattle.run_steps.specs.Words.{SameFiles, check as check_command, check_judged, only_said, does, three_of, Judges, WasDone, StopsFor, plain_stop};
+ghost use Rattle.run_steps.specs.Words.{EndsAs, Judges, check as check_command, check_judged, does, only_said, plain_end, seen_as, three_of};
 
 use ids_outside::Shelf;
 use run_files::{MAX_MESSAGES_BYTES, Refusal, Stop, read_file};
@@ -17,15 +17,7 @@ pub(crate) fn check<'a, H: Shelf>(
     names: CheckNames<'a>,
     shelf: &mut H,
 ) -> Result<Vec<u8>, Stop<&'a str>>
-    requires inputs { names.from.config.now ≢ names.from.journal.now }
-    requires config { names.from.config.now ≢ names.messages.now }
-    requires journal { names.from.journal.now ≢ names.messages.now }
-    ensures same { IsTrue (H.shows shelf.old).tells →
-        SameFiles (H.shows shelf.old).files (H.shows shelf.new).files }
-    ensures done { IfOk result (λ text. WasDone (check_command (three_of names.entry))
-        text.items (H.shows shelf.old) (H.shows shelf.new)) }
-    ensures stops { IfErr result (λ reason. StopsFor (check_command (three_of names.entry))
-        (plain_stop reason) (H.shows shelf.old) (H.shows shelf.new)) }
+    ensures { EndsAs (check_command (three_of names.entry)) (plain_end result) (H.shows shelf.old) (H.shows shelf.new) }
 {
     let inputs = read_inputs(alloc, names.from, shelf)?;
     let bytes = read_file(alloc, names.messages, MAX_MESSAGES_BYTES, shelf)?;
@@ -34,7 +26,7 @@ pub(crate) fn check<'a, H: Shelf>(
 
 /// The line that tells that the bytes are those that were sent.
 fn compare<'a>(alloc: Global, bytes: &[u8], sent: &[u8]) -> Result<Vec<u8>, Stop<&'a str>>
-    ensures { Judges (λ text. does (only_said text.items)) (check_judged bytes.now sent.now) result }
+    ensures { Judges (check_judged bytes.now sent.now) (seen_as (λ text. does (only_said text.items)) result) }
 {
     if bytes == sent {
         return Ok(Vec::from_slice(alloc, b"same\n")?);

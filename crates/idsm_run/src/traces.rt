@@ -1,13 +1,14 @@
 //! The input files of a replay.
 
-ghost use Rattle.std.specs.Prelude.{◌≡◌, ◌≢◌, IsTrue, IfOk, IfErr};
+ghost use Rattle.std.specs.Prelude.{◌≡◌, IfOk};
 ghost use Rattle.text_spec.specs.TraceReading.{AreRounds};
-ghost use Rattle.run_steps.specs.Words.{SameFiles, replay as replay_command, five_of, trace_in, trace_judged, Judges, StopsFor, plain_stop};
-ghost use Rattle.idsm_run.specs.Replayed.{HasAsked};
+ghost use Rattle.run_steps.specs.Words.{Judges, Reads, asked_in, five_of, seen_as, trace_in, trace_judged};
+ghost use Rattle.idsm_run.specs.Replayed.{asked_of};
 
 use ids_config::Config;
 use ids_outside::Shelf;
-use run_files::{MAX_CONFIG_BYTES, MAX_TRACE_BYTES, Refusal, Stop, read_file};
+use run_files::{MAX_TRACE_BYTES, Refusal, Stop, read_file};
+use run_steps::read_config;
 use run_words::ReplayNames;
 use std::alloc::Global;
 use trace_text::{Trace, TraceFault, read};
@@ -25,18 +26,11 @@ pub(crate) fn read_asked<'a, H: Shelf>(
     names: ReplayNames<'a>,
     shelf: &mut H,
 ) -> Result<Asked, Stop<&'a str>>
-    requires { names.config.now ≢ names.trace.now }
-    ensures same { IsTrue (H.shows shelf.old).tells →
-        SameFiles (H.shows shelf.old).files (H.shows shelf.new).files }
-    ensures asked { IfOk result (λ asked. HasAsked (five_of names.entry) asked.config asked.trace.rounds
-        (H.shows shelf.old) (H.shows shelf.new)) }
+    ensures reads { Reads (asked_in (five_of names.entry)) (seen_as asked_of result) (H.shows shelf.old) (H.shows shelf.new) }
     ensures callers { IfOk result (λ asked. asked.trace.callers ≡ asked.config.callers) }
     ensures rounds { IfOk result (λ asked. AreRounds asked.config asked.trace.rounds) }
-    ensures stops { IfErr result (λ reason. StopsFor (replay_command (five_of names.entry))
-        (plain_stop reason) (H.shows shelf.old) (H.shows shelf.new)) }
 {
-    let text = read_file(alloc, names.config, MAX_CONFIG_BYTES, shelf)?;
-    let config = config_json::read(alloc, &text)?;
+    let config = read_config(alloc, names.config, shelf)?;
     let text = read_file(alloc, names.trace, MAX_TRACE_BYTES, shelf)?;
     let trace = judge_trace(alloc, text, &config)?;
     Ok(Asked { config, trace })
@@ -44,7 +38,7 @@ pub(crate) fn read_asked<'a, H: Shelf>(
 
 /// The trace that the bytes are under this configuration. The bytes are given back.
 fn judge_trace<'a>(alloc: Global, text: Vec<u8>, config: &Config) -> Result<Trace, Stop<&'a str>>
-    ensures judges { Judges (λ t. t.rounds) (trace_judged (trace_in config.now text.items)) result }
+    ensures judges { Judges (trace_judged (trace_in config.now text.items)) (seen_as (λ t. t.rounds) result) }
     ensures callers { IfOk result (λ t. t.callers ≡ config.now.callers) }
     ensures rounds { IfOk result (λ t. AreRounds config.now t.rounds) }
 {

@@ -14,19 +14,14 @@ use Rattle.config_json.specs.Configured.{config_of, configuration, tree_of}
 use Rattle.config_json.specs.Members.{parts_in}
 use Rattle.config_json.specs.Shape.{config_shape}
 use Rattle.ids_outside.specs.Files.{Files}
-use Rattle.run_words.specs.Command.{ReplayFiles, are_names, is_name, replay, replay_names, replay_of, written_by, IsNoneOf}
-use Rattle.run_spec.specs.FoldedJournal.{◌>>=◌}
-use Rattle.run_spec.specs.Judge.{AskedFor, asked_in, config_found, trace_judged}
+use Rattle.run_files.proofs.ReadingLemmas.{over_parts}
+use Rattle.run_files.specs.Reading.{file, gives, over, ◌>>=◌}
+use Rattle.run_files.specs.Writing.{IsNoneOf}
+use Rattle.run_steps.proofs.MadeLemmas.{are_apart}
+use Rattle.run_words.specs.Command.{ReplayFiles, are_names, replay, replay_names, replay_of, written_by}
+use Rattle.run_spec.specs.Judge.{AskedFor, asked_in, config_found, config_in, rounds_in, trace_judged}
 use Rattle.run_files.specs.Contents.{file_of}
-use Rattle.run_steps.specs.Words.{Round, list_any, trace_in}
-
--- ---- steps that found something
-
--- a search behind another found this, so the other found something
-found_of : {A B E : Type 0} (first : Result A E) (next : A → Result B E) (b : B) → (first >>= next) ≡ Ok b
-    → (a : A) × (first ≡ Ok a) × (next a ≡ Ok b)
-found_of (Ok a) next b is = (a, refl, is)
-found_of (Err e) next b is = absurd cc
+use Rattle.run_steps.specs.Words.{Round, trace_in}
 
 -- ---- configurations
 
@@ -53,25 +48,29 @@ events_in (Some tree) config is =
 pub few_events : (text : List ℕ) (config : Parts) → configuration text ≡ Ok config → length config.events ≤ 256
 few_events text config is = events_in (tree_of text) config is
 
-config_judged : (found : Result Parts ConfigFault) (config : Parts) → config_found found ≡ Ok config → found ≡ Ok config
-config_judged (Ok own) config is = ap Ok (cc is)
-config_judged (Err fault) config is = absurd cc
+config_judged : (found : Result Parts ConfigFault) (config : Parts) (files : Files) → over (config_found found) files ≡ Ok config → found ≡ Ok config
+config_judged (Ok own) config files is = ap Ok (cc is)
+config_judged (Err fault) config files is = absurd cc
 
 abbrev asked_for : Parts → List Round → AskedFor
 asked_for config rounds = record { config = config; rounds = rounds }
 
+-- so has that of a file
+pub few_in : (name : List ℕ) (config : Parts) (files : Files) → over (config_in name) files ≡ Ok config → length config.events ≤ 256
+few_in name config files is =
+    let text = over_parts (file 1048576 name) (λ bytes. config_found (configuration bytes)) config files is in
+    few_events text.0 config (config_judged (configuration text.0) config files text.2)
+
 -- the configuration of what a replay was asked for is that of its file
-pub config_asked : (names : ReplayFiles) (files : Files) (asked : AskedFor) → asked_in names files ≡ Ok asked
-    → (text : List ℕ) × (file_of 1048576 names.config files ≡ Ok text) × (configuration text ≡ Ok asked.config)
+pub config_asked : (names : ReplayFiles) (files : Files) (asked : AskedFor) → over (asked_in names) files ≡ Ok asked
+    → over (config_in names.config) files ≡ Ok asked.config
 config_asked names files asked is =
-    let judged = λ (config : Parts) (trace : List ℕ). trace_judged (trace_in config trace) >>= λ rounds. Ok (asked_for config rounds) in
-    let read = λ (config : Parts). file_of 16777216 names.trace files >>= judged config in
-    let text = found_of (file_of 1048576 names.config files) (λ bytes. config_found (configuration bytes) >>= read) asked is in
-    let config = found_of (config_found (configuration text.0)) read asked text.2 in
-    let trace = found_of (file_of 16777216 names.trace files) (judged config.0) asked config.2 in
-    let rounds = found_of (trace_judged (trace_in config.0 trace.0)) (λ rounds. Ok (asked_for config.0 rounds)) asked trace.2 in
+    let judged = λ (config : Parts) (text : List ℕ). trace_judged (trace_in config text) >>= λ rounds. gives (asked_for config rounds) in
+    let config = over_parts (config_in names.config) (rounds_in names.trace) asked files is in
+    let trace = over_parts (file 16777216 names.trace) (judged config.0) asked files config.2 in
+    let rounds = over_parts (trace_judged (trace_in config.0 trace.0)) (λ rounds. gives (asked_for config.0 rounds)) asked files trace.2 in
     let same : config.0 ≡ asked.config = cc rounds.2 in
-    (text.0, text.1, config_judged (configuration text.0) asked.config (config.1 ∙ ap Ok same))
+    subst (λ (c : Parts). over (config_in names.config) files ≡ Ok c) same config.1
 
 -- ---- files
 
@@ -81,24 +80,6 @@ pub file_is : (limit : ℕ) (name bytes : List ℕ) (files : Files) → files na
 file_is limit name bytes files there short = rw (there, le-ltb limit (length bytes) short) refl
 
 -- ---- names
-
-none_of : (name : List ℕ) (names : List (List ℕ)) → list_any (bytes_eq name) names ≡ false → IsNoneOf names name
-none_of name [] none = tt
-none_of name (other ∷ names) none = elim (cases_Bool (bytes_eq name other)) [
-  | inl same ↦ absurd (cc (rw same at none))
-  | inr differ ↦ (λ equal. absurd (cc (differ, (bytes_eq-Decides name other).1 equal)), none_of name names (rw differ at none))
-]
-
-not_any : (any : Bool) → not any ≡ true → any ≡ false
-not_any true is = absurd cc
-not_any false is = refl
-
--- the first of names of different files is none of the others
-first_of : (name : List ℕ) (names : List (List ℕ)) → are_names (name ∷ names) ≡ true → IsNoneOf names name
-first_of name names are =
-    let parts = and_parts (is_name name && not (list_any (bytes_eq name) names)) (are_names names) are in
-    let own = and_parts (is_name name) (not (list_any (bytes_eq name) names)) parts.0 in
-    none_of name names (not_any (list_any (bytes_eq name) names) own.1)
 
 names_apart : (words : List (List ℕ)) (names : ReplayFiles) → replay_names words ≡ Some names
     → IsNoneOf (written_by (replay names)) names.config
@@ -113,7 +94,7 @@ names_apart (config ∷ trace ∷ messages ∷ memory ∷ journal ∷ []) names 
           let read : ReplayFiles = record { config = config; trace = trace; messages = messages; memory = memory; journal = journal } in
           let same : read ≡ names = cc (rw are at is) in
           subst (λ (n : ReplayFiles). IsNoneOf (written_by (replay n)) n.config) same
-          (first_of config (trace ∷ messages ∷ memory ∷ journal ∷ []) are).1
+          (are_apart (config ∷ trace ∷ messages ∷ memory ∷ journal ∷ []) are).0.1
       | inr none ↦ absurd (cc (rw none at is))
     ]
 names_apart (config ∷ trace ∷ messages ∷ memory ∷ journal ∷ more ∷ words) names is = absurd cc

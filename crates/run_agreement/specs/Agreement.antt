@@ -4,7 +4,8 @@ use Rattle.std.specs.Prelude.{◌≡◌, ℕ, ◌≤◌, List, length, IsTrue, I
 use Rattle.ids_outside.specs.Files.{Files, SameFiles}
 use Rattle.ids_outside.specs.Shelved.{Shelved}
 use Rattle.ids_outside.specs.Sinks.{Heard}
-use Rattle.run_words.specs.Command.{Command, Recording, ReplayFiles, fold, check, replay, replay_of, written_by, SameBut}
+use Rattle.run_words.specs.Command.{Command, Recording, ReplayFiles, fold, check, replay, replay_of, written_by}
+use Rattle.run_files.specs.Writing.{SameBut}
 use Rattle.idsm_run.specs.Replayed.{RunManager, RanReplay}
 
 -- the recording that a replay leaves: the configuration that it read, and the journal that it wrote

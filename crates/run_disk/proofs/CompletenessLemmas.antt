@@ -14,20 +14,16 @@ use Rattle.run_disk.specs.Keeping.{HasDiskCause, HasKept, IsWornAfter, LeavesBeh
 use Rattle.run_disk.proofs.EndLemmas.{one_sequence}
 use Rattle.run_files.specs.Texts.{answer_status, answer_text}
 use Rattle.run_files.specs.declared.stop.DiskStop.TheVariants.{Failed, FailedAfter, Damaged, WornAfter}
-use Rattle.run_spec.specs.Deserts.{CanBeDone}
-use Rattle.run_spec.specs.Judge.{Refuses, Task, judge, keeps, recalls, recorded_in}
-use Rattle.run_spec.specs.Run.{Deserves, EndsAs, OneFails}
-use Rattle.run_spec.proofs.JudgeLemmas.{keep_found, recall_found}
-use Rattle.run_steps.specs.Words.{Puts, Stop, CannotRead, TooLong, BadSource, Instance, Refused, OnDisk, CannotWrite, NoMemory, put_status}
-use Rattle.run_words.specs.Command.{Command, KeepFiles, PairFiles, keep, recall}
-
--- files whose task can be done are not refused
-not_refused : (command : Command) (old : Shelved) (task : Task) (reason : Stop (List ℕ)) → judge command old.files ≡ Ok task → CanBeDone task
-    → Deserves command old.files reason → ⊥
-not_refused command old task reason serves can (inl judged) = absurd (cc (judged, serves))
-not_refused command old task reason serves can (inr cannot) =
-    let same : cannot.task ≡ task = cc (sym cannot.judged, serves) in
-    can cannot.refusal (subst (λ (t : Task). Refuses t cannot.refusal) same cannot.refuses)
+use Rattle.run_files.proofs.ReadingLemmas.{over_then}
+use Rattle.run_files.specs.Reading.{gives, over}
+use Rattle.run_files.specs.Writing.{OneFails}
+use Rattle.run_files.specs.declared.stop.Refusal.{Refusal}
+use Rattle.run_spec.specs.Judge
+use Rattle.run_spec.specs.Judge.{Recorded, keeps, recalls, recorded_in}
+use Rattle.run_spec.specs.Run.{Deserves, EndsAs}
+use Rattle.run_spec.proofs.RunLemmas.{none_deserved}
+use Rattle.run_steps.specs.Words.{Puts, Stop, CannotRead, Refused, OnDisk, CannotWrite, NoMemory, put_status}
+use Rattle.run_words.specs.Command.{KeepFiles, PairFiles, keep, recall}
 
 -- a disk that keeps some records is not damaged
 not_damaged : (bytes : List ℕ) (slot : ℕ) → HasKept bytes → IsDamaged (slot_at 0 bytes) (slot_at 1 bytes) slot → ⊥
@@ -57,45 +53,43 @@ module _ {D : Type 0} (shows : D → Shown) (status : ℕ) (old new : Shelved) (
   told_want text puts = elim (was_put 8 text puts) [ inl is ↦ is | inr is ↦ is ]
 
   -- no write of a file failed
-  none_unwritten : (command : Command) → OneFails command old.faults new.faults writing.Failed → ⊥
-  none_unwritten command one = elim one.fails [ inl creation ↦ none.by_shelf creation.rose | inr appending ↦ none.by_shelf appending.rose ]
+  none_unwritten : (names : List (List ℕ)) → OneFails names old.faults new.faults writing.Failed → ⊥
+  none_unwritten names one = elim one.fails [ inl creation ↦ none.by_shelf creation.rose | inr appending ↦ none.by_shelf appending.rose ]
 
   module _ (names : PairFiles) where
-    recall_serves : (reason : Stop (List ℕ)) → Deserves (recall names) old.files reason → ⊥
-    recall_serves reason = not_refused (recall names) old (recalls names.target) reason (recall_found names old.files) (λ refusal no. no)
+    recall_serves : (refusal : Refusal (List ℕ)) → Deserves (recall names) old.files refusal → ⊥
+    unfolding Judge.reading_of
+    recall_serves refusal =
+        none_deserved (recall names) status old new before after told (recalls names.target) refl refusal (λ other none. none)
 
     pub recall_done : (answer : Result (List ℕ) (Stop (List ℕ))) → EndsAs (recall names) answer old new
         → Puts (answer_text answer) (answer_status answer) status before after → HasDiskCause shows disk left answer
         → (status ≡ 0) ⊎ (status ≡ 8)
     recall_done (Ok said) ends puts cause = was_put 0 said puts
     recall_done (Err (CannotRead name)) ends puts cause = absurd (none.by_shelf ends.fails.rose)
-    recall_done (Err (TooLong name)) ends puts cause = absurd (recall_serves _ (ends.deserved told))
-    recall_done (Err (BadSource name bad)) ends puts cause = absurd (recall_serves _ (ends.deserved told))
-    recall_done (Err (Instance name)) ends puts cause = absurd (recall_serves _ (ends.deserved told))
     recall_done (Err (Refused refusal)) ends puts cause = absurd (recall_serves _ (ends.deserved told))
     recall_done (Err (OnDisk Failed)) ends puts cause = absurd (none.by_disk cause)
     recall_done (Err (OnDisk (FailedAfter saves))) ends puts cause = absurd ends.may
     recall_done (Err (OnDisk (Damaged slot))) ends puts cause = absurd (not_damaged (bytes_of (shows disk)) slot kept (cause shown).0)
     recall_done (Err (OnDisk (WornAfter saves))) ends puts cause = absurd ends.may
-    recall_done (Err CannotWrite) ends puts cause = absurd (none_unwritten (recall names) ends.fails)
+    recall_done (Err CannotWrite) ends puts cause = absurd (none_unwritten _ ends.fails)
     recall_done (Err NoMemory) ends puts cause = inr (told_want _ puts)
 
-  module _ (names : KeepFiles) (config : Parts) (turns : List Turn)
-      (found : recorded_in names.from old.files ≡ Ok (record { config = config; turns = turns })) where
-    keep_serves : (reason : Stop (List ℕ)) → Deserves (keep names) old.files reason → ⊥
-    keep_serves reason = not_refused (keep names) old (keeps config turns) reason (keep_found names old.files _ found) (λ refusal no. no)
+  module _ (names : KeepFiles) (own : Recorded) (found : over (recorded_in names.from) old.files ≡ Ok own) where
+    keep_serves : (refusal : Refusal (List ℕ)) → Deserves (keep names) old.files refusal → ⊥
+    unfolding Judge.reading_of
+    keep_serves refusal =
+        none_deserved (keep names) status old new before after told (keeps own.config own.told.turns)
+        (over_then (recorded_in names.from) (λ (read : Recorded). gives (keeps read.config read.told.turns)) _ old.files found) refusal (λ other none. none)
 
     abbrev Done : Result (List ℕ) (Stop (List ℕ)) → Type 0
-    Done answer = (status ≡ 0) ⊎ ((status ≡ 8) ⊎ EndsWorn turns kept.sequence answer status)
+    Done answer = (status ≡ 0) ⊎ ((status ≡ 8) ⊎ EndsWorn own.told.turns kept.sequence answer status)
 
     pub keep_done : (answer : Result (List ℕ) (Stop (List ℕ))) → EndsAs (keep names) answer old new
         → Puts (answer_text answer) (answer_status answer) status before after → HasDiskCause shows disk left answer
-        → LeavesBehind config turns (shows disk) (shows left) answer → Done answer
+        → LeavesBehind own.config own.told.turns (shows disk) (shows left) answer → Done answer
     keep_done (Ok said) ends puts cause leaves = elim (was_put 0 said puts) [ inl is ↦ inl is | inr is ↦ inr (inl is) ]
     keep_done (Err (CannotRead name)) ends puts cause leaves = absurd (none.by_shelf ends.fails.rose)
-    keep_done (Err (TooLong name)) ends puts cause leaves = absurd (keep_serves _ (ends.deserved told))
-    keep_done (Err (BadSource name bad)) ends puts cause leaves = absurd (keep_serves _ (ends.deserved told))
-    keep_done (Err (Instance name)) ends puts cause leaves = absurd (keep_serves _ (ends.deserved told))
     keep_done (Err (Refused refusal)) ends puts cause leaves = absurd (keep_serves _ (ends.deserved told))
     keep_done (Err (OnDisk Failed)) ends puts cause leaves = absurd ends.may
     keep_done (Err (OnDisk (FailedAfter saves))) ends puts cause leaves = absurd (none.by_disk cause)
@@ -110,5 +104,5 @@ module _ {D : Type 0} (shows : D → Shown) (status : ℕ) (old new : Shelved) (
       }))
       | inr is ↦ inr (inl is)
     ]
-    keep_done (Err CannotWrite) ends puts cause leaves = absurd (none_unwritten (keep names) ends.fails)
+    keep_done (Err CannotWrite) ends puts cause leaves = absurd (none_unwritten _ ends.fails)
     keep_done (Err NoMemory) ends puts cause leaves = inr (inl (told_want _ puts))

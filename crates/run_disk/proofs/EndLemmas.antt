@@ -15,7 +15,7 @@ use Rattle.memory_store.specs.declared.store.BeginFault.TheVariants as begin
 use Rattle.run_disk.specs.Keeping.{HasDiskCause, HasSaveCause, HasKept, Keeping, KeepsSome, KeptAtEnd, LeavesAs, LeavesBehind, not_begun}
 use Rattle.run_disk.proofs.SavingLemmas.{none_saved, some_saved}
 use Rattle.run_files.specs.declared.stop.DiskStop.TheVariants.{Failed, FailedAfter, Damaged, WornAfter}
-use Rattle.run_steps.specs.Words.{Stop, CannotRead, TooLong, BadSource, Instance, Refused, OnDisk, CannotWrite, NoMemory}
+use Rattle.run_steps.specs.Words.{Stop, CannotRead, Refused, OnDisk, CannotWrite, NoMemory}
 
 -- a disk keeps its records under one sequence
 pub one_sequence : (kept : Kept) (a b : ℕ) (r s : List Row) → KeptIs kept a r → KeptIs kept b s → a ≡ b
@@ -78,9 +78,6 @@ at_end_if : {A N : Type 0} (Synced : Type 0) (keeping : Keeping) (end : Result A
     → KeptAtEnd ⊤ keeping end state → KeptAtEnd Synced keeping end state
 at_end_if Synced keeping (Ok done) state kept = kept
 at_end_if Synced keeping (Err (CannotRead name)) state kept = tt
-at_end_if Synced keeping (Err (TooLong name)) state kept = tt
-at_end_if Synced keeping (Err (BadSource name bad)) state kept = tt
-at_end_if Synced keeping (Err (Instance name)) state kept = tt
 at_end_if Synced keeping (Err (Refused refusal)) state kept = tt
 at_end_if Synced keeping (Err (OnDisk Failed)) state kept = tt
 at_end_if Synced keeping (Err (OnDisk (FailedAfter saves))) state kept = λ synced. kept tt
@@ -123,9 +120,6 @@ module _ {D : Type 0} (shows : D → Shown) (old : D) (store : StoreValue D) (le
   pub save_cause : {A N : Type 0} (end : Result A (Stop N)) → HasSaveCause shows store left end → HasDiskCause shows old left end
   save_cause (Ok done) cause = has_kept
   save_cause (Err (CannotRead name)) cause = absurd cause
-  save_cause (Err (TooLong name)) cause = absurd cause
-  save_cause (Err (BadSource name bad)) cause = absurd cause
-  save_cause (Err (Instance name)) cause = absurd cause
   save_cause (Err (Refused refusal)) cause = absurd cause
   save_cause (Err (OnDisk Failed)) cause = absurd cause
   save_cause (Err (OnDisk (FailedAfter saves))) cause = subst (λ n. Rose n (shows left).faults) faults cause

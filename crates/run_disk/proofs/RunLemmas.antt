@@ -1,5 +1,5 @@
 -- A run over a disk, from how its work ended to what it tells.
-use Rattle.std.proofs.Common.{◌≡◌, List, ℕ, Ok, Err, Some, Option, IsTrue, Result, Bor, subst}
+use Rattle.std.proofs.Common.{◌≡◌, List, ℕ, Ok, Err, None, Some, Option, IsTrue, Result, Bor, subst}
 use Rattle.std.specs.Prelude.{IfOk, Vec}
 use Rattle.ids_outside.specs.Files.{Files}
 use Rattle.ids_outside.specs.Shelved.{Shelved}
@@ -8,8 +8,9 @@ use Rattle.memory_disk.specs.Disks.{Shown, LeavesSince, MayBeLeft, bytes_of}
 use Rattle.run_disk.specs.Keeping.{HasDiskCause}
 use Rattle.run_disk.specs.Runs.{Keeps, LeavesRecorded, Recalled, RecalledBy, Recalls, RunsOnDisk}
 use Rattle.run_disk.proofs.EndLemmas.{untold}
-use Rattle.run_spec.specs.Run.{EndsAs}
-use Rattle.run_spec.proofs.RunLemmas.{ended_so}
+use Rattle.run_files.specs.Writing.{SameBut}
+use Rattle.run_spec.specs.Run.{EndsAs, written_of}
+use Rattle.run_spec.proofs.RunLemmas.{ended_others, ended_so}
 use Rattle.run_steps.specs.Words.{Global, Stop, Tells, plain_end}
 use Rattle.run_words.specs.Command.{Command, KeepFiles, PairFiles, keep, recall}
 
@@ -22,7 +23,7 @@ module _ {D : Type 0} (shows : D → Shown) (status : ℕ) (old new : Shelved) (
   keep_ran names ends leaves =
       let so = ended_so (keep names) status old new before after
       (λ answer. HasDiskCause shows disk left answer × (IsTrue old.tells → LeavesRecorded shows names old.files disk left answer))
-      (tt, λ told shown config turns found. untold config turns (shows disk) (shows left) (plain_end end) (leaves told shown config turns found))
+      (tt, λ told shown own found. untold own.config own.told.turns (shows disk) (shows left) (plain_end end) (leaves told shown own found))
       end ends tells (cause, leaves) in
       record { ran = so.ran; cause = so.holds.0; leaves = so.holds.1 }
 
@@ -51,3 +52,13 @@ pub asked_on_disk : {D : Type 0} (shows : D → Shown) (own : Command) (asked : 
     → RunsOnDisk shows asked status old new before after disk left
 asked_on_disk shows own asked status old new before after disk left is ran =
     subst (λ a. RunsOnDisk shows a status old new before after disk left) is ran
+
+-- the files stay that it does not write
+pub disk_others : {D : Type 0} (shows : D → Shown) (asked : Option Command) (status : ℕ) (old new : Shelved) (before after : Heard) (disk left : D)
+    → RunsOnDisk shows asked status old new before after disk left → IsTrue old.tells → SameBut (written_of asked) old.files new.files
+disk_others shows None status old new before after disk left runs told = λ name none. runs.misused.files name
+disk_others shows (Some (keep names)) status old new before after disk left runs told =
+    ended_others (keep names) old new told runs.ran.answer runs.ran.ends
+disk_others shows (Some (recall names)) status old new before after disk left runs told =
+    ended_others (recall names) old new told runs.ran.answer runs.ran.ends
+disk_others shows (Some other) status old new before after disk left runs told = absurd runs

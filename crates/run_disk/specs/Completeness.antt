@@ -6,7 +6,7 @@ use Rattle.memory_disk.specs.Disks.{Shown, bytes_of}
 use Rattle.run_disk.specs.Keeping.{HasKept}
 use Rattle.run_disk.specs.Runs.{Keeps, Recalls}
 use Rattle.run_files.specs.declared.stop.DiskStop.TheVariants.{WornAfter}
-use Rattle.run_steps.specs.Words.{Heard, Parts, Shelved, Stop, OnDisk, Turn, recorded_in}
+use Rattle.run_steps.specs.Words.{Heard, Recorded, Shelved, Stop, OnDisk, Turn, over, recorded_in}
 use Rattle.run_words.specs.Command.{KeepFiles, PairFiles}
 
 -- no call of the shelf, of the sink or of the disk failed: the count of each is below its greatest value, and is no
@@ -29,12 +29,12 @@ pub record EndsWorn (turns : List Turn) (sequence : ℕ) (answer : Result (List 
 -- with 0, or with 8 for want of memory, or with 15 behind fewer saves than there are turns, if no call failed
 abbrev pub CompletesKeep : {D : Type 0} → (D → Shown) → Type 0
 CompletesKeep {D} shows =
-    (names : KeepFiles) (status : ℕ) (old new : Shelved) (before after : Heard) (disk left : D) (config : Parts) (turns : List Turn)
+    (names : KeepFiles) (status : ℕ) (old new : Shelved) (before after : Heard) (disk left : D) (own : Recorded)
     → (run : Keeps shows names status old new before after disk left)
-    → IsTrue old.tells → recorded_in names.from old.files ≡ Ok (record { config = config; turns = turns })
+    → IsTrue old.tells → over (recorded_in names.from) old.files ≡ Ok own
     → IsTrue (shows disk).tells → (kept : HasKept (bytes_of (shows disk)))
     → NoneFailed old new before after (shows disk) (shows left)
-    → (status ≡ 0) ⊎ ((status ≡ 8) ⊎ EndsWorn turns kept.sequence run.ran.answer status)
+    → (status ≡ 0) ⊎ ((status ≡ 8) ⊎ EndsWorn own.told.turns kept.sequence run.ran.answer status)
 
 -- a `recall` whose shelf and disk tell what they hold and whose disk keeps some records ends with 0, or with 8 for want
 -- of memory, if no call failed

@@ -9,15 +9,14 @@ use Rattle.memory_store.specs.Slots.{KeepsRows}
 use Rattle.run_disk.specs.Keeping.{HasDiskCause, LeavesBehind}
 use Rattle.run_spec.specs.Copying.{count_text}
 use Rattle.run_spec.specs.Run.{Misused, RanCommand}
-use Rattle.run_steps.specs.Words.{Global, Heard, Parts, Shelved, Stop, Turn, WriteFault, memory_text, recorded_in, stop_of_write}
+use Rattle.run_steps.specs.Words.{Global, Heard, Recorded, Shelved, Stop, WriteFault, memory_text, over, recorded_in, stop_of_write}
 use Rattle.run_words.specs.Command.{Command, KeepFiles, PairFiles, keep, recall}
 
 -- what crashes leave of the disk, where the files are told and have a recording
 abbrev pub LeavesRecorded : {A N D : Type 0} → (D → Shown) → KeepFiles → Files → D → D → Result A (Stop N) → Type 0
 LeavesRecorded shows names files disk left end =
-    IsTrue (shows disk).tells → (config : Parts) (turns : List Turn)
-    → recorded_in names.from files ≡ Ok (record { config = config; turns = turns })
-    → LeavesBehind config turns (shows disk) (shows left) end
+    IsTrue (shows disk).tells → (own : Recorded) → over (recorded_in names.from) files ≡ Ok own
+    → LeavesBehind own.config own.told.turns (shows disk) (shows left) end
 
 -- what a run of `keep` does
 pub record Keeps {D : Type 0} (shows : D → Shown) (names : KeepFiles) (status : ℕ) (old new : Shelved) (before after : Heard)

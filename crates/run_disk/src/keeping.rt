@@ -1,10 +1,10 @@
 //! The command `keep`: the event memory of a recording, saved on a disk behind each turn.
 
-ghost use Rattle.std.specs.Prelude.{◌≡◌, ◌≢◌, IsTrue, IfOk, IfErr};
+ghost use Rattle.std.specs.Prelude.{◌≡◌, IsTrue, IfOk, IfErr};
 ghost use Rattle.run_disk.specs.Keeping.{HasDiskCause, IsNewFolding, LeavesBehind, StopsKeeping};
 ghost use Rattle.run_disk.specs.Runs.{LeavesRecorded};
 ghost use Rattle.run_spec.specs.Keeping.{saved_text};
-ghost use Rattle.run_steps.specs.Words.{EndsAs, IsFoldable, SameFiles, plain_end};
+ghost use Rattle.run_steps.specs.Words.{EndsAs, IsFoldable, plain_end};
 ghost use Rattle.run_words.specs.Command.{keep as keep_command};
 ghost use Rattle.run_words.specs.CommandView.{keep_files_of};
 
@@ -30,9 +30,6 @@ pub(crate) fn keep<'a, H: Shelf, D: Disk>(
     shelf: &mut H,
     disk: D,
 ) -> Ended<'a, Vec<u8>, D>
-    requires { names.from.config.now ≢ names.from.journal.now }
-    ensures same { IsTrue (H.shows shelf.old).tells →
-        SameFiles (H.shows shelf.old).files (H.shows shelf.new).files }
     ensures ends { EndsAs (keep_command (keep_files_of names.entry)) (plain_end result.end)
         (H.shows shelf.old) (H.shows shelf.new) }
     ensures cause { HasDiskCause D.shows disk result.disk (plain_end result.end) }

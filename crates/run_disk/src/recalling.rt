@@ -5,7 +5,7 @@ ghost use Rattle.memory_disk.specs.Disks.{LeavesSince, MayBeLeft, bytes_of};
 ghost use Rattle.run_disk.specs.Keeping.{HasDiskCause};
 ghost use Rattle.run_disk.specs.Runs.{Recalled, written_end};
 ghost use Rattle.run_spec.specs.Copying.{count_text};
-ghost use Rattle.run_steps.specs.Words.{EndsAs, SameOthers, memory_text, pair_of, plain_end};
+ghost use Rattle.run_steps.specs.Words.{EndsAs, memory_text, pair_of, plain_end};
 ghost use Rattle.run_words.specs.Command.{PairFiles, recall as recall_command};
 
 use crate::ended::{Ended, not_begun};
@@ -13,7 +13,7 @@ use ids_outside::{Shelf, WriteFault};
 use ids_types::NoMemory;
 use memory_disk::Disk;
 use memory_store::{Records, Store};
-use run_files::{DiskStop, Stop, write_file};
+use run_files::{DiskStop, NewFile, Stop, write_files};
 use run_words::PairNames;
 use std::alloc::Global;
 
@@ -24,8 +24,6 @@ pub(crate) fn recall<'a, H: Shelf, D: Disk>(
     shelf: &mut H,
     disk: D,
 ) -> Ended<'a, Vec<u8>, D>
-    ensures others { IsTrue (H.shows shelf.old).tells →
-        SameOthers (H.shows shelf.old).files (H.shows shelf.new).files names.entry.target.now }
     ensures ends { EndsAs (recall_command (pair_of names.entry)) (plain_end result.end)
         (H.shows shelf.old) (H.shows shelf.new) }
     ensures cause { HasDiskCause D.shows disk result.disk (plain_end result.end) }
@@ -57,8 +55,6 @@ fn write_records<H: Shelf>(
     target: &str,
     shelf: &mut H,
 ) -> Result<Vec<u8>, WriteFault>
-    ensures others { IsTrue (H.shows shelf.old).tells →
-        SameOthers (H.shows shelf.old).files (H.shows shelf.new).files target.now }
     ensures ends { (names : PairFiles) → target.now ≡ names.target → EndsAs (recall_command names) (written_end result)
         (H.shows shelf.old) (H.shows shelf.new) }
     ensures written { IsTrue (H.shows shelf.old).tells →
@@ -67,7 +63,12 @@ fn write_records<H: Shelf>(
 {
     let text = records.print(alloc).map_err(|_| WriteFault::NoMemory)?;
     let line = records_line(alloc, records.len()).map_err(|_| WriteFault::NoMemory)?;
-    write_file(target, &text, &[text.len() as u64], shelf)?;
+    let file = NewFile {
+        name: target,
+        bytes: &text,
+        cuts: &[],
+    };
+    write_files(&[file], shelf)?;
     Ok(line)
 }
 

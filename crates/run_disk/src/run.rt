@@ -10,7 +10,8 @@ use crate::keeping::keep;
 use crate::recalling::recall;
 use ids_outside::{Shelf, Sink};
 use memory_disk::Disk;
-use run_files::{say_usage, tell};
+use run_files::tell;
+use run_steps::say_usage;
 use run_words::{DiskRequest, parse_disk};
 use std::alloc::Global;
 

@@ -1,3 +1,4 @@
 pub mod ExitLemmas
 pub mod Names
+pub mod ReadingLemmas
 pub mod WritingLemmas

@@ -1,6 +1,7 @@
 pub mod Contents
 pub mod Names
+pub mod Plain
+pub mod Reading
 pub mod Saying
-pub mod Stages
 pub mod Texts
 pub mod Writing

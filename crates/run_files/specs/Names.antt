@@ -10,7 +10,7 @@ pub use Rattle.ids_outside.specs.declared.faults.WriteFault.{WriteFault}
 pub use Rattle.ids_outside.specs.declared.faults.WriteFault.TheVariants.{Failed, NoMemory as MemoryRefused}
 pub use Rattle.run_files.specs.declared.stop.DiskStop.{DiskStop}
 pub use Rattle.run_files.specs.declared.stop.Refusal.{Refusal}
-pub use Rattle.run_files.specs.declared.stop.Refusal.TheVariants.{BadConfig, BadCounter, BadJournal, BadMessages, BadTag, BadTrace, BadUnit, Differ, EmptyKey, Signed, TooLarge}
+pub use Rattle.run_files.specs.declared.stop.Refusal.TheVariants.{BadConfig, BadCounter, BadJournal, BadMessages, BadSource, BadTag, BadTrace, BadUnit, Differ, EmptyKey, Instance, Signed, TooLarge, TooLong}
 pub use Rattle.run_files.specs.declared.stop.Stop.{Stop}
-pub use Rattle.run_files.specs.declared.stop.Stop.TheVariants.{BadSource, CannotRead, CannotWrite, Instance, NoMemory, OnDisk, Refused, TooLong}
+pub use Rattle.run_files.specs.declared.stop.Stop.TheVariants.{CannotRead, CannotWrite, NoMemory, OnDisk, Refused}
 pub use Rattle.std.specs.declared.alloc.Global.{Global}

@@ -1,24 +1,12 @@
 -- The statuses and the texts of how a run ends.
 -- Source: docs/COMMANDS.md.
-use Rattle.std.specs.Prelude.{ℕ, ◌++◌, List, Result, Ok, Err, codes, decimal}
-use Rattle.run_files.specs.Names.{ConfigFault, BadMessage, Refusal, BadConfig, BadJournal, BadTrace, BadMessages, Differ, EmptyKey, Signed, BadTag, BadCounter, TooLarge, BadUnit, DiskStop, Stop, CannotRead, TooLong, BadSource, Instance, Refused, OnDisk, CannotWrite, NoMemory}
+use Rattle.std.specs.Prelude.{ℕ, ◌∷◌, [], ◌++◌, List, Result, Ok, Err, codes, decimal}
+use Rattle.run_files.specs.Names.{ConfigFault, BadMessage, Refusal, TooLong, BadConfig, BadJournal, BadTrace, BadMessages, BadSource, Instance, Differ, EmptyKey, Signed, BadTag, BadCounter, TooLarge, BadUnit, DiskStop, Stop, CannotRead, Refused, OnDisk, CannotWrite, NoMemory}
 use Rattle.run_files.specs.declared.stop.DiskStop.TheVariants.{Failed, FailedAfter, Damaged, WornAfter}
 use Rattle.ids_config.specs.declared.fault.ConfigPlace.{ConfigPlace}
 use Rattle.ids_config.specs.declared.fault.ConfigPlace.TheVariants.{Top, Class, Event}
 use Rattle.ids_frame.specs.declared.fault.FrameFault.{FrameFault}
 use Rattle.ids_frame.specs.declared.fault.FrameFault.TheVariants.{Short, UnknownVersion, UnknownPart}
-
--- the usage, with the commands that are built
-abbrev pub usage : List ℕ
-usage =
-    codes "usage: idsm replay CONFIG TRACE MESSAGES MEMORY JOURNAL\n"
-    ++ codes "       idsm fold CONFIG JOURNAL MESSAGES MEMORY\n" ++ codes "       idsm check CONFIG JOURNAL MESSAGES\n"
-    ++ codes "       idsm decode MESSAGES\n"
-    ++ codes "       idsm gen [--start N] [--callers N] [--rounds N] [--events N] CONFIG TRACE JOURNAL\n"
-    ++ codes "       idsm migrate CONFIG NEW\n" ++ codes "       idsm report OUT FILE ..\n"
-    ++ codes "       idsm keep DISK CONFIG JOURNAL\n" ++ codes "       idsm recall DISK MEMORY\n"
-    ++ codes "       idsm sign KEY START MESSAGES SIGNED\n" ++ codes "       idsm verify KEY START SIGNED MESSAGES\n"
-    ++ codes "       idsm bundle SIZE MESSAGES UNITS\n" ++ codes "       idsm unbundle UNITS MESSAGES\n"
 
 -- ---- the texts of refusals
 
@@ -64,33 +52,39 @@ bad_source_text name bad =
 abbrev pub at_text : List ℕ → ℕ → List ℕ
 at_text words at = words ++ (decimal at ++ codes "\n")
 
--- the text of a refusal
-abbrev pub refusal_text : Refusal → List ℕ
-refusal_text (BadConfig fault) = bad_config_text fault
-refusal_text (BadJournal line number) = bad_journal_text line number
-refusal_text (BadTrace line number) = bad_trace_text line number
-refusal_text (BadMessages bad) = bad_message_text bad
-refusal_text (Differ at) = at_text (codes "differs at ") at
-refusal_text EmptyKey = codes "empty key\n"
-refusal_text (Signed at) = at_text (codes "signed at ") at
-refusal_text (BadTag at) = at_text (codes "bad tag at ") at
-refusal_text (BadCounter at) = at_text (codes "bad counter at ") at
-refusal_text (TooLarge at) = at_text (codes "too large at ") at
-refusal_text (BadUnit at) = at_text (codes "bad unit at ") at
+-- how a refusal is told, and which commands may meet it, by their words
+pub record Row : Type 0 where
+  pub status : ℕ
+  pub text : List ℕ
+  pub met_by : List (List ℕ)
 
--- the status of a refusal
-abbrev pub refusal_status : Refusal → ℕ
-refusal_status (BadConfig fault) = 5
-refusal_status (BadJournal line number) = 6
-refusal_status (BadTrace line number) = 6
-refusal_status (Differ at) = 9
-refusal_status (BadMessages bad) = 10
-refusal_status EmptyKey = 16
-refusal_status (Signed at) = 17
-refusal_status (BadTag at) = 18
-refusal_status (BadCounter at) = 19
-refusal_status (TooLarge at) = 20
-refusal_status (BadUnit at) = 21
+abbrev row : ℕ → List ℕ → List (List ℕ) → Row
+row status text met_by = record { status = status; text = text; met_by = met_by }
+
+-- the commands over messages that are sealed or packed
+abbrev sealing : List (List ℕ)
+sealing = codes "sign" ∷ codes "verify" ∷ []
+
+-- the commands that read a recording, and all that read a configuration
+abbrev recording : List (List ℕ)
+recording = codes "fold" ∷ codes "check" ∷ codes "keep" ∷ codes "explain" ∷ []
+
+-- the table of refusals
+abbrev pub row_of : Refusal (List ℕ) → Row
+row_of (TooLong name) = row 4 (codes "too long " ++ (name ++ codes "\n")) (codes "decode" ∷ codes "bundle" ∷ codes "unbundle" ∷ codes "report" ∷ codes "replay" ∷ codes "migrate" ∷ (sealing ++ recording))
+row_of (BadConfig fault) = row 5 (bad_config_text fault) (codes "replay" ∷ codes "migrate" ∷ recording)
+row_of (BadJournal line number) = row 6 (bad_journal_text line number) recording
+row_of (BadTrace line number) = row 6 (bad_trace_text line number) (codes "replay" ∷ [])
+row_of (Differ at) = row 9 (at_text (codes "differs at ") at) (codes "check" ∷ [])
+row_of (BadMessages bad) = row 10 (bad_message_text bad) (codes "decode" ∷ codes "bundle" ∷ sealing)
+row_of (BadSource name bad) = row 10 (bad_source_text name bad) (codes "report" ∷ [])
+row_of (Instance name) = row 11 (codes "instance " ++ (name ++ codes "\n")) (codes "report" ∷ [])
+row_of EmptyKey = row 16 (codes "empty key\n") sealing
+row_of (Signed at) = row 17 (at_text (codes "signed at ") at) (codes "sign" ∷ [])
+row_of (BadTag at) = row 18 (at_text (codes "bad tag at ") at) (codes "verify" ∷ [])
+row_of (BadCounter at) = row 19 (at_text (codes "bad counter at ") at) (codes "verify" ∷ [])
+row_of (TooLarge at) = row 20 (at_text (codes "too large at ") at) (codes "bundle" ∷ [])
+row_of (BadUnit at) = row 21 (at_text (codes "bad unit at ") at) (codes "unbundle" ∷ [])
 
 -- ---- the texts of stops
 
@@ -114,10 +108,7 @@ no_memory_text = codes "no memory\n"
 -- the text of a stop
 abbrev pub stop_text : Stop (List ℕ) → List ℕ
 stop_text (CannotRead name) = codes "cannot read " ++ (name ++ codes "\n")
-stop_text (TooLong name) = codes "too long " ++ (name ++ codes "\n")
-stop_text (BadSource name bad) = bad_source_text name bad
-stop_text (Instance name) = codes "instance " ++ (name ++ codes "\n")
-stop_text (Refused refusal) = refusal_text refusal
+stop_text (Refused refusal) = (row_of refusal).text
 stop_text (OnDisk stop) = disk_text stop
 stop_text CannotWrite = codes "cannot write\n"
 stop_text NoMemory = no_memory_text
@@ -125,10 +116,7 @@ stop_text NoMemory = no_memory_text
 -- the status of a stop
 abbrev pub stop_status : Stop (List ℕ) → ℕ
 stop_status (CannotRead name) = 3
-stop_status (TooLong name) = 4
-stop_status (BadSource name bad) = 10
-stop_status (Instance name) = 11
-stop_status (Refused refusal) = refusal_status refusal
+stop_status (Refused refusal) = (row_of refusal).status
 stop_status (OnDisk stop) = disk_status stop
 stop_status CannotWrite = 7
 stop_status NoMemory = 8

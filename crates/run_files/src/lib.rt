@@ -14,9 +14,9 @@ mod sizes;
 mod status;
 mod stop;
 
-pub use outputs::write_file;
+pub use outputs::{NewFile, write_files};
 pub use reading::read_file;
-pub use saying::{say, say_usage, tell};
+pub use saying::{say, tell};
 pub use sizes::{
     MAX_CONFIG_BYTES, MAX_JOURNAL_BYTES, MAX_KEY_BYTES, MAX_MESSAGES_BYTES, MAX_SEALED_BYTES,
     MAX_SOURCE_BYTES, MAX_TRACE_BYTES, MAX_UNITS_BYTES,

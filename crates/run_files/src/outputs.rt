@@ -1,90 +1,65 @@
-//! Files that are written piece by piece.
+//! Files that are written one after another, each piece by piece.
 
-ghost use Rattle.std.specs.Prelude.{◌≡◌, ◌≤◌, length, IsTrue, OnOk, OnErr, IfErr, Some, [], take};
-ghost use Rattle.ids_outside.specs.Files.{SameOthers, Changes};
-ghost use Rattle.run_files.specs.Writing.{StandsInPart, HoldsPart, WriteFails, Cuts};
+ghost use Rattle.std.specs.Prelude.{◌≤◌, ◌∷◌, [], length, map};
+ghost use Rattle.run_files.specs.Writing.{Adds, CanWrite, IsCut, Writes, output_of};
 
 use ids_outside::{Shelf, WriteFault};
 
-/// Makes the file of this name and appends the bytes, by one append for each piece that is not empty.
-/// `ends` has where each piece ends.
-pub fn write_file<H: Shelf>(
-    name: &str,
-    bytes: &[u8],
-    ends: &[u64],
-    shelf: &mut H,
-) -> Result<(), WriteFault>
-    requires { Cuts 0 ends.now (length bytes.now) }
-    ensures tells { (H.shows shelf.new).tells ≡ (H.shows shelf.old).tells }
-    ensures ok { IsTrue (H.shows shelf.old).tells → OnOk result
-        (Changes (H.shows shelf.old).files (H.shows shelf.new).files name.now (Some bytes.now)) }
-    ensures others { IsTrue (H.shows shelf.old).tells →
-        SameOthers (H.shows shelf.old).files (H.shows shelf.new).files name.now }
-    ensures part { IsTrue (H.shows shelf.old).tells → OnErr result
-        (StandsInPart (H.shows shelf.old).files (H.shows shelf.new).files
-        (record { name = name.now; bytes = bytes.now })) }
-    ensures no_fault { OnOk result ((H.shows shelf.new).faults ≡ (H.shows shelf.old).faults) }
-    ensures fails { IfErr result
-        (WriteFails (H.shows shelf.old).faults (H.shows shelf.new).faults name.now) }
-{
-    shelf.create(name)?;
-    append_pieces(name, bytes, ends, shelf)
+/// A file that is to be written: its bytes, and where they are cut into pieces.
+#[derive(Clone, Copy, Debug)]
+pub struct NewFile<'a> {
+    pub name: &'a str,
+    pub bytes: &'a [u8],
+    /// Where each piece ends but the last one, which goes to the end.
+    pub cuts: &'a [u64],
 }
 
-/// Appends the pieces to a file that is there and empty.
-fn append_pieces<H: Shelf>(
-    name: &str,
-    bytes: &[u8],
-    ends: &[u64],
-    shelf: &mut H,
-) -> Result<(), WriteFault>
-    requires cuts { Cuts 0 ends.now (length bytes.now) }
-    ensures tells { (H.shows shelf.new).tells ≡ (H.shows shelf.old).tells }
-    ensures ok { IsTrue (H.shows shelf.old).tells →
-        (H.shows shelf.old).files name.now ≡ Some [] →
-        OnOk result ((H.shows shelf.new).files name.now ≡ Some bytes.now) }
-    ensures part { IsTrue (H.shows shelf.old).tells →
-        (H.shows shelf.old).files name.now ≡ Some [] → OnErr result
-        (HoldsPart (H.shows shelf.new).files (record { name = name.now; bytes = bytes.now })) }
-    ensures others { IsTrue (H.shows shelf.old).tells →
-        SameOthers (H.shows shelf.old).files (H.shows shelf.new).files name.now }
-    ensures no_fault { OnOk result ((H.shows shelf.new).faults ≡ (H.shows shelf.old).faults) }
-    ensures fails { IfErr result
-        (WriteFails (H.shows shelf.old).faults (H.shows shelf.new).faults name.now) }
+/// Makes each file and appends its bytes, by one append for each piece that is not empty.
+pub fn write_files<H: Shelf>(files: &[NewFile<'_>], shelf: &mut H) -> Result<(), WriteFault>
+    requires { CanWrite files.now }
+    ensures { Writes (map output_of files.now) result (H.shows shelf.old) (H.shows shelf.new) }
 {
-    let mut start = 0;
-    for &end in ends {
-        append_piece(name, bytes, start, end, shelf)?;
-        start = end;
+    for &file in files {
+        write_file(file, shelf)?;
     }
     Ok(())
 }
 
+/// Makes the file and appends its pieces.
+fn write_file<H: Shelf>(file: NewFile<'_>, shelf: &mut H) -> Result<(), WriteFault>
+    requires { IsCut file }
+    ensures { Writes (output_of file.entry ∷ []) result (H.shows shelf.old) (H.shows shelf.new) }
+{
+    shelf.create(file.name)?;
+    append_pieces(file, shelf)
+}
+
+/// Appends the pieces to a file that is there and empty.
+fn append_pieces<H: Shelf>(file: NewFile<'_>, shelf: &mut H) -> Result<(), WriteFault>
+    requires { IsCut file }
+    ensures { Adds (output_of file.entry) 0 (length file.entry.bytes.now) result (H.shows shelf.old) (H.shows shelf.new) }
+{
+    let mut start = 0;
+    for &end in file.cuts {
+        append_piece(file, start, end, shelf)?;
+        start = end;
+    }
+    append_piece(file, start, file.bytes.len() as u64, shelf)
+}
+
 /// Appends the bytes from `start` to `end` to those before, where there are any.
 fn append_piece<H: Shelf>(
-    name: &str,
-    bytes: &[u8],
+    file: NewFile<'_>,
     start: u64,
     end: u64,
     shelf: &mut H,
 ) -> Result<(), WriteFault>
     requires ordered { start ≤ end }
-    requires within { end ≤ length bytes.now }
-    ensures tells { (H.shows shelf.new).tells ≡ (H.shows shelf.old).tells }
-    ensures ok { IsTrue (H.shows shelf.old).tells →
-        (H.shows shelf.old).files name.now ≡ Some (take start bytes.now) →
-        OnOk result ((H.shows shelf.new).files name.now ≡ Some (take end bytes.now)) }
-    ensures part { IsTrue (H.shows shelf.old).tells →
-        (H.shows shelf.old).files name.now ≡ Some (take start bytes.now) → OnErr result
-        (HoldsPart (H.shows shelf.new).files (record { name = name.now; bytes = bytes.now })) }
-    ensures others { IsTrue (H.shows shelf.old).tells →
-        SameOthers (H.shows shelf.old).files (H.shows shelf.new).files name.now }
-    ensures no_fault { OnOk result ((H.shows shelf.new).faults ≡ (H.shows shelf.old).faults) }
-    ensures fails { IfErr result
-        (WriteFails (H.shows shelf.old).faults (H.shows shelf.new).faults name.now) }
+    requires within { end ≤ length file.bytes.now }
+    ensures { Adds (output_of file.entry) start end result (H.shows shelf.old) (H.shows shelf.new) }
 {
     if start == end {
         return Ok(());
     }
-    shelf.append(name, &bytes[start as usize..end as usize])
+    shelf.append(file.name, &file.bytes[start as usize..end as usize])
 }

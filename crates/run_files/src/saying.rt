@@ -2,12 +2,12 @@
 
 ghost use Rattle.std.specs.Prelude.{◌≡◌, List, ℕ, Err, IfOk, string_bytes};
 ghost use Rattle.run_files.specs.Saying.{Puts, Says, Tells};
-ghost use Rattle.run_files.specs.Stages.{plain_end};
-ghost use Rattle.run_files.specs.Texts.{bad_config_text, bad_message_text, bad_source_text, fault_word, usage};
+ghost use Rattle.run_files.specs.Plain.{plain_end, plain_refusal};
+ghost use Rattle.run_files.specs.Texts.{bad_config_text, bad_message_text, bad_source_text, fault_word};
 ghost use Rattle.run_files.specs.declared.stop.Stop.TheVariants.{OnDisk, Refused};
 
 use crate::status::{
-    BAD_CONFIG, BAD_COUNTER, BAD_DISK, BAD_JOURNAL, BAD_MESSAGE, BAD_TAG, BAD_UNIT, BAD_WORDS,
+    BAD_CONFIG, BAD_COUNTER, BAD_DISK, BAD_JOURNAL, BAD_MESSAGE, BAD_TAG, BAD_UNIT,
     CANNOT_READ, CANNOT_WRITE, DIFFERS, DISK_FAILED, DONE, EMPTY_KEY, INSTANCE, NO_MEMORY, SIGNED,
     TOO_LARGE, TOO_LONG, WORN,
 };
@@ -16,29 +16,6 @@ use ids_config::{ConfigFault, ConfigPlace};
 use ids_frame::{BadMessage, FrameFault};
 use ids_outside::{Sink, WriteFault};
 use std::alloc::{AllocError, Global};
-
-/// The usage, with the commands that are built.
-const USAGE: &[u8] = b"usage: idsm replay CONFIG TRACE MESSAGES MEMORY JOURNAL
-       idsm fold CONFIG JOURNAL MESSAGES MEMORY
-       idsm check CONFIG JOURNAL MESSAGES
-       idsm decode MESSAGES
-       idsm gen [--start N] [--callers N] [--rounds N] [--events N] CONFIG TRACE JOURNAL
-       idsm migrate CONFIG NEW
-       idsm report OUT FILE ..
-       idsm keep DISK CONFIG JOURNAL
-       idsm recall DISK MEMORY
-       idsm sign KEY START MESSAGES SIGNED
-       idsm verify KEY START SIGNED MESSAGES
-       idsm bundle SIZE MESSAGES UNITS
-       idsm unbundle UNITS MESSAGES
-";
-
-/// Puts the usage, where the words are not in form, and returns the status.
-pub fn say_usage<K: Sink>(out: &mut K) -> u8
-    ensures { Puts usage 2 result (K.hears out.old) (K.hears out.new) }
-{
-    say(USAGE, BAD_WORDS, out)
-}
 
 /// Puts the text, where it has bytes, and returns the status: the one that goes with it, or that of
 /// the put's own fault.
@@ -64,17 +41,6 @@ pub fn tell<K: Sink>(alloc: Global, end: Result<Vec<u8>, Stop<&str>>, out: &mut 
         Err(Stop::CannotRead(name)) => {
             say_line(format!(in alloc; "cannot read {name}\n"), CANNOT_READ, out)
         }
-        Err(Stop::TooLong(name)) => {
-            say_line(format!(in alloc; "too long {name}\n"), TOO_LONG, out)
-        }
-        Err(Stop::BadSource(name, bad)) => {
-            say_line(bad_source_line(alloc, name, bad), BAD_MESSAGE, out)
-        }
-        Err(Stop::Instance(name)) => say_line(
-            format!(in alloc; "instance {name}\n"),
-            INSTANCE,
-            out,
-        ),
         Err(Stop::Refused(refusal)) => tell_refusal(alloc, refusal, out),
         Err(Stop::OnDisk(stop)) => tell_disk(alloc, stop, out),
         Err(Stop::CannotWrite) => say(b"cannot write\n", CANNOT_WRITE, out),
@@ -83,10 +49,13 @@ pub fn tell<K: Sink>(alloc: Global, end: Result<Vec<u8>, Stop<&str>>, out: &mut 
 }
 
 /// Tells why what the input files hold does not serve.
-fn tell_refusal<K: Sink>(alloc: Global, refusal: Refusal, out: &mut K) -> u8
-    ensures { Tells (Err (Refused refusal)) result (K.hears out.old) (K.hears out.new) }
+fn tell_refusal<K: Sink>(alloc: Global, refusal: Refusal<&str>, out: &mut K) -> u8
+    ensures { Tells (Err (Refused (plain_refusal refusal.entry))) result (K.hears out.old) (K.hears out.new) }
 {
     match refusal {
+        Refusal::TooLong(name) => {
+            say_line(format!(in alloc; "too long {name}\n"), TOO_LONG, out)
+        }
         Refusal::BadConfig(fault) => say_line(bad_config_line(alloc, fault), BAD_CONFIG, out),
         Refusal::BadJournal { line, number } => {
             let told = format!(in alloc; "bad journal line {line}: {number}\n");
@@ -97,6 +66,12 @@ fn tell_refusal<K: Sink>(alloc: Global, refusal: Refusal, out: &mut K) -> u8
             say_line(told, BAD_JOURNAL, out)
         }
         Refusal::BadMessages(bad) => say_line(bad_message_line(alloc, bad), BAD_MESSAGE, out),
+        Refusal::BadSource(name, bad) => {
+            say_line(bad_source_line(alloc, name, bad), BAD_MESSAGE, out)
+        }
+        Refusal::Instance(name) => {
+            say_line(format!(in alloc; "instance {name}\n"), INSTANCE, out)
+        }
         Refusal::EmptyKey => say(b"empty key\n", EMPTY_KEY, out),
         Refusal::Differ { at } => say_line(format!(in alloc; "differs at {at}\n"), DIFFERS, out),
         Refusal::Signed { at } => say_line(format!(in alloc; "signed at {at}\n"), SIGNED, out),

@@ -1,7 +1,7 @@
 //! Why a command ended before its work was done. `N` is what holds the names of files.
 
 ghost use Rattle.std.specs.Prelude.{◌≡◌};
-ghost use Rattle.run_files.specs.Stages.{stop_of_config};
+ghost use Rattle.run_files.specs.Reading.{stop_of_config};
 ghost use Rattle.run_files.specs.Writing.{stop_of_write};
 ghost use Rattle.run_files.specs.declared.stop.Stop.TheVariants as stops;
 
@@ -14,7 +14,9 @@ use std::alloc::AllocError;
 
 /// Why what an input file holds does not serve.
 #[derive(Clone, Copy, Debug)]
-pub enum Refusal {
+pub enum Refusal<N> {
+    /// The file of this name has more bytes than its kind may have.
+    TooLong(N),
     /// The configuration has this fault.
     BadConfig(ConfigFault),
     /// The first bad line of the journal, from 1, and its first fault.
@@ -23,6 +25,10 @@ pub enum Refusal {
     BadTrace { line: u64, number: u8 },
     /// No message begins at this place of the file of messages.
     BadMessages(BadMessage),
+    /// The same of the file of this name.
+    BadSource(N, BadMessage),
+    /// The file of this name has messages of two managers, or of the manager of a file before it.
+    Instance(N),
     /// The file of messages has other bytes from this place on than were sent, or ends there, or goes on.
     Differ { at: u64 },
     /// The file of the key has no bytes.
@@ -57,13 +63,7 @@ pub enum DiskStop {
 pub enum Stop<N> {
     /// The file of this name was not read.
     CannotRead(N),
-    /// The file of this name has more bytes than its kind may have.
-    TooLong(N),
-    /// No message begins at this place of the file of this name.
-    BadSource(N, BadMessage),
-    /// The file of this name has messages of two managers, or of the manager of a file before it.
-    Instance(N),
-    Refused(Refusal),
+    Refused(Refusal<N>),
     OnDisk(DiskStop),
     CannotWrite,
     NoMemory,

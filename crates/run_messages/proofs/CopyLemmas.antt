@@ -1,5 +1,5 @@
 -- How many messages were sealed or unsealed, by how many bytes came or went.
-use Rattle.run_steps.proofs.Names.{◌≡◌, ℕ, ◌+◌, ◌-◌, ◌≤◌, List, ◌∷◌, Ok, length, arith, refl, sym, ap, ◌∙◌, key_judged, one_file}
+use Rattle.run_steps.proofs.Names.{◌≡◌, ℕ, ◌+◌, ◌-◌, ◌≤◌, List, ◌∷◌, EmptyKey, gives, length, refuses, arith, refl, sym, ap, ◌∙◌, key_judged, one_file}
 use Rattle.std.specs.Prelude.{◌*◌, ◌/◌, ◌^◌, ◌<◌, ◌++◌, codes, decimal}
 use Rattle.std.proofs.Common.{[], false, true}
 use Rattle.std.specs.List.{AllByRecursion}
@@ -50,13 +50,13 @@ module _ (key : List ℕ) (start : ℕ) (bytes out : List ℕ) where
 -- ---- keys
 
 -- no bytes are no key
-pub no_key : (bytes text : List ℕ) → bytes ≡ text → length text ≤ 64 → (IsKeyLength (length bytes) → false ≡ true) → text ≡ []
-no_key [] text same few none = sym same
-no_key (byte ∷ bytes) text same few none = absurd (cc (none (omega arith, rw (sym same) at few)))
+pub no_key : (bytes : List ℕ) → length bytes ≤ 64 → (IsKeyLength (length bytes) → false ≡ true) → key_judged bytes ≡ refuses EmptyKey
+no_key [] few none = refl
+no_key (byte ∷ bytes) few none = absurd (cc (none (omega arith, few)))
 
-pub key_found : (bytes key : List ℕ) → IsKeyLength (length bytes) → key ≡ filled bytes → key_judged bytes ≡ Ok key
+pub key_found : (bytes key : List ℕ) → IsKeyLength (length bytes) → key ≡ filled bytes → key_judged bytes ≡ gives key
 key_found [] key is made = absurd (omega (arith, is.0))
-key_found (byte ∷ bytes) key is made = ap Ok (sym made)
+key_found (byte ∷ bytes) key is made = ap gives (sym made)
 
 -- ---- units
 

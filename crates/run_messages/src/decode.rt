@@ -1,7 +1,6 @@
 //! The command `decode`: the messages of a file, a line for each.
 
-ghost use Rattle.std.specs.Prelude.{◌≡◌, ◌⊎◌, List, IsTrue, Ok, Err, IfOk, IfErr};
-ghost use Rattle.run_steps.specs.Words.{BadMessage, BadMessages, MessageParts, NoMemory, Refused, SameFiles, decoded_text, decode as decode_command, messages_read, WasDone, StopsFor, plain_stop};
+ghost use Rattle.run_steps.specs.Words.{EndsAs, Judges, decode as decode_command, decode_judged, does, only_said, plain_end, seen_as};
 
 use ids_frame::{BadMessage, decode};
 use ids_outside::Shelf;
@@ -15,12 +14,7 @@ pub fn decode_file<'a, H: Shelf>(
     name: &'a str,
     shelf: &mut H,
 ) -> Result<Vec<u8>, Stop<&'a str>>
-    ensures same { IsTrue (H.shows shelf.old).tells →
-        SameFiles (H.shows shelf.old).files (H.shows shelf.new).files }
-    ensures done { IfOk result (λ lines.
-        WasDone (decode_command name.now) lines.items (H.shows shelf.old) (H.shows shelf.new)) }
-    ensures stops { IfErr result (λ reason. StopsFor (decode_command name.now) (plain_stop reason)
-        (H.shows shelf.old) (H.shows shelf.new)) }
+    ensures { EndsAs (decode_command name.now) (plain_end result) (H.shows shelf.old) (H.shows shelf.new) }
 {
     let bytes = read_file(alloc, name, MAX_MESSAGES_BYTES, shelf)?;
     lines_of(alloc, &bytes)
@@ -28,10 +22,7 @@ pub fn decode_file<'a, H: Shelf>(
 
 /// A line for each message of a file. Each message is judged and printed before the next.
 fn lines_of<'a>(alloc: Global, bytes: &[u8]) -> Result<Vec<u8>, Stop<&'a str>>
-    ensures found { IfOk result (λ lines. (messages : List MessageParts)
-        × (messages_read bytes.now ≡ Ok messages) × (lines.items ≡ decoded_text messages)) }
-    ensures stops { IfErr result (λ reason. (reason ≡ NoMemory) ⊎ ((bad : BadMessage)
-        × (messages_read bytes.now ≡ Err bad) × (reason ≡ Refused (BadMessages bad)))) }
+    ensures { Judges (decode_judged bytes.now) (seen_as (λ text. does (only_said text.items)) result) }
 {
     let mut lines = Vec::new(alloc);
     let mut rest = bytes;

@@ -1,16 +1,16 @@
 //! The command `report`: the messages of several managers, in one file.
 
-ghost use Rattle.std.specs.Prelude.{◌≡◌, ◌≤◌, [], false, length, map, string_bytes, IsTrue, IfOk, IfErr, OnOk, Ok, sum_by};
+ghost use Rattle.std.specs.Prelude.{◌≡◌, ◌≤◌, [], false, length, map, string_bytes, IsTrue, IfOk, sum_by};
 ghost use Rattle.std.specs.List.{list_any};
 ghost use Rattle.ids_frame.specs.Messages.{messages_read};
 ghost use Rattle.ids_reporter.specs.Sources.{AreApart, AreSmall, instance_of};
-ghost use Rattle.run_steps.specs.Words.{CanReport, Judges, SameBut, SameFiles, StopsFor, WasDone, clashes, is_of, plain_stop, report as report_command, report_files_of, report_text, source_found, source_in, sources_in, written_by};
-ghost use Rattle.run_messages.specs.Reported.{Reported as HasReported, SourceStops};
+ghost use Rattle.run_steps.specs.Words.{CanReport, EndsAs, Judges, Reads, clashes, finished_end, is_of, report as report_command, report_files_of, report_text, seen_as, source_found, source_in, sources_in};
+ghost use Rattle.run_messages.specs.Reported.{Reported as HasReported};
 
 use ids_outside::Shelf;
 use ids_reporter::{Drain, Instance, OpenFeed, Source, SourceFault, forward};
-use run_files::{MAX_SOURCE_BYTES, Stop, read_file, write_file};
-use run_steps::Finished;
+use run_files::{MAX_SOURCE_BYTES, NewFile, Refusal, Stop, read_file};
+use run_steps::{Finished, write_work};
 use run_words::ReportNames;
 use std::alloc::{AllocError, Global};
 use std::sync::Wait;
@@ -25,21 +25,20 @@ pub(crate) fn report_files<'a, R: Threads + Wait + Sync, H: Shelf>(
     shelf: &mut H,
 ) -> Result<Finished<Drain>, Stop<&'a str>>
     requires { CanReport names }
-    ensures others { IsTrue (H.shows shelf.old).tells →
-        SameBut (written_by (report_command (report_files_of names.entry)))
-        (H.shows shelf.old).files (H.shows shelf.new).files }
+    ensures ends { EndsAs (report_command (report_files_of names.entry)) (finished_end result)
+        (H.shows shelf.old) (H.shows shelf.new) }
     ensures reported { IsTrue (H.shows shelf.old).tells → IfOk result (λ f. HasReported (report_files_of names.entry)
         f.made f.line.items (H.shows shelf.old).files (H.shows shelf.new).files) }
-    ensures done { IfOk result (λ f. WasDone (report_command (report_files_of names.entry)) f.line.items
-        (H.shows shelf.old) (H.shows shelf.new)) }
-    ensures stops { IfErr result (λ reason. StopsFor (report_command (report_files_of names.entry))
-        (plain_stop reason) (H.shows shelf.old) (H.shows shelf.new)) }
 {
     let sources = read_sources(alloc, names, shelf)?;
     let forwarded = forward(rt, alloc, &sources, &OpenFeed)?;
     let line = report_line(alloc, &sources)?;
-    let out = &forwarded.out;
-    write_file(names.target, out, &[out.len() as u64], shelf)?;
+    let file = NewFile {
+        name: names.target,
+        bytes: &forwarded.out,
+        cuts: &[],
+    };
+    let line = write_work(&[file], line, shelf)?;
     Ok(Finished {
         line,
         made: forwarded.drain,
@@ -53,17 +52,11 @@ fn read_sources<'a, H: Shelf>(
     shelf: &mut H,
 ) -> Result<Vec<Source>, Stop<&'a str>>
     requires { CanReport names }
-    ensures tells { (H.shows shelf.new).tells ≡ (H.shows shelf.old).tells }
-    ensures same { IsTrue (H.shows shelf.old).tells →
-        SameFiles (H.shows shelf.old).files (H.shows shelf.new).files }
-    ensures no_fault { OnOk result ((H.shows shelf.new).faults ≡ (H.shows shelf.old).faults) }
-    ensures found { IsTrue (H.shows shelf.old).tells → IfOk result (λ sources.
-        sources_in [] (map string_bytes names.entry.sources.now) (H.shows shelf.old).files ≡ Ok sources.items) }
+    ensures reads { Reads (sources_in [] (map string_bytes names.entry.sources.now)) (seen_as (λ sources. sources.items) result)
+        (H.shows shelf.old) (H.shows shelf.new) }
     ensures count { IfOk result (λ sources. length sources.items ≡ length names.entry.sources.now) }
     ensures small { IfOk result (λ sources. AreSmall sources.items) }
     ensures apart { IfOk result (λ sources. AreApart sources.items) }
-    ensures stops { IfErr result (λ reason. StopsFor (report_command (report_files_of names.entry))
-        (plain_stop reason) (H.shows shelf.old) (H.shows shelf.new)) }
 {
     let mut sources = Vec::with_capacity(alloc, names.sources.len())?;
     for name in names.sources {
@@ -80,33 +73,27 @@ fn read_source<'a, H: Shelf>(
     sources: &[Source],
     shelf: &mut H,
 ) -> Result<Source, Stop<&'a str>>
-    ensures tells { (H.shows shelf.new).tells ≡ (H.shows shelf.old).tells }
-    ensures same { IsTrue (H.shows shelf.old).tells →
-        SameFiles (H.shows shelf.old).files (H.shows shelf.new).files }
-    ensures no_fault { OnOk result ((H.shows shelf.new).faults ≡ (H.shows shelf.old).faults) }
-    ensures found { IsTrue (H.shows shelf.old).tells → IfOk result (λ source.
-        source_in sources.now name.now (H.shows shelf.old).files ≡ Ok source) }
+    ensures reads { Reads (source_in sources.now name.now) (seen_as (λ source. source) result)
+        (H.shows shelf.old) (H.shows shelf.new) }
     ensures small { IfOk result (λ source. length source ≤ 8388608) }
     ensures fits { IfOk result (λ source. clashes sources.now (instance_of source) ≡ false) }
-    ensures stops { IfErr result (λ reason. SourceStops sources.now name.now
-        (H.shows shelf.old) (H.shows shelf.new) (plain_stop reason)) }
 {
     let bytes = read_file(alloc, name, MAX_SOURCE_BYTES, shelf)?;
     let source = source_of(alloc, name, bytes)?;
     if clashes(sources, source.instance()) {
-        return Err(Stop::Instance(name));
+        return Err(Stop::Refused(Refusal::Instance(name)));
     }
     Ok(source)
 }
 
 /// The messages of the file of this name.
 fn source_of<'a>(alloc: Global, name: &'a str, bytes: Vec<u8>) -> Result<Source, Stop<&'a str>>
-    ensures judges { Judges (λ source. source) (source_found name.now (messages_read bytes.items)) result }
+    ensures judges { Judges (source_found name.now (messages_read bytes.items)) (seen_as (λ source. source) result) }
     ensures few { IfOk result (λ source. length source ≤ length bytes.items) }
 {
     match Source::read(alloc, bytes) {
         Ok(source) => Ok(source),
-        Err(SourceFault::Bad(bad)) => Err(Stop::BadSource(name, bad)),
+        Err(SourceFault::Bad(bad)) => Err(Stop::Refused(Refusal::BadSource(name, bad))),
         Err(SourceFault::NoMemory) => Err(Stop::NoMemory),
     }
 }

@@ -1,7 +1,9 @@
 //! The commands `sign` and `verify`: messages with a counter and a tag, and without them again.
 
-ghost use Rattle.std.specs.Prelude.{◌≡◌, ◌≢◌, ◌≤◌, ◌^◌, ℕ, List, Some, Ok, IsTrue, IfOk, OnOk, IfErr};
-ghost use Rattle.run_steps.specs.Words.{CanKey, Command, EndsAs, Makes, SameBut, SameFiles, StopsFor, keyed_by, keyed_bytes, keyed_of, plain_end, plain_stop, seal_refusal, seals, sign as sign_command, task_stop, unseal_refusal, unseals, verify as verify_command, written_by};
+ghost use Rattle.std.specs.Prelude.{◌≡◌, ◌≤◌, ◌^◌, ℕ, List, length};
+ghost use Rattle.run_messages.specs.Read.{keyed_with};
+ghost use Rattle.run_spec.specs.Judge.{key_judged};
+ghost use Rattle.run_steps.specs.Words.{EndsAs, Judges, Makes, Reads, keyed_in, keyed_of, plain_end, seal_refusal, seals, seen_as, sign as sign_command, task_stop, unseal_refusal, unseals, verify as verify_command};
 
 use frame_auth::{Key, SealFault, UnsealFault, seal, unseal};
 use ids_outside::Shelf;
@@ -19,12 +21,8 @@ pub fn sign<'a, H: Shelf>(
     names: KeyedNames<'a>,
     shelf: &mut H,
 ) -> Result<Vec<u8>, Stop<&'a str>>
-    requires { CanKey names }
-    ensures others { IsTrue (H.shows shelf.old).tells →
-        SameBut (written_by (sign_command (keyed_of names.entry)))
-        (H.shows shelf.old).files (H.shows shelf.new).files }
-    ensures ends { EndsAs (sign_command (keyed_of names.entry)) (plain_end result)
-        (H.shows shelf.old) (H.shows shelf.new) }
+    requires { names.start ≤ 2 ^ 62 }
+    ensures { EndsAs (sign_command (keyed_of names.entry)) (plain_end result) (H.shows shelf.old) (H.shows shelf.new) }
 {
     let (key, bytes) = read_keyed(alloc, names, MAX_MESSAGES_BYTES, shelf)?;
     let made = make_sealed(alloc, &key, names.start, &bytes);
@@ -38,12 +36,8 @@ pub fn verify<'a, H: Shelf>(
     names: KeyedNames<'a>,
     shelf: &mut H,
 ) -> Result<Vec<u8>, Stop<&'a str>>
-    requires { CanKey names }
-    ensures others { IsTrue (H.shows shelf.old).tells →
-        SameBut (written_by (verify_command (keyed_of names.entry)))
-        (H.shows shelf.old).files (H.shows shelf.new).files }
-    ensures ends { EndsAs (verify_command (keyed_of names.entry)) (plain_end result)
-        (H.shows shelf.old) (H.shows shelf.new) }
+    requires { names.start ≤ 2 ^ 62 }
+    ensures { EndsAs (verify_command (keyed_of names.entry)) (plain_end result) (H.shows shelf.old) (H.shows shelf.new) }
 {
     let (key, bytes) = read_keyed(alloc, names, MAX_SEALED_BYTES, shelf)?;
     let made = make_unsealed(alloc, &key, names.start, &bytes);
@@ -57,25 +51,24 @@ fn read_keyed<'a, H: Shelf>(
     limit: u64,
     shelf: &mut H,
 ) -> Result<(Key, Vec<u8>), Stop<&'a str>>
-    requires { names.key.now ≢ names.files.source.now }
-    ensures tells { (H.shows shelf.new).tells ≡ (H.shows shelf.old).tells }
-    ensures same { IsTrue (H.shows shelf.old).tells →
-        SameFiles (H.shows shelf.old).files (H.shows shelf.new).files }
-    ensures found { IsTrue (H.shows shelf.old).tells → IfOk result (λ read.
-        keyed_bytes limit (keyed_of names.entry) (H.shows shelf.old).files
-        ≡ Ok (record { key = read.0; bytes = read.1.items })) }
-    ensures no_fault { OnOk result ((H.shows shelf.new).faults ≡ (H.shows shelf.old).faults) }
-    // Each command that reads these files stops so.
-    ensures stops { IfErr result (λ reason. (command : Command)
-        → keyed_by command ≡ Some (limit, keyed_of names.entry)
-        → StopsFor command (plain_stop reason) (H.shows shelf.old) (H.shows shelf.new)) }
+    ensures { Reads (keyed_in limit (keyed_of names.entry)) (seen_as keyed_with result)
+        (H.shows shelf.old) (H.shows shelf.new) }
 {
     let text = read_file(alloc, names.key, MAX_KEY_BYTES, shelf)?;
-    let Some(key) = Key::make(&text) else {
-        return Err(Stop::Refused(Refusal::EmptyKey));
-    };
+    let key = judge_key(&text)?;
     let bytes = read_file(alloc, names.files.source, limit, shelf)?;
     Ok((key, bytes))
+}
+
+/// The key that the bytes of a file are.
+fn judge_key<'a>(text: &[u8]) -> Result<Key, Stop<&'a str>>
+    requires { length text.now ≤ 64 }
+    ensures { Judges (key_judged text.now) (seen_as (λ key. key) result) }
+{
+    match Key::make(text) {
+        Some(key) => Ok(key),
+        None => Err(Stop::Refused(Refusal::EmptyKey)),
+    }
 }
 
 /// The messages, sealed, and their line.

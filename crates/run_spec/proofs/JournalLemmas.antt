@@ -123,7 +123,7 @@ can_fold config turns losses fits =
 -- the messages end where the ends of turns, the newest first, cut them
 ends_cut : (config : Parts) (before : List Turn)
     → Cuts 0 (reverse (ends config before)) (length (messages config before))
-ends_cut config [] = refl
+ends_cut config [] = omega arith
 ends_cut config (turn ∷ before) =
     let grows = messages_grow config turn before in
     let many : length (messages config (turn ∷ before)) ≡ length (messages config before) + length grows.further =

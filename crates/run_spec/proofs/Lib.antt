@@ -1,8 +1,6 @@
+pub mod EndLemmas
 pub mod JournalLemmas
-pub mod JudgeLemmas
+pub mod MayLemmas
 pub mod Names
 pub mod RunLemmas
-pub mod SourceLemmas
-pub mod StageLemmas
 pub mod TaskLemmas
-pub mod WorkLemmas

@@ -23,20 +23,21 @@ pub use Rattle.ids_types.specs.declared.entry.Carried.TheVariants.{Absent, Kept,
 pub use Rattle.ids_types.specs.declared.entry.Entry.{Entry}
 pub use Rattle.journal.specs.Answers.{told}
 pub use Rattle.merge_spec.specs.Rounds.{Round}
-pub use Rattle.run_files.specs.Contents.{bytes_of, file_of, without}
+pub use Rattle.run_files.specs.Contents.{bytes_of, file_of}
 pub use Rattle.run_files.specs.Saying.{Puts, Says, Tells, put_status}
-pub use Rattle.run_files.specs.Stages.{ReadStops, StopsAs, plain_end, plain_stop, stop_of_config}
-pub use Rattle.run_files.specs.Texts.{answer_status, answer_text, refusal_status, no_memory_text, stop_status, stop_text}
+pub use Rattle.run_files.specs.Plain.{plain_end, plain_stop}
+pub use Rattle.run_files.specs.Reading.{Comes, Reading, Reads, file, gives, if_read, over, reads, refuses, stop_of_config, ◌>>=◌}
+pub use Rattle.run_files.specs.Texts.{answer_status, answer_text, no_memory_text, row_of, stop_status, stop_text}
 pub use Rattle.run_files.specs.Writing.{AreWritten, Cuts, StandUpTo, Work, WriteFails, stop_of_write}
 pub use Rattle.run_files.specs.declared.stop.Refusal.{Refusal}
-pub use Rattle.run_files.specs.declared.stop.Refusal.TheVariants.{BadConfig, BadJournal, BadMessages, BadTrace, EmptyKey}
+pub use Rattle.run_files.specs.declared.stop.Refusal.TheVariants.{BadConfig, BadCounter, BadJournal, BadMessages, BadSource, BadTag, BadTrace, BadUnit, Differ, EmptyKey, Instance, Signed, TooLarge, TooLong}
 pub use Rattle.run_files.specs.declared.stop.Stop.{Stop}
-pub use Rattle.run_files.specs.declared.stop.Stop.TheVariants.{BadSource, CannotRead, CannotWrite, Instance, NoMemory, OnDisk, Refused, TooLong}
+pub use Rattle.run_files.specs.declared.stop.Stop.TheVariants.{CannotRead, CannotWrite, NoMemory, OnDisk, Refused}
 pub use Rattle.run_spec.specs.Deserts.{CanBeDone, DidWork, EndsOrFails, EndsWith, IsOfBytes}
 pub use Rattle.run_spec.specs.FoldedJournal.{folded_in}
-pub use Rattle.run_spec.specs.Judge.{AskedFor, Does, Keyed, Recorded, Refuses, Task, asked_in, check_judged, config_found, decode_work, does, fold_work, gen_work, journal_judged, judge, keeps, key_judged, keyed_bytes, migrate_work, packs, recalls, recorded_in, replays, reports, seals, trace_judged, unpacks, unseals}
-pub use Rattle.run_spec.specs.Run.{CannotDo, Deserves, EndsAs, KeepsConfig, MayRefuse, MayStop, OneFails, PartWritten, Ran, RanCommand, StopsFor, WasDone, WasRefused}
-pub use Rattle.run_words.specs.Command.{CheckFiles, Command, FoldFiles, KeepFiles, KeyedFiles, PairFiles, Recording, ReplayFiles, ReportFiles, SizedFiles, bundle, check, decode, fold, gen, keep, migrate, read_by, recall, recording_of, replay, report, sign, unbundle, verify, written_by}
+pub use Rattle.run_spec.specs.Judge.{AskedFor, Does, Keyed, Recorded, Refuses, Task, asked_in, check_judged, config_found, config_in, decode_work, does, fold_work, gen_work, journal_judged, judge, keeps, key_judged, keyed_in, messages_judged, migrates, packs, reading_of, recalls, recorded_in, replays, reports, seals, trace_judged, unpacks, unseals}
+pub use Rattle.run_spec.specs.Run.{CannotDo, Deserves, EndsAs, KeepsConfig, MayRefuse, PartWritten, Ran, RanCommand, StopsFor, WasDone, WasRefused, written_of}
+pub use Rattle.run_words.specs.Command.{CheckFiles, Command, FoldFiles, KeepFiles, KeyedFiles, PairFiles, Recording, ReplayFiles, ReportFiles, SizedFiles, bundle, check, decode, fold, gen, keep, migrate, read_by, recall, replay, report, sign, unbundle, verify, written_by}
 pub use Rattle.std.proofs.Common.{Bool, Bor, Err, IfSome, IsTrue, List, None, Ok, Option, Some, [], ap, append_assoc, arith, false, inl, inr, length, length-append, map, refl, reverse, subst, sym, true, ℕ, ◌++◌, ◌+◌, ◌∙◌, ◌∷◌, ◌≡◌, ◌≢◌, ◌≤◌}
 pub use Rattle.std.proofs.lemmas.Bool.{and_parts, cases_Bool, false_from_ne_true}
 pub use Rattle.std.proofs.lemmas.Grind.{reverse_onto}

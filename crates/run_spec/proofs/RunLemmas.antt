@@ -1,9 +1,7 @@
 -- How a command ended, how that was told, and what the files deserve.
-use Rattle.run_spec.proofs.Names.{◌≡◌, ℕ, Bool, true, false, List, Option, None, Some, Ok, Err, Bor, IsTrue, refl, sym, subst, inl, inr, no_memory_text, Result, IfOk, IfErr, Vec, ⊤, Global, SameFiles, Shelved, Heard, PutCause, WriteFault, Failed, MemoryRefused, Stop, CannotRead, TooLong, BadSource, Instance, Refused, OnDisk, CannotWrite, NoMemory, Command, EndsWith, EndsOrFails, CanBeDone, IsOfBytes, Task, Work, judge, Refuses, Deserves, refusal_status, ap, ◌∙◌, Ran, RanCommand, EndsAs, StopsFor, WasDone, WasRefused, OneFails, Puts, Says, Tells, put_status, plain_stop, plain_end, stop_text, stop_status, answer_text, answer_status, DidWork, Does}
-use Rattle.std.proofs.Common.{◌≢◌, arith}
-use Rattle.run_files.specs.declared.stop.Refusal.{Refusal}
-use Rattle.run_files.specs.declared.stop.Refusal.TheVariants.{BadConfig, BadCounter, BadJournal, BadMessages, BadTag, BadTrace, BadUnit, Differ, EmptyKey, Signed, TooLarge}
+use Rattle.run_spec.proofs.Names.{◌≡◌, ◌≢◌, ℕ, Bool, true, false, List, Option, None, Some, Ok, Err, Bor, IsTrue, refl, sym, subst, inl, inr, arith, no_memory_text, Result, Vec, ⊤, Global, SameFiles, Shelved, Heard, PutCause, WriteFault, Failed, MemoryRefused, Refusal, BadConfig, BadJournal, BadMessages, BadSource, BadTrace, BadCounter, BadTag, BadUnit, Differ, EmptyKey, Instance, Signed, TooLarge, TooLong, Stop, CannotRead, Refused, OnDisk, CannotWrite, NoMemory, Command, EndsWith, EndsOrFails, CanBeDone, IsOfBytes, Task, Work, judge, Refuses, Deserves, ap, ◌∙◌, Ran, RanCommand, EndsAs, StopsFor, WasRefused, Puts, Says, Tells, put_status, plain_end, plain_stop, row_of, stop_text, stop_status, answer_text, answer_status, DidWork, Does, written_by, written_of}
 use Rattle.run_files.specs.Texts.{disk_status}
+use Rattle.run_files.specs.Writing.{IsNoneOf, OneFails, SameBut}
 use Rattle.run_files.specs.declared.stop.DiskStop.{DiskStop}
 use Rattle.run_files.specs.declared.stop.DiskStop.TheVariants as disk
 use Rattle.run_spec.specs.Keeping.{MayStopOnDisk}
@@ -27,9 +25,6 @@ module _ (command : Command) (status : ℕ) (old new : Shelved) (before after : 
     stop_so : (reason : Stop (List ℕ)) → StopsFor command reason old new → Tells (Err reason) status before after
         → Q (Err reason) → RanSo Q
     stop_so (CannotRead name) stops tells holds = says_so (CannotRead name) stops stops.same tells holds
-    stop_so (TooLong name) stops tells holds = says_so (TooLong name) stops stops.same tells holds
-    stop_so (BadSource name bad) stops tells holds = says_so (BadSource name bad) stops stops.same tells holds
-    stop_so (Instance name) stops tells holds = says_so (Instance name) stops stops.same tells holds
     stop_so (Refused refusal) stops tells holds = says_so (Refused refusal) stops stops.same tells holds
     stop_so (OnDisk stop) stops tells holds = says_so (OnDisk stop) stops stops.same tells holds
     stop_so CannotWrite stops tells holds =
@@ -48,13 +43,6 @@ module _ (command : Command) (status : ℕ) (old new : Shelved) (before after : 
   pub ended_ran : (end : Result (Vec ℕ Global) (Stop (Bor (List ℕ)))) → EndsAs command (plain_end end) old new
       → Tells (plain_end end) status before after → RanCommand command status old new before after
   ended_ran end ends tells = (ended_so (λ answer. ⊤) tt end ends tells tt).ran
-
-  pub end_ran : (end : Result (Vec ℕ Global) (Stop (Bor (List ℕ))))
-      → IfOk end (λ text. WasDone command text.items old new)
-      → IfErr end (λ reason. StopsFor command (plain_stop reason) old new)
-      → Tells (plain_end end) status before after → RanCommand command status old new before after
-  end_ran (Ok said) done stops tells = ended_ran (Ok said) done tells
-  end_ran (Err reason) done stops tells = ended_ran (Err reason) stops tells
 
   -- ---- what the files deserve decides how a run ends
 
@@ -77,16 +65,6 @@ module _ (command : Command) (status : ℕ) (old new : Shelved) (before after : 
 
   module _ (told : IsTrue old.tells) where
     -- files that are to be refused are, unless a read failed before
-    as_deserved : (reason wanted : Stop (List ℕ)) → judge command old.files ≡ Err wanted
-        → WasRefused command reason old new → Puts (stop_text reason) (stop_status reason) status before after
-        → EndsWith (stop_status wanted) command status old new before after
-    as_deserved reason wanted deserved was puts = elim (was.deserved told) [
-      | inl judged ↦
-          let same : reason ≡ wanted = cc (judged, deserved) in
-          subst (λ r. EndsWith (stop_status r) command status old new before after) same (put_ends _ _ puts)
-      | inr cannot ↦ absurd (cc (cannot.judged, deserved))
-    ]
-
     pub refused_ends : (answer : Result (List ℕ) (Stop (List ℕ))) (wanted : Stop (List ℕ))
         → judge command old.files ≡ Err wanted → EndsAs command answer old new
         → Puts (answer_text answer) (answer_status answer) status before after
@@ -94,20 +72,18 @@ module _ (command : Command) (status : ℕ) (old new : Shelved) (before after : 
     refused_ends (Ok said) wanted deserved ends puts = absurd (cc ((ends.written told).judged, deserved))
     refused_ends (Err (CannotRead name)) wanted deserved ends puts =
         inr (inr (inr (record { name = name; unread = ends })))
-    refused_ends (Err (TooLong name)) wanted deserved ends puts =
-        as_deserved (TooLong name) wanted deserved ends puts
-    refused_ends (Err (BadSource name bad)) wanted deserved ends puts =
-        as_deserved (BadSource name bad) wanted deserved ends puts
-    refused_ends (Err (Instance name)) wanted deserved ends puts =
-        as_deserved (Instance name) wanted deserved ends puts
-    refused_ends (Err (Refused refusal)) wanted deserved ends puts =
-        as_deserved (Refused refusal) wanted deserved ends puts
+    refused_ends (Err (Refused refusal)) wanted deserved ends puts = elim (ends.deserved told) [
+      | inl judged ↦
+          let same : Refused refusal ≡ wanted = cc (judged, deserved) in
+          subst (λ r. EndsWith (stop_status r) command status old new before after) same (put_ends _ _ puts)
+      | inr cannot ↦ absurd (cc (cannot.judged, deserved))
+    ]
     refused_ends (Err (OnDisk stop)) wanted deserved ends puts = absurd (cc ((ends.serve told).judged, deserved))
     refused_ends (Err CannotWrite) wanted deserved ends puts = absurd (cc ((ends.part told).judged, deserved))
     refused_ends (Err NoMemory) wanted deserved ends puts = starved _ (put_ends 8 _ puts)
 
     -- where a file was not written, its text may not have been put either
-    unwritten : OneFails command old.faults new.faults Failed
+    unwritten : OneFails (written_by command) old.faults new.faults Failed
         → EndsWith 7 command status old new before after → EndsOrFails 0 command status old new before after
     unwritten fails (inl is) = inr (inl (is, fails))
     unwritten fails (inr other) = inl (inr other)
@@ -120,11 +96,11 @@ module _ (command : Command) (status : ℕ) (old new : Shelved) (before after : 
 
     module _ (task : Task) (serves : judge command old.files ≡ Ok task) where
       -- files whose task can be done are not refused
-      none_deserved : (reason : Stop (List ℕ)) → CanBeDone task → Deserves command old.files reason → ⊥
-      none_deserved reason can (inl judged) = absurd (cc (judged, serves))
-      none_deserved reason can (inr cannot) =
+      pub none_deserved : (refusal : Refusal (List ℕ)) → CanBeDone task → Deserves command old.files refusal → ⊥
+      none_deserved refusal can (inl judged) = absurd (cc (judged, serves))
+      none_deserved refusal can (inr cannot) =
           let same : cannot.task ≡ task = cc (sym cannot.judged, serves) in
-          can cannot.refusal (subst (λ (t : Task). Refuses t cannot.refusal) same cannot.refuses)
+          can refusal (subst (λ (t : Task). Refuses t refusal) same cannot.refuses)
 
       pub served_ends : (answer : Result (List ℕ) (Stop (List ℕ))) → CanBeDone task → EndsAs command answer old new
           → Puts (answer_text answer) (answer_status answer) status before after
@@ -132,50 +108,36 @@ module _ (command : Command) (status : ℕ) (old new : Shelved) (before after : 
       served_ends (Ok said) can ends puts = inl (put_ends 0 _ puts)
       served_ends (Err (CannotRead name)) can ends puts =
           inl (inr (inr (inr (record { name = name; unread = ends }))))
-      served_ends (Err (TooLong name)) can ends puts = absurd (none_deserved _ can (ends.deserved told))
-      served_ends (Err (BadSource name bad)) can ends puts = absurd (none_deserved _ can (ends.deserved told))
-      served_ends (Err (Instance name)) can ends puts = absurd (none_deserved _ can (ends.deserved told))
       served_ends (Err (Refused refusal)) can ends puts = absurd (none_deserved _ can (ends.deserved told))
       served_ends (Err (OnDisk stop)) can ends puts = stopped stop ends.may (put_ends (disk_status stop) _ puts)
       served_ends (Err CannotWrite) can ends puts = unwritten ends.fails (put_ends 7 _ puts)
       served_ends (Err NoMemory) can ends puts = inl (starved 0 (put_ends 8 _ puts))
 
-      module _ (refusal : Refusal) (bytes : IsOfBytes task) (refuses : Refuses task refusal) where
+      module _ (refusal : Refusal (List ℕ)) (bytes : IsOfBytes task) (refuses : Refuses task refusal) where
         -- a task that cannot be done was not done, nor refused for another reason
         not_done : (other : Task) (work : Work) → judge command old.files ≡ Ok other → Does other work → ⊥
         not_done other work judged is =
             let same : other ≡ task = cc (sym judged, serves) in
             done_or_refused task work refusal bytes (subst (λ (t : Task). Does t work) same is) refuses
 
-        was_told : (reason : Stop (List ℕ)) → Deserves command old.files reason → reason ≡ Refused refusal
-        was_told reason (inl judged) = absurd (cc (judged, serves))
-        was_told reason (inr cannot) =
+        was_told : (other : Refusal (List ℕ)) → Deserves command old.files other → other ≡ refusal
+        was_told other (inl judged) = absurd (cc (judged, serves))
+        was_told other (inr cannot) =
             let same : cannot.task ≡ task = cc (sym cannot.judged, serves) in
-            cannot.is
-            ∙ ap Refused (one_refusal task cannot.refusal refusal bytes
-            (subst (λ (t : Task). Refuses t cannot.refusal) same cannot.refuses) refuses)
-
-        as_told : (reason : Stop (List ℕ)) → WasRefused command reason old new
-            → Puts (stop_text reason) (stop_status reason) status before after
-            → EndsWith (refusal_status refusal) command status old new before after
-        as_told reason was puts =
-            subst (λ r. EndsWith (stop_status r) command status old new before after)
-            (was_told reason (was.deserved told)) (put_ends _ _ puts)
+            one_refusal task other refusal bytes (subst (λ (t : Task). Refuses t other) same cannot.refuses) refuses
 
         pub unfit_ends : (answer : Result (List ℕ) (Stop (List ℕ))) → EndsAs command answer old new
             → Puts (answer_text answer) (answer_status answer) status before after
-            → EndsWith (refusal_status refusal) command status old new before after
+            → EndsWith (row_of refusal).status command status old new before after
         unfit_ends (Ok said) ends puts =
             let all = ends.written told in absurd (not_done all.task all.work all.judged all.is_work)
         unfit_ends (Err (CannotRead name)) ends puts = inr (inr (inr (record { name = name; unread = ends })))
-        unfit_ends (Err (TooLong name)) ends puts = as_told (TooLong name) ends puts
-        unfit_ends (Err (BadSource name bad)) ends puts = as_told (BadSource name bad) ends puts
-        unfit_ends (Err (Instance name)) ends puts = as_told (Instance name) ends puts
-        unfit_ends (Err (Refused other)) ends puts = as_told (Refused other) ends puts
+        unfit_ends (Err (Refused other)) ends puts =
+            subst (λ r. EndsWith (row_of r).status command status old new before after) (was_told other (ends.deserved told)) (put_ends _ _ puts)
         unfit_ends (Err (OnDisk stop)) ends puts =
             let serve = ends.serve told in
             let same : serve.task ≡ task = cc (sym serve.judged, serves) in
-            absurd (subst (λ (t : Task). (r : Refusal) → Refuses t r → ⊥) same serve.can refusal refuses)
+            absurd (subst (λ (t : Task). (r : Refusal (List ℕ)) → Refuses t r → ⊥) same serve.can refusal refuses)
         unfit_ends (Err CannotWrite) ends puts =
             let part = ends.part told in absurd (not_done part.task part.work part.judged part.is_work)
         unfit_ends (Err NoMemory) ends puts = starved _ (put_ends 8 _ puts)
@@ -187,12 +149,15 @@ never_done wanted (Err Failed) some is = absurd cc
 never_done wanted (Err MemoryRefused) some is = absurd cc
 
 -- no refusal has status 0
-pub refusal_some : (refusal : Refusal) → refusal_status refusal ≢ 0
+pub refusal_some : (refusal : Refusal (List ℕ)) → (row_of refusal).status ≢ 0
+refusal_some (TooLong name) is = absurd cc
 refusal_some (BadConfig fault) is = absurd cc
 refusal_some (BadJournal line number) is = absurd cc
 refusal_some (BadTrace line number) is = absurd cc
-refusal_some (BadMessages bad) is = absurd cc
 refusal_some (Differ at) is = absurd cc
+refusal_some (BadMessages bad) is = absurd cc
+refusal_some (BadSource name bad) is = absurd cc
+refusal_some (Instance name) is = absurd cc
 refusal_some EmptyKey is = absurd cc
 refusal_some (Signed at) is = absurd cc
 refusal_some (BadTag at) is = absurd cc
@@ -217,14 +182,31 @@ module _ (command : Command) (old new : Shelved) (before after : Heard) (told : 
       let same : all.task ≡ task = cc (sym all.judged, serves) in
       record { work = all.work; is_work = subst (λ (t : Task). Does t all.work) same all.is_work; written = all.written }
   did_work (Err (CannotRead name)) ends puts = absurd (never_done 3 puts.put (omega arith) puts.is)
-  did_work (Err (TooLong name)) ends puts = absurd (never_done 4 puts.put (omega arith) puts.is)
-  did_work (Err (BadSource name bad)) ends puts = absurd (never_done 10 puts.put (omega arith) puts.is)
-  did_work (Err (Instance name)) ends puts = absurd (never_done 11 puts.put (omega arith) puts.is)
   did_work (Err (Refused refusal)) ends puts =
-      absurd (never_done (refusal_status refusal) puts.put (refusal_some refusal) puts.is)
+      absurd (never_done (row_of refusal).status puts.put (refusal_some refusal) puts.is)
   did_work (Err (OnDisk stop)) ends puts = absurd (never_done (disk_status stop) puts.put (disk_some stop) puts.is)
   did_work (Err CannotWrite) ends puts = absurd (never_done 7 puts.put (omega arith) puts.is)
   did_work (Err NoMemory) ends puts = absurd (never_done 8 puts.put (omega arith) puts.is)
+
+-- ---- files that a run does not write
+
+module _ (command : Command) (old new : Shelved) (told : IsTrue old.tells) where
+  pub ended_others : (answer : Result (List ℕ) (Stop (List ℕ))) → EndsAs command answer old new
+      → SameBut (written_by command) old.files new.files
+  ended_others (Ok said) ends = (ends.written told).others
+  ended_others (Err (CannotRead name)) ends = λ name none. ends.same told name
+  ended_others (Err (Refused refusal)) ends = λ name none. ends.same told name
+  ended_others (Err (OnDisk stop)) ends = λ name none. ends.same told name
+  ended_others (Err CannotWrite) ends = (ends.part told).others
+  ended_others (Err NoMemory) ends = elim ends [ inl same ↦ λ name none. same told name | inr refused ↦ (refused.1 told).others ]
+
+-- they stay as they were
+pub ran_others : (command : Option Command) (by_clap : Bool) (status : ℕ) (old new : Shelved) (before after : Heard)
+    → Ran command by_clap status old new before after → IsTrue old.tells → SameBut (written_of command) old.files new.files
+ran_others None by_clap status old new before after ran told = λ name none. ran.files name
+ran_others (Some command) by_clap status old new before after ran told = ended_others command old new told ran.answer ran.ends
+
+-- ---- what the words ask for
 
 -- where memory was wanted to read the words
 pub words_starved : (command : Option Command) (by_clap : Bool) (status : ℕ) (old : Shelved) (before after : Heard) → IsTrue by_clap

@@ -23,19 +23,19 @@ pub record IsCopyWork (from to : List MessageParts → List ℕ) (word target by
   pub work_is : work ≡ one_file target out (count_text word (length copies.messages))
 
 -- how a fault of sealing is told; want of memory is no refusal
-abbrev pub seal_refusal : SealFault → Option Refusal
+abbrev pub seal_refusal : {N : Type 0} → SealFault → Option (Refusal N)
 seal_refusal (seals.Bad bad) = Some (BadMessages bad)
 seal_refusal (seals.Signed at) = Some (Signed at)
 seal_refusal seals.NoMemory = None
 
 -- and one of unsealing
-abbrev pub unseal_refusal : UnsealFault → Option Refusal
+abbrev pub unseal_refusal : {N : Type 0} → UnsealFault → Option (Refusal N)
 unseal_refusal (unseals.Bad bad) = Some (BadMessages bad)
 unseal_refusal (unseals.Tag at) = Some (BadTag at)
 unseal_refusal (unseals.Counter at) = Some (BadCounter at)
 unseal_refusal unseals.NoMemory = None
 
 -- why a command stops that could not do a task: the refusal, or want of memory
-abbrev pub task_stop : {N : Type 0} → Option Refusal → Stop N
+abbrev pub task_stop : {N : Type 0} → Option (Refusal N) → Stop N
 task_stop (Some refusal) = Refused refusal
 task_stop None = NoMemory

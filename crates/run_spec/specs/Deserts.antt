@@ -4,10 +4,10 @@ use Rattle.ids_frame.specs.Bytes.{AreBytes}
 use Rattle.run_files.specs.Texts.{disk_status}
 use Rattle.run_spec.specs.Keeping.{MayStopOnDisk}
 use Rattle.run_spec.specs.Names.{Shelved, Heard, MissesOne, Failed, DiskStop, Refusal}
-use Rattle.run_words.specs.Command.{Command}
+use Rattle.run_words.specs.Command.{Command, written_by}
 use Rattle.run_spec.specs.Judge.{Task, Does, Refuses, seals, unseals, packs}
-use Rattle.run_spec.specs.Run.{OneFails, WasUnread}
-use Rattle.run_files.specs.Writing.{Work, AreWritten}
+use Rattle.run_spec.specs.Run.{WasUnread}
+use Rattle.run_files.specs.Writing.{Work, AreWritten, OneFails}
 
 -- a read failed, and all that is read before it served
 pub record FailedBefore (command : Command) (old new : Shelved) : Type 0 where
@@ -31,7 +31,7 @@ pub record EndsOnDisk (command : Command) (status : ℕ) : Type 0 where
 abbrev pub EndsOrFails : ℕ → Command → ℕ → Shelved → Shelved → Heard → Heard → Type 0
 EndsOrFails wanted command status old new before after =
     EndsWith wanted command status old new before after
-    ⊎ (((status ≡ 7) × OneFails command old.faults new.faults Failed) ⊎ EndsOnDisk command status)
+    ⊎ (((status ≡ 7) × OneFails (written_by command) old.faults new.faults Failed) ⊎ EndsOnDisk command status)
 
 -- work that the task asks for was done: each of its files is there, whole
 pub record DidWork (task : Task) (new : Shelved) : Type 0 where
@@ -41,7 +41,7 @@ pub record DidWork (task : Task) (new : Shelved) : Type 0 where
 
 -- the task can be done
 abbrev pub CanBeDone : Task → Type 0
-CanBeDone task = (refusal : Refusal) → Refuses task refusal → ⊥
+CanBeDone task = (refusal : Refusal (List ℕ)) → Refuses task refusal → ⊥
 
 -- what the task is made of are bytes
 abbrev pub IsOfBytes : Task → Type 0

@@ -20,11 +20,12 @@ pub use Rattle.ids_types.specs.declared.loss.Loss.{Loss}
 pub use Rattle.journal.specs.Answers.{told}
 pub use Rattle.merge_spec.specs.Contexts.{misses_context}
 pub use Rattle.merge_spec.specs.Rounds.{Round}
+pub use Rattle.run_files.specs.Reading.{Comes, Reading, file, gives, over, refuses, ◌>>=◌}
 pub use Rattle.run_files.specs.declared.stop.DiskStop.{DiskStop}
 pub use Rattle.run_files.specs.declared.stop.Refusal.{Refusal}
-pub use Rattle.run_files.specs.declared.stop.Refusal.TheVariants.{BadConfig, BadCounter, BadJournal, BadMessages, BadTag, BadTrace, BadUnit, Differ, EmptyKey, Signed, TooLarge}
+pub use Rattle.run_files.specs.declared.stop.Refusal.TheVariants.{BadConfig, BadCounter, BadJournal, BadMessages, BadSource, BadTag, BadTrace, BadUnit, Differ, EmptyKey, Instance, Signed, TooLarge, TooLong}
 pub use Rattle.run_files.specs.declared.stop.Stop.{Stop}
-pub use Rattle.run_files.specs.declared.stop.Stop.TheVariants.{BadSource, CannotRead, CannotWrite, Instance, NoMemory, OnDisk, Refused, TooLong}
+pub use Rattle.run_files.specs.declared.stop.Stop.TheVariants.{CannotRead, CannotWrite, NoMemory, OnDisk, Refused}
 pub use Rattle.text_spec.specs.DecodedText.{decoded_text}
 pub use Rattle.text_spec.specs.JournalReading.{journal_in}
 pub use Rattle.text_spec.specs.JournalText.{Told, journal_text}

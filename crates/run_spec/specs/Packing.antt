@@ -33,13 +33,13 @@ pub record IsUnpackWork (target bytes : List ℕ) (work : Work) : Type 0 where
   pub work_is : work ≡ one_file target (joined (all_of runs)) (runs_text runs)
 
 -- how a fault of packing is told; want of memory is no refusal
-abbrev pub pack_refusal : PackFault → Option Refusal
+abbrev pub pack_refusal : {N : Type 0} → PackFault → Option (Refusal N)
 pack_refusal (packing.Bad bad) = Some (BadMessages bad)
 pack_refusal (packing.TooLarge at) = Some (TooLarge at)
 pack_refusal packing.NoMemory = None
 
 -- and one of unpacking
-abbrev pub unpack_refusal : UnpackFault → Option Refusal
+abbrev pub unpack_refusal : {N : Type 0} → UnpackFault → Option (Refusal N)
 unpack_refusal (unpacking.Bad at) = Some (BadUnit at)
 unpack_refusal (unpacking.Cut at) = Some (BadUnit at)
 unpack_refusal unpacking.NoMemory = None

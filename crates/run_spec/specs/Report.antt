@@ -6,18 +6,16 @@ use Rattle.ids_reporter.specs.Forwarding.{AreMerged}
 use Rattle.ids_reporter.specs.Sources.{Sources, instance_of}
 use Rattle.ids_reporter.specs.declared.index.Instance.{Instance as Managers}
 use Rattle.ids_reporter.specs.declared.index.Instance.TheVariants.{Empty, One, Mixed}
-use Rattle.run_files.specs.Contents.{file_of}
 use Rattle.run_files.specs.Writing.{Work}
 use Rattle.run_spec.specs.Copying.{one_file}
-use Rattle.run_spec.specs.FoldedJournal.{◌>>=◌}
-use Rattle.run_spec.specs.Names.{Files, MessageParts, messages_read, BadMessage, Stop, BadSource, Instance}
+use Rattle.run_spec.specs.Names.{MessageParts, messages_read, BadMessage, Reading, file, gives, refuses, ◌>>=◌, BadSource, Instance}
 
 -- ---- sources
 
 -- the messages of a manager's file
-abbrev pub source_found : List ℕ → Result (List MessageParts) BadMessage → Result (List MessageParts) (Stop (List ℕ))
-source_found name (Ok messages) = Ok messages
-source_found name (Err bad) = Err (BadSource name bad)
+abbrev pub source_found : List ℕ → Result (List MessageParts) BadMessage → Reading (List MessageParts)
+source_found name (Ok messages) = gives messages
+source_found name (Err bad) = refuses (BadSource name bad)
 
 -- the messages are of this instance
 abbrev pub is_of : ℕ → Managers → Bool
@@ -31,22 +29,21 @@ clashes sources (One instance) = list_any (λ source. is_of instance (instance_o
 clashes sources Mixed = true
 
 -- the messages of the file of this name, where they do not clash
-abbrev pub unless_clash : List ℕ → List MessageParts → Bool → Result (List MessageParts) (Stop (List ℕ))
-unless_clash name messages true = Err (Instance name)
-unless_clash name messages false = Ok messages
+abbrev pub unless_clash : List ℕ → List MessageParts → Bool → Reading (List MessageParts)
+unless_clash name messages true = refuses (Instance name)
+unless_clash name messages false = gives messages
 
 -- what a manager's file holds, behind these sources
-abbrev pub source_in : Sources → List ℕ → Files → Result (List MessageParts) (Stop (List ℕ))
-source_in sources name files = do
-  bytes ← file_of 8388608 name files
+abbrev pub source_in : Sources → List ℕ → Reading (List MessageParts)
+source_in sources name = do
+  bytes ← file 8388608 name
   messages ← source_found name (messages_read bytes)
   unless_clash name messages (clashes sources (instance_of messages))
 
 -- the sources, and those of the files behind them: each is judged before the next is read
-abbrev pub sources_in : Sources → List (List ℕ) → Files → Result Sources (Stop (List ℕ))
-sources_in sources [] files = Ok sources
-sources_in sources (name ∷ names) files =
-    source_in sources name files >>= λ messages. sources_in (sources ++ messages ∷ []) names files
+abbrev pub sources_in : Sources → List (List ℕ) → Reading Sources
+sources_in sources [] = gives sources
+sources_in sources (name ∷ names) = source_in sources name >>= λ messages. sources_in (sources ++ messages ∷ []) names
 
 -- ---- the work
 

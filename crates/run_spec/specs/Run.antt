@@ -1,87 +1,51 @@
 -- What a run does, by cases on its command: it did its command's work, or stopped, each with its status
 -- and its text.
 -- Source: docs/COMMANDS.md.
-use Rattle.std.specs.Prelude.{◌≡◌, ◌⊎◌, ℕ, Bool, true, false, List, [], IsTrue, Option, Some, None, option_map, Result, Ok, Err, Contains}
-use Rattle.run_spec.specs.Names.{configuration, Faults, Rose, CountsFault, Files, SameFiles, Shelved, Heard, Read, WriteFault, Failed, Refusal, BadConfig, BadJournal, BadTrace, BadMessages, Differ, EmptyKey, Signed, BadTag, BadCounter, TooLarge, BadUnit, DiskStop, Stop, CannotRead, TooLong, BadSource, Instance, Refused, OnDisk, CannotWrite, NoMemory}
-use Rattle.run_words.specs.Command.{Command, fold, check, decode, gen, migrate, replay, sign, verify, bundle, unbundle, report, keep, recall, read_by, written_by}
-use Rattle.run_spec.specs.Judge.{Task, Does, Refuses, judge}
+use Rattle.std.specs.Prelude.{◌≡◌, ◌⊎◌, ⊤, ℕ, Bool, true, false, List, [], IsTrue, Option, Some, None, option_map, Result, Ok, Err, Contains, bytes_eq}
+use Rattle.std.specs.List.{list_any}
+use Rattle.run_spec.specs.Names.{configuration, Faults, Rose, CountsFault, Files, SameFiles, Shelved, Heard, Read, Failed, Comes, Refusal, BadSource, Instance, TooLong, DiskStop, Stop, CannotRead, Refused, OnDisk, CannotWrite, NoMemory}
+use Rattle.run_words.specs.Command.{Command, migrate, read_by, usage, word_of, written_by}
+use Rattle.run_spec.specs.Judge.{Task, Does, Refuses, judge, reading_of}
 use Rattle.run_spec.specs.Keeping.{MayStopOnDisk}
-use Rattle.run_files.specs.Contents.{without}
 use Rattle.run_files.specs.Saying.{Puts, Says}
-use Rattle.run_files.specs.Texts.{usage, answer_text, answer_status}
-use Rattle.run_files.specs.Writing.{Work, AreWritten, StandUpTo, WriteFails}
+use Rattle.run_files.specs.Texts.{answer_text, answer_status, row_of}
+use Rattle.run_files.specs.Writing.{Work, AreWritten, OneFails, SameBut, StandUpTo}
 
 -- ---- inputs that do not serve
 
--- the command may refuse so
-abbrev pub MayRefuse : Command → Refusal → Type 0
-MayRefuse (fold files) (BadConfig fault) = Unit {0}
-MayRefuse (fold files) (BadJournal line number) = Unit {0}
-MayRefuse (fold files) refusal = ⊥
-MayRefuse (check files) (BadConfig fault) = Unit {0}
-MayRefuse (check files) (BadJournal line number) = Unit {0}
-MayRefuse (check files) (Differ at) = Unit {0}
-MayRefuse (check files) refusal = ⊥
-MayRefuse (decode name) (BadMessages bad) = Unit {0}
-MayRefuse (decode name) refusal = ⊥
-MayRefuse (gen wanted) refusal = ⊥
-MayRefuse (migrate files) (BadConfig fault) = Unit {0}
-MayRefuse (migrate files) refusal = ⊥
-MayRefuse (replay files) (BadConfig fault) = Unit {0}
-MayRefuse (replay files) (BadTrace line number) = Unit {0}
-MayRefuse (replay files) refusal = ⊥
-MayRefuse (sign names) EmptyKey = Unit {0}
-MayRefuse (sign names) (BadMessages bad) = Unit {0}
-MayRefuse (sign names) (Signed at) = Unit {0}
-MayRefuse (sign names) refusal = ⊥
-MayRefuse (verify names) EmptyKey = Unit {0}
-MayRefuse (verify names) (BadMessages bad) = Unit {0}
-MayRefuse (verify names) (BadTag at) = Unit {0}
-MayRefuse (verify names) (BadCounter at) = Unit {0}
-MayRefuse (verify names) refusal = ⊥
-MayRefuse (bundle names) (BadMessages bad) = Unit {0}
-MayRefuse (bundle names) (TooLarge at) = Unit {0}
-MayRefuse (bundle names) refusal = ⊥
-MayRefuse (unbundle files) (BadUnit at) = Unit {0}
-MayRefuse (unbundle files) refusal = ⊥
-MayRefuse (report files) refusal = ⊥
-MayRefuse (keep names) (BadConfig fault) = Unit {0}
-MayRefuse (keep names) (BadJournal line number) = Unit {0}
-MayRefuse (keep names) refusal = ⊥
-MayRefuse (recall names) refusal = ⊥
+-- a file that the refusal names is one that the command reads
+abbrev pub NamesInput : Command → Refusal (List ℕ) → Type 0
+NamesInput command (TooLong name) = Contains (read_by command) name
+NamesInput command (BadSource name bad) = Contains (read_by command) name
+NamesInput command (Instance name) = Contains (read_by command) name
+NamesInput command refusal = ⊤
 
--- the command may stop so at its input files, whatever they hold
-abbrev pub MayStop : Command → Stop (List ℕ) → Type 0
-MayStop command (CannotRead name) = Contains (read_by command) name
-MayStop command (TooLong name) = Contains (read_by command) name
-MayStop (report files) (BadSource name bad) = Contains files.sources name
-MayStop (report files) (Instance name) = Contains files.sources name
-MayStop command (Refused refusal) = MayRefuse command refusal
-MayStop command other = ⊥
+-- the command may refuse so, as the table of refusals has it
+pub record MayRefuse (command : Command) (refusal : Refusal (List ℕ)) : Type 0 where
+  pub met : IsTrue (list_any (bytes_eq (word_of command)) (row_of refusal).met_by)
+  pub names : NamesInput command refusal
 
--- a read of an input file failed, as the last fault, and all that is read before it serves
+-- a read of an input file failed, as the last fault, and all that is read before it served
 pub record WasUnread (command : Command) (name : List ℕ) (old new : Shelved) : Type 0 where
   pub may : Contains (read_by command) name
   pub fails : CountsFault old.faults new.faults Read name
-  pub first : IsTrue old.tells → judge command (without name old.files) ≡ Err (CannotRead name)
+  pub first : Comes (reading_of command) (Err (CannotRead name)) old
   pub same : IsTrue old.tells → SameFiles old.files new.files
 
 -- the files ask for a task that cannot be done, for this reason
-pub record CannotDo (command : Command) (files : Files) (reason : Stop (List ℕ)) : Type 0 where
+pub record CannotDo (command : Command) (files : Files) (refusal : Refusal (List ℕ)) : Type 0 where
   pub task : Task
   pub judged : judge command files ≡ Ok task
-  pub refusal : Refusal
   pub refuses : Refuses task refusal
-  pub is : reason ≡ Refused refusal
 
--- the files deserve that the command stops so: they do not serve, or what they ask for cannot be done
-abbrev pub Deserves : Command → Files → Stop (List ℕ) → Type 0
-Deserves command files reason = (judge command files ≡ Err reason) ⊎ CannotDo command files reason
+-- the files deserve that the command refuses so: they do not serve, or what they ask for cannot be done
+abbrev pub Deserves : Command → Files → Refusal (List ℕ) → Type 0
+Deserves command files refusal = (judge command files ≡ Err (Refused refusal)) ⊎ CannotDo command files refusal
 
 -- the input files were refused: where they are told, as they deserve
-pub record WasRefused (command : Command) (reason : Stop (List ℕ)) (old new : Shelved) : Type 0 where
-  pub may : MayStop command reason
-  pub deserved : IsTrue old.tells → Deserves command old.files reason
+pub record WasRefused (command : Command) (refusal : Refusal (List ℕ)) (old new : Shelved) : Type 0 where
+  pub may : MayRefuse command refusal
+  pub deserved : IsTrue old.tells → Deserves command old.files refusal
   pub no_fault : new.faults ≡ old.faults
   pub same : IsTrue old.tells → SameFiles old.files new.files
 
@@ -91,7 +55,7 @@ pub record WasRefused (command : Command) (reason : Stop (List ℕ)) (old new : 
 pub record CanWork (command : Command) (files : Files) : Type 0 where
   pub task : Task
   pub judged : judge command files ≡ Ok task
-  pub can : (refusal : Refusal) → Refuses task refusal → ⊥
+  pub can : (refusal : Refusal (List ℕ)) → Refuses task refusal → ⊥
 
 -- the work on a disk stopped so: the input files serve, and no file was touched
 pub record StoppedOnDisk (command : Command) (stop : DiskStop) (old new : Shelved) : Type 0 where
@@ -117,6 +81,7 @@ pub record AllWritten (command : Command) (old new : Files) (said : List ℕ) : 
   pub written : AreWritten work.outputs new
   pub text : said ≡ work.said
   pub keeps : KeepsConfig command old new
+  pub others : SameBut (written_by command) old new
 
 -- the work of their old contents was written up to some place
 pub record PartWritten (command : Command) (old new : Files) : Type 0 where
@@ -125,21 +90,16 @@ pub record PartWritten (command : Command) (old new : Files) : Type 0 where
   pub work : Work
   pub is_work : Does task work
   pub place : StandUpTo work.outputs old new
+  pub others : SameBut (written_by command) old new
 
 -- the command did its work, with this text
 pub record WasDone (command : Command) (said : List ℕ) (old new : Shelved) : Type 0 where
   pub written : IsTrue old.tells → AllWritten command old.files new.files said
   pub no_fault : new.faults ≡ old.faults
 
--- the write of a file that the command writes failed
-pub record OneFails (command : Command) (old new : Faults) (fault : WriteFault) : Type 0 where
-  pub name : List ℕ
-  pub is_output : Contains (written_by command) name
-  pub fails : WriteFails old new name fault
-
 -- a creation or an append of a file that the command writes failed, as the last fault
 pub record WasNotWritten (command : Command) (old new : Shelved) : Type 0 where
-  pub fails : OneFails command old.faults new.faults Failed
+  pub fails : OneFails (written_by command) old.faults new.faults Failed
   pub part : IsTrue old.tells → PartWritten command old.files new.files
 
 -- memory was wanted: before the first file was made, or by a call of the shelf
@@ -157,7 +117,7 @@ StopsFor command (CannotRead name) old new = WasUnread command name old new
 StopsFor command (OnDisk stop) old new = StoppedOnDisk command stop old new
 StopsFor command CannotWrite old new = WasNotWritten command old new
 StopsFor command NoMemory old new = WantedMemory command old new
-StopsFor command reason old new = WasRefused command reason old new
+StopsFor command (Refused refusal) old new = WasRefused command refusal old new
 
 -- the command did its work, with this text, or stopped
 abbrev pub EndsAs : Command → Result (List ℕ) (Stop (List ℕ)) → Shelved → Shelved → Type 0

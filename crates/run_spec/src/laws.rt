@@ -4,7 +4,7 @@ ghost use Rattle.std.specs.Prelude.{◌≡◌, ℕ, List, Ok, Err, IsTrue};
 ghost use Rattle.ids_outside.specs.Shelved.{Shelved};
 ghost use Rattle.ids_outside.specs.Sinks.{Heard};
 ghost use Rattle.run_words.specs.Command.{Command};
-ghost use Rattle.run_files.specs.Texts.{refusal_status, stop_status};
+ghost use Rattle.run_files.specs.Texts.{row_of, stop_status};
 ghost use Rattle.run_files.specs.declared.stop.Refusal.{Refusal};
 ghost use Rattle.run_files.specs.declared.stop.Stop.{Stop};
 ghost use Rattle.run_spec.specs.Deserts.{CanBeDone, EndsWith, EndsOrFails, DidWork, IsOfBytes};
@@ -21,9 +21,9 @@ pub fn files_decide_the_answer()
         IsTrue old.tells → judge command old.files ≡ Err reason →
         EndsWith (stop_status reason) command status old new before after }
     ensures unfit { (command : Command) (status : ℕ) (old new : Shelved) (before after : Heard)
-        (task : Task) (refusal : Refusal) → RanCommand command status old new before after →
+        (task : Task) (refusal : Refusal (List ℕ)) → RanCommand command status old new before after →
         IsTrue old.tells → judge command old.files ≡ Ok task → IsOfBytes task → Refuses task refusal →
-        EndsWith (refusal_status refusal) command status old new before after }
+        EndsWith (row_of refusal).status command status old new before after }
     ensures served { (command : Command) (status : ℕ) (old new : Shelved) (before after : Heard)
         (task : Task) → RanCommand command status old new before after →
         IsTrue old.tells → judge command old.files ≡ Ok task → CanBeDone task →

@@ -1,8 +1,12 @@
 -- How a run ends that answers something beside its status.
-use Rattle.run_steps.proofs.Names.{◌≡◌, ◌≢◌, ◌∙◌, ℕ, List, Option, None, Some, Ok, Err, Bor, IsTrue, refl, sym, subst, inl, inr, arith, Result, IfOk, IfErr, ⊤, usage, refusal_status, Shelved, Heard, WriteFault, Failed, MemoryRefused, Stop, CannotRead, TooLong, BadSource, Instance, Refused, OnDisk, CannotWrite, NoMemory, Command, Finished, RanWith, RunsWith, IsAnswered, TellsFinished, StopsFor, WasDone, Puts, Says, Tells, put_status, plain_stop}
+use Rattle.run_steps.proofs.Names.{◌≡◌, ◌≢◌, ◌∙◌, ℕ, List, Option, None, Some, Ok, Err, Bor, IsTrue, refl, sym, subst, inl, inr, arith, Result, IfOk, ⊤, usage, row_of, Shelved, Heard, WriteFault, Failed, MemoryRefused, Stop, CannotRead, Refused, OnDisk, CannotWrite, NoMemory, Command, Finished, RanWith, RunsWith, IsAnswered, TellsFinished, EndsAs, WasDone, finished_end, Puts, Says, Tells, put_status, plain_stop}
 use Rattle.ids_outside.specs.Files.{Files}
+use Rattle.run_files.proofs.ExitLemmas.{left_with}
+use Rattle.std.specs.Result.{IsErrAnd}
 use Rattle.run_files.specs.Texts.{disk_status}
-use Rattle.run_spec.proofs.RunLemmas.{disk_some, ended_ran, refusal_some}
+use Rattle.run_files.specs.Writing.{SameBut}
+use Rattle.run_steps.specs.Answered.{written_in}
+use Rattle.run_spec.proofs.RunLemmas.{disk_some, ended_others, ended_ran, refusal_some}
 
 module _ (status : ℕ) (before after : Heard) where
   -- a text that does not go with status 0 does not end with it
@@ -18,13 +22,16 @@ module _ (status : ℕ) (before after : Heard) where
   -- a run that stopped does not end with status 0
   stop_fails : (reason : Stop (List ℕ)) → Tells (Err reason) status before after → status ≢ 0
   stop_fails (CannotRead name) tells = says_fails _ 3 (omega arith) tells
-  stop_fails (TooLong name) tells = says_fails _ 4 (omega arith) tells
-  stop_fails (BadSource name bad) tells = says_fails _ 10 (omega arith) tells
-  stop_fails (Instance name) tells = says_fails _ 11 (omega arith) tells
-  stop_fails (Refused refusal) tells = says_fails _ (refusal_status refusal) (refusal_some refusal) tells
+  stop_fails (Refused refusal) tells = says_fails _ (row_of refusal).status (refusal_some refusal) tells
   stop_fails (OnDisk stop) tells = says_fails _ (disk_status stop) (disk_some stop) tells
   stop_fails CannotWrite tells = put_fails 7 tells.put (omega arith) tells.is
   stop_fails NoMemory tells = put_fails 8 tells.put (omega arith) tells.is
+
+-- an exit with this reason ends so
+pub left_finished : {M : Type 0} (command : Command) (answer : Result (Finished M) (Stop (Bor (List ℕ)))) (reason : Stop (Bor (List ℕ)))
+    (old new : Shelved) → IsErrAnd answer (λ y. y ≡ reason) → EndsAs command (Err (plain_stop reason)) old new
+    → EndsAs command (finished_end answer) old new
+left_finished command answer reason old new = left_with (λ a. EndsAs command (finished_end a) old new) answer reason
 
 module _ {M : Type 0} (command : Command) (Tell : M → List ℕ → Files → Files → Type 0) (status : ℕ)
     (old new : Shelved) (before after : Heard) where
@@ -50,12 +57,11 @@ module _ {M : Type 0} (command : Command) (Tell : M → List ℕ → Files → F
   -- a run that ended so, and told it
   pub run_ran : (end : Result (Finished M) (Stop (Bor (List ℕ)))) (answer : Option M)
       → (IsTrue old.tells → IfOk end (λ f. Tell f.made f.line.items old.files new.files))
-      → IfOk end (λ f. WasDone command f.line.items old new)
-      → IfErr end (λ reason. StopsFor command (plain_stop reason) old new)
+      → EndsAs command (finished_end end) old new
       → TellsFinished end answer status before after → RanWith command Tell answer status old new before after
-  run_ran (Ok finished) answer tell done stops tells = finished_ran finished answer tell done tells.0 tells.1
-  run_ran (Err reason) answer tell done stops tells = record {
-    ran = ended_ran command status old new before after (Err reason) stops tells.0;
+  run_ran (Ok finished) answer tell ends tells = finished_ran finished answer tell ends tells.0 tells.1
+  run_ran (Err reason) answer tell ends tells = record {
+    ran = ended_ran command status old new before after (Err reason) ends tells.0;
     answers = rw tells.1 (stop_fails status before after (plain_stop reason) tells.0);
   }
 
@@ -73,3 +79,13 @@ module _ {F M : Type 0} (command : F → Command) (Tell : F → M → List ℕ �
       → RanWith (command files) (Tell files) answer status old new before after
       → RunsWith command Tell asked answer status old new before after
   asked_with files answer asks ran = subst (λ f. RunsWith command Tell f answer status old new before after) asks ran
+
+-- ---- files that it does not write
+
+-- they stay as they were
+pub runs_others : {F M : Type 0} (command : F → Command) (Tell : F → M → List ℕ → Files → Files → Type 0) (asked : Option F) (answer : Option M)
+    (status : ℕ) (old new : Shelved) (before after : Heard) → RunsWith command Tell asked answer status old new before after
+    → IsTrue old.tells → SameBut (written_in command asked) old.files new.files
+runs_others command Tell None answer status old new before after runs told = λ name none. runs.misused.files name
+runs_others command Tell (Some files) answer status old new before after runs told =
+    ended_others (command files) old new told runs.ran.answer runs.ran.ends

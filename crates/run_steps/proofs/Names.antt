@@ -14,30 +14,31 @@ pub use Rattle.ids_outside.specs.declared.faults.WriteFault.TheVariants.{Failed,
 pub use Rattle.ids_types.specs.Turns.{Turn, entries_of}
 pub use Rattle.ids_types.specs.declared.entry.Entry.{Entry}
 pub use Rattle.ids_types.specs.declared.loss.Loss.{Loss}
-pub use Rattle.run_steps.specs.Answered.{Finished, IsAnswered, RanWith, RunsWith, TellsFinished}
-pub use Rattle.run_steps.specs.Made.{HasCome, HasRead, Made, Makes, WouldKeep}
+pub use Rattle.run_steps.specs.Answered.{Finished, IsAnswered, RanWith, RunsWith, TellsFinished, finished_end}
+pub use Rattle.run_steps.specs.Made.{HasCome, Makes, work_of}
 pub use Rattle.run_steps.specs.Outcome.{IsOutcome}
 pub use Rattle.journal.specs.Answers.{told}
 pub use Rattle.merge_spec.specs.Contexts.{misses_context}
 pub use Rattle.merge_spec.specs.Rounds.{Round}
 pub use Rattle.run_files.specs.Contents.{file_of}
 pub use Rattle.run_files.specs.Saying.{Puts, Says, Tells, put_status}
-pub use Rattle.run_files.specs.Stages.{Judges, plain_stop, stop_of_config}
-pub use Rattle.run_files.specs.Texts.{refusal_status, stop_status, stop_text, usage}
-pub use Rattle.run_files.specs.Writing.{AreWritten, Cuts, StandUpTo, stop_of_write}
+pub use Rattle.run_files.specs.Plain.{plain_end, plain_stop}
+pub use Rattle.run_files.specs.Reading.{Judges, Reading, Reads, file, gives, over, reads, refuses, seen_as, stop_of_config, ◌>>=◌}
+pub use Rattle.run_files.specs.Texts.{row_of, stop_status, stop_text}
+pub use Rattle.run_files.specs.Writing.{AreWritten, CanWrite, Cuts, SameBut, names_of, output_of, stop_of_write}
 pub use Rattle.run_files.specs.declared.stop.Refusal.{Refusal}
 pub use Rattle.run_files.specs.declared.stop.Refusal.TheVariants.{BadJournal, Differ, EmptyKey}
 pub use Rattle.run_files.specs.declared.stop.Stop.{Stop}
-pub use Rattle.run_files.specs.declared.stop.Stop.TheVariants.{BadSource, CannotRead, CannotWrite, Instance, NoMemory, OnDisk, Refused, TooLong}
+pub use Rattle.run_files.specs.declared.stop.Stop.TheVariants.{CannotRead, CannotWrite, NoMemory, OnDisk, Refused}
 pub use Rattle.run_spec.specs.Copying.{one_file, seal_refusal, task_stop, unseal_refusal}
 pub use Rattle.run_spec.specs.Fold.{fold_line, fold_outputs, fold_text}
 pub use Rattle.run_spec.specs.FoldedJournal.{held_back_line}
 pub use Rattle.run_spec.specs.Headline.{IsOneHistory}
-pub use Rattle.run_spec.specs.Judge.{Does, Recorded, Refuses, Task, check_judged, only_said, decode_work, does, fold_work, gen_work, judge, migrate_work, key_judged, keyed_by, keyed_bytes, packs, recorded_in, replays, reports, seals, unpacks, unseals}
+pub use Rattle.run_spec.specs.Judge.{AskedFor, Does, Keyed, Recorded, Refuses, Task, check_judged, only_said, decode_judged, does, fold_work, gen_work, judge, key_judged, keyed_in, config_in, journal_judged, told_in, rounds_in, asked_in, reading_of, migrates, packs, recorded_in, replays, reports, seals, unpacks, unseals}
 pub use Rattle.run_spec.specs.Packing.{pack_refusal, runs_text, unpack_refusal}
 pub use Rattle.run_spec.specs.Replay.{lost_contexts, replay_outputs, replay_work, without_context}
-pub use Rattle.run_spec.specs.Run.{EndsAs, KeepsConfig, MayRefuse, MayStop, StopsFor, WasDone}
-pub use Rattle.run_words.specs.Command.{CheckFiles, Command, FoldFiles, KeyedFiles, PairFiles, ReplayFiles, SizedFiles, bundle, check, fold, gen, migrate, replay, report, sign, unbundle, verify, written_by}
+pub use Rattle.run_spec.specs.Run.{EndsAs, StopsFor, WasDone}
+pub use Rattle.run_words.specs.Command.{CheckFiles, Command, FoldFiles, KeyedFiles, PairFiles, ReplayFiles, SizedFiles, bundle, check, fold, gen, migrate, replay, report, sign, unbundle, usage, verify, written_by}
 pub use Rattle.run_words.specs.CommandView.{asked, files_of, five_of, keyed_of, pair_of, recording, sized_of, three_of}
 pub use Rattle.std.proofs.Common.{Bor, Err, IsTrue, List, None, Ok, Option, Some, ap, arith, drop, inl, inr, length, length-drop, min, nat_eq, refl, reverse, rules, string_bytes, subst, sym, take, ℕ, ◌++◌, ◌+◌, ◌-◌, ◌∙◌, ◌∷◌, ◌≡◌, ◌≢◌, ◌≤◌}
 pub use Rattle.std.proofs.lemmas.Bool.{cases_Bool}

@@ -4,7 +4,8 @@ use Rattle.std.specs.Prelude.{◌≡◌, ◌≢◌, ℕ, false, List, [], IsTrue
 use Rattle.run_steps.specs.Names.{Files, Shelved, Heard, Stop}
 pub use Rattle.run_steps.specs.declared.answering.Finished.{Finished}
 use Rattle.run_files.specs.Saying.{Puts, Tells}
-use Rattle.run_files.specs.Stages.{plain_stop}
+use Rattle.run_files.specs.Plain.{plain_stop}
+use Rattle.run_files.specs.Reading.{seen_as}
 use Rattle.run_spec.specs.Run.{RanCommand, Misused}
 use Rattle.run_words.specs.Command.{Command, written_by}
 
@@ -51,6 +52,10 @@ TellsFinished (Ok finished) answer status before after =
     Puts finished.line.items 0 status before after × IsAnswered status finished.made answer
 TellsFinished (Err reason) answer status before after =
     Tells (Err (plain_stop reason)) status before after × (answer ≡ None)
+
+-- the end of a run, with its text
+abbrev pub finished_end : {M : Type 0} → Result (Finished M) (Stop (Bor (List ℕ))) → Result (List ℕ) (Stop (List ℕ))
+finished_end = seen_as (λ finished. finished.line.items)
 
 -- the files that the words let change
 abbrev pub written_in : {F : Type 0} → (F → Command) → Option F → List (List ℕ)

@@ -5,6 +5,8 @@ use Rattle.chain_plain.specs.Recorded.{CanFold}
 use Rattle.ids_types.specs.declared.loss.Loss.{Loss}
 use Rattle.journal.specs.Answers.{told}
 use Rattle.run_files.specs.Writing.{Cuts}
+use Rattle.run_spec.specs.Judge.{Recorded}
+use Rattle.run_steps.specs.declared.inputs.Inputs.{Inputs}
 use Rattle.text_spec.specs.JournalReading.{Fits}
 
 -- this is what the chain gives for these turns: its messages, cut at the ends of turns, and its event memory
@@ -19,3 +21,10 @@ pub record IsFoldable (config : Parts) (turns : List Turn) : Type 0 where
   pub losses : List Loss
   pub fits : Fits config (told turns losses)
   pub can : CanFold (length config.events) turns
+
+-- what was read of a recording
+abbrev pub recorded_of : Inputs → Recorded
+recorded_of inputs = record {
+  config = inputs.config;
+  told = told inputs.journal.history.turns inputs.journal.losses.items;
+}

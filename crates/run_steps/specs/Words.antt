@@ -23,32 +23,33 @@ pub use Rattle.ids_types.specs.declared.entry.Carried.{Carried}
 pub use Rattle.ids_types.specs.declared.entry.Carried.TheVariants.{Absent, Kept, Missing}
 pub use Rattle.ids_types.specs.declared.entry.Entry.{Entry}
 pub use Rattle.ids_types.specs.declared.loss.Loss.{Loss}
-pub use Rattle.run_steps.specs.Answered.{Finished, RanWith, RunsWith, IsAnswered, TellsFinished, written_in}
-pub use Rattle.run_steps.specs.Made.{Made, HasRead, HasCome, Makes, WouldKeep}
-pub use Rattle.run_steps.specs.Outcome.{IsFoldable, IsOutcome}
+pub use Rattle.run_steps.specs.Answered.{Finished, RanWith, RunsWith, IsAnswered, TellsFinished, finished_end, written_in}
+pub use Rattle.run_steps.specs.Made.{HasCome, Makes, work_of}
+pub use Rattle.run_steps.specs.Outcome.{IsFoldable, IsOutcome, recorded_of}
 pub use Rattle.journal.specs.Answers.{told}
 pub use Rattle.merge_spec.specs.Contexts.{misses_context}
 pub use Rattle.merge_spec.specs.Rounds.{Round}
-pub use Rattle.run_files.specs.Contents.{bytes_of, file_of, without}
+pub use Rattle.run_files.specs.Contents.{bytes_of, file_of}
 pub use Rattle.run_files.specs.Saying.{Puts, Says, Tells, put_status}
-pub use Rattle.run_files.specs.Stages.{plain_end, plain_stop, stop_of_config, Judges, ReadStops, StopsAs}
+pub use Rattle.run_files.specs.Plain.{plain_end, plain_stop}
+pub use Rattle.run_files.specs.Reading.{Comes, Judges, Reading, Reads, over, seen_as, stop_of_config}
 pub use Rattle.run_files.specs.Texts.{bad_config_text, bad_message_text, stop_status, stop_text, answer_text, answer_status}
-pub use Rattle.run_files.specs.Writing.{Cuts, StandsInPart, HoldsPart, WriteFails, AreWritten, StandUpTo, stop_of_write, Output, Work, AreUntouched}
-pub use Rattle.run_files.specs.declared.stop.Refusal.TheVariants.{BadConfig, BadJournal, BadTrace, BadMessages, Differ, EmptyKey}
+pub use Rattle.run_files.specs.Writing.{AreApart, AreWritten, CanWrite, Cuts, OneFails, Output, SameBut, Work, names_of, output_of, stop_of_write}
+pub use Rattle.run_files.specs.declared.stop.Refusal.TheVariants.{BadConfig, BadJournal, BadTrace, BadMessages, BadSource, Differ, EmptyKey, Instance, TooLong}
 pub use Rattle.run_files.specs.declared.stop.Stop.{Stop}
-pub use Rattle.run_files.specs.declared.stop.Stop.TheVariants.{CannotRead, TooLong, BadSource, Instance, Refused, OnDisk, CannotWrite, NoMemory}
+pub use Rattle.run_files.specs.declared.stop.Stop.TheVariants.{CannotRead, Refused, OnDisk, CannotWrite, NoMemory}
 pub use Rattle.run_spec.specs.Copying.{one_file, count_text, seal_refusal, unseal_refusal, task_stop}
 pub use Rattle.run_spec.specs.Deserts.{EndsWith, EndsOrFails, DidWork}
 pub use Rattle.run_spec.specs.Fold.{fold_text, fold_line, fold_outputs}
 pub use Rattle.run_spec.specs.FoldedJournal.{folded_in, held_back_line, due_to}
 pub use Rattle.run_spec.specs.Headline.{IsOneHistory}
-pub use Rattle.run_spec.specs.Judge.{Task, does, replays, seals, unseals, packs, unpacks, reports, Does, Refuses, keyed_by, keyed_bytes, judge, AskedFor, asked_in, trace_judged, config_found, fold_work, Recorded, recorded_in, only_said, check_judged, journal_judged, decode_work, gen_work, migrate_work}
+pub use Rattle.run_spec.specs.Judge.{Task, does, replays, seals, unseals, packs, unpacks, reports, Does, Refuses, keyed_in, judge, reading_of, config_in, migrates, AskedFor, asked_in, trace_judged, config_found, fold_work, Recorded, recorded_in, only_said, check_judged, journal_judged, decode_judged, gen_work}
 pub use Rattle.run_spec.specs.Packing.{units_text, runs_text, pack_refusal, unpack_refusal}
 pub use Rattle.run_spec.specs.Replay.{replay_line, replay_text, without_context, lost_contexts, replay_outputs, replay_work, IsReplayWork}
 pub use Rattle.run_spec.specs.Report.{clashes, is_of, report_text, source_found, source_in, sources_in}
-pub use Rattle.run_spec.specs.Run.{KeepsConfig, MayRefuse, WasDone, StopsFor, Ran, RanCommand, SaysUsage, written_of, OneFails, EndsAs, WasRefused, PartWritten}
-pub use Rattle.run_words.specs.Command.{decode, gen, gen_of, gen_into, gen_for, are_read_by_clap, migrate, sign, verify, bundle, unbundle, report, check, Command, command_of, SameBut, fold, written_by, fold_of, check_of, decode_of, is_name, are_names, Recording, recording_of, FoldFiles, CheckFiles, PairFiles, KeyedFiles, SizedFiles, ReplayFiles, replay, asks_replay, replay_of, replay_names, report_of, read_by}
-pub use Rattle.run_words.specs.CommandView.{recording, files_of, three_of, pair_of, keyed_of, sized_of, five_of, report_files_of, asked, CanRun, CanKey, CanReplay, CanReport}
+pub use Rattle.run_spec.specs.Run.{WasDone, StopsFor, Ran, RanCommand, SaysUsage, written_of, EndsAs, WasRefused, PartWritten}
+pub use Rattle.run_words.specs.Command.{decode, gen, gen_of, gen_into, gen_for, are_read_by_clap, migrate, sign, verify, bundle, unbundle, report, check, Command, command_of, fold, written_by, fold_of, check_of, decode_of, is_name, are_names, Recording, FoldFiles, CheckFiles, PairFiles, KeyedFiles, SizedFiles, ReplayFiles, replay, asks, replay_of, replay_names, report_of, read_by, usage}
+pub use Rattle.run_words.specs.CommandView.{recording, files_of, three_of, pair_of, keyed_of, sized_of, five_of, report_files_of, asked, CanRun, CanReport, WritesApart}
 pub use Rattle.std.specs.List.{AllByRecursion, flat_map, list_any}
 pub use Rattle.std.specs.declared.alloc.Global.{Global}
 pub use Rattle.text_spec.specs.DecodedText.{decoded_text}

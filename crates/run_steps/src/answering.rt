@@ -1,10 +1,18 @@
-//! What a run puts and answers at its end that answers something beside its status.
+//! What a run puts whose words are not in form, and what one puts and answers that answers something beside its status.
 
-ghost use Rattle.run_steps.specs.Words.{IsAnswered, TellsFinished};
+ghost use Rattle.run_steps.specs.Words.{IsAnswered, Puts, TellsFinished, usage};
 
 use ids_outside::Sink;
-use run_files::{DONE, Stop, say, tell};
+use run_files::{BAD_WORDS, DONE, Stop, say, tell};
+use run_words::USAGE;
 use std::alloc::Global;
+
+/// Puts the usage, where the words are not in form, and returns the status.
+pub fn say_usage<K: Sink>(out: &mut K) -> u8
+    ensures { Puts usage 2 result (K.hears out.old) (K.hears out.new) }
+{
+    say(USAGE, BAD_WORDS, out)
+}
 
 /// A run that was done.
 #[derive(Debug, Drop)]

@@ -1,22 +1,24 @@
 //! Journals that are folded: what the chain gives for them, and whether they tell its own numbers.
 
 ghost use Rattle.std.specs.Prelude.{◌≡◌, ◌<◌, ◌+◌, ◌^◌, ◌∷◌, length, IfOk};
-ghost use Rattle.run_steps.specs.Words.{entries_of, folded_in, held_back_line as line_held_back, journal_judged, IsFoldable, IsOutcome, Judges};
+ghost use Rattle.run_steps.specs.Words.{entries_of, folded_in, held_back_line as line_held_back, journal_judged, IsFoldable, IsOutcome, Judges, seen_as, told};
 
 use chain_plain::{Folded, outcome};
 use ids_config::Config;
-use ids_types::History;
-use journal::{JournalFault, read};
+use ids_types::{History, Loss};
+use journal::{Journal, JournalFault, read};
 use run_files::{Refusal, Stop};
 use std::alloc::Global;
 
 /// The fault of a turn whose number of held-back events is not the chain's.
 const HELD_BACK: u8 = 8;
 
-/// A journal's history, and what the chain gives for it.
+/// What a journal tells, and what the chain gives for it.
 #[derive(Debug, Drop)]
 pub struct Judged {
     pub history: History,
+    /// The reports that the journal tells as lost.
+    pub losses: Vec<Loss>,
     pub folded: Folded,
 }
 
@@ -27,12 +29,12 @@ pub(crate) fn judge_journal<'a>(
     text: Vec<u8>,
     config: &Config,
 ) -> Result<Judged, Stop<&'a str>>
-    ensures judges { Judges (λ j. j.history.turns) (journal_judged (folded_in config.now text.items)) result }
+    ensures judges { Judges (journal_judged (folded_in config.now text.items)) (seen_as (λ j. told j.history.turns j.losses.items) result) }
     ensures folds { IfOk result (λ j. IsOutcome config.now j.history.turns j.folded) }
     ensures foldable { IfOk result (λ j. IsFoldable config.now j.history.turns) }
 {
-    let history = match read(alloc, &text, config) {
-        Ok(journal) => journal.history,
+    let Journal { history, losses } = match read(alloc, &text, config) {
+        Ok(journal) => journal,
         Err(JournalFault::Line { line, number }) => {
             return Err(Stop::Refused(Refusal::BadJournal { line, number }));
         }
@@ -46,7 +48,11 @@ pub(crate) fn judge_journal<'a>(
             number: HELD_BACK,
         }));
     }
-    Ok(Judged { history, folded })
+    Ok(Judged {
+        history,
+        losses,
+        folded,
+    })
 }
 
 /// The line of the first turn that tells another number than the turn before it hands on, or than 0 where

@@ -13,7 +13,7 @@ mod inputs;
 mod journals;
 mod making;
 
-pub use answering::{Finished, tell_finished};
-pub use inputs::{Inputs, read_inputs};
+pub use answering::{Finished, say_usage, tell_finished};
+pub use inputs::{Inputs, read_config, read_inputs};
 pub use journals::Judged;
-pub use making::{Made, write_made};
+pub use making::{Made, write_made, write_work};

@@ -1,10 +1,11 @@
-//! The one file of a command, made of what was read, and its line.
+//! The files of a command, made of what was read, and its line.
 
-ghost use Rattle.std.specs.Prelude.{IsTrue};
-ghost use Rattle.run_steps.specs.Words.{Command, EndsAs, HasCome, Makes, SameOthers, Shelved, Task, WouldKeep, plain_end};
+ghost use Rattle.std.specs.Prelude.{◌≡◌, ◌∷◌, [], map, IfOk, IsTrue, OnOk};
+ghost use Rattle.run_steps.specs.Made.{Makes, work_of};
+ghost use Rattle.run_steps.specs.Words.{AreWritten, CanWrite, Command, EndsAs, HasCome, Does, Shelved, Task, names_of, output_of, plain_end};
 
 use ids_outside::Shelf;
-use run_files::{Stop, write_file};
+use run_files::{NewFile, Stop, write_files};
 
 /// What a command made of the files that it read.
 #[derive(Debug, Drop)]
@@ -21,15 +22,36 @@ pub fn write_made<'a, H: Shelf>(
     made: Result<Made, Stop<&'a str>>,
     shelf: &mut H,
 ) -> Result<Vec<u8>, Stop<&'a str>>
-    ensures others { IsTrue (H.shows shelf.old).tells →
-        SameOthers (H.shows shelf.old).files (H.shows shelf.new).files target.now }
     // Each command that came to write this, and has only read files before, ends so.
-    ensures ends { (command : Command) (task : Task) (first : Shelved)
-        → HasCome command task target.now first (H.shows shelf.old) → Makes task target.now made.entry
-        → (IsTrue first.tells → WouldKeep command target.now first.files made.entry)
+    ensures { (command : Command) (task : Task) (first : Shelved)
+        → HasCome command task (target.now ∷ []) first (H.shows shelf.old) → Makes task target.now made.entry
         → EndsAs command (plain_end result) first (H.shows shelf.new) }
 {
     let Made { bytes, line } = made?;
-    write_file(target, &bytes, &[bytes.len() as u64], shelf)?;
+    let file = NewFile {
+        name: target,
+        bytes: &bytes,
+        cuts: &[],
+    };
+    write_work(&[file], line, shelf)
+}
+
+/// Writes the files, and hands on the line that tells what was done.
+pub fn write_work<'a, H: Shelf>(
+    files: &[NewFile<'_>],
+    line: Vec<u8>,
+    shelf: &mut H,
+) -> Result<Vec<u8>, Stop<&'a str>>
+    requires { CanWrite files.now }
+    ensures line { IfOk result (λ said. said.items ≡ line.items) }
+    ensures written { IsTrue (H.shows shelf.old).tells →
+        OnOk result (AreWritten (map output_of files.now) (H.shows shelf.new).files) }
+    // Each command that came to write them, and has only read files before, ends so.
+    ensures ends { (command : Command) (task : Task) (first : Shelved)
+        → HasCome command task (names_of (map output_of files.now)) first (H.shows shelf.old)
+        → Does task (work_of files.now line.items)
+        → EndsAs command (plain_end result) first (H.shows shelf.new) }
+{
+    write_files(files, shelf)?;
     Ok(line)
 }

@@ -3,25 +3,10 @@
 //! stands alone.
 
 use ids_outside::{MemoryShelf, MemorySink};
+use idsm_run::USAGE;
 use std::alloc::Global;
 use std::test::Fail;
 use text_spec::{push_hex, push_number};
-
-/// What is put where the words are no command. A table writes it `usage`.
-const USAGE: &str = "usage: idsm replay CONFIG TRACE MESSAGES MEMORY JOURNAL
-       idsm fold CONFIG JOURNAL MESSAGES MEMORY
-       idsm check CONFIG JOURNAL MESSAGES
-       idsm decode MESSAGES
-       idsm gen [--start N] [--callers N] [--rounds N] [--events N] CONFIG TRACE JOURNAL
-       idsm migrate CONFIG NEW
-       idsm report OUT FILE ..
-       idsm keep DISK CONFIG JOURNAL
-       idsm recall DISK MEMORY
-       idsm sign KEY START MESSAGES SIGNED
-       idsm verify KEY START SIGNED MESSAGES
-       idsm bundle SIZE MESSAGES UNITS
-       idsm unbundle UNITS MESSAGES
-";
 
 /// Appends a text with a `/` for each line feed.
 fn push_text(told: &mut Vec<u8>, text: &[u8]) -> Result<(), Fail> {
@@ -54,7 +39,7 @@ pub(crate) fn push_end(
     out: &MemorySink,
 ) -> Result<(), Fail> {
     push_number(told, status as u64)?;
-    if out.taken() == USAGE.as_bytes() {
+    if out.taken() == USAGE {
         told.extend_from_slice(b" | usage")?;
     } else if !out.taken().is_empty() {
         told.extend_from_slice(b" | ")?;

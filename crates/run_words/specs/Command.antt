@@ -1,10 +1,10 @@
 -- The commands of the program, as its words give them.
 -- Source: docs/COMMANDS.md.
-use Rattle.std.specs.Prelude.{◌≡◌, ◌≢◌, ℕ, ◌^◌, ◌&&◌, ◌||◌, ◌==◌, nat_le, not, bytes_eq, Bool, true, false, List, [], ◌∷◌, length, Option, Some, None, option_map, codes, if◌then◌else◌}
+use Rattle.std.specs.Prelude.{◌≡◌, ℕ, ◌^◌, ◌&&◌, ◌||◌, ◌==◌, nat_le, not, bytes_eq, Bool, true, false, List, [], ◌∷◌, length, Option, Some, None, option_map, codes, if◌then◌else◌}
 use Rattle.gen_options.specs.Given.{Wanted}
 use Rattle.gen_options.specs.Words.{words_give}
 use Rattle.std.specs.List.{list_any}
-use Rattle.ids_outside.specs.Files.{Files}
+use Rattle.run_words.specs.declared.command.TheConstants.{USAGE}
 use Rattle.text_spec.specs.Maybe.{◌>>=◌}
 use Rattle.text_spec.specs.Numbers.{number_in}
 
@@ -73,6 +73,11 @@ pub data Command : Type 0 where
   report : ReportFiles → Command
   keep : KeepFiles → Command
   recall : PairFiles → Command
+  explain : Recording → Command
+
+-- the usage, with the commands that are built
+abbrev pub usage : List ℕ
+usage = USAGE.now
 
 -- a word that may be a name: it is not empty
 abbrev pub is_name : List ℕ → Bool
@@ -103,6 +108,12 @@ check_of (config ∷ journal ∷ messages ∷ []) =
     else None
 check_of names = None
 
+-- the command of the words behind `explain`
+abbrev pub explain_of : List (List ℕ) → Option Command
+explain_of (config ∷ journal ∷ []) =
+    if are_names (config ∷ journal ∷ []) then Some (explain (record { config = config; journal = journal })) else None
+explain_of names = None
+
 -- the command of the words behind `decode`: the name of a file of messages
 abbrev pub decode_of : List (List ℕ) → Option Command
 decode_of (messages ∷ []) = if is_name messages then Some (decode messages) else None
@@ -122,10 +133,14 @@ gen_for (Some wanted) = gen_into wanted
 abbrev pub gen_of : List (List ℕ) → Option Command
 gen_of words = gen_for (words_give words)
 
+-- the first word is this one
+abbrev pub asks : List ℕ → List (List ℕ) → Bool
+asks own [] = false
+asks own (word ∷ names) = bytes_eq word own
+
 -- clap reads the words, for which it takes memory
 abbrev pub are_read_by_clap : List (List ℕ) → Bool
-are_read_by_clap [] = false
-are_read_by_clap (word ∷ names) = bytes_eq word (codes "gen")
+are_read_by_clap = asks (codes "gen")
 
 -- two names of different files
 abbrev pub pair_in : List (List ℕ) → Option PairFiles
@@ -168,12 +183,8 @@ command_of (word ∷ names) =
     else if bytes_eq word (codes "verify") then option_map verify (keyed_in names)
     else if bytes_eq word (codes "bundle") then option_map bundle (sized_in names)
     else if bytes_eq word (codes "unbundle") then option_map unbundle (pair_in names)
+    else if bytes_eq word (codes "explain") then explain_of names
     else None
-
--- the words ask for a replay
-abbrev pub asks_replay : List (List ℕ) → Bool
-asks_replay [] = false
-asks_replay (word ∷ names) = bytes_eq word (codes "replay")
 
 -- the files of the words behind `replay`
 abbrev pub replay_names : List (List ℕ) → Option ReplayFiles
@@ -188,11 +199,6 @@ abbrev pub replay_of : List (List ℕ) → Option ReplayFiles
 replay_of [] = None
 replay_of (word ∷ names) = if bytes_eq word (codes "replay") then replay_names names else None
 
--- the words ask for a report
-abbrev pub asks_report : List (List ℕ) → Bool
-asks_report [] = false
-asks_report (word ∷ names) = bytes_eq word (codes "report")
-
 -- the files of the words behind `report`: 1 to 8 of managers
 abbrev pub report_names : List (List ℕ) → Option ReportFiles
 report_names [] = None
@@ -205,11 +211,6 @@ report_names (target ∷ sources) =
 abbrev pub report_of : List (List ℕ) → Option ReportFiles
 report_of [] = None
 report_of (word ∷ names) = if bytes_eq word (codes "report") then report_names names else None
-
--- the words ask for work on a disk
-abbrev pub asks_disk : List (List ℕ) → Bool
-asks_disk [] = false
-asks_disk (word ∷ names) = bytes_eq word (codes "keep") || bytes_eq word (codes "recall")
 
 -- the command of the words behind `keep`
 abbrev pub keep_of : List (List ℕ) → Option Command
@@ -242,13 +243,7 @@ read_by (unbundle files) = files.source ∷ []
 read_by (report files) = files.sources
 read_by (keep names) = names.from.config ∷ names.from.journal ∷ []
 read_by (recall names) = []
-
--- the recording that the command reads before all else, where it reads one
-abbrev pub recording_of : Command → Option Recording
-recording_of (fold files) = Some files.from
-recording_of (check files) = Some files.from
-recording_of (keep names) = Some names.from
-recording_of other = None
+read_by (explain names) = names.config ∷ names.journal ∷ []
 
 -- the files that the command writes, in the order in which it writes them
 abbrev pub written_by : Command → List (List ℕ)
@@ -265,12 +260,21 @@ written_by (unbundle files) = files.target ∷ []
 written_by (report files) = files.target ∷ []
 written_by (keep names) = []
 written_by (recall names) = names.target ∷ []
+written_by (explain names) = []
 
--- the name is none of these
-abbrev pub IsNoneOf : List (List ℕ) → List ℕ → Type 0
-IsNoneOf [] name = Unit {0}
-IsNoneOf (other ∷ names) name = (name ≢ other) × IsNoneOf names name
-
--- no file has changed but those of these names
-abbrev pub SameBut : List (List ℕ) → Files → Files → Type 0
-SameBut names old new = (name : List ℕ) → IsNoneOf names name → new name ≡ old name
+-- the word of the command
+abbrev pub word_of : Command → List ℕ
+word_of (fold files) = codes "fold"
+word_of (check files) = codes "check"
+word_of (decode messages) = codes "decode"
+word_of (gen wanted) = codes "gen"
+word_of (migrate files) = codes "migrate"
+word_of (replay files) = codes "replay"
+word_of (sign names) = codes "sign"
+word_of (verify names) = codes "verify"
+word_of (bundle names) = codes "bundle"
+word_of (unbundle files) = codes "unbundle"
+word_of (report files) = codes "report"
+word_of (keep names) = codes "keep"
+word_of (recall names) = codes "recall"
+word_of (explain names) = codes "explain"

@@ -1,5 +1,5 @@
 -- A command as the program holds it, with its names lent from the words.
-use Rattle.std.specs.Prelude.{◌≢◌, ◌^◌, ◌≤◌, IsTrue, length, map, string_bytes, ⊤}
+use Rattle.std.specs.Prelude.{◌^◌, ◌≤◌, IsTrue, length, map, string_bytes, ⊤}
 use Rattle.gen_options.specs.Given.{given_of}
 use Rattle.gen_options.specs.Ranges.{is_in_range}
 use Rattle.run_words.specs.declared.command.FoldNames.{FoldNames}
@@ -14,8 +14,8 @@ use Rattle.run_words.specs.declared.message_words.SizedNames.{SizedNames}
 use Rattle.run_words.specs.declared.report_words.ReportNames.{ReportNames}
 use Rattle.run_words.specs.declared.command.Request.{Request}
 use Rattle.run_words.specs.declared.replay_words.ReplayNames.{ReplayNames}
-use Rattle.run_words.specs.declared.command.Request.TheVariants.{Fold, Check, Decode, Gen, Migrate, Sign, Verify, Bundle, Unbundle}
-use Rattle.run_words.specs.Command.{Recording, FoldFiles, CheckFiles, PairFiles, KeyedFiles, SizedFiles, ReplayFiles, ReportFiles, KeepFiles, Command, fold, check, decode, gen, migrate, sign, verify, bundle, unbundle, keep, recall, are_names}
+use Rattle.run_words.specs.declared.command.Request.TheVariants.{Fold, Check, Decode, Gen, Migrate, Sign, Verify, Bundle, Unbundle, Explain}
+use Rattle.run_words.specs.Command.{Recording, FoldFiles, CheckFiles, PairFiles, KeyedFiles, SizedFiles, ReplayFiles, ReportFiles, KeepFiles, Command, fold, check, decode, gen, migrate, sign, verify, bundle, unbundle, replay, keep, recall, explain, are_names, written_by}
 
 -- the names of a recording as bytes
 abbrev pub recording : RecordingNames → Recording
@@ -69,6 +69,7 @@ asked (Sign names) = sign (keyed_of names)
 asked (Verify names) = verify (keyed_of names)
 asked (Bundle names) = bundle (sized_of names)
 asked (Unbundle names) = unbundle (pair_of names)
+asked (Explain names) = explain (recording names)
 
 -- the names of `keep` as bytes
 abbrev pub keep_files_of : KeepNames → KeepFiles
@@ -79,39 +80,21 @@ abbrev pub disk_asked : DiskRequest → Command
 disk_asked (Keep names) = keep (keep_files_of names)
 disk_asked (Recall names) = recall (pair_of names)
 
--- the files of a recording differ that is to be kept
-abbrev pub CanKeep : DiskRequest → Type 0
-CanKeep (Keep names) = names.from.config.now ≢ names.from.journal.now
-CanKeep (Recall names) = ⊤
+-- the names of the files that the command writes differ
+abbrev pub WritesApart : Command → Type 0
+WritesApart command = IsTrue (are_names (written_by command))
 
--- a key and the other file that is read differ, and the first counter is in its range
-pub record CanKey (names : KeyedNames) : Type 0 where
-  pub inputs : names.key.now ≢ names.files.source.now
-  pub start : names.start ≤ 2 ^ 62
-
--- the files of a report differ, and there are 1 to 8 of managers
-pub record CanReport (names : ReportNames) : Type 0 where
-  pub differ : IsTrue (are_names (map string_bytes names.sources.now))
-  pub some : 1 ≤ length names.sources.now
-  pub few : length names.sources.now ≤ 8
-
--- what is asked for can be done: names that have to differ do, and options and numbers are in their ranges
+-- what is asked for can be done: the files that it writes have names of their own, and options and numbers are in their
+-- ranges
 abbrev pub CanRun : Request → Type 0
-CanRun (Fold names) = (names.from.config.now ≢ names.from.journal.now) × (names.messages.now ≢ names.memory.now)
-CanRun (Check names) =
-    (names.from.config.now ≢ names.from.journal.now) × (names.from.config.now ≢ names.messages.now)
-    × (names.from.journal.now ≢ names.messages.now)
-CanRun (Gen given) =
-    IsTrue (is_in_range given.options) × (given.config.now ≢ given.trace.now)
-    × (given.config.now ≢ given.journal.now) × (given.trace.now ≢ given.journal.now)
-CanRun (Sign names) = CanKey names
-CanRun (Verify names) = CanKey names
+CanRun (Fold names) = WritesApart (fold (files_of names))
+CanRun (Gen given) = IsTrue (is_in_range given.options) × WritesApart (gen (given_of given))
+CanRun (Sign names) = names.start ≤ 2 ^ 62
+CanRun (Verify names) = names.start ≤ 2 ^ 62
 CanRun (Bundle names) = 64 ≤ names.size
 CanRun other = ⊤
 
--- a replay can be done: its names differ
-pub record CanReplay (names : ReplayNames) : Type 0 where
-  pub inputs : names.config.now ≢ names.trace.now
-  pub first_two : names.messages.now ≢ names.memory.now
-  pub outer_two : names.messages.now ≢ names.journal.now
-  pub last_two : names.memory.now ≢ names.journal.now
+-- there are 1 to 8 files of managers
+pub record CanReport (names : ReportNames) : Type 0 where
+  pub some : 1 ≤ length names.sources.now
+  pub few : length names.sources.now ≤ 8

@@ -4,13 +4,30 @@ ghost use Rattle.std.specs.Prelude.{◌≡◌, ◌&&◌, not, map, option_map, s
 ghost use Rattle.gen_options.specs.Given.{given_of};
 ghost use Rattle.gen_options.specs.Ranges.{is_in_range};
 ghost use Rattle.std.specs.List.{list_any};
-ghost use Rattle.run_words.specs.Command.{command_of, fold_of, check_of, decode_of, gen_of, gen_into, are_read_by_clap, is_name, are_names};
+ghost use Rattle.run_words.specs.Command.{command_of, fold_of, check_of, decode_of, explain_of, gen_of, gen_into, are_read_by_clap, is_name, are_names};
 ghost use Rattle.run_words.specs.CommandView.{asked, CanRun};
 
 use crate::message_words::{KeyedNames, PairNames, SizedNames, keyed, pair, sized};
 use gen_options::Given;
 use ids_types::NoMemory;
 use std::alloc::Global;
+
+/// The usage, with the commands that are built.
+pub const USAGE: &[u8] = b"usage: idsm replay CONFIG TRACE MESSAGES MEMORY JOURNAL
+       idsm fold CONFIG JOURNAL MESSAGES MEMORY
+       idsm check CONFIG JOURNAL MESSAGES
+       idsm decode MESSAGES
+       idsm gen [--start N] [--callers N] [--rounds N] [--events N] CONFIG TRACE JOURNAL
+       idsm migrate CONFIG NEW
+       idsm report OUT FILE ..
+       idsm keep DISK CONFIG JOURNAL
+       idsm recall DISK MEMORY
+       idsm sign KEY START MESSAGES SIGNED
+       idsm verify KEY START SIGNED MESSAGES
+       idsm bundle SIZE MESSAGES UNITS
+       idsm unbundle UNITS MESSAGES
+       idsm explain CONFIG JOURNAL
+";
 
 /// The files of a recording.
 #[derive(Clone, Copy, Debug)]
@@ -48,6 +65,7 @@ pub enum Request<'a> {
     Verify(KeyedNames<'a>),
     Bundle(SizedNames<'a>),
     Unbundle(PairNames<'a>),
+    Explain(RecordingNames<'a>),
 }
 
 /// The command that the words ask for, `None` where they are not in form. Only the words of `gen` take
@@ -70,6 +88,7 @@ pub fn parse(alloc: Global, words: &[String]) -> Result<Option<Request<'_>>, NoM
         "verify" => Ok(keyed(names).map(Request::Verify)),
         "bundle" => Ok(sized(names).map(Request::Bundle)),
         "unbundle" => Ok(pair(names).map(Request::Unbundle)),
+        "explain" => Ok(parse_explain(names)),
         _ => Ok(None),
     }
 }
@@ -153,6 +172,22 @@ fn parse_check(words: &[String]) -> Option<Request<'_>>
             journal: journal.as_str(),
         },
         messages: messages.as_str(),
+    }))
+}
+
+fn parse_explain(words: &[String]) -> Option<Request<'_>>
+    ensures asked { option_map asked result ≡ explain_of (map string_bytes words.now) }
+    ensures can { IfSome result CanRun }
+{
+    let [config, journal] = words else {
+        return None;
+    };
+    if !names_differ(words) {
+        return None;
+    }
+    Some(Request::Explain(RecordingNames {
+        config: config.as_str(),
+        journal: journal.as_str(),
     }))
 }
 

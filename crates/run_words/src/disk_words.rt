@@ -1,8 +1,8 @@
 //! The words of the commands over a disk.
 
-ghost use Rattle.std.specs.Prelude.{◌≡◌, map, option_map, string_bytes, IfSome};
-ghost use Rattle.run_words.specs.Command.{asks_disk, disk_command_of, keep_of};
-ghost use Rattle.run_words.specs.CommandView.{CanKeep, disk_asked};
+ghost use Rattle.std.specs.Prelude.{◌≡◌, ◌||◌, codes, map, option_map, string_bytes};
+ghost use Rattle.run_words.specs.Command.{asks, disk_command_of, keep_of};
+ghost use Rattle.run_words.specs.CommandView.{disk_asked};
 
 use crate::command::{RecordingNames, names_differ};
 use crate::message_words::{PairNames, pair};
@@ -25,7 +25,7 @@ pub enum DiskRequest<'a> {
 
 /// Whether the words behind the program's name ask for work on a disk: the first of them is `keep` or `recall`.
 pub fn is_keep(words: &[String]) -> bool
-    ensures { result ≡ asks_disk (map string_bytes words.now) }
+    ensures { result ≡ asks (codes "keep") (map string_bytes words.now) || asks (codes "recall") (map string_bytes words.now) }
 {
     match words.first() {
         Some(word) => word.as_str() == "keep" || word.as_str() == "recall",
@@ -35,8 +35,7 @@ pub fn is_keep(words: &[String]) -> bool
 
 /// The work on a disk that the words ask for, `None` where they are not in form.
 pub fn parse_disk(words: &[String]) -> Option<DiskRequest<'_>>
-    ensures asked { option_map disk_asked result ≡ disk_command_of (map string_bytes words.now) }
-    ensures can { IfSome result CanKeep }
+    ensures { option_map disk_asked result ≡ disk_command_of (map string_bytes words.now) }
 {
     let (word, names) = words.split_first()?;
     match word.as_str() {
@@ -48,8 +47,7 @@ pub fn parse_disk(words: &[String]) -> Option<DiskRequest<'_>>
 
 /// The words behind `keep`.
 fn parse_keep(words: &[String]) -> Option<DiskRequest<'_>>
-    ensures asked { option_map disk_asked result ≡ keep_of (map string_bytes words.now) }
-    ensures can { IfSome result CanKeep }
+    ensures { option_map disk_asked result ≡ keep_of (map string_bytes words.now) }
 {
     let [disk, config, journal] = words else {
         return None;

@@ -3,7 +3,7 @@
 ghost use Rattle.std.specs.Prelude.{◌≡◌, ◌≤◌, ◌^◌, map, option_map, string_bytes, IfSome};
 ghost use Rattle.run_words.specs.Command.{keyed_in, number_between, pair_in, sized_in};
 ghost use Rattle.text_spec.specs.Numbers.{capped, number_in};
-ghost use Rattle.run_words.specs.CommandView.{CanKey, keyed_of, pair_of, sized_of};
+ghost use Rattle.run_words.specs.CommandView.{keyed_of, pair_of, sized_of};
 
 use crate::command::{may_precede, names_differ};
 use text_spec::Words;
@@ -58,7 +58,7 @@ pub(crate) fn pair(words: &[String]) -> Option<PairNames<'_>>
 /// A key, a counter and two more files.
 pub(crate) fn keyed(words: &[String]) -> Option<KeyedNames<'_>>
     ensures asked { option_map keyed_of result ≡ keyed_in (map string_bytes words.now) }
-    ensures can { IfSome result CanKey }
+    ensures can { IfSome result (λ names. names.start ≤ 2 ^ 62) }
 {
     let [key, start, names @ ..] = words else {
         return None;

@@ -1,8 +1,8 @@
 //! The words of a replay.
 
-ghost use Rattle.std.specs.Prelude.{◌≡◌, map, option_map, string_bytes, IfSome};
-ghost use Rattle.run_words.specs.Command.{asks_replay, replay_names, replay_of};
-ghost use Rattle.run_words.specs.CommandView.{five_of, CanReplay};
+ghost use Rattle.std.specs.Prelude.{◌≡◌, codes, map, option_map, string_bytes, IfSome};
+ghost use Rattle.run_words.specs.Command.{asks, replay, replay_names, replay_of};
+ghost use Rattle.run_words.specs.CommandView.{five_of, WritesApart};
 
 use crate::command::names_differ;
 
@@ -18,7 +18,7 @@ pub struct ReplayNames<'a> {
 
 /// Whether the words behind the program's name ask for a replay: the first of them is `replay`.
 pub fn is_replay(words: &[String]) -> bool
-    ensures { result ≡ asks_replay (map string_bytes words.now) }
+    ensures { result ≡ asks (codes "replay") (map string_bytes words.now) }
 {
     match words.first() {
         Some(word) => word.as_str() == "replay",
@@ -29,7 +29,7 @@ pub fn is_replay(words: &[String]) -> bool
 /// The files of the replay that the words ask for, `None` where they are not in form.
 pub fn parse_replay(words: &[String]) -> Option<ReplayNames<'_>>
     ensures asked { option_map five_of result ≡ replay_of (map string_bytes words.now) }
-    ensures can { IfSome result CanReplay }
+    ensures can { IfSome result (λ names. WritesApart (replay (five_of names))) }
 {
     let (word, names) = words.split_first()?;
     if word.as_str() != "replay" {
@@ -41,7 +41,7 @@ pub fn parse_replay(words: &[String]) -> Option<ReplayNames<'_>>
 /// The files of the words behind `replay`.
 fn parse_names(words: &[String]) -> Option<ReplayNames<'_>>
     ensures asked { option_map five_of result ≡ replay_names (map string_bytes words.now) }
-    ensures can { IfSome result CanReplay }
+    ensures can { IfSome result (λ names. WritesApart (replay (five_of names))) }
 {
     let [config, trace, messages, memory, journal] = words else {
         return None;

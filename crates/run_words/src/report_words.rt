@@ -1,7 +1,7 @@
 //! The words of a report.
 
-ghost use Rattle.std.specs.Prelude.{◌≡◌, map, option_map, string_bytes, IfSome};
-ghost use Rattle.run_words.specs.Command.{asks_report, report_names, report_of};
+ghost use Rattle.std.specs.Prelude.{◌≡◌, codes, map, option_map, string_bytes, IfSome};
+ghost use Rattle.run_words.specs.Command.{asks, report_names, report_of};
 ghost use Rattle.run_words.specs.CommandView.{CanReport, report_files_of};
 
 use crate::command::names_differ;
@@ -15,7 +15,7 @@ pub struct ReportNames<'a> {
 
 /// Whether the words behind the program's name ask for a report: the first of them is `report`.
 pub fn is_report(words: &[String]) -> bool
-    ensures { result ≡ asks_report (map string_bytes words.now) }
+    ensures { result ≡ asks (codes "report") (map string_bytes words.now) }
 {
     match words.first() {
         Some(word) => word.as_str() == "report",

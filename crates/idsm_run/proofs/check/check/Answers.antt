@@ -1,40 +1,35 @@
-use Rattle.run_steps.proofs.Names.{rules, refl, ◌∙◌, arith, check, three_of}
-use Rattle.run_files.proofs.ExitLemmas.{left_by}
-use Rattle.idsm_run.proofs.CheckLemmas.{done_so, stopped_so}
-use Rattle.run_spec.proofs.JudgeLemmas.{unread, read_since, messages_next}
+use Rattle.run_steps.proofs.Names.{Recorded, check, check_judged, file, messages_of, recorded_in, refl, three_of, ◌>>=◌}
+use Rattle.run_files.proofs.ReadingLemmas.{goes_on, judged, stops_early}
+use Rattle.run_spec.proofs.EndLemmas.{left_unread}
+use Rattle.run_spec.specs.Judge
+use Rattle.run_steps.proofs.MadeLemmas.{text_ends}
 use Rattle.idsm_run.proofs.check.check.Goals as goal
 
-pub returns-in_err-inputs-clause-stops : goal.returns-in_err-inputs-clause-stops
-returns-in_err-inputs-clause-stops g c =
-    left_by _ c.in_err-inputs.field-0.0 _ c.from_residual.ensures.1
-    (c.in_err-inputs.ensures.stops (check (three_of c.args.names)) refl)
-
-pub returns-in_err-bytes-clause-stops : goal.returns-in_err-bytes-clause-stops
-returns-in_err-bytes-clause-stops g c =
+pub returns-in_err-inputs : goal.returns-in_err-inputs
+unfolding Judge.reading_of
+returns-in_err-inputs g c =
     let names = three_of c.args.names in
-    left_by _ c.in_err-bytes.field-0.0 _ c.from_residual-in_err-bytes.ensures.1
-    (unread (check names) 67108864 names.messages (g.H.Shelf.shows c.args.shelf.now)
-    (g.H.Shelf.shows c.read_inputs.new.shelf) _ _ (2, omega arith, refl)
-    (λ told. messages_next names _ _ (c.in_ok-inputs.ensures.found told) c.requires.config c.requires.journal)
-    c.read_inputs.ensures.tells c.in_ok-inputs.ensures.no_fault c.read_inputs.ensures.same (search rules)
-    c.in_err-bytes.ensures.stops)
+    left_unread (check names) _ c.in_err-inputs.field-0.0 _ _ c.from_residual.ensures.1
+    (stops_early (recorded_in names.from)
+    (λ (own : Recorded). file 67108864 names.messages >>= λ bytes. check_judged bytes (messages_of own.config own.told.turns)) _ _ _
+    c.in_err-inputs.ensures.reads)
 
-pub returns-clause-done : goal.returns-clause-done
-returns-clause-done g c =
-    let old = g.H.Shelf.shows c.args.shelf.now in
-    done_so (three_of c.args.names) _ c.deref.result.now c.deref-2.result.now old _ c.in_ok-inputs.ensures.found
-    (read_since _ _ c.deref.result.now old (g.H.Shelf.shows c.read_inputs.new.shelf)
-    c.read_inputs.ensures.tells c.read_inputs.ensures.same
-    (λ told. rw c.deref.ensures.value (c.in_ok-bytes.ensures.found told)))
-    (c.deref-2.ensures.value ∙ c.in_ok-inputs.ensures.folds.sent_bytes) (search rules) (search rules)
-    c.compare.result c.compare.ensures
+pub returns-in_err-bytes : goal.returns-in_err-bytes
+unfolding Judge.reading_of
+returns-in_err-bytes g c =
+    let names = three_of c.args.names in
+    left_unread (check names) _ c.in_err-bytes.field-0.0 _ _ c.from_residual-in_err-bytes.ensures.1
+    (goes_on (recorded_in names.from)
+    (λ (own : Recorded). file 67108864 names.messages >>= λ bytes. check_judged bytes (messages_of own.config own.told.turns)) _ _ _ _
+    c.in_ok-inputs.ensures.reads _ (stops_early (file 67108864 names.messages) _ _ _ _ c.in_err-bytes.ensures.reads))
 
-pub returns-clause-stops : goal.returns-clause-stops
-returns-clause-stops g c =
-    let old = g.H.Shelf.shows c.args.shelf.now in
-    stopped_so (three_of c.args.names) _ c.deref.result.now c.deref-2.result.now old _ c.in_ok-inputs.ensures.found
-    (read_since _ _ c.deref.result.now old (g.H.Shelf.shows c.read_inputs.new.shelf)
-    c.read_inputs.ensures.tells c.read_inputs.ensures.same
-    (λ told. rw c.deref.ensures.value (c.in_ok-bytes.ensures.found told)))
-    (c.deref-2.ensures.value ∙ c.in_ok-inputs.ensures.folds.sent_bytes) (search rules) (search rules)
-    c.compare.result c.compare.ensures
+pub returns : goal.returns
+unfolding Judge.reading_of
+returns g c =
+    let names = three_of c.args.names in
+    text_ends (check names) c.compare.result _ _
+    (goes_on (recorded_in names.from)
+    (λ (own : Recorded). file 67108864 names.messages >>= λ bytes. check_judged bytes (messages_of own.config own.told.turns)) _ _ _ _
+    c.in_ok-inputs.ensures.reads _
+    (goes_on (file 67108864 names.messages) _ _ _ _ _ c.in_ok-bytes.ensures.reads _
+    (judged _ _ _ (rw (c.deref.ensures.value, c.deref-2.ensures.value, c.in_ok-inputs.ensures.folds.sent_bytes) at c.compare.ensures)))) refl

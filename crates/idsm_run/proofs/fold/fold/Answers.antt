@@ -1,44 +1,37 @@
-use Rattle.run_steps.proofs.Names.{rules, refl, subst, ◌∙◌, fold, files_of, fold_work, inl, stop_of_write, NoMemory, StandUpTo, AreWritten}
-use Rattle.run_files.proofs.ExitLemmas.{left_by}
-use Rattle.idsm_run.proofs.FoldLemmas.{outputs_are, line_is}
-use Rattle.run_spec.proofs.JudgeLemmas.{fold_found}
-use Rattle.run_spec.proofs.WorkLemmas.{all_written, write_stopped}
+use Rattle.run_steps.proofs.Names.{NoMemory, Recorded, ap, does, files_of, fold, fold_work, gives, inl, names_of, recorded_in, ◌∙◌}
+use Rattle.run_files.proofs.ReadingLemmas.{goes_on, read_none, stops_early}
+use Rattle.run_spec.proofs.EndLemmas.{left_ends, left_unread}
+use Rattle.run_spec.specs.Judge
+use Rattle.idsm_run.proofs.FoldLemmas.{fold_work_is}
 use Rattle.idsm_run.proofs.fold.fold.Goals as goal
 
-pub returns-in_err-inputs-clause-stops : goal.returns-in_err-inputs-clause-stops
-returns-in_err-inputs-clause-stops g c =
-    left_by _ c.in_err-inputs.field-0.0 _ c.from_residual.ensures.1
-    (c.in_err-inputs.ensures.stops (fold (files_of c.args.names)) refl)
-
--- where memory is refused, no file was touched
-pub returns-in_err-text-clause-stops : goal.returns-in_err-text-clause-stops
-returns-in_err-text-clause-stops g c = left_by _ NoMemory _ c.from_residual-in_err-text.ensures.1 (inl c.read_inputs.ensures.same)
-
-pub returns-in_err-write_outputs-clause-stops : goal.returns-in_err-write_outputs-clause-stops
-returns-in_err-write_outputs-clause-stops g c =
-    let inputs = c.in_ok-inputs.inputs in
+pub returns-in_err-inputs : goal.returns-in_err-inputs
+unfolding Judge.reading_of
+returns-in_err-inputs g c =
     let names = files_of c.args.names in
-    let outputs = outputs_are inputs.config inputs.journal.history.turns inputs.journal.folded
-    c.in_ok-inputs.ensures.folds names c.deref.result.now (c.deref.ensures.value ∙ c.in_ok-memory.ensures) in
-    left_by _ (stop_of_write c.in_err-write_outputs.field-0.0) _ c.from_residual-in_err-write_outputs.ensures.1
-    (write_stopped (fold names) _ (fold_work names inputs.config inputs.journal.history.turns) refl
-    (g.H.Shelf.shows c.args.shelf.now) (g.H.Shelf.shows c.read_inputs.new.shelf) _
-    (λ told. fold_found names _ _ (c.in_ok-inputs.ensures.found told)) c.read_inputs.ensures.tells
-    c.in_err-write_outputs.field-0.0 c.read_inputs.ensures.same c.in_ok-inputs.ensures.no_fault
-    (λ told. subst (λ files. StandUpTo files (g.H.Shelf.shows c.read_inputs.new.shelf).files
-    (g.H.Shelf.shows c.write_outputs.new.shelf).files) outputs (c.in_err-write_outputs.ensures.part told))
-    c.in_err-write_outputs.ensures.fails)
+    left_unread (fold names) _ c.in_err-inputs.field-0.0 _ _ c.from_residual.ensures.1
+    (stops_early (recorded_in names.from) (λ (own : Recorded). gives (does (fold_work names own.config own.told.turns))) _ _ _
+    c.in_err-inputs.ensures.reads)
 
-pub returns-clause-done : goal.returns-clause-done
-returns-clause-done g c =
-    let inputs = c.in_ok-inputs.inputs in
+pub returns-in_err-memory : goal.returns-in_err-memory
+returns-in_err-memory g c =
+    left_ends (fold (files_of c.args.names)) _ NoMemory _ _ c.from_residual-in_err-memory.ensures.1 (inl c.read_inputs.ensures.reads.same)
+
+pub returns-in_err-line : goal.returns-in_err-line
+returns-in_err-line g c =
+    left_ends (fold (files_of c.args.names)) _ NoMemory _ _ c.from_residual-in_err-line.ensures.1 (inl c.read_inputs.ensures.reads.same)
+
+pub returns : goal.returns
+unfolding Judge.reading_of
+returns g c =
     let names = files_of c.args.names in
-    let folds = c.in_ok-inputs.ensures.folds in
-    let outputs = outputs_are inputs.config inputs.journal.history.turns inputs.journal.folded folds names
-    c.deref.result.now (c.deref.ensures.value ∙ c.in_ok-memory.ensures) in
-    all_written (fold names) _ (fold_work names inputs.config inputs.journal.history.turns) refl
-    (g.H.Shelf.shows c.args.shelf.now) (g.H.Shelf.shows c.read_inputs.new.shelf) _
-    (λ told. fold_found names _ _ (c.in_ok-inputs.ensures.found told)) c.read_inputs.ensures.tells
-    _ (c.in_ok-text.ensures ∙ line_is inputs.config inputs.journal.history.turns inputs.journal.folded folds)
-    (λ told. subst (λ files. AreWritten files (g.H.Shelf.shows c.write_outputs.new.shelf).files) outputs
-    (c.in_ok-write_outputs.ensures.ok told)) (λ told. tt) (search rules)
+    let inputs = c.in_ok-inputs.inputs in
+    c.write_work.ensures.ends (fold names) (does (fold_work names inputs.config inputs.journal.history.turns)) (g.H.Shelf.shows c.args.shelf.now)
+    (record {
+      read = goes_on (recorded_in names.from) (λ (own : Recorded). gives (does (fold_work names own.config own.told.turns))) _ _ _ _
+          c.in_ok-inputs.ensures.reads _ (read_none _ _);
+      writes = ap names_of c.new_files.ensures.files;
+    })
+    (rw c.new_files.ensures.files
+    (fold_work_is inputs.config inputs.journal.history.turns inputs.journal.folded c.in_ok-inputs.ensures.folds names c.deref.result.now
+    c.in_ok-line.line.items (c.deref.ensures.value ∙ c.in_ok-memory.ensures) c.in_ok-line.ensures))

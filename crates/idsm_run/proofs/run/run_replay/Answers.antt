@@ -1,5 +1,5 @@
-use Rattle.run_steps.proofs.Names.{five_of}
-use Rattle.run_steps.proofs.AnsweredLemmas.{asked_with, misused_with, run_ran}
+use Rattle.run_steps.proofs.Names.{five_of, replay}
+use Rattle.run_steps.proofs.AnsweredLemmas.{asked_with, misused_with, run_ran, runs_others}
 use Rattle.idsm_run.proofs.run.run_replay.Goals as goal
 
 pub returns-in-None-clause-ran : goal.returns-in-None-clause-ran
@@ -8,5 +8,7 @@ returns-in-None-clause-ran g c = misused_with _ _ _ _ _ (g.H.Shelf.shows c.args.
 pub returns-in-Some-clause-ran : goal.returns-in-Some-clause-ran
 returns-in-Some-clause-ran g c =
     asked_with _ _ _ _ _ _ _ _ (five_of c.in-Some.names) _ c.in-Some.ensures.asked
-    (run_ran _ _ _ _ _ _ _ c.replay_files.result _ c.replay_files.ensures.replayed c.replay_files.ensures.done
-    c.replay_files.ensures.stops c.tell_finished.ensures)
+    (run_ran _ _ _ _ _ _ _ c.replay_files.result _ c.replay_files.ensures.replayed c.replay_files.ensures.ends c.tell_finished.ensures)
+
+pub returns-in-Some-clause-others : goal.returns-in-Some-clause-others
+returns-in-Some-clause-others g c = runs_others _ _ _ _ _ _ _ _ _ (returns-in-Some-clause-ran g c)

@@ -1,27 +1,26 @@
-use Rattle.run_steps.proofs.Names.{keyed_of, refl, seals, sign}
-use Rattle.run_spec.proofs.StageLemmas.{may_seal, sealed_found}
-use Rattle.run_spec.proofs.WorkLemmas.{left_ends}
-use Rattle.run_steps.proofs.MadeLemmas.{keeps_any}
+use Rattle.run_steps.proofs.Names.{Keyed, gives, keyed_in, keyed_of, refl, seals, sign}
+use Rattle.run_files.proofs.ReadingLemmas.{goes_on, read_none, stops_early}
+use Rattle.run_spec.proofs.EndLemmas.{left_unread}
+use Rattle.run_spec.specs.Judge
 use Rattle.run_messages.proofs.sealing.sign.Goals as goal
 
-pub returns-in_err-key-clause-ends : goal.returns-in_err-key-clause-ends
-returns-in_err-key-clause-ends g c =
-    left_ends _ _ c.in_err-key.field-0.0 _ _ c.from_residual.ensures.1
-    (c.in_err-key.ensures.stops (sign (keyed_of c.args.names)) refl)
-
-pub returns-clause-ends : goal.returns-clause-ends
-returns-clause-ends g c =
+pub returns-in_err-key : goal.returns-in_err-key
+unfolding Judge.reading_of
+returns-in_err-key g c =
     let names = keyed_of c.args.names in
-    c.write_made.ensures.ends (sign names) (seals names.files.target c.in_ok-key.key names.start c.in_ok-key.bytes.items)
+    left_unread (sign names) _ c.in_err-key.field-0.0 _ _ c.from_residual.ensures.1
+    (stops_early (keyed_in 67108864 names) (λ (keyed : Keyed). gives (seals names.files.target keyed.key names.start keyed.bytes)) _ _ _
+    c.in_err-key.ensures)
+
+pub returns : goal.returns
+unfolding Judge.reading_of
+returns g c =
+    let names = keyed_of c.args.names in
+    c.write_made.ensures (sign names) (seals names.files.target c.in_ok-key.key names.start c.in_ok-key.bytes.items)
     (g.H.Shelf.shows c.args.shelf.now)
     (record {
-      read = record {
-        tells = c.read_keyed.ensures.tells;
-        same = c.read_keyed.ensures.same;
-        no_fault = c.in_ok-key.ensures.no_fault;
-      };
-      found = λ told. sealed_found names _ _ (c.in_ok-key.ensures.found told);
+      read = goes_on (keyed_in 67108864 names) (λ (keyed : Keyed). gives (seals names.files.target keyed.key names.start keyed.bytes)) _ _ _ _
+          c.in_ok-key.ensures _ (read_none _ _);
       writes = refl;
-      may = λ refusal refuses. may_seal names refuses.0 refusal refuses.2;
     })
-    (rw c.deref.ensures.value at (c.make_sealed-made.ensures names.files.target)) (λ told. keeps_any (sign names) names.files.target (g.H.Shelf.shows c.args.shelf.now).files (λ old new. tt) _)
+    (rw c.deref.ensures.value at (c.make_sealed-made.ensures names.files.target))

@@ -1,0 +1,30 @@
+//! The command `explain`: what became of each item of a recorded history.
+
+ghost use Rattle.run_steps.specs.Words.{EndsAs, plain_end, recording};
+ghost use Rattle.run_words.specs.Command.{explain as explain_command};
+
+use ids_outside::Shelf;
+use run_files::Stop;
+use run_steps::{Inputs, Judged, read_inputs};
+use run_words::RecordingNames;
+use std::alloc::Global;
+
+/// Returns the text of a journal with what became of each item, and an account for each event. What the journal was
+/// judged by is given back before the text is made.
+pub(crate) fn explain<'a, H: Shelf>(
+    alloc: Global,
+    names: RecordingNames<'a>,
+    shelf: &mut H,
+) -> Result<Vec<u8>, Stop<&'a str>>
+    ensures { EndsAs (explain_command (recording names.entry)) (plain_end result) (H.shows shelf.old) (H.shows shelf.new) }
+{
+    let Inputs { config, journal } = read_inputs(alloc, names, shelf)?;
+    let Judged {
+        history,
+        losses,
+        folded,
+    } = journal;
+    drop(folded);
+    let text = chain_endings::explain(alloc, &config, &history, &losses)?;
+    Ok(text)
+}
