@@ -7,9 +7,9 @@ ghost use Rattle.run_files.specs.Texts.{bad_config_text, bad_message_text, bad_s
 ghost use Rattle.run_files.specs.declared.stop.Stop.TheVariants.{OnDisk, Refused};
 
 use crate::status::{
-    BAD_CONFIG, BAD_COUNTER, BAD_DISK, BAD_JOURNAL, BAD_MESSAGE, BAD_TAG, BAD_UNIT,
-    CANNOT_READ, CANNOT_WRITE, DIFFERS, DISK_FAILED, DONE, EMPTY_KEY, INSTANCE, NO_MEMORY, SIGNED,
-    TOO_LARGE, TOO_LONG, WORN,
+    BAD_CONFIG, BAD_COUNTER, BAD_DISK, BAD_JOURNAL, BAD_MESSAGE, BAD_TAG, BAD_UNIT, CANNOT_READ,
+    CANNOT_WRITE, DIFFERS, DISK_FAILED, DONE, EMPTY_KEY, INSTANCE, NO_MEMORY, SIGNED, TOO_LARGE,
+    TOO_LONG, WORN,
 };
 use crate::stop::{DiskStop, Refusal, Stop};
 use ids_config::{ConfigFault, ConfigPlace};
