@@ -18,7 +18,8 @@ pub(crate) fn explain<'a, H: Shelf>(
 ) -> Result<Vec<u8>, Stop<&'a str>>
     ensures { EndsAs (explain_command (recording names.entry)) (plain_end result) (H.shows shelf.old) (H.shows shelf.new) }
 {
-    let Inputs { config, journal } = read_inputs(alloc, names, shelf)?;
+    let inputs = read_inputs(alloc, names, shelf)?;
+    let Inputs { config, journal } = inputs;
     let Judged {
         history,
         losses,

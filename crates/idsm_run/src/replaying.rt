@@ -5,7 +5,7 @@ ghost use Rattle.run_steps.specs.Words.{CanWrite, Cuts, EndsAs, WritesApart, fin
 ghost use Rattle.idsm_run.specs.Replayed.{Replayed as HasReplayed};
 
 use crate::replay_texts::{Texts, print_texts};
-use crate::traces::{Asked, read_asked};
+use crate::traces::read_asked;
 use ids_outside::Shelf;
 use run_files::{NewFile, Stop};
 use run_steps::{Finished, write_work};
@@ -29,15 +29,15 @@ pub(crate) fn replay_files<'a, R: Threads + Sync, H: Shelf, G: Gate + Sync>(
     ensures replayed { IsTrue (H.shows shelf.old).tells → IfOk result (λ f.
         HasReplayed (five_of names.entry) f.made f.line.items (H.shows shelf.old).files (H.shows shelf.new).files) }
 {
-    let Asked { config, trace } = read_asked(alloc, names, shelf)?;
-    let replayed = replay(rt, alloc, &config, &trace, gate)?;
+    let asked = read_asked(alloc, names, shelf)?;
+    let replayed = replay(rt, alloc, &asked.config, &asked.trace, gate)?;
+    let texts = print_texts(alloc, &replayed)?;
     let Texts {
         memory,
         journal,
         line,
-    } = print_texts(alloc, &replayed)?;
-    let files = new_files(names, &replayed, &memory, &journal);
-    let line = write_work(&files, line, shelf)?;
+    } = texts;
+    let line = write_work(&new_files(names, &replayed, &memory, &journal), line, shelf)?;
     Ok(Finished {
         line,
         made: replayed.manager,
