@@ -1,117 +1,477 @@
-/* Each answer of idsm.h and each reporting mode, as the library gives them. IDSM_SPENT would take 2^40 calls. */
+/* Each number of idsm_c.h, each field of its structs, each call and each mode, as the library has them, against values
+   worked out by hand. It is C and C++. With STAND_IN it is for c/stand_in.c, which has no filters and no memory; with
+   WITHOUT_LIMITS it leaves out the want of memory, since a sanitizer runs under no such limit.
+   IDSM_SPENT would take 2^40 calls, and IDSM_BUSY another thread: c/passing.c has them. */
+#include <stddef.h>
 #include <stdio.h>
 #include <string.h>
 #include <sys/resource.h>
 
-#include "idsm.h"
+#include "idsm_c.h"
 
-/* Four event buffers, two context data buffers, an event of which every second report is forwarded, and an internal one. */
-static const char CONFIG[] =
-    "{\"form\":1,\"instance\":18,\"callers\":1,\"ring\":4,\"classes\":[{\"size\":8,\"number\":2}],"
-    "\"events\":[{\"id\":42,\"sensor\":3,\"nth\":2},{\"id\":7,\"sensor\":0}],\"internal\":{\"lost_events\":1}}";
+static idsm_caller *running;
+static uint64_t tick;
+static void keep(const uint8_t *message, size_t length);
+#define IDSM_CALLER() running
+#define IDSM_TICK() tick
+#define IDSM_SEND(message, length) keep(message, length)
+#define IDSM_VENDOR_ID 1
+#define IDSM_MODULE_ID 2
+#include "IdsM.h"
 
-static const char LARGE[] = "{\"form\":1,\"instance\":18,\"ring\":1024,\"events\":[{\"id\":42,\"sensor\":3}]}";
+IdsM_UnitType IdsM_Unit;
 
-static const uint8_t CONTEXT[2] = {0xa1, 0xb2};
+static int failures, checks;
 
-static idsm_handle caller, manager;
-static uint8_t buffer[1 << 16];
-static int failures;
-
-static void expect(const char *what, unsigned wanted, unsigned got)
+static void expect(const char *what, uint64_t wanted, uint64_t got)
 {
+    checks++;
     if (wanted != got) {
-        printf("%s: %u and not %u\n", what, got, wanted);
+        printf("%s: %llu and not %llu\n", what, (unsigned long long)got, (unsigned long long)wanted);
         failures++;
     }
 }
 
-static uint8_t make(const char *config, size_t count, idsm_fault *fault)
+/* The messages of the last turn in hexadecimal, with a space behind each. */
+static char kept[4096];
+
+static void hex(char *to, const uint8_t *bytes, size_t count)
 {
-    return idsm_init((const uint8_t *)config, strlen(config), &caller, count, &manager, fault);
+    for (size_t i = 0; i < count; i++)
+        sprintf(to + 2 * i, "%02x", (unsigned)bytes[i]);
 }
 
-static void answers_of_making(void)
+static void keep(const uint8_t *message, size_t length)
 {
+    hex(kept + strlen(kept), message, length);
+    strcat(kept, " ");
+}
+
+static void expect_messages(const char *what, const char *wanted)
+{
+    checks++;
+    if (strcmp(wanted, kept) != 0) {
+        printf("%s: %s and not %s\n", what, kept, wanted);
+        failures++;
+    }
+}
+
+static void expect_turn(const char *what, const char *wanted)
+{
+    kept[0] = 0;
+    tick++;
+    expect(what, 0, IdsM_MainFunction());
+    expect_messages(what, wanted);
+}
+
+/* The numbers that may never change, and where the fields of the structs stand. */
+static void numbers(void)
+{
+    static const unsigned is[] = {IDSM_DONE, IDSM_UNSET, IDSM_OTHER_ROLE, IDSM_LOST, IDSM_WITHOUT_CONTEXT,
+                                  IDSM_UNKNOWN_EVENT, IDSM_ZERO_COUNT, IDSM_SPENT, IDSM_TICK_BACK,
+                                  IDSM_TICK_TOO_LARGE, IDSM_OUT_OF_RANGE, IDSM_NO_MEMORY, IDSM_CONFIGURATION,
+                                  IDSM_SMALL_BUFFER, IDSM_OCCUPIED, IDSM_NULL, IDSM_BUSY, IDSM_CLOSED};
+    static const unsigned modes[] = {IDSM_MODE_OFF, IDSM_MODE_BRIEF, IDSM_MODE_DETAILED, IDSM_MODE_BRIEF_BYPASSING,
+                                     IDSM_MODE_DETAILED_BYPASSING};
+    for (unsigned i = 0; i < sizeof is / sizeof is[0]; i++)
+        expect("an answer's number", i, is[i]);
+    for (unsigned i = 0; i < sizeof modes / sizeof modes[0]; i++)
+        expect("a mode's number", i, modes[i]);
+    expect("IDSM_ABI", 2, IDSM_ABI);
+    expect("idsm_abi", 2, idsm_abi());
+    expect("IDSM_MOST_CALLERS", 32, IDSM_MOST_CALLERS);
+    expect("IDSM_MOST_MESSAGE", 1044, IDSM_MOST_MESSAGE);
+    expect("a caller", 8, sizeof(idsm_caller));
+    expect("a manager", 56, sizeof(idsm_manager));
+    expect("a fault", 12, sizeof(idsm_fault));
+    expect("its part", 4, offsetof(idsm_fault, part));
+    expect("its place", 8, offsetof(idsm_fault, place));
+    expect("sent", 40, sizeof(idsm_sent));
+    expect("entries", 8, offsetof(idsm_sent, entries));
+    expect("lost_events", 16, offsetof(idsm_sent, lost_events));
+    expect("lost_contexts", 24, offsetof(idsm_sent, lost_contexts));
+    expect("messages", 32, offsetof(idsm_sent, messages));
+    expect("totals", 32, sizeof(idsm_totals));
+    expect("lost events of all", 8, offsetof(idsm_totals, lost_events));
+    expect("lost contexts of all", 16, offsetof(idsm_totals, lost_contexts));
+    expect("messages of all", 24, offsetof(idsm_totals, messages));
+    expect("a manager's callers", 8, offsetof(idsm_manager, callers));
+    expect("their number", 16, offsetof(idsm_manager, count));
+    expect("a manager's totals", 24, offsetof(idsm_manager, totals));
+    expect("a row", 40, sizeof(idsm_row));
+    expect("last", 8, offsetof(idsm_row, last));
+    expect("stamp", 16, offsetof(idsm_row, stamp));
+    expect("bytes", 24, offsetof(idsm_row, bytes));
+    expect("event", 32, offsetof(idsm_row, event));
+    expect("id", 34, offsetof(idsm_row, id));
+    expect("occurrences", 36, offsetof(idsm_row, occurrences));
+    expect("sensor", 38, offsetof(idsm_row, sensor));
+    expect("has_stamp", 39, offsetof(idsm_row, has_stamp));
+}
+
+/* What tools/c_config made of answers.json. */
+static void made_header(void)
+{
+    uint64_t bytes;
+    expect("IDSM_CFG_CALLERS", 2, IDSM_CFG_CALLERS);
+    expect("IDSM_CFG_CLASSES", 1, IDSM_CFG_CLASSES);
+    expect("IDSM_CFG_EVENTS", 5, IDSM_CFG_EVENTS);
+    expect("IDSM_CFG_RING", 4, IDSM_CFG_RING);
+    expect("IDSM_CFG_BUFFER", 12528, IDSM_CFG_BUFFER);
+    expect("IDSM_EVENT_42", 42, IDSM_EVENT_42);
+    expect("IDSM_EVENT_BAD_LOGIN", 4100, IDSM_EVENT_BAD_LOGIN);
+    expect("the place of 42", 0, idsm_cfg_place(42));
+    expect("the place of 4100", 1, idsm_cfg_place(IDSM_EVENT_BAD_LOGIN));
+    expect("the place of 7", 2, idsm_cfg_place(IDSM_EVENT_7));
+    expect("the place of 9, which two events have", 65535, idsm_cfg_place(9));
+    expect("idsm_buffer_size", 0, idsm_buffer_size(&IdsM_Unit.manager, &bytes));
+    expect("the buffer's size", 12528, bytes);
+#ifdef IDSM_EVENT_9
+    expect("a name for an id of two events", 0, 1);
+#endif
+}
+
+static uint8_t make(const char *config, size_t count)
+{
+    return idsm_init((const uint8_t *)config, strlen(config), IdsM_Unit.callers, count, &IdsM_Unit.manager,
+                     &IdsM_Unit.fault);
+}
+
+#ifndef STAND_IN
+static void expect_fault(const char *config, unsigned number, unsigned part, unsigned place)
+{
+    expect(config, 12, make(config, 2));
+    expect("its fault", number, IdsM_Unit.fault.number);
+    expect("its part", part, IdsM_Unit.fault.part);
+    expect("its place", place, IdsM_Unit.fault.place);
+}
+
+static void faults(void)
+{
+    expect_fault("{\"form\":1,\"instance\":1024,\"events\":[{\"id\":42,\"sensor\":3}]}", 9, 0, 0);
+    expect_fault("{\"form\":1,\"instance\":18,\"classes\":[{\"size\":64,\"number\":1},{\"size\":64,\"number\":1}],"
+                 "\"events\":[{\"id\":42,\"sensor\":3}]}",
+                 17, 1, 1);
+    expect_fault("{\"form\":1,\"instance\":18,\"events\":[{\"id\":1,\"sensor\":1},{\"id\":1,\"sensor\":1},"
+                 "{\"id\":42,\"sensor\":64}]}",
+                 21, 2, 2);
+}
+#endif
+
+static void making(void)
+{
+    static idsm_caller callers[33];
+    static idsm_manager another;
     idsm_fault fault;
-    expect("IDSM_ABI", IDSM_ABI, idsm_abi());
-    expect("IDSM_UNSET", IDSM_UNSET, idsm_set_event(&caller, 0));
-    expect("IDSM_CONFIGURATION", IDSM_CONFIGURATION, make("{}", 1, &fault));
-    expect("IDSM_OUT_OF_RANGE", IDSM_OUT_OF_RANGE, make(CONFIG, 0, &fault));
-    expect("IDSM_DONE", IDSM_DONE, make(CONFIG, 1, &fault));
-    expect("IDSM_OCCUPIED", IDSM_OCCUPIED, make(CONFIG, 1, &fault));
+    running = &IdsM_Unit.callers[0];
+    expect("an unset caller", 1, IdsM_SetSecurityEvent(42));
+    expect("an unset manager", 1, IdsM_MainFunction());
+    expect("no configuration", 12, make("{}", 2));
+    expect("no bytes", 12, idsm_init(NULL, 0, callers, 1, &another, &fault));
+#ifndef STAND_IN
+    faults();
+#endif
+    expect("too few handles", 10, idsm_init(IDSM_CFG_BYTES, sizeof IDSM_CFG_BYTES, callers, 1, &another, &fault));
+    expect("too many handles", 10, idsm_init(IDSM_CFG_BYTES, sizeof IDSM_CFG_BYTES, callers, 33, &another, &fault));
+    expect("no handles", 10, idsm_init(IDSM_CFG_BYTES, sizeof IDSM_CFG_BYTES, NULL, 0, &another, &fault));
+    expect("NULL as configuration", 15, idsm_init(NULL, 1, callers, 2, &another, &fault));
+    expect("NULL as callers", 15, idsm_init(IDSM_CFG_BYTES, sizeof IDSM_CFG_BYTES, NULL, 2, &another, &fault));
+    expect("NULL as manager", 15, idsm_init(IDSM_CFG_BYTES, sizeof IDSM_CFG_BYTES, callers, 2, NULL, &fault));
+    expect("NULL as fault", 15, idsm_init(IDSM_CFG_BYTES, sizeof IDSM_CFG_BYTES, callers, 2, &another, NULL));
+    expect("IdsM_Init", 0, IdsM_Init(NULL));
+    expect("IdsM_Init again", 14, IdsM_Init(NULL));
+    expect("init over one that is taken", 14,
+           idsm_init(IDSM_CFG_BYTES, sizeof IDSM_CFG_BYTES, IdsM_Unit.callers, 2, &another, &fault));
+    expect("its fault", 0, fault.number + fault.part + fault.place);
+    for (unsigned i = 0; i < 33; i++)
+        expect("a handle after a refusal", 1, callers[i].at == NULL);
+    expect("a manager after a refusal", 1, another.at == NULL);
 }
 
-static void answer_without_memory(void)
+#ifndef WITHOUT_LIMITS
+static void no_memory(void)
 {
+    static const char LARGE[] = "{\"form\":1,\"instance\":18,\"ring\":1024,\"events\":[{\"id\":42,\"sensor\":3}]}";
     struct rlimit all, none;
-    idsm_handle callers[32] = {{0}}, another = {0};
+    idsm_caller callers[1] = {{NULL}};
+    static idsm_manager another;
     idsm_fault fault;
     getrlimit(RLIMIT_AS, &all);
     none = all;
     none.rlim_cur = 0;
     setrlimit(RLIMIT_AS, &none);
-    uint8_t answer = idsm_init((const uint8_t *)LARGE, sizeof LARGE - 1, callers, 32, &another, &fault);
+    uint8_t answer = idsm_init((const uint8_t *)LARGE, sizeof LARGE - 1, callers, 1, &another, &fault);
     setrlimit(RLIMIT_AS, &all);
-    expect("IDSM_NO_MEMORY", IDSM_NO_MEMORY, answer);
+    expect("no memory", 11, answer);
+}
+#endif
+
+static const uint8_t CONTEXT[9] = {0xa1, 0xb2};
+static const uint64_t STAMP = 0x8000000100000a00;
+
+/* Each report call, by the message of its report. */
+static void reports(void)
+{
+    expect("Event", 0, IdsM_SetSecurityEvent(4100));
+    expect_turn("Event", "1004851004000100 ");
+    expect("WithCount", 0, IdsM_SetSecurityEventWithCount(4100, 258));
+    expect_turn("WithCount", "1004851004010200 ");
+    expect("WithContextData", 0, IdsM_SetSecurityEventWithContextData(4100, CONTEXT, 2));
+    expect_turn("WithContextData", "110485100400010002a1b2 ");
+    expect("WithCountContextData", 0, IdsM_SetSecurityEventWithCountContextData(4100, CONTEXT, 2, 3));
+    expect_turn("WithCountContextData", "110485100400030002a1b2 ");
+    expect("WithTimestamp", 0, IdsM_SetSecurityEventWithTimestamp(4100, STAMP));
+    expect_turn("WithTimestamp", "12048510040001008000000100000a00 ");
+    expect("WithTimestampCount", 0, IdsM_SetSecurityEventWithTimestampCount(4100, STAMP, 4));
+    expect_turn("WithTimestampCount", "12048510040004008000000100000a00 ");
+    expect("WithTimestampContextData", 0, IdsM_SetSecurityEventWithTimestampContextData(4100, STAMP, CONTEXT, 2));
+    expect_turn("WithTimestampContextData", "13048510040001008000000100000a0002a1b2 ");
+    expect("WithTimestampCountContextData", 0,
+           IdsM_SetSecurityEventWithTimestampCountContextData(4100, STAMP, CONTEXT, 2, 5));
+    expect_turn("WithTimestampCountContextData", "13048510040005008000000100000a0002a1b2 ");
+    expect("no context", 0, idsm_set_event_context(running, 1, NULL, 0));
+    expect("by its place", 0, idsm_set_event(running, 3));
+    expect("the other caller", 0, idsm_set_event_count(&IdsM_Unit.callers[1], 4, 2));
+    expect_turn("three reports", "1004851004000100 1004810009000100 1004820009000200 ");
+    expect("sent.messages", 3, IdsM_Unit.sent.messages);
+    expect("sent.bytes", 24, IdsM_Unit.sent.bytes);
+    expect("sent.entries", 3, IdsM_Unit.sent.entries);
 }
 
-static void turn(uint64_t tick, idsm_sent *sent)
+static void refused_reports(void)
 {
-    expect("a turn", IDSM_DONE, idsm_main(&manager, tick, buffer, sizeof buffer, sent));
+    expect("an event without a name", 5, IdsM_SetSecurityEvent(9));
+    expect("an internal event", 5, IdsM_SetSecurityEvent(7));
+    expect("no such place", 5, idsm_set_event(running, 5));
+    expect("a count of 0", 6, IdsM_SetSecurityEventWithCount(42, 0));
+    expect("no such mode", 10, IdsM_SetReportingMode(42, 5));
+    expect("a mode of no event", 5, IdsM_SetReportingMode(9, 1));
+    expect("NULL as context", 15, IdsM_SetSecurityEventWithContextData(42, NULL, 2));
+    expect("NULL as stamped context", 15, idsm_set_event_at(running, 0, 1, 0, NULL, 1));
+    expect("NULL as caller", 15, idsm_set_event(NULL, 0));
+    expect("NULL as caller of a state", 15, idsm_set_state(NULL, 0));
+    expect("NULL as caller of a mode", 15, idsm_set_mode(NULL, 0, 0));
+    expect("a manager as caller", 2, idsm_set_event((idsm_caller *)(void *)&IdsM_Unit.manager, 0));
+    expect("a manager's state", 2, idsm_set_state((idsm_caller *)(void *)&IdsM_Unit.manager, 0));
+    expect("a manager's mode", 2, idsm_set_mode((idsm_caller *)(void *)&IdsM_Unit.manager, 0, 0));
+    expect("a long context", 4, IdsM_SetSecurityEventWithContextData(4100, CONTEXT, 9));
+    expect("a second report", 0, IdsM_SetSecurityEvent(4100));
+    expect("a third", 0, IdsM_SetSecurityEvent(4100));
+    expect("a fourth", 0, IdsM_SetSecurityEvent(4100));
+    expect("a fifth", 3, IdsM_SetSecurityEvent(4100));
+    expect("a lost state", 3, IdsM_BswM_StateChanged(0));
+#ifdef STAND_IN
+    expect_turn("losses", "1004851004000100 1004851004000100 1004851004000100 1004851004000100 ");
+#else
+    expect_turn("losses", "1004800007000100 1004851004000100 1004851004000100 1004851004000100 1004851004000100 ");
+#endif
+    expect("sent.lost_events", 1, IdsM_Unit.sent.lost_events);
+    expect("sent.lost_contexts", 1, IdsM_Unit.sent.lost_contexts);
 }
 
-static void answers_of_reports(void)
+static void refused_turns(void)
 {
+    static uint8_t buffer[12528];
+    idsm_manager *manager = &IdsM_Unit.manager;
+    idsm_manager other = {NULL, NULL, 0, {0, 0, 0, 0}};
     idsm_sent sent;
-    expect("IDSM_OTHER_ROLE", IDSM_OTHER_ROLE, idsm_set_event(&manager, 0));
-    expect("IDSM_UNKNOWN_EVENT", IDSM_UNKNOWN_EVENT, idsm_set_event(&caller, 1));
-    expect("IDSM_ZERO_COUNT", IDSM_ZERO_COUNT, idsm_set_event_count(&caller, 0, 0));
-    expect("IDSM_OUT_OF_RANGE", IDSM_OUT_OF_RANGE, idsm_set_mode(&caller, 0, 5));
+    idsm_totals totals;
+    expect("a tick back", 8, idsm_main(manager, 1, buffer, sizeof buffer, &sent));
+    expect("a tick too large", 9, idsm_main(manager, ((uint64_t)1 << 62) + 1, buffer, sizeof buffer, &sent));
+    expect("a small buffer", 13, idsm_main(manager, tick, buffer, sizeof buffer - 1, &sent));
+    expect("no buffer", 13, idsm_main(manager, tick, NULL, 0, &sent));
+    expect("NULL as buffer", 15, idsm_main(manager, tick, NULL, 12528, &sent));
+    expect("NULL as sent", 15, idsm_main(manager, tick, buffer, sizeof buffer, NULL));
+    expect("NULL as manager", 15, idsm_main(NULL, tick, buffer, sizeof buffer, &sent));
+    expect("a close back", 8, idsm_close(manager, 1, buffer, sizeof buffer, &sent, &totals));
+    expect("a close without room", 13, idsm_close(manager, tick, NULL, 0, &sent, &totals));
+    expect("NULL as totals", 15, idsm_close(manager, tick, buffer, sizeof buffer, &sent, NULL));
+    expect("NULL as a close's sent", 15, idsm_close(manager, tick, buffer, sizeof buffer, NULL, &totals));
+    expect("a close of NULL", 15, idsm_close(NULL, tick, buffer, sizeof buffer, &sent, &totals));
+    expect("what a refusal sent", 0, sent.bytes + sent.entries + sent.lost_events + sent.lost_contexts + sent.messages);
+    other.at = IdsM_Unit.callers[0].at;
+    expect("a caller's turn", 2, idsm_main(&other, tick, buffer, sizeof buffer, &sent));
+    expect("a caller's close", 2, idsm_close(&other, tick, buffer, sizeof buffer, &sent, &totals));
+    expect("after all these", 0, IdsM_SetSecurityEvent(4100));
+    expect_turn("after all these", "1004851004000100 ");
+}
+
+static void walks(void)
+{
+    static const uint8_t messages[] = {0x10, 4, 0x83, 0, 42, 0, 1, 0, 0x21, 4, 0x83, 0, 42, 0, 1, 7, 2, 0xa1, 0xb2,
+                                       0x12, 4, 0x83, 0, 42, 0, 1, 0, 1, 2, 3, 4, 5, 6, 7, 8};
+    static uint8_t large[1044] = {0x13, 4, 0x83, 0, 42, 0, 1, 0, 1, 2, 3, 4, 5, 6, 7, 8, 0x80, 0, 4, 0};
+    static const uint8_t signed_one[10] = {0x14, 4, 0x83, 0, 42, 0, 1, 0, 0, 0};
+    static const uint8_t other[8] = {0x30, 4, 0x83, 0, 42, 0, 1, 0};
+    static const uint8_t cut[8] = {0x11, 4, 0x83, 0, 42, 0, 1, 0};
+    static const uint8_t empty[12] = {0x11, 4, 0x83, 0, 42, 0, 1, 0, 0x80, 0, 0, 0};
+    size_t length;
+    expect("a message", 0, idsm_message(messages, sizeof messages, 0, &length));
+    expect("its length", 8, length);
+    expect("a message with context", 0, idsm_message(messages, sizeof messages, 8, &length));
+    expect("its length", 11, length);
+    expect("a message with timestamp", 0, idsm_message(messages, sizeof messages, 19, &length));
+    expect("its length", 16, length);
+    expect("the longest", 0, idsm_message(large, sizeof large, 0, &length));
+    expect("its length", 1044, length);
+    expect("the longest cut", 10, idsm_message(large, sizeof large - 1, 0, &length));
+    expect("the end", 10, idsm_message(messages, sizeof messages, sizeof messages, &length));
+    expect("its length", 0, length);
+    expect("behind the end", 10, idsm_message(messages, sizeof messages, 100, &length));
+    expect("a cut one", 10, idsm_message(messages, sizeof messages - 1, 19, &length));
+    expect("a cut length", 10, idsm_message(large, 18, 0, &length));
+    expect("a cut context", 10, idsm_message(cut, sizeof cut, 0, &length));
+    expect("an empty context in long form", 0, idsm_message(empty, sizeof empty, 0, &length));
+    expect("its length", 12, length);
+    expect("no message", 10, idsm_message(messages, sizeof messages, 1, &length));
+    expect("a signed one", 10, idsm_message(signed_one, sizeof signed_one, 0, &length));
+    expect("one of another version", 10, idsm_message(other, sizeof other, 0, &length));
+    expect("no bytes", 10, idsm_message(NULL, 0, 0, &length));
+    expect("NULL as messages", 15, idsm_message(NULL, 8, 0, &length));
+    expect("NULL as length", 15, idsm_message(messages, sizeof messages, 0, NULL));
+}
+
+/* What two reports with context give under a mode, of an event of which every second one passes. */
+static void mode(const char *name, uint8_t mode, const char *wanted)
+{
+    expect(name, 0, IdsM_SetReportingMode(42, mode));
     for (int i = 0; i < 2; i++)
-        expect("a report with context", IDSM_DONE, idsm_set_event_context(&caller, 0, CONTEXT, sizeof CONTEXT));
-    expect("IDSM_WITHOUT_CONTEXT", IDSM_WITHOUT_CONTEXT,
-           idsm_set_event_context(&caller, 0, CONTEXT, sizeof CONTEXT));
-    expect("a fourth report", IDSM_DONE, idsm_set_event(&caller, 0));
-    expect("IDSM_LOST", IDSM_LOST, idsm_set_event(&caller, 0));
-    turn(5, &sent);
-    expect("lost events", 1, (unsigned)sent.lost_events);
-    expect("lost contexts", 1, (unsigned)sent.lost_contexts);
+        expect(name, 0, IdsM_SetSecurityEventWithContextData(42, CONTEXT, 2));
+    expect_turn(name, wanted);
 }
 
-static void answers_of_turns(void)
+static void modes(void)
 {
-    idsm_sent sent;
-    expect("IDSM_TICK_BACK", IDSM_TICK_BACK, idsm_main(&manager, 4, buffer, sizeof buffer, &sent));
-    expect("IDSM_TICK_TOO_LARGE", IDSM_TICK_TOO_LARGE,
-           idsm_main(&manager, ((uint64_t)1 << 62) + 1, buffer, sizeof buffer, &sent));
-    expect("IDSM_SMALL_BUFFER", IDSM_SMALL_BUFFER, idsm_main(&manager, 6, buffer, 0, &sent));
+    mode("OFF", IDSM_MODE_OFF, "");
+#ifdef STAND_IN
+    mode("BRIEF", IDSM_MODE_BRIEF, "100483002a000100 100483002a000100 ");
+#else
+    mode("BRIEF", IDSM_MODE_BRIEF, "100483002a000100 ");
+    mode("DETAILED", IDSM_MODE_DETAILED, "110483002a00010002a1b2 ");
+#endif
+    mode("BRIEF_BYPASSING", IDSM_MODE_BRIEF_BYPASSING, "100483002a000100 100483002a000100 ");
+    mode("DETAILED_BYPASSING", IDSM_MODE_DETAILED_BYPASSING, "110483002a00010002a1b2 110483002a00010002a1b2 ");
+    expect("a state", 0, IdsM_BswM_StateChanged(3));
+    expect("a blocked report", 0, IdsM_SetSecurityEvent(4100));
+    expect("another state", 0, IdsM_BswM_StateChanged(2));
+#ifdef STAND_IN
+    expect_turn("a blocked report", "1004851004000100 ");
+#else
+    expect_turn("a blocked report", "");
+#endif
 }
 
-/* What two reports with two bytes of context give under a mode: so many messages of so many bytes each. */
-static void mode(const char *name, uint8_t mode, unsigned messages, unsigned bytes)
+static void memory(void)
 {
-    idsm_sent sent;
-    expect(name, IDSM_DONE, idsm_set_mode(&caller, 0, mode));
-    for (int i = 0; i < 2; i++)
-        expect(name, IDSM_DONE, idsm_set_event_context(&caller, 0, CONTEXT, sizeof CONTEXT));
-    turn(6, &sent);
-    expect(name, messages, (unsigned)sent.messages);
-    expect(name, messages * bytes, (unsigned)sent.bytes);
+    idsm_manager *manager = &IdsM_Unit.manager;
+    idsm_row row, rows[2];
+    uint8_t context[16] = {0};
+    uint64_t number;
+    size_t count;
+    expect("late", 0, idsm_late(manager, 0, &number));
+    expect("late buffers", 0, number);
+    expect("late of no class", 10, idsm_late(manager, 1, &number));
+    expect("NULL as late", 15, idsm_late(manager, 0, NULL));
+    expect("NULL as rows", 15, idsm_rows(manager, NULL));
+    expect("NULL as size", 15, idsm_buffer_size(manager, NULL));
+    expect("NULL as row", 15, idsm_row_at(manager, 0, context, 2, NULL));
+    expect("NULL as a row's context", 15, idsm_row_at(manager, 0, NULL, 2, &row));
+    expect("NULL as count", 15, idsm_snapshot(manager, rows, 2, context, 8, NULL));
+    expect("NULL as all rows", 15, idsm_snapshot(manager, NULL, 2, context, 8, &count));
+    expect("NULL as contexts", 15, idsm_snapshot(manager, rows, 2, NULL, 8, &count));
+    expect("rows of NULL", 15, idsm_rows(NULL, &number));
+    expect("no such row", 10, idsm_row_at(manager, 2, context, 16, &row));
+#ifndef STAND_IN
+    expect("a stamped report", 0, IdsM_SetSecurityEventWithTimestampContextData(4100, STAMP, CONTEXT, 2));
+    expect_turn("a stamped report", "13048510040001008000000100000a0002a1b2 ");
+    expect("rows", 0, idsm_rows(manager, &number));
+    expect("their number", 1, number);
+    expect("a row without room", 13, idsm_row_at(manager, 0, context, 1, &row));
+    expect("a row", 0, idsm_row_at(manager, 0, context, 2, &row));
+    expect("row.first", 2, row.first);
+    expect("row.last", tick, row.last);
+    expect("row.stamp", STAMP, row.stamp);
+    expect("row.bytes", 2, row.bytes);
+    expect("row.event", 1, row.event);
+    expect("row.id", 4100, row.id);
+    /* 1 + 258 + 1 + 3 + 1 + 4 + 1 + 5, one, four of five, one more, and the last. */
+    expect("row.occurrences", 281, row.occurrences);
+    expect("row.sensor", 5, row.sensor);
+    expect("row.has_stamp", 1, row.has_stamp);
+    expect("its context", 0xa1b2, (unsigned)context[0] << 8 | context[1]);
+    expect("a snapshot without room for a row", 13, idsm_snapshot(manager, rows, 0, context, 8, &count));
+    expect("the rows that it wants", 1, count);
+    expect("a snapshot without room for a context", 13, idsm_snapshot(manager, rows, 2, context, 1, &count));
+    expect("a snapshot", 0, idsm_snapshot(manager, rows, 2, context, 8, &count));
+    expect("its row's occurrences", 281, rows[0].occurrences);
+#endif
+}
+
+static void closing(void)
+{
+    IdsM_VersionInfoType info;
+    idsm_totals totals;
+    idsm_row row = {9, 9, 9, 9, 9, 9, 9, 9, 9};
+    size_t count = 9;
+    uint64_t number;
+    expect("the version", 0, IdsM_GetVersionInfo(&info));
+    expect("its numbers", 10020200, info.vendorID * 10000000u + info.moduleID * 10000u + info.sw_major_version * 100u +
+           info.sw_minor_version + info.sw_patch_version);
+    expect("the version at NULL", 15, IdsM_GetVersionInfo(NULL));
+    expect("a last report", 0, IdsM_SetSecurityEvent(4100));
+    kept[0] = 0;
+    tick++;
+    expect("the close", 0, IdsM_DeInit(&totals));
+    expect_messages("the last turn", "1004851004000100 ");
+#ifdef STAND_IN
+    expect("totals.entries", 32, totals.entries);
+    expect("totals.messages", 24, totals.messages);
+#else
+    expect("totals.entries", 36, totals.entries);
+    expect("totals.messages", 25, totals.messages);
+#endif
+    expect("totals.lost_events", 1, totals.lost_events);
+    expect("totals.lost_contexts", 1, totals.lost_contexts);
+    expect("a closed caller", 17, IdsM_SetSecurityEvent(42));
+    expect("a closed caller's state", 17, IdsM_BswM_StateChanged(1));
+    expect("a closed caller's mode", 17, IdsM_SetReportingMode(42, 1));
+    expect("a closed manager", 17, IdsM_MainFunction());
+    number = 9;
+    expect("a closed manager's rows", 17, idsm_rows(&IdsM_Unit.manager, &number));
+    expect("their number", 0, number);
+    number = 9;
+    expect("a closed manager's late", 17, idsm_late(&IdsM_Unit.manager, 0, &number));
+    expect("their number", 0, number);
+    expect("a closed manager's row", 17, idsm_row_at(&IdsM_Unit.manager, 0, NULL, 0, &row));
+    expect("its occurrences", 0, row.occurrences);
+    expect("a closed manager's snapshot", 17, idsm_snapshot(&IdsM_Unit.manager, NULL, 0, NULL, 0, &count));
+    expect("its records", 0, count);
+    expect("a second close", 17, IdsM_DeInit(&totals));
+    expect("init of closed handles", 17, IdsM_Init(NULL));
+    memset(&IdsM_Unit, 0, sizeof IdsM_Unit);
+    tick = 0;
+    expect("init after zeros", 0, IdsM_Init(NULL));
+    expect("a close at once", 0, IdsM_DeInit(&totals));
+    expect("totals of nothing", 0, totals.entries + totals.lost_events + totals.lost_contexts + totals.messages);
+    expect("a caller that was closed at once", 17, IdsM_SetSecurityEvent(42));
 }
 
 int main(void)
 {
-    answers_of_making();
-    answer_without_memory();
-    answers_of_reports();
-    answers_of_turns();
-    mode("IDSM_MODE_OFF", IDSM_MODE_OFF, 0, 0);
-    mode("IDSM_MODE_BRIEF", IDSM_MODE_BRIEF, 1, 8);
-    mode("IDSM_MODE_DETAILED", IDSM_MODE_DETAILED, 1, 11);
-    mode("IDSM_MODE_BRIEF_BYPASSING", IDSM_MODE_BRIEF_BYPASSING, 2, 8);
-    mode("IDSM_MODE_DETAILED_BYPASSING", IDSM_MODE_DETAILED_BYPASSING, 2, 11);
-    expect("closing a caller", IDSM_DONE, idsm_close(&caller));
-    expect("closing a manager", IDSM_DONE, idsm_close(&manager));
+    numbers();
+    making();
+    made_header();
+#ifndef WITHOUT_LIMITS
+    no_memory();
+#endif
+    tick = 1;
+    reports();
+    refused_reports();
+    refused_turns();
+    walks();
+    modes();
+    memory();
+    closing();
+    printf("%d checks, %d failed\n", checks, failures);
     return failures == 0 ? 0 : 1;
 }

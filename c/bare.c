@@ -1,6 +1,6 @@
 /* The library with no C library below it: an arena for memory, the five functions of memory that it may call, and
    messages written by a call of the operating system. */
-#include "idsm.h"
+#include "idsm_c.h"
 
 enum { ARENA = 1 << 20, BUFFER = 1 << 18 };
 
@@ -85,12 +85,13 @@ static const char CONFIG[] =
     "{\"form\":1,\"instance\":18,\"callers\":1,\"ring\":8,\"memory\":2,\"classes\":[{\"size\":8,\"number\":2}],"
     "\"events\":[{\"id\":42,\"sensor\":3},{\"id\":43,\"sensor\":3,\"send\":false,\"store\":true}]}";
 
-/* Each call but init and close, all answered as done. */
-static int calls(idsm_handle *caller, idsm_handle *manager, idsm_sent *sent)
+/* Each call but idsm_init and idsm_close, all answered as done. */
+static int calls(idsm_caller *caller, idsm_manager *manager, idsm_sent *sent)
 {
     static const uint8_t context[4] = {1, 2, 3, 4};
     uint8_t kept[8];
     uint64_t size, rows, late;
+    size_t count;
     idsm_row row;
     uint8_t answers = idsm_set_event(caller, 0);
     answers |= idsm_set_event_count(caller, 1, 2);
@@ -103,15 +104,18 @@ static int calls(idsm_handle *caller, idsm_handle *manager, idsm_sent *sent)
     answers |= idsm_main(manager, 1, buffer, sizeof buffer, sent);
     answers |= idsm_rows(manager, &rows);
     answers |= idsm_row_at(manager, 0, kept, sizeof kept, &row);
+    answers |= idsm_snapshot(manager, &row, 1, kept, sizeof kept, &count);
     answers |= idsm_late(manager, 0, &late);
-    return answers == IDSM_DONE && size <= sizeof buffer && rows == 1 && row.occurrences == 7 && late == 0;
+    return answers == IDSM_DONE && size <= sizeof buffer && rows == 1 && count == 1 && row.occurrences == 7 && late == 0;
 }
 
 static int run(void)
 {
-    idsm_handle caller = {0}, manager = {0};
+    static idsm_caller caller;
+    static idsm_manager manager;
     idsm_fault fault;
     idsm_sent sent;
+    idsm_totals totals;
     if (idsm_set_event(&caller, 0) != IDSM_UNSET)
         return 1;
     if (idsm_init((const uint8_t *)CONFIG, sizeof CONFIG - 1, &caller, 1, &manager, &fault) != IDSM_DONE)
@@ -119,14 +123,12 @@ static int run(void)
     size_t taken = used;
     if (!calls(&caller, &manager, &sent) || sent.messages != 1)
         return 3;
-    if (idsm_set_event(&caller, 2) != IDSM_UNKNOWN_EVENT || idsm_set_event(&manager, 0) != IDSM_OTHER_ROLE)
-        return 4;
     if (used != taken)
-        return 5; /* a call took memory */
-    if (idsm_init((const uint8_t *)CONFIG, sizeof CONFIG - 1, &caller, 1, &manager, &fault) != IDSM_OCCUPIED)
-        return 6;
+        return 4; /* a call took memory */
     system_call(1, 1, (long)buffer, (long)sent.bytes);
-    return idsm_close(&caller) == IDSM_DONE && idsm_close(&manager) == IDSM_DONE ? 0 : 7;
+    if (idsm_close(&manager, 2, buffer, sizeof buffer, &sent, &totals) != IDSM_DONE || totals.entries != 7)
+        return 5;
+    return used == taken && idsm_set_event(&caller, 0) == IDSM_CLOSED ? 0 : 6;
 }
 
 void begin(void);

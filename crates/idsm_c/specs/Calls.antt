@@ -1,5 +1,5 @@
 -- What the exported functions answer, by what a handle has.
-use Rattle.std.specs.Prelude.{◌≡◌, ℕ, Option, Some, None}
+use Rattle.std.specs.Prelude.{◌≡◌, ℕ, ◌==◌, if◌then◌else◌, Option, Some, None}
 use Rattle.ids_types.specs.declared.mode.Mode.{Mode}
 use Rattle.ids_types.specs.declared.names.EventIndex.{EventIndex}
 use Rattle.ids_types.specs.declared.names.Stamp.{Stamp}
@@ -17,6 +17,10 @@ event_of number = record { 0 = number }
 -- the timestamp of a number
 abbrev pub stamp_of : ℕ → Stamp
 stamp_of number = record { 0 = number }
+
+-- the timestamp of a report, which has none where the flag is 0
+abbrev pub stamp_given : ℕ → ℕ → Option Stamp
+stamp_given has_stamp stamp = if has_stamp == 0 then None else Some (stamp_of stamp)
 
 -- a call on what a handle has: on nothing it is unset, and else the number is that of the role's answer, and the handle has
 -- what the call left of the role

@@ -1,9 +1,9 @@
 //! Reports and controls.
-ghost use Rattle.std.specs.Prelude.{◌≡◌, None, [], Some};
+ghost use Rattle.std.specs.Prelude.{◌≡◌};
 ghost use Rattle.idsm_port.specs.Calls.{asked_mode, asked_state};
 ghost use Rattle.idsm_port.specs.Handled.{RoleReports, RoleSets};
 ghost use Rattle.report_api.specs.Answers.{given};
-ghost use Rattle.idsm_c.specs.Calls.{Handles, SetsMode, event_of, stamp_of};
+ghost use Rattle.idsm_c.specs.Calls.{Handles, SetsMode, event_of, stamp_given};
 ghost use Rattle.idsm_c.specs.Modes.{mode_at};
 
 use crate::handle::Handle;
@@ -11,20 +11,35 @@ use ids_types::{EventIndex, Mode, Stamp};
 use idsm_port::Answer;
 use std::alloc::Global;
 
-// Reports by the caller that the handle has.
-fn report(
+// The timestamp of a report, where it has one.
+fn stamp_given(has_stamp: u8, stamp: u64) -> Option<Stamp>
+    ensures { result ≡ stamp_given has_stamp stamp }
+{
+    match has_stamp {
+        0 => None,
+        _ => Some(Stamp(stamp)),
+    }
+}
+
+/// Reports a security event, seen `count` times, with its context data, and at a timestamp unless `has_stamp` is 0. No
+/// bytes are no context.
+#[unsafe(no_mangle)]
+pub extern "C" fn idsm_raw_report(
     alloc: Global,
     caller: &mut Handle,
     event: u16,
     count: u16,
-    stamp: Option<Stamp>,
+    has_stamp: u8,
+    stamp: u64,
     context: &[u8],
 ) -> u8
-    ensures { Handles (RoleReports (given (event_of event) count stamp context.now)) caller.old.content result caller.new.content }
+    ensures { Handles (RoleReports (given (event_of event) count (stamp_given has_stamp stamp) context.now)) caller.old.content result
+        caller.new.content }
 {
     match caller.take(alloc) {
         None => Answer::Unset.code(),
         Some(mut role) => {
+            let stamp = stamp_given(has_stamp, stamp);
             let answer = role.report(EventIndex(event), count, stamp, context);
             caller.put(role);
             answer.code()
@@ -32,72 +47,9 @@ fn report(
     }
 }
 
-/// Reports a security event, seen once.
-#[unsafe(no_mangle)]
-pub extern "C" fn idsm_set_event(alloc: Global, caller: &mut Handle, event: u16) -> u8
-    ensures { Handles (RoleReports (given (event_of event) 1 None [])) caller.old.content result caller.new.content }
-{
-    report(alloc, caller, event, 1, None, &[])
-}
-
-/// Reports a security event, seen `count` times.
-#[unsafe(no_mangle)]
-pub extern "C" fn idsm_set_event_count(
-    alloc: Global,
-    caller: &mut Handle,
-    event: u16,
-    count: u16,
-) -> u8
-    ensures { Handles (RoleReports (given (event_of event) count None [])) caller.old.content result caller.new.content }
-{
-    report(alloc, caller, event, count, None, &[])
-}
-
-/// Reports a security event, seen once, with its context data. No bytes are no context.
-#[unsafe(no_mangle)]
-pub extern "C" fn idsm_set_event_context(
-    alloc: Global,
-    caller: &mut Handle,
-    event: u16,
-    context: &[u8],
-) -> u8
-    ensures { Handles (RoleReports (given (event_of event) 1 None context.now)) caller.old.content result caller.new.content }
-{
-    report(alloc, caller, event, 1, None, context)
-}
-
-/// Reports a security event, seen `count` times, with its context data.
-#[unsafe(no_mangle)]
-pub extern "C" fn idsm_set_event_count_context(
-    alloc: Global,
-    caller: &mut Handle,
-    event: u16,
-    count: u16,
-    context: &[u8],
-) -> u8
-    ensures { Handles (RoleReports (given (event_of event) count None context.now)) caller.old.content result caller.new.content }
-{
-    report(alloc, caller, event, count, None, context)
-}
-
-/// Reports a security event, seen `count` times at a timestamp, with its context data.
-#[unsafe(no_mangle)]
-pub extern "C" fn idsm_set_event_at(
-    alloc: Global,
-    caller: &mut Handle,
-    event: u16,
-    count: u16,
-    stamp: u64,
-    context: &[u8],
-) -> u8
-    ensures { Handles (RoleReports (given (event_of event) count (Some (stamp_of stamp)) context.now)) caller.old.content result caller.new.content }
-{
-    report(alloc, caller, event, count, Some(Stamp(stamp)), context)
-}
-
 /// Tells the block state filter that the state changed.
 #[unsafe(no_mangle)]
-pub extern "C" fn idsm_set_state(alloc: Global, caller: &mut Handle, state: u8) -> u8
+pub extern "C" fn idsm_raw_set_state(alloc: Global, caller: &mut Handle, state: u8) -> u8
     ensures { Handles (RoleSets (asked_state state)) caller.old.content result caller.new.content }
 {
     match caller.take(alloc) {
@@ -126,7 +78,7 @@ fn mode_at(number: u8) -> Option<Mode>
 
 /// Sets the reporting mode of an event, of an internal one too.
 #[unsafe(no_mangle)]
-pub extern "C" fn idsm_set_mode(alloc: Global, caller: &mut Handle, event: u16, mode: u8) -> u8
+pub extern "C" fn idsm_raw_set_mode(alloc: Global, caller: &mut Handle, event: u16, mode: u8) -> u8
     ensures { SetsMode event (mode_at mode) caller.old.content result caller.new.content }
 {
     let Some(mode) = mode_at(mode) else {

@@ -8,7 +8,7 @@ use std::alloc::Global;
 
 /// Frees what the handle has. What callers and a manager share is freed with the last of them.
 #[unsafe(no_mangle)]
-pub extern "C" fn idsm_close(alloc: Global, handle: &mut Handle) -> u8
+pub extern "C" fn idsm_raw_close(alloc: Global, handle: &mut Handle) -> u8
     ensures { Closes handle.old.content result handle.new.content }
 {
     match handle.take(alloc) {
@@ -19,8 +19,8 @@ pub extern "C" fn idsm_close(alloc: Global, handle: &mut Handle) -> u8
 
 /// The number of this interface.
 #[unsafe(no_mangle)]
-pub extern "C" fn idsm_abi() -> u32
-    ensures { result ≡ 1 }
+pub extern "C" fn idsm_raw_abi() -> u32
+    ensures { result ≡ 2 }
 {
-    1
+    2
 }

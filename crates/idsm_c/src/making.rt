@@ -136,7 +136,7 @@ fn fill(roles: Roles, callers: &mut [Handle], manager: &mut Handle) -> bool
 /// Fills a handle for each caller of the configuration that the bytes are the JSON text of, and one for the manager.
 /// Where it answers anything but done, no handle is changed.
 #[unsafe(no_mangle)]
-pub extern "C" fn idsm_init(
+pub extern "C" fn idsm_raw_init(
     alloc: Global,
     config: &[u8],
     callers: &mut [Handle],

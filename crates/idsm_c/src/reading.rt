@@ -61,7 +61,7 @@ fn row_of(row: Option<RowTold>) -> Row
 
 /// How many bytes a buffer for the messages of a turn has at least.
 #[unsafe(no_mangle)]
-pub extern "C" fn idsm_buffer_size(alloc: Global, manager: &mut Handle, bytes: &mut u64) -> u8
+pub extern "C" fn idsm_raw_buffer_size(alloc: Global, manager: &mut Handle, bytes: &mut u64) -> u8
     ensures { HandleTells RoleMost manager.old.content result bytes.new manager.new.content }
 {
     *bytes = 0;
@@ -78,7 +78,7 @@ pub extern "C" fn idsm_buffer_size(alloc: Global, manager: &mut Handle, bytes: &
 
 /// How many records the event memory has.
 #[unsafe(no_mangle)]
-pub extern "C" fn idsm_rows(alloc: Global, manager: &mut Handle, rows: &mut u64) -> u8
+pub extern "C" fn idsm_raw_rows(alloc: Global, manager: &mut Handle, rows: &mut u64) -> u8
     ensures { HandleTells RoleRows manager.old.content result rows.new manager.new.content }
 {
     *rows = 0;
@@ -95,7 +95,12 @@ pub extern "C" fn idsm_rows(alloc: Global, manager: &mut Handle, rows: &mut u64)
 
 /// How many buffers of a class wait for a free position.
 #[unsafe(no_mangle)]
-pub extern "C" fn idsm_late(alloc: Global, manager: &mut Handle, class: u8, late: &mut u64) -> u8
+pub extern "C" fn idsm_raw_late(
+    alloc: Global,
+    manager: &mut Handle,
+    class: u8,
+    late: &mut u64,
+) -> u8
     ensures { HandleTells (λ role. RoleLate role class) manager.old.content result late.new manager.new.content }
 {
     *late = 0;
@@ -112,7 +117,7 @@ pub extern "C" fn idsm_late(alloc: Global, manager: &mut Handle, class: u8, late
 
 /// A record of the event memory, from the one stored longest ago on, and its context data.
 #[unsafe(no_mangle)]
-pub extern "C" fn idsm_row_at(
+pub extern "C" fn idsm_raw_row_at(
     alloc: Global,
     manager: &mut Handle,
     i: u16,

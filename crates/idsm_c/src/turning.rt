@@ -32,7 +32,7 @@ fn sent_of(told: Told) -> Sent
 
 /// Makes a turn, and writes its messages to the front of the buffer, one behind the other.
 #[unsafe(no_mangle)]
-pub extern "C" fn idsm_main(
+pub extern "C" fn idsm_raw_main(
     alloc: Global,
     manager: &mut Handle,
     tick: u64,

@@ -2,7 +2,7 @@ use Rattle.idsm_c.proofs.Names.{rules}
 use Rattle.idsm_port.specs.Calls.{asked_state}
 use Rattle.idsm_port.specs.Handled.{RoleSets}
 use Rattle.idsm_c.proofs.CallLemmas.{handled}
-use Rattle.idsm_c.proofs.calls.idsm_set_state.Goals as goal
+use Rattle.idsm_c.proofs.calls.idsm_raw_set_state.Goals as goal
 
 pub returns-in-Some : goal.returns-in-Some
 returns-in-Some c =

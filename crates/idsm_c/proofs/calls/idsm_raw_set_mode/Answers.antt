@@ -4,7 +4,7 @@ use Rattle.idsm_port.specs.Calls.{asked_mode}
 use Rattle.idsm_port.specs.Handled.{RoleSets}
 use Rattle.idsm_c.specs.Calls.{SetsMode, event_of}
 use Rattle.idsm_c.proofs.CallLemmas.{handled}
-use Rattle.idsm_c.proofs.calls.idsm_set_mode.Goals as goal
+use Rattle.idsm_c.proofs.calls.idsm_raw_set_mode.Goals as goal
 
 pub returns-in-Some-take : goal.returns-in-Some-take
 returns-in-Some-take c =

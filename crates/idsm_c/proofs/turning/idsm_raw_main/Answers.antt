@@ -1,6 +1,6 @@
 use Rattle.idsm_c.proofs.Names.{rules}
 use Rattle.idsm_c.proofs.CallLemmas.{turns}
-use Rattle.idsm_c.proofs.turning.idsm_main.Goals as goal
+use Rattle.idsm_c.proofs.turning.idsm_raw_main.Goals as goal
 
 pub returns-in-Some : goal.returns-in-Some
 returns-in-Some c =

@@ -1,0 +1,392 @@
+/* The calls of idsm_c.h over the proved library: each takes its handle by an atomic step, so that a second call on it
+   meanwhile is answered, and looks at its pointers. The toolchain lets no atomic word cross to C, so this part is C. */
+#include "idsm_c.h"
+
+/* The proved library (crates/idsm_c). A word is null, or what a caller or a manager owns, and no other call has it. */
+typedef struct {
+    void *at;
+} word;
+
+uint32_t idsm_raw_abi(void);
+uint8_t idsm_raw_init(const uint8_t *config, size_t bytes, word *callers, size_t count, word *manager,
+                      idsm_fault *fault);
+uint8_t idsm_raw_report(word *caller, uint16_t event, uint16_t count, uint8_t has_stamp, uint64_t stamp,
+                        const uint8_t *context, size_t bytes);
+uint8_t idsm_raw_set_state(word *caller, uint8_t state);
+uint8_t idsm_raw_set_mode(word *caller, uint16_t event, uint8_t mode);
+uint8_t idsm_raw_buffer_size(word *manager, uint64_t *bytes);
+uint8_t idsm_raw_main(word *manager, uint64_t tick, uint8_t *buffer, size_t bytes, idsm_sent *sent);
+uint8_t idsm_raw_rows(word *manager, uint64_t *rows);
+uint8_t idsm_raw_row_at(word *manager, uint16_t i, uint8_t *context, size_t bytes, idsm_row *row);
+uint8_t idsm_raw_late(word *manager, uint8_t class_index, uint64_t *late);
+uint8_t idsm_raw_close(word *handle);
+
+/* What a handle has while a call works with it, and after its manager was closed: the addresses of nothing else. */
+static const char in_call, closed;
+#define IN_CALL ((void *)(uintptr_t)&in_call)
+#define CLOSED ((void *)(uintptr_t)&closed)
+
+/* What stands for no bytes. */
+static uint8_t no_byte;
+
+/* Takes what a handle has. */
+static uint8_t take(void **at, word *own)
+{
+    void *has = __atomic_load_n(at, __ATOMIC_RELAXED);
+    do {
+        if (has == NULL)
+            return IDSM_UNSET;
+        if (has == IN_CALL)
+            return IDSM_BUSY;
+        if (has == CLOSED)
+            return IDSM_CLOSED;
+    } while (!__atomic_compare_exchange_n(at, &has, IN_CALL, 0, __ATOMIC_ACQUIRE, __ATOMIC_RELAXED));
+    own->at = has;
+    return IDSM_DONE;
+}
+
+/* Takes a handle that has nothing. */
+static uint8_t take_unset(void **at)
+{
+    void *has = NULL;
+    if (__atomic_compare_exchange_n(at, &has, IN_CALL, 0, __ATOMIC_ACQUIRE, __ATOMIC_RELAXED))
+        return IDSM_DONE;
+    if (has == IN_CALL)
+        return IDSM_BUSY;
+    return has == CLOSED ? IDSM_CLOSED : IDSM_OCCUPIED;
+}
+
+/* Gives back what was taken, as a lock is given back: whoever takes it next sees all that was done with it. */
+static void give(void **at, void *has)
+{
+    __atomic_store_n(at, has, __ATOMIC_RELEASE);
+}
+
+static uint8_t take_caller(idsm_caller *caller, word *own)
+{
+    return caller == NULL ? IDSM_NULL : take(&caller->at, own);
+}
+
+static uint8_t take_manager(idsm_manager *manager, word *own)
+{
+    return manager == NULL ? IDSM_NULL : take(&manager->at, own);
+}
+
+/* Whether there is no such memory: bytes at NULL. */
+static int is_no_memory(const void *at, size_t bytes)
+{
+    return at == NULL && bytes > 0;
+}
+
+uint32_t idsm_abi(void)
+{
+    return idsm_raw_abi();
+}
+
+/* Takes all handles that idsm_init fills, or none of them. */
+static uint8_t take_all_unset(idsm_caller *callers, size_t count, idsm_manager *manager)
+{
+    uint8_t answer = take_unset(&manager->at);
+    if (answer != IDSM_DONE)
+        return answer;
+    for (size_t i = 0; i < count; i++) {
+        answer = take_unset(&callers[i].at);
+        if (answer != IDSM_DONE) {
+            while (i-- > 0)
+                give(&callers[i].at, NULL);
+            give(&manager->at, NULL);
+            return answer;
+        }
+    }
+    return IDSM_DONE;
+}
+
+uint8_t idsm_init(const uint8_t *config, size_t bytes, idsm_caller *callers, size_t count, idsm_manager *manager,
+                  idsm_fault *fault)
+{
+    static const idsm_fault no_fault = {0, 0, 0};
+    word words[IDSM_MOST_CALLERS + 1] = {{NULL}}, own = {NULL};
+    if (fault == NULL || manager == NULL || is_no_memory(config, bytes) || is_no_memory(callers, count))
+        return IDSM_NULL;
+    *fault = no_fault;
+    uint8_t answer = take_all_unset(callers, count, manager);
+    if (answer != IDSM_DONE)
+        return answer;
+    /* One word more than there can be callers, so that more handles than that are too many. */
+    size_t asked = count > IDSM_MOST_CALLERS ? IDSM_MOST_CALLERS + 1 : count;
+    answer = idsm_raw_init(config == NULL ? &no_byte : config, bytes, words, asked, &own, fault);
+    if (answer == IDSM_DONE) {
+        static const idsm_totals none = {0, 0, 0, 0};
+        manager->callers = callers;
+        manager->count = count;
+        manager->totals = none;
+    }
+    for (size_t i = 0; i < count; i++)
+        give(&callers[i].at, answer == IDSM_DONE ? words[i].at : NULL);
+    give(&manager->at, own.at);
+    return answer;
+}
+
+static uint8_t report(idsm_caller *caller, uint16_t event, uint16_t count, uint8_t has_stamp, uint64_t stamp,
+                      const uint8_t *context, size_t bytes)
+{
+    word own;
+    if (is_no_memory(context, bytes))
+        return IDSM_NULL;
+    uint8_t answer = take_caller(caller, &own);
+    if (answer != IDSM_DONE)
+        return answer;
+    answer = idsm_raw_report(&own, event, count, has_stamp, stamp, context == NULL ? &no_byte : context, bytes);
+    give(&caller->at, own.at);
+    return answer;
+}
+
+uint8_t idsm_set_event(idsm_caller *caller, uint16_t event)
+{
+    return report(caller, event, 1, 0, 0, NULL, 0);
+}
+
+uint8_t idsm_set_event_count(idsm_caller *caller, uint16_t event, uint16_t count)
+{
+    return report(caller, event, count, 0, 0, NULL, 0);
+}
+
+uint8_t idsm_set_event_context(idsm_caller *caller, uint16_t event, const uint8_t *context, size_t bytes)
+{
+    return report(caller, event, 1, 0, 0, context, bytes);
+}
+
+uint8_t idsm_set_event_count_context(idsm_caller *caller, uint16_t event, uint16_t count, const uint8_t *context,
+                                     size_t bytes)
+{
+    return report(caller, event, count, 0, 0, context, bytes);
+}
+
+uint8_t idsm_set_event_at(idsm_caller *caller, uint16_t event, uint16_t count, uint64_t stamp,
+                          const uint8_t *context, size_t bytes)
+{
+    return report(caller, event, count, 1, stamp, context, bytes);
+}
+
+uint8_t idsm_set_state(idsm_caller *caller, uint8_t state)
+{
+    word own;
+    uint8_t answer = take_caller(caller, &own);
+    if (answer != IDSM_DONE)
+        return answer;
+    answer = idsm_raw_set_state(&own, state);
+    give(&caller->at, own.at);
+    return answer;
+}
+
+uint8_t idsm_set_mode(idsm_caller *caller, uint16_t event, uint8_t mode)
+{
+    word own;
+    uint8_t answer = take_caller(caller, &own);
+    if (answer != IDSM_DONE)
+        return answer;
+    answer = idsm_raw_set_mode(&own, event, mode);
+    give(&caller->at, own.at);
+    return answer;
+}
+
+/* A number of the manager. */
+static uint8_t ask(idsm_manager *manager, uint8_t (*number_of)(word *, uint64_t *), uint64_t *number)
+{
+    word own;
+    if (number == NULL)
+        return IDSM_NULL;
+    *number = 0;
+    uint8_t answer = take_manager(manager, &own);
+    if (answer != IDSM_DONE)
+        return answer;
+    answer = number_of(&own, number);
+    give(&manager->at, own.at);
+    return answer;
+}
+
+uint8_t idsm_buffer_size(idsm_manager *manager, uint64_t *bytes)
+{
+    return ask(manager, idsm_raw_buffer_size, bytes);
+}
+
+uint8_t idsm_rows(idsm_manager *manager, uint64_t *rows)
+{
+    return ask(manager, idsm_raw_rows, rows);
+}
+
+uint8_t idsm_late(idsm_manager *manager, uint8_t class_index, uint64_t *late)
+{
+    word own;
+    if (late == NULL)
+        return IDSM_NULL;
+    *late = 0;
+    uint8_t answer = take_manager(manager, &own);
+    if (answer != IDSM_DONE)
+        return answer;
+    answer = idsm_raw_late(&own, class_index, late);
+    give(&manager->at, own.at);
+    return answer;
+}
+
+/* A turn of the manager whose word this is. */
+static uint8_t turn(idsm_manager *manager, word *own, uint64_t tick, uint8_t *buffer, size_t bytes, idsm_sent *sent)
+{
+    uint8_t answer = idsm_raw_main(own, tick, buffer == NULL ? &no_byte : buffer, bytes, sent);
+    if (answer == IDSM_DONE) {
+        manager->totals.entries += sent->entries;
+        manager->totals.lost_events += sent->lost_events;
+        manager->totals.lost_contexts += sent->lost_contexts;
+        manager->totals.messages += sent->messages;
+    }
+    return answer;
+}
+
+uint8_t idsm_main(idsm_manager *manager, uint64_t tick, uint8_t *buffer, size_t bytes, idsm_sent *sent)
+{
+    static const idsm_sent nothing = {0, 0, 0, 0, 0};
+    word own;
+    if (sent == NULL || is_no_memory(buffer, bytes))
+        return IDSM_NULL;
+    *sent = nothing;
+    uint8_t answer = take_manager(manager, &own);
+    if (answer != IDSM_DONE)
+        return answer;
+    answer = turn(manager, &own, tick, buffer, bytes, sent);
+    give(&manager->at, own.at);
+    return answer;
+}
+
+/* How long a message is by its first bytes (docs/FORMATS.md), of which there is one; 0 where they end too soon to tell or
+   begin no message. */
+static size_t message_length(const uint8_t *at, size_t bytes)
+{
+    if ((at[0] >> 4 != 1 && at[0] >> 4 != 2) || (at[0] & 15) > 3)
+        return 0;
+    size_t length = (at[0] & 2) != 0 ? 16 : 8;
+    if ((at[0] & 1) == 0)
+        return length;
+    if (bytes <= length)
+        return 0;
+    if (at[length] < 128)
+        return length + 1 + at[length];
+    if (bytes < length + 4)
+        return 0;
+    return length + 4 + ((size_t)(at[length] & 127) << 24 | (size_t)at[length + 1] << 16 | (size_t)at[length + 2] << 8 |
+                         at[length + 3]);
+}
+
+uint8_t idsm_message(const uint8_t *messages, size_t bytes, size_t at, size_t *length)
+{
+    if (length == NULL || is_no_memory(messages, bytes))
+        return IDSM_NULL;
+    *length = 0;
+    if (at >= bytes)
+        return IDSM_OUT_OF_RANGE;
+    size_t found = message_length(messages + at, bytes - at);
+    if (found == 0 || found > bytes - at)
+        return IDSM_OUT_OF_RANGE;
+    *length = found;
+    return IDSM_DONE;
+}
+
+uint8_t idsm_row_at(idsm_manager *manager, uint16_t i, uint8_t *context, size_t bytes, idsm_row *row)
+{
+    static const idsm_row no_row = {0, 0, 0, 0, 0, 0, 0, 0, 0};
+    word own;
+    if (row == NULL || is_no_memory(context, bytes))
+        return IDSM_NULL;
+    *row = no_row;
+    uint8_t answer = take_manager(manager, &own);
+    if (answer != IDSM_DONE)
+        return answer;
+    answer = idsm_raw_row_at(&own, i, context == NULL ? &no_byte : context, bytes, row);
+    give(&manager->at, own.at);
+    return answer;
+}
+
+/* All records of the manager whose word this is. */
+static uint8_t all_rows(word *own, idsm_row *rows, size_t most, uint8_t *contexts, size_t each, size_t *count)
+{
+    uint64_t there;
+    uint8_t answer = idsm_raw_rows(own, &there);
+    if (answer != IDSM_DONE)
+        return answer;
+    *count = (size_t)there;
+    if (there > most)
+        return IDSM_SMALL_BUFFER;
+    for (uint16_t i = 0; i < there && answer == IDSM_DONE; i++)
+        answer = idsm_raw_row_at(own, i, each == 0 ? &no_byte : contexts + (size_t)i * each, each, &rows[i]);
+    return answer;
+}
+
+uint8_t idsm_snapshot(idsm_manager *manager, idsm_row *rows, size_t most, uint8_t *contexts, size_t each,
+                      size_t *count)
+{
+    word own;
+    if (count == NULL || is_no_memory(rows, most) || is_no_memory(contexts, each))
+        return IDSM_NULL;
+    *count = 0;
+    uint8_t answer = take_manager(manager, &own);
+    if (answer != IDSM_DONE)
+        return answer;
+    answer = all_rows(&own, rows, most, contexts, each, count);
+    give(&manager->at, own.at);
+    return answer;
+}
+
+/* Takes all callers of a manager, or none. */
+static uint8_t take_callers(idsm_manager *manager, word *words)
+{
+    for (size_t i = 0; i < manager->count; i++) {
+        uint8_t answer = take(&manager->callers[i].at, &words[i]);
+        if (answer != IDSM_DONE) {
+            while (i-- > 0)
+                give(&manager->callers[i].at, words[i].at);
+            return answer;
+        }
+    }
+    return IDSM_DONE;
+}
+
+/* Gives the callers of a manager back, or frees them. */
+static void leave_callers(idsm_manager *manager, word *words, int frees)
+{
+    for (size_t i = 0; i < manager->count; i++) {
+        if (frees)
+            idsm_raw_close(&words[i]);
+        give(&manager->callers[i].at, frees ? CLOSED : words[i].at);
+    }
+}
+
+uint8_t idsm_close(idsm_manager *manager, uint64_t tick, uint8_t *buffer, size_t bytes, idsm_sent *sent,
+                   idsm_totals *totals)
+{
+    static const idsm_sent nothing = {0, 0, 0, 0, 0};
+    static const idsm_totals none = {0, 0, 0, 0};
+    word words[IDSM_MOST_CALLERS], own;
+    uint64_t room;
+    if (sent == NULL || totals == NULL || is_no_memory(buffer, bytes))
+        return IDSM_NULL;
+    *sent = nothing;
+    *totals = none;
+    uint8_t answer = take_manager(manager, &own);
+    if (answer != IDSM_DONE)
+        return answer;
+    /* A caller has no such number, and no callers. */
+    answer = idsm_raw_buffer_size(&own, &room);
+    if (answer == IDSM_DONE)
+        answer = take_callers(manager, words);
+    if (answer == IDSM_DONE) {
+        answer = turn(manager, &own, tick, buffer, bytes, sent);
+        leave_callers(manager, words, answer == IDSM_DONE);
+    }
+    if (answer != IDSM_DONE) {
+        give(&manager->at, own.at);
+        return answer;
+    }
+    *totals = manager->totals;
+    idsm_raw_close(&own);
+    give(&manager->at, CLOSED);
+    return IDSM_DONE;
+}

@@ -1,0 +1,140 @@
+/* The intrusion detection system manager for C and C++: see c/README.md. */
+#ifndef IDSM_C_H
+#define IDSM_C_H
+
+#include <stddef.h>
+#include <stdint.h>
+
+#ifdef __cplusplus
+extern "C" {
+#endif
+
+/* The number of this interface. Structs and numbers never change under one number, and a new call is a new name. */
+#define IDSM_ABI 2
+
+/* What each call answers. */
+#define IDSM_DONE 0
+#define IDSM_UNSET 1           /* the handle has nothing */
+#define IDSM_OTHER_ROLE 2      /* a manager where a caller is wanted, or a caller where a manager is */
+#define IDSM_LOST 3            /* no event buffer was free */
+#define IDSM_WITHOUT_CONTEXT 4 /* reported, without its context data: no buffer that fits was free */
+#define IDSM_UNKNOWN_EVENT 5
+#define IDSM_ZERO_COUNT 6
+#define IDSM_SPENT 7 /* 2^40 calls of a caller, or 2^62 turns of a manager */
+#define IDSM_TICK_BACK 8
+#define IDSM_TICK_TOO_LARGE 9
+#define IDSM_OUT_OF_RANGE 10
+#define IDSM_NO_MEMORY 11
+#define IDSM_CONFIGURATION 12
+#define IDSM_SMALL_BUFFER 13 /* nothing was done */
+#define IDSM_OCCUPIED 14     /* a handle has something already */
+#define IDSM_NULL 15         /* a pointer is NULL that may not be */
+#define IDSM_BUSY 16         /* another call works with the handle; nothing was done */
+#define IDSM_CLOSED 17       /* the manager was closed */
+
+/* Reporting modes. */
+#define IDSM_MODE_OFF 0
+#define IDSM_MODE_BRIEF 1
+#define IDSM_MODE_DETAILED 2
+#define IDSM_MODE_BRIEF_BYPASSING 3
+#define IDSM_MODE_DETAILED_BYPASSING 4
+
+/* At most so many callers has a configuration, and so many bytes a message. */
+#define IDSM_MOST_CALLERS 32
+#define IDSM_MOST_MESSAGE 1044
+
+/* The handle of a caller. Zeros before idsm_init; never copied, moved or written by C after that. */
+typedef struct {
+    void *at;
+} idsm_caller;
+
+/* What all turns of a manager told. */
+typedef struct {
+    uint64_t entries;
+    uint64_t lost_events;
+    uint64_t lost_contexts;
+    uint64_t messages;
+} idsm_totals;
+
+/* The handle of a manager. Zeros before idsm_init; never copied, moved or written by C after that. */
+typedef struct {
+    void *at;
+    idsm_caller *callers;
+    size_t count;
+    idsm_totals totals;
+} idsm_manager;
+
+/* The first fault of a configuration: its number, and where: 0 top, 1 class, 2 event, with its place. */
+typedef struct {
+    uint32_t number;
+    uint32_t part;
+    uint32_t place;
+} idsm_fault;
+
+/* What a turn tells. All is 0 where none was made. */
+typedef struct {
+    uint64_t bytes;
+    uint64_t entries;
+    uint64_t lost_events;
+    uint64_t lost_contexts;
+    uint64_t messages;
+} idsm_sent;
+
+/* A record of the event memory. */
+typedef struct {
+    uint64_t first;
+    uint64_t last;
+    uint64_t stamp;
+    uint64_t bytes;
+    uint16_t event;
+    uint16_t id;
+    uint16_t occurrences;
+    uint8_t sensor;
+    uint8_t has_stamp;
+} idsm_row;
+
+/* The number of the interface that the library has: compare it with IDSM_ABI. */
+uint32_t idsm_abi(void);
+
+/* Fills a handle for each caller of the configuration, and one for the manager. Each of them has to be zeros. */
+uint8_t idsm_init(const uint8_t *config, size_t bytes, idsm_caller *callers, size_t count, idsm_manager *manager,
+                  idsm_fault *fault);
+
+/* Calls of callers. An event is its place in the configuration, from 0. (NULL, 0) is no context. */
+uint8_t idsm_set_event(idsm_caller *caller, uint16_t event);
+uint8_t idsm_set_event_count(idsm_caller *caller, uint16_t event, uint16_t count);
+uint8_t idsm_set_event_context(idsm_caller *caller, uint16_t event, const uint8_t *context, size_t bytes);
+uint8_t idsm_set_event_count_context(idsm_caller *caller, uint16_t event, uint16_t count, const uint8_t *context,
+                                     size_t bytes);
+uint8_t idsm_set_event_at(idsm_caller *caller, uint16_t event, uint16_t count, uint64_t stamp,
+                          const uint8_t *context, size_t bytes);
+uint8_t idsm_set_state(idsm_caller *caller, uint8_t state);
+uint8_t idsm_set_mode(idsm_caller *caller, uint16_t event, uint8_t mode);
+
+/* Makes a turn. Its messages stand at the front of the buffer, which has at least the bytes of idsm_buffer_size. */
+uint8_t idsm_buffer_size(idsm_manager *manager, uint64_t *bytes);
+uint8_t idsm_main(idsm_manager *manager, uint64_t tick, uint8_t *buffer, size_t bytes, idsm_sent *sent);
+
+/* The length of the message that stands at `at` in a turn's messages: IDSM_OUT_OF_RANGE where none does, as at the end. */
+uint8_t idsm_message(const uint8_t *messages, size_t bytes, size_t at, size_t *length);
+
+/* The event memory, record by record from the one stored longest ago; or all of it as it stands at one moment, with the
+   context of record i at contexts + i * each. */
+uint8_t idsm_rows(idsm_manager *manager, uint64_t *rows);
+uint8_t idsm_row_at(idsm_manager *manager, uint16_t i, uint8_t *context, size_t bytes, idsm_row *row);
+uint8_t idsm_snapshot(idsm_manager *manager, idsm_row *rows, size_t most, uint8_t *contexts, size_t each,
+                      size_t *count);
+
+/* How many context data buffers of a class wait. */
+uint8_t idsm_late(idsm_manager *manager, uint8_t class_index, uint64_t *late);
+
+/* Makes a last turn, which takes all that was reported, and frees the callers and the manager. Each call on one of them
+   then answers IDSM_CLOSED. Where it answers anything but IDSM_DONE, nothing was done. */
+uint8_t idsm_close(idsm_manager *manager, uint64_t tick, uint8_t *buffer, size_t bytes, idsm_sent *sent,
+                   idsm_totals *totals);
+
+#ifdef __cplusplus
+}
+#endif
+
+#endif
