@@ -7,9 +7,10 @@ use Rattle.ids_outside.specs.Sinks.{Heard}
 use Rattle.run_words.specs.Command.{ReplayFiles}
 use Rattle.run_spec.specs.Deserts.{EndsWith, EndsOrFails}
 use Rattle.run_files.proofs.ReadingLemmas.{over_then}
-use Rattle.run_files.specs.Reading.{file, gives, over, ◌>>=◌}
+use Rattle.run_files.specs.Reading.{Reading, file, gives, over, ◌>>=◌}
 use Rattle.run_spec.specs.Judge
-use Rattle.run_spec.specs.Judge.{Recorded, check_judged, config_in, does, judge, recorded_in, fold_work, only_said, told_in}
+use Rattle.run_spec.specs.FoldedJournal.{folded_in}
+use Rattle.run_spec.specs.Judge.{Recorded, check_judged, config_in, does, journal_judged, judge, recorded_in, fold_work, only_said, told_in}
 use Rattle.run_files.specs.Contents.{file_of}
 use Rattle.run_steps.specs.Words.{Turn, messages_of, journal_text, told}
 use Rattle.idsm_run.specs.Replayed.{Replayed}
@@ -19,7 +20,7 @@ use Rattle.run_spec.proofs.RunLemmas.{did_work, served_ends}
 use Rattle.message_weights.proofs.JournalLemmas.{messages_are_short}
 use Rattle.run_agreement.specs.Agreement.{FindsLeft, HasTheSame, WasReplayed, check_again, fold_again, left_by}
 use Rattle.run_agreement.proofs.CausalLemmas.{folds_as}
-use Rattle.run_agreement.proofs.FoundLemmas.{config_asked, config_stays, few_in, file_is}
+use Rattle.run_agreement.proofs.FoundLemmas.{config_asked, config_stays, config_there, few_in, file_is}
 
 module _ (names : ReplayFiles) (old left found : Shelved) (was : WasReplayed names old left) (finds : FindsLeft names left found) where
   -- what the replay did
@@ -38,17 +39,23 @@ module _ (names : ReplayFiles) (old left found : Shelved) (was : WasReplayed nam
   text_is_short : length text ≤ 16777216
   text_is_short = rw journal_is at finds.short
 
+  -- what is asked of the bytes of its journal
+  abbrev next : List ℕ → Reading Recorded
+  next bytes = journal_judged (folded_in history.config bytes) >>= λ own. gives (record { config = history.config; told = own })
+
   -- what the files hold that it left
   recorded : over (recorded_in (left_by names)) found.files ≡ Ok (record { config = history.config; told = told turns history.gives.losses })
   recorded =
       let config = config_asked names old.files _ history.asked in
       let stays : found.files names.config ≡ old.files names.config =
       finds.same names.config ∙ was.others names.config (config_stays was.words names was.asked) in
-      let now : over (config_in names.config) found.files ≡ Ok history.config = rw stays config in
+      let now = config_there names.config history.config old.files found.files stays config in
       let journal = file_is 16777216 names.journal text found.files (finds.same names.journal ∙ journal_is) text_is_short in
       let folds = folds_as history.config text (told turns history.gives.losses)
       (few_in names.config history.config old.files config) (record { fits = history.history.fits; is_text = refl }) history.history.causal in
-      over_then (config_in names.config) (told_in names.journal) history.config found.files now ∙ rw (journal, folds) refl
+      let read : over (file 16777216 names.journal) found.files ≡ Ok text = rw journal refl in
+      over_then (config_in names.config) (told_in names.journal) history.config found.files now
+      ∙ over_then (file 16777216 names.journal) next text found.files read ∙ rw folds refl
 
   -- the messages may be read: they are at most four times the journal
   messages_found : file_of 67108864 names.messages found.files ≡ Ok (messages_of history.config turns)
@@ -61,15 +68,19 @@ module _ (names : ReplayFiles) (old left found : Shelved) (was : WasReplayed nam
       ≡ Ok (does (fold_work (record { from = left_by names; messages = messages; memory = memory }) history.config turns))
   unfolding Judge.reading_of
   fold_serves messages memory =
-      over_then (recorded_in (left_by names)) (λ (own : Recorded). gives (does (fold_work _ own.config own.told.turns))) _ found.files recorded
+      over_then (recorded_in (left_by names))
+      (λ (own : Recorded). gives (does (fold_work (record { from = left_by names; messages = messages; memory = memory }) own.config own.told.turns)))
+      _ found.files recorded
 
   check_serves : judge (check_again names) found.files ≡ Ok (does (only_said (codes "same\n")))
   unfolding Judge.reading_of
   check_serves =
       let sent = messages_of history.config turns in
+      let read : over (file 67108864 names.messages) found.files ≡ Ok sent = rw messages_found refl in
       over_then (recorded_in (left_by names))
       (λ (own : Recorded). file 67108864 names.messages >>= λ bytes. check_judged bytes (messages_of own.config own.told.turns)) _ found.files recorded
-      ∙ rw (messages_found, (bytes_eq-Decides sent sent).1 refl) refl
+      ∙ over_then (file 67108864 names.messages) (λ bytes. check_judged bytes sent) sent found.files read
+      ∙ rw ((bytes_eq-Decides sent sent).1 refl) refl
 
 -- ---- how runs end
 

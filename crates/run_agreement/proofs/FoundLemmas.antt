@@ -14,7 +14,7 @@ use Rattle.config_json.specs.Configured.{config_of, configuration, tree_of}
 use Rattle.config_json.specs.Members.{parts_in}
 use Rattle.config_json.specs.Shape.{config_shape}
 use Rattle.ids_outside.specs.Files.{Files}
-use Rattle.run_files.proofs.ReadingLemmas.{over_parts}
+use Rattle.run_files.proofs.ReadingLemmas.{over_parts, over_then}
 use Rattle.run_files.specs.Reading.{file, gives, over, ◌>>=◌}
 use Rattle.run_files.specs.Writing.{IsNoneOf}
 use Rattle.run_steps.proofs.MadeLemmas.{are_apart}
@@ -51,6 +51,19 @@ few_events text config is = events_in (tree_of text) config is
 config_judged : (found : Result Parts ConfigFault) (config : Parts) (files : Files) → over (config_found found) files ≡ Ok config → found ≡ Ok config
 config_judged (Ok own) config files is = ap Ok (cc is)
 config_judged (Err fault) config files is = absurd cc
+
+judged_alone : (found : Result Parts ConfigFault) (files others : Files) → over (config_found found) others ≡ over (config_found found) files
+judged_alone (Ok own) files others = refl
+judged_alone (Err fault) files others = refl
+
+-- where a file has the same bytes among other files, it has the same configuration
+pub config_there : (name : List ℕ) (config : Parts) (files others : Files) → others name ≡ files name → over (config_in name) files ≡ Ok config
+    → over (config_in name) others ≡ Ok config
+config_there name config files others same is =
+    let text = over_parts (file 1048576 name) (λ bytes. config_found (configuration bytes)) config files is in
+    let read : over (file 1048576 name) others ≡ Ok text.0 = rw same text.1 in
+    over_then (file 1048576 name) (λ bytes. config_found (configuration bytes)) text.0 others read
+    ∙ judged_alone (configuration text.0) files others ∙ text.2
 
 abbrev asked_for : Parts → List Round → AskedFor
 asked_for config rounds = record { config = config; rounds = rounds }
