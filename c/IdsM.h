@@ -15,6 +15,7 @@
 
 #ifndef IDSM_CALLER
 #error "IdsM.h: define IDSM_CALLER() before it is included, as the idsm_caller * of the task or interrupt level that runs"
+#define IDSM_CALLER() ((idsm_caller *)0) /* So that the compiler says no more than this. */
 #endif
 #if defined(IDSM_TICK) != defined(IDSM_SEND)
 #error "IdsM.h: define both IDSM_TICK() and IDSM_SEND(message, length) before it is included, or neither"
@@ -93,8 +94,9 @@ static inline IdsM_ReturnType IdsM_GetVersionInfo(IDSM_VERSION_INFO_TYPE *info)
 static inline void IdsM_SendMessages(void)
 {
     size_t at = 0, length;
-    while (idsm_message(IdsM_Unit.messages, (size_t)IdsM_Unit.sent.bytes, at, &length) == IDSM_DONE) {
+    while (idsm_message(IdsM_Unit.messages, IdsM_Unit.sent.bytes, at, &length) == IDSM_DONE) {
         const uint8_t *message = &IdsM_Unit.messages[at];
+        (void)message; /* IDSM_SEND may look at the length alone. */
         IDSM_SEND(message, length);
         at += length;
     }

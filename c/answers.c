@@ -117,7 +117,8 @@ static void made_header(void)
     expect("IDSM_CFG_CLASSES", 1, IDSM_CFG_CLASSES);
     expect("IDSM_CFG_EVENTS", 5, IDSM_CFG_EVENTS);
     expect("IDSM_CFG_RING", 4, IDSM_CFG_RING);
-    expect("IDSM_CFG_BUFFER", 12528, IDSM_CFG_BUFFER);
+    expect("IDSM_CFG_BUFFER", 300, IDSM_CFG_BUFFER);
+    expect("IDSM_CFG_MEMORY", 8002, IDSM_CFG_MEMORY);
     expect("IDSM_EVENT_42", 42, IDSM_EVENT_42);
     expect("IDSM_EVENT_BAD_LOGIN", 4100, IDSM_EVENT_BAD_LOGIN);
     expect("the place of 42", 0, idsm_cfg_place(42));
@@ -125,7 +126,7 @@ static void made_header(void)
     expect("the place of 7", 2, idsm_cfg_place(IDSM_EVENT_7));
     expect("the place of 9, which two events have", 65535, idsm_cfg_place(9));
     expect("idsm_buffer_size", 0, idsm_buffer_size(&IdsM_Unit.manager, &bytes));
-    expect("the buffer's size", 12528, bytes);
+    expect("the buffer's size", 300, bytes);
 #ifdef IDSM_EVENT_9
     expect("a name for an id of two events", 0, 1);
 #endif
@@ -271,7 +272,7 @@ static void refused_reports(void)
 
 static void refused_turns(void)
 {
-    static uint8_t buffer[12528];
+    static uint8_t buffer[300];
     idsm_manager *manager = &IdsM_Unit.manager;
     idsm_manager other = {NULL, NULL, 0, {0, 0, 0, 0}};
     idsm_sent sent;
@@ -280,7 +281,7 @@ static void refused_turns(void)
     expect("a tick too large", 9, idsm_main(manager, ((uint64_t)1 << 62) + 1, buffer, sizeof buffer, &sent));
     expect("a small buffer", 13, idsm_main(manager, tick, buffer, sizeof buffer - 1, &sent));
     expect("no buffer", 13, idsm_main(manager, tick, NULL, 0, &sent));
-    expect("NULL as buffer", 15, idsm_main(manager, tick, NULL, 12528, &sent));
+    expect("NULL as buffer", 15, idsm_main(manager, tick, NULL, 300, &sent));
     expect("NULL as sent", 15, idsm_main(manager, tick, buffer, sizeof buffer, NULL));
     expect("NULL as manager", 15, idsm_main(NULL, tick, buffer, sizeof buffer, &sent));
     expect("a close back", 8, idsm_close(manager, 1, buffer, sizeof buffer, &sent, &totals));

@@ -382,7 +382,10 @@ uint8_t idsm_raw_set_mode(word *caller, uint16_t event, uint8_t mode)
 
 static uint64_t most_bytes(const struct config *config)
 {
-    return IDSM_MOST_MESSAGE * ((uint64_t)config->ring + config->events + 3);
+    uint64_t reports = (uint64_t)config->ring + config->events, largest = 0;
+    for (uint32_t i = 0; i < config->classes; i++)
+        largest = config->size[i] > largest ? config->size[i] : largest;
+    return 16 * (reports + 3) + (largest > 0 ? 4 + largest : 0) * reports;
 }
 
 uint8_t idsm_raw_buffer_size(word *manager, uint64_t *bytes)

@@ -2,7 +2,7 @@
 --
 -- wireshark/README.md says how it is installed and used; wireshark/check compares it with the program idsm.
 --
--- A packet holds messages one behind the other, or units one behind the other. Each message is read once, from its
+-- A packet holds messages one after the other, or units one after the other. Each message is read once, from its
 -- first byte on, and shown before the next is read. What cannot be read is told in the words of `idsm decode` and
 -- `idsm unbundle`, as an expert info; no bytes make a Lua error.
 
@@ -32,7 +32,7 @@ local VERSION_BITS, INSTANCE_BITS, SENSOR_BITS = { at = 0, count = 4 }, { at = 0
 local NANOSECOND_BITS = { at = 2, count = 30 } -- of a timestamp's first half
 local UNKNOWN_BIT, SIGNATURE_BIT, TIMESTAMP_BIT, CONTEXT_BIT = 4, 5, 6, 7
 local SIGNATURE_FLAG = 4 -- what the signature's bit adds to the first byte
-local LONG_FORM_BIT = 0 -- of a context's length; the bits behind it are the number
+local LONG_FORM_BIT = 0 -- of a context's length; the bits after it are the number
 
 local PROFILE_1, PROFILE_2 = 1, 2
 
@@ -200,7 +200,7 @@ local function primes(count)
     return found
 end
 
--- The first 32 bits of what is behind the point in this root of each of the first so many primes.
+-- The first 32 bits of what is after the point in this root of each of the first so many primes.
 local function bits_of_roots(count, exponent)
     local words = {}
     for i, prime in ipairs(primes(count)) do words[i] = math.floor(prime ^ exponent % 1 * WORDS) end
@@ -424,7 +424,7 @@ local function show_bad_message(tree, bytes, at, reason)
     return show_no_message(tree, bytes, told.bad, ("bad message at %d: %s"):format(at, reason))
 end
 
--- Shows what stands behind the messages of a packet, and answers what is told of it. It is no fault of a message that
+-- Shows what stands after the messages of a packet, and answers what is told of it. It is no fault of a message that
 -- bytes are missing which the capture did not keep.
 local function show_rest(tree, tvb, shown)
     local bytes = tvb(shown.to, tvb:captured_len() - shown.to)
@@ -482,7 +482,7 @@ local function show_unit(tree, tvb, at, to, pinfo)
     return shown.count, shown.first, text
 end
 
--- Shows what stands behind the units of a packet, and answers what is told of it. It is no fault of a unit that bytes
+-- Shows what stands after the units of a packet, and answers what is told of it. It is no fault of a unit that bytes
 -- are missing which the capture did not keep.
 local function show_part_of_unit(tree, tvb, at)
     local item = tree:add(units, tvb(at, tvb:captured_len() - at))

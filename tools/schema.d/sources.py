@@ -49,14 +49,14 @@ def rows_of_code() -> Rows:
     rows = {name.lower(): rows_in(body) for name, body in re.findall(r"const (\w+): [^=]*= \[(.*?)\];", text, re.S)}
     for name in ("top", "event"):
         macro = find(rf"macro_rules! {name} \{{(.*?)^\}}", text, CODE_TABLES)[1]
-        before, _, behind = macro.partition("$($row,)*")
+        before, _, after = macro.partition("$($row,)*")
         first, second = (
             rows_in(find(rf"const {const}: [^=]*= {name}!\((.*?)\);", text, CODE_TABLES)[1])
             for const in (name.upper(), name.upper() + "_2")
         )
         between = [it for it in first if it in second]
         between += [it._replace(is_second=True) for it in second if it not in first]
-        rows[name] = [*rows_in(before), *between, *rows_in(behind)]
+        rows[name] = [*rows_in(before), *between, *rows_in(after)]
     return rows
 
 

@@ -63,7 +63,7 @@ class Mode:
 
 @dataclass(frozen=True)
 class Loss:
-    """A call that found no report buffer, when so many had been given back."""
+    """A call that found no event buffer, when so many had been given back."""
     caller: int
     call: int
     given: int

@@ -42,7 +42,7 @@ def calls_of(trace: str) -> dict[tuple[int, int], Optional[tuple[int, int]]]:
 def lost_in(run: Run, trace: str) -> list[list[tuple[int, int]]]:
     """The lost reports, each by event and count, and before which turn they are counted.
 
-    The journal tells how many report buffers had been given back when a call was lost, and each turn tells how many
+    The journal tells how many event buffers had been given back when a call was lost, and each turn tells how many
     reports were lost since the turn before. So the lost reports, in the order of the first, fill the numbers of the
     second; those of a journal that tells fewer are put before its last turn.
     """

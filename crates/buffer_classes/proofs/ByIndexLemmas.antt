@@ -60,7 +60,7 @@ module _ {A : Type 0} {R : ℕ → A → A → Type 0} {olds mids : List A} (i :
     ];
   }
 
--- one relation behind another
+-- one relation after another
 pub all_then : {A : Type 0} {R S T : ℕ → A → A → Type 0} {olds mids news : List A} → AllOf R olds mids → AllOf S mids news
     → ((i : ℕ) (old mid new : A) → R i old mid → S i mid new → T i old new) → AllOf T olds news
 all_then {olds = olds} {mids = mids} first second then = record {

@@ -18,7 +18,7 @@ fits_from bytes above zero size (x ∷ sizes) rise from e = grind arith
 fits_from bytes above (suc i) size (x ∷ sizes) rise from e =
     grind (arith, fits_from bytes x i size sizes rise.1, above_all x i size sizes rise.1 e)
 
--- it is one of the classes, or behind the last
+-- it is one of the classes, or after the last
 pub first_within : (bytes : ℕ) (sizes : List ℕ) → first_fitting bytes sizes ≤ length sizes
 first_within bytes [] = omega arith
 first_within bytes (size ∷ sizes) = grind (arith, first_within bytes sizes)

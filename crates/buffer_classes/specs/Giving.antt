@@ -75,7 +75,7 @@ Begins old new = (mid : Giver) × ReapsAll old mid × FillsLate mid new × IsFil
 abbrev pub Accounts : ℕ → Giver → Giver → Type 0
 Accounts count old new = (in_all new ≡ in_all old + count) ⊎ ((new.number ≤ late_count new) × (in_all new ≤ in_all old + count))
 
--- so many buffers are put into vacant positions, or behind the late ones
+-- so many buffers are put into vacant positions, or after the late ones
 pub record Puts (count : ℕ) (old new : Giver) : Type 0 where
   pub memo_is : giver_memo new ≡ giver_memo old
   pub account : Accounts count old new

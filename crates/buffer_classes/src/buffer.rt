@@ -61,6 +61,8 @@ impl CtxBuf {
     }
 
     /// Holds these bytes, and no others, from now on.
+    /// Steps: the bytes, and those that it held: at most its size each. By: condition: at most its size; invariant
+    /// `HasItsRoom`; read off.
     pub fn fill(&mut self, bytes: &[u8])
         requires { length bytes.now ≤ self.old.size }
         ensures { self.new ≡ filled_with bytes.now self.old }

@@ -28,7 +28,7 @@ impl Giver {
         self.put_late(ring);
     }
 
-    // Reaps until the next ticket is not finished, and reads no mark behind that.
+    // Reaps until the next ticket is not finished, and reads no mark after that.
     fn reap_all(&mut self, ring: &Ring<Buffers>)
         requires mine { IsGiverOf ring.now self.old }
         ensures mine { IsGiverOf ring.now self.new }

@@ -44,6 +44,7 @@ impl Looks {
         self.len += 1;
     }
 
+    /// By: `few`: at most 4.
     pub fn len(&self) -> usize
         ensures value { result ≡ length self.now }
         ensures few { result ≤ 4 }
@@ -65,6 +66,7 @@ impl Looks {
     }
 
     /// How many buffers had been claimed at each look.
+    /// Steps: at most 4 numbers. By: type `[u64; 4]`.
     pub fn claimed(&self) -> Numbers
         ensures { result ≡ self.now }
     {

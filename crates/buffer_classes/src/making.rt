@@ -96,6 +96,9 @@ fn hand_out(claimants: &mut Vec<ClaimSeat>, mut seats: Vec<Seat<Buffers>>)
 
 /// Makes a class for each of `specs`, all its buffers free, and as many claimants as are asked for. It is the one
 /// call of the classes that takes memory.
+/// Steps: all buffers of all classes, each with a request, and the claimants at each class. Memory: made once: the
+/// buffers' bytes, at most 4 MiB, and their places. By: read off; `AreNewClasses`; no other call of the classes answers
+/// NoMemory.
 pub fn make(alloc: Global, specs: &[ClassSpec], seats: u8) -> Result<MadeClasses, NoMemory>
     requires classes { AreSpecs specs.now }
     requires seats { (1 ≤ seats) × (seats ≤ 32) }

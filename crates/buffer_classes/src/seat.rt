@@ -34,6 +34,9 @@ pub struct ClaimSeat {
 impl ClaimSeat {
     /// Claims a buffer for so many bytes. The fitting classes are asked from the smallest on. A claimed buffer keeps
     /// the bytes of its last user until it is filled.
+    /// Steps: the classes that fit, at most 4, until one has a buffer free: one load and at most one fetch_add each,
+    /// and an exchange and a store where one has. By: `few_steps`: at most three steps at each class that fits; `steps`
+    /// (`Asks`), `told` (`ClaimTells`); answer `Claim`, no NoMemory; the classes by `&`.
     pub fn claim(&mut self, classes: &Classes, len: u64) -> Claim
         requires mine { IsClaimSeatOf classes.now self.old }
         requires some { 1 ≤ len }

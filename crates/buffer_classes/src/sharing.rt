@@ -11,6 +11,7 @@ fn is_send<T: Send>() {}
 
 /// The classes may be shared by threads; a claimant, the one who gives buffers back, and each buffer may go to a
 /// thread of its own.
+/// Steps: none: a law of types. By: bounds `Send` and `Sync` of its body.
 pub fn parts_may_be_shared() {
     is_send_and_sync::<Classes>();
     is_send::<Givers>();

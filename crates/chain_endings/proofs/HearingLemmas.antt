@@ -42,7 +42,7 @@ along_append config before (moment ∷ first) rest =
     ap (λ es. own ++ es) (along_append config (moment ∷ before) first rest)
     ∙ sym (append_assoc own (endings_along config (moment ∷ before) first) (endings_along config (with_all (moment ∷ before) first) rest))
 
--- what is heard in a turn is what came behind all that was heard before it
+-- what is heard in a turn is what came after all that was heard before it
 pub heard_since : {A : Type 0} (f : A → Ending) (config : Parts) (before : List Moment) (turn : Turn) (old new : List A)
     → map f old ≡ told_in config before → map f new ≡ told_in config (with_all before (turn_moments config turn))
     → map f (drop (length old) new) ≡ map bare (turn_endings config before turn)

@@ -74,7 +74,7 @@ left_next {config} {tick} {entry} {entries} {out = out} left step =
           ∙ ap (λ bs. out ++ bs) (append_assoc line (line_feed ∷ []) text) ∙ left.text_left;
     }
 
--- the next element and those behind it
+-- the next element and those after it
 pub next_of : {A : Type 0} (xs : List A) (i : ℕ) (x d : A) → i < length xs → x ≡ get_or xs i d → drop i xs ≡ x ∷ drop (i + 1) xs
 next_of xs i x d less is = drop-cons xs i d less ∙ ap (λ n. get_or xs i d ∷ drop n xs) (sym (add-one i)) ∙ ap (λ y. y ∷ drop (i + 1) xs) (sym is)
 
@@ -126,7 +126,7 @@ turn_parts f config before turn told reports is count =
     (is ∙ ap (map bare) (along_append config before opens (entry_moments turn)) ∙ map-append bare first own)
     (count ∙ sym (reports_end config turn.head.tick (with_all before opens) turn.entries) ∙ sym (length-map own bare))
 
--- the turn behind those that were taken
+-- the turn after those that were taken
 pub turn_behind : (taken : List Turn) (turn : Turn) (rest : List Turn) {all : List Turn} → taken ++ (turn ∷ rest) ≡ all
     → (length taken < length all) × (turn_at all (length taken) ≡ turn)
 turn_behind taken turn rest {all} is =
@@ -142,7 +142,7 @@ text_more out lines rest was is =
 
 -- ---- lines, one after another
 
--- one line more behind others
+-- one line more after others
 pub lines_push : {A : Type 0} (before : List (List ℕ)) (line : A → List ℕ) (front : List A) (x : A)
     → text_of (before ++ map line (front ++ x ∷ [])) ≡ text_of (before ++ map line front) ++ (line x ++ line_feed ∷ [])
 lines_push before line front x =

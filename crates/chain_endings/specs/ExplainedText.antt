@@ -16,7 +16,7 @@ use Rattle.text_spec.specs.JournalText.{Told, begins, enters, loses, line_for}
 use Rattle.text_spec.specs.Words.{absent, space, text_of}
 use Rattle.chain_endings.specs.Hearing.{endings_along}
 
--- a word behind a space
+-- a word after a space
 abbrev pub field : List ℕ → List ℕ
 field word = space ∷ word
 
@@ -59,7 +59,7 @@ abbrev pub given_line : Parts → Ending → List ℕ
 given_line config ending =
     letter_of ending ++ field (decimal ending.item.event) ++ field (decimal ending.item.count) ++ fate_fields config ending
 
--- the lines of entries behind these moments: those of the journal, and behind a report what became of it
+-- the lines of entries after these moments: those of the journal, and after a report what became of it
 abbrev pub entry_lines : Parts → ℕ → List Moment → List (Entry (List ℕ)) → List (List ℕ)
 entry_lines config tick before [] = []
 entry_lines config tick before (entry ∷ entries) =
@@ -72,14 +72,14 @@ abbrev pub opening : Parts → Turn → List Moment
 opening config turn =
     closings config turn.head.tick ++ map (head_moment turn.head.tick) (heads_of (internal_of config) turn.head)
 
--- the lines of a turn behind these moments
+-- the lines of a turn after these moments
 abbrev pub turn_lines : Parts → List Moment → Turn → List (List ℕ)
 turn_lines config before turn =
     line_for (begins turn.head)
     ∷ (map (given_line config) (endings_along config before (opening config turn))
     ++ entry_lines config turn.head.tick (with_all before (opening config turn)) turn.entries)
 
--- the lines of turns, each behind those before it, the first of them first
+-- the lines of turns, each after those before it, the first of them first
 abbrev pub turns_lines : Parts → List Turn → List Turn → List (List ℕ)
 turns_lines config before [] = []
 turns_lines config before (turn ∷ turns) =

@@ -10,13 +10,13 @@ use Rattle.chain_spec.specs.Moments.{Moment, act_moment, turn_moments}
 use Rattle.event_chain.specs.Fates.{bare, ending_of}
 use Rattle.chain_endings.specs.declared.listener.Listener.{Listener}
 
--- the endings at moments that come one after another, behind these
+-- the endings at moments that come one after another, after these
 abbrev pub endings_along : Parts → List Moment → List Moment → List Ending
 endings_along config before [] = []
 endings_along config before (moment ∷ rest) =
     option_to_list (ending_at config before moment) ++ endings_along config (moment ∷ before) rest
 
--- the endings at the moments of a turn behind these
+-- the endings at the moments of a turn after these
 abbrev pub turn_endings : Parts → List Moment → Turn → List Ending
 turn_endings config before turn = endings_along config before (turn_moments config turn)
 

@@ -1,3 +1,5 @@
+//! The text of `explain`: the turns of a history with the fate of each item, its losses, and the accounts.
+
 ghost use Rattle.std.specs.Prelude.{◌≡◌, ◌++◌, [], length, reverse, IfOk, OnOk};
 ghost use Rattle.chain_plain.specs.Recorded.{CanFold};
 ghost use Rattle.event_chain.specs.Standing.{StandsWatched};
@@ -17,6 +19,8 @@ use journal::push_loss;
 use std::alloc::Global;
 
 /// The journal of a history and its losses, with what became of each item, and an account for each event.
+/// Steps: for each turn one `Chain::judge` and its lines; what was heard once more, for the accounts; and the entries
+/// once more, for what is missing. Memory: may answer want of memory. By: read off; `CanFold`.
 pub fn explain(
     alloc: Global,
     config: &Config,

@@ -47,7 +47,7 @@ pub(crate) fn push_fate(
     push_word(out, stored_word(is_stored(parts, ending)))
 }
 
-/// Appends a word behind a space.
+/// Appends a word after a space.
 fn push_word(out: &mut Vec<u8>, word: &[u8]) -> Result<(), NoMemory>
     ensures { OnOk result (out.new.items ≡ out.old.items ++ field word.now) }
 {

@@ -1,3 +1,5 @@
+//! The witness that `explain` gives to the chain: it notes the fate of each item of a turn.
+
 ghost use Rattle.std.specs.Prelude.{◌≡◌, false, List, [], map, IfOk};
 ghost use Rattle.ids_config.specs.Parts.{Parts};
 ghost use Rattle.chain_spec.specs.Moments.{Moment};

@@ -90,7 +90,7 @@ fn push_entries(
 }
 
 /// Appends the line of an entry. These are the endings that are left, the first of them its own where it is a
-/// report; gives those behind it.
+/// report; gives those after it.
 fn push_entry<'t>(
     out: &mut Vec<u8>,
     parts: &ConfigParts,
@@ -109,7 +109,7 @@ fn push_entry<'t>(
     Ok(rest)
 }
 
-/// Appends what became of the item of a report, and gives the endings behind it.
+/// Appends what became of the item of a report, and gives the endings after it.
 fn push_ended<'t>(
     out: &mut Vec<u8>,
     parts: &ConfigParts,

@@ -5,8 +5,8 @@ use Rattle.ids_types.specs.Output.{Output}
 use Rattle.ids_types.specs.Turns.{Turn}
 use Rattle.ids_config.specs.Parts.{Parts}
 use Rattle.chain_spec.specs.Chain.{handed, handed_on}
-use Rattle.chain.specs.History.{Sends, handed_of}
-use Rattle.chain.proofs.TranscriptLemmas.{newest_first, transcript_more}
+use Rattle.filter_chain.specs.History.{Sends, handed_of}
+use Rattle.filter_chain.proofs.TranscriptLemmas.{newest_first, transcript_more}
 use Rattle.chain_plain.specs.Telling.{Tallies, Tells, handed_by}
 use Rattle.chain_plain.specs.declared.tally.Tally.{Tally}
 

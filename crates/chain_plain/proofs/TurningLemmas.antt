@@ -10,9 +10,10 @@ use Rattle.ids_types.specs.declared.entry.Act.TheVariants.{Report, State, SetMod
 use Rattle.ids_types.specs.declared.entry.Carried.TheVariants.{Absent, Kept, Missing}
 use Rattle.ids_types.specs.declared.entry.Entry.{Entry}
 use Rattle.ids_types.specs.Plain.{act_bytes, kept_bytes}
-use Rattle.chain.specs.Parcels.{HandsBack, IsShort, all_parcels, parcel_of}
-use Rattle.chain.specs.Turning.{FitsAct, FitsTurn, bytes_in}
-use Rattle.chain.proofs.ParcelLemmas.{parcels_keep}
+use Rattle.filter_chain.specs.Parcels.{HandsBack, IsShort, all_parcels, parcel_of}
+use Rattle.filter_chain.specs.Turning.{FitsAct, FitsTurn, bytes_in}
+use Rattle.filter_chain.proofs.ParcelLemmas.{parcels_keep}
+use Rattle.filter_chain.proofs.RoomLemmas.{parcel_short}
 
 module _ {B : Type 0} (held : B → List ℕ) (events : ℕ) where
   -- an act fits where what it tells does
@@ -76,15 +77,10 @@ module _ {B : Type 0} (held : B → List ℕ) (events : ℕ) where
       let short = bytes_short items (recursion_from_All _ items fits.acts) in
       omega (arith, few, short)
 
-  parcel_short : (act : Act B) → FitsAct held events act → IfSome (parcel_of act) (IsShort held)
-  parcel_short (Report event count stamp context) fits = fits.1
-  parcel_short (State state) fits = tt
-  parcel_short (SetMode event mode) fits = tt
-
   -- the parcels that a chain keeps are short, where those that came and those that it kept are
   pub kept_short : (items : List (Entry B)) (before now back end : List B) → FitsTurn held events items → All (IsShort held) before
       → HandsBack (all_parcels items) before now back end → All (IsShort held) now
   kept_short items before now back end fits short hands =
       let came = All-weaker (λ (e : Entry B). FitsAct held events e.act) (λ (e : Entry B). IfSome (parcel_of e.act) (IsShort held))
-      (λ e. parcel_short e.act) items fits.acts in
+      (λ e. parcel_short held events e.act) items fits.acts in
       (parcels_keep (IsShort held) items before now back end came short hands).1

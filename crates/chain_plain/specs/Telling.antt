@@ -1,11 +1,12 @@
 -- What a history gives turn by turn, and what is told of it.
-use Rattle.std.specs.Prelude.{◌≡◌, ℕ, ◌+◌, ◌*◌, ◌≤◌, List, [], ◌∷◌, ◌++◌, reverse, vec_capacity}
+use Rattle.std.specs.Prelude.{◌≡◌, ℕ, ◌+◌, ◌≤◌, List, [], ◌∷◌, ◌++◌, reverse, vec_capacity}
 use Rattle.ids_types.specs.Output.{Output, room_of}
 use Rattle.ids_types.specs.Turns.{Turn}
 use Rattle.ids_config.specs.Parts.{Parts}
 use Rattle.chain_spec.specs.Chain.{handed}
-pub use Rattle.chain.specs.Transcripts.{ends_of}
-use Rattle.chain.specs.Transcripts.{Adds, IsTranscript}
+pub use Rattle.filter_chain.specs.Transcripts.{ends_of}
+use Rattle.filter_chain.specs.Transcripts.{Adds, IsTranscript}
+use Rattle.filter_chain.specs.Turning.{most_sent}
 use Rattle.chain_plain.specs.declared.desk.Desk.{Desk}
 use Rattle.chain_plain.specs.declared.tally.Tally.{Tally}
 
@@ -28,7 +29,7 @@ pub record HasDeskRoom (events : ℕ) (desk : Desk) : Type 0 where
   pub nothing_back : desk.back.items ≡ []
   pub items_room : 1024 ≤ vec_capacity desk.items
   pub back_room : 1024 + events ≤ vec_capacity desk.back
-  pub sent_room : 1044 * (1024 + events + 3) ≤ (room_of desk.out).sent
+  pub sent_room : most_sent 1024 1024 events ≤ (room_of desk.out).sent
 
 -- nothing on it, and such room
 pub record IsReady (events : ℕ) (desk : Desk) : Type 0 where

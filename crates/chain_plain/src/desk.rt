@@ -5,21 +5,24 @@ ghost use Rattle.std.specs.List.{All};
 ghost use Rattle.ids_types.specs.Plain.{plain_entry};
 ghost use Rattle.ids_types.specs.Turns.{Turn};
 ghost use Rattle.ids_config.specs.Parts.{Parts};
-ghost use Rattle.chain.specs.History.{last_tick, Sends};
-ghost use Rattle.chain.specs.Parcels.{IsShort};
-ghost use Rattle.chain.specs.Turning.{FitsTurn, turn_by};
+ghost use Rattle.filter_chain.specs.History.{last_tick, Sends};
+ghost use Rattle.filter_chain.specs.Parcels.{IsShort};
+ghost use Rattle.filter_chain.specs.Turning.{FitsTurn, turn_by};
 ghost use Rattle.chain_plain.specs.Recorded.{CanTake, turn_with};
 ghost use Rattle.chain_plain.specs.Telling.{HasDeskRoom, IsReady};
 
-use chain::{Chain, most_sent};
+use filter_chain::{Chain, most_sent};
 use ids_types::{Entry, EntryWalk, NoMemory, Plain, TurnHead, TurnOut};
 use std::alloc::Global;
 
 /// How many entries a turn has at most.
 pub const MOST_ENTRIES: u64 = 1024;
 
-/// How many bytes of context data a turn has at most: 1,024 for each entry.
-pub const MOST_BYTES: u64 = 1024 * MOST_ENTRIES;
+/// How many bytes of context data an entry has at most.
+const MOST_CONTEXT: u64 = 1024;
+
+/// How many bytes of context data a turn has at most.
+pub const MOST_BYTES: u64 = MOST_CONTEXT * MOST_ENTRIES;
 
 /// Room for the entries of a turn, for the parcels that come back, and for what the turn gives.
 #[derive(Debug, Drop)]
@@ -33,6 +36,7 @@ pub struct Desk<'h> {
 
 impl<'h> Desk<'h> {
     /// Room for each turn of a chain of so many events.
+    /// Memory: made once: room for 1,024 entries, and at most 1,339,452 bytes of messages. By: `IsReady`; no loop.
     pub fn make(alloc: Global, events: u64) -> Result<Desk<'h>, NoMemory>
         requires { events ≤ 256 }
         ensures { IfOk result (IsReady events) }
@@ -40,11 +44,13 @@ impl<'h> Desk<'h> {
         Ok(Desk {
             items: Vec::with_capacity(alloc, MOST_ENTRIES as usize)?,
             back: Vec::with_capacity(alloc, (MOST_ENTRIES + events) as usize)?,
-            out: TurnOut::make(alloc, 0, 0, most_sent(MOST_ENTRIES, events))?,
+            out: TurnOut::make(alloc, 0, 0, most_sent(MOST_CONTEXT, MOST_ENTRIES, events))?,
         })
     }
 
     /// Has a chain that has room for the largest turn take one of these entries.
+    /// Steps: the entries put on the desk, and one `Chain::judge`. Waits: as its chain; `EventChain`: no. By: `stands`,
+    /// `sends`; condition `fits`; read off.
     pub fn take<C: Chain<Plain<'h>>>(
         &mut self,
         chain: &mut C,
@@ -70,6 +76,8 @@ impl<'h> Desk<'h> {
     }
 
     /// Has a chain that has room for the largest turn take one of the items.
+    /// Steps: one `Chain::judge`, and the parcels that came back. Waits: as its chain; `EventChain`: no. By: `ready`;
+    /// condition `fits`; read off.
     pub fn turn<C: Chain<Plain<'h>>>(&mut self, chain: &mut C, head: &TurnHead)
         requires fits { C.has_room chain.old 1024 (1024 * 1024) ≡ true }
         requires room { HasDeskRoom (C.events chain.old) self.old }
@@ -90,7 +98,7 @@ impl<'h> Desk<'h> {
     }
 }
 
-/// Puts the entries behind the items.
+/// Puts the entries after the items.
 fn put_entries<'h>(entries: EntryWalk<'h>, items: &mut Vec<Entry<Plain<'h>>>)
     requires { vec_len items.old + length entries ≤ vec_capacity items.old }
     ensures items { map plain_entry items.new.items ≡ map plain_entry items.old.items ++ entries.entry }

@@ -1,13 +1,15 @@
+//! What a whole history gives: its messages and its event memory.
+
 ghost use Rattle.std.specs.Prelude.{◌≡◌, length, reverse, IfOk};
-ghost use Rattle.chain.specs.History.{count_of, messages_of, rows_of};
+ghost use Rattle.filter_chain.specs.History.{count_of, messages_of, rows_of};
 ghost use Rattle.chain_plain.specs.Recorded.{CanFold};
 ghost use Rattle.chain_plain.specs.Telling.{ends_of, handed_by};
 
 use crate::folding::fold;
 use crate::tally::Tally;
-use chain::Transcript;
 use event_chain::EventChain;
 use event_memory::Memory;
+use filter_chain::Transcript;
 use ids_config::Config;
 use ids_types::{History, NoMemory};
 use std::alloc::Global;
@@ -15,7 +17,7 @@ use std::alloc::Global;
 /// What the filter chain gives for a recorded history.
 #[derive(Debug, Drop)]
 pub struct Folded {
-    /// The messages that were sent, one behind the other.
+    /// The messages that were sent, one after the other.
     pub sent: Vec<u8>,
     /// How many bytes were sent by the end of each turn.
     pub ends: Vec<u64>,
@@ -23,11 +25,13 @@ pub struct Folded {
     pub limited: Vec<u64>,
     /// How many messages were sent.
     pub messages: u64,
-    /// The event memory behind the last turn.
+    /// The event memory after the last turn.
     pub memory: Memory,
 }
 
 /// What the filter chain of a configuration gives for a recorded history.
+/// Steps: for each turn one `Chain::judge`, so the events that are aggregated again, at most 256, whatever the turn
+/// has; the entries; and the bytes that are sent. Memory: may answer want of memory. By: read off; `CanFold`.
 pub fn outcome(alloc: Global, config: &Config, history: &History) -> Result<Folded, NoMemory>
     requires { CanFold (length config.now.events) history.now.turns }
     ensures sent { IfOk result (λ folded. folded.sent.items ≡ messages_of config.now history.now.turns) }

@@ -1,16 +1,20 @@
+//! Folding a history through any chain, turn by turn.
+
 ghost use Rattle.std.specs.Prelude.{◌≡◌, [], length, IfOk, OnOk};
-ghost use Rattle.chain.specs.Parcels.{IsShort};
+ghost use Rattle.filter_chain.specs.Parcels.{IsShort};
 ghost use Rattle.chain_plain.specs.Recorded.{CanFold};
 ghost use Rattle.chain_plain.specs.Telling.{Tells};
 
 use crate::desk::{Desk, MOST_BYTES, MOST_ENTRIES};
 use crate::tally::Tally;
-use chain::Chain;
+use filter_chain::Chain;
 use ids_config::Config;
 use ids_types::{History, NoMemory, Plain};
 use std::alloc::Global;
 
 /// Has a chain that took no turn yet take those of a history.
+/// Steps: as `outcome`, for the chain that it is given. Memory: may answer want of memory. Waits: as its chain;
+/// `EventChain`: no. By: read off; `CanFold`.
 pub fn fold<'h, C: Chain<Plain<'h>>>(
     alloc: Global,
     config: &Config,

@@ -6,17 +6,19 @@ ghost use Rattle.ids_types.specs.Carries.{entry_by};
 ghost use Rattle.ids_types.specs.Output.{room_of};
 ghost use Rattle.ids_types.specs.Plain.{plain_entry};
 ghost use Rattle.ids_config.specs.Parts.{Parts};
-ghost use Rattle.chain.specs.History.{last_tick, Sends};
-ghost use Rattle.chain.specs.Turning.{FitsTurn, most_sent, turn_by};
+ghost use Rattle.filter_chain.specs.History.{last_tick, Sends};
+ghost use Rattle.filter_chain.specs.Turning.{FitsTurn, most_sent, turn_by};
 ghost use Rattle.chain_plain.specs.Recorded.{AreInOrder, CanTake};
 ghost use Rattle.chain_plain.specs.Telling.{IsReady};
 
 use crate::desk::Desk;
-use chain::{Chain, lent};
+use filter_chain::{Chain, lent};
 use ids_types::{Entry, History, Parcel, Plain, TurnHead, TurnOut};
 
 /// Has a chain that took no turn yet take those of a history, and then one of these items, whose messages are the
 /// output's. The chain always has room, and no memory is taken.
+/// Steps: for each turn of the history one `Chain::judge`, and one more for the items, which are lent before. Waits: as
+/// its chain; `EventChain`: no. By: conditions `fits`, `ready`, `items`; read off.
 pub fn retake<'h, B: Parcel, C: Chain<Plain<'h>>>(
     mut chain: C,
     mut desk: Desk<'h>,
@@ -30,7 +32,7 @@ pub fn retake<'h, B: Parcel, C: Chain<Plain<'h>>>(
     requires kept { C.kept chain ≡ [] }
     requires turns { All (CanTake (C.events chain)) history.now.turns }
     requires items { FitsTurn B.held (C.events chain) items.now }
-    requires out { most_sent (length items.now) (C.events chain) ≤ (room_of out.old).sent }
+    requires out { most_sent 1024 (length items.now) (C.events chain) ≤ (room_of out.old).sent }
     ensures took { (config : Parts) → C.stands chain config [] → AreInOrder (reverse history.now.turns) →
         last_tick history.now.turns ≤ head.now.tick →
         C.stands result config (history.now.turns ++ turn_by B.held head.now items.now ∷ [])

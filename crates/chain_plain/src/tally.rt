@@ -1,8 +1,10 @@
+//! What turns gave so far: how much they sent, and what each hands on to the next.
+
 ghost use Rattle.std.specs.Prelude.{◌≡◌, [], IfOk, OnOk};
-ghost use Rattle.chain.specs.Transcripts.{IsEmpty};
+ghost use Rattle.filter_chain.specs.Transcripts.{IsEmpty};
 ghost use Rattle.chain_plain.specs.Telling.{Tallies};
 
-use chain::Transcript;
+use filter_chain::Transcript;
 use ids_types::{NoMemory, TurnOut};
 use std::alloc::Global;
 
@@ -15,6 +17,7 @@ pub struct Tally {
 
 impl Tally {
     /// Before the first turn, with room for the numbers of so many.
+    /// Steps: as `Transcript::make`. Memory: may answer want of memory; what was sent grows later.
     pub fn make(alloc: Global, turns: u64) -> Result<Tally, NoMemory>
         ensures transcript { IfOk result (λ tally. IsEmpty tally.transcript) }
         ensures limited { IfOk result (λ tally. tally.limited.items ≡ []) }
@@ -26,6 +29,7 @@ impl Tally {
     }
 
     /// Adds a turn: its output, and the number that it hands on.
+    /// Steps: as `Transcript::add`. Memory: may answer want of memory. By: `Tallies`; no loop.
     pub fn add(&mut self, out: &TurnOut, limited: u64) -> Result<(), NoMemory>
         ensures { OnOk result (Tallies out.now limited self.old self.new) }
     {

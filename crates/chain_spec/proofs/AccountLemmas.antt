@@ -49,7 +49,7 @@ module _ (config : Parts) (w : Bool) (c b r s g q : ℕ) (a : Account) (x : Item
   given_by_threshold : With c b r s (suc g) q true at_threshold
   given_by_threshold = grind arith
 
-  -- the three ways to be qualified: behind all filters, past them, and out of a window
+  -- the three ways to be qualified: after all filters, past them, and out of a window
   record Qualifies (fate : Fate) : Type 0 where
     through : w ≡ false → With (suc c) b (suc r) (suc s) (suc g) (suc q) false fate
     past : With (suc c) (suc b) r s g (suc q) false fate
@@ -133,7 +133,7 @@ module _ (config : Parts) where
       same_lists _ _ _ _ _ _ _ _ _ _ _ (joined_more config before (comes item)) (passed_more config before (comes item))
       (rw (eq-eqb item.event item.event refl) (coming_holds config before item _ (balanced_ways before kept h)))
 
-  -- what is behind the aggregation filter of another event's item, and what passes the threshold, is of another
+  -- what is after the aggregation filter of another event's item, and what passes the threshold, is of another
   other_joined : (event : ℕ) (before : List Moment) (o : Option Item) → IfSome o (λ one. is_of event one ≡ false)
       → IfSome (joined_by config before o) (λ one. is_of event one ≡ false)
   other_joined event before None is = tt

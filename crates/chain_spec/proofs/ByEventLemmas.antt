@@ -191,7 +191,7 @@ module _ (config : Parts) (event : ℕ) where
               rw is (assumption (same, later.below, later.opens, later.older))
         ] refl
 
-    -- this turn has closed the event's window, behind other turns
+    -- this turn has closed the event's window, after other turns
     abbrev pub HasClosed : ℕ → List ℕ → List ACall → Type 0
     HasClosed tick rest calls = closing_ticks event calls ≡ tick ∷ rest
 

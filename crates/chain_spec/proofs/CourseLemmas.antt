@@ -10,7 +10,7 @@ added_maybe stage None before = refl
 added_maybe stage (Some x) before = refl
 
 module _ (config : Parts) (before : List Moment) where
-  -- what the filters behind the gate give of a sampled item
+  -- what the filters after the gate give of a sampled item
   abbrev pub joined_by : Option Item → Option Item
   joined_by o = option_and_then (aggregated_at config (gated config before)) (option_map arrival o)
 
@@ -18,7 +18,7 @@ module _ (config : Parts) (before : List Moment) where
   abbrev pub passed_by : Option Item → Option Item
   passed_by o = option_and_then (thresholded_at config (aggregated config before)) o
 
-  -- what is behind the aggregation filter with a moment more
+  -- what is after the aggregation filter with a moment more
   pub joined_more : (moment : Moment) → aggregated config (moment ∷ before)
       ≡ option_to_list (option_and_then (aggregated_at config (gated config before)) (gated_at config before moment))
       ++ aggregated config before
@@ -34,7 +34,7 @@ module _ (config : Parts) (before : List Moment) where
       (added_behind (gated_at config) (aggregated_at config) before)
 
   -- what holds of an item that comes, on each way that it can go: of what bypasses the filters, arrives, is sampled,
-  -- is behind the aggregation filter and is qualified of it, and of its fate
+  -- is after the aggregation filter and is qualified of it, and of its fate
   pub record OnEachWay (item : Item) (Holds : (b r s g q : Option Item) → Fate → Type 0) : Type 0 where
     pub mode : Holds None None None None None at_mode
     pub block : Holds None None None None None at_block
@@ -48,7 +48,7 @@ module _ (config : Parts) (before : List Moment) where
     pub past : Holds (Some item) None None None (Some item) (qualified_fate config (qualified config before) item)
 
   module _ (item : Item) (Holds : (b r s g q : Option Item) → Fate → Type 0) (on : OnEachWay item Holds) where
-    -- its fate by the mode, the state, the rank and what is behind them
+    -- its fate by the mode, the state, the rank and what is after them
     abbrev fate_by : (bypasses filtered blocked nth : Bool) → Fate
     fate_by bypasses filtered blocked nth =
         if bypasses then qualified_fate config (qualified config before) item
@@ -58,7 +58,7 @@ module _ (config : Parts) (before : List Moment) where
         else if is_some (event_at config item.event).aggregate then in_window
         else aggregated_fate config before item
 
-    -- where it is behind the aggregation filter
+    -- where it is after the aggregation filter
     counted_holds : (passes : Bool) → (event_at config item.event).aggregate ≡ None
         → Holds None (Some item) (Some item) (Some item) (where_true passes item)
         (if not passes then at_threshold else qualified_fate config (qualified config before) item)

@@ -2,7 +2,7 @@
 use Rattle.chain_spec.proofs.Names.{◌≡◌, ℕ, suc, ◌<◌, List, [], ◌∷◌, ◌++◌, length, map, filter, Option, Some, None, Bool, option_to_list, option_and_then, option_map, refl, sym, ap, ◌∙◌, append_assoc, arith, AllByRecursion, map-append, filter-append, All-from_recursion, AllPairs-cons, EndsWith, Stage, added, behind, with_all}
 use Rattle.chain_spec.specs.Places.{placed, HaveOwnPlaces}
 
--- two stages one behind the other add what the second adds to the list of the first
+-- two stages one after the other add what the second adds to the list of the first
 pub added_behind : {A B C : Type 0} (first : Stage A B) (second : Stage B C) (xs : List A)
     → added (behind first second) xs ≡ added second (added first xs)
 added_behind first second [] = refl

@@ -63,7 +63,7 @@ turn tick acts = turn_with tick 0 0 0 acts
 abbrev a_parcel : List Turn
 a_parcel = turn 5 (with_context (161 ∷ 178 ∷ []) ∷ []) ∷ []
 
--- three reports in a turn, of which one is held back, and the turn behind it
+-- three reports in a turn, of which one is held back, and the turn after it
 abbrev pub three_at_once : List Turn
 three_at_once = turn 0 (seen 0 1 ∷ seen 0 1 ∷ seen 0 1 ∷ []) ∷ turn_with 1 0 0 1 [] ∷ []
 

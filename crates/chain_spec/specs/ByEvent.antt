@@ -35,7 +35,7 @@ abbrev pub closed_item : Aggregate → List ℕ → Window (Arrival (List ℕ)) 
 closed_item setting ticks w =
     option_map (λ tick. item_at tick (joined setting.last w)) (first_from (w.opener.tick + setting.interval) ticks)
 
--- the items of an event behind aggregation, over turns at these ticks: one for each window that closes
+-- the items of an event after aggregation, over turns at these ticks: one for each window that closes
 abbrev pub closed_items : Option Aggregate → List ℕ → List Item → List Item
 closed_items None ticks items = items
 closed_items (Some setting) ticks items =

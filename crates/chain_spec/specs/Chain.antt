@@ -1,6 +1,6 @@
 -- What the whole chain gives for a history: which messages are sent, and what is held back. Turns have the
 -- newest first, and so have all lists but the bytes of messages.
--- Public standard: AUTOSAR SWS Intrusion Detection System Manager, rate and traffic limitation behind the filter
+-- Public standard: AUTOSAR SWS Intrusion Detection System Manager, rate and traffic limitation after the filter
 -- chain. That an internal event counts what both limits held back is this project's own.
 use Rattle.std.specs.Prelude.{◌≡◌, ℕ, ◌-◌, ◌&&◌, not, Bool, List, [], ◌∷◌, length, map, filter, ⊤}
 use Rattle.ids_types.specs.Turns.{Turn}

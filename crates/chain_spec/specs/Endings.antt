@@ -41,7 +41,7 @@ qualified_fate config before item =
     else if not (passes_traffic config.traffic (sent_of config.rate config.traffic earlier) own) then at_traffic
     else let_out
 
--- the fate of an item that is behind the aggregation filter, after these moments
+-- the fate of an item that is after the aggregation filter, after these moments
 abbrev pub aggregated_fate : Parts → List Moment → Item → Fate
 aggregated_fate config before item =
     if not (verdict (event_at config item.event).threshold (counted item) (map counted (aggregated config before)))

@@ -1,4 +1,4 @@
--- The filters one behind the other, from the moments of a history to its qualified events.
+-- The filters one after the other, from the moments of a history to its qualified events.
 -- Public standard: AUTOSAR SWS Intrusion Detection System Manager, filter chain: reporting mode, block state,
 -- forward every nth, aggregation, threshold.
 use Rattle.std.specs.Prelude.{ℕ, List, map, Option, Some, None, option_map}
@@ -48,15 +48,15 @@ thresholded_at config before item =
 abbrev pub gated : Parts → List Moment → List (Call (List ℕ))
 gated config moments = added (gated_at config) moments
 
--- the items behind the aggregation filter
+-- the items after the aggregation filter
 abbrev pub aggregated : Parts → List Moment → List Item
 aggregated config moments = added (aggregated_at config) (gated config moments)
 
--- the items behind the threshold filter
+-- the items after the threshold filter
 abbrev pub thresholded : Parts → List Moment → List Item
 thresholded config moments = added (thresholded_at config) (aggregated config moments)
 
--- all filters, one behind the other
+-- all filters, one after the other
 abbrev pub filtered_at : Parts → Stage Moment Item
 filtered_at config = behind (behind (gated_at config) (aggregated_at config)) (thresholded_at config)
 

@@ -21,15 +21,15 @@ ghost use Rattle.chain_spec.specs.Stages.{Stage, added, behind};
 ghost use Rattle.chain_spec.specs.Storing.{stored, stored_of};
 ghost use Rattle.chain_spec.specs.Windows.{EndBy, opened, members, in_newest, windows_of};
 
-/// Two stages one behind the other add what the second adds to the list of the first.
+/// Two stages one after the other add what the second adds to the list of the first.
 #[tactic(auto, using(crate::proofs::StageLemmas::added_behind))]
 pub fn how_stages_compose<A, B, C>()
     ensures { (first : Stage A B) (second : Stage B C) (xs : List A) →
         added (behind first second) xs ≡ added second (added first xs) }
 {}
 
-/// A turn more changes nothing of what a history told: each list of the chain only has newer elements
-/// beside the old ones, the messages follow those that were sent, and what is held back counts on.
+/// A turn more changes nothing of what a history told. Each list of the chain only has newer elements beside the old
+/// ones. The messages follow those that were sent, and what is held back counts on.
 #[tactic(auto, using(crate::proofs::GrowthLemmas::growth_laws))]
 pub fn what_a_turn_more_keeps()
     ensures arrivals { (config : Parts) (event : ℕ) → Grows (λ turns. arrivals config event (moments config turns)) }
@@ -74,9 +74,9 @@ pub fn which_items_open_a_window<A>()
         flat_map members (windows_of tick_of interval xs) ≡ xs }
 {}
 
-/// What is sent, in the words of the limits: a candidate passes the rate where fewer than the number stand
-/// before it in its window, and the traffic where the bytes sent in its window and its own are at most the
-/// number. It is sent where it passes both.
+/// What is sent, in the words of the limits. A candidate passes the rate where fewer than the number stand before it
+/// in its window. It passes the traffic where the bytes sent in its window and its own are at most the number. It is
+/// sent where it passes both.
 #[tactic(auto, using(crate::proofs::LimitsLemmas::limit_laws))]
 pub fn which_candidates_are_sent()
     ensures rate { (rate : Limit) (before : List Candidate) (candidate : Candidate) →
@@ -94,9 +94,9 @@ pub fn which_candidates_are_sent()
         ≡ sent_of config.rate config.traffic (map (weighed config) (candidates config items)) }
 {}
 
-/// The filters of one event over its whole lists, one filter after another, where the ticks of turns do not
-/// fall: the items that reach its threshold, among one item for each aggregation window that closes, at the
-/// first turn at which it is due, over every nth of its arrivals.
+/// The filters of one event over its whole lists, one filter after another, where the ticks of turns do not fall.
+/// Every nth of its arrivals goes on. Over these each aggregation window gives one item, at the first turn at which
+/// it is due. Of these items those go on that reach the threshold.
 pub fn what_the_filters_give_of_an_event()
     ensures sampled { (config : Parts) (event : ℕ) (moments : List Moment) →
         sampled config event moments ≡ every (event_at config event).nth (arrivals config event moments) }
@@ -152,8 +152,8 @@ pub fn the_numbers_are_the_sizes_of_the_stages()
         ≡ account.unsent + account.rate + account.traffic + account.sent }
 {}
 
-/// Nothing is left out: each item that comes is told once, in its place, with one fate, and what came of an
-/// event, together with what its windows gave when they closed, is the sum of what became of it.
+/// Nothing is left out. Each item that comes is told once, in its place, with one fate. What came of an event,
+/// together with what its windows gave when they closed, is the sum of what became of it.
 #[tactic(auto, using(crate::proofs::AccountLemmas::account_laws))]
 pub fn the_fates_add_up()
     ensures each { (config : Parts) (moments : List Moment) →
@@ -171,8 +171,8 @@ pub fn the_fates_add_up()
         + account.unsent + account.rate + account.traffic + account.sent }
 {}
 
-/// What is told as sent are the messages, and what is told as held back by a limit, but for the internal event
-/// that tells of it, is what the turns hand on: item by item, and in the sums of the accounts.
+/// What is told as sent are the messages. What is told as held back by a limit is what the turns hand on, but for the
+/// internal event that tells of it. So it is item by item, and in the sums of the accounts.
 #[tactic(auto, using(crate::proofs::SumLemmas::sum_laws))]
 pub fn what_is_told_as_sent_and_held_back()
     ensures qualified { (config : Parts) (moments : List Moment) →

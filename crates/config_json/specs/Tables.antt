@@ -25,7 +25,7 @@ must name kind = record { name = name; kind = kind; required = true }
 abbrev pub may : List ℕ → Kind → Row
 may name kind = record { name = name; kind = kind; required = false }
 
--- these rows, behind one that only the second form has
+-- these rows, after one that only the second form has
 abbrev pub since_second : Form → Row → List Row → List Row
 since_second forms.First row rows = rows
 since_second forms.Second row rows = row ∷ rows

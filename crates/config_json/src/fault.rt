@@ -1,3 +1,5 @@
+//! Why bytes are no configuration.
+
 ghost use Rattle.std.specs.Prelude.{◌≡◌};
 ghost use Rattle.config_json.specs.declared.fault.JsonFault.TheVariants as faults;
 

@@ -1,3 +1,5 @@
+//! Reading a configuration from its bytes.
+
 ghost use Rattle.serde_json.specs.View.{view};
 ghost use Rattle.config_json.specs.Configured.{config_in, configuration, Tells};
 
@@ -9,6 +11,9 @@ use serde_json::Value;
 use std::alloc::Global;
 
 /// The configuration that the bytes are the text of, or the first fault.
+/// Steps: the bytes of the text, and each member among those of its object: log; a name is compared with at most 12
+/// rows. Memory: may answer want of memory (`JsonFault`). By: read off; serde_json's part by measurement
+/// (docs/SPEED.md).
 pub fn read(alloc: Global, bytes: &[u8]) -> Result<Config, JsonFault>
     ensures { Tells (configuration bytes.now) result }
 {

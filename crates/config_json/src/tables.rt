@@ -48,7 +48,7 @@ macro_rules! may {
     };
 }
 
-/// The members of the top, with these behind `form`.
+/// The members of the top, with these after `form`.
 macro_rules! top {
     ($($row:expr),*) => {
         [
@@ -88,7 +88,7 @@ pub(crate) const RATE: [MemberRow; 2] = [must!("interval", Whole), must!("events
 
 pub(crate) const TRAFFIC: [MemberRow; 2] = [must!("interval", Whole), must!("bytes", Whole)];
 
-/// The members of an event, with these behind `sensor`.
+/// The members of an event, with these after `sensor`.
 macro_rules! event {
     ($($row:expr),*) => {
         [

@@ -48,7 +48,7 @@ module _ {B : Type 0} where
     report_moment tick event count stamp (Kept class claim parcel) = refl
     report_moment tick event count stamp (Missing numbers) = refl
 
-  -- one call more, by what comes of it behind aggregation
+  -- one call more, by what comes of it after aggregation
   pub flows_with : (call : Call (List ℕ)) (o : Option Item) {held : B → List ℕ} {config : Parts} {start : Start}
       {calls : List (Call (List ℕ))} {joined items : List Item} {old windows : List (Slot B)}
       {before counting : Counting} {was out : Output} → Flows held config start calls joined items old before was

@@ -8,7 +8,7 @@ use Rattle.event_chain.proofs.Going.{closing_more}
 
 -- ---- numbers that pass a test, one after another
 
--- those that passed so far are behind a number for which P holds, and these are left up to an end
+-- those that passed so far are after a number for which P holds, and these are left up to an end
 pub record Reached (test : ℕ → Bool) (left : List ℕ) (end : ℕ) (P : ℕ → Type 0) : Type 0 where
   pub now : ℕ
   pub more : ℕ

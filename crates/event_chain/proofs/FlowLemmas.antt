@@ -11,7 +11,7 @@ end_with : (tick : ℕ) (o : Option Item) (items : List Item) → IfSome o (λ i
 end_with tick None items own by = by
 end_with tick (Some item) items own by = search (rules, own, by)
 
--- what is behind aggregation has the tick of the call
+-- what is after aggregation has the tick of the call
 aggregated_tick : (config : Parts) (calls : List (Call (List ℕ))) (call : Call (List ℕ))
     → IfSome (aggregated_at config calls call) (λ item. item.tick ≡ call_tick call)
 aggregated_tick config calls (closes_due tick event) = grind (arith, common_steps)
@@ -52,7 +52,7 @@ pub end_counted : (tick : ℕ) (items : List Item) → EndBy (λ item. item.tick
 end_counted tick [] by = tt
 end_counted tick (item ∷ items) by = (by.0, end_counted item.tick items by.1)
 
--- an item that passes is the newest qualified event, and another changes nothing behind the filter
+-- an item that passes is the newest qualified event, and another changes nothing after the filter
 pub counts : {config : Parts} {start : Start} {joined : List Item} (items : List Item) {item : Item} {thresholds : List (Option Threshold)}
     {outlet : Outlet} {out : Output} (b : Bool) → verdict (event_at config item.event).threshold (counted item) (map counted joined) ≡ b
     → ThresholdsStand config (counted item ∷ map counted joined) thresholds

@@ -22,7 +22,7 @@ pub dropped_one : {A : Type 0} (xs : List A) (i : ℕ) (x : A) → slice_get xs 
 dropped_one xs i x is =
     drop_one xs i x (slice_get_within xs i x is) ∙ ap (λ y. y ∷ drop (i + 1) xs) (get_or_from_slice_get xs i x x is)
 
--- of two lists of one length with the same left, the next is the same, and what is left behind it
+-- of two lists of one length with the same left, the next is the same, and what is left after it
 pub same_next : {A : Type 0} (xs ys : List A) (i : ℕ) (x : A) → drop i xs ≡ drop i ys → length xs ≡ length ys → i < length xs
     → x ≡ get_or xs i x → (x ≡ get_or ys i x) × (drop i ys ≡ x ∷ drop (i + 1) ys) × (drop (i + 1) xs ≡ drop (i + 1) ys)
 same_next xs ys i x same count low is =
@@ -36,7 +36,7 @@ abbrev pub entry_moments : {B : Type 0} → (B → List ℕ) → ℕ → List (E
 entry_moments held tick items = map (λ entry. act_moment tick entry.act) (map (entry_by held) items)
 
 module _ {B W : Type 0} where
-  -- the filters are behind some moments, and with those that are still to come behind all
+  -- the filters are after some moments, and with those that are still to come after all
   pub record Reaches (held : B → List ℕ) (knows : Knowing W) (config : Parts) (start : Start) (tick : ℕ) (filters : Filters B W) (out : Output)
       (rest all : List Moment) : Type 0 where
     pub now : List Moment

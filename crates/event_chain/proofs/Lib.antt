@@ -6,5 +6,6 @@ mod FlowLemmas
 mod Going
 mod HandsLemmas
 mod HeadLemmas
+mod RoomLemmas
 mod SoundLemmas
 mod TurnLemmas

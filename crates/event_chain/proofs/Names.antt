@@ -7,9 +7,9 @@ pub use Rattle.std.proofs.lemmas.List.Elements.{recursion_from_All, All-from_rec
 pub use Rattle.std.proofs.lemmas.List.Sorted.{All-permutation, IsPermutation-refl, IsPermutation-trans, IsPermutation-append_left, IsPermutation-append_right, IsPermutation-append_comm, length_permutation}
 pub use Rattle.std.specs.Bool.{IsFalse}
 pub use Rattle.std.specs.List.{All, AllByRecursion, range_with_len, slice_get}
-pub use Rattle.chain.specs.History.{Sends, last_tick, newest_tick}
-pub use Rattle.chain.specs.Parcels.{IsShort, HandsBack, all_parcels, parcel_of}
-pub use Rattle.chain.specs.Turning.{turn_by, FitsAct}
+pub use Rattle.filter_chain.specs.History.{Sends, last_tick, newest_tick}
+pub use Rattle.filter_chain.specs.Parcels.{IsShort, HandsBack, all_parcels, parcel_of}
+pub use Rattle.filter_chain.specs.Turning.{turn_by, FitsAct, carried_room}
 pub use Rattle.chain_spec.proofs.StageLemmas.{added_behind, with_all-append}
 pub use Rattle.chain_spec.specs.Calls.{Call, call_tick, closes_due, arrives}
 pub use Rattle.chain_spec.specs.Chain.{messages, message_count, qualified_of}
@@ -40,13 +40,13 @@ pub use Rattle.ids_types.specs.declared.internal.Internal.{Internal}
 pub use Rattle.ids_types.specs.declared.names.EventIndex.{EventIndex}
 pub use Rattle.internal_events.specs.HeadView.{head_told}
 pub use Rattle.internal_events.specs.declared.head_list.Head.{Head}
-pub use Rattle.sending.specs.Sender.{source_of, SenderParts}
-pub use Rattle.sending.specs.Sending.{Start, Stands as SenderStands, start_of}
+pub use Rattle.message_sender.specs.Sender.{most_message, source_of, SenderParts}
+pub use Rattle.message_sender.specs.Sending.{Start, Stands as SenderStands, start_of}
 pub use Rattle.event_chain.specs.Behind.{IsBehind, kept_told}
 pub use Rattle.event_chain.specs.Chained.{IsOneOf, IsSound, Watched}
 pub use Rattle.event_chain.specs.Fates.{Knowing, IsSilent, bare, told, counted_fate, passed_fate}
 pub use Rattle.event_chain.specs.Flow.{CountingStands, Flows, joined_with, items_with, EndAt}
 pub use Rattle.event_chain.specs.Outlets.{OutletStands, Stores}
-pub use Rattle.event_chain.specs.Ready.{Windowed, aggregating_in, is_aggregated, CanSend, HasPlaces, IsReady, SettledAt, Stays, AreOwn, HasEvent}
+pub use Rattle.event_chain.specs.Ready.{Windowed, aggregating_in, is_aggregated, CanSend, HasPlaces, HasSentRoom, TakesRoom, IsReady, SettledAt, Stays, AreOwn, HasEvent}
 pub use Rattle.event_chain.specs.Standing.{StandsWatched}
 pub use Rattle.event_chain.specs.declared.filters.Filters.{Filters}

@@ -1,4 +1,4 @@
--- How many parcels a chain keeps, and what holds of its fields when it is made and while it takes turns.
+-- The parcels of entries, and what holds of a chain's fields when it is made and while it takes turns.
 use Rattle.event_chain.proofs.Names.{◌≡◌, ℕ, ◌<◌, ◌≤◌, Bool, true, List, [], ◌∷◌, ◌++◌, length, map, filter, is_some, Option, Some, None, option_map, option_to_list, refl, sym, ap, subst, ◌∙◌, arith, IsFalse, range_with_len, nat_tests, common_steps, get_or-map, get_or_past, length-map, Entry, Internal, Event, Parts, index_of, internal_of, plain_event, all_parcels, parcel_of, all_kept, Slot, fresh_slot, is_due, slot_at, GateStands, ThresholdsStand, source_of, SenderStands, Filters, IsOneOf, IsSound, Stores, AreOwn, HasPlaces, SettledAt, aggregating_in, is_aggregated}
 use Rattle.std.proofs.Math.Path.{fun_ext}
 use Rattle.ids_config.specs.Valid.{IsValid}
@@ -6,16 +6,6 @@ use Rattle.ids_config.specs.Values.{is_within}
 use Rattle.event_chain.specs.declared.event_chain.EventChain.TheInside.{Inside}
 
 -- ---- parcels
-
--- an event's window keeps one parcel at most
-pub kept_few : {B : Type 0} (slots : List (Slot B)) → length (all_kept slots) ≤ length slots
-kept_few [] = omega arith
-kept_few (slot ∷ slots) = let rest = kept_few slots in grind (arith, common_steps, rest)
-
--- an entry keeps one parcel at most
-pub parcels_few : {B : Type 0} (items : List (Entry B)) → length (all_parcels items) ≤ length items
-parcels_few [] = omega arith
-parcels_few (entry ∷ items) = let rest = parcels_few items in grind (arith, common_steps, rest)
 
 -- the parcels of entries are the first one's, and then the others'
 pub parcels_cons : {B : Type 0} (entry : Entry B) (items : List (Entry B))

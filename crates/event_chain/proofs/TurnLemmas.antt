@@ -2,7 +2,7 @@
 use Rattle.event_chain.proofs.Names.{◌≡◌, ℕ, List, [], ◌∷◌, ◌++◌, reverse, sym, ap, subst, ◌∙◌, rules, reverse-append, Output, Turn, Internal, Parts, internal_of, messages, message_count, qualified_of, Moment, moments, with_all, with_all-append, Sends, start_of, Filters, Knowing, IsBehind, StandsWatched}
 
 module _ {B W : Type 0} {held : B → List ℕ} {knows : Knowing W} {config : Parts} where
-  -- what is behind all moments of a turn stands for the turns with it, and the output has what it sends
+  -- what is after all moments of a turn stands for the turns with it, and the output has what it sends
   pub turn_ends : (turns : List Turn) (turn : Turn) {filters : Filters B W} (internal : Internal) {out : Output}
       → internal ≡ internal_of config
       → IsBehind held knows config (start_of config (qualified_of config (reverse turns))) turn.head.tick

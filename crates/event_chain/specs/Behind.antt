@@ -1,4 +1,4 @@
--- All filters, behind these moments of a turn and those before it.
+-- All filters, after these moments of a turn and those before it.
 use Rattle.std.specs.Prelude.{ℕ, Bool, List, None, if◌then◌else◌}
 use Rattle.ids_types.specs.Output.{Output}
 use Rattle.ids_types.specs.declared.event.Qualified.{Qualified}
@@ -6,7 +6,7 @@ use Rattle.ids_config.specs.Parts.{Parts}
 use Rattle.chain_spec.specs.Filtering.{gated, aggregated, qualified}
 use Rattle.chain_spec.specs.Moments.{Moment}
 use Rattle.filter_gate.specs.Stands.{Stands as GateStands}
-use Rattle.sending.specs.Sending.{Start}
+use Rattle.message_sender.specs.Sending.{Start}
 use Rattle.event_chain.specs.declared.filters.Filters.{Filters}
 use Rattle.event_chain.specs.Fates.{Knowing}
 use Rattle.event_chain.specs.Flow.{Flows, EndAt}

@@ -1,4 +1,4 @@
--- Endings as a chain tells them, and the fates of items behind the gate.
+-- Endings as a chain tells them, and the fates of items after the gate.
 use Rattle.std.specs.Prelude.{◌≡◌, ℕ, ◌∷◌, not, Bool, List, None, map, is_some, if◌then◌else◌}
 use Rattle.ids_config.specs.Parts.{Parts, event_at}
 use Rattle.chain_spec.specs.Endings.{Fate, in_window, at_threshold, qualified_fate, Ending, ending_at}
@@ -7,7 +7,7 @@ use Rattle.chain_spec.specs.Items.{Item}
 use Rattle.chain_spec.specs.Moments.{Moment}
 use Rattle.chain_spec.specs.Threshold.{verdict}
 use Rattle.filter_gate.specs.Stands.{dropped_fate}
-use Rattle.sending.specs.Sending.{answered_fate}
+use Rattle.message_sender.specs.Sending.{answered_fate}
 use Rattle.event_chain.specs.declared.fate.Ending.{Ending as ToldEnding}
 use Rattle.event_chain.specs.declared.fate.Fate.{Fate as ToldFate}
 use Rattle.event_chain.specs.declared.fate.Fate.TheVariants.{Dropped, Joined, Below, Qualified}
@@ -48,9 +48,9 @@ abbrev pub IsSilent : {W : Type 0} → Knowing W → Type 0
 IsSilent {W} knows = (witness : W) (config : Parts) (before : List Moment) (moment : Moment)
     → knows witness config before → ending_at config before moment ≡ None → knows witness config (moment ∷ before)
 
--- ---- the fate of an item, where these were behind the aggregation filter before it and these were qualified
+-- ---- the fate of an item, where these were after the aggregation filter before it and these were qualified
 
--- behind the aggregation filter
+-- after the aggregation filter
 abbrev pub counted_fate : Parts → List Item → List Item → Item → Fate
 counted_fate config joined items item =
     if not (verdict (event_at config item.event).threshold (counted item) (map counted joined)) then at_threshold

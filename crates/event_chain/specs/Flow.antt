@@ -1,4 +1,4 @@
--- What flows through the filters in a turn: calls to aggregation, the items behind it, and the qualified events.
+-- What flows through the filters in a turn: calls to aggregation, the items after it, and the qualified events.
 -- Each list has its newest element first.
 use Rattle.std.specs.Prelude.{ℕ, List, ◌++◌, map, option_to_list, option_and_then}
 use Rattle.ids_types.specs.Output.{Output}
@@ -11,7 +11,7 @@ use Rattle.filter_aggregate.specs.Slots.{slots_by}
 use Rattle.filter_aggregate.specs.declared.slot.Slot.{Slot}
 use Rattle.filter_aggregate.specs.Standing.{Stands as WindowsStand}
 use Rattle.filter_threshold.specs.Counting.{Stands as ThresholdsStand}
-use Rattle.sending.specs.Sending.{Start}
+use Rattle.message_sender.specs.Sending.{Start}
 use Rattle.event_chain.specs.declared.counting.Counting.{Counting}
 use Rattle.event_chain.specs.Outlets.{OutletStands}
 
@@ -21,18 +21,18 @@ pub record EndAt (tick : ℕ) (calls : List (Call (List ℕ))) (joined items : L
   pub joined_end : EndBy (λ item. item.tick) tick joined
   pub items_end : EndBy (λ item. item.tick) tick items
 
--- the threshold filter counted the items behind aggregation, and the qualified events went out
+-- the threshold filter counted the items after aggregation, and the qualified events went out
 pub record CountingStands (config : Parts) (start : Start) (joined items : List Item) (counting : Counting) (out : Output) : Type 0 where
   pub thresholds : ThresholdsStand config (map counted joined) counting.thresholds
   pub outlet : OutletStands config start items counting.outlet out
 
--- the aggregation filter stands for the calls, and the filters behind it for the items
+-- the aggregation filter stands for the calls, and the filters after it for the items
 pub record Flows {B : Type 0} (held : B → List ℕ) (config : Parts) (start : Start) (calls : List (Call (List ℕ))) (joined items : List Item)
     (windows : List (Slot B)) (counting : Counting) (out : Output) : Type 0 where
   pub stands : WindowsStand config calls (slots_by held windows)
   pub behind : CountingStands config start joined items counting out
 
--- the items behind aggregation, with one call more
+-- the items after aggregation, with one call more
 abbrev pub joined_with : Parts → List (Call (List ℕ)) → Call (List ℕ) → List Item → List Item
 joined_with config calls call joined = option_to_list (aggregated_at config calls call) ++ joined
 

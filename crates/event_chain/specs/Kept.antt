@@ -9,7 +9,7 @@ use Rattle.std.proofs.lemmas.List.{map-append}
 use Rattle.std.proofs.lemmas.List.Sorted.{IsPermutation-refl}
 use Rattle.ids_config.specs.Parts.{Parts, event_at}
 use Rattle.ids_config.specs.declared.parts.Aggregate.{Aggregate}
-use Rattle.chain.specs.Kept.{AreAmong, contexts_behind, open_context}
+use Rattle.filter_chain.specs.Kept.{AreAmong, contexts_behind, open_context}
 use Rattle.chain_spec.specs.Aggregation.{joined}
 use Rattle.chain_spec.specs.Calls.{Arrival, Call}
 use Rattle.chain_spec.specs.Closing.{open_window}

@@ -5,4 +5,5 @@ pub mod Flow
 pub mod Kept
 pub mod Outlets
 pub mod Ready
+pub mod Room
 pub mod Standing

@@ -5,7 +5,7 @@ use Rattle.ids_config.specs.Parts.{Parts}
 use Rattle.chain_spec.specs.Items.{Item}
 use Rattle.chain_spec.specs.Storing.{stored}
 use Rattle.event_memory.specs.Held.{Stands as MemoryStands}
-use Rattle.sending.specs.Sending.{Start, IsSending}
+use Rattle.message_sender.specs.Sending.{Start, IsSending}
 use Rattle.event_chain.specs.declared.outlet.Outlet.{Outlet}
 
 -- the event memory has stored what is to be stored of these qualified events

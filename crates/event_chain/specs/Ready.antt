@@ -4,13 +4,14 @@ use Rattle.std.specs.Bool.{IsFalse}
 use Rattle.std.specs.List.{range_with_len}
 use Rattle.ids_types.specs.Output.{Output, room_of}
 use Rattle.chain_spec.specs.Items.{Item}
+use Rattle.filter_chain.specs.Turning.{carried_room}
 use Rattle.filter_aggregate.specs.declared.slot.Slot.{Slot}
 use Rattle.filter_aggregate.specs.Slots.{is_due, slot_at}
-use Rattle.sending.specs.Sender.{CanQualify}
+use Rattle.message_sender.specs.Sender.{CanQualify}
 use Rattle.event_chain.specs.declared.counting.Counting.{Counting}
 use Rattle.event_chain.specs.declared.filters.Filters.{Filters}
 
--- event k has its place in each list of the threshold filter and behind it
+-- event k has its place in each list of the threshold filter and after it
 pub record HasEvent (k : ℕ) (counting : Counting) : Type 0 where
   pub threshold : k < length counting.thresholds
   pub source : k < length counting.outlet.sender.sources
@@ -50,24 +51,31 @@ pub record HasPlaces {B W : Type 0} (filters : Filters B W) : Type 0 where
   pub has : (k : ℕ) → k < length filters.windows → HasEvent k filters.counting
   pub own : AreOwn filters.windows
 
--- there is room for so many messages more, and for as many that are held back
+-- so many messages more can be counted, and as many that are held back
 pub record CanSend {B W : Type 0} (n : ℕ) (filters : Filters B W) (out : Output) : Type 0 where
   pub few_held : filters.counting.outlet.sender.held + n ≤ 2 ^ 45
-  pub room : 1044 * n ≤ out.sent_left
   pub few_messages : out.messages + n ≤ 2 ^ 32 - 1
 
--- an act can enter at a tick: no window is due any more, and there is room
+-- there is room for so many messages more, with the context data of these parcels
+abbrev pub HasSentRoom : {B : Type 0} → (B → List ℕ) → ℕ → List B → Output → Type 0
+HasSentRoom held n parcels out = 16 * n + carried_room held parcels ≤ out.sent_left
+
+-- so many moments took room for as many messages at most, with the context data of the parcels that they handed back
+abbrev pub TakesRoom : {B : Type 0} → (B → List ℕ) → ℕ → List B → List B → Output → Output → Type 0
+TakesRoom held moments back_before back_now before after =
+    before.sent_left + carried_room held back_before ≤ after.sent_left + carried_room held back_now + 16 * moments
+
+-- an act can enter at a tick: no window is due any more, and one message more can be counted
 pub record IsReady {B W : Type 0} (tick : ℕ) (filters : Filters B W) (out : Output) : Type 0 where
   pub places : HasPlaces filters
   pub settled : SettledAt tick filters.windows
   pub can : CanSend 1 filters out
 
--- what so many moments leave as it was, and how much room they take at most
+-- what so many moments leave as it was, and how much they count at most
 pub record Stays {B W : Type 0} (moments tick : ℕ) (old new : Filters B W) (before after : Output) : Type 0 where
   pub places : HasPlaces old → HasPlaces new
   pub windows : Windowed tick old.windows new.windows
   pub counted : new.counting.outlet.sender.held ≤ old.counting.outlet.sender.held + moments
-  pub sent_left : before.sent_left ≤ after.sent_left + 1044 * moments
   pub messages : after.messages ≤ before.messages + moments
   pub log : after.log ≡ before.log
   pub room : room_of after ≡ room_of before

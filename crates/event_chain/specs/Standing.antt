@@ -5,19 +5,19 @@ use Rattle.ids_config.specs.Parts.{Parts, internal_of}
 use Rattle.chain_spec.specs.Chain.{handed_on}
 use Rattle.chain_spec.specs.Filtering.{counted, gated, aggregated, qualified}
 use Rattle.chain_spec.specs.Moments.{Moment, moments}
-use Rattle.chain.specs.History.{newest_tick}
+use Rattle.filter_chain.specs.History.{newest_tick}
 use Rattle.filter_aggregate.specs.Slots.{slots_by}
 use Rattle.filter_aggregate.specs.Standing.{Stands as WindowsStand}
 use Rattle.filter_gate.specs.Stands.{Stands as GateStands}
 use Rattle.filter_threshold.specs.Counting.{Stands as ThresholdsStand}
-use Rattle.sending.specs.Sending.{Stands as SenderStands}
+use Rattle.message_sender.specs.Sending.{Stands as SenderStands}
 use Rattle.event_chain.specs.declared.filters.Filters.{Filters}
 use Rattle.event_chain.specs.Chained.{Chained, Watched}
 use Rattle.event_chain.specs.Fates.{Knowing}
 use Rattle.event_chain.specs.Flow.{EndAt}
 use Rattle.event_chain.specs.Outlets.{Stores}
 
--- the filters between two turns, behind these moments, none of which is later than a tick
+-- the filters between two turns, after these moments, none of which is later than a tick
 pub record Rests {B W : Type 0} (held : B → List ℕ) (knows : Knowing W) (config : Parts) (tick : ℕ) (moments : List Moment) (filters : Filters B W) : Type 0 where
   pub gate : GateStands config moments filters.gate
   pub windows : WindowsStand config (gated config moments) (slots_by held filters.windows)
@@ -27,7 +27,7 @@ pub record Rests {B W : Type 0} (held : B → List ℕ) (knows : Knowing W) (con
   pub ends : EndAt tick (gated config moments) (aggregated config moments) (qualified config moments)
   pub witness : knows filters.witness config moments
 
--- the chain after these turns: its filters are behind their moments, and what it held back in the newest turn is
+-- the chain after these turns: its filters are after their moments, and what it held back in the newest turn is
 -- the number that this one hands on
 pub record StandsWatched {B W : Type 0} (held : B → List ℕ) (knows : Knowing W) (config : Parts) (turns : List Turn) (chain : Watched B W) : Type 0 where
   pub filters : Rests held knows config (newest_tick turns) (moments config turns) chain.filters

@@ -1,9 +1,12 @@
+//! The threshold filter, and the way from it to the outlet.
+
 ghost use Rattle.std.specs.Prelude.{◌≡◌, ◌<◌, ◌++◌, ℕ, List, [], ◌∷◌, option_to_list, IfOk};
 ghost use Rattle.ids_config.specs.Parts.{Parts};
 ghost use Rattle.chain_spec.specs.Filtering.{thresholded_at};
 ghost use Rattle.chain_spec.specs.Items.{Item};
 ghost use Rattle.chain_spec.specs.Windows.{EndBy};
-ghost use Rattle.sending.specs.Sending.{Start, TakesOne, Stands as SenderStands};
+ghost use Rattle.message_sender.specs.Sender.{most_message};
+ghost use Rattle.message_sender.specs.Sending.{Start, TakesOne, Stands as SenderStands};
 ghost use Rattle.filter_threshold.specs.Counting.{Stands as ThresholdsStand};
 ghost use Rattle.event_chain.specs.Fates.{fate_of, counted_fate};
 ghost use Rattle.event_chain.specs.Flow.{CountingStands};
@@ -15,10 +18,10 @@ use crate::outlet::Outlet;
 use filter_threshold::Thresholds;
 use ids_config::Config;
 use ids_types::{NoMemory, TurnOut};
-use sending::Report;
+use message_sender::Report;
 use std::alloc::Global;
 
-/// The threshold filter, with what qualified events go to behind it.
+/// The threshold filter, with what qualified events go to after it.
 #[derive(Debug, Drop)]
 pub(crate) struct Counting {
     pub(crate) thresholds: Thresholds,
@@ -53,7 +56,7 @@ impl Counting {
             → EndBy (λ item. item.tick) report.now.tick joined
             → EndBy (λ item. item.tick) report.now.tick items
             → fate_of result ≡ counted_fate config joined items report.now }
-        ensures one { TakesOne self.old.outlet.sender self.new.outlet.sender out.old out.new }
+        ensures one { TakesOne (most_message report.now.context) self.old.outlet.sender self.new.outlet.sender out.old out.new }
         ensures has { (k : ℕ) → HasEvent k self.old → HasEvent k self.new }
     {
         if self

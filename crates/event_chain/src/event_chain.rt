@@ -1,7 +1,9 @@
+//! The chain itself: the filters between two turns.
+
 ghost use Rattle.std.specs.Prelude.{◌≡◌, ◌<◌, [], List, true, length, map, refl, reverse, IfOk, IsOk};
 ghost use Rattle.ids_types.specs.Turns.{Turn};
 ghost use Rattle.ids_config.specs.Parts.{Parts};
-ghost use Rattle.chain.specs.History.{rows_of};
+ghost use Rattle.filter_chain.specs.History.{rows_of};
 ghost use Rattle.chain_spec.specs.Moments.{moments};
 ghost use Rattle.filter_aggregate.specs.Account.{all_kept};
 ghost use Rattle.event_chain.specs.Ready.{aggregating_in};
@@ -10,9 +12,9 @@ ghost use Rattle.event_chain.specs.Standing.{Stands, StandsWatched};
 use crate::counting::Counting;
 use crate::filters::Filters;
 use crate::witness::{Unwatched, Witness};
-use chain::Chain;
 use event_memory::Memory;
 use filter_aggregate::Windows;
+use filter_chain::{Chain, ParcelChain};
 use filter_gate::GateState;
 use ids_config::Config;
 use ids_types::{Entry, EventIndex, Internal, NoMemory, Parcel, TurnHead, TurnOut};
@@ -44,6 +46,8 @@ impl<B, W> Model for EventChain<B, W> {
 
 impl<B: Parcel> EventChain<B> {
     /// The chain of a configuration, before the first turn.
+    /// Steps: the events, at most 256, with their block states, at most 16 each, and the records, at most 256, each
+    /// with a request. Memory: made once. By: read off; none of its calls of `Chain` takes memory.
     pub fn make(alloc: Global, config: &Config) -> Result<EventChain<B>, NoMemory>
         ensures stands { IfOk result (Stands B.held config.now []) }
         ensures events { IfOk result (λ chain. length chain.filters.windows ≡ length config.now.events) }
@@ -55,6 +59,8 @@ impl<B: Parcel> EventChain<B> {
 
 impl<B: Parcel, W: Witness> EventChain<B, W> {
     /// The chain of a configuration, before the first turn, with a witness who knows that nothing came yet.
+    /// Steps: the events, at most 256, with their block states, at most 16 each, and the records, at most 256, each
+    /// with a request. Memory: made once. By: read off; none of its calls of `Chain` takes memory.
     pub fn watched(alloc: Global, config: &Config, witness: W) -> Result<EventChain<B, W>, NoMemory>
         requires { W.knows witness config.now [] }
         ensures stands { IfOk result (StandsWatched B.held W.knows config.now []) }
@@ -84,7 +90,8 @@ impl<B: Parcel, W: Witness> EventChain<B, W> {
         &self.filters.witness
     }
 
-    /// The event memory behind the last turn, once the chain has no more to take.
+    /// The event memory after the last turn, once the chain has no more to take.
+    /// Steps: the events, at most 256, let go. Memory: none; all but the memory is given back. By: read off.
     pub fn into_memory(self) -> Memory
         ensures { (config : Parts) (turns : List Turn) → StandsWatched B.held W.knows config (reverse turns) self →
             reverse result.rows ≡ rows_of config turns }
@@ -98,6 +105,7 @@ impl<B: Parcel, W: Witness> EventChain<B, W> {
 impl<B: Parcel, W: Witness> Chain<B> for EventChain<B, W> {
     ghost use Rattle.chain_spec.specs.Filtering.{gated};
     ghost use Rattle.event_chain.specs.Kept.{kept_among};
+    ghost use Rattle.event_chain.specs.Room.{HasTurnRoom, bounded_turn};
 
     ghost stands = { λ chain config turns. StandsWatched B.held W.knows config (reverse turns) chain };
 
@@ -106,6 +114,8 @@ impl<B: Parcel, W: Witness> Chain<B> for EventChain<B, W> {
     ghost kept = { λ chain. all_kept chain.filters.windows };
 
     ghost has_room = { λ chain entries bytes. true };
+
+    ghost sends_within = { λ chain items sent. HasTurnRoom B.held items chain.filters.windows sent };
 
     fn fits(&self, _entries: u64, _bytes: u64) -> bool {
         true
@@ -146,6 +156,15 @@ impl<B: Parcel, W: Witness> Chain<B> for EventChain<B, W> {
         kept_among B.held config (gated config (moments config (reverse turns))) chain.filters.windows stands.filters.windows };
 
     ghost smaller = { λ chain entries bytes fewer less _ _ _. refl };
+
+    ghost bounded = { λ chain items sent fits short room. bounded_turn B.held items chain.filters.windows sent fits short room };
+}
+
+impl<B: Parcel, W: Witness> ParcelChain<B> for EventChain<B, W> {
+    ghost use Rattle.event_chain.specs.Room.{within_turn};
+
+    ghost within = { λ chain items largest sent came kept room.
+        within_turn B.held items chain.filters.windows largest sent came kept room };
 }
 
 fn aggregating<B: Parcel>(alloc: Global, windows: &Windows<B>) -> Result<Vec<EventIndex>, NoMemory>

@@ -1,3 +1,5 @@
+//! The filters in a turn: each moment of it goes through them.
+
 ghost use Rattle.std.specs.Prelude.{◌≡◌, ◌<◌, ◌≤◌, ◌+◌, ◌++◌, ℕ, List, [], ◌∷◌, length, false, option_to_list, vec_len, vec_capacity, IfSome, if◌then◌else◌};
 ghost use Rattle.std.specs.Bool.{IsFalse};
 ghost use Rattle.std.specs.List.{All};
@@ -7,26 +9,26 @@ ghost use Rattle.ids_config.specs.Parts.{Parts};
 ghost use Rattle.chain_spec.specs.Filtering.{qualified};
 ghost use Rattle.chain_spec.specs.Items.{item_at, told_by};
 ghost use Rattle.chain_spec.specs.Moments.{Moment, act_moment, closes, comes};
-ghost use Rattle.chain.specs.Parcels.{HandsBack, IsShort, parcel_of};
-ghost use Rattle.chain.specs.Turning.{FitsAct, most_sent};
+ghost use Rattle.filter_chain.specs.Parcels.{HandsBack, IsShort, parcel_of};
+ghost use Rattle.filter_chain.specs.Turning.{FitsAct};
 ghost use Rattle.filter_aggregate.specs.Account.{all_kept};
 ghost use Rattle.filter_aggregate.specs.Slots.{is_due, slot_at};
-ghost use Rattle.sending.specs.Sending.{Start, start_of};
+ghost use Rattle.message_sender.specs.Sending.{Start, start_of};
 ghost use Rattle.event_chain.specs.Behind.{IsBehind, kept_told};
 ghost use Rattle.event_chain.specs.Fates.{ending_of, fate_of, told};
 ghost use Rattle.event_chain.specs.Standing.{Rests};
-ghost use Rattle.event_chain.specs.Ready.{HasPlaces, IsReady, Stays, CanSend};
+ghost use Rattle.event_chain.specs.Ready.{HasPlaces, HasSentRoom, IsReady, Stays, CanSend, TakesRoom};
 
 use crate::counting::Counting;
 use crate::fate::{Ending, Fate};
 use crate::joining::{go_on, lent, pass};
 use crate::witness::Witness;
-use chain::{give_back, kept};
 use filter_aggregate::Windows;
+use filter_chain::{give_back, kept};
 use filter_gate::{GateState, Verdict};
 use ids_types::{Act, EventIndex, Parcel, Qualified, TurnOut};
 
-/// All filters, one behind the other, and who is told what became of each item.
+/// All filters, one after the other, and who is told what became of each item.
 #[derive(Debug, Drop)]
 pub(crate) struct Filters<B, W> {
     pub(crate) gate: GateState,
@@ -43,8 +45,8 @@ impl<B: Parcel, W: Witness> Filters<B, W> {
             → IsBehind B.held W.knows config (start_of config (qualified config moments)) now moments self.new out.new }
         ensures log { out.new.log ≡ out.old.log }
         ensures room { room_of out.new ≡ room_of out.old }
-        ensures can { (entries events : ℕ) → entries ≤ 1024 → events ≤ 256 → most_sent entries events ≤ (room_of out.old).sent
-            → CanSend (entries + events + 3) self.new out.new }
+        ensures all_left { out.new.sent_left ≡ (room_of out.old).sent }
+        ensures can { (entries events : ℕ) → entries ≤ 1024 → events ≤ 256 → CanSend (entries + events + 3) self.new out.new }
         ensures places { HasPlaces self.old → HasPlaces self.new }
         ensures windows { self.new.windows ≡ self.old.windows }
     {
@@ -63,6 +65,7 @@ impl<B: Parcel, W: Witness> Filters<B, W> {
         requires places { HasPlaces self.old }
         requires event { event.0 < length self.old.windows }
         requires can { CanSend 1 self.old out.old }
+        requires room { HasSentRoom B.held 1 (all_kept self.old.windows) out.old }
         requires short { All (IsShort B.held) (all_kept self.old.windows) }
         requires back { vec_len back.old + length (all_kept self.old.windows) ≤ vec_capacity back.old }
         ensures behind { (config : Parts) (start : Start) (moments : List Moment)
@@ -72,6 +75,7 @@ impl<B: Parcel, W: Witness> Filters<B, W> {
             (all_kept self.new.windows) back.old.items back.new.items }
         ensures capacity { vec_capacity back.new ≡ vec_capacity back.old }
         ensures stays { Stays 1 tick self.old self.new out.old out.new }
+        ensures sends { TakesRoom B.held 1 back.old.items back.new.items out.old out.new }
         ensures settled { IsFalse (is_due tick (slot_at self.new.windows event.0)) }
     {
         match self.windows.close_due(event, tick) {
@@ -93,6 +97,7 @@ impl<B: Parcel, W: Witness> Filters<B, W> {
     pub(crate) fn enter(&mut self, tick: u64, act: Act<B>, back: &mut Vec<B>, out: &mut TurnOut)
         requires ready { IsReady tick self.old out.old }
         requires fits { FitsAct B.held (length self.old.windows) act }
+        requires room { HasSentRoom B.held 1 (option_to_list (parcel_of act) ++ all_kept self.old.windows) out.old }
         requires back { vec_len back.old + length (option_to_list (parcel_of act))
             + length (all_kept self.old.windows) ≤ vec_capacity back.old }
         ensures behind { (config : Parts) (start : Start) (moments : List Moment)
@@ -102,6 +107,7 @@ impl<B: Parcel, W: Witness> Filters<B, W> {
             (all_kept self.new.windows) back.old.items back.new.items }
         ensures capacity { vec_capacity back.new ≡ vec_capacity back.old }
         ensures stays { Stays 1 tick self.old self.new out.old out.new }
+        ensures sends { TakesRoom B.held 1 back.old.items back.new.items out.old out.new }
     {
         match act {
             Act::Report {
@@ -134,6 +140,7 @@ impl<B: Parcel, W: Witness> Filters<B, W> {
         requires ready { IsReady tick self.old out.old }
         requires event { item.event.0 < length self.old.windows }
         requires short { IfSome item.context (IsShort B.held) }
+        requires room { HasSentRoom B.held 1 (option_to_list item.context ++ all_kept self.old.windows) out.old }
         requires back { vec_len back.old + length (option_to_list item.context)
             + length (all_kept self.old.windows) ≤ vec_capacity back.old }
         ensures behind { (config : Parts) (start : Start) (moments : List Moment)
@@ -143,6 +150,7 @@ impl<B: Parcel, W: Witness> Filters<B, W> {
             (all_kept self.new.windows) back.old.items back.new.items }
         ensures capacity { vec_capacity back.new ≡ vec_capacity back.old }
         ensures stays { Stays 1 tick self.old self.new out.old out.new }
+        ensures sends { TakesRoom B.held 1 back.old.items back.new.items out.old out.new }
     {
         let (event, count) = (item.event, item.count);
         match self.gate.gate(event) {

@@ -1,4 +1,4 @@
-//! The aggregation filter, and how an item goes on behind it.
+//! The aggregation filter, and how an item goes on after it.
 
 ghost use Rattle.std.specs.Prelude.{◌≡◌, ◌<◌, ◌≤◌, ◌+◌, ◌++◌, ℕ, List, ◌∷◌, length, option_copied, option_map, option_to_list, vec_len, vec_capacity, IsSome};
 ghost use Rattle.std.specs.Bool.{IsFalse};
@@ -7,21 +7,22 @@ ghost use Rattle.chain_spec.specs.Calls.{Call, arrives, call_tick};
 ghost use Rattle.chain_spec.specs.Filtering.{thresholded_at};
 ghost use Rattle.chain_spec.specs.Items.{Item, item_at, told_by};
 ghost use Rattle.chain_spec.specs.Windows.{EndBy};
-ghost use Rattle.chain.specs.Parcels.{HandsBack};
+ghost use Rattle.filter_chain.specs.Parcels.{HandsBack};
 ghost use Rattle.filter_aggregate.specs.Account.{all_kept};
 ghost use Rattle.filter_aggregate.specs.Slots.{is_due, slot_at, slots_by};
 ghost use Rattle.filter_aggregate.specs.Standing.{Stands as WindowsStand};
-ghost use Rattle.sending.specs.Sending.{Start, TakesOne};
+ghost use Rattle.message_sender.specs.Sender.{most_message};
+ghost use Rattle.message_sender.specs.Sending.{Start, TakesOne};
 ghost use Rattle.event_chain.specs.Fates.{fate_of, counted_fate, passed_fate};
 ghost use Rattle.event_chain.specs.Flow.{CountingStands, Flows, EndAt, joined_with, items_with};
-ghost use Rattle.event_chain.specs.Ready.{CanCount, HasEvent, SettledAt, Windowed};
+ghost use Rattle.event_chain.specs.Ready.{CanCount, HasEvent, SettledAt, TakesRoom, Windowed};
 
 use crate::counting::Counting;
 use crate::fate::Fate;
-use chain::give_back;
 use filter_aggregate::Windows;
+use filter_chain::give_back;
 use ids_types::{Parcel, Qualified, TurnOut};
-use sending::Report;
+use message_sender::Report;
 
 /// Takes an item: it goes into its event's window, or on to the next filter where its event has none.
 pub(crate) fn pass<B: Parcel>(
@@ -51,7 +52,8 @@ pub(crate) fn pass<B: Parcel>(
         (all_kept windows.new) back.old.items back.new.items }
     ensures capacity { vec_capacity back.new ≡ vec_capacity back.old }
     ensures windows { Windowed tick windows.old windows.new }
-    ensures one { TakesOne counting.old.outlet.sender counting.new.outlet.sender out.old out.new }
+    ensures sends { TakesRoom B.held 1 back.old.items back.new.items out.old out.new }
+    ensures one { TakesOne (most_message (option_map B.held item.context)) counting.old.outlet.sender counting.new.outlet.sender out.old out.new }
     ensures has { (k : ℕ) → HasEvent k counting.old → HasEvent k counting.new }
 {
     if windows.aggregates(item.event) {
@@ -104,7 +106,8 @@ pub(crate) fn go_on<B: Parcel>(
         → EndBy (λ item. item.tick) tick joined
         → EndBy (λ item. item.tick) tick items
         → fate_of result ≡ counted_fate config joined items (item_at tick (told_by B.held item)) }
-    ensures one { TakesOne counting.old.outlet.sender counting.new.outlet.sender out.old out.new }
+    ensures sends { TakesRoom B.held 1 back.old.items back.new.items out.old out.new }
+    ensures one { TakesOne (most_message (option_map B.held item.context)) counting.old.outlet.sender counting.new.outlet.sender out.old out.new }
     ensures has { (k : ℕ) → HasEvent k counting.old → HasEvent k counting.new }
     ensures back { back.new.items ≡ back.old.items ++ option_to_list item.context }
     ensures capacity { vec_capacity back.new ≡ vec_capacity back.old }

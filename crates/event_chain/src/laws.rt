@@ -3,7 +3,7 @@
 ghost use Rattle.std.specs.Prelude.{◌≡◌, List, map, reverse};
 ghost use Rattle.ids_types.specs.Turns.{Turn};
 ghost use Rattle.ids_config.specs.Parts.{Parts};
-ghost use Rattle.chain.specs.Kept.{open_contexts};
+ghost use Rattle.filter_chain.specs.Kept.{open_contexts};
 ghost use Rattle.filter_aggregate.specs.Account.{all_kept};
 ghost use Rattle.event_chain.specs.Chained.{Watched};
 ghost use Rattle.event_chain.specs.Standing.{StandsWatched};

@@ -1,7 +1,7 @@
-//! The filter chain: all filters, the event memory and the sender, one behind the other.
+//! The filter chain: all filters, the event memory and the sender, one after the other.
 //!
-//! Layer 7, the chain. Over `ids_types`, `ids_config`, `chain_spec`, `chain`, the filters, `event_memory`,
-//! `internal_events` and `sending`; the main function and the runs make one turn after another with it.
+//! Layer 7, the chain. Over `ids_types`, `ids_config`, `chain_spec`, `filter_chain`, the filters, `event_memory`,
+//! `internal_events` and `message_sender`; the main function and the runs make one turn after another with it.
 //! Contracts are those of the trait `Chain`: an `EventChain` stands for a configuration and turns
 //! (`specs/Standing.antt`), and each of its parts for the lists that flow between them (`specs/Flow.antt`).
 //! It never holds a history, and takes memory only when it is made.

@@ -1,17 +1,19 @@
+//! The end of the chain: the event memory and the sender.
+
 ghost use Rattle.std.specs.Prelude.{◌≡◌, ◌<◌, List, [], ◌∷◌, length, map, IfOk, IfSome};
 ghost use Rattle.ids_config.specs.Parts.{Parts};
 ghost use Rattle.chain_spec.specs.Endings.{qualified_fate};
 ghost use Rattle.chain_spec.specs.Items.{Item};
 ghost use Rattle.chain_spec.specs.Windows.{EndBy};
-ghost use Rattle.sending.specs.Sender.{CanQualify, IsShort, source_of};
-ghost use Rattle.sending.specs.Sending.{Start, TakesOne, Stands as SenderStands, answered_fate};
+ghost use Rattle.message_sender.specs.Sender.{CanQualify, IsShort, most_message, source_of};
+ghost use Rattle.message_sender.specs.Sending.{Start, TakesOne, Stands as SenderStands, answered_fate};
 ghost use Rattle.event_chain.specs.Outlets.{Stores, OutletStands};
 
 use event_memory::Memory;
 use ids_config::Config;
 use ids_types::{Key, NoMemory, TurnOut};
 use limits::Admit;
-use sending::{Report, Sender};
+use message_sender::{Report, Sender};
 use std::alloc::Global;
 
 /// Where qualified events go: into the event memory, and to the sender.
@@ -46,7 +48,7 @@ impl Outlet {
             → OutletStands config start items self.old out.old
             → EndBy (λ item. item.tick) report.now.tick items
             → answered_fate result ≡ qualified_fate config items report.now }
-        ensures one { TakesOne self.old.sender self.new.sender out.old out.new }
+        ensures one { TakesOne (most_message report.now.context) self.old.sender self.new.sender out.old out.new }
     {
         self.store(report);
         self.sender.qualify(report, out)

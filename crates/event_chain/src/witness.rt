@@ -14,6 +14,7 @@ pub trait Witness: Drop {
     ghost knows: { Self → Parts → List Moment → Type 0 };
 
     /// One more item ended its way.
+    /// Steps: constant for `Unwatched`, who is told nothing.
     fn tell(&mut self, ending: Ending)
         ensures { (config : Parts) (before : List Moment) (moment : Moment) → knows self.old config before →
             option_map bare (ending_at config before moment) ≡ Some (ending_of ending) →

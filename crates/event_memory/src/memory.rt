@@ -1,3 +1,5 @@
+//! The records of the event memory, and how an item is stored in them.
+
 ghost use Rattle.std.specs.Prelude.{◌≡◌, ◌<◌, ◌≤◌, ◌∷◌, [], List, length, reverse, slice_index_or, IfOk};
 ghost use Rattle.std.specs.List.{position, remove};
 ghost use Rattle.chain_spec.specs.Memory.{Stored};
@@ -33,6 +35,8 @@ impl Model for Memory {
 
 impl Memory {
     /// An empty one of at most `k` records.
+    /// Steps: the records, at most 256, each with a request. Memory: made once: at most 256 contexts of 1,024 bytes,
+    /// and their records. By: condition: at most 256; read off.
     pub fn make(alloc: Global, k: u16) -> Result<Memory, NoMemory>
         requires { k ≤ 256 }
         ensures memory { IfOk result (λ memory. memory ≡ no_rows k) }
@@ -47,6 +51,9 @@ impl Memory {
 
     /// Stores an item: it adds to the record of its event, or begins one and displaces the oldest where
     /// there is no more room. Its record is then the newest.
+    /// Steps: the records up to that of the event, or all where it has none, at most 256. Each is looked at and moved
+    /// one place back. And the bytes of the context, at most 1,024. By: condition: at most 1,024 bytes; `room`; read
+    /// off.
     pub fn store(&mut self, tick: u64, key: Key, count: u16, stamp: Option<Stamp>, context: &[u8])
         requires { length context.now ≤ 1024 }
         ensures room { self.new.room ≡ self.old.room }
@@ -70,6 +77,7 @@ impl Memory {
     }
 
     /// A record, from the one stored longest ago on.
+    /// By: no loop; the context is lent.
     pub fn row(&self, i: u16) -> Row<'_>
         requires { i < length self.now.rows }
         ensures { plain_row result ≡ slice_index_or (reverse self.now.rows) i no_row }

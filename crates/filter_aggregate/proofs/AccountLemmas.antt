@@ -12,7 +12,7 @@ module _ {B : Type 0} where
       (subst (λ (l : List B). IsPermutation ((xs ++ ys) ++ zs) l) (append_assoc ys xs zs)
       (IsPermutation-append_left zs (xs ++ ys) (ys ++ xs) (IsPermutation-append_comm xs ys)))
 
-  -- what stands behind both changes nothing
+  -- what stands after both changes nothing
   account_before : (came before handed now rest : List B) → Accounts came before handed now
       → Accounts came (before ++ rest) handed (now ++ rest)
   account_before came before handed now rest same =

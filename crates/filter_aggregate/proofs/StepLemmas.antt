@@ -86,7 +86,7 @@ module _ {C : Type 0} (setting : Aggregate) where
 
   -- ---- an item arrives
 
-  -- behind the end of the newest window there is none, and the item opens one
+  -- after the end of the newest window there is none, and the item opens one
   behind_end : (x : Arrival C) (w : Window (Arrival C)) (closed : Bool) → x.told.count ≤ 65535 → end_of w ≤ x.tick
       → has_passed x.tick (Some setting) (kept_if closed w) ≡ false
       → Some (kept_window setting.last (opened x)) ≡ Some (window_with setting.last x.tick x.told (kept_if closed w))

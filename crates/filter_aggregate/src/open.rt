@@ -1,3 +1,5 @@
+//! One open window, and how an item joins it.
+
 ghost use Rattle.std.specs.Prelude.{◌≡◌};
 ghost use Rattle.filter_aggregate.specs.Slots.{kept_of, spare_of, with_item};
 

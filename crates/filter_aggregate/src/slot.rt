@@ -1,3 +1,5 @@
+//! The window of one event: how it opens, takes items, and closes.
+
 ghost use Rattle.std.specs.Prelude.{◌≡◌};
 ghost use Rattle.filter_aggregate.specs.Slots.{is_due, item_due, slot_closed, slot_with, spare_of, keeps_last, held_in};
 

@@ -1,3 +1,5 @@
+//! The windows of all events.
+
 ghost use Rattle.std.specs.Prelude.{◌≡◌, ◌≢◌, ◌<◌, ℕ, List, [], ◌∷◌, length, map, option_map, option_and_then, option_to_list, is_some, IsSome, IfOk};
 ghost use Rattle.std.specs.Bool.{IsFalse};
 ghost use Rattle.std.specs.Option.{option_copied};
@@ -37,6 +39,7 @@ impl<B> Model for Windows<B> {
 
 impl<B: Parcel> Windows<B> {
     /// The windows of a configuration, none of them open.
+    /// Steps: the events, at most 256. Memory: made once. By: read off; no other call of it answers NoMemory.
     pub fn make(alloc: Global, config: &Config) -> Result<Windows<B>, NoMemory>
         ensures slots { IfOk result (λ w. w ≡ map (λ event. fresh_slot event.aggregate) config.now.events) }
         ensures stands_over { IfOk result (λ w. Stands config.now [] (slots_by B.held w)) }
@@ -74,6 +77,7 @@ impl<B: Parcel> Windows<B> {
     }
 
     /// Closes the event's window where it is due at the tick, and gives its one item.
+    /// By: no loop; the parcel is moved (`moved`).
     pub fn close_due(&mut self, event: EventIndex, tick: u64) -> Option<Qualified<B>>
         requires { event.0 < length self.old }
         // What it gives, and the slots and parcels then.
@@ -94,6 +98,7 @@ impl<B: Parcel> Windows<B> {
     }
 
     /// An item arrives. Gives back the parcel that its window does not keep.
+    /// By: no loop; the parcel is moved (`moved`).
     #[tactic(auto, using(crate::proofs::AccountLemmas::account_arriving))]
     pub fn arrive(&mut self, tick: u64, item: Qualified<B>) -> Option<B>
         requires exists { item.event.0 < length self.old }

@@ -1,3 +1,5 @@
+//! The gate of all events, and the block state that they share.
+
 ghost use Rattle.std.specs.Prelude.{◌≡◌, ◌<◌, ℕ, List, [], ◌∷◌, length, map, IfOk};
 ghost use Rattle.std.specs.List.{All};
 ghost use Rattle.ids_config.specs.Parts.{Parts};
@@ -35,6 +37,8 @@ impl Model for GateState {
 
 impl GateState {
     /// The gate of a configuration, before anything came.
+    /// Steps: the events, at most 256, each with its block states, at most 16. Memory: made once. By: read off; no
+    /// other call of it answers NoMemory.
     pub fn make(alloc: Global, config: &Config) -> Result<GateState, NoMemory>
         ensures { IfOk result (Stands config.now []) }
     {
@@ -46,6 +50,7 @@ impl GateState {
     }
 
     /// The verdict on an item of the event.
+    /// Steps: the event's block states, at most 16. By: read off; answer `Verdict`, no NoMemory.
     pub fn gate(&mut self, event: EventIndex) -> Verdict
         requires { event.0 < length self.old.rows }
         // What it lets through is what is sampled of the item, and what it lets by is what bypasses.

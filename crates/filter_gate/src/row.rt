@@ -1,3 +1,5 @@
+//! The gate of one event: its mode, and its count for every nth.
+
 ghost use Rattle.std.specs.Prelude.{◌≡◌, ◌<◌, ◌==◌, IfOk, if◌then◌else◌};
 ghost use Rattle.filter_gate.specs.declared.verdict.Cause.TheVariants.{Nth};
 ghost use Rattle.filter_gate.specs.declared.verdict.Verdict.TheVariants.{Dropped, Pass};

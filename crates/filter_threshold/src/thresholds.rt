@@ -1,3 +1,5 @@
+//! The threshold windows of all events.
+
 ghost use Rattle.std.specs.Prelude.{◌≡◌, ◌<◌, ℕ, List, [], ◌∷◌, length, map, IfOk};
 ghost use Rattle.ids_config.specs.Parts.{Parts, event_at};
 ghost use Rattle.chain_spec.specs.Counting.{Occurrence};
@@ -29,6 +31,7 @@ impl Model for Thresholds {
 
 impl Thresholds {
     /// The thresholds of a configuration, before any item.
+    /// Steps: the events, at most 256. Memory: made once. By: read off; no other call of it answers NoMemory.
     pub fn make(alloc: Global, config: &Config) -> Result<Thresholds, NoMemory>
         ensures stands { IfOk result (Stands config.now []) }
     {
@@ -38,6 +41,7 @@ impl Thresholds {
     }
 
     /// Whether an item of the event passes, which counts from now on. Takes no memory.
+    /// By: no loop; answer `bool`, no NoMemory.
     pub fn arrive(&mut self, event: EventIndex, tick: u64, count: u16) -> bool
         requires { event.0 < length self.old }
         ensures passes { (config : Parts) (items : List Occurrence) → Stands config items self.old

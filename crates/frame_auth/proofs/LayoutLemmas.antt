@@ -1,4 +1,4 @@
--- A sealed message by its bytes: the plain one, marked in its first byte, and the signature part behind it.
+-- A sealed message by its bytes: the plain one, marked in its first byte, and the signature part after it.
 use Rattle.frame_auth.proofs.Names.{◌≡◌, ℕ, zero, suc, IsByte, AreBytes, ◌+◌, ◌*◌, ◌^◌, ◌≤◌, ◌<◌, List, [], ◌∷◌, ◌++◌, length, take, drop, Option, Some, None, refl, sym, ap, subst, ◌∙◌, arith, length-append, w16, w64, to_be_bytes, MessageParts, FitsMessage, header, spelling, joined, with_signature, bare, hmac, seal_of, sealed, joined_sealed, IsPlain, ArePlain, IsSealedWith, HasNoSeal, HasOtherCounter, CanMark, marked, sealed_bytes, CanUnmark, unmarked, rules, common_steps}
 use Rattle.std.proofs.lemmas.List.{take_at, drop_at}
 use Rattle.std.proofs.Common.{◌≢◌, IfSome, Bor, is_some, option_copied, false}
@@ -57,10 +57,6 @@ unsealed_layout m part some size =
     let whole = ap (λ s. spelling (with_signature s m)) some ∙ signed_layout m part in
     subst (λ (l : List ℕ). CanUnmark l × (unmarked l ≡ spelling (bare m))) (sym whole)
     (unmark (m.version * 16 + header (bare m)) _ (drop 1 (spelling (bare m))) back refl (omega (arith, size)))
-
--- one bit is free in the first byte of a plain message
-pub can_mark : (m : MessageParts) → FitsMessage m → CanMark (spelling m)
-can_mark m fits = search rules
 
 -- ---- seals
 
@@ -133,7 +129,7 @@ bare_is_plain m fits = record { fits = with_fits m None fits tt tt; none = refl 
 pub unsigned : (s : Option (Bor (List ℕ))) → is_some s ≡ false → option_copied s ≡ None
 unsigned s none = search rules
 
--- what was added behind `old` is the message without its signature part
+-- what was added after `old` is the message without its signature part
 pub added_bare : (old now spelled part : List ℕ) (from : ℕ) (m : MessageParts) → now ≡ old ++ unmarked spelled → spelled ≡ spelling m
     → from ≡ length old → m.signature ≡ Some part → length part ≡ 40 → drop from now ≡ spelling (bare m)
 added_bare old now spelled part from m added is place some size = grind (arith, common_steps, unsealed_layout)

@@ -3,7 +3,7 @@
 use Rattle.frame_auth.proofs.Names.{◌≡◌, ℕ, ◌+◌, ◌-◌, ◌*◌, ◌≤◌, ◌==◌, ◌⊎◌, inl, inr, false, List, [], ◌∷◌, ◌++◌, length, sym, ap, ◌∙◌, append_assoc, arith, length-append, MessageParts, FitsMessage, spelling, joined, sealed, joined_sealed, IsPlain, ArePlain, Moves, StopsBehind, rules, common_steps}
 use Rattle.frame_auth.proofs.LayoutLemmas.{bare_is, sealed_fits}
 
--- messages from a counter on are written one behind the other, each plain one in a form of its own, which tells it
+-- messages from a counter on are written one after the other, each plain one in a form of its own, which tells it
 pub record Writes (write : ℕ → List MessageParts → List ℕ) (form : ℕ → MessageParts → MessageParts) : Type 0 where
   pub none : (due : ℕ) → write due [] ≡ []
   pub more : (due : ℕ) (m : MessageParts) (ms : List MessageParts) → write due (m ∷ ms) ≡ spelling (form due m) ++ write (due + 1) ms
@@ -38,11 +38,6 @@ pub record Goes (from to : ℕ → List MessageParts → List ℕ) (start due : 
   pub written : out ≡ to start front
   pub next : due ≡ start + length front
   pub few : length front * 8 ≤ length (from start front)
-
--- at first none
-pub goes_first : {from to : ℕ → List MessageParts → List ℕ} {form other : ℕ → MessageParts → MessageParts}
-    → Writes from form → Writes to other → (start : ℕ) (bytes : List ℕ) → Goes from to start start bytes bytes []
-goes_first w v start bytes = search rules
 
 length-spelling : (m : MessageParts) → 8 ≤ length (spelling m)
 length-spelling m = omega arith

@@ -10,7 +10,7 @@ use Rattle.frame_auth.specs.declared.fault.UnsealFault.{UnsealFault}
 use Rattle.frame_auth.specs.declared.fault.UnsealFault.TheVariants as unseals
 use Rattle.frame_auth.specs.Sealing.{ArePlain, joined_sealed, Copies, HasNoSeal, HasOtherCounter}
 
--- behind plain messages, written so, stand bytes for which this is why, at this place and behind so many messages
+-- after plain messages, written so, stand bytes for which this is why, at this place and after so many messages
 pub record StopsBehind (write : List MessageParts → List ℕ) (Why : (at count : ℕ) → List ℕ → Type 0) (bytes : List ℕ) : Type 0 where
   pub front : List MessageParts
   pub are_plain : ArePlain front

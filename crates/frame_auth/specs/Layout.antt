@@ -21,7 +21,7 @@ abbrev pub marked : List ℕ → List ℕ
 marked [] = []
 marked (first ∷ rest) = (first + 4) ∷ rest
 
--- the spelling of the sealed message: a signature part of 40 bytes stands behind it
+-- the spelling of the sealed message: a signature part of 40 bytes stands after it
 abbrev pub sealed_bytes : (key : List ℕ) (counter : ℕ) → List ℕ → List ℕ
 sealed_bytes key counter plain = marked plain ++ 0 ∷ 40 ∷ seal_of key counter plain
 

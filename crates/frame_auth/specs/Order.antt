@@ -15,7 +15,7 @@ AreOf list messages = AllByRecursion (Contains list) messages
 abbrev pub AreFirst : (list messages : List MessageParts) → Type 0
 AreFirst list messages = messages ≡ take (length messages) list
 
--- the first message that is not the next one of the list stands behind so many bytes
+-- the first message that is not the next one of the list stands after so many bytes
 pub record IsOutOfOrder (list messages : List MessageParts) (at : ℕ) : Type 0 where
   pub count : ℕ
   pub some : count < length messages

@@ -37,6 +37,7 @@ impl Model for Key {
 
 impl Key {
     /// The key of these bytes, `None` where there are none or more than 64.
+    /// Steps: at most 64 bytes, and two blocks. By: `some`; read off.
     pub fn make(bytes: &[u8]) -> Option<Key>
         ensures some { IsSome result ↔ IsKeyLength (length bytes.now) }
         ensures made { IfSome result (λ key. key ≡ filled bytes.now) }
@@ -74,6 +75,7 @@ fn taken_in(block: [u8; BLOCK], mask: u8) -> Sha256
 }
 
 /// The tag of `front` and then `back` under the key: HMAC with SHA-256.
+/// Steps: the bytes of both pieces, and two or three blocks of 64 bytes. By: read off.
 pub fn tag(key: &Key, front: &[u8], back: &[u8]) -> [u8; 32]
     ensures { result ≡ hmac key.now (front.now ++ back.now) }
 {

@@ -6,7 +6,7 @@ ghost use Rattle.frame_auth.specs.Faults.{CannotRead};
 
 use ids_frame::{BadMessage, Message, decode};
 
-/// The message at the front, its spelling, and the bytes behind it. `at` is where the bytes stand.
+/// The message at the front, its spelling, and the bytes after it. `at` is where the bytes stand.
 pub(crate) fn first_message(
     bytes: &[u8],
     at: usize,

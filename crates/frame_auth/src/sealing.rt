@@ -17,6 +17,8 @@ pub(crate) const SEAL_LEN: u16 = 40;
 
 /// The messages, sealed one by one with the counters `start`, `start + 1` and so on, or the first
 /// fault. Of one message, that it cannot be read is told before that it is signed.
+/// Steps: each message read and copied once, its bytes digested once, and two or three blocks of 64 bytes a message.
+/// Memory: may answer want of memory. By: `found`; read off.
 pub fn seal(alloc: Global, key: &Key, start: u64, messages: &[u8]) -> Result<Vec<u8>, SealFault>
     requires { start ≤ 2 ^ 62 }
     ensures found { IfOk result (λ out. GivesSealed key.now start messages.now (Ok out.items)) }
@@ -33,7 +35,7 @@ pub fn seal(alloc: Global, key: &Key, start: u64, messages: &[u8]) -> Result<Vec
     Ok(out)
 }
 
-// Appends the first message, sealed, and answers the bytes behind it.
+// Appends the first message, sealed, and answers the bytes after it.
 #[tactic(auto, using(crate::proofs::LayoutLemmas::unsigned, crate::proofs::LayoutLemmas::sealed_layout))]
 fn seal_first<'a>(
     out: &mut Vec<u8>,

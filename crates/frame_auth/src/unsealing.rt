@@ -15,6 +15,7 @@ const SEALED_PART: usize = 42;
 
 /// The messages that were sealed with the counters `start`, `start + 1` and so on, without their
 /// seals, or the first fault. Of one message the faults are sought in the order of the variants.
+/// Steps: as `seal`. Memory: may answer want of memory. By: `found`; read off.
 pub fn unseal(alloc: Global, key: &Key, start: u64, sealed: &[u8]) -> Result<Vec<u8>, UnsealFault>
     requires { start ≤ 2 ^ 62 }
     ensures found { IfOk result (λ out. GivesUnsealed key.now start sealed.now (Ok out.items)) }
@@ -31,7 +32,7 @@ pub fn unseal(alloc: Global, key: &Key, start: u64, sealed: &[u8]) -> Result<Vec
     Ok(out)
 }
 
-// Appends the first message without its seal, and answers the bytes behind it.
+// Appends the first message without its seal, and answers the bytes after it.
 fn unseal_first<'a>(
     out: &mut Vec<u8>,
     key: &Key,
@@ -92,7 +93,7 @@ fn counter_of(key: &Key, plain: &[u8], counter: &[u8; 8], told: &[u8; 32]) -> Op
     }
 }
 
-// Whether two tags are the same. It looks at all bytes of both, also behind one that differs.
+// Whether two tags are the same. It looks at all bytes of both, also after one that differs.
 #[tactic(auto, using(crate::proofs::TagLemmas::comparing))]
 fn are_same(a: &[u8; 32], b: &[u8; 32]) -> bool
     ensures { IsTrue result ↔ (a.now ≡ b.now) }

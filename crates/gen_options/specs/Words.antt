@@ -27,7 +27,7 @@ found words = matches_of command_line words
 
 -- ---- what they give
 
--- the number of 64 bits that a text writes: digits, maybe behind a plus
+-- the number of 64 bits that a text writes: digits, maybe after a plus
 abbrev pub number_in : Text → Option ℕ
 number_in text =
     if is_unsigned_in 0 18446744073709551615 text then Some (digits_value 10 (without_leading_plus text)) else None

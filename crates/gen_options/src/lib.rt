@@ -1,6 +1,6 @@
-//! The words behind `gen`: what a recording is generated from, and the files that it goes to.
+//! The words after `gen`: what a recording is generated from, and the files that it goes to.
 //!
-//! Layer 9, generated recordings. Over `clap`, which reads the words; `trace_gen` makes what the options ask
+//! Layer 9, traces and files. Over `clap`, which reads the words; `gen_recording` makes what the options ask
 //! for, and `idsm_run` writes it.
 //! Contracts say of words what they give (`specs/Words.antt`), by clap's own definition of what a command takes
 //! of words and which of them it refuses.

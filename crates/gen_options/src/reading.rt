@@ -14,6 +14,8 @@ use std::alloc::{AllocError, Global};
 
 /// What the words give, the first of which is the command's own; `None` where clap refuses them, or a number
 /// is out of its range.
+/// Steps: what clap makes of the words, against a command of seven arguments. Memory: may answer want of memory
+/// (`AllocError`). By: proved to end; clap's loops are not read off.
 pub fn read<'a>(alloc: Global, words: &'a [String]) -> Result<Option<Given<'a>>, AllocError>
     ensures given { IfOk result (λ given. option_map given_of given ≡ words_give (map string_bytes words.entry.now)) }
     ensures range { IfOk result (λ given. IfSome given (λ g. IsTrue (is_in_range g.options))) }

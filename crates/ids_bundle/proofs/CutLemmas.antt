@@ -6,7 +6,7 @@ use Rattle.ids_bundle.specs.Packing.{FitsIn}
 use Rattle.ids_bundle.proofs.ListLemmas.{split}
 use Rattle.ids_bundle.proofs.UnitLemmas.{load-append}
 
--- a run that holds a full one and the message behind it is too long
+-- a run that holds a full one and the message after it is too long
 too_long : (size : ℕ) (front full : Run) (behind : List MessageParts) (next : MessageParts) (more rest : List MessageParts) (run : Run)
     → IsFullBefore size full behind → behind ≡ next ∷ rest → run ≡ (front ++ full) ++ next ∷ more → load run ≤ size → ⊥
 too_long size front full behind next more rest run is_full e whole few = grind (arith, common_steps, load-append)
@@ -58,7 +58,7 @@ one_packing_lem size messages packed others p o = grind (arith, common_steps, on
 
 -- ---- the cut by steps
 
--- the runs of an open run and the messages behind it
+-- the runs of an open run and the messages after it
 abbrev pub greedy : ℕ → Run → List MessageParts → List Run
 greedy size run [] = run ∷ []
 greedy size run (m ∷ left) =

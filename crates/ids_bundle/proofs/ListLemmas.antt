@@ -1,4 +1,4 @@
--- Lists of values whose texts stand one behind the other, and lists that are cut in two ways.
+-- Lists of values whose texts stand one after the other, and lists that are cut in two ways.
 use Rattle.ids_bundle.proofs.Names.{Err, arith, append-nil, flat_map_more, length, Reads, ◌≡◌, ℕ, ◌⊎◌, List, [], ◌∷◌, ◌++◌, Ok, refl, sym, ap, ◌∙◌, append_assoc, inl, inr, flat_map, AllByRecursion, Result, common_steps}
 
 -- the same list in two parts, twice: either the first front is the longer one or as long, or it is the shorter one

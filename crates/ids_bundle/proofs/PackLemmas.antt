@@ -104,11 +104,6 @@ packing_closes size bytes out tail out_now tail_now text number total len number
 may_stop : (size : ℕ) (bytes : List ℕ) (fault : PackFault) → Packs size bytes (Err fault) → MayStop size bytes fault
 may_stop size bytes fault stops = search rules
 
--- packing stops before a message
-pub packing_stops : (size : ℕ) (bytes out tail rest : List ℕ) (number total : ℕ) (fault : PackFault) → IsPacking size bytes out tail number total
-    → total < length tail → rest ≡ drop total tail → StopsAt size fault (length bytes - length rest) rest → MayStop size bytes fault
-packing_stops size bytes out tail rest number total fault p some is stops = grind (arith, common_steps, may_stop, packing_parts)
-
 -- messages that fit are packed from no open run
 packed_from_none : (size : ℕ) (messages : List MessageParts) → 1 ≤ length messages → AllByRecursion (FitsIn size) messages
     → IsPacked size messages (greedy size [] messages)

@@ -99,7 +99,7 @@ first_of bytes number so = from so.0 so.1 so.2
     from [] joins e = absurd (omega (arith, e))
     from (m ∷ run) joins e = ((m, joined run), record { fits = joins.fit.0; whole = joins.whole }, (run, record { fit = joins.fit.1; whole = refl }, omega (arith, e)))
 
--- behind a message of this length stands one fewer
+-- after a message of this length stands one fewer
 pub one_fewer : (bytes : List ℕ) (len number : ℕ) → BeginsLong bytes len → AreSoMany (number + 1) bytes ↔ AreSoMany number (drop len bytes)
 one_fewer bytes len number is =
     let begins = is.begins in
@@ -120,13 +120,6 @@ pub none_more : (bytes : List ℕ) (fault : FrameFault) (number : ℕ) → AreBy
 none_more bytes fault number fits cause so =
     let first = first_of bytes number so in
     absurd (cc (read_of bytes (Err fault) fits cause, read_of bytes (Ok first.0) fits first.1))
-
--- no messages are no bytes
-pub none_at_all : (bytes : List ℕ) → AreSoMany 0 bytes ↔ (length bytes ≡ 0)
-none_at_all bytes = (
-  λ so. ap (λ l. length l) (so.1.whole ∙ ap joined (nil_from_length so.0 so.2)),
-  λ none. ([], record { fit = tt; whole = nil_from_length bytes none }, refl),
-)
 
 -- a head and so many messages are a unit
 is_unit_if : (a b c d : ℕ) (body : List ℕ) → AreBytes (a ∷ b ∷ c ∷ d ∷ body) → IsBody (a * 256 + b) (c * 256 + d) body
@@ -165,7 +158,7 @@ is_body_if a b c d body is =
     let joins : body ≡ joined run = says.2 ∙ append-nil (joined run) in
     (omega (arith, says.0, is.1.some), says.1 ∙ ap (λ l. length l) (sym joins), (run, record { fit = is.1.fit; whole = joins }, sym says.0))
 
--- so the test of a head and of what stands behind it is that of a unit
+-- so the test of a head and of what stands after it is that of a unit
 pub unit_known : (bytes body : List ℕ) (number size : ℕ) (answer : Bool) → AreBytes bytes → 4 ≤ length bytes
     → number ≡ get_or bytes 0 0 * 256 + get_or bytes 1 0 → size ≡ get_or bytes 2 0 * 256 + get_or bytes 3 0 → body ≡ drop 4 bytes
     → IsTrue answer ↔ IsBody number size body → IsTrue answer ↔ IsUnit bytes

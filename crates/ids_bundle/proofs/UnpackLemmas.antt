@@ -8,7 +8,7 @@ use Rattle.ids_bundle.proofs.UnitLemmas.{free_units, part_is_stuck}
 
 -- ---- taking units
 
--- these bytes are left behind units, whose messages were written
+-- these bytes are left after units, whose messages were written
 pub record IsUnpacking (bytes rest out : List ℕ) : Type 0 where
   pub runs : List Run
   pub fit : AllByRecursion FitsUnit runs

@@ -1,4 +1,4 @@
--- Values whose texts stand one behind the other in bytes, and what reading them answers.
+-- Values whose texts stand one after the other in bytes, and what reading them answers.
 use Rattle.std.specs.Prelude.{◌≡◌, ℕ, ◌≤◌, List, ◌++◌, length, Result, Ok, Err}
 use Rattle.std.specs.List.{flat_map, AllByRecursion}
 
@@ -7,7 +7,7 @@ pub record AreTexts {A : Type 0} (text : A → List ℕ) (Can : A → Type 0) (b
   pub fit : AllByRecursion Can values
   pub whole : bytes ≡ flat_map text values
 
--- behind the texts of values there are bytes, and reading stops before them, for a cause at their place
+-- after the texts of values there are bytes, and reading stops before them, for a cause at their place
 pub record StopsBehind {A : Type 0} (text : A → List ℕ) (Can : A → Type 0) (StopsAt : ℕ → List ℕ → Type 0) (bytes : List ℕ) : Type 0 where
   pub front : List A
   pub fit : AllByRecursion Can front

@@ -6,7 +6,7 @@ use Rattle.ids_bundle.specs.declared.unpacker.Fed.{Fed}
 use Rattle.ids_bundle.specs.declared.unpacker.Fed.TheVariants as fed
 use Rattle.ids_bundle.specs.Units.{Run, units, unit_size, FitsUnit, IsPart, IsBad}
 
--- where a stream stands: within a unit of which these bytes came, right behind the unit of a run, or stopped at
+-- where a stream stands: within a unit of which these bytes came, right after the unit of a run, or stopped at
 -- these bytes, which are no unit
 pub data Place : Type 0 where
   within : List ℕ → Place
@@ -44,7 +44,7 @@ Says (fed.Unit told) piece used (behind run) = told ≡ used
 Says fed.Bad piece used (stopped held) = length held ≡ unit_size held
 Says answer piece used new = ⊥
 
--- behind the held bytes those of the piece that were used lead to the new place
+-- after the held bytes those of the piece that were used lead to the new place
 pub record Takes (held piece : List ℕ) (answer : Fed) (used : ℕ) (new : Place) : Type 0 where
   pub few : used ≤ length piece
   pub whole : held ++ take used piece ≡ units (given new) ++ pending new

@@ -13,7 +13,7 @@ Run = List MessageParts
 abbrev pub load : Run → ℕ
 load run = length (joined run)
 
--- the messages of runs, one behind the other
+-- the messages of runs, one after the other
 abbrev pub all_of : List Run → List MessageParts
 all_of runs = flat_map (λ run. run) runs
 
@@ -21,7 +21,7 @@ all_of runs = flat_map (λ run. run) runs
 abbrev pub unit : Run → List ℕ
 unit run = to_be_bytes w16 (length run) ++ to_be_bytes w16 (load run) ++ joined run
 
--- the units of runs, one behind the other
+-- the units of runs, one after the other
 abbrev pub units : List Run → List ℕ
 units runs = flat_map unit runs
 

@@ -9,6 +9,7 @@ use crate::unit::Count;
 
 /// Counts units and their messages by the heads alone. Of bytes that are no units it counts those before the first
 /// place where no head stands, or one that says more bytes than follow.
+/// Steps: the heads of the units. By: read off.
 #[tactic(auto, using(crate::proofs::CountLemmas::none_left))]
 pub fn count(bytes: &[u8]) -> Count
     ensures { (runs : List Run) → AllByRecursion FitsUnit runs → bytes.now ≡ units runs
@@ -27,7 +28,7 @@ pub fn count(bytes: &[u8]) -> Count
     found
 }
 
-/// How many messages the head at the front says, and what stands behind the bytes that it says.
+/// How many messages the head at the front says, and what stands after the bytes that it says.
 fn first_unit(bytes: &[u8]) -> Option<(u16, &[u8])>
     ensures less { IfSome result (λ x. length x.1.now < length bytes.now) }
     ensures told { (run : Run) (more : List ℕ) → FitsUnit run → bytes.now ≡ unit run ++ more

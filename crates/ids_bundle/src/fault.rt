@@ -12,7 +12,7 @@ use std::alloc::AllocError;
 pub enum PackFault {
     /// A message cannot be read.
     Bad(BadMessage),
-    /// The message behind so many bytes is longer than a unit may be.
+    /// The message after so many bytes is longer than a unit may be.
     TooLarge { at: usize },
     /// The allocator had no room.
     NoMemory,
@@ -29,9 +29,9 @@ impl From<AllocError> for PackFault {
 /// Why units were not unpacked. Before the place there are units.
 #[derive(Clone, Copy, Debug, PartialEq, Eq)]
 pub enum UnpackFault {
-    /// What begins behind so many bytes is whole and no unit.
+    /// What begins after so many bytes is whole and no unit.
     Bad { at: usize },
-    /// What begins behind so many bytes ends before a unit does.
+    /// What begins after so many bytes ends before a unit does.
     Cut { at: usize },
     /// The allocator had no room.
     NoMemory,

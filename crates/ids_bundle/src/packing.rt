@@ -15,6 +15,7 @@ use std::alloc::Global;
 /// Packs messages whole into as few units as can be, each with at most `size` bytes of messages. A message joins the
 /// unit before it where it fits. Messages are judged in their order, and the first that cannot be read, or does not
 /// fit into a unit, is the fault.
+/// Steps: each message read once, and its bytes copied once. Memory: may answer want of memory. By: read off.
 pub fn pack(alloc: Global, size: u16, messages: &[u8]) -> Result<Vec<u8>, PackFault>
     requires { 64 ≤ size }
     ensures packed { IfOk result (λ out.

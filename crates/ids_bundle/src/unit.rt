@@ -56,7 +56,7 @@ pub(crate) fn is_unit(bytes: &[u8]) -> bool
     )
 }
 
-/// Whether these bytes stand in a unit behind a head that says so many messages and bytes.
+/// Whether these bytes stand in a unit after a head that says so many messages and bytes.
 fn is_body(number: u16, size: u16, bytes: &[u8]) -> bool
     ensures { IsTrue result ↔ IsBody number size bytes.now }
 {

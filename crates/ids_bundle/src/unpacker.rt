@@ -54,6 +54,7 @@ impl Model for Unpacker {
 
 impl Unpacker {
     /// An unpacker at the start of a stream, with room for the largest unit: 65,539 bytes.
+    /// Memory: made once: 65,539 bytes.
     pub fn make(alloc: Global) -> Result<Unpacker, NoMemory>
         ensures { IfOk result (λ unpacker. unpacker ≡ within []) }
     {
@@ -63,8 +64,10 @@ impl Unpacker {
         })
     }
 
-    /// Takes bytes of the next piece until a unit is whole. It takes no memory. Behind a `Bad` every call answers
+    /// Takes bytes of the next piece until a unit is whole. It takes no memory. After a `Bad` every call answers
     /// `Bad` and uses nothing.
+    /// Steps: the bytes of the piece up to the end of a unit, and its messages once. By: answer `Fed`, no NoMemory;
+    /// read off.
     pub fn feed(&mut self, piece: &[u8]) -> Fed
         ensures { (used : ℕ) × Feeds self.old piece.now result used self.new }
     {
@@ -148,14 +151,14 @@ fn fill_to(held: &mut Vec<u8>, size: usize, piece: &[u8]) -> usize
 }
 
 /// However a stream was cut into pieces, the units given are its first ones, in their order, and what is pending
-/// stands behind them; it stops at the first that is whole and no unit.
+/// stands after them; it stops at the first that is whole and no unit.
 #[tactic(auto, using(crate::proofs::StreamLemmas::any_pieces_lem))]
 pub fn any_pieces()
     ensures { (calls : List Call) → AreCalls (within []) calls
         → StandsFor (end_of (within []) calls) (used_by calls) (given_by calls) }
 {}
 
-/// A stream has its units and what is pending behind them in one way, so it is all the same how it was cut.
+/// A stream has its units and what is pending after them in one way, so it is all the same how it was cut.
 #[tactic(auto, using(crate::proofs::StreamLemmas::one_reading_lem))]
 pub fn one_reading()
     ensures { (p q : Place) (stream : List ℕ) (runs others : List Run) → StandsFor p stream runs

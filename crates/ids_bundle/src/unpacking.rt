@@ -10,8 +10,10 @@ use crate::fault::UnpackFault;
 use crate::unit::{HEAD, is_unit, unit_size};
 use std::alloc::Global;
 
-/// The messages of units that stand one behind the other, joined. The first place where no whole unit stands is the
+/// The messages of units that stand one after the other, joined. The first place where no whole unit stands is the
 /// fault.
+/// Steps: each unit and its messages read once, and their bytes copied once. Memory: may answer want of memory.
+/// By: read off.
 pub fn unpack(alloc: Global, units: &[u8]) -> Result<Vec<u8>, UnpackFault>
     ensures unpacked { IfOk result (λ out.
         (runs : List Run) × Unpacks units.now (Ok runs) × (out.items ≡ joined (all_of runs))) }

@@ -18,7 +18,7 @@ pub asks_ok : (number : ℕ) (holds : Bool) → asks number holds ≡ Ok tt → 
 asks_ok number true e = refl
 asks_ok number false e = grind arith
 
--- the condition holds, and the searches behind it found no fault
+-- the condition holds, and the searches after it found no fault
 pub asked : {A : Type 0} (number : ℕ) (holds : Bool) (next : Result A ℕ) (x : A)
     → asks number holds >> next ≡ Ok x → (holds ≡ true) × (next ≡ Ok x)
 asked number holds next x e =

@@ -33,14 +33,14 @@ numbers_value config =
     >> in_range 12 0 256 config.memory
     >> in_range 13 0 255 config.state
 
--- a class behind one of this size
+-- a class after one of this size
 abbrev pub class_value : ℕ → ClassSpec → Result ⊤ ℕ
 class_value above class =
     in_range 15 1 1024 class.size
     >> in_range 16 1 1024 class.number
     >> asks 17 (nat_lt above class.size)
 
--- classes from this index on, behind one of this size
+-- classes from this index on, after one of this size
 abbrev pub each_class : ℕ → ℕ → List ClassSpec → Result ⊤ ConfigFault
 each_class index above [] = Ok tt
 each_class index above (class ∷ classes) =

@@ -1,3 +1,5 @@
+//! The configuration as a value that is valid, and what it tells.
+
 ghost use Rattle.std.specs.Prelude.{◌≡◌, ◌<◌, Ok, IfSome, option_map};
 ghost use Rattle.ids_config.specs.Parts.{is_sensor, internal_of, index_of as index_name};
 ghost use Rattle.ids_config.specs.Valid.{IsValid};
@@ -31,6 +33,9 @@ impl Model for Config {
 
 impl Config {
     /// The configuration of these parts, or the first fault of value, 9 to 26. Takes no memory.
+    /// Steps: at most 4 classes, and 256 events with 16 block states each: longer lists are refused before they are
+    /// gone over; with a fault also the parts let go. Memory: none; parts with a fault are given back. By: `checked`;
+    /// read off; answer `ConfigFault`, no NoMemory.
     pub fn check(parts: ConfigParts) -> Result<Config, ConfigFault>
         ensures { result ≡ checked parts }
     {

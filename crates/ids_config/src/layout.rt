@@ -76,7 +76,7 @@ pub(crate) fn check_classes(classes: &[(u64, u64)]) -> Result<(), ConfigFault>
     Ok(())
 }
 
-/// A class behind one of this size.
+/// A class after one of this size.
 fn check_class(above: u64, class: (u64, u64)) -> Result<(), u8>
     ensures { result ≡ class_value above (class_of class) }
 {

@@ -39,7 +39,7 @@ record IsPlain (first : ℕ) : Type 0 where
   known : IsKnown (first / 16)
   few : first / 8 % 2 ≡ 0
 
--- ---- a message behind its first byte
+-- ---- a message after its first byte
 
 -- the parts of a message
 abbrev message_parts : ℕ → Parts MessageParts
@@ -113,7 +113,7 @@ makes_message first m can =
       is = rw (bits.version, high, low) refl;
     }
 
--- behind a plain first byte a message is a part
+-- after a plain first byte a message is a part
 message_is_part : (first : ℕ) → IsPlain first → IsPart (parts_at first) behind_first (CanFollow first)
 unfolding parts_at
 message_is_part first plain =
@@ -146,7 +146,7 @@ unfolding message_at
 at_part [] strange = absurd strange
 at_part (first ∷ bytes) strange = rw (le-leb _ _ strange.0.0, le-leb _ _ strange.0.1, strange.1) refl
 
--- behind another first byte the parts are read
+-- after another first byte the parts are read
 at_plain : (first : ℕ) (bytes : List ℕ) → IsPlain first → message_at (first ∷ bytes) ≡ ok_or (parts_at first bytes) Short
 unfolding message_at
 at_plain first bytes plain = rw (le-leb _ _ plain.known.0, le-leb _ _ plain.known.1, plain.few) refl
@@ -168,7 +168,7 @@ one_message_lem m n a b fits_m fits_n same =
 
 -- ---- what is read tells what bytes begin with
 
--- behind a plain first byte
+-- after a plain first byte
 told_behind : (first : ℕ) (bytes : List ℕ) → IsPlain first → AreBytes bytes
     → (read : Option (MessageParts × List ℕ)) → parts_at first bytes ≡ read → Begins (first ∷ bytes) (ok_or read Short)
 told_behind first bytes plain fits (Some x) e =

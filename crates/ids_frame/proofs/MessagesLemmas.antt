@@ -16,7 +16,7 @@ unfolding held_in
 left_out size [] rest = refl
 left_out size (byte ∷ text) rest = left_out size text rest
 
--- a message stands before what is held behind it
+-- a message stands before what is held after it
 held_behind : (size : ℕ) (m : MessageParts) (rest : List ℕ) → FitsMessage m
     → held_in size 0 (spelling m ++ rest) ≡ before m (held_in size 0 rest)
 unfolding held_in
@@ -30,7 +30,7 @@ unfolding held_in
 joined_held size [] fit = refl
 joined_held size (m ∷ messages) fit = held_behind size m (joined messages) fit.0 ∙ ap (before m) (joined_held size messages fit.1)
 
--- a fault behind messages is held
+-- a fault after messages is held
 fault_held : (size : ℕ) (front : List MessageParts) (next : ℕ) (rest : List ℕ) (fault : FrameFault) → AreMessages front
     → message_at (next ∷ rest) ≡ Err fault
     → held_in size 0 (joined front ++ next ∷ rest) ≡ Err (record { at = size - length (next ∷ rest); fault = fault })
@@ -47,7 +47,7 @@ joined_read bytes messages joins = ap (held_in (length bytes) 0) joins.whole ∙
 
 -- ---- going over the messages
 
--- these bytes are left behind some messages
+-- these bytes are left after some messages
 pub record IsLeft (bytes rest : List ℕ) : Type 0 where
   pub front : List MessageParts
   pub fit : AreMessages front
@@ -112,7 +112,7 @@ pub ruleset going_over = (all_left, left_behind, stops, all_read)
 
 -- ---- what a file holds
 
--- by what is read where bytes are left, if all that may be left behind it tells what the file holds
+-- by what is read where bytes are left, if all that may be left after it tells what the file holds
 held_by_left : (bytes : List ℕ) (next : ℕ) (rest : List ℕ) (read : Begun) → IsLeft bytes (next ∷ rest) → message_at (next ∷ rest) ≡ read
     → ((behind : List ℕ) → IsLeft bytes behind → length behind < length (next ∷ rest) → Holds bytes (messages_read bytes))
     → Holds bytes (messages_read bytes)

@@ -1,5 +1,5 @@
 -- What a reader of a part and the part's spelling have to do with each other, for one part and for
--- several, one behind the other.
+-- several, one after the other.
 use Rattle.ids_frame.proofs.Names.{◌≡◌, ℕ, ◌⊎◌, Bool, true, false, List, [], ◌∷◌, ◌++◌, length, Some, None, refl, sym, ap, subst, ◌∙◌, append_assoc, inl, inr, Option, IfSome, is_some, append-nil, drop_at, All-drop, IsByte, AreBytes, Read, ◌>>=◌, optional}
 
 -- ---- steps of a reader
@@ -16,7 +16,7 @@ pub bind_none : {A B : Type 0} (r : Option A) (f : A → Option B) → (r >>= f)
 bind_none (Some x) f e = inr (x, refl, e)
 bind_none None f e = inl refl
 
--- two answers that are the same have one value, and the same bytes behind it
+-- two answers that are the same have one value, and the same bytes after it
 pub one_answer : {A : Type 0} {p q : A × List ℕ} → Some p ≡ Some q → (p.0 ≡ q.0) × (p.1 ≡ q.1)
 one_answer {A} {p} {q} e =
     let same : p ≡ q = cc in
@@ -24,7 +24,7 @@ one_answer {A} {p} {q} e =
 
 -- ---- a part
 
--- what stands behind bytes are bytes
+-- what stands after bytes are bytes
 pub behind_bytes : (front rest : List ℕ) → AreBytes (front ++ rest) → AreBytes rest
 behind_bytes front rest fits =
     subst AreBytes (drop_at front rest (length front) refl) (All-drop IsByte (length front) (front ++ rest) fits)
@@ -46,7 +46,7 @@ pub record IsPart {A : Type 0} (read : List ℕ → Read A) (write : A → List 
   pub cut : (bytes : List ℕ) → AreBytes bytes → read bytes ≡ None → RunsOut write Can bytes
   pub one : (x : A) × Can x
 
--- ---- parts one behind the other
+-- ---- parts one after the other
 
 -- parts, where each may go by those before it, and what they make
 pub data Parts (A : Type 0) : Type 1 where

@@ -37,7 +37,7 @@ CauseOf Short bytes = IsCut bytes
 CauseOf UnknownVersion bytes = StrangeVersion bytes
 CauseOf UnknownPart bytes = StrangePart bytes
 
--- what the bytes begin with: this message, with these bytes behind it, or none for this reason
+-- what the bytes begin with: this message, with these bytes after it, or none for this reason
 abbrev pub Begins : List ℕ → Begun → Type 0
 Begins bytes (Ok x) = BeginsWith bytes x.0 x.1
 Begins bytes (Err fault) = CauseOf fault bytes

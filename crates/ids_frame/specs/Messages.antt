@@ -1,4 +1,4 @@
--- Messages whose spellings stand one behind the other, and the first that bytes do not hold.
+-- Messages whose spellings stand one after the other, and the first that bytes do not hold.
 -- Source: the layout of specs/Spelling.antt.
 use Rattle.std.specs.Prelude.{◌≡◌, ℕ, zero, suc, ◌-◌, List, [], ◌∷◌, ◌++◌, length, Result, Ok, Err}
 use Rattle.std.specs.List.{flat_map, AllByRecursion}
@@ -9,7 +9,7 @@ use Rattle.ids_frame.specs.Spelling.{spelling}
 use Rattle.ids_frame.specs.Reading.{Begun, message_at}
 use Rattle.ids_frame.specs.Decoding.{CauseOf}
 
--- the spellings of these messages, one behind the other
+-- the spellings of these messages, one after the other
 abbrev pub joined : List MessageParts → List ℕ
 joined messages = flat_map spelling messages
 
@@ -26,7 +26,7 @@ pub record IsJoined (bytes : List ℕ) (messages : List MessageParts) : Type 0 w
 abbrev pub HasMessages : List ℕ → Type 0
 HasMessages bytes = (messages : List MessageParts) × IsJoined bytes messages
 
--- behind some messages there are bytes that do not begin with one
+-- after some messages there are bytes that do not begin with one
 pub record Breaks (bytes : List ℕ) (bad : BadMessage) : Type 0 where
   pub front : List MessageParts
   pub fit : AreMessages front
@@ -45,17 +45,17 @@ abbrev pub Holds : List ℕ → Held → Type 0
 Holds bytes (Ok messages) = IsJoined bytes messages
 Holds bytes (Err bad) = Breaks bytes bad
 
--- this message stands before what is held behind it
+-- this message stands before what is held after it
 abbrev pub before : MessageParts → Held → Held
 before message (Ok messages) = Ok (message ∷ messages)
 before message (Err bad) = Err bad
 
--- what is held where this was read at a place, by what is held behind a message
+-- what is held where this was read at a place, by what is held after a message
 abbrev pub held_by : ℕ → Begun → (MessageParts → Held) → Held
 held_by at (Ok x) behind = before x.0 (behind x.0)
 held_by at (Err fault) behind = Err (record { at = at; fault = fault })
 
--- what the last bytes of a file of this size hold, behind the bytes of a message that are left out
+-- what the last bytes of a file of this size hold, after the bytes of a message that are left out
 unfoldable pub held_in : (size left_out : ℕ) → List ℕ → Held
 held_in size left_out [] = Ok []
 held_in size (suc left_out) (byte ∷ bytes) = held_in size left_out bytes

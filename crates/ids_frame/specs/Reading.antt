@@ -11,7 +11,7 @@ use Rattle.ids_frame.specs.declared.fault.FrameFault.TheVariants.{Short, Unknown
 use Rattle.ids_frame.specs.Context.{ContextPart}
 use Rattle.ids_frame.specs.Message.{MessageParts, last_version}
 
--- a part and the bytes behind it, where it is there
+-- a part and the bytes after it, where it is there
 abbrev pub Read : Type 0 → Type 0
 Read A = Option (A × List ℕ)
 
@@ -100,7 +100,7 @@ message_of first place event count reserved stamp context signature = record {
   signature = signature;
 }
 
--- a message behind its first byte
+-- a message after its first byte
 unfoldable pub parts_at : ℕ → List ℕ → Read MessageParts
 parts_at first bytes = do
   place ← number_at w16 bytes
@@ -115,7 +115,7 @@ parts_at first bytes = do
     signature.1,
   )
 
--- a message and the bytes behind it, or why there is none
+-- a message and the bytes after it, or why there is none
 abbrev pub Begun : Type 0
 Begun = Result (MessageParts × List ℕ) FrameFault
 

@@ -19,7 +19,7 @@ room_in out = MAX_BYTES - array_vec_len out
 pub nothing_put : (out : ArrayVec ℕ) → Extends out [] out
 nothing_put out = sym (append-nil out.items)
 
--- two pieces in an `ArrayVec`, one behind the other, are one
+-- two pieces in an `ArrayVec`, one after the other, are one
 pub both_put : (old mid new : ArrayVec ℕ) (first second : List ℕ) → Extends old first mid → Extends mid second new
     → Extends old (first ++ second) new
 both_put old mid new first second one two =
@@ -35,7 +35,7 @@ no_piece out =
 less_twice : (n a b : ℕ) → n - a - b ≡ n - (a + b)
 less_twice n a b = omega arith
 
--- two pieces in an output, one behind the other, are one
+-- two pieces in an output, one after the other, are one
 pub two_pieces : (old mid new : Output) (first second : List ℕ) → mid ≡ has_put first old → new ≡ has_put second mid
     → new ≡ has_put (first ++ second) old
 two_pieces old mid new first second one two =

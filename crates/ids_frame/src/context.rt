@@ -45,6 +45,7 @@ impl<'a> Model for Context<'a> {
 
 impl<'a> Context<'a> {
     /// These bytes in this form, `None` where they are too many for it.
+    /// By: no loop; the bytes are lent.
     pub fn make(form: Form, bytes: &'a [u8]) -> Option<Context<'a>>
         ensures fits { IsSome result ↔ (length bytes.now ≤ most_bytes form) }
         ensures made { IfSome result (λ c. c ≡ record { form = form; bytes = bytes.now }) }
@@ -57,6 +58,7 @@ impl<'a> Context<'a> {
     }
 
     /// These bytes in the form that the manager sends.
+    /// By: no loop; the bytes are lent.
     pub fn of(bytes: &'a [u8]) -> Context<'a>
         requires { length bytes.now ≤ most_bytes Form.Long }
         ensures { result ≡ context_of bytes.now }

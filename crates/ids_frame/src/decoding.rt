@@ -12,7 +12,8 @@ use crate::message::{Message, is_known};
 use crate::reading::{context_of, signature_of, stamp_of, u8_of, u16_of};
 
 /// The message whose spelling the bytes begin with, and how many bytes that spelling has. What
-/// stands behind them is not looked at. The message's context and signature are slices of `bytes`.
+/// stands after them is not looked at. The message's context and signature are slices of `bytes`.
+/// By: no loop; context and signature are lent.
 #[inline(always)]
 pub fn decode(bytes: &[u8]) -> Result<(Message<'_>, usize), FrameFault>
     ensures { result ≡ decoded bytes.now }
@@ -31,14 +32,14 @@ pub fn what_bytes_begin_with()
 {}
 
 /// No spelling begins another: what begins with two messages' spellings has one message at its
-/// front, and the same bytes behind it.
+/// front, and the same bytes after it.
 #[tactic(auto, using(crate::proofs::MessageLemmas::one_message_lem))]
 pub fn one_message()
     ensures { (m n : MessageParts) (a b : List ℕ) → FitsMessage m → FitsMessage n
         → spelling m ++ a ≡ spelling n ++ b → (m ≡ n) × (a ≡ b) }
 {}
 
-/// The message at the front, and the bytes behind it. Inlined, so that whoever wants only the bytes
+/// The message at the front, and the bytes after it. Inlined, so that whoever wants only the bytes
 /// makes no message.
 #[inline(always)]
 #[tactic(auto, unfolding(crate::specs::Reading::message_at))]

@@ -24,7 +24,7 @@ impl fmt::Display for FrameFault {
 
 impl std::error::Error for FrameFault {}
 
-/// Where bytes stop to be messages one behind the other, and why.
+/// Where bytes stop to be messages one after the other, and why.
 #[derive(Clone, Copy, Debug, PartialEq, Eq)]
 pub struct BadMessage {
     /// How many bytes stand before the first message that cannot be read.

@@ -39,6 +39,7 @@ impl<'a> Model for Message<'a> {
 impl<'a> Message<'a> {
     /// A message. `version` is 1 or 2, `instance` 0 to 1,023 and `sensor` 0 to 63, or else the answer is
     /// `None`, as it is for a signature of more than 65,535 bytes. `reserved` is any byte.
+    /// By: no loop; context and signature are lent.
     pub fn make(
         version: u8,
         instance: u16,

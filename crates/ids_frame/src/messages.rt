@@ -1,4 +1,4 @@
-//! Many messages, one behind the other.
+//! Many messages, one after the other.
 ghost use Rattle.std.specs.Prelude.{◌≡◌, ℕ, ◌∷◌, [], List, IfSome, IfNone, ◌↔◌};
 ghost use Rattle.ids_frame.specs.Bytes.{AreBytes};
 ghost use Rattle.ids_frame.specs.Message.{FitsMessage};
@@ -9,7 +9,7 @@ use crate::fault::BadMessage;
 use crate::message::Message;
 use std::marker::Model;
 
-/// Messages that stand one behind the other in bytes, and are still to be taken. Each is read where
+/// Messages that stand one after the other in bytes, and are still to be taken. Each is read where
 /// it lies, as it is taken; no memory is needed.
 #[derive(Debug, Drop)]
 pub struct Messages<'a> {
@@ -31,6 +31,8 @@ impl<'a> Model for Messages<'a> {
 impl<'a> Messages<'a> {
     /// The messages of these bytes, where the bytes are messages and nothing else. No bytes are no
     /// messages. Otherwise the answer is the place and the fault of the first that cannot be read.
+    /// Steps: the messages, each of 8 bytes or more; context and signature are passed over. By: read off; answer
+    /// `BadMessage`, no NoMemory.
     #[tactic(auto, using(crate::proofs::MessagesLemmas::going_over))]
     pub fn read(bytes: &'a [u8]) -> Result<Messages<'a>, BadMessage>
         ensures value { result ≡ messages_read bytes.now }
@@ -49,6 +51,7 @@ impl<'a> Messages<'a> {
     }
 
     /// Takes the first message out.
+    /// By: no loop; context and signature are lent.
     #[tactic(auto, using(crate::proofs::MessagesLemmas::taking_out))]
     pub fn pop_front(&mut self) -> Option<Message<'a>>
         ensures some { IfSome result (λ m. self.old ≡ m ∷ self.new) }
@@ -66,7 +69,7 @@ impl<'a> Messages<'a> {
     }
 }
 
-/// A file holds messages exactly where it is their spellings one behind the other, and a fault
+/// A file holds messages exactly where it is their spellings one after the other, and a fault
 /// exactly where the messages stop at it.
 #[tactic(auto, using(crate::proofs::MessagesLemmas::read_is_held))]
 pub fn what_a_file_holds()

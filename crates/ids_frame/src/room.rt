@@ -8,7 +8,7 @@ use crate::writing::MAX_BYTES;
 use arrayvec::ArrayVec;
 use ids_types::TurnOut;
 
-/// Room that bytes are put into, one piece behind the other.
+/// Room that bytes are put into, one piece after the other.
 pub trait Room {
     /// How many more bytes there is room for.
     ghost left: { Self → ℕ };
@@ -16,7 +16,8 @@ pub trait Room {
     /// The one room became the other by these bytes more.
     ghost extends: { Self → List ℕ → Self → Type 0 };
 
-    /// Puts a piece behind those that are there.
+    /// Puts a piece after those that are there.
+    /// Steps: the bytes of the piece. By: `PutsPiece`; condition: room for it; read off.
     fn put(&mut self, piece: &[u8])
         requires { length piece.now ≤ left self.old }
         ensures { PutsPiece left extends self.old piece.now self.new };
@@ -24,7 +25,7 @@ pub trait Room {
     /// No bytes leave a room as it is.
     ghost nothing: { (room : Self) → extends room [] room };
 
-    /// Two pieces are one, the second behind the first.
+    /// Two pieces are one, the second after the first.
     ghost both: { (old mid new : Self) (first second : List ℕ) → extends old first mid → extends mid second new →
         extends old (first ++ second) new };
 }

@@ -18,6 +18,7 @@ pub const MAX_BYTES: usize = 1100;
 pub struct TooLong;
 
 /// Writes the message's spelling in place of what `out` held, or leaves `out` as it was.
+/// Steps: the bytes of the spelling, at most 1,100. By: `fits`; type `ArrayVec<u8, MAX_BYTES>`; read off.
 pub fn encode(message: &Message<'_>, out: &mut ArrayVec<u8, MAX_BYTES>) -> Result<(), TooLong>
     ensures fits { IsOk result ↔ (length (spelling message.now) ≤ 1100) }
     ensures ok { OnOk result (out.new.items ≡ spelling message.now) }
@@ -31,7 +32,8 @@ pub fn encode(message: &Message<'_>, out: &mut ArrayVec<u8, MAX_BYTES>) -> Resul
     Ok(())
 }
 
-/// Puts the message's spelling behind what was written before.
+/// Puts the message's spelling after what was written before.
+/// Steps: the bytes of the spelling. By: `PutsPiece`; condition: room for them; read off.
 pub fn spell<R: Room>(message: &Message<'_>, room: &mut R)
     requires { length (spelling message.now) ≤ R.left room.old }
     ensures { PutsPiece R.left R.extends room.old (spelling message.now) room.new }

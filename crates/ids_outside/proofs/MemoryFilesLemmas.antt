@@ -64,12 +64,12 @@ changes_from_growth (Err _) name piece old new before after there updates grown 
     same_from_changes (files_in old) (files_in new) name
     (rw (there, ← grown) (changes_from_updates name old new after updates))
 
--- what stands at a name where this file is behind others
+-- what stands at a name where this file is after others
 abbrev found_behind : List Given → Given → Files
 found_behind before file name =
     if has_name name file then Some file.1.items else given_files before name
 
--- a file behind others is found at its own name, and nowhere else
+-- a file after others is found at its own name, and nowhere else
 pub given_files-snoc : (before : List Given) (file : Given) (name : List ℕ)
     → given_files (before ++ file ∷ []) name ≡ found_behind before file name
 given_files-snoc before file name =

@@ -9,7 +9,7 @@ pub take-rest : (piece : List ℕ) (written : ℕ)
     → take (length piece - written) (drop written piece) ≡ drop written piece
 take-rest piece written = grind (arith, common_steps)
 
--- a part of the rest behind the part before it is a longer first part
+-- a part of the rest after the part before it is a longer first part
 pub appends_more : (first second third : Option (List ℕ)) (piece : List ℕ) (written count : ℕ)
     → Appends first second (take written piece)
     → Appends second third (take count (take (length piece - written) (drop written piece)))

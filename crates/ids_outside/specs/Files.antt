@@ -58,7 +58,7 @@ CreateMakes old new name (Ok _) = Changes old new name (Some [])
 CreateMakes old new name (Err write.Failed) = ClearsAtMost old new name
 CreateMakes old new name (Err write.NoMemory) = SameFiles old new
 
--- the file of this name has a first part of the piece behind its bytes, maybe none or all of it
+-- the file of this name has a first part of the piece after its bytes, maybe none or all of it
 pub record AddsPart (old new : Files) (name piece : List ℕ) : Type 0 where
   pub count : ℕ
   pub within : count ≤ length piece

@@ -19,7 +19,7 @@ ReadsFile remaining limit (Err read.Failed) = Unit {0}
 ReadsFile remaining limit (Err read.TooLong) = WasRead remaining limit (Err read.TooLong)
 ReadsFile remaining limit (Err read.NoMemory) = Unit {0}
 
--- a file of the host took the whole piece behind what it held: the one that was open, where that has this name; and it
+-- a file of the host took the whole piece after what it held: the one that was open, where that has this name; and it
 -- stays open
 pub record WasWritten {F : Type 0} (contents : F → Option (List ℕ)) (name piece : List ℕ) (before now : Option (OpenFile F)) : Type 0 where
   pub old : F

@@ -28,7 +28,7 @@ given_files given name = option_map (λ file. file.1.items) (find (has_name name
 abbrev pub files_in : BTreeMap (String Global) (Vec ℕ Global) → Files
 files_in kept name = option_map (λ bytes. bytes.items) (get_by_text kept name)
 
--- the piece is behind the bytes of this name, or no file changed
+-- the piece is after the bytes of this name, or no file changed
 abbrev pub Adds : {E : Type 0} → Files → Files → List ℕ → List ℕ → Result ⊤ E → Type 0
 Adds old new name piece (Ok done) = Changes old new name (Some (bytes_at old name ++ piece))
 Adds old new name piece (Err fault) = SameFiles old new

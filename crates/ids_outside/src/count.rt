@@ -1,3 +1,5 @@
+//! Counting up to the greatest number.
+
 ghost use Rattle.std.specs.Prelude.{◌≡◌};
 ghost use Rattle.ids_outside.specs.Faults.{counted};
 

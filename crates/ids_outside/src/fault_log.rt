@@ -1,3 +1,5 @@
+//! The faults that a shelf counts.
+
 ghost use Rattle.std.specs.Prelude.{◌≡◌, option_map, string_bytes, OnOk, OnErr};
 ghost use Rattle.ids_outside.specs.Faults.{Fault, Faults, no_faults, counted, CountsFault, WantsMemory};
 

@@ -1,3 +1,5 @@
+//! Why a file was not read or written.
+
 ghost use Rattle.std.specs.Prelude.{◌≡◌};
 ghost use Rattle.ids_outside.specs.declared.faults.ReadFault.TheVariants as read;
 ghost use Rattle.ids_outside.specs.declared.faults.WriteFault.TheVariants as write;
@@ -28,7 +30,7 @@ pub enum ReadFault {
 /// Why bytes were not written.
 #[derive(Clone, Copy, Debug, PartialEq, Eq)]
 pub enum WriteFault {
-    /// The place that was written to failed, maybe behind a first part of the bytes.
+    /// The place that was written to failed, maybe after a first part of the bytes.
     Failed,
     /// Memory was missing before anything was written.
     NoMemory,

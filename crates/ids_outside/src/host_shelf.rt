@@ -1,3 +1,5 @@
+//! The shelf over the files of the host.
+
 ghost use Rattle.std.specs.Prelude.{◌≡◌, None, Some, IfOk, OnOk, OnErr, Ok, IfSome, string_bytes, length, ◌≤◌};
 ghost use Rattle.ids_outside.specs.Faults.{no_faults, ReadCause, WriteCause};
 ghost use Rattle.ids_outside.specs.HostFiles.{ReadsFile, WasWritten};

@@ -1,3 +1,5 @@
+//! The sink over the standard output of the host.
+
 ghost use Rattle.std.specs.Prelude.{◌≡◌};
 ghost use Rattle.ids_outside.specs.Sinks.{no_misses, deaf};
 

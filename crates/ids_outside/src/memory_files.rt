@@ -1,3 +1,5 @@
+//! Files in memory, by name.
+
 ghost use Rattle.std.specs.Prelude.{◌≡◌, Some, string_bytes, IfOk, OnOk, OnErr};
 ghost use Rattle.ids_outside.specs.Files.{Changes, SameFiles};
 ghost use Rattle.ids_outside.specs.MemoryFiles.{given_files, files_in, Adds};

@@ -1,3 +1,5 @@
+//! A shelf in memory, whose calls can be made to fail.
+
 ghost use Rattle.std.specs.Prelude.{◌≡◌, ◌≤◌, length, option_map, IfOk, OnErr, IsTrue};
 ghost use Rattle.ids_outside.specs.Faults.{no_faults, ReadCause, WriteCause};
 ghost use Rattle.ids_outside.specs.Files.{SameFiles, ReadGives, CreateMakes, AppendMakes};
@@ -29,6 +31,8 @@ impl MemoryShelf {
 
     /// A shelf of these files, no two of one name. Its calls of `read`, `create` and `append` are
     /// numbered from 0, and those in `fails` fail.
+    /// Steps: each file's name among those before: files × log. Memory: may answer want of memory; its files grow
+    /// later. By: read off.
     pub fn make(
         alloc: Global,
         files: Vec<(String, Vec<u8>)>,
@@ -50,6 +54,7 @@ impl MemoryShelf {
     }
 
     /// The bytes of the file of this name, `None` exactly where it is not there. Counts as no call.
+    /// Steps: the name among the files: log. By: read off.
     pub fn contents(&self, name: &str) -> Option<&[u8]>
         ensures { option_map (λ bytes. bytes.now) result ≡ shelf_files self.now name.now }
     {

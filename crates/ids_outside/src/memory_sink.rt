@@ -1,3 +1,5 @@
+//! A sink in memory, whose puts can be made to fail.
+
 ghost use Rattle.std.specs.Prelude.{◌≡◌, [], IfOk, OnErr};
 ghost use Rattle.ids_outside.specs.Script.{CountsCall, WriteFollows};
 ghost use Rattle.ids_outside.specs.Sinks.{no_misses, PutTakes, PutCause, hearing};
@@ -21,6 +23,7 @@ impl MemorySink {
     ghost use Rattle.ids_outside.specs.Bodies.{sink_taken, sink_misses, sink_plan};
 
     /// A sink that has taken nothing. Its puts are numbered from 0, and those in `fails` fail.
+    /// Memory: none; its answer has NoMemory, and no path gives it. By: no loop; an empty list takes none.
     pub fn make(alloc: Global, fails: Vec<u64>) -> Result<MemorySink, NoMemory>
         ensures empty { IfOk result (λ sink. sink_taken sink ≡ []) }
         ensures plan { IfOk result (λ sink.

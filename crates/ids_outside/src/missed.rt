@@ -1,3 +1,5 @@
+//! The puts that a sink missed, counted.
+
 ghost use Rattle.std.specs.Prelude.{◌≡◌};
 ghost use Rattle.ids_outside.specs.Sinks.{Misses, no_misses, MissesOne, RefusesOne};
 

@@ -1,3 +1,5 @@
+//! Which calls of a test are to fail.
+
 ghost use Rattle.std.specs.Prelude.{◌≡◌, ◌↔◌, IsTrue};
 ghost use Rattle.ids_outside.specs.Script.{Plan, IsToFail, CountsCall};
 

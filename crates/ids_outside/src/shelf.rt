@@ -1,3 +1,5 @@
+//! The trait of whatever keeps files.
+
 ghost use Rattle.std.specs.Prelude.{◌≡◌, ◌≤◌, length, IfOk, IsTrue};
 ghost use Rattle.ids_outside.specs.Faults.{ReadCause, WriteCause};
 ghost use Rattle.ids_outside.specs.Files.{SameFiles, ReadGives, CreateMakes, AppendMakes};
@@ -15,6 +17,11 @@ pub trait Shelf {
 
     /// Reads the whole file of this name, if it has at most `limit` bytes. A name that is not there
     /// is a failure.
+    /// Steps: `HostShelf`: one opening, 64 KiB cleared, and at most `limit` + 1 reads of the host, of at most 64 KiB
+    /// each. `MemoryShelf`, `SteadyShelf`: the name among the files (log), and the file's bytes. `MemoryShelf` also the
+    /// numbers listed to fail. Memory: may answer want of memory (`ReadFault`): the bytes, and but for `SteadyShelf` a
+    /// copy of the name; `HostShelf` has 64 KiB more on the stack. Waits: as its shelf; `HostShelf` for the host.
+    /// By: `within`: at most `limit` bytes; read off; `cause` (`ReadCause`).
     fn read(&mut self, alloc: Global, name: &str, limit: u64) -> Result<Vec<u8>, ReadFault>
         ensures tells { (shows self.new).tells ≡ (shows self.old).tells }
         ensures same { IsTrue (shows self.old).tells →
@@ -25,6 +32,9 @@ pub trait Shelf {
         ensures cause { ReadCause (shows self.old).faults (shows self.new).faults name.now result };
 
     /// Makes the file of this name empty, whether it was there or not.
+    /// Steps: `HostShelf`: one opening; `MemoryShelf`, `SteadyShelf`: the name among the files (log); `MemoryShelf`
+    /// also the numbers listed to fail. Memory: may answer want of memory (`WriteFault`): a copy of the name; the old
+    /// bytes are given back. Waits: as its shelf; `HostShelf` for the host. By: read off; `cause` (`WriteCause`).
     fn create(&mut self, name: &str) -> Result<(), WriteFault>
         ensures tells { (shows self.new).tells ≡ (shows self.old).tells }
         ensures makes { IsTrue (shows self.old).tells →
@@ -33,6 +43,10 @@ pub trait Shelf {
             name.now result };
 
     /// Adds the piece to the end of the file of this name, which it makes where it is not there.
+    /// Steps: `HostShelf`: at most one opening, and as many writes of the host as bytes. `MemoryShelf`, `SteadyShelf`:
+    /// the name among the files (log), and the bytes. `MemoryShelf` also the numbers listed to fail. Memory: may answer
+    /// want of memory (`WriteFault`): a copy of the name, but for the file that `HostShelf` has open. Waits: as its
+    /// shelf; `HostShelf` for the host. By: read off; `cause` (`WriteCause`).
     fn append(&mut self, name: &str, piece: &[u8]) -> Result<(), WriteFault>
         ensures tells { (shows self.new).tells ≡ (shows self.old).tells }
         ensures makes { IsTrue (shows self.old).tells →

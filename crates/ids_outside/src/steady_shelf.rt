@@ -1,3 +1,5 @@
+//! A shelf in memory that never fails.
+
 ghost use Rattle.std.specs.Prelude.{◌≡◌, ◌≢◌, ◌≤◌, length, option_map, IfOk, Err};
 ghost use Rattle.ids_outside.specs.Faults.{ReadCause, WriteCause};
 ghost use Rattle.ids_outside.specs.Files.{SameFiles, ReadGives, CreateMakes, AppendMakes, empty_elsewhere};
@@ -28,6 +30,8 @@ impl SteadyShelf {
     ghost use Rattle.ids_outside.specs.Bodies.{steady_files};
 
     /// A shelf of these files. Of those of one name the last one stays.
+    /// Steps: each file's name among those before: files × log. Memory: may answer want of memory; its files grow
+    /// later. By: read off.
     pub fn make(alloc: Global, files: Vec<(String, Vec<u8>)>) -> Result<SteadyShelf, NoMemory>
         ensures { IfOk result (λ shelf. SameFiles (given_files files.items) (steady_files shelf)) }
     {
@@ -39,6 +43,7 @@ impl SteadyShelf {
     }
 
     /// The bytes of the file of this name, `None` exactly where there is no such file.
+    /// Steps: the name among the files: log. By: read off.
     pub fn contents(&self, name: &str) -> Option<&[u8]>
         ensures { option_map (λ bytes. bytes.now) result ≡ steady_files self.now name.now }
     {

@@ -1,3 +1,5 @@
+//! Reading a stream to its end, and writing a whole piece to one.
+
 ghost use Rattle.std.specs.Prelude.{◌≤◌, length, IfOk, IfSome};
 ghost use Rattle.ids_outside.specs.Streams.{StreamGives, StreamTakes};
 

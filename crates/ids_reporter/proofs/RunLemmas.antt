@@ -10,10 +10,6 @@ source_more [] messages (suc s) = inl refl
 source_more (x ∷ sources) messages zero = inl refl
 source_more (x ∷ sources) messages (suc s) = grind (arith, common_steps)
 
--- no sources are apart
-pub none_apart : AreApart []
-none_apart = record { pure = λ s e. absurd (cc e); differ = λ r s i one other. absurd (cc one) }
-
 -- and with one more that has one instance, which none of them has
 pub apart_more : (sources : Sources) (messages : List MessageParts) → AreApart sources → instance_of messages ≢ Mixed
     → ((s i : ℕ) → instance_of (source_at sources s) ≡ One i → instance_of messages ≡ One i → ⊥) → AreApart (sources ++ messages ∷ [])

@@ -22,6 +22,7 @@ pub struct Drain {
 impl Drain {
     /// The next pair in the queue. `Empty` changes nothing; once all feeders are back, it comes exactly where as many
     /// pairs of each were taken as it had put.
+    /// Steps: one try of the queue. Waits: as the queue. By: bound `Wait`; no loop.
     pub fn take<R: Wait>(&mut self, rt: &R, relay: &Relay) -> Result<Taken, Empty>
         requires mine { IsDrainOf relay.now self.old }
         ensures mine { IsDrainOf relay.now self.new }

@@ -4,6 +4,7 @@
 /// lets feeders wait for each other here.
 pub trait FeedGate {
     /// A feeder is about to put the pair of this index.
+    /// Steps: `OpenFeed`: constant. Memory: `OpenFeed`: none. Waits: as its gate; `OpenFeed`: no. By: no body.
     fn before(&self, feeder: u8, index: u64);
 }
 

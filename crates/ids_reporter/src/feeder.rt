@@ -33,6 +33,7 @@ impl Feeder {
     }
 
     /// Puts the next pair: the feeder's number, and `puts()` of before. `Full` changes nothing.
+    /// Steps: one try of the queue. Waits: as the queue. By: bound `Wait`; no loop.
     pub fn put<R: Wait>(&mut self, rt: &R, relay: &Relay) -> Result<(), Full>
         requires mine { IsFeederOf relay.now self.old }
         requires few { puts_of self.old < 2 ^ 40 }
@@ -75,7 +76,7 @@ impl Feeder {
         Err(Full)
     }
 
-    /// Puts the pairs of a source of so many messages, each behind one word to the gate, until all are put or one is
+    /// Puts the pairs of a source of so many messages, each after one word to the gate, until all are put or one is
     /// given up.
     pub(crate) fn put_some<G: FeedGate>(
         &mut self,

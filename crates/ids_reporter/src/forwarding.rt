@@ -31,6 +31,10 @@ pub struct Forwarded {
 /// Forwards all messages of 1 to 8 sources, through a relay of 64 pairs: each source's feeder puts beside the drain,
 /// which writes. Each source's messages stay in their order; the order between sources is left open. The relay and
 /// the room for all bytes are taken before the first thread begins.
+/// Steps: in rounds, mostly one where the host begins threads: a thread that does nothing, one for each source, and the
+/// drain's. A put and a take for each message, tried again where the queue is full or empty. Each message is copied
+/// once. Memory: may answer want of memory, at the end. Waits: joins its threads; a put for the drain, a take for the
+/// feeders, as its gate. By: bounds `Threads`, `Wait`; read off.
 pub fn forward<R: Threads + Wait + Sync, G: FeedGate + Sync>(
     rt: &R,
     alloc: Global,

@@ -1,4 +1,4 @@
-//! Where messages lie that stand one behind the other, and of which instance they are.
+//! Where messages lie that stand one after the other, and of which instance they are.
 ghost use Rattle.std.specs.Prelude.{◌≡◌, ℕ, ◌+◌, ◌<◌, ◌^◌, [], ◌∷◌, ◌++◌, List, length, slice_index, IfOk, OnOk};
 ghost use Rattle.ids_frame.specs.Message.{MessageParts};
 ghost use Rattle.ids_frame.specs.Spelling.{spelling};

@@ -98,7 +98,7 @@ impl Outlet {
         unreachable!()
     }
 
-    /// Writes the message that a pair names, behind those of the pairs before it.
+    /// Writes the message that a pair names, after those of the pairs before it.
     #[tactic(auto, using(crate::proofs::ForwardLemmas::named_more, crate::proofs::ForwardLemmas::written_more))]
     fn write(&mut self, sources: &[Source], pair: Taken)
         ensures drain { self.new.drain ≡ self.old.drain }

@@ -24,6 +24,7 @@ pub struct MadeRelay {
 }
 
 /// A relay of 1 to 1,024 pairs, with 1 to 8 feeders. All memory that it needs is taken here.
+/// Steps: the capacity and the feeders. Memory: made once. By: read off.
 pub fn make(alloc: Global, capacity: u16, feeders: u8) -> Result<MadeRelay, NoMemory>
     requires capacity { (1 ≤ capacity) × (capacity ≤ 1024) }
     requires feeders { (1 ≤ feeders) × (feeders ≤ 8) }

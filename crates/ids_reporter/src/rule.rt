@@ -26,7 +26,7 @@ pub(crate) type Line = RuledArrayQueue<Taken, Known, InTurn>;
 
 pub(crate) type Knower = Pass<Taken, Known>;
 
-/// Each feeder's pairs come one behind the other.
+/// Each feeder's pairs come one after the other.
 pub(crate) struct InTurn;
 
 impl Protocol<Taken, Known> for InTurn {

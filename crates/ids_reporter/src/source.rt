@@ -71,8 +71,10 @@ impl Model for Source {
 }
 
 impl Source {
-    /// The messages that these bytes are, one behind the other. `Bad` comes exactly where they are no messages, or
+    /// The messages that these bytes are, one after the other. `Bad` comes exactly where they are no messages, or
     /// more than that; no bytes are no messages.
+    /// Steps: each message read twice: all are judged before the first is listed. Memory: may answer want of memory.
+    /// By: `IsRead`; read off.
     #[tactic(auto, using(crate::proofs::SourceLemmas::few_messages, crate::proofs::SourceLemmas::has_room, crate::proofs::SourceLemmas::whole_read))]
     pub fn read(alloc: Global, bytes: Vec<u8>) -> Result<Source, SourceFault>
         ensures read { IsRead (messages_read bytes.items) result }

@@ -88,7 +88,7 @@ context_back front bytes place (Kept class claim own) is =
     grind (arith, index_own front tail 0, index_own front tail 1, index_own front tail 2, range_of_end bytes own)
 context_back front bytes place (Missing own) is = rw is (ap (λ (ns : List ℕ). Missing ns) (range_of_end front own))
 
--- the same behind a stamp
+-- the same after a stamp
 context_behind : (numbers bytes : List ℕ) (stamp : Option Stamp) (c : Carried (List ℕ))
     → let place = length numbers + length (stamp_numbers stamp) in
     context_of (numbers ++ (stamp_numbers stamp ++ context_numbers (length bytes) c)) (bytes ++ carried_bytes c) place (kind_of c) ≡ c

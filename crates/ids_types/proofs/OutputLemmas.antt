@@ -22,23 +22,3 @@ pub length_with_entry : (turns : List Turn) (entry : Entry (List ℕ)) → lengt
 length_with_entry [] entry = refl
 length_with_entry (turn ∷ []) entry = refl
 length_with_entry (turn ∷ next ∷ turns) entry = ap suc (length_with_entry (next ∷ turns) entry)
-
--- by letting its messages go
-pub room_without : (out : Output) → room_of (without_messages out) ≡ room_of out
-room_without out = grind arith
-
--- by the beginning of a turn
-pub room_begun : (head : TurnHead) (out : Output) → room_of (has_begun head out) ≡ room_of out
-room_begun head out = grind arith
-
--- by an entry in the log
-pub room_logged : (entry : Entry (List ℕ)) (out : Output) → 0 < length out.log.turns
-    → HasRoom out.log.room 0 1 (length (kept_bytes entry)) → room_of (has_logged entry out) ≡ room_of out
-room_logged entry out some room =
-    let entries = ap length (entries_of-with_entry out.log.turns entry some) in
-    let bytes = ap length (context_bytes-with_entry out.log.turns entry some) in
-    grind (arith, length-append, entries, bytes, room.entries, room.bytes)
-
--- by a message
-pub room_sent : (message : List ℕ) (out : Output) → length message ≤ out.sent_left → room_of (has_sent message out) ≡ room_of out
-room_sent message out room = grind (arith, length-append)

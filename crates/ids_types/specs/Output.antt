@@ -5,7 +5,7 @@ use Rattle.ids_types.specs.Names.{Entry, TurnHead}
 use Rattle.ids_types.specs.Plain.{kept_bytes}
 use Rattle.ids_types.specs.Turns.{Turns, begun, with_entry, entries_of, context_bytes, room_after, emptied}
 
--- the log, the messages one behind the other, how many they are, and how many more bytes there is room for
+-- the log, the messages one after the other, how many they are, and how many more bytes there is room for
 pub record Output : Type 0 where
   pub log : Turns
   pub sent : List ℕ

@@ -1,3 +1,5 @@
+//! The history of a run: its turns, each with its entries.
+
 ghost use Rattle.std.specs.Prelude.{◌≡◌, ◌<◌, ◌≤◌, [], ◌∷◌, ◌++◌, length, IfOk, OnOk, OnErr, IsTrue, ◌↔◌};
 ghost use Rattle.ids_types.specs.Turns.{begun, with_entry, turn_at, entry_at, entries_of, context_bytes, HasRoom, room_after, wider_room, emptied};
 ghost use Rattle.ids_types.specs.Plain.{plain_entry, kept_bytes};
@@ -42,6 +44,8 @@ impl Model for History {
 
 impl History {
     /// An empty history with room for so many turns, entries and bytes of context.
+    /// Steps: constant; at most four requests. Memory: made once, for the room asked, with five numbers an entry
+    /// whether it has them or not; want of it also where these pass 2^64 - 1. By: `room`; no loop.
     pub fn make(alloc: Global, turns: u64, entries: u64, bytes: u64) -> Result<History, NoMemory>
         ensures turns { IfOk result (λ h. h.turns ≡ []) }
         ensures room { IfOk result (λ h. h.room ≡ record { turns = turns; entries = entries; bytes = bytes }) }
@@ -59,6 +63,8 @@ impl History {
     }
 
     /// Makes room for so many turns, entries and bytes more, unless there is more room already.
+    /// Steps: constant; at most four requests. Memory: may answer want of memory, and tells its old room then; else as
+    /// `make`. By: `room`, `err`; no loop.
     pub fn reserve(&mut self, turns: u64, entries: u64, bytes: u64) -> Result<(), NoMemory>
         ensures turns { self.new.turns ≡ self.old.turns }
         ensures room { OnOk result (self.new.room ≡ wider_room self.old.room turns entries bytes) }
@@ -89,6 +95,7 @@ impl History {
     }
 
     /// Begins a turn, which has no entries yet.
+    /// By: no loop; condition: room for a turn.
     pub fn begin(&mut self, head: &TurnHead)
         requires { 1 ≤ self.old.room.turns }
         ensures turns { self.new.turns ≡ self.old.turns ++ begun head.now ∷ [] }
@@ -104,6 +111,7 @@ impl History {
     }
 
     /// Adds an entry to the last turn.
+    /// Steps: the bytes of the context, and at most 5 numbers. By: read off; condition `room`.
     pub fn add(&mut self, entry: &Entry<Plain<'_>>)
         requires begun { 0 < length self.old.turns }
         requires room { HasRoom self.old.room 0 1 (length (kept_bytes (plain_entry entry.now))) }
@@ -121,6 +129,8 @@ impl History {
     }
 
     /// Empties it, and keeps its memory as room.
+    /// Steps: the turns, entries, numbers and bytes that it holds. Memory: none, keeps its room. By: read off;
+    /// `emptied`.
     pub fn clear(&mut self)
         ensures { self.new ≡ emptied self.old }
     {
@@ -175,6 +185,7 @@ impl History {
     }
 
     /// Entry `i` of a turn, from 0, with its context lent.
+    /// Steps: constant; at most 4 numbers are copied. By: type `Numbers`; the context is lent.
     pub fn entry(&self, turn: u64, i: u64) -> Entry<Plain<'_>>
         requires turn { turn < length self.now.turns }
         requires entry { i < length (turn_at self.now.turns turn).entries }

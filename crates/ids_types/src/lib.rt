@@ -1,8 +1,8 @@
 //! The values that all crates share: security events, their context, entries, and the history of turns.
 //!
-//! Layer 1, values. Stands on nothing; every other crate of the project stands on it.
-//! Contracts see an entry as plain data, with its context as a list of bytes, a `History` as the list of
-//! its turns beside the room that it has left, and a `TurnOut` as what a turn was told and what it sent.
+//! Layer 1, values. Stands on nothing; every other crate of the project stands on it. Contracts see an entry as plain
+//! data, with its context as a list of bytes. They see a `History` as the list of its turns beside the room that it
+//! has left, and a `TurnOut` as what a turn was told and what it sent.
 #![tactic(auto)]
 
 mod class_spec;

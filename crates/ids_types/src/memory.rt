@@ -1,3 +1,5 @@
+//! Want of memory, as a value.
+
 use std::alloc::{AllocError, AllocFailed};
 
 /// The one answer that no input causes: the allocator had no room.

@@ -1,3 +1,5 @@
+//! Reporting modes and their names.
+
 ghost use Rattle.std.specs.Prelude.{◌≡◌, bytes_eq};
 ghost use Rattle.std.specs.List.{find};
 ghost use Rattle.ids_types.specs.ModeNames.{mode_name, mode_named};
@@ -41,6 +43,7 @@ impl Mode {
     }
 
     /// The mode of this name, `None` where it is no name of one.
+    /// Steps: 5 names of at most 26 bytes. By: read off; `MODES` has 5.
     pub fn named(name: &[u8]) -> Option<Mode>
         ensures { result ≡ mode_named name.now }
     {

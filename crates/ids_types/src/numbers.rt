@@ -1,3 +1,5 @@
+//! A short list of numbers, kept in place.
+
 ghost use Rattle.std.specs.Prelude.{◌≡◌, ℕ, ◌<◌, ◌≤◌, List, length, take, slice_get};
 
 use std::marker::Model;
@@ -19,6 +21,7 @@ impl Model for Numbers {
 
 impl Numbers {
     /// Holds these values, and takes no memory.
+    /// Steps: at most 4 numbers. By: condition: at most 4.
     pub fn make(values: &[u64]) -> Numbers
         requires { length values.now ≤ 4 }
         ensures { result ≡ values.now }
@@ -37,6 +40,7 @@ impl Numbers {
         self.len
     }
 
+    /// By: `few`: at most 4.
     pub fn as_slice(&self) -> &[u64]
         ensures value { result.now ≡ self.now }
         ensures few { length result.now ≤ 4 }

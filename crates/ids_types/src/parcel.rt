@@ -1,3 +1,5 @@
+//! The trait of whatever holds context data.
+
 ghost use Rattle.std.specs.Prelude.{◌≡◌, ℕ, List};
 
 /// A holder of context bytes: a buffer of the manager's, or bytes that somebody lends. It may be let go.
@@ -5,6 +7,7 @@ pub trait Parcel: Drop {
     /// The bytes that it holds.
     ghost held: { Self → List ℕ };
 
+    /// Steps: `Plain`, `CtxBuf`: constant.
     fn bytes(&self) -> &[u8]
         ensures { result.now ≡ held self.now };
 }

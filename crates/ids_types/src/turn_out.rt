@@ -1,3 +1,5 @@
+//! The output of a turn: its log and its messages.
+
 ghost use Rattle.std.specs.Prelude.{◌≡◌, ◌<◌, ◌≤◌, ◌-◌, ◌^◌, length, IfOk};
 ghost use Rattle.ids_types.specs.Plain.{plain_entry, kept_bytes};
 ghost use Rattle.ids_types.specs.Turns.{HasRoom};
@@ -36,6 +38,8 @@ impl Model for TurnOut {
 
 impl TurnOut {
     /// An empty one with room for so many entries, bytes of context and bytes of messages.
+    /// Steps: constant; at most five requests. Memory: made once, with five numbers an entry. By: no loop; no other
+    /// call of it answers NoMemory.
     pub fn make(alloc: Global, entries: u64, bytes: u64, sent: u64) -> Result<TurnOut, NoMemory>
         ensures { IfOk result (λ out. out ≡ empty_output entries bytes sent) }
     {
@@ -54,7 +58,7 @@ impl TurnOut {
         &self.log
     }
 
-    /// The messages that were sent, one behind the other.
+    /// The messages that were sent, one after the other.
     pub fn sent(&self) -> &[u8]
         ensures { result.now ≡ self.now.sent }
     {
@@ -69,6 +73,8 @@ impl TurnOut {
     }
 
     /// Empties it, keeps its room, and begins the log's one turn.
+    /// Steps: the entries, numbers and bytes of the turn before. Memory: none, keeps its room. By: read off;
+    /// `has_begun`.
     pub fn begin(&mut self, head: &TurnHead)
         ensures { self.new ≡ has_begun head.now self.old }
     {
@@ -78,6 +84,7 @@ impl TurnOut {
     }
 
     /// Lets its messages go, and keeps their room. Its log stays as it is.
+    /// Steps: the bytes of the messages. Memory: none, keeps its room. By: `without_messages`; read off.
     pub fn clear_messages(&mut self)
         ensures { self.new ≡ without_messages self.old }
     {
@@ -87,6 +94,7 @@ impl TurnOut {
     }
 
     /// Adds an entry to the log.
+    /// Steps: the bytes of the context, and at most 5 numbers. By: read off; condition `room`.
     #[tactic(auto, using(crate::proofs::OutputLemmas::length_with_entry))]
     pub fn add(&mut self, entry: &Entry<Plain<'_>>)
         requires begun { 0 < length self.old.log.turns }
@@ -97,6 +105,7 @@ impl TurnOut {
     }
 
     /// Adds a message.
+    /// Steps: the bytes of the message. By: read off; condition `room`.
     pub fn send(&mut self, message: &[u8])
         requires room { length message.now ≤ self.old.sent_left }
         requires few { self.old.messages < 2 ^ 32 - 1 }
@@ -107,6 +116,7 @@ impl TurnOut {
     }
 
     /// Adds a piece of a message.
+    /// Steps: the bytes of the piece. By: `has_put`; condition: room for it; read off.
     pub fn put(&mut self, piece: &[u8])
         requires { length piece.now ≤ self.old.sent_left }
         ensures { self.new ≡ has_put piece.now self.old }

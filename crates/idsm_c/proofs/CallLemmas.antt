@@ -1,10 +1,10 @@
 -- What a call answers on a handle that has a role, which the call sees in its box.
 use Rattle.idsm_c.proofs.Names.{◌≡◌, ℕ, List, subst, ◌∙◌, ap, Option, Some}
-use Rattle.idsm_port.specs.Answers.{code_of}
-use Rattle.idsm_port.specs.Handled.{RoleTurns}
-use Rattle.idsm_port.specs.declared.answer.Answer.{Answer}
-use Rattle.idsm_port.specs.declared.role.Role.{Role}
-use Rattle.idsm_port.specs.declared.turning.TurnAnswer.{TurnAnswer}
+use Rattle.idsm_api.specs.Answers.{code_of}
+use Rattle.idsm_api.specs.Handled.{RoleTurns}
+use Rattle.idsm_api.specs.declared.answer.Answer.{Answer}
+use Rattle.idsm_api.specs.declared.role.Role.{Role}
+use Rattle.idsm_api.specs.declared.turning.TurnAnswer.{TurnAnswer}
 use Rattle.idsm_c.specs.Calls.{Handles}
 use Rattle.idsm_c.specs.Turning.{HandleTurns, sent_of}
 use Rattle.idsm_c.specs.declared.turning.Sent.{Sent}

@@ -20,7 +20,7 @@ use denote.Struct.Struct.{within}
 use Rattle.core.specs.declared.alloc.Allocator.{Ghosts}
 use Rattle.core.proofs.alloc.Calls.{Al}
 use Rattle.idsm_c.specs.contracts.loose.Loose as loose
-use Rattle.idsm_port.specs.contracts.role.Role as role
+use Rattle.idsm_api.specs.contracts.role.Role as role
 use Rattle.idsm_c.specs.contracts.handle.Handle as handle
 use Rattle.idsm_c.specs.Held.{boxed, filled}
 use Rattle.std.specs.contracts.impls.GlobalAllocator.TheImpl.{ghosts}

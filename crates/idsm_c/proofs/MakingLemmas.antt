@@ -9,10 +9,10 @@ use Rattle.std.proofs.lemmas.List.Elements.{All-map}
 use Rattle.std.proofs.lemmas.List.Folds.{list_any_at, list_any_more}
 use Rattle.ids_config.specs.Parts.{Parts}
 use Rattle.ids_config.specs.declared.fault.ConfigFault.{ConfigFault}
-use Rattle.idsm_port.specs.Making.{MakesPorts}
-use Rattle.idsm_port.specs.declared.making.Ports.{Ports}
-use Rattle.idsm_port.specs.declared.role.Role.{Role}
-use Rattle.idsm_port.specs.declared.role.Role.TheVariants.{Calls, Turns}
+use Rattle.idsm_api.specs.Making.{MakesSetup}
+use Rattle.idsm_api.specs.declared.making.Setup.{Setup}
+use Rattle.idsm_api.specs.declared.role.Role.{Role}
+use Rattle.idsm_api.specs.declared.role.Role.TheVariants.{Calls, Turns}
 use Rattle.idsm_c.specs.Making.{AreFit, AreNew, IsMade}
 use Rattle.idsm_c.specs.declared.handle.Handle.{Handle}
 
@@ -40,7 +40,7 @@ module _ (old : List (Option Role)) (handles : List Handle) (are : contents_of h
   pub one_taken : is_some one.content ≡ true → is_taken old ≡ true
   one_taken some = list_any_at (λ (c : Option Role). is_some c) old i d.content low_old (ap (λ (c : Option Role). is_some c) content_at ∙ some)
 
--- behind those that are still to be put, all roles are put
+-- after those that are still to be put, all roles are put
 pub record IsFilling (all rest : List Role) (contents : List (Option Role)) : Type 0 where
   pub done : List Role
   pub all_are : all ≡ rest ++ done
@@ -96,23 +96,23 @@ fills_all all rest contents filling none =
     let are : contents ≡ map Some filling.done = subst (λ (xs : List Role). drop (length xs) contents ≡ map Some filling.done) gone filling.done_are in
     are ∙ ap (map Some) (sym (filling.all_are ∙ ap (λ (xs : List Role). xs ++ filling.done) gone))
 
--- new ports are those of the configuration that was found
-made_of : (found : Result Parts ConfigFault) (ports : Ports) → MakesPorts found (Ok ports) → IsMade found ports
-made_of (Ok config) ports makes = makes
-made_of (Err fault) ports makes = makes
+-- a new setup is that of the configuration that was found
+made_of : (found : Result Parts ConfigFault) (setup : Setup) → MakesSetup found (Ok setup) → IsMade found setup
+made_of (Ok config) setup makes = makes
+made_of (Err fault) setup makes = makes
 
 -- and they are fit
-fit_of : (found : Result Parts ConfigFault) (ports : Ports) → IsMade found ports → All IsFit (caller_roles ports.callers.items) × IsFit (Turns ports.manager)
-fit_of (Ok config) ports made = (All-map IsFit Calls ports.callers.items made.callers_fit, made.manager_fits)
-fit_of (Err fault) ports made = absurd made
+fit_of : (found : Result Parts ConfigFault) (setup : Setup) → IsMade found setup → All IsFit (caller_roles setup.callers.items) × IsFit (Turns setup.manager)
+fit_of (Ok config) setup made = (All-map IsFit Calls setup.callers.items made.callers_fit, made.manager_fits)
+fit_of (Err fault) setup made = absurd made
 
-module _ (found : Result Parts ConfigFault) (ports : Ports) (makes : MakesPorts found (Ok ports)) (roles : Roles)
-    (callers_are : roles_in roles.callers.items ≡ caller_roles ports.callers.items) (manager_is : roles.manager.value ≡ Turns ports.manager) where
+module _ (found : Result Parts ConfigFault) (setup : Setup) (makes : MakesSetup found (Ok setup)) (roles : Roles)
+    (callers_are : roles_in roles.callers.items ≡ caller_roles setup.callers.items) (manager_is : roles.manager.value ≡ Turns setup.manager) where
   -- so are the roles that they become
   pub roles_new : AreNew found (roles_in roles.callers.items) roles.manager.value
-  roles_new = record { ports = ports; is_made = made_of found ports makes; callers_are = callers_are; manager_is = manager_is }
+  roles_new = record { setup = setup; is_made = made_of found setup makes; callers_are = callers_are; manager_is = manager_is }
 
   pub roles_fit : AreFit roles
   roles_fit =
-      let fit = fit_of found ports (made_of found ports makes) in
+      let fit = fit_of found setup (made_of found setup makes) in
       record { callers = rw callers_are fit.0; manager = rw manager_is fit.1 }

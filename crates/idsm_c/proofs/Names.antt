@@ -6,7 +6,7 @@ pub use Rattle.core.proofs.cell.Inside.{Good}
 pub use Rattle.idsm_c.specs.Held.{held}
 pub use Rattle.idsm_c.specs.Making.{caller_roles, contents_of, is_taken, roles_in}
 pub use Rattle.idsm_c.specs.declared.making.Roles.{Roles}
-pub use Rattle.idsm_port.specs.Handled.{IsFit}
+pub use Rattle.idsm_api.specs.Handled.{IsFit}
 pub use Rattle.std.proofs.Common.{List, [], ap, arith, false, length, lit<, refl, rules, subst, sym, take, ℕ, ◌++◌, ◌+◌, ◌∙◌, ◌∷◌, ◌≡◌, ◌≤◌}
 pub use Rattle.std.proofs.raw_atomic.Walks.{leaves, proved_at}
 pub use Rattle.std.specs.List.{All}

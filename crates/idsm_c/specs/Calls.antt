@@ -3,12 +3,12 @@ use Rattle.std.specs.Prelude.{◌≡◌, ℕ, ◌==◌, if◌then◌else◌, Opt
 use Rattle.ids_types.specs.declared.mode.Mode.{Mode}
 use Rattle.ids_types.specs.declared.names.EventIndex.{EventIndex}
 use Rattle.ids_types.specs.declared.names.Stamp.{Stamp}
-use Rattle.idsm_port.specs.Answers.{code_of}
-use Rattle.idsm_port.specs.Calls.{asked_mode}
-use Rattle.idsm_port.specs.Handled.{RoleSets}
-use Rattle.idsm_port.specs.declared.answer.Answer.{Answer}
-use Rattle.idsm_port.specs.declared.answer.Answer.TheVariants.{OutOfRange, Unset}
-use Rattle.idsm_port.specs.declared.role.Role.{Role}
+use Rattle.idsm_api.specs.Answers.{code_of}
+use Rattle.idsm_api.specs.Calls.{asked_mode}
+use Rattle.idsm_api.specs.Handled.{RoleSets}
+use Rattle.idsm_api.specs.declared.answer.Answer.{Answer}
+use Rattle.idsm_api.specs.declared.answer.Answer.TheVariants.{OutOfRange, Unset}
+use Rattle.idsm_api.specs.declared.role.Role.{Role}
 
 -- the event of a number
 abbrev pub event_of : ℕ → EventIndex

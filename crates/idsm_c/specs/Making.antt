@@ -9,15 +9,15 @@ use Rattle.ids_config.specs.declared.fault.ConfigPlace.{ConfigPlace}
 use Rattle.ids_config.specs.declared.fault.ConfigPlace.TheVariants.{Top, Class, Event}
 use Rattle.config_json.specs.declared.fault.JsonFault.{JsonFault}
 use Rattle.config_json.specs.declared.fault.JsonFault.TheVariants as faults
-use Rattle.idsm_port.specs.Answers.{code_of}
-use Rattle.idsm_port.specs.Handled.{IsFit}
-use Rattle.idsm_port.specs.Making.{IsNewPorts}
-use Rattle.idsm_port.specs.declared.answer.Answer.{Answer}
-use Rattle.idsm_port.specs.declared.answer.Answer.TheVariants.{Done, OutOfRange, NoMemory, Configuration, Occupied}
-use Rattle.idsm_port.specs.declared.caller.CallerPort.{CallerPort}
-use Rattle.idsm_port.specs.declared.making.Ports.{Ports}
-use Rattle.idsm_port.specs.declared.role.Role.{Role}
-use Rattle.idsm_port.specs.declared.role.Role.TheVariants.{Calls, Turns}
+use Rattle.idsm_api.specs.Answers.{code_of}
+use Rattle.idsm_api.specs.Handled.{IsFit}
+use Rattle.idsm_api.specs.Making.{IsNewSetup}
+use Rattle.idsm_api.specs.declared.answer.Answer.{Answer}
+use Rattle.idsm_api.specs.declared.answer.Answer.TheVariants.{Done, OutOfRange, NoMemory, Configuration, Occupied}
+use Rattle.idsm_api.specs.declared.caller.Caller.{Caller}
+use Rattle.idsm_api.specs.declared.making.Setup.{Setup}
+use Rattle.idsm_api.specs.declared.role.Role.{Role}
+use Rattle.idsm_api.specs.declared.role.Role.TheVariants.{Calls, Turns}
 use Rattle.idsm_c.specs.declared.handle.Handle.{Handle}
 use Rattle.idsm_c.specs.declared.making.Fault.{Fault}
 use Rattle.idsm_c.specs.declared.making.Roles.{Roles}
@@ -35,7 +35,7 @@ abbrev pub roles_in : List (Box Role Global) → List Role
 roles_in boxes = map (λ (role : Box Role Global). role.value) boxes
 
 -- callers as roles
-abbrev pub caller_roles : List CallerPort → List Role
+abbrev pub caller_roles : List Caller → List Role
 caller_roles callers = map Calls callers
 
 -- no fault
@@ -68,17 +68,17 @@ pub record AreFit (roles : Roles) : Type 0 where
   pub callers : All IsFit (roles_in roles.callers.items)
   pub manager : IsFit roles.manager.value
 
--- these are new ports of the configuration that was found
-abbrev pub IsMade : Result Parts ConfigFault → Ports → Type 0
-IsMade (Ok config) ports = IsNewPorts config ports
-IsMade (Err fault) ports = ⊥
+-- this is a new setup of the configuration that was found
+abbrev pub IsMade : Result Parts ConfigFault → Setup → Type 0
+IsMade (Ok config) setup = IsNewSetup config setup
+IsMade (Err fault) setup = ⊥
 
 -- these are all callers of the configuration that was found, by their numbers, and their manager, all of them new
 pub record AreNew (found : Result Parts ConfigFault) (callers : List Role) (manager : Role) : Type 0 where
-  pub ports : Ports
-  pub is_made : IsMade found ports
-  pub callers_are : callers ≡ caller_roles ports.callers.items
-  pub manager_is : manager ≡ Turns ports.manager
+  pub setup : Setup
+  pub is_made : IsMade found setup
+  pub callers_are : callers ≡ caller_roles setup.callers.items
+  pub manager_is : manager ≡ Turns setup.manager
 
 -- what the making of roles answers: all of them, the first fault of the configuration, or want of memory
 abbrev pub MakesRoles : Result Parts ConfigFault → Result Roles JsonFault → Type 0

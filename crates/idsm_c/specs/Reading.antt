@@ -1,13 +1,13 @@
 -- What reading a manager answers, by what a handle has.
 use Rattle.std.specs.Prelude.{◌≡◌, ℕ, List, Option, Some, None}
 use Rattle.ids_types.specs.declared.names.Stamp.{Stamp}
-use Rattle.idsm_port.specs.Answers.{code_of}
-use Rattle.idsm_port.specs.Handled.{RoleRow}
-use Rattle.idsm_port.specs.declared.answer.Answer.TheVariants.{Unset}
-use Rattle.idsm_port.specs.declared.number.NumberAnswer.{NumberAnswer}
-use Rattle.idsm_port.specs.declared.reading.RowAnswer.{RowAnswer}
-use Rattle.idsm_port.specs.declared.reading.RowTold.{RowTold}
-use Rattle.idsm_port.specs.declared.role.Role.{Role}
+use Rattle.idsm_api.specs.Answers.{code_of}
+use Rattle.idsm_api.specs.Handled.{RoleRow}
+use Rattle.idsm_api.specs.declared.answer.Answer.TheVariants.{Unset}
+use Rattle.idsm_api.specs.declared.number.NumberAnswer.{NumberAnswer}
+use Rattle.idsm_api.specs.declared.reading.RowAnswer.{RowAnswer}
+use Rattle.idsm_api.specs.declared.reading.RowTold.{RowTold}
+use Rattle.idsm_api.specs.declared.role.Role.{Role}
 use Rattle.idsm_c.specs.declared.reading.Row.{Row}
 
 -- the number of a timestamp, 0 where there is none

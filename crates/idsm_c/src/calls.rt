@@ -1,14 +1,14 @@
 //! Reports and controls.
 ghost use Rattle.std.specs.Prelude.{◌≡◌};
-ghost use Rattle.idsm_port.specs.Calls.{asked_mode, asked_state};
-ghost use Rattle.idsm_port.specs.Handled.{RoleReports, RoleSets};
+ghost use Rattle.idsm_api.specs.Calls.{asked_mode, asked_state};
+ghost use Rattle.idsm_api.specs.Handled.{RoleReports, RoleSets};
 ghost use Rattle.report_api.specs.Answers.{given};
 ghost use Rattle.idsm_c.specs.Calls.{Handles, SetsMode, event_of, stamp_given};
 ghost use Rattle.idsm_c.specs.Modes.{mode_at};
 
 use crate::handle::Handle;
 use ids_types::{EventIndex, Mode, Stamp};
-use idsm_port::Answer;
+use idsm_api::Answer;
 use std::alloc::Global;
 
 // The timestamp of a report, where it has one.
@@ -23,6 +23,7 @@ fn stamp_given(has_stamp: u8, stamp: u64) -> Option<Stamp>
 
 /// Reports a security event, seen `count` times, with its context data, and at a timestamp unless `has_stamp` is 0. No
 /// bytes are no context.
+/// Steps: as `idsm_api::Role::report`. By: `Handles`.
 #[unsafe(no_mangle)]
 pub extern "C" fn idsm_raw_report(
     alloc: Global,
@@ -48,6 +49,7 @@ pub extern "C" fn idsm_raw_report(
 }
 
 /// Tells the block state filter that the state changed.
+/// Steps: as `idsm_api::Role::set_state`. By: `Handles`.
 #[unsafe(no_mangle)]
 pub extern "C" fn idsm_raw_set_state(alloc: Global, caller: &mut Handle, state: u8) -> u8
     ensures { Handles (RoleSets (asked_state state)) caller.old.content result caller.new.content }
@@ -77,6 +79,7 @@ fn mode_at(number: u8) -> Option<Mode>
 }
 
 /// Sets the reporting mode of an event, of an internal one too.
+/// Steps: as `idsm_api::Role::set_mode`. By: `SetsMode`.
 #[unsafe(no_mangle)]
 pub extern "C" fn idsm_raw_set_mode(alloc: Global, caller: &mut Handle, event: u16, mode: u8) -> u8
     ensures { SetsMode event (mode_at mode) caller.old.content result caller.new.content }

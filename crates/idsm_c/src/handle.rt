@@ -1,11 +1,11 @@
 //! A handle of C's.
 ghost use Rattle.std.specs.Prelude.{◌≡◌, None, Some, Option, IfSome, is_some};
-ghost use Rattle.idsm_port.specs.Handled.{IsFit};
-ghost use Rattle.idsm_port.specs.declared.role.Role.{Role as RoleValue};
+ghost use Rattle.idsm_api.specs.Handled.{IsFit};
+ghost use Rattle.idsm_api.specs.declared.role.Role.{Role as RoleValue};
 ghost use Rattle.idsm_c.specs.Opened.{as_boxed, as_open};
 
 use crate::loose::Loose;
-use idsm_port::Role;
+use idsm_api::Role;
 use std::alloc::Global;
 use std::marker::Model;
 use std::mem;
@@ -20,8 +20,8 @@ pub struct Handle {
 }
 
 impl Model for Handle {
-    ghost use Rattle.idsm_port.specs.contracts.role.Role.{the_row};
-    ghost use Rattle.idsm_port.specs.Handled.{IsFit};
+    ghost use Rattle.idsm_api.specs.contracts.role.Role.{the_row};
+    ghost use Rattle.idsm_api.specs.Handled.{IsFit};
     ghost use Rattle.idsm_c.specs.Held.{held};
 
     ghost also_owns = { λ h. held the_row IsFit h.at h.content };

@@ -1,9 +1,9 @@
 //! The C interface of the intrusion detection system manager: handles and exported functions, over which
 //! `c/idsm_c.c` has the calls of `c/idsm_c.h`.
 //!
-//! Layer 11, beyond one manager. Over `idsm_port`, whose roles the handles own; built as a static library, on which no
+//! Layer 11, the library in use. Over `idsm_api`, whose roles the handles own; built as a static library, on which no
 //! crate may stand.
-//! Contracts see a handle by its content: nothing, or a caller or a manager of which all holds that `idsm_port` says of
+//! Contracts see a handle by its content: nothing, or a caller or a manager of which all holds that `idsm_api` says of
 //! it between two calls. So no export requires anything: each answers by what the handle has (`specs/Calls.antt`).
 //! What C has to keep is what C always keeps, and stands in `c/README.md`. Only `c/check` shows that the library links
 //! and runs.

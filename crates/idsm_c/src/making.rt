@@ -2,13 +2,13 @@
 ghost use Rattle.std.specs.Prelude.{◌≡◌, Some, length, map, IfOk, ◌∷◌};
 ghost use Rattle.std.specs.List.{All};
 ghost use Rattle.config_json.specs.Configured.{configuration};
-ghost use Rattle.idsm_port.specs.Handled.{IsFit};
+ghost use Rattle.idsm_api.specs.Handled.{IsFit};
 ghost use Rattle.idsm_c.specs.Making.{AreFit, Fills, Inits, MakesRoles, caller_roles, contents_of, fault_of, is_taken, no_fault, roles_in};
 
 use crate::handle::Handle;
 use config_json::JsonFault;
 use ids_config::{ConfigFault, ConfigPlace};
-use idsm_port::{Answer, CallerPort, Role, make};
+use idsm_api::{Answer, Caller, Manager, Role};
 use std::alloc::{AllocError, Global};
 
 /// The first fault of a configuration: its number, and where it stands. All is 0 where there is none.
@@ -85,10 +85,7 @@ fn boxed(alloc: Global, role: Role) -> Result<Box<Role, Global>, AllocError>
 }
 
 // The callers, each as a role in a box.
-fn boxed_callers(
-    alloc: Global,
-    callers: Vec<CallerPort>,
-) -> Result<Vec<Box<Role, Global>>, AllocError>
+fn boxed_callers(alloc: Global, callers: Vec<Caller>) -> Result<Vec<Box<Role, Global>>, AllocError>
     ensures { IfOk result (λ boxes. roles_in boxes.items ≡ caller_roles callers.items) }
 {
     let mut boxes = Vec::with_capacity(alloc, callers.len())?;
@@ -103,9 +100,9 @@ fn roles_of(alloc: Global, config: &[u8]) -> Result<Roles, JsonFault>
     ensures made { MakesRoles (configuration config.now) result }
     ensures fit { IfOk result AreFit }
 {
-    let ports = make(alloc, config)?;
-    let callers = boxed_callers(alloc, ports.callers)?;
-    let manager = boxed(alloc, Role::Turns(ports.manager))?;
+    let setup = Manager::make(alloc, config)?;
+    let callers = boxed_callers(alloc, setup.callers)?;
+    let manager = boxed(alloc, Role::Turns(setup.manager))?;
     Ok(Roles { callers, manager })
 }
 
@@ -135,6 +132,8 @@ fn fill(roles: Roles, callers: &mut [Handle], manager: &mut Handle) -> bool
 
 /// Fills a handle for each caller of the configuration that the bytes are the JSON text of, and one for the manager.
 /// Where it answers anything but done, no handle is changed.
+/// Steps: as `idsm_api::Manager::make`, and a box for each handle. Memory: made once. By: `Inits`; no other call
+/// answers want of memory.
 #[unsafe(no_mangle)]
 pub extern "C" fn idsm_raw_init(
     alloc: Global,

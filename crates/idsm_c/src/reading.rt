@@ -1,10 +1,10 @@
 //! The event memory, and numbers of the manager.
 ghost use Rattle.std.specs.Prelude.{◌≡◌, None};
-ghost use Rattle.idsm_port.specs.Handled.{RoleLate, RoleMost, RoleRows};
+ghost use Rattle.idsm_api.specs.Handled.{RoleLate, RoleMost, RoleRows};
 ghost use Rattle.idsm_c.specs.Reading.{HandleRow, HandleTells, row_of};
 
 use crate::handle::Handle;
-use idsm_port::{Answer, RowTold};
+use idsm_api::{Answer, RowTold};
 use std::alloc::Global;
 
 /// A record of the event memory, without its context data. All is 0 where there is none.
@@ -60,6 +60,7 @@ fn row_of(row: Option<RowTold>) -> Row
 }
 
 /// How many bytes a buffer for the messages of a turn has at least.
+/// By: `HandleTells`; no loop.
 #[unsafe(no_mangle)]
 pub extern "C" fn idsm_raw_buffer_size(alloc: Global, manager: &mut Handle, bytes: &mut u64) -> u8
     ensures { HandleTells RoleMost manager.old.content result bytes.new manager.new.content }
@@ -77,6 +78,7 @@ pub extern "C" fn idsm_raw_buffer_size(alloc: Global, manager: &mut Handle, byte
 }
 
 /// How many records the event memory has.
+/// By: `HandleTells`.
 #[unsafe(no_mangle)]
 pub extern "C" fn idsm_raw_rows(alloc: Global, manager: &mut Handle, rows: &mut u64) -> u8
     ensures { HandleTells RoleRows manager.old.content result rows.new manager.new.content }
@@ -94,6 +96,7 @@ pub extern "C" fn idsm_raw_rows(alloc: Global, manager: &mut Handle, rows: &mut 
 }
 
 /// How many buffers of a class wait for a free position.
+/// Steps: as `idsm_api::Role::late`. By: `HandleTells`.
 #[unsafe(no_mangle)]
 pub extern "C" fn idsm_raw_late(
     alloc: Global,
@@ -116,6 +119,7 @@ pub extern "C" fn idsm_raw_late(
 }
 
 /// A record of the event memory, from the one stored longest ago on, and its context data.
+/// Steps: as `idsm_api::Role::row`. By: `HandleRow`.
 #[unsafe(no_mangle)]
 pub extern "C" fn idsm_raw_row_at(
     alloc: Global,

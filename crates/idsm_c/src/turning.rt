@@ -3,7 +3,7 @@ ghost use Rattle.std.specs.Prelude.{◌≡◌};
 ghost use Rattle.idsm_c.specs.Turning.{HandleTurns, sent_of};
 
 use crate::handle::Handle;
-use idsm_port::{Answer, Told};
+use idsm_api::{Answer, Told};
 use std::alloc::Global;
 
 /// What a turn tells. All is 0 where none was made.
@@ -30,7 +30,8 @@ fn sent_of(told: Told) -> Sent
     }
 }
 
-/// Makes a turn, and writes its messages to the front of the buffer, one behind the other.
+/// Makes a turn, and writes its messages to the front of the buffer, one after the other.
+/// Steps: as `idsm_api::Role::turn`. By: `HandleTurns`.
 #[unsafe(no_mangle)]
 pub extern "C" fn idsm_raw_main(
     alloc: Global,

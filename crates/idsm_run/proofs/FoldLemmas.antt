@@ -1,5 +1,5 @@
 -- What `fold` holds of a journal is the work that the journal asks for.
-use Rattle.run_steps.proofs.Names.{◌≡◌, List, ℕ, length, reverse, refl, sym, ap, ◌∙◌, length-reverse, Parts, Turn, Folded, entries_of, FoldFiles, fold_line, fold_outputs, fold_work, rows_of, memory_text, IsOutcome}
+use Rattle.cmd_steps.proofs.Names.{◌≡◌, List, ℕ, length, reverse, refl, sym, ap, ◌∙◌, length-reverse, Parts, Turn, Folded, entries_of, FoldFiles, fold_line, fold_outputs, fold_work, rows_of, memory_text, IsOutcome}
 
 pub fold_work_is : (config : Parts) (turns : List Turn) (folded : Folded) → IsOutcome config turns folded → (names : FoldFiles) (text line : List ℕ)
     → text ≡ memory_text (reverse folded.memory.rows)

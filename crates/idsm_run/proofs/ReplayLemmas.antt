@@ -1,10 +1,10 @@
 -- What a replay gives is the work that its input files ask for, and how its run ends.
-use Rattle.run_steps.proofs.Names.{◌≡◌, ◌∙◌, ℕ, List, length, refl, sym, sum-map, Parts, Round, told, rows_of, memory_text, journal_text, Cuts, Does, ReplayFiles, replays, replay_outputs, replay_work, lost_contexts, without_context, IsOneHistory}
+use Rattle.cmd_steps.proofs.Names.{◌≡◌, ◌∙◌, ℕ, List, length, refl, sym, sum-map, Parts, Round, told, rows_of, memory_text, journal_text, Cuts, Does, ReplayFiles, replays, replay_outputs, replay_work, lost_contexts, without_context, IsOneHistory}
 use Rattle.idsm_run.specs.Replayed.{RunManager}
 use Rattle.trace_replay.specs.Replayed.{Gives, IsReplay}
-use Rattle.run_files.specs.Writing.{Work}
-use Rattle.run_spec.proofs.JournalLemmas.{cut_at_ends}
-use Rattle.run_spec.specs.Replay.{replay_text}
+use Rattle.cmd_files.specs.Writing.{Work}
+use Rattle.cmd_spec.proofs.JournalLemmas.{cut_at_ends}
+use Rattle.cmd_spec.specs.Replay.{replay_text}
 
 -- ---- what a replay gives
 

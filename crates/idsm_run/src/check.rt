@@ -2,12 +2,12 @@
 
 ghost use Rattle.std.specs.Prelude.{◌≡◌, nat_eq};
 ghost use Rattle.std.specs.List.{common_prefix_len};
-ghost use Rattle.run_steps.specs.Words.{EndsAs, Judges, check as check_command, check_judged, does, only_said, plain_end, seen_as, three_of};
+ghost use Rattle.cmd_steps.specs.Words.{EndsAs, Judges, check as check_command, check_judged, does, only_said, plain_end, seen_as, three_of};
 
+use cmd_files::{MAX_MESSAGES_BYTES, Refusal, Stop, read_file};
+use cmd_steps::read_inputs;
+use cmd_words::CheckNames;
 use ids_outside::Shelf;
-use run_files::{MAX_MESSAGES_BYTES, Refusal, Stop, read_file};
-use run_steps::read_inputs;
-use run_words::CheckNames;
 use std::alloc::Global;
 
 /// Compares a file with the messages that the filter chain sends for a journal, and returns the line that

@@ -1,12 +1,12 @@
 //! The command `explain`: what became of each item of a recorded history.
 
-ghost use Rattle.run_steps.specs.Words.{EndsAs, plain_end, recording};
-ghost use Rattle.run_words.specs.Command.{explain as explain_command};
+ghost use Rattle.cmd_steps.specs.Words.{EndsAs, plain_end, recording};
+ghost use Rattle.cmd_words.specs.Command.{explain as explain_command};
 
+use cmd_files::Stop;
+use cmd_steps::{Inputs, Judged, read_inputs};
+use cmd_words::RecordingNames;
 use ids_outside::Shelf;
-use run_files::Stop;
-use run_steps::{Inputs, Judged, read_inputs};
-use run_words::RecordingNames;
 use std::alloc::Global;
 
 /// Returns the text of a journal with what became of each item, and an account for each event. What the journal was

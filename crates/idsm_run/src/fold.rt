@@ -1,14 +1,14 @@
 //! The command `fold`: the messages and the event memory of a recorded history.
 
 ghost use Rattle.std.specs.Prelude.{◌≡◌, length, map, IfOk};
-ghost use Rattle.run_steps.specs.Words.{CanWrite, Cuts, EndsAs, WritesApart, entries_of, files_of, fold as fold_command, fold_line as line_of, fold_outputs, output_of, plain_end};
+ghost use Rattle.cmd_steps.specs.Words.{CanWrite, Cuts, EndsAs, WritesApart, entries_of, files_of, fold as fold_command, fold_line as line_of, fold_outputs, output_of, plain_end};
 
 use chain_plain::Folded;
+use cmd_files::{NewFile, Stop};
+use cmd_steps::{Judged, read_inputs, write_work};
+use cmd_words::FoldNames;
 use ids_outside::Shelf;
 use ids_types::NoMemory;
-use run_files::{NewFile, Stop};
-use run_steps::{Judged, read_inputs, write_work};
-use run_words::FoldNames;
 use std::alloc::Global;
 
 /// Folds a journal, and returns the line that tells what was folded: the messages of each turn that sends some are

@@ -3,15 +3,15 @@
 ghost use Rattle.std.specs.Prelude.{◌≡◌, map, IsTrue};
 ghost use Rattle.gen_options.specs.Given.{given_of};
 ghost use Rattle.gen_options.specs.Ranges.{is_in_range};
-ghost use Rattle.trace_gen.specs.Generated.{config_for, journal_for, trace_for};
-ghost use Rattle.run_steps.specs.Words.{CanWrite, EndsAs, WritesApart, gen as gen_command, gen_work, output_of, plain_end};
+ghost use Rattle.gen_recording.specs.Generated.{config_for, journal_for, trace_for};
+ghost use Rattle.cmd_steps.specs.Words.{CanWrite, EndsAs, WritesApart, gen as gen_command, gen_work, output_of, plain_end};
 
+use cmd_files::{NewFile, Stop};
+use cmd_steps::write_work;
 use gen_options::Given;
+use gen_recording::{Generated, generate};
 use ids_outside::Shelf;
-use run_files::{NewFile, Stop};
-use run_steps::write_work;
 use std::alloc::Global;
-use trace_gen::{Generated, generate};
 
 /// Generates a recording, writes its three files, each by one append, and returns the line that tells of it. All memory is
 /// taken before the first file is made.

@@ -2,14 +2,14 @@
 
 ghost use Rattle.std.specs.Prelude.{◌≡◌, codes, IfOk, Ok};
 ghost use Rattle.config_json.specs.Configured.{configuration};
-ghost use Rattle.run_steps.specs.Words.{EndsAs, config_text, migrate as migrate_command, pair_of, plain_end};
+ghost use Rattle.cmd_steps.specs.Words.{EndsAs, config_text, migrate as migrate_command, pair_of, plain_end};
 
+use cmd_files::Stop;
+use cmd_steps::{Made, read_config, write_made};
+use cmd_words::PairNames;
 use ids_config::Config;
 use ids_outside::Shelf;
 use ids_types::NoMemory;
-use run_files::Stop;
-use run_steps::{Made, read_config, write_made};
-use run_words::PairNames;
 use std::alloc::Global;
 
 /// Writes the text of a configuration of either form in the second form, by one append, and returns the

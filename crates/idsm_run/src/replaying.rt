@@ -1,15 +1,15 @@
 //! The command `replay`: the messages, the event memory and the journal of a trace that is replayed by threads.
 
 ghost use Rattle.std.specs.Prelude.{◌≡◌, length, map, IsTrue, IfOk};
-ghost use Rattle.run_steps.specs.Words.{CanWrite, Cuts, EndsAs, WritesApart, finished_end, five_of, output_of, replay as replay_command, replay_outputs};
+ghost use Rattle.cmd_steps.specs.Words.{CanWrite, Cuts, EndsAs, WritesApart, finished_end, five_of, output_of, replay as replay_command, replay_outputs};
 ghost use Rattle.idsm_run.specs.Replayed.{Replayed as HasReplayed};
 
 use crate::replay_texts::{Texts, print_texts};
 use crate::traces::read_asked;
+use cmd_files::{NewFile, Stop};
+use cmd_steps::{Finished, write_work};
+use cmd_words::ReplayNames;
 use ids_outside::Shelf;
-use run_files::{NewFile, Stop};
-use run_steps::{Finished, write_work};
-use run_words::ReplayNames;
 use std::alloc::Global;
 use std::thread::Threads;
 use trace_replay::{Gate, Replayed, RunManager, replay};

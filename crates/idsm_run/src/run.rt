@@ -1,5 +1,7 @@
+//! The top calls: from the words of a command to its status.
+
 ghost use Rattle.std.specs.Prelude.{IsTrue, map, string_bytes};
-ghost use Rattle.run_steps.specs.Words.{CanRun, EndsAs, Ran, SameBut, are_read_by_clap, asked, command_of, plain_end, replay, replay_of, written_in, written_of};
+ghost use Rattle.cmd_steps.specs.Words.{CanRun, EndsAs, Ran, SameBut, are_read_by_clap, asked, command_of, plain_end, replay, replay_of, written_in, written_of};
 ghost use Rattle.idsm_run.specs.Replayed.{Replays};
 
 use crate::check::check;
@@ -8,17 +10,17 @@ use crate::fold::fold;
 use crate::generating::generate_files;
 use crate::migrate::migrate;
 use crate::replaying::replay_files;
+use cmd_files::{NO_MEMORY, Stop, say, tell};
+use cmd_messages::{bundle, decode_file, export_file, sign, unbundle, verify};
+use cmd_steps::{say_usage, tell_finished};
+use cmd_words::{Request, parse, parse_replay};
 use ids_outside::{Shelf, Sink};
 use ids_types::NoMemory;
-use run_files::{NO_MEMORY, Stop, say, tell};
-use run_messages::{bundle, decode_file, sign, unbundle, verify};
-use run_steps::{say_usage, tell_finished};
-use run_words::{Request, parse, parse_replay};
 use std::alloc::Global;
 use std::thread::Threads;
 use trace_replay::{Gate, RunManager};
 
-/// Runs the command that the words behind the program's name ask for, and returns its status: 0 where
+/// Runs the command that the words after the program's name ask for, and returns its status: 0 where
 /// it was done, and else why not. It waits for nobody.
 ///
 /// `fold CONFIG JOURNAL MESSAGES MEMORY` writes the messages and the event memory of a journal,
@@ -27,7 +29,15 @@ use trace_replay::{Gate, RunManager};
 /// `migrate CONFIG NEW` writes the text of a configuration in the second form. `sign KEY START MESSAGES SIGNED` adds a
 /// counter and a tag to each message, and `verify KEY START SIGNED MESSAGES` checks them and takes them off;
 /// `bundle SIZE MESSAGES UNITS` packs messages whole into units, and `unbundle UNITS MESSAGES` takes them out again.
-/// `explain CONFIG JOURNAL` puts the journal with what became of each item, and an account for each event.
+/// `explain CONFIG JOURNAL` puts the journal with what became of each item, and an account for each event;
+/// `export FORMAT MESSAGES` puts the messages of a file as lines of JSON or as a capture.
+/// Steps: `fold`, `check`: CONFIG as by `config_json::read`, JOURNAL as by `journal::read`, its turns as by
+/// `chain_plain::outcome`, and the bytes written or compared. `decode`: MESSAGES read, its messages gone over once, and
+/// the bytes of their lines. `gen`: as `generate`. `migrate`: CONFIG, read and printed. `sign`, `verify`: as `seal`,
+/// `unseal`. `bundle`, `unbundle`: as `pack` and `count`, `unpack` and `count`. `explain`: as `fold`, and then as
+/// `chain_endings::explain`. `export`: as `export_file`. One read for each input, one append at most for each turn.
+/// Memory: may answer want of memory: status 8. Waits: as its shelf and its sink. By: `ran` (`Ran`); read off; no
+/// `Threads`.
 pub fn run_plain<H: Shelf, K: Sink>(
     alloc: Global,
     words: &[String],
@@ -73,15 +83,19 @@ fn perform<'a, H: Shelf>(
         Request::Bundle(names) => bundle(alloc, names, shelf),
         Request::Unbundle(names) => unbundle(alloc, names, shelf),
         Request::Explain(names) => explain(alloc, names, shelf),
+        Request::Export(names) => export_file(alloc, names, shelf),
     }
 }
 
-/// Runs the replay that the words behind the program's name ask for, and returns its status, with the manager that
+/// Runs the replay that the words after the program's name ask for, and returns its status, with the manager that
 /// made the turns where the status is 0.
 ///
 /// `replay CONFIG TRACE MESSAGES MEMORY JOURNAL` replays a trace: a thread for each of its callers, beside the turns of
 /// a manager, which makes what no thread has begun; and it writes the messages, the event memory and the journal of the
 /// history that this gave.
+/// Steps: CONFIG as by `config_json::read`, TRACE as by `trace_text::read`, `replay`, and the bytes of messages, memory
+/// and journal; one read for each input, one append at most for each turn. Memory: may answer want of memory: status 8.
+/// Waits: as `replay`; as its shelf, its sink and its gate. By: `ran` (`Replays`); bound `Threads`; read off.
 pub fn run_replay<R: Threads + Sync, H: Shelf, K: Sink, G: Gate + Sync>(
     rt: &R,
     alloc: Global,

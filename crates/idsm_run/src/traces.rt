@@ -2,14 +2,14 @@
 
 ghost use Rattle.std.specs.Prelude.{◌≡◌, IfOk};
 ghost use Rattle.text_spec.specs.TraceReading.{AreRounds};
-ghost use Rattle.run_steps.specs.Words.{Judges, Reads, asked_in, five_of, seen_as, trace_in, trace_judged};
+ghost use Rattle.cmd_steps.specs.Words.{Judges, Reads, asked_in, five_of, seen_as, trace_in, trace_judged};
 ghost use Rattle.idsm_run.specs.Replayed.{asked_of};
 
+use cmd_files::{MAX_TRACE_BYTES, Refusal, Stop, read_file};
+use cmd_steps::read_config;
+use cmd_words::ReplayNames;
 use ids_config::Config;
 use ids_outside::Shelf;
-use run_files::{MAX_TRACE_BYTES, Refusal, Stop, read_file};
-use run_steps::read_config;
-use run_words::ReplayNames;
 use std::alloc::Global;
 use trace_text::{Trace, TraceFault, read};
 

@@ -1,3 +1,5 @@
+//! The internal events of one turn.
+
 ghost use Rattle.std.specs.Prelude.{◌≡◌, length, map, option_map, option_to_list};
 ghost use Rattle.std.specs.List.{slice_get};
 ghost use Rattle.chain_spec.specs.Heads.{head_for, heads_of};
@@ -32,6 +34,7 @@ impl Model for HeadList {
 
 impl HeadList {
     /// How many there are.
+    /// Steps: 3 places. By: type `[Option<Head>; 3]`.
     pub fn len(&self) -> usize
         ensures { result ≡ length self.now }
     {
@@ -39,6 +42,7 @@ impl HeadList {
     }
 
     /// The one at this place, from 0.
+    /// Steps: 3 places. By: type `[Option<Head>; 3]`.
     pub fn get(&self, i: usize) -> Option<Head>
         ensures { result ≡ slice_get self.now i }
     {

@@ -1,4 +1,4 @@
--- Lines that are in range and in order have no fault, each behind the lines before it.
+-- Lines that are in range and in order have no fault, each after the lines before it.
 use Rattle.journal.proofs.Names.{◌≡◌, ℕ, ◌+◌, ◌<◌, ◌≤◌, ◌++◌, ◌∷◌, ◌||◌, List, [], length, map, get_or, set, refl, sym, ap, subst, ◌∙◌, append_assoc, arith, length-set, true, Ok, flat_map, list_any, ne_eqb, Turn, begun, flat_map-push, is_pair, has_pair, is_claim, Entry, Loss, Line, enters, loses, turn_told, Told}
 use Rattle.std.proofs.Common.{◌↔◌, ◌&&◌, false, inl, inr, get_or-set_same, get_or-set_other}
 use Rattle.std.proofs.lemmas.Bool.{and_parts, cases_eq, cases_lt, le-leb, lt-ltb}
@@ -27,7 +27,7 @@ abbrev HasRoom : Past → Line → Type 0
 HasRoom past (enters entry) = (0 < length past.told.turns) × (past.entries < 1024)
 HasRoom past line = Unit {0}
 
--- each line is followed by all that stand behind it
+-- each line is followed by all that stand after it
 abbrev Ordered : List Line → Type 0
 Ordered [] = Unit {0}
 Ordered (line ∷ lines) = AllByRecursion (Follows line) lines × Ordered lines
@@ -151,7 +151,7 @@ module _ (config : Parts) where
             (subst (Goes now) same one.1) (λ later g. turns_pass later turns losses few.1 g)),
       )
 
--- ---- from any two lines to each line and those behind it
+-- ---- from any two lines to each line and those after it
 
 module _ (all : List Line) (order : (before middle behind : List Line) (first last : Line) → all ≡ before ++ first ∷ (middle ++ last ∷ behind) → Follows first last) where
   all_follow : (before : List Line) (first : Line) (middle rest : List Line) → all ≡ before ++ first ∷ (middle ++ rest) → AllByRecursion (Follows first) rest

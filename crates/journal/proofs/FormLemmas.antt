@@ -20,7 +20,7 @@ next_number i n values rest next expected small within is was =
     ∙ ap (λ k. with_front (take i values) (numbers_in k rest)) (sym left)
     ∙ was
 
--- a kept context by its two numbers, and the text behind them
+-- a kept context by its two numbers, and the text after them
 pub kept_by : (class claim : ℕ) (pieces first second : List (List ℕ)) (text : List ℕ) → first_as a_number pieces ≡ Some (class, first)
     → first_as a_number first ≡ Some (claim, second) → pieces_of colon text ≡ second
     → kept_in pieces ≡ option_map (λ bytes. Kept class claim bytes) (some_hex text)
@@ -30,7 +30,7 @@ kept_by class claim pieces first second text one two left =
     ∙ ap (read_by (hex_bytes ∷ []) (λ bytes. Kept class claim bytes)) (sym left)
     ∙ last_hex (λ bytes. Kept class claim bytes) text
 
--- a report by its numbers and its stamp, and the text behind them
+-- a report by its numbers and its stamp, and the text after them
 pub report_by : (caller call event count : ℕ) (stamp : Option Stamp) (words first second third fourth fifth : List (List ℕ)) (text : List ℕ)
     → first_as a_number words ≡ Some (caller, first) → first_as a_number first ≡ Some (call, second)
     → first_as a_number second ≡ Some (event, third) → first_as a_number third ≡ Some (count, fourth)

@@ -9,7 +9,7 @@ entries-push front entry = ap lines_text (map-append enters front (entry ∷ [])
 pub turns-push : (front : List Turn) (turn : Turn) → lines_text (flat_map turn_told (front ++ turn ∷ [])) ≡ lines_text (flat_map turn_told front) ++ lines_text (turn_told turn)
 turns-push front turn = ap lines_text (flat_map-push turn_told front turn) ∙ text_of-map line_for (flat_map turn_told front) (turn_told turn)
 
--- the losses behind lines, and one more
+-- the losses after lines, and one more
 pub losses-push : (lines : List Line) (front : List Loss) (loss : Loss) → lines_text (lines ++ map loses (front ++ loss ∷ [])) ≡ lines_text (lines ++ map loses front) ++ ended_line (fields_of (loses loss))
 losses-push lines front loss =
     ap (λ (ls : List Line). lines_text (lines ++ ls)) (map-append loses front (loss ∷ []))

@@ -1,4 +1,4 @@
--- Which turns and losses fit a configuration, said without reading lines one behind the other.
+-- Which turns and losses fit a configuration, said without reading lines one after the other.
 use Rattle.std.specs.Prelude.{◌≡◌, ◌≤◌, List, ◌∷◌, ◌++◌, length, true}
 use Rattle.std.specs.List.{AllByRecursion}
 use Rattle.ids_config.specs.Parts.{Parts}

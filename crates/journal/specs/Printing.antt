@@ -8,6 +8,6 @@ use Rattle.text_spec.specs.Words.{text_of}
 abbrev pub lines_text : List Line → List ℕ
 lines_text lines = text_of (map line_for lines)
 
--- number i of some, behind a point unless it is the first
+-- number i of some, after a point unless it is the first
 abbrev pub pointed : ℕ → ℕ → List ℕ
 pointed i number = if i == 0 then decimal number else point ∷ decimal number

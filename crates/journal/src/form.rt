@@ -34,7 +34,7 @@ pub(crate) fn line_of(words: Words<'_>) -> Option<RawLine<'_>>
     None
 }
 
-/// The words behind `T`.
+/// The words after `T`.
 fn head_of(words: Words<'_>) -> Option<RawLine<'_>>
     ensures { option_map line_told result ≡ behind turn_form words.entry }
 {
@@ -50,7 +50,7 @@ fn head_of(words: Words<'_>) -> Option<RawLine<'_>>
     }))
 }
 
-/// The words behind `R`. The last of them is read as what is left of the line: no context has a space.
+/// The words after `R`. The last of them is read as what is left of the line: no context has a space.
 fn report_of(words: Words<'_>) -> Option<RawLine<'_>>
     ensures { option_map line_told result ≡ behind report_form words.entry }
 {
@@ -72,7 +72,7 @@ fn report_of(words: Words<'_>) -> Option<RawLine<'_>>
     }))
 }
 
-/// The words behind `C`.
+/// The words after `C`.
 fn change_of(words: Words<'_>) -> Option<RawLine<'_>>
     ensures { option_map line_told result ≡
         or_else (behind state_form words.entry) (behind setting_form words.entry) }
@@ -116,7 +116,7 @@ fn setting_of(caller: u64, call: u64, words: Words<'_>) -> Option<RawLine<'_>>
     }))
 }
 
-/// The words behind `L`.
+/// The words after `L`.
 fn loss_of(words: Words<'_>) -> Option<RawLine<'_>>
     ensures { option_map line_told result ≡ behind loss_form words.entry }
 {
@@ -153,7 +153,7 @@ fn missing_of<'a>(word: &[u8]) -> Option<RawContext<'a>>
     Some(RawContext::Missing(claims_of(word)?))
 }
 
-/// `CLASS:CLAIM:HEX`. What is left behind the two numbers is the hexadecimal: it has no colon.
+/// `CLASS:CLAIM:HEX`. What is left after the two numbers is the hexadecimal: it has no colon.
 #[inline(never)]
 fn kept_of(pieces: Pieces<'_, b':'>) -> Option<RawContext<'_>>
     ensures { option_map context_told result ≡ kept_in pieces.entry }

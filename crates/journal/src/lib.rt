@@ -1,10 +1,10 @@
 //! The journal: the record of a run, read under a configuration and printed.
 //!
-//! Layer 4, messages and texts. Over `ids_types`, `ids_config` and `text_spec`; the runs of commands read
-//! journals by it. text_spec's `specs/JournalText.antt` has the text of a history and its losses, `JournalForm.antt` and `JournalFaults.antt` the faults of a line, and
-//! `JournalReading.antt` which text is a journal and which line is the first bad one.
-//! `read` answers the one journal that a text is, or its first bad line; `print` writes a journal's text.
-//! No clause says that memory suffices: an answer `NoMemory` is always true.
+//! Layer 4, messages and texts. Over `ids_types`, `ids_config` and `text_spec`; the runs of commands read journals by
+//! it. text_spec's `specs/JournalText.antt` has the text of a history and its losses, `JournalForm.antt` and
+//! `JournalFaults.antt` the faults of a line, and `JournalReading.antt` which text is a journal and which line is the
+//! first bad one. `read` answers the one journal that a text is, or its first bad line; `print` writes a journal's
+//! text. No clause says that memory suffices: an answer `NoMemory` is always true.
 #![tactic(auto)]
 
 mod form;

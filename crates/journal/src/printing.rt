@@ -22,6 +22,7 @@ use std::alloc::Global;
 use text_spec::{push_field, push_hex, push_mode, push_number, push_stamp};
 
 /// The text of a history and its losses, which are printed as they are given.
+/// Steps: the bytes of the text. Memory: may answer want of memory. By: `text`; read off.
 pub fn print(alloc: Global, history: &History, losses: &[Loss]) -> Result<Vec<u8>, NoMemory>
     ensures text { IfOk result
         (λ text. text.items ≡ journal_text (told history.now.turns losses.now)) }
@@ -60,6 +61,7 @@ fn push_turn(out: &mut Vec<u8>, history: &History, turn: u64) -> Result<(), NoMe
 }
 
 /// Appends `T TICK LOST_EVENTS LOST_CONTEXTS LIMITED` as a line.
+/// Steps: the bytes of the line. Memory: may answer want of memory. By: read off.
 pub fn push_head(out: &mut Vec<u8>, head: &TurnHead) -> Result<(), NoMemory>
     ensures { OnOk result (out.new.items ≡ out.old.items ++ ended_line (fields_of (begins head.now))) }
 {
@@ -72,6 +74,7 @@ pub fn push_head(out: &mut Vec<u8>, head: &TurnHead) -> Result<(), NoMemory>
 }
 
 /// Appends `L CALLER CALL GIVEN` as a line.
+/// Steps: the bytes of the line. Memory: may answer want of memory. By: read off.
 pub fn push_loss(out: &mut Vec<u8>, loss: &Loss) -> Result<(), NoMemory>
     ensures { OnOk result (out.new.items ≡ out.old.items ++ ended_line (fields_of (loses loss.now))) }
 {
@@ -81,6 +84,7 @@ pub fn push_loss(out: &mut Vec<u8>, loss: &Loss) -> Result<(), NoMemory>
 }
 
 /// Appends an entry as a line.
+/// Steps: the bytes of the line. Memory: may answer want of memory. By: read off.
 pub fn push_entry(out: &mut Vec<u8>, entry: &Entry<Plain<'_>>) -> Result<(), NoMemory>
     ensures { OnOk result (out.new.items ≡
         out.old.items ++ ended_line (fields_of (enters (plain_entry entry.now)))) }
@@ -90,6 +94,7 @@ pub fn push_entry(out: &mut Vec<u8>, entry: &Entry<Plain<'_>>) -> Result<(), NoM
 }
 
 /// Appends the line of an entry, without its line feed.
+/// Steps: the bytes of the line. Memory: may answer want of memory. By: read off.
 pub fn push_fields(out: &mut Vec<u8>, entry: &Entry<Plain<'_>>) -> Result<(), NoMemory>
     ensures { OnOk result (out.new.items ≡ out.old.items ++ line_for (enters (plain_entry entry.now))) }
 {
@@ -183,7 +188,7 @@ fn push_claims(out: &mut Vec<u8>, numbers: &Numbers) -> Result<(), NoMemory>
     Ok(())
 }
 
-/// Appends a number, behind a point unless it is the first.
+/// Appends a number, after a point unless it is the first.
 fn push_claim(out: &mut Vec<u8>, i: usize, number: u64) -> Result<(), NoMemory>
     ensures { OnOk result (out.new.items ≡ out.old.items ++ pointed i number) }
 {

@@ -1,3 +1,5 @@
+//! Reading a journal from its text.
+
 ghost use Rattle.std.specs.Prelude.{◌≡◌, Ok, IfOk, IfErr};
 ghost use Rattle.text_spec.specs.JournalReading.{IsJournal, journal_in};
 ghost use Rattle.text_spec.specs.JournalText.{Told};
@@ -21,6 +23,8 @@ pub struct Journal {
 
 /// The journal that the text is under this configuration, or its first bad line and that line's
 /// first fault. The configuration's callers, ring and classes play no part.
+/// Steps: the bytes of the text; where it tells losses also the entries, put into an ordered set once (log each), and
+/// each loss looked up there (log). Memory: may answer want of memory (`TextFault`). By: `exact` (`Reads`); read off.
 pub fn read(alloc: Global, text: &[u8], config: &Config) -> Result<Journal, TextFault>
     // What is read is the journal of which this is the text, each byte of it.
     ensures found { IfOk result (λ j. IsJournal config.now text.now (told j.history.turns j.losses.items)) }
@@ -73,7 +77,7 @@ impl<'a> LineReader for Reader<'a> {
         self.take(line)
     }
 
-    /// A journal may end behind any line.
+    /// A journal may end after any line.
     fn end(&self) -> Result<(), u8> {
         Ok(())
     }

@@ -26,14 +26,14 @@ module _ (interval : ℕ) (weight : Candidate → ℕ) where
       → load interval weight (one ∷ xs) window ≡ load interval weight xs window
   load_other one xs window other = rw (ne_eqb _ _ other) refl
 
-  -- nothing weighs in a window behind all of them
+  -- nothing weighs in a window after all of them
   pub load_behind : (last window : ℕ) (xs : List Candidate) → AllByRecursion (λ one. window_at interval one.tick ≤ last) xs
       → last < window → load interval weight xs window ≡ 0
   load_behind last window [] so_far ahead = refl
   load_behind last window (one ∷ xs) so_far ahead =
       load_other one xs window (λ is. omega (arith, so_far.0, is, ahead)) ∙ load_behind last window xs so_far.1 ahead
 
--- what lies in no window behind one lies in none behind a later one
+-- what lies in no window after one lies in none after a later one
 pub none_behind : (interval early late : ℕ) (xs : List Candidate) → early ≤ late
     → AllByRecursion (λ one. window_at interval one.tick ≤ early) xs
     → AllByRecursion (λ one. window_at interval one.tick ≤ late) xs

@@ -51,7 +51,7 @@ same_limit tick meter =
 
 module _ (weight : Candidate → ℕ) (before counted : List Candidate) (one : Candidate) (now : Meter)
     (at : IsAt weight counted one.tick now) where
-  -- no candidate behind this one comes before the meter's window
+  -- no candidate after this one comes before the meter's window
   not_before : (tick : ℕ) → one.tick ≤ tick → now.window ≤ window_at now.limit.interval tick
   not_before tick le = omega (arith, at.window_is, later_window now.limit.interval one.tick tick le)
 

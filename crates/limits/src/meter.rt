@@ -1,3 +1,5 @@
+//! One limit in its present window.
+
 ghost use Rattle.std.specs.Prelude.{◌≡◌, ◌≤◌};
 ghost use Rattle.limits.specs.Meters.{fresh_meter, has_left, after_asking};
 

@@ -1,3 +1,5 @@
+//! The limits of rate and traffic together.
+
 ghost use Rattle.std.specs.Prelude.{◌≡◌, ◌≤◌, ℕ, List, [], ◌∷◌, IfSome};
 ghost use Rattle.ids_config.specs.Parts.{Parts};
 ghost use Rattle.chain_spec.specs.Limits.{Candidate};
@@ -31,6 +33,7 @@ impl Model for LimitState {
 
 impl LimitState {
     /// The limits of a configuration, before any message. Takes no memory.
+    /// By: no loop; no allocator.
     pub fn make(config: &Config) -> LimitState
         ensures stands { Stands config.now [] result }
     {
@@ -43,6 +46,7 @@ impl LimitState {
 
     /// What the limits say to a message of so many bytes at the tick, which counts from now on: for the
     /// rate in any case, and for the traffic where it is sent.
+    /// Steps: constant; at most two divisions. By: no loop; answer `Admit`, no NoMemory.
     pub fn admit(&mut self, tick: u64, bytes: u32) -> Admit
         ensures answer { (config : Parts) (before : List Candidate) → Stands config before self.old
             → EndBy (λ one. one.tick) tick before

@@ -3,9 +3,9 @@ use Rattle.main_function.proofs.Names.{◌≡◌, ℕ, zero, suc, true, is_some,
 use mathlib.Core.Option.{some}
 use Rattle.atomic_table.proofs.Lists.{at_map}
 use lib.ListN.{get_elem?}
-use Rattle.merge_spec.specs.Fronts.{fronts_from}
+use Rattle.history_spec.specs.Fronts.{fronts_from}
 use Rattle.permit_ring.specs.{ended, marks_back}
-use Rattle.desk_closing.specs.{HaveAllCalls, ClosedDesk}
+use Rattle.law_closing.specs.{HaveAllCalls, ClosedDesk}
 use Rattle.main_function.proofs.WelcomeLemmas.{only_back}
 
 -- who is back is back where the same passes are

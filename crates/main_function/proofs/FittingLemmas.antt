@@ -1,13 +1,18 @@
 -- What is known of items that the desk admits.
-use Rattle.main_function.proofs.Names.{◌≡◌, ℕ, zero, suc, ◌*◌, ◌≤◌, ◌<◌, true, List, [], ◌∷◌, length, IfSome, subst, sym, arith, rules, All, AllByRecursion, All-from_recursion, All-weaker, recursion_from_All, sum_by-cons, act_by, entry_by, Entry, AllAdmitted, HandsBack, IsShort, all_parcels, parcel_of, FitsAct, FitsTurn, bytes_in, Buffer, AreBuffersIn, Act, Report, State, SetMode, Absent, Kept, Missing, AdmitsAct, AdmitsItem, is_sensor, term_sizes, ReportTerms, IsHeld, held, items_of}
+use Rattle.main_function.proofs.Names.{◌≡◌, ℕ, zero, suc, ◌+◌, ◌*◌, ◌≤◌, ◌<◌, true, List, [], ◌∷◌, length, IfSome, subst, sym, arith, rules, All, AllByRecursion, All-from_recursion, All-weaker, recursion_from_All, sum_by-cons, act_by, entry_by, Entry, AllAdmitted, HandsBack, IsShort, all_parcels, parcel_of, FitsAct, FitsLargest, FitsTurn, bytes_in, context_room, Buffer, AreBuffersIn, Act, Report, State, SetMode, Absent, Kept, Missing, AdmitsAct, AdmitsItem, is_sensor, term_sizes, ReportTerms, IsHeld, held, items_of}
 use mathlib.Core.Option.{some}
 use lib.ListN.{get_elem?}
 use Rattle.ids_types.specs.Plain.{act_bytes, kept_bytes}
-use Rattle.chain.proofs.ParcelLemmas.{parcels_keep}
+use Rattle.std.proofs.lemmas.Bool.Decides.{nat_tests}
+use Rattle.filter_chain.proofs.ParcelLemmas.{all_parcels_of, parcels_keep}
 
 -- a sensor's event is configured
 known : (terms : ReportTerms) (event : ℕ) → is_sensor terms event ≡ true → event < terms.events
 known terms event is = search rules
+
+-- as many bytes find room where the largest has as many, and some
+some_room : (largest bytes : ℕ) → 1 ≤ largest → bytes ≤ largest → 4 + bytes ≤ context_room largest
+some_room largest bytes some_bytes few = grind (arith, nat_tests, some_bytes, few)
 
 module _ (terms : ReportTerms) (most : ℕ) (within : AllAdmitted (λ size. size ≤ most) (term_sizes terms)) (short : most ≤ 1024) where
   -- an act fits, its buffer is one of the classes, and its bytes are few
@@ -54,6 +59,20 @@ module _ (terms : ReportTerms) (most : ℕ) (within : AllAdmitted (λ size. size
   pub held_short : (bufs : List Buffer) → All (IsHeld (term_sizes terms)) bufs → All (IsShort held) bufs
   held_short bufs are = All-weaker (IsHeld (term_sizes terms)) (IsShort held)
       (λ buf is. let size = within buf.class buf.size is.size_is in let bytes = is.fits in omega (arith, size, bytes, short)) bufs are
+
+  -- and no larger than the largest class, where that has some bytes
+  pub held_fit : AllAdmitted (λ size. 1 ≤ size) (term_sizes terms) → (bufs : List Buffer) → All (IsHeld (term_sizes terms)) bufs
+      → All (FitsLargest held most) bufs
+  held_fit given bufs are = All-weaker (IsHeld (term_sizes terms)) (FitsLargest held most)
+      (λ buf is. let size = within buf.class buf.size is.size_is in let some_bytes = given buf.class buf.size is.size_is in let bytes = is.fits in
+      some_room most (length buf.bytes) (omega (arith, size, some_bytes)) (omega (arith, size, bytes))) bufs are
+
+  -- so are those that come with items
+  pub came_fit : AllAdmitted (λ size. 1 ≤ size) (term_sizes terms) → (items : List (Entry Buffer)) → All (AdmitsItem terms) (items_of items)
+      → All (FitsLargest held most) (all_parcels items)
+  came_fit given items admitted = held_fit given (all_parcels items) (all_parcels_of (IsHeld (term_sizes terms)) items
+      (All-from_recursion (λ (e : Entry Buffer). IfSome (parcel_of e.act) (IsHeld (term_sizes terms))) items
+      (facts items (recursion_from_All _ _ admitted)).1))
 
   -- each buffer that comes out of a turn is one of the classes, where those that came with items do
   pub come_out : (items : List (Entry Buffer)) (before now back end : List Buffer) → All (AdmitsItem terms) (items_of items)

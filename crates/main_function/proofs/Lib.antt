@@ -2,6 +2,7 @@ pub mod Names
 mod ClosingLemmas
 mod FittingLemmas
 mod GiverLemmas
+mod LargestLemmas
 mod MakingLemmas
 mod QuickLemmas
 mod ReportLemmas

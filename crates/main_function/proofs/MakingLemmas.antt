@@ -1,39 +1,14 @@
 -- A manager that has just been made.
-use Rattle.main_function.proofs.Names.{◌≡◌, ℕ, zero, suc, ◌+◌, ◌≤◌, ◌<◌, max, None, Some, List, [], ◌∷◌, ◌++◌, get_or, length, map, take, refl, subst, sym, ap, ◌∙◌, arith, rules, All, AllByRecursion, common_steps, length-map, length-replicate, map-append, take_more, All-cons, All-nil, All-pop, All-push, All-weaker, recursion_from_All, Turn, Parts, class_of, AllAdmitted, Buffer, IsSpec, spec_sizes, givers_of, IsHeld, IsBuilt, IsLargest, IsNewManager, AreAllPasses, desk_memo, to_give_back, IsNewMaking, sizes_of, Desk, Pass, Shared, at_length, there, IsMadeFor, rings_have, or_at, Manager}
-use Rattle.std.proofs.Math.Nat.{le-max_left, le-max_right, max-le}
+use Rattle.main_function.proofs.Names.{◌≡◌, ℕ, zero, suc, ◌+◌, ◌≤◌, ◌<◌, max, None, Some, List, [], ◌∷◌, ◌++◌, get_or, length, map, take, refl, subst, sym, ap, ◌∙◌, arith, rules, All, AllByRecursion, common_steps, length-map, length-replicate, map-append, take_more, All-cons, All-nil, All-pop, All-push, All-weaker, recursion_from_All, Turn, Parts, class_of, AllAdmitted, Buffer, IsSpec, spec_sizes, givers_of, IsHeld, IsBuilt, IsNewManager, largest_size, AreAllPasses, desk_memo, to_give_back, IsNewMaking, sizes_of, Desk, Pass, Shared, at_length, there, IsMadeFor, rings_have, or_at, Manager}
+use Rattle.main_function.proofs.LargestLemmas.{admitted_at, rise_above}
+use Rattle.buffer_classes.specs.Classes.{RiseFrom}
 use Rattle.ids_types.specs.declared.class_spec.ClassSpec.{ClassSpec}
 use Rattle.buffer_classes.specs.declared.class.Class.{Class}
 
--- the largest of one size more
-larger : (sizes : List ℕ) (largest size : ℕ) → IsLargest sizes largest → IsLargest (sizes ++ size ∷ []) (max largest size)
-larger sizes largest size is = record {
-  within = All-push (λ s. s ≤ max largest size) sizes size
-      (All-weaker (λ s. s ≤ largest) (λ s. s ≤ max largest size) (λ s few. let left = le-max_left largest size in omega (arith, few, left)) sizes is.within)
-      (le-max_right largest size);
-  least = λ bound all. let both = All-pop (λ s. s ≤ bound) (sizes ++ size ∷ []) sizes (Some size) refl all in max-le (is.least bound both.0) both.1;
-}
-
--- of one class more
-pub larger_class : (classes : List (ℕ × ℕ)) (i largest : ℕ) (class : ℕ × ℕ) → i < length classes
-    → IsLargest (spec_sizes (map class_of (take i classes))) largest
-    → IsLargest (spec_sizes (map class_of (take (i + 1) classes))) (max largest (get_or classes i class).0)
-larger_class classes i largest class below is =
-    let more = take_more classes i class below in
-    let inner = map-append class_of (take i classes) (get_or classes i class ∷ []) in
-    let outer = map-append (λ spec. spec.size) (map class_of (take i classes)) (class_of (get_or classes i class) ∷ []) in
-    let same : spec_sizes (map class_of (take (i + 1) classes)) ≡ spec_sizes (map class_of (take i classes)) ++ (get_or classes i class).0 ∷ [] =
-    ap (λ pairs. spec_sizes (map class_of pairs)) more ∙ ap spec_sizes inner ∙ outer in
-    subst (λ sizes. IsLargest sizes (max largest (get_or classes i class).0)) (sym same) (larger _ largest (get_or classes i class).0 is)
-
-admitted_at : (P : ℕ → Type 0) (xs : List ℕ) → AllByRecursion P xs → AllAdmitted P xs
-admitted_at P (x ∷ xs) all zero y is = search (rules, all.0)
-admitted_at P (x ∷ xs) all (suc j) y is = admitted_at P xs all.1 j y is
-admitted_at P [] all j y is = search rules
-
 -- no class is larger than 1,024
-pub sizes_short : (specs : List ClassSpec) → AllAdmitted IsSpec specs → All (λ size. size ≤ 1024) (spec_sizes specs)
-sizes_short [] are = All-nil (λ size. size ≤ 1024)
-sizes_short (spec ∷ specs) are = All-cons (λ size. size ≤ 1024) spec.size (spec_sizes specs) (are 0 spec refl).size (sizes_short specs (λ i x is. are (suc i) x is))
+pub sizes_short : (specs : List ClassSpec) → AllAdmitted IsSpec specs → AllByRecursion (λ size. size ≤ 1024) (spec_sizes specs)
+sizes_short [] are = tt
+sizes_short (spec ∷ specs) are = ((are 0 spec refl).size, sizes_short specs (λ i x is. are (suc i) x is))
 
 module _ {C : Type 0} (stands : C → Parts → List Turn → Type 0) (events : C → ℕ) (kept : C → List Buffer) (config : Parts) (shared : Shared)
     (passes : List Pass) (m : Manager C) (making : IsNewMaking config shared passes m.desk) where
@@ -72,22 +47,24 @@ module _ {C : Type 0} (stands : C → Parts → List Turn → Type 0) (events : 
       }
 
   -- all is new
-  pub new_manager : (desk : Desk) (chain : C) (largest : ℕ) → IsBuilt desk chain config.ring (length config.events) largest m → IsLargest (spec_sizes config.classes) largest
-      → largest ≤ 1024 → config.ring ≤ 1024 → stands chain config [] → events chain ≡ length config.events → kept chain ≡ []
+  pub new_manager : (desk : Desk) (chain : C) (largest : ℕ) → IsBuilt desk chain config.ring (length config.events) largest m → largest ≡ largest_size (spec_sizes config.classes)
+      → largest ≤ 1024 → RiseFrom 0 (spec_sizes config.classes) → config.ring ≤ 1024 → stands chain config [] → events chain ≡ length config.events → kept chain ≡ []
       → IsNewManager stands events kept config shared passes m
-  new_manager desk chain largest built is short few fresh are none =
+  new_manager desk chain largest built is short rise few fresh are none =
       let sizes : sizes_of shared ≡ spec_sizes config.classes = making.is_shared.sizes_are ∙ making.is_config.sizes in
       let number : events m.chain ≡ length config.events = ap events built.chain_is ∙ are in
-      let within = admitted_at (λ size. size ≤ largest) (spec_sizes config.classes) (recursion_from_All _ _ is.within) in
+      let given : AllAdmitted (λ size. 1 ≤ size) (sizes_of shared) =
+      rw sizes (admitted_at (λ size. 1 ≤ size) (spec_sizes config.classes) (rise_above 0 (spec_sizes config.classes) rise)) in
+      let biggest : largest ≡ largest_size (sizes_of shared) = is ∙ ap largest_size (sym sizes) in
       let kept_none : [] ≡ kept m.chain = sym (ap kept built.chain_is ∙ none) in
       let held = All-nil (IsHeld (sizes_of shared)) in
       record {
         making = making;
         made_for = made_for;
-        is_manager = grind (arith, common_steps, making, built, none_taken, number, sizes, within, held, kept_none, few, short);
+        is_manager = grind (arith, common_steps, making, built, none_taken, number, given, biggest, held, kept_none, few, short);
         stands_for_none = grind (arith, common_steps, making.untouched, built, fresh);
         passes_are = all_passes;
         no_rests = built.no_rests;
         positions_are = built.positions_are;
-        largest_is = subst (IsLargest (spec_sizes config.classes)) (sym built.largest_is) is;
+        largest_is = built.largest_is ∙ is;
       }

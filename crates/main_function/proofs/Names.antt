@@ -8,10 +8,10 @@ pub use Rattle.std.specs.List.{All, AllByRecursion}
 pub use Rattle.buffer_classes.specs.{Buffer, AllOf, givers_of, AreBuffersIn, IsSpec, Welcomed, Takes, ClassSeat}
 pub use Rattle.buffer_classes.specs.Givers.{AreGiversOf, late_of}
 pub use Rattle.buffer_classes.specs.Making.{spec_sizes, AreSpecs}
-pub use Rattle.chain.specs.Parcels.{HandsBack, IsShort, all_parcels, parcel_of}
-pub use Rattle.chain.specs.Turning.{FitsAct, FitsTurn, bytes_in, turn_by, HasTurnRoom}
-pub use Rattle.desk_closing.proofs.{all_calls, all_accepted, rings_have, or_at}
-pub use Rattle.desk_closing.specs.Closed.{IsMadeFor, came, plain_item}
+pub use Rattle.filter_chain.specs.Parcels.{HandsBack, IsShort, all_parcels, parcel_of}
+pub use Rattle.filter_chain.specs.Turning.{FitsAct, FitsLargest, FitsTurn, bytes_in, turn_by, HasLogRoom, context_room, most_sent}
+pub use Rattle.law_closing.proofs.{all_calls, all_accepted, rings_have, or_at}
+pub use Rattle.law_closing.specs.Closed.{IsMadeFor, came, plain_item}
 pub use Rattle.ids_config.specs.Parts.{Parts, class_of}
 pub use Rattle.ids_types.specs.Carries.{act_by, entry_by}
 pub use Rattle.ids_types.specs.Turns.{Turn}
@@ -27,7 +27,7 @@ pub use Rattle.report_api.specs.declared.pass.Pass.{Pass}
 pub use Rattle.report_api.specs.declared.shared.Shared.{Shared}
 pub use Rattle.report_api.specs.declared.terms.ReportTerms.{ReportTerms}
 pub use Rattle.report_queue.specs.{AreAllBack, AreAllSwept, IsAllTaken, ReapTells, ReapsToEnd, queue_positions, item_note, reaps_all, welcomes}
-pub use Rattle.main_function.specs.{AreCountsOf, AreSumsOf, Closed, IsQuick, OnlyWelcomes, all_back, ShowsHistory, AreTotals, IsManagerOf, Stands, Turned, IsHeld, held, items_of, AreAllPasses, MakesTurn, Took, item_of, sweeps_for}
-pub use Rattle.main_function.specs.Making.{IsBuilt, IsLargest, IsNewManager}
+pub use Rattle.main_function.specs.{AreCountsOf, AreSumsOf, Closed, IsQuick, OnlyWelcomes, all_back, ShowsHistory, AreTotals, IsManagerOf, Stands, Turned, IsHeld, held, items_of, AreAllPasses, MakesTurn, Took, item_of, largest_size, sweeps_for}
+pub use Rattle.main_function.specs.Making.{IsBuilt, IsNewManager}
 pub use Rattle.main_function.specs.declared.manager.Manager.{Manager}
 pub use Rattle.main_function.specs.declared.rest.Totals.{Totals}

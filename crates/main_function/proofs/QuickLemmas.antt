@@ -19,7 +19,7 @@ turn_is_quick shared positions old new taken turn back mine positions_are makes 
       omega (arith, (gave.each i before after at_before at_after).steps, giver.number_is, giver.seats_are, numbers.0, numbers.1);
 }
 
--- a turn behind passes that came back
+-- a turn after passes that came back
 pub close_is_quick : (shared : Shared) (came : ℕ) (old mid new : Desk) → length (desk_memo mid).moves ≡ length (desk_memo old).moves + came
     → AllOf (λ i. OnlyWelcomes came) (givers_of old.givers) (givers_of mid.givers) → IsQuick shared 0 mid new → IsQuick shared came old new
 close_is_quick shared came old mid new more welcomed quick = record {

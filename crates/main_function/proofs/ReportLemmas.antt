@@ -1,7 +1,7 @@
 -- What a turn adds to the desk, and to what it shows of a history.
 use Rattle.main_function.proofs.Names.{◌≡◌, ℕ, zero, suc, ◌+◌, ◌*◌, ◌≤◌, ◌<◌, List, [], ◌∷◌, ◌++◌, length, map, refl, ap, arith, common_steps, flat_map-append, length-map, map-append, sum_by_push, entry_by, Entry, Turn, Buffer, DeskMemo, MakesTurn, ShowsHistory, held, item_of, items_of, sweeps_for, AreTotals, plain_item, Totals}
-use Rattle.merge_spec.specs.Fronts.{and_front}
-use Rattle.merge_spec.proofs.FrontLemmas.{fronts_more}
+use Rattle.history_spec.specs.Fronts.{and_front}
+use Rattle.history_spec.proofs.FrontLemmas.{fronts_more}
 use Rattle.permit_ring.proofs.{end_steps, gave_of, only_reaps}
 
 -- the entries of a turn are the items that were taken

@@ -1,11 +1,18 @@
 -- What a manager between two calls can do, and what it is after a turn.
-use Rattle.main_function.proofs.Names.{◌≡◌, ℕ, ◌≤◌, List, [], ◌++◌, length, subst, sym, arith, rules, All, common_steps, recursion_from_All, Entry, AllAdmitted, HandsBack, IsShort, all_parcels, FitsTurn, HasTurnRoom, bytes_in, Buffer, AreBuffersIn, queue_positions, DeskMemo, sizes_of, term_sizes, Shared, IsHeld, held, IsManagerOf, Took, Manager}
+use Rattle.main_function.proofs.Names.{◌≡◌, ℕ, ◌≤◌, List, [], ◌++◌, length, subst, sym, arith, rules, All, common_steps, recursion_from_All, Entry, AllAdmitted, HandsBack, IsShort, all_parcels, FitsLargest, FitsTurn, HasLogRoom, bytes_in, most_sent, Buffer, AreBuffersIn, queue_positions, DeskMemo, sizes_of, term_sizes, Shared, IsHeld, held, IsManagerOf, Took, Manager}
 use Rattle.std.specs.List.Sorted.{IsPermutation}
-use Rattle.main_function.proofs.FittingLemmas.{bytes_fit, come_out, held_in, held_short, items_fit}
+use Rattle.main_function.proofs.FittingLemmas.{bytes_fit, came_fit, come_out, held_fit, held_in, held_short, items_fit}
+use Rattle.main_function.proofs.LargestLemmas.{largest_admits}
+use Rattle.ids_types.specs.Output.{room_of}
+use Rattle.filter_chain.proofs.RoomLemmas.{most_grows}
 
 module _ {C : Type 0} (events : C → ℕ) (kept : C → List Buffer) (shared : Shared) (m : Manager C) (mine : IsManagerOf events kept shared m) where
   within : AllAdmitted (λ size. size ≤ m.largest) (term_sizes shared.terms)
-  within = subst (AllAdmitted (λ size. size ≤ m.largest)) mine.desk_is.is_shared.sizes_are mine.sizes_within
+  within = subst (AllAdmitted (λ size. size ≤ m.largest)) mine.desk_is.is_shared.sizes_are
+      (subst (λ (n : ℕ). AllAdmitted (λ size. size ≤ n) (sizes_of shared)) (sym mine.largest_is) (largest_admits (sizes_of shared)))
+
+  given : AllAdmitted (λ size. 1 ≤ size) (term_sizes shared.terms)
+  given = subst (AllAdmitted (λ size. 1 ≤ size)) mine.desk_is.is_shared.sizes_are mine.sizes_given
 
   are_held : All (IsHeld (term_sizes shared.terms)) (kept m.chain)
   are_held = subst (λ sizes. All (IsHeld sizes) (kept m.chain)) mine.desk_is.is_shared.sizes_are mine.kept_are
@@ -13,6 +20,10 @@ module _ {C : Type 0} (events : C → ℕ) (kept : C → List Buffer) (shared : 
   -- what the chain keeps is short
   pub kept_short : All (IsShort held) (kept m.chain)
   kept_short = held_short shared.terms m.largest within mine.roomy.short (kept m.chain) are_held
+
+  -- and no larger than the largest class
+  pub kept_fit : All (FitsLargest held m.largest) (kept m.chain)
+  kept_fit = held_fit shared.terms m.largest within mine.roomy.short given (kept m.chain) are_held
 
   module _ (old new : DeskMemo) (taken : List (Entry Buffer)) (took : Took shared.terms (queue_positions shared.queue) old taken new) where
     few_taken : length taken ≤ m.positions
@@ -33,11 +44,21 @@ module _ {C : Type 0} (events : C → ℕ) (kept : C → List Buffer) (shared : 
         let are = mine.roomy.bytes_are in
         search (rules, few, bytes, are)
 
-    pub has_room : HasTurnRoom held (events m.chain) taken m.out
+    pub has_room : HasLogRoom held taken m.out
     has_room =
         let few = few_taken in
         let room = mine.roomy.out_room in
         grind (arith, common_steps, few, few_bytes, room)
+
+    -- nor is what was taken larger
+    pub taken_fit : All (FitsLargest held m.largest) (all_parcels taken)
+    taken_fit = came_fit shared.terms m.largest within mine.roomy.short given taken took.admitted
+
+    -- and so the messages find room
+    pub has_sent_room : most_sent m.largest (length taken) (events m.chain) ≤ (room_of m.out).sent
+    has_sent_room =
+        let more = most_grows m.largest (length taken) m.positions (events m.chain) few_taken in
+        omega (arith, more, mine.roomy.out_room.sent_room)
 
     module _ (now back_before back : List Buffer) (hands : HandsBack (all_parcels taken) (kept m.chain) now back_before back) where
       -- what comes out of the turn is given back or kept

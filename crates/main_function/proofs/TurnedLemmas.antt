@@ -1,6 +1,6 @@
 -- For which turns a manager stands after one more.
 use Rattle.main_function.proofs.Names.{◌≡◌, ℕ, ◌+◌, ◌≤◌, ◌^◌, List, [], ◌∷◌, ◌++◌, length, sum, ap, arith, rules, common_steps, sum_by_push, Entry, Turn, Parts, Buffer, desk_memo, MakesTurn, Stands, Manager}
-use Rattle.chain.specs.History.{last_tick}
+use Rattle.filter_chain.specs.History.{last_tick}
 use Rattle.main_function.proofs.ReportLemmas.{shows_more}
 
 -- the last of numbers is at most as much as all of them

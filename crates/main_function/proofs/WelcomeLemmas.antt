@@ -6,7 +6,7 @@ use lib.ListN.{get_elem?}
 use Rattle.buffer_classes.specs.declared.giver.Giver.{Giver}
 use Rattle.buffer_classes.proofs.ByIndexLemmas.{last_left}
 
--- those of the passes that are left did not come back yet, and those behind them did
+-- those of the passes that are left did not come back yet, and those after them did
 pub record WelcomesSo (passes left : List Pass) (old now : DeskMemo) : Type 0 where
   pub were : List Pass
   pub passes_are : passes ≡ left ++ were

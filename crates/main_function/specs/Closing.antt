@@ -9,7 +9,7 @@ use Rattle.buffer_classes.specs.declared.giver.Giver.{Giver}
 use Rattle.report_queue.specs.{welcomes}
 use Rattle.report_api.specs.{DeskMemo, PassMemo, desk_memo, lost_events, missing_in}
 use Rattle.report_api.specs.declared.shared.Shared.{Shared}
-use Rattle.desk_closing.specs.{HaveAllCalls, accepted_in, came, IsMadeFor}
+use Rattle.law_closing.specs.{HaveAllCalls, accepted_in, came, IsMadeFor}
 use Rattle.main_function.specs.Standing.{IsManagerOf, Stands}
 use Rattle.main_function.specs.Turning.{IsQuick, Turned}
 use Rattle.main_function.specs.declared.manager.Manager.{Manager}

@@ -8,8 +8,8 @@ pub mod Taking
 pub mod Turning
 pub use Rattle.main_function.specs.Buffers.{IsHeld}
 pub use Rattle.main_function.specs.Closing.{all_back, OnlyWelcomes, AreSumsOf, AreCountsOf, Closed}
-pub use Rattle.main_function.specs.Making.{IsLargest, IsBuilt, IsNewManager}
+pub use Rattle.main_function.specs.Making.{IsBuilt, IsNewManager}
 pub use Rattle.main_function.specs.Reports.{held, ShowsHistory, sweeps_for, MakesTurn}
-pub use Rattle.main_function.specs.Standing.{AreTotals, AreAllPasses, Stands, IsManagerOf}
+pub use Rattle.main_function.specs.Standing.{AreTotals, AreAllPasses, Stands, IsManagerOf, largest_size}
 pub use Rattle.main_function.specs.Taking.{item_of, items_of, Took}
 pub use Rattle.main_function.specs.Turning.{IsQuick, Turned, most_class_steps, most_steps}

@@ -1,6 +1,5 @@
 -- A manager that has just been made.
 use Rattle.std.specs.Prelude.{◌≡◌, ℕ, ◌+◌, ◌*◌, ◌≤◌, List, [], vec_capacity}
-use Rattle.std.specs.List.{All}
 use Rattle.ids_types.specs.Turns.{Turn}
 use Rattle.ids_config.specs.Parts.{Parts}
 use Rattle.buffer_classes.specs.{Buffer, spec_sizes}
@@ -8,15 +7,10 @@ use Rattle.report_api.specs.{desk_memo, IsNewMaking}
 use Rattle.report_api.specs.declared.desk.Desk.{Desk}
 use Rattle.report_api.specs.declared.pass.Pass.{Pass}
 use Rattle.report_api.specs.declared.shared.Shared.{Shared}
-use Rattle.desk_closing.specs.Closed.{IsMadeFor}
+use Rattle.law_closing.specs.Closed.{IsMadeFor}
 use Rattle.main_function.specs.Rests.{no_rests}
-use Rattle.main_function.specs.Standing.{AreAllPasses, HasRoomFor, IsManagerOf, Stands, rests_of}
+use Rattle.main_function.specs.Standing.{AreAllPasses, HasRoomFor, IsManagerOf, Stands, largest_size, rests_of}
 use Rattle.main_function.specs.declared.manager.Manager.{Manager}
-
--- the number is that of the largest size, 0 where there is none
-pub record IsLargest (sizes : List ℕ) (largest : ℕ) : Type 0 where
-  pub within : All (λ size. size ≤ largest) sizes
-  pub least : (bound : ℕ) → All (λ size. size ≤ bound) sizes → largest ≤ bound
 
 module _ {C : Type 0} where
   -- the manager made no turn, and has room for one of all positions
@@ -27,7 +21,7 @@ module _ {C : Type 0} where
     pub items_room : positions ≤ vec_capacity m.items
     pub no_back : m.back.items ≡ []
     pub back_room : positions + events ≤ vec_capacity m.back
-    pub out_room : HasRoomFor positions (positions * largest) events m.out
+    pub out_room : HasRoomFor positions (positions * largest) largest events m.out
     pub no_rests : rests_of m ≡ no_rests
     pub totals_are : m.totals ≡ record { entries = 0; lost_events = 0; lost_contexts = 0 }
     pub last_is : m.last ≡ 0
@@ -46,4 +40,4 @@ module _ {C : Type 0} where
     pub passes_are : AreAllPasses shared (desk_memo m.desk) passes
     pub no_rests : rests_of m ≡ no_rests
     pub positions_are : m.positions ≡ config.ring
-    pub largest_is : IsLargest (spec_sizes config.classes) m.largest
+    pub largest_is : m.largest ≡ largest_size (spec_sizes config.classes)

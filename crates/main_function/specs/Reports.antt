@@ -4,10 +4,10 @@ use Rattle.ids_types.specs.Carries.{entry_by}
 use Rattle.ids_types.specs.declared.entry.Entry.{Entry}
 use Rattle.ids_types.specs.Turns.{Turn, entries_of}
 use Rattle.buffer_classes.specs.Buffers.{Buffer}
-use Rattle.merge_spec.specs.Fronts.{fronts_from}
+use Rattle.history_spec.specs.Fronts.{fronts_from}
 use Rattle.report_queue.specs.{OffersAll, ReapsToEnd, sweeps}
 use Rattle.report_api.specs.Names.{DeskMemo}
-use Rattle.desk_closing.specs.Closed.{plain_item}
+use Rattle.law_closing.specs.Closed.{plain_item}
 use Rattle.main_function.specs.Taking.{items_of}
 
 -- the bytes that a buffer holds

@@ -1,12 +1,13 @@
 -- For which turns a manager stands, and what holds of it between two calls.
-use Rattle.std.specs.Prelude.{◌≡◌, ℕ, ◌+◌, ◌*◌, ◌≤◌, ◌^◌, Bool, List, [], length, sum, vec_capacity}
+use Rattle.std.specs.Prelude.{◌≡◌, ℕ, ◌+◌, ◌*◌, ◌≤◌, ◌^◌, Bool, List, [], fold, length, max, sum, vec_capacity}
 use mathlib.Core.Option.{some}
 use lib.ListN.{get_elem?}
 use Rattle.std.specs.List.{All}
 use Rattle.ids_types.specs.Output.{Output, room_of}
 use Rattle.ids_types.specs.Turns.{Turn}
 use Rattle.ids_config.specs.Parts.{Parts}
-use Rattle.chain.specs.History.{last_tick}
+use Rattle.filter_chain.specs.History.{last_tick}
+use Rattle.filter_chain.specs.Turning.{most_sent}
 use Rattle.permit_ring.specs.Hands.{AllAdmitted}
 use Rattle.buffer_classes.specs.Buffers.{Buffer}
 use Rattle.report_queue.specs.{queue_positions}
@@ -25,11 +26,16 @@ pub record AreTotals (desk : DeskMemo) (totals : Totals) : Type 0 where
   pub lost_events_are : totals.lost_events ≡ sum desk.swept0
   pub lost_contexts_are : totals.lost_contexts ≡ sum desk.swept1
 
--- an output has room for so many entries with so many bytes, and just for the messages of a turn of so many events
-pub record HasRoomFor (entries bytes events : ℕ) (out : Output) : Type 0 where
+-- the largest of some sizes, 0 where there is none
+abbrev pub largest_size : List ℕ → ℕ
+largest_size sizes = fold max 0 sizes
+
+-- an output has room for so many entries with so many bytes, and just for the messages of a turn of so many events and
+-- no larger context data
+pub record HasRoomFor (entries bytes largest events : ℕ) (out : Output) : Type 0 where
   pub entries_room : entries ≤ (room_of out).entries
   pub bytes_room : bytes ≤ (room_of out).bytes
-  pub sent_room : (room_of out).sent ≡ 1044 * (entries + events + 3)
+  pub sent_room : (room_of out).sent ≡ most_sent largest entries events
 
 -- these are all passes of the making, caller 0 first
 pub record AreAllPasses (shared : Shared) (desk : DeskMemo) (passes : List Pass) : Type 0 where
@@ -66,7 +72,7 @@ module _ {C : Type 0} where
     pub items_room : m.positions ≤ vec_capacity m.items
     pub no_back : m.back.items ≡ []
     pub back_room : m.positions + events m.chain ≤ vec_capacity m.back
-    pub out_room : HasRoomFor m.positions m.most_bytes (events m.chain) m.out
+    pub out_room : HasRoomFor m.positions m.most_bytes m.largest (events m.chain) m.out
     pub bytes_are : m.most_bytes ≡ m.positions * m.largest
     pub few_positions : m.positions ≤ 1024
     pub short : m.largest ≤ 1024
@@ -80,7 +86,8 @@ module _ {C : Type 0} where
     pub items_within : length (desk_memo m.desk).notes ≤ 2 ^ 45
     pub totals_are : AreTotals (desk_memo m.desk) m.totals
     pub events_are : events m.chain ≡ shared.terms.events
-    pub sizes_within : AllAdmitted (λ size. size ≤ m.largest) (sizes_of shared)
+    pub largest_is : m.largest ≡ largest_size (sizes_of shared)
+    pub sizes_given : AllAdmitted (λ size. 1 ≤ size) (sizes_of shared)
     pub kept_are : All (IsHeld (sizes_of shared)) (kept m.chain)
     pub tick_within : m.last ≤ 2 ^ 62
     pub roomy : IsRoomy events m

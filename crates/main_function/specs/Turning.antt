@@ -8,15 +8,15 @@ use Rattle.ids_types.specs.declared.entry.TurnHead.{TurnHead}
 use Rattle.ids_types.specs.Output.{Output, room_of}
 use Rattle.ids_types.specs.Turns.{Turn}
 use Rattle.ids_config.specs.Parts.{Parts}
-use Rattle.chain.specs.History.{Sends, handed_of}
-use Rattle.chain.specs.Parcels.{all_parcels}
+use Rattle.filter_chain.specs.History.{Sends, handed_of}
+use Rattle.filter_chain.specs.Parcels.{all_parcels}
 use Rattle.buffer_classes.specs.{Buffer, giver_memo, givers_of}
 use Rattle.buffer_classes.specs.declared.giver.Giver.{Giver}
-use Rattle.merge_spec.specs.Contexts.{class_at}
+use Rattle.history_spec.specs.Contexts.{class_at}
 use Rattle.report_api.specs.{DeskMemo, desk_memo}
 use Rattle.report_api.specs.declared.desk.Desk.{Desk}
 use Rattle.report_api.specs.declared.shared.Shared.{Shared}
-use Rattle.desk_closing.specs.Closed.{IsMadeFor}
+use Rattle.law_closing.specs.Closed.{IsMadeFor}
 use Rattle.main_function.specs.Buffers.{ReturnsBuffers}
 use Rattle.main_function.specs.Reports.{MakesTurn}
 use Rattle.main_function.specs.Standing.{IsManagerOf, Stands}

@@ -2,11 +2,12 @@
 ghost use Rattle.std.specs.Prelude.{◌≡◌, ◌+◌, ◌*◌, ◌≤◌, [], length, map, IfOk};
 ghost use Rattle.ids_config.specs.Parts.{class_of};
 ghost use Rattle.buffer_classes.specs.Making.{spec_sizes};
-ghost use Rattle.main_function.specs.Making.{IsBuilt, IsLargest, IsNewManager};
+ghost use Rattle.main_function.specs.Making.{IsBuilt, IsNewManager};
+ghost use Rattle.main_function.specs.Standing.{largest_size};
 
 use crate::manager::Manager;
 use crate::rest::{RestLog, Totals};
-use chain::{Chain, most_sent};
+use filter_chain::{ParcelChain, most_sent};
 use ids_config::Config;
 use ids_types::{NoMemory, TurnOut};
 use report_api::{CtxBuf, Desk, Pass, Shared};
@@ -22,7 +23,7 @@ pub struct Made<C> {
 
 // The size of the largest class, 0 where there is none.
 fn largest_of(classes: &[(u64, u64)]) -> u64
-    ensures { IsLargest (spec_sizes (map class_of classes.now)) result }
+    ensures { result ≡ largest_size (spec_sizes (map class_of classes.now)) }
 {
     let mut largest = 0;
     for class in classes {
@@ -51,7 +52,12 @@ fn build<C: Drop>(
         chain,
         items: Vec::with_capacity(alloc, positions as usize)?,
         back: Vec::with_capacity(alloc, (positions + events) as usize)?,
-        out: TurnOut::make(alloc, positions, most_bytes, most_sent(positions, events))?,
+        out: TurnOut::make(
+            alloc,
+            positions,
+            most_bytes,
+            most_sent(largest, positions, events),
+        )?,
         rests: RestLog::new(alloc),
         totals: Totals {
             entries: 0,
@@ -69,7 +75,10 @@ fn build<C: Drop>(
 /// Makes all that one manager needs: what is shared, a pass for each caller, and the manager over its chain, which
 /// has taken no turn and is of this configuration. No other call of this crate takes memory, but `reserve`,
 /// `reserve_rests` and `rest`.
-pub fn make<C: Chain<CtxBuf> + Drop>(
+/// Steps: as `report_api::make`; the rest is constant. Memory: made once, but for `rest`, `reserve_rests` and a chain
+/// that takes some at `reserve`. Room for a turn of all positions: at most 1 MiB of contexts and 1,339,452 bytes of
+/// messages. By: `IsNewManager`; read off.
+pub fn make<C: ParcelChain<CtxBuf> + Drop>(
     alloc: Global,
     config: &Config,
     chain: C,

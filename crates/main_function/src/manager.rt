@@ -3,7 +3,7 @@ ghost use Rattle.std.specs.Prelude.{◌≡◌, ◌≤◌, ◌<◌, ◌^◌, [], 
 ghost use Rattle.ids_types.specs.Output.{room_of};
 ghost use Rattle.ids_types.specs.Turns.{Turn};
 ghost use Rattle.ids_config.specs.Parts.{Parts};
-ghost use Rattle.chain.specs.History.{rows_of};
+ghost use Rattle.filter_chain.specs.History.{rows_of};
 ghost use Rattle.buffer_classes.specs.Givers.{givers_of, late_of};
 ghost use Rattle.main_function.specs.Closing.{AreCountsOf, CloseLeaves, Closed};
 ghost use Rattle.main_function.specs.Standing.{AreAllPasses, HasPasses, IsManager, IsManagerOf, Stands, StaysSo, fits_turn, last_of, rests_of, turns_of};
@@ -15,8 +15,8 @@ ghost use Rattle.main_function.specs.Turning.{IsQuick, LogsOne, TurnFails, TurnL
 use crate::closing::welcome_all;
 use crate::rest::{HasPass, RestLog, Totals, TurnFault};
 use crate::taking::take_ready;
-use chain::Chain;
 use event_memory::Memory;
+use filter_chain::ParcelChain;
 use ids_types::{Entry, NoMemory, TurnHead, TurnOut};
 use report_api::{CtxBuf, Desk, Pass, Shared};
 
@@ -46,7 +46,7 @@ pub struct Manager<C> {
 /// The largest tick.
 const MAX_TICK: u64 = 1 << 62;
 
-impl<C: Chain<CtxBuf>> Manager<C> {
+impl<C: ParcelChain<CtxBuf>> Manager<C> {
     ghost use Rattle.std.specs.Borrow.{sem};
     ghost use Rattle.std.specs.Io.BufRead.{Rests};
     ghost use Rattle.main_function.specs.contracts.manager.Manager.{the_row};
@@ -55,6 +55,11 @@ impl<C: Chain<CtxBuf>> Manager<C> {
     /// as there are event buffers, the chain judges them, and all buffers that nothing holds are given back. Its
     /// output is lent. A refusal makes no step and changes nothing. It takes no memory, and the number of its steps is
     /// bounded by the numbers of the configuration, whatever the callers do (`IsQuick`).
+    /// Steps: two swaps; at most positions items taken, and one load more; one `Chain::turn`; one `Desk::give_back`;
+    /// none of these where it is refused. At the report ring at most 2 × positions + callers + 5 steps, at a class at
+    /// most 2 × buffers + callers + 3. Waits: as its chain; `EventChain`: no. By: `fault`, `after_borrow`
+    /// (`TurnLeaves`: `IsQuick` has the bounds, `MakesTurn` the steps in their order); answer `TurnFault`, no NoMemory;
+    /// room by `IsManagerOf` (`roomy`).
     pub fn turn(&mut self, shared: &Shared, tick: u64) -> Result<&TurnOut, TurnFault>
         requires mine { IsManagerOf C.events C.kept shared.now self.old }
         requires fits { fits_turn C.has_room self.old ≡ true }
@@ -74,6 +79,9 @@ impl<C: Chain<CtxBuf>> Manager<C> {
     /// Closes the manager: all passes come back, and a last turn of this tick takes all that was accepted and is not
     /// taken yet. It answers the turn's output, lent, and what all turns took and lost. A refusal is that of a turn,
     /// and leaves the passes in place. It takes no memory.
+    /// Steps: for each pass, at most 32, a `Desk::welcome`; and then as `Manager::turn`. Memory: none; the passes'
+    /// lists are given back. Waits: as its chain; `EventChain`: no. By: `fault`, `ok`, `after_borrow` (`CloseLeaves`:
+    /// `IsQuick`, `Turned`); answer `TurnFault`, no NoMemory.
     pub fn close(
         &mut self,
         shared: &Shared,
@@ -114,6 +122,8 @@ impl<C: Chain<CtxBuf>> Manager<C> {
     }
 
     /// Makes room for so many rests of so many passes, so that they take no memory when they come.
+    /// Memory: may answer want of memory; for each rest 8 bytes, and 8 more for each pass, kept as long as the manager.
+    /// By: `same`, `rests`; no loop.
     pub fn reserve_rests(&mut self, rests: u64, passes: u64) -> Result<(), NoMemory>
         ensures same { StaysSo C.stands C.events C.kept self.old self.new }
         ensures rests { rests_of self.new ≡ rests_of self.old }
@@ -123,6 +133,9 @@ impl<C: Chain<CtxBuf>> Manager<C> {
 
     /// Records a rest: how many turns were made, and how many calls by each of these passes. No call is under way,
     /// since the passes are all lent to it.
+    /// Steps: no step on a ring; the calls of each pass, at most 32, are read. Memory: may answer want of memory; none
+    /// where `reserve_rests` made the room. By: `ok`: one rest with `calls_by` of these passes; `err`; the passes by
+    /// `&`.
     pub fn rest<P: HasPass>(&mut self, passes: &[P]) -> Result<(), NoMemory>
         requires passes { HasPasses C.events C.kept (map P.its passes.now) self.old }
         ensures ok { OnOk result (rests_of self.new ≡ with_rest (turns_of self.old) (calls_by P.its passes.now) (rests_of self.old)) }
@@ -134,6 +147,7 @@ impl<C: Chain<CtxBuf>> Manager<C> {
 
     /// Whether there is room for the largest turn: as many entries as there are event buffers, each with as much
     /// context data as a buffer of the largest class can hold.
+    /// Steps: one `Chain::fits`: constant. Waits: as its chain; `EventChain`: no.
     pub fn fits(&self) -> bool
         ensures { result ≡ fits_turn C.has_room self.now }
     {
@@ -141,6 +155,8 @@ impl<C: Chain<CtxBuf>> Manager<C> {
     }
 
     /// Makes that room.
+    /// Steps: one `Chain::reserve`: constant. Memory: may answer want of memory, only as its chain; with `EventChain`
+    /// never. Waits: as its chain; `EventChain`: no. By: `ok`; no loop.
     pub fn reserve(&mut self) -> Result<(), NoMemory>
         ensures ok { OnOk result (fits_turn C.has_room self.new ≡ true) }
         ensures same { StaysSo C.stands C.events C.kept self.old self.new }
@@ -149,7 +165,8 @@ impl<C: Chain<CtxBuf>> Manager<C> {
         self.chain.reserve(self.positions, self.most_bytes)
     }
 
-    /// The event memory behind the last turn.
+    /// The event memory after the last turn.
+    /// Steps: one `Chain::memory`: constant. Waits: as its chain; `EventChain`: no.
     pub fn memory(&self) -> &Memory
         ensures { (config : Parts) (turns : List Turn) →
             Stands C.stands config self.now turns → reverse result.now.rows ≡ rows_of config turns }
@@ -165,6 +182,13 @@ impl<C: Chain<CtxBuf>> Manager<C> {
         ensures { result ≡ late_of self.now.desk.givers class }
     {
         self.desk.late(class) as u16
+    }
+
+    /// How many bytes a buffer of the largest class can hold, 0 where there is no class.
+    pub fn largest(&self) -> u64
+        ensures { result ≡ self.now.largest }
+    {
+        self.largest
     }
 
     // Whether a turn may have this tick.

@@ -92,6 +92,7 @@ pub trait HasPass {
     ghost its: { Self → PassValue };
 
     /// The pass.
+    /// Steps: `Pass`: constant.
     fn pass(&self) -> &Pass
         ensures { result.now ≡ its self.now };
 }

@@ -5,7 +5,7 @@ use Rattle.memory_disk.specs.Disks.{Run, after}
 use Rattle.memory_disk.specs.declared.recording.Call.{Call}
 use Rattle.memory_disk.specs.Recording.{piece_len, pieces_len, replay, state_after}
 
--- a call more, with its piece behind the others
+-- a call more, with its piece after the others
 pub replay_push : (run : Run) (calls : List Call) (pieces : List ℕ) (call : Call) (piece : List ℕ)
     → pieces_len calls ≡ length pieces → piece_len call ≡ length piece
     → replay run (calls ++ call ∷ []) (pieces ++ piece) ≡ after (replay run calls pieces) (state_after call (replay run calls pieces).now piece)

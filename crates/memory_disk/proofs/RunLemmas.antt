@@ -9,7 +9,7 @@ use Rattle.memory_disk.specs.Disks.{State, Run, Shown, IsIn, IsSettled, IsWritte
 use Rattle.memory_disk.specs.declared.disk.DiskFailed.{DiskFailed}
 use Rattle.memory_disk.specs.declared.disk.Span.{Span}
 
--- ---- runs, one behind the other
+-- ---- runs, one after the other
 
 pub all-append : {A : Type 0} (P : A → Type 0) (xs ys : List A) → AllByRecursion P xs → AllByRecursion P ys → AllByRecursion P (xs ++ ys)
 all-append P [] ys all more = more
@@ -134,7 +134,7 @@ read_leaves P old new at out (Err failed) before fails = failed_call P old new o
 
 -- ---- a write that is brought to where a crash leaves it
 
--- behind a sync all is synced
+-- after a sync all is synced
 pub sync_settles : (old new : Shown) (result : Result ⊤ DiskFailed) → IsTrue old.tells → new.tells ≡ old.tells → Syncs old.run new.run result
     → OnOk result (IsSettled new)
 sync_settles old new (Ok done) tells same syncs =

@@ -102,8 +102,8 @@ pub record MayBeLeft (state : State) (left : List ℕ) : Type 0 where
 abbrev pub LeavesOnly : (List ℕ → Type 0) → State → Type 0
 LeavesOnly Holds state = (left : List ℕ) → MayBeLeft state left → Holds left
 
--- the run went on, and a crash at any moment since, during a call or behind the last, leaves only such bytes:
--- what a write or a sync that is cut short may leave is what may be left behind it or before it
+-- the run went on, and a crash at any moment since, during a call or after the last, leaves only such bytes:
+-- what a write or a sync that is cut short may leave is what may be left after it or before it
 pub record LeavesSince (old new : Run) (Holds : List ℕ → Type 0) : Type 0 where
   pub passed : List State
   pub goes_on : new.past ≡ old.past ++ passed

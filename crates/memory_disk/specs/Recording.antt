@@ -24,14 +24,14 @@ pub record Takes (call : Call) (piece : List ℕ) : Type 0 where
   pub whole : piece_len call ≡ length piece
   pub ends : end_of call ≤ 541728
 
--- the state behind a call of this piece; a write that failed changed no byte
+-- the state after a call of this piece; a write that failed changed no byte
 abbrev pub state_after : Call → State → List ℕ → State
 state_after (Wrote span) state piece = unsynced state span (overwritten span.at piece state.contents)
 state_after (Tore span) state piece = unsynced state span state.contents
 state_after Synced state piece = synced state.contents
 state_after Passed state piece = state
 
--- the run with these calls, their pieces one behind the other
+-- the run with these calls, their pieces one after the other
 abbrev pub replay : Run → List Call → List ℕ → Run
 replay run [] pieces = run
 replay run (call ∷ calls) pieces =

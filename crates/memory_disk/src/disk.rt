@@ -1,3 +1,5 @@
+//! The trait of a disk: reads, writes and syncs that may fail.
+
 ghost use Rattle.std.specs.Prelude.{◌≡◌, ◌+◌, ◌≤◌, length, IsTrue};
 ghost use Rattle.memory_disk.specs.Disks.{HasCause, Reads, Shown, Syncs, Writes};
 
@@ -20,6 +22,8 @@ pub trait Disk {
     ghost shows: { Self → Shown };
 
     /// Reads as many bytes as `out` has. Where it fails, `out` holds any bytes.
+    /// Steps: the bytes of `out`. Memory: none; `HostDisk`: the host's own. Waits: `HostDisk`: as the host's file.
+    /// By: `reads`; read off.
     fn read(&mut self, at: u32, out: &mut [u8]) -> Result<(), DiskFailed>
         requires { at + length out.old ≤ 541728 }
         ensures tells { (shows self.new).tells ≡ (shows self.old).tells }
@@ -27,6 +31,8 @@ pub trait Disk {
         ensures cause { HasCause (shows self.old).faults (shows self.new).faults result };
 
     /// Writes the piece. Until the next sync that succeeds, its range counts as written, also where it failed.
+    /// Steps: the bytes of the piece. Memory: none, in `MemoryDisk` the room of `make`. Waits: `HostDisk`: as the
+    /// host's file. By: `writes`; read off.
     fn write(&mut self, at: u32, piece: &[u8]) -> Result<(), DiskFailed>
         requires { at + length piece.now ≤ 541728 }
         ensures tells { (shows self.new).tells ≡ (shows self.old).tells }
@@ -34,6 +40,7 @@ pub trait Disk {
         ensures cause { HasCause (shows self.old).faults (shows self.new).faults result };
 
     /// Brings all that was written to where a crash leaves it.
+    /// Steps: `MemoryDisk`: constant. Waits: `HostDisk`: as the host's file. By: `syncs`; read off.
     fn sync(&mut self) -> Result<(), DiskFailed>
         ensures tells { (shows self.new).tells ≡ (shows self.old).tells }
         ensures syncs { IsTrue (shows self.old).tells → Syncs (shows self.old).run (shows self.new).run result }

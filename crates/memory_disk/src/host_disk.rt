@@ -1,3 +1,5 @@
+//! The disk over a file of the host.
+
 ghost use Rattle.std.specs.Prelude.{◌≡◌, length, Some, IfOk, IfSome, IsOk, OnOk};
 ghost use Rattle.memory_disk.specs.Disks.{HasCause};
 ghost use Rattle.memory_disk.specs.Hosts.{host_faults, padded, silent, BroughtTo, FillsFrom, TakesAt};

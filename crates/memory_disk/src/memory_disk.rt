@@ -1,3 +1,5 @@
+//! A disk in memory, which can fail and crash.
+
 ghost use Rattle.std.specs.Prelude.{◌≡◌, ◌+◌, ◌<◌, ◌≤◌, [], ℕ, length, slice_index, true, IfOk, IsErr};
 ghost use Rattle.ids_outside.specs.Faults.{counted};
 ghost use Rattle.memory_disk.specs.Disks.{overwritten, span_of, synced, unsynced, IsWritten, MayBeLeft, Reads};
@@ -38,6 +40,7 @@ impl Model for MemoryDisk {
 impl MemoryDisk {
     /// A disk of these bytes, with room for so many calls and for so many bytes that they write. Its calls are
     /// numbered from 0, and those in `fails` fail.
+    /// Steps: the bytes copied once. Memory: made once. By: read off.
     pub fn make(
         alloc: Global,
         bytes: Vec<u8>,
@@ -66,6 +69,8 @@ impl MemoryDisk {
     }
 
     /// The disk after a crash that gave each byte that was written since the last successful sync this value.
+    /// Steps: each byte of the disk compared with each range that was written since the last sync. By: `filled`; read
+    /// off.
     pub fn crash(mut self, fill: u8) -> MemoryDisk
         ensures left { MayBeLeft self.recorded.run.now result.recorded.run.now.contents }
         ensures filled { (i : ℕ) → i < 541728 → IsWritten self.recorded.run.now.written i

@@ -8,7 +8,7 @@ use ids_types::NoMemory;
 use std::alloc::Global;
 use std::marker::Model;
 
-/// A call of a disk. The pieces of the writes that succeeded stand elsewhere, one behind the other.
+/// A call of a disk. The pieces of the writes that succeeded stand elsewhere, one after the other.
 #[derive(Clone, Copy, Debug)]
 pub(crate) enum Call {
     Wrote(Span),

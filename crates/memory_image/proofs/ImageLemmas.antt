@@ -1,7 +1,7 @@
 -- How long the records of an image are.
 use Rattle.memory_image.proofs.Names.{◌≡◌, ℕ, ◌+◌, ◌*◌, ◌<◌, ◌≤◌, List, ◌++◌, length, take, get_or, arith, append_assoc, All, Row, IsKeepable, joined, row_bytes, length-flat_map, sum_by-le, sum_by-take-le, sum_by_more}
 
--- pieces that were appended, one behind the other
+-- pieces that were appended, one after the other
 pub appended : (a b c d e f g h i j : List ℕ)
     → ((((((((a ++ b) ++ c) ++ d) ++ e) ++ f) ++ g) ++ h) ++ i) ++ j ≡ a ++ (b ++ (c ++ (d ++ (e ++ (f ++ (g ++ (h ++ (i ++ j))))))))
 appended a b c d e f g h i j = simp append_assoc

@@ -1,8 +1,8 @@
 -- The names of other crates and of this crate's specs that its proofs stand on.
-pub use Rattle.std.proofs.Common.{◌≡◌, ℕ, suc, ◌+◌, ◌-◌, ◌*◌, ◌^◌, ◌<◌, ◌≤◌, ◌⊎◌, ◌==◌, Bool, true, false, nat_lt, List, [], ◌∷◌, ◌++◌, length, reverse, take, get_or, Option, Some, None, IfSome, refl, sym, ap, subst, ◌∙◌, inl, inr, arith, rules, append_assoc, Fits, w8, map, min, eq-eqb, lt-ltb, vec_capacity}
+pub use Rattle.std.proofs.Common.{◌≡◌, ℕ, suc, ◌+◌, ◌-◌, ◌*◌, ◌^◌, ◌<◌, ◌≤◌, ◌⊎◌, ◌==◌, Bool, true, false, nat_lt, List, [], ◌∷◌, ◌++◌, length, reverse, take, get_or, Option, Some, None, IfSome, refl, sym, ap, subst, ◌∙◌, inl, inr, arith, rules, append_assoc, Fits, w8, map, min, eq-eqb, lt-ltb, vec_capacity, ◌≢◌, ◌||◌, filter, flat_map, sum_by, if◌then◌else◌, option_to_list, option_and_then, option_map, unwrap_or, eqb-true, ltb-true}
 pub use Rattle.std.proofs.lemmas.Bool.{cases_lt, eqb-false, eqb-true}
 pub use Rattle.std.proofs.lemmas.List.{append-nil, length-append, length-reverse, length-take, take_all, get_or_default, get_or-reverse, get_or_append_left, get_or_at, length-map, nil_from_length, reverse-append}
-pub use Rattle.std.specs.List.{All, AllPairs, position, position_or_len}
+pub use Rattle.std.specs.List.{All, AllPairs, position, position_or_len, AllByRecursion, cons_option, list_any}
 pub use Rattle.ids_frame.specs.Bytes.{AreBytes}
 pub use Rattle.ids_types.specs.MemoryRow.{Row}
 pub use Rattle.memory_image.specs.Images.{AreKeepable, Differ, Fields, IsImageOf, fields, IsKeepable, fields_bytes, fields_of, flag_of, joined, number_of, row_bytes}
@@ -24,3 +24,9 @@ pub use Rattle.event_memory.proofs.StandsLemmas.{stands_after}
 pub use Rattle.memory_image.specs.Restoring.{HasPlace}
 pub use Rattle.event_memory.specs.Views.{plain_row}
 unfoldable pub use Rattle.memory_image.specs.Reading.{fields_at}
+pub use Rattle.std.specs.Option.{option_or}
+pub use Rattle.std.specs.Prelude.{⊤}
+pub use Rattle.ids_config.specs.Parts.{Parts, event_at, internal_of}
+pub use Rattle.chain_spec.specs.Items.{Item, item_at, kept_parcel, told_of}
+pub use Rattle.chain_spec.specs.Moments.{Moment, closes, comes, mode_is, state_is}
+pub use Rattle.chain_spec.specs.Stages.{Stage, added, behind, where_true, with_all}

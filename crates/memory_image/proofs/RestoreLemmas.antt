@@ -2,7 +2,7 @@
 use Rattle.memory_image.proofs.Names.{◌≡◌, ℕ, suc, ◌+◌, ◌-◌, ◌<◌, ◌≤◌, ◌==◌, Bool, true, false, nat_lt, List, [], ◌∷◌, ◌++◌, length, reverse, get_or, Option, Some, None, refl, sym, ap, subst, ◌∙◌, ◌⊎◌, inl, inr, arith, append_assoc, cases_lt, append-nil, length-append, length-reverse, length-take, take_all, All, AllPairs, Row, AreKeepable, Differ, IsImageOf, IsKeepable, joined, row_bytes, take-nil, map, min, eq-eqb, lt-ltb, eqb-false, eqb-true, get_or-reverse, get_or_append_left, get_or_at, length-map, nat_tests, flat_map-append, length-remove, All-head, All-push, All-tail, all_pairs_push, position-Some, fails_before_first, position, position_or_len, Stored, event_of, newest_rows, row_of, Held, Stands, after_storing, after_storing_at, begun, is_of, stored, stands_after, Begins, HasPlace}
 use Rattle.memory_image.proofs.ReadingLemmas.{one_row}
 
--- the records behind a store
+-- the records after a store
 pub stored_rows : (item : Stored) (old new : Held) (items : List Stored) → item.count ≤ 65535 → Stands old items → Stands new (item ∷ items)
     → new.room ≡ old.room → new.rows ≡ (after_storing item old).rows
 stored_rows item old new items small stands after room =
@@ -40,7 +40,7 @@ begins item row old same fits = by (position (is_of (event_of item)) old.rows) r
           ap (λ place. length (rows_at place)) is ∙ omega (arith, long),
         )
 
--- the first and the last item of a record, one behind the other, make the record
+-- the first and the last item of a record, one after the other, make the record
 pub record_made : (row : Row) (rows : List Row) (room : ℕ) → row.occurrences ≤ 65535
     → (after_storing (stored row.last row.key 0 row.stamp row.context)
     (record { room = room; rows = begun (stored row.first row.key row.occurrences row.stamp row.context) ∷ rows })).rows
@@ -90,7 +90,7 @@ alone rows more row differ = by (position (is_of row.key.event.0) rows) refl
 
 -- ---- the records of an image so far
 
--- the records of an image that begins with these ones, and what is behind them
+-- the records of an image that begins with these ones, and what is after them
 pub record GoesOn (done rows : List Row) (rest : List ℕ) : Type 0 where
   pub more : List Row
   pub whole : rows ≡ done ++ more

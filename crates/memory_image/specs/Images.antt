@@ -1,4 +1,4 @@
--- The image of a memory: its records, one behind the other, each number with its high byte first.
+-- The image of a memory: its records, one after the other, each number with its high byte first.
 use Rattle.std.specs.Prelude.{◌≡◌, ◌≢◌, ℕ, ◌^◌, ◌<◌, ◌≤◌, ◌∷◌, [], ◌++◌, List, flat_map, length, Option, Some, None, IfSome}
 use Rattle.std.specs.Int.{w16, w64, to_be_bytes}
 use Rattle.std.specs.List.{All, AllPairs}
@@ -23,7 +23,7 @@ abbrev pub fields : (event id sensor occurrences first last flag number : ℕ) �
 fields event id sensor occurrences first last flag number context =
     record { event = event; id = id; sensor = sensor; occurrences = occurrences; first = first; last = last; flag = flag; number = number; context = context }
 
--- fields, one behind the other
+-- fields, one after the other
 abbrev pub fields_bytes : Fields → List ℕ
 fields_bytes f =
     to_be_bytes w16 f.event ++ (to_be_bytes w16 f.id ++ (f.sensor ∷ [] ++ (to_be_bytes w16 f.occurrences

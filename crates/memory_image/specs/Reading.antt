@@ -12,7 +12,7 @@ use Rattle.memory_image.specs.declared.fields.Fields.{Fields as Lent}
 abbrev pub plain_fields : Lent → Fields
 plain_fields f = fields f.event f.id f.sensor f.occurrences f.first f.last f.flag f.number f.context.now
 
--- the fields at the front of bytes, and the bytes behind them
+-- the fields at the front of bytes, and the bytes after them
 unfoldable pub fields_at : List ℕ → Read Fields
 fields_at bytes = do
   event ← number_at w16 bytes
@@ -42,7 +42,7 @@ abbrev pub TellRow : Fields → Option Row → Type 0
 TellRow f (Some row) = (f ≡ fields_of row) × (AreBytes f.context → IsKeepable row)
 TellRow f None = (row : Row) → IsKeepable row → f ≡ fields_of row → ⊥
 
--- the record with which bytes begin, and what is behind it, if they begin with one
+-- the record with which bytes begin, and what is after it, if they begin with one
 abbrev pub Begins : List ℕ → Option (Row × List ℕ) → Type 0
 Begins bytes (Some front) = IsKeepable front.0 × (bytes ≡ row_bytes front.0 ++ front.1)
 Begins bytes None = (row : Row) (rest : List ℕ) → IsKeepable row → bytes ≡ row_bytes row ++ rest → ⊥

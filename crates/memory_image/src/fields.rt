@@ -77,7 +77,7 @@ fn stamp_of(flag: u8, number: u64) -> Option<Option<Stamp>>
     }
 }
 
-/// The record at the front of an image, and the bytes behind it.
+/// The record at the front of an image, and the bytes after it.
 pub(crate) fn row_of(bytes: &[u8]) -> Option<(Row<'_>, &[u8])>
     ensures { Begins bytes.now (option_map (λ front. (plain_row front.0, front.1.now)) result) }
 {

@@ -15,6 +15,7 @@ use event_memory::{Memory, Row};
 const ROW_LEN: u32 = 34;
 
 /// How many bytes the image of the memory has.
+/// Steps: each record. By: read off.
 pub fn image_len(memory: &Memory) -> u32
     requires { AreKeepable (reverse memory.now.rows) }
     ensures { result ≡ length (joined (reverse memory.now.rows)) }
@@ -27,6 +28,7 @@ pub fn image_len(memory: &Memory) -> u32
 }
 
 /// Appends the image of the memory, for which there is room.
+/// Steps: each record and its context once. Memory: none, in the room that is there. By: `capacity`; read off.
 pub fn put_image(out: &mut Vec<u8>, memory: &Memory)
     requires keepable { AreKeepable (reverse memory.now.rows) }
     requires room { vec_len out.old + length (joined (reverse memory.now.rows)) ≤ vec_capacity out.old }
@@ -39,6 +41,8 @@ pub fn put_image(out: &mut Vec<u8>, memory: &Memory)
 }
 
 /// Fills an empty memory with the records of an image. Answers whether it is one; else the memory has any records.
+/// Steps: each record of the image once, and looked for among those before, at most 256. Memory: none, in the memory's
+/// room. By: read off.
 pub fn restore(memory: &mut Memory, image: &[u8]) -> bool
     requires { memory.old ≡ no_rows 256 }
     ensures found { OnTrue result (IsImageOf (reverse memory.new.rows) image.now) }

@@ -36,7 +36,7 @@ kept_shut : (slot : ℕ) → slot ≤ 1 → (old new : List ℕ) → kept_slot o
     → kept_slot new ≡ kept_slot old
 kept_shut slot low old new keeps shut = kept_beside slot new low shut.own ∙ ap only shut.other ∙ sym keeps
 
--- a body stands behind the gate, which is shut
+-- a body stands after the gate, which is shut
 pub record HasBody (slot : ℕ) (body old new : List ℕ) : Type 0 where
   pub shut : IsSet slot None old new
   pub behind : slot_in (part (270864 * slot + 1) 270860 new) ≡ slot_in body

@@ -43,7 +43,7 @@ kept_newer slot disk own low is above =
 
 -- ---- changes in one slot
 
--- a gate is closed whatever stands behind it
+-- a gate is closed whatever stands after it
 closed_gate : (gate : ℕ) (was now : List ℕ) → gated gate was ≡ None → gated gate now ≡ None
 closed_gate gate was now closed = grind (arith, nat_tests)
 
@@ -60,7 +60,7 @@ same_gated {g} {h} {x} {y} gate bytes = ap (λ g. gated g x) gate ∙ ap (gated 
 abbrev pub gate_span : ℕ → Span
 gate_span slot = record { at = 270864 * slot; count = 1 }
 
--- so many bytes behind it
+-- so many bytes after it
 abbrev pub body_span : ℕ → ℕ → Span
 body_span slot count = record { at = 270864 * slot + 1; count = count }
 
@@ -82,7 +82,7 @@ module _ (slot : ℕ) (low : slot ≤ 1) (old new : List ℕ) where
   body_other count few changes =
       slot_stays (1 - slot) (body_span slot count) old new changes (λ i from to inside. omega (arith, low, few, from, to, inside.0, inside.1))
 
-  -- what stands behind the gate stays
+  -- what stands after the gate stays
   pub gate_behind : ChangesIn (gate_span slot) old new → slot_at slot new ≡ gated (get_or new (270864 * slot) 0) (part (270864 * slot + 1) 270860 old)
   unfolding slot_at
   gate_behind changes =
@@ -114,7 +114,7 @@ module _ (slot : ℕ) (low : slot ≤ 1) (old new : List ℕ) where
         ]
       ]
 
-  -- nor does what is written behind a closed one
+  -- nor does what is written after a closed one
   pub body_keeps : (count : ℕ) → count ≤ 270860 → slot_at slot old ≡ None → ChangesIn (body_span slot count) old new → kept_slot new ≡ kept_slot old
   body_keeps count few closed changes =
       kept_beside slot new low (body_gate count changes closed) ∙ ap only (body_other count few changes) ∙ sym (kept_beside slot old low closed)

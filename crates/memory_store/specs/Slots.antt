@@ -6,7 +6,7 @@ use Rattle.ids_types.specs.MemoryRow.{Row}
 use Rattle.memory_disk.specs.Disks.{part}
 use Rattle.memory_image.specs.Images.{IsImageOf}
 
--- what stands behind an open gate; the image ends where the slot does
+-- what stands after an open gate; the image ends where the slot does
 pub record Slot : Type 0 where
   pub sequence : ℕ
   pub size : ℕ
@@ -20,7 +20,7 @@ slot_in bytes = record {
   image = part 12 (from_be_bytes w32 (part 8 4 bytes)) bytes;
 }
 
--- the slot behind a gate, if it is open: 1
+-- the slot after a gate, if it is open: 1
 abbrev pub gated : ℕ → List ℕ → Option Slot
 gated gate bytes = if gate == 1 then Some (slot_in bytes) else None
 

@@ -1,3 +1,5 @@
+//! The two slots of a disk, and which of them a save goes to.
+
 ghost use Rattle.std.specs.Prelude.{◌≡◌, ◌+◌, ◌-◌, ◌^◌, ◌<◌, ◌≤◌, nat_lt};
 
 /// Where a save goes.
@@ -12,7 +14,7 @@ pub(crate) struct Place {
 }
 
 impl Place {
-    /// Where the save behind this one goes: the slots change their parts.
+    /// Where the save after this one goes: the slots change their parts.
     pub(crate) fn after_save(&self) -> Place
         requires slot { self.now.slot ≤ 1 }
         requires sequence { self.now.sequence < 2 ^ 62 }

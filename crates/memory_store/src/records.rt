@@ -1,3 +1,5 @@
+//! The records that were found on a disk, and their text.
+
 ghost use Rattle.std.specs.Prelude.{◌≡◌, ◌<◌, length, slice_index_or, IfOk};
 ghost use Rattle.event_memory.specs.Held.{no_row};
 ghost use Rattle.event_memory.specs.Views.{plain_row};
@@ -40,6 +42,7 @@ impl Records {
     }
 
     /// The text of the records, one line for each.
+    /// Steps: as `event_memory::Memory::print`. Memory: may answer want of memory. By: read off.
     pub fn print(&self, alloc: Global) -> Result<Vec<u8>, NoMemory>
         ensures { IfOk result (λ text. text.items ≡ memory_text self.now) }
     {

@@ -11,7 +11,7 @@ use memory_image::restore;
 /// The greatest sequence that a save has.
 pub(crate) const LAST_SEQUENCE: u64 = 1 << 62;
 
-/// What stands behind an open gate. The image ends where the slot does.
+/// What stands after an open gate. The image ends where the slot does.
 #[derive(Clone, Copy)]
 pub(crate) struct Slot<'a> {
     sequence: u64,

@@ -1,3 +1,5 @@
+//! Beginning with a disk, and saving on it.
+
 ghost use Rattle.std.specs.Prelude.{◌≡◌, ◌+◌, ◌≤◌, List, IfOk, IsTrue, OnOk, length, reverse, vec_capacity};
 ghost use Rattle.ids_types.specs.MemoryRow.{Row as MemoryRow};
 ghost use Rattle.memory_disk.specs.Disks.{HasCause, IsSettled, LeavesOnly, LeavesSince, MayBeLeft, bytes_of, part};
@@ -66,6 +68,8 @@ impl<D: Disk> Store<D> {
     ghost use Rattle.memory_store.specs.Answers.{BeginAnswers, SaveAnswers, begun_disk, saved_disk};
 
     /// Takes all memory that saves need, syncs the disk and reads the records that it keeps. Writes nothing.
+    /// Steps: one sync, two reads, and the records of one slot. Memory: made once, before the first call of the disk.
+    /// Waits: as its disk. By: `answers`; read off.
     pub fn begin(alloc: Global, disk: D) -> Result<(Store<D>, Records), BeginFault<D>>
         ensures answers { BeginAnswers D.shows disk result }
         ensures tells { (D.shows (begun_disk result)).tells ≡ (D.shows disk).tells }
@@ -98,6 +102,8 @@ impl<D: Disk> Store<D> {
     }
 
     /// Saves the records of the memory, under the next sequence. Takes no memory.
+    /// Steps: the records once, and at most three writes, each with a sync. Waits: as its disk. By: answer `SaveFault`,
+    /// no NoMemory; read off.
     pub fn save(self, memory: &Memory) -> Result<Store<D>, SaveFault<D>>
         requires { AreKeepable (reverse memory.now.rows) }
         ensures answers { SaveAnswers D.shows self result }

@@ -7,7 +7,7 @@ ghost use Rattle.memory_store.specs.Slots.{slot_in};
 use crate::place::Place;
 use memory_disk::{Disk, DiskFailed};
 
-/// The value of a gate behind which a slot counts, and one behind which it does not.
+/// The value of a gate after which a slot counts, and one after which it does not.
 const OPEN: u8 = 1;
 
 const SHUT: u8 = 0;

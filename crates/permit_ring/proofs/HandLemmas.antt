@@ -10,7 +10,7 @@ turned_more (x ∷ hand) i h =
     rw (drop_more (x ∷ hand) i x h, take_more (x ∷ hand) i x h)
     (append_assoc (drop (i + 1) (x ∷ hand)) (take i (x ∷ hand)) (get_or (x ∷ hand) i x ∷ []))
 
--- a slot in front is the first, and the rest is behind it
+-- a slot in front is the first, and the rest is after it
 pub in_front : {A : Type 0} {hand tail : List (ℕ × A)} {at place : ℕ} {x : A} → hand ≡ (at, x) ∷ tail → at ≡ place
     → hand ≡ (place, x) ∷ rest hand
 in_front {x = x} e same = e ∙ (λ i. (same i, x) ∷ ap rest (sym e) i)
@@ -20,7 +20,7 @@ module _ {O : Type 0} (n : ℕ) where
   length-hand t [] = refl
   length-hand t (x ∷ xs) = ap suc (length-hand (suc t) xs)
 
-  -- two rows of slots, one behind the other
+  -- two rows of slots, one after the other
   hand-append : {D : Type 0} (t : ℕ) (xs ys : List (Slot O D))
       → hand_from n t (xs ++ ys) ≡ hand_from n t xs ++ hand_from n (t + length xs) ys
   hand-append t [] ys = let same : t ≡ t + 0 = omega arith in ap (λ (k : ℕ). hand_from n k ys) same
@@ -40,7 +40,7 @@ none_filled is = record { values = []; filled_are = refl; admitted = λ j y e. a
 
 module _ {O D : Type 0} {Admits : O → Type 0} {n t filled vacant : ℕ} {hand : List (ℕ × Slot O D)}
     (keeps : KeepsInHand Admits n t filled vacant hand) where
-  -- the filled slots, and the places of those behind them
+  -- the filled slots, and the places of those after them
   abbrev row : List (Slot O D)
   row = map Offered keeps.values
 
@@ -75,7 +75,7 @@ module _ {O D : Type 0} {Admits : O → Type 0} {n t filled vacant : ℕ} {hand 
 
   -- while a vacant slot is filled, the hand is turned until that slot is in front, and back
   module _ (some_vacant : 0 < vacant) {vacancy : ℕ} (vacancy_is : vacancy ≡ (t + filled) % n) where
-    -- the vacant slots behind the first
+    -- the vacant slots after the first
     abbrev others : List (Slot O D)
     others = replicate (vacant - 1) Empty
 

@@ -17,7 +17,7 @@ module _ {N : Type 0} where
   end_on low [] x = refl
   end_on low (r ∷ log) x = end_on (end_of r) log x
 
-  -- the tickets of more calls come behind
+  -- the tickets of more calls come after
   pub got_of-append : (log more : List (Outcome N)) → got_of (log ++ more) ≡ got_of log ++ got_of more
   got_of-append [] more = refl
   got_of-append (Lost h ∷ log) more = got_of-append log more

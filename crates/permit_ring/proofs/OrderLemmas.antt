@@ -23,7 +23,7 @@ module _ (m : Machine) (r : IsRing m) where
     gets_next : gets_ticket m.limit v ≡ true → ticket_at m.limit v ≡ m.word.claimed
     gets_next gets = grind (arith, common_steps, shows_word)
 
--- where so many were got before, each move that gets a ticket gets the one behind those
+-- where so many were got before, each move that gets a ticket gets the one after those
 abbrev AreFrom : ℕ → ℕ → List Move → Type 0
 AreFrom limit first moves = (p : ℕ) (v : Move) → get_elem? moves p ≡ some v → gets_ticket limit v ≡ true
     → ticket_at limit v ≡ first + tickets_got limit (take p moves)

@@ -71,7 +71,7 @@ abbrev pub HasInHand : {O D : Type 0} → (O → Type 0) → ℕ → Option Tick
 HasInHand Admits n None hand = hand ≡ []
 HasInHand Admits n (Some ticket) hand = (ticket.0 ≤ 2 ^ 45) × ((y : _) × Admits y × (hand ≡ (ticket.0 % n, Offered y) ∷ []))
 
--- the keeper has the slots of so many positions from ticket t on in hand: some filled with admitted values, and behind them the vacant ones
+-- the keeper has the slots of so many positions from ticket t on in hand: some filled with admitted values, and after them the vacant ones
 pub record KeepsInHand {O D : Type 0} (Admits : O → Type 0) (n t filled vacant : ℕ) (hand : List (ℕ × Slot O D)) : Type 0 where
   pub values : List O
   pub filled_are : length values ≡ filled

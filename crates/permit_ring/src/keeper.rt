@@ -65,6 +65,8 @@ impl<F: Freight> Keeper<F> {
     /// Takes the value of the next ticket. `Err` comes exactly where the mark that was read at this
     /// call's step is not that ticket's, and then nothing is taken. Once all seats are back and all
     /// that was claimed was reaped, it comes always.
+    /// Steps: one load, and one exchange of a slot where the mark is the next ticket's. By: `told` (`ReapTells`); no
+    /// loop; answer `Unready`, no NoMemory.
     pub fn reap(&mut self, ring: &Ring<F>) -> Result<F::Finished, Unready>
         requires mine { IsKeeperOf F.admits_offered ring.now self.old }
         ensures mine { IsKeeperOf F.admits_offered ring.now self.new }
@@ -107,7 +109,9 @@ impl<F: Freight> Keeper<F> {
     }
 
     /// Puts a value into the first reaped position that is not filled. In hand the filled slots are
-    /// turned behind the vacant ones and back, which costs nothing: a token has no bytes.
+    /// turned after the vacant ones and back, which costs nothing: a token has no bytes.
+    /// Steps: no step on the ring; one slot in hand is written, and the hand is turned once round, which leaves no
+    /// instruction (docs/DECISIONS.md). By: `told`: the memo is the same, so no step; `counts`.
     pub fn refill(&mut self, ring: &Ring<F>, value: F::Offered)
         requires mine { IsKeeperOf F.admits_offered ring.now self.old }
         requires vacant { 0 < vacant_of self.old }
@@ -132,6 +136,8 @@ impl<F: Freight> Keeper<F> {
     /// Makes all refilled positions free in one step, and answers how many steps it tried: 0 where
     /// none was refilled, and else the last one succeeded. Before the first it looks at the permit
     /// word; each other one found that a seat had claimed since the word that the keeper knew.
+    /// Steps: none where nothing was refilled; else one load, and at most positions + seats + 1 tries of one
+    /// compare-exchange each. By: clauses `bound`, `none`, `told` (`OfferTells`); the ring by `&`.
     pub fn offer(&mut self, ring: &Ring<F>) -> u16
         requires mine { IsKeeperOf F.admits_offered ring.now self.old }
         ensures mine { IsKeeperOf F.admits_offered ring.now self.new }
@@ -209,6 +215,7 @@ impl<F: Freight> Keeper<F> {
     }
 
     /// Sweeps a loss word, 0 for lost events and 1 for lost contexts, and answers what it had.
+    /// Steps: one swap. By: `told` (`sweeps`); no loop.
     pub fn sweep(&mut self, ring: &Ring<F>, kind: u8) -> u64
         requires mine { IsKeeperOf F.admits_offered ring.now self.old }
         requires kind { kind < 2 }
@@ -224,6 +231,7 @@ impl<F: Freight> Keeper<F> {
 
     /// Takes a seat back, which makes no more calls. Once all seats are back, `reap` answers `Ok`
     /// exactly while fewer tickets were reaped than claimed.
+    /// Steps: one load. By: `told` (`welcomes`); no loop.
     pub fn welcome(&mut self, ring: &Ring<F>, seat: Seat<F>)
         requires mine { IsKeeperOf F.admits_offered ring.now self.old }
         requires seat { IsSeatOf F.admits_offered ring.now seat }
@@ -244,7 +252,7 @@ fn empty<O, D>() -> Slot<O, D>
     Slot::Empty
 }
 
-// Turns the first slots in hand behind the others. Nothing of it is left when it runs.
+// Turns the first slots in hand after the others. Nothing of it is left when it runs.
 fn turn_hand<S, V>(place: &mut Token<S, V>, count: u16)
     requires { count ≤ length place.old.me.1 }
     ensures same { (place.new.table_id ≡ place.old.table_id) × (place.new.id ≡ place.old.id) }

@@ -9,8 +9,8 @@ ghost use Rattle.ring_core.specs.Sound.{Holds};
 
 use crate::freight::Freight;
 
-/// The words of a ring are those of a state of the ring machine, which the moves of its seats and
-/// its keeper led to from the opening state, and for which all holds that holds of every ring.
+/// The words of a ring are those of a state of the ring machine, to which the moves of its seats and its keeper led
+/// from the opening state. All holds of it that holds of every ring.
 pub fn words_show_the_machine<F: Freight>()
     ghost r: { RunningRing F.note F.admits_offered F.admits_note }
     ensures { ShowsRing r.key r.table.words r.rule.moves r.rule.machine }
@@ -56,8 +56,8 @@ pub fn each_seat_has_one_port<F: Freight>()
     ensures { (p q : ℕ) (key its : Key F.Terms) (a b : SeatMemo F.Note) → get_elem? r.table.views p ≡ some (Sits key a) → get_elem? r.table.views q ≡ some (Sits its b) → a.number ≡ b.number → p ≡ q }
 {}
 
-/// What the slot of a ticket holds, by what became of the ticket: its finished value until it is
-/// reaped, nothing while a seat or the keeper has it, and what was offered until it is claimed.
+/// What the slot of a ticket holds, by what became of the ticket. It is the finished value until it is reaped, and
+/// nothing while a seat or the keeper has it. It is what was offered until it is claimed.
 pub fn slots_follow_their_tickets<F: Freight>(ticket: u64)
     ghost r: { RunningRing F.note F.admits_offered F.admits_note }
     ensures finished { (memo : SeatMemo F.Note) → IsMemoThere r.table.views memo → (j : ℕ) (x : F.Note) → get_elem? memo.log j ≡ some (Got ticket x) → r.rule.machine.reaped ≤ ticket → HasFinished (get_elem? r.table.homes (ticket % r.key.positions)) F.note x }
@@ -88,8 +88,8 @@ pub fn each_note_is_its_tickets<F: Freight>(ticket: u64)
     ensures { (x : F.Note) → get_elem? r.rule.keeper.notes ticket ≡ some x → IsNotedAs r.table.views ticket x }
 {}
 
-/// In each log no call stands before the end of one that was decided before it: tickets rise, lost
-/// numbers don't fall, and a lost number is above each ticket before it and not above one after it.
+/// In each log no call stands before the end of one that was decided before it. Tickets rise, and lost numbers don't
+/// fall. A lost number is above each ticket before it and not above one after it.
 pub fn logs_are_in_order<F: Freight>()
     ghost r: { RunningRing F.note F.admits_offered F.admits_note }
     ensures { (memo : SeatMemo F.Note) → IsMemoThere r.table.views memo → IsInOrder r.rule.machine.word.claimed memo.log }

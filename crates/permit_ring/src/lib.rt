@@ -1,11 +1,10 @@
 //! A ring of positions that many seats claim and one keeper offers again, over atomic words and
 //! without a lock: each call ends after a bounded number of its own steps, whatever the others do.
 //!
-//! Layer 2, shared rings. Stands on `ring_core`, whose machine its steps are, and on the kit's
-//! `atomic_table`. What a slot carries is a [`Freight`]. The rule of a running ring (`Runs`) says
-//! that words, slots and all views are those of a state of the machine that the moves of its seats
-//! and its keeper led to; each call's contract is an equation on what its seat or the keeper
-//! remembers, and the laws say what holds between any two steps, whoever makes them.
+//! Layer 2, shared rings. Stands on `ring_core`, whose machine its steps are, and on the kit's `atomic_table`. What a
+//! slot carries is a [`Freight`]. The rule of a running ring (`Runs`) says that words, slots and all views are those
+//! of a state of the machine, to which the moves of its seats and its keeper led. Each call's contract is an equation
+//! on what its seat or the keeper remembers. The laws say what holds between any two steps, whoever makes them.
 #![tactic(auto)]
 
 mod answer;

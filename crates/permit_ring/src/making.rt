@@ -70,6 +70,8 @@ fn make_seats<F: Freight>(
 
 /// Makes a ring of `n` positions, all free, with a value of `load` for the slot of each, and as many
 /// idle seats as are asked for. It is the one call of a ring that takes memory.
+/// Steps: positions + 3 words, the positions' slots, and one load for each seat. Memory: made once. By: read off;
+/// `IsNewRing`; no other call of the ring answers NoMemory.
 pub fn make<F: Freight>(
     alloc: Global,
     n: u16,

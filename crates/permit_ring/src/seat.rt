@@ -72,6 +72,8 @@ impl<F: Freight> Seat<F> {
 
     /// Claims a position. `Err` comes only where the word that was read at a step of this call
     /// had none free, and is that word's look.
+    /// Steps: one load, and one fetch_add where a position was free. By: `told` (`ClaimTells`); no loop; answer `Look`,
+    /// no NoMemory; the ring by `&`, no handle that waits in its types.
     pub fn claim(&mut self, ring: &Ring<F>) -> Result<Ticket, Look>
         requires mine { IsSeatOf F.admits_offered ring.now self.old }
         requires idle { seat_ticket self.old ≡ None }
@@ -102,6 +104,7 @@ impl<F: Freight> Seat<F> {
 
     /// Puts the value into the slot of the held ticket and marks it finished, and gives what was
     /// offered there.
+    /// Steps: one exchange of the slot, and one store. By: `told` (`finishes`); no loop.
     pub fn finish(&mut self, ring: &Ring<F>, value: F::Finished) -> F::Offered
         requires mine { IsSeatOf F.admits_offered ring.now self.old }
         requires busy { is_none (seat_ticket self.old) ≡ false }
@@ -126,6 +129,7 @@ impl<F: Freight> Seat<F> {
     }
 
     /// Adds one to a loss word: kind 0 for lost events, 1 for lost contexts.
+    /// Steps: one fetch_add. By: `told` (`adds_mark`); no loop.
     pub fn mark(&mut self, ring: &Ring<F>, kind: u8)
         requires mine { IsSeatOf F.admits_offered ring.now self.old }
         requires kind { kind < 2 }

@@ -4,7 +4,7 @@ use Rattle.std.specs.List.{All}
 use Rattle.ids_types.specs.Turns.{Turn, Turns}
 use Rattle.ids_config.specs.Parts.{Parts}
 use Rattle.event_memory.specs.Held.{Held}
-use Rattle.chain.specs.History.{handed_of, rows_of}
+use Rattle.filter_chain.specs.History.{handed_of, rows_of}
 use Rattle.filter_aggregate.specs.Account.{all_kept}
 use Rattle.event_chain.specs.Standing.{Stands as ChainStands}
 use Rattle.chain_plain.specs.Recorded.{AreInOrder, CanTake}
@@ -13,7 +13,7 @@ use Rattle.plain_chain.specs.declared.fresh.Fresh.{Fresh}
 use Rattle.plain_chain.specs.declared.plain_chain.PlainChain.TheInside.{Inside}
 
 -- the configuration, all turns with the room for more, the number that the last turn hands on, and the event memory
--- behind it
+-- after it
 pub record Remembered : Type 0 where
   pub config : Parts
   pub history : Turns

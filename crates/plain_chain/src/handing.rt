@@ -1,9 +1,9 @@
 //! Parcels go back to their owner.
 
 ghost use Rattle.std.specs.Prelude.{◌≡◌, ◌+◌, ◌≤◌, [], vec_len, vec_capacity};
-ghost use Rattle.chain.specs.Parcels.{HandsBack, all_parcels};
+ghost use Rattle.filter_chain.specs.Parcels.{HandsBack, all_parcels};
 
-use chain::{give_back, kept};
+use filter_chain::{give_back, kept};
 use ids_types::{Act, Entry, Parcel};
 
 /// Hands the parcels of entries back, and leaves no entry.

@@ -1,19 +1,21 @@
+//! A chain that takes its whole history again at each turn.
+
 ghost use Rattle.std.specs.Prelude.{◌≡◌, ℕ, ◌+◌, ◌≤◌, ◌∷◌, ◌++◌, [], true, List, length, vec_len, vec_capacity, IfOk, OnErr, OnOk};
 ghost use Rattle.ids_types.specs.Output.{room_of};
 ghost use Rattle.ids_types.specs.Turns.{Turn, room_after, wider_room};
 ghost use Rattle.ids_config.specs.Parts.{Parts};
-ghost use Rattle.chain.specs.History.{last_tick, Sends};
-ghost use Rattle.chain.specs.Parcels.{HandsBack, all_parcels};
-ghost use Rattle.chain.specs.Turning.{FitsTurn, most_sent, bytes_in, turn_by};
+ghost use Rattle.filter_chain.specs.History.{last_tick, Sends};
+ghost use Rattle.filter_chain.specs.Parcels.{HandsBack, all_parcels};
+ghost use Rattle.filter_chain.specs.Turning.{FitsTurn, most_sent, bytes_in, turn_by};
 ghost use Rattle.plain_chain.specs.Remembered.{Stands};
 ghost use Rattle.plain_chain.specs.Room.{has_turn_room};
 
 use crate::fresh::{Fresh, fill, next};
 use crate::handing::hand_back;
-use chain::{Chain, record_turn};
 use chain_plain::retake;
 use event_chain::EventChain;
 use event_memory::Memory;
+use filter_chain::{Chain, record_turn};
 use ids_config::Config;
 use ids_types::{Entry, History, NoMemory, Parcel, Plain, TurnHead, TurnOut};
 use std::alloc::Global;
@@ -47,6 +49,9 @@ impl<'c, B> Model for PlainChain<'c, B> {
 impl<'c, B: Parcel> PlainChain<'c, B> {
     /// The chain of a configuration, before the first turn, with room for so many turns, and for so many entries and
     /// bytes of context data in all of them together.
+    /// Steps: as many times `event_chain::EventChain::make` as turns, and a history with that room. Memory: made once,
+    /// and more by `reserve`; each of its turns takes the whole history again, by `retake`. By: `stands`, `room`; read
+    /// off.
     pub fn make(
         alloc: Global,
         config: &'c Config,
@@ -75,7 +80,7 @@ impl<'c, B: Parcel> PlainChain<'c, B> {
 
 impl<'c, B: Parcel> Chain<B> for PlainChain<'c, B> {
     ghost use Rattle.std.proofs.lemmas.List.Sorted.{IsPermutation-refl};
-    ghost use Rattle.chain.specs.Kept.{open_contexts};
+    ghost use Rattle.filter_chain.specs.Kept.{open_contexts};
     ghost use Rattle.plain_chain.specs.Room.{smaller_turn_room};
 
     ghost stands = { λ chain config turns. Stands config turns chain };
@@ -85,6 +90,8 @@ impl<'c, B: Parcel> Chain<B> for PlainChain<'c, B> {
     ghost kept = { λ chain. [] };
 
     ghost has_room = { λ chain entries bytes. has_turn_room chain.history.room entries bytes };
+
+    ghost sends_within = { λ chain items sent. most_sent 1024 (length items) (length chain.config.events) ≤ sent };
 
     fn fits(&self, entries: u64, bytes: u64) -> bool {
         self.history.has_room(1, entries, bytes)
@@ -110,7 +117,7 @@ impl<'c, B: Parcel> Chain<B> for PlainChain<'c, B> {
         &self.memory
     }
 
-    /// Takes the turn behind all that were before it, and hands each parcel back. It takes its size from the room.
+    /// Takes the turn after all that were before it, and hands each parcel back. It takes its size from the room.
     fn judge(
         &mut self,
         head: &TurnHead,
@@ -122,7 +129,7 @@ impl<'c, B: Parcel> Chain<B> for PlainChain<'c, B> {
             (bytes_in B.held items.old.items) ≡ true }
         requires items { FitsTurn B.held (length self.old.config.events) items.old.items }
         requires back { vec_len back.old + vec_len items.old + length self.old.config.events ≤ vec_capacity back.old }
-        requires out { most_sent (length items.old.items) (length self.old.config.events) ≤ (room_of out.old).sent }
+        requires out { most_sent 1024 (length items.old.items) (length self.old.config.events) ≤ (room_of out.old).sent }
         ensures stands { (config : Parts) (turns : List Turn) → Stands config turns self.old →
             last_tick turns ≤ head.now.tick →
             Stands config (turns ++ turn_by B.held head.now items.old.items ∷ []) self.new }
@@ -154,4 +161,6 @@ impl<'c, B: Parcel> Chain<B> for PlainChain<'c, B> {
 
     ghost smaller = { λ chain entries bytes fewer less few small room.
         smaller_turn_room chain.history.room entries bytes fewer less few small room };
+
+    ghost bounded = { λ chain items sent fits short room. room };
 }

@@ -8,7 +8,7 @@ pub use Rattle.buffer_classes.specs.Making.{AreNewClasses, spec_sizes}
 pub use Rattle.buffer_classes.specs.declared.giver.Giver.{Giver}
 pub use Rattle.ids_config.specs.Parts.{Parts, class_of}
 pub use Rattle.ids_types.specs.declared.names.Ticket.{Ticket}
-pub use Rattle.merge_spec.specs.Follows.{KeptAsks, LostAtMost, lost_number, CallAsks, Follows}
+pub use Rattle.history_spec.specs.Follows.{KeptAsks, LostAtMost, lost_number, CallAsks, Follows}
 pub use Rattle.permit_ring.proofs.ListLemmas.{at_length, there}
 pub use Rattle.permit_ring.specs.{undecided, machine_ticket, seat_memo, ended}
 pub use Rattle.report_queue.specs.{IsNewQueue, IsUnused, IsUntouched, caller_number, caller_memo, queue_seats, ticket_of, ClaimTells, adds_mark, finishes, item_by}

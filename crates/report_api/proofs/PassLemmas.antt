@@ -1,7 +1,7 @@
 -- A pass after one call more.
 use Rattle.report_api.proofs.Names.{◌≡◌, ℕ, ◌+◌, ◌≤◌, ◌<◌, ◌^◌, is_none, is_some, true, false, Option, List, [], ◌∷◌, ◌++◌, length, map, refl, sym, ap, subst, ◌∙◌, arith, append-nil, length_push, map-append, map_push, CallAsks, Follows, Ticket, undecided, machine_ticket, adds_mark, finishes, Act, Outcome, PassMemo, lost_events, lost_contexts, Lost, Got, IsPassAt, asks_of, call_of, calls_in, fate_of, misses_context, missing_in, pass_memo, sizes_of, Pass, Shared}
 use Rattle.std.proofs.lemmas.Grind.{common_steps}
-use Rattle.merge_spec.proofs.FollowsLemmas.{follows_after}
+use Rattle.history_spec.proofs.FollowsLemmas.{follows_after}
 use Rattle.permit_ring.specs.{ticket_in}
 use Rattle.report_queue.specs.declared.cargo.Item.{Item}
 use Rattle.report_api.proofs.AnswerLemmas.{OneCall}

@@ -4,7 +4,7 @@ use mathlib.Core.Option as maybe
 use mathlib.Core.Option.{some, none}
 use lib.ListN.{get_elem?}
 use Rattle.ids_types.specs.Fates.{Fate}
-use Rattle.merge_spec.specs.Follows.{Follows}
+use Rattle.history_spec.specs.Follows.{Follows}
 use Rattle.permit_ring.specs.Closing.{IsSettled}
 use Rattle.permit_ring.specs.Logs.{fate_of}
 use Rattle.buffer_classes.specs.declared.giver.Giver.{Giver}

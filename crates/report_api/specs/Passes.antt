@@ -3,7 +3,7 @@ use Rattle.std.specs.Prelude.{◌≡◌, ℕ, ◌+◌, ◌≤◌, Option, Some, 
 use Rattle.ids_types.specs.Carries.{act_by}
 use Rattle.ids_types.specs.declared.entry.Act.{Act as ActOver}
 use Rattle.ids_types.specs.Fates.{Fate}
-use Rattle.merge_spec.specs.Follows.{Calls, Follows}
+use Rattle.history_spec.specs.Follows.{Calls, Follows}
 use Rattle.buffer_classes.specs.{class_sizes, IsClaimSeatOf, claimant_of, claims_of, log_of}
 use Rattle.buffer_classes.specs.Seats as classes
 use Rattle.permit_ring.specs.Logs.{fate_of}

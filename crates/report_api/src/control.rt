@@ -11,6 +11,8 @@ use ids_types::{Act, EventIndex, Mode};
 
 impl Pass {
     /// Tells the block state filter that the state changed.
+    /// Steps: one load, at most one fetch_add, and one exchange and one store for the item: at most 3 steps.
+    /// By: `Controls`: `steps`, `told` (`ControlTells`); answer `Control`, no NoMemory.
     pub fn state_changed(&mut self, shared: &Shared, state: u8) -> Control
         requires mine { IsPassOf shared.now self.old }
         ensures { Controls (ControlTells (State state)) shared.now self.old result self.new }
@@ -19,6 +21,8 @@ impl Pass {
     }
 
     /// Sets the reporting mode of an event, of an internal one too.
+    /// Steps: one load, at most one fetch_add, and one exchange and one store for the item: at most 3 steps.
+    /// By: `Controls`: `steps`, `told` (`ModeTells`); answer `Control`, no NoMemory.
     pub fn set_mode(&mut self, shared: &Shared, event: EventIndex, mode: Mode) -> Control
         requires mine { IsPassOf shared.now self.old }
         ensures { Controls (ModeTells event mode) shared.now self.old result self.new }

@@ -14,8 +14,9 @@ use report_queue::{Item, Taker, Unready};
 
 /// Where the one who takes the reports sits, and gives their buffers back.
 ///
-/// Contracts see it by `desk_memo`: the items that were taken, the fronts that were given back to, the losses that
-/// were swept, each pass that came back, and its steps at the report ring; and by what its givers remember of each class.
+/// Contracts see it by `desk_memo`. That has the items that were taken, the fronts that were given back to, the
+/// losses that were swept, each pass that came back, and its steps at the report ring. They see it by what its givers
+/// remember of each class, too.
 #[derive(Drop)]
 pub struct Desk {
     pub(crate) taker: Taker<Reports>,
@@ -25,6 +26,7 @@ pub struct Desk {
 impl Desk {
     /// Sweeps the lost events and then the lost contexts, and answers how many were marked of each since they were
     /// last swept. Once all passes are back, all that they marked is swept.
+    /// Steps: two swaps. By: `swept` (`Sweeps`); no loop.
     pub fn sweep(&mut self, shared: &Shared) -> (u64, u64)
         requires mine { IsDeskOf shared.now self.old }
         ensures mine { IsDeskOf shared.now self.new }
@@ -37,6 +39,8 @@ impl Desk {
     /// Takes the item of the next ticket. `Err` comes exactly where the mark that was read at this call's step is
     /// not that ticket's, and then nothing is taken. Once all passes are back, it comes only where all that was
     /// accepted was taken, and from then on always.
+    /// Steps: as `Taker::take`: one load, and two exchanges of the slot where an item is ready. By: `took` (`Takes`);
+    /// answer `Unready`, no NoMemory.
     pub fn take(&mut self, shared: &Shared) -> Result<Item<Act<CtxBuf>>, Unready>
         requires mine { IsDeskOf shared.now self.old }
         ensures mine { IsDeskOf shared.now self.new }
@@ -49,6 +53,9 @@ impl Desk {
 
     /// Makes the positions of all items that were taken free again, in one step, and gives the buffers of `back` to
     /// their classes, which are made free in one step each. `back` is empty then, and keeps its room.
+    /// Steps: as `Taker::give_back` and then `Givers::give`: at most positions + callers + 1 tries, and for each class,
+    /// of b buffers, b + 1 reaps and b + callers + 1 tries. Memory: none; a buffer is let go only where as many wait as
+    /// its class has. By: `places` (`GivesBack`), `gave` (`GaveBack`: `steps`).
     pub fn give_back(&mut self, shared: &Shared, back: &mut Vec<CtxBuf>)
         requires mine { IsDeskOf shared.now self.old }
         requires back { AreBuffersIn (sizes_of shared.now) back.old.items }
@@ -72,6 +79,8 @@ impl Desk {
     }
 
     /// Takes a pass back, which makes no more calls.
+    /// Steps: one load, and one for each class, at most 4. Memory: none; the pass's list is given back. By: `came`
+    /// (`Welcomes`), `givers` (`Welcomed`).
     pub fn welcome(&mut self, shared: &Shared, pass: Pass)
         requires mine { IsDeskOf shared.now self.old }
         requires pass { IsPassOf shared.now pass }

@@ -1,7 +1,7 @@
 //! The calls by which sensors report security events and controls, from any thread and without a lock, and the
 //! desk at which the one who takes them sits.
 //!
-//! Layer 8, reporting. Over `report_queue`, `buffer_classes` and `ids_config`; the main function takes from the
+//! Layer 8, reports. Over `report_queue`, `buffer_classes` and `ids_config`; the main function takes from the
 //! desk. Contracts see a pass by its calls and what became of each (`specs/Passes.antt`), and say each answer with
 //! its cause (`specs/Answers.antt`). What the calls asked of the classes of context data buffers stands on the
 //! pass too: from it follows, once all passes are back, that every missing context was legal.

@@ -37,7 +37,7 @@ fn specs_of(alloc: Global, classes: &[(u64, u64)]) -> Result<Vec<ClassSpec>, All
     Ok(specs)
 }
 
-// Their sizes, behind which are zeros.
+// Their sizes, after which are zeros.
 fn sizes_of(specs: &[ClassSpec]) -> [u16; 4]
     requires { length specs.now ≤ 4 }
     ensures { take (length specs.now) result ≡ spec_sizes specs.now }
@@ -79,6 +79,8 @@ fn passes_of(
 
 /// Makes what all share, a pass for each caller, and the desk: all buffers are free, and nothing was called yet.
 /// It is the one call of this crate that takes memory.
+/// Steps: the positions, the callers at the ring and at each class, and all buffers, each with a request. Memory: made
+/// once. By: read off; `IsNewMaking`; no other call of this crate answers NoMemory.
 pub fn make(alloc: Global, config: &Config) -> Result<Parts, NoMemory>
     ensures { IfOk result (λ made. IsNewMaking config.now made.shared made.passes.items made.desk) }
 {

@@ -15,6 +15,11 @@ pub(crate) const MOST_CALLS: u64 = 1 << 40;
 impl Pass {
     /// Reports a security event, seen `count` times, with its context data. No bytes are no context. It makes at most
     /// 4 steps at the report ring and 3 at each class that fits, whatever the other callers do.
+    /// Steps: at the report ring one load, at most one fetch_add, and one exchange and one store for the item. At the
+    /// classes that fit, at most 4, as `ClaimSeat::claim`. The bytes of the context, at most 1,024. One fetch_add more
+    /// where the event or its context is lost: at most 4 steps, and 3 at each class that fits. By: `Reports`: `steps`
+    /// the bound, `told` (`ReportTells`) step by step, `classes` (`ReportAsks`); answer `Report`, no NoMemory; shared
+    /// part by `&`, no handle that waits in its types.
     pub fn report(
         &mut self,
         shared: &Shared,
@@ -45,6 +50,7 @@ impl Pass {
     }
 
     /// Reports a security event, seen once, without a timestamp and without context.
+    /// Steps: as `Pass::report`, and no class is asked. By: `Reports`; answer `Report`, no NoMemory.
     pub fn report_event(&mut self, shared: &Shared, event: EventIndex) -> Report
         requires mine { IsPassOf shared.now self.old }
         ensures { Reports shared.now (given event 1 None []) self.old result self.new }
@@ -53,6 +59,7 @@ impl Pass {
     }
 
     /// Reports a security event, seen `count` times, without a timestamp and without context.
+    /// Steps: as `Pass::report`, and no class is asked. By: `Reports`; answer `Report`, no NoMemory.
     pub fn report_count(&mut self, shared: &Shared, event: EventIndex, count: u16) -> Report
         requires mine { IsPassOf shared.now self.old }
         ensures { Reports shared.now (given event count None []) self.old result self.new }
@@ -61,6 +68,7 @@ impl Pass {
     }
 
     /// Reports a security event, seen once, with its context data and without a timestamp.
+    /// Steps: as `Pass::report`. By: `Reports`; answer `Report`, no NoMemory.
     pub fn report_context(&mut self, shared: &Shared, event: EventIndex, context: &[u8]) -> Report
         requires mine { IsPassOf shared.now self.old }
         ensures { Reports shared.now (given event 1 None context.now) self.old result self.new }

@@ -32,6 +32,8 @@ fn callers_of<P: Cargo>(
 
 /// Makes a queue of `n` positions, all free, its taker and as many idle callers as are asked for.
 /// It is the one call of a queue that takes memory.
+/// Steps: the positions and the callers. Memory: made once. By: read off; `IsNewQueue`; no other call of the queue
+/// answers NoMemory.
 pub fn make<P: Cargo>(
     alloc: Global,
     n: u16,

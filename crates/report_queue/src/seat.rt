@@ -44,6 +44,8 @@ impl<P: Cargo> QueueSeat<P> {
 
     /// Claims a position. `Err` comes only where the word that was read at a step of this call
     /// had none free, and is that word's look.
+    /// Steps: one load, and one fetch_add where a position was free. By: `told` (`ClaimTells`); answer `Look`, no
+    /// NoMemory; the queue by `&`.
     pub fn claim(&mut self, queue: &Queue<P>) -> Result<Ticket, Look>
         requires mine { IsCallerOf queue.now self.old }
         requires idle { ticket_of self.old ≡ None }
@@ -60,6 +62,7 @@ impl<P: Cargo> QueueSeat<P> {
 
     /// Puts an item under the held ticket: it names this caller and this call, the one that got the
     /// ticket.
+    /// Steps: one exchange of the slot, and one store. By: `told` (`finishes`); no loop; the load is moved.
     pub fn fill(&mut self, queue: &Queue<P>, payload: P::Load) -> Ticket
         requires mine { IsCallerOf queue.now self.old }
         requires busy { is_none (ticket_of self.old) ≡ false }
@@ -81,6 +84,7 @@ impl<P: Cargo> QueueSeat<P> {
     }
 
     /// Marks one lost event.
+    /// Steps: one fetch_add. By: `told` (`adds_mark`); no loop.
     pub fn mark_lost_event(&mut self, queue: &Queue<P>)
         requires mine { IsCallerOf queue.now self.old }
         requires few { (caller_memo self.old).view.marks0 < 2 ^ 40 }
@@ -92,6 +96,7 @@ impl<P: Cargo> QueueSeat<P> {
     }
 
     /// Marks one lost context.
+    /// Steps: one fetch_add. By: `told` (`adds_mark`); no loop.
     pub fn mark_lost_context(&mut self, queue: &Queue<P>)
         requires mine { IsCallerOf queue.now self.old }
         requires few { (caller_memo self.old).view.marks1 < 2 ^ 40 }

@@ -9,6 +9,7 @@ fn is_send_and_sync<T: Send + Sync>() {}
 fn is_send<T: Send>() {}
 
 /// A queue may be shared by threads; its taker and its callers may each go to a thread of its own.
+/// Steps: none: a law of types. By: bounds `Send` and `Sync` of its body.
 pub fn parts_may_be_shared<P: Cargo>() {
     is_send_and_sync::<Queue<P>>();
     is_send::<Taker<P>>();

@@ -18,6 +18,9 @@ impl<P: Cargo> Taker<P> {
     /// Takes the item of the next ticket. `Err` comes exactly where the mark that was read at this
     /// call's step is not that ticket's, and then nothing is taken. Once all callers are back, it
     /// comes only where all that was put was taken, and from then on always.
+    /// Steps: one load, and two exchanges of the slot where the mark is the next ticket's; beside them the hand is
+    /// turned as by `Keeper::refill`. By: `Takes` (`told`: `ReapTells`; `few`: at most positions takes between two
+    /// `give_back`); answer `Unready`, no NoMemory.
     pub fn take(&mut self, queue: &Queue<P>) -> Result<Item<P::Load>, Unready>
         requires mine { IsTakerOf queue.now self.old }
         ensures { Takes queue.now self.old P.note P.admits_note result self.new }
@@ -33,6 +36,7 @@ impl<P: Cargo> Taker<P> {
 
     /// Sweeps the lost events and then the lost contexts, and answers how many were marked of each
     /// since they were last swept. Once all callers are back, all that they marked is swept.
+    /// Steps: two swaps. By: `Sweeps` (`told`); no loop.
     pub fn sweep(&mut self, queue: &Queue<P>) -> (u64, u64)
         requires mine { IsTakerOf queue.now self.old }
         ensures { Sweeps queue.now self.old result self.new }
@@ -44,6 +48,8 @@ impl<P: Cargo> Taker<P> {
 
     /// Makes the positions of all items that were taken free again, in one step. Where none was
     /// taken it makes no step.
+    /// Steps: none where nothing was taken; else one load, and at most positions + callers + 1 tries of one
+    /// compare-exchange each. By: `GivesBack` (`told`: `OffersAll`).
     pub fn give_back(&mut self, queue: &Queue<P>)
         requires mine { IsTakerOf queue.now self.old }
         ensures { GivesBack queue.now self.old self.new }
@@ -52,6 +58,7 @@ impl<P: Cargo> Taker<P> {
     }
 
     /// Takes a caller back, which makes no more calls.
+    /// Steps: one load. By: `Welcomes` (`told`); no loop.
     pub fn welcome(&mut self, queue: &Queue<P>, seat: QueueSeat<P>)
         requires mine { IsTakerOf queue.now self.old }
         requires seat { IsCallerOf queue.now seat }

@@ -68,7 +68,7 @@ pub record IsReached (start : Machine) (steps : List Step) (now : Machine) : Typ
 
 module _ (start m : Machine) (steps : List Step) (at : ℕ) (within : at < length steps) (so_far : after_all start (take at steps) ≡ Some m)
   where
-    -- the step behind the ones that were made
+    -- the step after the ones that were made
     pub one_more : after_all start (take (at + 1) steps) ≡ next m (get_or steps at (Look 0))
     one_more = ap (after_all start) (take_more steps at (Look 0) within)
         ∙ after_all-step start m (take at steps) (get_or steps at (Look 0)) so_far

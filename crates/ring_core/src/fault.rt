@@ -1,3 +1,5 @@
+//! Why steps were not made.
+
 ghost use Rattle.std.specs.Prelude.{◌≡◌};
 ghost use Rattle.ring_core.specs.declared.fault.RunFault.TheVariants.{NoMemory as OutOfMemory};
 

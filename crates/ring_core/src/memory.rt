@@ -1,3 +1,5 @@
+//! Want of memory, as a value.
+
 use std::alloc::{AllocError, AllocFailed};
 
 /// The allocator had no room.

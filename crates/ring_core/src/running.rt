@@ -1,3 +1,5 @@
+//! Making a list of steps.
+
 ghost use Rattle.std.specs.Prelude.{◌≡◌, ◌≤◌, IfOk};
 ghost use Rattle.ring_core.specs.Machine.{HasSizes, opening};
 ghost use Rattle.ring_core.specs.Runs.{RunAnswers};
@@ -9,6 +11,8 @@ use crate::step::{NotPossible, Step};
 use std::alloc::Global;
 
 /// Makes the steps in turn, from a ring whose positions are all free.
+/// Steps: the positions, and the steps of the list up to the first that is not possible. Memory: may answer want of
+/// memory (`RunFault`), only where it makes the ring. By: read off; `answer` (`RunAnswers`).
 pub fn run(alloc: Global, n: u16, seats: u8, steps: &[Step]) -> Result<RingState, RunFault>
     requires positions { (1 ≤ n) × (n ≤ 1024) }
     requires seats { (1 ≤ seats) × (seats ≤ 32) }

@@ -1,11 +1,13 @@
+//! One caller of a ring, as the machine sees it.
+
 ghost use Rattle.std.specs.Prelude.{◌≡◌, ◌<◌, ◌^◌};
 
 /// A ticket: the number of a claim, from 0. Ticket t stands at position `t mod n`.
 #[derive(Clone, Copy, Debug, PartialEq, Eq)]
 pub struct Ticket0(pub u64);
 
-/// A seat as the machine sees it: its calls so far, whether its look found a free position that it
-/// has not claimed yet, the ticket that it holds, and its marks of both kinds of loss.
+/// A seat as the machine sees it. It has its calls so far, and whether its look found a free position that it has not
+/// claimed yet. It has the ticket that it holds, and its marks of both kinds of loss.
 #[derive(Clone, Copy, Debug, PartialEq, Eq)]
 pub struct SeatView {
     pub calls: u64,

@@ -1,3 +1,5 @@
+//! The ring as a machine: its state, and one step of it.
+
 ghost use Rattle.std.specs.Prelude.{◌≡◌, ◌+◌, ◌<◌, ◌≤◌, length, IfOk, OnErr, MatchResult, Some, None};
 ghost use Rattle.ring_core.specs.Machine.{opening, next, HasSizes, StepAnswers, seat_at, mark_at, loss_at};
 ghost use Rattle.ring_core.specs.Sound.{IsRing};
@@ -42,6 +44,7 @@ impl Model for RingState {
 
 impl RingState {
     /// A ring whose `n` positions are all free, with seat 0 of at most `seats` made.
+    /// Steps: the positions. Memory: made once. By: read off; conditions: 1 to 1,024 positions, 1 to 32 seats.
     pub fn make(alloc: Global, n: u16, seats: u8) -> Result<RingState, NoMemory>
         requires positions { (1 ≤ n) × (n ≤ 1024) }
         requires seats { (1 ≤ seats) × (seats ≤ 32) }
@@ -72,6 +75,7 @@ impl RingState {
     }
 
     /// Makes one step. Takes no memory.
+    /// By: no loop; answer `NotPossible`, no NoMemory.
     pub fn step(&mut self, step: &Step) -> Result<(), NotPossible>
         ensures next { MatchResult
             result

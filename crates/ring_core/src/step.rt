@@ -1,5 +1,5 @@
 /// One atomic step of a ring. The first number of a seat's step is the seat; `Offer` has the number
-/// of positions that it tries to offer, once; `Mark` has the kind of loss behind the seat, and
+/// of positions that it tries to offer, once; `Mark` has the kind of loss after the seat, and
 /// `Sweep` the kind alone.
 #[derive(Clone, Copy, Debug, PartialEq, Eq)]
 pub enum Step {

@@ -1,3 +1,5 @@
+//! The shared word of a ring, packed and unpacked.
+
 ghost use Rattle.std.specs.Prelude.{◌≡◌};
 ghost use Rattle.ring_core.specs.Words.{packed, unpacked, IsPackable, IsReadable};
 

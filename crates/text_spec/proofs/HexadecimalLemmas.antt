@@ -34,13 +34,13 @@ pub hex_in-encode_lower : (bytes : List ℕ) → IsBytes bytes → hex_in (encod
 hex_in-encode_lower bytes all =
     cond-true _ (result_ok (decode_of (encode_lower bytes))) None (lower_text bytes all) ∙ ap result_ok (decode_of-encode_lower bytes all)
 
--- the text of bytes behind bytes
+-- the text of bytes after bytes
 encode-append : (xs ys : List ℕ) → encode_lower (xs ++ ys) ≡ encode_lower xs ++ encode_lower ys
 unfolding encode_with
 encode-append [] ys = refl
 encode-append (b ∷ xs) ys = ap (λ (ds : List ℕ). slice_index lower_digits (b / 16) ∷ slice_index lower_digits (b % 16) ∷ ds) (encode-append xs ys)
 
--- the text of the bytes before this one is put behind an old text
+-- the text of the bytes before this one is put after an old text
 abbrev pub IsPut : ℕ → List ℕ → List ℕ → List ℕ → Type 0
 IsPut k bytes old now = now ++ encode_lower (drop k bytes) ≡ old ++ encode_lower bytes
 
@@ -158,34 +158,6 @@ hex_in-odd word odd = elim (hex_cases word) [
 -- the byte at a place is written by the two digits there
 abbrev pub PairAt : List ℕ → List ℕ → ℕ → Type 0
 PairAt word room k = IsWritten (slice_index room k) (slice_index word (2 * k)) (slice_index word (2 * k + 1))
-
--- the first n bytes of a room are written by the first digits, and the others are as they were
-pub record IsDecoded (n : ℕ) (word room old : List ℕ) : Type 0 where
-  pub pairs : (k : ℕ) → k < n → PairAt word room k
-  pub small : (k : ℕ) → k < n → slice_index room k < 256
-  pub rest : drop n room ≡ drop n old
-
--- what holds of each of the first bytes, and of one that is written behind them
-pub below_set : (P : ℕ → ℕ → Type 0) (xs : List ℕ) (n byte : ℕ) → n < length xs → ((k : ℕ) → k < n → P k (slice_index xs k)) → P n byte
-    → (k : ℕ) → k < n + 1 → P k (slice_index (set xs n byte) k)
-below_set P xs n byte there before last k below = elim (cases_Bool (k == n)) [
-  | inl same ↦
-      let e : k ≡ n = eqb-true k n same in
-      subst (λ j. P j (slice_index (set xs n byte) j)) (sym e) (subst (P n) (sym (get_or-set_same xs n byte 0 there)) last)
-  | inr other ↦
-      let differ : k ≢ n = λ e. absurd (cc (other, eq-eqb k n e)) in
-      subst (P k) (sym (get_or-set_other xs n k byte 0 differ)) (before k (omega (arith, below, differ)))
-]
-
--- one byte more
-pub decoded_more : (n : ℕ) (word room old : List ℕ) (byte : ℕ) → n < length room → byte < 256
-    → IsWritten byte (slice_index word (2 * n)) (slice_index word (2 * n + 1)) → IsDecoded n word room old
-    → IsDecoded (n + 1) word (set room n byte) old
-decoded_more n word room old byte there small written is = record {
-  pairs = below_set (λ k b. IsWritten b (slice_index word (2 * k)) (slice_index word (2 * k + 1))) room n byte there is.pairs written;
-  small = below_set (λ k b. b < 256) room n byte there is.small small;
-  rest = drop-set-lt (n + 1) room n byte (omega arith) ∙ drop_more_same room old n is.rest;
-}
 
 -- the text of one byte more
 encode-push : (bytes : List ℕ) (b : ℕ) → encode_lower (bytes ++ b ∷ []) ≡ encode_lower bytes ++ slice_index lower_digits (b / 16) ∷ slice_index lower_digits (b % 16) ∷ []

@@ -68,7 +68,7 @@ flat_map-with_entry f more (turn ∷ []) entry some adds = rw (append-nil (f (ex
 flat_map-with_entry f more (turn ∷ next ∷ turns) entry some adds =
     rw (flat_map-with_entry f more (next ∷ turns) entry (omega arith) adds) (sym (append_assoc (f turn) (flat_map f (next ∷ turns)) (more ∷ [])))
 
--- a line without a fault stands behind the lines before it
+-- a line without a fault stands after the lines before it
 pub line_grows : (config : Parts) (past : Past) (line : Line) → fault_of config past line ≡ Ok tt → lines_told (next past line).told ≡ lines_told past.told ++ line ∷ []
 line_grows config past (begins head) none =
     rw (nil_from_length past.told.losses (grind (arith, none))) (simp append-nil (flat_map-push turn_told past.told.turns (begun head)))

@@ -91,7 +91,7 @@ module _ (config : Parts) where
 
   -- ---- number
 
-  -- entries without a fault are few, and the lines behind them have none
+  -- entries without a fault are few, and the lines after them have none
   few_more : (past : Past) (entries : List (Entry (List ℕ))) (rest : List Line) → past.entries ≤ 1024 → AreFaultless (journal_grammar config) past (map enters entries ++ rest)
       → (past.entries + length entries ≤ 1024) × (later : Past) × AreFaultless (journal_grammar config) later rest
   few_more past [] rest few none = (omega arith, past, none)

@@ -7,7 +7,7 @@ use Rattle.text_spec.proofs.LinesLaws.{Tells, all_next, bind_ok, is_their_text, 
 
 -- ---- what lines tell
 
--- the entries that lines begin with, and what the lines behind them tell
+-- the entries that lines begin with, and what the lines after them tell
 pub record Grouped : Type 0 where
   pub entries : List (Entry (List ℕ))
   pub turns : List Turn
@@ -53,7 +53,7 @@ module _ (config : Parts) (few : length config.events ≤ 256) where
     takes = λ words line read. (told_is words line read).1;
   }
 
-  -- what lines without a fault tell behind others
+  -- what lines without a fault tell after others
   lines_told_behind : (past : Past) (lines : List Line) → AreFaultless (journal_grammar config) past lines → lines_told (all_next (journal_grammar config) past lines).told ≡ lines_told past.told ++ lines
   lines_told_behind past [] none = sym (append-nil (lines_told past.told))
   lines_told_behind past (line ∷ lines) none =

@@ -1,4 +1,4 @@
--- The last field of a text, behind which nothing stands, is read from the whole text.
+-- The last field of a text, after which nothing stands, is read from the whole text.
 use Rattle.text_spec.proofs.Names.{◌≡◌, ℕ, Bool, true, false, List, [], ◌∷◌, sym, ap, subst, ◌∙◌, refl, Option, Some, None, option_map, list_all, join_with_byte, join_with_byte-slice_split, Carried, a_context, any_bytes, hex_bytes, bytes_in, context_in, some_hex, is_lower_digit, colon, space, Field, read_by, pieces_of, words_of, ◌>>=◌}
 use Rattle.text_spec.specs.Maybe.{ended}
 use Rattle.text_spec.proofs.ContextsLaws.{any_lawful, context_lawful}
@@ -6,7 +6,7 @@ use Rattle.text_spec.proofs.FieldsLaws.{in_word, IsReading, Lawful}
 use Rattle.text_spec.proofs.HexadecimalLemmas.{lower_text, some_hex_takes}
 use Rattle.text_spec.proofs.WordsLemmas.{split_joined}
 
--- what has another piece behind it is not the last
+-- what has another piece after it is not the last
 not_last : {A B : Type 0} (make : A → B) (next : List ℕ) (pieces : List (List ℕ)) (read : Option A)
     → ◌>>=◌ {A = A × List (List ℕ)} (option_map (λ x. (x, next ∷ pieces)) read) (λ x. ended (make x.0) x.1) ≡ None
 not_last make next pieces None = refl
@@ -37,7 +37,7 @@ module _ {A : Type 0} (field : Field) (make : field.Value → A) (separator : �
       ap (read_by (field ∷ []) make) (split_joined p separator text [] out (passes x is, tt))
       ∙ of_last make [] (field.reading text) refl
 
--- a byte or more, behind the last colon
+-- a byte or more, after the last colon
 pub last_hex : {A : Type 0} (make : List ℕ → A) (text : List ℕ)
     → read_by (hex_bytes ∷ []) make (pieces_of colon text) ≡ option_map make (some_hex text)
 last_hex make text =
@@ -45,7 +45,7 @@ last_hex make text =
     (λ bytes read. let is = (some_hex_takes text bytes read).0 in subst (λ w. list_all is_lower_digit w ≡ true) is.text (lower_text bytes is.are_bytes))
     (some_hex text) refl
 
--- a field of a line, behind its last space
+-- a field of a line, after its last space
 last_word : {A : Type 0} (field : Field) → Lawful field → (make : field.Value → A) (text : List ℕ)
     → read_by (field ∷ []) make (words_of text) ≡ option_map make (field.reading text)
 last_word field lawful make text =

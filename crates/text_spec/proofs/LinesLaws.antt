@@ -40,7 +40,7 @@ module _ {Past Line : Type 0} (grammar : Grammar Past Line) where
   unfolding after_pieces
   at_last n past rest = refl
 
-  -- pieces that were cut off at a line feed, and those behind it, of which there is one at least
+  -- pieces that were cut off at a line feed, and those after it, of which there is one at least
   module _ (n : ℕ) (past : Past) (line : List ℕ) (rest pieces : List (List ℕ)) (expected : Result Past BadLine) (some : 0 < length rest)
       (are : pieces ≡ line ∷ rest) (was : after_pieces grammar n past pieces ≡ expected) where
     -- the reading of the first of them, and then of the others
@@ -62,7 +62,7 @@ module _ {Past Line : Type 0} (grammar : Grammar Past Line) where
     refuses (line_faults.Fault number) refused = sym (goes_by refused)
     refuses line_faults.NoMemory refused = tt
 
-  -- behind all lines, by what was found of the last piece
+  -- after all lines, by what was found of the last piece
   pub ends : (n : ℕ) (past : Past) (rest : List ℕ) (pieces : List (List ℕ)) (expected : Result Past BadLine) → pieces ≡ rest ∷ [] → after_pieces grammar n past pieces ≡ expected
       → (found : Result ⊤ ℕ) → found ≡ fault_behind rest (grammar.end_fault past) → expected ≡ at_line n (found >> Ok past)
   ends n past rest pieces expected are was found is =
@@ -70,7 +70,7 @@ module _ {Past Line : Type 0} (grammar : Grammar Past Line) where
       ∙ ap (at_line n) (then_all (asks 1 (length rest == 0)) (grammar.end_fault past) (Ok past))
       ∙ ap (λ (r : Result ⊤ ℕ). at_line n (r >> Ok past)) (sym is)
 
-  -- ---- lines one behind the other
+  -- ---- lines one after the other
 
   -- the lines so far with some more
   abbrev pub all_next : Past → List Line → Past
@@ -146,11 +146,11 @@ module _ {Past Line : Type 0} (grammar : Grammar Past Line) (shows : Line → Li
     pub held : AreHeldLines lines
     pub leaves : all_next grammar past lines ≡ now
 
-  -- one line, and some behind it
+  -- one line, and some after it
   pub leave_one : (past now : Past) (line : Line) (lines : List Line) → grammar.fault_of past line ≡ Ok tt → AreHeld (shows line) → Leaves (grammar.next past line) lines now → Leaves past (line ∷ lines) now
   leave_one past now line lines none held rest = record { faultless = (none, rest.faultless); held = (held, rest.held); leaves = rest.leaves }
 
-  -- some lines, and some behind them
+  -- some lines, and some after them
   pub leave_more : (past middle now : Past) (lines more : List Line) → Leaves past lines middle → Leaves middle more now → Leaves past (lines ++ more) now
   leave_more past middle now [] more one other = rw one.leaves other
   leave_more past middle now (line ∷ lines) more one other =

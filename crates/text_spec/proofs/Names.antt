@@ -14,8 +14,8 @@ pub use Rattle.std.specs.Prelude.{◌≡◌, ◌<◌, ◌≤◌, ◌==◌, ◌�
 pub use Rattle.std.specs.Str.Parse.{digits_value}
 pub use Rattle.hex.proofs.HexLemmas.{length-encode_with, decode_of-encode_lower, decode_of-odd}
 pub use Rattle.ids_types.specs.declared.mode.Mode.TheVariants.{Off, Brief, Detailed, BriefBypassing, DetailedBypassing}
-pub use Rattle.merge_spec.specs.Orders.{KeepUpFrom}
-pub use Rattle.merge_spec.specs.Rounds.{last_tick, round_ticks, lines_at}
+pub use Rattle.history_spec.specs.Orders.{KeepUpFrom}
+pub use Rattle.history_spec.specs.Rounds.{last_tick, round_ticks, lines_at}
 pub use Rattle.text_spec.specs.Fields.{any_bytes, bytes_in, bytes_word, line_with}
 pub use Rattle.text_spec.specs.JournalFaults.{is_tick}
 pub use Rattle.text_spec.specs.LineAnswers.{Fails, RefusedFor, fault_at, fault_behind}

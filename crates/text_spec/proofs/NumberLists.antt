@@ -2,7 +2,7 @@
 use Rattle.text_spec.proofs.Names.{◌≡◌, ◌∷◌, ◌++◌, ℕ, suc, List, [], refl, ap, ◌∙◌, append_assoc, Option, Some, None, option_map, numbers_in, a_number, first_as}
 use Rattle.text_spec.proofs.FrontLemmas.{mapped_some, bind_again}
 
--- numbers that were read, behind these
+-- numbers that were read, after these
 abbrev pub with_front : List ℕ → Option (List ℕ) → Option (List ℕ)
 with_front front read = option_map (λ ns. front ++ ns) read
 

@@ -1,5 +1,6 @@
 -- The first piece of a text that is cut at a separator, and the number that it writes.
 use Rattle.text_spec.proofs.Names.{◌≡◌, ℕ, ◌+◌, ◌==◌, Bool, true, false, not, ◌||◌, ◌<◌, List, [], ◌∷◌, length, take, drop, get_or, Some, None, sym, ap, ◌∙◌, arith, inl, inr, Option, nat_lt, position, option_map, ◌&&◌, is_ascii_digit, slice_split, position_or_len, list_all, digits_value, cases_Bool, cond-true, cond-false, false_from_ne_true, ltb-true, ltb-false, both_ways, ne_eqb, none-some, cond_some, take_all, length-take, get_or-take, All-from_get_or, list_all_at, slice_split_first, slice_split_none, length-slice_split, fails_before_first, passes_at_first, position_or_len_is, a_number, first_as, is_number, capped, zero_digit}
+use Rattle.text_spec.specs.Words.{differs}
 use Rattle.memchr.specs.Find.{IsFirstByte, is_byte}
 
 -- the first piece ends at the first separator
@@ -44,6 +45,17 @@ first_piece c text i inside before at =
     let first = position_or_len_is (λ b. b == c) text i 0 (omega arith) before (λ _. at) in
     slice_split_first (λ b. b == c) text 0 (omega (arith, first))
     ∙ ap (λ k. take k text ∷ slice_split (λ b. b == c) (drop (k + 1) text)) first
+
+-- the same where sixteen bytes stand before it
+pub sixteen_first : (c : ℕ) (text : List ℕ) → 16 < length text → (get_or text 16 0 == c) ≡ true → list_all (differs c) (take 16 text) ≡ true
+    → slice_split (λ b. b == c) text ≡ take 16 text ∷ slice_split (λ b. b == c) (drop 17 text)
+sixteen_first c text inside at all = first_piece c text 16 inside (λ k below. elim (cases_Bool (get_or text k 0 == c)) [
+  | inl here ↦
+      let within : k < length (take 16 text) = omega (arith, below, inside, length-take 16 text) in
+      let same : differs c (get_or (take 16 text) k 0) ≡ false = ap (differs c) (get_or-take 16 text k 0 below) ∙ ap not here in
+      absurd (both_ways _ (list_all_at (differs c) (take 16 text) k 0 within same) all)
+  | inr other ↦ other
+]) at
 
 -- a text without the separator is its only piece
 pub whole_piece : (c : ℕ) (text : List ℕ) → ((k : ℕ) → k < length text → (get_or text k 0 == c) ≡ false) → slice_split (λ b. b == c) text ≡ text ∷ []

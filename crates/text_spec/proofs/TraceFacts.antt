@@ -1,6 +1,6 @@
 -- Rounds in lists: the last one, its tick, and the ticks of all.
 use Rattle.text_spec.proofs.Names.{◌≡◌, ◌<◌, ◌≤◌, ◌^◌, ◌∷◌, ◌++◌, leb-true, nat_le, replicate, KeepUpFrom, last_tick, round_ticks, is_tick, asked_more, begun_round, ended_at, keep_up, last_from, with_last, AreTicks, Asked, ℕ, zero, suc, true, List, [], length, set, get_or, refl, sym, ap, subst, ◌∙◌, append_assoc, arith, AllByRecursion, flat_map, list_all, and_from, and_parts, le-leb}
-use Rattle.merge_spec.specs.Rounds.{Round}
+use Rattle.history_spec.specs.Rounds.{Round}
 use Rattle.text_spec.proofs.JournalFacts.{flat_map-push}
 
 -- ---- facts of each element
@@ -92,7 +92,7 @@ last_of_all (round ∷ rounds) =
     by_last (λ rs. last_from 0 (flat_map round_ticks rs) ≡ last_tick rs)
     (λ front last. ap (last_from 0) (ticks-push front last) ∙ last_from-push 0 (flat_map round_ticks front ++ last.beside) last.after [] ∙ sym (last_tick-push front last)) (round ∷ rounds) (omega arith)
 
--- the ticks of a round, and those of rounds behind it
+-- the ticks of a round, and those of rounds after it
 pub record RoundKeepsUp (least : ℕ) (round : Round) (rounds : List Round) : Type 0 where
   pub beside : KeepUpFrom least round.beside
   pub after : last_from least round.beside ≤ round.after
@@ -158,7 +158,7 @@ ticks_ended (round ∷ rounds) tick are later small =
 pub last_small : (rounds : List Round) → AreTicks rounds → IsSmall (last_tick rounds)
 last_small rounds are = subst IsSmall (last_of_all rounds) (small_last 0 (flat_map round_ticks rounds) (omega arith) are.small)
 
--- the ticks of a line that opens a round, behind these rounds, and the last of them once more
+-- the ticks of a line that opens a round, after these rounds, and the last of them once more
 pub opening_small : (rounds : List Round) (ticks : List ℕ) → AreTicks rounds → list_all is_tick ticks ≡ true → AllByRecursion IsSmall (ticks ++ last_from (last_tick rounds) ticks ∷ [])
 opening_small rounds ticks are small =
     all_append IsSmall ticks (last_from (last_tick rounds) ticks ∷ []) (all_small ticks small) (small_last (last_tick rounds) ticks (last_small rounds are) (all_small ticks small), tt)

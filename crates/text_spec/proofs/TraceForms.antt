@@ -60,7 +60,7 @@ trace_line_again (closes tick) held exact = first_form round_end_form (tick, tt)
 other_is : (words : List (List ℕ)) (line : TraceLine) → told_in_one trace_forms words ≡ Some line → IsShown words (trace_fields line)
 other_is words line read = (subst (IsTold trace_fields trace_forms words) read (forms_are trace_fields trace_forms words are_forms)).1
 
--- words behind an `N`, by what they are read as
+-- words after an `N`, by what they are read as
 opening_is : (word : List ℕ) (words : List (List ℕ)) (line : TraceLine) (ticks : Option (List ℕ)) → Told (the (codes "N")) word tt → numbers_in (length words) words ≡ ticks
     → or_else (option_map opens ticks) (told_in_one trace_forms (word ∷ words)) ≡ Some line → IsShown (word ∷ words) (trace_fields line)
 opening_is word words line None is are read = other_is (word ∷ words) line read

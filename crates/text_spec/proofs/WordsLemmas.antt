@@ -65,6 +65,6 @@ one_more text piece adds before now next xs i x d within is was step =
     ∙ ap (λ y. text (take i xs ++ y ∷ [])) is ∙ ap text (sym (take_more xs i d within))
     )
 
--- the text of lines behind lines
+-- the text of lines after lines
 pub text_of-map : {Line : Type 0} (line : Line → List ℕ) (lines more : List Line) → text_of (map line (lines ++ more)) ≡ text_of (map line lines) ++ text_of (map line more)
 text_of-map line lines more = ap text_of (map-append line lines more) ∙ text_of-append (map line lines) (map line more)

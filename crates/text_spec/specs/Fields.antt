@@ -123,7 +123,7 @@ abbrev pub Makes : List Field → Type 0 → Type 0
 Makes [] A = A
 Makes (field ∷ fields) A = field.Value → Makes fields A
 
--- the value at the front, and the words behind it
+-- the value at the front, and the words after it
 abbrev pub first_as : (field : Field) → List (List ℕ) → Option (field.Value × List (List ℕ))
 first_as field words = first_of words >>= λ w. option_map (λ x. (x, w.1)) (field.reading w.0)
 
@@ -132,13 +132,13 @@ abbrev pub read_by : {A : Type 0} → (fields : List Field) → Makes fields A �
 read_by [] made words = ended made words
 read_by (field ∷ fields) makes words = first_as field words >>= λ x. read_by fields (makes x.0) x.1
 
--- a form of lines: its letter, and the fields behind it
+-- a form of lines: its letter, and the fields after it
 pub record Form (A : Type 0) : Type 1 where
   pub letter : List ℕ
   pub fields : List Field
   pub makes : Makes fields A
 
--- what the words behind the letter tell
+-- what the words after the letter tell
 abbrev pub behind : {A : Type 0} → Form A → List (List ℕ) → Option A
 behind form words = read_by form.fields form.makes words
 

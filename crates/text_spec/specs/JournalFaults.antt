@@ -1,4 +1,4 @@
--- The faults of a journal's line, 2 to 7, behind what the lines before it tell. Fault 1 is a line that
+-- The faults of a journal's line, 2 to 7, after what the lines before it tell. Fault 1 is a line that
 -- has no form.
 -- Source: the text formats of this project (docs/FORMATS.md).
 use Rattle.std.specs.Prelude.{◌+◌, ◌*◌, ◌^◌, ◌==◌, ◌&&◌, ◌∷◌, ◌++◌}

@@ -29,7 +29,7 @@ pub record IsJournal (config : Parts) (text : List ℕ) (told : Told) : Type 0 w
   pub is_text : text ≡ journal_text told
 
 -- how of two lines the later one follows the earlier: ticks never fall, a caller's calls rise, the pairs of
--- losses rise and none is an entry's, and behind a loss stand losses alone
+-- losses rise and none is an entry's, and after a loss stand losses alone
 abbrev pub Follows : Line → Line → Type 0
 Follows (begins one) (begins other) = one.tick ≤ other.tick
 Follows (begins one) (enters other) = ⊤

@@ -32,6 +32,6 @@ abbrev pub fault_at : ℕ → LineFault → TextFault
 fault_at line (line_faults.Fault number) = faults.Line line number
 fault_at line line_faults.NoMemory = faults.NoMemory
 
--- the fault of a text that ends in this piece, where this is the fault of one that ends behind its lines
+-- the fault of a text that ends in this piece, where this is the fault of one that ends after its lines
 abbrev pub fault_behind : List ℕ → Result ⊤ ℕ → Result ⊤ ℕ
 fault_behind rest fault = asks 1 (length rest == 0) >> fault

@@ -6,7 +6,7 @@ use Rattle.text_spec.specs.Below.{ℕ, suc, List, [], length, Option, Some, None
 use Rattle.text_spec.specs.Words.{line_feed, pieces_of, words_of}
 
 -- how a text is read: what the words of a line tell, none where they have no form; the first fault of that
--- behind what the lines so far tell; what they tell with it; and the fault of a text that ends behind them
+-- after what the lines so far tell; what they tell with it; and the fault of a text that ends after them
 pub record Grammar (Past Line : Type 0) : Type 0 where
   pub told_by : List (List ℕ) → Option Line
   pub fault_of : Past → Line → Result ⊤ ℕ
@@ -30,7 +30,7 @@ abbrev pub ◌>>=◌ : {A B : Type 0} → Result A BadLine → (A → Result B B
 (Err bad) >>= f = Err bad
 
 module _ {Past Line : Type 0} (grammar : Grammar Past Line) where
-  -- none of these lines has a fault, each behind the lines before it
+  -- none of these lines has a fault, each after the lines before it
   abbrev pub AreFaultless : Past → List Line → Type 0
   AreFaultless past [] = ⊤
   AreFaultless past (line ∷ lines) = (grammar.fault_of past line ≡ Ok tt) × AreFaultless (grammar.next past line) lines
@@ -44,7 +44,7 @@ module _ {Past Line : Type 0} (grammar : Grammar Past Line) where
   abbrev pub after_line : Past → List ℕ → Result Past ℕ
   after_line past line = past_with past (grammar.told_by (words_of line))
 
-  -- the lines so far, where the text ends behind them and this piece. It is what stands behind the last line
+  -- the lines so far, where the text ends after them and this piece. It is what stands after the last line
   -- feed, and nothing may stand there.
   abbrev pub at_end : Past → List ℕ → Result Past ℕ
   at_end past rest = asks 1 (length rest == 0) >> grammar.end_fault past >> Ok past
@@ -56,6 +56,6 @@ module _ {Past Line : Type 0} (grammar : Grammar Past Line) where
   after_pieces n past (rest ∷ []) = at_line n (at_end past rest)
   after_pieces n past (line ∷ next_line ∷ pieces) = at_line n (after_line past line) >>= λ now. after_pieces (suc n) now (next_line ∷ pieces)
 
-  -- what the lines of a text tell behind these, or its first bad line
+  -- what the lines of a text tell after these, or its first bad line
   abbrev pub past_in : Past → List ℕ → Result Past BadLine
   past_in past text = after_pieces 1 past (pieces_of line_feed text)

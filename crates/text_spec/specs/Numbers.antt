@@ -16,7 +16,7 @@ is_number [] = false
 is_number (first ∷ rest) =
     list_all is_ascii_digit (first ∷ rest) && (not (first == zero_digit) || length rest == 0)
 
--- whether a byte stands there, and none behind a `0` that stands first
+-- whether a byte stands there, and none after a `0` that stands first
 abbrev pub begins_number : List ℕ → Bool
 begins_number [] = false
 begins_number (first ∷ rest) = not (first == zero_digit) || length rest == 0

@@ -1,8 +1,8 @@
--- The faults of a trace's line, 2 to 5, behind what the lines before it tell. Fault 1 is a line that has no form.
+-- The faults of a trace's line, 2 to 5, after what the lines before it tell. Fault 1 is a line that has no form.
 -- Source: the text formats of this project (docs/FORMATS.md).
 use Rattle.std.specs.Prelude.{◌&&◌, ◌∷◌, ◌++◌}
 use Rattle.text_spec.specs.Below.{ℕ, not, nat_lt, nat_le, Bool, true, false, List, [], replicate, set, Result, ⊤, list_all, Parts, ◌>>◌, asks}
-use Rattle.merge_spec.specs.Rounds.{lines_at, last_tick}
+use Rattle.history_spec.specs.Rounds.{lines_at, last_tick}
 use Rattle.text_spec.specs.JournalFaults.{is_tick, is_act, has_event}
 use Rattle.text_spec.specs.JournalText.{Act, Report, State, SetMode, Absent}
 use Rattle.text_spec.specs.TraceText.{Asked, reports, changes, sets, Round, TraceLine, opens, calls, closes}
@@ -49,7 +49,7 @@ begun_round callers beside after = record { beside = beside; lines = replicate c
 abbrev pub asked_more : ℕ → Asked → Round → Round
 asked_more caller asked round = record round { lines = set round.lines caller (lines_at caller round ++ asked ∷ []) }
 
--- the round with this tick behind its calls
+-- the round with this tick after its calls
 abbrev pub ended_at : ℕ → Round → Round
 ended_at tick round = record round { after = tick }
 

@@ -2,12 +2,12 @@
 -- Source: the text formats of this project (docs/FORMATS.md).
 use Rattle.std.specs.Prelude.{◌∷◌, ◌++◌}
 use Rattle.text_spec.specs.Below.{ℕ, suc, List, [], map, codes, flat_map}
-pub use Rattle.merge_spec.specs.Rounds.{Asked, Round, changes, reports, sets}
+pub use Rattle.history_spec.specs.Rounds.{Asked, Round, changes, reports, sets}
 use Rattle.text_spec.specs.Fields.{Filled, the, a_number, a_stamp, a_mode, any_bytes, put, line_with}
 use Rattle.text_spec.specs.Words.{text_of}
 
 -- what a line tells: that a round begins, with the ticks of the turns beside its calls; what a caller asks for;
--- or that the round ends, with the tick of the turn behind its calls
+-- or that the round ends, with the tick of the turn after its calls
 pub data TraceLine : Type 0 where
   opens : List ℕ → TraceLine
   calls : ℕ → Asked → TraceLine

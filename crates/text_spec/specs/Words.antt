@@ -1,7 +1,7 @@
 -- Lines of a text, each ended by a line feed, and the words of a line, one space between each two.
 -- Source: the text formats of this project.
 use Rattle.std.specs.Prelude.{◌==◌, ◌∷◌, ◌++◌}
-use Rattle.text_spec.specs.Below.{ℕ, List, [], codes, slice_split, join_with_byte}
+use Rattle.text_spec.specs.Below.{ℕ, Bool, not, List, [], codes, slice_split, join_with_byte}
 
 -- the character between two words
 abbrev pub space : ℕ
@@ -18,6 +18,10 @@ absent = codes "-"
 -- the pieces of a text between the bytes that are the separator
 abbrev pub pieces_of : ℕ → List ℕ → List (List ℕ)
 pieces_of separator text = slice_split (λ b. b == separator) text
+
+-- whether a byte is another one than the separator
+abbrev pub differs : ℕ → ℕ → Bool
+differs separator byte = not (byte == separator)
 
 -- the words of a line: the pieces between spaces, so that an empty line has one empty word
 abbrev pub words_of : List ℕ → List (List ℕ)

@@ -12,6 +12,7 @@ use ids_types::NoMemory;
 
 /// Appends the line of a message: `M INSTANCE SENSOR EVENT COUNT RESERVED STAMP CONTEXT SIGNATURE`, with
 /// `M2` in place of `M` for a message of version 2.
+/// Steps: the bytes of the line. Memory: may answer want of memory, only where the room is short. By: `full`; read off.
 #[tactic(auto, using(crate::proofs::DecodedLemmas::length_line))]
 pub fn push_message(out: &mut Vec<u8>, message: &Message<'_>) -> Result<(), NoMemory>
     ensures ok { OnOk result (out.new.items ≡ out.old.items ++ (message_line message.now ++ line_feed ∷ [])) }

@@ -1,3 +1,5 @@
+//! Which events sensors report.
+
 ghost use Rattle.std.specs.Prelude.{◌≡◌, ◌≤◌, length};
 ghost use Rattle.ids_config.specs.Parts.{is_sensor as sensor_is};
 

@@ -1,3 +1,5 @@
+//! Why a line or a text was not taken.
+
 ghost use Rattle.std.specs.Prelude.{◌≡◌};
 ghost use Rattle.text_spec.specs.declared.fault.LineFault.TheVariants as line_faults;
 ghost use Rattle.text_spec.specs.declared.fault.TextFault.TheVariants as text_faults;

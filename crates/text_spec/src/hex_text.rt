@@ -1,3 +1,5 @@
+//! Bytes as hexadecimal digits that are still to be decoded.
+
 ghost use Rattle.std.specs.Prelude.{◌≡◌, ◌≤◌, length, take, drop};
 ghost use Rattle.text_spec.specs.Names.{some_hex};
 
@@ -26,6 +28,7 @@ impl<'a> Model for HexText<'a> {
 #[tactic(auto, using(crate::proofs::HexadecimalLemmas::readings))]
 impl<'a> HexText<'a> {
     /// The bytes that the word writes, `None` where it is no text of a byte or more.
+    /// Steps: the bytes of the word. By: read off; the word is lent.
     pub fn of(word: &'a [u8]) -> Option<HexText<'a>>
         ensures { result ≡ some_hex word.now }
     {
@@ -43,6 +46,7 @@ impl<'a> HexText<'a> {
     }
 
     /// Decodes the bytes into the front of `room`, and returns how many they are.
+    /// Steps: the bytes that it writes. By: `count`; read off; condition: room for them.
     pub fn decode(&self, room: &mut [u8]) -> usize
         requires { length self.now ≤ length room.old }
         ensures count { result ≡ length self.now }

@@ -1,3 +1,5 @@
+//! Bytes to lower-case hexadecimal digits and back.
+
 ghost use Rattle.std.specs.Prelude.{◌≡◌, ℕ, ◌/◌, ◌%◌, ◌<◌, ◌≤◌, List, length, take, drop, IsTrue, ◌++◌, ◌*◌, OnOk, OnErr, ◌∷◌, [], ◌+◌, vec_len, vec_capacity, slice_index};
 ghost use Rattle.std.specs.List.{list_all};
 ghost use Rattle.hex.specs.Hex.{IsBytes, encode_lower, lower_digits};
@@ -6,7 +8,7 @@ ghost use Rattle.text_spec.specs.Hexadecimal.{hex_in, is_lower_digit as writes_d
 
 use ids_types::NoMemory;
 
-/// Decodes pairs of digits into the front of `room`, eight bytes at a time. That they are digits is not looked at again.
+/// Decodes pairs of digits into the front of `room`. That they are digits is not looked at again.
 pub(crate) fn put_bytes(digits: &[u8], room: &mut [u8])
     requires digits { IsTrue (list_all writes_digit digits.now) }
     requires pairs { length digits.now % 2 ≡ 0 }
@@ -15,31 +17,9 @@ pub(crate) fn put_bytes(digits: &[u8], room: &mut [u8])
     ensures rest { drop (length digits.now / 2) room.new ≡ drop (length digits.now / 2) room.old }
     ensures same { length room.new ≡ length room.old }
 {
-    let bytes = digits.len() / 2;
-    for k in 0..bytes / 8 {
-        let eight = eight_at(digits, 8 * k);
-        for i in 0..8 {
-            room[8 * k + i] = eight[i];
-        }
+    for i in 0..digits.len() / 2 {
+        room[i] = byte_of(digits[2 * i], digits[2 * i + 1]);
     }
-    for last in bytes / 8 * 8..bytes {
-        room[last] = byte_of(digits[2 * last], digits[2 * last + 1]);
-    }
-}
-
-/// Eight bytes from this one on. They lie apart from the room, so that the compiler decodes them all at once.
-fn eight_at(digits: &[u8], first: usize) -> [u8; 8]
-    requires digits { IsTrue (list_all writes_digit digits.now) }
-    requires there { 2 * (first + 8) ≤ length digits.now }
-    ensures small { (i : ℕ) → i < 8 → slice_index result i < 256 }
-    ensures written { (i : ℕ) → i < 8 → IsWritten (slice_index result i)
-        (slice_index digits.now (2 * (first + i))) (slice_index digits.now (2 * (first + i) + 1)) }
-{
-    let mut eight = [0; 8];
-    for i in 0..8 {
-        eight[i] = byte_of(digits[2 * (first + i)], digits[2 * (first + i) + 1]);
-    }
-    eight
 }
 
 /// The byte that two digits write.
@@ -65,6 +45,7 @@ fn value_of(digit: u8) -> u8
 }
 
 /// Appends the text of the bytes.
+/// Steps: two digits a byte. Memory: may answer want of memory, only where the room is short. By: `full`; read off.
 pub fn push_hex(out: &mut Vec<u8>, bytes: &[u8]) -> Result<(), NoMemory>
     ensures ok { OnOk result (out.new.items ≡ out.old.items ++ encode_lower bytes.now) }
     ensures err { OnErr result (out.new.items ≡ out.old.items) }
@@ -77,6 +58,7 @@ pub fn push_hex(out: &mut Vec<u8>, bytes: &[u8]) -> Result<(), NoMemory>
 }
 
 /// Appends the word of the bytes: `-` where there are none.
+/// Steps: two digits a byte. Memory: may answer want of memory. By: read off.
 pub fn push_bytes(out: &mut Vec<u8>, bytes: &[u8]) -> Result<(), NoMemory>
     ensures { OnOk result (out.new.items ≡ out.old.items ++ bytes_word bytes.now) }
 {
@@ -149,18 +131,13 @@ fn digit_of(value: u8) -> u8
     }
 }
 
-/// Whether all bytes are digits, sixteen of them at a time.
+/// Whether all bytes are digits.
 pub(crate) fn are_lower_digits(word: &[u8]) -> bool
     ensures { result ≡ list_all writes_digit word.now }
 {
     let mut all = true;
-    for k in 0..word.len() / 16 {
-        for i in 0..16 {
-            all &= is_lower_digit(&word[16 * k + i]);
-        }
-    }
-    for last in word.len() / 16 * 16..word.len() {
-        all &= is_lower_digit(&word[last]);
+    for byte in word {
+        all &= is_lower_digit(byte);
     }
     all
 }

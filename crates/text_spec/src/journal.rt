@@ -27,9 +27,8 @@ pub fn which_lines_have_a_form()
     ensures none { (words : List (List ℕ)) → told_by words ≡ None → HasForm line_forms words → ⊥ }
 {}
 
-/// What turns and losses that fit a configuration keep: every number is in its range and every event
-/// may stand there; of any two lines the later one follows the earlier; and a turn has at most 1,024
-/// entries.
+/// What turns and losses that fit a configuration keep. Every number is in its range and every event may stand there.
+/// Of any two lines the later one follows the earlier, and a turn has at most 1,024 entries.
 pub fn what_a_fitting_journal_keeps()
     ensures ranges { (config : Parts) (told : Told) → Fits config told →
         AllByRecursion (λ line. is_in_ranges config line ≡ true) (lines_told told) }

@@ -1,9 +1,12 @@
+//! The names of reporting modes in a text.
+
 ghost use Rattle.std.specs.Prelude.{◌≡◌, ℕ, List, Some, ◌++◌, ◌+◌, ◌<◌, length, vec_len, vec_capacity, OnOk, OnErr};
 ghost use Rattle.text_spec.specs.Names.{mode_name, mode_named};
 
 use ids_types::{Mode, NoMemory};
 
 /// Appends the name of the mode.
+/// Steps: at most 26 bytes. Memory: may answer want of memory, only where the room is short. By: `full`; read off.
 pub fn push_mode(out: &mut Vec<u8>, mode: Mode) -> Result<(), NoMemory>
     ensures ok { OnOk result (out.new.items ≡ out.old.items ++ mode_name mode) }
     ensures err { OnErr result (out.new.items ≡ out.old.items) }

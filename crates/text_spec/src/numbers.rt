@@ -1,3 +1,5 @@
+//! Decimal numbers, read and written.
+
 ghost use Rattle.std.specs.Prelude.{◌≡◌, ℕ, ◌<◌, ◌≤◌, ◌^◌, List, option_map, decimal, IsTrue, ◌++◌, ◌∷◌, OnOk, OnErr, [], ◌+◌, ◌*◌, ◌/◌, ◌%◌, length, vec_len, vec_capacity, if◌then◌else◌};
 ghost use Rattle.std.specs.Char.{is_ascii_digit};
 ghost use Rattle.std.specs.List.{list_all};
@@ -17,7 +19,7 @@ pub(crate) fn number_of(digits: &[u8], value: u64) -> Option<u64>
     may_begin(digits).then_some(value)
 }
 
-/// Whether a byte stands there, and none behind a `0` that stands first.
+/// Whether a byte stands there, and none after a `0` that stands first.
 fn may_begin(word: &[u8]) -> bool
     ensures { result ≡ begins_number word.now }
 {
@@ -40,6 +42,7 @@ pub(crate) fn with_digit(number: u64, digit: u64) -> u64
 }
 
 /// Appends the text of the number.
+/// Steps: at most 20 digits. Memory: may answer want of memory, only where the room is short. By: `full`; read off.
 #[tactic(auto, using(crate::proofs::NumbersLemmas::written))]
 pub fn push_number(out: &mut Vec<u8>, number: u64) -> Result<(), NoMemory>
     ensures ok { OnOk result (out.new.items ≡ out.old.items ++ decimal number) }
@@ -56,6 +59,7 @@ pub fn push_number(out: &mut Vec<u8>, number: u64) -> Result<(), NoMemory>
 }
 
 /// Appends a space and a number.
+/// Steps: at most 21 bytes. Memory: may answer want of memory, only where the room is short. By: `full`; read off.
 #[tactic(auto, using(crate::proofs::NumbersLemmas::written))]
 pub fn push_field(out: &mut Vec<u8>, number: u64) -> Result<(), NoMemory>
     ensures ok { OnOk result (out.new.items ≡ out.old.items ++ (space ∷ decimal number)) }

@@ -1,8 +1,10 @@
-ghost use Rattle.std.specs.Prelude.{◌≡◌, ◌==◌, ℕ, ◌<◌, List, ◌∷◌, length, option_map, IfSome, position};
+//! The words of a line and the parts of a word, taken one after another.
+
+ghost use Rattle.std.specs.Prelude.{◌≡◌, ◌==◌, ℕ, ◌<◌, ◌≤◌, List, ◌∷◌, true, length, take, drop, option_map, IfSome, position};
 ghost use Rattle.text_spec.specs.Fields.{a_mode, a_number, a_stamp, first_as};
 ghost use Rattle.text_spec.specs.Maybe.{first_of, ended as ended_of};
 ghost use Rattle.text_spec.specs.PiecesView.{pieces_left};
-ghost use Rattle.text_spec.specs.Words.{pieces_of};
+ghost use Rattle.text_spec.specs.Words.{differs, pieces_of};
 
 use crate::numbers::{number_of, with_digit};
 use crate::stamps::stamp;
@@ -34,14 +36,16 @@ impl<'a, const SEPARATOR: u8> Pieces<'a, SEPARATOR> {
         Pieces { rest: Some(text) }
     }
 
-    /// The text of all pieces that are left, not cut; none behind the last piece.
+    /// The text of all pieces that are left, not cut; none after the last piece.
+    /// By: no loop; the text is lent.
     pub fn text(self) -> Option<&'a [u8]>
         ensures { pieces_left SEPARATOR (option_map (λ r. r.now) result) ≡ self.entry }
     {
         self.rest
     }
 
-    /// The first piece, and those behind it.
+    /// The first piece, and those after it.
+    /// Steps: the bytes up to the separator. By: read off.
     #[inline(always)]
     pub fn first(self) -> Option<(&'a [u8], Pieces<'a, SEPARATOR>)>
         ensures { option_map (λ x. (x.0.now, x.1)) result ≡ first_of self.entry }
@@ -50,8 +54,9 @@ impl<'a, const SEPARATOR: u8> Pieces<'a, SEPARATOR> {
         Some((piece, Pieces { rest }))
     }
 
-    /// The number at the front, of any length, and the pieces behind it. A number that is greater is
+    /// The number at the front, of any length, and the pieces after it. A number that is greater is
     /// told as `u64::MAX`, so that a number out of its range is not taken for a word that is no number.
+    /// Steps: the bytes up to the separator or to the first that is no digit. By: read off.
     pub fn any_number(self) -> Option<(u64, Pieces<'a, SEPARATOR>)>
         ensures { result ≡ first_as a_number self.entry }
     {
@@ -59,17 +64,28 @@ impl<'a, const SEPARATOR: u8> Pieces<'a, SEPARATOR> {
         Some((number, Pieces { rest }))
     }
 
-    /// The optional timestamp at the front, and the pieces behind it.
+    /// The optional timestamp at the front, and the pieces after it.
+    /// Steps: the bytes up to the separator. By: read off.
     #[inline(always)]
     pub fn stamp(self) -> Option<(Option<Stamp>, Pieces<'a, SEPARATOR>)>
         ensures { result ≡ first_as a_stamp self.entry }
     {
-        let (word, rest) = self.first()?;
+        let (word, rest) = self.first_stamp()?;
         let stamp = stamp(word)?;
         Some((stamp, rest))
     }
 
-    /// The mode at the front, and the pieces behind it.
+    /// The first piece, and those after it, quick where it has one byte or sixteen, as timestamps have.
+    #[inline(always)]
+    fn first_stamp(self) -> Option<(&'a [u8], Pieces<'a, SEPARATOR>)>
+        ensures { option_map (λ x. (x.0.now, x.1)) result ≡ first_of self.entry }
+    {
+        let (piece, rest) = cut_stamp(self.rest?, SEPARATOR);
+        Some((piece, Pieces { rest }))
+    }
+
+    /// The mode at the front, and the pieces after it.
+    /// Steps: the bytes up to the separator, and 5 names. By: read off.
     pub fn mode(self) -> Option<(Mode, Pieces<'a, SEPARATOR>)>
         ensures { result ≡ first_as a_mode self.entry }
     {
@@ -87,6 +103,7 @@ impl<'a, const SEPARATOR: u8> Pieces<'a, SEPARATOR> {
     }
 
     /// The value, where no piece is left.
+    /// Steps: constant, and the value let go where a piece is left.
     pub fn ended<T: Drop>(self, value: T) -> Option<T>
         ensures { result ≡ ended_of value self.entry }
     {
@@ -94,7 +111,8 @@ impl<'a, const SEPARATOR: u8> Pieces<'a, SEPARATOR> {
     }
 }
 
-/// What stands before the first separator, and what stands behind it, if there is one.
+/// What stands before the first separator, and what stands after it, if there is one.
+/// Steps: the bytes up to the first separator. By: `shorter`; read off.
 pub fn cut(text: &[u8], separator: u8) -> (&[u8], Option<&[u8]>)
     ensures pieces { pieces_of separator text.now ≡
         result.0.now ∷ pieces_left separator (option_map (λ r. r.now) result.1) }
@@ -128,7 +146,42 @@ fn cut_short(text: &[u8], separator: u8) -> (&[u8], Option<&[u8]>)
     }
 }
 
-/// The number that the first piece writes, and what stands behind the piece: quick where it has one
+/// The same as `cut`, quick where the first piece has one byte or sixteen.
+#[inline(always)]
+fn cut_stamp(text: &[u8], separator: u8) -> (&[u8], Option<&[u8]>)
+    ensures { pieces_of separator text.now ≡
+        result.0.now ∷ pieces_left separator (option_map (λ r. r.now) result.1) }
+{
+    if ends_at_sixteen(text, separator) {
+        return (&text[..16], Some(&text[17..]));
+    }
+    cut_short(text, separator)
+}
+
+/// Whether the first piece has sixteen bytes, and another one follows it.
+#[inline(always)]
+fn ends_at_sixteen(text: &[u8], separator: u8) -> bool
+    ensures long { result ≡ true → 17 ≤ length text.now }
+    ensures pieces { result ≡ true →
+        pieces_of separator text.now ≡ take 16 text.now ∷ pieces_of separator (drop 17 text.now) }
+{
+    if text.len() <= 16 || text[16] != separator {
+        return false;
+    }
+    let mut free = true;
+    for i in 0..16 {
+        free &= is_other(&text[i], separator);
+    }
+    free
+}
+
+fn is_other(byte: &u8, separator: u8) -> bool
+    ensures { result ≡ differs separator byte.now }
+{
+    *byte != separator
+}
+
+/// The number that the first piece writes, and what stands after the piece: quick where it has one
 /// digit or two, as many numbers have.
 #[inline(always)]
 fn cut_number(text: &[u8], separator: u8) -> Option<(u64, Option<&[u8]>)>

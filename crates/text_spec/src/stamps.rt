@@ -1,3 +1,5 @@
+//! Timestamps, read and written.
+
 ghost use Rattle.std.specs.Prelude.{◌≡◌, ℕ, ◌<◌, ◌^◌, ◌≤◌, List, Option, ◌++◌, OnOk, OnErr, ◌+◌, length, vec_len, vec_capacity, option_and_then};
 ghost use Rattle.text_spec.specs.Names.{stamp_in, stamp_text, stamp_of_bytes, hex_in, Stamp};
 
@@ -5,6 +7,7 @@ use crate::hexadecimal::{are_lower_digits, push_hex, put_bytes, put_hex};
 use ids_types::{NoMemory, Stamp};
 
 /// The optional timestamp that the word writes, `None` where it is no text of one.
+/// Steps: at most 16 digits; a longer word is refused by its length. By: read off.
 #[inline(always)]
 pub fn stamp(word: &[u8]) -> Option<Option<Stamp>>
     ensures { result ≡ stamp_in word.now }
@@ -30,6 +33,7 @@ fn stamp_of_digits(word: &[u8]) -> Option<Option<Stamp>>
 }
 
 /// Appends the text of the optional timestamp.
+/// Steps: at most 16 digits. Memory: may answer want of memory, only where the room is short. By: `full`; read off.
 pub fn push_stamp(out: &mut Vec<u8>, stamp: Option<Stamp>) -> Result<(), NoMemory>
     ensures ok { OnOk result (out.new.items ≡ out.old.items ++ stamp_text stamp) }
     ensures err { OnErr result (out.new.items ≡ out.old.items) }

@@ -5,9 +5,9 @@ ghost use Rattle.text_spec.specs.Names.{Parts};
 ghost use Rattle.text_spec.specs.TraceReading.{AreRounds, trace_in};
 ghost use Rattle.text_spec.specs.TraceText.{Round, trace_text};
 
-/// The text of rounds that fit a configuration is read as them, and the rounds that a text is read as
-/// fit: each caller has its lines, with every number in its range and every event where it may stand, and
-/// no tick is below the one before it. A configuration has at most 32 callers and 256 events.
+/// The text of rounds that fit a configuration is read as them, and the rounds that a text is read as fit. Each
+/// caller has its lines, with every number in its range and every event where it may stand. No tick is below the one
+/// before it. A configuration has at most 32 callers and 256 events.
 pub fn a_trace_is_read_as_its_rounds()
     ensures read { (config : Parts) (rounds : List Round) → config.callers ≤ 32 →
         length config.events ≤ 256 → AreRounds config rounds →

@@ -2,10 +2,10 @@
 use Rattle.trace_replay.proofs.Names.{◌≡◌, ℕ, suc, ◌+◌, ◌≤◌, ◌<◌, ◌⊎◌, ⊎_elim, List, [], ◌∷◌, ◌++◌, length, map, take, refl, sym, ap, subst, ◌∙◌, arith, AllByRecursion, length-map, map-append, take_all, flat_map-cons, Turn, Parts, IsValid, all_losses, losses_from, IsMerge, last_tick, lines_of, ticks_of, AreRounds, IsAllowedRound, Buffer, desk_memo, PassMemo, pass_memo, Shared, HaveAllCalls, fates_in, losses_in, Traced, HavePlayed, sizes_in, Closes, IsRecordOf, IsSmallTurn, tick_of, turns_in, IsBetween, all_rests, as_told, AreFew, HasListed, losses_by, passes_of, told, Caller, Recorder}
 use mathlib.Core.Option.{some}
 use lib.ListN.{get_elem?}
-use Rattle.merge_texts.specs.Small.{AreSmall}
-use Rattle.merge_texts.proofs.JournalLemmas.{merge_fits}
+use Rattle.trace_text.specs.Small.{AreSmall}
+use Rattle.trace_text.proofs.JournalLemmas.{merge_fits}
 use Rattle.report_queue.specs.Parts.{queue_positions}
-use Rattle.desk_closing.specs.Closed.{IsMadeFor, plain_item}
+use Rattle.law_closing.specs.Closed.{IsMadeFor, plain_item}
 use Rattle.trace_replay.specs.Replayed.{IsReplayOver, given}
 use Rattle.trace_replay.proofs.MergeLemmas.{TellLosses, merged, no_lines}
 use Rattle.trace_replay.proofs.RecordingLemmas.{all_push}

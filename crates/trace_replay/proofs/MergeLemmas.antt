@@ -6,13 +6,13 @@ use mathlib.Core.Option.{some, some-injective}
 use lib.ListN.{get_elem?}
 use Rattle.ids_types.specs.declared.class_spec.ClassSpec.{ClassSpec}
 use Rattle.buffer_classes.specs.Classes.{first_fitting}
-use Rattle.merge_spec.specs.Contexts.{Misses, misses_context}
-use Rattle.merge_spec.specs.Follows.{Calls}
-use Rattle.merge_spec.specs.Losses.{entries_by}
-use Rattle.merge_spec.specs.Names.{Entry}
-use Rattle.merge_spec.specs.Settled.{AreLegalContexts, entries_from}
-use Rattle.merge_spec.proofs.FollowsLemmas.{call_was}
-use Rattle.merge_spec.proofs.PlaceLemmas.{stands_kept}
+use Rattle.history_spec.specs.Contexts.{Misses, misses_context}
+use Rattle.history_spec.specs.Follows.{Calls}
+use Rattle.history_spec.specs.Losses.{entries_by}
+use Rattle.history_spec.specs.Names.{Entry}
+use Rattle.history_spec.specs.Settled.{AreLegalContexts, entries_from}
+use Rattle.history_spec.proofs.FollowsLemmas.{call_was}
+use Rattle.history_spec.proofs.PlaceLemmas.{stands_kept}
 use Rattle.trace_replay.proofs.CallLemmas.{got_none}
 use Rattle.trace_replay.proofs.PlayedLemmas.{zip_length}
 use Rattle.trace_replay.proofs.RoundLemmas.{map_at}
@@ -56,7 +56,7 @@ none_small bytes above [] fits rise = refl
 none_small bytes above (spec ∷ specs) fits rise =
     rw (le-ltb spec.size bytes (omega (arith, fits, rise.0))) (none_small bytes spec.size specs (omega (arith, fits, rise.0)) rise.3)
 
--- the first class that fits stands behind the ones that are too small
+-- the first class that fits stands after the ones that are too small
 first_in : (bytes above : ℕ) (specs : List ClassSpec) → AreClasses above specs → first_fitting bytes (sizes_of specs) ≡ small_in bytes specs
 first_in bytes above [] rise = refl
 first_in bytes above (spec ∷ specs) rise =
@@ -153,7 +153,7 @@ missed_all : (es : List (Entry (List ℕ))) → length (filter missed es) ≡ mi
 missed_all [] = refl
 missed_all (e ∷ es) = let rest = missed_all es in grind (arith, rest)
 
--- they are those of one caller, and of the callers behind it
+-- they are those of one caller, and of the callers after it
 missed_one : (i : ℕ) (es : List (Entry (List ℕ))) → missed_from i es ≡ length (filter missed (entries_by i es)) + missed_from (suc i) es
 missed_one i [] = refl
 missed_one i (e ∷ es) = let rest = missed_one i es in grind (arith, rest)

@@ -8,8 +8,8 @@ pub use Rattle.std.proofs.lemmas.List.Folds.{length-flat_map-take}
 pub use Rattle.std.proofs.lemmas.List.Sums.{sum_by-cons, sum_by_push}
 pub use Rattle.std.specs.List.{AllByRecursion, flat_map, AllZip, All}
 pub use Rattle.buffer_classes.specs.Buffers.{Buffer}
-pub use Rattle.desk_closing.proofs.PlaceLemmas.{or_at}
-pub use Rattle.desk_closing.specs.Calls.{HaveAllCalls, fates_in, losses_in, calls_by}
+pub use Rattle.law_closing.proofs.PlaceLemmas.{or_at}
+pub use Rattle.law_closing.specs.Calls.{HaveAllCalls, fates_in, losses_in, calls_by}
 pub use Rattle.ids_config.specs.Parts.{Parts, class_of, is_sensor}
 pub use Rattle.ids_config.specs.Valid.{IsValid, AreClasses}
 pub use Rattle.ids_types.specs.Output.{Output}
@@ -20,10 +20,10 @@ pub use Rattle.main_function.specs.Standing.{IsManagerOf, AreAllPasses, StaysSo,
 pub use Rattle.main_function.specs.Rests.{RestsTold, rests_told, with_rest}
 pub use Rattle.main_function.specs.Turning.{Turned, TurnLeaves}
 pub use Rattle.main_function.specs.declared.manager.Manager.{Manager}
-pub use Rattle.merge_spec.specs.Decided.{all_losses, losses_from}
-pub use Rattle.merge_spec.specs.Merge.{IsMerge, AreMerged, IsAsAsked, IsItsLine}
-pub use Rattle.merge_spec.specs.Orders.{StandsIn, KeepUpFrom}
-pub use Rattle.merge_spec.specs.Rounds.{Asked, reports, changes, sets, last_tick, lines_of, ticks_of, Round, is_lost_report, is_report, lines_at, round_ticks}
+pub use Rattle.history_spec.specs.Decided.{all_losses, losses_from}
+pub use Rattle.history_spec.specs.Merge.{IsMerge, AreMerged, IsAsAsked, IsItsLine}
+pub use Rattle.history_spec.specs.Orders.{StandsIn, KeepUpFrom}
+pub use Rattle.history_spec.specs.Rounds.{Asked, reports, changes, sets, last_tick, lines_of, ticks_of, Round, is_lost_report, is_report, lines_at, round_ticks}
 pub use Rattle.permit_ring.proofs.ListLemmas.{there, at_length}
 pub use Rattle.report_queue.specs.Parts.{calls_of}
 pub use Rattle.report_api.specs.Desks.{desk_memo}

@@ -1,7 +1,7 @@
--- What was gathered, with one turn more, and with those of one list of ticks behind those of another.
+-- What was gathered, with one turn more, and with those of one list of ticks after those of another.
 use Rattle.trace_replay.proofs.Names.{◌≡◌, ℕ, zero, suc, ◌+◌, ◌-◌, ◌≤◌, ◌<◌, ◌^◌, List, [], ◌∷◌, ◌++◌, length, min, take, get_or, refl, sym, ap, ◌∙◌, arith, append_assoc, append-nil, length-append, AllByRecursion, length-map, map-append, Output, Turn, Parts, KeepUpFrom, last_from, Buffer, DeskMemo, desk_memo, PassMemo, Shared, Closed, all_back, IsManagerOf, rests_told, Turned, Manager, Advances, Closes, Continues, StaysSame, tick_of, turns_in, Gathered, Recorder}
 use Rattle.ids_types.specs.Carries.{entry_by}
-use Rattle.chain.proofs.TranscriptLemmas.{newest_first, transcript_more}
+use Rattle.filter_chain.proofs.TranscriptLemmas.{newest_first, transcript_more}
 use Rattle.trace_replay.specs.Recording.{Gathers}
 use Rattle.buffer_classes.specs.declared.giver.Giver.{Giver}
 use Rattle.main_function.specs.Reports.{held}
@@ -39,7 +39,7 @@ module _ {C : Type 0} (stands : C → Parts → List Turn → Type 0) (events : 
     back_is = refl;
   }
 
-  -- turns behind turns
+  -- turns after turns
   pub made_more : {ticks more : List ℕ} {old mid new : Recorder C} → Continues stands events kept shared ticks old mid
       → Continues stands events kept shared more mid new → Continues stands events kept shared (ticks ++ more) old new
   made_more {ticks} {more} {old} first then =
@@ -107,7 +107,7 @@ module _ {C : Type 0} (stands : C → Parts → List Turn → Type 0) (events : 
       back_is = turned.back_is ∙ ap (λ desk. (desk_memo desk).back) same.manager_is.desk_is;
     }
 
-    -- a last turn, behind which all passes are back
+    -- a last turn, after which all passes are back
     pub closes : (tick : ℕ) (passes : List PassMemo) → Closed stands kept shared tick passes m0 m1
         → Closes stands events kept shared tick passes old (record { manager = m1; gathered = g })
     closes tick passes closed =

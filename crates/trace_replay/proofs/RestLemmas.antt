@@ -61,7 +61,7 @@ module _ (n : ℕ) (rounds : List Round) where
       let calls = lines_from 0 n (take (k + 1) rounds) in
       record { turns = turns - 1; calls = calls } ∷ record { turns = turns; calls = calls } ∷ []
 
-  -- they stand behind those of the rounds before
+  -- they stand after those of the rounds before
   pub rests_more : (k : ℕ) → rests_before n rounds (k + 1) ≡ rests_before n rounds k ++ two_rests k
   rests_more k =
       let is : suc k ≡ k + 1 = omega arith in
@@ -77,7 +77,7 @@ module _ (n : ℕ) (rounds : List Round) where
       let more = ap length (subst (λ m. rests_before n rounds m ≡ rests_before n rounds k ++ two_rests k) is (rests_more k)) in
       omega (arith, more, two_each k, length-append (rests_before n rounds k) (two_rests k))
 
-  -- and in front of those of the rounds behind
+  -- and before those of the rounds after
   stays : (all k j : ℕ) → k ≤ all → j < 2 * k → get_elem? (rests_before n rounds all) j ≡ get_elem? (rests_before n rounds k) j
   stays zero k j le low = absurd (omega (arith, le, low))
   stays (suc all) k j le low =

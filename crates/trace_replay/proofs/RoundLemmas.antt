@@ -43,7 +43,7 @@ module _ (rounds : List Round) (k : ℕ) (less : k < length rounds) where
   pub ticks_more : ticks_before rounds (k + 1) ≡ ticks_before rounds k ++ (here.beside ++ here.after ∷ [])
   ticks_more = rw (take_more rounds k (begun_round 0 [] 0) less) (flat_map-push round_ticks (take k rounds) here)
 
-  -- all ticks are those, and others behind them
+  -- all ticks are those, and others after them
   all_ticks : flat_map round_ticks rounds
       ≡ ticks_before rounds k ++ (here.beside ++ (here.after ∷ flat_map round_ticks (drop (k + 1) rounds)))
   all_ticks =
@@ -102,7 +102,7 @@ module _ (shared : Shared) (rounds : List Round) (k : ℕ) (callers : List Calle
 -- ---- one round more
 
 module _ {C : Type 0} (stands : C → Parts → List Turn → Type 0) (events : C → ℕ) (kept : C → List Buffer) where
-  -- what was gathered is so still behind a rest
+  -- what was gathered is so still after a rest
   pub still_records : (old new : Recorder C) → StaysSo stands events kept old.manager new.manager → new.gathered ≡ old.gathered
       → StillRecords stands old new
   still_records old new stays same config was = rw same record {

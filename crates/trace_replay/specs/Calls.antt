@@ -1,7 +1,7 @@
 -- What became of the calls that the lines of a trace ask for.
 use Rattle.std.specs.Prelude.{◌≡◌, ℕ, ◌+◌, ◌-◌, ◌<◌, Option, Some, None, List, [], ◌∷◌, ◌++◌, length, ⊤}
 use Rattle.ids_types.specs.declared.loss.Loss.{Loss}
-use Rattle.merge_spec.specs.Rounds.{Asked, reports, changes, sets}
+use Rattle.history_spec.specs.Rounds.{Asked, reports, changes, sets}
 use Rattle.buffer_classes.specs.Buffers.{Buffer}
 use Rattle.buffer_classes.specs.Classes.{first_fitting}
 use Rattle.permit_ring.specs.declared.answer.Look.{Look}

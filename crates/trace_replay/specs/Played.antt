@@ -4,7 +4,7 @@ use mathlib.Core.Option.{some}
 use lib.ListN.{get_elem?}
 use Rattle.ids_types.specs.declared.class_spec.ClassSpec.{ClassSpec}
 use Rattle.ids_config.specs.Parts.{Parts}
-use Rattle.merge_spec.specs.Rounds.{Round, lines_of}
+use Rattle.history_spec.specs.Rounds.{Round, lines_of}
 use Rattle.report_api.specs.Names.{PassMemo}
 use Rattle.trace_replay.specs.Standing.{HasPlayed}
 

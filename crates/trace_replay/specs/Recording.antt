@@ -5,7 +5,7 @@ use Rattle.ids_types.specs.Output.{Output}
 use Rattle.ids_types.specs.Turns.{Turn}
 use Rattle.ids_config.specs.Parts.{Parts}
 use Rattle.text_spec.specs.TraceFaults.{last_from}
-use Rattle.chain.specs.Transcripts.{Adds, IsEmpty, IsTranscript}
+use Rattle.filter_chain.specs.Transcripts.{Adds, IsEmpty, IsTranscript}
 use Rattle.chain_spec.specs.Chain.{IsCausal}
 use Rattle.buffer_classes.specs.Buffers.{Buffer}
 use Rattle.report_queue.specs.Parts.{queue_positions}
@@ -13,8 +13,8 @@ use Rattle.report_api.specs.Desks.{desk_memo}
 use Rattle.report_api.specs.Names.{PassMemo}
 use Rattle.report_api.specs.declared.pass.Pass.{Pass}
 use Rattle.report_api.specs.declared.shared.Shared.{Shared}
-use Rattle.desk_closing.specs.Calls.{HaveAllCalls}
-use Rattle.desk_closing.specs.Closed.{IsMadeFor, came}
+use Rattle.law_closing.specs.Calls.{HaveAllCalls}
+use Rattle.law_closing.specs.Closed.{IsMadeFor, came}
 use Rattle.main_function.specs.Closing.{AreCountsOf, AreSumsOf}
 use Rattle.main_function.specs.Making.{IsNewManager}
 use Rattle.main_function.specs.Standing.{IsManagerOf, Stands, StaysSo, fits_turn, last_of, rests_of, turns_of}

@@ -3,14 +3,14 @@ use Rattle.std.specs.Prelude.{◌≡◌, ℕ, zero, suc, ◌+◌, ◌*◌, ◌-�
 use mathlib.Core.Option.{some}
 use lib.ListN.{get_elem?}
 use Rattle.std.specs.List.{flat_map}
-use Rattle.merge_spec.specs.Rounds.{Round, lines_of, round_ticks}
+use Rattle.history_spec.specs.Rounds.{Round, lines_of, round_ticks}
 use Rattle.main_function.specs.Rests.{RestsTold}
 
 -- the ticks of the turns of the first k rounds
 abbrev pub ticks_before : List Round → ℕ → List ℕ
 ticks_before rounds k = flat_map round_ticks (take k rounds)
 
--- how many lines caller i and those behind it, n in all, have in these rounds
+-- how many lines caller i and those after it, n in all, have in these rounds
 abbrev pub lines_from : ℕ → ℕ → List Round → List ℕ
 lines_from i zero rounds = []
 lines_from i (suc n) rounds = length (lines_of i rounds) ∷ lines_from (suc i) n rounds

@@ -2,9 +2,9 @@
 use Rattle.std.specs.Prelude.{◌≡◌, ℕ, ◌+◌, ◌<◌, ◌≤◌, ◌^◌, List, length, map, take, slice_index_or, vec_len, vec_capacity}
 use Rattle.std.specs.List.{AllZip, flat_map}
 use Rattle.ids_types.specs.declared.loss.Loss.{Loss}
-use Rattle.merge_spec.specs.Decided.{losses_from}
-use Rattle.merge_spec.specs.Rounds.{Asked, Round, lines_at, lines_of}
-use Rattle.desk_closing.specs.Calls.{fates_in}
+use Rattle.history_spec.specs.Decided.{losses_from}
+use Rattle.history_spec.specs.Rounds.{Asked, Round, lines_at, lines_of}
+use Rattle.law_closing.specs.Calls.{fates_in}
 use Rattle.report_queue.specs.Parts.{queue_positions}
 use Rattle.report_api.specs.Names.{PassMemo}
 use Rattle.report_api.specs.Passes.{IsPassOf, lost_events, pass_memo, sizes_of}

@@ -1,6 +1,6 @@
 //! A caller of a replay: its pass, and the calls that it lost.
 ghost use Rattle.std.specs.Prelude.{◌≡◌, ◌+◌, ◌<◌, ◌≤◌, ◌^◌, length, vec_len, vec_capacity, OnOk};
-ghost use Rattle.merge_spec.specs.Rounds.{lines_at, lines_of};
+ghost use Rattle.history_spec.specs.Rounds.{lines_at, lines_of};
 ghost use Rattle.report_queue.specs.Parts.{queue_positions};
 ghost use Rattle.report_api.specs.Passes.{IsPassOf, pass_memo, sizes_of};
 ghost use Rattle.trace_text.specs.Lines.{act_asked, line_asked};

@@ -4,12 +4,15 @@
 /// A test's gate lets threads wait for each other here.
 pub trait Gate {
     /// A caller is about to make a call.
+    /// Steps: `OpenGate`: constant. Memory: `OpenGate`: none. Waits: as its gate; `OpenGate`: no. By: no body.
     fn before(&self, caller: u8, call: u64);
 
     /// A caller has made a call.
+    /// Steps: `OpenGate`: constant. Memory: `OpenGate`: none. Waits: as its gate; `OpenGate`: no. By: no body.
     fn after(&self, caller: u8, call: u64);
 
     /// A turn is about to be made beside the calls of a round.
+    /// Steps: `OpenGate`: constant. Memory: `OpenGate`: none. Waits: as its gate; `OpenGate`: no. By: no body.
     fn beside(&self, tick: u64);
 }
 

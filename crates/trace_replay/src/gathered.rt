@@ -1,9 +1,9 @@
 //! What a replay gathers of the turns of its manager.
 ghost use Rattle.std.specs.Prelude.{◌≡◌, ◌++◌, [], length, IfOk, OnOk};
-ghost use Rattle.chain.specs.Transcripts.{IsEmpty};
+ghost use Rattle.filter_chain.specs.Transcripts.{IsEmpty};
 ghost use Rattle.trace_replay.specs.Recording.{Gathers};
 
-use chain::Transcript;
+use filter_chain::Transcript;
 use ids_types::{History, NoMemory, TurnOut};
 use std::alloc::Global;
 

@@ -3,9 +3,9 @@
 /// For how many looks it is waited at most.
 const MOST_LOOKS: u64 = 4;
 
-/// For how many looks it is waited whether a thread begins with a caller, before its calls are made here. Where one came
-/// in time it is waited longer the next time, and else shorter, down to no wait at all: so threads are given their time
-/// where there are processors for them, and elsewhere next to none is lost. No proof rests on it.
+/// For how many looks it is waited whether a thread begins with a caller, before its calls are made here. Where one
+/// came in time it is waited longer the next time, and else shorter, down to no wait at all. So threads are given
+/// their time where there are processors for them, and elsewhere next to none is lost. No proof rests on it.
 #[derive(Clone, Copy, Debug)]
 pub(crate) struct Patience {
     looks: u64,

@@ -1,7 +1,7 @@
 //! The manager of a replay, with what is gathered of its turns.
 ghost use Rattle.std.specs.Prelude.{◌≡◌, ◌≤◌, ◌^◌, ◌∷◌, [], true, map, OnOk};
 ghost use Rattle.std.specs.List.{All};
-ghost use Rattle.merge_spec.specs.Orders.{KeepUpFrom};
+ghost use Rattle.history_spec.specs.Orders.{KeepUpFrom};
 ghost use Rattle.report_api.specs.Desks.{desk_memo};
 ghost use Rattle.report_api.specs.Passes.{pass_memo};
 ghost use Rattle.main_function.specs.Standing.{AreAllPasses, IsManagerOf, last_of};
@@ -9,7 +9,7 @@ ghost use Rattle.trace_replay.specs.Recording.{CanTurn, Closes, Continues, Stays
 
 use crate::gate::Gate;
 use crate::gathered::Gathered;
-use chain::Chain;
+use filter_chain::ParcelChain;
 use ids_types::NoMemory;
 use main_function::Manager;
 use report_api::{CtxBuf, Pass, Shared};
@@ -28,7 +28,7 @@ pub(crate) struct Recorder<C> {
     pub(crate) gathered: Gathered,
 }
 
-impl<C: Chain<CtxBuf>> Recorder<C> {
+impl<C: ParcelChain<CtxBuf>> Recorder<C> {
     /// Makes room for the rests of all rounds of a trace.
     pub(crate) fn reserve_rests(&mut self, trace: &Trace) -> Result<(), NoMemory>
         ensures { StaysSame C.stands C.events C.kept self.old self.new }
@@ -53,7 +53,7 @@ impl<C: Chain<CtxBuf>> Recorder<C> {
         Ok(())
     }
 
-    /// Makes a turn of each of these ticks, each behind a word to the gate.
+    /// Makes a turn of each of these ticks, each after a word to the gate.
     pub(crate) fn turns_beside<G: Gate>(
         &mut self,
         shared: &Shared,

@@ -11,8 +11,8 @@ use crate::gathered::Gathered;
 use crate::recorder::Recorder;
 use crate::rounds::play_beside;
 use crate::stage::Stage;
-use chain::{Chain, Transcript};
 use event_chain::EventChain;
+use filter_chain::{ParcelChain, Transcript};
 use ids_config::Config;
 use ids_types::{History, Loss, NoMemory};
 use main_function::{Made, Manager, make};
@@ -32,7 +32,7 @@ pub struct Replayed {
     pub history: History,
     /// The calls that found no event buffer, by caller and then by call.
     pub losses: Vec<Loss>,
-    /// The messages that were sent, one behind the other.
+    /// The messages that were sent, one after the other.
     pub sent: Vec<u8>,
     /// How many bytes were sent by the end of each turn.
     pub ends: Vec<u64>,
@@ -45,6 +45,13 @@ pub struct Replayed {
 /// Replays a trace: in each round its callers make the calls that their lines ask for, beside the turns of the ticks
 /// beside; and then a turn is made that takes what is left. There is a thread for each caller; the main function makes
 /// what no thread has begun.
+/// Steps: as many threads beside its own as callers, at most 32, once. For each round: two hand-overs a caller, and two
+/// rests. For each line one call of a pass and two of the gate. For each tick one `Manager::turn`, after a call of the
+/// gate where it is beside. At the end one `Manager::close`. What each turn took and sent is copied once. Memory: may
+/// answer want of memory, as it does at 2^62 turns. What is gathered grows with the turns, and room for the rests is
+/// made at the start. A caller's calls take none, but each thread has a stack of the host's. Waits: looks for callers
+/// whose calls a thread has begun, 2^64 times at most; joins the threads at the end; as its gate. By: bound `Threads`
+/// (where no thread can be made, the calls come one after another); read off.
 pub fn replay<R: Threads + Sync, G: Gate + Sync>(
     rt: &R,
     alloc: Global,
@@ -79,7 +86,7 @@ pub fn replay<R: Threads + Sync, G: Gate + Sync>(
 
 /// Replays a trace over a chain that took no turn yet, and answers the manager, closed, with what was gathered of its
 /// turns, and the losses of the callers.
-fn run<R: Threads + Sync, G: Gate + Sync, C: Chain<CtxBuf> + Drop>(
+fn run<R: Threads + Sync, G: Gate + Sync, C: ParcelChain<CtxBuf> + Drop>(
     rt: &R,
     alloc: Global,
     config: &Config,
@@ -110,7 +117,7 @@ fn run<R: Threads + Sync, G: Gate + Sync, C: Chain<CtxBuf> + Drop>(
 }
 
 /// Plays a trace from its first round on and closes, and answers the losses of the callers.
-fn play<R: Threads + Sync, G: Gate + Sync, C: Chain<CtxBuf>>(
+fn play<R: Threads + Sync, G: Gate + Sync, C: ParcelChain<CtxBuf>>(
     rt: &R,
     alloc: Global,
     config: &Config,

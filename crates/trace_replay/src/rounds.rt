@@ -2,7 +2,7 @@
 ghost use Rattle.std.specs.Prelude.{◌≡◌, ℕ, ◌+◌, ◌<◌, ◌≤◌, ◌^◌, length, OnOk};
 ghost use Rattle.std.specs.List.{All};
 ghost use Rattle.std.specs.Thread.{IsSync};
-ghost use Rattle.merge_spec.specs.Orders.{KeepUpFrom};
+ghost use Rattle.history_spec.specs.Orders.{KeepUpFrom};
 ghost use Rattle.report_api.specs.Desks.{desk_memo};
 ghost use Rattle.main_function.specs.Standing.{IsManagerOf, last_of};
 ghost use Rattle.trace_text.specs.TraceView.{round_at};
@@ -18,14 +18,14 @@ use crate::patience::Patience;
 use crate::recorder::Recorder;
 use crate::serving::serve_all;
 use crate::stage::Stage;
-use chain::Chain;
+use filter_chain::ParcelChain;
 use ids_types::NoMemory;
 use report_api::CtxBuf;
 use std::thread::{Threads, join_mut};
 
 /// Plays a trace: the main function's turns, round by round, beside the threads of the callers, which last through all
 /// rounds. After the last round the threads are told that the replay is over.
-pub(crate) fn play_beside<R: Threads + Sync, G: Gate + Sync, C: Chain<CtxBuf>>(
+pub(crate) fn play_beside<R: Threads + Sync, G: Gate + Sync, C: ParcelChain<CtxBuf>>(
     rt: &R,
     stage: &Stage<'_, G>,
     recorder: &mut Recorder<C>,
@@ -55,7 +55,7 @@ pub(crate) fn play_beside<R: Threads + Sync, G: Gate + Sync, C: Chain<CtxBuf>>(
 }
 
 /// Plays all rounds of a trace, one after the other.
-fn play_rounds<G: Gate, C: Chain<CtxBuf>>(
+fn play_rounds<G: Gate, C: ParcelChain<CtxBuf>>(
     stage: &Stage<'_, G>,
     recorder: &mut Recorder<C>,
     callers: &mut Vec<Caller>,
@@ -73,7 +73,7 @@ fn play_rounds<G: Gate, C: Chain<CtxBuf>>(
 }
 
 /// Plays a round: the callers' calls beside the turns of its ticks beside, and then one turn more, between two rests.
-fn play_round<G: Gate, C: Chain<CtxBuf>>(
+fn play_round<G: Gate, C: ParcelChain<CtxBuf>>(
     stage: &Stage<'_, G>,
     round: u64,
     patience: &mut Patience,
@@ -92,7 +92,7 @@ fn play_round<G: Gate, C: Chain<CtxBuf>>(
 }
 
 /// The callers' calls of a round, beside the turns of its ticks beside.
-fn play_calls<G: Gate, C: Chain<CtxBuf>>(
+fn play_calls<G: Gate, C: ParcelChain<CtxBuf>>(
     stage: &Stage<'_, G>,
     round: u64,
     patience: &mut Patience,
@@ -118,7 +118,7 @@ fn play_calls<G: Gate, C: Chain<CtxBuf>>(
 }
 
 /// The turn that takes what is left of a round, between two rests.
-fn end_round<G: Gate, C: Chain<CtxBuf>>(
+fn end_round<G: Gate, C: ParcelChain<CtxBuf>>(
     stage: &Stage<'_, G>,
     round: u64,
     recorder: &mut Recorder<C>,

@@ -29,7 +29,7 @@ other_is words = forms_are trace_fields trace_forms words are_forms
 other_has : (words : List (List ℕ)) (line : TraceLine) → told_in_one trace_forms words ≡ Some line → HasForm trace_forms words
 other_has words line read = (subst (IsTold trace_fields trace_forms words) read (other_is words)).0
 
--- behind an `N`, by what they are read as
+-- after an `N`, by what they are read as
 opening_has : (word : List ℕ) (words : List (List ℕ)) (line : TraceLine) (ticks : Option (List ℕ)) → word ≡ codes "N"
     → numbers_in (length words) words ≡ ticks → or_else (option_map opens ticks) (told_in_one trace_forms (word ∷ words)) ≡ Some line
     → HasTraceForm (word ∷ words)

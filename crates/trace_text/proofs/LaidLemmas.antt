@@ -1,4 +1,4 @@
--- Rounds as they lie in memory, one behind the other: each is read from its places, and what a change leaves.
+-- Rounds as they lie in memory, one after the other: each is read from its places, and what a change leaves.
 use Rattle.trace_text.proofs.Names.{◌≡◌, ℕ, zero, suc, ◌+◌, ◌-◌, ◌<◌, ◌≤◌, ◌^◌, List, [], ◌∷◌, ◌++◌, length, take, drop, set, get_or, refl, sym, ap, subst, ◌∙◌, inl, inr, arith, append_assoc, length-append, length-set, get_or-set_same, get_or-set_other, drop-cons, flat_map, replicate, slice_index, slice_range, append-nil, drop_at, get_or_append_left, get_or_push, length-replicate, take-append-drop, take-append-le, take_all, take_at, take_more, lines_at, lines_of, last_tick, flat_map-push, all_append, all_at, all_replicate, all_split, by_last, last_tick-push, with_last-push, asked_more, begun_round, ended_at, with_last, AreTicks, Asked, Round, changes, line_at, RoundEnd, IsEnd, Laid, Lie, Traced, at_start, end_at, lines_between, round_at, round_between, rounds_laid}
 use Rattle.std.proofs.lemmas.Bool.{cases_eq, cases_lt}
 use Rattle.std.proofs.lemmas.Grind.{flat_map-append}
@@ -58,7 +58,7 @@ module _ (laid : Laid) (rounds : List Round) (lie : Lie laid rounds) where
       let place : length rounds ≡ length laid.ends - 1 = omega (arith, lie.as_many) in
       rw (← place) (rw (take_all (length rounds) rounds (omega arith)) at (lie.ends (length rounds) (omega arith)))
 
-  -- it stands behind all lines of each caller
+  -- it stands after all lines of each caller
   pub all_counted : (caller : ℕ) → slice_index (end_at laid.ends (length laid.ends - 1)).lines caller ≡ length (get_or laid.lines caller [])
   all_counted caller = last_is.lines caller ∙ sym (ap (λ (ls : List Asked). length ls) (lie.lines caller))
 
@@ -114,7 +114,7 @@ none_lie laid callers ticks lines ends = record {
 
 -- ---- changes
 
--- the places behind a change of the last round
+-- the places after a change of the last round
 ends_are : (ends : List RoundEnd) (front : List Round) (round : Round) → ((k : ℕ) → k ≤ length front → IsEnd (take k front) (end_at ends k)) → IsEnd (front ++ round ∷ []) (end_at ends (length front + 1))
     → (k : ℕ) → k ≤ length (front ++ round ∷ []) → IsEnd (take k (front ++ round ∷ [])) (end_at ends k)
 ends_are ends front round before last k within = elim (cases_lt k (length front + 1)) [

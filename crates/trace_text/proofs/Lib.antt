@@ -1,8 +1,12 @@
 pub mod FormLemmas
+pub mod JournalLemmas
 pub mod LaidLemmas
+pub mod LineLemmas
 pub mod Names
+pub mod PastLemmas
 pub mod PrintingLemmas
 pub mod ReaderLemmas
 pub mod ReadingLemmas
 pub mod RowsLemmas
+pub mod StandsLemmas
 pub mod TicksLemmas

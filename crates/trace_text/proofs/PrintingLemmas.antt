@@ -9,7 +9,7 @@ ticks_text-push [] tick = append-nil (space ∷ decimal tick)
 ticks_text-push (one ∷ ticks) tick =
     ap (λ bs. (space ∷ decimal one) ++ bs) (ticks_text-push ticks tick) ∙ sym (append_assoc (space ∷ decimal one) (ticks_text ticks) (space ∷ decimal tick))
 
--- the words behind a letter
+-- the words after a letter
 pub opening_text : (letter : List ℕ) (ticks : List ℕ) → line_of (letter ∷ words_of_fields (number_fields ticks)) ≡ letter ++ ticks_text ticks
 opening_text letter [] = sym (append-nil letter)
 opening_text letter (tick ∷ ticks) = ap (λ bs. letter ++ space ∷ bs) (opening_text (decimal tick) ticks)

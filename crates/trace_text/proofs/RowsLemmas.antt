@@ -1,4 +1,4 @@
--- A row more among those of a caller, and bytes more behind those of all lines.
+-- A row more among those of a caller, and bytes more after those of all lines.
 use Rattle.trace_text.proofs.Names.{◌≡◌, ℕ, zero, suc, ◌+◌, ◌<◌, ◌≤◌, List, [], ◌∷◌, ◌++◌, length, map, set, get_or, refl, sym, ap, ap₂, ◌∙◌, arith, Vec, get_or-map, length-map, map-append, map-set, set-get_or, slice_range, AllByRecursion, Asked, reports, callers_asked, row_asked, take_all, drop_at}
 use Rattle.std.specs.declared.alloc.Global.{Global}
 use Rattle.ids_types.proofs.HistoryLemmas.{range_of_front}

@@ -5,5 +5,6 @@ pub mod Printing
 pub mod RawLines
 pub mod ReaderView
 pub mod RowsView
+pub mod Small
 pub mod TraceView
 pub mod Typed

@@ -11,7 +11,7 @@ lines_text lines = text_of (map trace_line_for lines)
 abbrev pub caller_text : ℕ → List Asked → List ℕ
 caller_text caller lines = lines_text (map (calls caller) lines)
 
--- ticks, each behind a space
+-- ticks, each after a space
 abbrev pub ticks_text : List ℕ → List ℕ
 ticks_text [] = []
 ticks_text (tick ∷ ticks) = (space ∷ decimal tick) ++ ticks_text ticks

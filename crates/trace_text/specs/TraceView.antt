@@ -2,7 +2,7 @@
 -- each round begin and end.
 use Rattle.std.specs.Prelude.{◌≡◌, ℕ, ◌+◌, ◌-◌, ◌<◌, ◌≤◌, ◌^◌, List, [], ◌∷◌, ◌++◌, length, map, slice_index, slice_index_or, slice_range, take, replicate}
 use Rattle.std.specs.List.{AllByRecursion, flat_map, range_with_len}
-use Rattle.merge_spec.specs.Rounds.{last_tick, lines_of}
+use Rattle.history_spec.specs.Rounds.{last_tick, lines_of}
 use Rattle.text_spec.specs.TraceFaults.{asked_more, begun_round, with_last}
 use Rattle.text_spec.specs.TraceReading.{AreTicks}
 use Rattle.text_spec.specs.TraceText.{Asked, Round}
@@ -79,7 +79,7 @@ pub record IsEnd (rounds : List Round) (end : RoundEnd) : Type 0 where
   pub all_callers : length end.lines ≡ 32
   pub after : end.after ≡ last_tick rounds
 
--- the lists are those of these rounds, one behind the other
+-- the lists are those of these rounds, one after the other
 pub record Lie (laid : Laid) (rounds : List Round) : Type 0 where
   pub beside : laid.beside ≡ flat_map (λ (round : Round). round.beside) rounds
   pub lines : (caller : ℕ) → slice_index_or laid.lines caller [] ≡ lines_of caller rounds

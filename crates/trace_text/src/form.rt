@@ -32,7 +32,7 @@ pub(crate) enum RawLine<'a> {
     Close(u64),
 }
 
-/// What a line of this first word and these behind it tells, `None` where it has no form.
+/// What a line of this first word and these after it tells, `None` where it has no form.
 pub(crate) fn line_of<'a>(kind: &[u8], words: Words<'a>) -> Option<RawLine<'a>>
     ensures { option_map line_told result ≡ told_in_one trace_forms (kind.now ∷ words.entry) }
 {
@@ -51,7 +51,7 @@ pub(crate) fn line_of<'a>(kind: &[u8], words: Words<'a>) -> Option<RawLine<'a>>
     None
 }
 
-/// The words behind `R`. The last of them is read as what is left of the line: no context has a space.
+/// The words after `R`. The last of them is read as what is left of the line: no context has a space.
 #[tactic(auto, using(crate::proofs::Names::last_bytes))]
 fn report_of(words: Words<'_>) -> Option<RawLine<'_>>
     ensures { option_map line_told result ≡ behind asked_report_form words.entry }
@@ -72,7 +72,7 @@ fn report_of(words: Words<'_>) -> Option<RawLine<'_>>
     })
 }
 
-/// The words behind `S`.
+/// The words after `S`.
 fn state_of(words: Words<'_>) -> Option<RawLine<'_>>
     ensures { option_map line_told result ≡ behind asked_state_form words.entry }
 {
@@ -84,7 +84,7 @@ fn state_of(words: Words<'_>) -> Option<RawLine<'_>>
     })
 }
 
-/// The words behind `M`.
+/// The words after `M`.
 fn setting_of(words: Words<'_>) -> Option<RawLine<'_>>
     ensures { option_map line_told result ≡ behind asked_mode_form words.entry }
 {
@@ -97,7 +97,7 @@ fn setting_of(words: Words<'_>) -> Option<RawLine<'_>>
     })
 }
 
-/// The words behind `E`.
+/// The words after `E`.
 fn end_of(words: Words<'_>) -> Option<RawLine<'_>>
     ensures { option_map line_told result ≡ behind round_end_form words.entry }
 {

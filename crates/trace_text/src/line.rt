@@ -1,3 +1,5 @@
+//! One line of a trace: what a caller asks for.
+
 ghost use Rattle.std.specs.Prelude.{◌≡◌};
 ghost use Rattle.trace_text.specs.Lines.{bytes_asked, line_asked};
 

@@ -3,7 +3,7 @@
 ghost use Rattle.std.specs.Prelude.{◌≡◌, ◌<◌, ◌≤◌, ◌++◌, ◌∷◌, [], length, codes, decimal, Ok, IfOk, OnOk};
 ghost use Rattle.std.specs.List.{AllByRecursion};
 ghost use Rattle.ids_config.specs.Parts.{Parts};
-ghost use Rattle.merge_spec.specs.Rounds.{lines_at};
+ghost use Rattle.history_spec.specs.Rounds.{lines_at};
 ghost use Rattle.text_spec.specs.Fields.{bytes_word, ended_line};
 ghost use Rattle.text_spec.specs.Stamps.{stamp_text};
 ghost use Rattle.text_spec.specs.TraceReading.{MayAsk, trace_in};
@@ -20,6 +20,8 @@ use std::alloc::Global;
 use text_spec::{push_bytes, push_field, push_mode, push_stamp};
 
 /// The text of a trace: its rounds, the lines of each by caller.
+/// Steps: the bytes of the text, and one step for each caller of each round, at most 32. Memory: may answer want of
+/// memory. By: `text`; read off.
 pub fn print(alloc: Global, trace: &Trace) -> Result<Vec<u8>, NoMemory>
     ensures text { IfOk result (λ text. text.items ≡ trace_text trace.now.rounds) }
     // Under each configuration that has its callers and allows each of its lines, the text is read as it.
@@ -66,7 +68,7 @@ fn push_opening(out: &mut Vec<u8>, ticks: &[u64]) -> Result<(), NoMemory>
     Ok(out.push(b'\n')?)
 }
 
-/// Appends each tick behind a space.
+/// Appends each tick after a space.
 fn push_ticks(out: &mut Vec<u8>, ticks: &[u64]) -> Result<(), NoMemory>
     ensures { OnOk result (out.new.items ≡ out.old.items ++ ticks_text ticks.now) }
 {

@@ -1,3 +1,5 @@
+//! What the lines so far of a trace tell, and the faults of the next one.
+
 ghost use Rattle.std.specs.Prelude.{◌≡◌, ◌<◌, true, length, IfOk};
 ghost use Rattle.text_spec.specs.TraceFaults.{no_rounds};
 

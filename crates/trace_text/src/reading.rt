@@ -1,3 +1,5 @@
+//! Reading a trace from its text.
+
 ghost use Rattle.std.specs.Prelude.{◌≡◌, IfOk};
 ghost use Rattle.text_spec.specs.LineAnswers.{Reads};
 ghost use Rattle.text_spec.specs.TraceReading.{AreRounds, trace_in};
@@ -9,6 +11,7 @@ use std::alloc::Global;
 use text_spec::{LineFault, LineReader, TextFault, read_lines};
 
 /// The trace that the text is under this configuration, or its first bad line and that line's first fault.
+/// Steps: the bytes of the text. Memory: may answer want of memory (`TextFault`). By: `exact` (`Reads`); read off.
 pub fn read(alloc: Global, text: &[u8], config: &Config) -> Result<Trace, TextFault>
     // The answer is what the text's lines tell one after another.
     ensures exact { Reads (λ t. t.rounds) (trace_in config.now text.now) result }

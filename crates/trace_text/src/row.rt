@@ -1,3 +1,5 @@
+//! A line as it lies in memory.
+
 ghost use Rattle.std.specs.Prelude.{◌≡◌, ℕ, ◌+◌, List, ◌++◌, length};
 ghost use Rattle.trace_text.specs.Lines.{bytes_asked, line_asked, row_asked, IsRowWithin};
 

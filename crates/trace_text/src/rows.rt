@@ -1,3 +1,5 @@
+//! The lines of all callers as they lie in memory.
+
 ghost use Rattle.std.specs.Prelude.{◌≡◌, ◌<◌, ◌∷◌, ◌++◌, [], length, set, replicate, slice_index_or, IfOk, OnOk, OnErr};
 ghost use Rattle.trace_text.specs.Lines.{line_asked, line_at};
 
@@ -7,7 +9,7 @@ use ids_types::NoMemory;
 use std::alloc::Global;
 use std::marker::Model;
 
-/// The lines of each caller in all rounds, one behind the other, and the contexts of all lines.
+/// The lines of each caller in all rounds, one after the other, and the contexts of all lines.
 #[derive(Debug, Drop)]
 pub(crate) struct CallerRows {
     callers: Vec<Vec<Row>>,

@@ -1,7 +1,9 @@
+//! A trace as a value: its rounds, and the calls that make and read it.
+
 ghost use Rattle.std.specs.Prelude.{◌≡◌, ℕ, ◌-◌, ◌<◌, ◌≤◌, ◌^◌, ◌∷◌, ◌++◌, [], length, slice_range, IfOk, OnOk, OnErr};
 ghost use Rattle.std.specs.List.{AllByRecursion};
-ghost use Rattle.merge_spec.specs.Orders.{KeepUpFrom};
-ghost use Rattle.merge_spec.specs.Rounds.{last_tick, lines_at, lines_of};
+ghost use Rattle.history_spec.specs.Orders.{KeepUpFrom};
+ghost use Rattle.history_spec.specs.Rounds.{last_tick, lines_at, lines_of};
 ghost use Rattle.text_spec.specs.TraceFaults.{ended_at, with_last};
 ghost use Rattle.text_spec.specs.TraceReading.{AreTicks};
 ghost use Rattle.trace_text.specs.Lines.{line_asked, line_at};
@@ -53,6 +55,7 @@ impl Model for Trace {
 
 impl Trace {
     /// A trace of the configuration's callers, without rounds.
+    /// Steps: the callers, at most 32. Memory: may answer want of memory; it grows later. By: read off.
     pub fn make(alloc: Global, config: &Config) -> Result<Trace, NoMemory>
         ensures { IfOk result (λ t. t ≡ no_rounds_of config.now.callers) }
     {
@@ -67,6 +70,8 @@ impl Trace {
     }
 
     /// Adds a round without lines.
+    /// Steps: the ticks beside, and 32 numbers. Memory: may answer want of memory; 144 bytes a round, whatever the
+    /// callers; unchanged then. By: `err`; read off.
     pub fn push_round(&mut self, beside: &[u64], after: u64) -> Result<(), NoMemory>
         requires small { AllByRecursion (λ tick. tick ≤ 2 ^ 62) (beside.now ++ after ∷ []) }
         requires keeps_up { KeepUpFrom (last_tick self.old.rounds) (beside.now ++ after ∷ []) }
@@ -85,6 +90,8 @@ impl Trace {
     }
 
     /// Adds a caller's line to the last round.
+    /// Steps: the bytes of the context. Memory: may answer want of memory, as it does at 2^32 lines of a caller;
+    /// unchanged then. By: `err`; read off.
     pub fn push_line(&mut self, caller: u8, line: &Line<'_>) -> Result<(), NoMemory>
         requires caller { caller < self.old.callers }
         requires round { 0 < length self.old.rounds }
@@ -103,6 +110,7 @@ impl Trace {
 
 impl Trace {
     /// How many callers there are.
+    /// By: `few`: at most 32; no loop.
     pub fn callers(&self) -> u8
         ensures callers { result ≡ self.now.callers }
         ensures few { result ≤ 32 }
@@ -152,6 +160,7 @@ impl Trace {
     }
 
     /// Line `i` of a caller in a round, from 0, with its context lent.
+    /// By: no loop; the context is lent.
     pub fn line(&self, round: u64, caller: u8, i: u64) -> Line<'_>
         requires round { round < length self.now.rounds }
         requires caller { caller < self.now.callers }

@@ -1,3 +1,5 @@
+//! The steps of the one that takes.
+
 ghost use Rattle.ring_core.specs.Machine.{StepAnswers};
 ghost use Rattle.ring_core.specs.declared.step.Step.TheVariants.{See, Read, Offer, Sweep};
 

@@ -1,3 +1,5 @@
+//! The steps of those that put.
+
 ghost use Rattle.ring_core.specs.Machine.{StepAnswers};
 ghost use Rattle.ring_core.specs.declared.step.Step.TheVariants.{Look, Claim, Finish, Mark, Split, Join};
 

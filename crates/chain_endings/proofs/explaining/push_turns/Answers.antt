@@ -5,8 +5,8 @@ use Rattle.std.proofs.lemmas.List.{append-nil}
 use Rattle.ids_types.specs.Turns.{turn_at}
 use Rattle.ids_types.specs.declared.parcel.Plain.{Plain}
 use Rattle.ids_config.specs.Parts.{Parts}
-use Rattle.chain.specs.History.{last_tick}
-use Rattle.chain.proofs.TranscriptLemmas.{last_of, newest_first}
+use Rattle.filter_chain.specs.History.{last_tick}
+use Rattle.filter_chain.proofs.TranscriptLemmas.{last_of, newest_first}
 use Rattle.chain_plain.specs.Recorded.{CanTake, RiseFrom, turn_with}
 use Rattle.chain_plain.specs.Telling.{IsReady}
 use Rattle.chain_spec.specs.Moments.{moments}

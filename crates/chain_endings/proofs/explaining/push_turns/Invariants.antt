@@ -1,8 +1,8 @@
 use Rattle.std.proofs.Common.{◌≡◌, ◌++◌, [], List, length, reverse}
 use Rattle.std.specs.List.{All, AllByRecursion}
 use Rattle.ids_types.specs.Turns.{Turn}
-use Rattle.chain.specs.History.{last_tick}
-use Rattle.chain.specs.Parcels.{IsShort}
+use Rattle.filter_chain.specs.History.{last_tick}
+use Rattle.filter_chain.specs.Parcels.{IsShort}
 use Rattle.chain_plain.specs.Recorded.{CanTake, RiseFrom}
 use Rattle.chain_plain.specs.Telling.{IsReady}
 use Rattle.event_chain.specs.Standing.{StandsWatched}

@@ -1,14 +1,15 @@
-use Rattle.std.proofs.Common.{◌≡◌, ℕ, List, [], ◌∷◌, ◌++◌, reverse, refl, subst, sym, ap, ◌∙◌, arith, append_assoc}
+use Rattle.std.proofs.Common.{◌≡◌, ℕ, ◌≤◌, length, rules, List, [], ◌∷◌, ◌++◌, reverse, refl, subst, sym, ap, ◌∙◌, arith, append_assoc}
 use Rattle.std.specs.List.{AllByRecursion}
 use Rattle.std.proofs.lemmas.Grind.{common_steps}
 use Rattle.std.proofs.lemmas.List.{append-nil}
 use Rattle.std.proofs.lemmas.List.Elements.{recursion_from_All}
 use Rattle.ids_types.specs.declared.parcel.Plain.{Plain}
-use Rattle.chain.specs.History.{Sends}
-use Rattle.chain.specs.Turning.{FitsTurn}
+use Rattle.filter_chain.specs.History.{Sends}
+use Rattle.filter_chain.specs.Turning.{FitsTurn, most_sent}
+use Rattle.ids_types.specs.Output.{room_of}
 use Rattle.chain_plain.specs.Recorded.{AreInOrder, CanTake, turn_with}
 use Rattle.chain_plain.specs.Telling.{IsReady}
-use Rattle.chain.proofs.TranscriptLemmas.{newest_first}
+use Rattle.filter_chain.proofs.TranscriptLemmas.{newest_first}
 use Rattle.chain_plain.proofs.TurningLemmas.{items_fit, told_fits}
 use Rattle.chain_plain.proofs.retaking.retake.Goals as goal
 
@@ -64,7 +65,13 @@ judge-requires-clause-back g c =
     grind (arith, common_steps, c.requires.items.few, c.lend.ensures.len, end.all_events, room.nothing_back, room.back_room)
 
 pub judge-requires-clause-out : goal.judge-requires-clause-out
-judge-requires-clause-out g c = omega (arith, c.requires.out, c.lend.ensures.len, c.loop-head.invariant.all_events)
+judge-requires-clause-out g c =
+    let told = told_fits g.B.Parcel.held _ c.args.items.now c.requires.items in
+    let fits = subst (λ (n : ℕ). FitsTurn held n c.lend.new.places.items) (sym c.loop-head.invariant.all_events)
+    (items_fit held _ c.lend.new.places.items _ c.lend.ensures.items told) in
+    let room : most_sent 1024 (length c.lend.new.places.items) (g.C.Chain.events c.loop-head.chain) ≤ (room_of c.args.out.now).sent =
+    rw (c.lend.ensures.len, c.loop-head.invariant.all_events) c.requires.out in
+    (g.met.C.Chain c.lifetimes (search (rules, c.well_formed))).bounded c.loop-head.chain c.lend.new.places.items _ fits c.loop-head.invariant.kept room
 
 -- the chain took the history, and then this turn
 pub returns-clause-took : goal.returns-clause-took

@@ -2,7 +2,7 @@ use Rattle.std.proofs.Common.{◌≡◌, ◌++◌, [], List, length, reverse}
 use Rattle.std.specs.List.{All, AllByRecursion}
 use Rattle.ids_types.specs.Turns.{Turn}
 use Rattle.ids_config.specs.Parts.{Parts}
-use Rattle.chain.specs.Parcels.{IsShort}
+use Rattle.filter_chain.specs.Parcels.{IsShort}
 use Rattle.chain_plain.specs.Recorded.{AreInOrder, CanTake}
 use Rattle.chain_plain.specs.Telling.{IsReady}
 use Rattle.chain_plain.proofs.retaking.retake.Given as goal

@@ -1,5 +1,6 @@
 use Rattle.event_chain.proofs.Names.{◌≡◌, Some, None, refl, sym, ◌∙◌, ap, arith, common_steps, event_at, arrives, alone, item_at, told_by, slots_by, stands_alone}
 use Rattle.event_chain.proofs.CallLemmas.{none_of, flows_with}
+use Rattle.event_chain.proofs.RoomLemmas.{carried_more}
 use Rattle.event_chain.proofs.joining.pass.Goals as goal
 
 pub returns-then-aggregates-clause-flows : goal.returns-then-aggregates-clause-flows
@@ -19,6 +20,12 @@ returns-else-aggregates-clause-flows g c config start calls joined items flows e
     flows_with (arrives c.args.tick told) (Some item) flows (ap (λ setting. alone setting item) none)
     (stands_alone config calls (slots_by held c.args.windows.now) c.args.tick told none flows.stands)
     (c.go_on.ensures.stands config start joined items flows.behind ends.joined_end ends.items_end)
+
+pub returns-then-aggregates-clause-sends : goal.returns-then-aggregates-clause-sends
+returns-then-aggregates-clause-sends g c =
+    let further = c.join.ensures.parcels.further in
+    let whole = carried_more g.B.Parcel.held c.args.back.now.items further c.join.new.back.items c.join.ensures.parcels.back in
+    omega (arith, whole)
 
 pub returns-then-aggregates-clause-fate : goal.returns-then-aggregates-clause-fate
 returns-then-aggregates-clause-fate g c config start calls joined items flows ends =

@@ -3,7 +3,7 @@ use Rattle.std.proofs.lemmas.Result.{IfOk-weaker}
 use Rattle.clap.specs.Words.{with_rule}
 use Rattle.gen_options.proofs.command.command.Goals as goal
 
--- each argument comes behind those before it
+-- each argument comes after those before it
 pub returns : goal.returns
 returns c =
     let start = c.in_ok-arg.ensures.shape c.number.ensures.local ∙ ap₂ with_rule c.new.ensures.app c.number.ensures.rule in

@@ -3,7 +3,7 @@ use Rattle.std.proofs.lemmas.Grind.{common_steps}
 use Rattle.ids_frame.specs.Spelling.{signature_part}
 use Rattle.ids_frame.proofs.writing.put_signature.Goals as goal
 
--- the length and the bytes, one behind the other
+-- the length and the bytes, one after the other
 pub returns-in-Some : goal.returns-in-Some
 returns-in-Some g c =
     let whole : c.to_be_bytes.result ++ c.in-Some.bytes.now ≡ signature_part (option_copied c.args.signature) =

@@ -3,7 +3,7 @@ use Rattle.std.proofs.lemmas.Grind.{common_steps}
 use Rattle.ids_frame.specs.Spelling.{context_part, signature_part, spelling, stamp_part}
 use Rattle.ids_frame.proofs.writing.spell.Goals as goal
 
--- the four parts, one behind the other
+-- the four parts, one after the other
 pub returns : goal.returns
 returns g c =
     let both = g.met.R.Room.both in

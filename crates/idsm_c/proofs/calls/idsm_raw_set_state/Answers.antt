@@ -1,6 +1,6 @@
 use Rattle.idsm_c.proofs.Names.{rules}
-use Rattle.idsm_port.specs.Calls.{asked_state}
-use Rattle.idsm_port.specs.Handled.{RoleSets}
+use Rattle.idsm_api.specs.Calls.{asked_state}
+use Rattle.idsm_api.specs.Handled.{RoleSets}
 use Rattle.idsm_c.proofs.CallLemmas.{handled}
 use Rattle.idsm_c.proofs.calls.idsm_raw_set_state.Goals as goal
 

@@ -1,5 +1,5 @@
 use Rattle.idsm_c.proofs.Names.{◌∙◌, sym, ap, length, rules, roles_in}
-use Rattle.idsm_port.specs.declared.answer.Answer.TheVariants.{Configuration, Done, NoMemory, Occupied, OutOfRange}
+use Rattle.idsm_api.specs.declared.answer.Answer.TheVariants.{Configuration, Done, NoMemory, Occupied, OutOfRange}
 use Rattle.idsm_c.proofs.making.idsm_raw_init.Goals as goal
 
 pub returns-then-is_occupied : goal.returns-then-is_occupied

@@ -1,8 +1,8 @@
-use Rattle.run_steps.proofs.Names.{Recorded, check, check_judged, file, messages_of, recorded_in, refl, three_of, ◌>>=◌}
-use Rattle.run_files.proofs.ReadingLemmas.{goes_on, judged, stops_early}
-use Rattle.run_spec.proofs.EndLemmas.{left_unread}
-use Rattle.run_spec.specs.Judge
-use Rattle.run_steps.proofs.MadeLemmas.{text_ends}
+use Rattle.cmd_steps.proofs.Names.{Recorded, check, check_judged, file, messages_of, recorded_in, refl, three_of, ◌>>=◌}
+use Rattle.cmd_files.proofs.ReadingLemmas.{goes_on, judged, stops_early}
+use Rattle.cmd_spec.proofs.EndLemmas.{left_unread}
+use Rattle.cmd_spec.specs.Judge
+use Rattle.cmd_steps.proofs.MadeLemmas.{text_ends}
 use Rattle.idsm_run.proofs.check.check.Goals as goal
 
 pub returns-in_err-inputs : goal.returns-in_err-inputs

@@ -1,4 +1,4 @@
-use Rattle.run_steps.proofs.Names.{drop, nat_eq, length-drop, arith, common_prefix_len-le}
+use Rattle.cmd_steps.proofs.Names.{drop, nat_eq, length-drop, arith, common_prefix_len-le}
 use Rattle.idsm_run.proofs.check.common_len.Goals as goal
 
 -- one of the two has no byte more

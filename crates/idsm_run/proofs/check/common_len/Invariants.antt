@@ -1,4 +1,4 @@
-use Rattle.run_steps.proofs.Names.{◌≡◌, ◌+◌, ◌-◌, ◌≤◌, length, drop, min, nat_eq, common_prefix_len}
+use Rattle.cmd_steps.proofs.Names.{◌≡◌, ◌+◌, ◌-◌, ◌≤◌, length, drop, min, nat_eq, common_prefix_len}
 use Rattle.idsm_run.proofs.check.common_len.Given as goal
 
 -- the bytes up to here stand in both, and the others are to be compared

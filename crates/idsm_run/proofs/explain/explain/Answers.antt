@@ -1,10 +1,10 @@
-use Rattle.run_steps.proofs.Names.{NoMemory, Recorded, ap, does, gives, inl, only_said, recorded_in, recording, refl, told, ◌∙◌}
+use Rattle.cmd_steps.proofs.Names.{NoMemory, Recorded, ap, does, gives, inl, only_said, recorded_in, recording, refl, told, ◌∙◌}
 use Rattle.chain_endings.specs.ExplainedText.{explained_text}
-use Rattle.run_files.proofs.ReadingLemmas.{goes_on, read_none, stops_early}
-use Rattle.run_spec.proofs.EndLemmas.{left_ends, left_unread}
-use Rattle.run_spec.specs.Judge
-use Rattle.run_steps.proofs.MadeLemmas.{work_said}
-use Rattle.run_words.specs.Command.{explain}
+use Rattle.cmd_files.proofs.ReadingLemmas.{goes_on, read_none, stops_early}
+use Rattle.cmd_spec.proofs.EndLemmas.{left_ends, left_unread}
+use Rattle.cmd_spec.specs.Judge
+use Rattle.cmd_steps.proofs.MadeLemmas.{work_said}
+use Rattle.cmd_words.specs.Command.{explain}
 use Rattle.idsm_run.proofs.explain.explain.Goals as goal
 
 -- the chain can take what was read

@@ -1,7 +1,7 @@
-use Rattle.run_steps.proofs.Names.{NoMemory, Recorded, ap, does, files_of, fold, fold_work, gives, inl, names_of, recorded_in, ◌∙◌}
-use Rattle.run_files.proofs.ReadingLemmas.{goes_on, read_none, stops_early}
-use Rattle.run_spec.proofs.EndLemmas.{left_ends, left_unread}
-use Rattle.run_spec.specs.Judge
+use Rattle.cmd_steps.proofs.Names.{NoMemory, Recorded, ap, does, files_of, fold, fold_work, gives, inl, names_of, recorded_in, ◌∙◌}
+use Rattle.cmd_files.proofs.ReadingLemmas.{goes_on, read_none, stops_early}
+use Rattle.cmd_spec.proofs.EndLemmas.{left_ends, left_unread}
+use Rattle.cmd_spec.specs.Judge
 use Rattle.idsm_run.proofs.FoldLemmas.{fold_work_is}
 use Rattle.idsm_run.proofs.fold.fold.Goals as goal
 

@@ -1,7 +1,7 @@
-use Rattle.run_steps.proofs.Names.{NoMemory, ap, does, gen, gen_work, given_of, inl, names_of, refl}
-use Rattle.run_files.proofs.ReadingLemmas.{read_none}
-use Rattle.run_spec.proofs.EndLemmas.{left_ends}
-use Rattle.run_spec.specs.Judge
+use Rattle.cmd_steps.proofs.Names.{NoMemory, ap, does, gen, gen_work, given_of, inl, names_of, refl}
+use Rattle.cmd_files.proofs.ReadingLemmas.{read_none}
+use Rattle.cmd_spec.proofs.EndLemmas.{left_ends}
+use Rattle.cmd_spec.specs.Judge
 use Rattle.idsm_run.proofs.generating.generate_files.Goals as goal
 
 pub returns-in_err-config : goal.returns-in_err-config

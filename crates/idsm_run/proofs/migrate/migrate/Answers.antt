@@ -1,7 +1,7 @@
-use Rattle.run_steps.proofs.Names.{Parts, config_in, gives, inl, migrate, migrates, NoMemory, pair_of, refl}
-use Rattle.run_files.proofs.ReadingLemmas.{goes_on, read_none, stops_early}
-use Rattle.run_spec.proofs.EndLemmas.{left_ends, left_unread}
-use Rattle.run_spec.specs.Judge
+use Rattle.cmd_steps.proofs.Names.{Parts, config_in, gives, inl, migrate, migrates, NoMemory, pair_of, refl}
+use Rattle.cmd_files.proofs.ReadingLemmas.{goes_on, read_none, stops_early}
+use Rattle.cmd_spec.proofs.EndLemmas.{left_ends, left_unread}
+use Rattle.cmd_spec.specs.Judge
 use Rattle.idsm_run.proofs.migrate.migrate.Goals as goal
 
 pub returns-in_err-config : goal.returns-in_err-config

@@ -1,4 +1,4 @@
-use Rattle.run_steps.proofs.Names.{◌≡◌, take, lost_contexts}
+use Rattle.cmd_steps.proofs.Names.{◌≡◌, take, lost_contexts}
 use Rattle.idsm_run.proofs.replay_texts.contexts_lost.Given as goal
 
 -- what the turns so far tell

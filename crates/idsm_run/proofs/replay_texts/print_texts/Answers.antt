@@ -1,4 +1,4 @@
-use Rattle.run_steps.proofs.Names.{ap, journal_text, memory_text, told, ◌∙◌}
+use Rattle.cmd_steps.proofs.Names.{ap, journal_text, memory_text, told, ◌∙◌}
 use Rattle.idsm_run.proofs.replay_texts.print_texts.Goals as goal
 
 pub returns-clause-memory : goal.returns-clause-memory

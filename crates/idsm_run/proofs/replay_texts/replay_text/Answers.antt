@@ -1,4 +1,4 @@
-use Rattle.run_steps.proofs.Names.{List, ℕ, arith, common_steps, length-filter, count_by-le-length, entries_of, misses_context, Entry}
+use Rattle.cmd_steps.proofs.Names.{List, ℕ, arith, common_steps, length-filter, count_by-le-length, entries_of, misses_context, Entry}
 use Rattle.idsm_run.proofs.replay_texts.replay_text.Goals as goal
 
 -- the contexts that turns tell as lost are no more than their entries

@@ -1,9 +1,9 @@
-use Rattle.run_steps.proofs.Names.{AskedFor, IsTrue, NoMemory, ap, asked_in, five_of, gives, inl, names_of, replay, replays, subst, sym, ◌∙◌}
-use Rattle.run_files.proofs.ReadingLemmas.{goes_on, read_none, read_over, stops_early}
-use Rattle.run_files.specs.Writing.{AreWritten, Work}
-use Rattle.run_spec.proofs.EndLemmas.{reading_ends}
-use Rattle.run_spec.specs.Judge
-use Rattle.run_steps.proofs.AnsweredLemmas.{left_finished}
+use Rattle.cmd_steps.proofs.Names.{AskedFor, IsTrue, NoMemory, ap, asked_in, five_of, gives, inl, names_of, replay, replays, subst, sym, ◌∙◌}
+use Rattle.cmd_files.proofs.ReadingLemmas.{goes_on, read_none, read_over, stops_early}
+use Rattle.cmd_files.specs.Writing.{AreWritten, Work}
+use Rattle.cmd_spec.proofs.EndLemmas.{reading_ends}
+use Rattle.cmd_spec.specs.Judge
+use Rattle.cmd_steps.proofs.AnsweredLemmas.{left_finished}
 use Rattle.trace_replay.specs.Replayed.{gives as given}
 use Rattle.idsm_run.proofs.ReplayLemmas.{is_one, lost_are, replay_does, replay_work_is, sent_cut}
 use Rattle.idsm_run.proofs.replaying.replay_files.Goals as goal

@@ -1,5 +1,5 @@
-use Rattle.run_steps.proofs.Names.{ap, asked, option_map, refl, sym, ◌∙◌}
-use Rattle.run_spec.proofs.RunLemmas.{asked_ran, ended_ran, ran_others, words_starved}
+use Rattle.cmd_steps.proofs.Names.{ap, asked, option_map, refl, sym, ◌∙◌}
+use Rattle.cmd_spec.proofs.RunLemmas.{asked_ran, ended_ran, ran_others, words_starved}
 use Rattle.idsm_run.proofs.run.run_plain.Goals as goal
 
 pub returns-in-Some-clause-ran : goal.returns-in-Some-clause-ran

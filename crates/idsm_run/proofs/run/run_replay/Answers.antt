@@ -1,5 +1,5 @@
-use Rattle.run_steps.proofs.Names.{five_of, replay}
-use Rattle.run_steps.proofs.AnsweredLemmas.{asked_with, misused_with, run_ran, runs_others}
+use Rattle.cmd_steps.proofs.Names.{five_of, replay}
+use Rattle.cmd_steps.proofs.AnsweredLemmas.{asked_with, misused_with, run_ran, runs_others}
 use Rattle.idsm_run.proofs.run.run_replay.Goals as goal
 
 pub returns-in-None-clause-ran : goal.returns-in-None-clause-ran

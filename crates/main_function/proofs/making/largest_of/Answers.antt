@@ -1,5 +1,5 @@
 use Rattle.main_function.proofs.Names.{rules}
-use Rattle.main_function.proofs.MakingLemmas.{larger_class}
+use Rattle.main_function.proofs.LargestLemmas.{larger_class}
 use Rattle.main_function.proofs.making.largest_of.Goals as goal
 
 pub loop-class-preserved : goal.loop-class-preserved

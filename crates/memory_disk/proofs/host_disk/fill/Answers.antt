@@ -6,7 +6,7 @@ use Rattle.std.proofs.lemmas.List.{length-take-le, take-append-le}
 use Rattle.std.specs.Io.KnownBytes.{Consumes}
 use Rattle.memory_disk.proofs.host_disk.fill.Goals as goal
 
--- the first bytes, with a part of those behind them
+-- the first bytes, with a part of those after them
 part_behind : (at count : ℕ) (out part rest : List ℕ) → at ≤ length out → count ≤ length part
     → take at out ++ take count part ≡ take (at + count) (take at out ++ (part ++ rest))
 part_behind at count out part rest low few =

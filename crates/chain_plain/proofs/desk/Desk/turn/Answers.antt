@@ -1,5 +1,8 @@
-use Rattle.std.proofs.Common.{ℕ, List, arith, rules}
+use Rattle.std.proofs.Common.{ℕ, ◌≤◌, List, arith, length, rules}
 use Rattle.ids_types.specs.declared.parcel.Plain.{Plain}
+use Rattle.ids_types.specs.Output.{room_of}
+use Rattle.filter_chain.specs.Turning.{most_sent}
+use Rattle.filter_chain.proofs.RoomLemmas.{most_grows}
 use Rattle.chain_plain.proofs.TurningLemmas.{bytes_few, kept_short}
 use Rattle.chain_plain.proofs.desk.Desk.turn.Goals as goal
 
@@ -16,7 +19,12 @@ judge-requires-clause-fits g c =
 
 -- the output has room for it
 pub judge-requires-clause-out : goal.judge-requires-clause-out
-judge-requires-clause-out g c = grind (arith, c.requires.items.few, c.requires.room.sent_room)
+judge-requires-clause-out g c =
+    let items = c.args.self.now.items.items in
+    let more = most_grows 1024 (length items) 1024 (g.C.Chain.events c.args.chain.now) c.requires.items.few in
+    let room : most_sent 1024 (length items) (g.C.Chain.events c.args.chain.now) ≤ (room_of c.args.self.now.out).sent =
+    omega (arith, more, c.requires.room.sent_room) in
+    search (rules, room, c.requires.items, c.requires.kept)
 
 -- what is kept is short
 pub returns-clause-kept : goal.returns-clause-kept

@@ -1,10 +1,12 @@
-use Rattle.event_chain.proofs.Names.{◌≤◌, ◌++◌, List, [], ◌∷◌, length, map, reverse, Option, sym, ap, subst, ◌∙◌, arith, rules, common_steps, Turn, Internal, EventIndex, Parts, qualified_of, heads_of, Moment, closings, head_moment, moments, with_all, Sends, last_tick, newest_tick, HandsBack, all_parcels, turn_by, all_kept, slot_at, Slot, head_told, start_of, IsBehind, Watched, IsOneOf, StandsWatched}
+use Rattle.event_chain.proofs.Names.{◌≤◌, ◌++◌, List, [], ◌∷◌, length, map, reverse, Option, sym, ap, subst, ◌∙◌, arith, rules, common_steps, Turn, Internal, EventIndex, Parts, qualified_of, carried_room, heads_of, Moment, closings, head_moment, moments, with_all, Sends, last_tick, newest_tick, HandsBack, all_parcels, turn_by, all_kept, slot_at, Slot, head_told, start_of, IsBehind, Watched, IsOneOf, StandsWatched}
 use Rattle.chain_spec.specs.Heads.{Head}
 use Rattle.event_chain.proofs.ClosingLemmas.{asked}
 use Rattle.event_chain.proofs.Going.{can_left, entry_moments, stays_more}
 use Rattle.event_chain.proofs.HandsLemmas.{hands_last, hands_length, hands_then}
 use Rattle.event_chain.proofs.HeadLemmas.{heads_few, heads_within}
-use Rattle.event_chain.proofs.SoundLemmas.{kept_few, parcels_few, sound_kept}
+use Rattle.event_chain.proofs.RoomLemmas.{carried_both, hands_carry}
+use Rattle.event_chain.proofs.SoundLemmas.{sound_kept}
+use Rattle.event_chain.specs.Room.{kept_few, parcels_few}
 use Rattle.event_chain.proofs.TurnLemmas.{three_parts, turn_ends}
 use Rattle.event_chain.proofs.event_chain.EventChainChain.judge.Given.{Over}
 use Rattle.event_chain.proofs.event_chain.EventChainChain.judge.Goals.{After-take_entries}
@@ -18,8 +20,17 @@ close_all-requires-clause-can g c =
     let few = (asked c.deref.ensures.value c.self.invariant.aggregating c.begin.ensures.windows).1.1 in
     let same = ap (λ (v : Watched g.row.B.Denot g.row.W.Denot). length v.filters.windows) c.self.view_is in
     let can = c.begin.ensures.can (length c.args.items.now.items) (length c.self.inside.filters.windows)
-    c.requires.items.few c.self.invariant.few (omega (arith, c.requires.out, same)) in
+    c.requires.items.few c.self.invariant.few in
     search (rules, can, few)
+
+pub close_all-requires-clause-room : goal.close_all-requires-clause-room
+close_all-requires-clause-room g c =
+    let held = g.B.Parcel.held in
+    let same = c.begin.ensures.windows ∙ ap (λ (v : Watched g.row.B.Denot g.row.W.Denot). v.filters.windows) c.self.view_is in
+    let kept = ap (λ (ws : List (Slot g.row.B.Denot)). carried_room held (all_kept ws)) same in
+    let count = ap length same in
+    let few = (asked c.deref.ensures.value c.self.invariant.aggregating c.begin.ensures.windows).1.1 in
+    omega (arith, kept, count, few, c.begin.ensures.all_left, c.requires.out)
 
 pub close_all-requires-clause-back : goal.close_all-requires-clause-back
 close_all-requires-clause-back g c =
@@ -47,8 +58,19 @@ take_heads-requires-clause-can g c =
     let few = (asked c.deref.ensures.value c.self.invariant.aggregating c.begin.ensures.windows).1.1 in
     let same = ap (λ (v : Watched g.row.B.Denot g.row.W.Denot). length v.filters.windows) c.self.view_is in
     let can = c.begin.ensures.can (length c.args.items.now.items) (length c.self.inside.filters.windows)
-    c.requires.items.few c.self.invariant.few (omega (arith, c.requires.out, same)) in
+    c.requires.items.few c.self.invariant.few in
     can_left (omega (arith, three, few, count)) can c.close_all.ensures.stays
+
+pub take_heads-requires-clause-room : goal.take_heads-requires-clause-room
+take_heads-requires-clause-room g c =
+    let held = g.B.Parcel.held in
+    let same = c.begin.ensures.windows ∙ ap (λ (v : Watched g.row.B.Denot g.row.W.Denot). v.filters.windows) c.self.view_is in
+    let kept = ap (λ (ws : List (Slot g.row.B.Denot)). carried_room held (all_kept ws)) same in
+    let count = ap length same in
+    let few = (asked c.deref.ensures.value c.self.invariant.aggregating c.begin.ensures.windows).1.1 in
+    let three = heads_few c.self.inside.internal c.args.head.now c.heads.result c.heads.ensures in
+    let carry = hands_carry held c.close_all.ensures.parcels in
+    omega (arith, kept, count, few, three, carry, c.begin.ensures.all_left, c.close_all.ensures.sends, c.requires.out)
 
 pub take_heads-requires-clause-back : goal.take_heads-requires-clause-back
 take_heads-requires-clause-back g c =
@@ -69,8 +91,34 @@ take_entries-requires-clause-can g c =
     let few = (asked c.deref.ensures.value c.self.invariant.aggregating c.begin.ensures.windows).1.1 in
     let same = ap (λ (v : Watched g.row.B.Denot g.row.W.Denot). length v.filters.windows) c.self.view_is in
     let can = c.begin.ensures.can (length c.args.items.now.items) (length c.self.inside.filters.windows)
-    c.requires.items.few c.self.invariant.few (omega (arith, c.requires.out, same)) in
+    c.requires.items.few c.self.invariant.few in
     can_left (omega (arith, three, few, count)) can (stays_more c.close_all.ensures.stays c.take_heads.ensures.stays)
+
+pub take_entries-requires-clause-room : goal.take_entries-requires-clause-room
+take_entries-requires-clause-room g c =
+    let held = g.B.Parcel.held in
+    let same = c.begin.ensures.windows ∙ ap (λ (v : Watched g.row.B.Denot g.row.W.Denot). v.filters.windows) c.self.view_is in
+    let kept = ap (λ (ws : List (Slot g.row.B.Denot)). carried_room held (all_kept ws)) same in
+    let count = ap length same in
+    let few = (asked c.deref.ensures.value c.self.invariant.aggregating c.begin.ensures.windows).1.1 in
+    let three = heads_few c.self.inside.internal c.args.head.now c.heads.result c.heads.ensures in
+    let first = hands_carry held c.close_all.ensures.parcels in
+    let second = hands_carry held c.take_heads.ensures.parcels in
+    let all = carried_both held (all_parcels c.args.items.now.items) (all_kept c.take_heads.new.self.windows) in
+    omega (
+      arith,
+      kept,
+      count,
+      few,
+      three,
+      first,
+      second,
+      all,
+      c.begin.ensures.all_left,
+      c.close_all.ensures.sends,
+      c.take_heads.ensures.sends,
+      c.requires.out,
+    )
 
 pub take_entries-requires-clause-back : goal.take_entries-requires-clause-back
 take_entries-requires-clause-back g c =

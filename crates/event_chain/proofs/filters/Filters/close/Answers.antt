@@ -1,6 +1,7 @@
-use Rattle.event_chain.proofs.Names.{Some, None, option_map, refl, sym, subst, ap, arith, rules, length_permutation, common_steps, closes_due, closes, given, gated, item_at, told_by, stands_with_closing, IsShort, all_kept, slot_at, HasEvent}
+use Rattle.event_chain.proofs.Names.{◌≤◌, Some, None, option_map, most_message, refl, sym, subst, ap, arith, rules, length_permutation, common_steps, closes_due, closes, given, gated, item_at, told_by, stands_with_closing, IsShort, all_kept, slot_at, HasEvent, Windowed}
 use Rattle.event_chain.proofs.CallLemmas.{behind_call, due_own, given_short, short_by, flows_with}
 use Rattle.event_chain.proofs.FateLemmas.{told_given}
+use Rattle.event_chain.proofs.RoomLemmas.{given_fits}
 use Rattle.event_chain.proofs.filters.Filters.close.Goals as goal
 
 pub go_on-fate-requires-clause-count : goal.go_on-fate-requires-clause-count
@@ -13,7 +14,9 @@ go_on-fate-requires-clause-count g c =
     c.in-Some.ensures.moved c.requires.short in
     let has = subst (λ k. HasEvent k c.args.self.now.counting) (sym own) (c.requires.places.has event c.requires.event) in
     let bytes = short_by g.B.Parcel.held item.context short in
-    search (rules, has, bytes, c.requires.can)
+    let fits = given_fits g.B.Parcel.held item.context (all_kept windows) (all_kept c.close_due.new.self) c.in-Some.ensures.moved in
+    let room : most_message (option_map g.B.Parcel.held item.context) ≤ c.args.out.now.sent_left = omega (arith, fits, c.requires.room) in
+    search (rules, has, bytes, room, c.requires.can)
 
 pub go_on-fate-requires-clause-back : goal.go_on-fate-requires-clause-back
 go_on-fate-requires-clause-back g c =
@@ -47,3 +50,37 @@ returns-in-None-clause-behind g c config start moments behind =
     behind_call behind (stands_with_closing config moments tick event c.args.self.now.gate behind.gate) known call refl refl refl
     (flows_with call None behind.flows none
     (c.in-None.ensures.stands_over config (gated config moments) behind.flows.stands) behind.flows.behind)
+
+pub returns-in-Some-clause-stays : goal.returns-in-Some-clause-stays
+returns-in-Some-clause-stays g c =
+    let windows : Windowed c.args.tick c.args.self.now.windows c.close_due.new.self = search (rules, c.in-Some.ensures) in
+    let one = c.go_on-fate.ensures.one in
+    let has = c.go_on-fate.ensures.has in
+    record {
+      places = λ places. record {
+        gate = λ k less. places.gate k (omega (arith, less, windows.events));
+        has = λ k less. has k (places.has k (omega (arith, less, windows.events)));
+        own = windows.own places.own;
+      };
+      windows = windows;
+      counted = one.counted;
+      messages = one.messages;
+      log = one.log;
+      room = one.room;
+    }
+
+pub returns-in-None-clause-stays : goal.returns-in-None-clause-stays
+returns-in-None-clause-stays g c =
+    let windows : Windowed c.args.tick c.args.self.now.windows c.close_due.new.self = search (rules, c.in-None.ensures) in
+    record {
+      places = λ places. record {
+        gate = λ k less. places.gate k (omega (arith, less, windows.events));
+        has = λ k less. places.has k (omega (arith, less, windows.events));
+        own = windows.own places.own;
+      };
+      windows = windows;
+      counted = omega arith;
+      messages = omega arith;
+      log = refl;
+      room = refl;
+    }

@@ -2,6 +2,7 @@ use Rattle.event_chain.proofs.Names.{◌≡◌, ℕ, length, map, refl, sym, ap,
 use Rattle.event_chain.proofs.ClosingLemmas.{closed_more, closed_skip, reached_all, reached_next}
 use Rattle.event_chain.proofs.Going.{drop_one, stays_none, stays_more}
 use Rattle.event_chain.proofs.HandsLemmas.{hands_nothing, hands_then, hands_all, hands_length}
+use Rattle.event_chain.proofs.RoomLemmas.{hands_carry}
 use Rattle.event_chain.proofs.SoundLemmas.{settled_all}
 use Rattle.event_chain.proofs.filters.Filters.close_all.Goals as goal
 
@@ -15,6 +16,7 @@ loop-event-init g c = record {
     holds = record { behind = λ config start moments behind. behind; settled = λ k less. absurd (omega arith) };
   };
   stays = stays_none c.args.tick c.args.self.now c.args.out.now;
+  sends = omega arith;
   hands = hands_nothing (all_kept c.args.self.now.windows) c.args.back.now.items;
   capacity = refl;
 }
@@ -22,6 +24,11 @@ loop-event-init g c = record {
 pub close-requires-clause-short : goal.close-requires-clause-short
 close-requires-clause-short g c =
     hands_all (IsShort g.B.Parcel.held) c.loop-event.invariant.hands (λ k d less. absurd (omega arith)) c.requires.short
+
+pub close-requires-clause-room : goal.close-requires-clause-room
+close-requires-clause-room g c =
+    let carry = hands_carry g.B.Parcel.held c.loop-event.invariant.hands in
+    omega (arith, carry, c.loop-event-test.true, c.loop-event.invariant.sends, c.requires.room)
 
 pub close-requires-clause-back : goal.close-requires-clause-back
 close-requires-clause-back g c =
@@ -36,6 +43,7 @@ loop-event-preserved g c =
       closed = λ is. reached_next (closed_skip g.met.W.Witness.silent all.stays.windows) (ap (map (λ (event : EventIndex). event.0)) left) (all.closed is)
           (λ less. closed_more _ c.close.ensures.behind c.close.ensures.stays.windows.settled c.close.ensures.settled);
       stays = stays_more all.stays c.close.ensures.stays;
+      sends = omega (arith, all.sends, c.close.ensures.sends);
       hands = hands_then all.hands c.close.ensures.parcels;
       capacity = c.close.ensures.capacity ∙ all.capacity;
     }

@@ -1,6 +1,7 @@
-use Rattle.event_chain.proofs.Names.{◌+◌, ◌≤◌, List, ◌∷◌, ◌++◌, drop, length, option_to_list, sym, ap, subst, ◌∙◌, append_assoc, length-append, arith, drop_all, drop-set-lt, length-set, common_steps, act_by, Act, Entry, Moment, act_moment, with_all, HandsBack, all_parcels, parcel_of, all_kept, FitsAct, IsBehind}
+use Rattle.event_chain.proofs.Names.{◌+◌, ◌≤◌, List, ◌∷◌, ◌++◌, drop, length, option_to_list, sym, ap, subst, ◌∙◌, append_assoc, length-append, arith, drop_all, drop-set-lt, length-set, common_steps, act_by, Act, Entry, Moment, act_moment, with_all, HandsBack, all_parcels, parcel_of, all_kept, FitsAct, IsBehind, HasSentRoom, carried_room}
 use Rattle.event_chain.proofs.Going.{Reaches, reaches_next, reaches_all, ready_next, stays_more, entry_moments, same_next}
 use Rattle.event_chain.proofs.HandsLemmas.{hands_next, hands_length}
+use Rattle.event_chain.proofs.RoomLemmas.{hands_carry, own_fit}
 use Rattle.event_chain.proofs.SoundLemmas.{parcels_cons}
 use Rattle.event_chain.proofs.filters.Filters.take_entries.Goals as goal
 
@@ -36,6 +37,22 @@ enter-requires-clause-back g c =
     let whole = length-append (all_parcels (drop c.loop-i.i c.args.items.now.items)) (all_kept c.loop-i.self.windows) in
     grind (arith, common_steps, lengths, own, parcels, whole, all.capacity, c.requires.back)
 
+pub enter-requires-clause-room : goal.enter-requires-clause-room
+enter-requires-clause-room g c =
+    let held = g.B.Parcel.held in
+    let entry = c.index_mut.result.now in
+    let left = drop (c.loop-i.i + 1) c.args.items.now.items in
+    let all = c.loop-i.invariant in
+    let next = same_next c.loop-i.items.items c.args.items.now.items c.loop-i.i entry all.left all.count
+    (omega (arith, c.loop-i-test.true, c.len-i-end.ensures, all.count)) c.index_mut.ensures.value in
+    let kept = all_kept c.loop-i.self.windows in
+    let own = option_to_list (parcel_of entry.act) in
+    let carry = hands_carry held all.hands in
+    let rest = ap (λ (ps : List g.row.B.Denot). carried_room held (ps ++ kept)) (ap all_parcels next.1 ∙ parcels_cons entry left) in
+    let fits = own_fit held own (all_parcels left) kept in
+    subst (λ (a : Act g.row.B.Denot). HasSentRoom held 1 (option_to_list (parcel_of a) ++ kept) c.loop-i.out) (sym c.replace-act.ensures.value)
+    (omega (arith, carry, rest, fits, c.loop-i-test.true, c.len-i-end.ensures, all.sends, c.requires.room))
+
 pub loop-i-preserved : goal.loop-i-preserved
 loop-i-preserved g c =
     let held = g.B.Parcel.held in
@@ -62,6 +79,7 @@ loop-i-preserved g c =
           → IsBehind held knows config start tick (act_moment tick (act_by held a) ∷ now) c.enter.new.self c.enter.new.out)
           c.replace-act.ensures.value (c.enter.ensures.behind config start));
       stays = stays_more all.stays c.enter.ensures.stays;
+      sends = omega (arith, all.sends, c.enter.ensures.sends);
       hands = hands_next own (all_parcels left) mid
           (subst (λ (ps : List g.row.B.Denot). HandsBack (all_parcels items) (all_kept c.args.self.now.windows) ps c.args.back.now.items
           c.loop-i.back.items) parcels all.hands)

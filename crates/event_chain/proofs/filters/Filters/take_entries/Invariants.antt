@@ -1,4 +1,4 @@
-use Rattle.event_chain.proofs.Names.{◌≡◌, ◌++◌, List, drop, length, vec_capacity, Parts, Moment, with_all, HandsBack, all_parcels, all_kept, Start, IsBehind, Stays}
+use Rattle.event_chain.proofs.Names.{◌≡◌, ◌++◌, List, drop, length, vec_capacity, Parts, Moment, with_all, HandsBack, all_parcels, all_kept, Start, IsBehind, Stays, TakesRoom}
 use Rattle.event_chain.proofs.Going.{Reaches, entry_moments}
 use Rattle.event_chain.proofs.filters.Filters.take_entries.Given as goal
 
@@ -16,6 +16,7 @@ invariant-loop-i g l =
           → Reaches held knows config start l.tick l.self l.out (entry_moments held l.tick rest)
           (with_all moments (entry_moments held l.tick items));
       stays : Stays l.i l.tick l.fn.self l.self l.fn.out l.out;
+      sends : TakesRoom held l.i l.fn.back.items l.back.items l.fn.out l.out;
       hands : HandsBack (all_parcels items) (all_kept l.fn.self.windows) (all_parcels rest ++ all_kept l.self.windows)
           l.fn.back.items l.back.items;
       capacity : vec_capacity l.back ≡ vec_capacity l.fn.back;

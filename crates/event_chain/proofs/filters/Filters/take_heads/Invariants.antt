@@ -1,4 +1,4 @@
-use Rattle.event_chain.proofs.Names.{◌≡◌, List, [], map, drop, vec_capacity, Parts, Moment, head_moment, with_all, HandsBack, all_kept, head_told, Start, IsBehind, Stays}
+use Rattle.event_chain.proofs.Names.{◌≡◌, List, [], map, drop, vec_capacity, Parts, Moment, head_moment, with_all, HandsBack, all_kept, head_told, Start, IsBehind, Stays, TakesRoom}
 use Rattle.event_chain.proofs.Going.{Reaches}
 use Rattle.event_chain.proofs.filters.Filters.take_heads.Given as goal
 
@@ -12,6 +12,7 @@ invariant-loop-i g l =
           → Reaches held knows config start l.tick l.self l.out (map (head_moment l.tick) (map head_told (drop l.i l.heads)))
           (with_all moments (map (head_moment l.tick) (map head_told l.heads)));
       stays : Stays l.i l.tick l.fn.self l.self l.fn.out l.out;
+      sends : TakesRoom held l.i l.fn.back.items l.back.items l.fn.out l.out;
       hands : HandsBack [] (all_kept l.fn.self.windows) (all_kept l.self.windows) l.fn.back.items l.back.items;
       capacity : vec_capacity l.back ≡ vec_capacity l.fn.back;
     }

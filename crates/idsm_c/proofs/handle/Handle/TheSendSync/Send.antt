@@ -7,8 +7,8 @@ use denote.Struct.Struct.{exits_of}
 use denote.Struct.Owning.{fields, to}
 use Rattle.std.proofs.Crossing.{frees}
 use Rattle.std_alloc.proofs.SendSync.{quiet}
-use Rattle.idsm_port.specs.contracts.role.Role as role
-use Rattle.idsm_port.proofs.role.Role.TheSendSync.{the_send as role_send}
+use Rattle.idsm_api.specs.contracts.role.Role as role
+use Rattle.idsm_api.proofs.role.Role.TheSendSync.{the_send as role_send}
 use Rattle.idsm_c.specs.contracts.handle.Handle.{the_row, the_type}
 use Rattle.idsm_c.proofs.Handles.{Content}
 

@@ -4,7 +4,7 @@ use types.Kit.{raw}
 use Rattle.std.specs.contracts.alloc.Global as heap
 use Rattle.std.proofs.alloc.Global.TheLaws as heap_laws
 use Rattle.std.specs.contracts.impls.GlobalAllocator.TheImpl.{ghosts}
-use Rattle.idsm_port.specs.contracts.role.Role as role
+use Rattle.idsm_api.specs.contracts.role.Role as role
 use Rattle.idsm_c.proofs.Handles.{Content, both, handle_val, handle_in, box_held, loose_good, loose_out, slot_at}
 use Rattle.idsm_c.specs.contracts.handle.Handle.close.{ended, clauses}
 use Rattle.idsm_c.specs.contracts.handle.Handle.close.Key.{name as #self}

@@ -14,7 +14,7 @@ use Rattle.std.specs.contracts.alloc.Global as heap
 use Rattle.std.proofs.alloc.Global.TheLaws as heap_laws
 use Rattle.std.specs.contracts.impls.GlobalAllocator.TheImpl.{ghosts}
 use Rattle.idsm_c.specs.Opened.{as_open}
-use Rattle.idsm_port.specs.contracts.role.Role as role
+use Rattle.idsm_api.specs.contracts.role.Role as role
 use Rattle.idsm_c.proofs.Handles.{Loose, both, handle_val, handle_out, either_held, loose_good, loose_in, slot_at}
 use Rattle.idsm_c.specs.contracts.handle.Handle.open.{ended, clauses}
 use Rattle.idsm_c.specs.contracts.handle.Handle.open.Key.{name as #self}

@@ -4,7 +4,7 @@ use Rattle.report_queue.proofs.ClosingLemmas.{taken_on}
 use Rattle.main_function.proofs.ClosingLemmas.{same_back, same_swept}
 use Rattle.main_function.proofs.QuickLemmas.{turn_is_quick}
 use Rattle.main_function.proofs.ReportLemmas.{offered_more, totals_more, turn_adds}
-use Rattle.main_function.proofs.StepLemmas.{can_take, come_back, few_bytes, has_room, kept_short}
+use Rattle.main_function.proofs.StepLemmas.{can_take, come_back, few_bytes, has_room, has_sent_room, kept_fit, kept_short, taken_fit}
 use Rattle.main_function.proofs.TurnedLemmas.{last_within, stands_more}
 use Rattle.main_function.proofs.manager.Manager.step.Goals as goal
 
@@ -20,8 +20,17 @@ turn-requires-clause-items g c = can_take g.C.Chain.events g.C.Chain.kept _ _ c.
 pub turn-requires-clause-kept : goal.turn-requires-clause-kept
 turn-requires-clause-kept g c = kept_short g.C.Chain.events g.C.Chain.kept _ _ c.requires.mine
 
+pub turn-requires-clause-log : goal.turn-requires-clause-log
+turn-requires-clause-log g c = has_room g.C.Chain.events g.C.Chain.kept _ _ c.requires.mine _ _ _ c.take_ready.ensures.took
+
 pub turn-requires-clause-out : goal.turn-requires-clause-out
-turn-requires-clause-out g c = has_room g.C.Chain.events g.C.Chain.kept _ _ c.requires.mine _ _ _ c.take_ready.ensures.took
+turn-requires-clause-out g c =
+    let events = g.C.Chain.events in
+    let kept = g.C.Chain.kept in
+    let mine = c.requires.mine in
+    g.met.C.ParcelChain.within c.args.self.now.chain c.take_ready.new.items.items c.args.self.now.largest _
+    (taken_fit events kept _ _ mine _ _ _ c.take_ready.ensures.took) (kept_fit events kept _ _ mine)
+    (has_sent_room events kept _ _ mine _ _ _ c.take_ready.ensures.took)
 
 pub with-self-requires-clause-entries : goal.with-self-requires-clause-entries
 with-self-requires-clause-entries g c =
@@ -93,7 +102,8 @@ returns-clause-mine g c =
       items_within = search rules;
       totals_are = totals_more _ _ _ _ _ turned.makes _ _ mine.totals_are (search (rules, c.with-self.ensures.entries)) c.with-self.ensures.lost_events c.with-self.ensures.lost_contexts;
       events_are = c.turn.ensures.events ∙ mine.events_are;
-      sizes_within = mine.sizes_within;
+      largest_is = mine.largest_is;
+      sizes_given = mine.sizes_given;
       kept_are = out.1;
       tick_within = c.requires.within;
       roomy = grind (arith, common_steps, room, c.turn.ensures, c.give_back.ensures.empty);
@@ -114,7 +124,7 @@ returns-clause-all_taken g c = λ all.
     taken_on _ _ _ _ _ c.give_back.ensures.places.told
     (c.take_ready.ensures.all_taken (same_back (desk_memo c.sweep-lost_events.new.self) (desk_memo c.args.self.now.desk) same all))
 
--- and nothing is swept behind the takes
+-- and nothing is swept after the takes
 pub returns-clause-swept : goal.returns-clause-swept
 returns-clause-swept g c = λ all.
     let swept = c.sweep-lost_events.ensures.swept.all_swept all in

@@ -4,9 +4,9 @@ use Rattle.std.proofs.lemmas.List.Elements.{All-push}
 use Rattle.ids_types.specs.Output.{room_of}
 use Rattle.ids_types.specs.Turns.{Room}
 use Rattle.ids_types.specs.declared.parcel.Plain.{Plain}
-use Rattle.chain.specs.History.{last_tick}
-use Rattle.chain.specs.Turning.{FitsTurn, most_sent, turn_by}
-use Rattle.chain.proofs.TranscriptLemmas.{newest_first}
+use Rattle.filter_chain.specs.History.{last_tick}
+use Rattle.filter_chain.specs.Turning.{FitsTurn, most_sent, turn_by}
+use Rattle.filter_chain.proofs.TranscriptLemmas.{newest_first}
 use Rattle.chain_plain.proofs.TurningLemmas.{told_fits}
 use Rattle.chain_plain.specs.Recorded.{AreInOrder, CanTake}
 use Rattle.chain_plain.specs.Telling.{IsReady}
@@ -28,7 +28,7 @@ retake-chain-requires g c κs =
     let many = ap (λ (v : Remembered). length v.config.events) c.self.view_is in
     let ready : IsReady (length windows) c.next-chain.result.desk = rw fresh.events fresh.ready in
     let turns : All (CanTake (length windows)) c.self.inside.history.turns = rw fresh.events c.self.invariant.turns_fit in
-    let asked : FitsTurn g.B.Parcel.held (length windows) items × (most_sent (length items) (length windows) ≤ (room_of c.args.out.now).sent) =
+    let asked : FitsTurn g.B.Parcel.held (length windows) items × (most_sent 1024 (length items) (length windows) ≤ (room_of c.args.out.now).sent) =
     rw (c.deref.ensures.value, fresh.events, many) (c.requires.items, c.requires.out) in
     ((refl, tt), (λ any entries bytes. refl, (ready, (fresh.kept, (turns, asked)))))
 

@@ -1,0 +1,125 @@
+/* What a manager takes of memory: idsm_init takes IDSM_CFG_MEMORY bytes, and none where it refuses; no call after it asks
+   for any or gives any back, and after the close all are given back. c/check links it with --wrap, so that each call of the
+   allocator comes here. With STAND_IN it is for c/stand_in.c, which takes other bytes. */
+#include "IdsM_Cfg.h"
+#include "idsm_c.h"
+
+#include <stdio.h>
+#include <stdlib.h>
+#include <string.h>
+
+/* What stands before each block: its size, and as much more as keeps its alignment. */
+enum { BEFORE = 16 };
+
+void *__real_malloc(size_t size);
+void *__real_realloc(void *at, size_t size);
+void __real_free(void *at);
+void *__wrap_malloc(size_t size);
+void *__wrap_calloc(size_t count, size_t size);
+void *__wrap_realloc(void *at, size_t size);
+void __wrap_free(void *at);
+
+/* The bytes that are taken, and how often the allocator was called. */
+static size_t taken, calls;
+
+static size_t *block_of(void *at)
+{
+    return at == NULL ? NULL : (size_t *)(void *)((char *)at - BEFORE);
+}
+
+/* A block that had the old size and gets this one. */
+static void *noted(size_t *block, size_t old, size_t size)
+{
+    calls++;
+    if (block == NULL)
+        return NULL;
+    *block = size;
+    taken = taken - old + size;
+    return (char *)block + BEFORE;
+}
+
+void *__wrap_malloc(size_t size)
+{
+    return noted(__real_malloc(size + BEFORE), 0, size);
+}
+
+void *__wrap_calloc(size_t count, size_t size)
+{
+    void *at = __wrap_malloc(count * size);
+    return at == NULL ? NULL : memset(at, 0, count * size);
+}
+
+void *__wrap_realloc(void *at, size_t size)
+{
+    size_t *block = block_of(at);
+    size_t old = block == NULL ? 0 : *block;
+    return noted(__real_realloc(block, size + BEFORE), old, size);
+}
+
+void __wrap_free(void *at)
+{
+    size_t *block = block_of(at);
+    calls++;
+    taken -= block == NULL ? 0 : *block;
+    __real_free(block);
+}
+
+static idsm_caller callers[IDSM_CFG_CALLERS];
+static idsm_manager manager;
+static uint8_t buffer[IDSM_CFG_BUFFER];
+static idsm_sent sent;
+
+/* Turns with more reports than there are event buffers, and each call that reads. Answers whether all was done. */
+static int works(void)
+{
+    static const uint8_t context[2] = {1, 2};
+    static idsm_row rows[256];
+    static uint8_t contexts[256 * 2];
+    uint64_t number;
+    size_t count;
+    int done = 1;
+    for (uint64_t tick = 1; tick < 4; tick++) {
+        for (unsigned i = 0; i <= IDSM_CFG_RING; i++)
+            idsm_set_event_context(&callers[i % IDSM_CFG_CALLERS], (uint16_t)(i % IDSM_CFG_EVENTS), context, 2);
+        done = done && idsm_main(&manager, tick, buffer, sizeof buffer, &sent) == IDSM_DONE;
+        done = done && idsm_set_mode(&callers[0], 0, IDSM_MODE_DETAILED) == IDSM_DONE;
+        done = done && idsm_set_state(&callers[0], 2) == IDSM_DONE;
+        done = done && idsm_buffer_size(&manager, &number) == IDSM_DONE && idsm_rows(&manager, &number) == IDSM_DONE;
+        done = done && idsm_snapshot(&manager, rows, 256, contexts, 2, &count) == IDSM_DONE && count == number;
+    }
+    return done;
+}
+
+static int failures;
+
+static void expect(const char *what, size_t wanted, size_t got)
+{
+    if (wanted != got) {
+        printf("%s: %zu and not %zu\n", what, got, wanted);
+        failures++;
+    }
+}
+
+int main(void)
+{
+    idsm_fault fault;
+    idsm_totals totals;
+    expect("an init without its callers", IDSM_OUT_OF_RANGE,
+           idsm_init(IDSM_CFG_BYTES, sizeof IDSM_CFG_BYTES, NULL, 0, &manager, &fault));
+    expect("an init of half a configuration", IDSM_CONFIGURATION,
+           idsm_init(IDSM_CFG_BYTES, sizeof IDSM_CFG_BYTES / 2, callers, IDSM_CFG_CALLERS, &manager, &fault));
+    expect("the bytes that are left after a refusal", 0, taken);
+    expect("idsm_init", IDSM_DONE,
+           idsm_init(IDSM_CFG_BYTES, sizeof IDSM_CFG_BYTES, callers, IDSM_CFG_CALLERS, &manager, &fault));
+#ifdef STAND_IN
+    expect("whether idsm_init takes memory", 1, taken > 0);
+#else
+    expect("the bytes that idsm_init takes", IDSM_CFG_MEMORY, taken);
+#endif
+    calls = 0;
+    expect("whether each call does its work", 1, (size_t)works());
+    expect("calls of the allocator before the close", 0, calls);
+    expect("idsm_close", IDSM_DONE, idsm_close(&manager, 4, buffer, sizeof buffer, &sent, &totals));
+    expect("the bytes that are left after the close", 0, taken);
+    return failures == 0 ? 0 : 1;
+}

@@ -1,3 +1,0 @@
-pub mod ParcelLemmas
-pub mod LogLemmas
-pub mod TranscriptLemmas

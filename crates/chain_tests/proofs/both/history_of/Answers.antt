@@ -1,8 +1,0 @@
-use Rattle.run_spec.proofs.JournalLemmas.{can_fold}
-use Rattle.chain_tests.proofs.both.history_of.Goals as goal
-
--- a chain can take the turns of a journal
-pub returns : goal.returns
-returns c =
-    can_fold c.args.config.now c.in_ok-journal.journal.history.turns c.in_ok-journal.journal.losses.items
-    c.in_ok-journal.ensures.found.fits

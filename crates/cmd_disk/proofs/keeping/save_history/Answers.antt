@@ -1,0 +1,30 @@
+use Rattle.std.proofs.Common.{rules, subst}
+use Rattle.memory_store.specs.Slots.{KeepsRows}
+use Rattle.cmd_disk.proofs.EndLemmas.{none_begun, save_cause, saved_behind}
+use Rattle.cmd_disk.proofs.keeping.save_history.Goals as goal
+
+pub returns-in-Ok-clause-cause : goal.returns-in-Ok-clause-cause
+returns-in-Ok-clause-cause g c =
+    let shows = g.D.Disk.shows in
+    let begun = c.in-Ok.ensures in
+    let store = c.in-Ok.store in
+    save_cause shows c.args.disk store c.save_turns.result.disk begun.answers
+    (λ tells. (c.in-Ok.field-0-1, subst (λ bytes. KeepsRows bytes store.sequence c.in-Ok.field-0-1) (begun.same tells) (begun.keeps tells)))
+    c.save_turns.result.end c.save_turns.ensures.cause
+
+pub returns-in-Ok-clause-leaves : goal.returns-in-Ok-clause-leaves
+returns-in-Ok-clause-leaves g c tells =
+    let shows = g.D.Disk.shows in
+    let begun = c.in-Ok.ensures in
+    let store = c.in-Ok.store in
+    saved_behind c.args.config.now c.args.history.now.turns (shows c.args.disk) (shows store.disk) (shows c.save_turns.result.disk)
+    store.sequence c.in-Ok.field-0-1 (begun.keeps tells) (begun.same tells) (begun.settled tells) (begun.any_moment tells) c.save_turns.result.end
+    (c.save_turns.ensures.saved (begun.settled tells).tells)
+
+pub returns-clause-leaves : goal.returns-clause-leaves
+returns-clause-leaves g c tells =
+    let fault = c.in-Err.fault in
+    rw c.not_begun.ensures (none_begun c.args.config.now c.args.history.now.turns g.D.Disk.shows c.args.disk fault (c.in-Err.ensures.any_moment tells))
+
+pub returns-clause-cause : goal.returns-clause-cause
+returns-clause-cause g c = search rules

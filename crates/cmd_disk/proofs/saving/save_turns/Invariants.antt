@@ -1,0 +1,43 @@
+use Rattle.std.proofs.Common.{◌≡◌, ◌++◌, ◌+◌, List, length, reverse, IsTrue}
+use Rattle.std.specs.List.{All, AllByRecursion}
+use Rattle.filter_chain.specs.History.{last_tick}
+use Rattle.filter_chain.specs.Parcels.{IsShort}
+use Rattle.chain_plain.specs.Recorded.{CanTake, RiseFrom}
+use Rattle.chain_plain.specs.Telling.{IsReady}
+use Rattle.ids_types.specs.MemoryRow.{Row}
+use Rattle.ids_types.specs.Turns.{Turn}
+use Rattle.memory_disk.specs.Disks.{LeavesOnly}
+use Rattle.memory_store.specs.Slots.{KeepsRows}
+use Rattle.event_chain.specs.Standing.{Stands}
+use Rattle.filter_aggregate.specs.Account.{all_kept}
+use Rattle.cmd_disk.specs.Keeping.{lent}
+use Rattle.cmd_disk.proofs.SavingLemmas.{IsSavedTo}
+use Rattle.cmd_disk.proofs.saving.save_turns.Given as goal
+
+-- the chain stands for the turns that were taken, what is left can be taken, and the records after each turn that
+-- was taken were saved
+abbrev pub invariant-loop-head : goal.invariant-loop-head
+invariant-loop-head g l =
+    let many = length l.config.events in
+    let shows = g.D.Disk.shows in
+    record {
+      taken : List Turn;
+      whole : taken ++ l.turns ≡ l.history.turns;
+      saves_are : l.saves ≡ length taken;
+      stands : Stands lent l.config (reverse taken) l.folding.chain;
+      all_events : length l.folding.chain.filters.windows ≡ many;
+      kept : All (IsShort lent) (all_kept l.folding.chain.filters.windows);
+      ready : IsReady many l.folding.desk;
+      turns_fit : AllByRecursion (CanTake many) l.turns;
+      ticks : RiseFrom (last_tick taken) l.turns;
+      tells : (shows l.current.disk).tells ≡ (shows l.fn.store.disk).tells;
+      faults : (shows l.current.disk).faults ≡ (shows l.fn.store.disk).faults;
+      sequence : l.current.sequence ≡ l.fn.store.sequence + l.saves;
+      saved : IsTrue (shows l.fn.store.disk).tells → (was : List Row)
+          → LeavesOnly (λ bytes. KeepsRows bytes l.fn.store.sequence was) (shows l.fn.store.disk).run.now
+          → IsSavedTo (record { config = l.config; turns = l.history.turns; base = l.fn.store.sequence; was = was })
+          l.saves (shows l.fn.store.disk).run (shows l.current.disk).run;
+    }
+
+abbrev pub decreases-loop-head : goal.decreases-loop-head
+decreases-loop-head g l = length l.turns

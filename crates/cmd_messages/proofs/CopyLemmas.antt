@@ -1,0 +1,75 @@
+-- How many messages were sealed or unsealed, by how many bytes came or went.
+use Rattle.cmd_steps.proofs.Names.{◌≡◌, ℕ, ◌+◌, ◌-◌, ◌≤◌, List, ◌∷◌, EmptyKey, gives, length, refuses, arith, refl, sym, ap, ◌∙◌, key_judged, one_file}
+use Rattle.std.specs.Prelude.{◌*◌, ◌/◌, ◌^◌, ◌<◌, ◌++◌, codes, decimal}
+use Rattle.std.proofs.Common.{[], false, true}
+use Rattle.std.specs.List.{AllByRecursion}
+use Rattle.frame_auth.proofs.LayoutLemmas.{length-joined_sealed}
+use Rattle.frame_auth.specs.Tags.{IsKeyLength, filled}
+use Rattle.ids_bundle.proofs.UnpackLemmas.{packed_fit}
+use Rattle.ids_bundle.specs.Packing.{ArePacked}
+use Rattle.ids_bundle.specs.Units.{FitsUnit, Run, all_of, units}
+use Rattle.ids_bundle.specs.declared.unit.Count.{Count}
+use Rattle.frame_auth.specs.Sealing.{Copies, joined_sealed}
+use Rattle.ids_frame.specs.Messages.{joined}
+use Rattle.cmd_spec.specs.Copying.{IsCopyWork}
+use Rattle.cmd_spec.specs.Packing.{IsPackWork, units_text}
+
+-- a seal has 42 bytes
+seals_count : (more less count : ℕ) → more ≡ less + 42 * count → (more - less) / 42 ≡ count
+seals_count more less count is = omega (arith, is)
+
+module _ (key : List ℕ) (start : ℕ) (bytes out : List ℕ) where
+  pub sealed_longer : (copies : Copies joined (joined_sealed key start) bytes out)
+      → length out ≡ length bytes + 42 * length copies.messages
+  sealed_longer copies = rw (copies.written, copies.read) (length-joined_sealed key start copies.messages copies.are_plain)
+
+  pub bare_shorter : (copies : Copies (joined_sealed key start) joined bytes out)
+      → length bytes ≡ length out + 42 * length copies.messages
+  bare_shorter copies = rw (copies.written, copies.read) (length-joined_sealed key start copies.messages copies.are_plain)
+
+  pub sealed_work : (target line : List ℕ) → Copies joined (joined_sealed key start) bytes out
+      → line ≡ codes "signed " ++ (decimal ((length out - length bytes) / 42) ++ codes "\n")
+      → IsCopyWork joined (joined_sealed key start) (codes "signed ") target bytes (one_file target out line)
+  sealed_work target line copies is = record {
+    out = out;
+    copies = copies;
+    work_is = ap (one_file target out)
+        (is ∙ ap (λ (n : ℕ). codes "signed " ++ (decimal n ++ codes "\n")) (seals_count _ _ _ (sealed_longer copies)));
+  }
+
+  pub bare_work : (target line : List ℕ) → Copies (joined_sealed key start) joined bytes out
+      → line ≡ codes "verified " ++ (decimal ((length bytes - length out) / 42) ++ codes "\n")
+      → IsCopyWork (joined_sealed key start) joined (codes "verified ") target bytes (one_file target out line)
+  bare_work target line copies is = record {
+    out = out;
+    copies = copies;
+    work_is = ap (one_file target out)
+        (is ∙ ap (λ (n : ℕ). codes "verified " ++ (decimal n ++ codes "\n")) (seals_count _ _ _ (bare_shorter copies)));
+  }
+
+-- ---- keys
+
+-- no bytes are no key
+pub no_key : (bytes : List ℕ) → length bytes ≤ 64 → (IsKeyLength (length bytes) → false ≡ true) → key_judged bytes ≡ refuses EmptyKey
+no_key [] few none = refl
+no_key (byte ∷ bytes) few none = absurd (cc (none (omega arith, few)))
+
+pub key_found : (bytes key : List ℕ) → IsKeyLength (length bytes) → key ≡ filled bytes → key_judged bytes ≡ gives key
+key_found [] key is made = absurd (omega (arith, is.0))
+key_found (byte ∷ bytes) key is made = ap gives (sym made)
+
+-- ---- units
+
+pub packed_work : (size : ℕ) (bytes out line target : List ℕ)
+    → (packed : (runs : List Run) × ArePacked size bytes runs × (out ≡ units runs)) (count : Count)
+    → ((runs : List Run) → AllByRecursion FitsUnit runs → out ≡ units runs
+    → count ≡ record { units = length runs; messages = length (all_of runs) })
+    → line ≡ units_text count.units count.messages → size < 2 ^ 16
+    → IsPackWork target size bytes (one_file target out line)
+packed_work size bytes out line target packed count counts is small =
+    let counted = counts packed.0 (packed_fit size bytes packed.0 small packed.1) packed.2 in
+    record {
+      runs = packed.0;
+      packed = packed.1;
+      work_is = rw (packed.2, is, counted) refl;
+    }

@@ -1,0 +1,34 @@
+use Rattle.std.proofs.Common.{ℕ, List, Result, Ok, Err, refl, sym, ap, ◌∙◌}
+use Rattle.std.proofs.lemmas.List.{take_rest}
+use Rattle.frame_auth.proofs.ReadLemmas.{are_bytes, decode_tells}
+use Rattle.ids_frame.specs.Message.{MessageParts}
+use Rattle.ids_frame.specs.declared.fault.BadMessage.{BadMessage}
+use Rattle.cmd_files.specs.Reading.{gives, ◌>>=◌}
+use Rattle.cmd_spec.specs.Judge.{decode_work, does, messages_judged, only_said}
+use Rattle.cmd_messages.proofs.LinesLemmas.{all_printed, more_printed, printing_stops}
+use Rattle.cmd_messages.proofs.decode.lines_of.Goals as goal
+
+pub slice_bounds-rest-count : goal.slice_bounds-rest-count
+slice_bounds-rest-count c = (decode_tells _ (Ok _) c.loop-rest.invariant.are_bytes c.in-Ok.ensures).few
+
+pub slice_bounds-rest-start : goal.slice_bounds-rest-start
+slice_bounds-rest-start c = (decode_tells _ (Ok _) c.loop-rest.invariant.are_bytes c.in-Ok.ensures).few
+
+pub loop-rest-preserved : goal.loop-rest-preserved
+loop-rest-preserved c =
+    let so = c.loop-rest.invariant in
+    let front = decode_tells _ (Ok (c.in-Ok.message, c.in-Ok.size)) so.are_bytes c.in-Ok.ensures in
+    rw (take_rest c.loop-rest.rest.now c.in-Ok.size) (more_printed _ _ _ _ c.in-Ok.message c.in-Ok.size so front c.in_ok-push_message-in-Ok.ensures.ok)
+
+pub returns-in-Err : goal.returns-in-Err
+returns-in-Err c =
+    let so = c.loop-rest.invariant in
+    let cause = decode_tells _ (Err c.in-Err.fault) so.are_bytes c.in-Err.ensures in
+    let stops = printing_stops _ _ _ c.in-Err.fault (are_bytes c.args.bytes.now c.type_inv.bytes) so (sym c.is_empty.ensures ∙ c.loop-rest-test.true) cause in
+    rw stops refl
+
+pub returns : goal.returns
+returns c =
+    let all = all_printed _ _ _ (are_bytes c.args.bytes.now c.type_inv.bytes) c.loop-rest.invariant (sym c.is_empty.ensures ∙ c.loop-rest-test.false) in
+    ap (λ (found : Result (List MessageParts) BadMessage). messages_judged found >>= λ messages. gives (does (decode_work messages))) all.1
+    ∙ ap (λ (lines : List ℕ). gives (does (only_said lines))) (sym all.2)

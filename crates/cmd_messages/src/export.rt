@@ -1,0 +1,37 @@
+//! The command `export`: the messages of a file, for other programs.
+
+ghost use Rattle.cmd_spec.specs.Judge.{export_judged};
+ghost use Rattle.cmd_steps.specs.Words.{EndsAs, Judges, does, only_said, plain_end, seen_as};
+ghost use Rattle.cmd_words.specs.Command.{export as export_command};
+ghost use Rattle.cmd_words.specs.CommandView.{exported_of};
+
+use cmd_files::{MAX_EXPORT_BYTES, Refusal, Stop, read_file};
+use cmd_words::ExportNames;
+use ids_outside::Shelf;
+use message_export::{ExportFault, Format, export};
+use std::alloc::Global;
+
+/// Returns the messages of the file in the format that is asked for.
+/// Steps: MESSAGES read, and then as `message_export::export`. Memory: may answer want of memory. Waits: as its shelf.
+/// By: `EndsAs`; read off.
+pub fn export_file<'a, H: Shelf>(
+    alloc: Global,
+    names: ExportNames<'a>,
+    shelf: &mut H,
+) -> Result<Vec<u8>, Stop<&'a str>>
+    ensures { EndsAs (export_command (exported_of names.entry)) (plain_end result) (H.shows shelf.old) (H.shows shelf.new) }
+{
+    let bytes = read_file(alloc, names.messages, MAX_EXPORT_BYTES, shelf)?;
+    text_of(alloc, names.format, &bytes)
+}
+
+/// The messages of a file in this format.
+fn text_of<'a>(alloc: Global, format: Format, bytes: &[u8]) -> Result<Vec<u8>, Stop<&'a str>>
+    ensures { Judges (export_judged format bytes.now) (seen_as (λ text. does (only_said text.items)) result) }
+{
+    match export(alloc, format, bytes) {
+        Ok(text) => Ok(text),
+        Err(ExportFault::Bad(bad)) => Err(Stop::Refused(Refusal::BadMessages(bad))),
+        Err(ExportFault::NoMemory) => Err(Stop::NoMemory),
+    }
+}

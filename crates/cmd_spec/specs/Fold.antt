@@ -1,0 +1,24 @@
+-- The command `fold`: the files that it writes, and its text.
+use Rattle.std.specs.Prelude.{ℕ, List, [], ◌∷◌, ◌++◌, length, codes, decimal}
+use Rattle.cmd_spec.specs.Names.{Parts, Turn, entries_of, count_of, rows_of}
+use Rattle.cmd_words.specs.Command.{FoldFiles}
+use Rattle.cmd_files.specs.Writing.{Output}
+
+-- the line `turns T entries E messages M records K`, with its line feed
+abbrev pub fold_line : (turns entries messages records : ℕ) → List ℕ
+fold_line turns entries messages records =
+    codes "turns " ++ (decimal turns
+    ++ (codes " entries " ++ (decimal entries
+    ++ (codes " messages " ++ (decimal messages
+    ++ (codes " records " ++ (decimal records ++ codes "\n")))))))
+
+-- the line that tells what was folded
+abbrev pub fold_text : Parts → List Turn → List ℕ
+fold_text config turns =
+    fold_line (length turns) (length (entries_of turns)) (count_of config turns) (length (rows_of config turns))
+
+-- the files that `fold` writes, in this order: these messages, and this text of the event memory
+abbrev pub fold_outputs : FoldFiles → (messages memory : List ℕ) → List Output
+fold_outputs names messages memory =
+    record { name = names.messages; bytes = messages }
+    ∷ record { name = names.memory; bytes = memory } ∷ []

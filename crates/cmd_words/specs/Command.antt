@@ -1,0 +1,306 @@
+-- The commands of the program, as its words give them.
+-- Source: docs/COMMANDS.md.
+use Rattle.std.specs.Prelude.{◌≡◌, ℕ, ◌^◌, ◌&&◌, ◌||◌, ◌==◌, nat_le, not, bytes_eq, Bool, true, false, List, [], ◌∷◌, length, Option, Some, None, option_map, codes, if◌then◌else◌}
+use Rattle.gen_options.specs.Given.{Wanted}
+use Rattle.gen_options.specs.Words.{words_give}
+use Rattle.message_export.specs.declared.exporting.Format.{Format}
+use Rattle.message_export.specs.declared.exporting.Format.TheVariants.{Json, Pcap}
+use Rattle.std.specs.List.{list_any}
+use Rattle.cmd_words.specs.declared.command.TheConstants.{USAGE}
+use Rattle.text_spec.specs.Maybe.{◌>>=◌}
+use Rattle.text_spec.specs.Numbers.{number_in}
+
+-- the files of a recording: a configuration, and a journal of its events
+pub record Recording : Type 0 where
+  pub config : List ℕ
+  pub journal : List ℕ
+
+-- the files that `fold` names: the recording that it reads, and two that it writes
+pub record FoldFiles : Type 0 where
+  pub from : Recording
+  pub messages : List ℕ
+  pub memory : List ℕ
+
+-- the files that `check` names: the recording, and the messages that are compared with its own
+pub record CheckFiles : Type 0 where
+  pub from : Recording
+  pub messages : List ℕ
+
+-- a file that a command reads, and one that it writes
+pub record PairFiles : Type 0 where
+  pub source : List ℕ
+  pub target : List ℕ
+
+-- the files that `sign` and `verify` name: one that holds the key, and two more; and the first counter
+pub record KeyedFiles : Type 0 where
+  pub key : List ℕ
+  pub start : ℕ
+  pub files : PairFiles
+
+-- the files that `bundle` names, and how many bytes of messages a unit may have
+pub record SizedFiles : Type 0 where
+  pub size : ℕ
+  pub files : PairFiles
+
+-- the file of messages that `export` names, and the format that it gives them
+pub record ExportFiles : Type 0 where
+  pub format : Format
+  pub messages : List ℕ
+
+-- the files that `report` names: one that it writes, and those of the managers
+pub record ReportFiles : Type 0 where
+  pub target : List ℕ
+  pub sources : List (List ℕ)
+
+-- the files that `replay` names: a configuration and a trace that it reads, and three that it writes
+pub record ReplayFiles : Type 0 where
+  pub config : List ℕ
+  pub trace : List ℕ
+  pub messages : List ℕ
+  pub memory : List ℕ
+  pub journal : List ℕ
+
+-- what `keep` names: the disk, and the recording that it reads
+pub record KeepFiles : Type 0 where
+  pub disk : List ℕ
+  pub from : Recording
+
+-- what a run is asked to do; of the names of `recall` the first is that of the disk
+pub data Command : Type 0 where
+  fold : FoldFiles → Command
+  check : CheckFiles → Command
+  decode : List ℕ → Command
+  gen : Wanted → Command
+  migrate : PairFiles → Command
+  replay : ReplayFiles → Command
+  sign : KeyedFiles → Command
+  verify : KeyedFiles → Command
+  bundle : SizedFiles → Command
+  unbundle : PairFiles → Command
+  report : ReportFiles → Command
+  keep : KeepFiles → Command
+  recall : PairFiles → Command
+  explain : Recording → Command
+  export : ExportFiles → Command
+
+-- the usage, with the commands that are built
+abbrev pub usage : List ℕ
+usage = USAGE.now
+
+-- a word that may be a name: it is not empty
+abbrev pub is_name : List ℕ → Bool
+is_name word = not (length word == 0)
+
+-- the words are names of different files
+abbrev pub are_names : List (List ℕ) → Bool
+are_names [] = true
+are_names (name ∷ names) = is_name name && not (list_any (bytes_eq name) names) && are_names names
+
+-- the command of the words after `fold`
+abbrev pub fold_of : List (List ℕ) → Option Command
+fold_of (config ∷ journal ∷ messages ∷ memory ∷ []) =
+    if are_names (config ∷ journal ∷ messages ∷ memory ∷ []) then
+    Some (fold (record {
+      from = record { config = config; journal = journal };
+      messages = messages;
+      memory = memory;
+    }))
+    else None
+fold_of names = None
+
+-- the command of the words after `check`
+abbrev pub check_of : List (List ℕ) → Option Command
+check_of (config ∷ journal ∷ messages ∷ []) =
+    if are_names (config ∷ journal ∷ messages ∷ []) then
+    Some (check (record { from = record { config = config; journal = journal }; messages = messages }))
+    else None
+check_of names = None
+
+-- the command of the words after `explain`
+abbrev pub explain_of : List (List ℕ) → Option Command
+explain_of (config ∷ journal ∷ []) =
+    if are_names (config ∷ journal ∷ []) then Some (explain (record { config = config; journal = journal })) else None
+explain_of names = None
+
+-- the command of the words after `decode`: the name of a file of messages
+abbrev pub decode_of : List (List ℕ) → Option Command
+decode_of (messages ∷ []) = if is_name messages then Some (decode messages) else None
+decode_of names = None
+
+-- generation into these files, if they are names of different files
+abbrev pub gen_into : Wanted → Option Command
+gen_into wanted =
+    if are_names (wanted.config ∷ wanted.trace ∷ wanted.journal ∷ []) then Some (gen wanted) else None
+
+-- generation, where something is wanted
+abbrev pub gen_for : Option Wanted → Option Command
+gen_for None = None
+gen_for (Some wanted) = gen_into wanted
+
+-- the command of words of which `gen` is the first: clap reads them
+abbrev pub gen_of : List (List ℕ) → Option Command
+gen_of words = gen_for (words_give words)
+
+-- the first word is this one
+abbrev pub asks : List ℕ → List (List ℕ) → Bool
+asks own [] = false
+asks own (word ∷ names) = bytes_eq word own
+
+-- clap reads the words, for which it takes memory
+abbrev pub are_read_by_clap : List (List ℕ) → Bool
+are_read_by_clap = asks (codes "gen")
+
+-- two names of different files
+abbrev pub pair_in : List (List ℕ) → Option PairFiles
+pair_in (source ∷ target ∷ []) =
+    if are_names (source ∷ target ∷ []) then Some (record { source = source; target = target }) else None
+pair_in names = None
+
+-- a number from the least to the most
+abbrev pub number_between : (least most : ℕ) → List ℕ → Option ℕ
+number_between least most word =
+    number_in word >>= λ n. if nat_le least n && nat_le n most then Some n else None
+
+-- the words after `sign` and `verify`
+abbrev pub keyed_in : List (List ℕ) → Option KeyedFiles
+keyed_in (key ∷ start ∷ names) = do
+  first ← number_between 0 (2 ^ 62) start
+  files ← pair_in names
+  if are_names (key ∷ names) then Some (record { key = key; start = first; files = files }) else None
+keyed_in names = None
+
+-- the words after `bundle`
+abbrev pub sized_in : List (List ℕ) → Option SizedFiles
+sized_in (size ∷ names) = do
+  most ← number_between 64 65535 size
+  files ← pair_in names
+  Some (record { size = most; files = files })
+sized_in [] = None
+
+-- the format of a word
+abbrev pub format_of : List ℕ → Option Format
+format_of word =
+    if bytes_eq word (codes "json") then Some Json
+    else if bytes_eq word (codes "pcap") then Some Pcap
+    else None
+
+-- the words after `export`
+abbrev pub export_in : List (List ℕ) → Option ExportFiles
+export_in (word ∷ messages ∷ []) = do
+  format ← format_of word
+  if is_name messages then Some (record { format = format; messages = messages }) else None
+export_in names = None
+
+-- the command of the words after the program's name, none where they are not in form; those of a replay, of a report
+-- and of work on a disk have readings of their own
+abbrev pub command_of : List (List ℕ) → Option Command
+command_of [] = None
+command_of (word ∷ names) =
+    if bytes_eq word (codes "fold") then fold_of names
+    else if bytes_eq word (codes "check") then check_of names
+    else if bytes_eq word (codes "decode") then decode_of names
+    else if bytes_eq word (codes "gen") then gen_of (word ∷ names)
+    else if bytes_eq word (codes "migrate") then option_map migrate (pair_in names)
+    else if bytes_eq word (codes "sign") then option_map sign (keyed_in names)
+    else if bytes_eq word (codes "verify") then option_map verify (keyed_in names)
+    else if bytes_eq word (codes "bundle") then option_map bundle (sized_in names)
+    else if bytes_eq word (codes "unbundle") then option_map unbundle (pair_in names)
+    else if bytes_eq word (codes "explain") then explain_of names
+    else if bytes_eq word (codes "export") then option_map export (export_in names)
+    else None
+
+-- the files of the words after `replay`
+abbrev pub replay_names : List (List ℕ) → Option ReplayFiles
+replay_names (config ∷ trace ∷ messages ∷ memory ∷ journal ∷ []) =
+    if are_names (config ∷ trace ∷ messages ∷ memory ∷ journal ∷ []) then
+    Some (record { config = config; trace = trace; messages = messages; memory = memory; journal = journal })
+    else None
+replay_names names = None
+
+-- the files of a replay that the words after the program's name ask for, none where they are not in form
+abbrev pub replay_of : List (List ℕ) → Option ReplayFiles
+replay_of [] = None
+replay_of (word ∷ names) = if bytes_eq word (codes "replay") then replay_names names else None
+
+-- the files of the words after `report`: 1 to 8 of managers
+abbrev pub report_names : List (List ℕ) → Option ReportFiles
+report_names [] = None
+report_names (target ∷ sources) =
+    if are_names (target ∷ sources) && nat_le 1 (length sources) && nat_le (length sources) 8
+    then Some (record { target = target; sources = sources })
+    else None
+
+-- the files of a report that the words after the program's name ask for, none where they are not in form
+abbrev pub report_of : List (List ℕ) → Option ReportFiles
+report_of [] = None
+report_of (word ∷ names) = if bytes_eq word (codes "report") then report_names names else None
+
+-- the command of the words after `keep`
+abbrev pub keep_of : List (List ℕ) → Option Command
+keep_of (disk ∷ config ∷ journal ∷ []) =
+    if are_names (disk ∷ config ∷ journal ∷ []) then
+    Some (keep (record { disk = disk; from = record { config = config; journal = journal } }))
+    else None
+keep_of names = None
+
+-- the command over a disk that the words after the program's name ask for, none where they are not in form
+abbrev pub disk_command_of : List (List ℕ) → Option Command
+disk_command_of [] = None
+disk_command_of (word ∷ names) =
+    if bytes_eq word (codes "keep") then keep_of names
+    else if bytes_eq word (codes "recall") then option_map recall (pair_in names)
+    else None
+
+-- the files that the command reads, in the order in which it reads them
+abbrev pub read_by : Command → List (List ℕ)
+read_by (fold files) = files.from.config ∷ files.from.journal ∷ []
+read_by (check files) = files.from.config ∷ files.from.journal ∷ files.messages ∷ []
+read_by (decode messages) = messages ∷ []
+read_by (gen wanted) = []
+read_by (migrate files) = files.source ∷ []
+read_by (replay files) = files.config ∷ files.trace ∷ []
+read_by (sign names) = names.key ∷ names.files.source ∷ []
+read_by (verify names) = names.key ∷ names.files.source ∷ []
+read_by (bundle names) = names.files.source ∷ []
+read_by (unbundle files) = files.source ∷ []
+read_by (report files) = files.sources
+read_by (keep names) = names.from.config ∷ names.from.journal ∷ []
+read_by (recall names) = []
+read_by (explain names) = names.config ∷ names.journal ∷ []
+read_by (export names) = names.messages ∷ []
+
+-- the files that the command writes, in the order in which it writes them
+abbrev pub written_by : Command → List (List ℕ)
+written_by (fold files) = files.messages ∷ files.memory ∷ []
+written_by (check files) = []
+written_by (decode messages) = []
+written_by (gen wanted) = wanted.config ∷ wanted.trace ∷ wanted.journal ∷ []
+written_by (migrate files) = files.target ∷ []
+written_by (replay files) = files.messages ∷ files.memory ∷ files.journal ∷ []
+written_by (sign names) = names.files.target ∷ []
+written_by (verify names) = names.files.target ∷ []
+written_by (bundle names) = names.files.target ∷ []
+written_by (unbundle files) = files.target ∷ []
+written_by (report files) = files.target ∷ []
+written_by (keep names) = []
+written_by (recall names) = names.target ∷ []
+written_by (explain names) = []
+written_by (export names) = []
+
+-- the word of the command
+abbrev pub word_of : Command → List ℕ
+word_of (fold files) = codes "fold"
+word_of (check files) = codes "check"
+word_of (decode messages) = codes "decode"
+word_of (gen wanted) = codes "gen"
+word_of (migrate files) = codes "migrate"
+word_of (replay files) = codes "replay"
+word_of (sign names) = codes "sign"
+word_of (verify names) = codes "verify"
+word_of (bundle names) = codes "bundle"
+word_of (unbundle files) = codes "unbundle"
+word_of (report files) = codes "report"
+word_of (keep names) = codes "keep"
+word_of (recall names) = codes "recall"
+word_of (explain names) = codes "explain"
+word_of (export names) = codes "export"

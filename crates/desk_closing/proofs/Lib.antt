@@ -1,9 +1,0 @@
-pub mod ClosedLemmas
-pub mod CountLemmas
-pub mod EntryLemmas
-pub mod FateLemmas
-pub mod PlaceLemmas
-pub mod SizeLemmas
-pub use Rattle.desk_closing.proofs.ClosedLemmas.{rings_have, all_calls}
-pub use Rattle.desk_closing.proofs.CountLemmas.{all_accepted}
-pub use Rattle.desk_closing.proofs.PlaceLemmas.{or_at}

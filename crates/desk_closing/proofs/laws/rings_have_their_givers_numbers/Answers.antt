@@ -1,6 +1,0 @@
--- The law is `rings_have`.
-use Rattle.desk_closing.proofs.ClosedLemmas.{rings_have}
-use Rattle.desk_closing.proofs.laws.rings_have_their_givers_numbers.Goals as goal
-
-pub returns : goal.returns
-returns c = rings_have

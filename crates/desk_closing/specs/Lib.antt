@@ -1,4 +1,0 @@
-pub mod Calls
-pub mod Closed
-pub use Rattle.desk_closing.specs.Calls.{fates_in, accepted_in, calls_by, IsOfTicket, HaveAllCalls}
-pub use Rattle.desk_closing.specs.Closed.{plain_item, came, HaveSizes, HaveNumbers, GiversHaveNumbers, IsMadeFor, ClosedDesk}

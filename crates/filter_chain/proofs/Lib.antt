@@ -1,0 +1,4 @@
+pub mod ParcelLemmas
+pub mod RoomLemmas
+pub mod LogLemmas
+pub mod TranscriptLemmas

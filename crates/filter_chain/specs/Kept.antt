@@ -1,0 +1,32 @@
+-- The context data that open windows keep.
+use Rattle.std.specs.Prelude.{ℕ, List, [], ◌++◌, length, flat_map, reverse, Option, Some, None, option_to_list, option_and_then}
+use Rattle.std.specs.List.{range_with_len}
+use Rattle.std.specs.List.Sorted.{IsPermutation}
+use Rattle.ids_types.specs.Turns.{Turn}
+use Rattle.ids_config.specs.Parts.{Parts, event_at}
+use Rattle.ids_config.specs.declared.parts.Aggregate.{Aggregate}
+use Rattle.chain_spec.specs.Aggregation.{joined}
+use Rattle.chain_spec.specs.Calls.{Call}
+use Rattle.chain_spec.specs.Closing.{open_window}
+use Rattle.chain_spec.specs.Filtering.{gated}
+use Rattle.chain_spec.specs.Moments.{moments}
+
+-- what the open window of an event keeps, as a list: nothing, or the context data of its one item
+abbrev pub open_context : Option Aggregate → ℕ → List (Call (List ℕ)) → List (List ℕ)
+open_context None event calls = []
+open_context (Some setting) event calls =
+    option_to_list (option_and_then (λ w. (joined setting.last w).context) (open_window setting.interval event calls))
+
+-- what the open windows of the configured events keep after these calls, event by event
+abbrev pub contexts_behind : Parts → List (Call (List ℕ)) → List (List ℕ)
+contexts_behind config calls =
+    flat_map (λ event. open_context (event_at config event).aggregate event calls) (range_with_len 0 (length config.events))
+
+-- what they keep after these turns, the first of which stands first
+abbrev pub open_contexts : Parts → List Turn → List (List ℕ)
+open_contexts config turns = contexts_behind config (gated config (moments config (reverse turns)))
+
+-- some of a list's elements, none of them more often than it stands there, in any order
+pub record AreAmong {A : Type 0} (all some : List A) : Type 0 where
+  pub others : List A
+  pub same : IsPermutation (some ++ others) all

@@ -1,0 +1,6 @@
+use Rattle.gen_recording.proofs.Names.{◌≡◌, range_with_len}
+use Rattle.gen_recording.proofs.drawing.make_ramp.Given as goal
+
+-- the bytes so far
+abbrev pub invariant-loop-byte : goal.invariant-loop-byte
+invariant-loop-byte l = l.bytes.items ≡ range_with_len 0 l.byte

@@ -1,0 +1,52 @@
+use Rattle.gen_recording.proofs.Names.{◌≡◌, ◌≤◌, [], ◌∷◌, ◌++◌, length, map, reverse, sym, subst, ap, ap₂, ◌∙◌, arith, on_ok_weaker, reverse-append, reverse-reverse, plain_entry, handed_on, Plain, Entry, FitsAct, FitsTurn, turn_by, All-nil, Stands, calls_of, turns_of, turn_of, held, turns_made}
+use Rattle.filter_chain.specs.History.{last_tick}
+use Rattle.ids_types.specs.declared.entry.TurnHead.{TurnHead}
+use Rattle.chain_plain.specs.Telling.{HasDeskRoom, Tells}
+use Rattle.chain_plain.proofs.TellingLemmas.{tells_more}
+use Rattle.filter_chain.proofs.TranscriptLemmas.{last_of}
+use Rattle.journal.specs.Printing.{lines_text}
+use Rattle.text_spec.specs.JournalText.{turn_told}
+use Rattle.gen_recording.proofs.RecordingLemmas.{journal_more, turn_is}
+use Rattle.gen_recording.proofs.recorder.Recorder.turn.Goals as goal
+
+-- the turn that was planned was made
+pub returns-clause-at : goal.returns-clause-at
+returns-clause-at c = on_ok_weaker c.add.result (λ told before calls at.
+    let config = c.args.config.now in
+    let history = turns_made config before in
+    let head : TurnHead = record { tick = c.args.tick; lost_events = 0; lost_contexts = 0; limited = c.limited.result } in
+    let turn = turn_by held head c.args.self.now.desk.items.items in
+    let back = reverse-reverse (turns_of config before) in
+    let stands : Stands held config (reverse history) c.args.self.now.chain =
+    subst (λ ts. Stands held config ts c.args.self.now.chain) (sym back) at.stands in
+    let limited : c.limited.result ≡ handed_on config (turns_of config before) =
+    c.limited.ensures.value config history stands ∙ ap (handed_on config) back in
+    let is : turn ≡ turn_of config (turns_of config before) (calls_of before) (record { tick = c.args.tick; calls = calls }) =
+    turn_is config before calls c.args.tick c.limited.result c.args.self.now.desk.items.items at.entries limited in
+    let newest : reverse (history ++ turn ∷ []) ≡ turns_of config (record { tick = c.args.tick; calls = calls } ∷ before) =
+    reverse-append history (turn ∷ []) ∙ ap₂ (λ t ts. t ∷ ts) is back in
+    let made : history ++ turn ∷ [] ≡ turns_made config (record { tick = c.args.tick; calls = calls } ∷ before) =
+    sym (reverse-reverse (history ++ turn ∷ [])) ∙ ap reverse newest in
+    let later : last_tick history ≤ c.args.tick = subst (λ t. t ≤ c.args.tick) at.tick c.requires.tick in
+    let now = c.turn.ensures.stands config history stands later in
+    let sends = c.turn.ensures.sends config history stands later in
+    let handed = c.limited-2.ensures.value config (history ++ turn ∷ []) now in
+    let tells = tells_more handed at.tells sends told in
+    let old = c.args.self.now.journal.items in
+    let more : c.push_turn.new.out.items ≡ old ++ lines_text (turn_told turn) =
+    c.in_ok-push_turn.ensures ∙ ap (λ items. old ++ lines_text (turn_told (turn_by held head items))) c.deref.ensures.value in
+    record {
+      journal = journal_more history turn old _ _ at.journal more made;
+      tick = sym (ap last_tick (sym made) ∙ last_of history turn);
+      stands = subst (λ ts. Stands held config ts c.turn.new.chain) newest now;
+      tells = subst (λ ts. Tells config ts c.add.new.self) made tells;
+      counts = at.counts;
+      entries = ap (map plain_entry) c.turn.ensures.ready.no_items;
+      fits = subst (FitsTurn held (length config.events)) (sym c.turn.ensures.ready.no_items) (record {
+        few = omega arith;
+        acts = All-nil (λ (e : Entry Plain). FitsAct held (length config.events) e.act);
+      });
+      kept = c.turn.ensures.kept;
+      events = c.turn.ensures.events ∙ at.events;
+      room = subst (λ n. HasDeskRoom n c.turn.new.self) at.events c.turn.ensures.ready.room;
+    }) c.add.ensures

@@ -1,0 +1,169 @@
+//! The trace, drawn line by line.
+
+ghost use Rattle.std.specs.Prelude.{◌≡◌, ℕ, ◌≤◌, ◌<◌, ◌+◌, ◌*◌, ◌%◌, ◌==◌, ◌&&◌, ◌++◌, ◌∷◌, [], length, IfOk, OnOk};
+ghost use Rattle.history_spec.specs.Rounds.{last_tick};
+ghost use Rattle.trace_text.specs.Lines.{line_asked};
+ghost use Rattle.gen_options.specs.Ranges.{IsInRange};
+ghost use Rattle.gen_recording.specs.Drawing.{HasCaller, ramp as ramp_of, with_lines};
+ghost use Rattle.gen_recording.specs.Draws.{draw, number_after};
+ghost use Rattle.gen_recording.specs.GeneratedTrace.{changes_by, draws_before, generated_round, lines_by, rounds_of, tick_after};
+ghost use Rattle.gen_recording.specs.Reports.{context_of, report_of, stamp_of};
+
+use crate::draws::Draws;
+use gen_options::Options;
+use ids_config::Config;
+use ids_types::{EventIndex, NoMemory, Stamp};
+use std::alloc::{AllocError, Global};
+use trace_text::{Line, Trace, TraceAct};
+
+/// How many times a caller reports in a round.
+const REPORTS: u64 = 4;
+
+/// How many bytes of context data a report has, by its draw.
+const SIZES: [usize; 4] = [0, 4, 16, 40];
+
+/// The trace of these options.
+pub(crate) fn draw_trace(
+    alloc: Global,
+    options: &Options,
+    config: &Config,
+) -> Result<Trace, NoMemory>
+    requires range { IsInRange options.now }
+    requires callers { config.now.callers ≡ options.now.callers }
+    ensures { IfOk result (λ trace. trace ≡ record { callers = options.now.callers; rounds = rounds_of options.now }) }
+{
+    let ramp = make_ramp(alloc)?;
+    let mut draws = Draws {
+        number: options.start,
+    };
+    let mut trace = Trace::make(alloc, config)?;
+    for round in 0..options.rounds {
+        draw_round(&mut trace, options, round, &mut draws, &ramp)?;
+    }
+    Ok(trace)
+}
+
+/// The bytes from 0 to 255, of which context data are cut.
+fn make_ramp(alloc: Global) -> Result<Vec<u8>, AllocError>
+    ensures { IfOk result (λ bytes. bytes.items ≡ ramp_of) }
+{
+    let mut bytes = Vec::with_capacity(alloc, 256)?;
+    for byte in 0..256_u16 {
+        bytes.push(byte as u8)?;
+    }
+    Ok(bytes)
+}
+
+fn draw_round(
+    trace: &mut Trace,
+    options: &Options,
+    round: u64,
+    draws: &mut Draws,
+    ramp: &[u8],
+) -> Result<(), NoMemory>
+    requires range { IsInRange options.now }
+    requires callers { trace.old.callers ≡ options.now.callers }
+    requires round { round < options.now.rounds }
+    requires tick { last_tick trace.old.rounds ≡ 10 * round }
+    requires ramp { ramp.now ≡ ramp_of }
+    requires number { draws.old.number ≡ number_after options.now.start (draws_before options.now round 0) }
+    ensures trace { OnOk result (trace.new ≡
+        record { callers = trace.old.callers; rounds = trace.old.rounds ++ generated_round options.now round ∷ [] }) }
+    ensures number { OnOk result (draws.new.number
+        ≡ number_after options.now.start (draws_before options.now (round + 1) 0)) }
+{
+    let beside = [10 * round + 5];
+    let ticks: &[u64] = if round % 2 == 1 { &beside } else { &[] };
+    trace.push_round(ticks, 10 * (round + 1))?;
+    for caller in 0..options.callers as u8 {
+        draw_lines(trace, options, round, caller, draws, ramp)?;
+    }
+    Ok(())
+}
+
+/// Draws the lines of a caller in the last round.
+fn draw_lines(
+    trace: &mut Trace,
+    options: &Options,
+    round: u64,
+    caller: u8,
+    draws: &mut Draws,
+    ramp: &[u8],
+) -> Result<(), NoMemory>
+    requires range { IsInRange options.now }
+    requires round { round < options.now.rounds }
+    requires some { 0 < length trace.old.rounds }
+    requires caller { caller < trace.old.callers }
+    requires has { HasCaller caller trace.old }
+    requires ramp { ramp.now ≡ ramp_of }
+    requires number { draws.old.number ≡ number_after options.now.start (draws_before options.now round caller) }
+    ensures trace { OnOk result (trace.new ≡ with_lines caller (lines_by options.now round caller) trace.old) }
+    ensures number { OnOk result (draws.new.number
+        ≡ number_after options.now.start (draws_before options.now round (caller + 1))) }
+{
+    push_change(trace, round, caller)?;
+    for _ in 0..REPORTS {
+        let line = draw_report(draws, options.events, 10 * (round + 1), ramp);
+        trace.push_line(caller, &line)?;
+    }
+    Ok(())
+}
+
+/// The change of the state by which the first caller begins each hundredth round.
+fn push_change(trace: &mut Trace, round: u64, caller: u8) -> Result<(), NoMemory>
+    requires some { 0 < length trace.old.rounds }
+    requires caller { caller < trace.old.callers }
+    ensures { OnOk result (trace.new ≡ with_lines caller (changes_by round caller) trace.old) }
+{
+    if !begins_with_change(round, caller) {
+        return Ok(());
+    }
+    let state = if round / 100 % 2 == 0 { 1 } else { 0 };
+    let act = TraceAct::State(state);
+    trace.push_line(caller, &Line { act })
+}
+
+fn begins_with_change(round: u64, caller: u8) -> bool
+    ensures { result ≡ (caller == 0 && round % 100 == 99) }
+{
+    caller == 0 && round % 100 == 99
+}
+
+/// Draws a report, with its context data cut from the ramp.
+fn draw_report<'r>(draws: &mut Draws, events: u64, tick: u64, ramp: &'r [u8]) -> Line<'r>
+    requires some { 0 < events }
+    requires few { events ≤ 200 }
+    requires ramp { ramp.now ≡ ramp_of }
+    ensures line { (start n : ℕ) → draws.old.number ≡ number_after start n → line_asked result
+        ≡ report_of tick (draw start n events) (draw start (n + 1) 3) (draw start (n + 2) 2) (draw start (n + 3) 4) }
+    ensures number { (start n : ℕ) → draws.old.number ≡ number_after start n →
+        draws.new.number ≡ number_after start (n + 4) }
+{
+    let event = draws.below(events);
+    let count = 1 + draws.below(3);
+    let stamp = stamp_by(draws.below(2), tick);
+    let size = SIZES[draws.below(4) as usize];
+    Line {
+        act: TraceAct::Report {
+            event: EventIndex(event as u16),
+            count: count as u16,
+            stamp,
+            context: cut_context(ramp, event as usize, size),
+        },
+    }
+}
+
+fn stamp_by(choice: u64, tick: u64) -> Option<Stamp>
+    ensures { result ≡ stamp_of tick choice }
+{
+    if choice == 0 { None } else { Some(Stamp(tick)) }
+}
+
+/// So many bytes that count up from the event's number.
+fn cut_context(ramp: &[u8], event: usize, size: usize) -> &[u8]
+    requires ramp { ramp.now ≡ ramp_of }
+    requires few { event + size ≤ 256 }
+    ensures { result.now ≡ context_of event size }
+{
+    &ramp[event..event + size]
+}

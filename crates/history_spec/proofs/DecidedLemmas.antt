@@ -1,0 +1,99 @@
+-- What decided calls make of a history and its losses.
+use Rattle.history_spec.proofs.Names.{◌≡◌, ℕ, zero, suc, ◌+◌, ◌≤◌, ◌==◌, if◌then◌else◌, List, [], ◌∷◌, map, refl, inr, sym, ap, ◌∙◌, subst, eq-eqb, arith, length-map, Turn, entries_of, Entry, Loss, fates_of, AreDecided, tickets_from, tickets_of, IsDecided, losses_from, all_losses, Fate, lost, accepted, end_of, calls_of, losses_by, IsTicket, IsLegalLoss, AreMerged, StandsIn, times, once_below, RiseFrom}
+use mathlib.Core.Option.{some, some-injective}
+use lib.ListN.{get_elem?}
+use Rattle.ids_types.proofs.FatesLemmas.{fate_within, fates_in_order}
+use Rattle.history_spec.proofs.LossLemmas.{of_caller, loss_is, givens_keep_up, losses_ordered}
+use Rattle.history_spec.proofs.PlaceLemmas.{stands_either, stands_kept}
+use Rattle.history_spec.proofs.TotalLemmas.{tickets, total_of, once_behind}
+
+-- the calls of a caller's entries are those with tickets
+calls_with_tickets : (c ticket : ℕ) (es : List (Entry (List ℕ))) → calls_of c es ≡ map (λ p. p.0) (tickets_of c ticket es)
+calls_with_tickets c ticket [] = refl
+calls_with_tickets c ticket (e ∷ es) = let rest = calls_with_tickets c (suc ticket) es in grind (arith, rest)
+
+-- they rise
+calls_rise : (least call : ℕ) (fates : List Fate) → least ≤ call → RiseFrom least (map (λ p. p.0) (tickets_from call fates))
+calls_rise least call [] le = tt
+calls_rise least call (lost claimed ∷ fates) le = calls_rise least (suc call) fates (omega arith)
+calls_rise least call (accepted ticket ∷ fates) le = (le, calls_rise (suc call) (suc call) fates (omega arith))
+
+-- each call is accepted or lost
+each_decided : (n x c call : ℕ) (fates : List Fate)
+    → times x (map (λ p. p.0) (tickets_from call fates)) + times x (map (λ (loss : Loss). loss.call) (losses_from n c call fates))
+    ≡ total_of (λ y. if y == x then 1 else 0) (tickets call (map end_of fates))
+each_decided n x c call [] = refl
+each_decided n x c call (lost claimed ∷ fates) = omega (arith, each_decided n x c (suc call) fates)
+each_decided n x c call (accepted ticket ∷ fates) = omega (arith, each_decided n x c (suc call) fates)
+
+-- an entry's call stands with its ticket
+with_ticket : (c first ticket place : ℕ) (es : List (Entry (List ℕ))) (e : Entry (List ℕ)) → get_elem? es place ≡ some e → c ≡ e.caller
+    → ticket ≡ first + place → StandsIn (tickets_of c first es) (e.call, ticket)
+with_ticket c first ticket place [] e at own is = cc
+with_ticket c first ticket zero (x ∷ es) e at own is =
+    let here : x ≡ e = some-injective x e at in
+    let same : first ≡ ticket = omega arith in
+    rw (eq-eqb c x.caller (own ∙ ap (λ (y : Entry (List ℕ)). y.caller) (sym here))) (0, cc)
+with_ticket c first ticket (suc place) (x ∷ es) e at own is =
+    stands_either (c == x.caller) (tickets_of c (suc first) es) (x.call, first) (e.call, ticket)
+    (with_ticket c (suc first) ticket place es e at own (omega arith))
+
+-- and is that of an accepted call
+ticket_got : (call : ℕ) (fates : List Fate) (x ticket : ℕ) → StandsIn (tickets_from call fates) (x, ticket)
+    → (place : ℕ) × (x ≡ call + place) × (get_elem? fates place ≡ some (accepted ticket))
+ticket_got call [] x ticket (place, at) = cc
+ticket_got call (lost claimed ∷ fates) x ticket stands =
+    let rest = ticket_got (suc call) fates x ticket stands in (suc rest.0, omega (arith, rest.1), rest.2)
+ticket_got call (accepted its ∷ fates) x ticket (zero, at) = let same = some-injective _ _ at in
+    (0, omega (arith, ap (λ (p : ℕ × ℕ). p.0) same), ap (λ (p : ℕ × ℕ). some (accepted p.1)) same)
+ticket_got call (accepted its ∷ fates) x ticket (suc place, at) =
+    let rest = ticket_got (suc call) fates x ticket (place, at) in (suc rest.0, omega (arith, rest.1), rest.2)
+
+module _ (n : ℕ) (turns : List Turn) where
+  -- the ticket of a caller's call is that which the call got
+  its_ticket : (c calls : ℕ) (fates : List Fate) → IsDecided n turns c calls fates → (call ticket : ℕ)
+      → IsTicket turns c call ticket → get_elem? fates call ≡ some (accepted ticket)
+  its_ticket c calls fates decided call ticket (e, at, by, is) =
+      let stands = with_ticket c 0 ticket ticket (entries_of turns) e at (sym by) (omega arith) in
+      let got = ticket_got 0 fates e.call ticket (subst (λ xs. StandsIn xs (e.call, ticket)) (sym decided.are_entries) stands) in
+      let place : got.0 ≡ call = omega (arith, got.1) in
+      rw (← place) got.2
+
+  legal_loss : (loss : Loss) (calls : ℕ) (fates : List Fate) → IsDecided n turns loss.caller calls fates
+      → StandsIn (losses_from n loss.caller 0 fates) loss → IsLegalLoss n turns loss
+  legal_loss loss calls fates decided stands =
+      let its = loss_is n loss.caller 0 fates loss stands in
+      let front = decided.decided.at_front its.0 its.1 its.2 in
+      let within = fate_within 0 fates its.0 (lost its.1) decided.decided.rises its.2 in
+      let got = its_ticket loss.caller calls fates decided in
+      record {
+        given_back = (front.0, front.1, omega (arith, its.4, front.2));
+        claimed = omega (arith, its.4, front.2, within.1, decided.decided.within);
+        earlier = λ call ticket less is.
+            let order = fates_in_order 0 fates call its.0 (accepted ticket) (lost its.1) decided.decided.rises (got call ticket is) its.2 in
+            omega (arith, its.4, front.2, order (omega (arith, its.3)));
+        later = λ call ticket less is.
+            let order = fates_in_order 0 fates its.0 call (lost its.1) (accepted ticket) decided.decided.rises its.2 (got call ticket is) in
+            omega (arith, its.4, front.2, order (omega (arith, its.3)));
+      }
+
+  module _ (calls : ℕ → ℕ) (callers : List (List Fate)) (decided : AreDecided n calls turns callers) where
+    calls_are : (c : ℕ) → calls_of c (entries_of turns) ≡ map (λ p. p.0) (tickets_from 0 (fates_of callers c))
+    calls_are c = calls_with_tickets c 0 (entries_of turns) ∙ sym (ap (map (λ p. p.0)) (decided c).are_entries)
+
+    own_losses : (c : ℕ) → losses_by c (all_losses n 0 callers) ≡ losses_from n c 0 (fates_of callers c)
+    own_losses c = of_caller n c 0 c callers (omega arith)
+
+    pub are_merged : AreMerged n calls turns (all_losses n 0 callers)
+    are_merged = record {
+      each_once = λ c call. rw (calls_are c, own_losses c) (each_decided n call c 0 (fates_of callers c)
+          ∙ once_behind call 0 (map end_of (fates_of callers c)) (omega arith)
+          ∙ ap (once_below call) (omega (arith, length-map (fates_of callers c) end_of, (decided c).calls_are)));
+      in_order = λ c. rw (calls_are c) (calls_rise 0 0 (fates_of callers c) (omega arith));
+      legal = λ loss stands. legal_loss loss (calls loss.caller) (fates_of callers loss.caller) (decided loss.caller)
+          (subst (λ xs. StandsIn xs loss) (own_losses loss.caller)
+          (stands_kept (λ (l : Loss). loss.caller == l.caller) (all_losses n 0 callers) loss stands
+          (eq-eqb loss.caller loss.caller refl)));
+      looks_keep_up = λ c. rw (own_losses c) (givens_keep_up n 0 c 0 0 (fates_of callers c) (omega arith) (decided c).decided.rises);
+      losses_in_order = losses_ordered n 0 callers 0 0 (inr (refl, omega arith));
+    }

@@ -1,0 +1,106 @@
+-- What the calls of a caller asked of a class, and its entries.
+use Rattle.history_spec.proofs.Names.{◌≡◌, ℕ, zero, suc, ◌+◌, ◌-◌, ◌<◌, ◌≤◌, Option, Some, None, List, [], ◌∷◌, ◌++◌, length, refl, sym, ap, ap₂, ◌∙◌, append_assoc, subst, arith, append-nil, Carried, Absent, Kept, Missing, Act, Report, State, SetMode, Entry, claim_in, claim_of, claims_of, Misses, Fate, lost, accepted, start_of, end_of, FatesFrom, end_from, claims_got, Calls, Follows, CallAsks, CarriedAsks, lost_number, StandsIn, entries_from}
+use mathlib.Core.Option.{some, some-injective}
+use lib.ListN.{get_elem?}
+use Rattle.ids_types.proofs.FatesLemmas.{fate_within}
+use Rattle.history_spec.proofs.FatesLemmas.{rises_apart, claims_got-append, got_stands}
+use Rattle.history_spec.proofs.PlaceLemmas.{stands_left, stands_right}
+
+module _ (classes i : ℕ) where
+  -- a call more
+  pub follows_after : (calls : Calls) (asks : List Fate) (call : Option (Act (List ℕ))) (here : List Fate) → Follows classes i calls asks
+      → CallAsks classes i call here → Follows classes i (calls ++ call ∷ []) (asks ++ here)
+  follows_after [] asks call here follows asked = (here, [], ap (λ xs. xs ++ here) follows ∙ sym (append-nil here), asked, refl)
+  follows_after (first ∷ calls) asks call here (one, later, is, first_asked, follows) asked =
+      let rest = follows_after calls later call here follows asked in
+      (one, later ++ here, ap (λ xs. xs ++ here) is ∙ append_assoc one later here, first_asked, rest)
+
+  -- ---- the claims that calls keep are what their log got
+
+  lost_numbers : (first : ℕ) (numbers : List ℕ) → claims_got (lost_number first numbers i) ≡ []
+  lost_numbers first [] = refl
+  lost_numbers first (number ∷ numbers) = let rest = lost_numbers (suc first) numbers in grind (arith, rest)
+
+  carried_got : (context : Carried (List ℕ)) (here : List Fate) → CarriedAsks classes i context here → claim_in i context ≡ claims_got here
+  carried_got Absent here asked = ap claims_got (sym asked)
+  carried_got (Kept class claim bytes) here asked =
+      let got = asked.got in let skipped = asked.skipped in let larger = asked.larger in grind (arith, got, skipped, larger)
+  carried_got (Missing numbers) here asked = sym (ap claims_got asked ∙ lost_numbers (classes - length numbers) numbers)
+
+  call_got : (act : Act (List ℕ)) (here : List Fate) → CallAsks classes i (Some act) here → claim_of i act ≡ claims_got here
+  call_got (Report event count stamp context) here asked = carried_got context here asked
+  call_got (State state) here asked = ap claims_got (sym asked)
+  call_got (SetMode event mode) here asked = ap claims_got (sym asked)
+
+  -- a lost call asks nothing
+  skipped : (calls : Calls) (asks : List Fate) → Follows classes i (None ∷ calls) asks → Follows classes i calls asks
+  skipped calls asks follows = subst (Follows classes i calls) (sym (follows.2 ∙ ap (λ h. h ++ follows.1) follows.3)) follows.4
+
+  pub calls_got : (caller j : ℕ) (calls : Calls) (asks : List Fate) → Follows classes i calls asks
+      → claims_of i (entries_from caller j calls) ≡ claims_got asks
+  calls_got caller j [] asks follows = ap claims_got (sym follows)
+  calls_got caller j (None ∷ calls) asks follows =
+      calls_got caller (suc j) calls asks (skipped calls asks follows)
+  calls_got caller j (Some act ∷ calls) asks follows =
+      ap₂ ◌++◌ (call_got act follows.0 follows.3) (calls_got caller (suc j) calls follows.1 follows.4)
+      ∙ sym (claims_got-append follows.0 follows.1) ∙ ap claims_got (sym follows.2)
+
+  -- ---- what entries show of the log
+
+  -- the act shows a call on the ring of the class: the claim by which it keeps its context, or a number that it was lost at
+  abbrev pub Shows : Act (List ℕ) → Fate → Type 0
+  Shows act (accepted claim) = StandsIn (claim_of i act) claim
+  Shows act (lost claimed) =
+      (numbers : List ℕ) × (k : ℕ) × Misses act numbers × (get_elem? numbers k ≡ some claimed) × (i ≡ (classes - length numbers) + k)
+
+  number_there : (first : ℕ) (numbers : List ℕ) (k claimed : ℕ) → get_elem? numbers k ≡ some claimed → i ≡ first + k
+      → lost_number first numbers i ≡ lost claimed ∷ []
+  number_there first [] k claimed at is = cc
+  number_there first (number ∷ numbers) zero claimed at is = grind (arith, at)
+  number_there first (number ∷ numbers) (suc k) claimed at is =
+      let rest = number_there (suc first) numbers k claimed at in grind (arith, rest)
+
+  -- what an act shows is among what its call asked
+  shown : (act : Act (List ℕ)) (fate : Fate) (here : List Fate) → CallAsks classes i (Some act) here → Shows act fate → StandsIn here fate
+  shown act (accepted claim) here asked shows = got_stands here claim (subst (λ xs. StandsIn xs claim) (call_got act here asked) shows)
+  shown (Report event count stamp (Missing numbers)) (lost claimed) here asked (its, k, is, at, place) =
+      rw (asked, is, number_there (classes - length its) its k claimed at place) (0, refl)
+  shown act (lost claimed) here asked shows = absurd shows.2
+
+  -- an entry is an accepted call
+  pub call_was : (caller j : ℕ) (calls : Calls) (e : Entry (List ℕ)) → StandsIn (entries_from caller j calls) e
+      → (k : ℕ) × (e.call ≡ j + k) × (get_elem? calls k ≡ some (Some e.act))
+  call_was caller j [] e (place, at) = cc
+  call_was caller j (None ∷ calls) e stands =
+      let rest = call_was caller (suc j) calls e stands in (suc rest.0, omega (arith, rest.1), rest.2)
+  call_was caller j (Some act ∷ calls) e (zero, at) = let same = some-injective _ _ at in
+      (0, omega (arith, ap (λ (x : Entry (List ℕ)). x.call) same), ap (λ (x : Entry (List ℕ)). some (Some x.act)) same)
+  call_was caller j (Some act ∷ calls) e (suc place, at) =
+      let rest = call_was caller (suc j) calls e (place, at) in (suc rest.0, omega (arith, rest.1), rest.2)
+
+  -- what its act shows stands in the log
+  pub log_shows : (k : ℕ) (calls : Calls) (asks : List Fate) (act : Act (List ℕ)) (fate : Fate) → Follows classes i calls asks
+      → get_elem? calls k ≡ some (Some act) → Shows act fate → StandsIn asks fate
+  log_shows k [] asks act fate follows at shows = cc
+  log_shows zero (call ∷ calls) asks act fate (here, later, is, asked, follows) at shows =
+      let own = shown act fate here (subst (λ x. CallAsks classes i x here) (some-injective _ _ at) asked) shows in
+      rw is (stands_left here later fate own)
+  log_shows (suc k) (call ∷ calls) asks act fate (here, later, is, asked, follows) at shows =
+      rw is (stands_right here later fate (log_shows k calls later act fate follows at shows))
+
+  -- and in the order of calls
+  pub shown_in_order : (j k low : ℕ) (calls : Calls) (asks : List Fate) (act other : Act (List ℕ)) (fate next : Fate)
+      → Follows classes i calls asks → FatesFrom low asks → get_elem? calls j ≡ some (Some act) → get_elem? calls k ≡ some (Some other)
+      → j < k → Shows act fate → Shows other next → end_of fate ≤ start_of next
+  shown_in_order j k low [] asks act other fate next follows rises at there less shows more = cc
+  shown_in_order j zero low (call ∷ calls) asks act other fate next follows rises at there less shows more = absurd (omega arith)
+  shown_in_order zero (suc k) low (_ ∷ calls) _ act other fate next (here, later, is, asked, follows) rises at there less shows more =
+      let parts = rises_apart low here later (subst (FatesFrom low) is rises) in
+      let own = shown act fate here (subst (λ x. CallAsks classes i x here) (some-injective _ _ at) asked) shows in
+      let second = log_shows k calls later other next follows there more in
+      let before = fate_within low here own.0 fate parts.0 own.1 in
+      let behind = fate_within (end_from low here) later second.0 next parts.1 second.1 in
+      omega (arith, before.1, behind.0)
+  shown_in_order (suc j) (suc k) low (_ ∷ calls) _ act other fate next (here, later, is, asked, follows) rises at there less shows more =
+      let parts = rises_apart low here later (subst (FatesFrom low) is rises) in
+      shown_in_order j k (end_from low here) calls later act other fate next follows parts.1 at there (omega arith) shows more

@@ -1,0 +1,67 @@
+-- The list of all callers' losses.
+use Rattle.history_spec.proofs.Names.{◌≡◌, ℕ, zero, suc, ◌+◌, ◌-◌, ◌<◌, ◌≤◌, ◌⊎◌, ◌==◌, if◌then◌else◌, List, [], ◌∷◌, ◌++◌, map, get_or, refl, inl, inr, sym, ap, arith, append-nil, Loss, losses_from, all_losses, Fate, lost, accepted, FatesFrom, losses_by, StandsIn, KeepUpFrom, LossesFrom}
+use mathlib.Core.Option.{some, some-injective}
+use lib.ListN.{get_elem?}
+
+module _ (n : ℕ) where
+  -- ---- the losses of one caller among all
+
+  in_two : (c d call : ℕ) (fates : List Fate) (behind : List Loss) → losses_by c (losses_from n d call fates ++ behind)
+      ≡ (if c == d then losses_from n d call fates else []) ++ losses_by c behind
+  in_two c d call [] behind = grind arith
+  in_two c d call (lost claimed ∷ fates) behind = let rest = in_two c d (suc call) fates behind in grind (arith, rest)
+  in_two c d call (accepted ticket ∷ fates) behind = in_two c d (suc call) fates behind
+
+  none_earlier : (c d : ℕ) (callers : List (List Fate)) → c < d → losses_by c (all_losses n d callers) ≡ []
+  none_earlier c d [] less = refl
+  none_earlier c d (fates ∷ callers) less =
+      let rest = none_earlier c (suc d) callers in
+      let both = in_two c d 0 fates (all_losses n (suc d) callers) in grind (arith, rest, both)
+
+  pub of_caller : (c d k : ℕ) (callers : List (List Fate)) → c ≡ d + k
+      → losses_by c (all_losses n d callers) ≡ losses_from n c 0 (get_or callers k [])
+  of_caller c d k [] is = refl
+  of_caller c d zero (fates ∷ callers) is =
+      let none = none_earlier c (suc d) callers in let both = in_two c d 0 fates (all_losses n (suc d) callers) in
+      grind (arith, none, both, append-nil)
+  of_caller c d (suc k) (fates ∷ callers) is =
+      let rest = of_caller c (suc d) k callers in
+      let both = in_two c d 0 fates (all_losses n (suc d) callers) in grind (arith, rest, both)
+
+  -- a loss is a lost call
+  pub loss_is : (c call : ℕ) (fates : List Fate) (loss : Loss) → StandsIn (losses_from n c call fates) loss → (place : ℕ) × (claimed : ℕ)
+      × (get_elem? fates place ≡ some (lost claimed)) × (loss.call ≡ call + place) × (loss.given ≡ claimed - n)
+  loss_is c call [] loss (place, at) = cc
+  loss_is c call (lost claimed ∷ fates) loss (zero, at) =
+      let is = some-injective _ _ at in
+      (0, claimed, refl, omega (arith, ap (λ (l : Loss). l.call) is), sym (ap (λ (l : Loss). l.given) is))
+  loss_is c call (lost claimed ∷ fates) loss (suc place, at) =
+      let rest = loss_is c (suc call) fates loss (place, at) in (suc rest.0, rest.1, rest.2, omega (arith, rest.3), rest.4)
+  loss_is c call (accepted ticket ∷ fates) loss stands =
+      let rest = loss_is c (suc call) fates loss stands in (suc rest.0, rest.1, rest.2, omega (arith, rest.3), rest.4)
+
+  -- ---- their order
+
+  -- the later a caller's call was lost, the more places had been given back
+  pub givens_keep_up : (least c call low : ℕ) (fates : List Fate) → least ≤ low - n → FatesFrom low fates
+      → KeepUpFrom least (map (λ (loss : Loss). loss.given) (losses_from n c call fates))
+  givens_keep_up least c call low [] le rises = tt
+  givens_keep_up least c call low (lost claimed ∷ fates) le rises =
+      (omega (arith, rises.0), givens_keep_up (claimed - n) c (suc call) claimed fates (omega arith) rises.1)
+  givens_keep_up least c call low (accepted ticket ∷ fates) le rises =
+      givens_keep_up least c (suc call) (ticket + 1) fates (omega (arith, rises.0)) rises.1
+
+  -- the losses of a caller, and after them those of the ones after it
+  caller_first : (d : ℕ) (behind : List Loss) → ((c call : ℕ) → c ≤ d → LossesFrom c call behind) → (c call from : ℕ) (fates : List Fate)
+      → (c < d) ⊎ ((c ≡ d) × (call ≤ from)) → LossesFrom c call (losses_from n d from fates ++ behind)
+  caller_first d behind later c call from [] before = later c call (omega (arith, before))
+  caller_first d behind later c call from (lost claimed ∷ fates) before =
+      (before, caller_first d behind later d (suc from) (suc from) fates (inr (refl, omega arith)))
+  caller_first d behind later c call from (accepted ticket ∷ fates) before = caller_first d behind later c call (suc from) fates
+      (elim before [ inl less ↦ inl less | inr same ↦ inr (same.0, omega (arith, same.1)) ])
+
+  pub losses_ordered : (d : ℕ) (callers : List (List Fate)) (c call : ℕ) → (c < d) ⊎ ((c ≡ d) × (call ≤ 0))
+      → LossesFrom c call (all_losses n d callers)
+  losses_ordered d [] c call before = tt
+  losses_ordered d (fates ∷ callers) c call before = caller_first d (all_losses n (suc d) callers)
+      (λ b j le. losses_ordered (suc d) callers b j (inl (omega arith))) c call 0 fates before

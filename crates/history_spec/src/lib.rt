@@ -1,0 +1,9 @@
+//! Which histories and losses the calls of several callers may give.
+//!
+//! Layer 4, messages and texts. Over `ids_types` and `ids_config`; the calls that report, the main function and the
+//! replay meet the definitions of `specs/`. Definitions and laws, and no code that runs.
+#![tactic(auto)]
+
+mod laws;
+
+pub use laws::{decided_calls_are_merged, settled_logs_give_legal_contexts, what_a_front_is};

@@ -1,0 +1,4 @@
+pub mod CallerLemmas
+pub mod ClosingLemmas
+pub mod MakingLemmas
+pub mod Names

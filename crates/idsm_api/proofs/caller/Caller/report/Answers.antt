@@ -1,0 +1,13 @@
+use Rattle.idsm_api.proofs.Names.{rules}
+use Rattle.report_api.specs.Answers.{given}
+use Rattle.idsm_api.specs.Calls.{Reports}
+use Rattle.idsm_api.specs.declared.caller.Caller.{Caller}
+use Rattle.idsm_api.proofs.CallerLemmas.{report_does}
+use Rattle.idsm_api.proofs.caller.Caller.report.Goals as goal
+
+pub returns-clause-does : goal.returns-clause-does
+returns-clause-does c =
+    let what = given c.args.event c.args.count c.args.stamp c.args.context.now in
+    let new : Caller = record c.args.self.now { pass = c.report-report.new.self } in
+    let told : Reports what c.args.self.now c.answer_of_report.result new = search rules in
+    report_does what c.args.self.now new c.answer_of_report.result c.requires.fit told

@@ -1,0 +1,11 @@
+use Rattle.idsm_api.proofs.Names.{refl, sym, subst}
+use Rattle.idsm_api.specs.Calls.{asked_state}
+use Rattle.idsm_api.specs.declared.role.Role.{Role}
+use Rattle.idsm_api.specs.declared.role.Role.TheVariants.{Calls}
+use Rattle.idsm_api.specs.Handled.{RoleSets}
+use Rattle.idsm_api.proofs.role.Role.set_state.Goals as goal
+
+pub returns-in-Calls-clause-told : goal.returns-in-Calls-clause-told
+returns-in-Calls-clause-told c =
+    subst (λ (old : Role). RoleSets (asked_state c.args.state) old c.set_state.result (Calls c.set_state.new.self)) (sym c.in-Calls.is)
+    (c.set_state.new.self, refl, c.set_state.ensures.told)

@@ -1,0 +1,11 @@
+pub mod Answers
+pub mod Callers
+pub mod Calls
+pub mod Closing
+pub mod Handled
+pub mod Making
+pub mod Numbers
+pub mod Reading
+pub mod Roles
+pub mod Turning
+pub mod Writing

@@ -1,0 +1,184 @@
+//! A manager with what it shares.
+ghost use Rattle.std.specs.Prelude.{◌≡◌, ◌≤◌, [], List, length, IfErr, OnOk};
+ghost use Rattle.ids_types.specs.Turns.{Turn};
+ghost use Rattle.ids_config.specs.Parts.{Parts};
+ghost use Rattle.filter_chain.specs.History.{rows_of};
+ghost use Rattle.idsm_api.specs.Callers.{AreAllCallers, AreCounted};
+ghost use Rattle.idsm_api.specs.Closing.{CloseMade, CloseTells, CountsTell};
+ghost use Rattle.idsm_api.specs.Reading.{LateTells, RowTells};
+ghost use Rattle.idsm_api.specs.Roles.{IsFitManager, StandsFor, manager_shares, most_bytes};
+ghost use Rattle.idsm_api.specs.Turning.{MayTurn, Refuses, TurnMade, TurnTells, told_by, told_in};
+ghost use Rattle.idsm_api.specs.declared.answer.Answer.TheVariants.{Done};
+ghost use Rattle.idsm_api.specs.declared.caller.Caller.{Caller as CallerValue};
+
+use crate::answer::Answer;
+use crate::caller::Caller;
+use crate::closing::{CloseAnswer, not_closed, take_passes};
+use crate::reading::{RowAnswer, hand_over_row};
+use crate::turning::{TurnAnswer, hand_over, refused};
+use event_chain::EventChain;
+use report_api::{CtxBuf, Pass, Shared};
+use std::sync::Arc;
+
+/// How many turns a manager makes at most.
+const MOST_TURNS: u64 = 1 << 62;
+
+/// The largest tick.
+const MAX_TICK: u64 = 1 << 62;
+
+/// One who takes what callers reported, a turn at a time. Its calls take no memory and wait for nobody. It may be given
+/// to another thread.
+///
+/// Contracts say for which turns it stands (`StandsFor`).
+#[derive(Drop)]
+pub struct Manager {
+    pub(crate) shared: Arc<Shared>,
+    pub(crate) manager: main_function::Manager<EventChain<CtxBuf>>,
+    // Where a close puts the passes of the callers: empty between two calls.
+    pub(crate) passes: Vec<Pass>,
+    // The tick of the last turn.
+    pub(crate) last: u64,
+    // How many bytes a buffer for the messages of a turn has at least.
+    pub(crate) most: u64,
+    // How many classes of context data buffers there are.
+    pub(crate) classes: u8,
+}
+
+impl Manager {
+    /// How many bytes a buffer for the messages of a turn has at least.
+    pub fn most_bytes(&self) -> u64
+        requires { IsFitManager self.now }
+        ensures { result ≡ most_bytes (manager_shares self.now) }
+    {
+        self.most
+    }
+
+    /// Makes a turn, and writes its messages to the front of the buffer, one after the other. The tick is at least that of
+    /// the turn before, and at most 2^62. A refusal makes no turn and changes nothing: it comes before the turn where the
+    /// buffer is too small.
+    /// Steps: as `main_function::Manager::turn` over an `EventChain`, and the bytes of its messages; none of these
+    /// where it is refused. By: `told` (`TurnTells`: `quick`); answer `TurnAnswer`, no NoMemory.
+    pub fn turn(&mut self, tick: u64, buffer: &mut [u8]) -> TurnAnswer
+        requires fit { IsFitManager self.old }
+        ensures fit { IsFitManager self.new }
+        ensures told { TurnTells tick self.old buffer.old result.answer self.new buffer.new }
+        ensures numbers { result.told ≡ told_by result.answer self.new.manager.out }
+        ensures within { result.told.bytes ≤ length buffer.new }
+        ensures callers { (callers : List CallerValue) → AreAllCallers self.old callers → AreAllCallers self.new callers }
+    {
+        match self.check(tick, buffer.len()) {
+            Ok(()) => self.step(tick, buffer),
+            Err(refusal) => refused(refusal),
+        }
+    }
+
+    /// Closes the manager: all callers come back, and a last turn takes all that was reported and is not taken yet. Its
+    /// messages go to the front of the buffer, as a turn's do. It answers what all turns together took and lost. A
+    /// refusal is that of a turn: it changes nothing, and leaves the callers in place.
+    /// Steps: as `main_function::Manager::close` over an `EventChain`, the callers, and the bytes of its messages; none
+    /// of these where it is refused. By: `told` (`CloseTells`: `quick`); answer `CloseAnswer`, no NoMemory.
+    pub fn close(&mut self, callers: &mut Vec<Caller>, tick: u64, buffer: &mut [u8]) -> CloseAnswer
+        requires fit { IsFitManager self.old }
+        requires callers { AreAllCallers self.old callers.old.items }
+        ensures fit { IsFitManager self.new }
+        ensures told { CloseTells tick self.old callers.old.items buffer.old result.answer self.new callers.new.items buffer.new }
+        ensures numbers { result.told ≡ told_by result.answer self.new.manager.out }
+        ensures counts { CountsTell result.answer callers.old.items result.totals }
+    {
+        match self.check(tick, buffer.len()) {
+            Ok(()) => self.finish(callers, tick, buffer),
+            Err(refusal) => not_closed(refusal),
+        }
+    }
+
+    // Makes a turn that may be made.
+    fn step(&mut self, tick: u64, buffer: &mut [u8]) -> TurnAnswer
+        requires fit { IsFitManager self.old }
+        requires may { MayTurn tick self.old (length buffer.old) }
+        ensures fit { IsFitManager self.new }
+        ensures made { TurnMade tick self.old buffer.old self.new buffer.new }
+        ensures told { result ≡ record { answer = Done; told = told_in self.new.manager.out } }
+        ensures within { result.told.bytes ≤ length buffer.new }
+    {
+        self.last = tick;
+        let Ok(out) = self.manager.turn(&self.shared, tick) else {
+            unreachable!()
+        };
+        hand_over(out, buffer)
+    }
+
+    // Makes a close whose turn may be made.
+    fn finish(&mut self, callers: &mut Vec<Caller>, tick: u64, buffer: &mut [u8]) -> CloseAnswer
+        requires fit { IsFitManager self.old }
+        requires may { MayTurn tick self.old (length buffer.old) }
+        requires callers { AreAllCallers self.old callers.old.items }
+        ensures fit { IsFitManager self.new }
+        ensures made { CloseMade tick self.old callers.old.items buffer.old self.new buffer.new }
+        ensures empty { callers.new.items ≡ [] }
+        ensures answer { result.answer ≡ Done }
+        ensures told { result.told ≡ told_in self.new.manager.out }
+        ensures counts { AreCounted callers.old.items result.totals }
+    {
+        self.last = tick;
+        take_passes(callers, &mut self.passes);
+        let Ok((out, totals)) = self.manager.close(&self.shared, &mut self.passes, tick) else {
+            unreachable!()
+        };
+        let turned = hand_over(out, buffer);
+        CloseAnswer {
+            answer: turned.answer,
+            told: turned.told,
+            totals,
+        }
+    }
+
+    // Whether a turn of this tick is made with a buffer of so many bytes, and why not.
+    fn check(&self, tick: u64, room: usize) -> Result<(), Answer>
+        requires { IsFitManager self.now }
+        ensures ok { OnOk result (MayTurn tick self.now room) }
+        ensures err { IfErr result (Refuses tick self.now room) }
+    {
+        if (room as u64) < self.most {
+            return Err(Answer::SmallBuffer);
+        }
+        if self.manager.turns() >= MOST_TURNS {
+            return Err(Answer::Spent);
+        }
+        if tick < self.last {
+            return Err(Answer::TickBack);
+        }
+        if tick > MAX_TICK {
+            return Err(Answer::TickTooLarge);
+        }
+        Ok(())
+    }
+
+    /// How many records the event memory has.
+    pub fn rows(&self) -> u16
+        ensures { (config : Parts) (turns : List Turn) → StandsFor config turns self.now →
+            result ≡ length (rows_of config turns) }
+    {
+        self.manager.memory().len()
+    }
+
+    /// A record of the event memory, from the one stored longest ago on. Its context data go to the front of the
+    /// buffer, which has to have room for all of them.
+    /// Steps: the bytes of the context, at most 1,024. By: `RowTells`; read off.
+    pub fn row(&self, i: u16, buffer: &mut [u8]) -> RowAnswer
+        ensures { (config : Parts) (turns : List Turn) → StandsFor config turns self.now →
+            RowTells (rows_of config turns) i buffer.old result.answer result.row buffer.new }
+    {
+        hand_over_row(self.manager.memory(), i, buffer)
+    }
+
+    /// How many buffers of a class wait for a free position: `None` where there is no such class.
+    pub fn late(&self, class: u8) -> Option<u16>
+        requires { IsFitManager self.now }
+        ensures { LateTells self.now class result }
+    {
+        if class >= self.classes {
+            return None;
+        }
+        Some(self.manager.late(class))
+    }
+}

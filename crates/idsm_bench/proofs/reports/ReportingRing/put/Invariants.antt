@@ -1,5 +1,0 @@
-use Rattle.report_api.specs.Passes.{IsPassOf}
-use Rattle.idsm_bench.proofs.reports.ReportingRing.put.Given as goal
-
-abbrev pub invariant-loop : goal.invariant-loop
-invariant-loop l = IsPassOf l.self.shared l.pass

@@ -1,2 +1,0 @@
-pub mod MakingLemmas
-pub mod Names

@@ -1,9 +1,0 @@
-pub mod Answers
-pub mod Calls
-pub mod Handled
-pub mod Making
-pub mod Numbers
-pub mod Reading
-pub mod Roles
-pub mod Turning
-pub mod Writing

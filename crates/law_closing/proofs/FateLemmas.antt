@@ -1,0 +1,45 @@
+-- The logs of rings as plain data.
+use Rattle.std.proofs.Common.{◌≡◌, ◌≢◌, ℕ, suc, ◌≤◌, Some, List, [], ◌∷◌, map, refl, sym, ap, subst, ◌∙◌, ne_eqb, arith}
+use mathlib.Core.Option.{some}
+use lib.ListN.{get_elem?}
+use Rattle.ids_types.specs.Fates.{AreAllDecided, claims_got}
+use Rattle.ids_types.proofs.FatesLemmas.{decided_on}
+use Rattle.std.proofs.lemmas.List.{length-map}
+use Rattle.history_spec.specs.Settled.{IsSettledLog, claims_by}
+use Rattle.permit_ring.specs.{IsWholeLog, fate_of, got_of, taken_by}
+use Rattle.permit_ring.specs.declared.memo.Outcome.{Outcome}
+use Rattle.permit_ring.specs.declared.memo.Outcome.TheVariants.{Lost, Got}
+use Rattle.buffer_classes.specs.Names.{SeatMemo}
+
+module _ {N : Type 0} where
+  -- the tickets of a log
+  pub got_as : (log : List (Outcome N)) → claims_got (map fate_of log) ≡ map (λ x. x.0) (got_of log)
+  got_as [] = refl
+  got_as (Lost g ∷ log) = got_as log
+  got_as (Got t x ∷ log) = ap (λ ts. t ∷ ts) (got_as log)
+
+-- the seats of the tickets that were taken are the claimants
+pub claimed_as : (i t : ℕ) (taken : List (ℕ × Unit {0}))
+    → claims_by i t (map (λ x. x.0) taken) ≡ map (λ x. x.0) (taken_by i t (map Some taken))
+claimed_as i t [] = refl
+claimed_as i t (x ∷ taken) = let rest = claimed_as i (suc t) taken in grind (arith, rest)
+
+-- who has none of the tickets claimed nothing
+pub claimed_none : (i t : ℕ) (taken : List (ℕ × Unit {0})) → ((j : ℕ) (x : ℕ × Unit {0}) → get_elem? taken j ≡ some x → i ≢ x.0)
+    → claims_by i t (map (λ x. x.0) taken) ≡ []
+claimed_none i t [] other = refl
+claimed_none i t (x ∷ taken) other = rw (ne_eqb i x.0 (other 0 x refl)) (claimed_none i (suc t) taken (λ j. other (suc j)))
+
+-- a whole log is settled, where all fronts are as large as the ring
+pub whole_settled : {number i : ℕ} {fronts : List ℕ} {taken : List (ℕ × Unit {0})} {memo : SeatMemo} → IsWholeLog fronts taken i memo
+    → ((j front : ℕ) → get_elem? fronts j ≡ some front → number ≤ front)
+    → IsSettledLog number (map (λ x. x.0) taken) i (map fate_of memo.log)
+whole_settled {number = number} {i = i} {taken = taken} {memo = memo} whole large = record {
+  decided = subst (λ n. AreAllDecided n (λ claimed. number ≤ claimed) (map fate_of memo.log)) (sym (length-map taken (λ x. x.0)))
+      (decided_on whole.decided (λ g front. large front.0 g front.1));
+  got = got_as memo.log ∙ ap (map (λ x. x.0)) whole.got ∙ sym (claimed_as i 0 taken);
+}
+
+-- and so is that of one who claimed nothing
+pub none_settled : {number i : ℕ} {claimants : List ℕ} → claims_by i 0 claimants ≡ [] → IsSettledLog number claimants i []
+none_settled none = record { decided = record { rises = tt; within = omega arith; at_front = λ j g at. cc }; got = sym none }

@@ -1,0 +1,4 @@
+pub mod CaptureLaws
+pub mod ExportLemmas
+pub mod JsonLemmas
+pub mod LineLaws

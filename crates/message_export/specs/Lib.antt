@@ -1,0 +1,4 @@
+pub mod Capture
+pub mod Exported
+pub mod JsonLines
+pub mod Moments

@@ -1,5 +1,0 @@
-use Rattle.report_tests.specs.Running.{IsRunning}
-use Rattle.report_tests.proofs.steps.Run.first_unlike.Given as goal
-
-abbrev pub invariant-loop-line : goal.invariant-loop-line
-invariant-loop-line g l = IsRunning g.C.Chain.events g.C.Chain.kept l.self.classes l.self.made

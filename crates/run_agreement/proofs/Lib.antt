@@ -1,3 +1,0 @@
-pub mod AgreementLemmas
-pub mod CausalLemmas
-pub mod FoundLemmas

@@ -1,9 +1,0 @@
--- What a function answers that leaves early.
-use Rattle.run_files.proofs.Names.{◌≡◌, Ok, Err, sym, subst, Result}
-use Rattle.std.specs.Result.{IsErrAnd}
-
--- an exit with this fault has what this fault has
-pub left_with : {T E : Type 0} (P : Result T E → Type 0) (answer : Result T E) (fault : E)
-    → IsErrAnd answer (λ y. y ≡ fault) → P (Err fault) → P answer
-left_with P (Ok x) fault left has = absurd left
-left_with P (Err y) fault left has = subst (λ e. P (Err e)) (sym left) has

@@ -1,9 +1,0 @@
-use Rattle.std.proofs.Common.{length}
-use Rattle.run_messages.proofs.LinesLemmas.{ArePrinted}
-use Rattle.run_messages.proofs.decode.lines_of.Given as goal
-
-abbrev pub invariant-loop-rest : goal.invariant-loop-rest
-invariant-loop-rest l = ArePrinted l.bytes l.rest l.lines.items
-
-abbrev pub decreases-loop-rest : goal.decreases-loop-rest
-decreases-loop-rest l = length l.rest

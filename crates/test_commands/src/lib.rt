@@ -1,0 +1,33 @@
+//! The tests of the commands that no command over files can show: calls that fail, want of memory, gates, and counts of
+//! calls. The tables of tools/commands.d have all others.
+//!
+//! Layer 12, tests and times. Over `idsm_run`, `ids_outside` and `memory_disk`. What a run over files and disks in
+//! memory leaves was worked out by hand. Statuses, limits and places on a disk stand here as numbers.
+#![tactic(auto)]
+
+#[cfg(test)]
+mod calls;
+#[cfg(test)]
+mod crashing;
+#[cfg(test)]
+mod disks;
+#[cfg(test)]
+mod failing;
+#[cfg(test)]
+mod failing_disks;
+#[cfg(test)]
+mod meeting;
+#[cfg(test)]
+mod shelves;
+#[cfg(test)]
+mod steady;
+#[cfg(test)]
+mod tables;
+#[cfg(test)]
+mod telling;
+#[cfg(test)]
+mod wanting;
+#[cfg(test)]
+mod words;
+#[cfg(test)]
+mod written;

@@ -1,0 +1,60 @@
+-- Passes that tests keep, one by one.
+use Rattle.std.proofs.Common.{◌≡◌, ℕ, ◌<◌, ⊎_elim, inl, inr, List, length, set, slice_index_or, subst, sym, ap, ◌∙◌, arith, All}
+use Rattle.std.proofs.lemmas.List.{get_or_default, length-set}
+use mathlib.Core.Option.{some, some-injective}
+use lib.ListN.{get_elem?}
+use Rattle.atomic_table.proofs.Lists.{at_index, at_set}
+use Rattle.permit_ring.proofs.ListLemmas.{at_length}
+use Rattle.report_api.specs.Names.{DeskMemo}
+use Rattle.report_api.specs.Passes.{IsPassOf, pass_memo}
+use Rattle.report_api.specs.declared.pass.Pass.{Pass}
+use Rattle.report_api.specs.declared.shared.Shared.{Shared}
+use Rattle.main_function.specs.Standing.{AreAllPasses}
+use Rattle.test_reports.specs.Running.{ArePassesLeft, AreSamePasses, IsSamePass}
+
+-- the element at a place of the list
+at_place : {A : Type 0} (xs : List A) (i : ℕ) (d : A) → i < length xs → get_elem? xs i ≡ some (slice_index_or xs i d)
+at_place xs i d low = at_index xs i (slice_index_or xs i d) low (get_or_default xs i d (slice_index_or xs i d) low)
+
+module _ {shared : Shared} {desk : DeskMemo} {passes : List Pass} where
+  -- of passes that are left, there are all
+  pub all_left : ArePassesLeft shared desk passes → (i : ℕ) → i < length passes → AreAllPasses shared desk passes
+  all_left are i low = ⊎_elim (λ none. let no : i < 0 = subst (λ (xs : List Pass). i < length xs) none low in absurd (omega (arith, no))) (λ all. all) are
+
+  -- they are left while none comes back
+  pub left_on : ArePassesLeft shared desk passes → (now : DeskMemo) → now.back ≡ desk.back → ArePassesLeft shared now passes
+  left_on (inl none) now back = inl none
+  left_on (inr are) now back = inr (record { all = are.all ∙ ap length (sym back); each = are.each })
+
+  -- each of them is one of the making
+  pub pass_at : AreAllPasses shared desk passes → (i : ℕ) (d : Pass) → i < length passes → IsPassOf shared (slice_index_or passes i d)
+  pass_at are i d low = (are.each i _ (at_place passes i d low)).0
+
+  -- one of them made a call
+  pub one_called : AreAllPasses shared desk passes → (i : ℕ) (d pass : Pass) → i < length passes
+      → IsSamePass shared (slice_index_or passes i d) pass → AreAllPasses shared desk (set passes i pass)
+  one_called are i d pass low same = record {
+    all = length-set passes i pass ∙ are.all;
+    each = λ j other at. ⊎_elim
+        (λ here. subst (λ (p : Pass). IsPassOf shared p × ((pass_memo p).number ≡ j)) here.1
+        (same.is_pass, same.same ∙ ((are.each i _ (at_place passes i d low)).1 ∙ sym here.0)))
+        (λ else. are.each j other else.1)
+        (at_set passes i j pass other at);
+  }
+
+  -- all of them made calls, and none came back meanwhile
+  pub all_called : AreAllPasses shared desk passes → (now : DeskMemo) (news : List Pass) → now.back ≡ desk.back
+      → AreSamePasses shared passes news → AreAllPasses shared now news
+  all_called are now news back same = record {
+    all = same.as_many ∙ (are.all ∙ ap length (sym back));
+    each = λ i pass at.
+        let low = at_length news i pass at in
+        let here = same.each i pass low in
+        let is : slice_index_or news i pass ≡ pass = some-injective _ _ (sym (at_place news i pass low) ∙ at) in
+        let was = are.each i _ (at_place passes i pass (subst (λ (n : ℕ). i < n) same.as_many low)) in
+        subst (λ (p : Pass). IsPassOf shared p × ((pass_memo p).number ≡ i)) is (here.is_pass, here.same ∙ was.1);
+  }
+
+-- passes that made calls are of the making
+pub same_all : {shared : Shared} {olds news : List Pass} → AreSamePasses shared olds news → All (IsPassOf shared) news
+same_all same = λ i d low. (same.each i d low).is_pass

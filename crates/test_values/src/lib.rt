@@ -1,0 +1,18 @@
+//! The tests of the crates below, over their public names alone.
+//!
+//! Layer 12, tests and times. Each module tests what no contract says: that calls succeed with ample memory, what the
+//! host keeps, and that the definitions say what the documents do, by worked examples that were found by hand.
+//! Statuses, limits and ranges stand here as numbers. What needs threads or private names is tested in its
+//! own crate.
+#![tactic(auto)]
+
+#[cfg(test)]
+mod host_outside;
+#[cfg(test)]
+mod messages;
+#[cfg(test)]
+mod ring_machine;
+#[cfg(test)]
+mod shared_ring;
+#[cfg(test)]
+mod stored_events;

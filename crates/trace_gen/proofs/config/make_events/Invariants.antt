@@ -1,6 +1,0 @@
-use Rattle.trace_gen.proofs.Names.{◌≡◌, map, range_with_len, sensor_event}
-use Rattle.trace_gen.proofs.config.make_events.Given as goal
-
--- the events so far
-abbrev pub invariant-loop-e : goal.invariant-loop-e
-invariant-loop-e l = l.all.items ≡ map sensor_event (range_with_len 0 l.e)

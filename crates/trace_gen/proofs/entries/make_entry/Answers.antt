@@ -1,9 +1,0 @@
-use Rattle.trace_gen.proofs.Names.{line_asked}
-use Rattle.trace_gen.proofs.CountLemmas.{calls_more}
-use Rattle.trace_gen.proofs.entries.make_entry.Goals as goal
-
-pub returns-clause-counts : goal.returns-clause-counts
-returns-clause-counts c past are = record {
-  calls = rw c.in_ok-call.ensures.more (calls_more _ past _ c.args.caller (line_asked c.args.line) c.requires.caller are.calls);
-  claims = c.in_ok-act.ensures.claims past c.args.caller are.claims;
-}

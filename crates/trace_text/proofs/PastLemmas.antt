@@ -1,0 +1,125 @@
+-- What the lines so far of a journal are after some of a history: where they await the rest of it, that has no fault.
+use Rattle.trace_text.proofs.Names.{◌≡◌, ℕ, suc, ◌+◌, ◌<◌, ◌≤◌, ◌^◌, ◌++◌, false, List, [], ◌∷◌, length, length-append, map, get_or, set, refl, sym, ap, subst, ◌∙◌, append_assoc, inl, inr, arith, length-set, get_or-set_same, get_or-set_other, Ok, AllByRecursion, flat_map, list_any, cases_eq, eq-eqb, le-leb, lt-ltb, ne_eqb, append-nil, Turn, begun, entries_of, Parts, Entry, Loss, calls_of, KeepUpFrom, LossesFrom, RiseFrom, Past, fault_of, is_pair, next, pair_of, IsHeld, journal_grammar, Line, begins, enters, loses, turn_told}
+use Rattle.ids_types.proofs.HistoryLemmas.{entries_of-with_entry}
+use Rattle.ids_types.proofs.OutputLemmas.{length_with_entry}
+use Rattle.text_spec.specs.Lines.{AreFaultless}
+use Rattle.text_spec.proofs.JournalFacts.{flat_map-push}
+use Rattle.trace_text.proofs.LineLemmas.{Entries, EntryFits, LossFits, TurnFits}
+
+-- the lines so far await these entries of the turn that has begun, and then these turns, which are the rest of all entries
+pub record Awaits (all : Entries) (past : Past) (entries : Entries) (turns : List Turn) : Type 0 where
+  pub callers : length past.calls ≡ 32
+  pub no_losses : past.told.losses ≡ []
+  pub has_begun : 0 < length entries → 0 < length past.told.turns
+  pub few : past.entries + length entries ≤ 1024
+  pub calls_rise : (caller : ℕ) → RiseFrom (get_or past.calls caller 0) (calls_of caller (entries ++ entries_of turns))
+  pub ticks_keep_up : KeepUpFrom past.tick (map (λ turn. turn.head.tick) turns)
+  pub are_all : entries_of past.told.turns ++ (entries ++ entries_of turns) ≡ all
+  pub no_pair : past.pair ≡ 0
+
+module _ (config : Parts) (all : Entries) where
+  -- what each of these lines tells can be held, and none has a fault after the lines so far
+  abbrev pub AreTaken : Past → List Line → Type 0
+  AreTaken past lines = AllByRecursion IsHeld lines × AreFaultless (journal_grammar config) past lines
+
+  -- ---- one line
+
+  -- the calls of each caller rise after an entry
+  rise_on : (past : Past) (e : Entry (List ℕ)) (entries : Entries) (caller : ℕ) → e.caller < length past.calls
+      → RiseFrom (get_or past.calls caller 0) (calls_of caller (e ∷ entries))
+      → RiseFrom (get_or (set past.calls e.caller (e.call + 1)) caller 0) (calls_of caller entries)
+  rise_on past e entries caller within rise = elim (cases_eq caller e.caller) [
+    | inl own ↦
+        let least : get_or (set past.calls e.caller (e.call + 1)) caller 0 ≡ suc e.call =
+        ap (λ c. get_or (set past.calls e.caller (e.call + 1)) c 0) own
+        ∙ get_or-set_same past.calls e.caller (e.call + 1) 0 within ∙ omega arith in
+        rw least (rw (eq-eqb caller e.caller own) at rise).1
+    | inr other ↦
+        rw (get_or-set_other past.calls e.caller caller (e.call + 1) 0 other) (rw (ne_eqb caller e.caller other) at rise)
+  ]
+
+  -- an entry that is awaited
+  entry_taken : (past : Past) (e : Entry (List ℕ)) (entries : Entries) (turns : List Turn) → EntryFits config e
+      → Awaits all past (e ∷ entries) turns
+      → (fault_of config past (enters e) ≡ Ok tt) × Awaits all (next past (enters e)) entries turns
+  entry_taken past e entries turns fits awaits =
+      let begun : 0 < length past.told.turns = awaits.has_begun (omega arith) in
+      let call = fits.place in
+      let callers = awaits.callers in
+      let within : e.caller < length past.calls = grind (arith, call, callers) in
+      let least = (rw (eq-eqb e.caller e.caller refl) at (awaits.calls_rise e.caller)).0 in
+      let few : past.entries < 1024 = omega (arith, awaits.few) in (
+        rw (awaits.no_losses, lt-ltb 0 _ begun, call, fits.ranges, fits.event, le-leb _ _ least, lt-ltb _ 1024 few) refl,
+        record {
+          callers = length-set past.calls e.caller (e.call + 1) ∙ callers;
+          no_losses = awaits.no_losses;
+          has_begun = λ more. omega (arith, length_with_entry past.told.turns e, begun);
+          few = omega (arith, awaits.few);
+          calls_rise = λ caller. rise_on past e (entries ++ entries_of turns) caller within (awaits.calls_rise caller);
+          ticks_keep_up = awaits.ticks_keep_up;
+          are_all = ap (λ es. es ++ (entries ++ entries_of turns)) (entries_of-with_entry past.told.turns e begun)
+              ∙ append_assoc (entries_of past.told.turns) (e ∷ []) (entries ++ entries_of turns)
+              ∙ awaits.are_all;
+          no_pair = awaits.no_pair;
+        },
+      )
+
+  -- the head of a turn that is awaited
+  head_taken : (past : Past) (turn : Turn) (turns : List Turn) → TurnFits config turn → Awaits all past [] (turn ∷ turns)
+      → (fault_of config past (begins turn.head) ≡ Ok tt) × Awaits all (next past (begins turn.head)) turn.entries turns
+  head_taken past turn turns fits awaits =
+      let same = flat_map-push (λ (t : Turn). t.entries) past.told.turns (begun turn.head) ∙ append-nil _ in (
+        rw (awaits.no_losses, fits.head, le-leb _ _ awaits.ticks_keep_up.0) refl,
+        record {
+          callers = awaits.callers;
+          no_losses = awaits.no_losses;
+          has_begun = λ some. omega (arith, length-append past.told.turns (begun turn.head ∷ []));
+          few = omega (arith, fits.few);
+          calls_rise = awaits.calls_rise;
+          ticks_keep_up = awaits.ticks_keep_up.1;
+          are_all = ap (λ es. es ++ (turn.entries ++ entries_of turns)) same ∙ awaits.are_all;
+          no_pair = awaits.no_pair;
+        },
+      )
+
+  -- ---- all lines
+
+  -- losses in order, after all entries
+  pub losses_taken : (past : Past) (caller call : ℕ) (losses : List Loss) → past.pair ≡ pair_of caller call → call ≤ 2 ^ 40
+      → entries_of past.told.turns ≡ all → LossesFrom caller call losses → AllByRecursion (LossFits all) losses
+      → AreTaken past (map loses losses)
+  losses_taken past caller call [] pair small are order fits = (tt, tt)
+  losses_taken past caller call (loss ∷ losses) pair small are order fits =
+      let is = fits.0.place in
+      let its = pair_of loss.caller loss.call in
+      let low : loss.call < 2 ^ 40 = grind (arith, is) in
+      let least : past.pair ≤ its = omega (arith, pair, small, order.0) in
+      let apart : list_any (is_pair its) (entries_of past.told.turns) ≡ false = rw are fits.0.apart in
+      let none : fault_of config past (loses loss) ≡ Ok tt = rw (is, fits.0.given, le-leb past.pair its least, apart) refl in
+      let rest = losses_taken (next past (loses loss)) loss.caller (suc loss.call) losses (omega arith) (omega (arith, low)) are
+      order.1 fits.1 in
+      (((tt, (tt, (tt, (tt, tt)))), rest.0), (none, rest.1))
+
+  -- entries that are awaited, and some lines after them
+  entries_taken : (past : Past) (entries : Entries) (turns : List Turn) (rest : List Line) → AllByRecursion (EntryFits config) entries
+      → Awaits all past entries turns → ((now : Past) → Awaits all now [] turns → AreTaken now rest)
+      → AreTaken past (map enters entries ++ rest)
+  entries_taken past [] turns rest fits awaits then = then past awaits
+  entries_taken past (e ∷ entries) turns rest fits awaits then =
+      let one = entry_taken past e entries turns fits.0 awaits in
+      let more = entries_taken (next past (enters e)) entries turns rest fits.1 one.1 then in
+      ((fits.0.held, more.0), (one.0, more.1))
+
+  -- turns that are awaited, and some lines after them
+  pub turns_taken : (past : Past) (turns : List Turn) (rest : List Line) → AllByRecursion (TurnFits config) turns
+      → Awaits all past [] turns → ((now : Past) → Awaits all now [] [] → AreTaken now rest)
+      → AreTaken past (flat_map turn_told turns ++ rest)
+  turns_taken past [] rest fits awaits then = then past awaits
+  turns_taken past (turn ∷ turns) rest fits awaits then =
+      let one = head_taken past turn turns fits.0 awaits in
+      let later = flat_map turn_told turns ++ rest in
+      let more = entries_taken (next past (begins turn.head)) turn.entries turns later fits.0.entries one.1
+      (λ now behind. turns_taken now turns rest fits.1 behind then) in
+      let lines = append_assoc (map enters turn.entries) (flat_map turn_told turns) rest in
+      let both = subst (AreTaken (next past (begins turn.head))) (sym lines) more in
+      (((tt, (tt, (tt, (tt, (tt, tt))))), both.0), (one.0, both.1))
