@@ -3,4 +3,5 @@ pub mod JournalLemmas
 pub mod MayLemmas
 pub mod Names
 pub mod RunLemmas
+pub mod SteadyLemmas
 pub mod TaskLemmas
