@@ -60,7 +60,7 @@ impl<'a, const SEPARATOR: u8> Pieces<'a, SEPARATOR> {
     pub fn any_number(self) -> Option<(u64, Pieces<'a, SEPARATOR>)>
         ensures { result ≡ first_as a_number self.entry }
     {
-        let (number, rest) = cut_number(self.rest?, SEPARATOR)?;
+        let (number, rest) = cut_number::<SEPARATOR>(self.rest?)?;
         Some((number, Pieces { rest }))
     }
 
@@ -184,31 +184,31 @@ fn is_other(byte: &u8, separator: u8) -> bool
 /// The number that the first piece writes, and what stands after the piece: quick where it has one
 /// digit or two, as many numbers have.
 #[inline(always)]
-fn cut_number(text: &[u8], separator: u8) -> Option<(u64, Option<&[u8]>)>
-    ensures { option_map (λ x. (x.0, pieces_left separator (option_map (λ r. r.now) x.1))) result
-        ≡ first_as a_number (pieces_of separator text.now) }
+fn cut_number<const SEPARATOR: u8>(text: &[u8]) -> Option<(u64, Option<&[u8]>)>
+    ensures { option_map (λ x. (x.0, pieces_left SEPARATOR (option_map (λ r. r.now) x.1))) result
+        ≡ first_as a_number (pieces_of SEPARATOR text.now) }
 {
     match text {
         [digit, next, rest @ ..]
-            if digit.is_ascii_digit() && *digit != separator && *next == separator => {
+            if digit.is_ascii_digit() && *digit != SEPARATOR && *next == SEPARATOR => {
             Some((u64::from(*digit - b'0'), Some(rest)))
         }
         [tens @ b'1'..=b'9', ones @ b'0'..=b'9', next, rest @ ..]
-            if *tens != separator && *ones != separator && *next == separator => {
+            if *tens != SEPARATOR && *ones != SEPARATOR && *next == SEPARATOR => {
             Some((
                 u64::from(*tens - b'0') * 10 + u64::from(*ones - b'0'),
                 Some(rest),
             ))
         }
-        _ => cut_digits(text, separator),
+        _ => cut_digits::<SEPARATOR>(text),
     }
 }
 
 /// The same for more digits: quick where they are three or four.
 #[inline(never)]
-fn cut_digits(text: &[u8], separator: u8) -> Option<(u64, Option<&[u8]>)>
-    ensures { option_map (λ x. (x.0, pieces_left separator (option_map (λ r. r.now) x.1))) result
-        ≡ first_as a_number (pieces_of separator text.now) }
+fn cut_digits<const SEPARATOR: u8>(text: &[u8]) -> Option<(u64, Option<&[u8]>)>
+    ensures { option_map (λ x. (x.0, pieces_left SEPARATOR (option_map (λ r. r.now) x.1))) result
+        ≡ first_as a_number (pieces_of SEPARATOR text.now) }
 {
     match text {
         [
@@ -217,7 +217,7 @@ fn cut_digits(text: &[u8], separator: u8) -> Option<(u64, Option<&[u8]>)>
             c @ b'0'..=b'9',
             next,
             rest @ ..,
-        ] if *a != separator && *b != separator && *c != separator && *next == separator => {
+        ] if *a != SEPARATOR && *b != SEPARATOR && *c != SEPARATOR && *next == SEPARATOR => {
             let value = u64::from(*a - b'0') * 100
                 + u64::from(*b - b'0') * 10
                 + u64::from(*c - b'0');
@@ -230,16 +230,16 @@ fn cut_digits(text: &[u8], separator: u8) -> Option<(u64, Option<&[u8]>)>
             d @ b'0'..=b'9',
             next,
             rest @ ..,
-        ] if *a != separator
-            && *b != separator
-            && *c != separator
-            && *d != separator
-            && *next == separator => {
+        ] if *a != SEPARATOR
+            && *b != SEPARATOR
+            && *c != SEPARATOR
+            && *d != SEPARATOR
+            && *next == SEPARATOR => {
             let high = u64::from(*a - b'0') * 10 + u64::from(*b - b'0');
             let low = u64::from(*c - b'0') * 10 + u64::from(*d - b'0');
             Some((high * 100 + low, Some(rest)))
         }
-        _ => cut_each_digit(text, separator),
+        _ => cut_each_digit(text, SEPARATOR),
     }
 }
 
