@@ -3,13 +3,13 @@
 ghost use Rattle.std.specs.Prelude.{◌≡◌, [], length, IfOk};
 ghost use Rattle.chain_plain.specs.Recorded.{CanFold};
 
+use crate::plain_chain::PlainChain;
 use chain_plain::{Tally, fold};
 use config_json::read as read_config;
 use event_chain::EventChain;
 use filter_chain::Chain;
 use ids_config::Config;
 use ids_types::{History, Plain};
-use plain_chain::PlainChain;
 use std::alloc::Global;
 use std::test::Fail;
 

@@ -1,8 +1,9 @@
 //! The tests of the commands that no command over files can show: calls that fail, want of memory, gates, and counts of
-//! calls. The tables of tools/commands.d have all others.
+//! calls; and those of replays. The tables of tools/commands.d have all others.
 //!
-//! Layer 12, tests and times. Over `idsm_run`, `ids_outside` and `memory_disk`. What a run over files and disks in
-//! memory leaves was worked out by hand. Statuses, limits and places on a disk stand here as numbers.
+//! Layer 12, tests and times. Over `idsm_run`, `ids_outside`, `memory_disk` and `trace_replay`. What a run over files and
+//! disks in memory leaves was worked out by hand, and so were the histories of traces. Statuses, limits and places on a
+//! disk stand here as numbers.
 #![tactic(auto)]
 
 #[cfg(test)]
@@ -17,6 +18,8 @@ mod failing;
 mod failing_disks;
 #[cfg(test)]
 mod meeting;
+#[cfg(test)]
+mod replays;
 #[cfg(test)]
 mod shelves;
 #[cfg(test)]

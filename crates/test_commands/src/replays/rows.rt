@@ -1,6 +1,7 @@
 //! Replays whose history, turn by turn, does not depend on how threads run.
 
-use crate::told::told_of;
+use crate::replays::told::told_of;
+use crate::written::bytes_of;
 use std::alloc::Global;
 use std::test::Fail;
 use std::thread::Threads;
@@ -15,25 +16,16 @@ const ROWS: &str = r#"{"form":1,"instance":18,"events":[{"id":42,"sensor":3}]} |
 {"form":1,"instance":18,"ring":1,"events":[{"id":42,"sensor":3}]} | N/S 0 1/S 0 2/E 3/N/R 0 0 2 8000000100000a00 -/E 4/ | T 3 0 0 0/C 0 0 S 1/T 4 0 0 0/R 0 2 0 2 8000000100000a00 -/T 4 0 0 0/L 0 1 0/ | #120483002a0002008000000100000a00
 {"form":1,"instance":18,"events":[{"id":42,"sensor":3}]} | N/M 0 0 OFF/R 0 0 1 - a1/E 7/N/M 0 0 BRIEF/R 0 0 3 - -/E 8/ | T 7 0 1 0/C 0 0 M 0 OFF/R 0 1 0 1 - !/T 8 0 0 0/C 0 2 M 0 BRIEF/R 0 3 0 3 - -/T 8 0 0 0/ | #100483002a000300"#;
 
-/// The text, with a line feed for each slash.
-fn lines(alloc: Global, text: &str) -> Result<Vec<u8>, Fail> {
-    let mut bytes = Vec::new(alloc);
-    for &byte in text.as_bytes() {
-        bytes.push(if byte == b'/' { b'\n' } else { byte })?;
-    }
-    Ok(bytes)
-}
-
 /// Whether the trace gives this journal and these messages, with an end for each turn and two rests for each round.
 fn gives<R: Threads + Sync>(rt: &R, alloc: Global, row: &str) -> Result<bool, Fail> {
     let (config, rest) = row.split_once(" | ").ok_or("a configuration")?;
     let (trace, rest) = rest.split_once("| ").ok_or("a trace")?;
     let (journal, messages) = rest.split_once(" | #").ok_or("a journal")?;
-    let text = lines(alloc, trace.trim())?;
+    let text = bytes_of(alloc, trace.trim())?;
     let told = told_of(rt, alloc, config, &text, &OpenGate)?;
     let mut sent = Vec::new(alloc);
     push_hex(&mut sent, &told.sent)?;
-    let is_journal = told.journal.as_slice() == lines(alloc, journal)?.as_slice();
+    let is_journal = told.journal.as_slice() == bytes_of(alloc, journal)?.as_slice();
     let rounds = trace.split("N").count().saturating_sub(1);
     Ok(
         is_journal
@@ -58,7 +50,7 @@ const TWO_ROUNDS: &str = "N/R 0 0 1 - -/R 1 0 1 - -/E 5/N/R 0 0 1 - -/R 0 0 1 - 
 fn each_round_has_its_own_calls(rt: HostRuntime) -> Result<(), Fail> {
     let alloc = rt.alloc();
     let config = r#"{"form":1,"instance":18,"callers":2,"ring":8,"events":[{"id":42,"sensor":3}]}"#;
-    let told = told_of(&rt, alloc, config, &lines(alloc, TWO_ROUNDS)?, &OpenGate)?;
+    let told = told_of(&rt, alloc, config, &bytes_of(alloc, TWO_ROUNDS)?, &OpenGate)?;
     assert_eq!(rt; told.calls.as_str(), "5: 0.0 1.0\n9: 0.1 0.2 1.1\n9:\n");
     assert_eq!(rt; told.rests.as_slice(), [0, 1, 1, 2].as_slice());
     assert_eq!(rt;

@@ -1,8 +1,8 @@
 use Rattle.std.proofs.Common.{subst, sym, arith}
 use Rattle.std.specs.List.{All}
 use Rattle.std.proofs.lemmas.List.Elements.{All-push}
-use Rattle.plain_chain.specs.Remembered.{IsFresh}
-use Rattle.plain_chain.proofs.fresh.fill.Goals as goal
+use Rattle.test_chains.specs.Remembered.{IsFresh}
+use Rattle.test_chains.proofs.fresh.fill.Goals as goal
 
 -- one more took no turn
 pub loop-alloc-preserved : goal.loop-alloc-preserved

@@ -3,7 +3,7 @@
 ghost use Rattle.std.specs.Prelude.{◌≡◌, ◌+◌, ◌≤◌, ◌<◌, vec_len, IfOk, OnOk};
 ghost use Rattle.std.specs.List.{All};
 ghost use Rattle.ids_config.specs.Parts.{Parts};
-ghost use Rattle.plain_chain.specs.Remembered.{IsFresh};
+ghost use Rattle.test_chains.specs.Remembered.{IsFresh};
 
 use chain_plain::Desk;
 use event_chain::EventChain;

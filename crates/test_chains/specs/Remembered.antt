@@ -9,8 +9,8 @@ use Rattle.filter_aggregate.specs.Account.{all_kept}
 use Rattle.event_chain.specs.Standing.{Stands as ChainStands}
 use Rattle.chain_plain.specs.Recorded.{AreInOrder, CanTake}
 use Rattle.chain_plain.specs.Telling.{IsReady}
-use Rattle.plain_chain.specs.declared.fresh.Fresh.{Fresh}
-use Rattle.plain_chain.specs.declared.plain_chain.PlainChain.TheInside.{Inside}
+use Rattle.test_chains.specs.declared.fresh.Fresh.{Fresh}
+use Rattle.test_chains.specs.declared.plain_chain.PlainChain.TheInside.{Inside}
 
 -- the configuration, all turns with the room for more, the number that the last turn hands on, and the event memory
 -- after it

@@ -11,9 +11,9 @@ use Rattle.chain_plain.proofs.TurningLemmas.{told_fits}
 use Rattle.chain_plain.specs.Recorded.{AreInOrder, CanTake}
 use Rattle.chain_plain.specs.Telling.{IsReady}
 use Rattle.event_chain.specs.Standing.{Stands as ChainStands}
-use Rattle.plain_chain.specs.Remembered.{IsFresh, Remembered, Stands}
-use Rattle.plain_chain.specs.Room.{has_room}
-use Rattle.plain_chain.proofs.plain_chain.PlainChainChain.judge.Goals as goal
+use Rattle.test_chains.specs.Remembered.{IsFresh, Remembered, Stands}
+use Rattle.test_chains.specs.Room.{has_room}
+use Rattle.test_chains.proofs.plain_chain.PlainChainChain.judge.Goals as goal
 
 -- the bytes that a parcel lends
 abbrev held : Plain → List ℕ

@@ -1,6 +1,6 @@
 //! That callers run beside each other, and beside turns.
 
-use crate::told::told_of;
+use crate::replays::told::told_of;
 use std::alloc::Global;
 use std::sync::atomic::{AtomicU64, Ordering};
 use std::test::Fail;
@@ -24,19 +24,24 @@ fn came(here: &AtomicU64, wanted: u64) -> bool {
 
 /// A gate at which the first calls of so many callers and a turn beside them wait for each other.
 #[derive(Drop)]
-struct Meeting {
+pub(crate) struct Meeting {
     wanted: u64,
     here: AtomicU64,
     missed: AtomicU64,
 }
 
 impl Meeting {
-    fn of(callers: u64) -> Meeting {
+    pub(crate) fn of(callers: u64) -> Meeting {
         Meeting {
             wanted: callers.saturating_add(1),
             here: AtomicU64::new(0),
             missed: AtomicU64::new(0),
         }
+    }
+
+    /// Whether all came, and each saw that the others did.
+    pub(crate) fn have_met(&self) -> bool {
+        self.here.load(Ordering::SeqCst) == self.wanted && self.missed.load(Ordering::SeqCst) == 0
     }
 
     fn wait(&self) {
@@ -74,7 +79,7 @@ fn meet<R: Threads + Sync>(rt: &R, alloc: Global, callers: u64) -> Result<bool, 
     let gate = Meeting::of(callers);
     let told = told_of(rt, alloc, config.as_str(), text.as_bytes(), &gate)?;
     Ok(
-        gate.missed.load(Ordering::SeqCst) == 0
+        gate.have_met()
             && (told.turns, told.losses) == (3, 0)
             && told.entries == callers.saturating_mul(2),
     )

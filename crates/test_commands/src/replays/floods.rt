@@ -1,6 +1,6 @@
 //! More reports than there are event buffers.
 
-use crate::told::told_of;
+use crate::replays::told::told_of;
 use config_json::read as read_config;
 use std::alloc::Global;
 use std::test::Fail;

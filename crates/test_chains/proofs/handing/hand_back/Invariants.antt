@@ -1,7 +1,7 @@
 use Rattle.std.proofs.Common.{◌≡◌, ◌+◌, ◌≤◌, ◌++◌, length, vec_len, vec_capacity}
 use Rattle.std.specs.Vec.Iter.{DrainKeeps, drain_items}
 use Rattle.filter_chain.specs.Parcels.{all_parcels}
-use Rattle.plain_chain.proofs.handing.hand_back.Given as goal
+use Rattle.test_chains.proofs.handing.hand_back.Given as goal
 
 -- what is back and what is still to come are all parcels, and there is room for them
 abbrev pub invariant-loop-entry : goal.invariant-loop-entry

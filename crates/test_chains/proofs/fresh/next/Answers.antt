@@ -1,7 +1,7 @@
 use Rattle.std.proofs.Common.{◌≡◌, ◌++◌, Some, option_to_list, subst}
 use Rattle.std.proofs.lemmas.List.Elements.{All-pop}
-use Rattle.plain_chain.specs.Remembered.{IsFresh}
-use Rattle.plain_chain.proofs.fresh.next.Goals as goal
+use Rattle.test_chains.specs.Remembered.{IsFresh}
+use Rattle.test_chains.proofs.fresh.next.Goals as goal
 
 pub returns-clause-fresh : goal.returns-clause-fresh
 returns-clause-fresh c config all =

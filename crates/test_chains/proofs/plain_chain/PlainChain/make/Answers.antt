@@ -1,5 +1,5 @@
 use Rattle.std.proofs.Common.{[], refl}
-use Rattle.plain_chain.proofs.plain_chain.PlainChain.make.Goals as goal
+use Rattle.test_chains.proofs.plain_chain.PlainChain.make.Goals as goal
 
 -- no turns, and the memory of a chain that took none
 pub returns-clause-stands : goal.returns-clause-stands

@@ -7,8 +7,8 @@ ghost use Rattle.ids_config.specs.Parts.{Parts};
 ghost use Rattle.filter_chain.specs.History.{last_tick, Sends};
 ghost use Rattle.filter_chain.specs.Parcels.{HandsBack, all_parcels};
 ghost use Rattle.filter_chain.specs.Turning.{FitsTurn, most_sent, bytes_in, turn_by};
-ghost use Rattle.plain_chain.specs.Remembered.{Stands};
-ghost use Rattle.plain_chain.specs.Room.{has_turn_room};
+ghost use Rattle.test_chains.specs.Remembered.{Stands};
+ghost use Rattle.test_chains.specs.Room.{has_turn_room};
 
 use crate::fresh::{Fresh, fill, next};
 use crate::handing::hand_back;
@@ -37,7 +37,7 @@ pub struct PlainChain<'c, B> {
 }
 
 impl<'c, B> Model for PlainChain<'c, B> {
-    ghost use Rattle.plain_chain.specs.Remembered.{Remembered, remembered, IsSound};
+    ghost use Rattle.test_chains.specs.Remembered.{Remembered, remembered, IsSound};
 
     ghost Value = { Remembered };
 
@@ -81,7 +81,7 @@ impl<'c, B: Parcel> PlainChain<'c, B> {
 impl<'c, B: Parcel> Chain<B> for PlainChain<'c, B> {
     ghost use Rattle.std.proofs.lemmas.List.Sorted.{IsPermutation-refl};
     ghost use Rattle.filter_chain.specs.Kept.{open_contexts};
-    ghost use Rattle.plain_chain.specs.Room.{smaller_turn_room};
+    ghost use Rattle.test_chains.specs.Room.{smaller_turn_room};
 
     ghost stands = { λ chain config turns. Stands config turns chain };
 

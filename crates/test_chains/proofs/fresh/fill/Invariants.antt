@@ -1,7 +1,7 @@
 use Rattle.std.proofs.Common.{◌-◌, ◌≤◌, vec_len}
 use Rattle.std.specs.List.{All}
-use Rattle.plain_chain.specs.Remembered.{IsFresh}
-use Rattle.plain_chain.proofs.fresh.fill.Given as goal
+use Rattle.test_chains.specs.Remembered.{IsFresh}
+use Rattle.test_chains.proofs.fresh.fill.Given as goal
 
 -- all took no turn, if those did that were there
 abbrev pub invariant-loop-alloc : goal.invariant-loop-alloc

@@ -1,6 +1,6 @@
 //! What a gate is told.
 
-use crate::told::told_of;
+use crate::replays::told::told_of;
 use std::sync::atomic::{AtomicU64, Ordering};
 use std::test::Fail;
 use trace_replay::Gate;
