@@ -1,5 +1,5 @@
 -- The windows of the events that are aggregated close, and it is as if those of all events did.
-use Rattle.event_chain.proofs.Names.{◌≡◌, ℕ, ◌+◌, ◌<◌, ◌≤◌, zero, suc, Bool, true, false, List, [], ◌∷◌, length, map, filter, Option, None, is_some, option_map, refl, sym, ap, subst, ◌∙◌, arith, below_more, slice_set, if◌then◌else◌, IsFalse, All, AllByRecursion, range_with_len, common_steps, length-map, set-get_or, All-from_recursion, Output, EventIndex, Parts, event_at, closes_due, gated, item_at, Moment, closes, with_all, fresh_slot, is_due, slot_at, slot_by, Slot, stands_closing, stands_with_closing, Start, given, Filters, Knowing, IsSilent, IsBehind, Windowed, aggregating_in, is_aggregated}
+use Rattle.event_chain.proofs.Names.{◌≡◌, ℕ, ◌+◌, ◌<◌, ◌≤◌, zero, suc, Bool, true, false, List, [], ◌∷◌, length, map, filter, Option, None, is_some, option_map, refl, sym, ap, subst, ◌∙◌, arith, below_more, slice_set, if◌then◌else◌, IsFalse, All, AllByRecursion, range_with_len, common_steps, length-map, set-get_or, All-from_recursion, Output, EventIndex, Parts, event_at, closes_due, gated, item_at, Moment, ending_at, closes, with_all, fresh_slot, is_due, slot_at, slot_by, Slot, stands_closing, stands_with_closing, Start, given, Filters, Knowing, IsBehind, Windowed, aggregating_in, is_aggregated}
 use Rattle.ids_config.specs.declared.parts.Aggregate.{Aggregate}
 use Rattle.chain_spec.specs.Closing.{closing_item}
 use Rattle.filter_aggregate.proofs.SlotLemmas.{slot_at_by}
@@ -78,6 +78,11 @@ asked {slots = slots} {events = events} same is windows =
     (all, (All-from_recursion (λ (event : EventIndex). event.0 < count) events both.0, omega (arith, both.1)))
 
 -- ---- events that close
+
+-- where nothing ends by a moment, it knows this without being told
+abbrev pub IsSilent : {W : Type 0} → Knowing W → Type 0
+IsSilent {W} knows = (witness : W) (config : Parts) (before : List Moment) (moment : Moment)
+    → knows witness config before → ending_at config before moment ≡ None → knows witness config (moment ∷ before)
 
 -- that of an event that is not aggregated is never due
 not_due : {B : Type 0} (tick : ℕ) (slot : Slot B) → is_some slot.setting ≡ false → IsFalse (is_due tick slot)

@@ -1,6 +1,7 @@
 -- Parcels that are handed back, by one call after another.
-use Rattle.event_chain.proofs.Names.{◌≡◌, ◌+◌, Bool, true, false, List, [], ◌∷◌, ◌++◌, length, Option, None, option_to_list, sym, ap, subst, ◌∙◌, append_assoc, append-nil, arith, length-append, if◌then◌else◌, All, AllByRecursion, All-append, All-from_recursion, recursion_from_All, IsPermutation-refl, IsPermutation-trans, IsPermutation-append_left, IsPermutation-append_right, IsPermutation-append_comm, length_permutation, All-permutation, HandsBack}
+use Rattle.event_chain.proofs.Names.{◌≡◌, ◌+◌, Bool, true, false, List, [], ◌∷◌, ◌++◌, length, Option, None, option_to_list, sym, ap, subst, ◌∙◌, append_assoc, append-nil, arith, length-append, if◌then◌else◌, All, AllByRecursion, All-append, All-from_recursion, recursion_from_All, IsPermutation-refl, IsPermutation-trans, IsPermutation-append_right, length_permutation, All-permutation, HandsBack}
 use Rattle.std.specs.List.Sorted.{IsPermutation}
+use Rattle.filter_aggregate.proofs.AccountLemmas.{swapped}
 
 module _ {B : Type 0} where
   -- nothing comes and nothing is handed back
@@ -22,13 +23,6 @@ module _ {B : Type 0} where
         same = subst (IsPermutation (own ++ kept)) (sym (append_assoc own hands.further now))
             (IsPermutation-append_right own kept (hands.further ++ now) hands.same);
       }
-
-  -- two lists before a third change places
-  swapped : (xs ys zs : List B) → IsPermutation (xs ++ (ys ++ zs)) (ys ++ (xs ++ zs))
-  swapped xs ys zs =
-      subst (λ (l : List B). IsPermutation l (ys ++ (xs ++ zs))) (append_assoc xs ys zs)
-      (subst (λ (l : List B). IsPermutation ((xs ++ ys) ++ zs) l) (append_assoc ys xs zs)
-      (IsPermutation-append_left zs (xs ++ ys) (ys ++ xs) (IsPermutation-append_comm xs ys)))
 
   -- of what is still to come one call takes its own
   pub hands_next : (own rest mid : List B) {came kept now back between end : List B}

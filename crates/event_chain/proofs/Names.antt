@@ -44,7 +44,7 @@ pub use Rattle.message_sender.specs.Sender.{most_message, source_of, SenderParts
 pub use Rattle.message_sender.specs.Sending.{Start, Stands as SenderStands, start_of}
 pub use Rattle.event_chain.specs.Behind.{IsBehind, kept_told}
 pub use Rattle.event_chain.specs.Chained.{IsOneOf, IsSound, Watched}
-pub use Rattle.event_chain.specs.Fates.{Knowing, IsSilent, bare, told, counted_fate, passed_fate}
+pub use Rattle.event_chain.specs.Fates.{Knowing, bare, told, counted_fate, passed_fate}
 pub use Rattle.event_chain.specs.Flow.{CountingStands, Flows, joined_with, items_with, EndAt}
 pub use Rattle.event_chain.specs.Outlets.{OutletStands, Stores}
 pub use Rattle.event_chain.specs.Ready.{Windowed, aggregating_in, is_aggregated, CanSend, HasPlaces, HasSentRoom, TakesRoom, IsReady, SettledAt, Stays, AreOwn, HasEvent}

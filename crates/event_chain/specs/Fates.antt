@@ -1,7 +1,7 @@
 -- Endings as a chain tells them, and the fates of items after the gate.
-use Rattle.std.specs.Prelude.{◌≡◌, ℕ, ◌∷◌, not, Bool, List, None, map, is_some, if◌then◌else◌}
+use Rattle.std.specs.Prelude.{ℕ, not, Bool, List, None, map, is_some, if◌then◌else◌}
 use Rattle.ids_config.specs.Parts.{Parts, event_at}
-use Rattle.chain_spec.specs.Endings.{Fate, in_window, at_threshold, qualified_fate, Ending, ending_at}
+use Rattle.chain_spec.specs.Endings.{Fate, in_window, at_threshold, qualified_fate, Ending}
 use Rattle.chain_spec.specs.Filtering.{counted}
 use Rattle.chain_spec.specs.Items.{Item}
 use Rattle.chain_spec.specs.Moments.{Moment}
@@ -42,11 +42,6 @@ ending_of ending = told ending.event.0 ending.count ending.by_window (fate_of en
 -- what a witness knows, of a configuration and its moments
 abbrev pub Knowing : Type 0 → Type 1
 Knowing W = W → Parts → List Moment → Type 0
-
--- where nothing ends by a moment, it knows this without being told
-abbrev pub IsSilent : {W : Type 0} → Knowing W → Type 0
-IsSilent {W} knows = (witness : W) (config : Parts) (before : List Moment) (moment : Moment)
-    → knows witness config before → ending_at config before moment ≡ None → knows witness config (moment ∷ before)
 
 -- ---- the fate of an item, where these were after the aggregation filter before it and these were qualified
 

@@ -9,7 +9,7 @@ use Rattle.std.proofs.lemmas.List.{map-append}
 use Rattle.std.proofs.lemmas.List.Sorted.{IsPermutation-refl}
 use Rattle.ids_config.specs.Parts.{Parts, event_at}
 use Rattle.ids_config.specs.declared.parts.Aggregate.{Aggregate}
-use Rattle.filter_chain.specs.Kept.{AreAmong, contexts_behind, open_context}
+use Rattle.filter_chain.specs.Kept.{AreAmong, contexts_after, open_context}
 use Rattle.chain_spec.specs.Aggregation.{joined}
 use Rattle.chain_spec.specs.Calls.{Arrival, Call}
 use Rattle.chain_spec.specs.Closing.{open_window}
@@ -67,7 +67,7 @@ all_from config calls first (slot ∷ slots) each =
 
 -- the parcels of slots, as bytes, are what the open windows keep, event by event
 pub kept_are : {B : Type 0} (held : B → List ℕ) (config : Parts) (calls : List (Call (List ℕ))) (slots : List (Slot B))
-    → Stands config calls (slots_by held slots) → map held (all_kept slots) ≡ contexts_behind config calls
+    → Stands config calls (slots_by held slots) → map held (all_kept slots) ≡ contexts_after config calls
 kept_are held config calls slots stands =
     let own = slots_by held slots in
     let each : (k : ℕ) → k < length own → slot_at own k ≡ slot_after (event_at config (0 + k)).aggregate (0 + k) calls = λ k within.
@@ -77,7 +77,7 @@ kept_are held config calls slots stands =
 
 -- so they are among them
 pub kept_among : {B : Type 0} (held : B → List ℕ) (config : Parts) (calls : List (Call (List ℕ))) (slots : List (Slot B))
-    → Stands config calls (slots_by held slots) → AreAmong (contexts_behind config calls) (map held (all_kept slots))
+    → Stands config calls (slots_by held slots) → AreAmong (contexts_after config calls) (map held (all_kept slots))
 kept_among held config calls slots stands =
     let same = kept_are held config calls slots stands in
-    record { others = []; same = subst (λ (l : List (List ℕ)). IsPermutation l (contexts_behind config calls)) (sym (append-nil (map held (all_kept slots)) ∙ same)) (IsPermutation-refl (contexts_behind config calls)) }
+    record { others = []; same = subst (λ (l : List (List ℕ)). IsPermutation l (contexts_after config calls)) (sym (append-nil (map held (all_kept slots)) ∙ same)) (IsPermutation-refl (contexts_after config calls)) }

@@ -6,7 +6,7 @@ use Rattle.filter_aggregate.specs.Account.{Accounts, kept_in, all_kept}
 
 module _ {B : Type 0} where
   -- two lists before a third change places
-  swapped : (xs ys zs : List B) → IsPermutation (xs ++ (ys ++ zs)) (ys ++ (xs ++ zs))
+  pub swapped : (xs ys zs : List B) → IsPermutation (xs ++ (ys ++ zs)) (ys ++ (xs ++ zs))
   swapped xs ys zs =
       subst (λ (l : List B). IsPermutation l (ys ++ (xs ++ zs))) (append_assoc xs ys zs)
       (subst (λ (l : List B). IsPermutation ((xs ++ ys) ++ zs) l) (append_assoc ys xs zs)

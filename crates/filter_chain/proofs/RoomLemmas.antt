@@ -1,5 +1,5 @@
 -- How much room context data take in messages.
-use Rattle.std.proofs.Common.{◌≡◌, ℕ, ◌+◌, ◌*◌, ◌≤◌, List, length, IfSome, arith}
+use Rattle.std.proofs.Common.{ℕ, ◌+◌, ◌*◌, ◌≤◌, List, length, IfSome, arith}
 use Rattle.std.specs.List.{All}
 use Rattle.std.proofs.Math.Nat.{mul-add, mul_comm, mul-le-mul_left}
 use Rattle.std.proofs.lemmas.List.Elements.{All-weaker}

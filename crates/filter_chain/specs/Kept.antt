@@ -18,13 +18,13 @@ open_context (Some setting) event calls =
     option_to_list (option_and_then (λ w. (joined setting.last w).context) (open_window setting.interval event calls))
 
 -- what the open windows of the configured events keep after these calls, event by event
-abbrev pub contexts_behind : Parts → List (Call (List ℕ)) → List (List ℕ)
-contexts_behind config calls =
+abbrev pub contexts_after : Parts → List (Call (List ℕ)) → List (List ℕ)
+contexts_after config calls =
     flat_map (λ event. open_context (event_at config event).aggregate event calls) (range_with_len 0 (length config.events))
 
 -- what they keep after these turns, the first of which stands first
 abbrev pub open_contexts : Parts → List Turn → List (List ℕ)
-open_contexts config turns = contexts_behind config (gated config (moments config (reverse turns)))
+open_contexts config turns = contexts_after config (gated config (moments config (reverse turns)))
 
 -- some of a list's elements, none of them more often than it stands there, in any order
 pub record AreAmong {A : Type 0} (all some : List A) : Type 0 where
