@@ -5,14 +5,14 @@ use Rattle.std.proofs.lemmas.List.{length-map, map-append, reverse-append, lengt
 use Rattle.std.specs.Prelude.{slice_index_or}
 use Rattle.ids_types.specs.declared.entry.Entry.{Entry}
 use Rattle.ids_config.specs.Parts.{Parts}
-use Rattle.chain_spec.specs.Accounts.{Account, account_of, tally, with_ending, with_fate, with_one, with_stored}
+use Rattle.chain_spec.specs.Accounts.{account_of, tally, with_ending, with_fate, with_one, with_stored}
+use Rattle.chain_spec.specs.declared.account.Account.{Account}
 use Rattle.chain_spec.specs.Endings.{Ending, Fate, at_mode, at_block, at_nth, in_window, at_threshold, unsent, at_rate, at_traffic, let_out, is_stored, endings}
 use Rattle.chain_spec.specs.Items.{is_of}
 use Rattle.chain_spec.specs.Moments.{Moment}
 use Rattle.event_chain.specs.Fates.{bare}
 use Rattle.chain_endings.specs.Accounting.{AreOf, CountsMissing, IsAtMost, kept_at}
 use Rattle.chain_endings.specs.ExplainedText.{is_missing}
-use Rattle.chain_endings.specs.declared.account.Account.{Account as Kept}
 use Rattle.chain_endings.specs.Hearing.{told_in}
 
 -- ---- numbers that are small enough
@@ -93,7 +93,7 @@ filter_few p [] = omega arith
 filter_few p (x ∷ xs) = let rest = filter_few p xs in grind (arith, common_steps, rest)
 
 -- the accounts of so many endings have no number above that
-pub accounts_few : {A : Type 0} {config : Parts} (f : A → Ending) (told : List A) (i : ℕ) {accounts : List Kept} → i ≤ length told
+pub accounts_few : {A : Type 0} {config : Parts} (f : A → Ending) (told : List A) (i : ℕ) {accounts : List Account} → i ≤ length told
     → AreOf config (reverse (map f (take i told))) accounts
     → (k : ℕ) → k < length accounts → IsAtMost i i i (kept_at accounts k)
 accounts_few {config = config} f told i le of k less =
@@ -104,7 +104,7 @@ accounts_few {config = config} f told i le of k less =
     (subst (IsAtMost (length own) (length own) (length own)) (sym (of.each k less)) (tally_few config own))
 
 -- with one ending more
-pub accounts_more : {config : Parts} {old new : List Kept} {es : List Ending} (e : Ending) (stored : Bool) → stored ≡ is_stored config e
+pub accounts_more : {config : Parts} {old new : List Account} {es : List Ending} (e : Ending) (stored : Bool) → stored ≡ is_stored config e
     → length new ≡ length old
     → ((k : ℕ) → k < length old → kept_at new k ≡ (if e.item.event == k
     then with_stored stored (with_fate e.fate (with_one e.by_window (kept_at old k))) else kept_at old k))

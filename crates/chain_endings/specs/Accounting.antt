@@ -3,29 +3,11 @@ use Rattle.std.specs.Prelude.{◌≡◌, ℕ, ◌≤◌, ◌<◌, List, length, 
 use Rattle.ids_types.specs.Turns.{Turn, entries_of}
 use Rattle.ids_types.specs.declared.entry.Entry.{Entry}
 use Rattle.ids_config.specs.Parts.{Parts}
-use Rattle.chain_spec.specs.Accounts.{Account, tally}
+use Rattle.chain_spec.specs.Accounts.{nothing, tally}
 use Rattle.chain_spec.specs.Endings.{Ending}
+use Rattle.chain_spec.specs.declared.account.Account.{Account}
 use Rattle.chain_spec.specs.Items.{is_of}
 use Rattle.chain_endings.specs.ExplainedText.{is_missing}
-use Rattle.chain_endings.specs.declared.account.Account.{Account as Kept}
-
--- the account that is kept
-abbrev pub account_in : Kept → Account
-account_in kept = record {
-  came = kept.came;
-  closed = kept.closed;
-  mode = kept.mode;
-  block = kept.block;
-  nth = kept.nth;
-  aggregate = kept.aggregate;
-  threshold = kept.threshold;
-  unsent = kept.unsent;
-  rate = kept.rate;
-  traffic = kept.traffic;
-  sent = kept.sent;
-  waiting = kept.waiting;
-  stored = kept.stored;
-}
 
 -- no number of items is above the first number, none of fates above the second, and none of what is stored above
 -- the third
@@ -44,30 +26,12 @@ pub record IsAtMost (items fates kept : ℕ) (account : Account) : Type 0 where
   pub waiting : account.waiting ≤ fates
   pub stored : account.stored ≤ kept
 
--- an account with no number
-abbrev pub no_items : Kept
-no_items = record {
-  came = 0;
-  closed = 0;
-  mode = 0;
-  block = 0;
-  nth = 0;
-  aggregate = 0;
-  threshold = 0;
-  unsent = 0;
-  rate = 0;
-  traffic = 0;
-  sent = 0;
-  waiting = 0;
-  stored = 0;
-}
-
 -- the account of event k
-abbrev pub kept_at : List Kept → ℕ → Account
-kept_at accounts k = account_in (slice_index_or accounts k no_items)
+abbrev pub kept_at : List Account → ℕ → Account
+kept_at accounts k = slice_index_or accounts k nothing
 
 -- the accounts, one for each event, are those of these endings, the newest of which stands first
-pub record AreOf (config : Parts) (endings : List Ending) (accounts : List Kept) : Type 0 where
+pub record AreOf (config : Parts) (endings : List Ending) (accounts : List Account) : Type 0 where
   pub events : length accounts ≡ length config.events
   pub each : (k : ℕ) → k < length accounts → kept_at accounts k ≡ tally config (filter (λ one. is_of k one.item) endings)
 

@@ -7,7 +7,8 @@ use Rattle.ids_types.specs.declared.entry.Act.TheVariants.{Report}
 use Rattle.ids_types.specs.declared.entry.Carried.TheVariants.{Missing}
 use Rattle.ids_types.specs.declared.entry.Entry.{Entry}
 use Rattle.ids_config.specs.Parts.{Parts, event_at, internal_of}
-use Rattle.chain_spec.specs.Accounts.{Account, account_of, events_in}
+use Rattle.chain_spec.specs.Accounts.{account_of, events_in}
+use Rattle.chain_spec.specs.declared.account.Account.{Account}
 use Rattle.chain_spec.specs.Endings.{Fate, at_mode, at_block, at_nth, in_window, at_threshold, unsent, at_rate, at_traffic, let_out, Ending, ending_at, is_stored}
 use Rattle.chain_spec.specs.Heads.{heads_of}
 use Rattle.chain_spec.specs.Moments.{Moment, act_moment, closings, head_moment, moments}

@@ -5,8 +5,9 @@ ghost use Rattle.ids_config.specs.Parts.{event_at};
 ghost use Rattle.chain_spec.specs.Accounts.{nothing, with_one, with_fate, with_stored};
 ghost use Rattle.chain_spec.specs.Endings.{is_stored};
 ghost use Rattle.event_chain.specs.Fates.{ending_of, fate_of};
-ghost use Rattle.chain_endings.specs.Accounting.{account_in, AreOf, IsAtMost, kept_at};
+ghost use Rattle.chain_endings.specs.Accounting.{AreOf, IsAtMost, kept_at};
 
+use chain_spec::Account;
 use event_chain::{Ending, Fate};
 use filter_gate::Cause;
 use ids_config::ConfigParts;
@@ -14,101 +15,80 @@ use ids_types::{EventIndex, NoMemory};
 use limits::Admit;
 use std::alloc::Global;
 
-/// How many items of an event came, how many its windows gave, how many of both ended where, how many wait in its
-/// open window, and how many are stored.
-#[derive(Clone, Copy)]
-pub(crate) struct Account {
-    pub(crate) came: u64,
-    pub(crate) closed: u64,
-    pub(crate) mode: u64,
-    pub(crate) block: u64,
-    pub(crate) nth: u64,
-    pub(crate) aggregate: u64,
-    pub(crate) threshold: u64,
-    pub(crate) unsent: u64,
-    pub(crate) rate: u64,
-    pub(crate) traffic: u64,
-    pub(crate) sent: u64,
-    pub(crate) waiting: u64,
-    pub(crate) stored: u64,
+/// The account of no items.
+fn nothing() -> Account
+    ensures { result ≡ nothing }
+{
+    Account {
+        came: 0,
+        closed: 0,
+        mode: 0,
+        block: 0,
+        nth: 0,
+        aggregate: 0,
+        threshold: 0,
+        unsent: 0,
+        rate: 0,
+        traffic: 0,
+        sent: 0,
+        waiting: 0,
+        stored: 0,
+    }
 }
 
-impl Account {
-    /// That of no items.
-    fn nothing() -> Account
-        ensures { account_in result ≡ nothing }
-    {
-        Account {
-            came: 0,
-            closed: 0,
-            mode: 0,
-            block: 0,
-            nth: 0,
-            aggregate: 0,
-            threshold: 0,
-            unsent: 0,
-            rate: 0,
-            traffic: 0,
-            sent: 0,
-            waiting: 0,
-            stored: 0,
-        }
-    }
+/// With an ending more, whose item is stored or not.
+fn add(account: &mut Account, ending: &Ending, stored: bool)
+    requires { (n : ℕ) × (n < 2 ^ 63) × IsAtMost n n n account.old }
+    ensures { account.new
+        ≡ with_stored stored (with_fate (fate_of ending.now.fate) (with_one ending.now.by_window account.old)) }
+{
+    add_one(account, ending.by_window);
+    add_fate(account, ending.fate);
+    add_stored(account, stored);
+}
 
-    /// With an ending more, whose item is stored or not.
-    fn add(&mut self, ending: &Ending, stored: bool)
-        requires { (n : ℕ) × (n < 2 ^ 63) × IsAtMost n n n (account_in self.old) }
-        ensures { account_in self.new
-            ≡ with_stored stored (with_fate (fate_of ending.now.fate) (with_one ending.now.by_window (account_in self.old))) }
-    {
-        self.add_one(ending.by_window);
-        self.add_fate(ending.fate);
-        self.add_stored(stored);
+/// Adds an item that a window gave, which closed by that, or one that came.
+fn add_one(account: &mut Account, by_window: bool)
+    requires came { account.old.came < 2 ^ 63 }
+    requires closed { account.old.closed < 2 ^ 63 }
+    ensures { account.new ≡ with_one by_window account.old }
+{
+    if by_window {
+        account.closed += 1;
+        account.waiting = 0;
+    } else {
+        account.came += 1;
     }
+}
 
-    /// Adds an item that a window gave, which closed by that, or one that came.
-    fn add_one(&mut self, by_window: bool)
-        requires came { self.old.came < 2 ^ 63 }
-        requires closed { self.old.closed < 2 ^ 63 }
-        ensures { account_in self.new ≡ with_one by_window (account_in self.old) }
-    {
-        if by_window {
-            self.closed += 1;
-            self.waiting = 0;
-        } else {
-            self.came += 1;
+/// Adds one of this fate.
+fn add_fate(account: &mut Account, fate: Fate)
+    requires { (n k : ℕ) × (n < 2 ^ 63) × IsAtMost k n n account.old }
+    ensures { account.new ≡ with_fate (fate_of fate) account.old }
+{
+    match fate {
+        Fate::Dropped(Cause::Mode) => account.mode += 1,
+        Fate::Dropped(Cause::Block) => account.block += 1,
+        Fate::Dropped(Cause::Nth) => account.nth += 1,
+        Fate::Joined => {
+            account.aggregate += 1;
+            account.waiting += 1;
         }
+        Fate::Below => account.threshold += 1,
+        Fate::Qualified(None) => account.unsent += 1,
+        Fate::Qualified(Some(Admit::Rate)) => account.rate += 1,
+        Fate::Qualified(Some(Admit::Traffic)) => account.traffic += 1,
+        Fate::Qualified(Some(Admit::Sent)) => account.sent += 1,
     }
+}
 
-    /// Adds one of this fate.
-    fn add_fate(&mut self, fate: Fate)
-        requires { (n k : ℕ) × (n < 2 ^ 63) × IsAtMost k n n (account_in self.old) }
-        ensures { account_in self.new ≡ with_fate (fate_of fate) (account_in self.old) }
-    {
-        match fate {
-            Fate::Dropped(Cause::Mode) => self.mode += 1,
-            Fate::Dropped(Cause::Block) => self.block += 1,
-            Fate::Dropped(Cause::Nth) => self.nth += 1,
-            Fate::Joined => {
-                self.aggregate += 1;
-                self.waiting += 1;
-            }
-            Fate::Below => self.threshold += 1,
-            Fate::Qualified(None) => self.unsent += 1,
-            Fate::Qualified(Some(Admit::Rate)) => self.rate += 1,
-            Fate::Qualified(Some(Admit::Traffic)) => self.traffic += 1,
-            Fate::Qualified(Some(Admit::Sent)) => self.sent += 1,
-        }
-    }
-
-    /// Adds one that is stored, where it is.
-    fn add_stored(&mut self, stored: bool)
-        requires { self.old.stored < 2 ^ 63 }
-        ensures { account_in self.new ≡ with_stored stored (account_in self.old) }
-    {
-        if stored {
-            self.stored += 1;
-        }
+/// Adds one that is stored, where it is.
+fn add_stored(account: &mut Account, stored: bool)
+    requires { account.old.stored < 2 ^ 63 }
+    ensures { account.new ≡ with_stored stored account.old }
+{
+    if stored {
+        account.stored += 1;
     }
 }
 
@@ -140,7 +120,7 @@ pub(crate) fn accounts_of(
 ) -> Result<Vec<Account>, NoMemory>
     ensures { IfOk result (λ accounts. AreOf parts.now (reverse (map ending_of told.now)) accounts.items) }
 {
-    let mut accounts = vec![in alloc; Account::nothing(); parts.events.len()]?;
+    let mut accounts = vec![in alloc; nothing(); parts.events.len()]?;
     for ending in told {
         let stored = is_stored(parts, ending);
         add_to(&mut accounts, ending, stored);
@@ -158,6 +138,6 @@ fn add_to(accounts: &mut Vec<Account>, ending: &Ending, stored: bool)
 {
     let event = usize::from(ending.event.0);
     if event < accounts.len() {
-        accounts[event].add(ending, stored);
+        add(&mut accounts[event], ending, stored);
     }
 }

@@ -7,13 +7,14 @@ ghost use Rattle.ids_config.specs.Parts.{event_at};
 ghost use Rattle.chain_spec.specs.Accounts.{events_in};
 ghost use Rattle.event_chain.specs.Fates.{ending_of};
 ghost use Rattle.text_spec.specs.Words.{line_feed, text_of};
-ghost use Rattle.chain_endings.specs.Accounting.{AreMissing, CountsMissing, account_in};
+ghost use Rattle.chain_endings.specs.Accounting.{AreMissing, CountsMissing};
 ghost use Rattle.chain_endings.specs.ExplainedText.{account_fields, account_line, field, is_missing};
 ghost use Rattle.chain_endings.specs.Hearing.{told_in};
 ghost use Rattle.chain_spec.specs.Moments.{moments};
 
-use crate::account::{Account, accounts_of};
+use crate::account::accounts_of;
 use crate::lines::push_numbers;
+use chain_spec::Account;
 use event_chain::Ending;
 use ids_config::{ConfigParts, EventParts};
 use ids_types::{Act, Carried, Entry, EntryWalk, History, NoMemory, Plain};
@@ -56,7 +57,7 @@ fn push_account(
 ) -> Result<(), NoMemory>
     ensures { OnOk result (out.new.items ≡ out.old.items
         ++ (((codes "A" ++ field (decimal event) ++ field (decimal own.now.id) ++ field (decimal own.now.sensor))
-        ++ account_fields (account_in account.now) missing) ++ line_feed ∷ [])) }
+        ++ account_fields account.now missing) ++ line_feed ∷ [])) }
 {
     push_names(out, event, own)?;
     push_numbers(out, account, missing)?;

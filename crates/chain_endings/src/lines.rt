@@ -3,10 +3,10 @@
 ghost use Rattle.std.specs.Prelude.{◌≡◌, ◌++◌, ◌∷◌, [], OnOk, codes, decimal};
 ghost use Rattle.event_chain.specs.Fates.{ending_of, fate_of};
 ghost use Rattle.text_spec.specs.Words.{line_feed};
-ghost use Rattle.chain_endings.specs.Accounting.{account_in};
 ghost use Rattle.chain_endings.specs.ExplainedText.{Pushes, account_fields, fate_fields, fate_word, field, given_line, letter_of, named, stored_word};
 
-use crate::account::{Account, is_stored};
+use crate::account::is_stored;
+use chain_spec::Account;
 use event_chain::{Ending, Fate};
 use filter_gate::Cause;
 use ids_config::ConfigParts;
@@ -83,7 +83,7 @@ pub(crate) fn push_numbers(
     account: &Account,
     missing: u64,
 ) -> Result<(), NoMemory>
-    ensures { OnOk result (out.new.items ≡ out.old.items ++ account_fields (account_in account.now) missing) }
+    ensures { OnOk result (out.new.items ≡ out.old.items ++ account_fields account.now missing) }
 {
     push_named(out, b"came", account.came)?;
     push_named(out, b"closed", account.closed)?;

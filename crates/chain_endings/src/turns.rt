@@ -104,31 +104,13 @@ fn push_entry<'t>(
         ++ ((line_for (enters (plain_entry entry.now)) ++ ended_fields parts.now ended) ++ line_feed ∷ []))) }
 {
     push_fields(out, entry)?;
-    let rest = push_ended(out, parts, entry, told)?;
+    let rest = match told {
+        [ending, rest @ ..] if is_report(entry) => {
+            push_fate(out, parts, ending)?;
+            rest
+        }
+        _ => told,
+    };
     out.push(b'\n')?;
     Ok(rest)
-}
-
-/// Appends what became of the item of a report, and gives the endings after it.
-fn push_ended<'t>(
-    out: &mut Vec<u8>,
-    parts: &ConfigParts,
-    entry: &Entry<Plain<'_>>,
-    told: &'t [Ending],
-) -> Result<&'t [Ending], NoMemory>
-    ensures { IfOk result (λ rest. (ended : Option Told) (more : List Told) →
-        is_some ended ≡ is_report (plain_entry entry.now).act →
-        map ending_of told.now ≡ map bare (option_to_list ended) ++ more →
-        (map ending_of rest.now ≡ more) × (out.new.items ≡ out.old.items ++ ended_fields parts.now ended)) }
-{
-    if !is_report(entry) {
-        return Ok(told);
-    }
-    match told {
-        [] => Ok(told),
-        [ending, rest @ ..] => {
-            push_fate(out, parts, ending)?;
-            Ok(rest)
-        }
-    }
 }

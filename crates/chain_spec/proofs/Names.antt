@@ -17,7 +17,8 @@ pub use Rattle.ids_types.specs.declared.entry.Entry.{Entry}
 pub use Rattle.ids_types.specs.declared.event.Qualified.{Qualified}
 pub use Rattle.ids_types.specs.declared.mode.Mode.{Mode}
 pub use Rattle.ids_types.specs.declared.mode.Mode.TheVariants.{Off, Brief, Detailed, BriefBypassing, DetailedBypassing}
-pub use Rattle.chain_spec.specs.Accounts.{Account, account_of, number_of, tally, with_fate, with_one}
+pub use Rattle.chain_spec.specs.declared.account.Account.{Account}
+pub use Rattle.chain_spec.specs.Accounts.{account_of, number_of, tally, with_fate, with_one}
 pub use Rattle.chain_spec.specs.Aggregation.{joined}
 pub use Rattle.chain_spec.specs.ByEvent.{first_from, closed_item, tick_of, arrival_of, every, closed_items, reaching}
 pub use Rattle.chain_spec.specs.Calls.{Call, Arrival, closes_due, arrives, arrived, closing_ticks}

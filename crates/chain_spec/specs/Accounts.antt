@@ -11,23 +11,7 @@ use Rattle.chain_spec.specs.Filtering.{gated}
 use Rattle.chain_spec.specs.Items.{Item, is_of}
 use Rattle.chain_spec.specs.Moments.{Moment, comes}
 use Rattle.chain_spec.specs.Windows.{Window, members}
-
--- how many items came, how many windows gave one when they closed, how many of both had each fate, how many wait in the
--- open window, and how many are stored
-pub record Account : Type 0 where
-  pub came : ℕ
-  pub closed : ℕ
-  pub mode : ℕ
-  pub block : ℕ
-  pub nth : ℕ
-  pub aggregate : ℕ
-  pub threshold : ℕ
-  pub unsent : ℕ
-  pub rate : ℕ
-  pub traffic : ℕ
-  pub sent : ℕ
-  pub waiting : ℕ
-  pub stored : ℕ
+use Rattle.chain_spec.specs.declared.account.Account.{Account}
 
 -- the account of no items
 abbrev pub nothing : Account

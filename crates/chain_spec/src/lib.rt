@@ -2,13 +2,15 @@
 //!
 //! Layer 5, filters and limits. Over `ids_types`, `ids_config` and `ids_frame`; the filters, the event
 //! memory and the chain meet the definitions of `specs/`, each over its own calls.
-//! Definitions and laws, and no code that runs. A list has its newest element first, so that what came
+//! Definitions, laws and the account of an event as plain data; no code that runs. A list has its newest element first, so that what came
 //! before an element is the rest of the list. `laws` says of the definitions what the AUTOSAR SWS Intrusion
 //! Detection System Manager's words say of them.
 #![tactic(auto)]
 
+mod account;
 mod laws;
 
+pub use account::Account;
 pub use laws::{
     how_stages_compose, the_fates_add_up, the_numbers_are_the_sizes_of_the_stages,
     what_a_turn_more_keeps, what_is_told_as_sent_and_held_back, what_the_filters_give_of_an_event,

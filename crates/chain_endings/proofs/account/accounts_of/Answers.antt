@@ -1,7 +1,8 @@
 use Rattle.std.proofs.Common.{◌<◌, length, get_or, sym, ap, subst, ◌∙◌, arith, rules}
 use Rattle.event_chain.specs.Fates.{ending_of}
 use Rattle.std.proofs.lemmas.List.{get_or-replicate, length-replicate}
-use Rattle.chain_endings.specs.Accounting.{AreOf, account_in, kept_at, no_items}
+use Rattle.chain_spec.specs.Accounts.{nothing}
+use Rattle.chain_endings.specs.Accounting.{AreOf, kept_at}
 use Rattle.chain_endings.proofs.AccountingLemmas.{accounts_few, accounts_more, reverse_more}
 use Rattle.chain_endings.proofs.account.accounts_of.Goals as goal
 
@@ -12,7 +13,7 @@ loop-ending-init c =
       events = search rules;
       each = λ k less.
           let low : k < c.len.result = omega (arith, less, ap length equal, length-replicate c.len.result c.nothing.result) in
-          ap (λ xs. kept_at xs k) equal ∙ ap account_in (get_or-replicate c.len.result k c.nothing.result no_items low) ∙ c.nothing.ensures;
+          ap (λ xs. kept_at xs k) equal ∙ get_or-replicate c.len.result k c.nothing.result nothing low ∙ c.nothing.ensures;
     }
 
 pub add_to-requires : goal.add_to-requires

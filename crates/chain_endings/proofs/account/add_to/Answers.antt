@@ -2,8 +2,9 @@ use Rattle.std.proofs.Common.{◌≡◌, ◌≢◌, ◌==◌, ◌<◌, Bool, tru
 use Rattle.std.specs.Prelude.{slice_set}
 use Rattle.std.proofs.lemmas.List.{get_or-set_same, get_or-set_other, get_or_default}
 use Rattle.event_chain.specs.Fates.{fate_of}
-use Rattle.chain_spec.specs.Accounts.{Account, with_fate, with_one, with_stored}
-use Rattle.chain_endings.specs.Accounting.{IsAtMost, account_in, kept_at, no_items}
+use Rattle.chain_spec.specs.Accounts.{nothing, with_fate, with_one, with_stored}
+use Rattle.chain_spec.specs.declared.account.Account.{Account}
+use Rattle.chain_endings.specs.Accounting.{IsAtMost, kept_at}
 use Rattle.chain_endings.proofs.account.add_to.Goals as goal
 
 pub add-requires : goal.add-requires
@@ -11,8 +12,8 @@ add-requires c =
     let n = c.requires.0 in
     let i = c.from-event.result in
     let within : i < length c.args.accounts.now.items = omega (arith, c.if-event-len.true, c.len.ensures) in
-    let own = c.index_mut.ensures.value ∙ get_or_default c.args.accounts.now.items i _ no_items within in
-    (n, c.requires.1, subst (IsAtMost n n n) (sym (ap account_in own)) (c.requires.2 i within))
+    let own = c.index_mut.ensures.value ∙ get_or_default c.args.accounts.now.items i _ nothing within in
+    (n, c.requires.1, subst (IsAtMost n n n) (sym own) (c.requires.2 i within))
 
 pub returns-then-event-len-clause-each : goal.returns-then-event-len-clause-each
 returns-then-event-len-clause-each c k less =
@@ -22,15 +23,15 @@ returns-then-event-len-clause-each c k less =
     let added = λ (account : Account).
     with_stored c.args.stored (with_fate (fate_of c.args.ending.now.fate) (with_one c.args.ending.now.by_window account)) in
     let within : i < length items = omega (arith, c.if-event-len.true, c.len.ensures) in
-    let own = c.index_mut.ensures.value ∙ get_or_default items i _ no_items within in
-    let new = c.add.ensures ∙ ap (λ one. added (account_in one)) own in
+    let own = c.index_mut.ensures.value ∙ get_or_default items i _ nothing within in
+    let new = c.add.ensures ∙ ap added own in
     elim (event == k) as (λ (b : Bool). (event == k) ≡ b
-    → kept_at (slice_set items i c.add.new.self) k ≡ (if b then added (kept_at items k) else kept_at items k)) [
+    → kept_at (slice_set items i c.add.new.account) k ≡ (if b then added (kept_at items k) else kept_at items k)) [
       | true ↦ λ is.
           let same : i ≡ k = c.from-event.ensures ∙ eqb-true event k is in
-          subst (λ j. kept_at (slice_set items i c.add.new.self) j ≡ added (kept_at items j)) same
-          (ap account_in (get_or-set_same items i c.add.new.self no_items within) ∙ new)
+          subst (λ j. kept_at (slice_set items i c.add.new.account) j ≡ added (kept_at items j)) same
+          (get_or-set_same items i c.add.new.account nothing within ∙ new)
       | false ↦ λ is.
           let apart : k ≢ i = grind (arith, is, c.from-event.ensures) in
-          ap account_in (get_or-set_other items i k c.add.new.self no_items apart)
+          get_or-set_other items i k c.add.new.account nothing apart
     ] refl

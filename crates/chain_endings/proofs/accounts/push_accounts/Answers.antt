@@ -4,12 +4,11 @@ use Rattle.std.proofs.lemmas.List.FromFn.{map-range_with_len_more}
 use Rattle.std.specs.List.{range_with_len}
 use Rattle.std.proofs.lemmas.Grind.{common_steps}
 use Rattle.ids_config.specs.Parts.{Event, Parts, event_at, plain_event}
-use Rattle.chain_spec.specs.Accounts.{account_of, tally}
+use Rattle.chain_spec.specs.Accounts.{account_of, nothing, tally}
 use Rattle.chain_spec.specs.Endings.{Ending}
 use Rattle.chain_spec.specs.Items.{is_of}
 use Rattle.chain_spec.specs.Moments.{moments}
 use Rattle.text_spec.specs.Words.{line_feed, text_of}
-use Rattle.chain_endings.specs.Accounting.{account_in, no_items}
 use Rattle.chain_endings.specs.ExplainedText.{account_fields, account_line, field}
 use Rattle.chain_endings.proofs.AccountingLemmas.{told_account}
 use Rattle.text_spec.proofs.WordsLemmas.{text_of-append}
@@ -27,7 +26,7 @@ loop-event-preserved c =
     let many = ap (λ (p : Parts). length p.events) c.parts.view_is in
     let within : k < length config.events = grind (arith, common_steps, c.loop-event-test.true, c.len-event-end.ensures, many) in
     let some : k < length accounts = omega (arith, within, c.in_ok-accounts.ensures.events) in
-    let own = ap account_in (c.index-in-loop-event.ensures ∙ get_or_default accounts k _ no_items some)
+    let own = c.index-in-loop-event.ensures ∙ get_or_default accounts k _ nothing some
     ∙ c.in_ok-accounts.ensures.each k some
     ∙ ap (λ es. tally config (filter (λ (one : Ending). is_of k one.item) (reverse es))) c.requires
     ∙ told_account config k all in
@@ -37,7 +36,7 @@ loop-event-preserved c =
     ∙ get_or_default c.parts.inside.events.items k _ (plain_event 0 0) (omega (arith, within, many)) ∙ ap (λ (p : Parts). event_at p k) c.parts.view_is in
     let fields = ap (λ a. account_fields a c.index-in-loop-event-2.result.now) own ∙ ap (account_fields (account_of config k all)) lost in
     let line = ap (λ (e : Event). ((codes "A" ++ field (decimal k) ++ field (decimal e.id) ++ field (decimal e.sensor))
-    ++ account_fields (account_in c.index-in-loop-event.result.now) c.index-in-loop-event-2.result.now)) events
+    ++ account_fields c.index-in-loop-event.result.now c.index-in-loop-event-2.result.now)) events
     ∙ ap (λ fs. (codes "A" ++ field (decimal k) ++ field (decimal (event_at config k).id) ++ field (decimal (event_at config k).sensor)) ++ fs) fields in
     let lines = account_line config turns in
     c.in_ok-push_account.ensures

@@ -2,7 +2,7 @@ use Rattle.std.proofs.Common.{◌+◌, arith, sym, subst}
 use Rattle.event_chain.specs.Fates.{fate_of}
 use Rattle.chain_endings.specs.Accounting.{IsAtMost}
 use Rattle.chain_endings.proofs.AccountingLemmas.{fate_few, one_few}
-use Rattle.chain_endings.proofs.account.Account.add.Goals as goal
+use Rattle.chain_endings.proofs.account.add.Goals as goal
 
 pub add_fate-requires : goal.add_fate-requires
 add_fate-requires c =
