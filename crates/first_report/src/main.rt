@@ -9,7 +9,6 @@ ghost use Rattle.first_report.specs.Reporting.{HaveReported, HasReported, IsRead
 
 use ids_types::EventIndex;
 use idsm_api::{Answer, Caller, Manager, Totals};
-use std::alloc::Global;
 use std::thread::Threads;
 use std::{io, thread};
 
@@ -21,7 +20,7 @@ const CONFIG: &[u8] =
 const ROOM: usize = 128;
 
 /// Reports event 0.
-fn report(caller: &mut Caller)
+fn report(_: usize, caller: &mut Caller)
     requires { IsReady caller.old }
     ensures { HasReported caller.old caller.new }
 {
@@ -33,22 +32,14 @@ fn report_all<R: Threads + Sync>(rt: &R, callers: &mut [Caller])
     requires { All IsReady callers.old }
     ensures { HaveReported callers.old callers.new }
 {
-    thread::for_each_mut(
-        rt,
-        callers,
-        2,
-        &|_, caller: &mut Caller|
-            requires { IsReady caller.old }
-            ensures { HasReported caller.old caller.new }
-        { report(caller) },
-    );
+    thread::for_each_mut(rt, callers, 2, &report);
 }
 
 /// Prints what a turn sends of the reports, and answers what became of them: each was taken, or lost and counted.
-fn run<R: Threads + Sync + Print>(rt: &R, alloc: Global) -> io::Result<Option<Totals>>
+fn run<R: Threads + Sync + Print + AllocGlobal>(rt: &R) -> io::Result<Option<Totals>>
     ensures { IfOk result (λ counted. IfSome counted (λ totals. totals.entries + totals.lost_events ≡ 2)) }
 {
-    let Ok(setup) = Manager::make(alloc, CONFIG) else {
+    let Ok(setup) = Manager::make(rt.alloc(), CONFIG) else {
         return Ok(None);
     };
     let mut manager = setup.manager;
@@ -56,7 +47,7 @@ fn run<R: Threads + Sync + Print>(rt: &R, alloc: Global) -> io::Result<Option<To
     report_all(rt, &mut callers);
     let mut buffer = [0; ROOM];
     let turn = manager.turn(1, &mut buffer);
-    let sent = hex::encode(alloc, &buffer[..turn.told.bytes as usize])?;
+    let sent = hex::encode(rt.alloc(), &buffer[..turn.told.bytes as usize])?;
     println!(rt; "sent {sent}")?;
     let closed = manager.close(&mut callers, 2, &mut buffer);
     match closed.answer {
@@ -66,7 +57,7 @@ fn run<R: Threads + Sync + Print>(rt: &R, alloc: Global) -> io::Result<Option<To
 }
 
 fn main(rt: HostRuntime) -> io::Result<()> {
-    if let Some(totals) = run(&rt, rt.alloc())? {
+    if let Some(totals) = run(&rt)? {
         println!(rt; "taken {}, lost {}", totals.entries, totals.lost_events)?;
     }
     Ok(())
