@@ -1,10 +1,11 @@
 //! The tables of what is measured.
 
-use crate::times::{Pair, Times};
+use crate::times::{Pair, Told};
+use std::alloc::AllocError;
 use std::io;
 
 /// Prints tables: of how many items went through, or of how long they took.
-#[derive(Drop)]
+#[derive(Clone, Copy)]
 pub struct Bench<'r, R> {
     pub rt: &'r R,
     pub counts: bool,
@@ -24,29 +25,28 @@ impl<R: Print> Bench<'_, R> {
     }
 
     /// Prints the two lines of a measurement: of its puts and of its takes.
-    pub fn pair(&self, title: &str, mut measured: Pair, mut base: Pair) -> io::Result<()> {
+    pub fn pair(&self, title: &str, told: Option<Pair>, base: Option<Pair>) -> io::Result<()> {
         println!(self.rt; "{title}")?;
-        self.line("  claim and fill", &mut measured.0, &mut base.0)?;
-        self.line(
-            "  take and its share of giving back",
-            &mut measured.1,
-            &mut base.1,
-        )
+        self.line("  claim and fill", told.map(|it| it.0), base.map(|it| it.0))?;
+        self.takes("  take and its share of giving back", told, base)
     }
 
-    /// Prints a line of what is measured, and of what it stands beside.
-    pub fn line(&self, title: &str, measured: &mut Times, base: &mut Times) -> io::Result<()> {
+    /// Prints the line of its takes alone.
+    pub fn takes(&self, title: &str, told: Option<Pair>, base: Option<Pair>) -> io::Result<()> {
+        self.line(title, told.map(|it| it.1), base.map(|it| it.1))
+    }
+
+    // Prints a line of what is measured, and of what it stands beside.
+    fn line(&self, title: &str, told: Option<Told>, base: Option<Told>) -> io::Result<()> {
         let rt = self.rt;
+        let (told, base) = told.zip(base).ok_or(AllocError)?;
         print!(rt; "{title:<36}")?;
         if self.counts {
-            return println!(rt; "{:>8}{:>8}", measured.items, base.items);
+            return println!(rt; "{:>8}{:>8}", told.items, base.items);
         }
-        let items = measured.batch;
-        let (fastest, middle) = measured.fastest_and_middle();
-        let (base_fastest, base_middle) = base.fastest_and_middle();
-        self.times(fastest, base_fastest, items)?;
+        self.times(told.fastest, base.fastest, told.batch)?;
         print!(rt; "    ")?;
-        self.times(middle, base_middle, items)?;
+        self.times(told.middle, base.middle, told.batch)?;
         println!(rt; "")
     }
 

@@ -6,56 +6,55 @@
 //! prints the tables of times. No clause says how fast anything is.
 #![tactic(auto)]
 
-mod bare;
 mod bench;
-mod configured;
-mod queued;
 mod reports;
+mod rings;
 mod rounds;
 mod times;
-mod turns;
 
 use bench::Bench;
+use reports::{FEW, FILTERED, MANY};
 use std::rt::Env;
 use std::{env, io};
 
-/// How many rounds there are where items are counted, and else: on one thread, with callers in threads, and of turns.
-const FEW: u64 = 3;
+/// The context data of reports that have none, and of those that have some.
+const NONE: &[u8] = &[];
 
-const MANY: u64 = 20_000;
-
-const MANY_BESIDE: u64 = 4_000;
-
-const MANY_TURNS: u64 = 5_000;
-
-/// The context data of reports that have some.
-const CONTEXT: [u8; 16] = [7; 16];
+const SOME: &[u8] = &[7; 16];
 
 fn main(rt: HostRuntime) -> io::Result<()> {
     let counts = env::args(&rt)?.skip(1).next().is_some();
-    let (many, many_beside, many_turns) = if counts {
-        (FEW, FEW, FEW)
-    } else {
-        (MANY, MANY_BESIDE, MANY_TURNS)
-    };
     let bench = Bench { rt: &rt, counts };
+    // How many items a batch of puts has, how many one of takes, and how many rounds there are.
+    let alone = (256, 64, if counts { 3 } else { 20_000 });
+    let beside = (256, 64, if counts { 3 } else { 4_000 });
+    let turn = (1_000, 1_000, if counts { 3 } else { 5_000 });
+    let empty = (0, 64, turn.2);
     bench.head("queue", "bare")?;
-    bench.queue("one thread", 1, many)?;
-    bench.queue("two callers beside a taker", 2, many_beside)?;
-    bench.queue("four callers beside a taker", 4, many_beside)?;
+    for (title, callers, size) in [
+        ("one thread", 1, alone),
+        ("two callers beside a taker", 2, beside),
+        ("four callers beside a taker", 4, beside),
+    ] {
+        let bare = bench.bare(callers, 1, size);
+        bench.pair(title, bench.queue(callers, size), bare)?;
+    }
     bench.head("reports", "bare")?;
-    bench.reports("reports", &[], many)?;
-    bench.reports("reports with 16 bytes", &CONTEXT, many)?;
+    for (title, context, rings) in [("reports", NONE, 1), ("reports with 16 bytes", SOME, 2)] {
+        let bare = bench.bare(1, rings, alone);
+        bench.pair(title, bench.reports(context, alone), bare)?;
+    }
     bench.head("turns", "bare")?;
-    bench.turns("a report's share of a turn", false, &[], many_turns)?;
-    bench.turns("  with 16 bytes", false, &CONTEXT, many_turns)?;
-    bench.turns("  through all filters", true, &[], many_turns)?;
-    bench.turns(
-        "  with 16 bytes through all filters",
-        true,
-        &CONTEXT,
-        many_turns,
-    )?;
+    for (title, config, context, rings) in [
+        ("a report's share of a turn", MANY, NONE, 1),
+        ("  with 16 bytes", MANY, SOME, 2),
+        ("  through all filters", FILTERED, NONE, 1),
+        ("  with 16 bytes through all filters", FILTERED, SOME, 2),
+    ] {
+        let bare = bench.bare(1, rings, turn);
+        bench.takes(title, bench.turns(config, context, turn), bare)?;
+    }
     bench.head("1024", "16")?;
-    bench.empty_turns("an empty turn", many_turns)
+    let few = bench.turns(FEW, NONE, empty);
+    bench.takes("an empty turn", bench.turns(MANY, NONE, empty), few)
 }

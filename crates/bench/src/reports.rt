@@ -1,20 +1,37 @@
-//! Reports through a pass, and the desk that takes them.
+//! Reports through a pass, and what takes them: the desk, or a manager by its turns.
 ghost use Rattle.std.specs.Prelude.{◌≤◌};
 ghost use Rattle.buffer_classes.specs.Givers.{AreBuffersIn};
+ghost use Rattle.main_function.specs.Standing.{IsManagerOf};
 ghost use Rattle.report_api.specs.Desks.{IsDeskOf};
 ghost use Rattle.report_api.specs.Passes.{IsPassOf, IsShared, sizes_of};
 ghost use Rattle.report_api.specs.Terms.{AdmitsItem};
 
 use crate::bench::Bench;
-use crate::configured::config;
-use crate::queued::BATCH;
-use crate::rounds::{Ring, Rounds};
+use crate::rounds::{Ring, Size};
+use crate::times::Pair;
+use config_json::read;
+use event_chain::EventChain;
+use filter_chain::ParcelChain;
 use ids_types::{Act, Carried, EventIndex};
-use report_api::{CtxBuf, Desk, Item, Parts, Pass, Report, Shared, make};
-use std::alloc::AllocError;
-use std::io;
+use main_function::Manager;
+use report_api::{CtxBuf, Desk, Item, Pass, Report, Shared};
+use std::marker::PhantomData;
 use std::rt::Clock;
 use std::thread::Threads;
+
+/// One event over 16, 256 or 1,024 event buffers and as many context data buffers. No filter looks at more than its mode.
+pub const FEW: &[u8] =
+    br#"{"form":1,"instance":18,"ring":16,"classes":[{"size":16,"number":16}],"events":[{"id":42,"sensor":3}]}"#;
+
+const SOME: &[u8] =
+    br#"{"form":1,"instance":18,"ring":256,"classes":[{"size":16,"number":256}],"events":[{"id":42,"sensor":3}]}"#;
+
+pub const MANY: &[u8] =
+    br#"{"form":1,"instance":18,"ring":1024,"classes":[{"size":16,"number":1024}],"events":[{"id":42,"sensor":3}]}"#;
+/// The same with a filter of each kind that looks at single reports and lets them through, an event memory that stores
+/// them, and limits that let their messages out.
+pub const FILTERED: &[u8] =
+    br#"{"form":1,"instance":18,"ring":1024,"memory":1,"classes":[{"size":16,"number":1024}],"rate":{"interval":1000,"events":4294967295},"traffic":{"interval":1000,"bytes":4294967295},"events":[{"id":42,"sensor":3,"store":true,"block":[1],"threshold":{"interval":1000,"count":1}}]}"#;
 
 /// What passes and a desk share, and the context of each report.
 #[derive(Drop)]
@@ -85,26 +102,87 @@ fn keep(shared: &Shared, item: Item<Act<CtxBuf>>, back: &mut Vec<CtxBuf>) -> boo
     }
 }
 
-impl<R: Print + Clock + AllocGlobal + Threads + Sync> Bench<'_, R> {
-    /// Prints what reports with this context, at most 16 bytes, and their takes at the desk cost, over 256 event
-    /// buffers and as many context data buffers.
-    pub fn reports(&self, title: &str, context: &[u8], rounds: u64) -> io::Result<()> {
-        let back = Vec::with_capacity(self.rt.alloc(), 64)?;
-        let config = config(self.rt.alloc(), 256, false)?;
-        let Ok(made) = make(self.rt.alloc(), &config) else {
-            return Err(AllocError.into());
+/// What passes and a manager share, and how many turns a batch of takes has.
+#[derive(Drop)]
+struct Turning<'c, C> {
+    reporting: Reporting<'c>,
+    turns: u64,
+    chain: PhantomData<C>,
+}
+
+impl<C: ParcelChain<CtxBuf> + Send + Sync + Drop> Ring for Turning<'_, C> {
+    type Caller = Pass;
+
+    type Taker = Manager<C>;
+
+    ghost calls = { λ turning. IsPassOf turning.reporting.shared };
+
+    ghost takes = { λ turning. IsManagerOf C.events C.kept turning.reporting.shared };
+
+    fn put(&self, pass: &mut Pass, batch: u64) -> u64 {
+        self.reporting.put(pass, batch)
+    }
+
+    // The items of one turn are its messages, and of several ones those that sent nothing. A manager that made 2^32
+    // turns, more than a measurement makes, makes no more.
+    fn take(&self, manager: &mut Manager<C>, _: u64) -> u64 {
+        let mut count: u64 = 0;
+        for _ in 0..self.turns {
+            let tick = manager.turns();
+            if tick >= 4_294_967_296 || !manager.fits() {
+                break;
+            }
+            let sent = match manager.turn(&self.reporting.shared, tick) {
+                Ok(out) => u64::from(out.messages()),
+                Err(_) => break,
+            };
+            let items = if self.turns == 1 {
+                sent
+            } else {
+                u64::from(sent == 0)
+            };
+            count = count.wrapping_add(items);
+        }
+        count
+    }
+}
+
+impl<R: Clock + AllocGlobal + Threads + Sync> Bench<'_, R> {
+    /// Measures reports with this context, at most 16 bytes, and their takes at the desk.
+    pub fn reports(&self, context: &[u8], size: Size) -> Option<Pair> {
+        let alloc = self.rt.alloc();
+        let config = read(alloc, SOME).ok()?;
+        let back = Vec::with_capacity(alloc, 64).ok()?;
+        let Ok(made) = report_api::make(alloc, &config) else {
+            return None;
         };
-        let Parts {
-            shared,
-            passes,
-            desk,
-        } = made;
-        let reporting = Reporting { shared, context };
-        let mut taker = (desk, back);
-        let calls = Rounds::new(self.rt, &reporting, BATCH, rounds);
-        let reports = calls.alone(passes, &mut taker)?;
-        let rings = 1 + u8::from(!context.is_empty());
-        let bare = self.bare(1, rings, BATCH, rounds)?;
-        self.pair(title, reports, bare)
+        let reporting = Reporting {
+            shared: made.shared,
+            context,
+        };
+        let mut taker = (made.desk, back);
+        self.alone(&reporting, size, made.passes, &mut taker)
+    }
+
+    /// Measures turns that take reports with this context, at most 16 bytes; where a batch of puts has none, empty ones.
+    pub fn turns(&self, config: &[u8], context: &[u8], size: Size) -> Option<Pair> {
+        let alloc = self.rt.alloc();
+        let config = read(alloc, config).ok()?;
+        let Ok(chain) = EventChain::make(alloc, &config) else {
+            return None;
+        };
+        let Ok(mut made) = main_function::make(alloc, &config, chain) else {
+            return None;
+        };
+        let passes = made.passes;
+        let turning = Turning {
+            reporting: Reporting {
+                shared: made.shared,
+                context,
+            },
+            turns: if size.0 == 0 { size.1 } else { 1 },
+            chain: PhantomData,
+        };
+        self.alone(&turning, size, passes, &mut made.manager)
     }
 }

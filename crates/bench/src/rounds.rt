@@ -1,11 +1,11 @@
 //! Rounds of batches of a ring's calls: on one thread, and by callers in threads of their own beside a taker.
-ghost use Rattle.std.specs.Prelude.{◌≡◌, All};
+ghost use Rattle.std.specs.Prelude.{All};
 ghost use Rattle.std.specs.Thread.{IsSync};
 
+use crate::bench::Bench;
 use crate::times::{Pair, Times};
 use std::alloc::AllocError;
 use std::hint::spin_loop;
-use std::io;
 use std::rt::Clock;
 use std::sync::atomic::{AtomicU64, Ordering};
 use std::thread::{Threads, join, map_vec, yield_now};
@@ -34,175 +34,157 @@ pub trait Ring: Sync {
         ensures ready { takes self.now taker.new };
 }
 
-/// How often a caller looks whether the next round is open, before it lets other threads run and in all.
-const QUICK_LOOKS: u64 = 10_000;
+/// How many items a batch of puts has, how many one of takes, and how many rounds there are.
+pub type Size = (u64, u64, u64);
 
-const LOOKS: u64 = 20_000_000;
-/// How often a taker looks for items at most, which takes some four seconds, and how often it pauses where there are few.
-const TAKER_LOOKS: u64 = 1_000_000;
-
-const PAUSES: u64 = 64;
-/// What the word of the round says once there is none left.
-const CLOSED: u64 = u64::MAX;
-
-/// Rounds of batches of so many puts and takes: how many are open, and how many batches callers put in them.
-#[derive(Drop)]
-pub struct Rounds<'r, R, G> {
-    rt: &'r R,
-    ring: &'r G,
-    batch: (u64, u64),
-    rounds: u64,
-    open: AtomicU64,
-    arrived: AtomicU64,
-}
-
-impl<'r, R: Clock + AllocGlobal + Threads + Sync, G: Ring> Rounds<'r, R, G> {
-    pub fn new(rt: &'r R, ring: &'r G, batch: (u64, u64), rounds: u64) -> Rounds<'r, R, G>
-        ensures { result.ring.now ≡ ring.now }
-    {
-        Rounds {
-            rt,
-            ring,
-            batch,
-            rounds,
-            open: AtomicU64::new(0),
-            arrived: AtomicU64::new(0),
-        }
-    }
-
+impl<R: Clock + AllocGlobal + Threads + Sync> Bench<'_, R> {
     // A batch of puts.
-    fn put(&self, caller: &mut G::Caller, puts: &mut Times) -> io::Result<()>
-        requires { G.calls self.now.ring.now caller.old }
-        ensures { G.calls self.now.ring.now caller.new }
+    fn put<G: Ring>(&self, ring: &G, caller: &mut G::Caller, puts: &mut Times) -> Option<()>
+        requires { G.calls ring.now caller.old }
+        ensures { G.calls ring.now caller.new }
     {
-        let start = Instant::now(self.rt)?;
-        let count = self.ring.put(caller, puts.batch);
-        puts.add(start.elapsed(self.rt)?.as_nanos(), count)
+        let start = Instant::now(self.rt).ok()?;
+        let count = ring.put(caller, puts.batch);
+        puts.add(start.elapsed(self.rt).ok()?.as_nanos(), count)
+            .ok()
     }
 
     // A batch of takes. Answers how many items there were.
-    fn take(&self, taker: &mut G::Taker, takes: &mut Times) -> io::Result<u64>
-        requires { G.takes self.now.ring.now taker.old }
-        ensures { G.takes self.now.ring.now taker.new }
+    fn take<G: Ring>(&self, ring: &G, taker: &mut G::Taker, takes: &mut Times) -> Option<u64>
+        requires { G.takes ring.now taker.old }
+        ensures { G.takes ring.now taker.new }
     {
-        let start = Instant::now(self.rt)?;
-        let count = self.ring.take(taker, takes.batch);
-        takes.add(start.elapsed(self.rt)?.as_nanos(), count)?;
-        Ok(count)
+        let start = Instant::now(self.rt).ok()?;
+        let count = ring.take(taker, takes.batch);
+        takes
+            .add(start.elapsed(self.rt).ok()?.as_nanos(), count)
+            .ok()?;
+        Some(count)
     }
 
     /// In turn, where there is one caller: in each round a batch of puts, and then takes until nothing is left. After
     /// no puts there is one batch of takes.
-    pub fn alone(&self, mut callers: Vec<G::Caller>, taker: &mut G::Taker) -> io::Result<Pair>
-        requires callers { All (G.calls self.now.ring.now) callers.items }
-        requires taker { G.takes self.now.ring.now taker.old }
+    pub fn alone<G: Ring>(
+        &self,
+        ring: &G,
+        size: Size,
+        mut callers: Vec<G::Caller>,
+        taker: &mut G::Taker,
+    ) -> Option<Pair>
+        requires callers { All (G.calls ring.now) callers.items }
+        requires taker { G.takes ring.now taker.old }
     {
-        let mut puts = Times::new(self.rt.alloc(), self.batch.0);
-        let mut takes = Times::new(self.rt.alloc(), self.batch.1);
+        let mut puts = Times::new(self.rt.alloc(), size.0);
+        let mut takes = Times::new(self.rt.alloc(), size.1);
         let [caller] = callers.as_mut_slice() else {
-            return Ok((puts, takes));
+            return None;
         };
-        for _ in 0..self.rounds {
-            self.put(caller, &mut puts)?;
-            for _ in 0..puts.batch.max(1) {
-                if self.take(taker, &mut takes)? == 0 {
+        for _ in 0..size.2 {
+            self.put(ring, caller, &mut puts)?;
+            for _ in 0..size.0.max(1) {
+                if self.take(ring, taker, &mut takes)? == 0 {
                     break;
                 }
             }
         }
-        Ok((puts, takes))
+        Some((puts.told(), takes.told()))
     }
 
     /// Each caller in a thread of its own, beside the taker.
-    pub fn beside(&self, callers: Vec<G::Caller>, taker: &mut G::Taker) -> io::Result<Pair>
-        requires callers { All (G.calls self.now.ring.now) callers.items }
-        requires taker { G.takes self.now.ring.now taker.old }
+    pub fn beside<G: Ring>(
+        &self,
+        ring: &G,
+        size: Size,
+        callers: Vec<G::Caller>,
+        taker: &mut G::Taker,
+    ) -> Option<Pair>
+        requires callers { All (G.calls ring.now) callers.items }
+        requires taker { G.takes ring.now taker.old }
     {
-        let number = callers.len() as u64;
-        let (all, takes) = join(
+        let round = (callers.len() as u64).wrapping_mul(size.0);
+        let open = &AtomicU64::new(1);
+        let (all, mut takes) = join(
             self.rt,
             move || -> Result<Vec<Times>, AllocError>
-                requires { IsSync R.row × IsSync G.row × All (G.calls self.now.ring.now) callers.items }
+                requires { IsSync R.row × IsSync G.row × All (G.calls ring.now) callers.items }
             {
                 map_vec(
                     self.rt,
                     callers,
                     &|caller: G::Caller| -> Times
-                        requires { G.calls self.now.ring.now caller }
-                    { self.call(caller) },
+                        requires { G.calls ring.now caller }
+                    { self.call(ring, size, open, caller) },
                 )
             },
             move || -> Times
-                requires { IsSync G.row × G.takes self.now.ring.now taker.now }
-            { self.serve(taker, number) },
+                requires { IsSync G.row × G.takes ring.now taker.now }
+            { self.serve(ring, (round, size.1, size.2), open, taker) },
         );
-        let mut puts = Times::new(self.rt.alloc(), self.batch.0);
-        for times in &all? {
-            puts.join(times)?;
+        let mut puts = Times::new(self.rt.alloc(), size.0);
+        for times in &all.ok()? {
+            puts.join(times).ok()?;
         }
-        Ok((puts, takes))
+        Some((puts.told(), takes.told()))
     }
 
-    // A caller's batches, one a round.
-    fn call(&self, mut caller: G::Caller) -> Times
-        requires { G.calls self.now.ring.now caller }
+    // A caller's batches, one in each round that is opened.
+    fn call<G: Ring>(&self, ring: &G, size: Size, open: &AtomicU64, mut caller: G::Caller) -> Times
+        requires { G.calls ring.now caller }
     {
-        let mut puts = Times::new(self.rt.alloc(), self.batch.0);
-        for round in 0..self.rounds {
-            if !self.wait_for(round) || self.put(&mut caller, &mut puts).is_err() {
+        let mut puts = Times::new(self.rt.alloc(), size.0);
+        for round in 0..size.2 {
+            wait_for(open, round);
+            if self.put(ring, &mut caller, &mut puts).is_none() {
                 break;
             }
-            self.arrived.fetch_add(1, Ordering::SeqCst);
         }
         puts
     }
 
-    // Waits until a round is open. Answers whether it came.
-    fn wait_for(&self, round: u64) -> bool {
-        for look in 0..LOOKS {
-            let open = self.open.load(Ordering::SeqCst);
-            if open > round {
-                return open != CLOSED;
-            }
-            if look < QUICK_LOOKS {
-                spin_loop();
-            } else {
-                yield_now();
-            }
-        }
-        false
-    }
-
-    // The taker's batches. It opens a round once all callers have put their batches of the last one and none of their
-    // items is left, and closes them after the last one.
-    fn serve(&self, taker: &mut G::Taker, callers: u64) -> Times
-        requires { G.takes self.now.ring.now taker.old }
+    // The taker's batches, at most a million, which takes some four seconds. It opens a round once it has taken as many
+    // items as all callers put in those before.
+    fn serve<G: Ring>(&self, ring: &G, size: Size, open: &AtomicU64, taker: &mut G::Taker) -> Times
+        requires { G.takes ring.now taker.old }
     {
-        let mut takes = Times::new(self.rt.alloc(), self.batch.1);
-        let mut open: u64 = 0;
-        for _ in 0..TAKER_LOOKS {
-            let arrived = self.arrived.load(Ordering::SeqCst);
-            let Ok(count) = self.take(taker, &mut takes) else {
+        let mut takes = Times::new(self.rt.alloc(), size.1);
+        let mut taken: u64 = 0;
+        for _ in 0..1_000_000u64 {
+            let Some(count) = self.take(ring, taker, &mut takes) else {
                 break;
             };
-            if count == 0 && arrived == callers.wrapping_mul(open) {
-                if open == self.rounds {
-                    break;
-                }
-                open = open.wrapping_add(1);
-                self.open.store(open, Ordering::SeqCst);
+            taken = taken.wrapping_add(count);
+            if taken == size.0.wrapping_mul(size.2) {
+                break;
+            }
+            if count > 0 && taken.checked_rem(size.0) == Some(0) {
+                open.fetch_add(1, Ordering::SeqCst);
             }
             if count < takes.batch {
                 pause();
             }
         }
-        self.open.store(CLOSED, Ordering::SeqCst);
+        open.store(u64::MAX, Ordering::SeqCst);
         takes
     }
 }
 
+// Waits until a round is open, and lets other threads run where that takes long.
+fn wait_for(open: &AtomicU64, round: u64) {
+    for look in 0..20_000_000u64 {
+        if open.load(Ordering::SeqCst) > round {
+            break;
+        }
+        if look < 10_000 {
+            spin_loop();
+        } else {
+            yield_now();
+        }
+    }
+}
+
+// Leaves callers undisturbed for a while, where few items are ready.
 fn pause() {
-    for _ in 0..PAUSES {
+    for _ in 0..64u8 {
         spin_loop();
     }
 }

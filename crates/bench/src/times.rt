@@ -2,35 +2,42 @@
 ghost use Rattle.std.specs.Prelude.{◌≡◌, ◌≢◌, ◌+◌, ◌%◌, ◌^◌, ◌≤◌, ◌<◌, [], ◌∷◌, ◌++◌, All, OnOk};
 
 use std::alloc::{AllocError, Global};
-use std::io;
-
-/// The times of puts, and those of takes.
-pub type Pair = (Times, Times);
 
 /// The nanoseconds of each batch that was whole, and how many items all batches had.
 #[derive(Drop)]
 pub struct Times {
     nanos: Vec<u64>,
-    pub items: u64,
+    items: u64,
     /// How many items a whole batch has.
     pub batch: u64,
 }
+
+/// What the times of batches tell: that of the fastest and that of the middle one, 0 where there is none, how many
+/// items all batches had, and how many a whole one has.
+#[derive(Clone, Copy)]
+pub struct Told {
+    pub fastest: u64,
+    pub middle: u64,
+    pub items: u64,
+    pub batch: u64,
+}
+
+/// What puts tell, and what takes do.
+pub type Pair = (Told, Told);
 
 impl Times {
     pub fn new(alloc: Global, batch: u64) -> Times
         ensures { (result.nanos.items ≡ []) × (result.items ≡ 0) × (result.batch ≡ batch) }
     {
-        let nanos = Vec::new(alloc);
-        let items = 0;
         Times {
-            nanos,
-            items,
+            nanos: Vec::new(alloc),
+            items: 0,
             batch,
         }
     }
 
     /// Adds a batch of so many items. Only a whole one counts for its time.
-    pub fn add(&mut self, nanos: u128, items: u64) -> io::Result<()>
+    pub fn add(&mut self, nanos: u128, items: u64) -> Result<(), AllocError>
         ensures items { self.new.items ≡ (self.old.items + items) % 2 ^ 64 }
         ensures whole { items ≡ self.old.batch → nanos < 2 ^ 64 → OnOk result (self.new.nanos.items ≡ self.old.nanos.items ++ nanos ∷ []) }
         ensures part { items ≢ self.old.batch → self.new.nanos.items ≡ self.old.nanos.items }
@@ -54,8 +61,22 @@ impl Times {
         self.nanos.extend_from_slice(other.nanos.as_slice())
     }
 
-    /// The time of the fastest batch, and of the middle one by their order: 0 where there is none.
-    pub fn fastest_and_middle(&mut self) -> (u64, u64)
+    /// Puts the times in order, and tells them.
+    pub fn told(&mut self) -> Told
+        ensures fastest { All (λ nanos. result.fastest ≤ nanos) self.new.nanos.items }
+        ensures same { (result.items ≡ self.old.items) × (result.batch ≡ self.old.batch) }
+    {
+        let (fastest, middle) = self.fastest_and_middle();
+        Told {
+            fastest,
+            middle,
+            items: self.items,
+            batch: self.batch,
+        }
+    }
+
+    // The time of the fastest batch, and of the middle one by their order: 0 where there is none.
+    fn fastest_and_middle(&mut self) -> (u64, u64)
         ensures fastest { All (λ nanos. result.0 ≤ nanos) self.new.nanos.items }
         ensures same { (self.new.items ≡ self.old.items) × (self.new.batch ≡ self.old.batch) }
     {

@@ -1,6 +1,6 @@
 use Rattle.std.proofs.Common.{◌≡◌, ◌+◌, length}
 use Rattle.report_queue.specs.Parts.{IsTakerOf, taker_memo}
-use Rattle.bench.proofs.queued.QueueNumbersRing.take.Given as goal
+use Rattle.bench.proofs.rings.QueueNumbersRing.take.Given as goal
 
 abbrev pub invariant-loop-number : goal.invariant-loop-number
 invariant-loop-number l =

@@ -1,7 +1,0 @@
-use Rattle.bench.proofs.rounds.Rounds.alone.Given as goal
-
-abbrev pub invariant-loop-2 : goal.invariant-loop-2
-invariant-loop-2 g l = g.G.Ring.calls l.self.ring.now l.caller × g.G.Ring.takes l.self.ring.now l.taker
-
-abbrev pub invariant-loop : goal.invariant-loop
-invariant-loop g l = g.G.Ring.calls l.self.ring.now l.caller × g.G.Ring.takes l.self.ring.now l.taker
