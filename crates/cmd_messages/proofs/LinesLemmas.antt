@@ -15,7 +15,7 @@ use Rattle.ids_frame.specs.declared.fault.FrameFault.{FrameFault}
 use Rattle.ids_frame.proofs.MessagesLemmas.{read_is_held}
 use Rattle.text_spec.specs.DecodedText.{message_line}
 use Rattle.text_spec.specs.Words.{line_feed}
-use Rattle.frame_auth.proofs.ReadLemmas.{Front}
+use Rattle.ids_frame.proofs.DecodeLemmas.{Front}
 
 -- these lines were printed, and these bytes are left
 pub record ArePrinted (bytes rest lines : List ℕ) : Type 0 where

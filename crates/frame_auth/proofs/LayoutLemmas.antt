@@ -1,5 +1,5 @@
 -- A sealed message by its bytes: the plain one, marked in its first byte, and the signature part after it.
-use Rattle.frame_auth.proofs.Names.{◌≡◌, ℕ, zero, suc, IsByte, AreBytes, ◌+◌, ◌*◌, ◌^◌, ◌≤◌, ◌<◌, List, [], ◌∷◌, ◌++◌, length, take, drop, Option, Some, None, refl, sym, ap, subst, ◌∙◌, arith, length-append, w16, w64, to_be_bytes, MessageParts, FitsMessage, header, spelling, joined, with_signature, bare, hmac, seal_of, sealed, joined_sealed, IsPlain, ArePlain, IsSealedWith, HasNoSeal, HasOtherCounter, CanMark, marked, sealed_bytes, CanUnmark, unmarked, rules, common_steps}
+use Rattle.frame_auth.proofs.Names.{◌≡◌, ℕ, zero, suc, IsByte, AreBytes, ◌+◌, ◌*◌, ◌^◌, ◌≤◌, ◌<◌, List, [], ◌∷◌, ◌++◌, length, take, drop, Option, Some, None, refl, sym, ap, subst, ◌∙◌, arith, length-append, w16, w64, to_be_bytes, MessageParts, FitsMessage, header, spelling, joined, with_signature, bare, hmac, seal_of, sealed, joined_sealed, IsPlain, ArePlain, IsSealedWith, HasNoSeal, HasOtherCounter, marked, sealed_bytes, CanUnmark, unmarked, rules, common_steps}
 use Rattle.std.proofs.lemmas.List.{take_at, drop_at}
 use Rattle.std.proofs.Common.{◌≢◌, IfSome, Bor, is_some, option_copied, false}
 use Rattle.ids_frame.proofs.NumberLemmas.{wide32, wide64}

@@ -2,6 +2,5 @@ pub mod LayoutLemmas
 pub mod Names
 pub mod OneAnswer
 pub mod OrderLemmas
-pub mod ReadLemmas
 pub mod TagLemmas
 pub mod WalkLemmas

@@ -17,7 +17,7 @@ use Rattle.frame_auth.specs.declared.fault.UnsealFault.TheVariants as unseals
 use Rattle.frame_auth.specs.Order.{AreOf, AreFirst, IsOutOfOrder, AnswersInOrder}
 use Rattle.frame_auth.specs.Sealing.{sealed_from}
 use Rattle.frame_auth.proofs.LayoutLemmas.{bare_is, sealed_fits, other_counter}
-use Rattle.frame_auth.proofs.ReadLemmas.{begins_so}
+use Rattle.frame_auth.proofs.WalkLemmas.{begins_so}
 use Rattle.frame_auth.proofs.OneAnswer.{one_unsealing_lem}
 
 -- ---- messages by their counters

@@ -1,6 +1,6 @@
 -- Going over messages one by one, each written as it is due: so sealing reads plain messages and writes sealed ones, and
 -- unsealing the other way round.
-use Rattle.frame_auth.proofs.Names.{◌≡◌, ℕ, ◌+◌, ◌-◌, ◌*◌, ◌≤◌, ◌==◌, ◌⊎◌, inl, inr, false, List, [], ◌∷◌, ◌++◌, length, sym, ap, ◌∙◌, append_assoc, arith, length-append, MessageParts, FitsMessage, spelling, joined, sealed, joined_sealed, IsPlain, ArePlain, Moves, StopsBehind, rules, common_steps}
+use Rattle.frame_auth.proofs.Names.{◌≡◌, ℕ, ◌+◌, ◌-◌, ◌*◌, ◌≤◌, ◌==◌, ◌⊎◌, inl, inr, false, List, [], ◌∷◌, ◌++◌, length, sym, ap, ◌∙◌, append_assoc, arith, length-append, MessageParts, FitsMessage, spelling, BeginsWith, BeginsSo, joined, sealed, joined_sealed, IsPlain, ArePlain, Moves, StopsBehind, rules, common_steps}
 use Rattle.frame_auth.proofs.LayoutLemmas.{bare_is, sealed_fits}
 
 -- messages from a counter on are written one after the other, each plain one in a form of its own, which tells it
@@ -68,3 +68,7 @@ pub stops_here : {F : Type 0} {none fault : F} {from to : ℕ → List MessagePa
 stops_here Why start due at bytes rest out g some place (inl is) = inl is
 stops_here Why start due at bytes [] out g some place (inr why) = absurd (cc some)
 stops_here {F} {none} {fault} {from} Why start due at bytes (next ∷ rest) out g some place (inr why) = grind (arith, common_steps)
+
+-- what holds of the message that the bytes begin with
+pub begins_so : {P : MessageParts → Type 0} {bytes behind : List ℕ} {m : MessageParts} → BeginsWith bytes m behind → P m → BeginsSo P bytes
+begins_so {P} {bytes} {behind} {m} begins holds = record { message = m; behind = behind; begins = begins; holds = holds }

@@ -1,11 +1,11 @@
 -- Packing: messages are judged, cut and written, one at a time.
-use Rattle.ids_bundle.proofs.Names.{◌≡◌, ℕ, ◌+◌, ◌-◌, ◌<◌, ◌≤◌, List, [], ◌∷◌, ◌++◌, length, take, drop, Ok, Err, refl, sym, ap, subst, ◌∙◌, append_assoc, arith, append-nil, length-append, AllByRecursion, Result, w16, to_be_bytes, AreBytes, MessageParts, joined, spelling, IsPacked, Run, load, unit, units, rules, common_steps}
+use Rattle.ids_bundle.proofs.Names.{◌≡◌, ℕ, ◌+◌, ◌-◌, ◌<◌, ◌≤◌, List, [], ◌∷◌, ◌++◌, length, take, drop, Ok, Err, refl, sym, ap, subst, ◌∙◌, append_assoc, arith, append-nil, length-append, AllByRecursion, Result, w16, to_be_bytes, AreBytes, MessageParts, joined, spelling, IsPacked, Run, load, unit, units, common_steps}
 use Rattle.ids_frame.specs.Reading.{Begun, message_at}
 use Rattle.ids_frame.proofs.MessageLemmas.{again, read_of, one_message_lem}
 use Rattle.ids_frame.proofs.PartLemmas.{behind_bytes}
 use Rattle.ids_bundle.specs.declared.fault.PackFault.{PackFault}
 use Rattle.ids_bundle.specs.declared.fault.PackFault.TheVariants.{Bad, TooLarge, NoMemory}
-use Rattle.ids_bundle.specs.Packing.{FitsIn, BeginsLong, StopsAt, ArePacked, Packs, MayStop}
+use Rattle.ids_bundle.specs.Packing.{FitsIn, BeginsLong, StopsAt, ArePacked, Packs}
 use Rattle.ids_bundle.proofs.ListLemmas.{one_ok, one_err, all_append, one_more, one_answer, Settles}
 use Rattle.ids_bundle.proofs.UnitLemmas.{load-append, no_message}
 use Rattle.ids_bundle.proofs.CutLemmas.{one_packing_lem, greedy, keeps, closes, greedy_packed}
@@ -99,10 +99,6 @@ packing_closes size bytes out tail out_now tail_now text number total len number
           ∙ ap (λ g. out ++ units g) (sym (closes size p.run m more (omega (arith, p.weight, b.long, lt))))
           ∙ p.made (m ∷ more) ∙ ap (λ ms. units (greedy size [] ms)) (sym (append_assoc p.front (m ∷ []) more));
     })
-
--- a fault that is due may be answered
-may_stop : (size : ℕ) (bytes : List ℕ) (fault : PackFault) → Packs size bytes (Err fault) → MayStop size bytes fault
-may_stop size bytes fault stops = search rules
 
 -- messages that fit are packed from no open run
 packed_from_none : (size : ℕ) (messages : List MessageParts) → 1 ≤ length messages → AllByRecursion (FitsIn size) messages

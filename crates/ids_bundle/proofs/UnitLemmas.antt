@@ -1,7 +1,6 @@
 -- Runs, their units, and how these are known again.
 use Rattle.ids_bundle.proofs.Names.{◌≡◌, ℕ, ◌+◌, ◌*◌, ◌/◌, ◌%◌, ◌<◌, ◌≤◌, ◌↔◌, Bool, IsTrue, List, [], ◌∷◌, ◌++◌, length, get_or, take, drop, Ok, Err, refl, sym, ap, subst, ◌∙◌, arith, length-append, take_at, drop_at, append-nil, flat_map-append, w16, to_be_bytes, AreBytes, BeginsWith, MessageParts, FitsMessage, Begins, CauseOf, Result, joined, AreMessages, IsJoined, messages_read, spelling, Run, load, unit, FitsUnit, IsUnit, AreSoMany, IsBody, unit_size, IsPart, IsBad, common_steps}
-use Rattle.std.proofs.Common.{Fits, w8, rules}
-use Rattle.std.proofs.lemmas.List.{get_or_default, nil_from_length}
+use Rattle.std.proofs.Common.{rules}
 use Rattle.std.proofs.lemmas.Nat.{from_be_bytes-to_be_bytes_2}
 use Rattle.std.specs.Result.{result_map_both}
 use Rattle.ids_frame.specs.declared.fault.FrameFault.{FrameFault}
@@ -66,10 +65,6 @@ bad_unless_unit bytes size is enough not = record {
 }
 
 -- ---- a unit is known by its head and its messages
-
--- what a slice holds are bytes
-pub are_bytes : (bytes : List ℕ) → ((i : ℕ) → Fits w8 (get_or bytes i 0)) → AreBytes bytes
-are_bytes bytes fits k d lt = omega (arith, fits k, get_or_default bytes k d 0 lt)
 
 -- messages that are joined are read
 pub joined_read : (bytes : List ℕ) (run : Run) → AreBytes bytes → IsJoined bytes run → messages_read bytes ≡ Ok run

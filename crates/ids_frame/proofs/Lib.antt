@@ -1,7 +1,7 @@
+pub mod DecodeLemmas
 pub mod FieldLemmas
 pub mod MessageLemmas
 pub mod MessagesLemmas
 pub mod Names
 pub mod NumberLemmas
 pub mod PartLemmas
-pub mod SpellingLemmas

@@ -1,15 +1,13 @@
 -- Lines that are in range and in order have no fault, each after the lines before it.
-use Rattle.journal.proofs.Names.{◌≡◌, ℕ, ◌+◌, ◌<◌, ◌≤◌, ◌++◌, ◌∷◌, ◌||◌, List, [], length, map, get_or, set, refl, sym, ap, subst, ◌∙◌, append_assoc, arith, length-set, true, Ok, flat_map, list_any, ne_eqb, Turn, begun, flat_map-push, is_pair, has_pair, is_claim, Entry, Loss, Line, enters, loses, turn_told, Told}
+use Rattle.journal.proofs.Names.{◌≡◌, ℕ, ◌+◌, ◌<◌, ◌≤◌, ◌++◌, ◌∷◌, List, [], length, map, get_or, refl, sym, ap, subst, ◌∙◌, append_assoc, arith, true, Ok, flat_map, list_any, ne_eqb, Turn, begun, flat_map-push, is_pair, has_pair, is_claim, Entry, Loss, Line, enters, loses, turn_told, Told}
 use Rattle.std.proofs.Common.{◌↔◌, ◌&&◌, false, inl, inr, get_or-set_same, get_or-set_other}
 use Rattle.std.proofs.lemmas.Bool.{and_parts, cases_eq, cases_lt, le-leb, lt-ltb}
 use Rattle.std.proofs.lemmas.List.{append-nil, get_or_past, get_or-replicate, length-append}
 use Rattle.std.specs.List.{AllByRecursion}
 use Rattle.ids_config.specs.Parts.{Parts}
-use Rattle.ids_types.specs.Turns.{entries_of, with_entry}
-use Rattle.ids_types.proofs.HistoryLemmas.{entries_of-with_entry}
+use Rattle.ids_types.specs.Turns.{entries_of}
 use Rattle.ids_types.proofs.OutputLemmas.{length_with_entry}
-use Rattle.std.proofs.lemmas.List.Folds.{list_any-append}
-use Rattle.text_spec.proofs.JournalFits.{all_in_ranges, in_order, turns_few}
+use Rattle.text_spec.proofs.JournalFits.{all_in_ranges, calls_stay, has_pair-more, in_order, turns_few}
 use Rattle.text_spec.specs.JournalFaults.{Past, start, next, fault_of, pair_of, is_call, is_act, has_event, is_in_ranges}
 use Rattle.text_spec.specs.JournalReading.{Fits, Follows, journal_grammar}
 use Rattle.text_spec.specs.JournalText.{begins, lines_told}
@@ -31,12 +29,6 @@ HasRoom past line = Unit {0}
 abbrev Ordered : List Line → Type 0
 Ordered [] = Unit {0}
 Ordered (line ∷ lines) = AllByRecursion (Follows line) lines × Ordered lines
-
--- the pairs of entries with one more
-has_pair-more : (turns : List Turn) (entry : Entry (List ℕ)) (pair : ℕ) → 0 < length turns
-    → has_pair (with_entry turns entry) pair ≡ (has_pair turns pair || (is_pair pair entry || false))
-has_pair-more turns entry pair some =
-    ap (list_any (is_pair pair)) (entries_of-with_entry turns entry some) ∙ list_any-append (is_pair pair) (entries_of turns) (entry ∷ [])
 
 -- a turn begins without entries
 has_pair-begun : (turns : List Turn) (turn : Turn) (pair : ℕ) → turn.entries ≡ [] → has_pair (turns ++ turn ∷ []) pair ≡ has_pair turns pair
@@ -87,11 +79,6 @@ module _ (config : Parts) where
   no_fault past (loses loss) range room bears =
       let numbers = and_parts (is_call loss.caller loss.call) (is_claim loss.given) range in
       rw (numbers.0, numbers.1, le-leb _ _ bears.0, bears.1) refl
-
-  calls_stay : (past : Past) (line : Line) → length past.calls ≡ 32 → length (next past line).calls ≡ 32
-  calls_stay past (begins head) calls = calls
-  calls_stay past (enters entry) calls = length-set past.calls entry.caller (entry.call + 1) ∙ calls
-  calls_stay past (loses loss) calls = calls
 
   -- the lines that are left are in range, in order, and as the lines so far ask
   record Goes (past : Past) (lines : List Line) : Type 0 where

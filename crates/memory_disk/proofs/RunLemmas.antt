@@ -4,8 +4,8 @@ use Rattle.std.proofs.lemmas.Grind.{same_number_lists}
 use Rattle.std.proofs.lemmas.Bool.{cases_lt}
 use Rattle.std.proofs.lemmas.List.{append-nil, get_or_append_left, get_or-append_right, get_or-drop, get_or-take, length-take-le, places}
 use Rattle.std.specs.List.{AllByRecursion}
-use Rattle.std.specs.Prelude.{IsTrue, OnOk, ⊤}
-use Rattle.memory_disk.specs.Disks.{State, Run, Shown, IsIn, IsSettled, IsWritten, ChangesIn, MayBeLeft, LeavesOnly, LeavesSince, Writes, Syncs, Reads, FailsWith, after, bytes_of, overwritten, span_of, synced, unsynced}
+use Rattle.std.specs.Prelude.{OnOk, ⊤}
+use Rattle.memory_disk.specs.Disks.{State, Run, IsIn, IsWritten, ChangesIn, MayBeLeft, LeavesOnly, LeavesSince, Writes, Syncs, Reads, FailsWith, after, overwritten, span_of, synced, unsynced}
 use Rattle.memory_disk.specs.declared.disk.DiskFailed.{DiskFailed}
 use Rattle.memory_disk.specs.declared.disk.Span.{Span}
 
@@ -133,19 +133,6 @@ read_leaves P old new at out (Ok done) before reads = subst (λ run. LeavesSince
 read_leaves P old new at out (Err failed) before fails = failed_call P old new old.now fails before before
 
 -- ---- a write that is brought to where a crash leaves it
-
--- after a sync all is synced
-pub sync_settles : (old new : Shown) (result : Result ⊤ DiskFailed) → IsTrue old.tells → new.tells ≡ old.tells → Syncs old.run new.run result
-    → OnOk result (IsSettled new)
-sync_settles old new (Ok done) tells same syncs =
-    record { tells = subst IsTrue (sym same) tells; size = rw syncs.0 syncs.1; synced = rw syncs.0 refl }
-sync_settles old new (Err failed) tells same syncs = tt
-
--- and the bytes are the same
-pub sync_stays : (old new : Shown) (bytes : List ℕ) (result : Result ⊤ DiskFailed) → bytes_of old ≡ bytes → Syncs old.run new.run result
-    → OnOk result (bytes_of new ≡ bytes)
-sync_stays old new bytes (Ok done) was syncs = ap (λ (run : Run). run.now.contents) syncs.0 ∙ was
-sync_stays old new bytes (Err failed) was syncs = tt
 
 -- what holds where a call succeeded
 pub on_ok : {P Q : Type 0} (result : Result ⊤ DiskFailed) → (P → Q) → OnOk result P → OnOk result Q

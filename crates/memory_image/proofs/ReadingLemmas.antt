@@ -1,9 +1,5 @@
 -- Fields are read from an image exactly where they were written, and tell one record.
-use Rattle.memory_image.proofs.Names.{◌≡◌, ℕ, ◌^◌, ◌<◌, List, ◌++◌, length, get_or, Option, Some, None, IfSome, refl, sym, ap, subst, ◌∙◌, arith, append-nil, AreBytes, Row, Fields, IsKeepable, fields_bytes, fields_of, flag_of, number_of, row_bytes, Fits, w8, get_or_default, w16, w64, IsPart, made, one_answer, part, parts_are_part, byte_is_part, bytes_are_part, number_is_part, wide16, wide64, Stamp, fields, fields_at}
-
--- what a slice of bytes holds are bytes
-pub are_bytes : (bytes : List ℕ) → ((i : ℕ) → Fits w8 (get_or bytes i 0)) → AreBytes bytes
-are_bytes bytes fits k d low = omega (arith, fits k, get_or_default bytes k d 0 low)
+use Rattle.memory_image.proofs.Names.{◌≡◌, ℕ, ◌^◌, ◌<◌, List, ◌++◌, length, Option, Some, None, IfSome, refl, sym, ap, subst, ◌∙◌, arith, append-nil, AreBytes, Row, Fields, IsKeepable, fields_bytes, fields_of, flag_of, number_of, row_bytes, w16, w64, IsPart, made, one_answer, part, parts_are_part, byte_is_part, bytes_are_part, number_is_part, wide16, wide64, Stamp, fields, fields_at}
 
 -- fields that so many bytes can say
 abbrev pub Fit : Fields → Type 0

@@ -1,19 +1,17 @@
 -- Messages are exported one by one: those in front were, and the others are left.
-use Rattle.std.proofs.Common.{◌≡◌, ◌+◌, ◌-◌, ◌<◌, ◌≤◌, ◌==◌, ◌∷◌, ◌++◌, ℕ, List, [], Result, Ok, Err, arith, false, true, length, take, drop, get_or, refl, sym, ap, subst, ◌∙◌, append_assoc, Fits, w8}
-use Rattle.std.specs.Result.{result_map_both}
+use Rattle.std.proofs.Common.{◌≡◌, ◌+◌, ◌-◌, ◌<◌, ◌==◌, ◌∷◌, ◌++◌, ℕ, List, [], Ok, Err, arith, false, true, length, drop, refl, sym, ap, subst, ◌∙◌, append_assoc}
 use Rattle.std.proofs.lemmas.Bool.{eqb-true}
-use Rattle.std.proofs.lemmas.Grind.{common_steps, flat_map-append}
-use Rattle.std.proofs.lemmas.List.{append-nil, get_or_default, length-append}
+use Rattle.std.proofs.lemmas.Grind.{flat_map-append}
+use Rattle.std.proofs.lemmas.List.{append-nil, length-append}
 use Rattle.std.proofs.lemmas.List.Elements.{All-drop}
 use Rattle.ids_frame.specs.Bytes.{IsByte, AreBytes}
 use Rattle.ids_frame.specs.Message.{MessageParts, FitsMessage}
 use Rattle.ids_frame.specs.Messages.{joined, AreMessages, messages_read}
 use Rattle.ids_frame.specs.Spelling.{spelling}
-use Rattle.ids_frame.specs.Decoding.{BeginsWith, Begins, CauseOf, decoded}
-use Rattle.ids_frame.specs.Reading.{Begun, message_at}
+use Rattle.ids_frame.specs.Decoding.{CauseOf}
 use Rattle.ids_frame.specs.declared.fault.BadMessage.{BadMessage}
 use Rattle.ids_frame.specs.declared.fault.FrameFault.{FrameFault}
-use Rattle.ids_frame.proofs.MessageLemmas.{told}
+use Rattle.ids_frame.proofs.DecodeLemmas.{Front}
 use Rattle.ids_frame.proofs.MessagesLemmas.{read_is_held}
 use Rattle.text_spec.specs.Words.{line_feed}
 use Rattle.message_export.specs.Capture.{capture_front, no_time, packet, packets, time_after}
@@ -22,31 +20,6 @@ use Rattle.message_export.specs.JsonLines.{json_line, json_lines}
 use Rattle.message_export.specs.declared.capture.Time.{Time}
 use Rattle.message_export.specs.declared.exporting.Format.{Format}
 use Rattle.message_export.specs.declared.exporting.Format.TheVariants.{Json, Pcap}
-
--- ---- what `decode` tells
-
--- the bytes begin with this message, and so many of them are its spelling
-pub record Front (bytes : List ℕ) (m : MessageParts) (size : ℕ) : Type 0 where
-  pub few : size ≤ length bytes
-  pub spelled : take size bytes ≡ spelling m
-  pub begins : BeginsWith bytes m (drop size bytes)
-
--- what an answer of `decode` says of the bytes
-abbrev pub Tells : List ℕ → Result (MessageParts × ℕ) FrameFault → Type 0
-Tells bytes (Ok x) = Front bytes x.0 x.1
-Tells bytes (Err fault) = CauseOf fault bytes
-
-tells : (bytes : List ℕ) (read : Begun) → Begins bytes read
-    → Tells bytes (result_map_both (λ x. (x.0, length (spelling x.0))) (λ fault. fault) read)
-tells bytes read begins = grind (arith, common_steps)
-
--- each answer of `decode` says so
-pub decode_tells : (bytes : List ℕ) (read : Result (MessageParts × ℕ) FrameFault) → AreBytes bytes → read ≡ decoded bytes → Tells bytes read
-decode_tells bytes read fit e = subst (Tells bytes) (sym e) (tells bytes (message_at bytes) (told bytes fit))
-
--- what a slice holds are bytes
-pub are_bytes : (bytes : List ℕ) → ((i : ℕ) → Fits w8 (get_or bytes i 0)) → AreBytes bytes
-are_bytes bytes fits k d within = omega (arith, fits k, get_or_default bytes k d 0 within)
 
 -- ---- one message more
 

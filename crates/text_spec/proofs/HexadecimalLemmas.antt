@@ -2,10 +2,8 @@
 use Rattle.text_spec.proofs.Names.{◌≡◌, ◌⊎◌, ◌+◌, ◌*◌, ◌-◌, ◌/◌, ◌%◌, ◌<◌, ◌≤◌, ◌∷◌, ◌++◌, take_all, take_more, length-encode_with, decode_of-encode_lower, decode_of-odd, ℕ, zero, suc, true, false, inl, inr, List, [], add-one, append_assoc, length, slice_index, take, unwrap_or, refl, sym, ap, subst, ◌∙◌, arith, Option, Some, None, is_in_range, list_all, agree_below_at, and_from, and_parts, cases_Bool, cond-true, cond-false, or_cases, IsBytes, decode_of, encode_lower, lower_digits, hex_in, is_lower_digit, some_bytes, some_hex, bytes_of, IsWritten, ◌>>=◌}
 use Rattle.std.specs.Result.{result_ok}
 use Rattle.hex.specs.Hex.{decode_pairs, encode_with}
-use Rattle.std.proofs.Common.{◌==◌, ◌≢◌, drop, set, get_or-set_other, get_or-set_same}
-use Rattle.std.proofs.lemmas.Bool.{eq-eqb, eqb-true}
-use Rattle.std.proofs.lemmas.Grind.{drop_more_same}
-use Rattle.std.proofs.lemmas.List.{append-nil, drop-set-lt, drop_all, drop_more}
+use Rattle.std.proofs.Common.{drop}
+use Rattle.std.proofs.lemmas.List.{append-nil, drop_all, drop_more}
 use Rattle.std.proofs.lemmas.List.Folds.{drop_split}
 use Rattle.std.specs.Prelude.{slice_range}
 

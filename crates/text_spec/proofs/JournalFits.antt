@@ -9,7 +9,7 @@ Keeps past (enters entry) = (entry.caller < length past.calls) × (entry.call < 
 Keeps past (loses loss) = (pair_of loss.caller loss.call < past.pair) × (0 < length past.told.losses)
 
 -- the pairs of entries with one more
-has_pair-more : (turns : List Turn) (entry : Entry (List ℕ)) (pair : ℕ) → 0 < length turns → has_pair (with_entry turns entry) pair ≡ (has_pair turns pair || (is_pair pair entry || false))
+pub has_pair-more : (turns : List Turn) (entry : Entry (List ℕ)) (pair : ℕ) → 0 < length turns → has_pair (with_entry turns entry) pair ≡ (has_pair turns pair || (is_pair pair entry || false))
 has_pair-more turns entry pair some = ap (list_any (is_pair pair)) (flat_map-with_entry (λ (turn : Turn). turn.entries) entry turns entry some (λ turn. refl)) ∙ list_any-append (is_pair pair) (entries_of turns) (entry ∷ [])
 
 -- the pair of a loss without a fault is no entry's
@@ -17,7 +17,7 @@ no_entry : (past : Past) (loss : Loss) → loss_fault past loss ≡ Ok tt → ha
 no_entry past loss none = grind (arith, none)
 
 -- there are 32 callers
-calls_stay : (past : Past) (line : Line) → length past.calls ≡ 32 → length (next past line).calls ≡ 32
+pub calls_stay : (past : Past) (line : Line) → length past.calls ≡ 32 → length (next past line).calls ≡ 32
 calls_stay past (begins head) calls = calls
 calls_stay past (enters entry) calls = length-set past.calls entry.caller (entry.call + 1) ∙ calls
 calls_stay past (loses loss) calls = calls

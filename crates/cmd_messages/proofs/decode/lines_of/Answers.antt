@@ -1,6 +1,6 @@
 use Rattle.std.proofs.Common.{ℕ, List, Result, Ok, Err, refl, sym, ap, ◌∙◌}
 use Rattle.std.proofs.lemmas.List.{take_rest}
-use Rattle.frame_auth.proofs.ReadLemmas.{are_bytes, decode_tells}
+use Rattle.ids_frame.proofs.DecodeLemmas.{are_bytes, decode_tells}
 use Rattle.ids_frame.specs.Message.{MessageParts}
 use Rattle.ids_frame.specs.declared.fault.BadMessage.{BadMessage}
 use Rattle.cmd_files.specs.Reading.{gives, ◌>>=◌}

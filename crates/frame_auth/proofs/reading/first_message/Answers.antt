@@ -1,5 +1,5 @@
 use Rattle.frame_auth.proofs.Names.{Ok, Err, refl, sym, subst, ◌∙◌, BeginsWith}
-use Rattle.frame_auth.proofs.ReadLemmas.{are_bytes, decode_tells}
+use Rattle.ids_frame.proofs.DecodeLemmas.{are_bytes, decode_tells}
 use Rattle.frame_auth.proofs.reading.first_message.Goals as goal
 
 pub split_at-requires : goal.split_at-requires

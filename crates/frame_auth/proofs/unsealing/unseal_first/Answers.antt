@@ -1,6 +1,6 @@
 use Rattle.frame_auth.proofs.Names.{◌≡◌, ◌++◌, Some, refl, sym, ap, ◌∙◌, arith, inr, spelling, bare, seal_of, unmarked, common_steps}
 use Rattle.std.proofs.Common.{option_copied}
-use Rattle.frame_auth.proofs.ReadLemmas.{begins_so}
+use Rattle.frame_auth.proofs.WalkLemmas.{begins_so}
 use Rattle.frame_auth.proofs.LayoutLemmas.{unsealed_layout, no_seal, no_counter, sealed_with, other_counter, bare_is_plain, added_bare}
 use Rattle.frame_auth.proofs.unsealing.unseal_first.Goals as goal
 

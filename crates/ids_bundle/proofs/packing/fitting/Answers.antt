@@ -1,5 +1,6 @@
 use Rattle.ids_bundle.proofs.Names.{refl}
-use Rattle.ids_bundle.proofs.UnitLemmas.{are_bytes, tells}
+use Rattle.ids_bundle.proofs.UnitLemmas.{tells}
+use Rattle.ids_frame.proofs.DecodeLemmas.{are_bytes}
 use Rattle.ids_bundle.proofs.packing.fitting.Goals as goal
 
 pub returns-in-Ok-clause-begins : goal.returns-in-Ok-clause-begins

@@ -3,7 +3,7 @@ use Rattle.std.proofs.lemmas.Bool.{eqb-false}
 use Rattle.ids_bundle.proofs.UnitLemmas.{few_messages}
 use Rattle.ids_bundle.proofs.PackLemmas.{packing_first, packing_keeps, packing_closes, packing_ends}
 use Rattle.ids_bundle.proofs.packing.pack.Goals as goal
-use Rattle.ids_bundle.proofs.packing.pack.Goals.{then-load-len+in_ok-push_unit, else-load-len}
+use Rattle.ids_bundle.proofs.packing.pack.Goals.{then-load-len+in_ok-push_unit}
 
 pub loop-load-init : goal.loop-load-init
 loop-load-init c = packing_first _ _ _ c.in_ok-out.ensures.items

@@ -1,4 +1,4 @@
-use Rattle.journal.proofs.Names.{◌≡◌, List, ℕ, sym, ap, ◌∙◌, option_map}
+use Rattle.journal.proofs.Names.{sym, ap, ◌∙◌, option_map}
 use Rattle.text_spec.specs.JournalForm.{report_form}
 use Rattle.text_spec.specs.PiecesView.{pieces_left}
 use Rattle.text_spec.specs.Words.{space}

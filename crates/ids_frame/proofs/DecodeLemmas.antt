@@ -1,11 +1,12 @@
--- The message at the front of bytes, as it is read.
-use Rattle.frame_auth.proofs.Names.{◌≡◌, ℕ, ◌≤◌, get_or, List, length, take, drop, Result, Ok, Err, sym, subst, arith, AreBytes, MessageParts, spelling, BeginsWith, BeginsSo, Begins, CauseOf, Begun, common_steps}
-use Rattle.std.proofs.Common.{Fits, w8}
+-- What an answer of `decode` tells of the bytes, and that a slice holds bytes.
+use Rattle.ids_frame.proofs.Names.{◌≡◌, ℕ, ◌≤◌, get_or, List, length, take, drop, Ok, Err, sym, subst, arith, AreBytes, MessageParts, spelling, BeginsWith, Begins, Begun}
+use Rattle.std.proofs.Common.{Result, Fits, w8}
 use Rattle.std.specs.Result.{result_map_both}
+use Rattle.std.proofs.lemmas.Grind.{common_steps}
 use Rattle.std.proofs.lemmas.List.{get_or_default}
-use Rattle.ids_frame.specs.declared.fault.FrameFault.{FrameFault}
-use Rattle.ids_frame.specs.Decoding.{decoded}
+use Rattle.ids_frame.specs.Decoding.{CauseOf, decoded}
 use Rattle.ids_frame.specs.Reading.{message_at}
+use Rattle.ids_frame.specs.declared.fault.FrameFault.{FrameFault}
 use Rattle.ids_frame.proofs.MessageLemmas.{told}
 
 -- the bytes begin with this message, and so many of them are its spelling
@@ -30,7 +31,3 @@ decode_tells bytes read fit e = subst (Tells bytes) (sym e) (tells bytes (messag
 -- what a slice holds are bytes
 pub are_bytes : (bytes : List ℕ) → ((i : ℕ) → Fits w8 (get_or bytes i 0)) → AreBytes bytes
 are_bytes bytes fits k d within = omega (arith, fits k, get_or_default bytes k d 0 within)
-
--- what holds of the message that the bytes begin with
-pub begins_so : {P : MessageParts → Type 0} {bytes behind : List ℕ} {m : MessageParts} → BeginsWith bytes m behind → P m → BeginsSo P bytes
-begins_so {P} {bytes} {behind} {m} begins holds = record { message = m; behind = behind; begins = begins; holds = holds }
