@@ -1,30 +1,8 @@
 -- How a run over a disk ends that has what it needs, and in which no call fails.
-use Rattle.std.proofs.Common.{◌≡◌, ◌⊎◌, ℕ, ◌+◌, ◌^◌, List, Ok, Err, IsTrue, Result, inl, inr, refl, sym, subst}
-use Rattle.std.specs.Prelude.{⊤}
-use Rattle.ids_config.specs.Parts.{Parts}
-use Rattle.ids_outside.specs.Shelved.{Shelved}
-use Rattle.ids_outside.specs.Sinks.{Heard, PutCause}
-use Rattle.ids_outside.specs.declared.faults.WriteFault.{WriteFault}
-use Rattle.ids_outside.specs.declared.faults.WriteFault.TheVariants as writing
-use Rattle.ids_types.specs.Turns.{Turn}
-use Rattle.memory_disk.specs.Disks.{Shown, bytes_of}
-use Rattle.memory_store.specs.Slots.{IsDamaged, kept_slot, slot_at}
+use Rattle.cmd_disk.proofs.Names.{CannotRead, CannotWrite, Damaged, Deserves, EndsAs, Err, Failed, FailedAfter, HasDiskCause, HasKept, Heard, IsDamaged, IsTrue, IsWornAfter, KeepFiles, LeavesBehind, List, NoMemory, Ok, OnDisk, OneFails, PairFiles, PutCause, Puts, Recorded, Refusal, Refused, Result, Shelved, Shown, Stop, TellsEnd, WornAfter, WriteFault, answer_status, answer_text, bytes_of, gives, inl, inr, keep, keeps, kept_slot, none_deserved, over, over_then, put_status, reading_of, recall, recalls, recorded_in, refl, slot_at, subst, sym, ℕ, ⊤, ◌+◌, ◌^◌, ◌≡◌, ◌⊎◌}
 use Rattle.cmd_disk.specs.Completeness.{EndsWorn, NoneFailed}
-use Rattle.cmd_disk.specs.Runs.{TellsEnd}
-use Rattle.cmd_disk.specs.Keeping.{HasDiskCause, HasKept, IsWornAfter, LeavesBehind}
 use Rattle.cmd_disk.proofs.EndLemmas.{one_sequence}
-use Rattle.cmd_files.specs.Texts.{answer_status, answer_text}
-use Rattle.cmd_files.specs.declared.stop.DiskStop.TheVariants.{Failed, FailedAfter, Damaged, WornAfter}
-use Rattle.cmd_files.proofs.ReadingLemmas.{over_then}
-use Rattle.cmd_files.specs.Reading.{gives, over}
-use Rattle.cmd_files.specs.Writing.{OneFails}
-use Rattle.cmd_files.specs.declared.stop.Refusal.{Refusal}
-use Rattle.cmd_spec.specs.Judge
-use Rattle.cmd_spec.specs.Judge.{Recorded, keeps, recalls, recorded_in}
-use Rattle.cmd_spec.specs.Run.{Deserves, EndsAs}
-use Rattle.cmd_spec.proofs.RunLemmas.{none_deserved}
-use Rattle.cmd_steps.specs.Words.{Puts, Stop, CannotRead, Refused, OnDisk, CannotWrite, NoMemory, put_status}
-use Rattle.cmd_words.specs.Command.{KeepFiles, PairFiles, keep, recall}
+use Rattle.ids_outside.specs.declared.faults.WriteFault.TheVariants as writing
 
 -- a disk that keeps some records is not damaged
 not_damaged : (bytes : List ℕ) (slot : ℕ) → HasKept bytes → IsDamaged (slot_at 0 bytes) (slot_at 1 bytes) slot → ⊥
@@ -64,7 +42,7 @@ module _ {D : Type 0} (shows : D → Shown) (status : ℕ) (old new : Shelved) (
 
   module _ (names : PairFiles) where
     recall_serves : (refusal : Refusal (List ℕ)) → Deserves (recall names) old.files refusal → ⊥
-    unfolding Judge.reading_of
+    unfolding reading_of
     recall_serves refusal =
         none_deserved (recall names) status old new before after told (recalls names.target) refl refusal (λ other none. none)
 
@@ -91,7 +69,7 @@ module _ {D : Type 0} (shows : D → Shown) (status : ℕ) (old new : Shelved) (
 
   module _ (names : KeepFiles) (own : Recorded) (found : over (recorded_in names.from) old.files ≡ Ok own) where
     keep_serves : (refusal : Refusal (List ℕ)) → Deserves (keep names) old.files refusal → ⊥
-    unfolding Judge.reading_of
+    unfolding reading_of
     keep_serves refusal =
         none_deserved (keep names) status old new before after told (keeps own.config own.told.turns)
         (over_then (recorded_in names.from) (λ (read : Recorded). gives (keeps read.config read.told.turns)) _ old.files found) refusal (λ other none. none)

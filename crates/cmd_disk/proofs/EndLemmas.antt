@@ -1,21 +1,10 @@
 -- How work on a disk ends: what it leaves there, and why it ends.
-use Rattle.std.proofs.Common.{◌≡◌, ℕ, List, [], Ok, Err, Result, IsTrue, sym, subst, ◌∙◌, inl}
-use Rattle.std.specs.Prelude.{⊤}
-use Rattle.ids_config.specs.Parts.{Parts}
+use Rattle.cmd_disk.proofs.Names.{BeginFault, CannotRead, CannotWrite, Damaged, Err, Failed, FailedAfter, HasDiskCause, HasKept, HasSaveCause, Holds, IsSettled, IsTrue, Keeping, KeepsBehind, KeepsRows, KeepsSome, Kept, KeptAtEnd, KeptIs, LeavesAs, LeavesBehind, LeavesOnly, LeavesSince, List, MayBeLeft, NoMemory, Nothing, Ok, OnDisk, Parts, Refused, Result, Row, Shown, State, Stop, Tied, Turn, WornAfter, [], bytes_of, goes_on_with, inl, kept_slot, no_call, not_begun, only_contents, settled_leaves, subst, sym, weaker, ℕ, ⊤, ◌∙◌, ◌≡◌}
 use Rattle.ids_outside.specs.Faults.{Rose}
-use Rattle.ids_types.specs.MemoryRow.{Row}
-use Rattle.ids_types.specs.Turns.{Turn}
-use Rattle.memory_disk.specs.Disks.{Shown, State, IsSettled, LeavesOnly, LeavesSince, MayBeLeft, bytes_of}
-use Rattle.memory_disk.proofs.RunLemmas.{goes_on_with, no_call, only_contents, settled_leaves, weaker}
 use Rattle.memory_store.specs.Answers.{begun_disk}
-use Rattle.memory_store.specs.Slots.{Holds, Kept, KeepsRows, KeptIs, Nothing, Tied, kept_slot}
 use Rattle.memory_store.specs.Stores.{StoreValue}
-use Rattle.memory_store.specs.declared.store.BeginFault.{BeginFault}
-use Rattle.memory_store.specs.declared.store.BeginFault.TheVariants as begin
-use Rattle.cmd_disk.specs.Keeping.{HasDiskCause, HasSaveCause, HasKept, Keeping, KeepsBehind, KeepsSome, KeptAtEnd, LeavesAs, LeavesBehind, not_begun}
 use Rattle.cmd_disk.proofs.SavingLemmas.{none_saved, some_saved}
-use Rattle.cmd_files.specs.declared.stop.DiskStop.TheVariants.{Failed, FailedAfter, Damaged, WornAfter}
-use Rattle.cmd_steps.specs.Words.{Stop, CannotRead, Refused, OnDisk, CannotWrite, NoMemory}
+use Rattle.memory_store.specs.declared.store.BeginFault.TheVariants as begin
 
 -- a disk keeps its records under one sequence
 pub one_sequence : (kept : Kept) (a b : ℕ) (r s : List Row) → KeptIs kept a r → KeptIs kept b s → a ≡ b

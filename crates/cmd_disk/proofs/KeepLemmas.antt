@@ -1,34 +1,10 @@
 -- How a `keep` and a `recall` end, over the files.
-use Rattle.std.specs.Prelude.{Vec, ⊤, IfErr}
-use Rattle.std.specs.Result.{IsErrAnd}
-use Rattle.std.proofs.Common.{◌≡◌, List, ℕ, [], ◌∷◌, Ok, Err, Some, IsTrue, Result, Bor, refl, sym, ap, subst, inl, inr, length, arith, ◌⊎◌, ◌∙◌}
-use Rattle.std.proofs.lemmas.List.{take_all}
-use Rattle.ids_outside.specs.Files.{Files}
-use Rattle.ids_outside.specs.Shelved.{Shelved}
-use Rattle.memory_disk.specs.Disks.{LeavesOnly, Shown, State}
-use Rattle.ids_outside.specs.declared.faults.WriteFault.{WriteFault}
-use Rattle.ids_outside.specs.declared.faults.WriteFault.TheVariants as writing
-use Rattle.ids_types.specs.MemoryRow.{Row}
-use Rattle.memory_store.specs.declared.store.BeginFault.{BeginFault}
-use Rattle.memory_store.specs.declared.store.BeginFault.TheVariants as begin
-use Rattle.cmd_disk.specs.Keeping.{HasDiskCause, Keeping, KeepsBehind, KeptAtEnd, LeavesBehind, StopsKeeping, not_begun}
-use Rattle.ids_config.specs.Parts.{Parts}
-use Rattle.ids_types.specs.Turns.{Turn}
-use Rattle.cmd_disk.specs.Runs.{written_end}
-use Rattle.cmd_files.proofs.ExitLemmas.{left_with}
-use Rattle.cmd_files.proofs.ReadingLemmas.{goes_on, read_none, read_over, stops_early}
-use Rattle.cmd_files.specs.Reading.{Reading, Reads, gives, over}
-use Rattle.cmd_files.specs.Writing.{Output, StandUpTo, StandsInPart, Writes}
+use Rattle.cmd_disk.proofs.Names.{BeginFault, Bor, CannotRead, CannotWrite, Damaged, EndsAs, Err, Failed, FailedAfter, Files, Global, HasDiskCause, IfErr, IsErrAnd, IsTrue, KeepFiles, Keeping, KeepsBehind, KeptAtEnd, LeavesBehind, LeavesOnly, List, NoMemory, Ok, OnDisk, Output, PairFiles, Reading, Reads, Recorded, Refused, Result, Row, Shelved, Shown, Some, StandUpTo, StandsInPart, State, Stop, StopsFor, StopsKeeping, Vec, WasDone, WornAfter, WriteFault, Writes, [], ap, arith, gives, goes_on, inl, inr, keep, keeps, left_with, length, memory_text, not_begun, over, plain_end, plain_stop, read_none, read_over, reading_ends, reading_of, recall, recalls, recorded_in, refl, stops_early, subst, sym, take_all, task_found, work_done, work_unwritten, written_end, ℕ, ⊤, ◌∙◌, ◌∷◌, ◌≡◌}
 use Rattle.cmd_files.specs.declared.stop.DiskStop.{DiskStop}
-use Rattle.cmd_files.specs.declared.stop.DiskStop.TheVariants.{Failed, FailedAfter, Damaged, WornAfter}
-use Rattle.cmd_spec.specs.Judge
-use Rattle.cmd_spec.specs.Judge.{Recorded, Task, keeps, reading_of, recorded_in, recalls}
 use Rattle.cmd_spec.specs.Keeping.{MayStopOnDisk, recall_work, saved_text}
-use Rattle.cmd_spec.specs.Run.{EndsAs, StopsFor, WasDone}
-use Rattle.cmd_spec.proofs.EndLemmas.{reading_ends, task_found, work_done, work_unwritten}
 use Rattle.cmd_steps.proofs.MadeLemmas.{work_said}
-use Rattle.cmd_steps.specs.Words.{Stop, CannotRead, Refused, OnDisk, CannotWrite, NoMemory, Global, memory_text, plain_end, plain_stop, stop_of_write}
-use Rattle.cmd_words.specs.Command.{KeepFiles, PairFiles, keep, recall}
+use Rattle.ids_outside.specs.declared.faults.WriteFault.TheVariants as writing
+use Rattle.memory_store.specs.declared.store.BeginFault.TheVariants as begin
 
 -- ---- a recording that was not read
 
@@ -53,7 +29,7 @@ module _ {A : Type 0} (reading : Reading A) (old new : Shelved) where
 -- `keep` ends so
 pub unread_ends : (names : KeepFiles) (reason : Stop (List ℕ)) (old new : Shelved) → Reads (recorded_in names.from) (Err reason) old new
     → StopsFor (keep names) reason old new
-unfolding Judge.reading_of
+unfolding reading_of
 unread_ends names reason old new did =
     reading_ends (keep names) reason old new
     (stops_early (recorded_in names.from) (λ (own : Recorded). gives (keeps own.config own.told.turns)) reason old new did)
@@ -62,7 +38,7 @@ unread_ends names reason old new did =
 
 module _ (names : KeepFiles) (recorded : Recorded) (old new : Shelved) (read : Reads (recorded_in names.from) (Ok recorded) old new) where
   came : Reads (reading_of (keep names)) (Ok (keeps recorded.config recorded.told.turns)) old new
-  unfolding Judge.reading_of
+  unfolding reading_of
   came =
       goes_on (recorded_in names.from) (λ (own : Recorded). gives (keeps own.config own.told.turns)) recorded old new new read _
       (read_none _ new)
@@ -129,7 +105,7 @@ module _ (names : KeepFiles) (recorded : Recorded) (old new : Shelved) (read : R
 -- ---- a disk that is recalled
 
 recall_came : (names : PairFiles) (shelved : Shelved) → Reads (reading_of (recall names)) (Ok (recalls names.target)) shelved shelved
-unfolding Judge.reading_of
+unfolding reading_of
 recall_came names shelved = read_none _ shelved
 
 -- its store was not begun

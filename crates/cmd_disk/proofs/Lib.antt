@@ -1,5 +1,6 @@
 pub mod CompletenessLemmas
 pub mod EndLemmas
 pub mod KeepLemmas
+pub mod Names
 pub mod RunLemmas
 pub mod SavingLemmas

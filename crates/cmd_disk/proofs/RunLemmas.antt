@@ -1,16 +1,5 @@
 -- A run over a disk, from how its work ended to what it tells.
-use Rattle.std.proofs.Common.{◌≡◌, List, ℕ, Ok, Err, None, Some, Option, IsTrue, Result, Bor, refl, subst, inl, inr}
-use Rattle.std.specs.Prelude.{Vec}
-use Rattle.ids_outside.specs.Shelved.{Shelved}
-use Rattle.ids_outside.specs.Sinks.{Heard}
-use Rattle.memory_disk.specs.Disks.{Shown, LeavesSince, MayBeLeft, bytes_of}
-use Rattle.cmd_disk.specs.Keeping.{HasDiskCause}
-use Rattle.cmd_disk.specs.Runs.{Keeps, LeavesRecorded, RecalledBy, Recalls, RunsOnDisk, TellsEnd}
-use Rattle.cmd_files.specs.Writing.{SameBut}
-use Rattle.cmd_spec.specs.Run.{EndsAs, written_of}
-use Rattle.cmd_spec.proofs.RunLemmas.{RanSo, ended_others, ended_so}
-use Rattle.cmd_steps.specs.Words.{Global, Stop, Tells, plain_end, plain_stop}
-use Rattle.cmd_words.specs.Command.{Command, KeepFiles, PairFiles, keep, recall}
+use Rattle.cmd_disk.proofs.Names.{Bor, Command, EndsAs, Err, Global, HasDiskCause, Heard, IsTrue, KeepFiles, Keeps, LeavesRecorded, LeavesSince, List, MayBeLeft, None, Ok, Option, PairFiles, RanSo, RecalledBy, Recalls, Result, RunsOnDisk, SameBut, Shelved, Shown, Some, Stop, Tells, TellsEnd, Vec, bytes_of, ended_others, ended_so, inl, inr, keep, plain_end, plain_stop, recall, refl, subst, written_of, ℕ, ◌≡◌}
 
 -- a command that ended so answers it, or that memory was wanted to tell why
 told_end : (command : Command) (status : ℕ) (old new : Shelved) (before after : Heard) (end : Result (Vec ℕ Global) (Stop (Bor (List ℕ))))

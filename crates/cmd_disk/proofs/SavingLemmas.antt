@@ -1,12 +1,6 @@
 -- What saves leave on a disk, one after the other.
-use Rattle.std.proofs.Common.{◌≡◌, ℕ, suc, ◌+◌, ◌≤◌, List, [], ◌∷◌, ◌++◌, length, take, refl, sym, ap, subst, inl, inr, arith, length-append}
-use Rattle.ids_types.specs.MemoryRow.{Row}
-use Rattle.memory_disk.specs.Disks.{Run, LeavesOnly, LeavesSince}
-use Rattle.memory_disk.proofs.RunLemmas.{goes_on_with, is_left, no_call, weaker}
+use Rattle.cmd_disk.proofs.Names.{Keeping, KeepsBehind, KeepsOneOf, KeepsRows, KeepsSome, LeavesOnly, LeavesSince, List, Row, Run, [], ap, arith, goes_on_with, inl, inr, is_left, length, length-append, no_call, refl, rows_behind, rows_of, subst, suc, sym, take, weaker, ℕ, ◌++◌, ◌+◌, ◌∷◌, ◌≡◌, ◌≤◌}
 use Rattle.memory_store.specs.Saving.{KeepsRowsOr}
-use Rattle.memory_store.specs.Slots.{KeepsRows}
-use Rattle.cmd_disk.specs.Keeping.{Keeping, KeepsBehind, KeepsOneOf, KeepsSome, rows_behind}
-use Rattle.cmd_steps.specs.Words.{rows_of}
 
 -- the first elements of a list that begins with these
 pub take_front : {A : Type 0} (xs : List A) (x : A) (ys : List A) → take (suc (length xs)) (xs ++ x ∷ ys) ≡ xs ++ x ∷ []

@@ -1,13 +1,10 @@
 -- How a run over a disk ends that has what it needs, and in which no call fails: it is done, unless there is too little
 -- memory or, for a `keep`, no sequence for its next save.
-use Rattle.std.specs.Prelude.{◌≡◌, ◌⊎◌, ℕ, ◌+◌, ◌^◌, ◌<◌, List, length, IsTrue, Result, Ok, Err}
-use Rattle.ids_outside.specs.Faults.{Rose}
+use Rattle.cmd_steps.specs.Names.{Err, IsTrue, KeepFiles, List, Ok, PairFiles, Result, Rose, WornAfter, length, ℕ, ◌+◌, ◌<◌, ◌^◌, ◌≡◌, ◌⊎◌}
 use Rattle.memory_disk.specs.Disks.{Shown, bytes_of}
 use Rattle.cmd_disk.specs.Keeping.{HasKept}
 use Rattle.cmd_disk.specs.Runs.{Keeps, Recalls}
-use Rattle.cmd_files.specs.declared.stop.DiskStop.TheVariants.{WornAfter}
 use Rattle.cmd_steps.specs.Words.{Heard, Recorded, Shelved, Stop, OnDisk, Turn, over, recorded_in}
-use Rattle.cmd_words.specs.Command.{KeepFiles, PairFiles}
 
 -- no call of the shelf, of the sink or of the disk failed: the count of each is below its greatest value, and is no
 -- greater than before

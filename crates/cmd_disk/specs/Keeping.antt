@@ -1,24 +1,19 @@
 -- What `keep` leaves on its disk: the event memory after each turn of a recording, saved one after another; and why
 -- work on a disk ends.
-use Rattle.std.specs.Prelude.{◌≡◌, ◌⊎◌, ◌+◌, ◌^◌, ◌<◌, ◌≤◌, ⊤, ℕ, zero, suc, List, [], take, length, IsTrue, Result, Ok, Err}
+use Rattle.cmd_steps.specs.Names.{Damaged, Err, Failed, FailedAfter, IsTrue, List, Ok, Parts, Result, Rose, Row, Turn, WornAfter, [], length, suc, take, zero, ℕ, ⊤, ◌+◌, ◌<◌, ◌^◌, ◌≡◌, ◌≤◌, ◌⊎◌}
 use Rattle.chain_plain.specs.Telling.{IsReady}
 use Rattle.event_chain.specs.Standing.{Stands}
 use Rattle.filter_aggregate.specs.Account.{all_kept}
-use Rattle.ids_config.specs.Parts.{Parts}
-use Rattle.ids_outside.specs.Faults.{Rose}
-use Rattle.ids_types.specs.MemoryRow.{Row}
 use Rattle.ids_types.specs.declared.parcel.Plain.{Plain}
-use Rattle.ids_types.specs.Turns.{Turn}
 use Rattle.memory_disk.specs.Disks.{Run, Shown, State, LeavesOnly, LeavesSince, bytes_of}
 use Rattle.memory_store.specs.Slots.{IsDamaged, KeepsRows, slot_at}
 use Rattle.memory_store.specs.Stores.{StoreValue}
 use Rattle.memory_store.specs.declared.store.BeginFault.{BeginFault}
-use Rattle.memory_store.specs.declared.store.BeginFault.TheVariants as begin
 use Rattle.cmd_disk.specs.declared.ended.Ended.{Ended}
 use Rattle.cmd_disk.specs.declared.saving.Folding.{Folding}
 use Rattle.cmd_files.specs.declared.stop.DiskStop.{DiskStop}
-use Rattle.cmd_files.specs.declared.stop.DiskStop.TheVariants.{Failed, FailedAfter, Damaged, WornAfter}
 use Rattle.cmd_steps.specs.Words.{Stop, OnDisk, CannotWrite, NoMemory, rows_of}
+use Rattle.memory_store.specs.declared.store.BeginFault.TheVariants as begin
 
 -- ---- what is kept
 

@@ -1,17 +1,11 @@
 -- What a run over a disk does, by cases on its command. The disk is the one that is handed in, and the one that is
 -- handed back.
 -- Source: docs/COMMANDS.md.
-use Rattle.std.specs.Prelude.{◌≡◌, ◌⊎◌, ℕ, false, List, length, IsTrue, Option, Some, None, Result, Ok, Err, Vec, codes}
-use Rattle.ids_outside.specs.Files.{Files}
-use Rattle.ids_types.specs.MemoryRow.{Row}
+use Rattle.cmd_steps.specs.Names.{Command, Err, Files, IsTrue, KeepFiles, List, Misused, None, Ok, Option, PairFiles, RanCommand, Result, Row, Some, StandsInPart, Vec, codes, count_text, false, keep, length, recall, ℕ, ◌≡◌, ◌⊎◌}
 use Rattle.memory_disk.specs.Disks.{Shown, LeavesSince, MayBeLeft, bytes_of}
 use Rattle.memory_store.specs.Slots.{KeepsRows}
 use Rattle.cmd_disk.specs.Keeping.{HasDiskCause, LeavesBehind}
-use Rattle.cmd_files.specs.Writing.{StandsInPart}
-use Rattle.cmd_spec.specs.Copying.{count_text}
-use Rattle.cmd_spec.specs.Run.{Misused, RanCommand}
 use Rattle.cmd_steps.specs.Words.{CannotWrite, Global, Heard, NoMemory, Recorded, Shelved, Stop, WriteFault, memory_text, over, recorded_in, stop_of_write}
-use Rattle.cmd_words.specs.Command.{Command, KeepFiles, PairFiles, keep, recall}
 
 -- what crashes leave of the disk, where the files are told and have a recording
 abbrev pub LeavesRecorded : {A N D : Type 0} → (D → Shown) → KeepFiles → Files → D → D → Result A (Stop N) → Type 0

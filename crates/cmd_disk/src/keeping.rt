@@ -1,12 +1,9 @@
 //! The command `keep`: the event memory of a recording, saved on a disk after each turn.
 
-ghost use Rattle.std.specs.Prelude.{◌≡◌, IsTrue, IfOk, IfErr};
+ghost use Rattle.cmd_steps.specs.Words.{EndsAs, IfErr, IfOk, IsFoldable, IsTrue, keep_command, keep_files_of, plain_end, ◌≡◌};
 ghost use Rattle.cmd_disk.specs.Keeping.{HasDiskCause, IsNewFolding, LeavesBehind, StopsKeeping};
 ghost use Rattle.cmd_disk.specs.Runs.{LeavesRecorded};
 ghost use Rattle.cmd_spec.specs.Keeping.{saved_text};
-ghost use Rattle.cmd_steps.specs.Words.{EndsAs, IsFoldable, plain_end};
-ghost use Rattle.cmd_words.specs.Command.{keep as keep_command};
-ghost use Rattle.cmd_words.specs.CommandView.{keep_files_of};
 
 use crate::ended::{Ended, not_begun};
 use crate::saving::{Folding, save_turns};

@@ -1,13 +1,10 @@
 //! The command `recall`: the records that a disk keeps, as text.
 
-ghost use Rattle.std.specs.Prelude.{◌≡◌, IsTrue, IfErr, IfOk, OnOk, Some, codes, length};
+ghost use Rattle.cmd_steps.specs.Words.{EndsAs, IfErr, IfOk, IsTrue, OnOk, PairFiles, Some, codes, count_text, length, memory_text, pair_of, plain_end, recall_command, ◌≡◌};
 ghost use Rattle.memory_disk.specs.Disks.{LeavesSince, MayBeLeft, bytes_of};
 ghost use Rattle.cmd_disk.specs.Keeping.{HasDiskCause};
 ghost use Rattle.cmd_disk.specs.Runs.{RecalledBy, written_end};
 ghost use Rattle.cmd_files.specs.Writing.{StandsInPart};
-ghost use Rattle.cmd_spec.specs.Copying.{count_text};
-ghost use Rattle.cmd_steps.specs.Words.{EndsAs, memory_text, pair_of, plain_end};
-ghost use Rattle.cmd_words.specs.Command.{PairFiles, recall as recall_command};
 
 use crate::ended::{Ended, not_begun};
 use cmd_files::{DiskStop, NewFile, Stop, write_files};

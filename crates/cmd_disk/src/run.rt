@@ -1,16 +1,14 @@
 //! The top call of the commands over a disk.
 
-ghost use Rattle.std.specs.Prelude.{◌≡◌, IsTrue, map, string_bytes};
+ghost use Rattle.cmd_steps.specs.Words.{IsTrue, SameBut, Tells, command_of, disk_of, map, plain_end, string_bytes, written_of, ◌≡◌};
 ghost use Rattle.cmd_disk.specs.Runs.{RunsOnDisk};
-ghost use Rattle.cmd_steps.specs.Words.{SameBut, Tells, plain_end, written_of};
-ghost use Rattle.cmd_words.specs.Command.{disk_command_of};
 
 use crate::ended::Ended;
 use crate::keeping::keep;
 use crate::recalling::recall;
 use cmd_files::tell;
 use cmd_steps::say_usage;
-use cmd_words::{DiskRequest, parse_disk};
+use cmd_words::{Request, parse};
 use ids_outside::{Shelf, Sink};
 use memory_disk::Disk;
 use std::alloc::Global;
@@ -24,6 +22,7 @@ use std::alloc::Global;
 /// and the records' text written. Memory: may answer want of memory: status 8; all that `keep` wants is taken before
 /// its first save, but for the text of a disk that failed. Waits: as its shelf, its sink and its disk. By: `ran`
 /// (`RunsOnDisk`); read off; no `Threads`.
+#[tactic(auto, using(cmd_words::proofs::CommandLemmas::no_disk))]
 pub fn run_keep<H: Shelf, K: Sink, D: Disk>(
     alloc: Global,
     words: &[String],
@@ -32,18 +31,18 @@ pub fn run_keep<H: Shelf, K: Sink, D: Disk>(
     disk: D,
 ) -> (u8, D)
     // What the run did or why it stopped, with its status, its text, what stands in the files, and what crashes leave.
-    ensures ran { RunsOnDisk D.shows (disk_command_of (map string_bytes words.now)) result.0
+    ensures ran { RunsOnDisk D.shows (disk_of (command_of (map string_bytes words.now))) result.0
         (H.shows shelf.old) (H.shows shelf.new) (K.hears out.old) (K.hears out.new) disk result.1 }
 
     // Whatever the status, no file changes but the one that the command writes.
     ensures others { IsTrue (H.shows shelf.old).tells → SameBut
-        (written_of (disk_command_of (map string_bytes words.now)))
+        (written_of (disk_of (command_of (map string_bytes words.now))))
         (H.shows shelf.old).files (H.shows shelf.new).files }
 {
-    match parse_disk(words) {
-        None => (say_usage(out), disk),
-        Some(DiskRequest::Keep(names)) => told(alloc, keep(alloc, names, shelf, disk), out),
-        Some(DiskRequest::Recall(names)) => told(alloc, recall(alloc, names, shelf, disk), out),
+    match parse(alloc, words) {
+        Ok(Some(Request::Keep(names))) => told(alloc, keep(alloc, names, shelf, disk), out),
+        Ok(Some(Request::Recall(names))) => told(alloc, recall(alloc, names, shelf, disk), out),
+        _ => (say_usage(out), disk),
     }
 }
 

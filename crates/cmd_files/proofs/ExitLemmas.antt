@@ -1,6 +1,5 @@
 -- What a function answers that leaves early.
-use Rattle.cmd_files.proofs.Names.{◌≡◌, Ok, Err, sym, subst, Result}
-use Rattle.std.specs.Result.{IsErrAnd}
+use Rattle.cmd_files.proofs.Names.{Err, IsErrAnd, Ok, Result, subst, sym, ◌≡◌}
 
 -- an exit with this fault has what this fault has
 pub left_with : {T E : Type 0} (P : Result T E → Type 0) (answer : Result T E) (fault : E)

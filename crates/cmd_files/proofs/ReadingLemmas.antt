@@ -1,12 +1,6 @@
 -- Reading, one step after another.
-use Rattle.cmd_files.proofs.Names.{◌≡◌, ℕ, List, Ok, Err, refl, sym, subst, ap, ◌∙◌, inl, inr, IsTrue, Result, SameFiles}
-use Rattle.std.specs.Prelude.{◌⊎◌}
+use Rattle.cmd_files.proofs.Names.{CountsFault, Err, Files, IsErrAnd, IsTrue, List, Ok, Read, Result, SameFiles, Shelved, ap, inl, inr, refl, subst, sym, ℕ, ◌∙◌, ◌≡◌, ◌⊎◌}
 use Rattle.std.specs.Borrow.{Bor}
-use Rattle.std.specs.Result.{IsErrAnd}
-use Rattle.ids_outside.specs.Faults.{CountsFault}
-use Rattle.ids_outside.specs.Files.{Files}
-use Rattle.ids_outside.specs.Shelved.{Shelved}
-use Rattle.ids_outside.specs.declared.faults.FaultKind.TheVariants.{Read}
 use Rattle.cmd_files.proofs.ExitLemmas.{left_with}
 use Rattle.cmd_files.specs.Contents.{file_of}
 use Rattle.cmd_files.specs.Names.{Stop, CannotRead, CannotWrite, NoMemory, OnDisk, Refused}

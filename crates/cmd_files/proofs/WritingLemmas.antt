@@ -1,16 +1,9 @@
 -- A file that is written piece by piece.
-use Rattle.cmd_files.proofs.Names.{◌≡◌, ℕ, ◌+◌, ◌-◌, ◌≤◌, List, [], ◌∷◌, ◌++◌, take, drop, Some, Ok, Err, refl, sym, subst, ap, ◌∙◌, arith, inl, inr, Result, OnOk, OnErr, take-take, length-take, AppendMakes, Files, SameFiles, WriteFault, Failed, MemoryRefused}
+use Rattle.cmd_files.proofs.Names.{Adds, AddsTo, Append, AppendMakes, AreUntouched, CanWrite, Changes, Contains, Create, CreateMakes, Cuts, Err, Failed, Files, HoldsPart, IsNoneOf, IsTrue, List, MemoryRefused, Ok, OnErr, OnOk, OneFails, Output, Result, SameBut, SameFiles, Shelved, Some, StandUpTo, WriteCause, WriteFails, WriteFault, Writes, WritesTo, [], ap, arith, drop, get_or, inl, inr, length, length-take, map, names_of, output_of, refl, subst, suc, sym, take, take-take, zero, ℕ, ⊤, ◌++◌, ◌+◌, ◌-◌, ◌<◌, ◌∙◌, ◌∷◌, ◌≡◌, ◌≤◌}
 use Rattle.std.proofs.Math.Path.{fun_ext}
 use Rattle.std.proofs.Math.Seq.{take-add, take-length}
-use Rattle.ids_outside.specs.Faults.{WriteCause}
-use Rattle.ids_outside.specs.Files.{Changes, CreateMakes}
-use Rattle.ids_outside.specs.Shelved.{Shelved}
-use Rattle.ids_outside.specs.declared.faults.FaultKind.TheVariants.{Append, Create}
-use Rattle.cmd_files.specs.Writing.{Adds, AddsTo, AreUntouched, IsNoneOf, OneFails, Output, HoldsPart, SameBut, StandUpTo, Cuts, WriteFails, Writes, WritesTo, names_of, CanWrite, output_of}
 use Rattle.cmd_files.specs.declared.outputs.NewFile.{NewFile}
 use Rattle.std.proofs.lemmas.List.{drop_all, drop_more}
-use Rattle.std.proofs.Common.{IsTrue, get_or, length, map, suc, zero}
-use Rattle.std.specs.Prelude.{◌<◌, Contains, ⊤}
 
 -- what an append of the next piece leaves: the bytes up to its end, or a first part of them
 pub piece_is_added : {T : Type 0} (old new : Files) (name bytes : List ℕ) (start end : ℕ) (answer : Result T WriteFault)

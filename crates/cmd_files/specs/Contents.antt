@@ -1,6 +1,5 @@
 -- What files hold.
-use Rattle.std.specs.Prelude.{ℕ, List, length, nat_lt, Option, Some, None, Result, Ok, Err, if◌then◌else◌}
-use Rattle.cmd_files.specs.Names.{Files, Stop, CannotRead, Refused, TooLong}
+use Rattle.cmd_files.specs.Names.{CannotRead, Err, Files, List, None, Ok, Option, Refused, Result, Some, Stop, TooLong, if◌then◌else◌, length, nat_lt, ℕ}
 
 -- the bytes of a file that may have so many; a file that is not there cannot be read
 abbrev pub bytes_of : ℕ → List ℕ → Option (List ℕ) → Result (List ℕ) (Stop (List ℕ))

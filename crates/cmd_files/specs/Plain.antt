@@ -1,7 +1,5 @@
 -- Ends of commands with the names of files as their bytes.
-use Rattle.std.specs.Borrow.{Bor}
-use Rattle.std.specs.Prelude.{ℕ, List, Result, Ok, Err, Vec}
-use Rattle.cmd_files.specs.Names.{Global, Refusal, TooLong, BadConfig, BadJournal, BadTrace, BadMessages, BadSource, Instance, Differ, EmptyKey, Signed, BadTag, BadCounter, TooLarge, BadUnit, Stop, CannotRead, Refused, OnDisk, CannotWrite, NoMemory}
+use Rattle.cmd_files.specs.Names.{BadConfig, BadCounter, BadJournal, BadMessages, BadSource, BadTag, BadTrace, BadUnit, Bor, CannotRead, CannotWrite, Differ, EmptyKey, Err, Global, Instance, List, NoMemory, Ok, OnDisk, Refusal, Refused, Result, Signed, Stop, TooLarge, TooLong, Vec, ℕ}
 
 -- a refusal so
 abbrev pub plain_refusal : Refusal (Bor (List ℕ)) → Refusal (List ℕ)

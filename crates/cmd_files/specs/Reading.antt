@@ -1,12 +1,9 @@
 -- What is read and judged, each file before the next one is read: what it gives, and how a call ends that does it.
-use Rattle.std.specs.Borrow.{Bor}
-use Rattle.std.specs.Prelude.{◌≡◌, ◌⊎◌, ℕ, List, IsTrue, Result, Ok, Err, ⊤}
+use Rattle.cmd_files.specs.Names.{BadConfig, Bor, CannotRead, CountsFault, Err, Files, IsTrue, List, NoMemory, Ok, Read, Refusal, Refused, Result, SameFiles, Shelved, Stop, TooLong, ℕ, ⊤, ◌≡◌, ◌⊎◌}
 use Rattle.config_json.specs.declared.fault.JsonFault.{JsonFault}
-use Rattle.config_json.specs.declared.fault.JsonFault.TheVariants as faults
-use Rattle.ids_outside.specs.Files.{SameFiles}
 use Rattle.cmd_files.specs.Contents.{file_of}
-use Rattle.cmd_files.specs.Names.{CountsFault, Files, Shelved, Read, Refusal, TooLong, BadConfig, Stop, CannotRead, Refused, NoMemory}
 use Rattle.cmd_files.specs.Plain.{plain_stop}
+use Rattle.config_json.specs.declared.fault.JsonFault.TheVariants as faults
 
 -- this is given; or what was read is refused; or the file of this name is read, of which so many bytes may be there, and
 -- then what its bytes ask for

@@ -1,6 +1,5 @@
 -- How the put of a run's one text ends.
-use Rattle.std.specs.Prelude.{◌≡◌, ◌≢◌, ◌⊎◌, ℕ, List, [], IsTrue, Result, Ok, Err, IfErr, ⊤}
-use Rattle.cmd_files.specs.Names.{Heard, PutTakes, PutCause, WriteFault, Failed, MemoryRefused, Stop, CannotWrite, NoMemory}
+use Rattle.cmd_files.specs.Names.{CannotWrite, Err, Failed, Heard, IfErr, IsTrue, List, MemoryRefused, NoMemory, Ok, PutCause, PutTakes, Result, Stop, WriteFault, [], ℕ, ⊤, ◌≡◌, ◌≢◌, ◌⊎◌}
 use Rattle.cmd_files.specs.Texts.{stop_text, stop_status, no_memory_text}
 
 -- the status of a run whose put answered so, where this one goes with its text

@@ -1,7 +1,6 @@
 -- The statuses and the texts of how a run ends.
 -- Source: docs/COMMANDS.md.
-use Rattle.std.specs.Prelude.{ℕ, ◌∷◌, [], ◌++◌, List, Result, Ok, Err, codes, decimal}
-use Rattle.cmd_files.specs.Names.{ConfigFault, BadMessage, Refusal, TooLong, BadConfig, BadJournal, BadTrace, BadMessages, BadSource, Instance, Differ, EmptyKey, Signed, BadTag, BadCounter, TooLarge, BadUnit, DiskStop, Stop, CannotRead, Refused, OnDisk, CannotWrite, NoMemory}
+use Rattle.cmd_files.specs.Names.{BadConfig, BadCounter, BadJournal, BadMessage, BadMessages, BadSource, BadTag, BadTrace, BadUnit, CannotRead, CannotWrite, ConfigFault, Differ, DiskStop, EmptyKey, Err, Instance, List, NoMemory, Ok, OnDisk, Refusal, Refused, Result, Signed, Stop, TooLarge, TooLong, [], codes, decimal, ℕ, ◌++◌, ◌∷◌}
 use Rattle.cmd_files.specs.declared.stop.DiskStop.TheVariants.{Failed, FailedAfter, Damaged, WornAfter}
 use Rattle.ids_config.specs.declared.fault.ConfigPlace.{ConfigPlace}
 use Rattle.ids_config.specs.declared.fault.ConfigPlace.TheVariants.{Top, Class, Event}

@@ -1,8 +1,6 @@
 -- Files that a command writes, one after another, and what stands where it had to stop.
-use Rattle.std.specs.Prelude.{◌≡◌, ◌≢◌, ◌⊎◌, ℕ, ◌≤◌, List, [], ◌∷◌, length, map, take, Some, IsTrue, Result, Ok, Err, Contains, ⊤}
+use Rattle.cmd_files.specs.Names.{Append, CannotWrite, Contains, CountsFault, Create, Err, Failed, Faults, Files, IsTrue, List, MemoryRefused, NoMemory, Ok, Result, SameOthers, Shelved, Some, Stop, WantsMemory, WriteFault, [], length, map, take, ℕ, ⊤, ◌∷◌, ◌≡◌, ◌≢◌, ◌≤◌, ◌⊎◌}
 use Rattle.std.specs.List.{AllByRecursion}
-use Rattle.ids_outside.specs.Files.{SameOthers}
-use Rattle.cmd_files.specs.Names.{Faults, CountsFault, WantsMemory, Files, Shelved, Create, Append, WriteFault, Failed, MemoryRefused, Stop, CannotWrite, NoMemory}
 use Rattle.cmd_files.specs.declared.outputs.NewFile.{NewFile}
 
 -- a file that is to be written, whole

@@ -1,8 +1,5 @@
 -- How many messages were sealed or unsealed, by how many bytes came or went.
-use Rattle.cmd_steps.proofs.Names.{◌≡◌, ℕ, ◌+◌, ◌-◌, ◌≤◌, List, ◌∷◌, EmptyKey, gives, length, refuses, arith, refl, sym, ap, ◌∙◌, key_judged, one_file}
-use Rattle.std.specs.Prelude.{◌*◌, ◌/◌, ◌^◌, ◌<◌, ◌++◌, codes, decimal}
-use Rattle.std.proofs.Common.{[], false, true}
-use Rattle.std.specs.List.{AllByRecursion}
+use Rattle.cmd_steps.proofs.Names.{AllByRecursion, EmptyKey, IsCopyWork, List, [], ap, arith, codes, decimal, false, gives, joined, key_judged, length, one_file, refl, refuses, sym, true, ℕ, ◌*◌, ◌++◌, ◌+◌, ◌-◌, ◌/◌, ◌<◌, ◌^◌, ◌∙◌, ◌∷◌, ◌≡◌, ◌≤◌}
 use Rattle.frame_auth.proofs.LayoutLemmas.{length-joined_sealed}
 use Rattle.frame_auth.specs.Tags.{IsKeyLength, filled}
 use Rattle.ids_bundle.proofs.UnpackLemmas.{packed_fit}
@@ -10,8 +7,6 @@ use Rattle.ids_bundle.specs.Packing.{ArePacked}
 use Rattle.ids_bundle.specs.Units.{FitsUnit, Run, all_of, units}
 use Rattle.ids_bundle.specs.declared.unit.Count.{Count}
 use Rattle.frame_auth.specs.Sealing.{Copies, joined_sealed}
-use Rattle.ids_frame.specs.Messages.{joined}
-use Rattle.cmd_spec.specs.Copying.{IsCopyWork}
 use Rattle.cmd_spec.specs.Packing.{IsPackWork, units_text}
 
 -- a seal has 42 bytes

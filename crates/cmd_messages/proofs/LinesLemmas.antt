@@ -1,21 +1,11 @@
 -- Messages are printed one by one: those in front were, and the others are left.
-use Rattle.std.proofs.Common.{◌≡◌, ◌-◌, ◌<◌, ◌==◌, ◌∷◌, ◌++◌, ℕ, List, [], Ok, Err, arith, false, true, length, drop, refl, sym, ap, ◌∙◌, append_assoc}
-use Rattle.text_spec.specs.DecodedText.{decoded_text}
-use Rattle.std.proofs.lemmas.Bool.{eqb-true}
-use Rattle.std.proofs.lemmas.Grind.{flat_map-append}
-use Rattle.std.proofs.lemmas.List.{append-nil, length-append}
+use Rattle.cmd_steps.proofs.Names.{AreMessages, BadMessage, Err, FitsMessage, Front, List, MessageParts, Ok, [], ap, append-nil, append_assoc, arith, decoded_text, drop, eqb-true, false, flat_map-append, joined, length, length-append, line_feed, message_line, messages_read, refl, sym, true, ℕ, ◌++◌, ◌-◌, ◌==◌, ◌∙◌, ◌∷◌, ◌≡◌}
 use Rattle.std.proofs.lemmas.List.Elements.{All-drop}
 use Rattle.ids_frame.specs.Bytes.{IsByte, AreBytes}
-use Rattle.ids_frame.specs.Message.{MessageParts, FitsMessage}
-use Rattle.ids_frame.specs.Messages.{joined, AreMessages, messages_read}
 use Rattle.ids_frame.specs.Spelling.{spelling}
 use Rattle.ids_frame.specs.Decoding.{CauseOf}
-use Rattle.ids_frame.specs.declared.fault.BadMessage.{BadMessage}
 use Rattle.ids_frame.specs.declared.fault.FrameFault.{FrameFault}
 use Rattle.ids_frame.proofs.MessagesLemmas.{read_is_held}
-use Rattle.text_spec.specs.DecodedText.{message_line}
-use Rattle.text_spec.specs.Words.{line_feed}
-use Rattle.ids_frame.proofs.DecodeLemmas.{Front}
 
 -- these lines were printed, and these bytes are left
 pub record ArePrinted (bytes rest lines : List ℕ) : Type 0 where

@@ -1,19 +1,10 @@
 -- What a report gives is the work that its input files ask for, and why it stops.
-use Rattle.cmd_steps.proofs.Names.{◌≡◌, ◌∙◌, ◌+◌, ◌≤◌, ℕ, List, ◌∷◌, length, refl, sym, ap, arith, one_file}
-use Rattle.std.proofs.Common.{[], true, false, zero, suc, drop, get_or, map}
-use Rattle.std.proofs.lemmas.List.{drop_all, drop_more}
-use Rattle.std.specs.List.{list_any}
-use Rattle.std.specs.Prelude.{◌<◌, ◌++◌}
-use Rattle.ids_frame.specs.Message.{MessageParts}
+use Rattle.cmd_steps.proofs.Names.{AreApart, Does, List, MessageParts, Sources, [], ap, apart_more, arith, clashes, drop, drop_all, drop_more, false, get_or, instance_of, is_of, length, list_any, map, one_file, refl, report_text, reports, source_at, suc, sym, zero, ℕ, ◌++◌, ◌+◌, ◌<◌, ◌∙◌, ◌∷◌, ◌≡◌, ◌≤◌}
 use Rattle.ids_reporter.specs.Forwarding.{IsForwarded, named}
 use Rattle.ids_reporter.specs.Relays.{taken_of}
-use Rattle.ids_reporter.specs.Sources.{AreApart, Sources, instance_of, source_at}
 use Rattle.ids_reporter.specs.declared.drain.Drain.{Drain}
 use Rattle.ids_reporter.specs.declared.index.Instance.{Instance as Managers}
 use Rattle.ids_reporter.specs.declared.index.Instance.TheVariants.{Empty, One, Mixed}
-use Rattle.ids_reporter.proofs.RunLemmas.{apart_more}
-use Rattle.cmd_spec.specs.Judge.{Does, reports}
-use Rattle.cmd_spec.specs.Report.{clashes, is_of, report_text}
 
 -- ---- sources that do not clash
 

@@ -1,7 +1,6 @@
 -- What commands over messages have read.
-use Rattle.std.specs.Prelude.{ℕ, Vec}
+use Rattle.cmd_steps.specs.Names.{Keyed, Vec, ℕ}
 use Rattle.frame_auth.specs.declared.key.Key.{Key}
-use Rattle.cmd_spec.specs.Judge.{Keyed}
 use Rattle.std.specs.declared.alloc.Global.{Global}
 
 -- a key and the bytes of a file

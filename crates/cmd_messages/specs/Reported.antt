@@ -1,13 +1,10 @@
 -- What a run of `report` does, with the drain that it answers.
-use Rattle.std.specs.Prelude.{◌≡◌, ℕ, List, [], Option, Some, Ok}
+use Rattle.cmd_steps.specs.Names.{Files, Heard, List, Ok, Option, ReportFiles, Shelved, Some, [], over, report, ℕ, ◌≡◌}
 use Rattle.ids_reporter.specs.Forwarding.{IsForwarded}
 use Rattle.ids_reporter.specs.Sources.{Sources}
 use Rattle.ids_reporter.specs.declared.drain.Drain.{Drain}
-use Rattle.cmd_files.specs.Reading.{over}
 use Rattle.cmd_steps.specs.Answered.{RunsWith}
-use Rattle.cmd_steps.specs.Names.{Files, Shelved, Heard}
 use Rattle.cmd_spec.specs.Report.{report_text, sources_in}
-use Rattle.cmd_words.specs.Command.{ReportFiles, report}
 
 -- the file holds the messages that the drain took, which are all those of the input files, merged; the text counts them
 pub record Reported (names : ReportFiles) (drain : Drain) (said : List ℕ) (old new : Files) : Type 0 where

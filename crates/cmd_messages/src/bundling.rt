@@ -1,7 +1,6 @@
 //! The commands `bundle` and `unbundle`: messages packed into units, and taken out of them again.
 
-ghost use Rattle.std.specs.Prelude.{◌≡◌, ◌≤◌, ℕ, List, IfOk};
-ghost use Rattle.cmd_steps.specs.Words.{EndsAs, Makes, bundle as bundle_command, pack_refusal, packs, pair_of, plain_end, sized_of, task_stop, unbundle as unbundle_command, unpack_refusal, unpacks, units_text};
+ghost use Rattle.cmd_steps.specs.Words.{EndsAs, IfOk, List, Makes, bundle as bundle_command, pack_refusal, packs, pair_of, plain_end, sized_of, task_stop, unbundle as unbundle_command, units_text, unpack_refusal, unpacks, ℕ, ◌≡◌, ◌≤◌};
 
 use cmd_files::{MAX_MESSAGES_BYTES, MAX_UNITS_BYTES, Refusal, Stop, read_file};
 use cmd_steps::{Made, write_made};

@@ -1,9 +1,6 @@
 //! The command `export`: the messages of a file, for other programs.
 
-ghost use Rattle.cmd_spec.specs.Judge.{export_judged};
-ghost use Rattle.cmd_steps.specs.Words.{EndsAs, Judges, does, only_said, plain_end, seen_as};
-ghost use Rattle.cmd_words.specs.Command.{export as export_command};
-ghost use Rattle.cmd_words.specs.CommandView.{exported_of};
+ghost use Rattle.cmd_steps.specs.Words.{EndsAs, Judges, does, export_command, export_judged, exported_of, only_said, plain_end, seen_as};
 
 use cmd_files::{MAX_EXPORT_BYTES, Refusal, Stop, read_file};
 use cmd_words::ExportNames;

@@ -1,12 +1,11 @@
 //! The top call of `report`.
 
-ghost use Rattle.std.specs.Prelude.{IsTrue, map, string_bytes};
+ghost use Rattle.cmd_steps.specs.Words.{IsTrue, SameBut, command_of, map, report, report_of, string_bytes, written_in};
 ghost use Rattle.cmd_messages.specs.Reported.{Reports};
-ghost use Rattle.cmd_steps.specs.Words.{SameBut, report, report_of, written_in};
 
 use crate::reporting::report_files;
 use cmd_steps::{say_usage, tell_finished};
-use cmd_words::parse_report;
+use cmd_words::{Request, parse};
 use ids_outside::{Shelf, Sink};
 use ids_reporter::Drain;
 use std::alloc::Global;
@@ -22,6 +21,7 @@ use std::thread::Threads;
 /// eight; `forward`, and its bytes; one read for each input, one append at most. Memory: may answer want of memory:
 /// status 8. Waits: joins a thread for each file; as the queue, its shelf and its sink. By: `ran` (`Reports`); bounds
 /// `Threads`, `Wait`; read off.
+#[tactic(auto, using(cmd_words::proofs::CommandLemmas::no_report))]
 pub fn run_report<R: Threads + Wait + Sync, H: Shelf, K: Sink>(
     rt: &R,
     alloc: Global,
@@ -30,16 +30,18 @@ pub fn run_report<R: Threads + Wait + Sync, H: Shelf, K: Sink>(
     out: &mut K,
 ) -> (u8, Option<Drain>)
     // What the run did or why it stopped, with its status, its text, what stands in the files, and its drain.
-    ensures ran { Reports (report_of (map string_bytes words.now)) result.1 result.0
+    ensures ran { Reports (report_of (command_of (map string_bytes words.now))) result.1 result.0
         (H.shows shelf.old) (H.shows shelf.new) (K.hears out.old) (K.hears out.new) }
 
     // Whatever the status, no file changes but the one that the report writes.
     ensures others { IsTrue (H.shows shelf.old).tells → SameBut
-        (written_in report (report_of (map string_bytes words.now)))
+        (written_in report (report_of (command_of (map string_bytes words.now))))
         (H.shows shelf.old).files (H.shows shelf.new).files }
 {
-    match parse_report(words) {
-        None => (say_usage(out), None),
-        Some(names) => tell_finished(alloc, report_files(rt, alloc, names, shelf), out),
+    match parse(alloc, words) {
+        Ok(Some(Request::Report(names))) => {
+            tell_finished(alloc, report_files(rt, alloc, names, shelf), out)
+        }
+        _ => (say_usage(out), None),
     }
 }

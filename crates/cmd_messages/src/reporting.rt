@@ -1,10 +1,7 @@
 //! The command `report`: the messages of several managers, in one file.
 
-ghost use Rattle.std.specs.Prelude.{◌≡◌, ◌≤◌, [], false, length, map, string_bytes, IsTrue, IfOk, sum_by};
-ghost use Rattle.std.specs.List.{list_any};
-ghost use Rattle.ids_frame.specs.Messages.{messages_read};
+ghost use Rattle.cmd_steps.specs.Words.{CanReport, EndsAs, IfOk, IsTrue, Judges, Reads, [], clashes, false, finished_end, is_of, length, list_any, map, messages_read, report as report_command, report_files_of, report_text, seen_as, source_found, source_in, sources_in, string_bytes, sum_by, ◌≡◌, ◌≤◌};
 ghost use Rattle.ids_reporter.specs.Sources.{AreApart, AreSmall, instance_of};
-ghost use Rattle.cmd_steps.specs.Words.{CanReport, EndsAs, Judges, Reads, clashes, finished_end, is_of, report as report_command, report_files_of, report_text, seen_as, source_found, source_in, sources_in};
 ghost use Rattle.cmd_messages.specs.Reported.{Reported as HasReported};
 
 use cmd_files::{MAX_SOURCE_BYTES, NewFile, Refusal, Stop, read_file};

@@ -1,13 +1,9 @@
 -- How a command ends, by how its input files were read and its files written.
-use Rattle.cmd_spec.proofs.Names.{◌≡◌, ℕ, List, Option, None, Some, Ok, Err, IsTrue, refl, sym, subst, ap, ◌∙◌, inl, inr, Result, Bor, Files, Shelved, WriteFault, Failed, MemoryRefused, Refusal, Stop, CannotRead, Refused, OnDisk, CannotWrite, NoMemory, Command, migrate, written_by, Task, Does, Refuses, Work, judge, configuration, config_found, config_in, Parts, ConfigFault, KeepsConfig, PartWritten, StopsFor, WasDone, bytes_of, cases_Bool, nat_lt, length, plain_end, plain_stop, stop_of_write, Vec, Global, EndsAs, StandUpTo, AreWritten, Reads, if_read, over, gives, ◌>>=◌}
+use Rattle.cmd_spec.proofs.Names.{AreWritten, Bor, CannotRead, CannotWrite, Command, ConfigFault, Does, EndsAs, Err, Failed, Files, Global, IsNoneOf, IsTrue, KeepsConfig, List, MemoryRefused, NoMemory, None, Ok, OnDisk, OneFails, Option, PartWritten, Parts, Reads, Refusal, Refused, Refuses, Result, SameBut, Shelved, Some, StandUpTo-before, Stop, StopsFor, Task, Vec, WasDone, Work, WriteFault, Writes, ap, bytes_of, cases_Bool, config_found, configuration, gives, if_read, inl, inr, judge, length, migrate, migrates, names_of, nat_lt, over, plain_end, plain_stop, reading_of, refl, stop_of_write, subst, sym, written_by, ℕ, ◌>>=◌, ◌∙◌, ◌≡◌}
 use Rattle.std.specs.Prelude.{option_map, ⊤}
 use Rattle.cmd_files.proofs.ExitLemmas.{left_with}
 use Rattle.cmd_files.proofs.ReadingLemmas.{comes_over, read_over}
 use Rattle.std.specs.Result.{IsErrAnd}
-use Rattle.cmd_files.proofs.WritingLemmas.{StandUpTo-before}
-use Rattle.cmd_files.specs.Writing.{IsNoneOf, OneFails, SameBut, Writes, names_of}
-use Rattle.cmd_spec.specs.Judge
-use Rattle.cmd_spec.specs.Judge.{migrates, reading_of}
 use Rattle.cmd_spec.proofs.MayLemmas.{MayEnd, all_end, may_end}
 
 -- ---- what `migrate` keeps
@@ -30,7 +26,7 @@ module _ (target source : List ℕ) (old : Files) (task : Task) where
 
 keeps_of : (command : Command) (task : Task) (work : Work) (old new : Files) → judge command old ≡ Ok task → Does task work
     → AreWritten work.outputs new → KeepsConfig command old new
-unfolding Judge.reading_of
+unfolding reading_of
 keeps_of (migrate names) task work old new judged is written =
     let found = held_config names.target names.source old task (old names.source) judged in
     let own = subst (λ (t : Task). Does t work) (sym found.1) is in

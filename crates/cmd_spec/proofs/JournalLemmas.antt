@@ -1,5 +1,5 @@
 -- What a journal that is folded says of its turns.
-use Rattle.cmd_spec.proofs.Names.{◌≡◌, ℕ, ◌+◌, ◌≤◌, List, [], ◌∷◌, ◌++◌, length, map, reverse, true, refl, sym, subst, ap, ◌∙◌, arith, length-append, append_assoc, IfSome, flat_map, AllByRecursion, Parts, Carried, Absent, Kept, Missing, Act, Report, State, SetMode, Entry, Turn, entries_of, Line, begins, enters, loses, turn_told, lines_told, line_for, IsJournal, told, messages_of, ends_of, Cuts, nat_le, ◌&&◌, and_parts, reverse_onto, length-map}
+use Rattle.cmd_spec.proofs.Names.{Absent, Act, AllByRecursion, AreFaultless, Carried, Cuts, Entry, IfSome, IsJournal, Kept, Line, List, Missing, Parts, Report, SetMode, State, Turn, [], and_parts, ap, append_assoc, arith, begins, cuts_go_on, ends_of, enters, entries_of, flat_map, length, length-append, length-map, line_for, lines_told, loses, map, messages_of, nat_le, refl, reverse, reverse_onto, subst, sym, told, true, turn_told, ℕ, ◌&&◌, ◌++◌, ◌+◌, ◌∙◌, ◌∷◌, ◌≡◌, ◌≤◌}
 use Rattle.filter_chain.specs.Turning.{FitsAct}
 use Rattle.chain_plain.specs.Recorded.{CanFold, CanTake, RiseFrom}
 use Rattle.chain_spec.proofs.GrowthLemmas.{messages_grow}
@@ -7,9 +7,7 @@ use Rattle.chain_spec.specs.Chain.{messages, ends}
 use Rattle.chain_spec.specs.Items.{kept_parcel}
 use Rattle.std.proofs.lemmas.List.Elements.{All-from_recursion}
 use Rattle.ids_types.specs.declared.entry.TurnHead.{TurnHead}
-use Rattle.cmd_files.proofs.WritingLemmas.{cuts_go_on}
 use Rattle.text_spec.specs.JournalReading.{Fits, Follows, journal_grammar}
-use Rattle.text_spec.specs.Lines.{AreFaultless}
 use Rattle.text_spec.proofs.JournalFits.{all_in_ranges, in_order, turns_few}
 use Rattle.ids_types.specs.declared.loss.Loss.{Loss}
 use Rattle.text_spec.specs.JournalFaults.{start, is_call, is_context, is_act, has_event, is_in_ranges}

@@ -1,26 +1,22 @@
 -- How the reading of each command may end.
-use Rattle.cmd_spec.proofs.Names.{◌≡◌, ℕ, List, [], ◌∷◌, ◌++◌, Some, Ok, Err, refl, sym, subst, inl, inr, arith, Result, Contains, ⊤, Command, KeyedFiles, PairFiles, Recording, SizedFiles, bundle, check, decode, fold, gen, keep, migrate, read_by, recall, replay, report, sign, unbundle, verify, Parts, ConfigFault, configuration, messages_read, MessageParts, BadMessage, Round, Shelved, Refusal, BadConfig, BadJournal, BadMessages, BadSource, BadTrace, EmptyKey, Instance, TooLong, Stop, CannotRead, Refused, Task, Refuses, Recorded, config_found, config_in, journal_judged, recorded_in, folded_in, trace_judged, trace_in, messages_judged, key_judged, keyed_in, check_judged, MayRefuse, Comes, Reading, file, gives, reads, refuses, ◌>>=◌}
+use Rattle.cmd_spec.proofs.Names.{AskedFor, BadConfig, BadJournal, BadLine, BadMessage, BadSource, CannotRead, Comes, Command, ConfigFault, Contains, EmptyKey, Err, Instance, KeyedFiles, List, MayRefuse, MessageParts, Ok, PairFiles, Parts, Reading, Recorded, Recording, Refusal, Refused, Refuses, Result, Round, Shelved, SizedFiles, Some, Stop, Task, TooLong, [], arith, asked_in, bundle, bytes_eq, cases_Bool, check, check_judged, config_found, config_in, configuration, decode, file, fold, folded_in, gen, gives, inl, inr, journal_judged, keep, key_judged, keyed_in, messages_judged, messages_read, migrate, read_by, reading_of, reads, recall, recorded_in, refl, refuses, replay, replays, report, reports, rounds_in, sign, subst, sym, told_in, trace_in, trace_judged, unbundle, verify, ℕ, ⊤, ◌++◌, ◌>>=◌, ◌∷◌, ◌≡◌}
 use Rattle.std.proofs.Common.{Bool, true, false, suc, ◌⊎◌}
-use Rattle.std.proofs.lemmas.Bool.{cases_Bool}
 use Rattle.std.proofs.lemmas.Option.{same_Some, none-some}
-use Rattle.std.specs.Str.{bytes_eq}
 use Rattle.frame_auth.specs.declared.fault.SealFault.{SealFault}
-use Rattle.frame_auth.specs.declared.fault.SealFault.TheVariants as sealing
 use Rattle.frame_auth.specs.declared.fault.UnsealFault.{UnsealFault}
-use Rattle.frame_auth.specs.declared.fault.UnsealFault.TheVariants as unsealing
 use Rattle.ids_bundle.specs.declared.fault.PackFault.{PackFault}
-use Rattle.ids_bundle.specs.declared.fault.PackFault.TheVariants as packing
 use Rattle.ids_bundle.specs.declared.fault.UnpackFault.{UnpackFault}
-use Rattle.ids_bundle.specs.declared.fault.UnpackFault.TheVariants as unpacking
 use Rattle.ids_reporter.specs.Sources.{Sources, instance_of}
 use Rattle.cmd_spec.specs.Copying.{seal_refusal, unseal_refusal}
-use Rattle.cmd_spec.specs.Judge
-use Rattle.cmd_spec.specs.Judge.{AskedFor, asked_in, reading_of, replays, reports, rounds_in, told_in}
 use Rattle.cmd_spec.specs.Packing.{pack_refusal, unpack_refusal}
 use Rattle.cmd_spec.specs.Report.{clashes, source_found, source_in, sources_in, unless_clash}
 use Rattle.cmd_words.specs.Command.{explain, export}
 use Rattle.text_spec.specs.JournalText.{Told}
-use Rattle.text_spec.specs.Lines.{BadLine}
+use Rattle.frame_auth.specs.declared.fault.SealFault.TheVariants as sealing
+use Rattle.frame_auth.specs.declared.fault.UnsealFault.TheVariants as unsealing
+use Rattle.ids_bundle.specs.declared.fault.PackFault.TheVariants as packing
+use Rattle.ids_bundle.specs.declared.fault.UnpackFault.TheVariants as unpacking
+use Rattle.cmd_spec.specs.Judge
 
 -- ---- whatever reading comes to
 

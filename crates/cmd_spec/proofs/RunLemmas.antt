@@ -1,11 +1,10 @@
 -- How a command ended, how that was told, and what the files deserve.
-use Rattle.cmd_spec.proofs.Names.{◌≡◌, ◌≢◌, ℕ, Bool, true, false, List, Option, None, Some, Ok, Err, Bor, IsTrue, refl, sym, subst, inl, inr, arith, no_memory_text, Result, Vec, ⊤, Global, SameFiles, Shelved, Heard, PutCause, WriteFault, Failed, MemoryRefused, Refusal, BadConfig, BadJournal, BadMessages, BadSource, BadTrace, BadCounter, BadTag, BadUnit, Differ, EmptyKey, Instance, Signed, TooLarge, TooLong, Stop, CannotRead, Refused, OnDisk, CannotWrite, NoMemory, Command, EndsWith, EndsOrFails, CanBeDone, IsOfBytes, Task, Work, judge, Refuses, Deserves, ap, ◌∙◌, Ran, RanCommand, EndsAs, StopsFor, WasRefused, Puts, Says, Tells, put_status, plain_end, plain_stop, row_of, stop_text, stop_status, answer_text, answer_status, DidWork, Does, written_by, written_of}
+use Rattle.cmd_spec.proofs.Names.{BadConfig, BadCounter, BadJournal, BadMessages, BadSource, BadTag, BadTrace, BadUnit, Bool, Bor, CanBeDone, CannotRead, CannotWrite, Command, Deserves, DidWork, Differ, Does, EmptyKey, EndsAs, EndsOrFails, EndsWith, Err, Failed, Global, Heard, Instance, IsOfBytes, IsTrue, List, MemoryRefused, NoMemory, None, Ok, OnDisk, OneFails, Option, PutCause, Puts, Ran, RanCommand, Refusal, Refused, Refuses, Result, SameBut, SameFiles, Says, Shelved, Signed, Some, Stop, StopsFor, Task, Tells, TooLarge, TooLong, Vec, Work, WriteFault, answer_status, answer_text, arith, false, inl, inr, judge, no_memory_text, plain_end, plain_stop, put_status, refl, row_of, stop_status, stop_text, subst, sym, true, written_by, written_of, ℕ, ⊤, ◌≡◌, ◌≢◌}
 use Rattle.cmd_files.specs.Texts.{disk_status}
-use Rattle.cmd_files.specs.Writing.{IsNoneOf, OneFails, SameBut}
 use Rattle.cmd_files.specs.declared.stop.DiskStop.{DiskStop}
-use Rattle.cmd_files.specs.declared.stop.DiskStop.TheVariants as disk
 use Rattle.cmd_spec.specs.Keeping.{MayStopOnDisk}
 use Rattle.cmd_spec.proofs.TaskLemmas.{done_or_refused, one_refusal}
+use Rattle.cmd_files.specs.declared.stop.DiskStop.TheVariants as disk
 
 module _ (command : Command) (status : ℕ) (old new : Shelved) (before after : Heard) where
   -- a run that ended so, of whose answer this holds
@@ -216,11 +215,3 @@ words_starved None true status old before after clap puts =
 words_starved None false status old before after clap puts = absurd (cc)
 words_starved (Some command) by_clap status old before after clap puts =
     record { answer = Err NoMemory; ends = inl (λ told name. refl); puts = puts }
-
--- what the words ask for ran
-pub asked_ran : (command : Option Command) (by_clap : Bool) (own run : Command) (status : ℕ) (old new : Shelved) (before after : Heard)
-    → Some own ≡ command → own ≡ run → RanCommand run status old new before after
-    → Ran command by_clap status old new before after
-asked_ran command by_clap own run status old new before after asks is ran =
-    subst (λ c. Ran c by_clap status old new before after) asks
-    (subst (λ c. RanCommand c status old new before after) (sym is) ran)

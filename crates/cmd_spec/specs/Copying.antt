@@ -1,12 +1,7 @@
 -- The commands `sign` and `verify`: the file that they write, their text, and why they refuse what they read.
-use Rattle.std.specs.Prelude.{◌≡◌, ℕ, List, [], ◌∷◌, ◌++◌, length, Option, Some, None, codes, decimal}
-use Rattle.frame_auth.specs.Sealing.{Copies}
-use Rattle.frame_auth.specs.declared.fault.SealFault.{SealFault}
+use Rattle.cmd_spec.specs.Names.{BadCounter, BadMessages, BadTag, Copies, List, MessageParts, NoMemory, None, Option, Refusal, Refused, SealFault, Signed, Some, Stop, UnsealFault, Work, [], codes, decimal, length, ℕ, ◌++◌, ◌∷◌, ◌≡◌}
 use Rattle.frame_auth.specs.declared.fault.SealFault.TheVariants as seals
-use Rattle.frame_auth.specs.declared.fault.UnsealFault.{UnsealFault}
 use Rattle.frame_auth.specs.declared.fault.UnsealFault.TheVariants as unseals
-use Rattle.cmd_files.specs.Writing.{Work}
-use Rattle.cmd_spec.specs.Names.{MessageParts, Refusal, BadMessages, Signed, BadTag, BadCounter, Stop, Refused, NoMemory}
 
 -- one file of these bytes, and a line
 abbrev pub one_file : (target bytes said : List ℕ) → Work

@@ -1,13 +1,9 @@
 -- What the input files deserve decides the answer of a run.
-use Rattle.std.specs.Prelude.{◌≡◌, ◌⊎◌, ⊤, ℕ, List}
+use Rattle.cmd_spec.specs.Names.{AreWritten, Command, DiskStop, Failed, Heard, List, MissesOne, OneFails, Refusal, Shelved, Work, disk_status, written_by, ℕ, ⊤, ◌≡◌, ◌⊎◌}
 use Rattle.ids_frame.specs.Bytes.{AreBytes}
-use Rattle.cmd_files.specs.Texts.{disk_status}
 use Rattle.cmd_spec.specs.Keeping.{MayStopOnDisk}
-use Rattle.cmd_spec.specs.Names.{Shelved, Heard, MissesOne, Failed, DiskStop, Refusal}
-use Rattle.cmd_words.specs.Command.{Command, written_by}
 use Rattle.cmd_spec.specs.Judge.{Task, Does, Refuses, seals, unseals, packs}
 use Rattle.cmd_spec.specs.Run.{WasUnread}
-use Rattle.cmd_files.specs.Writing.{Work, AreWritten, OneFails}
 
 -- a read failed, and all that is read before it served
 pub record FailedBefore (command : Command) (old new : Shelved) : Type 0 where

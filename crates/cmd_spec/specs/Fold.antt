@@ -1,8 +1,5 @@
 -- The command `fold`: the files that it writes, and its text.
-use Rattle.std.specs.Prelude.{ℕ, List, [], ◌∷◌, ◌++◌, length, codes, decimal}
-use Rattle.cmd_spec.specs.Names.{Parts, Turn, entries_of, count_of, rows_of}
-use Rattle.cmd_words.specs.Command.{FoldFiles}
-use Rattle.cmd_files.specs.Writing.{Output}
+use Rattle.cmd_spec.specs.Names.{FoldFiles, List, Output, Parts, Turn, [], codes, count_of, decimal, entries_of, length, rows_of, ℕ, ◌++◌, ◌∷◌}
 
 -- the line `turns T entries E messages M records K`, with its line feed
 abbrev pub fold_line : (turns entries messages records : ℕ) → List ℕ

@@ -1,6 +1,5 @@
 -- Which journals `fold` folds: what they say of held-back events has to be the chain's own number.
-use Rattle.std.specs.Prelude.{ℕ, ◌+◌, ◌==◌, List, ◌∷◌, length, Option, Some, None, Result, Ok, Err, if◌then◌else◌}
-use Rattle.cmd_spec.specs.Names.{Parts, Turn, Told, BadLine, journal_in, handed_by}
+use Rattle.cmd_spec.specs.Names.{BadLine, Err, List, None, Ok, Option, Parts, Result, Some, Told, Turn, handed_by, if◌then◌else◌, journal_in, length, ℕ, ◌+◌, ◌==◌, ◌∷◌}
 
 -- the next step, where nothing was refused yet
 infixl 10 ◌>>=◌

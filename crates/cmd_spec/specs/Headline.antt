@@ -1,12 +1,8 @@
 -- The main theorem of a replay: whatever way its callers' calls and its turns come between each other, it gives one
 -- history.
-use Rattle.std.specs.Prelude.{List, reverse}
+use Rattle.cmd_spec.specs.Names.{List, Loss, Parts, Round, Turn, reverse}
 use Rattle.chain_spec.specs.Chain.{IsCausal}
-use Rattle.ids_config.specs.Parts.{Parts}
-use Rattle.ids_types.specs.Turns.{Turn}
-use Rattle.ids_types.specs.declared.loss.Loss.{Loss}
 use Rattle.history_spec.specs.Merge.{IsMerge}
-use Rattle.history_spec.specs.Rounds.{Round}
 use Rattle.text_spec.specs.JournalReading.{Fits}
 
 -- the turns and the losses are one history of these rounds

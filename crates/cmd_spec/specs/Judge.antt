@@ -1,34 +1,21 @@
 -- What the input files of a command deserve: what they ask for, or why the command has to stop,
 -- in the order in which files are read and judged.
 -- Source: docs/COMMANDS.md, "Order of work".
-use Rattle.std.specs.Prelude.{◌≡◌, ℕ, nat_eq, List, [], ◌∷◌, length, codes, Some, Result, Ok, Err, if◌then◌else◌, bytes_eq}
-use Rattle.std.specs.List.{common_prefix_len}
-use Rattle.cmd_spec.specs.Names.{configuration, config_text, Parts, ConfigFault, MessageParts, messages_read, BadMessage, Files, Turn, Round, decoded_text, messages_of, rows_of, memory_text, trace_in, BadLine, Told, Reading, file, gives, over, refuses, ◌>>=◌, BadConfig, BadJournal, BadTrace, BadMessages, Differ, EmptyKey, Refusal, Stop}
+use Rattle.cmd_spec.specs.Names.{BadConfig, BadJournal, BadLine, BadMessage, BadMessages, BadTrace, Command, ConfigFault, Differ, EmptyKey, Err, Files, FoldFiles, KeyedFiles, List, MessageParts, Ok, PackFault, Packs, Parts, Reading, Recording, Refusal, ReplayFiles, Result, Round, SealFault, Some, Sources, Stop, Told, Turn, UnpackFault, Unpacks, UnsealFault, Work, [], bundle, bytes_eq, check, codes, common_prefix_len, config_text, configuration, decode, decoded_text, explain, export, file, fold, gen, gives, if◌then◌else◌, joined, joined_sealed, keep, length, memory_text, messages_of, messages_read, migrate, nat_eq, over, recall, refuses, replay, report, rows_of, sign, trace_in, unbundle, verify, ℕ, ◌>>=◌, ◌∷◌, ◌≡◌}
 use Rattle.gen_options.specs.Given.{Wanted}
 use Rattle.gen_recording.specs.Generated.{config_for, trace_for, journal_for, line_for}
 use Rattle.chain_endings.specs.ExplainedText.{explained_text}
 use Rattle.frame_auth.specs.Faults.{GivesSealed, GivesUnsealed}
-use Rattle.frame_auth.specs.Sealing.{joined_sealed}
 use Rattle.frame_auth.specs.Tags.{filled}
-use Rattle.frame_auth.specs.declared.fault.SealFault.{SealFault}
-use Rattle.frame_auth.specs.declared.fault.UnsealFault.{UnsealFault}
-use Rattle.ids_bundle.specs.Packing.{Packs}
-use Rattle.ids_bundle.specs.Unpacking.{Unpacks}
-use Rattle.ids_bundle.specs.declared.fault.PackFault.{PackFault}
-use Rattle.ids_bundle.specs.declared.fault.UnpackFault.{UnpackFault}
-use Rattle.ids_frame.specs.Messages.{joined}
 use Rattle.message_export.specs.Exported.{exported}
 use Rattle.message_export.specs.declared.exporting.Format.{Format}
-use Rattle.cmd_words.specs.Command.{Command, fold, check, decode, gen, migrate, replay, sign, verify, bundle, unbundle, report, keep, recall, explain, export, Recording, FoldFiles, PairFiles, KeyedFiles, ReplayFiles}
 use Rattle.cmd_spec.specs.Copying.{IsCopyWork, one_file, seal_refusal, unseal_refusal}
-use Rattle.ids_reporter.specs.Sources.{Sources}
 use Rattle.cmd_spec.specs.Keeping.{IsRecallWork, saved_text}
 use Rattle.cmd_spec.specs.Report.{IsReportWork, sources_in}
 use Rattle.cmd_spec.specs.Packing.{IsPackWork, IsUnpackWork, pack_refusal, unpack_refusal}
 use Rattle.cmd_spec.specs.Fold.{fold_outputs, fold_text}
 use Rattle.cmd_spec.specs.FoldedJournal.{folded_in}
 use Rattle.cmd_spec.specs.Replay.{IsReplayWork}
-use Rattle.cmd_files.specs.Writing.{Work}
 
 -- ---- what they hold
 

@@ -1,12 +1,8 @@
 -- The commands `keep` and `recall`: their lines, the file that `recall` writes, and how their work on a disk may stop.
-use Rattle.std.specs.Prelude.{◌≡◌, ℕ, List, length, codes}
+use Rattle.cmd_spec.specs.Names.{Command, DiskStop, List, Work, codes, keep, length, memory_text, recall, ℕ, ◌≡◌}
 use Rattle.ids_types.specs.MemoryRow.{Row}
-use Rattle.cmd_files.specs.Writing.{Work}
-use Rattle.cmd_files.specs.declared.stop.DiskStop.{DiskStop}
 use Rattle.cmd_files.specs.declared.stop.DiskStop.TheVariants.{Failed, Damaged}
 use Rattle.cmd_spec.specs.Copying.{count_text, one_file}
-use Rattle.cmd_spec.specs.Names.{memory_text}
-use Rattle.cmd_words.specs.Command.{Command, keep, recall}
 
 -- the line `saved T`, with its line feed
 abbrev pub saved_text : ℕ → List ℕ

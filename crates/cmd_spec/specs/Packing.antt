@@ -1,16 +1,9 @@
 -- The commands `bundle` and `unbundle`: the file that they write, their text, and why they refuse what they read.
-use Rattle.std.specs.Prelude.{◌≡◌, ℕ, List, ◌++◌, length, Option, Some, None, Ok, codes, decimal}
-use Rattle.ids_bundle.specs.Packing.{ArePacked}
+use Rattle.cmd_spec.specs.Names.{ArePacked, BadMessages, BadUnit, List, None, Ok, Option, PackFault, Refusal, Some, TooLarge, UnpackFault, Unpacks, Work, codes, decimal, joined, length, ℕ, ◌++◌, ◌≡◌}
 use Rattle.ids_bundle.specs.Units.{Run, all_of, units}
-use Rattle.ids_bundle.specs.Unpacking.{Unpacks}
-use Rattle.ids_bundle.specs.declared.fault.PackFault.{PackFault}
-use Rattle.ids_bundle.specs.declared.fault.PackFault.TheVariants as packing
-use Rattle.ids_bundle.specs.declared.fault.UnpackFault.{UnpackFault}
-use Rattle.ids_bundle.specs.declared.fault.UnpackFault.TheVariants as unpacking
-use Rattle.ids_frame.specs.Messages.{joined}
-use Rattle.cmd_files.specs.Writing.{Work}
 use Rattle.cmd_spec.specs.Copying.{one_file}
-use Rattle.cmd_spec.specs.Names.{Refusal, BadMessages, TooLarge, BadUnit}
+use Rattle.ids_bundle.specs.declared.fault.PackFault.TheVariants as packing
+use Rattle.ids_bundle.specs.declared.fault.UnpackFault.TheVariants as unpacking
 
 -- the line `units U messages M`, with its line feed
 abbrev pub units_text : (units messages : ℕ) → List ℕ

@@ -1,9 +1,6 @@
 -- The command `replay`: the files that it writes, and its text.
-use Rattle.std.specs.Prelude.{◌≡◌, ℕ, List, [], ◌∷◌, ◌++◌, length, filter, sum_by, codes, decimal}
-use Rattle.cmd_spec.specs.Names.{Parts, Turn, Loss, Round, told, entries_of, misses_context, messages_of, rows_of, memory_text, journal_text}
-use Rattle.cmd_words.specs.Command.{ReplayFiles}
+use Rattle.cmd_spec.specs.Names.{List, Loss, Output, Parts, ReplayFiles, Round, Turn, Work, [], codes, decimal, entries_of, filter, journal_text, length, memory_text, messages_of, misses_context, rows_of, sum_by, told, ℕ, ◌++◌, ◌∷◌, ◌≡◌}
 use Rattle.cmd_spec.specs.Headline.{IsOneHistory}
-use Rattle.cmd_files.specs.Writing.{Output, Work}
 
 -- the line `turns T entries E losses L without W`, with its line feed
 abbrev pub replay_line : (turns entries losses without : ℕ) → List ℕ

@@ -1,14 +1,9 @@
 -- The command `report`: what its input files hold, the file that it writes, and its text.
-use Rattle.std.specs.Prelude.{◌≡◌, ◌==◌, ℕ, Bool, true, false, List, [], ◌∷◌, ◌++◌, length, sum_by, Result, Ok, Err, codes, decimal}
-use Rattle.std.specs.List.{list_any}
-use Rattle.ids_frame.specs.Messages.{joined}
+use Rattle.cmd_spec.specs.Names.{BadMessage, BadSource, Bool, Err, Instance, List, MessageParts, Ok, Reading, Result, Sources, Work, [], codes, decimal, false, file, gives, instance_of, joined, length, list_any, messages_read, refuses, sum_by, true, ℕ, ◌++◌, ◌==◌, ◌>>=◌, ◌∷◌, ◌≡◌}
 use Rattle.ids_reporter.specs.Forwarding.{AreMerged}
-use Rattle.ids_reporter.specs.Sources.{Sources, instance_of}
 use Rattle.ids_reporter.specs.declared.index.Instance.{Instance as Managers}
 use Rattle.ids_reporter.specs.declared.index.Instance.TheVariants.{Empty, One, Mixed}
-use Rattle.cmd_files.specs.Writing.{Work}
 use Rattle.cmd_spec.specs.Copying.{one_file}
-use Rattle.cmd_spec.specs.Names.{MessageParts, messages_read, BadMessage, Reading, file, gives, refuses, ◌>>=◌, BadSource, Instance}
 
 -- ---- sources
 

@@ -1,12 +1,6 @@
 -- How a run ends that answers something beside its status.
-use Rattle.cmd_steps.proofs.Names.{◌≡◌, ◌≢◌, ◌∙◌, ℕ, List, Option, None, Some, Ok, Err, Bor, IsTrue, refl, sym, subst, inl, inr, arith, Result, IfOk, ⊤, usage, row_of, Shelved, Heard, WriteFault, Failed, MemoryRefused, Stop, CannotRead, Refused, OnDisk, CannotWrite, NoMemory, Command, Finished, RanWith, RunsWith, IsAnswered, TellsFinished, EndsAs, WasDone, finished_end, Puts, Says, Tells, put_status, plain_stop}
-use Rattle.ids_outside.specs.Files.{Files}
-use Rattle.cmd_files.proofs.ExitLemmas.{left_with}
-use Rattle.std.specs.Result.{IsErrAnd}
-use Rattle.cmd_files.specs.Texts.{disk_status}
-use Rattle.cmd_files.specs.Writing.{SameBut}
+use Rattle.cmd_steps.proofs.Names.{Bor, CannotRead, CannotWrite, Command, EndsAs, Err, Failed, Files, Finished, Heard, IfOk, IsAnswered, IsErrAnd, IsTrue, List, MemoryRefused, NoMemory, None, Ok, OnDisk, Option, Puts, RanWith, Refused, Result, RunsWith, SameBut, Says, Shelved, Some, Stop, Tells, TellsFinished, WasDone, WriteFault, arith, disk_some, disk_status, ended_others, ended_ran, finished_end, inl, inr, left_with, plain_stop, put_status, refusal_some, row_of, subst, sym, ℕ, ⊤, ◌∙◌, ◌≡◌, ◌≢◌}
 use Rattle.cmd_steps.specs.Answered.{written_in}
-use Rattle.cmd_spec.proofs.RunLemmas.{disk_some, ended_others, ended_ran, refusal_some}
 
 module _ (status : ℕ) (before after : Heard) where
   -- a text that does not go with status 0 does not end with it
@@ -67,13 +61,6 @@ module _ {M : Type 0} (command : Command) (Tell : M → List ℕ → Files → F
 
 module _ {F M : Type 0} (command : F → Command) (Tell : F → M → List ℕ → Files → Files → Type 0) (asked : Option F)
     (status : ℕ) (old new : Shelved) (before after : Heard) where
-  -- the words are not in form
-  pub misused_with : None ≡ asked → Puts usage 2 status before after
-      → RunsWith command Tell asked None status old old before after
-  misused_with none puts =
-      subst (λ f. RunsWith command Tell f None status old old before after) none
-      (record { misused = record { files = λ name. refl; no_fault = refl; puts = puts }; none = refl })
-
   -- what the words ask for ran
   pub asked_with : (files : F) (answer : Option M) → Some files ≡ asked
       → RanWith (command files) (Tell files) answer status old new before after

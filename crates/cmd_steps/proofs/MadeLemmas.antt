@@ -1,14 +1,7 @@
 -- A command that writes what it made, or could not make it.
-use Rattle.cmd_steps.proofs.Names.{◌≡◌, List, ℕ, Bor, Ok, Err, refl, inl, Result, Vec, Global, Shelved, Stop, CannotRead, Refused, OnDisk, CannotWrite, NoMemory, Command, Task, Does, HasCome, Makes, EndsAs, Reads, WasDone, does, only_said, plain_end, plain_stop, reading_of, seen_as, written_by}
-use Rattle.std.proofs.Common.{inr, Bool, true, false, [], ◌∷◌}
-use Rattle.std.proofs.lemmas.Bool.{and_parts, cases_Bool}
-use Rattle.std.proofs.lemmas.Slice.Eq.{bytes_eq-Decides}
-use Rattle.std.specs.List.{list_any}
-use Rattle.std.specs.Prelude.{◌&&◌, not, bytes_eq}
+use Rattle.cmd_steps.proofs.Names.{Bool, Bor, CannotRead, CannotWrite, Command, Does, EndsAs, Err, Global, HasCome, List, Makes, NoMemory, Ok, OnDisk, Reads, Refused, Result, Shelved, Stop, Task, Vec, WasDone, [], and_parts, are_names, bytes_eq, bytes_eq-Decides, cannot_do, cases_Bool, does, false, inl, inr, is_name, list_any, not, only_said, plain_end, plain_stop, reading_ends, reading_of, refl, seen_as, true, work_done, written_by, ℕ, ◌&&◌, ◌∷◌, ◌≡◌}
 use Rattle.cmd_files.specs.Plain.{plain_refusal}
 use Rattle.cmd_files.specs.Writing.{AreApart, IsNoneOf}
-use Rattle.cmd_spec.proofs.EndLemmas.{cannot_do, reading_ends, work_done}
-use Rattle.cmd_words.specs.Command.{are_names, is_name}
 
 -- ---- names
 

@@ -1,53 +1,35 @@
 -- The names that proofs of runs stand on.
-pub use Rattle.filter_chain.specs.History.{messages_of, rows_of}
-pub use Rattle.chain_plain.specs.Telling.{ends_of}
-pub use Rattle.chain_plain.specs.declared.folded.Folded.{Folded}
-pub use Rattle.config_json.specs.Configured.{configuration}
-pub use Rattle.config_json.specs.Printed.{config_text}
+unfoldable pub use Rattle.cmd_spec.specs.Judge.{reading_of}
+pub use Rattle.chain_plain.specs.Recorded.{CanTake, RiseFrom, turn_with}
+pub use Rattle.chain_plain.specs.Telling.{IsReady}
+pub use Rattle.cmd_files.proofs.ExitLemmas.{left_with}
+pub use Rattle.cmd_files.proofs.ReadingLemmas.{goes_on, judged, left_reading, over_parts, over_then, read_none, read_over, stops_early}
+pub use Rattle.cmd_files.specs.Texts.{disk_status}
+pub use Rattle.cmd_files.specs.Writing.{StandsInPart}
+pub use Rattle.cmd_spec.proofs.EndLemmas.{cannot_do, left_ends, left_unread, reading_ends, task_found, work_done, work_unwritten}
+pub use Rattle.cmd_spec.proofs.JournalLemmas.{can_fold, cut_at_ends, lines_are_few}
+pub use Rattle.cmd_spec.proofs.Names.{Bool, Bor, Deserves, Instance, IsNoneOf, KeepFiles, Keyed, None, Option, Refusal, Result, StandUpTo, Vec, Writes, and_parts, ap, append_assoc, arith, bytes_eq, bytes_eq-Decides, cases_Bool, decode_work, file, gives, inl, inr, keep, keeps, length-append, length-map, messages_judged, recall, recalls, refl, refuses, reverse_onto, rounds_in, row_of, subst, sym, told_in, trace_in, true, ⊤, ◌&&◌, ◌++◌, ◌>>=◌, ◌∙◌, ◌≢◌}
+pub use Rattle.cmd_spec.proofs.RunLemmas.{RanSo, did_work, disk_some, ended_others, ended_ran, ended_so, none_deserved, ran_others, refusal_some, served_ends, words_starved}
+pub use Rattle.cmd_spec.specs.Copying.{IsCopyWork}
+pub use Rattle.cmd_spec.specs.Report.{unless_clash}
+pub use Rattle.cmd_steps.specs.Words.{AllByRecursion, AreWritten, AskedFor, BadMessage, CanReport, CannotRead, CannotWrite, Command, Cuts, Does, EmptyKey, EndsAs, Entry, Err, Failed, Files, Finished, FoldFiles, Folded, Global, HasCome, Heard, IfErr, IfOk, IsAnswered, IsJournal, IsOneHistory, IsOutcome, IsTrue, List, Makes, MemoryRefused, MessageParts, NoMemory, Ok, OnDisk, OneFails, Output, PairFiles, Parts, PutCause, Puts, Ran, RanCommand, RanWith, Reading, Reads, Recorded, Refused, ReplayFiles, Round, RunsWith, SameBut, Says, Shelved, Some, Stop, StopsFor, Task, Tells, TellsFinished, Told, Turn, WasDone, Work, WriteFault, [], answer_status, answer_text, are_names, asked, asked_in, bundle, check, check_judged, clashes, codes, command_of, common_prefix_len, config_found, config_in, configuration, count_text, decode, decode_judged, decoded_text, disk_of, does, enters, entries_of, export_judged, exported_of, false, file_of, files_of, finished_end, five_of, flat_map, fold, fold_line, fold_outputs, fold_work, folded_in, gen, gen_work, held_back_line, is_name, is_of, journal_judged, journal_text, judge, keep_files_of, key_judged, keyed_in, keyed_of, length, list_any, lost_contexts, map, memory_text, messages_of, messages_read, migrate, migrates, misses_context, names_of, nat_eq, one_file, only_said, over, packs, pair_of, plain_end, plain_of, plain_stop, put_status, recorded_in, recording, replay, replay_of, replay_outputs, replay_work, replays, report, report_files_of, report_of, report_text, reports, reverse, rows_of, seals, seen_as, sign, sized_of, source_found, source_in, sources_in, stop_of_write, string_bytes, sum_by, three_of, told, trace_judged, turn_told, unbundle, unpacks, unseals, usage, verify, without_context, work_of, written_by, written_of, ℕ, ◌*◌, ◌+◌, ◌<◌, ◌^◌, ◌↔◌, ◌∷◌, ◌≡◌, ◌≤◌}
+pub use Rattle.cmd_words.specs.Command.{explain, export}
+pub use Rattle.filter_chain.specs.History.{last_tick}
+pub use Rattle.ids_frame.proofs.DecodeLemmas.{Front, are_bytes, decode_tells}
 pub use Rattle.gen_options.specs.Given.{given_of}
-pub use Rattle.ids_config.specs.Parts.{Parts}
-pub use Rattle.ids_outside.specs.Files.{SameFiles}
-pub use Rattle.ids_outside.specs.Shelved.{Shelved}
-pub use Rattle.ids_outside.specs.Sinks.{Heard}
-pub use Rattle.ids_outside.specs.declared.faults.WriteFault.{WriteFault}
-pub use Rattle.ids_outside.specs.declared.faults.WriteFault.TheVariants.{Failed, NoMemory as MemoryRefused}
-pub use Rattle.ids_types.specs.Turns.{Turn, entries_of}
-pub use Rattle.ids_types.specs.declared.entry.Entry.{Entry}
-pub use Rattle.ids_types.specs.declared.loss.Loss.{Loss}
-pub use Rattle.cmd_steps.specs.Answered.{Finished, IsAnswered, RanWith, RunsWith, TellsFinished, finished_end}
-pub use Rattle.cmd_steps.specs.Made.{HasCome, Makes, work_of}
-pub use Rattle.cmd_steps.specs.Outcome.{IsOutcome}
-pub use Rattle.journal.specs.Answers.{told}
-pub use Rattle.history_spec.specs.Contexts.{misses_context}
-pub use Rattle.history_spec.specs.Rounds.{Round}
-pub use Rattle.cmd_files.specs.Contents.{file_of}
-pub use Rattle.cmd_files.specs.Saying.{Puts, Says, Tells, put_status}
-pub use Rattle.cmd_files.specs.Plain.{plain_end, plain_stop}
-pub use Rattle.cmd_files.specs.Reading.{Judges, Reading, Reads, file, gives, over, reads, refuses, seen_as, stop_of_config, ◌>>=◌}
-pub use Rattle.cmd_files.specs.Texts.{row_of, stop_status, stop_text}
-pub use Rattle.cmd_files.specs.Writing.{AreWritten, CanWrite, Cuts, SameBut, names_of, output_of, stop_of_write}
-pub use Rattle.cmd_files.specs.declared.stop.Refusal.{Refusal}
-pub use Rattle.cmd_files.specs.declared.stop.Refusal.TheVariants.{BadJournal, Differ, EmptyKey}
-pub use Rattle.cmd_files.specs.declared.stop.Stop.{Stop}
-pub use Rattle.cmd_files.specs.declared.stop.Stop.TheVariants.{CannotRead, CannotWrite, NoMemory, OnDisk, Refused}
-pub use Rattle.cmd_spec.specs.Copying.{one_file, seal_refusal, task_stop, unseal_refusal}
-pub use Rattle.cmd_spec.specs.Fold.{fold_line, fold_outputs, fold_text}
-pub use Rattle.cmd_spec.specs.FoldedJournal.{held_back_line}
-pub use Rattle.cmd_spec.specs.Headline.{IsOneHistory}
-pub use Rattle.cmd_spec.specs.Judge.{AskedFor, Does, Keyed, Recorded, Refuses, Task, check_judged, only_said, decode_judged, does, fold_work, gen_work, judge, key_judged, keyed_in, config_in, journal_judged, told_in, rounds_in, asked_in, reading_of, migrates, packs, recorded_in, replays, reports, seals, unpacks, unseals}
-pub use Rattle.cmd_spec.specs.Packing.{pack_refusal, runs_text, unpack_refusal}
-pub use Rattle.cmd_spec.specs.Replay.{lost_contexts, replay_outputs, replay_work, without_context}
-pub use Rattle.cmd_spec.specs.Run.{EndsAs, StopsFor, WasDone}
-pub use Rattle.cmd_words.specs.Command.{CheckFiles, Command, FoldFiles, KeyedFiles, PairFiles, ReplayFiles, SizedFiles, bundle, check, fold, gen, migrate, replay, report, sign, unbundle, usage, verify, written_by}
-pub use Rattle.cmd_words.specs.CommandView.{asked, files_of, five_of, keyed_of, pair_of, recording, sized_of, three_of}
-pub use Rattle.std.proofs.Common.{Bor, Err, IsTrue, List, None, Ok, Option, Some, ap, arith, drop, inl, inr, length, length-drop, min, nat_eq, refl, reverse, rules, string_bytes, subst, sym, take, ℕ, ◌++◌, ◌+◌, ◌-◌, ◌∙◌, ◌∷◌, ◌≡◌, ◌≢◌, ◌≤◌}
-pub use Rattle.std.proofs.lemmas.Bool.{cases_Bool}
-pub use Rattle.std.proofs.lemmas.Grind.{common_steps}
-pub use Rattle.std.proofs.lemmas.List.{length-reverse}
+pub use Rattle.ids_frame.specs.Message.{FitsMessage}
+pub use Rattle.ids_frame.specs.Messages.{AreMessages, joined}
+pub use Rattle.ids_reporter.proofs.RunLemmas.{apart_more, small_more}
+pub use Rattle.ids_reporter.specs.Sources.{AreApart, AreSmall, Sources, instance_of, source_at}
+pub use Rattle.ids_types.specs.MemoryRow.{Row}
+pub use Rattle.std.proofs.Common.{drop, get_or, length-drop, min, rules, suc, take, zero, ◌-◌, ◌==◌, ◌⊎◌}
+pub use Rattle.std.proofs.lemmas.Bool.{cases_eq, eq-eqb, eqb-true, le-ltb, leb-true, ne_eqb}
+pub use Rattle.std.proofs.lemmas.Grind.{common_steps, flat_map-append}
+pub use Rattle.std.proofs.lemmas.List.{append-nil, drop_all, drop_more, length-reverse, take_all, take_rest}
 pub use Rattle.std.proofs.lemmas.List.Sums.{common_prefix_len-le, count_by-le-length, length-filter, sum-map}
-pub use Rattle.std.specs.List.{common_prefix_len}
-pub use Rattle.std.specs.Prelude.{IfErr, IfOk, OnOk, Result, Vec, option_map, ⊤}
-pub use Rattle.std.specs.declared.alloc.Global.{Global}
-pub use Rattle.text_spec.specs.DecodedText.{decoded_text}
-pub use Rattle.text_spec.specs.JournalText.{journal_text}
-pub use Rattle.text_spec.specs.MemoryText.{memory_text}
+pub use Rattle.std.specs.List.{All}
+pub use Rattle.std.specs.Prelude.{String, decimal, not, option_map, vec_capacity, ◌/◌}
+pub use Rattle.std.specs.Result.{IsErrAnd, result_ok}
+pub use Rattle.text_spec.specs.DecodedText.{message_line}
+pub use Rattle.text_spec.specs.JournalReading.{journal_in}
+pub use Rattle.text_spec.specs.Words.{line_feed, text_of}

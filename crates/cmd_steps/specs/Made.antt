@@ -1,16 +1,8 @@
 -- A command that makes its files, and its line, of what it has read.
-use Rattle.std.specs.Borrow.{Bor}
-use Rattle.std.specs.Prelude.{◌≡◌, ⊤, List, ℕ, map, Result, Ok, Err}
-use Rattle.cmd_steps.specs.Names.{Shelved, Stop}
-use Rattle.cmd_files.specs.Plain.{plain_refusal}
-use Rattle.cmd_files.specs.Reading.{Reads}
-use Rattle.cmd_files.specs.Writing.{Work, output_of}
+use Rattle.cmd_steps.specs.Names.{Bor, Command, Does, Err, List, Ok, Reads, Refuses, Result, Shelved, Stop, Task, Work, map, one_file, output_of, plain_refusal, reading_of, written_by, ℕ, ⊤, ◌≡◌}
 use Rattle.cmd_files.specs.declared.outputs.NewFile.{NewFile}
 use Rattle.cmd_files.specs.declared.stop.Stop.TheVariants.{Refused, NoMemory}
-use Rattle.cmd_spec.specs.Copying.{one_file}
-use Rattle.cmd_spec.specs.Judge.{Task, Does, Refuses, reading_of}
 use Rattle.cmd_steps.specs.declared.making.Made.{Made}
-use Rattle.cmd_words.specs.Command.{Command, written_by}
 
 -- the command came to this task, of which it does each by files of these names, and has only read files before
 pub record HasCome (command : Command) (task : Task) (names : List (List ℕ)) (first old : Shelved) : Type 0 where

@@ -1,10 +1,14 @@
 -- The names of other crates that many files of this crate cite.
-pub use Rattle.filter_chain.specs.History.{count_of, messages_of, rows_of}
 pub use Rattle.chain_plain.specs.declared.folded.Folded.{Folded}
-pub use Rattle.ids_config.specs.Parts.{Parts}
-pub use Rattle.ids_outside.specs.Files.{Files}
-pub use Rattle.ids_outside.specs.Shelved.{Shelved}
-pub use Rattle.ids_outside.specs.Sinks.{Heard}
-pub use Rattle.ids_types.specs.Turns.{Turn}
-pub use Rattle.history_spec.specs.Rounds.{Round}
-pub use Rattle.cmd_files.specs.declared.stop.Stop.{Stop}
+pub use Rattle.cmd_files.specs.Plain.{plain_refusal}
+pub use Rattle.cmd_files.specs.Reading.{Reads}
+pub use Rattle.cmd_files.specs.Writing.{Cuts, StandsInPart, output_of}
+pub use Rattle.cmd_files.specs.declared.stop.DiskStop.TheVariants.{Damaged, Failed, FailedAfter, WornAfter}
+pub use Rattle.cmd_spec.specs.Copying.{count_text, one_file}
+pub use Rattle.cmd_spec.specs.Judge.{AskedFor, Does, Keyed, Recorded, Refuses, Task, asked_in, reading_of}
+pub use Rattle.cmd_spec.specs.Names.{AreWritten, Bool, Command, Err, Files, Heard, IsTrue, List, None, Ok, Option, PairFiles, Parts, Recording, ReplayFiles, Result, Rose, Round, SameBut, SameFiles, Shelved, Some, Stop, Turn, Work, [], check, codes, count_of, false, fold, if◌then◌else◌, keep, length, messages_of, over, recall, replay, report, reverse, rows_of, written_by, ℕ, ⊤, ◌++◌, ◌+◌, ◌∷◌, ◌≡◌, ◌⊎◌}
+pub use Rattle.cmd_spec.specs.Run.{Misused, RanCommand}
+pub use Rattle.cmd_words.specs.Command.{KeepFiles, ReportFiles, replay_of, command_of}
+pub use Rattle.ids_types.specs.MemoryRow.{Row}
+pub use Rattle.std.specs.Borrow.{Bor}
+pub use Rattle.std.specs.Prelude.{IfSome, String, Vec, flat_map, map, string_bytes, suc, take, zero, ◌<◌, ◌^◌, ◌||◌, ◌≢◌, ◌≤◌}

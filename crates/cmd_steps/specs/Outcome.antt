@@ -1,11 +1,8 @@
 -- What a journal gives when it is folded, as `fold` holds it.
-use Rattle.std.specs.Prelude.{◌≡◌, List, length, reverse}
-use Rattle.cmd_steps.specs.Names.{Parts, Turn, Folded, messages_of, count_of, rows_of}
+use Rattle.cmd_steps.specs.Names.{Cuts, Folded, List, Parts, Recorded, Turn, count_of, length, messages_of, reverse, rows_of, ◌≡◌}
 use Rattle.chain_plain.specs.Recorded.{CanFold}
 use Rattle.ids_types.specs.declared.loss.Loss.{Loss}
 use Rattle.journal.specs.Answers.{told}
-use Rattle.cmd_files.specs.Writing.{Cuts}
-use Rattle.cmd_spec.specs.Judge.{Recorded}
 use Rattle.cmd_steps.specs.declared.inputs.Inputs.{Inputs}
 use Rattle.text_spec.specs.JournalReading.{Fits}
 

@@ -1,8 +1,6 @@
 //! Configurations, and the input files of a recording.
 
-ghost use Rattle.std.specs.Prelude.{IfOk};
-ghost use Rattle.cmd_steps.specs.Outcome.{recorded_of};
-ghost use Rattle.cmd_steps.specs.Words.{IsFoldable, IsOutcome, Reads, config_in, recorded_in, recording, seen_as};
+ghost use Rattle.cmd_steps.specs.Words.{IfOk, IsFoldable, IsOutcome, Reads, config_in, recorded_in, recorded_of, recording, seen_as};
 
 use crate::journals::{Judged, judge_journal};
 use cmd_files::{MAX_CONFIG_BYTES, MAX_JOURNAL_BYTES, Stop, read_file};

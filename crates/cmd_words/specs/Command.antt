@@ -96,37 +96,6 @@ abbrev pub are_names : List (List ℕ) → Bool
 are_names [] = true
 are_names (name ∷ names) = is_name name && not (list_any (bytes_eq name) names) && are_names names
 
--- the command of the words after `fold`
-abbrev pub fold_of : List (List ℕ) → Option Command
-fold_of (config ∷ journal ∷ messages ∷ memory ∷ []) =
-    if are_names (config ∷ journal ∷ messages ∷ memory ∷ []) then
-    Some (fold (record {
-      from = record { config = config; journal = journal };
-      messages = messages;
-      memory = memory;
-    }))
-    else None
-fold_of names = None
-
--- the command of the words after `check`
-abbrev pub check_of : List (List ℕ) → Option Command
-check_of (config ∷ journal ∷ messages ∷ []) =
-    if are_names (config ∷ journal ∷ messages ∷ []) then
-    Some (check (record { from = record { config = config; journal = journal }; messages = messages }))
-    else None
-check_of names = None
-
--- the command of the words after `explain`
-abbrev pub explain_of : List (List ℕ) → Option Command
-explain_of (config ∷ journal ∷ []) =
-    if are_names (config ∷ journal ∷ []) then Some (explain (record { config = config; journal = journal })) else None
-explain_of names = None
-
--- the command of the words after `decode`: the name of a file of messages
-abbrev pub decode_of : List (List ℕ) → Option Command
-decode_of (messages ∷ []) = if is_name messages then Some (decode messages) else None
-decode_of names = None
-
 -- generation into these files, if they are names of different files
 abbrev pub gen_into : Wanted → Option Command
 gen_into wanted =
@@ -191,65 +160,83 @@ export_in (word ∷ messages ∷ []) = do
   if is_name messages then Some (record { format = format; messages = messages }) else None
 export_in names = None
 
--- the command of the words after the program's name, none where they are not in form; those of a replay, of a report
--- and of work on a disk have readings of their own
+-- the files of the words after `report`: 1 to 8 of managers
+abbrev pub report_in : List (List ℕ) → Option ReportFiles
+report_in [] = None
+report_in (target ∷ sources) =
+    if nat_le 1 (length sources) && nat_le (length sources) 8 then Some (record { target = target; sources = sources }) else None
+
+-- and of those after `fold` and `replay`
+abbrev pub fold_in : List (List ℕ) → Option FoldFiles
+fold_in (config ∷ journal ∷ messages ∷ memory ∷ []) =
+    Some (record { from = record { config = config; journal = journal }; messages = messages; memory = memory })
+fold_in names = None
+
+abbrev pub replay_in : List (List ℕ) → Option ReplayFiles
+replay_in (config ∷ trace ∷ messages ∷ memory ∷ journal ∷ []) =
+    Some (record { config = config; trace = trace; messages = messages; memory = memory; journal = journal })
+replay_in names = None
+
+-- the command of a word and at most three names
+abbrev pub of_few : List ℕ → List (List ℕ) → Option Command
+of_few word (messages ∷ []) = if bytes_eq word (codes "decode") then Some (decode messages) else None
+of_few word (first ∷ second ∷ []) =
+    if bytes_eq word (codes "migrate") then Some (migrate (record { source = first; target = second }))
+    else if bytes_eq word (codes "unbundle") then Some (unbundle (record { source = first; target = second }))
+    else if bytes_eq word (codes "recall") then Some (recall (record { source = first; target = second }))
+    else if bytes_eq word (codes "explain") then Some (explain (record { config = first; journal = second }))
+    else None
+of_few word (first ∷ second ∷ third ∷ []) =
+    if bytes_eq word (codes "check")
+    then Some (check (record { from = record { config = first; journal = second }; messages = third }))
+    else if bytes_eq word (codes "keep")
+    then Some (keep (record { disk = first; from = record { config = second; journal = third } }))
+    else None
+of_few word names = None
+
+-- the command of a word and of names of files, if these differ
+unfoldable pub named : List ℕ → List (List ℕ) → Option Command
+named word names =
+    if not (are_names names) then None
+    else if bytes_eq word (codes "fold") then option_map fold (fold_in names)
+    else if bytes_eq word (codes "replay") then option_map replay (replay_in names)
+    else if bytes_eq word (codes "report") then option_map report (report_in names)
+    else of_few word names
+
+-- the command of the words after the program's name, none where they are not in form
 abbrev pub command_of : List (List ℕ) → Option Command
 command_of [] = None
 command_of (word ∷ names) =
-    if bytes_eq word (codes "fold") then fold_of names
-    else if bytes_eq word (codes "check") then check_of names
-    else if bytes_eq word (codes "decode") then decode_of names
-    else if bytes_eq word (codes "gen") then gen_of (word ∷ names)
-    else if bytes_eq word (codes "migrate") then option_map migrate (pair_in names)
+    if bytes_eq word (codes "gen") then gen_of (word ∷ names)
     else if bytes_eq word (codes "sign") then option_map sign (keyed_in names)
     else if bytes_eq word (codes "verify") then option_map verify (keyed_in names)
     else if bytes_eq word (codes "bundle") then option_map bundle (sized_in names)
-    else if bytes_eq word (codes "unbundle") then option_map unbundle (pair_in names)
-    else if bytes_eq word (codes "explain") then explain_of names
     else if bytes_eq word (codes "export") then option_map export (export_in names)
-    else None
+    else named word names
 
--- the files of the words after `replay`
-abbrev pub replay_names : List (List ℕ) → Option ReplayFiles
-replay_names (config ∷ trace ∷ messages ∷ memory ∷ journal ∷ []) =
-    if are_names (config ∷ trace ∷ messages ∷ memory ∷ journal ∷ []) then
-    Some (record { config = config; trace = trace; messages = messages; memory = memory; journal = journal })
-    else None
-replay_names names = None
+-- the files of a command, if it is a replay
+abbrev pub replay_of : Option Command → Option ReplayFiles
+replay_of (Some (replay files)) = Some files
+replay_of command = None
 
--- the files of a replay that the words after the program's name ask for, none where they are not in form
-abbrev pub replay_of : List (List ℕ) → Option ReplayFiles
-replay_of [] = None
-replay_of (word ∷ names) = if bytes_eq word (codes "replay") then replay_names names else None
+-- and if it is a report
+abbrev pub report_of : Option Command → Option ReportFiles
+report_of (Some (report files)) = Some files
+report_of command = None
 
--- the files of the words after `report`: 1 to 8 of managers
-abbrev pub report_names : List (List ℕ) → Option ReportFiles
-report_names [] = None
-report_names (target ∷ sources) =
-    if are_names (target ∷ sources) && nat_le 1 (length sources) && nat_le (length sources) 8
-    then Some (record { target = target; sources = sources })
-    else None
+-- the command, if it is one over a disk
+abbrev pub disk_of : Option Command → Option Command
+disk_of (Some (keep names)) = Some (keep names)
+disk_of (Some (recall names)) = Some (recall names)
+disk_of command = None
 
--- the files of a report that the words after the program's name ask for, none where they are not in form
-abbrev pub report_of : List (List ℕ) → Option ReportFiles
-report_of [] = None
-report_of (word ∷ names) = if bytes_eq word (codes "report") then report_names names else None
-
--- the command of the words after `keep`
-abbrev pub keep_of : List (List ℕ) → Option Command
-keep_of (disk ∷ config ∷ journal ∷ []) =
-    if are_names (disk ∷ config ∷ journal ∷ []) then
-    Some (keep (record { disk = disk; from = record { config = config; journal = journal } }))
-    else None
-keep_of names = None
-
--- the command over a disk that the words after the program's name ask for, none where they are not in form
-abbrev pub disk_command_of : List (List ℕ) → Option Command
-disk_command_of [] = None
-disk_command_of (word ∷ names) =
-    if bytes_eq word (codes "keep") then keep_of names
-    else if bytes_eq word (codes "recall") then option_map recall (pair_in names)
-    else None
+-- the command, if it is none of these: it starts no thread and needs no disk
+abbrev pub plain_of : Option Command → Option Command
+plain_of (Some (replay files)) = None
+plain_of (Some (report files)) = None
+plain_of (Some (keep names)) = None
+plain_of (Some (recall names)) = None
+plain_of command = command
 
 -- the files that the command reads, in the order in which it reads them
 abbrev pub read_by : Command → List (List ℕ)

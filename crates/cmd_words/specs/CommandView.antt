@@ -2,21 +2,19 @@
 use Rattle.std.specs.Prelude.{◌^◌, ◌≤◌, IsTrue, length, map, string_bytes, ⊤}
 use Rattle.gen_options.specs.Given.{given_of}
 use Rattle.gen_options.specs.Ranges.{is_in_range}
-use Rattle.cmd_words.specs.declared.command.FoldNames.{FoldNames}
-use Rattle.cmd_words.specs.declared.command.CheckNames.{CheckNames}
-use Rattle.cmd_words.specs.declared.command.RecordingNames.{RecordingNames}
-use Rattle.cmd_words.specs.declared.disk_words.DiskRequest.{DiskRequest}
-use Rattle.cmd_words.specs.declared.disk_words.KeepNames.{KeepNames}
-use Rattle.cmd_words.specs.declared.disk_words.DiskRequest.TheVariants.{Keep, Recall}
-use Rattle.cmd_words.specs.declared.message_words.ExportNames.{ExportNames}
-use Rattle.cmd_words.specs.declared.message_words.KeyedNames.{KeyedNames}
-use Rattle.cmd_words.specs.declared.message_words.PairNames.{PairNames}
-use Rattle.cmd_words.specs.declared.message_words.SizedNames.{SizedNames}
-use Rattle.cmd_words.specs.declared.report_words.ReportNames.{ReportNames}
+use Rattle.cmd_words.specs.declared.files.FoldNames.{FoldNames}
+use Rattle.cmd_words.specs.declared.files.CheckNames.{CheckNames}
+use Rattle.cmd_words.specs.declared.files.RecordingNames.{RecordingNames}
+use Rattle.cmd_words.specs.declared.files.KeepNames.{KeepNames}
+use Rattle.cmd_words.specs.declared.files.ExportNames.{ExportNames}
+use Rattle.cmd_words.specs.declared.files.KeyedNames.{KeyedNames}
+use Rattle.cmd_words.specs.declared.files.PairNames.{PairNames}
+use Rattle.cmd_words.specs.declared.files.SizedNames.{SizedNames}
+use Rattle.cmd_words.specs.declared.files.ReportNames.{ReportNames}
 use Rattle.cmd_words.specs.declared.command.Request.{Request}
-use Rattle.cmd_words.specs.declared.replay_words.ReplayNames.{ReplayNames}
-use Rattle.cmd_words.specs.declared.command.Request.TheVariants.{Fold, Check, Decode, Gen, Migrate, Sign, Verify, Bundle, Unbundle, Explain, Export}
-use Rattle.cmd_words.specs.Command.{Recording, FoldFiles, CheckFiles, PairFiles, KeyedFiles, SizedFiles, ReplayFiles, ReportFiles, ExportFiles, KeepFiles, Command, fold, check, decode, gen, migrate, sign, verify, bundle, unbundle, replay, keep, recall, explain, export, are_names, written_by}
+use Rattle.cmd_words.specs.declared.files.ReplayNames.{ReplayNames}
+use Rattle.cmd_words.specs.declared.command.Request.TheVariants.{Fold, Check, Decode, Gen, Migrate, Sign, Verify, Bundle, Unbundle, Replay, Report, Keep, Recall, Explain, Export}
+use Rattle.cmd_words.specs.Command.{Recording, FoldFiles, CheckFiles, PairFiles, KeyedFiles, SizedFiles, ReplayFiles, ReportFiles, ExportFiles, KeepFiles, Command, fold, check, decode, gen, migrate, sign, verify, bundle, unbundle, replay, report, keep, recall, explain, export, are_names, written_by}
 
 -- the names of a recording as bytes
 abbrev pub recording : RecordingNames → Recording
@@ -63,6 +61,10 @@ five_of names = record {
   journal = names.journal.now;
 }
 
+-- the names of `keep` as bytes
+abbrev pub keep_files_of : KeepNames → KeepFiles
+keep_files_of names = record { disk = names.disk.now; from = recording names.from }
+
 -- the command that is asked for
 abbrev pub asked : Request → Command
 asked (Fold names) = fold (files_of names)
@@ -74,21 +76,21 @@ asked (Sign names) = sign (keyed_of names)
 asked (Verify names) = verify (keyed_of names)
 asked (Bundle names) = bundle (sized_of names)
 asked (Unbundle names) = unbundle (pair_of names)
+asked (Replay names) = replay (five_of names)
+asked (Report names) = report (report_files_of names)
+asked (Keep names) = keep (keep_files_of names)
+asked (Recall names) = recall (pair_of names)
 asked (Explain names) = explain (recording names)
 asked (Export names) = export (exported_of names)
-
--- the names of `keep` as bytes
-abbrev pub keep_files_of : KeepNames → KeepFiles
-keep_files_of names = record { disk = names.disk.now; from = recording names.from }
-
--- the command over a disk that is asked for
-abbrev pub disk_asked : DiskRequest → Command
-disk_asked (Keep names) = keep (keep_files_of names)
-disk_asked (Recall names) = recall (pair_of names)
 
 -- the names of the files that the command writes differ
 abbrev pub WritesApart : Command → Type 0
 WritesApart command = IsTrue (are_names (written_by command))
+
+-- there are 1 to 8 files of managers
+pub record CanReport (names : ReportNames) : Type 0 where
+  pub some : 1 ≤ length names.sources.now
+  pub few : length names.sources.now ≤ 8
 
 -- what is asked for can be done: the files that it writes have names of their own, and options and numbers are in their
 -- ranges
@@ -98,9 +100,6 @@ CanRun (Gen given) = IsTrue (is_in_range given.options) × WritesApart (gen (giv
 CanRun (Sign names) = names.start ≤ 2 ^ 62
 CanRun (Verify names) = names.start ≤ 2 ^ 62
 CanRun (Bundle names) = 64 ≤ names.size
+CanRun (Replay names) = WritesApart (replay (five_of names))
+CanRun (Report names) = CanReport names
 CanRun other = ⊤
-
--- there are 1 to 8 files of managers
-pub record CanReport (names : ReportNames) : Type 0 where
-  pub some : 1 ≤ length names.sources.now
-  pub few : length names.sources.now ≤ 8

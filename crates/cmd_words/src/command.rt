@@ -1,15 +1,17 @@
-//! The words after the program's name.
+//! The words after the program's name: the one reading of them, for every run.
 
-ghost use Rattle.std.specs.Prelude.{◌≡◌, ◌&&◌, not, map, option_map, string_bytes, bytes_eq, IfOk, IfSome, OnErr, IsTrue};
+ghost use Rattle.std.specs.Prelude.{◌≡◌, ◌∷◌, [], codes, map, option_map, string_bytes, IfOk, IfSome, OnErr, IsTrue};
 ghost use Rattle.gen_options.specs.Given.{given_of};
 ghost use Rattle.gen_options.specs.Ranges.{is_in_range};
-ghost use Rattle.std.specs.List.{list_any};
-ghost use Rattle.cmd_words.specs.Command.{command_of, fold_of, check_of, decode_of, explain_of, gen_of, gen_into, are_read_by_clap, is_name, are_names};
-ghost use Rattle.cmd_words.specs.CommandView.{asked, CanRun};
+ghost use Rattle.cmd_words.specs.Command.{command_of, gen_of, gen_into, are_read_by_clap, are_names, fold, fold_in, named, of_few, replay, replay_in, report_in};
+ghost use Rattle.cmd_words.specs.CommandView.{asked, files_of, five_of, report_files_of, CanReport, CanRun, WritesApart};
 
-use crate::message_words::{
-    ExportNames, KeyedNames, PairNames, SizedNames, exported, keyed, pair, sized,
+use crate::differing::names_differ;
+use crate::files::{
+    CheckNames, ExportNames, FoldNames, KeepNames, KeyedNames, PairNames, RecordingNames,
+    ReplayNames, ReportNames, SizedNames,
 };
+use crate::message_words::{exported, keyed, sized};
 use gen_options::Given;
 use ids_types::NoMemory;
 use std::alloc::Global;
@@ -32,28 +34,6 @@ pub const USAGE: &[u8] = b"usage: idsm replay CONFIG TRACE MESSAGES MEMORY JOURN
        idsm export FORMAT MESSAGES
 ";
 
-/// The files of a recording.
-#[derive(Clone, Copy, Debug)]
-pub struct RecordingNames<'a> {
-    pub config: &'a str,
-    pub journal: &'a str,
-}
-
-/// The files of the command `fold`. The names are not empty and differ.
-#[derive(Clone, Copy, Debug)]
-pub struct FoldNames<'a> {
-    pub from: RecordingNames<'a>,
-    pub messages: &'a str,
-    pub memory: &'a str,
-}
-
-/// The files of the command `check`. The names are not empty and differ.
-#[derive(Clone, Copy, Debug)]
-pub struct CheckNames<'a> {
-    pub from: RecordingNames<'a>,
-    pub messages: &'a str,
-}
-
 /// What a run is asked to do.
 #[derive(Clone, Copy, Debug)]
 pub enum Request<'a> {
@@ -64,17 +44,22 @@ pub enum Request<'a> {
     /// Generates a recording. The options are in their ranges.
     Gen(Given<'a>),
     Migrate(PairNames<'a>),
+    Replay(ReplayNames<'a>),
     Sign(KeyedNames<'a>),
     Verify(KeyedNames<'a>),
     Bundle(SizedNames<'a>),
     Unbundle(PairNames<'a>),
+    Report(ReportNames<'a>),
+    Keep(KeepNames<'a>),
+    /// Writes what a disk keeps, the source, into a file.
+    Recall(PairNames<'a>),
     Explain(RecordingNames<'a>),
     Export(ExportNames<'a>),
 }
 
 /// The command that the words ask for, `None` where they are not in form. Only the words of `gen` take
 /// memory.
-/// Steps: each name compared with each other, at most four; the words of `gen` as clap reads them. Memory: may answer
+/// Steps: each name compared with each other, at most nine; the words of `gen` as clap reads them. Memory: may answer
 /// want of memory, for the words of `gen` alone. By: `asked`, `memory`; read off, clap's part not read.
 pub fn parse(alloc: Global, words: &[String]) -> Result<Option<Request<'_>>, NoMemory>
     ensures asked { IfOk result (λ request. option_map asked request ≡ command_of (map string_bytes words.now)) }
@@ -85,18 +70,12 @@ pub fn parse(alloc: Global, words: &[String]) -> Result<Option<Request<'_>>, NoM
         return Ok(None);
     };
     match word.as_str() {
-        "fold" => Ok(parse_fold(names)),
-        "check" => Ok(parse_check(names)),
-        "decode" => Ok(parse_decode(names)),
         "gen" => parse_gen(alloc, words),
-        "migrate" => Ok(pair(names).map(Request::Migrate)),
         "sign" => Ok(keyed(names).map(Request::Sign)),
         "verify" => Ok(keyed(names).map(Request::Verify)),
         "bundle" => Ok(sized(names).map(Request::Bundle)),
-        "unbundle" => Ok(pair(names).map(Request::Unbundle)),
-        "explain" => Ok(parse_explain(names)),
         "export" => Ok(exported(names).map(Request::Export)),
-        _ => Ok(None),
+        word => Ok(named(word, names)),
     }
 }
 
@@ -130,99 +109,126 @@ fn into_files(given: Given<'_>) -> Option<Request<'_>>
     }
 }
 
-fn parse_decode(words: &[String]) -> Option<Request<'_>>
-    ensures asked { option_map asked result ≡ decode_of (map string_bytes words.now) }
+/// The command whose words are all names of files, if they differ.
+#[tactic(auto, unfolding(crate::specs::Command::named))]
+fn named<'a>(word: &str, names: &'a [String]) -> Option<Request<'a>>
+    ensures asked { option_map asked result ≡ named word.now (map string_bytes names.now) }
     ensures can { IfSome result CanRun }
 {
-    let [messages] = words else {
-        return None;
-    };
-    if messages.is_empty() {
+    if !names_differ(names) {
         return None;
     }
-    Some(Request::Decode(messages.as_str()))
+    match word {
+        "fold" => folded(names).map(Request::Fold),
+        "replay" => replayed(names).map(Request::Replay),
+        "report" => reported(names).map(Request::Report),
+        _ => of_few(word, names),
+    }
 }
 
-fn parse_fold(words: &[String]) -> Option<Request<'_>>
-    ensures asked { option_map asked result ≡ fold_of (map string_bytes words.now) }
-    ensures can { IfSome result CanRun }
+/// The files of the command `fold`.
+fn folded(names: &[String]) -> Option<FoldNames<'_>>
+    requires { IsTrue (are_names (map string_bytes names.now)) }
+    ensures asked { option_map files_of result ≡ fold_in (map string_bytes names.now) }
+    ensures can { IfSome result (λ files. WritesApart (fold (files_of files))) }
 {
-    let [config, journal, messages, memory] = words else {
+    let [config, journal, messages, memory] = names else {
         return None;
     };
-    if !names_differ(words) {
-        return None;
-    }
-    Some(Request::Fold(FoldNames {
+    Some(FoldNames {
         from: RecordingNames {
             config: config.as_str(),
             journal: journal.as_str(),
         },
         messages: messages.as_str(),
         memory: memory.as_str(),
-    }))
+    })
 }
 
-fn parse_check(words: &[String]) -> Option<Request<'_>>
-    ensures asked { option_map asked result ≡ check_of (map string_bytes words.now) }
-    ensures can { IfSome result CanRun }
+/// The files of a replay.
+fn replayed(names: &[String]) -> Option<ReplayNames<'_>>
+    requires { IsTrue (are_names (map string_bytes names.now)) }
+    ensures asked { option_map five_of result ≡ replay_in (map string_bytes names.now) }
+    ensures can { IfSome result (λ files. WritesApart (replay (five_of files))) }
 {
-    let [config, journal, messages] = words else {
+    let [config, trace, messages, memory, journal] = names else {
         return None;
     };
-    if !names_differ(words) {
-        return None;
-    }
-    Some(Request::Check(CheckNames {
-        from: RecordingNames {
-            config: config.as_str(),
-            journal: journal.as_str(),
-        },
-        messages: messages.as_str(),
-    }))
-}
-
-fn parse_explain(words: &[String]) -> Option<Request<'_>>
-    ensures asked { option_map asked result ≡ explain_of (map string_bytes words.now) }
-    ensures can { IfSome result CanRun }
-{
-    let [config, journal] = words else {
-        return None;
-    };
-    if !names_differ(words) {
-        return None;
-    }
-    Some(Request::Explain(RecordingNames {
+    Some(ReplayNames {
         config: config.as_str(),
+        trace: trace.as_str(),
+        messages: messages.as_str(),
+        memory: memory.as_str(),
         journal: journal.as_str(),
-    }))
+    })
 }
 
-/// No word is empty, and no two are the same.
-pub(crate) fn names_differ(words: &[String]) -> bool
-    ensures { result ≡ are_names (map string_bytes words.now) }
+/// The files of a report: one that is written, and 1 to 8 of managers.
+fn reported(names: &[String]) -> Option<ReportNames<'_>>
+    ensures asked { option_map report_files_of result ≡ report_in (map string_bytes names.now) }
+    ensures can { IfSome result CanReport }
 {
-    let mut left = words;
-    while let Some((word, rest)) = left.split_first() {
-        if !may_precede(word.as_str(), rest) {
-            return false;
-        }
-        left = rest;
+    let (target, sources) = names.split_first()?;
+    (!sources.is_empty() && sources.len() <= 8).then_some(ReportNames {
+        target: target.as_str(),
+        sources,
+    })
+}
+
+/// The command of a word and at most three names.
+fn of_few<'a>(word: &str, names: &'a [String]) -> Option<Request<'a>>
+    ensures asked { option_map asked result ≡ of_few word.now (map string_bytes names.now) }
+    ensures can { IfSome result CanRun }
+{
+    match names {
+        [messages] => (word == "decode").then_some(Request::Decode(messages.as_str())),
+        [first, second] => of_two(word, first.as_str(), second.as_str()),
+        [first, second, third] => of_three(word, first.as_str(), second.as_str(), third.as_str()),
+        _ => None,
     }
-    true
 }
 
-/// The word is not empty, and none of these.
-#[tactic(auto, using(crate::proofs::CommandLemmas::any_of_mapped))]
-pub(crate) fn may_precede(word: &str, names: &[String]) -> bool
-    ensures { result ≡ (is_name word.now
-        && not (list_any (bytes_eq word.now) (map string_bytes names.now))) }
+/// The command of a word and two names.
+fn of_two<'a>(word: &str, first: &'a str, second: &'a str) -> Option<Request<'a>>
+    ensures asked { option_map asked result ≡ of_few word.now (first.now ∷ second.now ∷ []) }
+    ensures can { IfSome result CanRun }
 {
-    !word.is_empty() && !is_among(word, names)
+    let files = PairNames {
+        source: first,
+        target: second,
+    };
+    match word {
+        "migrate" => Some(Request::Migrate(files)),
+        "unbundle" => Some(Request::Unbundle(files)),
+        "recall" => Some(Request::Recall(files)),
+        "explain" => Some(Request::Explain(RecordingNames {
+            config: first,
+            journal: second,
+        })),
+        _ => None,
+    }
 }
 
-fn is_among(name: &str, names: &[String]) -> bool
-    ensures { result ≡ list_any (λ other. bytes_eq name.now (string_bytes other)) names.now }
+/// The command of a word and three names.
+fn of_three<'a>(word: &str, first: &'a str, second: &'a str, third: &'a str) -> Option<Request<'a>>
+    ensures asked { option_map asked result ≡ of_few word.now (first.now ∷ second.now ∷ third.now ∷ []) }
+    ensures can { IfSome result CanRun }
 {
-    names.iter().any(|other| name == other.as_str())
+    match word {
+        "check" => Some(Request::Check(CheckNames {
+            from: RecordingNames {
+                config: first,
+                journal: second,
+            },
+            messages: third,
+        })),
+        "keep" => Some(Request::Keep(KeepNames {
+            disk: first,
+            from: RecordingNames {
+                config: second,
+                journal: third,
+            },
+        })),
+        _ => None,
+    }
 }

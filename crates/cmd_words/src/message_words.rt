@@ -1,11 +1,12 @@
-//! The words of commands that make a file of another one.
+//! The words of commands of which not every word names a file.
 
 ghost use Rattle.std.specs.Prelude.{◌≡◌, ◌≤◌, ◌^◌, map, option_map, string_bytes, IfSome};
 ghost use Rattle.cmd_words.specs.Command.{export_in, format_of, keyed_in, number_between, pair_in, sized_in};
 ghost use Rattle.text_spec.specs.Numbers.{capped, number_in};
 ghost use Rattle.cmd_words.specs.CommandView.{exported_of, keyed_of, pair_of, sized_of};
 
-use crate::command::{may_precede, names_differ};
+use crate::differing::{may_precede, names_differ};
+use crate::files::{ExportNames, KeyedNames, PairNames, SizedNames};
 use message_export::Format;
 use text_spec::Words;
 
@@ -17,38 +18,8 @@ const LEAST_SIZE: u64 = 64;
 
 const MOST_SIZE: u64 = 65_535;
 
-/// A file that is read, and one that is written. The names are not empty and differ.
-#[derive(Clone, Copy, Debug)]
-pub struct PairNames<'a> {
-    pub source: &'a str,
-    pub target: &'a str,
-}
-
-/// The files of `sign` and `verify`, and the counter of the first message, at most 2^62. The names are not empty and
-/// differ.
-#[derive(Clone, Copy, Debug)]
-pub struct KeyedNames<'a> {
-    pub key: &'a str,
-    pub start: u64,
-    pub files: PairNames<'a>,
-}
-
-/// The file that `export` reads, and what it puts its messages as. The name is not empty.
-#[derive(Clone, Copy, Debug)]
-pub struct ExportNames<'a> {
-    pub format: Format,
-    pub messages: &'a str,
-}
-
-/// The files of `bundle`, and how many bytes of messages a unit may have, at least 64.
-#[derive(Clone, Copy, Debug)]
-pub struct SizedNames<'a> {
-    pub size: u16,
-    pub files: PairNames<'a>,
-}
-
 /// Two names that differ.
-pub(crate) fn pair(words: &[String]) -> Option<PairNames<'_>>
+fn pair(words: &[String]) -> Option<PairNames<'_>>
     ensures { option_map pair_of result ≡ pair_in (map string_bytes words.now) }
 {
     let [source, target] = words else {

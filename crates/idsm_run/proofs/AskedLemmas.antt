@@ -1,10 +1,6 @@
 -- What the program does, where less is said of how its disk was made.
-use Rattle.std.proofs.Common.{List, ℕ, inl, inr}
-use Rattle.std.specs.Prelude.{String}
-use Rattle.ids_outside.specs.Shelved.{Shelved}
-use Rattle.ids_outside.specs.Sinks.{Heard}
+use Rattle.cmd_steps.proofs.Names.{Global, Heard, List, Shelved, String, inl, inr, ℕ}
 use Rattle.memory_disk.specs.Disks.{Shown}
-use Rattle.cmd_steps.specs.Words.{Global}
 use Rattle.idsm_run.specs.Asked.{RunsAs, TopCall, on_disk, plain, replays, reports}
 
 module _ {D : Type 0} (Makes Less : String Global → D → Type 0) (weaker : (name : String Global) (disk : D) → Makes name disk → Less name disk)

@@ -1,3 +1,4 @@
 pub mod AskedLemmas
 pub mod FoldLemmas
+pub mod PerformedLemmas
 pub mod ReplayLemmas

@@ -1,9 +1,7 @@
 -- What a replay gives is the work that its input files ask for, and how its run ends.
-use Rattle.cmd_steps.proofs.Names.{◌≡◌, ◌∙◌, ℕ, List, length, refl, sym, sum-map, Parts, Round, told, rows_of, memory_text, journal_text, Cuts, Does, ReplayFiles, replays, replay_outputs, replay_work, lost_contexts, without_context, IsOneHistory}
+use Rattle.cmd_steps.proofs.Names.{Cuts, Does, IsOneHistory, List, Parts, ReplayFiles, Round, Work, cut_at_ends, journal_text, length, lost_contexts, memory_text, refl, replay_outputs, replay_work, replays, rows_of, sum-map, sym, told, without_context, ℕ, ◌∙◌, ◌≡◌}
 use Rattle.idsm_run.specs.Replayed.{RunManager}
 use Rattle.trace_replay.specs.Replayed.{Gives, IsReplay}
-use Rattle.cmd_files.specs.Writing.{Work}
-use Rattle.cmd_spec.proofs.JournalLemmas.{cut_at_ends}
 use Rattle.cmd_spec.specs.Replay.{replay_text}
 
 -- ---- what a replay gives

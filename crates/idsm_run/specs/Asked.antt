@@ -1,13 +1,10 @@
 -- Which run the words ask for, and what it does.
-use Rattle.std.specs.Prelude.{◌≡◌, ◌⊎◌, ◌||◌, ℕ, Bool, List, [], ◌∷◌, Option, String, codes, string_bytes, if◌then◌else◌}
+use Rattle.cmd_steps.specs.Names.{Heard, List, Option, Shelved, String, [], codes, if◌then◌else◌, string_bytes, ℕ, ◌||◌, ◌∷◌, ◌≡◌, ◌⊎◌}
 use Rattle.idsm_run.specs.Replayed.{Replays}
-use Rattle.ids_outside.specs.Shelved.{Shelved}
-use Rattle.ids_outside.specs.Sinks.{Heard}
 use Rattle.memory_disk.specs.Disks.{Shown}
 use Rattle.cmd_disk.specs.Runs.{RunsOnDisk}
 use Rattle.cmd_messages.specs.Reported.{Reports}
-use Rattle.cmd_steps.specs.Words.{Global, Ran, are_read_by_clap, asks, command_of, replay_of, report_of}
-use Rattle.cmd_words.specs.Command.{disk_command_of}
+use Rattle.cmd_steps.specs.Words.{Global, Ran, are_read_by_clap, asks, command_of, disk_of, plain_of, replay_of, report_of}
 
 -- a run over a disk, of a replay, of a report, or of a command that needs files alone
 pub data TopCall : Type 0 where
@@ -37,7 +34,7 @@ pub record RunsOnMade {D : Type 0} (Makes : String Global → D → Type 0) (sho
   pub disk : D
   pub makes : Makes name disk
   pub left : D
-  pub runs : RunsOnDisk shows (disk_command_of words) status old new before after disk left
+  pub runs : RunsOnDisk shows (disk_of (command_of words)) status old new before after disk left
 
 -- memory for the name was refused, and nothing was touched
 pub record WantsName (status : ℕ) (old new : Shelved) (before after : Heard) : Type 0 where
@@ -56,7 +53,7 @@ abbrev pub RunsAs : {D : Type 0} → (String Global → D → Type 0) → (D →
     → Heard → Heard → Type 0
 RunsAs Makes shows on_disk words status old new before after =
     RunsOnMade Makes shows words status old new before after ⊎ WantsName status old new before after
-RunsAs Makes shows replays words status old new before after = RunsApart (Replays (replay_of words)) status old new before after
-RunsAs Makes shows reports words status old new before after = RunsApart (Reports (report_of words)) status old new before after
+RunsAs Makes shows replays words status old new before after = RunsApart (Replays (replay_of (command_of words))) status old new before after
+RunsAs Makes shows reports words status old new before after = RunsApart (Reports (report_of (command_of words))) status old new before after
 RunsAs Makes shows plain words status old new before after =
-    Ran (command_of words) (are_read_by_clap words) status old new before after
+    Ran (plain_of (command_of words)) (are_read_by_clap words) status old new before after

@@ -1,19 +1,14 @@
 -- What a run of `replay` does, with the manager that it answers.
-use Rattle.std.specs.Prelude.{◌≡◌, ℕ, List, Option, Ok}
+use Rattle.cmd_steps.specs.Names.{AreWritten, AskedFor, Files, Heard, List, Ok, Option, Parts, ReplayFiles, Round, Shelved, asked_in, over, replay, ℕ, ◌≡◌}
 use Rattle.buffer_classes.specs.Buffers.{Buffer}
 use Rattle.event_chain.specs.Chained.{Chained}
 use Rattle.main_function.specs.declared.manager.Manager.{Manager}
 use Rattle.trace_replay.specs.Replayed.{Gives, IsReplay, gives}
 use Rattle.trace_replay.specs.declared.replaying.Replayed.{Replayed as Given}
 use Rattle.cmd_steps.specs.Answered.{RanWith, RunsWith}
-use Rattle.cmd_steps.specs.Names.{Parts, Round, Files, Shelved, Heard}
-use Rattle.cmd_words.specs.Command.{ReplayFiles, replay}
 use Rattle.cmd_spec.specs.Headline.{IsOneHistory}
 use Rattle.idsm_run.specs.declared.traces.Asked.{Asked}
-use Rattle.cmd_files.specs.Reading.{over}
-use Rattle.cmd_spec.specs.Judge.{AskedFor, asked_in}
 use Rattle.cmd_spec.specs.Replay.{replay_work}
-use Rattle.cmd_files.specs.Writing.{AreWritten}
 
 -- the manager of a replay
 abbrev pub RunManager : Type 0

@@ -1,7 +1,6 @@
 //! The command `explain`: what became of each item of a recorded history.
 
-ghost use Rattle.cmd_steps.specs.Words.{EndsAs, plain_end, recording};
-ghost use Rattle.cmd_words.specs.Command.{explain as explain_command};
+ghost use Rattle.cmd_steps.specs.Words.{EndsAs, explain_command, plain_end, recording};
 
 use cmd_files::Stop;
 use cmd_steps::{Inputs, Judged, read_inputs};

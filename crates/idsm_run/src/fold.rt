@@ -1,7 +1,6 @@
 //! The command `fold`: the messages and the event memory of a recorded history.
 
-ghost use Rattle.std.specs.Prelude.{◌≡◌, length, map, IfOk};
-ghost use Rattle.cmd_steps.specs.Words.{CanWrite, Cuts, EndsAs, WritesApart, entries_of, files_of, fold as fold_command, fold_line as line_of, fold_outputs, output_of, plain_end};
+ghost use Rattle.cmd_steps.specs.Words.{CanWrite, Cuts, EndsAs, IfOk, WritesApart, entries_of, files_of, fold as fold_command, fold_outputs, length, fold_line as line_of, map, output_of, plain_end, ◌≡◌};
 
 use chain_plain::Folded;
 use cmd_files::{NewFile, Stop};

@@ -1,10 +1,9 @@
 //! The command `gen`: a generated configuration, trace and journal.
 
-ghost use Rattle.std.specs.Prelude.{◌≡◌, map, IsTrue};
+ghost use Rattle.cmd_steps.specs.Words.{CanWrite, EndsAs, IsTrue, WritesApart, gen as gen_command, gen_work, map, output_of, plain_end, ◌≡◌};
 ghost use Rattle.gen_options.specs.Given.{given_of};
 ghost use Rattle.gen_options.specs.Ranges.{is_in_range};
 ghost use Rattle.gen_recording.specs.Generated.{config_for, journal_for, trace_for};
-ghost use Rattle.cmd_steps.specs.Words.{CanWrite, EndsAs, WritesApart, gen as gen_command, gen_work, output_of, plain_end};
 
 use cmd_files::{NewFile, Stop};
 use cmd_steps::write_work;

@@ -1,7 +1,7 @@
 //! The top calls: from the words of a command to its status.
 
-ghost use Rattle.std.specs.Prelude.{IsTrue, map, string_bytes};
-ghost use Rattle.cmd_steps.specs.Words.{CanRun, EndsAs, Ran, SameBut, are_read_by_clap, asked, command_of, plain_end, replay, replay_of, written_in, written_of};
+ghost use Rattle.cmd_steps.specs.Words.{CanRun, IsTrue, Ran, SameBut, Some, are_read_by_clap, asked, command_of, map, plain_of, replay, replay_of, string_bytes, written_in, written_of};
+ghost use Rattle.idsm_run.specs.Performed.{Performs};
 ghost use Rattle.idsm_run.specs.Replayed.{Replays};
 
 use crate::check::check;
@@ -13,7 +13,7 @@ use crate::replaying::replay_files;
 use cmd_files::{NO_MEMORY, Stop, say, tell};
 use cmd_messages::{bundle, decode_file, export_file, sign, unbundle, verify};
 use cmd_steps::{say_usage, tell_finished};
-use cmd_words::{Request, parse, parse_replay};
+use cmd_words::{Request, parse};
 use ids_outside::{Shelf, Sink};
 use ids_types::NoMemory;
 use std::alloc::Global;
@@ -45,45 +45,49 @@ pub fn run_plain<H: Shelf, K: Sink>(
     out: &mut K,
 ) -> u8
     // What the run did or why it stopped, with its status, its text, and what stands in the files.
-    ensures ran { Ran (command_of (map string_bytes words.now)) (are_read_by_clap (map string_bytes words.now)) result
+    ensures ran { Ran (plain_of (command_of (map string_bytes words.now))) (are_read_by_clap (map string_bytes words.now)) result
         (H.shows shelf.old) (H.shows shelf.new) (K.hears out.old) (K.hears out.new) }
 
     // Whatever the status, no file changes but those that the command writes.
     ensures others { IsTrue (H.shows shelf.old).tells → SameBut
-        (written_of (command_of (map string_bytes words.now)))
+        (written_of (plain_of (command_of (map string_bytes words.now))))
         (H.shows shelf.old).files (H.shows shelf.new).files }
 {
     let request = match parse(alloc, words) {
         Ok(request) => request,
         Err(NoMemory) => return say(b"no memory\n", NO_MEMORY, out),
     };
-    match request {
+    let Some(request) = request else {
+        return say_usage(out);
+    };
+    match perform(alloc, request, shelf) {
         None => say_usage(out),
-        Some(request) => tell(alloc, perform(alloc, request, shelf), out),
+        Some(end) => tell(alloc, end, out),
     }
 }
 
-/// Does what is asked for, and returns the line that tells of it.
+/// Does what is asked for, and returns the line that tells of it, or nothing where another call runs it.
 fn perform<'a, H: Shelf>(
     alloc: Global,
     request: Request<'a>,
     shelf: &mut H,
-) -> Result<Vec<u8>, Stop<&'a str>>
+) -> Option<Result<Vec<u8>, Stop<&'a str>>>
     requires { CanRun request }
-    ensures { EndsAs (asked request.entry) (plain_end result) (H.shows shelf.old) (H.shows shelf.new) }
+    ensures { Performs (plain_of (Some (asked request.entry))) result (H.shows shelf.old) (H.shows shelf.new) }
 {
     match request {
-        Request::Fold(names) => fold(alloc, names, shelf),
-        Request::Check(names) => check(alloc, names, shelf),
-        Request::Decode(name) => decode_file(alloc, name, shelf),
-        Request::Gen(given) => generate_files(alloc, given, shelf),
-        Request::Migrate(names) => migrate(alloc, names, shelf),
-        Request::Sign(names) => sign(alloc, names, shelf),
-        Request::Verify(names) => verify(alloc, names, shelf),
-        Request::Bundle(names) => bundle(alloc, names, shelf),
-        Request::Unbundle(names) => unbundle(alloc, names, shelf),
-        Request::Explain(names) => explain(alloc, names, shelf),
-        Request::Export(names) => export_file(alloc, names, shelf),
+        Request::Fold(names) => Some(fold(alloc, names, shelf)),
+        Request::Check(names) => Some(check(alloc, names, shelf)),
+        Request::Decode(name) => Some(decode_file(alloc, name, shelf)),
+        Request::Gen(given) => Some(generate_files(alloc, given, shelf)),
+        Request::Migrate(names) => Some(migrate(alloc, names, shelf)),
+        Request::Sign(names) => Some(sign(alloc, names, shelf)),
+        Request::Verify(names) => Some(verify(alloc, names, shelf)),
+        Request::Bundle(names) => Some(bundle(alloc, names, shelf)),
+        Request::Unbundle(names) => Some(unbundle(alloc, names, shelf)),
+        Request::Explain(names) => Some(explain(alloc, names, shelf)),
+        Request::Export(names) => Some(export_file(alloc, names, shelf)),
+        Request::Replay(_) | Request::Report(_) | Request::Keep(_) | Request::Recall(_) => None,
     }
 }
 
@@ -96,6 +100,7 @@ fn perform<'a, H: Shelf>(
 /// Steps: CONFIG as by `config_json::read`, TRACE as by `trace_text::read`, `replay`, and the bytes of messages, memory
 /// and journal; one read for each input, one append at most for each turn. Memory: may answer want of memory: status 8.
 /// Waits: as `replay`; as its shelf, its sink and its gate. By: `ran` (`Replays`); bound `Threads`; read off.
+#[tactic(auto, using(cmd_words::proofs::CommandLemmas::no_replay))]
 pub fn run_replay<R: Threads + Sync, H: Shelf, K: Sink, G: Gate + Sync>(
     rt: &R,
     alloc: Global,
@@ -105,16 +110,18 @@ pub fn run_replay<R: Threads + Sync, H: Shelf, K: Sink, G: Gate + Sync>(
     gate: &G,
 ) -> (u8, Option<RunManager>)
     // What the run did or why it stopped, with its status, its text, what stands in the files, and its manager.
-    ensures ran { Replays (replay_of (map string_bytes words.now)) result.1 result.0
+    ensures ran { Replays (replay_of (command_of (map string_bytes words.now))) result.1 result.0
         (H.shows shelf.old) (H.shows shelf.new) (K.hears out.old) (K.hears out.new) }
 
     // Whatever the status, no file changes but those that the replay writes.
     ensures others { IsTrue (H.shows shelf.old).tells → SameBut
-        (written_in replay (replay_of (map string_bytes words.now)))
+        (written_in replay (replay_of (command_of (map string_bytes words.now))))
         (H.shows shelf.old).files (H.shows shelf.new).files }
 {
-    match parse_replay(words) {
-        None => (say_usage(out), None),
-        Some(names) => tell_finished(alloc, replay_files(rt, alloc, names, shelf, gate), out),
+    match parse(alloc, words) {
+        Ok(Some(Request::Replay(names))) => {
+            tell_finished(alloc, replay_files(rt, alloc, names, shelf, gate), out)
+        }
+        _ => (say_usage(out), None),
     }
 }

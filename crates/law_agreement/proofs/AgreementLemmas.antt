@@ -1,22 +1,7 @@
 -- `fold` and `check` of what a replay left.
-use Rattle.std.proofs.Common.{◌≡◌, ℕ, ◌≤◌, List, length, Some, Ok, refl, sym, subst, ◌∙◌, inl, inr, arith}
-use Rattle.std.specs.Prelude.{codes}
-use Rattle.std.proofs.lemmas.Slice.Eq.{bytes_eq-Decides}
-use Rattle.ids_outside.specs.Shelved.{Shelved}
-use Rattle.ids_outside.specs.Sinks.{Heard}
-use Rattle.cmd_words.specs.Command.{ReplayFiles}
+use Rattle.cmd_steps.proofs.Names.{AreWritten, Heard, List, Ok, RanCommand, Reading, Recorded, ReplayFiles, Shelved, Some, Turn, Work, arith, bytes_eq-Decides, check_judged, codes, config_in, did_work, does, file, file_of, fold_work, folded_in, gives, inl, inr, journal_judged, journal_text, judge, length, messages_of, only_said, over, over_then, reading_of, recorded_in, refl, served_ends, subst, sym, told, told_in, ℕ, ◌>>=◌, ◌∙◌, ◌≡◌, ◌≤◌}
 use Rattle.cmd_spec.specs.Deserts.{EndsWith, EndsOrFails}
-use Rattle.cmd_files.proofs.ReadingLemmas.{over_then}
-use Rattle.cmd_files.specs.Reading.{Reading, file, gives, over, ◌>>=◌}
-use Rattle.cmd_spec.specs.Judge
-use Rattle.cmd_spec.specs.FoldedJournal.{folded_in}
-use Rattle.cmd_spec.specs.Judge.{Recorded, check_judged, config_in, does, journal_judged, judge, recorded_in, fold_work, only_said, told_in}
-use Rattle.cmd_files.specs.Contents.{file_of}
-use Rattle.cmd_steps.specs.Words.{Turn, messages_of, journal_text, told}
 use Rattle.idsm_run.specs.Replayed.{Replayed}
-use Rattle.cmd_spec.specs.Run.{RanCommand}
-use Rattle.cmd_files.specs.Writing.{Work, AreWritten}
-use Rattle.cmd_spec.proofs.RunLemmas.{did_work, served_ends}
 use Rattle.law_agreement.proofs.JournalLemmas.{messages_are_short}
 use Rattle.law_agreement.specs.Agreement.{FindsLeft, HasTheSame, WasReplayed, check_again, fold_again, left_by}
 use Rattle.law_agreement.proofs.CausalLemmas.{folds_as}
@@ -66,14 +51,14 @@ module _ (names : ReplayFiles) (old left found : Shelved) (was : WasReplayed nam
 
   fold_serves : (messages memory : List ℕ) → judge (fold_again names messages memory) found.files
       ≡ Ok (does (fold_work (record { from = left_by names; messages = messages; memory = memory }) history.config turns))
-  unfolding Judge.reading_of
+  unfolding reading_of
   fold_serves messages memory =
       over_then (recorded_in (left_by names))
       (λ (own : Recorded). gives (does (fold_work (record { from = left_by names; messages = messages; memory = memory }) own.config own.told.turns)))
       _ found.files recorded
 
   check_serves : judge (check_again names) found.files ≡ Ok (does (only_said (codes "same\n")))
-  unfolding Judge.reading_of
+  unfolding reading_of
   check_serves =
       let sent = messages_of history.config turns in
       let read : over (file 67108864 names.messages) found.files ≡ Ok sent = rw messages_found refl in

@@ -1,21 +1,12 @@
 -- A journal's turns tell of held-back events what is due exactly where their history is causal.
-use Rattle.std.proofs.Common.{◌≡◌, ◌≢◌, ◌↔◌, ℕ, ◌+◌, ◌≤◌, List, [], ◌∷◌, ◌++◌, length, reverse, Option, None, Some, Result, Ok, Err, refl, sym, subst, inl, inr, ◌∙◌, ap, append_assoc, arith}
-use mathlib.Core.List.{reverse_aux}
-use Rattle.std.proofs.lemmas.Bool.{cases_eq, eq-eqb, ne_eqb}
-use Rattle.std.proofs.lemmas.Grind.{reverse_onto}
-use Rattle.std.proofs.lemmas.List.{append-nil, length-append, length-map}
+use Rattle.cmd_steps.proofs.Names.{Err, IsJournal, List, None, Ok, Option, Parts, Result, Some, Told, Turn, [], ap, append-nil, append_assoc, arith, cases_eq, enters, eq-eqb, flat_map, inl, inr, journal_in, length, length-append, length-map, ne_eqb, refl, result_ok, reverse, reverse_onto, subst, sym, turn_told, ℕ, ◌++◌, ◌+◌, ◌↔◌, ◌∙◌, ◌∷◌, ◌≡◌, ◌≢◌, ◌≤◌}
 use Rattle.std.proofs.lemmas.Option.{none-some, same_Some}
-use Rattle.std.specs.List.{flat_map}
-use Rattle.std.specs.Result.{result_ok}
-use Rattle.ids_config.specs.Parts.{Parts}
-use Rattle.ids_types.specs.Turns.{Turn}
 use Rattle.chain_spec.specs.Chain.{IsCausal, handed, handed_on}
-use Rattle.text_spec.specs.JournalReading.{IsJournal, journal_in}
-use Rattle.text_spec.specs.JournalText.{Told, enters, turn_told}
 use Rattle.text_spec.specs.Lines.{BadLine}
 use Rattle.text_spec.proofs.JournalLaws.{journal_is_told, told_is_journal}
 use Rattle.cmd_spec.specs.FoldedJournal.{◌>>=◌, due_to, folded_in, held_back_line, unless_held_back}
 use Rattle.law_agreement.specs.Causal.{IsFirstUncausal}
+use mathlib.Core.List.{reverse_aux}
 
 module _ (config : Parts) where
   -- the numbers that these turns hand on, after those before them, which have the newest first

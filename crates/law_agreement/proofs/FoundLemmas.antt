@@ -1,27 +1,18 @@
 -- What was found in files, and what a later run finds in them.
-use Rattle.std.proofs.Common.{◌≡◌, ℕ, ◌≤◌, Bool, true, false, List, [], ◌∷◌, length, Option, Some, None, Result, Ok, Err, refl, subst, ◌∙◌, ap, inl, inr}
-use Rattle.std.specs.Prelude.{◌&&◌, not, bytes_eq, codes}
-use Rattle.std.proofs.lemmas.Bool.{and_parts, cases_Bool, le-ltb, leb-true}
-use Rattle.std.proofs.lemmas.Slice.Eq.{bytes_eq-Decides}
+use Rattle.cmd_steps.proofs.Names.{AskedFor, Bool, Err, Files, IsNoneOf, List, None, Ok, Option, Parts, ReplayFiles, Result, Round, Some, IsTrue, Command, command_of, [], and_parts, ap, are_names, asked_in, config_found, config_in, false, file, file_of, gives, le-ltb, leb-true, length, over, over_parts, over_then, refl, replay, replay_of, rounds_in, subst, trace_in, trace_judged, true, written_by, ℕ, ◌>>=◌, ◌∙◌, ◌∷◌, ◌≡◌, ◌≤◌, PairFiles, bytes_eq, codes, not}
+use Rattle.std.specs.Prelude.{if◌then◌else◌, option_map}
 use Rattle.serde_json.specs.Data.{Data}
-use Rattle.ids_config.specs.Parts.{Parts}
+use Rattle.cmd_words.proofs.CommandLemmas.{gen_none}
+use Rattle.cmd_words.specs.Command as Words
 use Rattle.ids_config.specs.Steps.{at}
-use Rattle.ids_config.specs.Values
 use Rattle.ids_config.specs.declared.fault.ConfigFault.{ConfigFault}
-use Rattle.ids_config.specs.declared.fault.ConfigPlace.TheVariants as places
 use Rattle.ids_config.proofs.StepLemmas.{at_ok, asks_ok, both_ok}
 use Rattle.config_json.specs.Configured.{config_of, configuration, tree_of}
 use Rattle.config_json.specs.Members.{parts_in}
 use Rattle.config_json.specs.Shape.{config_shape}
-use Rattle.ids_outside.specs.Files.{Files}
-use Rattle.cmd_files.proofs.ReadingLemmas.{over_parts, over_then}
-use Rattle.cmd_files.specs.Reading.{file, gives, over, ◌>>=◌}
-use Rattle.cmd_files.specs.Writing.{IsNoneOf}
 use Rattle.cmd_steps.proofs.MadeLemmas.{are_apart}
-use Rattle.cmd_words.specs.Command.{ReplayFiles, are_names, replay, replay_names, replay_of, written_by}
-use Rattle.cmd_spec.specs.Judge.{AskedFor, asked_in, config_found, config_in, rounds_in, trace_judged}
-use Rattle.cmd_files.specs.Contents.{file_of}
-use Rattle.cmd_steps.specs.Words.{Round, trace_in}
+use Rattle.ids_config.specs.Values
+use Rattle.ids_config.specs.declared.fault.ConfigPlace.TheVariants as places
 
 -- ---- configurations
 
@@ -94,29 +85,88 @@ file_is limit name bytes files there short = rw (there, le-ltb limit (length byt
 
 -- ---- names
 
-names_apart : (words : List (List ℕ)) (names : ReplayFiles) → replay_names words ≡ Some names
+-- at most three names are those of no replay
+two_none : (a b c d : Bool) (pair : PairFiles) (names : Words.Recording)
+    → replay_of (if a then Some (Words.migrate pair) else if b then Some (Words.unbundle pair) else if c then Some (Words.recall pair)
+    else if d then Some (Words.explain names) else None) ≡ None
+two_none true b c d pair names = refl
+two_none false true c d pair names = refl
+two_none false false true d pair names = refl
+two_none false false false true pair names = refl
+two_none false false false false pair names = refl
+
+three_none : (a b : Bool) (one two : Command) → replay_of (Some one) ≡ None → replay_of (Some two) ≡ None
+    → replay_of (if a then Some one else if b then Some two else None) ≡ None
+three_none true b one two first second = first
+three_none false true one two first second = second
+three_none false false one two first second = refl
+
+few_none : (word : List ℕ) (names : List (List ℕ)) → replay_of (Words.of_few word names) ≡ None
+few_none word [] = refl
+few_none word (one ∷ []) = three_none (bytes_eq word (codes "decode")) false (Words.decode one) (Words.decode one) refl refl
+few_none word (one ∷ two ∷ []) =
+    two_none (bytes_eq word (codes "migrate")) (bytes_eq word (codes "unbundle")) (bytes_eq word (codes "recall"))
+    (bytes_eq word (codes "explain")) (record { source = one; target = two }) (record { config = one; journal = two })
+few_none word (one ∷ two ∷ three ∷ []) =
+    three_none (bytes_eq word (codes "check")) (bytes_eq word (codes "keep"))
+    (Words.check (record { from = record { config = one; journal = two }; messages = three }))
+    (Words.keep (record { disk = one; from = record { config = two; journal = three } })) refl refl
+few_none word (one ∷ two ∷ three ∷ four ∷ names) = refl
+
+-- where names give a replay, they differ, and are five
+named_found : (are folds replays reports : Bool) (a : Option Words.FoldFiles) (own : Option ReplayFiles) (b : Option Words.ReportFiles)
+    (few : Option Command) (files : ReplayFiles) → replay_of few ≡ None
+    → replay_of (if not are then None else if folds then option_map Words.fold a else if replays then option_map replay own
+    else if reports then option_map Words.report b else few) ≡ Some files → IsTrue are × (own ≡ Some files)
+named_found false folds replays reports a own b few files none is = absurd (cc is)
+named_found true true replays reports None own b few files none is = absurd (cc is)
+named_found true true replays reports (Some x) own b few files none is = absurd (cc is)
+named_found true false true reports a None b few files none is = absurd (cc is)
+named_found true false true reports a (Some own) b few files none is = (refl, is)
+named_found true false false true a own None few files none is = absurd (cc is)
+named_found true false false true a own (Some x) few files none is = absurd (cc is)
+named_found true false false false a own b few files none is = absurd (cc (none, is))
+
+named_replay : (word : List ℕ) (names : List (List ℕ)) (files : ReplayFiles) → replay_of (Words.named word names) ≡ Some files
+    → IsTrue (are_names names) × (Words.replay_in names ≡ Some files)
+unfolding Words.named
+named_replay word names files is =
+    named_found (are_names names) (bytes_eq word (codes "fold")) (bytes_eq word (codes "replay")) (bytes_eq word (codes "report"))
+    (Words.fold_in names) (Words.replay_in names) (Words.report_in names) (Words.of_few word names) files (few_none word names) is
+
+-- and so are the words after the first one, where that names no other command
+words_found : (gens signs verifies bundles exports : Bool) (own : Option Command) (a b : Option Words.KeyedFiles)
+    (c : Option Words.SizedFiles) (d : Option Words.ExportFiles) (rest : Option Command) (files : ReplayFiles) → replay_of own ≡ None
+    → replay_of (if gens then own else if signs then option_map Words.sign a else if verifies then option_map Words.verify b
+    else if bundles then option_map Words.bundle c else if exports then option_map Words.export d else rest) ≡ Some files
+    → replay_of rest ≡ Some files
+words_found true signs verifies bundles exports own a b c d rest files none is = absurd (cc (none, is))
+words_found false true verifies bundles exports own None b c d rest files none is = absurd (cc is)
+words_found false true verifies bundles exports own (Some x) b c d rest files none is = absurd (cc is)
+words_found false false true bundles exports own a None c d rest files none is = absurd (cc is)
+words_found false false true bundles exports own a (Some x) c d rest files none is = absurd (cc is)
+words_found false false false true exports own a b None d rest files none is = absurd (cc is)
+words_found false false false true exports own a b (Some x) d rest files none is = absurd (cc is)
+words_found false false false false true own a b c None rest files none is = absurd (cc is)
+words_found false false false false true own a b c (Some x) rest files none is = absurd (cc is)
+words_found false false false false false own a b c d rest files none is = is
+
+names_apart : (words : List (List ℕ)) (names : ReplayFiles) → IsTrue (are_names words) → Words.replay_in words ≡ Some names
     → IsNoneOf (written_by (replay names)) names.config
-names_apart [] names is = absurd cc
-names_apart (config ∷ []) names is = absurd cc
-names_apart (config ∷ trace ∷ []) names is = absurd cc
-names_apart (config ∷ trace ∷ messages ∷ []) names is = absurd cc
-names_apart (config ∷ trace ∷ messages ∷ memory ∷ []) names is = absurd cc
-names_apart (config ∷ trace ∷ messages ∷ memory ∷ journal ∷ []) names is =
-    elim (cases_Bool (are_names (config ∷ trace ∷ messages ∷ memory ∷ journal ∷ []))) [
-      | inl are ↦
-          let read : ReplayFiles = record { config = config; trace = trace; messages = messages; memory = memory; journal = journal } in
-          let same : read ≡ names = cc (rw are at is) in
-          subst (λ (n : ReplayFiles). IsNoneOf (written_by (replay n)) n.config) same
-          (are_apart (config ∷ trace ∷ messages ∷ memory ∷ journal ∷ []) are).0.1
-      | inr none ↦ absurd (cc (rw none at is))
-    ]
-names_apart (config ∷ trace ∷ messages ∷ memory ∷ journal ∷ more ∷ words) names is = absurd cc
+names_apart (config ∷ trace ∷ messages ∷ memory ∷ journal ∷ []) names are is =
+    let read : ReplayFiles = record { config = config; trace = trace; messages = messages; memory = memory; journal = journal } in
+    let same : read ≡ names = cc is in
+    subst (λ (n : ReplayFiles). IsNoneOf (written_by (replay n)) n.config) same
+    (are_apart (config ∷ trace ∷ messages ∷ memory ∷ journal ∷ []) are).0.1
+names_apart words names are is = absurd cc
 
 -- the configuration is none of the files that a replay writes
-pub config_stays : (words : List (List ℕ)) (names : ReplayFiles) → replay_of words ≡ Some names
+pub config_stays : (words : List (List ℕ)) (names : ReplayFiles) → replay_of (command_of words) ≡ Some names
     → IsNoneOf (written_by (replay names)) names.config
 config_stays [] names is = absurd cc
-config_stays (word ∷ words) names is = elim (cases_Bool (bytes_eq word (codes "replay"))) [
-  | inl asks ↦ names_apart words names (rw asks at is)
-  | inr other ↦ absurd (cc (rw other at is))
-]
+config_stays (word ∷ words) names is =
+    let rest = words_found (bytes_eq word (codes "gen")) (bytes_eq word (codes "sign")) (bytes_eq word (codes "verify"))
+    (bytes_eq word (codes "bundle")) (bytes_eq word (codes "export")) (Words.gen_of (word ∷ words)) (Words.keyed_in words)
+    (Words.keyed_in words) (Words.sized_in words) (Words.export_in words) (Words.named word words) names (gen_none (word ∷ words)).0 is in
+    let (are, made) = named_replay word words names rest in
+    names_apart words names are made

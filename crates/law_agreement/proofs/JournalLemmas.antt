@@ -1,8 +1,8 @@
 -- A journal's lines against what the turns bring: each report's line is at least as long as its item weighs, and
 -- the line that begins a turn a quarter at least of what the turn's internal events weigh.
-use Rattle.law_agreement.proofs.Names.{◌≡◌, ℕ, zero, suc, ◌+◌, ◌*◌, ◌/◌, ◌%◌, ◌==◌, ◌≤◌, Bool, true, false, List, [], ◌∷◌, ◌++◌, length, map, min, flat_map, reverse, Option, Some, None, if◌then◌else◌, arith, length-append, ◌∙◌, digits_onto, digit_glyph, range_with_len, Report, State, SetMode, Absent, Kept, Missing, Entry, Stamp, Parts, internal_of, Told, Line, begins, enters, loses, line_for, turn_told, lines_told, journal_text, messages, kept_parcel, closes, head_moment, act_moment, closings, turn_moments, moments, stamp_weight, context_weight, moment_weight}
+use Rattle.cmd_steps.proofs.Names.{IsJournal, Turn, line_feed, text_of}
 use Rattle.std.specs.Fmt.{digits}
-use Rattle.ids_types.specs.Turns.{Turn}
+use Rattle.law_agreement.proofs.Names.{◌≡◌, ℕ, zero, suc, ◌+◌, ◌*◌, ◌/◌, ◌%◌, ◌==◌, ◌≤◌, Bool, true, false, List, [], ◌∷◌, ◌++◌, length, map, min, flat_map, reverse, Option, Some, None, if◌then◌else◌, arith, length-append, ◌∙◌, digits_onto, digit_glyph, range_with_len, Report, State, SetMode, Absent, Kept, Missing, Entry, Stamp, Parts, internal_of, Told, Line, begins, enters, loses, line_for, turn_told, lines_told, journal_text, messages, kept_parcel, closes, head_moment, act_moment, closings, turn_moments, moments, stamp_weight, context_weight, moment_weight}
 use Rattle.ids_types.specs.declared.entry.Act.{Act}
 use Rattle.ids_types.specs.declared.entry.Carried.{Carried}
 use Rattle.ids_types.specs.declared.entry.TurnHead.{TurnHead}
@@ -11,9 +11,7 @@ use Rattle.ids_types.specs.declared.names.EventIndex.{EventIndex}
 use Rattle.text_spec.specs.Below.{decimal, encode_lower, to_be_bytes, w64}
 use Rattle.text_spec.specs.Contexts.{context_word, colon}
 use Rattle.text_spec.specs.JournalForm.{entry_of}
-use Rattle.text_spec.specs.JournalReading.{IsJournal}
 use Rattle.text_spec.specs.Stamps.{stamp_text}
-use Rattle.text_spec.specs.Words.{line_feed, text_of}
 use Rattle.text_spec.proofs.HexadecimalLemmas.{length_hex}
 use Rattle.chain_spec.specs.Heads.{Head, head_for, heads_of}
 use Rattle.law_agreement.proofs.ChainLemmas.{sent_within}

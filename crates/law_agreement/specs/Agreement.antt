@@ -1,11 +1,6 @@
 -- What `fold` and `check` do with the files that a replay left.
 -- Source: docs/COMMANDS.md.
-use Rattle.std.specs.Prelude.{◌≡◌, ℕ, ◌≤◌, List, length, IsTrue, IfSome, Some}
-use Rattle.ids_outside.specs.Files.{Files, SameFiles}
-use Rattle.ids_outside.specs.Shelved.{Shelved}
-use Rattle.ids_outside.specs.Sinks.{Heard}
-use Rattle.cmd_words.specs.Command.{Command, Recording, ReplayFiles, fold, check, replay, replay_of, written_by}
-use Rattle.cmd_files.specs.Writing.{SameBut}
+use Rattle.cmd_steps.specs.Names.{Command, Files, Heard, IfSome, IsTrue, List, Recording, ReplayFiles, SameBut, SameFiles, Shelved, Some, check, command_of, fold, length, replay, replay_of, written_by, ℕ, ◌≡◌, ◌≤◌}
 use Rattle.idsm_run.specs.Replayed.{RunManager, RanReplay}
 
 -- the recording that a replay leaves: the configuration that it read, and the journal that it wrote
@@ -23,7 +18,7 @@ check_again names = check (record { from = left_by names; messages = names.messa
 -- a replay was asked for by words, and ended with 0, over files that are told
 pub record WasReplayed (names : ReplayFiles) (old new : Shelved) : Type 0 where
   pub words : List (List ℕ)
-  pub asked : replay_of words ≡ Some names
+  pub asked : replay_of (command_of words) ≡ Some names
   pub manager : RunManager
   pub before : Heard
   pub after : Heard

@@ -1,8 +1,6 @@
 -- The turn for which `fold` refuses a journal: the first that tells another number than the chain hands on to it.
 -- Source: docs/FORMATS.md.
-use Rattle.std.specs.Prelude.{◌≡◌, ◌≢◌, ℕ, ◌+◌, List, ◌∷◌, ◌++◌, length, flat_map, reverse}
-use Rattle.ids_config.specs.Parts.{Parts}
-use Rattle.ids_types.specs.Turns.{Turn}
+use Rattle.cmd_steps.specs.Names.{List, Parts, Turn, flat_map, length, reverse, ℕ, ◌++◌, ◌+◌, ◌∷◌, ◌≡◌, ◌≢◌}
 use Rattle.chain_spec.specs.Chain.{IsCausal, handed_on}
 use Rattle.text_spec.specs.JournalText.{turn_told}
 

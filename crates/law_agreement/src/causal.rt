@@ -1,11 +1,6 @@
 //! Which journals `fold` takes.
 
-ghost use Rattle.std.specs.Prelude.{◌≡◌, ◌↔◌, ◌≤◌, ℕ, List, Ok, Err, length, reverse};
-ghost use Rattle.ids_config.specs.Parts.{Parts};
-ghost use Rattle.chain_spec.specs.Chain.{IsCausal};
-ghost use Rattle.text_spec.specs.JournalReading.{IsJournal};
-ghost use Rattle.text_spec.specs.JournalText.{Told};
-ghost use Rattle.cmd_spec.specs.FoldedJournal.{folded_in};
+ghost use Rattle.cmd_steps.specs.Words.{Err, IsCausal, IsJournal, List, Ok, Parts, Told, folded_in, length, reverse, ℕ, ◌↔◌, ◌≡◌, ◌≤◌};
 ghost use Rattle.law_agreement.specs.Causal.{IsFirstUncausal};
 
 /// `fold` takes exactly the journals of causal histories. Of any other journal it tells fault 8, at the line of the first

@@ -1,11 +1,6 @@
 //! That the commands agree: the function has a law as its contract, and no body.
 
-ghost use Rattle.std.specs.Prelude.{ℕ, List};
-ghost use Rattle.ids_outside.specs.Shelved.{Shelved};
-ghost use Rattle.ids_outside.specs.Sinks.{Heard};
-ghost use Rattle.cmd_words.specs.Command.{ReplayFiles};
-ghost use Rattle.cmd_spec.specs.Deserts.{EndsWith, EndsOrFails};
-ghost use Rattle.cmd_spec.specs.Run.{RanCommand};
+ghost use Rattle.cmd_steps.specs.Words.{EndsOrFails, EndsWith, Heard, List, RanCommand, ReplayFiles, Shelved, ℕ};
 ghost use Rattle.law_agreement.specs.Agreement.{FindsLeft, HasTheSame, WasReplayed, check_again, fold_again};
 
 /// Where a replay ended with 0 and its journal is no longer than `fold` may read, `fold` of its configuration and

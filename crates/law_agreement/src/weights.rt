@@ -1,11 +1,7 @@
 //! What messages weigh: each function has a law as its contract, and no body.
 
-ghost use Rattle.std.specs.Prelude.{ℕ, ◌*◌, ◌≤◌, List, length, reverse, sum_by};
-ghost use Rattle.ids_config.specs.Parts.{Parts};
+ghost use Rattle.cmd_steps.specs.Words.{IsJournal, List, Parts, Told, journal_text, length, messages, reverse, sent, sum_by, ℕ, ◌*◌, ◌≤◌};
 ghost use Rattle.ids_frame.specs.Spelling.{spelling};
-ghost use Rattle.text_spec.specs.JournalReading.{IsJournal};
-ghost use Rattle.text_spec.specs.JournalText.{Told, journal_text};
-ghost use Rattle.chain_spec.specs.Chain.{sent, messages};
 ghost use Rattle.chain_spec.specs.Filtering.{qualified};
 ghost use Rattle.chain_spec.specs.Items.{Item};
 ghost use Rattle.chain_spec.specs.Messages.{message_of, spelled};

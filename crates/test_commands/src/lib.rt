@@ -31,6 +31,4 @@ mod telling;
 #[cfg(test)]
 mod wanting;
 #[cfg(test)]
-mod words;
-#[cfg(test)]
 mod written;

@@ -19,10 +19,6 @@ use std::thread::Threads;
 pub(crate) enum Lines {
     /// The numbers of the call of the shelf and of the put that fail, or `-`. Wanted is how the run ends.
     Ends,
-    /// As `Ends`, by `run_plain` whatever the words are.
-    Plain,
-    /// As `Ends`, by `run_replay` whatever the words are.
-    Replay,
     /// How many calls of the shelf it makes, by the run that its words choose. Wanted is its status.
     Counts,
     /// As `Ends`, but the call and the put want memory.
@@ -73,7 +69,6 @@ pub(crate) fn run<R: Threads + Wait + Sync>(
     out: &mut MemorySink,
 ) -> u8 {
     match lines {
-        Lines::Replay => replay(rt, alloc, words, shelf, out),
         Lines::Ends | Lines::Counts if is_replay(words) => replay(rt, alloc, words, shelf, out),
         Lines::Ends if is_report(words) => report(rt, alloc, words, shelf, out),
         _ => run_plain(alloc, words, shelf, out),

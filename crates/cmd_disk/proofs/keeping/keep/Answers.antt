@@ -1,7 +1,6 @@
+use Rattle.cmd_steps.proofs.Names.{keep_files_of, plain_stop}
 use Rattle.cmd_disk.proofs.EndLemmas.{untouched}
 use Rattle.cmd_disk.proofs.KeepLemmas.{kept_all, kept_in_part, kept_leaves, stopped_leaves, unread_cause, unread_end, unread_ends}
-use Rattle.cmd_steps.specs.Words.{plain_stop}
-use Rattle.cmd_words.specs.CommandView.{keep_files_of}
 use Rattle.cmd_disk.proofs.keeping.keep.Goals as goal
 
 pub returns-in-Err-clause-ends : goal.returns-in-Err-clause-ends

@@ -1,5 +1,4 @@
-use Rattle.std.proofs.Common.{rules, subst}
-use Rattle.memory_store.specs.Slots.{KeepsRows}
+use Rattle.cmd_disk.proofs.Names.{KeepsRows, rules, subst}
 use Rattle.cmd_disk.proofs.EndLemmas.{none_begun, save_cause, saved_behind}
 use Rattle.cmd_disk.proofs.keeping.save_history.Goals as goal
 

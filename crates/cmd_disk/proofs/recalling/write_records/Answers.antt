@@ -1,8 +1,5 @@
-use Rattle.std.proofs.Common.{◌≡◌, [], ◌∷◌, Err, length, rules}
-use Rattle.std.specs.Prelude.{codes}
+use Rattle.cmd_steps.proofs.Names.{codes, count_text, length, memory_text, rules, ◌≡◌}
 use Rattle.cmd_disk.proofs.KeepLemmas.{part_unwritten, recall_unwritten, recalled}
-use Rattle.cmd_spec.specs.Copying.{count_text}
-use Rattle.cmd_steps.specs.Words.{memory_text}
 use Rattle.cmd_disk.proofs.recalling.write_records.Goals as goal
 
 pub returns-in_err-write_files-clause-ends : goal.returns-in_err-write_files-clause-ends

@@ -1,15 +1,6 @@
-use Rattle.std.proofs.Common.{◌≡◌, ◌++◌, ◌∷◌, [], ◌+◌, ℕ, suc, length, reverse, refl, sym, ap, subst, ◌∙◌, arith, append_assoc, length-append, IsTrue}
-use Rattle.std.proofs.lemmas.Grind.{common_steps}
-use Rattle.std.proofs.lemmas.List.{append-nil}
-use Rattle.std.specs.List.{AllByRecursion}
-use Rattle.filter_chain.specs.History.{last_tick, rows_of}
-use Rattle.chain_plain.specs.Recorded.{CanTake, RiseFrom, turn_with}
-use Rattle.chain_plain.specs.Telling.{IsReady}
+use Rattle.cmd_disk.proofs.Names.{AllByRecursion, CanTake, IsReady, IsTrue, Keeping, KeepsBehind, LeavesOnly, RiseFrom, Told, [], ap, append-nil, append_assoc, arith, common_steps, last_tick, length, length-append, refl, reverse, rows_behind, rows_of, subst, suc, sym, turn_with, ℕ, ◌++◌, ◌+◌, ◌∙◌, ◌∷◌, ◌≡◌}
 use Rattle.filter_chain.proofs.TranscriptLemmas.{last_of}
-use Rattle.memory_disk.specs.Disks.{LeavesOnly}
 use Rattle.memory_image.specs.Images.{AreKeepable}
-use Rattle.text_spec.specs.JournalText.{Told}
-use Rattle.cmd_disk.specs.Keeping.{Keeping, KeepsBehind, rows_behind}
 use Rattle.cmd_disk.proofs.SavingLemmas.{IsSavedTo, begun_saving, next_turn, one_more_saved, save_fails, save_passes, stands_before}
 use Rattle.cmd_disk.proofs.saving.save_turns.Goals as goal
 

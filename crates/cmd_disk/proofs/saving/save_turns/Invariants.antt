@@ -1,16 +1,7 @@
-use Rattle.std.proofs.Common.{◌≡◌, ◌++◌, ◌+◌, List, length, reverse, IsTrue}
-use Rattle.std.specs.List.{All, AllByRecursion}
-use Rattle.filter_chain.specs.History.{last_tick}
+use Rattle.cmd_disk.proofs.Names.{All, AllByRecursion, CanTake, IsReady, IsTrue, KeepsRows, LeavesOnly, List, RiseFrom, Row, Turn, last_tick, length, lent, reverse, ◌++◌, ◌+◌, ◌≡◌}
 use Rattle.filter_chain.specs.Parcels.{IsShort}
-use Rattle.chain_plain.specs.Recorded.{CanTake, RiseFrom}
-use Rattle.chain_plain.specs.Telling.{IsReady}
-use Rattle.ids_types.specs.MemoryRow.{Row}
-use Rattle.ids_types.specs.Turns.{Turn}
-use Rattle.memory_disk.specs.Disks.{LeavesOnly}
-use Rattle.memory_store.specs.Slots.{KeepsRows}
 use Rattle.event_chain.specs.Standing.{Stands}
 use Rattle.filter_aggregate.specs.Account.{all_kept}
-use Rattle.cmd_disk.specs.Keeping.{lent}
 use Rattle.cmd_disk.proofs.SavingLemmas.{IsSavedTo}
 use Rattle.cmd_disk.proofs.saving.save_turns.Given as goal
 

@@ -1,5 +1,4 @@
-use Rattle.cmd_files.proofs.Names.{length, Ok, drop, Cuts}
-use Rattle.cmd_files.specs.Writing.{Adds, output_of}
+use Rattle.cmd_files.proofs.Names.{Adds, Cuts, Ok, drop, length, output_of}
 use Rattle.cmd_files.proofs.outputs.append_pieces.Given as goal
 
 -- the bytes up to `start` were added, and the cuts that are left go on from there

@@ -1,7 +1,6 @@
+use Rattle.cmd_files.proofs.Names.{Writes, [], output_of, ◌∷◌}
 use Rattle.cmd_files.proofs.ExitLemmas.{left_with}
-use Rattle.cmd_files.proofs.Names.{[], ◌∷◌}
 use Rattle.cmd_files.proofs.WritingLemmas.{file_written, not_made}
-use Rattle.cmd_files.specs.Writing.{Writes, output_of}
 use Rattle.cmd_files.proofs.outputs.write_file.Goals as goal
 
 pub returns-in_err-create : goal.returns-in_err-create

@@ -1,8 +1,6 @@
+use Rattle.cmd_files.proofs.Names.{Err, Ok, Writes, map, output_of}
 use Rattle.cmd_files.proofs.ExitLemmas.{left_with}
-use Rattle.cmd_files.proofs.Names.{Err, Ok}
 use Rattle.cmd_files.proofs.WritingLemmas.{failed_next, none_left, wrote_next}
-use Rattle.cmd_files.specs.Writing.{Writes, output_of}
-use Rattle.std.proofs.Common.{map}
 use Rattle.cmd_files.proofs.outputs.write_files.Goals as goal
 
 pub returns-in_err-write_file : goal.returns-in_err-write_file

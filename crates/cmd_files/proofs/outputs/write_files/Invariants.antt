@@ -1,7 +1,4 @@
-use Rattle.cmd_files.proofs.Names.{Result, WriteFault, drop}
-use Rattle.ids_outside.specs.Shelved.{Shelved}
-use Rattle.cmd_files.specs.Writing.{CanWrite, Writes, output_of}
-use Rattle.std.specs.Prelude.{map, ⊤}
+use Rattle.cmd_files.proofs.Names.{CanWrite, Result, Shelved, WriteFault, Writes, drop, map, output_of, ⊤}
 use Rattle.cmd_files.proofs.outputs.write_files.Given as goal
 
 -- once the files that are left are written, all are

@@ -1,18 +1,15 @@
-use Rattle.cmd_steps.proofs.Names.{bundle, sized_of, file, gives, refl, packs}
-use Rattle.cmd_files.proofs.ReadingLemmas.{goes_on, read_none, stops_early}
-use Rattle.cmd_spec.proofs.EndLemmas.{left_unread}
-use Rattle.cmd_spec.specs.Judge
+use Rattle.cmd_steps.proofs.Names.{bundle, file, goes_on, left_unread, packs, read_none, reading_of, refl, sized_of, stops_early}
 use Rattle.cmd_messages.proofs.bundling.bundle.Goals as goal
 
 pub returns-in_err-bytes : goal.returns-in_err-bytes
-unfolding Judge.reading_of
+unfolding reading_of
 returns-in_err-bytes g c =
     let names = sized_of c.args.names in
     left_unread (bundle names) _ c.in_err-bytes.field-0.0 _ _ c.from_residual.ensures.1
     (stops_early (file 67108864 names.files.source) _ _ _ _ c.in_err-bytes.ensures.reads)
 
 pub returns : goal.returns
-unfolding Judge.reading_of
+unfolding reading_of
 returns g c =
     let names = sized_of c.args.names in
     c.write_made.ensures (bundle names) (packs names.files.target names.size c.in_ok-bytes.bytes.items) (g.H.Shelf.shows c.args.shelf.now)

@@ -1,19 +1,15 @@
-use Rattle.cmd_steps.proofs.Names.{decode_judged, file, refl}
-use Rattle.cmd_files.proofs.ReadingLemmas.{goes_on, judged, stops_early}
-use Rattle.cmd_spec.proofs.EndLemmas.{left_unread}
-use Rattle.cmd_spec.specs.Judge
+use Rattle.cmd_steps.proofs.Names.{decode, decode_judged, file, goes_on, judged, left_unread, reading_of, refl, stops_early}
 use Rattle.cmd_steps.proofs.MadeLemmas.{text_ends}
-use Rattle.cmd_words.specs.Command.{decode}
 use Rattle.cmd_messages.proofs.decode.decode_file.Goals as goal
 
 pub returns-in_err-bytes : goal.returns-in_err-bytes
-unfolding Judge.reading_of
+unfolding reading_of
 returns-in_err-bytes g c =
     left_unread (decode c.args.name.now) _ c.in_err-bytes.field-0.0 _ _ c.from_residual.ensures.1
     (stops_early (file 67108864 c.args.name.now) decode_judged _ _ _ c.in_err-bytes.ensures.reads)
 
 pub returns : goal.returns
-unfolding Judge.reading_of
+unfolding reading_of
 returns g c =
     text_ends (decode c.args.name.now) c.lines_of.result _ _
     (goes_on (file 67108864 c.args.name.now) decode_judged _ _ _ _ c.in_ok-bytes.ensures.reads _

@@ -1,10 +1,4 @@
-use Rattle.std.proofs.Common.{ℕ, List, Result, Ok, Err, refl, sym, ap, ◌∙◌}
-use Rattle.std.proofs.lemmas.List.{take_rest}
-use Rattle.ids_frame.proofs.DecodeLemmas.{are_bytes, decode_tells}
-use Rattle.ids_frame.specs.Message.{MessageParts}
-use Rattle.ids_frame.specs.declared.fault.BadMessage.{BadMessage}
-use Rattle.cmd_files.specs.Reading.{gives, ◌>>=◌}
-use Rattle.cmd_spec.specs.Judge.{decode_work, does, messages_judged, only_said}
+use Rattle.cmd_steps.proofs.Names.{BadMessage, Err, List, MessageParts, Ok, Result, ap, are_bytes, decode_tells, decode_work, does, gives, messages_judged, only_said, refl, sym, take_rest, ℕ, ◌>>=◌, ◌∙◌}
 use Rattle.cmd_messages.proofs.LinesLemmas.{all_printed, more_printed, printing_stops}
 use Rattle.cmd_messages.proofs.decode.lines_of.Goals as goal
 

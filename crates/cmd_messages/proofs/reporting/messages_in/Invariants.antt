@@ -1,6 +1,4 @@
-use Rattle.cmd_steps.proofs.Names.{◌≡◌, ◌≤◌, length, take}
-use Rattle.std.specs.Prelude.{◌*◌, ◌^◌, sum_by}
-use Rattle.ids_reporter.specs.Sources.{AreSmall}
+use Rattle.cmd_steps.proofs.Names.{AreSmall, length, sum_by, take, ◌*◌, ◌^◌, ◌≡◌, ◌≤◌}
 use Rattle.cmd_messages.proofs.reporting.messages_in.Given as goal
 
 -- the messages of the sources before this one are counted

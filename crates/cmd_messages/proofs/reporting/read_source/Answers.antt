@@ -1,10 +1,4 @@
-use Rattle.cmd_steps.proofs.Names.{◌≡◌, Err, Ok, Refused, ap, file, sym, ◌∙◌}
-use Rattle.std.proofs.Common.{false, true}
-use Rattle.ids_frame.specs.Messages.{messages_read}
-use Rattle.ids_reporter.specs.Sources.{instance_of}
-use Rattle.cmd_steps.specs.Words.{Instance}
-use Rattle.cmd_files.proofs.ReadingLemmas.{goes_on, judged, left_reading, stops_early}
-use Rattle.cmd_spec.specs.Report.{clashes, source_found, unless_clash}
+use Rattle.cmd_steps.proofs.Names.{Err, Instance, Ok, Refused, ap, clashes, false, file, goes_on, instance_of, judged, left_reading, messages_read, source_found, stops_early, sym, true, unless_clash, ◌∙◌, ◌≡◌}
 use Rattle.cmd_messages.proofs.reporting.read_source.Goals as goal
 
 pub returns-in_err-bytes-clause-reads : goal.returns-in_err-bytes-clause-reads

@@ -1,9 +1,4 @@
-use Rattle.cmd_steps.proofs.Names.{Err, List, Ok, Reads, arith, drop, plain_stop, rules, string_bytes, subst, sym, ◌++◌, ◌+◌, ◌∷◌}
-use Rattle.std.proofs.Common.{[], map}
-use Rattle.ids_frame.specs.Message.{MessageParts}
-use Rattle.ids_reporter.proofs.RunLemmas.{small_more}
-use Rattle.cmd_files.proofs.ReadingLemmas.{goes_on, left_reading, read_none, stops_early}
-use Rattle.cmd_spec.specs.Report.{source_in, sources_in}
+use Rattle.cmd_steps.proofs.Names.{Err, List, MessageParts, Ok, Reads, [], arith, drop, goes_on, left_reading, map, plain_stop, read_none, rules, small_more, source_in, sources_in, stops_early, string_bytes, subst, sym, ◌++◌, ◌+◌, ◌∷◌}
 use Rattle.cmd_messages.proofs.ReportLemmas.{apart_with, next_named, none_named}
 use Rattle.cmd_messages.proofs.reporting.read_sources.Goals as goal
 

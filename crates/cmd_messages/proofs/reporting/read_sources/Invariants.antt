@@ -1,8 +1,4 @@
-use Rattle.cmd_steps.proofs.Names.{◌≡◌, ◌≤◌, List, ℕ, Reads, Result, Shelved, Stop, drop, length, string_bytes}
-use Rattle.std.specs.Prelude.{[], map, vec_capacity}
-use Rattle.ids_reporter.specs.Sources.{AreApart, AreSmall, Sources}
-use Rattle.cmd_spec.specs.Report.{sources_in}
-use Rattle.cmd_words.specs.CommandView.{CanReport}
+use Rattle.cmd_steps.proofs.Names.{AreApart, AreSmall, CanReport, List, Reads, Result, Shelved, Sources, Stop, [], drop, length, map, sources_in, string_bytes, vec_capacity, ℕ, ◌≡◌, ◌≤◌}
 use Rattle.cmd_messages.proofs.reporting.read_sources.Given as goal
 
 -- the files before this one were read, and gave these sources: what is left to be read ends all

@@ -1,17 +1,10 @@
-use Rattle.cmd_steps.proofs.Names.{IsTrue, NoMemory, gives, inl, refl, report, reports, subst, sym, ◌∙◌}
-use Rattle.ids_reporter.specs.Sources.{Sources}
-use Rattle.cmd_files.proofs.ReadingLemmas.{goes_on, read_none, read_over, stops_early}
-use Rattle.cmd_spec.proofs.EndLemmas.{reading_ends}
-use Rattle.cmd_spec.specs.Judge
-use Rattle.cmd_spec.specs.Report.{sources_in}
+use Rattle.cmd_steps.proofs.Names.{IsTrue, NoMemory, Sources, [], gives, goes_on, inl, read_none, read_over, reading_ends, reading_of, refl, report, report_files_of, reports, sources_in, stops_early, subst, sym, ◌∙◌}
 use Rattle.cmd_steps.proofs.AnsweredLemmas.{left_finished}
-use Rattle.cmd_words.specs.CommandView.{report_files_of}
-use Rattle.std.proofs.Common.{[]}
 use Rattle.cmd_messages.proofs.ReportLemmas.{report_work}
 use Rattle.cmd_messages.proofs.reporting.report_files.Goals as goal
 
 pub returns-in_err-sources-clause-ends : goal.returns-in_err-sources-clause-ends
-unfolding Judge.reading_of
+unfolding reading_of
 returns-in_err-sources-clause-ends g c =
     let names = report_files_of c.args.names in
     left_finished (report names) _ c.in_err-sources.field-0.0 _ _ c.from_residual.ensures.1
@@ -30,7 +23,7 @@ returns-in_err-line-clause-ends g c =
     (inl c.read_sources.ensures.reads.same)
 
 pub returns-in_err-line-2-clause-ends : goal.returns-in_err-line-2-clause-ends
-unfolding Judge.reading_of
+unfolding reading_of
 returns-in_err-line-2-clause-ends g c =
     let names = report_files_of c.args.names in
     let sources = c.in_ok-sources.sources.items in
@@ -46,7 +39,7 @@ returns-in_err-line-2-clause-ends g c =
     (rw c.deref.ensures.value at c.in_ok-forwarded.ensures) c.deref-3.ensures.value (rw c.deref-2.ensures.value at c.in_ok-line.ensures)))
 
 pub returns-clause-ends : goal.returns-clause-ends
-unfolding Judge.reading_of
+unfolding reading_of
 returns-clause-ends g c =
     let names = report_files_of c.args.names in
     let sources = c.in_ok-sources.sources.items in

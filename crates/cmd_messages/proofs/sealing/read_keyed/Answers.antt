@@ -1,5 +1,4 @@
-use Rattle.cmd_steps.proofs.Names.{file, key_judged, keyed_of}
-use Rattle.cmd_files.proofs.ReadingLemmas.{goes_on, judged, left_reading, read_none, stops_early}
+use Rattle.cmd_steps.proofs.Names.{file, goes_on, judged, left_reading, read_none, stops_early}
 use Rattle.cmd_messages.proofs.sealing.read_keyed.Goals as goal
 
 pub returns-in_err-text : goal.returns-in_err-text

@@ -1,11 +1,8 @@
-use Rattle.cmd_steps.proofs.Names.{Keyed, gives, keyed_in, keyed_of, refl, seals, sign}
-use Rattle.cmd_files.proofs.ReadingLemmas.{goes_on, read_none, stops_early}
-use Rattle.cmd_spec.proofs.EndLemmas.{left_unread}
-use Rattle.cmd_spec.specs.Judge
+use Rattle.cmd_steps.proofs.Names.{Keyed, gives, goes_on, keyed_in, keyed_of, left_unread, read_none, reading_of, refl, seals, sign, stops_early}
 use Rattle.cmd_messages.proofs.sealing.sign.Goals as goal
 
 pub returns-in_err-key : goal.returns-in_err-key
-unfolding Judge.reading_of
+unfolding reading_of
 returns-in_err-key g c =
     let names = keyed_of c.args.names in
     left_unread (sign names) _ c.in_err-key.field-0.0 _ _ c.from_residual.ensures.1
@@ -13,7 +10,7 @@ returns-in_err-key g c =
     c.in_err-key.ensures)
 
 pub returns : goal.returns
-unfolding Judge.reading_of
+unfolding reading_of
 returns g c =
     let names = keyed_of c.args.names in
     c.write_made.ensures (sign names) (seals names.files.target c.in_ok-key.key names.start c.in_ok-key.bytes.items)

@@ -1,6 +1,4 @@
-use Rattle.cmd_steps.proofs.Names.{configuration, rules}
-use Rattle.cmd_files.proofs.ReadingLemmas.{goes_on, judged, left_reading, stops_early}
-use Rattle.cmd_spec.specs.Judge.{config_found}
+use Rattle.cmd_steps.proofs.Names.{left_reading, stops_early}
 use Rattle.cmd_steps.proofs.inputs.read_config.Goals as goal
 
 pub returns-in_err-text : goal.returns-in_err-text

@@ -1,5 +1,4 @@
-use Rattle.cmd_steps.proofs.Names.{config_in, file, recording, rules, told_in}
-use Rattle.cmd_files.proofs.ReadingLemmas.{goes_on, judged, left_reading, read_none, stops_early}
+use Rattle.cmd_steps.proofs.Names.{config_in, file, goes_on, judged, left_reading, read_none, recording, stops_early, told_in}
 use Rattle.cmd_steps.proofs.inputs.read_inputs.Goals as goal
 
 pub returns-in_err-config-clause-reads : goal.returns-in_err-config-clause-reads

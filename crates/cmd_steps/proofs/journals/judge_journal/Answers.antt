@@ -1,5 +1,4 @@
-use Rattle.cmd_steps.proofs.Names.{arith, common_steps}
-use Rattle.cmd_spec.proofs.JournalLemmas.{lines_are_few, can_fold, cut_at_ends}
+use Rattle.cmd_steps.proofs.Names.{arith, can_fold, common_steps, cut_at_ends, lines_are_few}
 use Rattle.cmd_steps.proofs.journals.judge_journal.Goals as goal
 
 -- the chain can take the turns of a journal

@@ -1,5 +1,4 @@
-use Rattle.cmd_steps.proofs.Names.{Makes, subst}
-use Rattle.cmd_spec.proofs.EndLemmas.{left_ends}
+use Rattle.cmd_steps.proofs.Names.{Makes, left_ends, subst}
 use Rattle.cmd_steps.proofs.MadeLemmas.{not_made}
 use Rattle.cmd_steps.proofs.making.write_made.Goals as goal
 

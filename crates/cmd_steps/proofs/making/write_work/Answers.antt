@@ -1,6 +1,4 @@
-use Rattle.cmd_steps.proofs.Names.{EndsAs, plain_end, refl, stop_of_write, work_of}
-use Rattle.cmd_files.proofs.ExitLemmas.{left_with}
-use Rattle.cmd_spec.proofs.EndLemmas.{work_done, work_unwritten}
+use Rattle.cmd_steps.proofs.Names.{EndsAs, left_with, plain_end, refl, stop_of_write, work_done, work_of, work_unwritten}
 use Rattle.cmd_steps.proofs.making.write_work.Goals as goal
 
 pub returns-in_err-write_files-clause-ends : goal.returns-in_err-write_files-clause-ends

@@ -1,12 +1,9 @@
-use Rattle.cmd_steps.proofs.Names.{Recorded, check, check_judged, file, messages_of, recorded_in, refl, three_of, ◌>>=◌}
-use Rattle.cmd_files.proofs.ReadingLemmas.{goes_on, judged, stops_early}
-use Rattle.cmd_spec.proofs.EndLemmas.{left_unread}
-use Rattle.cmd_spec.specs.Judge
+use Rattle.cmd_steps.proofs.Names.{Recorded, check, check_judged, file, goes_on, judged, left_unread, messages_of, reading_of, recorded_in, refl, stops_early, three_of, ◌>>=◌}
 use Rattle.cmd_steps.proofs.MadeLemmas.{text_ends}
 use Rattle.idsm_run.proofs.check.check.Goals as goal
 
 pub returns-in_err-inputs : goal.returns-in_err-inputs
-unfolding Judge.reading_of
+unfolding reading_of
 returns-in_err-inputs g c =
     let names = three_of c.args.names in
     left_unread (check names) _ c.in_err-inputs.field-0.0 _ _ c.from_residual.ensures.1
@@ -15,7 +12,7 @@ returns-in_err-inputs g c =
     c.in_err-inputs.ensures.reads)
 
 pub returns-in_err-bytes : goal.returns-in_err-bytes
-unfolding Judge.reading_of
+unfolding reading_of
 returns-in_err-bytes g c =
     let names = three_of c.args.names in
     left_unread (check names) _ c.in_err-bytes.field-0.0 _ _ c.from_residual-in_err-bytes.ensures.1
@@ -24,7 +21,7 @@ returns-in_err-bytes g c =
     c.in_ok-inputs.ensures.reads _ (stops_early (file 67108864 names.messages) _ _ _ _ c.in_err-bytes.ensures.reads))
 
 pub returns : goal.returns
-unfolding Judge.reading_of
+unfolding reading_of
 returns g c =
     let names = three_of c.args.names in
     text_ends (check names) c.compare.result _ _

@@ -1,10 +1,6 @@
-use Rattle.cmd_steps.proofs.Names.{NoMemory, Recorded, ap, does, gives, inl, only_said, recorded_in, recording, refl, told, ◌∙◌}
+use Rattle.cmd_steps.proofs.Names.{NoMemory, Recorded, ap, does, explain, gives, goes_on, inl, left_ends, left_unread, only_said, read_none, reading_of, recorded_in, recording, refl, stops_early, told, ◌∙◌}
 use Rattle.chain_endings.specs.ExplainedText.{explained_text}
-use Rattle.cmd_files.proofs.ReadingLemmas.{goes_on, read_none, stops_early}
-use Rattle.cmd_spec.proofs.EndLemmas.{left_ends, left_unread}
-use Rattle.cmd_spec.specs.Judge
 use Rattle.cmd_steps.proofs.MadeLemmas.{work_said}
-use Rattle.cmd_words.specs.Command.{explain}
 use Rattle.idsm_run.proofs.explain.explain.Goals as goal
 
 -- the chain can take what was read
@@ -12,7 +8,7 @@ pub explain-requires : goal.explain-requires
 explain-requires g c = c.in_ok-inputs.ensures.foldable.can
 
 pub returns-in_err-inputs : goal.returns-in_err-inputs
-unfolding Judge.reading_of
+unfolding reading_of
 returns-in_err-inputs g c =
     let names = recording c.args.names in
     left_unread (explain names) _ c.in_err-inputs.field-0.0 _ _ c.from_residual.ensures.1
@@ -25,7 +21,7 @@ returns-in_err-text g c =
     left_ends (explain (recording c.args.names)) _ NoMemory _ _ c.from_residual-in_err-text.ensures.1 (inl c.read_inputs.ensures.reads.same)
 
 pub returns : goal.returns
-unfolding Judge.reading_of
+unfolding reading_of
 returns g c =
     let names = recording c.args.names in
     let turns = c.in_ok-inputs.inputs.journal.history.turns in

@@ -1,12 +1,9 @@
-use Rattle.cmd_steps.proofs.Names.{NoMemory, Recorded, ap, does, files_of, fold, fold_work, gives, inl, names_of, recorded_in, ◌∙◌}
-use Rattle.cmd_files.proofs.ReadingLemmas.{goes_on, read_none, stops_early}
-use Rattle.cmd_spec.proofs.EndLemmas.{left_ends, left_unread}
-use Rattle.cmd_spec.specs.Judge
+use Rattle.cmd_steps.proofs.Names.{NoMemory, Recorded, ap, does, files_of, fold, fold_work, gives, goes_on, inl, left_ends, left_unread, names_of, read_none, reading_of, recorded_in, stops_early, ◌∙◌}
 use Rattle.idsm_run.proofs.FoldLemmas.{fold_work_is}
 use Rattle.idsm_run.proofs.fold.fold.Goals as goal
 
 pub returns-in_err-inputs : goal.returns-in_err-inputs
-unfolding Judge.reading_of
+unfolding reading_of
 returns-in_err-inputs g c =
     let names = files_of c.args.names in
     left_unread (fold names) _ c.in_err-inputs.field-0.0 _ _ c.from_residual.ensures.1
@@ -22,7 +19,7 @@ returns-in_err-line g c =
     left_ends (fold (files_of c.args.names)) _ NoMemory _ _ c.from_residual-in_err-line.ensures.1 (inl c.read_inputs.ensures.reads.same)
 
 pub returns : goal.returns
-unfolding Judge.reading_of
+unfolding reading_of
 returns g c =
     let names = files_of c.args.names in
     let inputs = c.in_ok-inputs.inputs in

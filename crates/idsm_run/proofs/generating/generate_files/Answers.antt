@@ -1,7 +1,4 @@
-use Rattle.cmd_steps.proofs.Names.{NoMemory, ap, does, gen, gen_work, given_of, inl, names_of, refl}
-use Rattle.cmd_files.proofs.ReadingLemmas.{read_none}
-use Rattle.cmd_spec.proofs.EndLemmas.{left_ends}
-use Rattle.cmd_spec.specs.Judge
+use Rattle.cmd_steps.proofs.Names.{NoMemory, ap, does, gen, gen_work, given_of, inl, left_ends, names_of, read_none, reading_of, refl}
 use Rattle.idsm_run.proofs.generating.generate_files.Goals as goal
 
 pub returns-in_err-config : goal.returns-in_err-config
@@ -9,7 +6,7 @@ returns-in_err-config g c =
     left_ends (gen (given_of c.args.given)) _ NoMemory _ _ c.from_residual.ensures.1 (inl (λ told name. refl))
 
 pub returns : goal.returns
-unfolding Judge.reading_of
+unfolding reading_of
 returns g c =
     let wanted = given_of c.args.given in
     c.write_work.ensures.ends (gen wanted) (does (gen_work wanted)) (g.H.Shelf.shows c.args.shelf.now)

@@ -1,11 +1,8 @@
-use Rattle.cmd_steps.proofs.Names.{Parts, config_in, gives, inl, migrate, migrates, NoMemory, pair_of, refl}
-use Rattle.cmd_files.proofs.ReadingLemmas.{goes_on, read_none, stops_early}
-use Rattle.cmd_spec.proofs.EndLemmas.{left_ends, left_unread}
-use Rattle.cmd_spec.specs.Judge
+use Rattle.cmd_steps.proofs.Names.{NoMemory, Parts, config_in, gives, goes_on, inl, left_ends, left_unread, migrate, migrates, pair_of, read_none, reading_of, refl, stops_early}
 use Rattle.idsm_run.proofs.migrate.migrate.Goals as goal
 
 pub returns-in_err-config : goal.returns-in_err-config
-unfolding Judge.reading_of
+unfolding reading_of
 returns-in_err-config g c =
     let names = pair_of c.args.names in
     left_unread (migrate names) _ c.in_err-config.field-0.0 _ _ c.from_residual.ensures.1
@@ -17,7 +14,7 @@ returns-in_err-made g c =
     left_ends (migrate (pair_of c.args.names)) _ NoMemory _ _ c.from_residual-in_err-made.ensures.1 (inl c.read_config.ensures.same)
 
 pub returns : goal.returns
-unfolding Judge.reading_of
+unfolding reading_of
 returns g c =
     let names = pair_of c.args.names in
     let made = c.in_ok-made.ensures in

@@ -1,15 +1,11 @@
-use Rattle.cmd_steps.proofs.Names.{AskedFor, IsTrue, NoMemory, ap, asked_in, five_of, gives, inl, names_of, replay, replays, subst, sym, ◌∙◌}
-use Rattle.cmd_files.proofs.ReadingLemmas.{goes_on, read_none, read_over, stops_early}
-use Rattle.cmd_files.specs.Writing.{AreWritten, Work}
-use Rattle.cmd_spec.proofs.EndLemmas.{reading_ends}
-use Rattle.cmd_spec.specs.Judge
+use Rattle.cmd_steps.proofs.Names.{AreWritten, AskedFor, IsTrue, NoMemory, Work, ap, asked_in, five_of, gives, goes_on, inl, names_of, read_none, read_over, reading_ends, reading_of, replay, replays, stops_early, subst, sym, ◌∙◌}
 use Rattle.cmd_steps.proofs.AnsweredLemmas.{left_finished}
 use Rattle.trace_replay.specs.Replayed.{gives as given}
 use Rattle.idsm_run.proofs.ReplayLemmas.{is_one, lost_are, replay_does, replay_work_is, sent_cut}
 use Rattle.idsm_run.proofs.replaying.replay_files.Goals as goal
 
 pub returns-in_err-asked-clause-ends : goal.returns-in_err-asked-clause-ends
-unfolding Judge.reading_of
+unfolding reading_of
 returns-in_err-asked-clause-ends g c =
     let names = five_of c.args.names in
     left_finished (replay names) _ c.in_err-asked.field-0.0 _ _ c.from_residual.ensures.1
@@ -38,7 +34,7 @@ new_files-requires-clause-cuts g c =
     sent_cut c.in_ok-asked.asked.config c.in_ok-asked.asked.trace.rounds replayed.manager (given replayed) c.in_ok-replayed.ensures
 
 pub returns-in_err-line-clause-ends : goal.returns-in_err-line-clause-ends
-unfolding Judge.reading_of
+unfolding reading_of
 returns-in_err-line-clause-ends g c =
     let names = five_of c.args.names in
     let config = c.in_ok-asked.asked.config in
@@ -59,7 +55,7 @@ returns-in_err-line-clause-ends g c =
     (c.deref-2.ensures.value ∙ c.in_ok-texts.ensures.journal) c.in_ok-texts.ensures.line))))
 
 pub returns-clause-ends : goal.returns-clause-ends
-unfolding Judge.reading_of
+unfolding reading_of
 returns-clause-ends g c =
     let names = five_of c.args.names in
     let config = c.in_ok-asked.asked.config in

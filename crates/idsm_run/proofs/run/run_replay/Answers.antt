@@ -1,14 +1,13 @@
-use Rattle.cmd_steps.proofs.Names.{five_of, replay}
-use Rattle.cmd_steps.proofs.AnsweredLemmas.{asked_with, misused_with, run_ran, runs_others}
+use Rattle.cmd_steps.proofs.Names.{ap, five_of, replay_of}
+use Rattle.cmd_steps.proofs.AnsweredLemmas.{asked_with, run_ran, runs_others}
 use Rattle.idsm_run.proofs.run.run_replay.Goals as goal
 
-pub returns-in-None-clause-ran : goal.returns-in-None-clause-ran
-returns-in-None-clause-ran g c = misused_with _ _ _ _ _ (g.H.Shelf.shows c.args.shelf.now) _ _ c.in-None.ensures.asked c.say_usage.ensures
-
-pub returns-in-Some-clause-ran : goal.returns-in-Some-clause-ran
-returns-in-Some-clause-ran g c =
-    asked_with _ _ _ _ _ _ _ _ (five_of c.in-Some.names) _ c.in-Some.ensures.asked
+pub returns-in-Ok-Some-Replay-clause-ran : goal.returns-in-Ok-Some-Replay-clause-ran
+returns-in-Ok-Some-Replay-clause-ran g c =
+    let arm = c.in-Ok-Some-Replay in
+    asked_with _ _ _ _ _ _ _ _ (five_of arm.names) _
+    (ap replay_of (rw (arm.field-0-is, arm.field-0-0-is) at arm.ensures.asked))
     (run_ran _ _ _ _ _ _ _ c.replay_files.result _ c.replay_files.ensures.replayed c.replay_files.ensures.ends c.tell_finished.ensures)
 
-pub returns-in-Some-clause-others : goal.returns-in-Some-clause-others
-returns-in-Some-clause-others g c = runs_others _ _ _ _ _ _ _ _ _ (returns-in-Some-clause-ran g c)
+pub returns-in-Ok-Some-Replay-clause-others : goal.returns-in-Ok-Some-Replay-clause-others
+returns-in-Ok-Some-Replay-clause-others g c = runs_others _ _ _ _ _ _ _ _ _ (returns-in-Ok-Some-Replay-clause-ran g c)

@@ -1,5 +1,4 @@
-use Rattle.cmd_steps.proofs.Names.{config_in, file, five_of, rounds_in}
-use Rattle.cmd_files.proofs.ReadingLemmas.{goes_on, judged, left_reading, read_none, stops_early}
+use Rattle.cmd_steps.proofs.Names.{config_in, file, five_of, goes_on, judged, left_reading, read_none, rounds_in, stops_early}
 use Rattle.idsm_run.proofs.traces.read_asked.Goals as goal
 
 pub returns-in_err-config-clause-reads : goal.returns-in_err-config-clause-reads

@@ -1,5 +1,5 @@
 use Rattle.cmd_words.proofs.Names.{◌≡◌, length, map, string_bytes, are_names}
-use Rattle.cmd_words.proofs.command.names_differ.Given as goal
+use Rattle.cmd_words.proofs.differing.names_differ.Given as goal
 
 abbrev pub decreases-loop-word : goal.decreases-loop-word
 decreases-loop-word l = length l.left
