@@ -1,6 +1,7 @@
 -- How a run over a disk ends that has what it needs, and in which no call fails: it is done, unless there is too little
 -- memory or, for a `keep`, no sequence for its next save.
-use Rattle.cmd_steps.specs.Names.{Err, IsTrue, KeepFiles, List, Ok, PairFiles, Result, Rose, WornAfter, length, ℕ, ◌+◌, ◌<◌, ◌^◌, ◌≡◌, ◌⊎◌}
+use Rattle.std.specs.Prelude.{◌+◌, ◌<◌, ◌^◌, ◌≡◌, ◌⊎◌}
+use Rattle.cmd_steps.specs.Names.{Err, IsTrue, KeepFiles, List, Ok, PairFiles, Result, Rose, WornAfter, length, ℕ}
 use Rattle.memory_disk.specs.Disks.{Shown, bytes_of}
 use Rattle.cmd_disk.specs.Keeping.{HasKept}
 use Rattle.cmd_disk.specs.Runs.{Keeps, Recalls}

@@ -1,6 +1,7 @@
 -- What `keep` leaves on its disk: the event memory after each turn of a recording, saved one after another; and why
 -- work on a disk ends.
-use Rattle.cmd_steps.specs.Names.{Damaged, Err, Failed, FailedAfter, IsTrue, List, Ok, Parts, Result, Rose, Row, Turn, WornAfter, [], length, suc, take, zero, ℕ, ⊤, ◌+◌, ◌<◌, ◌^◌, ◌≡◌, ◌≤◌, ◌⊎◌}
+use Rattle.std.specs.Prelude.{◌+◌, ◌<◌, ◌^◌, ◌≡◌, ◌≤◌, ◌⊎◌}
+use Rattle.cmd_steps.specs.Names.{Damaged, Err, Failed, FailedAfter, IsTrue, List, Ok, Parts, Result, Rose, Row, Turn, WornAfter, [], length, suc, take, zero, ℕ, ⊤}
 use Rattle.chain_plain.specs.Telling.{IsReady}
 use Rattle.event_chain.specs.Standing.{Stands}
 use Rattle.filter_aggregate.specs.Account.{all_kept}

@@ -1,7 +1,8 @@
 -- What a run over a disk does, by cases on its command. The disk is the one that is handed in, and the one that is
 -- handed back.
 -- Source: docs/COMMANDS.md.
-use Rattle.cmd_steps.specs.Names.{Command, Err, Files, IsTrue, KeepFiles, List, Misused, None, Ok, Option, PairFiles, RanCommand, Result, Row, Some, StandsInPart, Vec, codes, count_text, false, keep, length, recall, ℕ, ◌≡◌, ◌⊎◌}
+use Rattle.std.specs.Prelude.{◌≡◌, ◌⊎◌}
+use Rattle.cmd_steps.specs.Names.{Command, Err, Files, IsTrue, KeepFiles, List, Misused, None, Ok, Option, PairFiles, RanCommand, Result, Row, Some, StandsInPart, Vec, codes, count_text, false, keep, length, recall, ℕ}
 use Rattle.memory_disk.specs.Disks.{Shown, LeavesSince, MayBeLeft, bytes_of}
 use Rattle.memory_store.specs.Slots.{KeepsRows}
 use Rattle.cmd_disk.specs.Keeping.{HasDiskCause, LeavesBehind}

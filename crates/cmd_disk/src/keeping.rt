@@ -1,6 +1,7 @@
 //! The command `keep`: the event memory of a recording, saved on a disk after each turn.
 
-ghost use Rattle.cmd_steps.specs.Words.{EndsAs, IfErr, IfOk, IsFoldable, IsTrue, keep_command, keep_files_of, plain_end, ◌≡◌};
+ghost use Rattle.std.specs.Prelude.{◌≡◌};
+ghost use Rattle.cmd_steps.specs.Words.{EndsAs, IfErr, IfOk, IsFoldable, IsTrue, keep_command, keep_files_of, plain_end};
 ghost use Rattle.cmd_disk.specs.Keeping.{HasDiskCause, IsNewFolding, LeavesBehind, StopsKeeping};
 ghost use Rattle.cmd_disk.specs.Runs.{LeavesRecorded};
 ghost use Rattle.cmd_spec.specs.Keeping.{saved_text};

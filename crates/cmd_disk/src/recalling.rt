@@ -1,6 +1,7 @@
 //! The command `recall`: the records that a disk keeps, as text.
 
-ghost use Rattle.cmd_steps.specs.Words.{EndsAs, IfErr, IfOk, IsTrue, OnOk, PairFiles, Some, codes, count_text, length, memory_text, pair_of, plain_end, recall_command, ◌≡◌};
+ghost use Rattle.std.specs.Prelude.{◌≡◌};
+ghost use Rattle.cmd_steps.specs.Words.{EndsAs, IfErr, IfOk, IsTrue, OnOk, PairFiles, Some, codes, count_text, length, memory_text, pair_of, plain_end, recall_command};
 ghost use Rattle.memory_disk.specs.Disks.{LeavesSince, MayBeLeft, bytes_of};
 ghost use Rattle.cmd_disk.specs.Keeping.{HasDiskCause};
 ghost use Rattle.cmd_disk.specs.Runs.{RecalledBy, written_end};

@@ -1,6 +1,7 @@
 //! The top call of the commands over a disk.
 
-ghost use Rattle.cmd_steps.specs.Words.{IsTrue, SameBut, Tells, command_of, disk_of, map, plain_end, string_bytes, written_of, ◌≡◌};
+ghost use Rattle.std.specs.Prelude.{◌≡◌};
+ghost use Rattle.cmd_steps.specs.Words.{IsTrue, SameBut, Tells, command_of, disk_of, map, plain_end, string_bytes, written_of};
 ghost use Rattle.cmd_disk.specs.Runs.{RunsOnDisk};
 
 use crate::ended::Ended;

@@ -1,6 +1,7 @@
 //! The turns of a history, each folded and the event memory after it saved. No memory is taken.
 
-ghost use Rattle.cmd_steps.specs.Words.{IsFoldable, IsTrue, ◌≡◌};
+ghost use Rattle.std.specs.Prelude.{◌≡◌};
+ghost use Rattle.cmd_steps.specs.Words.{IsFoldable, IsTrue};
 ghost use Rattle.cmd_disk.specs.Keeping.{HasSaveCause, IsNewFolding, SavedAll};
 
 use crate::ended::Ended;

@@ -1,5 +1,6 @@
 -- What files hold.
-use Rattle.cmd_files.specs.Names.{CannotRead, Err, Files, List, None, Ok, Option, Refused, Result, Some, Stop, TooLong, if◌then◌else◌, length, nat_lt, ℕ}
+use Rattle.std.specs.Prelude.{if◌then◌else◌}
+use Rattle.cmd_files.specs.Names.{CannotRead, Err, Files, List, None, Ok, Option, Refused, Result, Some, Stop, TooLong, length, nat_lt, ℕ}
 
 -- the bytes of a file that may have so many; a file that is not there cannot be read
 abbrev pub bytes_of : ℕ → List ℕ → Option (List ℕ) → Result (List ℕ) (Stop (List ℕ))

@@ -1,5 +1,6 @@
 -- What is read and judged, each file before the next one is read: what it gives, and how a call ends that does it.
-use Rattle.cmd_files.specs.Names.{BadConfig, Bor, CannotRead, CountsFault, Err, Files, IsTrue, List, NoMemory, Ok, Read, Refusal, Refused, Result, SameFiles, Shelved, Stop, TooLong, ℕ, ⊤, ◌≡◌, ◌⊎◌}
+use Rattle.std.specs.Prelude.{◌≡◌, ◌⊎◌}
+use Rattle.cmd_files.specs.Names.{BadConfig, Bor, CannotRead, CountsFault, Err, Files, IsTrue, List, NoMemory, Ok, Read, Refusal, Refused, Result, SameFiles, Shelved, Stop, TooLong, ℕ, ⊤}
 use Rattle.config_json.specs.declared.fault.JsonFault.{JsonFault}
 use Rattle.cmd_files.specs.Contents.{file_of}
 use Rattle.cmd_files.specs.Plain.{plain_stop}

@@ -1,5 +1,6 @@
 -- How the put of a run's one text ends.
-use Rattle.cmd_files.specs.Names.{CannotWrite, Err, Failed, Heard, IfErr, IsTrue, List, MemoryRefused, NoMemory, Ok, PutCause, PutTakes, Result, Stop, WriteFault, [], ℕ, ⊤, ◌≡◌, ◌≢◌, ◌⊎◌}
+use Rattle.std.specs.Prelude.{◌≡◌, ◌≢◌, ◌⊎◌}
+use Rattle.cmd_files.specs.Names.{CannotWrite, Err, Failed, Heard, IfErr, IsTrue, List, MemoryRefused, NoMemory, Ok, PutCause, PutTakes, Result, Stop, WriteFault, [], ℕ, ⊤}
 use Rattle.cmd_files.specs.Texts.{stop_text, stop_status, no_memory_text}
 
 -- the status of a run whose put answered so, where this one goes with its text

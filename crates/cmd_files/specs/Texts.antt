@@ -1,6 +1,7 @@
 -- The statuses and the texts of how a run ends.
 -- Source: docs/COMMANDS.md.
-use Rattle.cmd_files.specs.Names.{BadConfig, BadCounter, BadJournal, BadMessage, BadMessages, BadSource, BadTag, BadTrace, BadUnit, CannotRead, CannotWrite, ConfigFault, Differ, DiskStop, EmptyKey, Err, Instance, List, NoMemory, Ok, OnDisk, Refusal, Refused, Result, Signed, Stop, TooLarge, TooLong, [], codes, decimal, ℕ, ◌++◌, ◌∷◌}
+use Rattle.std.specs.Prelude.{◌++◌, ◌∷◌}
+use Rattle.cmd_files.specs.Names.{BadConfig, BadCounter, BadJournal, BadMessage, BadMessages, BadSource, BadTag, BadTrace, BadUnit, CannotRead, CannotWrite, ConfigFault, Differ, DiskStop, EmptyKey, Err, Instance, List, NoMemory, Ok, OnDisk, Refusal, Refused, Result, Signed, Stop, TooLarge, TooLong, [], codes, decimal, ℕ}
 use Rattle.cmd_files.specs.declared.stop.DiskStop.TheVariants.{Failed, FailedAfter, Damaged, WornAfter}
 use Rattle.ids_config.specs.declared.fault.ConfigPlace.{ConfigPlace}
 use Rattle.ids_config.specs.declared.fault.ConfigPlace.TheVariants.{Top, Class, Event}

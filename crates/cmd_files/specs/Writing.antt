@@ -1,5 +1,6 @@
 -- Files that a command writes, one after another, and what stands where it had to stop.
-use Rattle.cmd_files.specs.Names.{Append, CannotWrite, Contains, CountsFault, Create, Err, Failed, Faults, Files, IsTrue, List, MemoryRefused, NoMemory, Ok, Result, SameOthers, Shelved, Some, Stop, WantsMemory, WriteFault, [], length, map, take, ℕ, ⊤, ◌∷◌, ◌≡◌, ◌≢◌, ◌≤◌, ◌⊎◌}
+use Rattle.std.specs.Prelude.{◌∷◌, ◌≡◌, ◌≢◌, ◌≤◌, ◌⊎◌}
+use Rattle.cmd_files.specs.Names.{Append, CannotWrite, Contains, CountsFault, Create, Err, Failed, Faults, Files, IsTrue, List, MemoryRefused, NoMemory, Ok, Result, SameOthers, Shelved, Some, Stop, WantsMemory, WriteFault, [], length, map, take, ℕ, ⊤}
 use Rattle.std.specs.List.{AllByRecursion}
 use Rattle.cmd_files.specs.declared.outputs.NewFile.{NewFile}
 

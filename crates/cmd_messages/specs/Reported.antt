@@ -1,5 +1,6 @@
 -- What a run of `report` does, with the drain that it answers.
-use Rattle.cmd_steps.specs.Names.{Files, Heard, List, Ok, Option, ReportFiles, Shelved, Some, [], over, report, ℕ, ◌≡◌}
+use Rattle.std.specs.Prelude.{◌≡◌}
+use Rattle.cmd_steps.specs.Names.{Files, Heard, List, Ok, Option, ReportFiles, Shelved, Some, [], over, report, ℕ}
 use Rattle.ids_reporter.specs.Forwarding.{IsForwarded}
 use Rattle.ids_reporter.specs.Sources.{Sources}
 use Rattle.ids_reporter.specs.declared.drain.Drain.{Drain}

@@ -1,6 +1,7 @@
 //! The commands `bundle` and `unbundle`: messages packed into units, and taken out of them again.
 
-ghost use Rattle.cmd_steps.specs.Words.{EndsAs, IfOk, List, Makes, bundle as bundle_command, pack_refusal, packs, pair_of, plain_end, sized_of, task_stop, unbundle as unbundle_command, units_text, unpack_refusal, unpacks, ℕ, ◌≡◌, ◌≤◌};
+ghost use Rattle.std.specs.Prelude.{◌≡◌, ◌≤◌};
+ghost use Rattle.cmd_steps.specs.Words.{EndsAs, IfOk, List, Makes, bundle as bundle_command, pack_refusal, packs, pair_of, plain_end, sized_of, task_stop, unbundle as unbundle_command, units_text, unpack_refusal, unpacks, ℕ};
 
 use cmd_files::{MAX_MESSAGES_BYTES, MAX_UNITS_BYTES, Refusal, Stop, read_file};
 use cmd_steps::{Made, write_made};

@@ -1,6 +1,7 @@
 //! The command `report`: the messages of several managers, in one file.
 
-ghost use Rattle.cmd_steps.specs.Words.{CanReport, EndsAs, IfOk, IsTrue, Judges, Reads, [], clashes, false, finished_end, is_of, length, list_any, map, messages_read, report as report_command, report_files_of, report_text, seen_as, source_found, source_in, sources_in, string_bytes, sum_by, ◌≡◌, ◌≤◌};
+ghost use Rattle.std.specs.Prelude.{◌≡◌, ◌≤◌};
+ghost use Rattle.cmd_steps.specs.Words.{CanReport, EndsAs, IfOk, IsTrue, Judges, Reads, [], clashes, false, finished_end, is_of, length, list_any, map, messages_read, report as report_command, report_files_of, report_text, seen_as, source_found, source_in, sources_in, string_bytes, sum_by};
 ghost use Rattle.ids_reporter.specs.Sources.{AreApart, AreSmall, instance_of};
 ghost use Rattle.cmd_messages.specs.Reported.{Reported as HasReported};
 

@@ -1,6 +1,7 @@
 //! The commands `sign` and `verify`: messages with a counter and a tag, and without them again.
 
-ghost use Rattle.cmd_steps.specs.Words.{EndsAs, Judges, List, Makes, Reads, key_judged, keyed_in, keyed_of, length, plain_end, seal_refusal, seals, seen_as, sign as sign_command, task_stop, unseal_refusal, unseals, verify as verify_command, ℕ, ◌^◌, ◌≡◌, ◌≤◌};
+ghost use Rattle.std.specs.Prelude.{◌^◌, ◌≡◌, ◌≤◌};
+ghost use Rattle.cmd_steps.specs.Words.{EndsAs, Judges, List, Makes, Reads, key_judged, keyed_in, keyed_of, length, plain_end, seal_refusal, seals, seen_as, sign as sign_command, task_stop, unseal_refusal, unseals, verify as verify_command, ℕ};
 ghost use Rattle.cmd_messages.specs.Read.{keyed_with};
 
 use cmd_files::{MAX_KEY_BYTES, MAX_MESSAGES_BYTES, MAX_SEALED_BYTES, Refusal, Stop, read_file};

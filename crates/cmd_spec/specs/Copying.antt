@@ -1,5 +1,6 @@
 -- The commands `sign` and `verify`: the file that they write, their text, and why they refuse what they read.
-use Rattle.cmd_spec.specs.Names.{BadCounter, BadMessages, BadTag, Copies, List, MessageParts, NoMemory, None, Option, Refusal, Refused, SealFault, Signed, Some, Stop, UnsealFault, Work, [], codes, decimal, length, ℕ, ◌++◌, ◌∷◌, ◌≡◌}
+use Rattle.std.specs.Prelude.{◌++◌, ◌∷◌, ◌≡◌}
+use Rattle.cmd_spec.specs.Names.{BadCounter, BadMessages, BadTag, Copies, List, MessageParts, NoMemory, None, Option, Refusal, Refused, SealFault, Signed, Some, Stop, UnsealFault, Work, [], codes, decimal, length, ℕ}
 use Rattle.frame_auth.specs.declared.fault.SealFault.TheVariants as seals
 use Rattle.frame_auth.specs.declared.fault.UnsealFault.TheVariants as unseals
 

@@ -1,5 +1,6 @@
 -- What the input files deserve decides the answer of a run.
-use Rattle.cmd_spec.specs.Names.{AreWritten, Command, DiskStop, Failed, Heard, List, MissesOne, OneFails, Refusal, Shelved, Work, disk_status, written_by, ℕ, ⊤, ◌≡◌, ◌⊎◌}
+use Rattle.std.specs.Prelude.{◌≡◌, ◌⊎◌}
+use Rattle.cmd_spec.specs.Names.{AreWritten, Command, DiskStop, Failed, Heard, List, MissesOne, OneFails, Refusal, Shelved, Work, disk_status, written_by, ℕ, ⊤}
 use Rattle.ids_frame.specs.Bytes.{AreBytes}
 use Rattle.cmd_spec.specs.Keeping.{MayStopOnDisk}
 use Rattle.cmd_spec.specs.Judge.{Task, Does, Refuses, seals, unseals, packs}

@@ -1,5 +1,6 @@
 -- The command `fold`: the files that it writes, and its text.
-use Rattle.cmd_spec.specs.Names.{FoldFiles, List, Output, Parts, Turn, [], codes, count_of, decimal, entries_of, length, rows_of, ℕ, ◌++◌, ◌∷◌}
+use Rattle.std.specs.Prelude.{◌++◌, ◌∷◌}
+use Rattle.cmd_spec.specs.Names.{FoldFiles, List, Output, Parts, Turn, [], codes, count_of, decimal, entries_of, length, rows_of, ℕ}
 
 -- the line `turns T entries E messages M records K`, with its line feed
 abbrev pub fold_line : (turns entries messages records : ℕ) → List ℕ

@@ -1,5 +1,6 @@
 -- Which journals `fold` folds: what they say of held-back events has to be the chain's own number.
-use Rattle.cmd_spec.specs.Names.{BadLine, Err, List, None, Ok, Option, Parts, Result, Some, Told, Turn, handed_by, if◌then◌else◌, journal_in, length, ℕ, ◌+◌, ◌==◌, ◌∷◌}
+use Rattle.std.specs.Prelude.{if◌then◌else◌, ◌+◌, ◌==◌, ◌∷◌}
+use Rattle.cmd_spec.specs.Names.{BadLine, Err, List, None, Ok, Option, Parts, Result, Some, Told, Turn, handed_by, journal_in, length, ℕ}
 
 -- the next step, where nothing was refused yet
 infixl 10 ◌>>=◌

@@ -1,7 +1,8 @@
 -- What the input files of a command deserve: what they ask for, or why the command has to stop,
 -- in the order in which files are read and judged.
 -- Source: docs/COMMANDS.md, "Order of work".
-use Rattle.cmd_spec.specs.Names.{BadConfig, BadJournal, BadLine, BadMessage, BadMessages, BadTrace, Command, ConfigFault, Differ, EmptyKey, Err, Files, FoldFiles, KeyedFiles, List, MessageParts, Ok, PackFault, Packs, Parts, Reading, Recording, Refusal, ReplayFiles, Result, Round, SealFault, Some, Sources, Stop, Told, Turn, UnpackFault, Unpacks, UnsealFault, Work, [], bundle, bytes_eq, check, codes, common_prefix_len, config_text, configuration, decode, decoded_text, explain, export, file, fold, gen, gives, if◌then◌else◌, joined, joined_sealed, keep, length, memory_text, messages_of, messages_read, migrate, nat_eq, over, recall, refuses, replay, report, rows_of, sign, trace_in, unbundle, verify, ℕ, ◌>>=◌, ◌∷◌, ◌≡◌}
+use Rattle.std.specs.Prelude.{if◌then◌else◌, ◌∷◌, ◌≡◌}
+use Rattle.cmd_spec.specs.Names.{BadConfig, BadJournal, BadLine, BadMessage, BadMessages, BadTrace, Command, ConfigFault, Differ, EmptyKey, Err, Files, FoldFiles, KeyedFiles, List, MessageParts, Ok, PackFault, Packs, Parts, Reading, Recording, Refusal, ReplayFiles, Result, Round, SealFault, Some, Sources, Stop, Told, Turn, UnpackFault, Unpacks, UnsealFault, Work, [], bundle, bytes_eq, check, codes, common_prefix_len, config_text, configuration, decode, decoded_text, explain, export, file, fold, gen, gives, joined, joined_sealed, keep, length, memory_text, messages_of, messages_read, migrate, nat_eq, over, recall, refuses, replay, report, rows_of, sign, trace_in, unbundle, verify, ℕ, ◌>>=◌}
 use Rattle.gen_options.specs.Given.{Wanted}
 use Rattle.gen_recording.specs.Generated.{config_for, trace_for, journal_for, line_for}
 use Rattle.chain_endings.specs.ExplainedText.{explained_text}

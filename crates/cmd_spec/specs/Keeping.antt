@@ -1,5 +1,6 @@
 -- The commands `keep` and `recall`: their lines, the file that `recall` writes, and how their work on a disk may stop.
-use Rattle.cmd_spec.specs.Names.{Command, DiskStop, List, Work, codes, keep, length, memory_text, recall, ℕ, ◌≡◌}
+use Rattle.std.specs.Prelude.{◌≡◌}
+use Rattle.cmd_spec.specs.Names.{Command, DiskStop, List, Work, codes, keep, length, memory_text, recall, ℕ}
 use Rattle.ids_types.specs.MemoryRow.{Row}
 use Rattle.cmd_files.specs.declared.stop.DiskStop.TheVariants.{Failed, Damaged}
 use Rattle.cmd_spec.specs.Copying.{count_text, one_file}

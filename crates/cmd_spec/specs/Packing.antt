@@ -1,5 +1,6 @@
 -- The commands `bundle` and `unbundle`: the file that they write, their text, and why they refuse what they read.
-use Rattle.cmd_spec.specs.Names.{ArePacked, BadMessages, BadUnit, List, None, Ok, Option, PackFault, Refusal, Some, TooLarge, UnpackFault, Unpacks, Work, codes, decimal, joined, length, ℕ, ◌++◌, ◌≡◌}
+use Rattle.std.specs.Prelude.{◌++◌, ◌≡◌}
+use Rattle.cmd_spec.specs.Names.{ArePacked, BadMessages, BadUnit, List, None, Ok, Option, PackFault, Refusal, Some, TooLarge, UnpackFault, Unpacks, Work, codes, decimal, joined, length, ℕ}
 use Rattle.ids_bundle.specs.Units.{Run, all_of, units}
 use Rattle.cmd_spec.specs.Copying.{one_file}
 use Rattle.ids_bundle.specs.declared.fault.PackFault.TheVariants as packing

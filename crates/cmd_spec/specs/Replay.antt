@@ -1,5 +1,6 @@
 -- The command `replay`: the files that it writes, and its text.
-use Rattle.cmd_spec.specs.Names.{List, Loss, Output, Parts, ReplayFiles, Round, Turn, Work, [], codes, decimal, entries_of, filter, journal_text, length, memory_text, messages_of, misses_context, rows_of, sum_by, told, ℕ, ◌++◌, ◌∷◌, ◌≡◌}
+use Rattle.std.specs.Prelude.{◌++◌, ◌∷◌, ◌≡◌}
+use Rattle.cmd_spec.specs.Names.{List, Loss, Output, Parts, ReplayFiles, Round, Turn, Work, [], codes, decimal, entries_of, filter, journal_text, length, memory_text, messages_of, misses_context, rows_of, sum_by, told, ℕ}
 use Rattle.cmd_spec.specs.Headline.{IsOneHistory}
 
 -- the line `turns T entries E losses L without W`, with its line feed

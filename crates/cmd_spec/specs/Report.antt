@@ -1,5 +1,6 @@
 -- The command `report`: what its input files hold, the file that it writes, and its text.
-use Rattle.cmd_spec.specs.Names.{BadMessage, BadSource, Bool, Err, Instance, List, MessageParts, Ok, Reading, Result, Sources, Work, [], codes, decimal, false, file, gives, instance_of, joined, length, list_any, messages_read, refuses, sum_by, true, ℕ, ◌++◌, ◌==◌, ◌>>=◌, ◌∷◌, ◌≡◌}
+use Rattle.std.specs.Prelude.{◌++◌, ◌==◌, ◌∷◌, ◌≡◌}
+use Rattle.cmd_spec.specs.Names.{BadMessage, BadSource, Bool, Err, Instance, List, MessageParts, Ok, Reading, Result, Sources, Work, [], codes, decimal, false, file, gives, instance_of, joined, length, list_any, messages_read, refuses, sum_by, true, ℕ, ◌>>=◌}
 use Rattle.ids_reporter.specs.Forwarding.{AreMerged}
 use Rattle.ids_reporter.specs.declared.index.Instance.{Instance as Managers}
 use Rattle.ids_reporter.specs.declared.index.Instance.TheVariants.{Empty, One, Mixed}

@@ -1,7 +1,8 @@
 -- What a run does, by cases on its command: it did its command's work, or stopped, each with its status
 -- and its text.
 -- Source: docs/COMMANDS.md.
-use Rattle.cmd_spec.specs.Names.{AreWritten, BadSource, Bool, CannotRead, CannotWrite, Comes, Command, Contains, CountsFault, DiskStop, Err, Failed, Files, Heard, Instance, IsTrue, List, NoMemory, None, Ok, OnDisk, OneFails, Option, Read, Refusal, Refused, Result, Rose, SameBut, SameFiles, Shelved, Some, StandUpTo, Stop, TooLong, Work, [], answer_status, answer_text, bytes_eq, configuration, false, list_any, migrate, option_map, read_by, row_of, true, usage, word_of, written_by, ℕ, ⊤, ◌≡◌, ◌⊎◌}
+use Rattle.std.specs.Prelude.{◌≡◌, ◌⊎◌}
+use Rattle.cmd_spec.specs.Names.{AreWritten, BadSource, Bool, CannotRead, CannotWrite, Comes, Command, Contains, CountsFault, DiskStop, Err, Failed, Files, Heard, Instance, IsTrue, List, NoMemory, None, Ok, OnDisk, OneFails, Option, Read, Refusal, Refused, Result, Rose, SameBut, SameFiles, Shelved, Some, StandUpTo, Stop, TooLong, Work, [], answer_status, answer_text, bytes_eq, configuration, false, list_any, migrate, option_map, read_by, row_of, true, usage, word_of, written_by, ℕ, ⊤}
 use Rattle.cmd_spec.specs.Judge.{Task, Does, Refuses, judge, reading_of}
 use Rattle.cmd_spec.specs.Keeping.{MayStopOnDisk}
 use Rattle.cmd_files.specs.Saying.{Puts, Says}

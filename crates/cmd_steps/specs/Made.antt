@@ -1,5 +1,6 @@
 -- A command that makes its files, and its line, of what it has read.
-use Rattle.cmd_steps.specs.Names.{Bor, Command, Does, Err, List, Ok, Reads, Refuses, Result, Shelved, Stop, Task, Work, map, one_file, output_of, plain_refusal, reading_of, written_by, ℕ, ⊤, ◌≡◌}
+use Rattle.std.specs.Prelude.{◌≡◌}
+use Rattle.cmd_steps.specs.Names.{Bor, Command, Does, Err, List, Ok, Reads, Refuses, Result, Shelved, Stop, Task, Work, map, one_file, output_of, plain_refusal, reading_of, written_by, ℕ, ⊤}
 use Rattle.cmd_files.specs.declared.outputs.NewFile.{NewFile}
 use Rattle.cmd_files.specs.declared.stop.Stop.TheVariants.{Refused, NoMemory}
 use Rattle.cmd_steps.specs.declared.making.Made.{Made}

@@ -1,5 +1,6 @@
 -- What a journal gives when it is folded, as `fold` holds it.
-use Rattle.cmd_steps.specs.Names.{Cuts, Folded, List, Parts, Recorded, Turn, count_of, length, messages_of, reverse, rows_of, ◌≡◌}
+use Rattle.std.specs.Prelude.{◌≡◌}
+use Rattle.cmd_steps.specs.Names.{Cuts, Folded, List, Parts, Recorded, Turn, count_of, length, messages_of, reverse, rows_of}
 use Rattle.chain_plain.specs.Recorded.{CanFold}
 use Rattle.ids_types.specs.declared.loss.Loss.{Loss}
 use Rattle.journal.specs.Answers.{told}

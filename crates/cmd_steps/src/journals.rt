@@ -1,6 +1,7 @@
 //! Journals that are folded: what the chain gives for them, and whether they tell its own numbers.
 
-ghost use Rattle.cmd_steps.specs.Words.{IfOk, IsFoldable, IsOutcome, Judges, entries_of, folded_in, journal_judged, length, held_back_line as line_held_back, seen_as, told, ◌+◌, ◌<◌, ◌^◌, ◌∷◌, ◌≡◌};
+ghost use Rattle.std.specs.Prelude.{◌+◌, ◌<◌, ◌^◌, ◌∷◌, ◌≡◌};
+ghost use Rattle.cmd_steps.specs.Words.{IfOk, IsFoldable, IsOutcome, Judges, entries_of, folded_in, journal_judged, length, held_back_line as line_held_back, seen_as, told};
 
 use chain_plain::{Folded, outcome};
 use cmd_files::{Refusal, Stop};

@@ -1,6 +1,7 @@
 //! The files of a command, made of what was read, and its line.
 
-ghost use Rattle.cmd_steps.specs.Words.{AreWritten, CanWrite, Command, Does, EndsAs, HasCome, IfOk, IsTrue, Makes, OnOk, Shelved, Task, [], map, names_of, output_of, plain_end, work_of, ◌∷◌, ◌≡◌};
+ghost use Rattle.std.specs.Prelude.{◌∷◌, ◌≡◌};
+ghost use Rattle.cmd_steps.specs.Words.{AreWritten, CanWrite, Command, Does, EndsAs, HasCome, IfOk, IsTrue, Makes, OnOk, Shelved, Task, [], map, names_of, output_of, plain_end, work_of};
 
 use cmd_files::{NewFile, Stop, write_files};
 use ids_outside::Shelf;

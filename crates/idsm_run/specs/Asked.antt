@@ -1,5 +1,6 @@
 -- Which run the words ask for, and what it does.
-use Rattle.cmd_steps.specs.Names.{Heard, List, Option, Shelved, String, [], codes, if◌then◌else◌, string_bytes, ℕ, ◌||◌, ◌∷◌, ◌≡◌, ◌⊎◌}
+use Rattle.std.specs.Prelude.{if◌then◌else◌, ◌||◌, ◌∷◌, ◌≡◌, ◌⊎◌}
+use Rattle.cmd_steps.specs.Names.{Heard, List, Option, Shelved, String, [], codes, string_bytes, ℕ}
 use Rattle.idsm_run.specs.Replayed.{Replays}
 use Rattle.memory_disk.specs.Disks.{Shown}
 use Rattle.cmd_disk.specs.Runs.{RunsOnDisk}

@@ -1,5 +1,6 @@
 -- What a command does that starts no thread and needs no disk.
-use Rattle.cmd_steps.specs.Names.{Bor, List, None, Option, Result, Shelved, Some, Vec, ℕ, ◌≡◌}
+use Rattle.std.specs.Prelude.{◌≡◌}
+use Rattle.cmd_steps.specs.Names.{Bor, List, None, Option, Result, Shelved, Some, Vec, ℕ}
 use Rattle.cmd_steps.specs.Words.{Command, EndsAs, Global, Stop, plain_end}
 
 -- it ended so; where there is no such command, nothing was done

@@ -1,5 +1,6 @@
 -- What a run of `replay` does, with the manager that it answers.
-use Rattle.cmd_steps.specs.Names.{AreWritten, AskedFor, Files, Heard, List, Ok, Option, Parts, ReplayFiles, Round, Shelved, asked_in, over, replay, ℕ, ◌≡◌}
+use Rattle.std.specs.Prelude.{◌≡◌}
+use Rattle.cmd_steps.specs.Names.{AreWritten, AskedFor, Files, Heard, List, Ok, Option, Parts, ReplayFiles, Round, Shelved, asked_in, over, replay, ℕ}
 use Rattle.buffer_classes.specs.Buffers.{Buffer}
 use Rattle.event_chain.specs.Chained.{Chained}
 use Rattle.main_function.specs.declared.manager.Manager.{Manager}

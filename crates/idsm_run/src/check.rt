@@ -1,6 +1,7 @@
 //! The command `check`: whether a file holds the messages of a recorded history.
 
-ghost use Rattle.cmd_steps.specs.Words.{EndsAs, Judges, check as check_command, check_judged, common_prefix_len, does, nat_eq, only_said, plain_end, seen_as, three_of, ◌≡◌};
+ghost use Rattle.std.specs.Prelude.{◌≡◌};
+ghost use Rattle.cmd_steps.specs.Words.{EndsAs, Judges, check as check_command, check_judged, common_prefix_len, does, nat_eq, only_said, plain_end, seen_as, three_of};
 
 use cmd_files::{MAX_MESSAGES_BYTES, Refusal, Stop, read_file};
 use cmd_steps::read_inputs;

@@ -1,6 +1,7 @@
 //! The command `fold`: the messages and the event memory of a recorded history.
 
-ghost use Rattle.cmd_steps.specs.Words.{CanWrite, Cuts, EndsAs, IfOk, WritesApart, entries_of, files_of, fold as fold_command, fold_outputs, length, fold_line as line_of, map, output_of, plain_end, ◌≡◌};
+ghost use Rattle.std.specs.Prelude.{◌≡◌};
+ghost use Rattle.cmd_steps.specs.Words.{CanWrite, Cuts, EndsAs, IfOk, WritesApart, entries_of, files_of, fold as fold_command, fold_outputs, length, fold_line as line_of, map, output_of, plain_end};
 
 use chain_plain::Folded;
 use cmd_files::{NewFile, Stop};

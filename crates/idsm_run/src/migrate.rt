@@ -1,6 +1,7 @@
 //! The command `migrate`: the text of a configuration in the second form.
 
-ghost use Rattle.cmd_steps.specs.Words.{EndsAs, IfOk, Ok, codes, config_text, configuration, migrate as migrate_command, pair_of, plain_end, ◌≡◌};
+ghost use Rattle.std.specs.Prelude.{◌≡◌};
+ghost use Rattle.cmd_steps.specs.Words.{EndsAs, IfOk, Ok, codes, config_text, configuration, migrate as migrate_command, pair_of, plain_end};
 
 use cmd_files::Stop;
 use cmd_steps::{Made, read_config, write_made};

@@ -1,6 +1,7 @@
 //! The texts of a replay: its event memory, its journal, and its line.
 
-ghost use Rattle.cmd_steps.specs.Words.{IfOk, List, Parts, Round, journal_text, replay_line as line_of, lost_contexts, memory_text, rows_of, replay_text as text_of, told, without_context, ◌<◌, ◌^◌, ◌≡◌};
+ghost use Rattle.std.specs.Prelude.{◌<◌, ◌^◌, ◌≡◌};
+ghost use Rattle.cmd_steps.specs.Words.{IfOk, List, Parts, Round, journal_text, replay_line as line_of, lost_contexts, memory_text, rows_of, replay_text as text_of, told, without_context};
 ghost use Rattle.idsm_run.specs.Replayed.{IsReplayed};
 
 use ids_types::{History, NoMemory};

@@ -1,6 +1,7 @@
 //! The command `replay`: the messages, the event memory and the journal of a trace that is replayed by threads.
 
-ghost use Rattle.cmd_steps.specs.Words.{CanWrite, Cuts, EndsAs, IfOk, IsTrue, WritesApart, finished_end, five_of, length, map, output_of, replay as replay_command, replay_outputs, ◌≡◌};
+ghost use Rattle.std.specs.Prelude.{◌≡◌};
+ghost use Rattle.cmd_steps.specs.Words.{CanWrite, Cuts, EndsAs, IfOk, IsTrue, WritesApart, finished_end, five_of, length, map, output_of, replay as replay_command, replay_outputs};
 ghost use Rattle.idsm_run.specs.Replayed.{Replayed as HasReplayed};
 
 use crate::replay_texts::{Texts, print_texts};

@@ -1,6 +1,7 @@
 //! The input files of a replay.
 
-ghost use Rattle.cmd_steps.specs.Words.{IfOk, Judges, Reads, asked_in, five_of, seen_as, trace_in, trace_judged, ◌≡◌};
+ghost use Rattle.std.specs.Prelude.{◌≡◌};
+ghost use Rattle.cmd_steps.specs.Words.{IfOk, Judges, Reads, asked_in, five_of, seen_as, trace_in, trace_judged};
 ghost use Rattle.text_spec.specs.TraceReading.{AreRounds};
 ghost use Rattle.idsm_run.specs.Replayed.{asked_of};
 

@@ -1,6 +1,7 @@
 -- What `fold` and `check` do with the files that a replay left.
 -- Source: docs/COMMANDS.md.
-use Rattle.cmd_steps.specs.Names.{Command, Files, Heard, IfSome, IsTrue, List, Recording, ReplayFiles, SameBut, SameFiles, Shelved, Some, check, command_of, fold, length, replay, replay_of, written_by, ℕ, ◌≡◌, ◌≤◌}
+use Rattle.std.specs.Prelude.{◌≡◌, ◌≤◌}
+use Rattle.cmd_steps.specs.Names.{Command, Files, Heard, IfSome, IsTrue, List, Recording, ReplayFiles, SameBut, SameFiles, Shelved, Some, check, command_of, fold, length, replay, replay_of, written_by, ℕ}
 use Rattle.idsm_run.specs.Replayed.{RunManager, RanReplay}
 
 -- the recording that a replay leaves: the configuration that it read, and the journal that it wrote

@@ -1,6 +1,7 @@
 -- The turn for which `fold` refuses a journal: the first that tells another number than the chain hands on to it.
 -- Source: docs/FORMATS.md.
-use Rattle.cmd_steps.specs.Names.{List, Parts, Turn, flat_map, length, reverse, ℕ, ◌++◌, ◌+◌, ◌∷◌, ◌≡◌, ◌≢◌}
+use Rattle.std.specs.Prelude.{◌++◌, ◌+◌, ◌∷◌, ◌≡◌, ◌≢◌}
+use Rattle.cmd_steps.specs.Names.{List, Parts, Turn, flat_map, length, reverse, ℕ}
 use Rattle.chain_spec.specs.Chain.{IsCausal, handed_on}
 use Rattle.text_spec.specs.JournalText.{turn_told}
 

@@ -1,6 +1,7 @@
 //! Which journals `fold` takes.
 
-ghost use Rattle.cmd_steps.specs.Words.{Err, IsCausal, IsJournal, List, Ok, Parts, Told, folded_in, length, reverse, ℕ, ◌↔◌, ◌≡◌, ◌≤◌};
+ghost use Rattle.std.specs.Prelude.{◌↔◌, ◌≡◌, ◌≤◌};
+ghost use Rattle.cmd_steps.specs.Words.{Err, IsCausal, IsJournal, List, Ok, Parts, Told, folded_in, length, reverse, ℕ};
 ghost use Rattle.law_agreement.specs.Causal.{IsFirstUncausal};
 
 /// `fold` takes exactly the journals of causal histories. Of any other journal it tells fault 8, at the line of the first

@@ -1,6 +1,7 @@
 //! What messages weigh: each function has a law as its contract, and no body.
 
-ghost use Rattle.cmd_steps.specs.Words.{IsJournal, List, Parts, Told, journal_text, length, messages, reverse, sent, sum_by, ℕ, ◌*◌, ◌≤◌};
+ghost use Rattle.std.specs.Prelude.{◌*◌, ◌≤◌};
+ghost use Rattle.cmd_steps.specs.Words.{IsJournal, List, Parts, Told, journal_text, length, messages, reverse, sent, sum_by, ℕ};
 ghost use Rattle.ids_frame.specs.Spelling.{spelling};
 ghost use Rattle.chain_spec.specs.Filtering.{qualified};
 ghost use Rattle.chain_spec.specs.Items.{Item};
