@@ -166,12 +166,13 @@ report_in [] = None
 report_in (target ∷ sources) =
     if nat_le 1 (length sources) && nat_le (length sources) 8 then Some (record { target = target; sources = sources }) else None
 
--- and of those after `fold` and `replay`
+-- the files of the words after `fold`
 abbrev pub fold_in : List (List ℕ) → Option FoldFiles
 fold_in (config ∷ journal ∷ messages ∷ memory ∷ []) =
     Some (record { from = record { config = config; journal = journal }; messages = messages; memory = memory })
 fold_in names = None
 
+-- the files of the words after `replay`
 abbrev pub replay_in : List (List ℕ) → Option ReplayFiles
 replay_in (config ∷ trace ∷ messages ∷ memory ∷ journal ∷ []) =
     Some (record { config = config; trace = trace; messages = messages; memory = memory; journal = journal })
