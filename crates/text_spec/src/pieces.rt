@@ -1,9 +1,10 @@
 //! The words of a line and the parts of a word, taken one after another.
 
-ghost use Rattle.std.specs.Prelude.{◌≡◌, ◌==◌, ℕ, ◌<◌, ◌≤◌, List, ◌∷◌, true, length, take, drop, option_map, IfSome, position};
+ghost use Rattle.std.specs.Char.{is_ascii_digit};
+ghost use Rattle.std.specs.Prelude.{◌≡◌, ◌==◌, ◌&&◌, ℕ, ◌+◌, ◌<◌, ◌≤◌, List, ◌∷◌, true, false, length, take, drop, slice_index, option_map, IfSome, IfOk, IfErr, position};
 ghost use Rattle.text_spec.specs.Fields.{a_mode, a_number, a_stamp, first_as};
 ghost use Rattle.text_spec.specs.Maybe.{first_of, ended as ended_of};
-ghost use Rattle.text_spec.specs.PiecesView.{pieces_left};
+ghost use Rattle.text_spec.specs.PiecesView.{AreDigits, pieces_left};
 ghost use Rattle.text_spec.specs.Words.{differs, pieces_of};
 
 use crate::numbers::{number_of, with_digit};
@@ -57,6 +58,7 @@ impl<'a, const SEPARATOR: u8> Pieces<'a, SEPARATOR> {
     /// The number at the front, of any length, and the pieces after it. A number that is greater is
     /// told as `u64::MAX`, so that a number out of its range is not taken for a word that is no number.
     /// Steps: the bytes up to the separator or to the first that is no digit. By: read off.
+    #[inline(always)]
     pub fn any_number(self) -> Option<(u64, Pieces<'a, SEPARATOR>)>
         ensures { result ≡ first_as a_number self.entry }
     {
@@ -113,6 +115,7 @@ impl<'a, const SEPARATOR: u8> Pieces<'a, SEPARATOR> {
 
 /// What stands before the first separator, and what stands after it, if there is one.
 /// Steps: the bytes up to the first separator. By: `shorter`; read off.
+#[inline(always)]
 pub fn cut(text: &[u8], separator: u8) -> (&[u8], Option<&[u8]>)
     ensures pieces { pieces_of separator text.now ≡
         result.0.now ∷ pieces_left separator (option_map (λ r. r.now) result.1) }
@@ -125,6 +128,7 @@ pub fn cut(text: &[u8], separator: u8) -> (&[u8], Option<&[u8]>)
 }
 
 /// The first place of a byte.
+#[inline(never)]
 fn place_of(text: &[u8], byte: u8) -> Option<usize>
     ensures { result ≡ position (λ b. b == byte) text.now }
 {
@@ -181,85 +185,98 @@ fn is_other(byte: &u8, separator: u8) -> bool
     *byte != separator
 }
 
-/// The number that the first piece writes, and what stands after the piece: quick where it has one
-/// digit or two, as many numbers have.
+/// How many digits are read before the loop begins. Most numbers have no more.
+const FEW: usize = 5;
+
+/// The number of a piece and what stands after the piece, `None` where the piece is no number.
+type Cut<'a> = Option<(u64, Option<&'a [u8]>)>;
+
+/// The number that the first piece writes, and what stands after the piece.
 #[inline(always)]
-fn cut_number<const SEPARATOR: u8>(text: &[u8]) -> Option<(u64, Option<&[u8]>)>
+fn cut_number<const SEPARATOR: u8>(text: &[u8]) -> Cut<'_>
     ensures { option_map (λ x. (x.0, pieces_left SEPARATOR (option_map (λ r. r.now) x.1))) result
         ≡ first_as a_number (pieces_of SEPARATOR text.now) }
 {
-    match text {
-        [digit, next, rest @ ..]
-            if digit.is_ascii_digit() && *digit != SEPARATOR && *next == SEPARATOR => {
-            Some((u64::from(*digit - b'0'), Some(rest)))
-        }
-        [tens @ b'1'..=b'9', ones @ b'0'..=b'9', next, rest @ ..]
-            if *tens != SEPARATOR && *ones != SEPARATOR && *next == SEPARATOR => {
-            Some((
-                u64::from(*tens - b'0') * 10 + u64::from(*ones - b'0'),
-                Some(rest),
-            ))
-        }
-        _ => cut_digits::<SEPARATOR>(text),
+    match few_digits(text, SEPARATOR) {
+        Ok(value) => cut_digits(text, FEW, value, SEPARATOR),
+        Err(cut) => cut,
     }
 }
 
-/// The same for more digits: quick where they are three or four.
-#[inline(never)]
-fn cut_digits<const SEPARATOR: u8>(text: &[u8]) -> Option<(u64, Option<&[u8]>)>
-    ensures { option_map (λ x. (x.0, pieces_left SEPARATOR (option_map (λ r. r.now) x.1))) result
-        ≡ first_as a_number (pieces_of SEPARATOR text.now) }
+/// The value of the first digits, or the number where the piece has no more.
+#[inline(always)]
+fn few_digits(text: &[u8], separator: u8) -> Result<u64, Cut<'_>>
+    ensures more { IfOk result (λ value. AreDigits separator text.now FEW value) }
+    ensures cut { IfErr result (λ cut.
+        option_map (λ x. (x.0, pieces_left separator (option_map (λ r. r.now) x.1))) cut
+        ≡ first_as a_number (pieces_of separator text.now)) }
 {
-    match text {
-        [
-            a @ b'1'..=b'9',
-            b @ b'0'..=b'9',
-            c @ b'0'..=b'9',
-            next,
-            rest @ ..,
-        ] if *a != SEPARATOR && *b != SEPARATOR && *c != SEPARATOR && *next == SEPARATOR => {
-            let value = u64::from(*a - b'0') * 100
-                + u64::from(*b - b'0') * 10
-                + u64::from(*c - b'0');
-            Some((value, Some(rest)))
-        }
-        [
-            a @ b'1'..=b'9',
-            b @ b'0'..=b'9',
-            c @ b'0'..=b'9',
-            d @ b'0'..=b'9',
-            next,
-            rest @ ..,
-        ] if *a != SEPARATOR
-            && *b != SEPARATOR
-            && *c != SEPARATOR
-            && *d != SEPARATOR
-            && *next == SEPARATOR => {
-            let high = u64::from(*a - b'0') * 10 + u64::from(*b - b'0');
-            let low = u64::from(*c - b'0') * 10 + u64::from(*d - b'0');
-            Some((high * 100 + low, Some(rest)))
-        }
-        _ => cut_each_digit(text, SEPARATOR),
-    }
+    let value = next_digit(text, 0, 0, separator)?;
+    let value = next_digit(text, 1, value, separator)?;
+    let value = next_digit(text, 2, value, separator)?;
+    let value = next_digit(text, 3, value, separator)?;
+    next_digit(text, 4, value, separator)
 }
 
-/// The same, digit by digit.
-fn cut_each_digit(text: &[u8], separator: u8) -> Option<(u64, Option<&[u8]>)>
+/// The number, where the digits up to `start` have this value.
+#[inline(always)]
+fn cut_digits(text: &[u8], start: usize, value: u64, separator: u8) -> Cut<'_>
+    requires { AreDigits separator text.now start value }
     ensures { option_map (λ x. (x.0, pieces_left separator (option_map (λ r. r.now) x.1))) result
         ≡ first_as a_number (pieces_of separator text.now) }
 {
-    let mut value = 0;
-    for i in 0..text.len() {
-        let byte = text[i];
-        if byte == separator {
-            let number = number_of(&text[..i], value)?;
-            return Some((number, Some(&text[i + 1..])));
+    let mut value = value;
+    for i in start..text.len() {
+        match next_digit(text, i, value, separator) {
+            Ok(more) => value = more,
+            Err(cut) => return cut,
         }
-        if !byte.is_ascii_digit() {
-            return None;
-        }
-        value = with_digit(value, u64::from(byte - b'0'));
     }
-    let number = number_of(text, value)?;
-    Some((number, None))
+    whole_number(text, value, separator)
+}
+
+/// The value with the digit at `i`, or the number where no digit of the piece stands there.
+#[inline(always)]
+fn next_digit(text: &[u8], i: usize, value: u64, separator: u8) -> Result<u64, Cut<'_>>
+    requires { AreDigits separator text.now i value }
+    ensures more { IfOk result (λ more. AreDigits separator text.now (i + 1) more) }
+    ensures cut { IfErr result (λ cut.
+        option_map (λ x. (x.0, pieces_left separator (option_map (λ r. r.now) x.1))) cut
+        ≡ first_as a_number (pieces_of separator text.now)) }
+{
+    if i == text.len() {
+        return Err(whole_number(text, value, separator));
+    }
+    let byte = text[i];
+    if byte.is_ascii_digit() && byte != separator {
+        return Ok(with_digit(value, u64::from(byte - b'0')));
+    }
+    Err(number_before(text, i, value, separator))
+}
+
+/// The number of a text of digits.
+#[inline(always)]
+fn whole_number(text: &[u8], value: u64, separator: u8) -> Cut<'_>
+    requires { AreDigits separator text.now (length text.now) value }
+    ensures { option_map (λ x. (x.0, pieces_left separator (option_map (λ r. r.now) x.1))) result
+        ≡ first_as a_number (pieces_of separator text.now) }
+{
+    Some((number_of(text, value)?, None))
+}
+
+/// The number of the digits before the first byte that is no digit of it.
+#[inline(always)]
+fn number_before(text: &[u8], i: usize, value: u64, separator: u8) -> Cut<'_>
+    requires digits { AreDigits separator text.now i value }
+    requires within { i < length text.now }
+    requires last { let byte = slice_index text.now i in
+        is_ascii_digit byte && differs separator byte ≡ false }
+    ensures { option_map (λ x. (x.0, pieces_left separator (option_map (λ r. r.now) x.1))) result
+        ≡ first_as a_number (pieces_of separator text.now) }
+{
+    if text[i] != separator {
+        return None;
+    }
+    let number = number_of(&text[..i], value)?;
+    Some((number, Some(&text[i + 1..])))
 }

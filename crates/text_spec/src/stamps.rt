@@ -1,6 +1,6 @@
 //! Timestamps, read and written.
 
-ghost use Rattle.std.specs.Prelude.{◌≡◌, ℕ, ◌<◌, ◌^◌, ◌≤◌, List, Option, ◌++◌, OnOk, OnErr, ◌+◌, length, vec_len, vec_capacity, option_and_then};
+ghost use Rattle.std.specs.Prelude.{◌≡◌, ℕ, ◌<◌, ◌^◌, ◌≤◌, List, Option, ◌++◌, OnOk, OnErr, ◌+◌, length, vec_len, vec_capacity, option_and_then, option_map};
 ghost use Rattle.text_spec.specs.Names.{stamp_in, stamp_text, stamp_of_bytes, hex_in, Stamp};
 
 use crate::hexadecimal::{are_lower_digits, push_hex, put_bytes, put_hex};
@@ -14,22 +14,22 @@ pub fn stamp(word: &[u8]) -> Option<Option<Stamp>>
 {
     match word {
         [b'-'] => Some(None),
-        _ => stamp_of_digits(word),
+        _ => Some(Some(stamp_of_digits(word)?)),
     }
 }
 
 /// The timestamp of sixteen digits.
 #[inline(never)]
 #[tactic(auto, using(crate::proofs::HexadecimalLemmas::readings))]
-fn stamp_of_digits(word: &[u8]) -> Option<Option<Stamp>>
-    ensures { result ≡ option_and_then stamp_of_bytes (hex_in word.now) }
+fn stamp_of_digits(word: &[u8]) -> Option<Stamp>
+    ensures { option_map Some result ≡ option_and_then stamp_of_bytes (hex_in word.now) }
 {
     if word.len() != 16 || !are_lower_digits(word) {
         return None;
     }
     let mut bytes = [0; 8];
     put_bytes(word, &mut bytes);
-    Some(Some(Stamp(u64::from_be_bytes(bytes))))
+    Some(Stamp(u64::from_be_bytes(bytes)))
 }
 
 /// Appends the text of the optional timestamp.
