@@ -1,12 +1,11 @@
 -- What an output can hold, counted as where it is empty, stays the same.
-use Rattle.std.proofs.Common.{◌≡◌, ℕ, suc, ◌<◌, ◌≤◌, List, ◌∷◌, [], ◌++◌, length, refl, ap, ◌∙◌, arith, length-append}
+use Rattle.std.proofs.Common.{◌≡◌, ℕ, suc, ◌<◌, List, ◌∷◌, [], ◌++◌, length, refl, ap, ◌∙◌}
 use Rattle.std.specs.List.{flat_map}
 use Rattle.std.proofs.lemmas.Grind.{flat_map-append}
 use Rattle.std.proofs.lemmas.List.{append-nil}
-use Rattle.ids_types.specs.Names.{Entry, TurnHead}
+use Rattle.ids_types.specs.Names.{Entry}
 use Rattle.ids_types.specs.Plain.{kept_bytes}
-use Rattle.ids_types.specs.Turns.{Turn, HasRoom, with_entry, entries_of, context_bytes}
-use Rattle.ids_types.specs.Output.{Output, room_of, has_begun, has_logged, has_sent, without_messages}
+use Rattle.ids_types.specs.Turns.{Turn, with_entry, entries_of, context_bytes}
 use Rattle.ids_types.proofs.HistoryLemmas.{entries_of-with_entry}
 
 -- the bytes of context of turns with one entry more

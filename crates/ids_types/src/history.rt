@@ -112,6 +112,7 @@ impl History {
 
     /// Adds an entry to the last turn.
     /// Steps: the bytes of the context, and at most 5 numbers. By: read off; condition `room`.
+    #[inline(always)]
     pub fn add(&mut self, entry: &Entry<Plain<'_>>)
         requires begun { 0 < length self.old.turns }
         requires room { HasRoom self.old.room 0 1 (length (kept_bytes (plain_entry entry.now))) }
@@ -120,12 +121,12 @@ impl History {
     {
         let bytes = entry.kept_bytes();
         let row = row_of(entry, self.bytes.len(), &mut self.numbers);
-        put_bytes(&mut self.bytes, bytes);
-        self.bytes_left -= bytes.len() as u64;
         self.entries.push_reserved(row);
         self.entries_left -= 1;
         let last = self.rows.len() - 1;
         self.rows[last].end += 1;
+        put_bytes(&mut self.bytes, bytes);
+        self.bytes_left -= bytes.len() as u64;
     }
 
     /// Empties it, and keeps its memory as room.

@@ -1,6 +1,6 @@
 //! Entries on their way into a history's memory and out of it.
 
-ghost use Rattle.std.specs.Prelude.{◌≡◌, ◌+◌, ◌<◌, ◌≤◌, ◌^◌, ◌++◌, length, is_some, IsTrue, slice_index, vec_len, vec_capacity};
+ghost use Rattle.std.specs.Prelude.{◌≡◌, ◌+◌, ◌<◌, ◌≤◌, ◌^◌, ◌++◌, length, is_some, IsTrue, slice_index, slice_range, vec_len, vec_capacity};
 ghost use Rattle.ids_types.specs.declared.entry.Act.TheVariants.{Report};
 ghost use Rattle.ids_types.specs.Carries.{act_by};
 ghost use Rattle.ids_types.specs.Plain.{plain_carried, plain_entry, carried_bytes, kept_bytes};
@@ -45,6 +45,7 @@ fn put_stamp(numbers: &mut Vec<u64>, stamp: Option<Stamp>) -> bool
 }
 
 /// Adds the numbers of a context whose bytes lie from `start` on, and tells its kind.
+#[inline(always)]
 fn put_context(numbers: &mut Vec<u64>, context: &Carried<Plain<'_>>, start: usize) -> RowKind
     requires room { vec_len numbers.old + 4 ≤ vec_capacity numbers.old }
     requires end { start + length (carried_bytes (plain_carried context.now)) < 2 ^ 64 }
@@ -100,6 +101,7 @@ pub(crate) fn put_bytes(out: &mut Vec<u8>, bytes: &[u8])
 }
 
 /// The row of an entry whose context bytes lie from `start` on. Its numbers are added to `numbers`.
+#[inline(always)]
 pub(crate) fn row_of(entry: &Entry<Plain<'_>>, start: usize, numbers: &mut Vec<u64>) -> EntryRow
     requires room { vec_len numbers.old + 5 ≤ vec_capacity numbers.old }
     requires end { start + length (kept_bytes (plain_entry entry.now)) < 2 ^ 64 }
@@ -164,6 +166,7 @@ fn stamp_of(row: &EntryRow, numbers: &[u64]) -> Option<Stamp>
 }
 
 /// The report of a row, with this context.
+#[inline(always)]
 fn report_of<'a>(row: &EntryRow, numbers: &[u64], context: Carried<Plain<'a>>) -> Act<Plain<'a>>
     requires there { row.now.place ≤ length numbers.now }
     requires stamp { IsTrue row.now.stamped → 1 ≤ row.now.place }
@@ -189,7 +192,18 @@ fn bytes_of<'a>(numbers: &[u64], bytes: &'a [u8], place: usize) -> &'a [u8]
     &bytes[start as usize..end as usize]
 }
 
+/// The numbers of a context that found no buffer, which lie from a place on. Few entries have them.
+#[inline(never)]
+fn asked_of(numbers: &[u64], place: usize, count: u8) -> Numbers
+    requires few { count ≤ 4 }
+    requires there { place + count ≤ length numbers.now }
+    ensures { result ≡ slice_range numbers.now place (place + count) }
+{
+    Numbers::make(&numbers[place..place + count as usize])
+}
+
 /// The entry of a row, with its bytes lent from all of a history's.
+#[inline(always)]
 pub(crate) fn lent<'a>(row: &EntryRow, numbers: &[u64], bytes: &'a [u8]) -> Entry<Plain<'a>>
     requires { EntryWithin numbers.now (length bytes.now) row.now }
     ensures { plain_entry result ≡ entry_of numbers.now bytes.now row.now }
@@ -210,7 +224,7 @@ pub(crate) fn lent<'a>(row: &EntryRow, numbers: &[u64], bytes: &'a [u8]) -> Entr
             )
         }
         RowKind::Lacking(count) => {
-            let asked = Numbers::make(&numbers[row.place..row.place + count as usize]);
+            let asked = asked_of(numbers, row.place, count);
             report_of(row, numbers, Carried::Missing(asked))
         }
         RowKind::StateTo(state) => Act::State(state),

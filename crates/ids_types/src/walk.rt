@@ -34,6 +34,7 @@ impl<'a> Model for Walk<'a> {
 impl<'a> Walk<'a> {
     /// Takes the first turn: what it began with, and its entries to go over.
     /// By: no loop; the entries are lent.
+    #[inline(always)]
     pub fn pop_front(&mut self) -> Option<(TurnHead, EntryWalk<'a>)>
         ensures some { IfSome result (λ turn.
             self.old ≡ record { head = turn.0; entries = turn.1 } ∷ self.new) }
@@ -88,6 +89,7 @@ impl<'a> EntryWalk<'a> {
 
     /// Takes the first entry, with its context lent.
     /// Steps: constant; at most 4 numbers are copied. By: type `Numbers`; the context is lent.
+    #[inline(always)]
     pub fn pop_front(&mut self) -> Option<Entry<Plain<'a>>>
         ensures some { IfSome result (λ entry. self.old ≡ plain_entry entry ∷ self.new) }
         ensures none { IfNone result (self.old ≡ []) }

@@ -1,4 +1,5 @@
 pub mod Answers
+pub mod ClaimsView
 pub mod Fitting
 pub mod Printing
 pub mod RawLines

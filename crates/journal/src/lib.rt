@@ -7,6 +7,7 @@
 //! text. No clause says that memory suffices: an answer `NoMemory` is always true.
 #![tactic(auto)]
 
+mod claims;
 mod form;
 mod laws;
 mod line;

@@ -1,6 +1,7 @@
-//! What a line in form tells, its numbers not yet in their ranges and its context's bytes still as text.
+//! What a line in form tells, its numbers not yet in their ranges and its context still as text.
 
-use ids_types::{Mode, Numbers, Stamp, TurnHead};
+use crate::claims::Claims;
+use ids_types::{Mode, Stamp};
 use text_spec::HexText;
 
 /// The context of a report.
@@ -12,31 +13,33 @@ pub(crate) enum RawContext<'a> {
         claim: u64,
         bytes: HexText<'a>,
     },
-    Missing(Numbers),
+    Missing(Claims<'a>),
 }
 
-/// What a caller asked for.
+/// A report.
 #[derive(Debug, Drop)]
-pub(crate) enum RawAct<'a> {
-    Report {
-        event: u64,
-        count: u64,
-        stamp: Option<Stamp>,
-        context: RawContext<'a>,
-    },
-    State(u64),
-    SetMode {
-        event: u64,
-        mode: Mode,
-    },
-}
-
-/// A report or a control.
-#[derive(Debug, Drop)]
-pub(crate) struct RawEntry<'a> {
+pub(crate) struct RawReport<'a> {
     pub(crate) caller: u64,
     pub(crate) call: u64,
-    pub(crate) act: RawAct<'a>,
+    pub(crate) event: u64,
+    pub(crate) count: u64,
+    pub(crate) stamp: Option<Stamp>,
+    pub(crate) context: RawContext<'a>,
+}
+
+/// What a control asks for.
+#[derive(Clone, Copy, Debug)]
+pub(crate) enum RawChange {
+    State(u64),
+    SetMode { event: u64, mode: Mode },
+}
+
+/// A control.
+#[derive(Clone, Copy, Debug)]
+pub(crate) struct RawControl {
+    pub(crate) caller: u64,
+    pub(crate) call: u64,
+    pub(crate) change: RawChange,
 }
 
 /// A call that found no event buffer.
@@ -45,12 +48,4 @@ pub(crate) struct RawLoss {
     pub(crate) caller: u64,
     pub(crate) call: u64,
     pub(crate) given: u64,
-}
-
-/// A line.
-#[derive(Debug, Drop)]
-pub(crate) enum RawLine<'a> {
-    Turn(TurnHead),
-    Entry(RawEntry<'a>),
-    Loss(RawLoss),
 }

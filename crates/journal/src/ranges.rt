@@ -3,9 +3,10 @@
 ghost use Rattle.std.specs.Prelude.{◌≡◌, ◌<◌, ◌≤◌, ◌^◌, List, ℕ, length, slice_index};
 ghost use Rattle.std.specs.List.{list_all};
 ghost use Rattle.text_spec.specs.JournalFaults.{is_claim as claim_is, is_count_lost as lost_is, is_call as call_is, is_context as context_is, is_act as act_is, is_head as head_is, has_event as event_is};
-ghost use Rattle.journal.specs.RawLines.{context_told, act_told};
+ghost use Rattle.ids_config.specs.Parts.{is_sensor as sensor_is};
+ghost use Rattle.journal.specs.RawLines.{context_told, change_told, report_act};
 
-use crate::line::{RawAct, RawContext};
+use crate::line::{RawChange, RawContext, RawReport};
 use ids_config::Config;
 use ids_types::{Numbers, TurnHead};
 use text_spec::is_sensor;
@@ -60,19 +61,25 @@ pub(crate) fn is_head(head: &TurnHead) -> bool
         && is_lost(head.limited)
 }
 
-/// The numbers of an act, but for its event.
-pub(crate) fn is_act(act: &RawAct<'_>) -> bool
-    ensures { result ≡ act_is (act_told act.now) }
+/// The numbers of a report, but for its event.
+#[inline(always)]
+pub(crate) fn is_report(report: &RawReport<'_>) -> bool
+    ensures { result ≡ act_is (report_act report.now) }
 {
-    match act {
-        RawAct::Report { count, context, .. } => {
-            1 <= *count && *count <= 65535 && is_context(context)
-        }
-        RawAct::State(state) => *state <= 255,
-        RawAct::SetMode { .. } => true,
+    1 <= report.count && report.count <= 65535 && is_context(&report.context)
+}
+
+/// The numbers of what a control asks, but for its event.
+pub(crate) fn is_change(change: &RawChange) -> bool
+    ensures { result ≡ act_is (change_told change.now) }
+{
+    match change {
+        RawChange::State(state) => *state <= 255,
+        RawChange::SetMode { .. } => true,
     }
 }
 
+#[inline(always)]
 fn is_context(context: &RawContext<'_>) -> bool
     ensures { result ≡ context_is (context_told context.now) }
 {
@@ -86,11 +93,11 @@ fn is_context(context: &RawContext<'_>) -> bool
             let len = bytes.len();
             *class <= MAX_CLASS && is_claim(*claim) && 1 <= len && len <= MAX_BYTES
         }
-        RawContext::Missing(numbers) => are_claims(numbers.again()),
+        RawContext::Missing(claims) => are_claims(claims.numbers()),
     }
 }
 
-/// They come by value, so that an act without them needs no place in memory while it is judged.
+/// They come by value, so that a report without them needs no place in memory while it is judged.
 #[inline(never)]
 fn are_claims(numbers: Numbers) -> bool
     ensures { result ≡ list_all claim_is numbers }
@@ -103,15 +110,30 @@ fn are_claims(numbers: Numbers) -> bool
     true
 }
 
-/// A report's event is one that sensors report, and the event of a mode is there.
-pub(crate) fn has_event(config: &Config, act: &RawAct<'_>) -> bool
-    ensures known { result ≡ event_is config.now (act_told act.now) }
+/// How many events there are.
+fn events_of(config: &Config) -> u64
+    ensures value { result ≡ length config.now.events }
+    ensures few { result ≤ 256 }
+{
+    config.parts().events.len() as u64
+}
+
+/// Whether sensors report the event.
+pub(crate) fn has_sensor(config: &Config, event: u64) -> bool
+    ensures known { result ≡ sensor_is config.now event }
     ensures few { length config.now.events ≤ 256 }
 {
-    let events = config.parts().events.len() as u64;
-    match act {
-        RawAct::Report { event, .. } => is_sensor(config, events, *event),
-        RawAct::State(_) => true,
-        RawAct::SetMode { event, .. } => *event < events,
+    is_sensor(config, events_of(config), event)
+}
+
+/// Whether the event of a mode is there.
+pub(crate) fn has_event(config: &Config, change: &RawChange) -> bool
+    ensures known { result ≡ event_is config.now (change_told change.now) }
+    ensures few { length config.now.events ≤ 256 }
+{
+    let events = events_of(config);
+    match change {
+        RawChange::State(_) => true,
+        RawChange::SetMode { event, .. } => *event < events,
     }
 }

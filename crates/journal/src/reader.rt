@@ -5,12 +5,14 @@ ghost use Rattle.std.specs.Ordering.{nat_cmp};
 ghost use Rattle.std.specs.BTreeSet.{contains as set_contains};
 ghost use Rattle.text_spec.specs.JournalFaults.{has_pair, start};
 
-use crate::form::line_of;
-use crate::line::{RawEntry, RawLine, RawLoss};
+use crate::form::{control_of, head_of, loss_of, report_of};
+use crate::line::{RawControl, RawLoss, RawReport};
 use crate::pairs::{is_free, pairs_of};
-use crate::ranges::{CALLS, MAX_BYTES, has_event, is_act, is_call, is_claim, is_head};
+use crate::ranges::{
+    CALLS, MAX_BYTES, has_event, has_sensor, is_call, is_change, is_claim, is_head, is_report,
+};
 use crate::room::{entry_room, turn_room};
-use crate::taking::{decode_context, entry_of};
+use crate::taking::{decode_context, entry_of, entry_of_control};
 use ids_config::{Config, asks};
 use ids_types::{History, Loss, NoMemory, TurnHead};
 use std::alloc::Global;
@@ -19,6 +21,9 @@ use text_spec::{LineFault, Words};
 
 /// The most entries of a turn.
 const MAX_ENTRIES: u64 = 1024;
+
+/// The fault of a line that has no form.
+const NO_FORM: LineFault = LineFault::Fault(1);
 
 /// What the lines read so far tell, and what the next line has to observe.
 #[derive(Debug, Drop)]
@@ -49,8 +54,8 @@ impl<'a> Reader<'a> {
     ghost use Rattle.text_spec.specs.JournalText.{begins, enters, loses};
     ghost use Rattle.text_spec.specs.LineAnswers.{Took};
     ghost use Rattle.text_spec.specs.Lines.{after_line};
-    ghost use Rattle.journal.specs.RawLines.{entry_told, loss_told};
-    ghost use Rattle.journal.specs.Answers.{added};
+    ghost use Rattle.journal.specs.RawLines.{control_told, loss_told, report_told};
+    ghost use Rattle.journal.specs.Answers.{added, entry_asks};
     ghost use Rattle.journal.specs.ReaderView.{past_of, Knows};
 
     pub(crate) fn new(alloc: Global, config: &'a Config) -> Result<Reader<'a>, NoMemory>
@@ -77,12 +82,20 @@ impl<'a> Reader<'a> {
             (after_line (journal_grammar self.old.config.now) (past_of self.old) line.now) result }
         ensures config { self.new.config.now ≡ self.old.config.now }
     {
-        match line_of(Words::of(line)) {
-            None => Err(LineFault::Fault(1)),
-            Some(RawLine::Turn(head)) => self.begin(&head),
-            Some(RawLine::Entry(entry)) => self.enter(&entry),
-            Some(RawLine::Loss(loss)) => self.lose(&loss),
+        let (kind, words) = Words::of(line).first().ok_or(NO_FORM)?;
+        if kind == b"R".as_slice() {
+            return self.enter(&report_of(words).ok_or(NO_FORM)?);
         }
+        if kind == b"T".as_slice() {
+            return self.begin(&head_of(words).ok_or(NO_FORM)?);
+        }
+        if kind == b"C".as_slice() {
+            return self.control(&control_of(words).ok_or(NO_FORM)?);
+        }
+        if kind == b"L".as_slice() {
+            return self.lose(&loss_of(words).ok_or(NO_FORM)?);
+        }
+        Err(NO_FORM)
     }
 
     /// Begins a turn.
@@ -107,32 +120,56 @@ impl<'a> Reader<'a> {
         asks(5, self.tick <= head.tick)
     }
 
-    /// Takes a report or a control.
-    fn enter(&mut self, entry: &RawEntry<'_>) -> Result<(), LineFault>
+    /// Takes a report.
+    #[inline(always)]
+    fn enter(&mut self, report: &RawReport<'_>) -> Result<(), LineFault>
         ensures took { let past = past_of self.old in
-            Took (past_of self.new) (added past (enters (entry_told entry.now))
-            (entry_fault self.old.config.now past (entry_told entry.now))) result }
+            Took (past_of self.new) (added past (enters (report_told report.now))
+            (entry_fault self.old.config.now past (report_told report.now))) result }
         ensures config { self.new.config.now ≡ self.old.config.now }
     {
-        self.check_entry(entry)?;
-        let len = decode_context(&entry.act, &mut self.room);
+        let known = has_sensor(self.config, report.event);
+        self.check_entry(report.caller, report.call, is_report(report), known)?;
+        let len = decode_context(&report.context, &mut self.room);
         entry_room(&mut self.history, len as u64)?;
-        let entry = entry_of(entry, &self.room[..len]);
+        let entry = entry_of(report, &self.room[..len]);
         self.history.add(&entry);
-        self.calls[entry.caller as usize] = entry.call + 1;
+        self.calls[report.caller as usize] = report.call + 1;
         self.entries += 1;
         Ok(())
     }
 
-    fn check_entry(&self, entry: &RawEntry<'_>) -> Result<(), u8>
-        ensures fault { result ≡
-            entry_fault self.now.config.now (past_of self.now) (entry_told entry.now) }
-        ensures few { OnOk result (length self.now.config.now.events ≤ 256) }
+    /// Takes a control.
+    fn control(&mut self, control: &RawControl) -> Result<(), LineFault>
+        ensures took { let past = past_of self.old in
+            Took (past_of self.new) (added past (enters (control_told control.now))
+            (entry_fault self.old.config.now past (control_told control.now))) result }
+        ensures config { self.new.config.now ≡ self.old.config.now }
+    {
+        let known = has_event(self.config, &control.change);
+        self.check_entry(
+            control.caller,
+            control.call,
+            is_change(&control.change),
+            known,
+        )?;
+        entry_room(&mut self.history, 0)?;
+        self.history.add(&entry_of_control(control));
+        self.calls[control.caller as usize] = control.call + 1;
+        self.entries += 1;
+        Ok(())
+    }
+
+    /// What the lines before ask of an entry, whose act's numbers are in their ranges where it `fits`,
+    /// and whose event may stand there where it is `known`.
+    #[inline(always)]
+    fn check_entry(&self, caller: u64, call: u64, fits: bool, known: bool) -> Result<(), u8>
+        ensures { result ≡ entry_asks (past_of self.now) caller call fits known }
     {
         asks(2, self.history.turns() > 0 && self.losses.is_empty())?;
-        asks(3, is_call(entry.caller, entry.call) && is_act(&entry.act))?;
-        asks(4, has_event(self.config, &entry.act))?;
-        asks(6, self.calls[entry.caller as usize] <= entry.call)?;
+        asks(3, is_call(caller, call) && fits)?;
+        asks(4, known)?;
+        asks(6, self.calls[caller as usize] <= call)?;
         asks(7, self.entries < MAX_ENTRIES)
     }
 

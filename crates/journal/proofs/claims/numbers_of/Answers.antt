@@ -1,6 +1,6 @@
 use Rattle.journal.proofs.Names.{◌<◌, length, sym, ◌∙◌, arith, length-set}
 use Rattle.journal.proofs.FormLemmas.{next_number}
-use Rattle.journal.proofs.form.numbers_of.Goals as goal
+use Rattle.journal.proofs.claims.numbers_of.Goals as goal
 
 pub loop-i-preserved : goal.loop-i-preserved
 loop-i-preserved c =

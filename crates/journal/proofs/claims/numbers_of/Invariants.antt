@@ -1,5 +1,5 @@
 use Rattle.journal.proofs.Names.{◌≡◌, ◌-◌, take, length, numbers_in, with_front}
-use Rattle.journal.proofs.form.numbers_of.Given as goal
+use Rattle.journal.proofs.claims.numbers_of.Given as goal
 
 -- the numbers so far and those of the pieces that are left are those of all pieces
 abbrev pub invariant-loop-i : goal.invariant-loop-i
