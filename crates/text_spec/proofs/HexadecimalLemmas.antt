@@ -68,6 +68,12 @@ pub put_done : (k : ℕ) (bytes old now : List ℕ) → length bytes ≤ k → I
 unfolding encode_with
 put_done k bytes old now all was = sym (append-nil now) ∙ ap (λ bs. now ++ encode_lower bs) (sym (drop_all k bytes all)) ∙ was
 
+-- and of all that are left
+pub put_rest : (k : ℕ) (bytes old now : List ℕ) → k ≤ length bytes → IsPut k bytes old now → now ++ encode_lower (slice_range bytes k (length bytes)) ≡ old ++ encode_lower bytes
+put_rest k bytes old now le was =
+    let piece = encode_lower (slice_range bytes k (length bytes)) in
+    put_done (length bytes) bytes old (now ++ piece) (omega arith) (put_more k (length bytes) bytes old now piece le refl was)
+
 -- ---- from the text to the bytes
 
 -- a digit of lower case stands at its value

@@ -136,5 +136,18 @@ length_two n many few = ap length (decimal_two n many few)
 pub length_pair : (n : ℕ) → 100 ≤ n → n < 2 ^ 64 → length (decimal n) ≡ length (decimal (n / 100)) + 2
 length_pair n many small = ap length (decimal_pair n many small) ∙ length-append (decimal (n / 100)) ((48 + n % 100 / 10) ∷ (48 + n % 100 % 10) ∷ [])
 
+-- the four last digits of a number follow those of its ten thousandth
+pub decimal_four : (n : ℕ) → 10000 ≤ n → n < 2 ^ 64
+    → decimal n ≡ decimal (n / 10000) ++ (48 + n % 10000 / 100 / 10) ∷ (48 + n % 10000 / 100 % 10) ∷ (48 + n % 100 / 10) ∷ (48 + n % 100 % 10) ∷ []
+decimal_four n many small =
+    let front : n / 100 / 100 ≡ n / 10000 = omega arith in
+    let back : n / 100 % 100 ≡ n % 10000 / 100 = omega arith in
+    rw (decimal_pair n (omega arith) small, decimal_pair (n / 100) (omega arith) (omega arith), front, back, append_assoc) refl
+
+pub length_four : (n : ℕ) → 10000 ≤ n → n < 2 ^ 64 → length (decimal n) ≡ length (decimal (n / 10000)) + 4
+length_four n many small =
+    ap length (decimal_four n many small)
+    ∙ length-append (decimal (n / 10000)) ((48 + n % 10000 / 100 / 10) ∷ (48 + n % 10000 / 100 % 10) ∷ (48 + n % 100 / 10) ∷ (48 + n % 100 % 10) ∷ [])
+
 -- how a number is written
-pub ruleset written = (few_digits, decimal_digit, decimal_two, decimal_pair, length_digit, length_two, length_pair)
+pub ruleset written = (few_digits, decimal_digit, decimal_two, decimal_pair, decimal_four, length_digit, length_two, length_pair, length_four)

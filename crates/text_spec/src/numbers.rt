@@ -41,7 +41,7 @@ pub(crate) fn with_digit(number: u64, digit: u64) -> u64
     number.saturating_mul(10).saturating_add(digit)
 }
 
-/// Appends the text of the number.
+/// Appends the text of the number: quick where it has one digit or two, as most have.
 /// Steps: at most 20 digits. Memory: may answer want of memory, only where the room is short. By: `full`; read off.
 #[tactic(auto, using(crate::proofs::NumbersLemmas::written))]
 pub fn push_number(out: &mut Vec<u8>, number: u64) -> Result<(), NoMemory>
@@ -50,18 +50,63 @@ pub fn push_number(out: &mut Vec<u8>, number: u64) -> Result<(), NoMemory>
     ensures full { let text = decimal number in
         OnErr result (vec_capacity out.old < vec_len out.old + length text) }
 {
-    if out.capacity() - out.len() >= MOST_DIGITS {
-        put_short(out, number);
-        return Ok(());
+    if number >= 100 || out.capacity() - out.len() < 2 {
+        return push_long_number(out, number);
     }
+    put_short(out, number);
+    Ok(())
+}
+
+/// The same for more digits, or little room.
+#[inline(never)]
+#[tactic(auto, using(crate::proofs::NumbersLemmas::written))]
+fn push_long_number(out: &mut Vec<u8>, number: u64) -> Result<(), NoMemory>
+    ensures ok { OnOk result (out.new.items ≡ out.old.items ++ decimal number) }
+    ensures err { OnErr result (out.new.items ≡ out.old.items) }
+    ensures full { let text = decimal number in
+        OnErr result (vec_capacity out.old < vec_len out.old + length text) }
+{
+    if out.capacity() - out.len() < MOST_DIGITS {
+        return push_number_at_end(out, number);
+    }
+    put_number(out, number);
+    Ok(())
+}
+
+/// The same where there may be little room.
+#[cold]
+#[inline(never)]
+fn push_number_at_end(out: &mut Vec<u8>, number: u64) -> Result<(), NoMemory>
+    ensures ok { OnOk result (out.new.items ≡ out.old.items ++ decimal number) }
+    ensures err { OnErr result (out.new.items ≡ out.old.items) }
+    ensures full { let text = decimal number in
+        OnErr result (vec_capacity out.old < vec_len out.old + length text) }
+{
     let mut digits = Buffer::new();
     Ok(out.extend_from_slice(digits.format(number).as_bytes())?)
 }
 
-/// Appends a space and a number.
+/// Appends a space and a number: quick where it has one digit or two, as most have.
 /// Steps: at most 21 bytes. Memory: may answer want of memory, only where the room is short. By: `full`; read off.
 #[tactic(auto, using(crate::proofs::NumbersLemmas::written))]
 pub fn push_field(out: &mut Vec<u8>, number: u64) -> Result<(), NoMemory>
+    ensures ok { OnOk result (out.new.items ≡ out.old.items ++ (space ∷ decimal number)) }
+    ensures err { OnErr result (out.new.items ≡ out.old.items) }
+    ensures full { let text = space ∷ decimal number in
+        OnErr result (vec_capacity out.old < vec_len out.old + length text) }
+{
+    if number >= 100 || out.capacity() - out.len() < 3 {
+        return push_long_field(out, number);
+    }
+    out.push_reserved(b' ');
+    put_short(out, number);
+    Ok(())
+}
+
+/// The same for more digits, or little room.
+#[inline(never)]
+#[tactic(auto, using(crate::proofs::NumbersLemmas::written))]
+fn push_long_field(out: &mut Vec<u8>, number: u64) -> Result<(), NoMemory>
     ensures ok { OnOk result (out.new.items ≡ out.old.items ++ (space ∷ decimal number)) }
     ensures err { OnErr result (out.new.items ≡ out.old.items) }
     ensures full { let text = space ∷ decimal number in
@@ -72,6 +117,22 @@ pub fn push_field(out: &mut Vec<u8>, number: u64) -> Result<(), NoMemory>
     }
     put_field(out, number);
     Ok(())
+}
+
+/// The same where there may be little room.
+#[cold]
+#[inline(never)]
+fn push_field_at_end(out: &mut Vec<u8>, number: u64) -> Result<(), NoMemory>
+    ensures ok { OnOk result (out.new.items ≡ out.old.items ++ (space ∷ decimal number)) }
+    ensures err { OnErr result (out.new.items ≡ out.old.items) }
+    ensures full { let text = space ∷ decimal number in
+        OnErr result (vec_capacity out.old < vec_len out.old + length text) }
+{
+    let mut digits = Buffer::new();
+    let text = digits.format(number).as_bytes();
+    out.reserve(text.len() + 1)?;
+    out.push_reserved(b' ');
+    Ok(out.extend_from_slice(text)?)
 }
 
 /// How many bytes the text of the number has.
@@ -89,6 +150,9 @@ pub(crate) fn digits_len(number: u64) -> usize
     digits_len(number / 100) + 2
 }
 
+/// How many digits a number has at most.
+const MOST_DIGITS: usize = 20;
+
 /// Writes a space and a number into room that is there.
 #[inline(always)]
 #[tactic(auto, using(crate::proofs::NumbersLemmas::written))]
@@ -99,35 +163,26 @@ pub(crate) fn put_field(out: &mut Vec<u8>, number: u64)
     ensures capacity { vec_capacity out.new ≡ vec_capacity out.old }
 {
     out.push_reserved(b' ');
-    if number < 100 {
-        return put_short(out, number);
-    }
-    put_short(out, number / 100);
-    put_pair(out, number % 100);
+    put_number(out, number);
 }
 
-/// Writes a number into room that is there. Most have one digit or two.
+/// Writes a number into room that is there. Most have four digits or fewer.
 #[inline(always)]
 #[tactic(auto, using(crate::proofs::NumbersLemmas::written))]
-fn put_short(out: &mut Vec<u8>, number: u64)
+fn put_number(out: &mut Vec<u8>, number: u64)
     requires { vec_len out.old + length (decimal number) ≤ vec_capacity out.old }
     ensures items { out.new.items ≡ out.old.items ++ decimal number }
     ensures len { vec_len out.new ≡ vec_len out.old + length (decimal number) }
     ensures capacity { vec_capacity out.new ≡ vec_capacity out.old }
 {
-    if number < 10 {
-        return put_digit(out, number);
-    }
-    if number < 100 {
-        return put_pair(out, number);
+    if number < 10_000 {
+        return put_few(out, number);
     }
     put_digits(out, number);
 }
 
-/// How many digits a number has at most.
-const MOST_DIGITS: usize = 20;
-
-/// Writes a number into room that is there.
+/// Writes a number into room that is there, its four last digits after those before them.
+#[inline(never)]
 #[tactic(auto, using(crate::proofs::NumbersLemmas::written))]
 fn put_digits(out: &mut Vec<u8>, number: u64)
     requires { vec_len out.old + length (decimal number) ≤ vec_capacity out.old }
@@ -135,14 +190,45 @@ fn put_digits(out: &mut Vec<u8>, number: u64)
     ensures len { vec_len out.new ≡ vec_len out.old + length (decimal number) }
     ensures capacity { vec_capacity out.new ≡ vec_capacity out.old }
 {
+    if number < 10_000 {
+        return put_few(out, number);
+    }
+    put_digits(out, number / 10_000);
+    put_pair(out, number % 10_000 / 100);
+    put_pair(out, number % 100);
+}
+
+/// Writes a number of four digits or fewer.
+#[inline(always)]
+#[tactic(auto, using(crate::proofs::NumbersLemmas::written))]
+fn put_few(out: &mut Vec<u8>, number: u64)
+    requires few { number < 10_000 }
+    requires room { vec_len out.old + length (decimal number) ≤ vec_capacity out.old }
+    ensures items { out.new.items ≡ out.old.items ++ decimal number }
+    ensures len { vec_len out.new ≡ vec_len out.old + length (decimal number) }
+    ensures capacity { vec_capacity out.new ≡ vec_capacity out.old }
+{
+    if number < 100 {
+        return put_short(out, number);
+    }
+    put_short(out, number / 100);
+    put_pair(out, number % 100);
+}
+
+/// Writes a number of one digit or two.
+#[inline(always)]
+#[tactic(auto, using(crate::proofs::NumbersLemmas::written))]
+fn put_short(out: &mut Vec<u8>, number: u64)
+    requires short { number < 100 }
+    requires room { vec_len out.old + length (decimal number) ≤ vec_capacity out.old }
+    ensures items { out.new.items ≡ out.old.items ++ decimal number }
+    ensures len { vec_len out.new ≡ vec_len out.old + length (decimal number) }
+    ensures capacity { vec_capacity out.new ≡ vec_capacity out.old }
+{
     if number < 10 {
         return put_digit(out, number);
     }
-    if number < 100 {
-        return put_pair(out, number);
-    }
-    put_digits(out, number / 100);
-    put_pair(out, number % 100);
+    put_pair(out, number);
 }
 
 /// Writes a number of one digit.
@@ -170,20 +256,6 @@ fn put_pair(out: &mut Vec<u8>, number: u64)
 {
     out.push_reserved(b'0' + (number / 10) as u8);
     out.push_reserved(b'0' + (number % 10) as u8);
-}
-
-/// Appends a space and a number where there may be little room.
-fn push_field_at_end(out: &mut Vec<u8>, number: u64) -> Result<(), NoMemory>
-    ensures ok { OnOk result (out.new.items ≡ out.old.items ++ (space ∷ decimal number)) }
-    ensures err { OnErr result (out.new.items ≡ out.old.items) }
-    ensures full { let text = space ∷ decimal number in
-        OnErr result (vec_capacity out.old < vec_len out.old + length text) }
-{
-    let mut digits = Buffer::new();
-    let text = digits.format(number).as_bytes();
-    out.reserve(text.len() + 1)?;
-    out.push_reserved(b' ');
-    Ok(out.extend_from_slice(text)?)
 }
 
 /// A number below 2^64 has one text, which is read as it.

@@ -27,4 +27,4 @@ pub use merges::a_merge_fits_its_configuration;
 pub use printing::print;
 pub use reading::read;
 pub use text_spec::TextFault as TraceFault;
-pub use trace::Trace;
+pub use trace::{Trace, TraceRoom};

@@ -30,17 +30,23 @@ impl Model for CallerRows {
 }
 
 impl CallerRows {
-    /// Of so many callers, which have no lines yet.
-    pub(crate) fn make(alloc: Global, callers: usize) -> Result<CallerRows, NoMemory>
+    /// Of so many callers, which have no lines yet, with room for so many lines of each and so many bytes of
+    /// context.
+    pub(crate) fn with_room(
+        alloc: Global,
+        callers: usize,
+        lines: usize,
+        bytes: usize,
+    ) -> Result<CallerRows, NoMemory>
         ensures { IfOk result (λ r. r ≡ replicate callers []) }
     {
         let mut made = Vec::with_capacity(alloc, callers)?;
         for _ in 0..callers {
-            made.push(Vec::new(alloc))?;
+            made.push(Vec::with_capacity(alloc, lines)?)?;
         }
         Ok(CallerRows {
             callers: made,
-            bytes: Vec::new(alloc),
+            bytes: Vec::with_capacity(alloc, bytes)?,
         })
     }
 

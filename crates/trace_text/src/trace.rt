@@ -32,6 +32,15 @@ const START: RoundEnd = RoundEnd {
     after: 0,
 };
 
+/// How much a trace is to have room for: rounds with a tick beside each, lines of each caller, and bytes of the
+/// contexts of all lines.
+#[derive(Clone, Copy, Debug)]
+pub struct TraceRoom {
+    pub rounds: usize,
+    pub lines: usize,
+    pub bytes: usize,
+}
+
 /// What a replay is asked to do: rounds, each with the lines of each caller and the ticks of its turns.
 #[derive(Debug, Drop)]
 pub struct Trace {
@@ -59,12 +68,25 @@ impl Trace {
     pub fn make(alloc: Global, config: &Config) -> Result<Trace, NoMemory>
         ensures { IfOk result (λ t. t ≡ no_rounds_of config.now.callers) }
     {
+        let room = TraceRoom {
+            rounds: 0,
+            lines: 0,
+            bytes: 0,
+        };
+        Trace::with_room(alloc, config, &room)
+    }
+
+    /// The same, with room at once for what is to come.
+    /// Steps: the callers, at most 32. Memory: may answer want of memory; it grows where the room is short. By: read off.
+    pub fn with_room(alloc: Global, config: &Config, room: &TraceRoom) -> Result<Trace, NoMemory>
+        ensures { IfOk result (λ t. t ≡ no_rounds_of config.now.callers) }
+    {
         let callers = config.parts().callers as usize;
-        let mut ends = Vec::new(alloc);
+        let mut ends = Vec::with_capacity(alloc, room.rounds.saturating_add(1))?;
         ends.push(START)?;
         Ok(Trace {
-            beside: Vec::new(alloc),
-            rows: CallerRows::make(alloc, callers)?,
+            beside: Vec::with_capacity(alloc, room.rounds)?,
+            rows: CallerRows::with_room(alloc, callers, room.lines, room.bytes)?,
             ends,
         })
     }

@@ -1,6 +1,6 @@
-use Rattle.text_spec.proofs.Names.{◌≡◌, ◌+◌, ◌*◌, ◌++◌, sym, refl, subst, arith, encode_lower}
+use Rattle.text_spec.proofs.Names.{◌≡◌, ◌+◌, ◌*◌, ◌/◌, ◌++◌, ◌∙◌, sym, refl, subst, length, arith, encode_lower}
 use Rattle.std.specs.Prelude.{slice_range}
-use Rattle.text_spec.proofs.HexadecimalLemmas.{IsPut, put_done, put_more, put_one}
+use Rattle.text_spec.proofs.HexadecimalLemmas.{IsPut, put_more, put_rest}
 use Rattle.text_spec.proofs.hexadecimal.put_hex.Goals as goal
 
 pub loop-k-preserved : goal.loop-k-preserved
@@ -11,23 +11,20 @@ loop-k-preserved c =
     let same : 8 * k + 8 ≡ 8 * (k + 1) = omega arith in
     let piece = encode_lower (slice_range bytes (8 * k) (8 * k + 8)) in
     let more = put_more (8 * k) (8 * k + 8) bytes old c.loop-k.out.items piece (omega arith) refl c.loop-k.invariant.put in
+    let digits : c.digits_of.result ≡ piece = c.digits_of.ensures in
     record {
-      put = subst (IsPut (8 * (k + 1)) bytes old) (sym c.put_eight.ensures.items) (subst (λ n. IsPut n bytes old (c.loop-k.out.items ++ piece)) same more);
-      len = omega (arith, c.put_eight.ensures.len, c.loop-k.invariant.len);
-      capacity = omega (arith, c.put_eight.ensures.capacity, c.loop-k.invariant.capacity);
-    }
-
-pub loop-last-preserved : goal.loop-last-preserved
-loop-last-preserved c =
-    let bytes = c.args.bytes.now in
-    let old = c.args.out.now.items in
-    record {
-      put = subst (IsPut (c.loop-last.last + 1) bytes old) (sym c.put_byte.ensures.items)
-          (put_one c.loop-last.last bytes old c.loop-last.out.items (omega (arith, c.loop-last-test.true)) c.loop-last.invariant.put);
-      len = omega (arith, c.put_byte.ensures.len, c.loop-last.invariant.len);
-      capacity = omega (arith, c.put_byte.ensures.capacity, c.loop-last.invariant.capacity);
+      put = subst (IsPut (8 * (k + 1)) bytes old) (sym c.put_all.ensures.items)
+          (subst (λ ds. IsPut (8 * (k + 1)) bytes old (c.loop-k.out.items ++ ds)) (sym digits)
+          (subst (λ n. IsPut n bytes old (c.loop-k.out.items ++ piece)) same more));
+      len = omega (arith, c.put_all.ensures.len, c.loop-k.invariant.len);
+      capacity = omega (arith, c.put_all.ensures.capacity, c.loop-k.invariant.capacity);
     }
 
 pub returns-clause-items : goal.returns-clause-items
 returns-clause-items c =
-    put_done c.loop-last.last c.args.bytes.now c.args.out.now.items c.loop-last.out.items (omega arith) c.loop-last.invariant.put
+    let bytes = c.args.bytes.now in
+    let old = c.args.out.now.items in
+    let now = c.loop-k.out.items in
+    let all : 8 * c.loop-k.k ≡ length bytes / 8 * 8 = omega (arith, c.loop-k-test.false) in
+    let was = subst (λ n. IsPut n bytes old now) all c.loop-k.invariant.put in
+    c.put_last.ensures.items ∙ put_rest (length bytes / 8 * 8) bytes old now (omega arith) was

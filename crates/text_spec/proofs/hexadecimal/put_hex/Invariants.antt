@@ -9,11 +9,3 @@ invariant-loop-k l = record {
   len : vec_len l.out ≡ vec_len l.fn.out + 2 * (8 * l.k);
   capacity : vec_capacity l.fn.out ≤ vec_capacity l.out;
 }
-
--- the text of all bytes before this one is
-abbrev pub invariant-loop-last : goal.invariant-loop-last
-invariant-loop-last l = record {
-  put : IsPut l.last l.bytes l.fn.out.items l.out.items;
-  len : vec_len l.out ≡ vec_len l.fn.out + 2 * l.last;
-  capacity : vec_capacity l.fn.out ≤ vec_capacity l.out;
-}

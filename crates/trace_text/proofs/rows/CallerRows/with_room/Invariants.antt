@@ -1,5 +1,5 @@
 use Rattle.trace_text.proofs.Names.{◌≡◌, [], replicate, callers_asked, AreWithin}
-use Rattle.trace_text.proofs.rows.CallerRows.make.Given as goal
+use Rattle.trace_text.proofs.rows.CallerRows.with_room.Given as goal
 
 -- the first callers have no lines
 abbrev pub invariant-loop : goal.invariant-loop

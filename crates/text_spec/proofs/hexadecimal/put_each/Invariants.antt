@@ -1,0 +1,11 @@
+use Rattle.text_spec.proofs.Names.{◌≡◌, ◌≤◌, ◌+◌, ◌*◌, vec_len, vec_capacity}
+use Rattle.text_spec.proofs.HexadecimalLemmas.{IsPut}
+use Rattle.text_spec.proofs.hexadecimal.put_each.Given as goal
+
+-- the text of all bytes before this one is written
+abbrev pub invariant-loop-i : goal.invariant-loop-i
+invariant-loop-i l = record {
+  put : IsPut l.i l.bytes l.fn.out.items l.out.items;
+  len : vec_len l.out ≡ vec_len l.fn.out + 2 * l.i;
+  capacity : vec_capacity l.fn.out ≤ vec_capacity l.out;
+}
