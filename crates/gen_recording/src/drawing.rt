@@ -14,7 +14,7 @@ use gen_options::Options;
 use ids_config::Config;
 use ids_types::{EventIndex, NoMemory, Stamp};
 use std::alloc::{AllocError, Global};
-use trace_text::{Line, Trace, TraceAct};
+use trace_text::{Line, Trace, TraceAct, TraceRoom};
 
 /// How many times a caller reports in a round.
 const REPORTS: u64 = 4;
@@ -36,11 +36,23 @@ pub(crate) fn draw_trace(
     let mut draws = Draws {
         number: options.start,
     };
-    let mut trace = Trace::make(alloc, config)?;
+    let mut trace = Trace::with_room(alloc, config, &trace_room(options))?;
     for round in 0..options.rounds {
         draw_round(&mut trace, options, round, &mut draws, &ramp)?;
     }
     Ok(trace)
+}
+
+/// How much the trace of these options has room for: a little more than the draws give as a rule.
+fn trace_room(options: &Options) -> TraceRoom
+    requires { IsInRange options.now }
+{
+    let reports = REPORTS * options.rounds;
+    TraceRoom {
+        rounds: options.rounds as usize,
+        lines: (reports + options.rounds / 100) as usize,
+        bytes: (16 * REPORTS * (options.callers * options.rounds)) as usize,
+    }
 }
 
 /// The bytes from 0 to 255, of which context data are cut.
