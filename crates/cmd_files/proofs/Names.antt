@@ -6,5 +6,5 @@ pub use Rattle.ids_outside.specs.Files.{AppendMakes, Changes, CreateMakes}
 pub use Rattle.std.proofs.Common.{ap, arith, drop, get_or, inl, inr, refl, subst, suc, sym, zero, ◌+◌, ◌-◌, ◌∙◌}
 pub use Rattle.std.proofs.lemmas.Grind.{common_steps}
 pub use Rattle.std.proofs.lemmas.List.{length-take, take-take}
-pub use Rattle.std.specs.Prelude.{OnErr, OnOk, ◌<◌}
+pub use Rattle.std.specs.Prelude.{◌<◌}
 pub use Rattle.std.specs.Result.{IsErrAnd}

@@ -1,60 +1,62 @@
 -- A file that is written piece by piece.
-use Rattle.cmd_files.proofs.Names.{Adds, AddsTo, Append, AppendMakes, AreUntouched, CanWrite, Changes, Contains, Create, CreateMakes, Cuts, Err, Failed, Files, HoldsPart, IsNoneOf, IsTrue, List, MemoryRefused, Ok, OnErr, OnOk, OneFails, Output, Result, SameBut, SameFiles, Shelved, Some, StandUpTo, WriteCause, WriteFails, WriteFault, Writes, WritesTo, [], ap, arith, drop, get_or, inl, inr, length, length-take, map, names_of, output_of, refl, subst, suc, sym, take, take-take, zero, ℕ, ⊤, ◌++◌, ◌+◌, ◌-◌, ◌<◌, ◌∙◌, ◌∷◌, ◌≡◌, ◌≤◌}
+use Rattle.cmd_files.proofs.Names.{Adds, AddsTo, Append, AppendMakes, AreUntouched, CanWrite, Changes, Contains, Create, CreateMakes, Cuts, Err, Failed, Files, HoldsPart, IsNoneOf, IsTrue, List, MemoryRefused, Ok, OneFails, Output, Result, SameBut, SameFiles, Shelved, Some, StandUpTo, WriteCause, WriteFails, WriteFault, Writes, WritesTo, [], ap, arith, drop, get_or, inl, inr, length, length-take, map, names_of, output_of, refl, subst, suc, sym, take, take-take, zero, ℕ, ⊤, ◌++◌, ◌+◌, ◌-◌, ◌<◌, ◌∙◌, ◌∷◌, ◌≡◌, ◌≤◌}
+use Rattle.ids_outside.specs.Faults.{Faults}
+use Rattle.ids_outside.specs.Files.{AddsAtMost}
 use Rattle.std.proofs.Math.Path.{fun_ext}
 use Rattle.std.proofs.Math.Seq.{take-add, take-length}
 use Rattle.cmd_files.specs.declared.outputs.NewFile.{NewFile}
 use Rattle.std.proofs.lemmas.List.{drop_all, drop_more}
 
--- what an append of the next piece leaves: the bytes up to its end, or a first part of them
-pub piece_is_added : {T : Type 0} (old new : Files) (name bytes : List ℕ) (start end : ℕ) (answer : Result T WriteFault)
-    → start ≤ end → old name ≡ Some (take start bytes)
-    → AppendMakes old new name (take (end - start) (drop start bytes)) answer
-    → OnOk answer (new name ≡ Some (take end bytes))
-piece_is_added old new name bytes start end (Ok _) ordered before makes =
-    let e : start + (end - start) ≡ end = omega arith in
-    rw before at makes.at ∙ ap Some (sym (take-add start (end - start) bytes) ∙ ap (λ (k : ℕ). take k bytes) e)
-piece_is_added old new name bytes start end (Err fault) ordered before makes = tt
-
-pub part_is_added : {T : Type 0} (old new : Files) (name bytes : List ℕ) (start n : ℕ) (answer : Result T WriteFault)
-    → old name ≡ Some (take start bytes) → AppendMakes old new name (take n (drop start bytes)) answer
-    → OnErr answer (HoldsPart new (record { name = name; bytes = bytes }))
-part_is_added old new name bytes start n (Ok _) before makes = tt
-part_is_added old new name bytes start n (Err Failed) before makes =
-    elim makes.at [
-      | inl same ↦ record { count = start; part = same ∙ before }
-      | inr added ↦
-          let within : added.count ≤ n = omega (arith, added.within, length-take n (drop start bytes)) in
-          record {
-            count = start + added.count;
-            part = rw (before, take-take added.count n (drop start bytes) within) at added.added
-                ∙ ap Some (sym (take-add start added.count bytes));
-          }
-    ]
-part_is_added old new name bytes start n (Err MemoryRefused) before makes =
-    record { count = start; part = makes name ∙ before }
-
 -- the next piece was appended
 module _ (output : Output) (start end : ℕ) (old new : Shelved) (ordered : start ≤ end) (tells : new.tells ≡ old.tells) where
-  pub piece_appended : (answer : Result ⊤ WriteFault)
-      → (IsTrue old.tells → AppendMakes old.files new.files output.name (take (end - start) (drop start output.bytes)) answer)
+  abbrev piece : List ℕ
+  piece = take (end - start) (drop start output.bytes)
+
+  -- it leaves the bytes up to its end
+  all_added : old.files output.name ≡ Some (take start output.bytes) → AppendMakes {T = ⊤} old.files new.files output.name piece (Ok tt)
+      → new.files output.name ≡ Some (take end output.bytes)
+  all_added before makes =
+      let e : start + (end - start) ≡ end = omega arith in
+      rw before at makes.at ∙ ap Some (sym (take-add start (end - start) output.bytes) ∙ ap (λ (k : ℕ). take k output.bytes) e)
+
+  -- or a first part of them
+  part_added : old.files output.name ≡ Some (take start output.bytes) → AddsAtMost old.files new.files output.name piece
+      → HoldsPart new.files output
+  part_added before makes = elim makes.at [
+    | inl same ↦ record { count = start; part = same ∙ before }
+    | inr added ↦
+        let within : added.count ≤ end - start = omega (arith, added.within, length-take (end - start) (drop start output.bytes)) in
+        record {
+          count = start + added.count;
+          part = rw (before, take-take added.count (end - start) (drop start output.bytes) within) at added.added
+              ∙ ap Some (sym (take-add start added.count output.bytes));
+        }
+  ]
+
+  pub piece_appended : (answer : Result ⊤ WriteFault) → (IsTrue old.tells → AppendMakes old.files new.files output.name piece answer)
       → WriteCause Append old.faults new.faults output.name answer → Adds output start end answer old new
   piece_appended (Ok done) makes cause = record {
     tells = tells;
     others = λ told. (makes told).others;
-    ends = (cause, λ told before. piece_is_added old.files new.files output.name output.bytes start end (Ok done) ordered before (makes told));
+    ends = (cause, λ told before. all_added before (makes told));
   }
   piece_appended (Err Failed) makes cause = record {
     tells = tells;
     others = λ told. (makes told).others;
-    ends = (inr cause, λ told before. part_is_added {T = ⊤} old.files new.files output.name output.bytes start (end - start) (Err Failed) before (makes told));
+    ends = (inr cause, λ told before. part_added before (makes told));
   }
   piece_appended (Err MemoryRefused) makes cause = record {
     tells = tells;
     others = λ told other differ. makes told other;
-    ends = (cause, λ told before. part_is_added {T = ⊤} old.files new.files output.name output.bytes start (end - start) (Err MemoryRefused) before (makes told));
+    ends = (cause, λ told before. record { count = start; part = makes told output.name ∙ before });
   }
 
 -- ---- one file
+
+-- the write of the first of these files failed
+first_fails : (output : Output) (outputs : List Output) (old new : Faults) (fault : WriteFault) → WriteFails old new output.name fault
+    → OneFails (names_of (output ∷ outputs)) old new fault
+first_fails output outputs old new fault fails = record { name = output.name; is_output = (0, omega arith, refl); fails = fails }
 
 -- it was not made
 pub not_made : (output : Output) (fault : WriteFault) (old new : Shelved) → new.tells ≡ old.tells
@@ -64,14 +66,14 @@ not_made output Failed old new tells makes cause = record {
   tells = tells;
   others = λ told name none. (makes told).others name none.0;
   ends = (
-    record { name = output.name; is_output = (0, omega arith, refl); fails = inl cause },
+    first_fails output [] old.faults new.faults Failed (inl cause),
     λ told. inl (elim (makes told).at [ inl same ↦ inl same | inr empty ↦ inr (record { count = 0; part = empty }) ], tt),
   );
 }
 not_made output MemoryRefused old new tells makes cause = record {
   tells = tells;
   others = λ told name none. makes told name;
-  ends = (record { name = output.name; is_output = (0, omega arith, refl); fails = cause }, λ told. inl (inl (makes told output.name), tt));
+  ends = (first_fails output [] old.faults new.faults MemoryRefused cause, λ told. inl (inl (makes told output.name), tt));
 }
 
 -- it was made, and got its pieces
@@ -90,11 +92,7 @@ module _ (output : Output) (old mid new : Shelved) (tells : mid.tells ≡ old.te
         λ told. (rw (take-length output.bytes) at (ends.1 (subst IsTrue (sym tells) told) (made told).at), tt),
       )
       go (Err fault) ends = (
-        record {
-          name = output.name;
-          is_output = (0, omega arith, refl);
-          fails = subst (λ f. WriteFails f new.faults output.name fault) faults ends.0;
-        },
+        first_fails output [] old.faults new.faults fault (subst (λ f. WriteFails f new.faults output.name fault) faults ends.0),
         λ told. inl (inr (ends.1 (subst IsTrue (sym tells) told) (made told).at), tt),
       )
 
@@ -161,11 +159,8 @@ stops_at output outputs fault old new apart first = record {
   tells = first.tells;
   others = λ told name none. first.others told name (none.0, tt);
   ends = (
-    record {
-      name = output.name;
-      is_output = (0, omega arith, refl);
-      fails = subst (λ n. WriteFails old.faults new.faults n fault) (alone output.name _ first.ends.0.is_output) first.ends.0.fails;
-    },
+    first_fails output outputs old.faults new.faults fault
+        (subst (λ n. WriteFails old.faults new.faults n fault) (alone output.name _ first.ends.0.is_output) first.ends.0.fails),
     λ told. elim (first.ends.1 told) [
       | inl stands ↦ inl (stands.0, others_stay output.name outputs old.files new.files apart (first.others told))
       | inr stands ↦ inl (
