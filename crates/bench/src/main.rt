@@ -30,21 +30,21 @@ fn main(rt: HostRuntime) -> io::Result<()> {
     let beside = (256, 64, if counts { 3 } else { 4_000 });
     let turn = (1_000, 1_000, if counts { 3 } else { 5_000 });
     let empty = (0, 64, turn.2);
-    bench.head("queue", "bare")?;
+    bench.head("   queue    bare")?;
     for (title, callers, size) in [
         ("one thread", 1, alone),
         ("two callers beside a taker", 2, beside),
         ("four callers beside a taker", 4, beside),
     ] {
         let bare = bench.bare(callers, 1, size);
-        bench.pair(title, bench.queue(callers, size), bare)?;
+        bench.pair(title, bench.queue(callers, size).zip(bare))?;
     }
-    bench.head("reports", "bare")?;
+    bench.head(" reports    bare")?;
     for (title, context, rings) in [("reports", NONE, 1), ("reports with 16 bytes", SOME, 2)] {
         let bare = bench.bare(1, rings, alone);
-        bench.pair(title, bench.reports(context, alone), bare)?;
+        bench.pair(title, bench.reports(context, alone).zip(bare))?;
     }
-    bench.head("turns", "bare")?;
+    bench.head("   turns    bare")?;
     for (title, config, context, rings) in [
         ("a report's share of a turn", MANY, NONE, 1),
         ("  with 16 bytes", MANY, SOME, 2),
@@ -52,9 +52,9 @@ fn main(rt: HostRuntime) -> io::Result<()> {
         ("  with 16 bytes through all filters", FILTERED, SOME, 2),
     ] {
         let bare = bench.bare(1, rings, turn);
-        bench.takes(title, bench.turns(config, context, turn), bare)?;
+        bench.takes(title, bench.turns(config, context, turn).zip(bare))?;
     }
-    bench.head("1024", "16")?;
+    bench.head("    1024      16")?;
     let few = bench.turns(FEW, NONE, empty);
-    bench.takes("an empty turn", bench.turns(MANY, NONE, empty), few)
+    bench.takes("an empty turn", bench.turns(MANY, NONE, empty).zip(few))
 }

@@ -4,7 +4,7 @@ ghost use Rattle.buffer_classes.specs.Givers.{AreBuffersIn};
 ghost use Rattle.main_function.specs.Standing.{IsManagerOf};
 ghost use Rattle.report_api.specs.Desks.{IsDeskOf};
 ghost use Rattle.report_api.specs.Passes.{IsPassOf, IsShared, sizes_of};
-ghost use Rattle.report_api.specs.Terms.{AdmitsItem};
+ghost use Rattle.report_api.specs.Terms.{AdmitsAct};
 
 use crate::bench::Bench;
 use crate::rounds::{Ring, Size};
@@ -12,9 +12,11 @@ use crate::times::Pair;
 use config_json::read;
 use event_chain::EventChain;
 use filter_chain::ParcelChain;
+use ids_config::Config;
 use ids_types::{Act, Carried, EventIndex};
 use main_function::Manager;
-use report_api::{CtxBuf, Desk, Item, Pass, Report, Shared};
+use report_api::{CtxBuf, Desk, Pass, Report, Shared};
+use std::alloc::AllocError;
 use std::marker::PhantomData;
 use std::rt::Clock;
 use std::thread::Threads;
@@ -35,9 +37,9 @@ pub const FILTERED: &[u8] =
 
 /// What passes and a desk share, and the context of each report.
 #[derive(Drop)]
-pub struct Reporting<'c> {
-    pub shared: Shared,
-    pub context: &'c [u8],
+struct Reporting<'c> {
+    shared: Shared,
+    context: &'c [u8],
 }
 
 impl Ring for Reporting<'_> {
@@ -54,52 +56,46 @@ impl Ring for Reporting<'_> {
         let mut count: u64 = 0;
         for _ in 0..batch {
             let report = pass.report(&self.shared, EventIndex(0), 1, None, self.context);
-            if let Report::Accepted(_) = report {
-                count = count.wrapping_add(1);
-            }
+            count = count.wrapping_add(u64::from(matches!(report, Report::Accepted(_))));
         }
         count
     }
 
-    fn take(&self, taker: &mut (Desk, Vec<CtxBuf>), batch: u64) -> u64 {
-        take_ready(&self.shared, &mut taker.0, &mut taker.1, batch)
-    }
-}
-
-// Takes what is ready, at most a batch, and gives positions and buffers back.
-fn take_ready(shared: &Shared, desk: &mut Desk, back: &mut Vec<CtxBuf>, batch: u64) -> u64
-    requires desk { IsDeskOf shared.now desk.old }
-    requires back { AreBuffersIn (sizes_of shared.now) back.old.items }
-    ensures desk { IsDeskOf shared.now desk.new }
-    ensures back { AreBuffersIn (sizes_of shared.now) back.new.items }
-    ensures count { result ≤ batch }
-{
-    let mut count = 0;
-    for number in 0..batch {
-        let Ok(item) = desk.take(shared) else { break };
-        if !keep(shared, item, back) {
-            break;
+    fn take(&self, taker: &mut (Desk, Vec<CtxBuf>), batch: u64) -> u64
+        requires ready { IsDeskOf self.now.shared taker.old.0 × AreBuffersIn (sizes_of self.now.shared) taker.old.1.items }
+        ensures ready { IsDeskOf self.now.shared taker.new.0 × AreBuffersIn (sizes_of self.now.shared) taker.new.1.items }
+        ensures count { result ≤ batch }
+    {
+        let (desk, back) = taker;
+        let mut count = 0;
+        for number in 0..batch {
+            let Ok(item) = desk.take(&self.shared) else {
+                break;
+            };
+            if keep(&self.shared, item.payload, back).is_err() {
+                break;
+            }
+            count = number + 1;
         }
-        count = number + 1;
+        desk.give_back(&self.shared, back);
+        count
     }
-    desk.give_back(shared, back);
-    count
 }
 
-// Keeps the buffer of an item, if it has one. Answers whether there was memory for it.
-fn keep(shared: &Shared, item: Item<Act<CtxBuf>>, back: &mut Vec<CtxBuf>) -> bool
+// Keeps the buffer of an act, if it has one and there is memory.
+fn keep(shared: &Shared, act: Act<CtxBuf>, back: &mut Vec<CtxBuf>) -> Result<(), AllocError>
     requires shared { IsShared shared.now }
-    requires item { AdmitsItem shared.now.terms item }
+    requires act { AdmitsAct shared.now.terms act }
     requires back { AreBuffersIn (sizes_of shared.now) back.old.items }
     ensures { AreBuffersIn (sizes_of shared.now) back.new.items }
 {
-    match item.payload {
-        Act::Report {
-            context: Carried::Kept { parcel, .. },
-            ..
-        } => back.push(parcel).is_ok(),
-        _ => true,
+    let Act::Report { context, .. } = act else {
+        return Ok(());
+    };
+    if let Carried::Kept { parcel, .. } = context {
+        back.push(parcel)?;
     }
+    Ok(())
 }
 
 /// What passes and a manager share, and how many turns a batch of takes has.
@@ -123,27 +119,33 @@ impl<C: ParcelChain<CtxBuf> + Send + Sync + Drop> Ring for Turning<'_, C> {
         self.reporting.put(pass, batch)
     }
 
-    // The items of one turn are its messages, and of several ones those that sent nothing. A manager that made 2^32
-    // turns, more than a measurement makes, makes no more.
+    // The items of one turn are its messages, and of several ones those that sent nothing.
     fn take(&self, manager: &mut Manager<C>, _: u64) -> u64 {
+        let shared = &self.reporting.shared;
+        if self.turns == 1 {
+            return turn(shared, manager).unwrap_or(0);
+        }
         let mut count: u64 = 0;
         for _ in 0..self.turns {
-            let tick = manager.turns();
-            if tick >= 4_294_967_296 || !manager.fits() {
-                break;
-            }
-            let sent = match manager.turn(&self.reporting.shared, tick) {
-                Ok(out) => u64::from(out.messages()),
-                Err(_) => break,
-            };
-            let items = if self.turns == 1 {
-                sent
-            } else {
-                u64::from(sent == 0)
-            };
-            count = count.wrapping_add(items);
+            count = count.wrapping_add(u64::from(turn(shared, manager) == Some(0)));
         }
         count
+    }
+}
+
+// Makes a turn, and answers how many messages it sent. A manager that made 2^32 turns, more than a measurement makes,
+// makes no more.
+fn turn<C: ParcelChain<CtxBuf>>(shared: &Shared, manager: &mut Manager<C>) -> Option<u64>
+    requires { IsManagerOf C.events C.kept shared.now manager.old }
+    ensures { IsManagerOf C.events C.kept shared.now manager.new }
+{
+    let tick = manager.turns();
+    if tick >= 4_294_967_296 || !manager.fits() {
+        return None;
+    }
+    match manager.turn(shared, tick) {
+        Ok(out) => Some(u64::from(out.messages())),
+        Err(_) => None,
     }
 }
 
@@ -152,29 +154,32 @@ impl<R: Clock + AllocGlobal + Threads + Sync> Bench<'_, R> {
     pub fn reports(&self, context: &[u8], size: Size) -> Option<Pair> {
         let alloc = self.rt.alloc();
         let config = read(alloc, SOME).ok()?;
-        let back = Vec::with_capacity(alloc, 64).ok()?;
-        let Ok(made) = report_api::make(alloc, &config) else {
+        let Ok(mut made) = report_api::make(alloc, &config) else {
             return None;
         };
         let reporting = Reporting {
             shared: made.shared,
             context,
         };
-        let mut taker = (made.desk, back);
-        self.alone(&reporting, size, made.passes, &mut taker)
+        let mut taker = (made.desk, Vec::new(alloc));
+        self.alone(&reporting, size, &mut made.passes, &mut taker)
     }
 
     /// Measures turns that take reports with this context, at most 16 bytes; where a batch of puts has none, empty ones.
     pub fn turns(&self, config: &[u8], context: &[u8], size: Size) -> Option<Pair> {
+        let config = read(self.rt.alloc(), config).ok()?;
+        self.turns_of(&config, context, size)
+    }
+
+    // Measures the turns of this configuration.
+    fn turns_of(&self, config: &Config, context: &[u8], size: Size) -> Option<Pair> {
         let alloc = self.rt.alloc();
-        let config = read(alloc, config).ok()?;
-        let Ok(chain) = EventChain::make(alloc, &config) else {
+        let Ok(chain) = EventChain::make(alloc, config) else {
             return None;
         };
-        let Ok(mut made) = main_function::make(alloc, &config, chain) else {
+        let Ok(mut made) = main_function::make(alloc, config, chain) else {
             return None;
         };
-        let passes = made.passes;
         let turning = Turning {
             reporting: Reporting {
                 shared: made.shared,
@@ -183,6 +188,6 @@ impl<R: Clock + AllocGlobal + Threads + Sync> Bench<'_, R> {
             turns: if size.0 == 0 { size.1 } else { 1 },
             chain: PhantomData,
         };
-        self.alone(&turning, size, passes, &mut made.manager)
+        self.alone(&turning, size, &mut made.passes, &mut made.manager)
     }
 }

@@ -149,11 +149,7 @@ impl<R: Clock + AllocGlobal + Threads + Sync> Bench<'_, R> {
             return None;
         };
         let seats = made.seats;
-        if callers == 1 {
-            self.alone(&made.queue, size, seats, &mut made.taker)
-        } else {
-            self.beside(&made.queue, size, seats, &mut made.taker)
-        }
+        self.measure(&made.queue, size, seats, &mut made.taker)
     }
 
     /// Measures the bare operations of so many callers on so many rings, whose positions are all free.
@@ -163,10 +159,6 @@ impl<R: Clock + AllocGlobal + Threads + Sync> Bench<'_, R> {
         let words = |_: u8| Words(array::from_fn(|place| AtomicU64::new(first(place))));
         let rings: Vec<Words> = (0..rings).map(words).collect(alloc).ok()?;
         let slots = vec![in alloc; [0; 1024]; callers as usize].ok()?;
-        if callers == 1 {
-            self.alone(&rings, size, slots, &mut 0)
-        } else {
-            self.beside(&rings, size, slots, &mut 0)
-        }
+        self.measure(&rings, size, slots, &mut 0)
     }
 }

@@ -3,7 +3,7 @@ ghost use Rattle.std.specs.Prelude.{All};
 ghost use Rattle.std.specs.Thread.{IsSync};
 
 use crate::bench::Bench;
-use crate::times::{Pair, Times};
+use crate::times::{Pair, Times, Told};
 use std::alloc::AllocError;
 use std::hint::spin_loop;
 use std::rt::Clock;
@@ -39,46 +39,49 @@ pub type Size = (u64, u64, u64);
 
 impl<R: Clock + AllocGlobal + Threads + Sync> Bench<'_, R> {
     // A batch of puts.
-    fn put<G: Ring>(&self, ring: &G, caller: &mut G::Caller, puts: &mut Times) -> Option<()>
+    fn put<G: Ring>(&self, ring: &G, caller: &mut G::Caller, puts: &mut Times) -> Option<u64>
         requires { G.calls ring.now caller.old }
         ensures { G.calls ring.now caller.new }
     {
         let start = Instant::now(self.rt).ok()?;
         let count = ring.put(caller, puts.batch);
-        puts.add(start.elapsed(self.rt).ok()?.as_nanos(), count)
-            .ok()
+        self.add(puts, start, count)
     }
 
-    // A batch of takes. Answers how many items there were.
+    // A batch of takes.
     fn take<G: Ring>(&self, ring: &G, taker: &mut G::Taker, takes: &mut Times) -> Option<u64>
         requires { G.takes ring.now taker.old }
         ensures { G.takes ring.now taker.new }
     {
         let start = Instant::now(self.rt).ok()?;
         let count = ring.take(taker, takes.batch);
-        takes
-            .add(start.elapsed(self.rt).ok()?.as_nanos(), count)
-            .ok()?;
+        self.add(takes, start, count)
+    }
+
+    // Adds a batch that began then. Answers how many items it had.
+    fn add(&self, times: &mut Times, start: Instant, count: u64) -> Option<u64> {
+        let nanos = start.elapsed(self.rt).ok()?.as_nanos();
+        times.add(nanos, count).ok()?;
         Some(count)
     }
 
-    /// In turn, where there is one caller: in each round a batch of puts, and then takes until nothing is left. After
-    /// no puts there is one batch of takes.
+    /// One caller in turn with the taker: in each round a batch of puts, and then takes until nothing is left. After no
+    /// puts there is one batch of takes.
     pub fn alone<G: Ring>(
         &self,
         ring: &G,
         size: Size,
-        mut callers: Vec<G::Caller>,
+        callers: &mut [G::Caller],
         taker: &mut G::Taker,
     ) -> Option<Pair>
-        requires callers { All (G.calls ring.now) callers.items }
+        requires callers { All (G.calls ring.now) callers.old }
         requires taker { G.takes ring.now taker.old }
     {
-        let mut puts = Times::new(self.rt.alloc(), size.0);
-        let mut takes = Times::new(self.rt.alloc(), size.1);
-        let [caller] = callers.as_mut_slice() else {
+        let [caller] = callers else {
             return None;
         };
+        let mut puts = Times::new(self.rt.alloc(), size.0);
+        let mut takes = Times::new(self.rt.alloc(), size.1);
         for _ in 0..size.2 {
             self.put(ring, caller, &mut puts)?;
             for _ in 0..size.0.max(1) {
@@ -90,41 +93,46 @@ impl<R: Clock + AllocGlobal + Threads + Sync> Bench<'_, R> {
         Some((puts.told(), takes.told()))
     }
 
-    /// Each caller in a thread of its own, beside the taker.
-    pub fn beside<G: Ring>(
+    /// One caller in turn with the taker, or each of several in a thread of its own beside it.
+    pub fn measure<G: Ring>(
         &self,
         ring: &G,
         size: Size,
-        callers: Vec<G::Caller>,
+        mut callers: Vec<G::Caller>,
         taker: &mut G::Taker,
     ) -> Option<Pair>
         requires callers { All (G.calls ring.now) callers.items }
         requires taker { G.takes ring.now taker.old }
     {
+        if callers.len() == 1 {
+            return self.alone(ring, size, callers.as_mut_slice(), taker);
+        }
         let round = (callers.len() as u64).wrapping_mul(size.0);
         let open = &AtomicU64::new(1);
-        let (all, mut takes) = join(
+        let (all, takes) = join(
             self.rt,
             move || -> Result<Vec<Times>, AllocError>
                 requires { IsSync R.row × IsSync G.row × All (G.calls ring.now) callers.items }
             {
-                map_vec(
-                    self.rt,
-                    callers,
-                    &|caller: G::Caller| -> Times
-                        requires { G.calls ring.now caller }
-                    { self.call(ring, size, open, caller) },
-                )
+                let call = |caller: G::Caller| -> Times
+                    requires { G.calls ring.now caller }
+                { self.call(ring, size, open, caller) };
+                map_vec(self.rt, callers, &call)
             },
-            move || -> Times
+            move || -> Told
                 requires { IsSync G.row × G.takes ring.now taker.now }
             { self.serve(ring, (round, size.1, size.2), open, taker) },
         );
-        let mut puts = Times::new(self.rt.alloc(), size.0);
-        for times in &all.ok()? {
+        Some((self.joined(&all.ok()?)?, takes))
+    }
+
+    // What the batches of all callers tell.
+    fn joined(&self, all: &[Times]) -> Option<Told> {
+        let mut puts = Times::new(self.rt.alloc(), all.first()?.batch);
+        for times in all {
             puts.join(times).ok()?;
         }
-        Some((puts.told(), takes.told()))
+        Some(puts.told())
     }
 
     // A caller's batches, one in each round that is opened.
@@ -143,7 +151,7 @@ impl<R: Clock + AllocGlobal + Threads + Sync> Bench<'_, R> {
 
     // The taker's batches, at most a million, which takes some four seconds. It opens a round once it has taken as many
     // items as all callers put in those before.
-    fn serve<G: Ring>(&self, ring: &G, size: Size, open: &AtomicU64, taker: &mut G::Taker) -> Times
+    fn serve<G: Ring>(&self, ring: &G, size: Size, open: &AtomicU64, taker: &mut G::Taker) -> Told
         requires { G.takes ring.now taker.old }
     {
         let mut takes = Times::new(self.rt.alloc(), size.1);
@@ -164,7 +172,7 @@ impl<R: Clock + AllocGlobal + Threads + Sync> Bench<'_, R> {
             }
         }
         open.store(u64::MAX, Ordering::SeqCst);
-        takes
+        takes.told()
     }
 }
 

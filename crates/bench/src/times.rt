@@ -66,25 +66,13 @@ impl Times {
         ensures fastest { All (λ nanos. result.fastest ≤ nanos) self.new.nanos.items }
         ensures same { (result.items ≡ self.old.items) × (result.batch ≡ self.old.batch) }
     {
-        let (fastest, middle) = self.fastest_and_middle();
-        Told {
-            fastest,
-            middle,
-            items: self.items,
-            batch: self.batch,
-        }
-    }
-
-    // The time of the fastest batch, and of the middle one by their order: 0 where there is none.
-    fn fastest_and_middle(&mut self) -> (u64, u64)
-        ensures fastest { All (λ nanos. result.0 ≤ nanos) self.new.nanos.items }
-        ensures same { (self.new.items ≡ self.old.items) × (self.new.batch ≡ self.old.batch) }
-    {
         self.nanos.sort_unstable();
         let middle = self.nanos.len() / 2;
-        match (self.nanos.first(), self.nanos.get(middle)) {
-            (Some(fastest), Some(middle)) => (*fastest, *middle),
-            _ => (0, 0),
+        Told {
+            fastest: self.nanos.first().copied().unwrap_or(0),
+            middle: self.nanos.get(middle).copied().unwrap_or(0),
+            items: self.items,
+            batch: self.batch,
         }
     }
 }

@@ -2,7 +2,7 @@ use Rattle.std.proofs.Common.{◌≡◌}
 use Rattle.buffer_classes.specs.Givers.{AreBuffersIn}
 use Rattle.report_api.specs.Desks.{IsDeskOf}
 use Rattle.report_api.specs.Passes.{sizes_of}
-use Rattle.bench.proofs.reports.take_ready.Given as goal
+use Rattle.bench.proofs.reports.ReportingRing.take.Given as goal
 
 abbrev pub invariant-loop-number : goal.invariant-loop-number
-invariant-loop-number l = IsDeskOf l.shared l.desk × AreBuffersIn (sizes_of l.shared) l.back.items × (l.count ≡ l.number)
+invariant-loop-number l = IsDeskOf l.self.shared l.desk × AreBuffersIn (sizes_of l.self.shared) l.back.items × (l.count ≡ l.number)
