@@ -52,6 +52,22 @@ pub fn push_hex(out: &mut Vec<u8>, bytes: &[u8]) -> Result<(), NoMemory>
     ensures full { let text = encode_lower bytes.now in
         OnErr result (vec_capacity out.old < vec_len out.old + length text) }
 {
+    if out.capacity() - out.len() < 2 * bytes.len() {
+        return push_hex_at_end(out, bytes);
+    }
+    put_hex(out, bytes);
+    Ok(())
+}
+
+/// The same where there may be little room.
+#[cold]
+#[inline(never)]
+fn push_hex_at_end(out: &mut Vec<u8>, bytes: &[u8]) -> Result<(), NoMemory>
+    ensures ok { OnOk result (out.new.items ≡ out.old.items ++ encode_lower bytes.now) }
+    ensures err { OnErr result (out.new.items ≡ out.old.items) }
+    ensures full { let text = encode_lower bytes.now in
+        OnErr result (vec_capacity out.old < vec_len out.old + length text) }
+{
     out.reserve(2 * bytes.len())?;
     put_hex(out, bytes);
     Ok(())
@@ -68,7 +84,7 @@ pub fn push_bytes(out: &mut Vec<u8>, bytes: &[u8]) -> Result<(), NoMemory>
     }
 }
 
-/// Writes the text of the bytes into room that is there, that of eight bytes at a time, and of four.
+/// Writes the text of the bytes into room that is there, that of eight bytes at a time.
 pub(crate) fn put_hex(out: &mut Vec<u8>, bytes: &[u8])
     requires { vec_len out.old + 2 * length bytes.now ≤ vec_capacity out.old }
     ensures items { out.new.items ≡ out.old.items ++ encode_lower bytes.now }
@@ -76,25 +92,37 @@ pub(crate) fn put_hex(out: &mut Vec<u8>, bytes: &[u8])
     ensures capacity { vec_capacity out.old ≤ vec_capacity out.new }
 {
     for k in 0..bytes.len() / 8 {
-        put_all(out, &digits_of::<16>(&bytes[8 * k..8 * k + 8]));
+        put_eight(out, &bytes[8 * k..8 * k + 8]);
     }
-    put_last(out, &bytes[bytes.len() / 8 * 8..]);
+    put_each(out, &bytes[bytes.len() / 8 * 8..]);
 }
 
-/// Writes the text of fewer than eight bytes, that of four at once.
+/// Writes the text of eight bytes. By its test, which always passes, the compiler knows that nothing has to grow.
 #[inline(always)]
-fn put_last(out: &mut Vec<u8>, bytes: &[u8])
-    requires few { length bytes.now < 8 }
-    requires room { vec_len out.old + 2 * length bytes.now ≤ vec_capacity out.old }
+fn put_eight(out: &mut Vec<u8>, bytes: &[u8])
+    requires eight { length bytes.now ≡ 8 }
+    requires room { vec_len out.old + 16 ≤ vec_capacity out.old }
     ensures items { out.new.items ≡ out.old.items ++ encode_lower bytes.now }
-    ensures len { vec_len out.new ≡ vec_len out.old + 2 * length bytes.now }
+    ensures len { vec_len out.new ≡ vec_len out.old + 16 }
     ensures capacity { vec_capacity out.old ≤ vec_capacity out.new }
 {
-    if bytes.len() < 4 {
-        return put_each(out, bytes);
+    if out.capacity() - out.len() >= 16 {
+        out.extend_from_slice(&sixteen_of(bytes)).unwrap();
     }
-    put_all(out, &digits_of::<8>(&bytes[..4]));
-    put_each(out, &bytes[4..]);
+}
+
+/// The digits of eight bytes, which the compiler makes all at once.
+#[inline(always)]
+fn sixteen_of(bytes: &[u8]) -> [u8; 16]
+    requires { length bytes.now ≡ 8 }
+    ensures { result ≡ encode_lower bytes.now }
+{
+    let mut digits = [0; 16];
+    for i in 0..8 {
+        digits[2 * i] = digit_of(bytes[i] / 16);
+        digits[2 * i + 1] = digit_of(bytes[i] % 16);
+    }
+    digits
 }
 
 /// Writes the text of the bytes one by one.
@@ -107,31 +135,6 @@ fn put_each(out: &mut Vec<u8>, bytes: &[u8])
     for i in 0..bytes.len() {
         put_byte(out, bytes[i]);
     }
-}
-
-/// The digits of half as many bytes, which the compiler makes all at once.
-#[inline(always)]
-fn digits_of<const N: usize>(bytes: &[u8]) -> [u8; N]
-    requires { N ≡ 2 * length bytes.now }
-    ensures { result ≡ encode_lower bytes.now }
-{
-    let mut digits = [0; N];
-    for i in 0..N / 2 {
-        digits[2 * i] = digit_of(bytes[i] / 16);
-        digits[2 * i + 1] = digit_of(bytes[i] % 16);
-    }
-    digits
-}
-
-/// Writes bytes into room that is there.
-#[inline(always)]
-fn put_all<const N: usize>(out: &mut Vec<u8>, bytes: &[u8; N])
-    requires { vec_len out.old + N ≤ vec_capacity out.old }
-    ensures items { out.new.items ≡ out.old.items ++ bytes.now }
-    ensures len { vec_len out.new ≡ vec_len out.old + N }
-    ensures capacity { vec_capacity out.old ≤ vec_capacity out.new }
-{
-    out.extend_from_slice(bytes).unwrap();
 }
 
 /// Writes the two digits of a byte.

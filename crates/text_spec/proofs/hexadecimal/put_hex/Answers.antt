@@ -11,13 +11,10 @@ loop-k-preserved c =
     let same : 8 * k + 8 ≡ 8 * (k + 1) = omega arith in
     let piece = encode_lower (slice_range bytes (8 * k) (8 * k + 8)) in
     let more = put_more (8 * k) (8 * k + 8) bytes old c.loop-k.out.items piece (omega arith) refl c.loop-k.invariant.put in
-    let digits : c.digits_of.result ≡ piece = c.digits_of.ensures in
     record {
-      put = subst (IsPut (8 * (k + 1)) bytes old) (sym c.put_all.ensures.items)
-          (subst (λ ds. IsPut (8 * (k + 1)) bytes old (c.loop-k.out.items ++ ds)) (sym digits)
-          (subst (λ n. IsPut n bytes old (c.loop-k.out.items ++ piece)) same more));
-      len = omega (arith, c.put_all.ensures.len, c.loop-k.invariant.len);
-      capacity = omega (arith, c.put_all.ensures.capacity, c.loop-k.invariant.capacity);
+      put = subst (IsPut (8 * (k + 1)) bytes old) (sym c.put_eight.ensures.items) (subst (λ n. IsPut n bytes old (c.loop-k.out.items ++ piece)) same more);
+      len = omega (arith, c.put_eight.ensures.len, c.loop-k.invariant.len);
+      capacity = omega (arith, c.put_eight.ensures.capacity, c.loop-k.invariant.capacity);
     }
 
 pub returns-clause-items : goal.returns-clause-items
@@ -27,4 +24,4 @@ returns-clause-items c =
     let now = c.loop-k.out.items in
     let all : 8 * c.loop-k.k ≡ length bytes / 8 * 8 = omega (arith, c.loop-k-test.false) in
     let was = subst (λ n. IsPut n bytes old now) all c.loop-k.invariant.put in
-    c.put_last.ensures.items ∙ put_rest (length bytes / 8 * 8) bytes old now (omega arith) was
+    c.put_each.ensures.items ∙ put_rest (length bytes / 8 * 8) bytes old now (omega arith) was

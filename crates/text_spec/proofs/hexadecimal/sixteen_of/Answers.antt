@@ -1,9 +1,9 @@
 use Rattle.text_spec.proofs.Names.{◌<◌, ◌+◌, ◌*◌, length, arith, length-set, ◌∙◌, lower_digits}
 use Rattle.hex.proofs.Pairs.{encode_step, encode_done}
-use Rattle.text_spec.proofs.hexadecimal.digits_of.Goals as goal
+use Rattle.text_spec.proofs.hexadecimal.sixteen_of.Goals as goal
 
 pub loop-i-preserved : goal.loop-i-preserved
-loop-i-preserved g c =
+loop-i-preserved c =
     let fits : 2 * c.loop-i.i + 1 < length c.loop-i.digits = omega (arith, c.loop-i.invariant.len, c.loop-i-test.true) in
     let there : c.loop-i.i < length c.args.bytes.now = omega (arith, c.requires, c.loop-i-test.true) in
     record {
@@ -12,5 +12,5 @@ loop-i-preserved g c =
     }
 
 pub returns : goal.returns
-returns g c =
+returns c =
     encode_done lower_digits _ _ c.loop-i.i (omega (arith, c.requires, c.loop-i-test.false)) (omega (arith, c.requires, c.loop-i.invariant.len)) c.loop-i.invariant.text
