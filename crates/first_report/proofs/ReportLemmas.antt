@@ -18,7 +18,8 @@ use Rattle.idsm_api.specs.declared.answer.Answer.{Answer}
 use Rattle.idsm_api.specs.declared.answer.Answer.TheVariants.{Done, LostEvent, Spent, UnknownEvent, WithoutContext, ZeroCount}
 use Rattle.idsm_api.specs.declared.caller.Caller.{Caller}
 use Rattle.idsm_api.specs.declared.making.Setup.{Setup}
-use Rattle.idsm_api.specs.Callers.{AreCounted, AreSameCallers, CallLog, ReportDoes, ReportLogs, log_of}
+use Rattle.idsm_api.specs.Callers.{AreCounted, CallLog, ReportDoes, ReportLogs, log_of}
+use Rattle.idsm_api.proofs.ClosingLemmas.{AreSameCallers}
 use Rattle.idsm_api.specs.Making.{IsNewSetup, MakesSetup}
 use Rattle.idsm_api.specs.Roles.{IsFitCaller}
 use Rattle.first_report.specs.Reporting.{HasReported, HaveReported, IsReady}

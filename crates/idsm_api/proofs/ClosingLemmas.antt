@@ -1,6 +1,6 @@
 -- All callers of a manager, and how they come back to it.
 use Rattle.idsm_api.proofs.Names.{◌≡◌, ℕ, ◌+◌, ◌∙◌, List, [], ◌∷◌, length, map, refl, sym, ap, subst, arith, length-map, Pass, Shared, Caller, Manager, IsFitCaller, caller_shares, chain_events, manager_shares}
-use Rattle.std.proofs.Common.{◌++◌, reverse, slice_index_or, sum_by}
+use Rattle.std.proofs.Common.{◌<◌, ◌++◌, reverse, slice_index_or, sum_by}
 use Rattle.std.proofs.lemmas.List.{append_assoc, map_push, reverse-append}
 use Rattle.std.proofs.lemmas.List.Sums.{sum_by-cons}
 use mathlib.Core.Option.{some, some-injective}
@@ -17,7 +17,7 @@ use Rattle.report_api.specs.Passes.{IsPassOf, lost_events, missing_in, pass_memo
 use Rattle.main_function.specs.Closing.{AreCountsOf}
 use Rattle.main_function.specs.Standing.{AreAllPasses, largest_size}
 use Rattle.main_function.specs.declared.rest.Totals.{Totals}
-use Rattle.idsm_api.specs.Callers.{AreAllCallers, AreCounted, AreSameCallers, IsSameCaller, number_of}
+use Rattle.idsm_api.specs.Callers.{AreAllCallers, AreCounted, IsSameCaller, number_of}
 use Rattle.idsm_api.specs.Making.{passes_of}
 use Rattle.idsm_api.specs.Roles.{IsFitManager}
 use Rattle.idsm_api.specs.Turning.{TurnMade}
@@ -25,6 +25,12 @@ use Rattle.idsm_api.specs.Turning.{TurnMade}
 -- the pass of a caller
 abbrev pass_in : Caller → Pass
 pass_in caller = caller.pass
+
+-- these are one by one the same callers, each between two calls
+pub record AreSameCallers (olds news : List Caller) : Type 0 where
+  pub as_many : length news ≡ length olds
+  pub each : (i : ℕ) (d : Caller) → i < length news
+      → IsFitCaller (slice_index_or news i d) × IsSameCaller (slice_index_or olds i d) (slice_index_or news i d)
 
 -- all callers of a manager are still that after calls of their own
 pub called_on : {manager : Manager} {olds news : List Caller} → AreAllCallers manager olds → AreSameCallers olds news → AreAllCallers manager news

@@ -1,13 +1,11 @@
 -- What is made is fit.
-use Rattle.idsm_api.proofs.Names.{◌≡◌, ℕ, ◌≤◌, ◌∙◌, List, length, map, sym, ap, subst, length-map, All, Parts, Pass, Shared, IsManagerOf, Caller, Manager as IdsManager, IsFitCaller, caller_shares, chain_events, chain_kept, chain_stands, manager_shares}
+use Rattle.idsm_api.proofs.Names.{◌≡◌, ℕ, ◌≤◌, ◌∙◌, List, length, map, sym, ap, subst, length-map, All, Parts, Pass, Shared, Caller, Manager as IdsManager, IsFitCaller, caller_shares, chain_events, chain_kept, chain_stands, manager_shares}
 use Rattle.std.proofs.Common.{vec_capacity}
 use mathlib.Core.Option.{some}
 use lib.ListN.{get_elem?}
 use Rattle.atomic_table.proofs.Lists.{at_map}
 use Rattle.permit_ring.proofs.ListLemmas.{at_length, there}
 use Rattle.law_closing.proofs.PlaceLemmas.{or_at}
-use Rattle.buffer_classes.specs.Givers.{givers_of}
-use Rattle.buffer_classes.specs.declared.class.Class.{Class}
 use Rattle.report_api.specs.Passes.{IsPassOf, sizes_of}
 use Rattle.main_function.specs.Making.{IsNewManager}
 use Rattle.main_function.specs.declared.manager.Manager.{Manager}
@@ -21,11 +19,6 @@ use Rattle.report_api.specs.Names.{PassMemo}
 use Rattle.idsm_api.specs.Callers.{AreAllCallers, log_in, log_of, no_calls}
 use Rattle.idsm_api.specs.Making.{passes_of}
 use Rattle.idsm_api.specs.Roles.{most_bytes}
-
--- as many classes have givers as there are
-pub as_many_givers : (shared : Shared) (m : Manager (Chained Buffer)) → IsManagerOf chain_events chain_kept shared m
-    → length (givers_of m.desk.givers) ≡ length (sizes_of shared)
-as_many_givers shared m is = is.desk_is.givers.all ∙ sym (length-map shared.classes.classes.items (λ (class : Class). class.size))
 
 module _ (config : Parts) (shared : Shared) (passes : List Pass) (m : Manager (Chained Buffer))
     (new : IsNewManager chain_stands chain_events chain_kept config shared passes m) where

@@ -1,5 +1,5 @@
 -- What contracts see of a caller: which one it is, and what it did so far.
-use Rattle.std.specs.Prelude.{◌≡◌, ℕ, ◌+◌, ◌<◌, ◌≤◌, ◌^◌, false, Option, Some, None, List, [], ◌∷◌, ◌++◌, length, slice_index_or, sum_by, vec_capacity}
+use Rattle.std.specs.Prelude.{◌≡◌, ℕ, ◌+◌, ◌<◌, ◌≤◌, ◌^◌, false, Option, Some, None, List, [], ◌∷◌, ◌++◌, length, sum_by, vec_capacity}
 use mathlib.Core.Option.{some}
 use lib.ListN.{get_elem?}
 use Rattle.ids_types.specs.declared.entry.Act.{Act}
@@ -68,12 +68,6 @@ with_lost log = record log { calls = log.calls ++ None ∷ []; lost = log.lost +
 pub record IsSameCaller (old new : Caller) : Type 0 where
   pub shares : caller_shares new ≡ caller_shares old
   pub number : number_of new ≡ number_of old
-
--- these are one by one the same callers, each between two calls
-pub record AreSameCallers (olds news : List Caller) : Type 0 where
-  pub as_many : length news ≡ length olds
-  pub each : (i : ℕ) (d : Caller) → i < length news
-      → IsFitCaller (slice_index_or news i d) × IsSameCaller (slice_index_or olds i d) (slice_index_or news i d)
 
 -- the context is all of these bytes, and there is none where these are none
 abbrev pub HasAll : List ℕ → Carried (List ℕ) → Type 0

@@ -1,10 +1,10 @@
 -- Which handles have something, and how they are filled, one by one.
-use Rattle.idsm_c.proofs.Names.{◌≡◌, ℕ, ◌+◌, ◌≤◌, ◌∙◌, List, [], ◌∷◌, ◌++◌, length, take, false, sym, ap, subst, arith, Option, Some, All, Global, IsFit, caller_roles, contents_of, is_taken, roles_in, Roles}
+use Rattle.idsm_c.proofs.Names.{◌≡◌, ℕ, ◌+◌, ◌≤◌, ◌∙◌, List, [], ◌∷◌, ◌++◌, length, take, false, sym, ap, arith, Option, Some, All, Global, IsFit, caller_roles, contents_of, is_taken, roles_in, Roles}
 use Rattle.std.proofs.Common.{◌<◌, map, drop, set, get_or, true, ◌||◌, append_assoc}
 use Rattle.std.specs.Prelude.{is_some, Result, Ok, Err}
 use Rattle.std.specs.declared.boxed.Box.{Box}
-use Rattle.std.proofs.Math.Seq.{drop-length, map-set_same}
-use Rattle.std.proofs.lemmas.List.{append-nil, drop-set, get_or-map, length-map, length-set, length-append, map-append, map-set}
+use Rattle.std.proofs.Math.Seq.{map-set_same}
+use Rattle.std.proofs.lemmas.List.{drop-set, get_or-map, length-map, length-set, length-append, map-append, map-set}
 use Rattle.std.proofs.lemmas.List.Elements.{All-map}
 use Rattle.std.proofs.lemmas.List.Folds.{list_any_at, list_any_more}
 use Rattle.ids_config.specs.Parts.{Parts}
@@ -47,19 +47,6 @@ pub record IsFilling (all rest : List Role) (contents : List (Option Role)) : Ty
   pub done_are : drop (length rest) contents ≡ map Some done
   pub room : length rest ≤ length contents
 
--- at first none is put
-pub fills_none : (roles : List (Box Role Global)) (handles : List Handle) → length roles ≡ length handles
-    → IsFilling (roles_in roles) (roles_in roles) (contents_of handles)
-fills_none roles handles as_many =
-    let many : length (roles_in roles) ≡ length (contents_of handles) =
-    length-map roles (λ (role : Box Role Global). role.value) ∙ as_many ∙ sym (length-map handles (λ (handle : Handle). handle.content)) in
-    record {
-      done = [];
-      all_are = sym (append-nil (roles_in roles));
-      done_are = rw many (drop-length (contents_of handles));
-      room = omega arith;
-    }
-
 -- the roles in boxes, of which one more is taken
 pub roles_left : (left rest : List (Box Role Global)) (role : Box Role Global) → left ≡ rest ++ role ∷ [] → roles_in left ≡ roles_in rest ++ role.value ∷ []
 roles_left left rest role are = ap roles_in are ∙ map-append (λ (box : Box Role Global). box.value) rest (role ∷ [])
@@ -87,14 +74,6 @@ module _ (all : List Role) (left rest : List (Box Role Global)) (role : Box Role
         done_are = ap (drop n) now ∙ drop-set old n (Some role.value) low ∙ ap (λ (cs : List (Option Role)). Some role.value ∷ cs) behind;
         room = omega (arith, ap length now, length-set old n (Some role.value));
       }
-
--- at last all are put
-pub fills_all : (all : List Role) (rest : List (Box Role Global)) (contents : List (Option Role)) → IsFilling all (roles_in rest) contents
-    → rest ≡ [] → contents ≡ map Some all
-fills_all all rest contents filling none =
-    let gone : roles_in rest ≡ [] = ap roles_in none in
-    let are : contents ≡ map Some filling.done = subst (λ (xs : List Role). drop (length xs) contents ≡ map Some filling.done) gone filling.done_are in
-    are ∙ ap (map Some) (sym (filling.all_are ∙ ap (λ (xs : List Role). xs ++ filling.done) gone))
 
 -- a new setup is that of the configuration that was found
 made_of : (found : Result Parts ConfigFault) (setup : Setup) → MakesSetup found (Ok setup) → IsMade found setup
