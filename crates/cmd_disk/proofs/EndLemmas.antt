@@ -25,41 +25,34 @@ module _ (config : Parts) (turns : List Turn) where
   abbrev behind : ℕ → List Row → Keeping
   behind base was = record { config = config; turns = turns; base = base; was = was }
 
+  -- nothing was saved
+  left_behind : {A N : Type 0} (old new : Shown) (end : Result A (Stop N))
+      → ((Synced : Type 0) (keeping : Keeping) (state : State) → (Synced → LeavesOnly (KeepsBehind keeping 0) state) → KeptAtEnd Synced keeping end state)
+      → LeavesSince old.run new.run (MayBeLeft old.run.now) → LeavesBehind config turns old new end
+  left_behind old new end any since base was keeps = record {
+    any_moment = λ synced.
+        weaker (MayBeLeft old.run.now) (KeepsSome (behind base was)) old.run new.run (still_some (behind base was) old synced keeps) since;
+    at_end = any (old.run.now.written ≡ []) (behind base was) new.run.now
+        (λ synced left may. none_saved (behind base was) left (still_kept (behind base was) old synced keeps left (since.now left may)));
+  }
+
   -- no call was made
   pub untouched : {A N : Type 0} (disk : Shown) (end : Result A (Stop N))
       → ((Synced : Type 0) (keeping : Keeping) (state : State) → (Synced → LeavesOnly (KeepsBehind keeping 0) state) → KeptAtEnd Synced keeping end state)
       → LeavesBehind config turns disk disk end
-  untouched disk end any base was keeps = record {
-    any_moment = λ synced. no_call (KeepsSome (behind base was)) disk.run (still_some (behind base was) disk synced keeps);
-    at_end = any (disk.run.now.written ≡ []) (behind base was) disk.run.now
-        (λ synced left may. none_saved (behind base was) left (still_kept (behind base was) disk synced keeps left may));
-  }
+  untouched disk end any = left_behind disk disk end any (no_call (MayBeLeft disk.run.now) disk.run (λ left may. may))
 
   -- a store was not begun
   pub none_begun : {A D : Type 0} (shows : D → Shown) (old : D) (fault : BeginFault D)
       → LeavesSince (shows old).run (shows (begun_disk (Err fault))).run (MayBeLeft (shows old).run.now)
-      → LeavesBehind config turns (shows old) (shows (not_begun {T = A} (FailedAfter 0) fault).disk) (not_begun {T = A} (FailedAfter 0) fault).end
-  none_begun shows old (begin.Failed disk) since base was keeps = record {
-    any_moment = λ synced.
-        weaker (MayBeLeft (shows old).run.now) (KeepsSome (behind base was)) (shows old).run (shows disk).run
-        (still_some (behind base was) (shows old) synced keeps) since;
-    at_end = λ synced left may.
-        inl (none_saved (behind base was) left (still_kept (behind base was) (shows old) synced keeps left (since.now left may)));
-  }
-  none_begun shows old (begin.Damaged slot disk) since base was keeps = record {
-    any_moment = λ synced.
-        weaker (MayBeLeft (shows old).run.now) (KeepsSome (behind base was)) (shows old).run (shows disk).run
-        (still_some (behind base was) (shows old) synced keeps) since;
-    at_end = λ synced left may.
-        none_saved (behind base was) left (still_kept (behind base was) (shows old) synced keeps left (since.now left may));
-  }
-  none_begun shows old (begin.NoMemory disk) since base was keeps = record {
-    any_moment = λ synced.
-        weaker (MayBeLeft (shows old).run.now) (KeepsSome (behind base was)) (shows old).run (shows disk).run
-        (still_some (behind base was) (shows old) synced keeps) since;
-    at_end = λ synced left may.
-        none_saved (behind base was) left (still_kept (behind base was) (shows old) synced keeps left (since.now left may));
-  }
+      → LeavesBehind config turns (shows old) (shows (not_begun {T = A} (FailedAfter 0) fault).1) (not_begun {T = A} (FailedAfter 0) fault).0
+  none_begun {A} shows old (begin.Failed disk) =
+      left_behind (shows old) (shows disk) (not_begun {T = A} (FailedAfter 0) (begin.Failed disk)).0
+      (λ synced keeping state kept is left may. inl (kept is left may))
+  none_begun {A} shows old (begin.Damaged slot disk) =
+      left_behind (shows old) (shows disk) (not_begun {T = A} (FailedAfter 0) (begin.Damaged slot disk)).0 (λ synced keeping state kept. kept)
+  none_begun {A} shows old (begin.NoMemory disk) =
+      left_behind (shows old) (shows disk) (not_begun {T = A} (FailedAfter 0) (begin.NoMemory disk)).0 (λ synced keeping state kept. kept)
 
 -- what holds at the end of saving holds where more is asked before
 at_end_if : {A N : Type 0} (Synced : Type 0) (keeping : Keeping) (end : Result A (Stop N)) (state : State)

@@ -27,36 +27,24 @@ pub(crate) fn keep<'a, H: Shelf, D: Disk>(
     shelf: &mut H,
     disk: D,
 ) -> Ended<'a, Vec<u8>, D>
-    ensures ends { EndsAs (keep_command (keep_files_of names.entry)) (plain_end result.end)
+    ensures ends { EndsAs (keep_command (keep_files_of names.entry)) (plain_end result.0)
         (H.shows shelf.old) (H.shows shelf.new) }
-    ensures cause { HasDiskCause D.shows disk result.disk (plain_end result.end) }
+    ensures cause { HasDiskCause D.shows disk result.1 (plain_end result.0) }
     ensures leaves { IsTrue (H.shows shelf.old).tells → LeavesRecorded D.shows (keep_files_of names.entry)
-        (H.shows shelf.old).files disk result.disk (plain_end result.end) }
+        (H.shows shelf.old).files disk result.1 (plain_end result.0) }
 {
     let inputs = match read_inputs(alloc, names.from, shelf) {
         Ok(inputs) => inputs,
-        Err(stop) => return Ended {
-            end: Err(stop),
-            disk,
-        },
+        Err(stop) => return (Err(stop), disk),
     };
     let history = &inputs.journal.history;
     let Ok(line) = saved_line(alloc, history.turns()) else {
-        return Ended {
-            end: Err(Stop::NoMemory),
-            disk,
-        };
+        return (Err(Stop::NoMemory), disk);
     };
-    let Ended { end, disk } = keep_history(alloc, &inputs.config, history, disk);
+    let (end, disk) = keep_history(alloc, &inputs.config, history, disk);
     match end {
-        Ok(()) => Ended {
-            end: Ok(line),
-            disk,
-        },
-        Err(stop) => Ended {
-            end: Err(stop),
-            disk,
-        },
+        Ok(()) => (Ok(line), disk),
+        Err(stop) => (Err(stop), disk),
     }
 }
 
@@ -68,23 +56,17 @@ fn keep_history<'a, D: Disk>(
     disk: D,
 ) -> Ended<'a, (), D>
     requires { IsFoldable config.now history.now.turns }
-    ensures stops { IfErr result.end StopsKeeping }
-    ensures cause { HasDiskCause D.shows disk result.disk result.end }
+    ensures stops { IfErr result.0 StopsKeeping }
+    ensures cause { HasDiskCause D.shows disk result.1 result.0 }
     ensures leaves { IsTrue (D.shows disk).tells →
-        LeavesBehind config.now history.now.turns (D.shows disk) (D.shows result.disk) result.end }
+        LeavesBehind config.now history.now.turns (D.shows disk) (D.shows result.1) result.0 }
 {
     let events = config.parts().events.len() as u64;
     let Ok(desk) = Desk::make(alloc, events) else {
-        return Ended {
-            end: Err(Stop::NoMemory),
-            disk,
-        };
+        return (Err(Stop::NoMemory), disk);
     };
     let Ok(chain) = EventChain::make(alloc, config) else {
-        return Ended {
-            end: Err(Stop::NoMemory),
-            disk,
-        };
+        return (Err(Stop::NoMemory), disk);
     };
     save_history(alloc, config, history, &mut Folding { desk, chain }, disk)
 }
@@ -99,10 +81,10 @@ fn save_history<'h, 'a, D: Disk>(
 ) -> Ended<'a, (), D>
     requires new { IsNewFolding config.now folding.old }
     requires foldable { IsFoldable config.now history.now.turns }
-    ensures stops { IfErr result.end StopsKeeping }
-    ensures cause { HasDiskCause D.shows disk result.disk result.end }
+    ensures stops { IfErr result.0 StopsKeeping }
+    ensures cause { HasDiskCause D.shows disk result.1 result.0 }
     ensures leaves { IsTrue (D.shows disk).tells →
-        LeavesBehind config.now history.now.turns (D.shows disk) (D.shows result.disk) result.end }
+        LeavesBehind config.now history.now.turns (D.shows disk) (D.shows result.1) result.0 }
 {
     match Store::begin(alloc, disk) {
         Ok((store, _)) => save_turns(config, history, folding, store),

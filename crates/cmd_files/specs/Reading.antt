@@ -24,6 +24,11 @@ abbrev pub ◌>>=◌ : {A B : Type 0} → Reading A → (A → Reading B) → Re
 (refuses why) >>= f = refuses why
 (reads limit name next) >>= f = reads limit name (λ bytes. next bytes >>= f)
 
+-- what was found in what was read, or the refusal of its fault
+abbrev pub if_found : {A F : Type 0} → (F → Refusal (List ℕ)) → Result A F → Reading A
+if_found why (Ok x) = gives x
+if_found why (Err fault) = refuses (why fault)
+
 -- what bytes ask for that were read, or why they were not
 abbrev pub if_read : {A : Type 0} → Result (List ℕ) (Stop (List ℕ)) → (List ℕ → Result A (Stop (List ℕ))) → Result A (Stop (List ℕ))
 if_read (Ok bytes) next = next bytes

@@ -48,9 +48,9 @@ abbrev pub bad_source_text : List ℕ → BadMessage → List ℕ
 bad_source_text name bad =
     codes "bad message in " ++ (name ++ (codes " at " ++ (decimal bad.at ++ (codes ": " ++ (fault_word bad.fault ++ codes "\n")))))
 
--- a line of these words and a place
+-- a line of these words and a number
 abbrev pub at_text : List ℕ → ℕ → List ℕ
-at_text words at = words ++ (decimal at ++ codes "\n")
+at_text words number = words ++ (decimal number ++ codes "\n")
 
 -- how a refusal is told, and which commands may meet it, by their words
 pub record Row : Type 0 where

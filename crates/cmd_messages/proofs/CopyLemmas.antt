@@ -1,5 +1,5 @@
 -- How many messages were sealed or unsealed, by how many bytes came or went.
-use Rattle.cmd_steps.proofs.Names.{AllByRecursion, EmptyKey, IsCopyWork, List, [], ap, arith, codes, decimal, false, gives, joined, key_judged, length, one_file, refl, refuses, sym, true, ℕ, ◌*◌, ◌++◌, ◌+◌, ◌-◌, ◌/◌, ◌<◌, ◌^◌, ◌∙◌, ◌∷◌, ◌≡◌, ◌≤◌}
+use Rattle.cmd_steps.proofs.Names.{AllByRecursion, EmptyKey, IsCopyWork, List, MessageParts, [], ap, arith, at_text, false, gives, joined, key_judged, length, one_file, refl, refuses, sym, true, ℕ, ◌*◌, ◌+◌, ◌-◌, ◌/◌, ◌<◌, ◌^◌, ◌∙◌, ◌∷◌, ◌≡◌, ◌≤◌}
 use Rattle.frame_auth.proofs.LayoutLemmas.{length-joined_sealed}
 use Rattle.frame_auth.specs.Tags.{IsKeyLength, filled}
 use Rattle.ids_bundle.proofs.UnpackLemmas.{packed_fit}
@@ -10,7 +10,7 @@ use Rattle.frame_auth.specs.Sealing.{Copies, joined_sealed}
 use Rattle.cmd_spec.specs.Packing.{IsPackWork, units_text}
 
 -- a seal has 42 bytes
-seals_count : (more less count : ℕ) → more ≡ less + 42 * count → (more - less) / 42 ≡ count
+pub seals_count : (more less count : ℕ) → more ≡ less + 42 * count → (more - less) / 42 ≡ count
 seals_count more less count is = omega (arith, is)
 
 module _ (key : List ℕ) (start : ℕ) (bytes out : List ℕ) where
@@ -22,25 +22,11 @@ module _ (key : List ℕ) (start : ℕ) (bytes out : List ℕ) where
       → length bytes ≡ length out + 42 * length copies.messages
   bare_shorter copies = rw (copies.written, copies.read) (length-joined_sealed key start copies.messages copies.are_plain)
 
-  pub sealed_work : (target line : List ℕ) → Copies joined (joined_sealed key start) bytes out
-      → line ≡ codes "signed " ++ (decimal ((length out - length bytes) / 42) ++ codes "\n")
-      → IsCopyWork joined (joined_sealed key start) (codes "signed ") target bytes (one_file target out line)
-  sealed_work target line copies is = record {
-    out = out;
-    copies = copies;
-    work_is = ap (one_file target out)
-        (is ∙ ap (λ (n : ℕ). codes "signed " ++ (decimal n ++ codes "\n")) (seals_count _ _ _ (sealed_longer copies)));
-  }
-
-  pub bare_work : (target line : List ℕ) → Copies (joined_sealed key start) joined bytes out
-      → line ≡ codes "verified " ++ (decimal ((length bytes - length out) / 42) ++ codes "\n")
-      → IsCopyWork (joined_sealed key start) joined (codes "verified ") target bytes (one_file target out line)
-  bare_work target line copies is = record {
-    out = out;
-    copies = copies;
-    work_is = ap (one_file target out)
-        (is ∙ ap (λ (n : ℕ). codes "verified " ++ (decimal n ++ codes "\n")) (seals_count _ _ _ (bare_shorter copies)));
-  }
+-- the line counts what was copied
+pub copied_work : (from to : List MessageParts → List ℕ) (word target bytes out line : List ℕ) (count : ℕ) (copies : Copies from to bytes out)
+    → count ≡ length copies.messages → line ≡ at_text word count → IsCopyWork from to word target bytes (one_file target out line)
+copied_work from to word target bytes out line count copies many is =
+    record { out = out; copies = copies; work_is = ap (one_file target out) (is ∙ ap (at_text word) many) }
 
 -- ---- keys
 

@@ -1,6 +1,6 @@
 //! The command `decode`: the messages of a file, a line for each.
 
-ghost use Rattle.cmd_steps.specs.Words.{EndsAs, Judges, decode as decode_command, decode_judged, does, only_said, plain_end, seen_as};
+ghost use Rattle.cmd_steps.specs.Words.{EndsAs, Judges, decode as decode_command, decoded_text, does, messages_judged, only_said, plain_end, seen_as};
 
 use cmd_files::{MAX_MESSAGES_BYTES, Refusal, Stop, read_file};
 use ids_frame::{BadMessage, decode};
@@ -24,7 +24,7 @@ pub fn decode_file<'a, H: Shelf>(
 
 /// A line for each message of a file. Each message is judged and printed before the next.
 fn lines_of<'a>(alloc: Global, bytes: &[u8]) -> Result<Vec<u8>, Stop<&'a str>>
-    ensures { Judges (decode_judged bytes.now) (seen_as (λ text. does (only_said text.items)) result) }
+    ensures { Judges (messages_judged decoded_text bytes.now) (seen_as (λ text. does (only_said text.items)) result) }
 {
     let mut lines = Vec::new(alloc);
     let mut rest = bytes;

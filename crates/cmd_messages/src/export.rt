@@ -1,6 +1,7 @@
 //! The command `export`: the messages of a file, for other programs.
 
-ghost use Rattle.cmd_steps.specs.Words.{EndsAs, Judges, does, export_command, export_judged, exported_of, only_said, plain_end, seen_as};
+ghost use Rattle.cmd_steps.specs.Words.{EndsAs, Judges, does, export_command, exported_of, messages_judged, only_said, plain_end, seen_as};
+ghost use Rattle.message_export.specs.Exported.{exported};
 
 use cmd_files::{MAX_EXPORT_BYTES, Refusal, Stop, read_file};
 use cmd_words::ExportNames;
@@ -24,7 +25,7 @@ pub fn export_file<'a, H: Shelf>(
 
 /// The messages of a file in this format.
 fn text_of<'a>(alloc: Global, format: Format, bytes: &[u8]) -> Result<Vec<u8>, Stop<&'a str>>
-    ensures { Judges (export_judged format bytes.now) (seen_as (λ text. does (only_said text.items)) result) }
+    ensures { Judges (messages_judged (exported format) bytes.now) (seen_as (λ text. does (only_said text.items)) result) }
 {
     match export(alloc, format, bytes) {
         Ok(text) => Ok(text),

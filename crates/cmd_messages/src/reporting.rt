@@ -1,7 +1,7 @@
 //! The command `report`: the messages of several managers, in one file.
 
 ghost use Rattle.std.specs.Prelude.{◌≡◌, ◌≤◌};
-ghost use Rattle.cmd_steps.specs.Words.{CanReport, EndsAs, IfOk, IsTrue, Judges, Reads, [], clashes, false, finished_end, is_of, length, list_any, map, messages_read, report as report_command, report_files_of, report_text, seen_as, source_found, source_in, sources_in, string_bytes, sum_by};
+ghost use Rattle.cmd_steps.specs.Words.{BadSource, CanReport, EndsAs, IfOk, IsTrue, Judges, Reads, [], clashes, false, finished_end, is_of, length, list_any, map, messages_read, report as report_command, report_files_of, report_text, if_found, seen_as, source_in, sources_in, string_bytes, sum_by};
 ghost use Rattle.ids_reporter.specs.Sources.{AreApart, AreSmall, instance_of};
 ghost use Rattle.cmd_messages.specs.Reported.{Reported as HasReported};
 
@@ -86,7 +86,7 @@ fn read_source<'a, H: Shelf>(
 
 /// The messages of the file of this name.
 fn source_of<'a>(alloc: Global, name: &'a str, bytes: Vec<u8>) -> Result<Source, Stop<&'a str>>
-    ensures judges { Judges (source_found name.now (messages_read bytes.items)) (seen_as (λ source. source) result) }
+    ensures judges { Judges (if_found (BadSource name.now) (messages_read bytes.items)) (seen_as (λ source. source) result) }
     ensures few { IfOk result (λ source. length source ≤ length bytes.items) }
 {
     match Source::read(alloc, bytes) {

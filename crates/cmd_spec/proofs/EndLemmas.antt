@@ -1,5 +1,5 @@
 -- How a command ends, by how its input files were read and its files written.
-use Rattle.cmd_spec.proofs.Names.{AreWritten, Bor, CannotRead, CannotWrite, Command, ConfigFault, Does, EndsAs, Err, Failed, Files, Global, IsNoneOf, IsTrue, KeepsConfig, List, MemoryRefused, NoMemory, None, Ok, OnDisk, OneFails, Option, PartWritten, Parts, Reads, Refusal, Refused, Refuses, Result, SameBut, Shelved, Some, StandUpTo-before, Stop, StopsFor, Task, Vec, WasDone, Work, WriteFault, Writes, ap, bytes_of, cases_Bool, config_found, configuration, gives, if_read, inl, inr, judge, length, migrate, migrates, names_of, nat_lt, over, plain_end, plain_stop, reading_of, refl, stop_of_write, subst, sym, written_by, ℕ, ◌>>=◌, ◌∙◌, ◌≡◌}
+use Rattle.cmd_spec.proofs.Names.{AreWritten, BadConfig, Bor, CannotRead, CannotWrite, Command, ConfigFault, Does, EndsAs, Err, Failed, Files, Global, IsNoneOf, IsTrue, KeepsConfig, List, MemoryRefused, NoMemory, None, Ok, OnDisk, OneFails, Option, PartWritten, Parts, Reads, Refusal, Refused, Refuses, Result, SameBut, Shelved, Some, StandUpTo-before, Stop, StopsFor, Task, Vec, WasDone, Work, WriteFault, Writes, ap, bytes_of, cases_Bool, configuration, gives, if_found, if_read, inl, inr, judge, length, migrate, migrates, names_of, nat_lt, over, plain_end, plain_stop, reading_of, refl, stop_of_write, subst, sym, written_by, ℕ, ◌>>=◌, ◌∙◌, ◌≡◌}
 use Rattle.std.specs.Prelude.{option_map, ⊤}
 use Rattle.cmd_files.proofs.ExitLemmas.{left_with}
 use Rattle.cmd_files.proofs.ReadingLemmas.{comes_over, read_over}
@@ -10,7 +10,7 @@ use Rattle.cmd_spec.proofs.MayLemmas.{MayEnd, all_end, may_end}
 
 module _ (target source : List ℕ) (old : Files) (task : Task) where
   abbrev judged_as : Result Parts ConfigFault → Result Task (Stop (List ℕ))
-  judged_as found = over (config_found found >>= λ config. gives (migrates target config)) old
+  judged_as found = over (if_found BadConfig found >>= λ config. gives (migrates target config)) old
 
   configured : (found : Result Parts ConfigFault) → judged_as found ≡ Ok task → (config : Parts) × (migrates target config ≡ task) × (found ≡ Ok config)
   configured (Ok config) is = (config, cc, refl)

@@ -1,5 +1,5 @@
 -- How the reading of each command may end.
-use Rattle.cmd_spec.proofs.Names.{AskedFor, BadConfig, BadJournal, BadLine, BadMessage, BadSource, CannotRead, Comes, Command, ConfigFault, Contains, EmptyKey, Err, Instance, KeyedFiles, List, MayRefuse, MessageParts, Ok, PairFiles, Parts, Reading, Recorded, Recording, Refusal, Refused, Refuses, Result, Round, Shelved, SizedFiles, Some, Stop, Task, TooLong, [], arith, asked_in, bundle, bytes_eq, cases_Bool, check, check_judged, config_found, config_in, configuration, decode, file, fold, folded_in, gen, gives, inl, inr, journal_judged, keep, key_judged, keyed_in, messages_judged, messages_read, migrate, read_by, reading_of, reads, recall, recorded_in, refl, refuses, replay, replays, report, reports, rounds_in, sign, subst, sym, told_in, trace_in, trace_judged, unbundle, verify, ℕ, ⊤, ◌++◌, ◌>>=◌, ◌∷◌, ◌≡◌}
+use Rattle.cmd_spec.proofs.Names.{AskedFor, BadConfig, BadJournal, BadMessage, BadMessages, BadSource, CannotRead, Comes, Command, ConfigFault, Contains, EmptyKey, Err, Instance, KeyedFiles, List, MayRefuse, MessageParts, Ok, PairFiles, Parts, Reading, Recorded, Recording, Refusal, Refused, Refuses, Result, Shelved, SizedFiles, Some, Stop, Task, TooLong, [], arith, bad_journal, bad_trace, bundle, bytes_eq, cases_Bool, check, check_judged, config_in, configuration, decode, decoded_text, does, file, fold, folded_in, gen, gives, if_found, inl, inr, keep, key_judged, keyed_in, messages_judged, messages_read, migrate, read_by, reading_of, reads, recall, recorded_in, refl, refuses, replay, report, sign, subst, sym, trace_in, unbundle, verify, ℕ, ⊤, ◌++◌, ◌>>=◌, ◌∷◌, ◌≡◌}
 use Rattle.std.proofs.Common.{Bool, true, false, suc, ◌⊎◌}
 use Rattle.std.proofs.lemmas.Option.{same_Some, none-some}
 use Rattle.frame_auth.specs.declared.fault.SealFault.{SealFault}
@@ -9,9 +9,10 @@ use Rattle.ids_bundle.specs.declared.fault.UnpackFault.{UnpackFault}
 use Rattle.ids_reporter.specs.Sources.{Sources, instance_of}
 use Rattle.cmd_spec.specs.Copying.{seal_refusal, unseal_refusal}
 use Rattle.cmd_spec.specs.Packing.{pack_refusal, unpack_refusal}
-use Rattle.cmd_spec.specs.Report.{clashes, source_found, source_in, sources_in, unless_clash}
+use Rattle.cmd_spec.specs.Judge.{only_said}
+use Rattle.cmd_spec.specs.Report.{clashes, sources_in, unless_clash}
 use Rattle.cmd_words.specs.Command.{explain, export}
-use Rattle.text_spec.specs.JournalText.{Told}
+use Rattle.message_export.specs.Exported.{exported}
 use Rattle.frame_auth.specs.declared.fault.SealFault.TheVariants as sealing
 use Rattle.frame_auth.specs.declared.fault.UnsealFault.TheVariants as unsealing
 use Rattle.ids_bundle.specs.declared.fault.PackFault.TheVariants as packing
@@ -38,27 +39,12 @@ all_end P (reads limit name next) answer old all (inl unread) =
     elim unread [ inl is ↦ subst P (sym is) all.0 | inr is ↦ subst P (sym is.0) all.1 ]
 all_end P (reads limit name next) answer old all (inr found) = all_end P (next found.0) answer old (all.2 found.0) found.2
 
--- the same of a first part, after which there is more
-abbrev Then : {A B : Type 0} → (Answer B → Type 0) → (A → Reading B) → Answer A → Type 0
-Then P next (Ok x) = AllEnd P (next x)
-Then P next (Err reason) = P (Err reason)
-
-all_then : {A B : Type 0} (P : Answer B → Type 0) (first : Reading A) (next : A → Reading B) → AllEnd (Then P next) first
-    → AllEnd P (first >>= next)
-all_then P (gives x) next all = all
-all_then P (refuses why) next all = all
-all_then P (reads limit name go) next all = (all.0, all.1, λ bytes. all_then P (go bytes) next (all.2 bytes))
-
--- ---- the stages of reading
-
-module _ (Q : Answer Parts → Type 0) (name : List ℕ) (unread : Q (Err (CannotRead name))) (long : Q (Err (Refused (TooLong name))))
-    (bad : (fault : ConfigFault) → Q (Err (Refused (BadConfig fault)))) (ok : (config : Parts) → Q (Ok config)) where
-  config_all : AllEnd Q (config_in name)
-  config_all = (unread, long, λ text. go (configuration text))
-    where
-      go : (found : Result Parts ConfigFault) → AllEnd Q (config_found found)
-      go (Ok config) = ok config
-      go (Err fault) = bad fault
+-- what was found in what was read, or its refusal, where there is more to read
+found_all : {A B F : Type 0} (P : Answer B → Type 0) (more : Reading A → Reading B) (why : F → Refusal (List ℕ))
+    → ((fault : F) → AllEnd P (more (refuses (why fault)))) → ((x : A) → AllEnd P (more (gives x))) → (found : Result A F)
+    → AllEnd P (more (if_found why found))
+found_all P more why bad ok (Ok x) = ok x
+found_all P more why bad ok (Err fault) = bad fault
 
 -- what a command may end with that reads so; where it came to a task, what that may be refused for
 abbrev pub MayEnd : Command → Answer Task → Type 0
@@ -67,39 +53,82 @@ MayEnd command (Err (CannotRead name)) = Contains (read_by command) name
 MayEnd command (Err (Refused why)) = MayRefuse command why
 MayEnd command (Err other) = ⊤
 
+-- ---- the stages of reading
+
 module _ (command : Command) (long : (name : List ℕ) → Contains (read_by command) name → MayRefuse command (TooLong name)) where
   module _ (bad : (fault : ConfigFault) → MayRefuse command (BadConfig fault)) where
     config_may : (name : List ℕ) → Contains (read_by command) name → (next : Parts → Reading Task)
         → ((config : Parts) → AllEnd (MayEnd command) (next config)) → AllEnd (MayEnd command) (config_in name >>= next)
     config_may name is next then =
-        all_then (MayEnd command) (config_in name) next (config_all (Then (MayEnd command) next) name is (long name is) bad then)
+        (is, long name is, λ text. found_all (MayEnd command) (λ (own : Reading Parts). own >>= next) BadConfig bad then (configuration text))
+
+    -- a configuration, and what a second file holds under it
+    under_may : {A B F : Type 0} (why : F → Refusal (List ℕ)) (judged : Parts → List ℕ → Result A F) (both : Parts → A → B)
+        → ((fault : F) → MayRefuse command (why fault)) → (config second : List ℕ) → Contains (read_by command) config
+        → Contains (read_by command) second → (next : B → Reading Task) → ((x : B) → AllEnd (MayEnd command) (next x))
+        → AllEnd (MayEnd command)
+        ((config_in config >>= λ parts. file 16777216 second >>= λ text. if_found why (judged parts text) >>= λ x. gives (both parts x)) >>= next)
+    under_may {A} {B} why judged both bad_line config second first is next then = (
+      first,
+      long config first,
+      λ bytes. found_all (MayEnd command)
+          (λ (own : Reading Parts). (own >>= λ parts. file 16777216 second >>= λ text. if_found why (judged parts text) >>= λ x. gives (both parts x)) >>= next)
+          BadConfig bad
+          (λ parts. (
+            is,
+            long second is,
+            λ text. found_all (MayEnd command) (λ (own : Reading A). (own >>= λ x. gives (both parts x)) >>= next) why bad_line
+                (λ x. then (both parts x)) (judged parts text),
+          ))
+          (configuration bytes),
+    )
 
     recorded_may : ((line number : ℕ) → MayRefuse command (BadJournal line number)) → (names : Recording)
         → Contains (read_by command) names.config → Contains (read_by command) names.journal → (next : Recorded → Reading Task)
         → ((recorded : Recorded) → AllEnd (MayEnd command) (next recorded)) → AllEnd (MayEnd command) (recorded_in names >>= next)
-    recorded_may bad_line names config journal next then =
-        all_then (MayEnd command) (recorded_in names) next
-        (all_then (Then (MayEnd command) next) (config_in names.config) (told_in names.journal)
-        (config_all (Then (Then (MayEnd command) next) (told_in names.journal)) names.config config (long names.config config) bad stage))
-      where
-        go : (config : Parts) (found : Result Told BadLine)
-            → AllEnd (Then (MayEnd command) next) (journal_judged found >>= λ told. gives (record { config = config; told = told }))
-        go config (Ok told) = then (record { config = config; told = told })
-        go config (Err bad) = bad_line bad.line bad.fault
-
-        stage : (config : Parts) → AllEnd (Then (MayEnd command) next) (told_in names.journal config)
-        stage config = (journal, long names.journal journal, λ text. go config (folded_in config text))
+    recorded_may bad_line names =
+        under_may {B = Recorded} bad_journal folded_in (λ config told. record { config = config; told = told }) (λ bad. bad_line bad.line bad.fault)
+        names.config names.journal
 
   keyed_may : MayRefuse command EmptyKey → (limit : ℕ) (names : KeyedFiles) → Contains (read_by command) names.key
       → Contains (read_by command) names.files.source → (next : Judge.Keyed → Reading Task)
       → ((keyed : Judge.Keyed) → AllEnd (MayEnd command) (next keyed)) → AllEnd (MayEnd command) (keyed_in limit names >>= next)
-  keyed_may empty limit names key source next then =
-      all_then (MayEnd command) (keyed_in limit names) next (key, long names.key key, go)
+  keyed_may empty limit names key source next then = (key, long names.key key, go)
     where
-      go : (text : List ℕ) → AllEnd (Then (MayEnd command) next)
-          (key_judged text >>= λ own. file limit names.files.source >>= λ bytes. gives (record { key = own; bytes = bytes }))
+      go : (text : List ℕ) → AllEnd (MayEnd command)
+          ((key_judged text >>= λ own. file limit names.files.source >>= λ bytes. gives (record { key = own; bytes = bytes })) >>= next)
       go [] = empty
       go (byte ∷ bytes) = (source, long names.files.source source, λ messages. then _)
+
+  -- a file of messages whose text is put
+  printed_may : ((bad : BadMessage) → MayRefuse command (BadMessages bad)) → (limit : ℕ) (name : List ℕ) → Contains (read_by command) name
+      → (text : List MessageParts → List ℕ) → AllEnd (MayEnd command) (file limit name >>= messages_judged text)
+  printed_may bad limit name is text = (
+    is,
+    long name is,
+    λ bytes. found_all (MayEnd command) (λ (own : Reading (List MessageParts)). own >>= λ messages. gives (does (only_said (text messages))))
+        BadMessages bad (λ messages refusal none. absurd none) (messages_read bytes),
+  )
+
+  -- the sources of a report, one after the other
+  sources_may : ((name : List ℕ) (bad : BadMessage) → Contains (read_by command) name → MayRefuse command (BadSource name bad))
+      → ((name : List ℕ) → Contains (read_by command) name → MayRefuse command (Instance name))
+      → (next : Sources → Reading Task) → ((sources : Sources) → AllEnd (MayEnd command) (next sources)) → (names : List (List ℕ))
+      → ((name : List ℕ) → Contains names name → Contains (read_by command) name) → (sources : Sources)
+      → AllEnd (MayEnd command) (sources_in sources names >>= next)
+  sources_may bad clash next then [] are sources = then sources
+  sources_may bad clash next then (name ∷ names) are sources =
+      let is = are name (0, omega arith, refl) in
+      let rest = λ (messages : List MessageParts). sources_in (sources ++ messages ∷ []) names in (
+        is,
+        long name is,
+        λ bytes. found_all (MayEnd command)
+            (λ (own : Reading (List MessageParts)). ((own >>= λ messages. unless_clash name messages (clashes sources (instance_of messages))) >>= rest) >>= next)
+            (BadSource name) (λ fault. bad name fault is)
+            (λ messages. elim (clashes sources (instance_of messages)) as (λ (b : Bool). AllEnd (MayEnd command) ((unless_clash name messages b >>= rest) >>= next))
+            [ true ↦ clash name is | false ↦ sources_may bad clash next then names (λ n at. are n (suc at.0, omega (arith, at.1), at.2)) (sources ++ messages ∷ []) ])
+            (messages_read bytes),
+      )
 
 -- ---- the refusals of tasks
 
@@ -130,39 +159,6 @@ may_unpack names unpacking.NoMemory refusal is = absurd (none-some refusal is)
 
 -- ---- the commands
 
--- the sources of a report, one after the other
-sources_all : (P : Answer Sources → Type 0) (names : List (List ℕ)) → ((name : List ℕ) → Contains names name → P (Err (CannotRead name)))
-    → ((name : List ℕ) → Contains names name → P (Err (Refused (TooLong name))))
-    → ((name : List ℕ) (bad : BadMessage) → Contains names name → P (Err (Refused (BadSource name bad))))
-    → ((name : List ℕ) → Contains names name → P (Err (Refused (Instance name))))
-    → ((sources : Sources) → P (Ok sources)) → (sources : Sources) → AllEnd P (sources_in sources names)
-sources_all P [] unread long bad clash ok sources = ok sources
-sources_all P (name ∷ names) unread long bad clash ok sources =
-    all_then P (source_in sources name) (λ messages. sources_in (sources ++ messages ∷ []) names) (
-      unread name here,
-      long name here,
-      λ bytes. go (λ own.
-          sources_all P names (λ n is. unread n (more n is)) (λ n is. long n (more n is)) (λ n b is. bad n b (more n is))
-          (λ n is. clash n (more n is)) ok (sources ++ own ∷ [])) (messages_read bytes),
-    )
-  where
-    here : Contains (name ∷ names) name
-    here = (0, omega arith, refl)
-
-    more : (other : List ℕ) → Contains names other → Contains (name ∷ names) other
-    more other is = (suc is.0, omega (arith, is.1), is.2)
-
-    rest : ((own : List MessageParts) → AllEnd P (sources_in (sources ++ own ∷ []) names)) → (messages : List MessageParts) (clashing : Bool)
-        → AllEnd (Then P (λ own. sources_in (sources ++ own ∷ []) names)) (unless_clash name messages clashing)
-    rest again messages true = clash name here
-    rest again messages false = again messages
-
-    go : ((own : List MessageParts) → AllEnd P (sources_in (sources ++ own ∷ []) names)) → (found : Result (List MessageParts) BadMessage)
-        → AllEnd (Then P (λ own. sources_in (sources ++ own ∷ []) names))
-        (source_found name found >>= λ messages. unless_clash name messages (clashes sources (instance_of messages)))
-    go again (Ok messages) = rest again messages (clashes sources (instance_of messages))
-    go again (Err fault) = bad name fault here
-
 pub may_end : (command : Command) → AllEnd (MayEnd command) (reading_of command)
 unfolding Judge.reading_of
 may_end (fold files) =
@@ -179,32 +175,16 @@ may_end (check files) =
     go bytes sent (inl same) = rw same (λ refusal none. absurd none)
     go bytes sent (inr other) = rw other (record { met = refl; names = tt })
 may_end (decode name) =
-    ((0, omega arith, refl), record { met = refl; names = (0, omega arith, refl) }, λ bytes. go (messages_read bytes))
-  where
-    go : (found : Result (List MessageParts) BadMessage)
-        → AllEnd (MayEnd (decode name)) (messages_judged found >>= λ messages. gives (Judge.does (Judge.decode_work messages)))
-    go (Ok messages) = λ refusal none. absurd none
-    go (Err bad) = record { met = refl; names = tt }
+    printed_may (decode name) (λ name is. record { met = refl; names = is }) (λ bad. record { met = refl; names = tt }) 67108864 name
+    (0, omega arith, refl) decoded_text
 may_end (gen wanted) = λ refusal none. absurd none
 may_end (migrate files) =
     config_may (migrate files) (λ name is. record { met = refl; names = is }) (λ fault. record { met = refl; names = tt }) files.source
     (0, omega arith, refl) _ (λ config refusal none. absurd none)
 may_end (replay files) =
-    let next = λ (asked : AskedFor). gives (replays files asked.config asked.rounds) in
-    all_then (MayEnd (replay files)) (asked_in files) next
-    (all_then (Then (MayEnd (replay files)) next) (config_in files.config) (rounds_in files.trace)
-    (config_all (Then (Then (MayEnd (replay files)) next) (rounds_in files.trace)) files.config (0, omega arith, refl)
-    (record { met = refl; names = (0, omega arith, refl) }) (λ fault. record { met = refl; names = tt }) stage))
-  where
-    go : (config : Parts) (found : Result (List Round) BadLine)
-        → AllEnd (Then (MayEnd (replay files)) (λ (asked : AskedFor). gives (replays files asked.config asked.rounds)))
-        (trace_judged found >>= λ rounds. gives (record { config = config; rounds = rounds }))
-    go config (Ok rounds) = λ refusal none. absurd none
-    go config (Err bad) = record { met = refl; names = tt }
-
-    stage : (config : Parts) → AllEnd (Then (MayEnd (replay files)) (λ (asked : AskedFor). gives (replays files asked.config asked.rounds)))
-        (rounds_in files.trace config)
-    stage config = ((1, omega arith, refl), record { met = refl; names = (1, omega arith, refl) }, λ text. go config (trace_in config text))
+    under_may (replay files) (λ name is. record { met = refl; names = is }) (λ fault. record { met = refl; names = tt }) {B = AskedFor} bad_trace
+    trace_in (λ config rounds. record { config = config; rounds = rounds }) (λ bad. record { met = refl; names = tt }) files.config files.trace
+    (0, omega arith, refl) (1, omega arith, refl) _ (λ asked refusal none. absurd none)
 may_end (sign names) =
     keyed_may (sign names) (λ name is. record { met = refl; names = is }) (record { met = refl; names = tt }) _ names (0, omega arith, refl)
     (1, omega arith, refl) _ (λ keyed refusal refuses. may_seal names refuses.0 refusal refuses.2)
@@ -222,11 +202,8 @@ may_end (unbundle names) = (
   λ bytes refusal refuses. may_unpack names refuses.0 refusal refuses.2,
 )
 may_end (report files) =
-    let next = λ (sources : Sources). gives (reports files.target sources) in
-    all_then (MayEnd (report files)) (sources_in [] files.sources) next
-    (sources_all (Then (MayEnd (report files)) next) files.sources (λ name is. is) (λ name is. record { met = refl; names = is })
-    (λ name bad is. record { met = refl; names = is }) (λ name is. record { met = refl; names = is })
-    (λ sources refusal none. absurd none) [])
+    sources_may (report files) (λ name is. record { met = refl; names = is }) (λ name bad is. record { met = refl; names = is })
+    (λ name is. record { met = refl; names = is }) _ (λ sources refusal none. absurd none) files.sources (λ name is. is) []
 may_end (keep names) =
     recorded_may (keep names) (λ name is. record { met = refl; names = is }) (λ fault. record { met = refl; names = tt })
     (λ line number. record { met = refl; names = tt }) names.from (0, omega arith, refl) (1, omega arith, refl) _
@@ -237,9 +214,5 @@ may_end (explain names) =
     (λ line number. record { met = refl; names = tt }) names (0, omega arith, refl) (1, omega arith, refl) _
     (λ recorded refusal none. absurd none)
 may_end (export names) =
-    ((0, omega arith, refl), record { met = refl; names = (0, omega arith, refl) }, λ bytes. go (messages_read bytes))
-  where
-    go : (found : Result (List MessageParts) BadMessage)
-        → AllEnd (MayEnd (export names)) (messages_judged found >>= λ messages. gives (Judge.does (Judge.export_work names.format messages)))
-    go (Ok messages) = λ refusal none. absurd none
-    go (Err bad) = record { met = refl; names = tt }
+    printed_may (export names) (λ name is. record { met = refl; names = is }) (λ bad. record { met = refl; names = tt }) 16777216 names.messages
+    (0, omega arith, refl) (exported names.format)

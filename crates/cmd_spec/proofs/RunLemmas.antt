@@ -3,7 +3,7 @@ use Rattle.cmd_spec.proofs.Names.{BadConfig, BadCounter, BadJournal, BadMessages
 use Rattle.cmd_files.specs.Texts.{disk_status}
 use Rattle.cmd_files.specs.declared.stop.DiskStop.{DiskStop}
 use Rattle.cmd_spec.specs.Keeping.{MayStopOnDisk}
-use Rattle.cmd_spec.proofs.TaskLemmas.{done_or_refused, one_refusal}
+use Rattle.cmd_spec.proofs.TaskLemmas.{one_end}
 use Rattle.cmd_files.specs.declared.stop.DiskStop.TheVariants as disk
 
 module _ (command : Command) (status : ℕ) (old new : Shelved) (before after : Heard) where
@@ -117,13 +117,13 @@ module _ (command : Command) (status : ℕ) (old new : Shelved) (before after : 
         not_done : (other : Task) (work : Work) → judge command old.files ≡ Ok other → Does other work → ⊥
         not_done other work judged is =
             let same : other ≡ task = cc (sym judged, serves) in
-            done_or_refused task work refusal bytes (subst (λ (t : Task). Does t work) same is) refuses
+            (one_end task refusal bytes refuses).1 work (subst (λ (t : Task). Does t work) same is)
 
         was_told : (other : Refusal (List ℕ)) → Deserves command old.files other → other ≡ refusal
         was_told other (inl judged) = absurd (cc (judged, serves))
         was_told other (inr cannot) =
             let same : cannot.task ≡ task = cc (sym cannot.judged, serves) in
-            one_refusal task other refusal bytes (subst (λ (t : Task). Refuses t other) same cannot.refuses) refuses
+            (one_end task refusal bytes refuses).0 other (subst (λ (t : Task). Refuses t other) same cannot.refuses)
 
         pub unfit_ends : (answer : Result (List ℕ) (Stop (List ℕ))) → EndsAs command answer old new
             → Puts (answer_text answer) (answer_status answer) status before after
@@ -141,38 +141,45 @@ module _ (command : Command) (status : ℕ) (old new : Shelved) (before after : 
             let part = ends.part told in absurd (not_done part.task part.work part.judged part.is_work)
         unfit_ends (Err NoMemory) ends puts = starved _ (put_ends 8 _ puts)
 
--- a status that is not 0 stays none, however its text was put
-never_done : (wanted : ℕ) (put : Result ⊤ WriteFault) → wanted ≢ 0 → 0 ≢ put_status wanted put
-never_done wanted (Ok done) some is = some (sym is)
-never_done wanted (Err Failed) some is = absurd cc
-never_done wanted (Err MemoryRefused) some is = absurd cc
+-- a run has no status but its own, that of its put and that of want of memory
+pub never_put : (other wanted : ℕ) (put : Result ⊤ WriteFault) → other ≢ 7 → other ≢ 8 → wanted ≢ other → other ≢ put_status wanted put
+never_put other wanted (Ok done) seven eight own is = own (sym is)
+never_put other wanted (Err Failed) seven eight own is = seven is
+never_put other wanted (Err MemoryRefused) seven eight own is = eight is
 
--- no refusal has status 0
-pub refusal_some : (refusal : Refusal (List ℕ)) → (row_of refusal).status ≢ 0
-refusal_some (TooLong name) is = absurd cc
-refusal_some (BadConfig fault) is = absurd cc
-refusal_some (BadJournal line number) is = absurd cc
-refusal_some (BadTrace line number) is = absurd cc
-refusal_some (Differ at) is = absurd cc
-refusal_some (BadMessages bad) is = absurd cc
-refusal_some (BadSource name bad) is = absurd cc
-refusal_some (Instance name) is = absurd cc
-refusal_some EmptyKey is = absurd cc
-refusal_some (Signed at) is = absurd cc
-refusal_some (BadTag at) is = absurd cc
-refusal_some (BadCounter at) is = absurd cc
-refusal_some (TooLarge at) is = absurd cc
-refusal_some (BadUnit at) is = absurd cc
+-- a status that is neither 0 nor that of a failed read or write
+abbrev pub IsOwn : ℕ → Type 0
+IsOwn status = (status ≢ 0) × (status ≢ 3) × (status ≢ 7)
 
--- nor has a stop on a disk
-pub disk_some : (stop : DiskStop) → disk_status stop ≢ 0
-disk_some disk.Failed is = absurd cc
-disk_some (disk.FailedAfter saves) is = absurd cc
-disk_some (disk.Damaged slot) is = absurd cc
-disk_some (disk.WornAfter saves) is = absurd cc
+-- each refusal has such a one
+pub refusal_own : (refusal : Refusal (List ℕ)) → IsOwn (row_of refusal).status
+refusal_own (TooLong name) = (λ is. absurd cc, λ is. absurd cc, λ is. absurd cc)
+refusal_own (BadConfig fault) = (λ is. absurd cc, λ is. absurd cc, λ is. absurd cc)
+refusal_own (BadJournal line number) = (λ is. absurd cc, λ is. absurd cc, λ is. absurd cc)
+refusal_own (BadTrace line number) = (λ is. absurd cc, λ is. absurd cc, λ is. absurd cc)
+refusal_own (Differ at) = (λ is. absurd cc, λ is. absurd cc, λ is. absurd cc)
+refusal_own (BadMessages bad) = (λ is. absurd cc, λ is. absurd cc, λ is. absurd cc)
+refusal_own (BadSource name bad) = (λ is. absurd cc, λ is. absurd cc, λ is. absurd cc)
+refusal_own (Instance name) = (λ is. absurd cc, λ is. absurd cc, λ is. absurd cc)
+refusal_own EmptyKey = (λ is. absurd cc, λ is. absurd cc, λ is. absurd cc)
+refusal_own (Signed at) = (λ is. absurd cc, λ is. absurd cc, λ is. absurd cc)
+refusal_own (BadTag at) = (λ is. absurd cc, λ is. absurd cc, λ is. absurd cc)
+refusal_own (BadCounter at) = (λ is. absurd cc, λ is. absurd cc, λ is. absurd cc)
+refusal_own (TooLarge at) = (λ is. absurd cc, λ is. absurd cc, λ is. absurd cc)
+refusal_own (BadUnit at) = (λ is. absurd cc, λ is. absurd cc, λ is. absurd cc)
+
+-- and each stop on a disk
+pub disk_own : (stop : DiskStop) → IsOwn (disk_status stop)
+disk_own disk.Failed = (λ is. absurd cc, λ is. absurd cc, λ is. absurd cc)
+disk_own (disk.FailedAfter saves) = (λ is. absurd cc, λ is. absurd cc, λ is. absurd cc)
+disk_own (disk.Damaged slot) = (λ is. absurd cc, λ is. absurd cc, λ is. absurd cc)
+disk_own (disk.WornAfter saves) = (λ is. absurd cc, λ is. absurd cc, λ is. absurd cc)
 
 module _ (command : Command) (old new : Shelved) (before after : Heard) (told : IsTrue old.tells) (task : Task)
     (serves : judge command old.files ≡ Ok task) where
+  zero : {text : List ℕ} (wanted : ℕ) → wanted ≢ 0 → Puts text wanted 0 before after → ⊥
+  zero wanted some puts = never_put 0 wanted puts.put (omega arith) (omega arith) some puts.is
+
   -- a run that ended with 0 did work that its files ask for
   pub did_work : (answer : Result (List ℕ) (Stop (List ℕ))) → EndsAs command answer old new
       → Puts (answer_text answer) (answer_status answer) 0 before after → DidWork task new
@@ -180,12 +187,11 @@ module _ (command : Command) (old new : Shelved) (before after : Heard) (told : 
       let all = ends.written told in
       let same : all.task ≡ task = cc (sym all.judged, serves) in
       record { work = all.work; is_work = subst (λ (t : Task). Does t all.work) same all.is_work; written = all.written }
-  did_work (Err (CannotRead name)) ends puts = absurd (never_done 3 puts.put (omega arith) puts.is)
-  did_work (Err (Refused refusal)) ends puts =
-      absurd (never_done (row_of refusal).status puts.put (refusal_some refusal) puts.is)
-  did_work (Err (OnDisk stop)) ends puts = absurd (never_done (disk_status stop) puts.put (disk_some stop) puts.is)
-  did_work (Err CannotWrite) ends puts = absurd (never_done 7 puts.put (omega arith) puts.is)
-  did_work (Err NoMemory) ends puts = absurd (never_done 8 puts.put (omega arith) puts.is)
+  did_work (Err (CannotRead name)) ends puts = absurd (zero 3 (omega arith) puts)
+  did_work (Err (Refused refusal)) ends puts = absurd (zero (row_of refusal).status (refusal_own refusal).0 puts)
+  did_work (Err (OnDisk stop)) ends puts = absurd (zero (disk_status stop) (disk_own stop).0 puts)
+  did_work (Err CannotWrite) ends puts = absurd (zero 7 (omega arith) puts)
+  did_work (Err NoMemory) ends puts = absurd (zero 8 (omega arith) puts)
 
 -- ---- files that a run does not write
 

@@ -2,14 +2,13 @@
 -- in the order in which files are read and judged.
 -- Source: docs/COMMANDS.md, "Order of work".
 use Rattle.std.specs.Prelude.{if◌then◌else◌, ◌∷◌, ◌≡◌}
-use Rattle.cmd_spec.specs.Names.{BadConfig, BadJournal, BadLine, BadMessage, BadMessages, BadTrace, Command, ConfigFault, Differ, EmptyKey, Err, Files, FoldFiles, KeyedFiles, List, MessageParts, Ok, PackFault, Packs, Parts, Reading, Recording, Refusal, ReplayFiles, Result, Round, SealFault, Some, Sources, Stop, Told, Turn, UnpackFault, Unpacks, UnsealFault, Work, [], bundle, bytes_eq, check, codes, common_prefix_len, config_text, configuration, decode, decoded_text, explain, export, file, fold, gen, gives, joined, joined_sealed, keep, length, memory_text, messages_of, messages_read, migrate, nat_eq, over, recall, refuses, replay, report, rows_of, sign, trace_in, unbundle, verify, ℕ, ◌>>=◌}
+use Rattle.cmd_spec.specs.Names.{BadConfig, BadJournal, BadLine, BadMessages, BadTrace, Command, Differ, EmptyKey, Err, Files, FoldFiles, KeyedFiles, List, MessageParts, Ok, PackFault, Packs, Parts, Reading, Recording, Refusal, ReplayFiles, Result, Round, SealFault, Some, Sources, Stop, Told, Turn, UnpackFault, Unpacks, UnsealFault, Work, [], bundle, bytes_eq, check, codes, common_prefix_len, config_text, configuration, decode, decoded_text, explain, export, file, fold, gen, gives, if_found, joined, joined_sealed, keep, length, memory_text, messages_of, messages_read, migrate, nat_eq, over, recall, refuses, replay, report, rows_of, sign, trace_in, unbundle, verify, ℕ, ◌>>=◌}
 use Rattle.gen_options.specs.Given.{Wanted}
 use Rattle.gen_recording.specs.Generated.{config_for, trace_for, journal_for, line_for}
 use Rattle.chain_endings.specs.ExplainedText.{explained_text}
 use Rattle.frame_auth.specs.Faults.{GivesSealed, GivesUnsealed}
 use Rattle.frame_auth.specs.Tags.{filled}
 use Rattle.message_export.specs.Exported.{exported}
-use Rattle.message_export.specs.declared.exporting.Format.{Format}
 use Rattle.cmd_spec.specs.Copying.{IsCopyWork, one_file, seal_refusal, unseal_refusal}
 use Rattle.cmd_spec.specs.Keeping.{IsRecallWork, saved_text}
 use Rattle.cmd_spec.specs.Report.{IsReportWork, sources_in}
@@ -20,29 +19,16 @@ use Rattle.cmd_spec.specs.Replay.{IsReplayWork}
 
 -- ---- what they hold
 
--- a configuration
-abbrev pub config_found : Result Parts ConfigFault → Reading Parts
-config_found (Ok config) = gives config
-config_found (Err fault) = refuses (BadConfig fault)
-
--- that of a file
+-- the configuration of a file
 abbrev pub config_in : List ℕ → Reading Parts
-config_in name = file 1048576 name >>= λ text. config_found (configuration text)
+config_in name = file 1048576 name >>= λ text. if_found BadConfig (configuration text)
 
--- the turns and the losses of a journal
-abbrev pub journal_judged : Result Told BadLine → Reading Told
-journal_judged (Ok told) = gives told
-journal_judged (Err bad) = refuses (BadJournal bad.line bad.fault)
+-- the refusal of a journal for this line, and that of a trace
+abbrev pub bad_journal : BadLine → Refusal (List ℕ)
+bad_journal bad = BadJournal bad.line bad.fault
 
--- the rounds of a trace
-abbrev pub trace_judged : Result (List Round) BadLine → Reading (List Round)
-trace_judged (Ok rounds) = gives rounds
-trace_judged (Err bad) = refuses (BadTrace bad.line bad.fault)
-
--- the messages of a file
-abbrev pub messages_judged : Result (List MessageParts) BadMessage → Reading (List MessageParts)
-messages_judged (Ok messages) = gives messages
-messages_judged (Err bad) = refuses (BadMessages bad)
+abbrev pub bad_trace : BadLine → Refusal (List ℕ)
+bad_trace bad = BadTrace bad.line bad.fault
 
 -- a configuration, and what a journal under it tells
 pub record Recorded : Type 0 where
@@ -53,7 +39,7 @@ pub record Recorded : Type 0 where
 abbrev pub told_in : List ℕ → Parts → Reading Recorded
 told_in name config = do
   text ← file 16777216 name
-  told ← journal_judged (folded_in config text)
+  told ← if_found bad_journal (folded_in config text)
   gives (record { config = config; told = told })
 
 -- what the files of a recording hold
@@ -69,7 +55,7 @@ pub record AskedFor : Type 0 where
 abbrev pub rounds_in : List ℕ → Parts → Reading AskedFor
 rounds_in name config = do
   text ← file 16777216 name
-  rounds ← trace_judged (trace_in config text)
+  rounds ← if_found bad_trace (trace_in config text)
   gives (record { config = config; rounds = rounds })
 
 -- what the input files of a replay ask for
@@ -144,22 +130,10 @@ check_judged bytes sent =
     if bytes_eq bytes sent then gives (does (only_said (codes "same\n")))
     else refuses (Differ (common_prefix_len nat_eq bytes sent))
 
--- no file, and a line for each message
-abbrev pub decode_work : List MessageParts → Work
-decode_work messages = only_said (decoded_text messages)
-
--- that of these bytes, where they are messages
-abbrev pub decode_judged : List ℕ → Reading Task
-decode_judged bytes = messages_judged (messages_read bytes) >>= λ messages. gives (does (decode_work messages))
-
--- no file, and the messages in this format
-abbrev pub export_work : Format → List MessageParts → Work
-export_work format messages = only_said (exported format messages)
-
--- that of these bytes, where they are messages
-abbrev pub export_judged : Format → List ℕ → Reading Task
-export_judged format bytes =
-    messages_judged (messages_read bytes) >>= λ messages. gives (does (export_work format messages))
+-- no file, and this text of the messages that the bytes are, where they are some
+abbrev pub messages_judged : (List MessageParts → List ℕ) → List ℕ → Reading Task
+messages_judged text bytes =
+    if_found BadMessages (messages_read bytes) >>= λ messages. gives (does (only_said (text messages)))
 
 -- the three files that options give, and the line that tells of them
 abbrev pub gen_work : Wanted → Work
@@ -198,7 +172,7 @@ reading_of (check names) = do
   recorded ← recorded_in names.from
   bytes ← file 67108864 names.messages
   check_judged bytes (messages_of recorded.config recorded.told.turns)
-reading_of (decode name) = file 67108864 name >>= decode_judged
+reading_of (decode name) = file 67108864 name >>= messages_judged decoded_text
 reading_of (gen wanted) = gives (does (gen_work wanted))
 reading_of (migrate names) = do
   config ← config_in names.source
@@ -228,7 +202,7 @@ reading_of (recall names) = gives (recalls names.target)
 reading_of (explain names) = do
   recorded ← recorded_in names
   gives (does (only_said (explained_text recorded.config recorded.told)))
-reading_of (export names) = file 16777216 names.messages >>= export_judged names.format
+reading_of (export names) = file 16777216 names.messages >>= messages_judged (exported names.format)
 
 -- what a command has to do over these files, or why they do not serve
 abbrev pub judge : Command → Files → Result Task (Stop (List ℕ))

@@ -1,17 +1,12 @@
 -- The command `report`: what its input files hold, the file that it writes, and its text.
 use Rattle.std.specs.Prelude.{◌++◌, ◌==◌, ◌∷◌, ◌≡◌}
-use Rattle.cmd_spec.specs.Names.{BadMessage, BadSource, Bool, Err, Instance, List, MessageParts, Ok, Reading, Result, Sources, Work, [], codes, decimal, false, file, gives, instance_of, joined, length, list_any, messages_read, refuses, sum_by, true, ℕ, ◌>>=◌}
+use Rattle.cmd_spec.specs.Names.{BadSource, Bool, Instance, List, MessageParts, Reading, Sources, Work, [], codes, decimal, false, file, gives, if_found, instance_of, joined, length, list_any, messages_read, refuses, sum_by, true, ℕ, ◌>>=◌}
 use Rattle.ids_reporter.specs.Forwarding.{AreMerged}
 use Rattle.ids_reporter.specs.declared.index.Instance.{Instance as Managers}
 use Rattle.ids_reporter.specs.declared.index.Instance.TheVariants.{Empty, One, Mixed}
 use Rattle.cmd_spec.specs.Copying.{one_file}
 
 -- ---- sources
-
--- the messages of a manager's file
-abbrev pub source_found : List ℕ → Result (List MessageParts) BadMessage → Reading (List MessageParts)
-source_found name (Ok messages) = gives messages
-source_found name (Err bad) = refuses (BadSource name bad)
 
 -- the messages are of this instance
 abbrev pub is_of : ℕ → Managers → Bool
@@ -33,7 +28,7 @@ unless_clash name messages false = gives messages
 abbrev pub source_in : Sources → List ℕ → Reading (List MessageParts)
 source_in sources name = do
   bytes ← file 8388608 name
-  messages ← source_found name (messages_read bytes)
+  messages ← if_found (BadSource name) (messages_read bytes)
   unless_clash name messages (clashes sources (instance_of messages))
 
 -- the sources, and those of the files after them: each is judged before the next is read

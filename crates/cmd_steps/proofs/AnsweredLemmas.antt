@@ -1,13 +1,11 @@
 -- How a run ends that answers something beside its status.
-use Rattle.cmd_steps.proofs.Names.{Bor, CannotRead, CannotWrite, Command, EndsAs, Err, Failed, Files, Finished, Heard, IfOk, IsAnswered, IsErrAnd, IsTrue, List, MemoryRefused, NoMemory, None, Ok, OnDisk, Option, Puts, RanWith, Refused, Result, RunsWith, SameBut, Says, Shelved, Some, Stop, Tells, TellsFinished, WasDone, WriteFault, arith, disk_some, disk_status, ended_others, ended_ran, finished_end, inl, inr, left_with, plain_stop, put_status, refusal_some, row_of, subst, sym, ℕ, ⊤, ◌∙◌, ◌≡◌, ◌≢◌}
+use Rattle.cmd_steps.proofs.Names.{Bor, CannotRead, CannotWrite, Command, EndsAs, Err, Files, Finished, Heard, IfOk, IsAnswered, IsErrAnd, IsTrue, List, NoMemory, None, Ok, OnDisk, Option, Puts, RanWith, Refused, Result, RunsWith, SameBut, Says, Shelved, Some, Stop, Tells, TellsFinished, WasDone, WriteFault, arith, disk_own, disk_status, ended_others, ended_ran, finished_end, inl, inr, left_with, never_put, plain_stop, put_status, refusal_own, row_of, subst, sym, ℕ, ⊤, ◌∙◌, ◌≡◌, ◌≢◌}
 use Rattle.cmd_steps.specs.Answered.{written_in}
 
 module _ (status : ℕ) (before after : Heard) where
   -- a text that does not go with status 0 does not end with it
   put_fails : (wanted : ℕ) (put : Result ⊤ WriteFault) → wanted ≢ 0 → status ≡ put_status wanted put → status ≢ 0
-  put_fails wanted (Ok done) fails is zero = fails (sym is ∙ zero)
-  put_fails wanted (Err Failed) fails is zero = absurd (omega (arith, is, zero))
-  put_fails wanted (Err MemoryRefused) fails is zero = absurd (omega (arith, is, zero))
+  put_fails wanted put fails is zero = never_put 0 wanted put (omega arith) (omega arith) fails (sym zero ∙ is)
 
   says_fails : (text : List ℕ) (wanted : ℕ) → wanted ≢ 0 → Says text wanted status before after → status ≢ 0
   says_fails text wanted fails (inl puts) = put_fails wanted puts.put fails puts.is
@@ -16,8 +14,8 @@ module _ (status : ℕ) (before after : Heard) where
   -- a run that stopped does not end with status 0
   stop_fails : (reason : Stop (List ℕ)) → Tells (Err reason) status before after → status ≢ 0
   stop_fails (CannotRead name) tells = says_fails _ 3 (omega arith) tells
-  stop_fails (Refused refusal) tells = says_fails _ (row_of refusal).status (refusal_some refusal) tells
-  stop_fails (OnDisk stop) tells = says_fails _ (disk_status stop) (disk_some stop) tells
+  stop_fails (Refused refusal) tells = says_fails _ (row_of refusal).status (refusal_own refusal).0 tells
+  stop_fails (OnDisk stop) tells = says_fails _ (disk_status stop) (disk_own stop).0 tells
   stop_fails CannotWrite tells = put_fails 7 tells.put (omega arith) tells.is
   stop_fails NoMemory tells = put_fails 8 tells.put (omega arith) tells.is
 

@@ -1,7 +1,7 @@
 //! Journals that are folded: what the chain gives for them, and whether they tell its own numbers.
 
 ghost use Rattle.std.specs.Prelude.{◌+◌, ◌<◌, ◌^◌, ◌∷◌, ◌≡◌};
-ghost use Rattle.cmd_steps.specs.Words.{IfOk, IsFoldable, IsOutcome, Judges, entries_of, folded_in, journal_judged, length, held_back_line as line_held_back, seen_as, told};
+ghost use Rattle.cmd_steps.specs.Words.{IfOk, IsFoldable, IsOutcome, Judges, entries_of, bad_journal, folded_in, if_found, length, held_back_line as line_held_back, seen_as, told};
 
 use chain_plain::{Folded, outcome};
 use cmd_files::{Refusal, Stop};
@@ -29,7 +29,7 @@ pub(crate) fn judge_journal<'a>(
     text: Vec<u8>,
     config: &Config,
 ) -> Result<Judged, Stop<&'a str>>
-    ensures judges { Judges (journal_judged (folded_in config.now text.items)) (seen_as (λ j. told j.history.turns j.losses.items) result) }
+    ensures judges { Judges (if_found bad_journal (folded_in config.now text.items)) (seen_as (λ j. told j.history.turns j.losses.items) result) }
     ensures folds { IfOk result (λ j. IsOutcome config.now j.history.turns j.folded) }
     ensures foldable { IfOk result (λ j. IsFoldable config.now j.history.turns) }
 {

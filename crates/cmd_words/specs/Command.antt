@@ -239,56 +239,41 @@ plain_of (Some (keep names)) = None
 plain_of (Some (recall names)) = None
 plain_of command = command
 
--- the files that the command reads, in the order in which it reads them
-abbrev pub read_by : Command → List (List ℕ)
-read_by (fold files) = files.from.config ∷ files.from.journal ∷ []
-read_by (check files) = files.from.config ∷ files.from.journal ∷ files.messages ∷ []
-read_by (decode messages) = messages ∷ []
-read_by (gen wanted) = []
-read_by (migrate files) = files.source ∷ []
-read_by (replay files) = files.config ∷ files.trace ∷ []
-read_by (sign names) = names.key ∷ names.files.source ∷ []
-read_by (verify names) = names.key ∷ names.files.source ∷ []
-read_by (bundle names) = names.files.source ∷ []
-read_by (unbundle files) = files.source ∷ []
-read_by (report files) = files.sources
-read_by (keep names) = names.from.config ∷ names.from.journal ∷ []
-read_by (recall names) = []
-read_by (explain names) = names.config ∷ names.journal ∷ []
-read_by (export names) = names.messages ∷ []
+-- how a command is listed: its word, the files that it reads, and those that it writes, each in their order
+pub record Listing : Type 0 where
+  pub word : List ℕ
+  pub reads : List (List ℕ)
+  pub writes : List (List ℕ)
 
--- the files that the command writes, in the order in which it writes them
-abbrev pub written_by : Command → List (List ℕ)
-written_by (fold files) = files.messages ∷ files.memory ∷ []
-written_by (check files) = []
-written_by (decode messages) = []
-written_by (gen wanted) = wanted.config ∷ wanted.trace ∷ wanted.journal ∷ []
-written_by (migrate files) = files.target ∷ []
-written_by (replay files) = files.messages ∷ files.memory ∷ files.journal ∷ []
-written_by (sign names) = names.files.target ∷ []
-written_by (verify names) = names.files.target ∷ []
-written_by (bundle names) = names.files.target ∷ []
-written_by (unbundle files) = files.target ∷ []
-written_by (report files) = files.target ∷ []
-written_by (keep names) = []
-written_by (recall names) = names.target ∷ []
-written_by (explain names) = []
-written_by (export names) = []
+abbrev listing : List ℕ → (reads writes : List (List ℕ)) → Listing
+listing word reads writes = record { word = word; reads = reads; writes = writes }
+
+-- the list of commands
+abbrev pub listing_of : Command → Listing
+listing_of (fold files) = listing (codes "fold") (files.from.config ∷ files.from.journal ∷ []) (files.messages ∷ files.memory ∷ [])
+listing_of (check files) = listing (codes "check") (files.from.config ∷ files.from.journal ∷ files.messages ∷ []) []
+listing_of (decode messages) = listing (codes "decode") (messages ∷ []) []
+listing_of (gen wanted) = listing (codes "gen") [] (wanted.config ∷ wanted.trace ∷ wanted.journal ∷ [])
+listing_of (migrate files) = listing (codes "migrate") (files.source ∷ []) (files.target ∷ [])
+listing_of (replay files) = listing (codes "replay") (files.config ∷ files.trace ∷ []) (files.messages ∷ files.memory ∷ files.journal ∷ [])
+listing_of (sign names) = listing (codes "sign") (names.key ∷ names.files.source ∷ []) (names.files.target ∷ [])
+listing_of (verify names) = listing (codes "verify") (names.key ∷ names.files.source ∷ []) (names.files.target ∷ [])
+listing_of (bundle names) = listing (codes "bundle") (names.files.source ∷ []) (names.files.target ∷ [])
+listing_of (unbundle files) = listing (codes "unbundle") (files.source ∷ []) (files.target ∷ [])
+listing_of (report files) = listing (codes "report") files.sources (files.target ∷ [])
+listing_of (keep names) = listing (codes "keep") (names.from.config ∷ names.from.journal ∷ []) []
+listing_of (recall names) = listing (codes "recall") [] (names.target ∷ [])
+listing_of (explain names) = listing (codes "explain") (names.config ∷ names.journal ∷ []) []
+listing_of (export names) = listing (codes "export") (names.messages ∷ []) []
 
 -- the word of the command
 abbrev pub word_of : Command → List ℕ
-word_of (fold files) = codes "fold"
-word_of (check files) = codes "check"
-word_of (decode messages) = codes "decode"
-word_of (gen wanted) = codes "gen"
-word_of (migrate files) = codes "migrate"
-word_of (replay files) = codes "replay"
-word_of (sign names) = codes "sign"
-word_of (verify names) = codes "verify"
-word_of (bundle names) = codes "bundle"
-word_of (unbundle files) = codes "unbundle"
-word_of (report files) = codes "report"
-word_of (keep names) = codes "keep"
-word_of (recall names) = codes "recall"
-word_of (explain names) = codes "explain"
-word_of (export names) = codes "export"
+word_of command = (listing_of command).word
+
+-- the files that the command reads, in the order in which it reads them
+abbrev pub read_by : Command → List (List ℕ)
+read_by command = (listing_of command).reads
+
+-- the files that the command writes, in the order in which it writes them
+abbrev pub written_by : Command → List (List ℕ)
+written_by command = (listing_of command).writes

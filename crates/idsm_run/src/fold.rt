@@ -49,31 +49,16 @@ fn new_files<'f>(names: FoldNames<'f>, folded: &'f Folded, memory: &'f [u8]) -> 
     ]
 }
 
-/// The line that tells what was folded.
+/// `turns T entries E messages M records K`, and a line feed: what was folded.
 fn fold_text(alloc: Global, journal: &Judged) -> Result<Vec<u8>, NoMemory>
     ensures { IfOk result (λ text. text.items ≡ line_of
         (length journal.now.history.turns) (length (entries_of journal.now.history.turns))
         journal.now.folded.messages (length journal.now.folded.memory.rows)) }
 {
-    fold_line(
-        alloc,
-        journal.history.turns(),
-        journal.history.total_entries(),
-        journal.folded.messages,
-        journal.folded.memory.len(),
-    )
-}
-
-/// `turns T entries E messages M records K`, and a line feed.
-fn fold_line(
-    alloc: Global,
-    turns: u64,
-    entries: u64,
-    messages: u64,
-    records: u16,
-) -> Result<Vec<u8>, NoMemory>
-    ensures { IfOk result (λ text. text.items ≡ line_of turns entries messages records) }
-{
+    let turns = journal.history.turns();
+    let entries = journal.history.total_entries();
+    let messages = journal.folded.messages;
+    let records = journal.folded.memory.len();
     let text = format!(in alloc;
         "turns {turns} entries {entries} messages {messages} records {records}\n"
     )?;

@@ -1,7 +1,7 @@
 //! The texts of a replay: its event memory, its journal, and its line.
 
 ghost use Rattle.std.specs.Prelude.{◌<◌, ◌^◌, ◌≡◌};
-ghost use Rattle.cmd_steps.specs.Words.{IfOk, List, Parts, Round, journal_text, replay_line as line_of, lost_contexts, memory_text, rows_of, replay_text as text_of, told, without_context};
+ghost use Rattle.cmd_steps.specs.Words.{IfOk, List, Parts, Round, journal_text, lost_contexts, memory_text, rows_of, replay_text as text_of, told, without_context};
 ghost use Rattle.idsm_run.specs.Replayed.{IsReplayed};
 
 use ids_types::{History, NoMemory};
@@ -36,19 +36,19 @@ pub(crate) fn print_texts(alloc: Global, replayed: &Replayed) -> Result<Texts, N
     })
 }
 
-/// The line that tells what was replayed.
+/// `turns T entries E losses L without W`, and a line feed: what was replayed.
 fn replay_text(alloc: Global, replayed: &Replayed) -> Result<Vec<u8>, NoMemory>
     requires { lost_contexts replayed.now.history.turns ≡ without_context replayed.now.history.turns }
     ensures { IfOk result (λ text. text.items ≡ text_of replayed.now.history.turns replayed.now.losses.items) }
 {
-    let history = &replayed.history;
-    replay_line(
-        alloc,
-        history.turns(),
-        history.total_entries(),
-        replayed.losses.len() as u64,
-        contexts_lost(history),
-    )
+    let turns = replayed.history.turns();
+    let entries = replayed.history.total_entries();
+    let losses = replayed.losses.len();
+    let without = contexts_lost(&replayed.history);
+    let text = format!(in alloc;
+        "turns {turns} entries {entries} losses {losses} without {without}\n"
+    )?;
+    Ok(text.into_bytes())
 }
 
 /// How many contexts the turns tell as lost.
@@ -61,20 +61,4 @@ fn contexts_lost(history: &History) -> u64
         lost += history.head(turn).lost_contexts;
     }
     lost
-}
-
-/// `turns T entries E losses L without W`, and a line feed.
-fn replay_line(
-    alloc: Global,
-    turns: u64,
-    entries: u64,
-    losses: u64,
-    without: u64,
-) -> Result<Vec<u8>, NoMemory>
-    ensures { IfOk result (λ text. text.items ≡ line_of turns entries losses without) }
-{
-    let text = format!(in alloc;
-        "turns {turns} entries {entries} losses {losses} without {without}\n"
-    )?;
-    Ok(text.into_bytes())
 }

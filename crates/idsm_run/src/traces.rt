@@ -1,7 +1,7 @@
 //! The input files of a replay.
 
 ghost use Rattle.std.specs.Prelude.{◌≡◌};
-ghost use Rattle.cmd_steps.specs.Words.{IfOk, Judges, Reads, asked_in, five_of, seen_as, trace_in, trace_judged};
+ghost use Rattle.cmd_steps.specs.Words.{IfOk, Judges, Reads, asked_in, five_of, bad_trace, if_found, seen_as, trace_in};
 ghost use Rattle.text_spec.specs.TraceReading.{AreRounds};
 ghost use Rattle.idsm_run.specs.Replayed.{asked_of};
 
@@ -38,7 +38,7 @@ pub(crate) fn read_asked<'a, H: Shelf>(
 
 /// The trace that the bytes are under this configuration. The bytes are given back.
 fn judge_trace<'a>(alloc: Global, text: Vec<u8>, config: &Config) -> Result<Trace, Stop<&'a str>>
-    ensures judges { Judges (trace_judged (trace_in config.now text.items)) (seen_as (λ t. t.rounds) result) }
+    ensures judges { Judges (if_found bad_trace (trace_in config.now text.items)) (seen_as (λ t. t.rounds) result) }
     ensures callers { IfOk result (λ t. t.callers ≡ config.now.callers) }
     ensures rounds { IfOk result (λ t. AreRounds config.now t.rounds) }
 {

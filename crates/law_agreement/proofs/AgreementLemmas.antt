@@ -1,11 +1,11 @@
 -- `fold` and `check` of what a replay left.
-use Rattle.cmd_steps.proofs.Names.{AreWritten, Heard, List, Ok, RanCommand, Reading, Recorded, ReplayFiles, Shelved, Some, Turn, Work, arith, bytes_eq-Decides, check_judged, codes, config_in, did_work, does, file, file_of, fold_work, folded_in, gives, inl, inr, journal_judged, journal_text, judge, length, messages_of, only_said, over, over_then, reading_of, recorded_in, refl, served_ends, subst, sym, told, told_in, ℕ, ◌>>=◌, ◌∙◌, ◌≡◌, ◌≤◌}
+use Rattle.cmd_steps.proofs.Names.{AreWritten, Heard, List, Ok, RanCommand, Reading, Recorded, ReplayFiles, Shelved, Some, Turn, Work, arith, bad_journal, bytes_eq-Decides, check_judged, codes, config_in, did_work, does, file, file_of, fold_work, folded_in, gives, if_found, inl, inr, journal_text, judge, length, messages_of, only_said, over, over_then, reading_of, recorded_in, refl, served_ends, subst, sym, told, told_in, ℕ, ◌>>=◌, ◌∙◌, ◌≡◌, ◌≤◌}
 use Rattle.cmd_spec.specs.Deserts.{EndsWith, EndsOrFails}
 use Rattle.idsm_run.specs.Replayed.{Replayed}
 use Rattle.law_agreement.proofs.JournalLemmas.{messages_are_short}
 use Rattle.law_agreement.specs.Agreement.{FindsLeft, HasTheSame, WasReplayed, check_again, fold_again, left_by}
 use Rattle.law_agreement.proofs.CausalLemmas.{folds_as}
-use Rattle.law_agreement.proofs.FoundLemmas.{config_asked, config_stays, config_there, few_in, file_is}
+use Rattle.law_agreement.proofs.FoundLemmas.{config_asked, config_there, few_in, file_is, words_apart}
 
 module _ (names : ReplayFiles) (old left found : Shelved) (was : WasReplayed names old left) (finds : FindsLeft names left found) where
   -- what the replay did
@@ -26,14 +26,14 @@ module _ (names : ReplayFiles) (old left found : Shelved) (was : WasReplayed nam
 
   -- what is asked of the bytes of its journal
   abbrev next : List ℕ → Reading Recorded
-  next bytes = journal_judged (folded_in history.config bytes) >>= λ own. gives (record { config = history.config; told = own })
+  next bytes = if_found bad_journal (folded_in history.config bytes) >>= λ own. gives (record { config = history.config; told = own })
 
   -- what the files hold that it left
   recorded : over (recorded_in (left_by names)) found.files ≡ Ok (record { config = history.config; told = told turns history.gives.losses })
   recorded =
       let config = config_asked names old.files _ history.asked in
       let stays : found.files names.config ≡ old.files names.config =
-      finds.same names.config ∙ was.others names.config (config_stays was.words names was.asked) in
+      finds.same names.config ∙ was.others names.config ((words_apart was.words).stays names was.asked) in
       let now = config_there names.config history.config old.files found.files stays config in
       let journal = file_is 16777216 names.journal text found.files (finds.same names.journal ∙ journal_is) text_is_short in
       let folds = folds_as history.config text (told turns history.gives.losses)

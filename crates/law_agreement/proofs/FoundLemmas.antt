@@ -1,9 +1,10 @@
 -- What was found in files, and what a later run finds in them.
-use Rattle.cmd_steps.proofs.Names.{AskedFor, Bool, Err, Files, IsNoneOf, List, None, Ok, Option, Parts, ReplayFiles, Result, Round, Some, IsTrue, Command, command_of, [], and_parts, ap, are_names, asked_in, config_found, config_in, false, file, file_of, gives, le-ltb, leb-true, length, over, over_parts, over_then, refl, replay, replay_of, rounds_in, subst, trace_in, trace_judged, true, written_by, ℕ, ◌>>=◌, ◌∙◌, ◌∷◌, ◌≡◌, ◌≤◌, PairFiles, bytes_eq, codes, not}
+use Rattle.cmd_steps.proofs.Names.{AskedFor, Bool, Err, Files, IsNoneOf, List, None, Ok, Option, Parts, ReplayFiles, Result, Round, Some, IsTrue, Command, command_of, [], and_parts, ap, are_names, asked_in, bad_trace, config_in, false, file, file_of, gives, if_found, le-ltb, leb-true, length, over, over_parts, over_then, refl, replay, replay_of, rounds_in, subst, trace_in, true, written_by, ℕ, ◌>>=◌, ◌∙◌, ◌∷◌, ◌≡◌, ◌≤◌, bytes_eq, cases_Bool, codes, inl, inr}
 use Rattle.std.specs.Prelude.{if◌then◌else◌, option_map}
 use Rattle.serde_json.specs.Data.{Data}
 use Rattle.cmd_words.proofs.CommandLemmas.{gen_none}
 use Rattle.cmd_words.specs.Command as Words
+use Rattle.cmd_files.specs.declared.stop.Refusal.TheVariants.{BadConfig}
 use Rattle.ids_config.specs.Steps.{at}
 use Rattle.ids_config.specs.declared.fault.ConfigFault.{ConfigFault}
 use Rattle.ids_config.proofs.StepLemmas.{at_ok, asks_ok, both_ok}
@@ -39,11 +40,11 @@ events_in (Some tree) config is =
 pub few_events : (text : List ℕ) (config : Parts) → configuration text ≡ Ok config → length config.events ≤ 256
 few_events text config is = events_in (tree_of text) config is
 
-config_judged : (found : Result Parts ConfigFault) (config : Parts) (files : Files) → over (config_found found) files ≡ Ok config → found ≡ Ok config
+config_judged : (found : Result Parts ConfigFault) (config : Parts) (files : Files) → over (if_found BadConfig found) files ≡ Ok config → found ≡ Ok config
 config_judged (Ok own) config files is = ap Ok (cc is)
 config_judged (Err fault) config files is = absurd cc
 
-judged_alone : (found : Result Parts ConfigFault) (files others : Files) → over (config_found found) others ≡ over (config_found found) files
+judged_alone : (found : Result Parts ConfigFault) (files others : Files) → over (if_found BadConfig found) others ≡ over (if_found BadConfig found) files
 judged_alone (Ok own) files others = refl
 judged_alone (Err fault) files others = refl
 
@@ -51,9 +52,9 @@ judged_alone (Err fault) files others = refl
 pub config_there : (name : List ℕ) (config : Parts) (files others : Files) → others name ≡ files name → over (config_in name) files ≡ Ok config
     → over (config_in name) others ≡ Ok config
 config_there name config files others same is =
-    let text = over_parts (file 1048576 name) (λ bytes. config_found (configuration bytes)) config files is in
+    let text = over_parts (file 1048576 name) (λ bytes. if_found BadConfig (configuration bytes)) config files is in
     let read : over (file 1048576 name) others ≡ Ok text.0 = rw same text.1 in
-    over_then (file 1048576 name) (λ bytes. config_found (configuration bytes)) text.0 others read
+    over_then (file 1048576 name) (λ bytes. if_found BadConfig (configuration bytes)) text.0 others read
     ∙ judged_alone (configuration text.0) files others ∙ text.2
 
 abbrev asked_for : Parts → List Round → AskedFor
@@ -62,17 +63,17 @@ asked_for config rounds = record { config = config; rounds = rounds }
 -- so has that of a file
 pub few_in : (name : List ℕ) (config : Parts) (files : Files) → over (config_in name) files ≡ Ok config → length config.events ≤ 256
 few_in name config files is =
-    let text = over_parts (file 1048576 name) (λ bytes. config_found (configuration bytes)) config files is in
+    let text = over_parts (file 1048576 name) (λ bytes. if_found BadConfig (configuration bytes)) config files is in
     few_events text.0 config (config_judged (configuration text.0) config files text.2)
 
 -- the configuration of what a replay was asked for is that of its file
 pub config_asked : (names : ReplayFiles) (files : Files) (asked : AskedFor) → over (asked_in names) files ≡ Ok asked
     → over (config_in names.config) files ≡ Ok asked.config
 config_asked names files asked is =
-    let judged = λ (config : Parts) (text : List ℕ). trace_judged (trace_in config text) >>= λ rounds. gives (asked_for config rounds) in
+    let judged = λ (config : Parts) (text : List ℕ). if_found bad_trace (trace_in config text) >>= λ rounds. gives (asked_for config rounds) in
     let config = over_parts (config_in names.config) (rounds_in names.trace) asked files is in
     let trace = over_parts (file 16777216 names.trace) (judged config.0) asked files config.2 in
-    let rounds = over_parts (trace_judged (trace_in config.0 trace.0)) (λ rounds. gives (asked_for config.0 rounds)) asked files trace.2 in
+    let rounds = over_parts (if_found bad_trace (trace_in config.0 trace.0)) (λ rounds. gives (asked_for config.0 rounds)) asked files trace.2 in
     let same : config.0 ≡ asked.config = cc rounds.2 in
     subst (λ (c : Parts). over (config_in names.config) files ≡ Ok c) same config.1
 
@@ -85,88 +86,56 @@ file_is limit name bytes files there short = rw (there, le-ltb limit (length byt
 
 -- ---- names
 
--- at most three names are those of no replay
-two_none : (a b c d : Bool) (pair : PairFiles) (names : Words.Recording)
-    → replay_of (if a then Some (Words.migrate pair) else if b then Some (Words.unbundle pair) else if c then Some (Words.recall pair)
-    else if d then Some (Words.explain names) else None) ≡ None
-two_none true b c d pair names = refl
-two_none false true c d pair names = refl
-two_none false false true d pair names = refl
-two_none false false false true pair names = refl
-two_none false false false false pair names = refl
+-- where the words are those of a replay, its configuration is none of the files that it writes
+pub record IsApart (command : Option Command) : Type 0 where
+  pub stays : (names : ReplayFiles) → replay_of command ≡ Some names → IsNoneOf (written_by (replay names)) names.config
 
-three_none : (a b : Bool) (one two : Command) → replay_of (Some one) ≡ None → replay_of (Some two) ≡ None
-    → replay_of (if a then Some one else if b then Some two else None) ≡ None
-three_none true b one two first second = first
-three_none false true one two first second = second
-three_none false false one two first second = refl
+other : (command : Option Command) → replay_of command ≡ None → IsApart command
+other command none = record { stays = λ names is. absurd (cc (none, is)) }
 
-few_none : (word : List ℕ) (names : List (List ℕ)) → replay_of (Words.of_few word names) ≡ None
-few_none word [] = refl
-few_none word (one ∷ []) = three_none (bytes_eq word (codes "decode")) false (Words.decode one) (Words.decode one) refl refl
-few_none word (one ∷ two ∷ []) =
-    two_none (bytes_eq word (codes "migrate")) (bytes_eq word (codes "unbundle")) (bytes_eq word (codes "recall"))
-    (bytes_eq word (codes "explain")) (record { source = one; target = two }) (record { config = one; journal = two })
-few_none word (one ∷ two ∷ three ∷ []) =
-    three_none (bytes_eq word (codes "check")) (bytes_eq word (codes "keep"))
-    (Words.check (record { from = record { config = one; journal = two }; messages = three }))
-    (Words.keep (record { disk = one; from = record { config = two; journal = three } })) refl refl
-few_none word (one ∷ two ∷ three ∷ four ∷ names) = refl
+others : {F : Type 0} (make : F → Command) → ((files : F) → replay_of (Some (make files)) ≡ None) → (files : Option F)
+    → IsApart (option_map make files)
+others make none None = other None refl
+others make none (Some files) = other (Some (make files)) (none files)
 
--- where names give a replay, they differ, and are five
-named_found : (are folds replays reports : Bool) (a : Option Words.FoldFiles) (own : Option ReplayFiles) (b : Option Words.ReportFiles)
-    (few : Option Command) (files : ReplayFiles) → replay_of few ≡ None
-    → replay_of (if not are then None else if folds then option_map Words.fold a else if replays then option_map replay own
-    else if reports then option_map Words.report b else few) ≡ Some files → IsTrue are × (own ≡ Some files)
-named_found false folds replays reports a own b few files none is = absurd (cc is)
-named_found true true replays reports None own b few files none is = absurd (cc is)
-named_found true true replays reports (Some x) own b few files none is = absurd (cc is)
-named_found true false true reports a None b few files none is = absurd (cc is)
-named_found true false true reports a (Some own) b few files none is = (refl, is)
-named_found true false false true a own None few files none is = absurd (cc is)
-named_found true false false true a own (Some x) few files none is = absurd (cc is)
-named_found true false false false a own b few files none is = absurd (cc (none, is))
+either : (test : Bool) {x y : Option Command} → IsApart x → IsApart y → IsApart (if test then x else y)
+either true first second = first
+either false first second = second
 
-named_replay : (word : List ℕ) (names : List (List ℕ)) (files : ReplayFiles) → replay_of (Words.named word names) ≡ Some files
-    → IsTrue (are_names names) × (Words.replay_in names ≡ Some files)
+few_apart : (word : List ℕ) (names : List (List ℕ)) → IsApart (Words.of_few word names)
+few_apart word [] = other _ refl
+few_apart word (one ∷ []) = either (bytes_eq word (codes "decode")) (other _ refl) (other _ refl)
+few_apart word (one ∷ two ∷ []) =
+    either (bytes_eq word (codes "migrate")) (other _ refl) (either (bytes_eq word (codes "unbundle")) (other _ refl)
+    (either (bytes_eq word (codes "recall")) (other _ refl) (either (bytes_eq word (codes "explain")) (other _ refl) (other _ refl))))
+few_apart word (one ∷ two ∷ three ∷ []) =
+    either (bytes_eq word (codes "check")) (other _ refl) (either (bytes_eq word (codes "keep")) (other _ refl) (other _ refl))
+few_apart word (one ∷ two ∷ three ∷ four ∷ names) = other _ refl
+
+replay_apart : (words : List (List ℕ)) → IsTrue (are_names words) → IsApart (option_map replay (Words.replay_in words))
+replay_apart (config ∷ trace ∷ messages ∷ memory ∷ journal ∷ []) are = record {
+  stays = λ names is.
+      let read : ReplayFiles = record { config = config; trace = trace; messages = messages; memory = memory; journal = journal } in
+      let same : read ≡ names = cc is in
+      subst (λ (n : ReplayFiles). IsNoneOf (written_by (replay n)) n.config) same
+      (are_apart (config ∷ trace ∷ messages ∷ memory ∷ journal ∷ []) are).0.1;
+}
+replay_apart words are = other _ refl
+
+named_apart : (word : List ℕ) (names : List (List ℕ)) → IsApart (Words.named word names)
 unfolding Words.named
-named_replay word names files is =
-    named_found (are_names names) (bytes_eq word (codes "fold")) (bytes_eq word (codes "replay")) (bytes_eq word (codes "report"))
-    (Words.fold_in names) (Words.replay_in names) (Words.report_in names) (Words.of_few word names) files (few_none word names) is
+named_apart word names = elim (cases_Bool (are_names names)) [
+  | inl are ↦ rw are (either (bytes_eq word (codes "fold")) (others Words.fold (λ f. refl) (Words.fold_in names))
+      (either (bytes_eq word (codes "replay")) (replay_apart names are)
+      (either (bytes_eq word (codes "report")) (others Words.report (λ f. refl) (Words.report_in names)) (few_apart word names))))
+  | inr same ↦ rw same (other _ refl)
+]
 
--- and so are the words after the first one, where that names no other command
-words_found : (gens signs verifies bundles exports : Bool) (own : Option Command) (a b : Option Words.KeyedFiles)
-    (c : Option Words.SizedFiles) (d : Option Words.ExportFiles) (rest : Option Command) (files : ReplayFiles) → replay_of own ≡ None
-    → replay_of (if gens then own else if signs then option_map Words.sign a else if verifies then option_map Words.verify b
-    else if bundles then option_map Words.bundle c else if exports then option_map Words.export d else rest) ≡ Some files
-    → replay_of rest ≡ Some files
-words_found true signs verifies bundles exports own a b c d rest files none is = absurd (cc (none, is))
-words_found false true verifies bundles exports own None b c d rest files none is = absurd (cc is)
-words_found false true verifies bundles exports own (Some x) b c d rest files none is = absurd (cc is)
-words_found false false true bundles exports own a None c d rest files none is = absurd (cc is)
-words_found false false true bundles exports own a (Some x) c d rest files none is = absurd (cc is)
-words_found false false false true exports own a b None d rest files none is = absurd (cc is)
-words_found false false false true exports own a b (Some x) d rest files none is = absurd (cc is)
-words_found false false false false true own a b c None rest files none is = absurd (cc is)
-words_found false false false false true own a b c (Some x) rest files none is = absurd (cc is)
-words_found false false false false false own a b c d rest files none is = is
-
-names_apart : (words : List (List ℕ)) (names : ReplayFiles) → IsTrue (are_names words) → Words.replay_in words ≡ Some names
-    → IsNoneOf (written_by (replay names)) names.config
-names_apart (config ∷ trace ∷ messages ∷ memory ∷ journal ∷ []) names are is =
-    let read : ReplayFiles = record { config = config; trace = trace; messages = messages; memory = memory; journal = journal } in
-    let same : read ≡ names = cc is in
-    subst (λ (n : ReplayFiles). IsNoneOf (written_by (replay n)) n.config) same
-    (are_apart (config ∷ trace ∷ messages ∷ memory ∷ journal ∷ []) are).0.1
-names_apart words names are is = absurd cc
-
--- the configuration is none of the files that a replay writes
-pub config_stays : (words : List (List ℕ)) (names : ReplayFiles) → replay_of (command_of words) ≡ Some names
-    → IsNoneOf (written_by (replay names)) names.config
-config_stays [] names is = absurd cc
-config_stays (word ∷ words) names is =
-    let rest = words_found (bytes_eq word (codes "gen")) (bytes_eq word (codes "sign")) (bytes_eq word (codes "verify"))
-    (bytes_eq word (codes "bundle")) (bytes_eq word (codes "export")) (Words.gen_of (word ∷ words)) (Words.keyed_in words)
-    (Words.keyed_in words) (Words.sized_in words) (Words.export_in words) (Words.named word words) names (gen_none (word ∷ words)).0 is in
-    let (are, made) = named_replay word words names rest in
-    names_apart words names are made
+pub words_apart : (words : List (List ℕ)) → IsApart (command_of words)
+words_apart [] = other _ refl
+words_apart (word ∷ words) =
+    either (bytes_eq word (codes "gen")) (other _ (gen_none (word ∷ words)).0)
+    (either (bytes_eq word (codes "sign")) (others Words.sign (λ f. refl) (Words.keyed_in words))
+    (either (bytes_eq word (codes "verify")) (others Words.verify (λ f. refl) (Words.keyed_in words))
+    (either (bytes_eq word (codes "bundle")) (others Words.bundle (λ f. refl) (Words.sized_in words))
+    (either (bytes_eq word (codes "export")) (others Words.export (λ f. refl) (Words.export_in words)) (named_apart word words)))))

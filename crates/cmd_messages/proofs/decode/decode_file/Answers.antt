@@ -1,4 +1,4 @@
-use Rattle.cmd_steps.proofs.Names.{decode, decode_judged, file, goes_on, judged, left_unread, reading_of, refl, stops_early}
+use Rattle.cmd_steps.proofs.Names.{decode, decoded_text, file, goes_on, judged, left_unread, messages_judged, reading_of, refl, stops_early}
 use Rattle.cmd_steps.proofs.MadeLemmas.{text_ends}
 use Rattle.cmd_messages.proofs.decode.decode_file.Goals as goal
 
@@ -6,11 +6,11 @@ pub returns-in_err-bytes : goal.returns-in_err-bytes
 unfolding reading_of
 returns-in_err-bytes g c =
     left_unread (decode c.args.name.now) _ c.in_err-bytes.field-0.0 _ _ c.from_residual.ensures.1
-    (stops_early (file 67108864 c.args.name.now) decode_judged _ _ _ c.in_err-bytes.ensures.reads)
+    (stops_early (file 67108864 c.args.name.now) (messages_judged decoded_text) _ _ _ c.in_err-bytes.ensures.reads)
 
 pub returns : goal.returns
 unfolding reading_of
 returns g c =
     text_ends (decode c.args.name.now) c.lines_of.result _ _
-    (goes_on (file 67108864 c.args.name.now) decode_judged _ _ _ _ c.in_ok-bytes.ensures.reads _
+    (goes_on (file 67108864 c.args.name.now) (messages_judged decoded_text) _ _ _ _ c.in_ok-bytes.ensures.reads _
     (judged _ _ _ (rw c.deref.ensures.value at c.lines_of.ensures))) refl

@@ -1,4 +1,4 @@
-use Rattle.cmd_steps.proofs.Names.{BadMessage, Err, List, MessageParts, Ok, Result, ap, are_bytes, decode_tells, decode_work, does, gives, messages_judged, only_said, refl, sym, take_rest, ℕ, ◌>>=◌, ◌∙◌}
+use Rattle.cmd_steps.proofs.Names.{BadMessage, BadMessages, Err, List, MessageParts, Ok, Result, ap, are_bytes, decode_tells, decoded_text, does, gives, if_found, only_said, refl, sym, take_rest, ℕ, ◌>>=◌, ◌∙◌}
 use Rattle.cmd_messages.proofs.LinesLemmas.{all_printed, more_printed, printing_stops}
 use Rattle.cmd_messages.proofs.decode.lines_of.Goals as goal
 
@@ -24,5 +24,5 @@ returns-in-Err c =
 pub returns : goal.returns
 returns c =
     let all = all_printed _ _ _ (are_bytes c.args.bytes.now c.type_inv.bytes) c.loop-rest.invariant (sym c.is_empty.ensures ∙ c.loop-rest-test.false) in
-    ap (λ (found : Result (List MessageParts) BadMessage). messages_judged found >>= λ messages. gives (does (decode_work messages))) all.1
+    ap (λ (found : Result (List MessageParts) BadMessage). if_found BadMessages found >>= λ messages. gives (does (only_said (decoded_text messages)))) all.1
     ∙ ap (λ (lines : List ℕ). gives (does (only_said lines))) (sym all.2)
