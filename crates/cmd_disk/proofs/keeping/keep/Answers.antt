@@ -24,16 +24,16 @@ returns-in-Ok-end-clause-ends g c =
 pub returns-clause-ends : goal.returns-clause-ends
 returns-clause-ends g c =
     kept_in_part (keep_files_of c.args.names) _ _ _ c.in-Ok.ensures.reads c.in-Err-end.stop
-    (rw c.in-Err-end.is at c.keep_history-end.ensures.stops)
+    (rw c.in-Err-end.is at c.keep_history-disk.ensures.stops)
 
 pub returns-in-Ok-end-clause-leaves : goal.returns-in-Ok-end-clause-leaves
 returns-in-Ok-end-clause-leaves g c told shown own found =
     kept_leaves (keep_files_of c.args.names) _ _ _ c.in-Ok.ensures.reads (g.D.Disk.shows c.args.disk)
-    (g.D.Disk.shows c.keep_history-end.result.1) told own found tt c.in-Ok-saved_line.line.items
-    (rw c.in-Ok-end.is at (c.keep_history-end.ensures.leaves shown))
+    (g.D.Disk.shows c.keep_history-disk.result.1) told own found tt c.in-Ok-saved_line.line.items
+    (rw c.in-Ok-end.is at (c.keep_history-disk.ensures.leaves shown))
 
 pub returns-clause-leaves : goal.returns-clause-leaves
 returns-clause-leaves g c told shown own found =
     stopped_leaves (keep_files_of c.args.names) _ _ _ c.in-Ok.ensures.reads (g.D.Disk.shows c.args.disk)
-    (g.D.Disk.shows c.keep_history-end.result.1) told own found c.in-Err-end.stop
-    (rw c.in-Err-end.is at (c.keep_history-end.ensures.leaves shown))
+    (g.D.Disk.shows c.keep_history-disk.result.1) told own found c.in-Err-end.stop
+    (rw c.in-Err-end.is at (c.keep_history-disk.ensures.leaves shown))
