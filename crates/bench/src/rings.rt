@@ -64,7 +64,7 @@ impl Ring for Queue<Numbers> {
     {
         let mut count = 0;
         for number in 0..batch {
-            if taker.take(self).is_err() {
+            if taker.take(self, &mut Some(0)).is_err() {
                 break;
             }
             count = number + 1;
@@ -145,7 +145,9 @@ impl<R: Clock + AllocGlobal + Threads + Sync> Bench<'_, R> {
     /// Measures calls of a queue of 1,024 positions by so many callers, at most 32.
     pub fn queue(&self, callers: u8, size: Size) -> Option<Pair> {
         let callers = callers.clamp(1, 32);
-        let Ok(mut made) = make::<Numbers>(self.rt.alloc(), 1024, callers, ()) else {
+        let alloc = self.rt.alloc();
+        let spent = Vec::from_elem(alloc, 0, 1024).ok()?;
+        let Ok(mut made) = make::<Numbers>(alloc, 1024, callers, (), spent) else {
             return None;
         };
         let seats = made.seats;

@@ -13,11 +13,11 @@ pub record Buffer : Type 0 where
 
 -- the buffer that the fields hold
 abbrev pub buffer_of : Inside → Buffer
-buffer_of b = record { class = b.class; claim = b.claim; size = b.size; bytes = b.bytes.items }
+buffer_of b = record { class = b.held.value.class; claim = b.held.value.claim; size = b.held.value.size; bytes = b.held.value.bytes.items }
 
 -- there is memory for as many bytes as it can hold
 abbrev pub HasItsRoom : Inside → Type 0
-HasItsRoom b = b.size ≤ vec_capacity b.bytes
+HasItsRoom b = b.held.value.size ≤ vec_capacity b.held.value.bytes
 
 -- an empty buffer of a class, which nobody has claimed yet
 abbrev pub unused : ℕ → ℕ → Buffer

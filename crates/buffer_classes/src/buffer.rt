@@ -7,9 +7,15 @@ use std::alloc::{AllocError, Global};
 use std::marker::Model;
 
 /// A context data buffer of one class, with the number of the claim that got it. It is moved from its slot to
-/// the report, the chain and back; its bytes stay where they are.
+/// the report, the chain and back as a pointer; all that it holds stays where it is.
 #[derive(Debug, Drop)]
 pub struct CtxBuf {
+    held: Box<Held>,
+}
+
+/// What a buffer holds.
+#[derive(Debug, Drop)]
+struct Held {
     claim: u64,
     size: u16,
     class: u8,
@@ -31,11 +37,14 @@ impl CtxBuf {
     pub(crate) fn make(alloc: Global, class: u8, size: u16) -> Result<CtxBuf, AllocError>
         ensures { IfOk result (λ buf. buf ≡ unused class size) }
     {
-        Ok(CtxBuf {
+        let held = Held {
             claim: 0,
             size,
             class,
             bytes: Vec::with_capacity(alloc, size as usize)?,
+        };
+        Ok(CtxBuf {
+            held: Box::new(alloc, held)?,
         })
     }
 
@@ -43,21 +52,21 @@ impl CtxBuf {
     pub fn class(&self) -> u8
         ensures { result ≡ self.now.class }
     {
-        self.class
+        self.held.class
     }
 
     /// The number of the claim that got it, from 0 for each class.
     pub fn claim(&self) -> u64
         ensures { result ≡ self.now.claim }
     {
-        self.claim
+        self.held.claim
     }
 
     /// How many bytes it can hold.
     pub fn size(&self) -> u16
         ensures { result ≡ self.now.size }
     {
-        self.size
+        self.held.size
     }
 
     /// Holds these bytes, and no others, from now on.
@@ -67,9 +76,9 @@ impl CtxBuf {
         requires { length bytes.now ≤ self.old.size }
         ensures { self.new ≡ filled_with bytes.now self.old }
     {
-        self.bytes.clear();
+        self.held.bytes.clear();
         if !bytes.is_empty() {
-            self.bytes.extend_from_slice(bytes).unwrap();
+            self.held.bytes.extend_from_slice(bytes).unwrap();
         }
     }
 
@@ -77,7 +86,7 @@ impl CtxBuf {
     pub(crate) fn set_claim(&mut self, claim: u64)
         ensures { self.new ≡ record self.old { claim = claim } }
     {
-        self.claim = claim;
+        self.held.claim = claim;
     }
 }
 
@@ -85,6 +94,6 @@ impl Parcel for CtxBuf {
     ghost held = { λ b. b.bytes };
 
     fn bytes(&self) -> &[u8] {
-        &self.bytes
+        &self.held.bytes
     }
 }

@@ -3,28 +3,11 @@
 use Rattle.chain_spec.proofs.Names.{◌≡◌, ℕ, ◌+◌, ◌*◌, ◌-◌, Bool, true, false, List, [], ◌∷◌, ◌++◌, map, take, reverse, Some, None, refl, Turn, Report, State, SetMode, Act, Mode, Off, Brief, Detailed, BriefBypassing, DetailedBypassing, Parts, Event, plain_event, messages, ends, handed, IsCausal}
 use Rattle.std.specs.Prelude.{nat_lt, codes, replicate, if◌then◌else◌}
 use Rattle.ids_types.specs.declared.entry.Carried.TheVariants.{Absent, Kept, Missing}
+use Rattle.ids_config.proofs.Plain.{instance_18}
 use Rattle.chain_spec.specs.Memory.{Row}
 use Rattle.chain_spec.specs.Storing.{memory}
 
 -- ---- configurations
-
--- instance 18 with these events, and all else by default
-abbrev pub instance_18 : List Event → Parts
-instance_18 events = record {
-  profile = 1;
-  instance = 18;
-  callers = 1;
-  ring = 64;
-  memory = 0;
-  state = 0;
-  classes = [];
-  rate = None;
-  traffic = None;
-  events = events;
-  lost_events = None;
-  lost_contexts = None;
-  limited = None;
-}
 
 -- an event with id 42 by sensor 3
 abbrev pub door : Event

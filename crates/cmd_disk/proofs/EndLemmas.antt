@@ -45,14 +45,14 @@ module _ (config : Parts) (turns : List Turn) where
   -- a store was not begun
   pub none_begun : {A D : Type 0} (shows : D → Shown) (old : D) (fault : BeginFault D)
       → LeavesSince (shows old).run (shows (begun_disk (Err fault))).run (MayBeLeft (shows old).run.now)
-      → LeavesBehind config turns (shows old) (shows (not_begun {T = A} (FailedAfter 0) fault).1) (not_begun {T = A} (FailedAfter 0) fault).0
+      → LeavesBehind config turns (shows old) (shows (not_begun {T = A} (FailedAfter 0) fault).disk) (not_begun {T = A} (FailedAfter 0) fault).end
   none_begun {A} shows old (begin.Failed disk) =
-      left_behind (shows old) (shows disk) (not_begun {T = A} (FailedAfter 0) (begin.Failed disk)).0
+      left_behind (shows old) (shows disk) (not_begun {T = A} (FailedAfter 0) (begin.Failed disk)).end
       (λ synced keeping state kept is left may. inl (kept is left may))
   none_begun {A} shows old (begin.Damaged slot disk) =
-      left_behind (shows old) (shows disk) (not_begun {T = A} (FailedAfter 0) (begin.Damaged slot disk)).0 (λ synced keeping state kept. kept)
+      left_behind (shows old) (shows disk) (not_begun {T = A} (FailedAfter 0) (begin.Damaged slot disk)).end (λ synced keeping state kept. kept)
   none_begun {A} shows old (begin.NoMemory disk) =
-      left_behind (shows old) (shows disk) (not_begun {T = A} (FailedAfter 0) (begin.NoMemory disk)).0 (λ synced keeping state kept. kept)
+      left_behind (shows old) (shows disk) (not_begun {T = A} (FailedAfter 0) (begin.NoMemory disk)).end (λ synced keeping state kept. kept)
 
 -- what holds at the end of saving holds where more is asked before
 at_end_if : {A N : Type 0} (Synced : Type 0) (keeping : Keeping) (end : Result A (Stop N)) (state : State)

@@ -123,7 +123,7 @@ not_recalled names stop shelved may = record {
 }
 
 pub recall_not_begun : {D : Type 0} (names : PairFiles) (fault : BeginFault D) (shelved : Shelved)
-    → EndsAs (recall names) (plain_end (not_begun {T = Vec ℕ Global} Failed fault).0) shelved shelved
+    → EndsAs (recall names) (plain_end (not_begun {T = Vec ℕ Global} Failed fault).end) shelved shelved
 recall_not_begun names (begin.Failed disk) shelved = not_recalled names Failed shelved tt
 recall_not_begun names (begin.Damaged slot disk) shelved = not_recalled names (Damaged slot) shelved tt
 recall_not_begun names (begin.NoMemory disk) shelved = inl (λ told name. refl)

@@ -1,7 +1,7 @@
 -- What `keep` leaves on its disk: the event memory after each turn of a recording, saved one after another; and why
 -- work on a disk ends.
 use Rattle.std.specs.Prelude.{◌+◌, ◌<◌, ◌^◌, ◌≡◌, ◌≤◌, ◌⊎◌}
-use Rattle.cmd_steps.specs.Names.{Bor, Damaged, Err, Failed, FailedAfter, IsTrue, List, Ok, Parts, Result, Rose, Row, Turn, WornAfter, [], length, suc, take, zero, ℕ, ⊤}
+use Rattle.cmd_steps.specs.Names.{Damaged, Err, Failed, FailedAfter, IsTrue, List, Ok, Parts, Result, Rose, Row, Turn, WornAfter, [], length, suc, take, zero, ℕ, ⊤}
 use Rattle.chain_plain.specs.Telling.{IsReady}
 use Rattle.event_chain.specs.Standing.{Stands}
 use Rattle.filter_aggregate.specs.Account.{all_kept}
@@ -10,6 +10,7 @@ use Rattle.memory_disk.specs.Disks.{Run, Shown, State, LeavesOnly, LeavesSince, 
 use Rattle.memory_store.specs.Slots.{IsDamaged, KeepsRows, slot_at}
 use Rattle.memory_store.specs.Stores.{StoreValue}
 use Rattle.memory_store.specs.declared.store.BeginFault.{BeginFault}
+use Rattle.cmd_disk.specs.declared.ended.Ended.{Ended}
 use Rattle.cmd_disk.specs.declared.saving.Folding.{Folding}
 use Rattle.cmd_files.specs.declared.stop.DiskStop.{DiskStop}
 use Rattle.cmd_steps.specs.Words.{Stop, OnDisk, CannotWrite, NoMemory, rows_of}
@@ -112,10 +113,10 @@ pub record IsNewFolding (config : Parts) (folding : Folding) : Type 0 where
   pub ready : IsReady (length config.events) folding.desk
 
 -- the end of work whose store could not be begun
-abbrev pub not_begun : {T D : Type 0} → DiskStop → BeginFault D → Result T (Stop (Bor (List ℕ))) × D
-not_begun why (begin.Failed disk) = (Err (OnDisk why), disk)
-not_begun why (begin.Damaged slot disk) = (Err (OnDisk (Damaged slot)), disk)
-not_begun why (begin.NoMemory disk) = (Err NoMemory, disk)
+abbrev pub not_begun : {T D : Type 0} → DiskStop → BeginFault D → Ended T D
+not_begun why (begin.Failed disk) = record { end = Err (OnDisk why); disk = disk }
+not_begun why (begin.Damaged slot disk) = record { end = Err (OnDisk (Damaged slot)); disk = disk }
+not_begun why (begin.NoMemory disk) = record { end = Err NoMemory; disk = disk }
 
 -- why saving ended: it takes no memory
 abbrev pub HasSaveCause : {A N D : Type 0} → (D → Shown) → StoreValue D → D → Result A (Stop N) → Type 0

@@ -2,7 +2,7 @@
 -- handed back.
 -- Source: docs/COMMANDS.md.
 use Rattle.std.specs.Prelude.{◌≡◌, ◌⊎◌}
-use Rattle.cmd_steps.specs.Names.{Command, Err, Files, IsTrue, KeepFiles, List, Misused, None, Ok, Option, PairFiles, RanCommand, Result, Row, Some, StandsInPart, Vec, codes, at_text, false, keep, length, recall, ℕ}
+use Rattle.cmd_steps.specs.Names.{Command, Err, Files, IsTrue, KeepFiles, List, Misused, None, Ok, Option, PairFiles, RanCommand, Result, Row, Some, StandsInPart, Vec, codes, number_text, false, keep, length, recall, ℕ}
 use Rattle.memory_disk.specs.Disks.{Shown, LeavesSince, MayBeLeft, bytes_of}
 use Rattle.memory_store.specs.Slots.{KeepsRows}
 use Rattle.cmd_disk.specs.Keeping.{HasDiskCause, LeavesBehind}
@@ -34,7 +34,7 @@ pub record Recalled (bytes target said : List ℕ) (new : Files) : Type 0 where
   pub rows : List Row
   pub keeps : KeepsRows bytes sequence rows
   pub written : new target ≡ Some (memory_text rows)
-  pub text : said ≡ at_text (codes "records ") (length rows)
+  pub text : said ≡ number_text (codes "records ") (length rows)
 
 -- the file holds a first part of the text of the records that the disk keeps, or is as before
 pub record RecalledInPart (bytes target : List ℕ) (old new : Files) : Type 0 where

@@ -7,17 +7,27 @@ use cmd_files::{DiskStop, Stop};
 use memory_store::BeginFault;
 
 /// What work on a disk gave or why it stopped, and the disk, which is handed back either way.
-pub(crate) type Ended<'a, T, D> = (Result<T, Stop<&'a str>>, D);
+pub(crate) struct Ended<'a, T, D> {
+    pub(crate) end: Result<T, Stop<&'a str>>,
+    pub(crate) disk: D,
+}
 
 /// Work that stopped where its store could not be begun. `failed` is how a disk that failed is told.
 pub(crate) fn not_begun<'a, T, D>(fault: BeginFault<D>, failed: DiskStop) -> Ended<'a, T, D>
     ensures { result ≡ end_not_begun failed fault }
 {
     match fault {
-        BeginFault::Failed(disk) => (Err(Stop::OnDisk(failed)), disk),
-        BeginFault::Damaged { slot, disk } => {
-            (Err(Stop::OnDisk(DiskStop::Damaged { slot })), disk)
-        }
-        BeginFault::NoMemory(disk) => (Err(Stop::NoMemory), disk),
+        BeginFault::Failed(disk) => Ended {
+            end: Err(Stop::OnDisk(failed)),
+            disk,
+        },
+        BeginFault::Damaged { slot, disk } => Ended {
+            end: Err(Stop::OnDisk(DiskStop::Damaged { slot })),
+            disk,
+        },
+        BeginFault::NoMemory(disk) => Ended {
+            end: Err(Stop::NoMemory),
+            disk,
+        },
     }
 }

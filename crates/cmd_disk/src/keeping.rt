@@ -27,24 +27,36 @@ pub(crate) fn keep<'a, H: Shelf, D: Disk>(
     shelf: &mut H,
     disk: D,
 ) -> Ended<'a, Vec<u8>, D>
-    ensures ends { EndsAs (keep_command (keep_files_of names.entry)) (plain_end result.0)
+    ensures ends { EndsAs (keep_command (keep_files_of names.entry)) (plain_end result.end)
         (H.shows shelf.old) (H.shows shelf.new) }
-    ensures cause { HasDiskCause D.shows disk result.1 (plain_end result.0) }
+    ensures cause { HasDiskCause D.shows disk result.disk (plain_end result.end) }
     ensures leaves { IsTrue (H.shows shelf.old).tells → LeavesRecorded D.shows (keep_files_of names.entry)
-        (H.shows shelf.old).files disk result.1 (plain_end result.0) }
+        (H.shows shelf.old).files disk result.disk (plain_end result.end) }
 {
     let inputs = match read_inputs(alloc, names.from, shelf) {
         Ok(inputs) => inputs,
-        Err(stop) => return (Err(stop), disk),
+        Err(stop) => return Ended {
+            end: Err(stop),
+            disk,
+        },
     };
     let history = &inputs.journal.history;
     let Ok(line) = saved_line(alloc, history.turns()) else {
-        return (Err(Stop::NoMemory), disk);
+        return Ended {
+            end: Err(Stop::NoMemory),
+            disk,
+        };
     };
-    let (end, disk) = keep_history(alloc, &inputs.config, history, disk);
+    let Ended { end, disk } = keep_history(alloc, &inputs.config, history, disk);
     match end {
-        Ok(()) => (Ok(line), disk),
-        Err(stop) => (Err(stop), disk),
+        Ok(()) => Ended {
+            end: Ok(line),
+            disk,
+        },
+        Err(stop) => Ended {
+            end: Err(stop),
+            disk,
+        },
     }
 }
 
@@ -56,17 +68,23 @@ fn keep_history<'a, D: Disk>(
     disk: D,
 ) -> Ended<'a, (), D>
     requires { IsFoldable config.now history.now.turns }
-    ensures stops { IfErr result.0 StopsKeeping }
-    ensures cause { HasDiskCause D.shows disk result.1 result.0 }
+    ensures stops { IfErr result.end StopsKeeping }
+    ensures cause { HasDiskCause D.shows disk result.disk result.end }
     ensures leaves { IsTrue (D.shows disk).tells →
-        LeavesBehind config.now history.now.turns (D.shows disk) (D.shows result.1) result.0 }
+        LeavesBehind config.now history.now.turns (D.shows disk) (D.shows result.disk) result.end }
 {
     let events = config.parts().events.len() as u64;
     let Ok(desk) = Desk::make(alloc, events) else {
-        return (Err(Stop::NoMemory), disk);
+        return Ended {
+            end: Err(Stop::NoMemory),
+            disk,
+        };
     };
     let Ok(chain) = EventChain::make(alloc, config) else {
-        return (Err(Stop::NoMemory), disk);
+        return Ended {
+            end: Err(Stop::NoMemory),
+            disk,
+        };
     };
     save_history(alloc, config, history, &mut Folding { desk, chain }, disk)
 }
@@ -81,10 +99,10 @@ fn save_history<'h, 'a, D: Disk>(
 ) -> Ended<'a, (), D>
     requires new { IsNewFolding config.now folding.old }
     requires foldable { IsFoldable config.now history.now.turns }
-    ensures stops { IfErr result.0 StopsKeeping }
-    ensures cause { HasDiskCause D.shows disk result.1 result.0 }
+    ensures stops { IfErr result.end StopsKeeping }
+    ensures cause { HasDiskCause D.shows disk result.disk result.end }
     ensures leaves { IsTrue (D.shows disk).tells →
-        LeavesBehind config.now history.now.turns (D.shows disk) (D.shows result.1) result.0 }
+        LeavesBehind config.now history.now.turns (D.shows disk) (D.shows result.disk) result.end }
 {
     match Store::begin(alloc, disk) {
         Ok((store, _)) => save_turns(config, history, folding, store),

@@ -1,7 +1,7 @@
 //! The command `recall`: the records that a disk keeps, as text.
 
 ghost use Rattle.std.specs.Prelude.{◌≡◌};
-ghost use Rattle.cmd_steps.specs.Words.{EndsAs, IfErr, IfOk, IsTrue, OnOk, PairFiles, Some, codes, at_text, length, memory_text, pair_of, plain_end, recall_command};
+ghost use Rattle.cmd_steps.specs.Words.{EndsAs, IfErr, IfOk, IsTrue, OnOk, PairFiles, Some, codes, number_text, length, memory_text, pair_of, plain_end, recall_command};
 ghost use Rattle.memory_disk.specs.Disks.{LeavesSince, MayBeLeft, bytes_of};
 ghost use Rattle.cmd_disk.specs.Keeping.{HasDiskCause};
 ghost use Rattle.cmd_disk.specs.Runs.{RecalledBy, written_end};
@@ -23,15 +23,15 @@ pub(crate) fn recall<'a, H: Shelf, D: Disk>(
     shelf: &mut H,
     disk: D,
 ) -> Ended<'a, Vec<u8>, D>
-    ensures ends { EndsAs (recall_command (pair_of names.entry)) (plain_end result.0)
+    ensures ends { EndsAs (recall_command (pair_of names.entry)) (plain_end result.end)
         (H.shows shelf.old) (H.shows shelf.new) }
-    ensures cause { HasDiskCause D.shows disk result.1 (plain_end result.0) }
-    ensures same { IsTrue (D.shows disk).tells → bytes_of (D.shows result.1) ≡ bytes_of (D.shows disk) }
+    ensures cause { HasDiskCause D.shows disk result.disk (plain_end result.end) }
+    ensures same { IsTrue (D.shows disk).tells → bytes_of (D.shows result.disk) ≡ bytes_of (D.shows disk) }
     ensures any_moment { IsTrue (D.shows disk).tells →
-        LeavesSince (D.shows disk).run (D.shows result.1).run (MayBeLeft (D.shows disk).run.now) }
+        LeavesSince (D.shows disk).run (D.shows result.disk).run (MayBeLeft (D.shows disk).run.now) }
     ensures recalled { IsTrue (H.shows shelf.old).tells → IsTrue (D.shows disk).tells →
         RecalledBy (bytes_of (D.shows disk)) names.entry.target.now (H.shows shelf.old).files (H.shows shelf.new).files
-        (plain_end result.0) }
+        (plain_end result.end) }
 {
     match Store::begin(alloc, disk) {
         Ok((store, records)) => {
@@ -39,7 +39,10 @@ pub(crate) fn recall<'a, H: Shelf, D: Disk>(
                 Ok(line) => Ok(line),
                 Err(fault) => Err(Stop::from(fault)),
             };
-            (end, store.finish())
+            Ended {
+                end,
+                disk: store.finish(),
+            }
         }
         Err(fault) => not_begun(fault, DiskStop::Failed),
     }
@@ -58,7 +61,7 @@ fn write_records<H: Shelf>(
         OnOk result ((H.shows shelf.new).files target.now ≡ Some (memory_text records.now)) }
     ensures part { IsTrue (H.shows shelf.old).tells → IfErr result (λ _. StandsInPart (H.shows shelf.old).files (H.shows shelf.new).files
         (record { name = target.now; bytes = memory_text records.now })) }
-    ensures line { IfOk result (λ said. said.items ≡ at_text (codes "records ") (length records.now)) }
+    ensures line { IfOk result (λ said. said.items ≡ number_text (codes "records ") (length records.now)) }
 {
     let text = records.print(alloc).map_err(|_| WriteFault::NoMemory)?;
     let line = records_line(alloc, records.len()).map_err(|_| WriteFault::NoMemory)?;
@@ -73,7 +76,7 @@ fn write_records<H: Shelf>(
 
 /// `records R`, and a line feed.
 fn records_line(alloc: Global, records: u16) -> Result<Vec<u8>, NoMemory>
-    ensures { IfOk result (λ line. line.items ≡ at_text (codes "records ") records) }
+    ensures { IfOk result (λ line. line.items ≡ number_text (codes "records ") records) }
 {
     let line = format!(in alloc; "records {records}\n")?;
     Ok(line.into_bytes())

@@ -49,9 +49,9 @@ pub fn run_keep<H: Shelf, K: Sink, D: Disk>(
 
 /// Tells how work on a disk ended, and hands the disk back.
 fn told<K: Sink, D: Disk>(alloc: Global, ended: Ended<'_, Vec<u8>, D>, out: &mut K) -> (u8, D)
-    ensures told { Tells (plain_end ended.entry.0) result.0 (K.hears out.old) (K.hears out.new) }
-    ensures disk { result.1 ≡ ended.entry.1 }
+    ensures told { Tells (plain_end ended.entry.end) result.0 (K.hears out.old) (K.hears out.new) }
+    ensures disk { result.1 ≡ ended.entry.disk }
 {
-    let (end, disk) = ended;
+    let Ended { end, disk } = ended;
     (tell(alloc, end, out), disk)
 }

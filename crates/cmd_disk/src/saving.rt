@@ -31,10 +31,10 @@ pub(crate) fn save_turns<'h, 'a, D: Disk>(
 ) -> Ended<'a, (), D>
     requires new { IsNewFolding config.now folding.old }
     requires foldable { IsFoldable config.now history.now.turns }
-    ensures tells { (D.shows result.1).tells ≡ (D.shows store.disk).tells }
+    ensures tells { (D.shows result.disk).tells ≡ (D.shows store.disk).tells }
     // It may end for want of a sequence, or because a save failed, and never for want of memory.
-    ensures cause { HasSaveCause D.shows store result.1 result.0 }
-    ensures saved { IsTrue (D.shows store.disk).tells → SavedAll D.shows config.now history.now.turns store result.1 result.0 }
+    ensures cause { HasSaveCause D.shows store result.disk result.end }
+    ensures saved { IsTrue (D.shows store.disk).tells → SavedAll D.shows config.now history.now.turns store result.disk result.end }
 {
     // The configuration is valid, so its records can be kept.
     let _parts = config.parts();
@@ -48,15 +48,19 @@ pub(crate) fn save_turns<'h, 'a, D: Disk>(
         folding.desk.take(&mut folding.chain, &head, entries);
         current = match current.save(folding.chain.memory()) {
             Ok(store) => store,
-            Err(SaveFault::Failed(disk)) => {
-                return (Err(Stop::OnDisk(DiskStop::FailedAfter { saves })), disk);
-            }
-            Err(SaveFault::Worn(store)) => {
-                let stop = Stop::OnDisk(DiskStop::WornAfter { saves });
-                return (Err(stop), store.finish());
-            }
+            Err(SaveFault::Failed(disk)) => return Ended {
+                end: Err(Stop::OnDisk(DiskStop::FailedAfter { saves })),
+                disk,
+            },
+            Err(SaveFault::Worn(store)) => return Ended {
+                end: Err(Stop::OnDisk(DiskStop::WornAfter { saves })),
+                disk: store.finish(),
+            },
         };
         saves += 1;
     }
-    (Ok(()), current.finish())
+    Ended {
+        end: Ok(()),
+        disk: current.finish(),
+    }
 }

@@ -49,8 +49,8 @@ bad_source_text name bad =
     codes "bad message in " ++ (name ++ (codes " at " ++ (decimal bad.at ++ (codes ": " ++ (fault_word bad.fault ++ codes "\n")))))
 
 -- a line of these words and a number
-abbrev pub at_text : List ℕ → ℕ → List ℕ
-at_text words number = words ++ (decimal number ++ codes "\n")
+abbrev pub number_text : List ℕ → ℕ → List ℕ
+number_text words number = words ++ (decimal number ++ codes "\n")
 
 -- how a refusal is told, and which commands may meet it, by their words
 pub record Row : Type 0 where
@@ -75,25 +75,25 @@ row_of (TooLong name) = row 4 (codes "too long " ++ (name ++ codes "\n")) (codes
 row_of (BadConfig fault) = row 5 (bad_config_text fault) (codes "replay" ∷ codes "migrate" ∷ recording)
 row_of (BadJournal line number) = row 6 (bad_journal_text line number) recording
 row_of (BadTrace line number) = row 6 (bad_trace_text line number) (codes "replay" ∷ [])
-row_of (Differ at) = row 9 (at_text (codes "differs at ") at) (codes "check" ∷ [])
+row_of (Differ at) = row 9 (number_text (codes "differs at ") at) (codes "check" ∷ [])
 row_of (BadMessages bad) = row 10 (bad_message_text bad) (codes "decode" ∷ codes "export" ∷ codes "bundle" ∷ sealing)
 row_of (BadSource name bad) = row 10 (bad_source_text name bad) (codes "report" ∷ [])
 row_of (Instance name) = row 11 (codes "instance " ++ (name ++ codes "\n")) (codes "report" ∷ [])
 row_of EmptyKey = row 16 (codes "empty key\n") sealing
-row_of (Signed at) = row 17 (at_text (codes "signed at ") at) (codes "sign" ∷ [])
-row_of (BadTag at) = row 18 (at_text (codes "bad tag at ") at) (codes "verify" ∷ [])
-row_of (BadCounter at) = row 19 (at_text (codes "bad counter at ") at) (codes "verify" ∷ [])
-row_of (TooLarge at) = row 20 (at_text (codes "too large at ") at) (codes "bundle" ∷ [])
-row_of (BadUnit at) = row 21 (at_text (codes "bad unit at ") at) (codes "unbundle" ∷ [])
+row_of (Signed at) = row 17 (number_text (codes "signed at ") at) (codes "sign" ∷ [])
+row_of (BadTag at) = row 18 (number_text (codes "bad tag at ") at) (codes "verify" ∷ [])
+row_of (BadCounter at) = row 19 (number_text (codes "bad counter at ") at) (codes "verify" ∷ [])
+row_of (TooLarge at) = row 20 (number_text (codes "too large at ") at) (codes "bundle" ∷ [])
+row_of (BadUnit at) = row 21 (number_text (codes "bad unit at ") at) (codes "unbundle" ∷ [])
 
 -- ---- the texts of stops
 
 -- the text of a stop on a disk
 abbrev pub disk_text : DiskStop → List ℕ
 disk_text Failed = codes "disk failed\n"
-disk_text (FailedAfter saves) = at_text (codes "disk failed after ") saves
-disk_text (Damaged slot) = at_text (codes "bad disk: slot ") slot
-disk_text (WornAfter saves) = at_text (codes "worn after ") saves
+disk_text (FailedAfter saves) = number_text (codes "disk failed after ") saves
+disk_text (Damaged slot) = number_text (codes "bad disk: slot ") slot
+disk_text (WornAfter saves) = number_text (codes "worn after ") saves
 
 -- its status
 abbrev pub disk_status : DiskStop → ℕ

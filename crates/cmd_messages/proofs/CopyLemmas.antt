@@ -1,5 +1,5 @@
 -- How many messages were sealed or unsealed, by how many bytes came or went.
-use Rattle.cmd_steps.proofs.Names.{AllByRecursion, EmptyKey, IsCopyWork, List, MessageParts, [], ap, arith, at_text, false, gives, joined, key_judged, length, one_file, refl, refuses, sym, true, ℕ, ◌*◌, ◌+◌, ◌-◌, ◌/◌, ◌<◌, ◌^◌, ◌∙◌, ◌∷◌, ◌≡◌, ◌≤◌}
+use Rattle.cmd_steps.proofs.Names.{AllByRecursion, EmptyKey, IsCopyWork, List, MessageParts, [], ap, arith, number_text, false, gives, joined, key_judged, length, one_file, refl, refuses, sym, true, ℕ, ◌*◌, ◌+◌, ◌-◌, ◌/◌, ◌<◌, ◌^◌, ◌∙◌, ◌∷◌, ◌≡◌, ◌≤◌}
 use Rattle.frame_auth.proofs.LayoutLemmas.{length-joined_sealed}
 use Rattle.frame_auth.specs.Tags.{IsKeyLength, filled}
 use Rattle.ids_bundle.proofs.UnpackLemmas.{packed_fit}
@@ -24,9 +24,9 @@ module _ (key : List ℕ) (start : ℕ) (bytes out : List ℕ) where
 
 -- the line counts what was copied
 pub copied_work : (from to : List MessageParts → List ℕ) (word target bytes out line : List ℕ) (count : ℕ) (copies : Copies from to bytes out)
-    → count ≡ length copies.messages → line ≡ at_text word count → IsCopyWork from to word target bytes (one_file target out line)
+    → count ≡ length copies.messages → line ≡ number_text word count → IsCopyWork from to word target bytes (one_file target out line)
 copied_work from to word target bytes out line count copies many is =
-    record { out = out; copies = copies; work_is = ap (one_file target out) (is ∙ ap (at_text word) many) }
+    record { out = out; copies = copies; work_is = ap (one_file target out) (is ∙ ap (number_text word) many) }
 
 -- ---- keys
 

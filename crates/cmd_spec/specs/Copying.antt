@@ -1,6 +1,6 @@
 -- The commands `sign` and `verify`: the file that they write, their text, and why they refuse what they read.
 use Rattle.std.specs.Prelude.{◌∷◌, ◌≡◌}
-use Rattle.cmd_spec.specs.Names.{BadCounter, BadMessages, BadTag, Copies, List, MessageParts, NoMemory, None, Option, Refusal, Refused, SealFault, Signed, Some, Stop, UnsealFault, Work, [], at_text, length, ℕ}
+use Rattle.cmd_spec.specs.Names.{BadCounter, BadMessages, BadTag, Copies, List, MessageParts, NoMemory, None, Option, Refusal, Refused, SealFault, Signed, Some, Stop, UnsealFault, Work, [], number_text, length, ℕ}
 use Rattle.frame_auth.specs.declared.fault.SealFault.TheVariants as seals
 use Rattle.frame_auth.specs.declared.fault.UnsealFault.TheVariants as unseals
 
@@ -12,7 +12,7 @@ one_file target bytes said = record { outputs = record { name = target; bytes = 
 pub record IsCopyWork (from to : List MessageParts → List ℕ) (word target bytes : List ℕ) (work : Work) : Type 0 where
   pub out : List ℕ
   pub copies : Copies from to bytes out
-  pub work_is : work ≡ one_file target out (at_text word (length copies.messages))
+  pub work_is : work ≡ one_file target out (number_text word (length copies.messages))
 
 -- how a fault of sealing is told; want of memory is no refusal
 abbrev pub seal_refusal : {N : Type 0} → SealFault → Option (Refusal N)

@@ -1,17 +1,17 @@
 -- The commands `keep` and `recall`: their lines, the file that `recall` writes, and how their work on a disk may stop.
 use Rattle.std.specs.Prelude.{◌≡◌}
-use Rattle.cmd_spec.specs.Names.{Command, DiskStop, List, Work, at_text, codes, keep, length, memory_text, recall, ℕ}
+use Rattle.cmd_spec.specs.Names.{Command, DiskStop, List, Work, number_text, codes, keep, length, memory_text, recall, ℕ}
 use Rattle.ids_types.specs.MemoryRow.{Row}
 use Rattle.cmd_files.specs.declared.stop.DiskStop.TheVariants.{Failed, Damaged}
 use Rattle.cmd_spec.specs.Copying.{one_file}
 
 -- the line `saved T`, with its line feed
 abbrev pub saved_text : ℕ → List ℕ
-saved_text saves = at_text (codes "saved ") saves
+saved_text saves = number_text (codes "saved ") saves
 
 -- the text of these records as a file, and the line `records R`
 abbrev pub recall_work : List ℕ → List Row → Work
-recall_work target rows = one_file target (memory_text rows) (at_text (codes "records ") (length rows))
+recall_work target rows = one_file target (memory_text rows) (number_text (codes "records ") (length rows))
 
 -- the work writes the text of some records
 pub record IsRecallWork (target : List ℕ) (work : Work) : Type 0 where

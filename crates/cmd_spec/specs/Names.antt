@@ -7,7 +7,7 @@ pub use Rattle.cmd_files.specs.declared.stop.DiskStop.{DiskStop}
 pub use Rattle.cmd_files.specs.declared.stop.Refusal.{Refusal}
 pub use Rattle.cmd_files.specs.declared.stop.Stop.{Stop}
 pub use Rattle.cmd_files.specs.Reading.{Comes, Reading, file, gives, if_found, over, refuses, ◌>>=◌}
-pub use Rattle.cmd_files.specs.Texts.{answer_status, answer_text, at_text, disk_status, row_of}
+pub use Rattle.cmd_files.specs.Texts.{answer_status, answer_text, number_text, disk_status, row_of}
 pub use Rattle.cmd_files.specs.Writing.{AreWritten, OneFails, Output, SameBut, StandUpTo, Work}
 pub use Rattle.cmd_words.specs.Command.{Command, FoldFiles, KeyedFiles, PairFiles, Recording, ReplayFiles, bundle, check, decode, explain, export, fold, gen, keep, migrate, read_by, recall, replay, report, sign, unbundle, usage, verify, word_of, written_by}
 pub use Rattle.config_json.specs.Configured.{configuration}

@@ -12,7 +12,7 @@ pub use Rattle.cmd_spec.specs.Fold.{fold_line, fold_outputs}
 pub use Rattle.cmd_spec.specs.FoldedJournal.{folded_in, held_back_line}
 pub use Rattle.cmd_spec.specs.Headline.{IsOneHistory}
 pub use Rattle.cmd_spec.specs.Judge.{AskedFor, Does, Recorded, Task, asked_in, bad_journal, bad_trace, check_judged, config_in, does, fold_work, gen_work, judge, key_judged, keyed_in, messages_judged, migrates, only_said, packs, reading_of, recorded_in, replays, reports, seals, unpacks, unseals}
-pub use Rattle.cmd_spec.specs.Names.{AreWritten, BadMessage, BadMessages, BadSource, CannotRead, CannotWrite, Command, EmptyKey, Err, Failed, Files, FoldFiles, Heard, IsTrue, List, MessageParts, NoMemory, Ok, OnDisk, OneFails, Output, PairFiles, Parts, Reading, Refused, ReplayFiles, Round, SameBut, Shelved, Some, Stop, Told, Turn, Work, WriteFault, [], answer_status, answer_text, at_text, bundle, check, codes, common_prefix_len, config_text, configuration, decode, decoded_text, entries_of, false, fold, gen, journal_text, length, list_any, memory_text, messages_of, messages_read, migrate, misses_context, nat_eq, over, replay, report, reverse, rows_of, sign, sum_by, told, trace_in, unbundle, usage, verify, written_by, ℕ}
+pub use Rattle.cmd_spec.specs.Names.{AreWritten, BadMessage, BadMessages, BadSource, CannotRead, CannotWrite, Command, EmptyKey, Err, Failed, Files, FoldFiles, Heard, IsTrue, List, MessageParts, NoMemory, Ok, OnDisk, OneFails, Output, PairFiles, Parts, Reading, Refused, ReplayFiles, Round, SameBut, Shelved, Some, Stop, Told, Turn, Work, WriteFault, [], answer_status, answer_text, number_text, bundle, check, codes, common_prefix_len, config_text, configuration, decode, decoded_text, entries_of, false, fold, gen, journal_text, length, list_any, memory_text, messages_of, messages_read, migrate, misses_context, nat_eq, over, replay, report, reverse, rows_of, sign, sum_by, told, trace_in, unbundle, usage, verify, written_by, ℕ}
 pub use Rattle.cmd_spec.specs.Packing.{pack_refusal, units_text, unpack_refusal}
 pub use Rattle.cmd_spec.specs.Replay.{lost_contexts, replay_outputs, replay_text, replay_work, without_context}
 pub use Rattle.cmd_spec.specs.Report.{clashes, is_of, report_text, source_in, sources_in}

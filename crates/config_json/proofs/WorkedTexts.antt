@@ -1,26 +1,13 @@
 -- The text that docs/FORMATS.md shows, so that a wrong rule in the definitions does not check.
-use Rattle.config_json.proofs.Names.{◌≡◌, [], ◌∷◌, None, refl, codes, Parts, plain_event, config_text}
+use Rattle.config_json.proofs.Names.{◌≡◌, [], ◌∷◌, refl, codes, Parts, plain_event, config_text}
 use Rattle.std.specs.Fmt.{digits}
 use Rattle.serde_json.proofs.OnLiterals.{serde_json_on_literals}
+use Rattle.ids_config.proofs.Plain.{instance_18}
 use Rattle.config_json.specs.Printed.{config_tree, event_tree}
 
 -- one event, with id 42 and sensor 3, of instance 18 and profile 1, and all else by default
 abbrev base : Parts
-base = record {
-  profile = 1;
-  instance = 18;
-  callers = 1;
-  ring = 64;
-  memory = 0;
-  state = 0;
-  classes = [];
-  rate = None;
-  traffic = None;
-  events = plain_event 42 3 ∷ [];
-  lost_events = None;
-  lost_contexts = None;
-  limited = None;
-}
+base = instance_18 (plain_event 42 3 ∷ [])
 
 -- its text
 base_text : config_text base

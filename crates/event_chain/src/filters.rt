@@ -24,7 +24,7 @@ use crate::fate::{Ending, Fate};
 use crate::joining::{go_on, lent, pass};
 use crate::witness::Witness;
 use filter_aggregate::Windows;
-use filter_chain::{give_back, kept};
+use filter_chain::{give_back, take_kept};
 use filter_gate::{GateState, Verdict};
 use ids_types::{Act, EventIndex, Parcel, Qualified, TurnOut};
 
@@ -93,17 +93,23 @@ impl<B: Parcel, W: Witness> Filters<B, W> {
         }
     }
 
-    /// An act enters: an item comes, or a control changes what comes after it.
-    pub(crate) fn enter(&mut self, tick: u64, act: Act<B>, back: &mut Vec<B>, out: &mut TurnOut)
+    /// An act enters: an item comes, or a control changes what comes after it. Its parcel is taken out.
+    pub(crate) fn enter(
+        &mut self,
+        tick: u64,
+        act: &mut Act<B>,
+        back: &mut Vec<B>,
+        out: &mut TurnOut,
+    )
         requires ready { IsReady tick self.old out.old }
-        requires fits { FitsAct B.held (length self.old.windows) act }
-        requires room { HasSentRoom B.held 1 (option_to_list (parcel_of act) ++ all_kept self.old.windows) out.old }
-        requires back { vec_len back.old + length (option_to_list (parcel_of act))
+        requires fits { FitsAct B.held (length self.old.windows) act.old }
+        requires room { HasSentRoom B.held 1 (option_to_list (parcel_of act.old) ++ all_kept self.old.windows) out.old }
+        requires back { vec_len back.old + length (option_to_list (parcel_of act.old))
             + length (all_kept self.old.windows) ≤ vec_capacity back.old }
         ensures behind { (config : Parts) (start : Start) (moments : List Moment)
             → IsBehind B.held W.knows config start tick moments self.old out.old
-            → IsBehind B.held W.knows config start tick (act_moment tick (act_by B.held act) ∷ moments) self.new out.new }
-        ensures parcels { HandsBack (option_to_list (parcel_of act)) (all_kept self.old.windows)
+            → IsBehind B.held W.knows config start tick (act_moment tick (act_by B.held act.old) ∷ moments) self.new out.new }
+        ensures parcels { HandsBack (option_to_list (parcel_of act.old)) (all_kept self.old.windows)
             (all_kept self.new.windows) back.old.items back.new.items }
         ensures capacity { vec_capacity back.new ≡ vec_capacity back.old }
         ensures stays { Stays 1 tick self.old self.new out.old out.new }
@@ -117,19 +123,20 @@ impl<B: Parcel, W: Witness> Filters<B, W> {
                 context,
             } => {
                 let item = Qualified {
-                    event,
-                    count,
-                    stamp,
-                    context: kept(context),
+                    event: *event,
+                    count: *count,
+                    stamp: *stamp,
+                    context: take_kept(context),
                 };
                 self.take(tick, item, back, out);
             }
-            Act::State(state) => self.gate.state(state),
-            Act::SetMode { event, mode } => self.gate.mode(event, mode),
+            Act::State(state) => self.gate.state(*state),
+            Act::SetMode { event, mode } => self.gate.mode(*event, *mode),
         }
     }
 
     /// An item comes.
+    #[inline(always)]
     pub(crate) fn take(
         &mut self,
         tick: u64,

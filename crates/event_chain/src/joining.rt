@@ -25,6 +25,7 @@ use ids_types::{Parcel, Qualified, TurnOut};
 use message_sender::Report;
 
 /// Takes an item: it goes into its event's window, or on to the next filter where its event has none.
+#[inline(always)]
 pub(crate) fn pass<B: Parcel>(
     windows: &mut Windows<B>,
     counting: &mut Counting,

@@ -16,9 +16,8 @@ ghost use Rattle.event_chain.specs.Ready.{CanSend, HasPlaces, HasSentRoom, Settl
 
 use crate::filters::Filters;
 use crate::witness::Witness;
-use ids_types::{Act, Entry, EventIndex, Parcel, Qualified, TurnOut};
+use ids_types::{Entry, EventIndex, Parcel, Qualified, TurnOut};
 use internal_events::HeadList;
-use std::mem::replace;
 
 impl<B: Parcel, W: Witness> Filters<B, W> {
     /// The windows of these events close, each where it is due at the tick.
@@ -118,8 +117,7 @@ impl<B: Parcel, W: Witness> Filters<B, W> {
         ensures items_room { vec_capacity items.new ≡ vec_capacity items.old }
     {
         for i in 0..items.len() {
-            let act = replace(&mut items[i].act, Act::State(0));
-            self.enter(tick, act, back, out);
+            self.enter(tick, &mut items[i].act, back, out);
         }
         items.clear();
     }

@@ -17,6 +17,6 @@ mod transcript;
 
 pub use chain::{Chain, ParcelChain};
 pub use logging::{log_turn, record_turn};
-pub use parcels::{give_back, kept, lent};
+pub use parcels::{give_back, lent, take_kept};
 pub use room::most_sent;
 pub use transcript::Transcript;

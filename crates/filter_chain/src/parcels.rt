@@ -5,10 +5,12 @@ ghost use Rattle.ids_types.specs.Carries.{act_by, carried_by, entry_by};
 ghost use Rattle.ids_types.specs.Plain.{plain_carried, plain_entry};
 ghost use Rattle.chain_spec.specs.Items.{kept_parcel};
 
-use ids_types::{Act, Carried, Entry, Parcel, Plain};
+use ids_types::{Act, Carried, Entry, Numbers, Parcel, Plain};
+use std::mem::replace;
 
 /// The entry, with its context data lent.
 /// Steps: constant; at most 4 numbers are copied. By: type `Numbers`; the context is lent.
+#[inline(always)]
 pub fn lent<B: Parcel>(entry: &Entry<B>) -> Entry<Plain<'_>>
     ensures { plain_entry result ≡ entry_by B.held entry.now }
 {
@@ -19,6 +21,7 @@ pub fn lent<B: Parcel>(entry: &Entry<B>) -> Entry<Plain<'_>>
     }
 }
 
+#[inline(always)]
 fn lent_act<B: Parcel>(act: &Act<B>) -> Act<Plain<'_>>
     ensures { act_by (λ p. p.0.now) result ≡ act_by B.held act.now }
 {
@@ -42,6 +45,7 @@ fn lent_act<B: Parcel>(act: &Act<B>) -> Act<Plain<'_>>
     }
 }
 
+#[inline(always)]
 fn lent_context<B: Parcel>(context: &Carried<B>) -> Carried<Plain<'_>>
     ensures { plain_carried result ≡ carried_by B.held context.now }
 {
@@ -56,16 +60,25 @@ fn lent_context<B: Parcel>(context: &Carried<B>) -> Carried<Plain<'_>>
             claim: *claim,
             parcel: Plain(parcel.bytes()),
         },
-        Carried::Missing(numbers) => Carried::Missing(numbers.again()),
+        Carried::Missing(numbers) => Carried::Missing(once_more(numbers)),
     }
 }
 
-/// The parcel of a report's context data, where they are kept.
-/// By: no loop; the parcel is moved.
-pub fn kept<B: Parcel>(context: Carried<B>) -> Option<B>
-    ensures { result ≡ kept_parcel context }
+// The numbers that few entries have, copied in a function of its own: the others have no room for them.
+#[inline(never)]
+fn once_more(numbers: &Numbers) -> Numbers
+    ensures { result ≡ numbers.now }
 {
-    match context {
+    numbers.again()
+}
+
+/// Takes the parcel of a report's context data out, where they are kept.
+/// By: no loop; the parcel is moved.
+#[inline(always)]
+pub fn take_kept<B: Parcel>(context: &mut Carried<B>) -> Option<B>
+    ensures { result ≡ kept_parcel context.old }
+{
+    match replace(context, Carried::Absent) {
         Carried::Kept { parcel, .. } => Some(parcel),
         Carried::Absent | Carried::Missing(_) => None,
     }

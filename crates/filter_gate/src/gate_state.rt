@@ -51,6 +51,7 @@ impl GateState {
 
     /// The verdict on an item of the event.
     /// Steps: the event's block states, at most 16. By: read off; answer `Verdict`, no NoMemory.
+    #[inline(always)]
     pub fn gate(&mut self, event: EventIndex) -> Verdict
         requires { event.0 < length self.old.rows }
         // What it lets through is what is sampled of the item, and what it lets by is what bypasses.
@@ -92,6 +93,7 @@ impl GateState {
         self.set_mode(event, mode);
     }
 
+    #[inline(always)]
     fn ask(&mut self, event: EventIndex) -> Verdict
         requires { event.0 < length self.old.rows }
         ensures verdict { result ≡ verdict_on self.old.state (row_at self.old event.0) }

@@ -49,6 +49,7 @@ impl Row {
     }
 
     /// The verdict on an item of the event that comes under this state.
+    #[inline(always)]
     pub fn ask(&mut self, state: u64) -> Verdict
         ensures verdict { result ≡ verdict_on state self.old }
         ensures row { self.new ≡ after_asking state self.old }
@@ -64,6 +65,7 @@ impl Row {
     }
 
     // Counts an item that arrived: each nth one passes.
+    #[inline(always)]
     fn sample(&mut self, context: bool) -> Verdict
         ensures verdict { result ≡ (if since_with_one self.old == 0 then Pass context else Dropped Nth) }
         ensures row { self.new ≡ with_arrival self.old }

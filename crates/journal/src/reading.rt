@@ -43,7 +43,8 @@ pub fn read(alloc: Global, text: &[u8], config: &Config) -> Result<Journal, Text
     read_journal(alloc, text, config)
 }
 
-/// What the lines of a text tell.
+/// What the lines of a text tell. A function of its own, so that the loop over the lines has all registers.
+#[inline(never)]
 fn read_journal(alloc: Global, text: &[u8], config: &Config) -> Result<Journal, TextFault>
     ensures { Reads (λ j. told j.history.turns j.losses.items) (journal_in config.now text.now) result }
 {

@@ -1,5 +1,5 @@
 -- The largest of some sizes.
-use Rattle.main_function.proofs.Names.{◌≡◌, ℕ, zero, suc, ◌+◌, ◌≤◌, ◌<◌, max, List, [], ◌∷◌, ◌++◌, get_or, length, map, take, sym, subst, ap, ◌∙◌, arith, rules, AllByRecursion, take_more, map-append, AllAdmitted, class_of, spec_sizes, largest_size}
+use Rattle.main_function.proofs.Names.{◌≡◌, ℕ, zero, suc, ◌+◌, ◌≤◌, ◌<◌, max, List, [], ◌∷◌, ◌++◌, get_or, length, map, take, sym, ap, ◌∙◌, arith, rules, AllByRecursion, take_more, map-append, AllAdmitted, class_of, spec_sizes, largest_size}
 use Rattle.std.proofs.Math.Nat.{le-max_left, le-max_right, max-le}
 use Rattle.std.proofs.lemmas.List.Sums.{fold_push}
 use Rattle.std.specs.List.{fold}

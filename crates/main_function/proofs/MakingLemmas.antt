@@ -1,5 +1,5 @@
 -- A manager that has just been made.
-use Rattle.main_function.proofs.Names.{◌≡◌, ℕ, zero, suc, ◌+◌, ◌≤◌, ◌<◌, max, None, Some, List, [], ◌∷◌, ◌++◌, get_or, length, map, take, refl, subst, sym, ap, ◌∙◌, arith, rules, All, AllByRecursion, common_steps, length-map, length-replicate, map-append, take_more, All-cons, All-nil, All-pop, All-push, All-weaker, recursion_from_All, Turn, Parts, class_of, AllAdmitted, Buffer, IsSpec, spec_sizes, givers_of, IsHeld, IsBuilt, IsNewManager, largest_size, AreAllPasses, desk_memo, to_give_back, IsNewMaking, sizes_of, Desk, Pass, Shared, at_length, there, IsMadeFor, rings_have, or_at, Manager}
+use Rattle.main_function.proofs.Names.{◌≡◌, ℕ, suc, ◌≤◌, None, List, [], ◌∷◌, length, refl, sym, ap, ◌∙◌, arith, AllByRecursion, common_steps, length-map, length-replicate, All-nil, Turn, Parts, AllAdmitted, Buffer, IsSpec, spec_sizes, givers_of, IsHeld, IsBuilt, IsNewManager, largest_size, AreAllPasses, desk_memo, to_give_back, IsNewMaking, sizes_of, Desk, Pass, Shared, at_length, there, IsMadeFor, rings_have, or_at, Manager}
 use Rattle.main_function.proofs.LargestLemmas.{admitted_at, rise_above}
 use Rattle.buffer_classes.specs.Classes.{RiseFrom}
 use Rattle.ids_types.specs.declared.class_spec.ClassSpec.{ClassSpec}

@@ -1,5 +1,5 @@
 -- What reports and takes, just made.
-use Rattle.report_api.proofs.Names.{◌≡◌, ℕ, zero, suc, ◌≤◌, ◌<◌, None, List, [], ◌∷◌, get_or, length, map, replicate, subst, sym, ap, ◌∙◌, arith, All, slice_index_or, get_or_default, length-map, length-replicate, Parts, class_of, at_index, at_map, at_length, there, RiseFrom, givers_of, AreNewClasses, AreSpecs, IsNewClaimant, IsSpec, spec_sizes, IsNewQueue, IsUnused, caller_number, AreTied, Caller, IsNewMaking, IsNewPass, IsOfConfig, as_passes, pass_of, IsPassOf, IsShared, pass_memo, sizes_of, Pass, Shared}
+use Rattle.report_api.proofs.Names.{◌≡◌, ℕ, zero, suc, ◌≤◌, ◌<◌, None, is_some, true, refl, List, [], ◌∷◌, get_or, length, map, replicate, subst, sym, ap, ◌∙◌, arith, All, slice_index_or, get_or_default, length-map, length-replicate, Parts, class_of, at_index, at_map, at_length, there, RiseFrom, givers_of, AreNewClasses, AreSpecs, IsNewClaimant, IsSpec, spec_sizes, IsNewQueue, IsUnused, caller_number, AreTied, BoxedAct, Caller, IsNewMaking, IsNewPass, IsOfConfig, as_passes, pass_of, IsPassOf, IsShared, pass_memo, sizes_of, Pass, Shared}
 use Rattle.std.proofs.lemmas.Slice.Zip.{length-zip}
 use Rattle.std.specs.List.{zip}
 use mathlib.Core.Option.{some, some-injective, some-ne-none}
@@ -47,13 +47,13 @@ at_zip (x ∷ xs) (y ∷ ys) zero p at = (ap (λ p. some p.0) (some-injective (x
 at_zip (x ∷ xs) (y ∷ ys) (suc i) p at = at_zip xs ys i p at
 
 -- a pass that made no call
-new_pass : (shared : Shared) → IsShared shared → (i : ℕ) (pass : Pass) → IsUnused shared.queue pass.seat → caller_number pass.seat ≡ i
+new_pass : (shared : Shared) → IsShared shared → (i : ℕ) (pass : Pass) → is_some pass.spare ≡ true → IsUnused shared.queue pass.seat → caller_number pass.seat ≡ i
     → IsNewClaimant shared.classes i pass.claimant → IsNewPass shared i pass
-new_pass shared is_shared i pass unused number new =
+new_pass shared is_shared i pass spare unused number new =
     let log : (pass_memo pass).log ≡ [] = ap (λ k. k.log) unused.knows in
     record {
       is_pass = record {
-        at = let none = new.no_logs in grind (arith, is_shared, unused, new, none, number, log);
+        at = let none = new.no_logs in grind (arith, is_shared, spare, unused, new, none, number, log);
         is_idle = unused.is_idle;
       };
       knows = rw (← number) unused.knows;
@@ -72,11 +72,11 @@ new_tied number limit specs classes givers claimants new = record {
   missing = λ caller pass back. none_there limit caller pass back;
 }
 
-pub new_making : (config : Parts) (shared : Shared) (desk : Desk) (callers : List Caller) (claimants : List ClaimSeat)
-    → IsOfConfig config shared.terms → IsNewQueue config.ring config.callers shared.terms shared.queue desk.taker callers
+pub new_making : (config : Parts) (shared : Shared) (desk : Desk) (callers : List Caller) (claimants : List ClaimSeat) (spares : List BoxedAct)
+    → is_some desk.spare ≡ true → length spares ≡ config.callers → IsOfConfig config shared.terms → IsNewQueue config.ring config.callers shared.terms shared.queue desk.taker callers
     → AreNewClasses config.classes config.callers shared.classes desk.givers claimants
-    → IsNewMaking config shared (as_passes callers claimants) desk
-new_making config shared desk callers claimants of queue classes =
+    → IsNewMaking config shared (as_passes callers claimants spares) desk
+new_making config shared desk callers claimants spares desk_spare as_many of queue classes =
     let is_shared : IsShared shared = record { terms_are = queue.terms_are; sizes_are = classes.sizes_are ∙ sym of.sizes } in
     let tied = new_tied (length (sizes_of shared)) config.callers config.classes shared.classes desk.givers claimants classes in
     record {
@@ -88,17 +88,20 @@ new_making config shared desk callers claimants of queue classes =
         is_shared = is_shared;
         taker = queue.is_taker;
         givers = classes.givers_are;
+        has_spare = desk_spare;
         tied = rw queue.untouched.back_is tied;
       };
       untouched = queue.untouched;
       givers_are = classes.each_giver;
-      all_made = length-map (zip callers claimants) pass_of ∙ length-zip callers claimants ∙ omega (arith, queue.all_made, classes.all_made);
+      all_made = length-map (zip (zip callers claimants) spares) pass_of ∙ length-zip (zip callers claimants) spares
+          ∙ omega (arith, length-zip callers claimants, queue.all_made, classes.all_made, as_many);
       each = λ i pass at.
-          let from = at_map_back pass_of (zip callers claimants) i pass at in
-          let both = at_zip callers claimants i from.0 from.1 in
-          let caller = queue.each i from.0.0 both.0 in
+          let from = at_map_back pass_of (zip (zip callers claimants) spares) i pass at in
+          let pair = at_zip (zip callers claimants) spares i from.0 from.1 in
+          let both = at_zip callers claimants i from.0.0 pair.0 in
+          let caller = queue.each i from.0.0.0 both.0 in
           subst (IsNewPass shared i) from.2
-          (new_pass shared is_shared i (pass_of from.0) caller.0 caller.1 (classes.each i from.0.1 both.1));
+          (new_pass shared is_shared i (pass_of from.0) refl caller.0 caller.1 (classes.each i from.0.0.1 both.1));
     }
 
 -- each pass that was made is one of it

@@ -12,6 +12,6 @@ pub use Rattle.history_spec.specs.Follows.{KeptAsks, LostAtMost, lost_number, Ca
 pub use Rattle.permit_ring.proofs.ListLemmas.{at_length, there}
 pub use Rattle.permit_ring.specs.{undecided, machine_ticket, seat_memo, ended}
 pub use Rattle.report_queue.specs.{IsNewQueue, IsUnused, IsUntouched, caller_number, caller_memo, queue_seats, ticket_of, ClaimTells, adds_mark, finishes, item_by}
-pub use Rattle.report_api.specs.{Got, fate_of, IsControl, Act, misses_context, plain_act, AreTied, desk_memo, Caller, IsNewMaking, IsNewPass, IsOfConfig, as_passes, pass_of, IsPassOf, IsShared, pass_memo, lost_events, lost_contexts, sizes_of, Outcome, DeskMemo, Lost, IsPassAt, asks_of, call_of, calls_in, missing_in, IsUnder, PassMemo, back_log, log_at, asks_back, to_give_back}
+pub use Rattle.report_api.specs.{Got, fate_of, IsControl, Act, misses_context, plain_act, AreTied, desk_memo, BoxedAct, Caller, IsNewMaking, IsNewPass, IsOfConfig, as_passes, pass_of, IsPassOf, IsShared, pass_memo, lost_events, lost_contexts, sizes_of, Outcome, DeskMemo, Lost, IsPassAt, asks_of, call_of, calls_in, missing_in, IsUnder, PassMemo, back_log, log_at, asks_back, to_give_back}
 pub use Rattle.report_api.specs.declared.pass.Pass.{Pass}
 pub use Rattle.report_api.specs.declared.shared.Shared.{Shared}

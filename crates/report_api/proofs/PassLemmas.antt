@@ -46,7 +46,7 @@ pub call_adds : {old new : PassMemo} {outcome : Outcome} {events contexts most :
 call_adds few are call = grind (arith, few, are, call)
 
 module _ {shared : Shared} {old : Pass} (at : IsPassAt shared old) (new : Pass) (caller : IsCallerOf shared.queue new.seat)
-    (claimant : IsClaimSeatOf shared.classes new.claimant) (number : claimant_of new.claimant ≡ claimant_of old.claimant)
+    (claimant : IsClaimSeatOf shared.classes new.claimant) (spare : is_some new.spare ≡ true) (number : claimant_of new.claimant ≡ claimant_of old.claimant)
     (claims : claims_of new.claimant ≤ claims_of old.claimant + 1) (outcome : Outcome) (asked : ℕ → List classes.Outcome)
     (logs : (i : ℕ) → log_of new.claimant i ≡ log_of old.claimant i ++ asked i)
     (asks : (i : ℕ) → CallAsks (length (sizes_of shared)) i (call_of outcome) (map fate_of (asked i)))
@@ -66,7 +66,7 @@ module _ {shared : Shared} {old : Pass} (at : IsPassAt shared old) (new : Pass) 
   pass_after =
       let more = length_push old_log outcome in
       let missing = missing-push old_log outcome in
-      grind (arith, at, caller, claimant, number, claims, follows, adds, more, missing)
+      grind (arith, at, caller, claimant, spare, number, claims, follows, adds, more, missing)
 
 -- a call that asks for no buffer
 pub same_logs : (pass : Pass) (i : ℕ) → log_of pass.claimant i ≡ log_of pass.claimant i ++ []

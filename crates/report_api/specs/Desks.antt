@@ -1,5 +1,5 @@
 -- The desk: what was taken, which passes came back, and what these had asked of the classes.
-use Rattle.std.specs.Prelude.{◌≡◌, ℕ, Option, Some, List, [], length, map}
+use Rattle.std.specs.Prelude.{◌≡◌, ℕ, Option, Some, is_some, true, List, [], length, map}
 use mathlib.Core.Option as maybe
 use mathlib.Core.Option.{some, none}
 use lib.ListN.{get_elem?}
@@ -53,6 +53,7 @@ pub record IsDeskOf (shared : Shared) (desk : Desk) : Type 0 where
   pub is_shared : IsShared shared
   pub taker : IsTakerOf shared.queue desk.taker
   pub givers : AreGiversOf shared.classes desk.givers
+  pub has_spare : is_some desk.spare ≡ true
   pub tied : AreTied (length (sizes_of shared)) (desk_memo desk).back (givers_of desk.givers)
 
 -- the ring of each class is settled

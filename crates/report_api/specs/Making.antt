@@ -1,5 +1,5 @@
 -- What reports and takes, just made for a configuration.
-use Rattle.std.specs.Prelude.{◌≡◌, ℕ, List, length, map}
+use Rattle.std.specs.Prelude.{◌≡◌, ℕ, List, Some, length, map}
 use Rattle.std.specs.List.{zip}
 use mathlib.Core.Option.{some}
 use lib.ListN.{get_elem?}
@@ -11,7 +11,7 @@ use Rattle.buffer_classes.specs.{givers_of, IsNewGiver, spec_sizes}
 use Rattle.report_queue.specs.declared.seat.QueueSeat.{QueueSeat}
 use Rattle.report_queue.specs.{IsUntouched, new_memo, queue_positions, queue_seats}
 use Rattle.report_api.specs.Desks.{IsDeskOf, desk_memo}
-use Rattle.report_api.specs.Names.{Act}
+use Rattle.report_api.specs.Names.{Act, BoxedAct}
 use Rattle.report_api.specs.Passes.{IsPassOf, IsShared, pass_memo}
 use Rattle.report_api.specs.Terms.{is_sensor, term_sizes}
 use Rattle.report_api.specs.declared.desk.Desk.{Desk}
@@ -29,15 +29,15 @@ pub record IsOfConfig (config : Parts) (terms : ReportTerms) : Type 0 where
 
 -- a caller at the queue of reports
 abbrev pub Caller : Type 0
-Caller = QueueSeat Reports Act ReportTerms Act
+Caller = QueueSeat Reports BoxedAct ReportTerms Act
 
--- the pass of a caller and a claimant
-abbrev pub pass_of : Caller × ClaimSeat → Pass
-pass_of pair = record { seat = pair.0; claimant = pair.1 }
+-- the pass of a caller and a claimant, with a box
+abbrev pub pass_of : (Caller × ClaimSeat) × BoxedAct → Pass
+pass_of parts = record { seat = parts.0.0; claimant = parts.0.1; spare = Some parts.1 }
 
--- the passes of callers and claimants, one by one
-abbrev pub as_passes : List Caller → List ClaimSeat → List Pass
-as_passes callers claimants = map pass_of (zip callers claimants)
+-- the passes of callers, claimants and boxes, one by one
+abbrev pub as_passes : List Caller → List ClaimSeat → List BoxedAct → List Pass
+as_passes callers claimants spares = map pass_of (zip (zip callers claimants) spares)
 
 -- pass i, which made no call
 pub record IsNewPass (shared : Shared) (i : ℕ) (pass : Pass) : Type 0 where

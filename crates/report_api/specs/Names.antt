@@ -11,10 +11,16 @@ pub use Rattle.ids_types.specs.declared.entry.Carried.TheVariants.{Absent, Kept,
 pub use Rattle.ids_types.specs.declared.names.EventIndex.{EventIndex}
 pub use Rattle.ids_types.specs.declared.names.Stamp.{Stamp}
 pub use Rattle.permit_ring.specs.declared.memo.Outcome.TheVariants.{Lost, Got}
+use Rattle.std.specs.declared.boxed.Box.{Box}
+use Rattle.std.specs.declared.alloc.Global.{Global}
 
 -- an act whose context lies in a buffer
 abbrev pub Act : Type 0
 Act = ActOver Buffer
+
+-- an act in a box of its own, as the positions of the report ring hold it
+abbrev pub BoxedAct : Type 0
+BoxedAct = Box Act Global
 
 -- what became of a call: it was lost, or its item stands under a ticket
 abbrev pub Outcome : Type 0

@@ -1,5 +1,5 @@
 -- A pass: what its calls were, what became of them, and what they asked of the classes of context data buffers.
-use Rattle.std.specs.Prelude.{◌≡◌, ℕ, ◌+◌, ◌≤◌, Option, Some, None, List, [], ◌∷◌, length, map}
+use Rattle.std.specs.Prelude.{◌≡◌, ℕ, ◌+◌, ◌≤◌, Option, Some, None, is_some, true, List, [], ◌∷◌, length, map}
 use Rattle.ids_types.specs.Carries.{act_by}
 use Rattle.ids_types.specs.declared.entry.Act.{Act as ActOver}
 use Rattle.ids_types.specs.Fates.{Fate}
@@ -70,6 +70,7 @@ pub record IsPassAt (shared : Shared) (pass : Pass) : Type 0 where
   pub is_shared : IsShared shared
   pub caller : IsCallerOf shared.queue pass.seat
   pub claimant : IsClaimSeatOf shared.classes pass.claimant
+  pub has_spare : is_some pass.spare ≡ true
   pub number_is : claimant_of pass.claimant ≡ caller_number pass.seat
   -- call by call, what was asked of each class is what the calls show
   pub asks : (i : ℕ) → Follows (length (sizes_of shared)) i (calls_in (pass_memo pass).log) (asks_of pass i)

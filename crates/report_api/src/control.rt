@@ -3,7 +3,7 @@ ghost use Rattle.report_api.specs.{ControlTells, Controls, ModeTells, IsPassOf, 
 ghost use Rattle.report_api.specs.Terms.{AdmitsAct};
 
 use crate::answer::Control;
-use crate::pass::Pass;
+use crate::pass::{Pass, put};
 use crate::report::MOST_CALLS;
 use crate::shared::Shared;
 use buffer_classes::CtxBuf;
@@ -44,7 +44,7 @@ impl Pass {
             return Control::PassSpent;
         }
         match self.seat.claim(&shared.queue) {
-            Ok(_) => Control::Accepted(self.seat.fill(&shared.queue, act)),
+            Ok(_) => Control::Accepted(put(&shared.queue, &mut self.seat, &mut self.spare, act)),
             Err(look) => Control::LostEvent(look),
         }
     }

@@ -1,5 +1,5 @@
 //! Where the one who takes the reports sits.
-ghost use Rattle.std.specs.Prelude.{◌≡◌, ◌<◌, [], length, vec_capacity, IfOk};
+ghost use Rattle.std.specs.Prelude.{◌≡◌, ◌<◌, [], true, is_some, length, vec_capacity, IfOk};
 ghost use Rattle.buffer_classes.specs.{AllOf, AreBuffersIn, GaveBack, Welcomed, givers_of, late_of};
 ghost use Rattle.report_queue.specs.{AreAllBack, GivesBack, Sweeps, Takes, Welcomes};
 ghost use Rattle.report_api.specs.Desks.{EachSettled, IsDeskOf, desk_memo};
@@ -11,6 +11,7 @@ use crate::shared::{Reports, Shared};
 use buffer_classes::{CtxBuf, Givers};
 use ids_types::Act;
 use report_queue::{Item, Taker, Unready};
+use std::mem;
 
 /// Where the one who takes the reports sits, and gives their buffers back.
 ///
@@ -21,6 +22,27 @@ use report_queue::{Item, Taker, Unready};
 pub struct Desk {
     pub(crate) taker: Taker<Reports>,
     pub(crate) givers: Givers,
+    // The box for the position of the next item that is taken, there between two calls.
+    pub(crate) spare: Option<Box<Act<CtxBuf>>>,
+}
+
+// The item with its act moved out of its box, which is in hand then. It is a function of its own, so that the compiler
+// clears the places of what it makes there, and not before the item is taken.
+#[inline(always)]
+fn unpacked(
+    mut item: Item<Box<Act<CtxBuf>>>,
+    spare: &mut Option<Box<Act<CtxBuf>>>,
+) -> Item<Act<CtxBuf>>
+    ensures item { result ≡ record { caller = item.caller; call = item.call; payload = item.payload.value } }
+    ensures spare { is_some spare.new ≡ true }
+{
+    let payload = mem::replace(&mut *item.payload, Act::State(0));
+    *spare = Some(item.payload);
+    Item {
+        caller: item.caller,
+        call: item.call,
+        payload,
+    }
 }
 
 impl Desk {
@@ -41,6 +63,7 @@ impl Desk {
     /// accepted was taken, and from then on always.
     /// Steps: as `Taker::take`: one load, and two exchanges of the slot where an item is ready. By: `took` (`Takes`);
     /// answer `Unready`, no NoMemory.
+    #[inline(always)]
     pub fn take(&mut self, shared: &Shared) -> Result<Item<Act<CtxBuf>>, Unready>
         requires mine { IsDeskOf shared.now self.old }
         ensures mine { IsDeskOf shared.now self.new }
@@ -48,7 +71,8 @@ impl Desk {
         ensures admitted { IfOk result (AdmitsItem shared.now.terms) }
         ensures same { self.new.givers ≡ self.old.givers }
     {
-        self.taker.take(&shared.queue)
+        let item = self.taker.take(&shared.queue, &mut self.spare)?;
+        Ok(unpacked(item, &mut self.spare))
     }
 
     /// Makes the positions of all items that were taken free again, in one step, and gives the buffers of `back` to

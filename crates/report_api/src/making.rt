@@ -8,9 +8,9 @@ use crate::desk::Desk;
 use crate::pass::Pass;
 use crate::shared::{Reports, Shared};
 use crate::terms::ReportTerms;
-use buffer_classes::ClaimSeat;
+use buffer_classes::{ClaimSeat, CtxBuf};
 use ids_config::Config;
-use ids_types::{ClassSpec, NoMemory};
+use ids_types::{Act, ClassSpec, NoMemory};
 use report_queue::QueueSeat;
 use std::alloc::{AllocError, Global};
 
@@ -62,18 +62,35 @@ fn terms_of(config: &Config, specs: &[ClassSpec]) -> ReportTerms
     }
 }
 
-// A pass for each caller, with the claimant of its number.
+// Boxes for acts, so many.
+fn boxes(alloc: Global, n: usize) -> Result<Vec<Box<Act<CtxBuf>>>, AllocError>
+    ensures { IfOk result (λ v. length v.items ≡ n) }
+{
+    let mut boxes = Vec::with_capacity(alloc, n)?;
+    for _ in 0..n {
+        boxes.push_reserved(Box::new(alloc, Act::State(0))?);
+    }
+    Ok(boxes)
+}
+
+// A pass for each caller, with the claimant of its number and a box.
 fn passes_of(
     alloc: Global,
     callers: Vec<QueueSeat<Reports>>,
     claimants: Vec<ClaimSeat>,
+    spares: Vec<Box<Act<CtxBuf>>>,
 ) -> Result<Vec<Pass>, AllocError>
-    ensures { IfOk result (λ v. v.items ≡ as_passes callers.items claimants.items) }
+    ensures { IfOk result (λ v. v.items ≡ as_passes callers.items claimants.items spares.items) }
 {
     callers
         .into_iter()
         .zip(claimants)
-        .map(|(seat, claimant)| Pass { seat, claimant })
+        .zip(spares)
+        .map(|((seat, claimant), spare)| Pass {
+            seat,
+            claimant,
+            spare: Some(spare),
+        })
         .collect(alloc)
 }
 
@@ -88,7 +105,10 @@ pub fn make(alloc: Global, config: &Config) -> Result<Parts, NoMemory>
     let callers = parts.callers as u8;
     let specs = specs_of(alloc, &parts.classes)?;
     let terms = terms_of(config, &specs);
-    let queue = report_queue::make::<Reports>(alloc, parts.ring as u16, callers, terms)?;
+    let spent = boxes(alloc, parts.ring as usize)?;
+    let spares = boxes(alloc, callers as usize)?;
+    let spare = Box::new(alloc, Act::State(0))?;
+    let queue = report_queue::make::<Reports>(alloc, parts.ring as u16, callers, terms, spent)?;
     let classes = buffer_classes::make(alloc, &specs, callers)?;
     Ok(Parts {
         shared: Shared {
@@ -96,10 +116,11 @@ pub fn make(alloc: Global, config: &Config) -> Result<Parts, NoMemory>
             classes: classes.classes,
             terms,
         },
-        passes: passes_of(alloc, queue.seats, classes.seats)?,
+        passes: passes_of(alloc, queue.seats, classes.seats, spares)?,
         desk: Desk {
             taker: queue.taker,
             givers: classes.givers,
+            spare: Some(spare),
         },
     })
 }

@@ -1,13 +1,26 @@
 //! Reports of security events.
 ghost use Rattle.std.specs.Prelude.{◌≡◌, ◌<◌, [], None, is_none, false, length};
 ghost use Rattle.report_queue.specs.Parts.{ticket_of};
-ghost use Rattle.report_api.specs.{PutsUnder, Reports, given, IsPassAt, IsPassOf, IsReported};
+ghost use Rattle.report_api.specs.{PutsUnder, Reports, given, IsPassAt, IsPassOf, IsReported, Absent, Report as Bare};
 
 use crate::answer::Report;
-use crate::pass::Pass;
+use crate::pass::{Pass, put};
 use crate::shared::Shared;
-use buffer_classes::Claim;
+use buffer_classes::{Claim, CtxBuf};
 use ids_types::{Act, Carried, EventIndex, Stamp};
+
+// A report without context. It is made in a function of its own, so that the compiler clears its place there.
+#[inline(always)]
+fn bare(event: EventIndex, count: u16, stamp: Option<Stamp>) -> Act<CtxBuf>
+    ensures { result ≡ Bare event count stamp Absent }
+{
+    Act::Report {
+        event,
+        count,
+        stamp,
+        context: Carried::Absent,
+    }
+}
 
 /// How many calls a pass may make.
 pub(crate) const MOST_CALLS: u64 = 1 << 40;
@@ -93,16 +106,12 @@ impl Pass {
         if !context.is_empty() {
             return self.put_with_context(shared, event, count, stamp, context);
         }
-        let act = Act::Report {
-            event,
-            count,
-            stamp,
-            context: Carried::Absent,
-        };
-        Report::Accepted(self.seat.fill(&shared.queue, act))
+        let act = bare(event, count, stamp);
+        Report::Accepted(put(&shared.queue, &mut self.seat, &mut self.spare, act))
     }
 
-    // The same where there is context.
+    // The same where there is context. It stands apart, so that a report without has no room for what it makes.
+    #[inline(never)]
     fn put_with_context(
         &mut self,
         shared: &Shared,
@@ -130,7 +139,7 @@ impl Pass {
                         parcel: buf,
                     },
                 };
-                Report::Accepted(self.seat.fill(&shared.queue, act))
+                Report::Accepted(put(&shared.queue, &mut self.seat, &mut self.spare, act))
             }
             Claim::NoneFree(looks) => {
                 let act = Act::Report {
@@ -139,7 +148,7 @@ impl Pass {
                     stamp,
                     context: Carried::Missing(looks.claimed()),
                 };
-                let ticket = self.seat.fill(&shared.queue, act);
+                let ticket = put(&shared.queue, &mut self.seat, &mut self.spare, act);
                 self.seat.mark_lost_context(&shared.queue);
                 Report::WithoutContext(ticket, looks)
             }

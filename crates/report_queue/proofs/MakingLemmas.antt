@@ -19,12 +19,12 @@ none_there (suc n) zero a e = cc
 none_there (suc n) (suc i) a e = none_there n i a e
 
 module _ {P L T N : Type 0} (queue : Queue P L T N) where
-  new_caller_is : (i : ℕ) (seat : Seat (Items P) (Unit {0}) (Item L) T (Item N)) → i < 32 → ring.IsNewSeat admits_all queue.ring i seat
+  new_caller_is : (i : ℕ) (seat : Seat (Items P) L (Item L) T (Item N)) → i < 32 → ring.IsNewSeat admits_all queue.ring i seat
       → IsUnused queue record { seat = seat } × (seat_number seat ≡ i)
   new_caller_is i seat within is = let ordered = new_ordered {N = Item N} i in grind (arith, is, ordered)
 
   -- a new ring with a keeper and callers is a new queue
-  pub new_queue_is : (n seats : ℕ) (terms : T) (taker : Taker P L T N) (ring_seats : List (Seat (Items P) (Unit {0}) (Item L) T (Item N)))
+  pub new_queue_is : (n seats : ℕ) (terms : T) (taker : Taker P L T N) (ring_seats : List (Seat (Items P) L (Item L) T (Item N)))
       (callers : List (QueueSeat P L T N)) → seats ≤ 32 → ring.IsNewRing admits_all n seats terms queue.ring taker.keeper ring_seats
       → callers ≡ as_callers ring_seats → IsNewQueue n seats terms queue taker callers
   new_queue_is n seats terms taker ring_seats callers within is are =
@@ -41,7 +41,7 @@ module _ {P L T N : Type 0} (queue : Queue P L T N) where
         none_to_give_back = is.none_filled;
         all_made = ap length are ∙ length-map ring_seats (λ seat. record { seat = seat }) ∙ count;
         each = λ i seat e.
-            let found = at_map_back (λ (s : Seat (Items P) (Unit {0}) (Item L) T (Item N)). record { seat = s }) ring_seats i seat
+            let found = at_map_back (λ (s : Seat (Items P) L (Item L) T (Item N)). record { seat = s }) ring_seats i seat
             (ap (λ (l : List (QueueSeat P L T N)). get_elem? l i) (sym are) ∙ e) in
             let low = at_length ring_seats i found.0 found.1 in
             subst (λ (c : QueueSeat P L T N). IsUnused queue c × (caller_number c ≡ i)) found.2

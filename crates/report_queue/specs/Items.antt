@@ -16,7 +16,7 @@ item_by caller note = record { caller = caller.number; call = caller.view.calls 
 abbrev pub marks_made : {N : Type 0} → SeatMemo N → ℕ × ℕ
 marks_made caller = (caller.view.marks0, caller.view.marks1)
 
--- nothing is offered but the unit value
+-- whatever spent load is offered
 abbrev pub admits_all : {T O : Type 0} → T → O → Type 0
 admits_all terms offered = Unit {0}
 

@@ -10,7 +10,7 @@ use Rattle.permit_ring.specs.{IsUntouched, new_memo}
 
 module _ {P L T N : Type 0} where
   -- the callers of a ring's seats
-  abbrev pub as_callers : List (Seat (Items P) (Unit {0}) (Item L) T (Item N)) → List (QueueSeat P L T N)
+  abbrev pub as_callers : List (Seat (Items P) L (Item L) T (Item N)) → List (QueueSeat P L T N)
   as_callers seats = map (λ seat. record { seat = seat }) seats
 
   -- a caller that made no call

@@ -9,7 +9,7 @@ use Rattle.report_queue.specs.Parts.{IsTakerOf, caller_memo, queue_positions, qu
 
 module _ {P L T N : Type 0} (queue : Queue P L T N) (old : Taker P L T N) where
   -- the item of the next ticket is taken, or the mark that was read is not that ticket's and nothing is taken
-  pub record Takes (note : L → N) (admits_note : T → N → Type 0) (answer : Result (Item L) Unready) (new : Taker P L T N) : Type 0 where
+  pub record Takes {M : Type 0} (note : M → N) (admits_note : T → N → Type 0) (answer : Result (Item M) Unready) (new : Taker P L T N) : Type 0 where
     pub mine : IsTakerOf queue new
     pub told : ReapTells (item_note note) (taker_memo old) answer (taker_memo new)
     pub admitted : IfOk answer (λ item. admits_item admits_note (queue_terms queue) (item_note note item))

@@ -6,7 +6,9 @@ use std::marker::PhantomData;
 /// What an item carries.
 ///
 /// Each load has a note: plain data, which the queue's history keeps, and of which no value is
-/// made. The terms are fixed when the queue is made, and say which notes are admitted.
+/// made. The terms are fixed when the queue is made, and say which notes are admitted. A free position
+/// holds a spent load, of which nothing is said: whoever puts a load gets it, and whoever takes an
+/// item gives one.
 pub trait Cargo {
     type Load: Send + Drop;
 
@@ -27,8 +29,8 @@ pub struct Item<L> {
     pub payload: L,
 }
 
-/// What the ring of a queue carries: nothing while a position is free, and then an item. It has no
-/// values.
+/// What the ring of a queue carries: a spent load while a position is free, and then an item. It has
+/// no values.
 pub struct Items<P> {
     cargo: PhantomData<P>,
 }
@@ -36,7 +38,7 @@ pub struct Items<P> {
 impl<P: Cargo> Freight for Items<P> {
     ghost use Rattle.report_queue.specs.Items.{item_note, admits_all, admits_item};
 
-    type Offered = ();
+    type Offered = P::Load;
 
     type Finished = Item<P::Load>;
 

@@ -1,5 +1,5 @@
 //! How a queue is made, with its taker and all its callers.
-ghost use Rattle.std.specs.Prelude.{◌≡◌, ◌≤◌, IfOk};
+ghost use Rattle.std.specs.Prelude.{◌≡◌, ◌≤◌, length, IfOk};
 ghost use Rattle.report_queue.specs.Making.{IsNewQueue, as_callers};
 
 use crate::cargo::{Cargo, Items};
@@ -30,8 +30,8 @@ fn callers_of<P: Cargo>(
         .collect(alloc)
 }
 
-/// Makes a queue of `n` positions, all free, its taker and as many idle callers as are asked for.
-/// It is the one call of a queue that takes memory.
+/// Makes a queue of `n` positions, all free, with a spent load in each, its taker and as many idle callers as are
+/// asked for. It is the one call of a queue that takes memory.
 /// Steps: the positions and the callers. Memory: made once. By: read off; `IsNewQueue`; no other call of the queue
 /// answers NoMemory.
 pub fn make<P: Cargo>(
@@ -39,13 +39,14 @@ pub fn make<P: Cargo>(
     n: u16,
     seats: u8,
     terms: P::Terms,
+    spent: Vec<P::Load>,
 ) -> Result<MadeQueue<P>, NoMemory>
     requires positions { (1 ≤ n) × (n ≤ 1024) }
     requires seats { (1 ≤ seats) × (seats ≤ 32) }
+    requires spent { length spent.items ≡ n }
     ensures { IfOk result (λ made. IsNewQueue n seats terms made.queue made.taker made.seats.items) }
 {
-    let load = Vec::from_elem(alloc, (), n as usize)?;
-    let made = permit_ring::make::<Items<P>>(alloc, n, seats, terms, load)?;
+    let made = permit_ring::make::<Items<P>>(alloc, n, seats, terms, spent)?;
     let seats = callers_of(alloc, made.seats)?;
     Ok(MadeQueue {
         queue: Queue { ring: made.ring },

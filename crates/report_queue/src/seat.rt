@@ -61,15 +61,15 @@ impl<P: Cargo> QueueSeat<P> {
     }
 
     /// Puts an item under the held ticket: it names this caller and this call, the one that got the
-    /// ticket.
+    /// ticket. Beside the ticket comes the spent load of its position.
     /// Steps: one exchange of the slot, and one store. By: `told` (`finishes`); no loop; the load is moved.
-    pub fn fill(&mut self, queue: &Queue<P>, payload: P::Load) -> Ticket
+    pub fn fill(&mut self, queue: &Queue<P>, payload: P::Load) -> (Ticket, P::Load)
         requires mine { IsCallerOf queue.now self.old }
         requires busy { is_none (ticket_of self.old) ≡ false }
         requires admitted { P.admits_note (queue_terms queue.now) (P.note payload) }
         ensures mine { IsCallerOf queue.now self.new }
-        ensures ticket { ticket_of self.old ≡ Some result }
-        ensures small { result.0 ≤ 2 ^ 45 }
+        ensures ticket { ticket_of self.old ≡ Some result.0 }
+        ensures small { result.0.0 ≤ 2 ^ 45 }
         ensures told { caller_memo self.new ≡ finishes (item_by (caller_memo self.old) (P.note payload)) (caller_memo self.old) }
         ensures held { ticket_of self.new ≡ None }
     {
@@ -79,8 +79,7 @@ impl<P: Cargo> QueueSeat<P> {
             call: self.seat.calls() - 1,
             payload,
         };
-        self.seat.finish(&queue.ring, item);
-        ticket
+        (ticket, self.seat.finish(&queue.ring, item))
     }
 
     /// Marks one lost event.

@@ -1,5 +1,5 @@
 //! The one who takes the items.
-ghost use Rattle.std.specs.Prelude.{◌≡◌, None};
+ghost use Rattle.std.specs.Prelude.{◌≡◌, None, is_some, true, OnErr};
 ghost use Rattle.report_queue.specs.{GivesBack, Sweeps, Takes, Welcomes};
 
 use crate::cargo::{Cargo, Item, Items};
@@ -15,19 +15,25 @@ pub struct Taker<P: Cargo> {
 impl<P: Cargo> Taker<P> {
     ghost use Rattle.report_queue.specs.Parts.{IsCallerOf, IsTakerOf, ticket_of};
 
-    /// Takes the item of the next ticket. `Err` comes exactly where the mark that was read at this
-    /// call's step is not that ticket's, and then nothing is taken. Once all callers are back, it
-    /// comes only where all that was put was taken, and from then on always.
+    /// Takes the item of the next ticket, and leaves a spent load in its place. `Err` comes exactly where
+    /// the mark that was read at this call's step is not that ticket's, and then nothing is taken. Once all
+    /// callers are back, it comes only where all that was put was taken, and from then on always.
     /// Steps: one load, and two exchanges of the slot where the mark is the next ticket's; beside them the hand is
     /// turned as by `Keeper::refill`. By: `Takes` (`told`: `ReapTells`; `few`: at most positions takes between two
     /// `give_back`); answer `Unready`, no NoMemory.
-    pub fn take(&mut self, queue: &Queue<P>) -> Result<Item<P::Load>, Unready>
+    pub fn take(
+        &mut self,
+        queue: &Queue<P>,
+        spent: &mut Option<P::Load>,
+    ) -> Result<Item<P::Load>, Unready>
         requires mine { IsTakerOf queue.now self.old }
-        ensures { Takes queue.now self.old P.note P.admits_note result self.new }
+        requires spent { is_some spent.old ≡ true }
+        ensures took { Takes queue.now self.old P.note P.admits_note result self.new }
+        ensures kept { OnErr result (spent.new ≡ spent.old) }
     {
         match self.keeper.reap(&queue.ring) {
             Ok(item) => {
-                self.keeper.refill(&queue.ring, ());
+                self.keeper.refill(&queue.ring, spent.take().unwrap());
                 Ok(item)
             }
             Err(unready) => Err(unready),

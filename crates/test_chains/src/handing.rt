@@ -3,7 +3,7 @@
 ghost use Rattle.std.specs.Prelude.{◌≡◌, ◌+◌, ◌≤◌, [], vec_len, vec_capacity};
 ghost use Rattle.filter_chain.specs.Parcels.{HandsBack, all_parcels};
 
-use filter_chain::{give_back, kept};
+use filter_chain::{give_back, take_kept};
 use ids_types::{Act, Entry, Parcel};
 
 /// Hands the parcels of entries back, and leaves no entry.
@@ -15,8 +15,8 @@ pub(crate) fn hand_back<B: Parcel>(items: &mut Vec<Entry<B>>, back: &mut Vec<B>)
     ensures back_room { vec_capacity back.new ≡ vec_capacity back.old }
 {
     for entry in items.drain(..) {
-        if let Act::Report { context, .. } = entry.act {
-            give_back(kept(context), back);
+        if let Act::Report { mut context, .. } = entry.act {
+            give_back(take_kept(&mut context), back);
         }
     }
 }

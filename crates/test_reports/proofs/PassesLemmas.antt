@@ -1,5 +1,5 @@
 -- Passes that tests keep, one by one.
-use Rattle.std.proofs.Common.{◌≡◌, ℕ, ◌<◌, ⊎_elim, inl, inr, List, length, set, slice_index_or, subst, sym, ap, ◌∙◌, arith, All}
+use Rattle.std.proofs.Common.{◌≡◌, ℕ, ◌<◌, ⊎_elim, inl, inr, List, length, set, slice_index_or, subst, sym, ap, ◌∙◌, arith}
 use Rattle.std.proofs.lemmas.List.{get_or_default, length-set}
 use mathlib.Core.Option.{some, some-injective}
 use lib.ListN.{get_elem?}
@@ -54,7 +54,3 @@ module _ {shared : Shared} {desk : DeskMemo} {passes : List Pass} where
         let was = are.each i _ (at_place passes i pass (subst (λ (n : ℕ). i < n) same.as_many low)) in
         subst (λ (p : Pass). IsPassOf shared p × ((pass_memo p).number ≡ i)) is (here.is_pass, here.same ∙ was.1);
   }
-
--- passes that made calls are of the making
-pub same_all : {shared : Shared} {olds news : List Pass} → AreSamePasses shared olds news → All (IsPassOf shared) news
-same_all same = λ i d low. (same.each i d low).is_pass

@@ -1,15 +1,13 @@
-//! The tests of the report calls, of their desk and of the main function, over public names.
+//! The tests of the report calls, of their queue and of the main function, over public names.
 //!
 //! Layer 12, tests and times. Over `report_api`, `main_function`, `event_chain`, `idsm_api` and the crates below
 //! them. They show what no contract says. Reports are accepted while buffers are free, and a turn takes what is
-//! there. Examples have the answers and messages that were worked out by hand. Callers in threads of their own report
-//! beside the desk and beside turns. Limits stand here as numbers.
+//! there. Examples have the answers and messages that were worked out by hand. Callers in threads of their own put
+//! beside the taker of a queue and report beside turns. Limits stand here as numbers.
 #![tactic(auto)]
 
 #[cfg(test)]
 mod api;
-#[cfg(test)]
-mod beside_desk;
 #[cfg(test)]
 mod beside_manager;
 #[cfg(test)]

@@ -69,7 +69,7 @@ pub fn put(queue: &Queue<Numbers>, seat: &mut QueueSeat<Numbers>, payload: u64) 
     ensures marks { marks_made (caller_memo seat.new) ≡ marks_made (caller_memo seat.old) }
 {
     match seat.claim(queue) {
-        Ok(_) => Told::Got(seat.fill(queue, payload).0),
+        Ok(_) => Told::Got(seat.fill(queue, payload).0.0),
         Err(look) => Told::Saw(look.claimed, look.free),
     }
 }
@@ -82,7 +82,7 @@ pub fn fill(queue: &Queue<Numbers>, seat: &mut QueueSeat<Numbers>, payload: u64)
     if seat.is_idle() {
         return Told::Idle;
     }
-    Told::Got(seat.fill(queue, payload).0)
+    Told::Got(seat.fill(queue, payload).0.0)
 }
 
 /// Takes the next item.
@@ -90,7 +90,7 @@ pub fn take(queue: &Queue<Numbers>, taker: &mut Taker<Numbers>) -> Told
     requires { IsTakerOf queue.now taker.old }
     ensures { IsTakerOf queue.now taker.new }
 {
-    match taker.take(queue) {
+    match taker.take(queue, &mut Some(0)) {
         Ok(item) => Told::Took(item.caller, item.call, item.payload),
         Err(unready) => Told::Unready(unready.mark),
     }

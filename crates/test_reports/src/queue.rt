@@ -31,7 +31,7 @@ fn filled_up(alloc: Global) -> Result<[Told; 4], Fail> {
         queue,
         mut taker,
         mut seats,
-    } = make::<Numbers>(alloc, 2, 1, ())?;
+    } = make::<Numbers>(alloc, 2, 1, (), Vec::from_elem(alloc, 0, 2)?)?;
     match last_of(&queue, &mut seats) {
         Some(mut seat) => Ok(fill_up(&queue, &mut taker, &mut seat)),
         None => Err("a caller".into()),
@@ -71,7 +71,7 @@ fn first_number(alloc: Global) -> Result<u64, Fail> {
         queue,
         mut seats,
         ..
-    } = make::<Numbers>(alloc, 2, 1, ())?;
+    } = make::<Numbers>(alloc, 2, 1, (), Vec::from_elem(alloc, 0, 2)?)?;
     match last_of(&queue, &mut seats) {
         Some(mut seat) => Ok(claim_number(&queue, &mut seat)),
         None => Err("a caller".into()),
@@ -135,7 +135,7 @@ fn stalled(alloc: Global) -> Result<[Told; 13], Fail> {
         queue,
         mut taker,
         mut seats,
-    } = make::<Numbers>(alloc, 4, 2, ())?;
+    } = make::<Numbers>(alloc, 4, 2, (), Vec::from_elem(alloc, 0, 4)?)?;
     let second = last_of(&queue, &mut seats);
     let first = last_of(&queue, &mut seats);
     match (first, second) {

@@ -1,27 +1,14 @@
 -- A small trace, and its text as it stands in a file.
 use Rattle.text_spec.proofs.Names.{◌≡◌, ◌∷◌, Off, trace_in, Round, reports, changes, sets, trace_text, List, [], refl, Ok, Err, codes, None}
 use Rattle.ids_config.specs.Parts.{Parts, plain_event}
+use Rattle.ids_config.proofs.Plain.{instance_18}
 use Rattle.std.specs.Fmt.{digits}
 use Rattle.hex.specs.Hex.{decode_pairs, encode_with}
 use Rattle.text_spec.specs.Lines.{after_pieces}
 
 -- two callers, and one event that a sensor reports
 abbrev config : Parts
-config = record {
-  profile = 1;
-  instance = 18;
-  callers = 2;
-  ring = 64;
-  memory = 0;
-  state = 0;
-  classes = [];
-  rate = None;
-  traffic = None;
-  events = plain_event 42 3 ∷ [];
-  lost_events = None;
-  lost_contexts = None;
-  limited = None;
-}
+config = record (instance_18 (plain_event 42 3 ∷ [])) { callers = 2 }
 
 -- a round with two ticks beside its calls, and one without any call
 abbrev rounds : List Round

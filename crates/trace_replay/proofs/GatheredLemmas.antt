@@ -1,14 +1,6 @@
 -- A turn that is added to a history, entry by entry.
-use Rattle.trace_replay.proofs.Names.{◌≡◌, ℕ, ◌+◌, ◌≤◌, ◌<◌, List, [], ◌∷◌, ◌++◌, length, take, refl, ap, ◌∙◌, length-append, flat_map, take_more, length-flat_map-take, kept_bytes, Turn, entry_at, extended, with_entry, flat_map-push}
+use Rattle.trace_replay.proofs.Names.{◌≡◌, ℕ, ◌+◌, ◌≤◌, ◌<◌, [], ◌∷◌, ◌++◌, length, take, ap, ◌∙◌, length-append, flat_map, take_more, length-flat_map-take, kept_bytes, Turn, entry_at, flat_map-push}
 use Rattle.ids_types.specs.declared.entry.Act.TheVariants.{State}
-use Rattle.ids_types.specs.declared.entry.Entry.{Entry}
-
--- an entry goes to the last turn
-pub with_entry_last : (turns : List Turn) (turn : Turn) (entry : Entry (List ℕ))
-    → with_entry (turns ++ turn ∷ []) entry ≡ turns ++ extended turn entry ∷ []
-with_entry_last [] turn entry = refl
-with_entry_last (first ∷ []) turn entry = refl
-with_entry_last (first ∷ next ∷ turns) turn entry = ap (λ ts. first ∷ ts) (with_entry_last (next ∷ turns) turn entry)
 
 module _ (turn : Turn) (i : ℕ) (less : i < length turn.entries) where
   -- the first entries with the next one

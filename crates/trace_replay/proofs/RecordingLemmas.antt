@@ -1,5 +1,5 @@
 -- What was gathered, with one turn more, and with those of one list of ticks after those of another.
-use Rattle.trace_replay.proofs.Names.{◌≡◌, ℕ, zero, suc, ◌+◌, ◌-◌, ◌≤◌, ◌<◌, ◌^◌, List, [], ◌∷◌, ◌++◌, length, min, take, get_or, refl, sym, ap, ◌∙◌, arith, append_assoc, append-nil, length-append, AllByRecursion, length-map, map-append, Output, Turn, Parts, KeepUpFrom, last_from, Buffer, DeskMemo, desk_memo, PassMemo, Shared, Closed, all_back, IsManagerOf, rests_told, Turned, Manager, Advances, Closes, Continues, StaysSame, tick_of, turns_in, Gathered, Recorder}
+use Rattle.trace_replay.proofs.Names.{◌≡◌, ℕ, zero, suc, ◌+◌, ◌-◌, ◌≤◌, ◌<◌, List, [], ◌∷◌, ◌++◌, length, take, get_or, refl, sym, ap, ◌∙◌, arith, append_assoc, append-nil, length-append, AllByRecursion, length-map, map-append, Turn, Parts, KeepUpFrom, last_from, Buffer, DeskMemo, desk_memo, PassMemo, Shared, Closed, all_back, IsManagerOf, rests_told, Turned, Manager, Advances, Closes, Continues, StaysSame, tick_of, turns_in, Gathered, Recorder}
 use Rattle.ids_types.specs.Carries.{entry_by}
 use Rattle.filter_chain.proofs.TranscriptLemmas.{newest_first, transcript_more}
 use Rattle.trace_replay.specs.Recording.{Gathers}

@@ -1,5 +1,5 @@
 -- What the rests of a replay tell, round by round and caller by caller.
-use Rattle.trace_replay.proofs.Names.{◌⊎◌, ⊎_elim, ◌≡◌, ℕ, zero, suc, ◌+◌, ◌-◌, ◌*◌, ◌≤◌, ◌<◌, List, [], ◌∷◌, ◌++◌, length, take, refl, sym, ap, subst, ◌∙◌, arith, length-append, append-nil, append_assoc, map, map-append, flat_map, Round, lines_of, calls_of, RestsTold, with_rest, calls_of_each, lines_before, Caller}
+use Rattle.trace_replay.proofs.Names.{◌⊎◌, ⊎_elim, ◌≡◌, ℕ, zero, suc, ◌+◌, ◌-◌, ◌*◌, ◌≤◌, ◌<◌, List, [], ◌∷◌, ◌++◌, length, take, refl, sym, ap, subst, ◌∙◌, arith, length-append, append-nil, append_assoc, map-append, Round, lines_of, calls_of, RestsTold, with_rest, calls_of_each, lines_before, Caller}
 use Rattle.std.proofs.lemmas.Grind.{flat_map-append}
 use mathlib.Core.Option.{some}
 use lib.ListN.{get_elem?}

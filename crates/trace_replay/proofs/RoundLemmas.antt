@@ -1,5 +1,5 @@
 -- One round more.
-use Rattle.trace_replay.proofs.Names.{◌≡◌, ℕ, zero, suc, ◌+◌, ◌≤◌, ◌<◌, ◌^◌, List, [], ◌∷◌, ◌++◌, length, map, take, drop, refl, sym, ap, subst, ◌∙◌, arith, append_assoc, length-append, ◌-◌, All, AllByRecursion, flat_map, length-map, length_push, map-append, take_more, take-append-drop, All-from_recursion, Turn, Parts, KeepUpFrom, Round, lines_of, round_ticks, begun_round, last_from, AreTicks, flat_map-push, keep_split, last_from-push, Buffer, at_length, DeskMemo, desk_memo, Shared, or_at, AreAllPasses, last_of, turns_of, with_rest, Traced, round_at, Continues, StaysSame, StaysSo, StillRecords, tick_of, turns_in, CanPlay, EndsRound, IsBetween, Plays, as_told, calls_of, calls_of_each, lines_from, rests_before, ticks_before, AreAtRest, IsAtRest, passes_of, Caller, Recorder}
+use Rattle.trace_replay.proofs.Names.{◌≡◌, ℕ, zero, suc, ◌+◌, ◌≤◌, ◌<◌, ◌^◌, List, [], ◌∷◌, ◌++◌, length, map, take, drop, refl, sym, ap, subst, ◌∙◌, arith, append_assoc, length-append, ◌-◌, All, AllByRecursion, flat_map, length-map, length_push, map-append, take_more, take-append-drop, All-from_recursion, Turn, Parts, KeepUpFrom, Round, lines_of, round_ticks, begun_round, last_from, AreTicks, flat_map-push, keep_split, last_from-push, Buffer, at_length, DeskMemo, desk_memo, Shared, or_at, AreAllPasses, turns_of, with_rest, Traced, round_at, Continues, StaysSame, StaysSo, StillRecords, tick_of, turns_in, CanPlay, EndsRound, IsBetween, Plays, as_told, calls_of, calls_of_each, lines_from, rests_before, ticks_before, AreAtRest, IsAtRest, passes_of, Caller, Recorder}
 use Rattle.std.proofs.lemmas.Grind.{flat_map-append}
 use mathlib.Core.Option.{some, some-injective}
 use lib.ListN.{get_elem?}

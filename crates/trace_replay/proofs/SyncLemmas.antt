@@ -14,6 +14,7 @@ use Rattle.buffer_classes.proofs.buffer.CtxBuf.TheSendSync as bufs
 use Rattle.ids_types.proofs.entry.Act.TheSendSync as acts
 use Rattle.report_api.specs.contracts.pass.Pass as pass
 use Rattle.std.proofs.vec.Vec.TheSendSync as vecs
+use Rattle.std.proofs.Crossing.{Box-send, Box-sync}
 use Rattle.counted_slot.proofs.Counted.TheSendSync as slot
 use Rattle.trace_replay.specs.contracts.caller.Caller as caller
 use Rattle.trace_replay.specs.contracts.place.Hand as hand
@@ -43,10 +44,10 @@ pub queue_field : (P L T N : RattleType) → IsSend L → IsSync (queue.the_fiel
 queue_field P L T N l = struct_sync (shape (queue.the_type P L T N)) (search (sendable, permit_field, items.the_send) depth 12, tt)
 
 pub pass_field : IsSync (pass.the_field).row
-pass_field = struct_sync (shape pass.the_type) (search (sendable, queue_field, acts.the_send, bufs.the_send) depth 12, (claims_field, tt))
-
-pub pass_sync : IsSync pass.the_row
-pass_sync = recorded_sync (pass.the_field).row _ _ (pass.the_type).to_one pass_field
+pass_field = struct_sync (shape pass.the_type) (
+  search (sendable, queue_field, Box-send, acts.the_send, bufs.the_send) depth 12,
+  (claims_field, (search (sendable, Box-sync, acts.the_sync, bufs.the_sync) depth 12, tt)),
+)
 
 caller_field : IsSync (caller.the_field).row
 caller_field = struct_sync (shape caller.the_type) (pass_field, (search (sendable, vecs.the_sync, heap.the_sync) depth 12, tt))

@@ -29,11 +29,11 @@ returns-clause-ends g c =
 pub returns-in-Ok-end-clause-leaves : goal.returns-in-Ok-end-clause-leaves
 returns-in-Ok-end-clause-leaves g c told shown own found =
     kept_leaves (keep_files_of c.args.names) _ _ _ c.in-Ok.ensures.reads (g.D.Disk.shows c.args.disk)
-    (g.D.Disk.shows c.keep_history-disk.result.1) told own found tt c.in-Ok-saved_line.line.items
+    (g.D.Disk.shows c.keep_history-disk.result.disk) told own found tt c.in-Ok-saved_line.line.items
     (rw c.in-Ok-end.is at (c.keep_history-disk.ensures.leaves shown))
 
 pub returns-clause-leaves : goal.returns-clause-leaves
 returns-clause-leaves g c told shown own found =
     stopped_leaves (keep_files_of c.args.names) _ _ _ c.in-Ok.ensures.reads (g.D.Disk.shows c.args.disk)
-    (g.D.Disk.shows c.keep_history-disk.result.1) told own found c.in-Err-end.stop
+    (g.D.Disk.shows c.keep_history-disk.result.disk) told own found c.in-Err-end.stop
     (rw c.in-Err-end.is at (c.keep_history-disk.ensures.leaves shown))

@@ -7,17 +7,17 @@ returns-in-Ok-clause-cause g c =
     let shows = g.D.Disk.shows in
     let begun = c.in-Ok.ensures in
     let store = c.in-Ok.store in
-    save_cause shows c.args.disk store c.save_turns.result.1 begun.answers
+    save_cause shows c.args.disk store c.save_turns.result.disk begun.answers
     (λ tells. (c.in-Ok.field-0-1, subst (λ bytes. KeepsRows bytes store.sequence c.in-Ok.field-0-1) (begun.same tells) (begun.keeps tells)))
-    c.save_turns.result.0 c.save_turns.ensures.cause
+    c.save_turns.result.end c.save_turns.ensures.cause
 
 pub returns-in-Ok-clause-leaves : goal.returns-in-Ok-clause-leaves
 returns-in-Ok-clause-leaves g c tells =
     let shows = g.D.Disk.shows in
     let begun = c.in-Ok.ensures in
     let store = c.in-Ok.store in
-    saved_behind c.args.config.now c.args.history.now.turns (shows c.args.disk) (shows store.disk) (shows c.save_turns.result.1)
-    store.sequence c.in-Ok.field-0-1 (begun.keeps tells) (begun.same tells) (begun.settled tells) (begun.any_moment tells) c.save_turns.result.0
+    saved_behind c.args.config.now c.args.history.now.turns (shows c.args.disk) (shows store.disk) (shows c.save_turns.result.disk)
+    store.sequence c.in-Ok.field-0-1 (begun.keeps tells) (begun.same tells) (begun.settled tells) (begun.any_moment tells) c.save_turns.result.end
     (c.save_turns.ensures.saved (begun.settled tells).tells)
 
 pub returns-clause-leaves : goal.returns-clause-leaves

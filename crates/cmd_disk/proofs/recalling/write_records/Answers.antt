@@ -1,4 +1,4 @@
-use Rattle.cmd_steps.proofs.Names.{codes, at_text, length, memory_text, rules, ◌≡◌}
+use Rattle.cmd_steps.proofs.Names.{codes, number_text, length, memory_text, rules, ◌≡◌}
 use Rattle.cmd_disk.proofs.KeepLemmas.{part_unwritten, recall_unwritten, recalled}
 use Rattle.cmd_disk.proofs.recalling.write_records.Goals as goal
 
@@ -11,7 +11,7 @@ returns-in_err-write_files-clause-ends g c names same =
 pub returns-clause-ends : goal.returns-clause-ends
 returns-clause-ends g c names same =
     let bytes : c.deref.result.now ≡ memory_text c.args.records.now = search rules in
-    let line : c.in_ok-line.line.items ≡ at_text (codes "records ") (length c.args.records.now) = search rules in
+    let line : c.in_ok-line.line.items ≡ number_text (codes "records ") (length c.args.records.now) = search rules in
     recalled names c.args.records.now _ _ c.in_ok-line.line.items line (rw (same, bytes) at c.in_ok-write_files.ensures)
 
 pub returns-in_err-write_files-clause-part : goal.returns-in_err-write_files-clause-part

@@ -7,7 +7,7 @@ returns-in-Ok-Some-Keep-clause-ran g c =
     let arm = c.in-Ok-Some-Keep in
     let names = keep_files_of arm.names in
     asked_on_disk g.D.Disk.shows (keep names) _ _ _ _ _ _ _ _ (ap disk_of (rw (arm.field-0-is, arm.field-0-0-is) at arm.ensures.asked))
-    (rw c.told.ensures.disk (keep_ran g.D.Disk.shows _ _ _ _ _ c.args.disk c.keep.result.1 c.keep.result.0 c.told.ensures.told c.keep.ensures.cause
+    (rw c.told.ensures.disk (keep_ran g.D.Disk.shows _ _ _ _ _ c.args.disk c.keep.result.disk c.keep.result.end c.told.ensures.told c.keep.ensures.cause
     names c.keep.ensures.ends c.keep.ensures.leaves))
 
 pub returns-in-Ok-Some-Recall-clause-ran : goal.returns-in-Ok-Some-Recall-clause-ran
@@ -17,7 +17,7 @@ returns-in-Ok-Some-Recall-clause-ran g c =
     let own = c.recall.ensures in
     let told = c.told-in-Ok-Some-Recall.ensures in
     asked_on_disk g.D.Disk.shows (recall names) _ _ _ _ _ _ _ _ (ap disk_of (rw (arm.field-0-is, arm.field-0-0-is) at arm.ensures.asked))
-    (rw told.disk (recall_ran g.D.Disk.shows _ _ _ _ _ c.args.disk c.recall.result.1 c.recall.result.0 told.told own.cause
+    (rw told.disk (recall_ran g.D.Disk.shows _ _ _ _ _ c.args.disk c.recall.result.disk c.recall.result.end told.told own.cause
     names own.ends own.recalled own.same own.any_moment))
 
 pub returns-in-Ok-Some-Keep-clause-others : goal.returns-in-Ok-Some-Keep-clause-others

@@ -1,5 +1,6 @@
 use Rattle.trace_replay.proofs.Names.{◌<◌, ◌∙◌, length, take, ap, arith, kept_bytes, Room, Turn, entry_at, turn_at}
-use Rattle.trace_replay.proofs.GatheredLemmas.{next_bytes, next_entry, next_fits, with_entry_last}
+use Rattle.filter_chain.proofs.LogLemmas.{with_entry_last}
+use Rattle.trace_replay.proofs.GatheredLemmas.{next_bytes, next_entry, next_fits}
 use Rattle.trace_replay.proofs.gathered.add_turn.Goals as goal
 
 pub add-requires-clause-room : goal.add-requires-clause-room

@@ -1,4 +1,4 @@
-use Rattle.event_chain.proofs.Names.{◌+◌, ◌≤◌, List, ◌∷◌, ◌++◌, drop, length, option_to_list, sym, ap, subst, ◌∙◌, append_assoc, length-append, arith, drop_all, drop-set-lt, length-set, common_steps, act_by, Act, Entry, Moment, act_moment, with_all, HandsBack, all_parcels, parcel_of, all_kept, FitsAct, IsBehind, HasSentRoom, carried_room}
+use Rattle.event_chain.proofs.Names.{◌+◌, ◌≤◌, List, ◌++◌, drop, length, option_to_list, sym, ap, subst, ◌∙◌, append_assoc, length-append, arith, drop_all, drop-set-lt, length-set, common_steps, Entry, with_all, HandsBack, all_parcels, parcel_of, all_kept, FitsAct, carried_room}
 use Rattle.event_chain.proofs.Going.{Reaches, reaches_next, reaches_all, ready_next, stays_more, entry_moments, same_next}
 use Rattle.event_chain.proofs.HandsLemmas.{hands_next, hands_length}
 use Rattle.event_chain.proofs.RoomLemmas.{hands_carry, own_fit}
@@ -20,8 +20,7 @@ enter-requires-clause-fits g c =
     (omega (arith, c.loop-i-test.true, c.len-i-end.ensures, all.count)) c.index_mut.ensures.value in
     let own = c.requires.acts c.loop-i.i entry (omega (arith, c.loop-i-test.true, c.len-i-end.ensures)) in
     let fits = subst (λ (e : Entry g.row.B.Denot). FitsAct held (length c.args.self.now.windows) e.act) (sym next.0) own in
-    subst (FitsAct held (length c.loop-i.self.windows)) (sym c.replace-act.ensures.value)
-    (subst (λ n. FitsAct held n entry.act) (sym all.stays.windows.events) fits)
+    subst (λ n. FitsAct held n entry.act) (sym all.stays.windows.events) fits
 
 pub enter-requires-clause-back : goal.enter-requires-clause-back
 enter-requires-clause-back g c =
@@ -31,11 +30,10 @@ enter-requires-clause-back g c =
     let next = same_next c.loop-i.items.items c.args.items.now.items c.loop-i.i entry all.left all.count
     (omega (arith, c.loop-i-test.true, c.len-i-end.ensures, all.count)) c.index_mut.ensures.value in
     let lengths = hands_length all.hands in
-    let own = ap (λ (a : Act g.row.B.Denot). length (option_to_list (parcel_of a))) c.replace-act.ensures.value in
     let parcels = ap length (ap all_parcels next.1 ∙ parcels_cons entry left)
     ∙ length-append (option_to_list (parcel_of entry.act)) (all_parcels left) in
     let whole = length-append (all_parcels (drop c.loop-i.i c.args.items.now.items)) (all_kept c.loop-i.self.windows) in
-    grind (arith, common_steps, lengths, own, parcels, whole, all.capacity, c.requires.back)
+    grind (arith, common_steps, lengths, parcels, whole, all.capacity, c.requires.back)
 
 pub enter-requires-clause-room : goal.enter-requires-clause-room
 enter-requires-clause-room g c =
@@ -50,8 +48,7 @@ enter-requires-clause-room g c =
     let carry = hands_carry held all.hands in
     let rest = ap (λ (ps : List g.row.B.Denot). carried_room held (ps ++ kept)) (ap all_parcels next.1 ∙ parcels_cons entry left) in
     let fits = own_fit held own (all_parcels left) kept in
-    subst (λ (a : Act g.row.B.Denot). HasSentRoom held 1 (option_to_list (parcel_of a) ++ kept) c.loop-i.out) (sym c.replace-act.ensures.value)
-    (omega (arith, carry, rest, fits, c.loop-i-test.true, c.len-i-end.ensures, all.sends, c.requires.room))
+    omega (arith, carry, rest, fits, c.loop-i-test.true, c.len-i-end.ensures, all.sends, c.requires.room)
 
 pub loop-i-preserved : goal.loop-i-preserved
 loop-i-preserved g c =
@@ -75,16 +72,13 @@ loop-i-preserved g c =
       behind = λ config start moments behind. reaches_next
           (subst (λ (es : List (Entry g.row.B.Denot)). Reaches held knows config start tick c.loop-i.self c.loop-i.out
           (entry_moments held tick es) (with_all moments (entry_moments held tick items))) next.1 (all.behind config start moments behind))
-          (subst (λ (a : Act g.row.B.Denot). (now : List Moment) → IsBehind held knows config start tick now c.loop-i.self c.loop-i.out
-          → IsBehind held knows config start tick (act_moment tick (act_by held a) ∷ now) c.enter.new.self c.enter.new.out)
-          c.replace-act.ensures.value (c.enter.ensures.behind config start));
+          (c.enter.ensures.behind config start);
       stays = stays_more all.stays c.enter.ensures.stays;
       sends = omega (arith, all.sends, c.enter.ensures.sends);
       hands = hands_next own (all_parcels left) mid
           (subst (λ (ps : List g.row.B.Denot). HandsBack (all_parcels items) (all_kept c.args.self.now.windows) ps c.args.back.now.items
           c.loop-i.back.items) parcels all.hands)
-          (subst (λ (a : Act g.row.B.Denot). HandsBack (option_to_list (parcel_of a)) mid (all_kept c.enter.new.self.windows)
-          c.loop-i.back.items c.enter.new.back.items) c.replace-act.ensures.value c.enter.ensures.parcels);
+          c.enter.ensures.parcels;
       capacity = c.enter.ensures.capacity ∙ all.capacity;
       room = all.room;
     }

@@ -13,6 +13,7 @@ returns-clause-mine c =
       is_shared = c.requires.mine.is_shared;
       taker = c.give_back.ensures.mine;
       givers = c.give.ensures.mine;
+      has_spare = c.requires.mine.has_spare;
       tied = rw gave.back_is (tied_given c.requires.mine.tied c.give.ensures.gave);
     }
 

@@ -18,12 +18,12 @@ returns-in-Ok c =
 pub returns-in-Err : goal.returns-in-Err
 returns-in-Err c =
     let shared = c.args.shared.now in
-    let now : Pass = record { seat = c.mark_lost_event.new.self; claimant = c.args.self.now.claimant } in
+    let now : Pass = record { seat = c.mark_lost_event.new.self; claimant = c.args.self.now.claimant; spare = c.args.self.now.spare } in
     let marked = c.mark_lost_event.ensures.told in
     let call = lost_event (queue_seats shared.queue) _ _ c.in-Err.look marked.0 _ c.in-Err.ensures.told marked.1 in
     record {
       mine = record {
-        at = pass_after c.requires.mine.at now c.mark_lost_event.ensures.mine c.requires.mine.at.claimant refl (omega arith) (Lost c.in-Err.look.claimed)
+        at = pass_after c.requires.mine.at now c.mark_lost_event.ensures.mine c.requires.mine.at.claimant c.requires.mine.at.has_spare refl (omega arith) (Lost c.in-Err.look.claimed)
             (λ i. []) (same_logs now) (λ i. refl) (call_adds (omega arith) refl call);
         is_idle = c.mark_lost_event.ensures.held ∙ c.in-Err.ensures.held;
       };

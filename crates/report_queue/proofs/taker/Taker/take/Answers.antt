@@ -4,8 +4,8 @@ use Rattle.report_queue.specs.Parts.{taker_memo}
 use Rattle.report_queue.proofs.{taken_by_then, taken_is_reaped}
 use Rattle.report_queue.proofs.taker.Taker.take.Goals as goal
 
-pub returns-in-Ok : goal.returns-in-Ok
-returns-in-Ok g c =
+pub returns-in-Ok-clause-took : goal.returns-in-Ok-clause-took
+returns-in-Ok-clause-took g c =
     let did = c.in-Ok.ensures in
     let filled = c.refill.ensures in
     record {
@@ -19,8 +19,8 @@ returns-in-Ok g c =
       all_taken = tt;
     }
 
-pub returns-in-Err : goal.returns-in-Err
-returns-in-Err g c =
+pub returns-in-Err-clause-took : goal.returns-in-Err-clause-took
+returns-in-Err-clause-took g c =
     let did = c.in-Err.ensures in
     let was = c.requires.mine in
     record {
