@@ -1,5 +1,5 @@
 -- What a claim does at each class: it asks the fitting ones from the smallest on, until one has a buffer free.
-use Rattle.std.specs.Prelude.{◌≡◌, ℕ, suc, ◌+◌, ◌*◌, ◌≤◌, ◌==◌, if◌then◌else◌, List, [], ◌∷◌, length, Result, Ok, Err, ⊤, ◌^◌, All}
+use Rattle.std.specs.Prelude.{◌≡◌, ℕ, suc, ◌+◌, ◌*◌, ◌≤◌, ◌==◌, if◌then◌else◌, List, [], ◌∷◌, length, Option, Some, None, Result, Ok, Err, ⊤, ◌^◌, All}
 use mathlib.Core.Option.{some}
 use lib.ListN.{get_elem?}
 use Rattle.ids_types.specs.declared.names.Ticket.{Ticket}
@@ -11,6 +11,11 @@ use Rattle.buffer_classes.specs.Names.{Class, ClassSeat, Lost, Got, Outcome, Sea
 use Rattle.buffer_classes.specs.Seats.{IsClassSeat}
 use Rattle.buffer_classes.specs.declared.seat.Claim.{Claim}
 use Rattle.buffer_classes.specs.declared.seat.Claim.TheVariants as claims
+
+-- what a claim gave that got this buffer, or none, after these looks
+abbrev pub claim_with : Option Buffer → List ℕ → Claim
+claim_with (Some buf) looks = claims.Got buf looks
+claim_with None looks = claims.NoneFree looks
 
 -- the ticket of a number
 abbrev pub ticket : ℕ → Ticket

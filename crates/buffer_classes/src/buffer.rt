@@ -1,5 +1,5 @@
 //! A context data buffer.
-ghost use Rattle.std.specs.Prelude.{◌≡◌, ◌≤◌, length, IfOk};
+ghost use Rattle.std.specs.Prelude.{◌≡◌, ◌≤◌, length, take, IfOk};
 ghost use Rattle.buffer_classes.specs.Buffers.{filled_with, unused};
 
 use ids_types::Parcel;
@@ -18,8 +18,10 @@ pub struct CtxBuf {
 struct Held {
     claim: u64,
     size: u16,
+    len: usize,
     class: u8,
-    bytes: Vec<u8>,
+    /// As many bytes as it can hold, of which the first `len` are those that it holds.
+    room: Vec<u8>,
 }
 
 impl Model for CtxBuf {
@@ -40,8 +42,9 @@ impl CtxBuf {
         let held = Held {
             claim: 0,
             size,
+            len: 0,
             class,
-            bytes: Vec::with_capacity(alloc, size as usize)?,
+            room: Vec::from_elem(alloc, 0, size as usize)?,
         };
         Ok(CtxBuf {
             held: Box::new(alloc, held)?,
@@ -70,16 +73,13 @@ impl CtxBuf {
     }
 
     /// Holds these bytes, and no others, from now on.
-    /// Steps: the bytes, and those that it held: at most its size each. By: condition: at most its size; invariant
-    /// `HasItsRoom`; read off.
+    /// Steps: the bytes, at most its size. By: condition: at most its size; invariant `HasItsRoom`; read off.
     pub fn fill(&mut self, bytes: &[u8])
         requires { length bytes.now ≤ self.old.size }
         ensures { self.new ≡ filled_with bytes.now self.old }
     {
-        self.held.bytes.clear();
-        if !bytes.is_empty() {
-            self.held.bytes.extend_from_slice(bytes).unwrap();
-        }
+        put(&mut self.held.room, bytes);
+        self.held.len = bytes.len();
     }
 
     /// The claim of this number got it.
@@ -90,10 +90,19 @@ impl CtxBuf {
     }
 }
 
+// Puts these bytes in front.
+fn put(room: &mut [u8], bytes: &[u8])
+    requires { length bytes.now ≤ length room.old }
+    ensures bytes { take (length bytes.now) room.new ≡ bytes.now }
+    ensures len { length room.new ≡ length room.old }
+{
+    room[..bytes.len()].copy_from_slice(bytes);
+}
+
 impl Parcel for CtxBuf {
     ghost held = { λ b. b.bytes };
 
     fn bytes(&self) -> &[u8] {
-        &self.held.bytes
+        &self.held.room[..self.held.len]
     }
 }

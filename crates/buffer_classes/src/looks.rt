@@ -26,7 +26,7 @@ impl Model for Looks {
 
 impl Looks {
     /// No look yet.
-    pub(crate) fn none() -> Looks
+    pub fn none() -> Looks
         ensures { result ≡ [] }
     {
         Looks {

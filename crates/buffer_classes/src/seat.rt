@@ -1,10 +1,10 @@
 //! One who claims context data buffers.
-ghost use Rattle.std.specs.Prelude.{◌≡◌, ℕ, ◌+◌, ◌-◌, ◌*◌, ◌++◌, ◌<◌, ◌≤◌, ◌^◌, length, IfErr, IfOk};
+ghost use Rattle.std.specs.Prelude.{◌≡◌, [], ℕ, ◌+◌, ◌-◌, ◌*◌, ◌++◌, ◌<◌, ◌≤◌, ◌^◌, length, IfErr, IfOk};
 ghost use mathlib.Core.Option.{some};
 ghost use lib.ListN.{get_elem?};
 ghost use Rattle.permit_ring.specs.Seats.{ring_seats, ring_terms, seat_calls};
 ghost use Rattle.buffer_classes.specs.Buffers.{IsBufferOf};
-ghost use Rattle.buffer_classes.specs.Claims.{AreSmall, Asks, AsksClass, asked, outcome_of, ClaimTells, HoldsSoMany};
+ghost use Rattle.buffer_classes.specs.Claims.{AreSmall, Asks, AsksClass, asked, claim_with, outcome_of, ClaimTells, HoldsSoMany};
 ghost use Rattle.buffer_classes.specs.Classes.{class_sizes, first_fitting};
 ghost use Rattle.buffer_classes.specs.Names.{Class as ClassValue};
 ghost use Rattle.buffer_classes.specs.Seats.{IsClassSeat, IsClaimSeatOf, claimant_of, claims_of, log_of, memo_at, steps_of};
@@ -55,20 +55,46 @@ impl ClaimSeat {
         ensures few_steps { steps_of self.new ≤ steps_of self.old + 3 * (length (class_sizes classes.now) - first_fitting len (class_sizes classes.now)) }
         ensures logs { (i : ℕ) → log_of self.new i ≡ log_of self.old i ++ asked (first_fitting len (class_sizes classes.now)) result i }
     {
-        self.claims += 1;
         let mut looks = Looks::none();
+        match self.claim_noting(classes, len, &mut looks) {
+            Some(buf) => Claim::Got {
+                buf,
+                skipped: looks,
+            },
+            None => Claim::NoneFree(looks),
+        }
+    }
+
+    /// Claims a buffer as `claim` does, and notes each look in a list, in which there is none yet: so a claim that gets
+    /// its buffer at once moves no list.
+    /// Steps: as `ClaimSeat::claim`. By: `told`, `steps` and `few_steps`, as there.
+    pub fn claim_noting(&mut self, classes: &Classes, len: u64, looks: &mut Looks) -> Option<CtxBuf>
+        requires mine { IsClaimSeatOf classes.now self.old }
+        requires some { 1 ≤ len }
+        requires none { looks.old ≡ [] }
+        requires few { claims_of self.old < 2 ^ 40 }
+        ensures mine { IsClaimSeatOf classes.now self.new }
+        // A buffer of the first fitting class that had one free.
+        ensures told { ClaimTells (first_fitting len (class_sizes classes.now)) (class_sizes classes.now) (claim_with result looks.new) }
+        ensures holds { HoldsSoMany len (claim_with result looks.new) }
+        ensures small { AreSmall (claim_with result looks.new) }
+        ensures counted { (claims_of self.new ≡ claims_of self.old + 1) × (claimant_of self.new ≡ claimant_of self.old) }
+
+        // Each look, and the claim, is the word of a step of this call at its class.
+        ensures steps { (i : ℕ) (class : ClassValue) → get_elem? classes.now.classes.items i ≡ some class
+            → Asks (ring_seats class.ring) (memo_at self.old i) (asked (first_fitting len (class_sizes classes.now)) (claim_with result looks.new) i) (memo_at self.new i) }
+        // At most three steps at each class that fits.
+        ensures few_steps { steps_of self.new ≤ steps_of self.old + 3 * (length (class_sizes classes.now) - first_fitting len (class_sizes classes.now)) }
+        ensures logs { (i : ℕ) → log_of self.new i ≡ log_of self.old i ++ asked (first_fitting len (class_sizes classes.now)) (claim_with result looks.new) i }
+    {
+        self.claims += 1;
         for place in classes.first_fitting(len)..self.seats.len() {
             match ask(&mut self.seats[place], &classes.classes[place]) {
-                Ok(buf) => {
-                    return Claim::Got {
-                        buf,
-                        skipped: looks,
-                    };
-                }
+                Ok(buf) => return Some(buf),
                 Err(claimed) => looks.push(claimed),
             }
         }
-        Claim::NoneFree(looks)
+        None
     }
 }
 

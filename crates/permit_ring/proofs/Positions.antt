@@ -1,10 +1,28 @@
 -- A ticket's position by a mask.
-use Rattle.permit_ring.proofs.Names.{◌≡◌, ℕ, ◌-◌, ◌%◌, ◌^◌, sym, ◌∙◌, ap}
-use Rattle.std.proofs.lemmas.Nat.{and_mask}
+use Rattle.permit_ring.proofs.Names.{◌≡◌, ℕ, zero, suc, ◌-◌, ◌%◌, ◌^◌, ◌≤◌, sym, ◌∙◌, ap, arith}
+use Rattle.std.proofs.Common.{◌*◌, ◌/◌, ⊎_elim}
+use Rattle.std.specs.Prelude.{count_ones}
+use Rattle.std.proofs.Math.Nat.{eq-or-lt_of_le}
+use Rattle.std.proofs.lemmas.Nat.{and_mask, ones_le_self, zero_from_ones}
 use lib.Bits.{bit_and}
+use lib.Count.{ones_step}
+use native.Mathlib.Numerals.{unary_clauses}
 
--- where n is a power of two, the low bits of a ticket are its position
-pub masked : (n power ticket : ℕ) → (k : ℕ) × (power ≡ 2 ^ k) → power ≡ n → bit_and ticket (n - 1) ≡ ticket % n
-masked n power ticket is same =
-    let all : n ≡ 2 ^ is.0 = sym same ∙ is.1 in
-    ap (λ (m : ℕ). bit_and ticket (m - 1)) all ∙ and_mask ticket is.0 ∙ ap (λ (m : ℕ). ticket % m) (sym all)
+-- a number with one digit set is a power of two
+one_digit : (d n : ℕ) → n ≤ d → count_ones n ≡ 1 → (k : ℕ) × (n ≡ 2 ^ k)
+one_digit zero n low one = absurd (omega (arith, low, one, ones_le_self n))
+one_digit (suc d) n low one =
+    let s = ones_step n in
+    let bit : n % 2 ≤ 1 = omega arith in
+    ⊎_elim
+    (λ odd. let none = zero_from_ones (n / 2) (omega (arith, s, odd, one)) in (zero, omega (arith, none, odd)))
+    (λ even.
+    let half : (k : ℕ) × (n / 2 ≡ 2 ^ k) = one_digit d (n / 2) (omega (arith, low, even, one, ones_le_self n)) (omega (arith, s, even, one)) in
+    (suc half.0, simp unary_clauses (omega (arith, even, half.1))))
+    (eq-or-lt_of_le bit)
+
+-- where one digit of n is set, the low bits of a ticket are its position
+pub masked : (n ticket : ℕ) → count_ones n ≡ 1 → bit_and ticket (n - 1) ≡ ticket % n
+masked n ticket one =
+    let is = one_digit n n (omega arith) one in
+    ap (λ (m : ℕ). bit_and ticket (m - 1)) is.1 ∙ and_mask ticket is.0 ∙ ap (λ (m : ℕ). ticket % m) (sym is.1)

@@ -45,8 +45,7 @@ impl<F: Freight> Ring<F> {
         ensures { result ≡ ticket % self.now.positions }
     {
         let n = self.positions as u64;
-        let power = n.next_power_of_two();
-        let position = if power == n {
+        let position = if n.is_power_of_two() {
             ticket & (n - 1)
         } else {
             ticket % n

@@ -1,15 +1,20 @@
 //! Reports of security events.
-ghost use Rattle.std.specs.Prelude.{◌≡◌, ◌<◌, [], None, is_none, false, length};
-ghost use Rattle.report_queue.specs.Parts.{ticket_of};
-ghost use Rattle.report_api.specs.{PutsUnder, Reports, given, IsPassAt, IsPassOf, IsReported, Absent, Report as Bare};
+ghost use Rattle.std.specs.Prelude.{◌≡◌, ◌<◌, ◌^◌, ℕ, [], None, Some, is_none, is_some, false, true, length};
+ghost use Rattle.report_queue.specs.{IsCallerOf, adds_mark, caller_memo, finishes, item_by, queue_terms, ticket_of};
+ghost use Rattle.ids_types.specs.declared.names.Ticket.{Ticket as TicketValue};
+ghost use Rattle.report_api.specs.declared.answer.Report.TheVariants.{WithoutContext};
+ghost use Rattle.report_api.specs.{PutsUnder, Reports, given, IsPassAt, IsPassOf, IsReported, AdmitsAct, lost_contexts, Absent, Kept, Missing, Report as Bare};
 
 use crate::answer::Report;
 use crate::pass::{Pass, put};
-use crate::shared::Shared;
-use buffer_classes::{Claim, CtxBuf};
-use ids_types::{Act, Carried, EventIndex, Stamp};
+use crate::shared::{Reports as Queued, Shared};
+use buffer_classes::{CtxBuf, Looks};
+use ids_types::{Act, Carried, EventIndex, Stamp, Ticket};
+use report_queue::{Queue, QueueSeat};
+use std::mem::replace;
 
-// A report without context. It is made in a function of its own, so that the compiler clears its place there.
+// A report without context. It is made in a function of its own, so that the compiler clears its place there, and so are
+// those below.
 #[inline(always)]
 fn bare(event: EventIndex, count: u16, stamp: Option<Stamp>) -> Act<CtxBuf>
     ensures { result ≡ Bare event count stamp Absent }
@@ -20,6 +25,57 @@ fn bare(event: EventIndex, count: u16, stamp: Option<Stamp>) -> Act<CtxBuf>
         stamp,
         context: Carried::Absent,
     }
+}
+
+// A report with its context.
+#[inline(always)]
+fn kept(event: EventIndex, count: u16, stamp: Option<Stamp>, buf: CtxBuf) -> Act<CtxBuf>
+    ensures { result ≡ Bare event count stamp (Kept buf.class buf.claim buf) }
+{
+    Act::Report {
+        event,
+        count,
+        stamp,
+        context: Carried::Kept {
+            class: buf.class(),
+            claim: buf.claim(),
+            parcel: buf,
+        },
+    }
+}
+
+// Puts a report whose context found no buffer, and marks the loss. Few reports come here.
+#[inline(never)]
+fn put_missing(
+    queue: &Queue<Queued>,
+    seat: &mut QueueSeat<Queued>,
+    spare: &mut Option<Box<Act<CtxBuf>>>,
+    event: EventIndex,
+    count: u16,
+    stamp: Option<Stamp>,
+    looks: &mut Looks,
+) -> Report
+    requires mine { IsCallerOf queue.now seat.old }
+    requires spare { is_some spare.old ≡ true }
+    requires busy { is_none (ticket_of seat.old) ≡ false }
+    requires few { lost_contexts (caller_memo seat.old) < 2 ^ 40 }
+    requires admitted { AdmitsAct (queue_terms queue.now) (Bare event count stamp (Missing looks.old)) }
+    ensures mine { IsCallerOf queue.now seat.new }
+    ensures spare { is_some spare.new ≡ true }
+    ensures reported { (ticket : TicketValue) × (result ≡ WithoutContext ticket looks.old) × (ticket_of seat.old ≡ Some ticket) }
+    ensures told { (found : ℕ) × (caller_memo seat.new ≡ adds_mark 1 found
+        (finishes (item_by (caller_memo seat.old) (Bare event count stamp (Missing looks.old))) (caller_memo seat.old))) }
+    ensures held { ticket_of seat.new ≡ None }
+{
+    let act = Act::Report {
+        event,
+        count,
+        stamp,
+        context: Carried::Missing(looks.claimed()),
+    };
+    let ticket = put(queue, seat, spare, act);
+    seat.mark_lost_context(queue);
+    Report::WithoutContext(ticket, replace(looks, Looks::none()))
 }
 
 /// How many calls a pass may make.
@@ -110,8 +166,7 @@ impl Pass {
         Report::Accepted(put(&shared.queue, &mut self.seat, &mut self.spare, act))
     }
 
-    // The same where there is context. It stands apart, so that a report without has no room for what it makes.
-    #[inline(never)]
+    // The same where there is context.
     fn put_with_context(
         &mut self,
         shared: &Shared,
@@ -126,31 +181,17 @@ impl Pass {
         requires some { 0 < length context.now }
         ensures { PutsUnder shared.now (given event count stamp context.now) self.old result self.new }
     {
-        match self.claimant.claim(&shared.classes, context.len() as u64) {
-            Claim::Got { mut buf, .. } => {
+        let mut looks = Looks::none();
+        let len = context.len() as u64;
+        match self.claimant.claim_noting(&shared.classes, len, &mut looks) {
+            Some(mut buf) => {
                 buf.fill(context);
-                let act = Act::Report {
-                    event,
-                    count,
-                    stamp,
-                    context: Carried::Kept {
-                        class: buf.class(),
-                        claim: buf.claim(),
-                        parcel: buf,
-                    },
-                };
+                let act = kept(event, count, stamp, buf);
                 Report::Accepted(put(&shared.queue, &mut self.seat, &mut self.spare, act))
             }
-            Claim::NoneFree(looks) => {
-                let act = Act::Report {
-                    event,
-                    count,
-                    stamp,
-                    context: Carried::Missing(looks.claimed()),
-                };
-                let ticket = put(&shared.queue, &mut self.seat, &mut self.spare, act);
-                self.seat.mark_lost_context(&shared.queue);
-                Report::WithoutContext(ticket, looks)
+            None => {
+                let (queue, seat, spare) = (&shared.queue, &mut self.seat, &mut self.spare);
+                put_missing(queue, seat, spare, event, count, stamp, &mut looks)
             }
         }
     }

@@ -1,7 +1,6 @@
+use Rattle.std.proofs.Common.{arith}
 use Rattle.permit_ring.proofs.Positions.{masked}
 use Rattle.permit_ring.proofs.ring.Ring.position_of.Goals as goal
 
-pub returns-then-power-n : goal.returns-then-power-n
-returns-then-power-n g c =
-    let power = c.next_power_of_two-power in
-    masked c.args.self.now.positions power.result c.args.ticket power.ensures.power c.if-power-n.true
+pub returns-then-is_power_of_two : goal.returns-then-is_power_of_two
+returns-then-is_power_of_two g c = masked c.args.self.now.positions c.args.ticket (grind (arith, c.is_power_of_two.ensures, c.if-is_power_of_two.true))

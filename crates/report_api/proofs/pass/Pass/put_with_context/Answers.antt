@@ -1,56 +1,60 @@
-use Rattle.report_api.proofs.Names.{◌∙◌, length, refl, ap, arith, adds_mark, lost_contexts, sizes_of, Pass}
+use Rattle.report_api.proofs.Names.{length, refl, ap, arith, sizes_of, Pass}
 use Rattle.buffer_classes.specs.Classes.{first_fitting}
-use Rattle.report_api.specs.Names.{Kept, PassMemo}
+use Rattle.report_api.specs.Names.{Kept}
 use Rattle.report_api.proofs.{contexts_within, fitting_some, kept_asks, missed_adds, missing_asks, pass_after, put_adds}
 use Rattle.report_api.proofs.pass.Pass.put_with_context.Goals as goal
 
-pub mark_lost_context-requires-clause-few : goal.mark_lost_context-requires-clause-few
-mark_lost_context-requires-clause-few c lifetimes =
-    omega (arith, contexts_within c.requires.at c.requires.busy, ap (λ (k : PassMemo). lost_contexts k) c.put-ticket.ensures.told)
+pub put_missing-requires-clause-few : goal.put_missing-requires-clause-few
+put_missing-requires-clause-few c = omega (arith, contexts_within c.requires.at c.requires.busy)
 
-pub returns-in-Got : goal.returns-in-Got
-returns-in-Got c =
-    let now : Pass = record { seat = c.put.new.seat; claimant = c.claim.new.self; spare = c.put.new.spare } in
+pub returns-in-Some : goal.returns-in-Some
+returns-in-Some c =
+    let now : Pass = record { seat = c.put.new.seat; claimant = c.claim_noting.new.self; spare = c.put.new.spare } in
     let sizes = sizes_of c.args.shared.now in
     let bytes = c.args.context.now in
+    let did = c.in-Some.ensures in
+    let looks = c.claim_noting.new.looks in
+    let filled = c.fill.new.self in
+    let told = rw c.kept-act.ensures at c.put.ensures.told in
     record {
       mine = record {
-        at = pass_after c.requires.at now c.put.ensures.mine c.claim.ensures.mine c.put.ensures.spare c.claim.ensures.counted.1
-            (omega (arith, c.claim.ensures.counted.0)) _ _ c.in-Got.ensures.logs (λ i. rw (c.class.ensures, c.claim-in-Got.ensures)
-            (kept_asks (first_fitting (length bytes) sizes) i c.in-Got.skipped bytes c.in-Got.buf c.fill.new.self c.fill.ensures c.in-Got.ensures.told.0))
-            (put_adds _ _ _ refl c.put.ensures.told);
+        at = pass_after c.requires.at now c.put.ensures.mine did.mine c.put.ensures.spare did.counted.1
+            (omega (arith, did.counted.0)) _ _ did.logs
+            (λ i. kept_asks (first_fitting (length bytes) sizes) i looks bytes c.in-Some.buf filled c.fill.ensures did.told.0)
+            (put_adds _ _ _ refl told);
         is_idle = c.put.ensures.held;
       };
       ticket = c.put.ensures.ticket;
       told = (
-        Kept c.class.result c.claim-in-Got.result c.fill.new.self,
-        grind (arith, c.requires.some, c.fill.ensures, c.class.ensures, c.in-Got.ensures),
-        c.put.ensures.told,
+        Kept filled.class filled.claim filled,
+        grind (arith, c.requires.some, c.fill.ensures, did),
+        told,
       );
       classes = (
         λ nothing. absurd (omega (arith, c.requires.some, ap length nothing)),
-        λ any. (c.in-Got.buf, c.in-Got.skipped, c.in-Got.ensures.told, c.in-Got.ensures.steps),
+        λ any. (c.in-Some.buf, looks, did.told, did.steps),
       );
-      few = omega (arith, fitting_some sizes bytes c.requires.some, c.claim.ensures.few_steps);
+      few = omega (arith, fitting_some sizes bytes c.requires.some, did.few_steps);
     }
 
-pub returns-in-NoneFree : goal.returns-in-NoneFree
-returns-in-NoneFree c =
-    let now : Pass = record { seat = c.mark_lost_context.new.self; claimant = c.claim.new.self; spare = c.put-ticket.new.spare } in
+pub returns-in-None : goal.returns-in-None
+returns-in-None c =
+    let put = c.put_missing in
+    let now : Pass = record { seat = put.new.seat; claimant = c.claim_noting.new.self; spare = put.new.spare } in
     let sizes = sizes_of c.args.shared.now in
     let bytes = c.args.context.now in
-    let marked = c.mark_lost_context.ensures.told in
-    let told = marked.1 ∙ ap (adds_mark 1 marked.0) c.put-ticket.ensures.told in
-    record {
+    let did = c.in-None.ensures in
+    let looks = c.claim_noting.new.looks in
+    rw put.ensures.reported.1 (record {
       mine = record {
-        at = pass_after c.requires.at now c.mark_lost_context.ensures.mine c.claim.ensures.mine c.put-ticket.ensures.spare c.claim.ensures.counted.1
-            (omega (arith, c.claim.ensures.counted.0)) _ _ c.in-NoneFree.ensures.logs
-            (λ i. missing_asks (first_fitting (length bytes) sizes) i (length sizes) c.in-NoneFree.looks c.claimed.result c.claimed.ensures c.in-NoneFree.ensures.told)
-            (missed_adds _ _ _ marked.0 refl told);
-        is_idle = c.mark_lost_context.ensures.held ∙ c.put-ticket.ensures.held;
+        at = pass_after c.requires.at now put.ensures.mine did.mine put.ensures.spare did.counted.1
+            (omega (arith, did.counted.0)) _ _ did.logs
+            (λ i. missing_asks (first_fitting (length bytes) sizes) i (length sizes) looks looks refl did.told)
+            (missed_adds _ _ _ put.ensures.told.0 refl put.ensures.told.1);
+        is_idle = put.ensures.held;
       };
-      ticket = c.put-ticket.ensures.ticket;
-      told = (c.requires.some, c.in-NoneFree.ensures.told, (marked.0, rw (← c.claimed.ensures) told));
-      classes = c.in-NoneFree.ensures.steps;
-      few = omega (arith, fitting_some sizes bytes c.requires.some, c.claim.ensures.few_steps);
-    }
+      ticket = put.ensures.reported.2;
+      told = (c.requires.some, did.told, put.ensures.told);
+      classes = did.steps;
+      few = omega (arith, fitting_some sizes bytes c.requires.some, did.few_steps);
+    })

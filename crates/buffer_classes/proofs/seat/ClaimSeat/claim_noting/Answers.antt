@@ -1,7 +1,7 @@
 use Rattle.buffer_classes.proofs.Names.{◌≡◌, ◌+◌, length, refl, arith, rules, length-map, class_sizes, first_fitting, Class}
 use Rattle.buffer_classes.specs.declared.seat.Claim.TheVariants as claims
 use Rattle.buffer_classes.proofs.{asked_none, first_within, got, in_vain, leaves, seat_ready}
-use Rattle.buffer_classes.proofs.seat.ClaimSeat.claim.Goals as goal
+use Rattle.buffer_classes.proofs.seat.ClaimSeat.claim_noting.Goals as goal
 
 pub loop-place-init : goal.loop-place-init
 loop-place-init c = record {
@@ -9,7 +9,7 @@ loop-place-init c = record {
   small = search rules;
   number_is = refl;
   claims_are = refl;
-  asked = rw c.none-looks.ensures (asked_none c.requires.mine c.args.len);
+  asked = rw c.requires.none (asked_none c.requires.mine c.args.len);
   steps = omega arith;
 }
 
