@@ -2,9 +2,7 @@
 ghost use Rattle.std.specs.Prelude.{◌≤◌};
 ghost use Rattle.buffer_classes.specs.Givers.{AreBuffersIn};
 ghost use Rattle.main_function.specs.Standing.{IsManagerOf};
-ghost use Rattle.report_api.specs.Desks.{IsDeskOf};
-ghost use Rattle.report_api.specs.Passes.{IsPassOf, IsShared, sizes_of};
-ghost use Rattle.report_api.specs.Terms.{AdmitsAct};
+ghost use Rattle.report_api.specs.{IsDeskOf, IsPassOf, IsShared, sizes_of, AdmitsAct};
 
 use crate::bench::Bench;
 use crate::rounds::{Ring, Size};

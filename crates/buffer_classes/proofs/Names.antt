@@ -5,12 +5,8 @@ pub use Rattle.std.specs.Prelude.{vec_capacity}
 pub use Rattle.atomic_table.proofs.Lists.{at_set, set_else, at_index, at_last, at_longer, at_map, at_snoc, drop_at}
 pub use Rattle.ids_types.specs.declared.class_spec.ClassSpec.{ClassSpec}
 pub use Rattle.permit_ring.proofs.ListLemmas.{at_length, there, at_end}
-pub use Rattle.permit_ring.specs.{and_lost, seat_memo, reaps_all, OffersAll, IsSettled, reaps, IsNewSeat, new_memo, filled_of}
-pub use Rattle.permit_ring.specs.Hands.{AllAdmitted}
-pub use Rattle.permit_ring.specs.Seats.{ring_seats, ring_terms, seat_calls, keeper_memo}
-pub use Rattle.buffer_classes.specs.{Asks, AsksClass, ClaimTells, asked, lost_at, claimant_of, claims_of, log_of, memo_at, steps_of, Class, ClassSeat, Lost, Got, Outcome, SeatMemo, IsHisSeat, memo_in, Buffer, IsBufferOf, RiseFrom, class_sizes, first_fitting, IsClaimSeatOf, IsClassSeat, AreGiversOf, IsBufferIn, givers_of, AllOf, AreClasses, GetsSeat, IsNewClaimant, spec_sizes, GaveBack, class_count, Begins, Offers, Puts, AreBuffersIn, Takes, Welcomed, class_terms}
-pub use Rattle.buffer_classes.specs.Giving.{ClassMemo, IsGiverOf, filled_count, vacant_count, in_all, giver_memo, FillsLate}
-pub use Rattle.buffer_classes.specs.Making.{AreNewClasses, GetsOne, IsNewClass, AreUnseated}
+pub use Rattle.permit_ring.specs.{and_lost, seat_memo, reaps_all, OffersAll, IsSettled, reaps, IsNewSeat, new_memo, filled_of, AllAdmitted, ring_seats, ring_terms, seat_calls, keeper_memo}
+pub use Rattle.buffer_classes.specs.{Asks, AsksClass, ClaimTells, asked, lost_at, claimant_of, claims_of, log_of, memo_at, steps_of, Class, ClassSeat, Lost, Got, Outcome, SeatMemo, IsHisSeat, memo_in, Buffer, IsBufferOf, RiseFrom, class_sizes, first_fitting, IsClaimSeatOf, IsClassSeat, AreGiversOf, IsBufferIn, givers_of, AllOf, AreClasses, GetsSeat, IsNewClaimant, spec_sizes, GaveBack, class_count, Begins, Offers, Puts, AreBuffersIn, Takes, Welcomed, class_terms, ClassMemo, IsGiverOf, filled_count, vacant_count, in_all, giver_memo, FillsLate, AreNewClasses, GetsOne, IsNewClass, AreUnseated}
 pub use Rattle.buffer_classes.specs.Names.{Classes}
 pub use Rattle.buffer_classes.specs.declared.giver.Giver.{Giver}
 pub use Rattle.buffer_classes.specs.declared.givers.Givers.{Givers}

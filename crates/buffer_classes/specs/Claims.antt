@@ -4,8 +4,7 @@ use mathlib.Core.Option.{some}
 use lib.ListN.{get_elem?}
 use Rattle.ids_types.specs.declared.names.Ticket.{Ticket}
 use Rattle.permit_ring.specs.Calls as ring
-use Rattle.permit_ring.specs.Seats.{ring_seats, seat_calls, seat_memo, seat_number}
-use Rattle.permit_ring.specs.Steps.{finishes}
+use Rattle.permit_ring.specs.{ring_seats, seat_calls, seat_memo, seat_number, finishes}
 use Rattle.buffer_classes.specs.Buffers.{Buffer, found_full}
 use Rattle.buffer_classes.specs.Names.{Class, ClassSeat, Lost, Got, Outcome, SeatMemo}
 use Rattle.buffer_classes.specs.Seats.{IsClassSeat}

@@ -1,8 +1,7 @@
 //! The one who gives the buffers of one class back.
 ghost use Rattle.std.specs.Prelude.{◌≡◌, ◌<◌, None};
 ghost use Rattle.permit_ring.specs.Seats.{IsSeatOf, filled_of, ring_terms, seat_ticket, vacant_of};
-ghost use Rattle.buffer_classes.specs.Buffers.{IsBufferOf};
-ghost use Rattle.buffer_classes.specs.Giving.{Begins, FillsLate, IsFilledUp, IsGiverOf, Offers, Puts, ReapsAll, Takes, late_count};
+ghost use Rattle.buffer_classes.specs.{IsBufferOf, Begins, FillsLate, IsFilledUp, IsGiverOf, Offers, Puts, ReapsAll, Takes, late_count};
 
 use crate::buffer::CtxBuf;
 use crate::class::Buffers;

@@ -1,9 +1,6 @@
 //! Those who give the buffers of all classes back.
 ghost use Rattle.std.specs.Prelude.{◌≡◌, ◌<◌, [], length, vec_capacity};
-ghost use Rattle.buffer_classes.specs.ByIndex.{AllOf};
-ghost use Rattle.buffer_classes.specs.Classes.{class_sizes};
-ghost use Rattle.buffer_classes.specs.Givers.{AreBuffersIn, AreGiversOf, GaveBack, Welcomed, givers_of, late_of};
-ghost use Rattle.buffer_classes.specs.Seats.{IsClaimSeatOf};
+ghost use Rattle.buffer_classes.specs.{AllOf, class_sizes, AreBuffersIn, AreGiversOf, GaveBack, Welcomed, givers_of, late_of, IsClaimSeatOf};
 
 use crate::buffer::CtxBuf;
 use crate::class::Classes;

@@ -3,11 +3,7 @@ ghost use Rattle.std.specs.Prelude.{◌≡◌, [], ℕ, ◌+◌, ◌-◌, ◌*�
 ghost use mathlib.Core.Option.{some};
 ghost use lib.ListN.{get_elem?};
 ghost use Rattle.permit_ring.specs.Seats.{ring_seats, ring_terms, seat_calls};
-ghost use Rattle.buffer_classes.specs.Buffers.{IsBufferOf};
-ghost use Rattle.buffer_classes.specs.Claims.{AreSmall, Asks, AsksClass, asked, claim_with, outcome_of, ClaimTells, HoldsSoMany};
-ghost use Rattle.buffer_classes.specs.Classes.{class_sizes, first_fitting};
-ghost use Rattle.buffer_classes.specs.Names.{Class as ClassValue};
-ghost use Rattle.buffer_classes.specs.Seats.{IsClassSeat, IsClaimSeatOf, claimant_of, claims_of, log_of, memo_at, steps_of};
+ghost use Rattle.buffer_classes.specs.{IsBufferOf, AreSmall, Asks, AsksClass, asked, claim_with, outcome_of, ClaimTells, HoldsSoMany, class_sizes, first_fitting, Class as ClassValue, IsClassSeat, IsClaimSeatOf, claimant_of, claims_of, log_of, memo_at, steps_of};
 
 use crate::buffer::CtxBuf;
 use crate::class::{Buffers, Class, Classes};

@@ -5,15 +5,10 @@ use Rattle.std.proofs.lemmas.List.{length-map, map-append, reverse-append, lengt
 use Rattle.std.specs.Prelude.{slice_index_or}
 use Rattle.ids_types.specs.declared.entry.Entry.{Entry}
 use Rattle.ids_config.specs.Parts.{Parts}
-use Rattle.chain_spec.specs.Accounts.{account_of, tally, with_ending, with_fate, with_one, with_stored}
+use Rattle.chain_spec.specs.{account_of, tally, with_ending, with_fate, with_one, with_stored, Ending, Fate, at_mode, at_block, at_nth, in_window, at_threshold, unsent, at_rate, at_traffic, let_out, is_stored, endings, is_of, Moment}
 use Rattle.chain_spec.specs.declared.account.Account.{Account}
-use Rattle.chain_spec.specs.Endings.{Ending, Fate, at_mode, at_block, at_nth, in_window, at_threshold, unsent, at_rate, at_traffic, let_out, is_stored, endings}
-use Rattle.chain_spec.specs.Items.{is_of}
-use Rattle.chain_spec.specs.Moments.{Moment}
 use Rattle.event_chain.specs.Fates.{bare}
-use Rattle.chain_endings.specs.Accounting.{AreOf, CountsMissing, IsAtMost, kept_at}
-use Rattle.chain_endings.specs.ExplainedText.{is_missing}
-use Rattle.chain_endings.specs.Hearing.{told_in}
+use Rattle.chain_endings.specs.{AreOf, CountsMissing, IsAtMost, kept_at, is_missing, told_in}
 
 -- ---- numbers that are small enough
 

@@ -4,9 +4,7 @@ use Rattle.std.proofs.lemmas.List.{drop-map, length-append, length-map, map-appe
 use Rattle.std.proofs.Math.Seq.{drop-append_seam}
 use Rattle.ids_types.specs.Turns.{Turn}
 use Rattle.ids_config.specs.Parts.{Parts}
-use Rattle.chain_spec.specs.Endings.{Ending, ending_at, endings}
-use Rattle.chain_spec.specs.Moments.{Moment, turn_moments}
-use Rattle.chain_spec.specs.Stages.{with_all}
+use Rattle.chain_spec.specs.{Ending, ending_at, endings, Moment, turn_moments, with_all}
 use Rattle.event_chain.specs.Fates.{bare}
 use Rattle.chain_endings.specs.Hearing.{endings_along, told_in, turn_endings}
 

@@ -7,15 +7,11 @@ use Rattle.ids_types.specs.declared.entry.Act.{Act}
 use Rattle.ids_types.specs.declared.entry.Act.TheVariants.{Report, State, SetMode}
 use Rattle.ids_types.specs.declared.entry.Entry.{Entry}
 use Rattle.ids_config.specs.Parts.{Parts}
-use Rattle.chain_spec.specs.Endings.{Ending, ending_at}
-use Rattle.chain_spec.specs.Moments.{Moment, act_moment}
-use Rattle.chain_spec.specs.Stages.{with_all}
+use Rattle.chain_spec.specs.{Ending, ending_at, Moment, act_moment, with_all}
 use Rattle.event_chain.specs.Fates.{bare}
 use Rattle.text_spec.proofs.WordsLemmas.{text_of-append}
-use Rattle.text_spec.specs.JournalText.{enters, line_for}
-use Rattle.text_spec.specs.Words.{line_feed, text_of}
-use Rattle.chain_endings.specs.ExplainedText.{Pushes, ended_fields, entry_lines, given_line, opening}
-use Rattle.chain_endings.specs.Hearing.{endings_along, entry_moments, is_report, turn_endings}
+use Rattle.text_spec.specs.{enters, line_for, line_feed, text_of}
+use Rattle.chain_endings.specs.{Pushes, ended_fields, entry_lines, given_line, opening, endings_along, entry_moments, is_report, turn_endings}
 use Rattle.chain_endings.proofs.HearingLemmas.{along_append}
 
 -- something ends by a report, and by nothing else

@@ -3,10 +3,8 @@ use Rattle.std.specs.Prelude.{◌≡◌, ℕ, ◌≤◌, ◌<◌, List, length, 
 use Rattle.ids_types.specs.Turns.{Turn, entries_of}
 use Rattle.ids_types.specs.declared.entry.Entry.{Entry}
 use Rattle.ids_config.specs.Parts.{Parts}
-use Rattle.chain_spec.specs.Accounts.{nothing, tally}
-use Rattle.chain_spec.specs.Endings.{Ending}
+use Rattle.chain_spec.specs.{nothing, tally, Ending, is_of}
 use Rattle.chain_spec.specs.declared.account.Account.{Account}
-use Rattle.chain_spec.specs.Items.{is_of}
 use Rattle.chain_endings.specs.ExplainedText.{is_missing}
 
 -- no number of items is above the first number, none of fates above the second, and none of what is stored above

@@ -7,14 +7,9 @@ use Rattle.ids_types.specs.declared.entry.Act.TheVariants.{Report}
 use Rattle.ids_types.specs.declared.entry.Carried.TheVariants.{Missing}
 use Rattle.ids_types.specs.declared.entry.Entry.{Entry}
 use Rattle.ids_config.specs.Parts.{Parts, event_at, internal_of}
-use Rattle.chain_spec.specs.Accounts.{account_of, events_in}
+use Rattle.chain_spec.specs.{account_of, events_in, Fate, at_mode, at_block, at_nth, in_window, at_threshold, unsent, at_rate, at_traffic, let_out, Ending, ending_at, is_stored, heads_of, Moment, act_moment, closings, head_moment, moments, with_all}
 use Rattle.chain_spec.specs.declared.account.Account.{Account}
-use Rattle.chain_spec.specs.Endings.{Fate, at_mode, at_block, at_nth, in_window, at_threshold, unsent, at_rate, at_traffic, let_out, Ending, ending_at, is_stored}
-use Rattle.chain_spec.specs.Heads.{heads_of}
-use Rattle.chain_spec.specs.Moments.{Moment, act_moment, closings, head_moment, moments}
-use Rattle.chain_spec.specs.Stages.{with_all}
-use Rattle.text_spec.specs.JournalText.{Told, begins, enters, loses, line_for}
-use Rattle.text_spec.specs.Words.{absent, space, text_of}
+use Rattle.text_spec.specs.{Told, begins, enters, loses, line_for, absent, space, text_of}
 use Rattle.chain_endings.specs.Hearing.{endings_along}
 
 -- a word after a space

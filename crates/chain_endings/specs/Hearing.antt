@@ -5,8 +5,7 @@ use Rattle.ids_types.specs.Turns.{Turn}
 use Rattle.ids_types.specs.declared.entry.Act.{Act}
 use Rattle.ids_types.specs.declared.entry.Act.TheVariants.{Report}
 use Rattle.ids_config.specs.Parts.{Parts}
-use Rattle.chain_spec.specs.Endings.{Ending, ending_at, endings}
-use Rattle.chain_spec.specs.Moments.{Moment, act_moment, turn_moments}
+use Rattle.chain_spec.specs.{Ending, ending_at, endings, Moment, act_moment, turn_moments}
 use Rattle.event_chain.specs.Fates.{bare, ending_of}
 use Rattle.chain_endings.specs.declared.listener.Listener.{Listener}
 

@@ -2,8 +2,7 @@
 
 ghost use Rattle.std.specs.Prelude.{◌≡◌, ◌<◌, ◌^◌, ℕ, map, reverse, length, IfOk, not, ◌==◌, ◌&&◌, if◌then◌else◌};
 ghost use Rattle.ids_config.specs.Parts.{event_at};
-ghost use Rattle.chain_spec.specs.Accounts.{nothing, with_one, with_fate, with_stored};
-ghost use Rattle.chain_spec.specs.Endings.{is_stored};
+ghost use Rattle.chain_spec.specs.{nothing, with_one, with_fate, with_stored, is_stored};
 ghost use Rattle.event_chain.specs.Fates.{ending_of, fate_of};
 ghost use Rattle.chain_endings.specs.Accounting.{AreOf, IsAtMost, kept_at};
 

@@ -4,13 +4,10 @@ ghost use Rattle.std.specs.Prelude.{◌≡◌, ◌<◌, ◌+◌, ◌^◌, ◌++�
 ghost use Rattle.ids_types.specs.declared.entry.Entry.{Entry};
 ghost use Rattle.ids_types.specs.Plain.{plain_entry};
 ghost use Rattle.ids_config.specs.Parts.{event_at};
-ghost use Rattle.chain_spec.specs.Accounts.{events_in};
+ghost use Rattle.chain_spec.specs.{events_in, moments};
 ghost use Rattle.event_chain.specs.Fates.{ending_of};
 ghost use Rattle.text_spec.specs.Words.{line_feed, text_of};
-ghost use Rattle.chain_endings.specs.Accounting.{AreMissing, CountsMissing};
-ghost use Rattle.chain_endings.specs.ExplainedText.{account_fields, account_line, field, is_missing};
-ghost use Rattle.chain_endings.specs.Hearing.{told_in};
-ghost use Rattle.chain_spec.specs.Moments.{moments};
+ghost use Rattle.chain_endings.specs.{AreMissing, CountsMissing, account_fields, account_line, field, is_missing, told_in};
 
 use crate::account::accounts_of;
 use crate::lines::push_numbers;

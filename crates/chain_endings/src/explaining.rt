@@ -5,8 +5,7 @@ ghost use Rattle.chain_plain.specs.Recorded.{CanFold};
 ghost use Rattle.event_chain.specs.Standing.{StandsWatched};
 ghost use Rattle.journal.specs.Answers.{told};
 ghost use Rattle.text_spec.specs.Words.{text_of};
-ghost use Rattle.chain_endings.specs.ExplainedText.{explained_text, turns_lines};
-ghost use Rattle.chain_endings.specs.Hearing.{Hears};
+ghost use Rattle.chain_endings.specs.{explained_text, turns_lines, Hears};
 
 use crate::accounts::push_accounts;
 use crate::listener::Listener;

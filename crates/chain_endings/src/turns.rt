@@ -1,15 +1,11 @@
 //! The lines of a turn.
 
 ghost use Rattle.std.specs.Prelude.{◌≡◌, ◌<◌, ◌++◌, ◌∷◌, [], List, Option, filter, is_some, length, map, option_to_list, IfOk, OnOk};
-ghost use Rattle.ids_types.specs.Plain.{plain_entry};
-ghost use Rattle.ids_types.specs.Turns.{turn_at};
-ghost use Rattle.chain_spec.specs.Endings.{Ending as Told};
-ghost use Rattle.chain_spec.specs.Moments.{Moment};
+ghost use Rattle.ids_types.specs.{plain_entry, turn_at};
+ghost use Rattle.chain_spec.specs.{Ending as Told, Moment};
 ghost use Rattle.event_chain.specs.Fates.{bare, ending_of};
-ghost use Rattle.text_spec.specs.JournalText.{enters, line_for};
-ghost use Rattle.text_spec.specs.Words.{line_feed, text_of};
-ghost use Rattle.chain_endings.specs.ExplainedText.{ended_fields, entry_lines, given_line, turn_lines};
-ghost use Rattle.chain_endings.specs.Hearing.{endings_along, entry_moments, is_report, turn_endings};
+ghost use Rattle.text_spec.specs.{enters, line_for, line_feed, text_of};
+ghost use Rattle.chain_endings.specs.{ended_fields, entry_lines, given_line, turn_lines, endings_along, entry_moments, is_report, turn_endings};
 
 use crate::lines::{push_fate, push_given};
 use event_chain::Ending;

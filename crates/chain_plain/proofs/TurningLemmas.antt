@@ -4,14 +4,12 @@ use Rattle.std.specs.List.{All, AllByRecursion}
 use Rattle.std.proofs.lemmas.List.{length-map}
 use Rattle.std.proofs.lemmas.List.Elements.{All-from_recursion, All-map, All-weaker, recursion_from_All}
 use Rattle.std.proofs.lemmas.List.Sums.{sum_by-cons}
-use Rattle.ids_types.specs.Carries.{act_by, entry_by}
+use Rattle.ids_types.specs.{act_by, entry_by, act_bytes, kept_bytes}
 use Rattle.ids_types.specs.declared.entry.Act.{Act}
 use Rattle.ids_types.specs.declared.entry.Act.TheVariants.{Report, State, SetMode}
 use Rattle.ids_types.specs.declared.entry.Carried.TheVariants.{Absent, Kept, Missing}
 use Rattle.ids_types.specs.declared.entry.Entry.{Entry}
-use Rattle.ids_types.specs.Plain.{act_bytes, kept_bytes}
-use Rattle.filter_chain.specs.Parcels.{HandsBack, IsShort, all_parcels, parcel_of}
-use Rattle.filter_chain.specs.Turning.{FitsAct, FitsTurn, bytes_in}
+use Rattle.filter_chain.specs.{HandsBack, IsShort, all_parcels, parcel_of, FitsAct, FitsTurn, bytes_in}
 use Rattle.filter_chain.proofs.ParcelLemmas.{parcels_keep}
 use Rattle.filter_chain.proofs.RoomLemmas.{parcel_short}
 

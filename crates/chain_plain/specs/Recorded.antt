@@ -4,8 +4,7 @@ use Rattle.std.specs.List.{AllByRecursion}
 use Rattle.ids_types.specs.declared.entry.Entry.{Entry}
 use Rattle.ids_types.specs.declared.entry.TurnHead.{TurnHead}
 use Rattle.ids_types.specs.Turns.{Turn}
-use Rattle.filter_chain.specs.History.{newest_tick}
-use Rattle.filter_chain.specs.Turning.{FitsTurn}
+use Rattle.filter_chain.specs.{newest_tick, FitsTurn}
 
 -- the turn of this head and these entries
 abbrev pub turn_with : TurnHead → List (Entry (List ℕ)) → Turn

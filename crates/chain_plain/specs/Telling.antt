@@ -5,8 +5,7 @@ use Rattle.ids_types.specs.Turns.{Turn}
 use Rattle.ids_config.specs.Parts.{Parts}
 use Rattle.chain_spec.specs.Chain.{handed}
 pub use Rattle.filter_chain.specs.Transcripts.{ends_of}
-use Rattle.filter_chain.specs.Transcripts.{Adds, IsTranscript}
-use Rattle.filter_chain.specs.Turning.{most_sent}
+use Rattle.filter_chain.specs.{Adds, IsTranscript, most_sent}
 use Rattle.chain_plain.specs.declared.desk.Desk.{Desk}
 use Rattle.chain_plain.specs.declared.tally.Tally.{Tally}
 

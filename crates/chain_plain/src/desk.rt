@@ -2,14 +2,10 @@
 
 ghost use Rattle.std.specs.Prelude.{◌≡◌, ◌+◌, ◌*◌, ◌≤◌, ◌∷◌, ◌++◌, [], ℕ, true, List, length, map, vec_len, vec_capacity, IfOk};
 ghost use Rattle.std.specs.List.{All};
-ghost use Rattle.ids_types.specs.Plain.{plain_entry};
-ghost use Rattle.ids_types.specs.Turns.{Turn};
+ghost use Rattle.ids_types.specs.{plain_entry, Turn};
 ghost use Rattle.ids_config.specs.Parts.{Parts};
-ghost use Rattle.filter_chain.specs.History.{last_tick, Sends};
-ghost use Rattle.filter_chain.specs.Parcels.{IsShort};
-ghost use Rattle.filter_chain.specs.Turning.{FitsTurn, turn_by};
-ghost use Rattle.chain_plain.specs.Recorded.{CanTake, turn_with};
-ghost use Rattle.chain_plain.specs.Telling.{HasDeskRoom, IsReady};
+ghost use Rattle.filter_chain.specs.{last_tick, Sends, IsShort, FitsTurn, turn_by};
+ghost use Rattle.chain_plain.specs.{CanTake, turn_with, HasDeskRoom, IsReady};
 
 use filter_chain::{Chain, most_sent};
 use ids_types::{Entry, EntryWalk, NoMemory, Plain, TurnHead, TurnOut};

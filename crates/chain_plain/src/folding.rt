@@ -2,8 +2,7 @@
 
 ghost use Rattle.std.specs.Prelude.{◌≡◌, [], length, IfOk, OnOk};
 ghost use Rattle.filter_chain.specs.Parcels.{IsShort};
-ghost use Rattle.chain_plain.specs.Recorded.{CanFold};
-ghost use Rattle.chain_plain.specs.Telling.{Tells};
+ghost use Rattle.chain_plain.specs.{CanFold, Tells};
 
 use crate::desk::{Desk, MOST_BYTES, MOST_ENTRIES};
 use crate::tally::Tally;

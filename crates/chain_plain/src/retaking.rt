@@ -2,14 +2,10 @@
 
 ghost use Rattle.std.specs.Prelude.{◌≡◌, ◌≤◌, ◌∷◌, ◌++◌, [], ℕ, true, length, map, reverse, vec_capacity};
 ghost use Rattle.std.specs.List.{All};
-ghost use Rattle.ids_types.specs.Carries.{entry_by};
-ghost use Rattle.ids_types.specs.Output.{room_of};
-ghost use Rattle.ids_types.specs.Plain.{plain_entry};
+ghost use Rattle.ids_types.specs.{entry_by, room_of, plain_entry};
 ghost use Rattle.ids_config.specs.Parts.{Parts};
-ghost use Rattle.filter_chain.specs.History.{last_tick, Sends};
-ghost use Rattle.filter_chain.specs.Turning.{FitsTurn, most_sent, turn_by};
-ghost use Rattle.chain_plain.specs.Recorded.{AreInOrder, CanTake};
-ghost use Rattle.chain_plain.specs.Telling.{IsReady};
+ghost use Rattle.filter_chain.specs.{last_tick, Sends, FitsTurn, most_sent, turn_by};
+ghost use Rattle.chain_plain.specs.{AreInOrder, CanTake, IsReady};
 
 use crate::desk::Desk;
 use filter_chain::{Chain, lent};

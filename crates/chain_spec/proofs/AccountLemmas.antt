@@ -1,7 +1,6 @@
 -- The numbers of an event's account are the sizes of the stages of the chain.
 use Rattle.chain_spec.proofs.Names.{◌≡◌, ℕ, suc, ◌+◌, ◌≤◌, ◌==◌, not, Bool, true, false, List, [], ◌∷◌, ◌++◌, length, filter, Option, Some, None, IfSome, is_some, option_to_list, option_map, if◌then◌else◌, refl, sym, ap, subst, arith, eq-eqb, eqb-true, option_or, map, counted, Parts, event_at, closes_due, aggregated_at, gated, aggregated, is_bypassing, is_nth, mode_at, item_in, arrivals, sampled, sampled_at, bypassing_at, Item, is_of, Moment, closes, comes, state_is, mode_is, added, where_true, Account, account_of, number_of, tally, Fate, at_mode, at_block, at_nth, in_window, at_threshold, unsent, at_rate, at_traffic, let_out, qualified_fate, Ending, given, endings, is_qualified, Occurrence, qualified}
-use Rattle.chain_spec.specs.Accounts.{with_ending, after_ending, comers}
-use Rattle.chain_spec.specs.Endings.{ending_at}
+use Rattle.chain_spec.specs.{with_ending, after_ending, comers, ending_at}
 use Rattle.chain_spec.proofs.ByEventLemmas.{alone_other}
 use Rattle.chain_spec.proofs.CourseLemmas.{joined_by, passed_by, joined_more, passed_more, OnEachWay, coming_holds}
 use Rattle.chain_spec.proofs.EndingsLemmas.{qualified_is}

@@ -18,22 +18,4 @@ pub use Rattle.ids_types.specs.declared.event.Qualified.{Qualified}
 pub use Rattle.ids_types.specs.declared.mode.Mode.{Mode}
 pub use Rattle.ids_types.specs.declared.mode.Mode.TheVariants.{Off, Brief, Detailed, BriefBypassing, DetailedBypassing}
 pub use Rattle.chain_spec.specs.declared.account.Account.{Account}
-pub use Rattle.chain_spec.specs.Accounts.{account_of, number_of, tally, with_fate, with_one}
-pub use Rattle.chain_spec.specs.Aggregation.{joined}
-pub use Rattle.chain_spec.specs.ByEvent.{first_from, closed_item, tick_of, arrival_of, every, closed_items, reaching}
-pub use Rattle.chain_spec.specs.Calls.{Call, Arrival, closes_due, arrives, arrived, closing_ticks}
-pub use Rattle.chain_spec.specs.Chain.{sent, held, qualified_of, messages, ends, handed, handed_on, held_count, sent_at, is_out, IsCausal}
-pub use Rattle.chain_spec.specs.Closing.{windows_in, is_due, is_open, newest_where, due_item, closing_item}
-pub use Rattle.chain_spec.specs.Counting.{Occurrence}
-pub use Rattle.chain_spec.specs.Endings.{Ending, Fate, aggregated_fate, at_block, at_mode, at_nth, at_rate, at_threshold, at_traffic, coming_fate, endings, given, in_window, is_limited, is_message, is_qualified, items_with, let_out, qualified_fate, unsent}
-pub use Rattle.chain_spec.specs.Filtering.{aggregated_at, gated, aggregated, thresholded, arrival, alone, gated_at, thresholded_at, filtered_at, qualified_at, counted, qualified}
-pub use Rattle.chain_spec.specs.Gate.{is_nth, is_arriving, mode_at, item_in, arrivals, sampled_at, sampled, is_filtered, is_bypassing, is_blocked, arrival_at, bypassing_at}
-pub use Rattle.chain_spec.specs.Growth.{BeginsWith, EndsWith, Grows, GrowsAtEnd}
-pub use Rattle.chain_spec.specs.Heads.{heads_of}
-pub use Rattle.chain_spec.specs.Items.{Item, is_of, item_at, told_of}
-pub use Rattle.chain_spec.specs.Limits.{passes_rate, passes_traffic, sent_of}
-pub use Rattle.chain_spec.specs.Messages.{message_of, spelled, weighed}
-pub use Rattle.chain_spec.specs.Moments.{Moment, closes, comes, state_is, mode_is, closings, turn_moments, moments, head_moment, act_moment}
-pub use Rattle.chain_spec.specs.Stages.{where_true, added, with_all, behind, Stage}
-pub use Rattle.chain_spec.specs.Threshold.{verdict}
-pub use Rattle.chain_spec.specs.Windows.{Window, EndBy, opened, extended, covers, with_item, windows_of, members, in_newest}
+pub use Rattle.chain_spec.specs.{account_of, number_of, tally, with_fate, with_one, joined, first_from, closed_item, tick_of, arrival_of, every, closed_items, reaching, Call, Arrival, closes_due, arrives, arrived, closing_ticks, sent, held, qualified_of, messages, ends, handed, handed_on, held_count, sent_at, is_out, IsCausal, windows_in, is_due, is_open, newest_where, due_item, closing_item, Occurrence, Ending, Fate, aggregated_fate, at_block, at_mode, at_nth, at_rate, at_threshold, at_traffic, coming_fate, endings, given, in_window, is_limited, is_message, is_qualified, items_with, let_out, qualified_fate, unsent, aggregated_at, gated, aggregated, thresholded, arrival, alone, gated_at, thresholded_at, filtered_at, qualified_at, counted, qualified, is_nth, is_arriving, mode_at, item_in, arrivals, sampled_at, sampled, is_filtered, is_bypassing, is_blocked, arrival_at, bypassing_at, BeginsWith, EndsWith, Grows, GrowsAtEnd, heads_of, Item, is_of, item_at, told_of, passes_rate, passes_traffic, sent_of, message_of, spelled, weighed, Moment, closes, comes, state_is, mode_is, closings, turn_moments, moments, head_moment, act_moment, where_true, added, with_all, behind, Stage, verdict, Window, EndBy, opened, extended, covers, with_item, windows_of, members, in_newest}

@@ -2,9 +2,7 @@
 use Rattle.chain_spec.proofs.Names.{◌≡◌, ℕ, zero, suc, ◌+◌, ◌<◌, ◌==◌, ◌&&◌, not, Bool, true, false, List, [], ◌∷◌, ◌++◌, length, map, filter, if◌then◌else◌, refl, sym, ap, subst, ◌∙◌, arith, eqb-true, eqb-false, ne_eqb, eq-or-lt_of_le, inl, inr, ◌≤◌, sum_by, AllByRecursion, range_with_len, Option, Some, None, IfSome, option_map, option_to_list, ltb-true, ltb-false, plain_event, Turn, Parts, event_at, closes_due, sent, held, handed, handed_on, held_count, closing_item, aggregated_at, gated, Item, is_of, item_at, Moment, closes, comes, state_is, mode_is, sum_by-cons, is_given, Qualified, Account, with_one, with_fate, tally, account_of, number_of, Fate, Ending, endings, is_qualified, is_limited, is_message, items_with, given, qualified}
 use Rattle.std.proofs.Common.{sum, nat_lt}
 use Rattle.std.proofs.lemmas.List.{get_or_past}
-use Rattle.chain_spec.specs.Accounts.{AreConfigured, events_in, limited_events_in}
-use Rattle.chain_spec.specs.Endings.{items_stored}
-use Rattle.chain_spec.specs.Storing.{stored_of, stored}
+use Rattle.chain_spec.specs.{AreConfigured, events_in, limited_events_in, items_stored, stored_of, stored}
 use Rattle.chain_spec.proofs.AggregationLemmas.{ACall, closing_item_of}
 use Rattle.chain_spec.proofs.EndingsLemmas.{qualified_told, sent_told, held_told}
 use Rattle.chain_spec.proofs.GrowthLemmas.{held_counted}

@@ -1,10 +1,7 @@
 -- What windows that closed had, with what the open one holds, is what joined one.
 use Rattle.chain_spec.proofs.Names.{◌≡◌, ℕ, suc, ◌+◌, ◌≤◌, ◌==◌, not, Bool, true, false, List, [], ◌∷◌, ◌++◌, length, map, filter, Option, Some, None, IfSome, is_some, option_to_list, option_and_then, option_map, if◌then◌else◌, refl, sym, ap, subst, ◌∙◌, arith, eq-eqb, eqb-true, Parts, event_at, Aggregate, windows_in, closing_ticks, closing_item, due_item, item_at, arrival, arrival_of, arrived, closed_items, told_of, with_item, EndBy, AllByRecursion, range_with_len, zero, Turn, tick_of, closings, turn_moments, moments, head_moment, act_moment, internal_of, with_all, ◌<◌, gated, is_nth, mode_at, item_in, sampled, sampled_at, Item, is_of, Moment, closes, comes, state_is, mode_is, Account, with_one, tally, account_of, Entry, Qualified, heads_of, at_threshold, qualified_fate, aggregated_fate, given, endings, qualified, verdict}
-use Rattle.chain_spec.specs.Accounts.{TellsWindows}
+use Rattle.chain_spec.specs.{TellsWindows, open_window, coming, aggregated, counted}
 use Rattle.std.proofs.lemmas.List.{length-map}
-use Rattle.chain_spec.specs.Closing.{open_window}
-use Rattle.chain_spec.specs.Endings.{coming}
-use Rattle.chain_spec.specs.Filtering.{aggregated, counted}
 use Rattle.chain_spec.proofs.AggregationLemmas.{ACall, AnArrival, AWindow, came_at, closing_item_of}
 use Rattle.chain_spec.proofs.OpenWindowLemmas.{holding, closing_holds, arriving_holds, one_for_each, sizes_split}
 use Rattle.chain_spec.proofs.AccountLemmas.{there_sampled, balanced}

@@ -2,9 +2,7 @@
 -- After the event message of the AUTOSAR PRS Intrusion Detection System; its layout is that of ids_frame.
 use Rattle.std.specs.Prelude.{ℕ, ◌==◌, List, [], ◌∷◌, ◌++◌, length, Option, Some, None, option_map, if◌then◌else◌}
 use Rattle.ids_config.specs.Parts.{Parts, event_at}
-use Rattle.ids_frame.specs.Context.{context_of}
-use Rattle.ids_frame.specs.Message.{MessageParts}
-use Rattle.ids_frame.specs.Spelling.{spelling}
+use Rattle.ids_frame.specs.{context_of, MessageParts, spelling}
 use Rattle.chain_spec.specs.Items.{Item}
 use Rattle.chain_spec.specs.Limits.{Candidate}
 

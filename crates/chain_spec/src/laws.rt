@@ -4,22 +4,9 @@ ghost use Rattle.std.specs.Prelude.{◌≡◌, ℕ, ◌+◌, ◌<◌, ◌≤◌,
 ghost use Rattle.ids_types.specs.Turns.{Turn};
 ghost use Rattle.ids_config.specs.Parts.{Parts, event_at, is_given};
 ghost use Rattle.ids_config.specs.declared.parts.Window.{Window as Limit};
-ghost use Rattle.chain_spec.specs.Accounts.{account_of, after_ending, comers, number_of, AreConfigured, TellsWindows, events_in, limited_events_in};
-ghost use Rattle.chain_spec.specs.ByEvent.{tick_of, every, closed_items, reaching};
-ghost use Rattle.chain_spec.specs.Chain.{candidates, sent, held, messages, ends, handed, handed_on, held_count, message_count, qualified_of};
-ghost use Rattle.chain_spec.specs.Endings.{ending_at, endings, is_qualified, is_limited, is_message, items_with, items_stored};
-ghost use Rattle.chain_spec.specs.Filtering.{gated, aggregated, thresholded, filtered_at, qualified_at, qualified, counted};
-ghost use Rattle.chain_spec.specs.Gate.{arrivals, sampled, bypassing_at};
-ghost use Rattle.chain_spec.specs.Growth.{Grows, GrowsAtEnd};
-ghost use Rattle.chain_spec.specs.Items.{Item, is_of};
-ghost use Rattle.chain_spec.specs.Limits.{Candidate, window_at, those_in, passes_rate, passes_traffic, is_let_out, sent_of};
-ghost use Rattle.chain_spec.specs.Messages.{weighed};
-ghost use Rattle.chain_spec.specs.Moments.{Moment, moments};
+ghost use Rattle.chain_spec.specs.{account_of, after_ending, comers, number_of, AreConfigured, TellsWindows, events_in, limited_events_in, tick_of, every, closed_items, reaching, candidates, sent, held, messages, ends, handed, handed_on, held_count, message_count, qualified_of, ending_at, endings, is_qualified, is_limited, is_message, items_with, items_stored, gated, aggregated, thresholded, filtered_at, qualified_at, qualified, counted, arrivals, sampled, bypassing_at, Grows, GrowsAtEnd, Item, is_of, Candidate, window_at, those_in, passes_rate, passes_traffic, is_let_out, sent_of, weighed, Moment, moments, Stage, added, behind, stored, stored_of, EndBy, opened, members, in_newest, windows_of};
 ghost use Rattle.chain_spec.specs.Openers.{openers, IsBeyond, AreApart};
 ghost use Rattle.chain_spec.specs.Places.{placed, HaveOwnPlaces};
-ghost use Rattle.chain_spec.specs.Stages.{Stage, added, behind};
-ghost use Rattle.chain_spec.specs.Storing.{stored, stored_of};
-ghost use Rattle.chain_spec.specs.Windows.{EndBy, opened, members, in_newest, windows_of};
 
 /// Two stages one after the other add what the second adds to the list of the first.
 #[tactic(auto, using(crate::proofs::StageLemmas::added_behind))]

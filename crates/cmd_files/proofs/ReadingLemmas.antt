@@ -2,9 +2,7 @@
 use Rattle.cmd_files.proofs.Names.{CountsFault, Err, Files, IsErrAnd, IsTrue, List, Ok, Read, Result, SameFiles, Shelved, ap, inl, inr, refl, subst, sym, ℕ, ◌∙◌, ◌≡◌, ◌⊎◌}
 use Rattle.std.specs.Borrow.{Bor}
 use Rattle.cmd_files.proofs.ExitLemmas.{left_with}
-use Rattle.cmd_files.specs.Contents.{file_of}
-use Rattle.cmd_files.specs.Names.{Stop, CannotRead, CannotWrite, NoMemory, OnDisk, Refused}
-use Rattle.cmd_files.specs.Plain.{plain_stop}
+use Rattle.cmd_files.specs.{file_of, Stop, CannotRead, CannotWrite, NoMemory, OnDisk, Refused, plain_stop}
 use Rattle.cmd_files.specs.Reading.{Comes, Judges, Reading, Reads, ReadsTo, gives, refuses, reads, if_read, over, seen_as, ◌>>=◌}
 
 -- ---- where reading comes to

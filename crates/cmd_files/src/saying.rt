@@ -1,10 +1,7 @@
 //! The one text that a run puts to its sink.
 
 ghost use Rattle.std.specs.Prelude.{◌≡◌, List, ℕ, Err, IfOk, string_bytes};
-ghost use Rattle.cmd_files.specs.Saying.{Puts, Says, Tells};
-ghost use Rattle.cmd_files.specs.Plain.{plain_end, plain_refusal};
-ghost use Rattle.cmd_files.specs.Texts.{bad_config_text, bad_message_text, bad_source_text, fault_word};
-ghost use Rattle.cmd_files.specs.declared.stop.Stop.TheVariants.{OnDisk, Refused};
+ghost use Rattle.cmd_files.specs.{Puts, Says, Tells, plain_end, plain_refusal, bad_config_text, bad_message_text, bad_source_text, fault_word, OnDisk, Refused};
 
 use crate::status::{
     BAD_CONFIG, BAD_COUNTER, BAD_DISK, BAD_JOURNAL, BAD_MESSAGE, BAD_TAG, BAD_UNIT, CANNOT_READ,

@@ -1,12 +1,11 @@
 -- How many messages were sealed or unsealed, by how many bytes came or went.
 use Rattle.cmd_steps.proofs.Names.{AllByRecursion, EmptyKey, IsCopyWork, List, MessageParts, [], ap, arith, number_text, false, gives, joined, key_judged, length, one_file, refl, refuses, sym, true, ℕ, ◌*◌, ◌+◌, ◌-◌, ◌/◌, ◌<◌, ◌^◌, ◌∙◌, ◌∷◌, ◌≡◌, ◌≤◌}
 use Rattle.frame_auth.proofs.LayoutLemmas.{length-joined_sealed}
-use Rattle.frame_auth.specs.Tags.{IsKeyLength, filled}
+use Rattle.frame_auth.specs.{IsKeyLength, filled, Copies, joined_sealed}
 use Rattle.ids_bundle.proofs.UnpackLemmas.{packed_fit}
 use Rattle.ids_bundle.specs.Packing.{ArePacked}
 use Rattle.ids_bundle.specs.Units.{FitsUnit, Run, all_of, units}
 use Rattle.ids_bundle.specs.declared.unit.Count.{Count}
-use Rattle.frame_auth.specs.Sealing.{Copies, joined_sealed}
 use Rattle.cmd_spec.specs.Packing.{IsPackWork, units_text}
 
 -- a seal has 42 bytes

@@ -1,9 +1,7 @@
 -- Messages are printed one by one: those in front were, and the others are left.
 use Rattle.cmd_steps.proofs.Names.{AreMessages, BadMessage, Err, FitsMessage, Front, List, MessageParts, Ok, [], ap, append-nil, append_assoc, arith, decoded_text, drop, eqb-true, false, flat_map-append, joined, length, length-append, line_feed, message_line, messages_read, refl, sym, true, ℕ, ◌++◌, ◌-◌, ◌==◌, ◌∙◌, ◌∷◌, ◌≡◌}
 use Rattle.std.proofs.lemmas.List.Elements.{All-drop}
-use Rattle.ids_frame.specs.Bytes.{IsByte, AreBytes}
-use Rattle.ids_frame.specs.Spelling.{spelling}
-use Rattle.ids_frame.specs.Decoding.{CauseOf}
+use Rattle.ids_frame.specs.{IsByte, AreBytes, spelling, CauseOf}
 use Rattle.ids_frame.specs.declared.fault.FrameFault.{FrameFault}
 use Rattle.ids_frame.proofs.MessagesLemmas.{read_is_held}
 

@@ -1,7 +1,6 @@
 -- What a report gives is the work that its input files ask for, and why it stops.
 use Rattle.cmd_steps.proofs.Names.{AreApart, Does, List, MessageParts, Sources, [], ap, apart_more, arith, clashes, drop, drop_all, drop_more, false, get_or, instance_of, is_of, length, list_any, map, one_file, refl, report_text, reports, source_at, suc, sym, zero, ℕ, ◌++◌, ◌+◌, ◌<◌, ◌∙◌, ◌∷◌, ◌≡◌, ◌≤◌}
-use Rattle.ids_reporter.specs.Forwarding.{IsForwarded, named}
-use Rattle.ids_reporter.specs.Relays.{taken_of}
+use Rattle.ids_reporter.specs.{IsForwarded, named, taken_of}
 use Rattle.ids_reporter.specs.declared.drain.Drain.{Drain}
 use Rattle.ids_reporter.specs.declared.index.Instance.{Instance as Managers}
 use Rattle.ids_reporter.specs.declared.index.Instance.TheVariants.{Empty, One, Mixed}

@@ -3,15 +3,12 @@ use Rattle.cmd_spec.proofs.Names.{Absent, Act, AllByRecursion, AreFaultless, Car
 use Rattle.filter_chain.specs.Turning.{FitsAct}
 use Rattle.chain_plain.specs.Recorded.{CanFold, CanTake, RiseFrom}
 use Rattle.chain_spec.proofs.GrowthLemmas.{messages_grow}
-use Rattle.chain_spec.specs.Chain.{messages, ends}
-use Rattle.chain_spec.specs.Items.{kept_parcel}
+use Rattle.chain_spec.specs.{messages, ends, kept_parcel}
 use Rattle.std.proofs.lemmas.List.Elements.{All-from_recursion}
 use Rattle.ids_types.specs.declared.entry.TurnHead.{TurnHead}
-use Rattle.text_spec.specs.JournalReading.{Fits, Follows, journal_grammar}
+use Rattle.text_spec.specs.{Fits, Follows, journal_grammar, start, is_call, is_context, is_act, has_event, is_in_ranges, text_of}
 use Rattle.text_spec.proofs.JournalFits.{all_in_ranges, in_order, turns_few}
 use Rattle.ids_types.specs.declared.loss.Loss.{Loss}
-use Rattle.text_spec.specs.JournalFaults.{start, is_call, is_context, is_act, has_event, is_in_ranges}
-use Rattle.text_spec.specs.Words.{text_of}
 use Rattle.text_spec.proofs.JournalFacts.{sensor_is_there}
 
 -- ---- what can be folded

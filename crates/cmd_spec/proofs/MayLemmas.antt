@@ -7,10 +7,7 @@ use Rattle.frame_auth.specs.declared.fault.UnsealFault.{UnsealFault}
 use Rattle.ids_bundle.specs.declared.fault.PackFault.{PackFault}
 use Rattle.ids_bundle.specs.declared.fault.UnpackFault.{UnpackFault}
 use Rattle.ids_reporter.specs.Sources.{Sources, instance_of}
-use Rattle.cmd_spec.specs.Copying.{seal_refusal, unseal_refusal}
-use Rattle.cmd_spec.specs.Packing.{pack_refusal, unpack_refusal}
-use Rattle.cmd_spec.specs.Judge.{only_said}
-use Rattle.cmd_spec.specs.Report.{clashes, sources_in, unless_clash}
+use Rattle.cmd_spec.specs.{seal_refusal, unseal_refusal, pack_refusal, unpack_refusal, only_said, clashes, sources_in, unless_clash}
 use Rattle.cmd_words.specs.Command.{explain, export}
 use Rattle.message_export.specs.Exported.{exported}
 use Rattle.frame_auth.specs.declared.fault.SealFault.TheVariants as sealing

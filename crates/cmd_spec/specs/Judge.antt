@@ -6,8 +6,7 @@ use Rattle.cmd_spec.specs.Names.{BadConfig, BadJournal, BadLine, BadMessages, Ba
 use Rattle.gen_options.specs.Given.{Wanted}
 use Rattle.gen_recording.specs.Generated.{config_for, trace_for, journal_for, line_for}
 use Rattle.chain_endings.specs.ExplainedText.{explained_text}
-use Rattle.frame_auth.specs.Faults.{GivesSealed, GivesUnsealed}
-use Rattle.frame_auth.specs.Tags.{filled}
+use Rattle.frame_auth.specs.{GivesSealed, GivesUnsealed, filled}
 use Rattle.message_export.specs.Exported.{exported}
 use Rattle.cmd_spec.specs.Copying.{IsCopyWork, one_file, seal_refusal, unseal_refusal}
 use Rattle.cmd_spec.specs.Keeping.{IsRecallWork, saved_text}

@@ -7,9 +7,7 @@ ghost use Rattle.cmd_words.specs.Command.{Command};
 ghost use Rattle.cmd_files.specs.Texts.{row_of, stop_status};
 ghost use Rattle.cmd_files.specs.declared.stop.Refusal.{Refusal};
 ghost use Rattle.cmd_files.specs.declared.stop.Stop.{Stop};
-ghost use Rattle.cmd_spec.specs.Deserts.{CanBeDone, EndsWith, EndsOrFails, DidWork, IsOfBytes};
-ghost use Rattle.cmd_spec.specs.Judge.{Task, Refuses, judge};
-ghost use Rattle.cmd_spec.specs.Run.{RanCommand};
+ghost use Rattle.cmd_spec.specs.{CanBeDone, EndsWith, EndsOrFails, DidWork, IsOfBytes, Task, Refuses, judge, RanCommand};
 
 /// What the input files deserve decides how a run over a shelf that tells them ends: with the status of
 /// their refusal, with that of the first fault of what they ask for, or with 0. Only want of memory, the put of the

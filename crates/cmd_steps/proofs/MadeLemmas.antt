@@ -1,7 +1,6 @@
 -- A command that writes what it made, or could not make it.
 use Rattle.cmd_steps.proofs.Names.{Bool, Bor, CannotRead, CannotWrite, Command, Does, EndsAs, Err, Global, HasCome, List, Makes, NoMemory, Ok, OnDisk, Reads, Refused, Result, Shelved, Stop, Task, Vec, WasDone, [], and_parts, are_names, bytes_eq, bytes_eq-Decides, cannot_do, cases_Bool, does, false, inl, inr, is_name, list_any, not, only_said, plain_end, plain_stop, reading_ends, reading_of, refl, seen_as, true, work_done, written_by, ℕ, ◌&&◌, ◌∷◌, ◌≡◌}
-use Rattle.cmd_files.specs.Plain.{plain_refusal}
-use Rattle.cmd_files.specs.Writing.{AreApart, IsNoneOf}
+use Rattle.cmd_files.specs.{plain_refusal, AreApart, IsNoneOf}
 
 -- ---- names
 

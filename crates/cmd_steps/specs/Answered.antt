@@ -3,9 +3,7 @@ use Rattle.std.specs.Borrow.{Bor}
 use Rattle.std.specs.Prelude.{◌≡◌, ◌≢◌, ℕ, false, List, [], IsTrue, Option, Some, None, Result, Ok, Err}
 use Rattle.cmd_steps.specs.Names.{Files, Shelved, Heard, Stop}
 pub use Rattle.cmd_steps.specs.declared.answering.Finished.{Finished}
-use Rattle.cmd_files.specs.Saying.{Puts, Tells}
-use Rattle.cmd_files.specs.Plain.{plain_stop}
-use Rattle.cmd_files.specs.Reading.{seen_as}
+use Rattle.cmd_files.specs.{Puts, Tells, plain_stop, seen_as}
 use Rattle.cmd_spec.specs.Run.{RanCommand, Misused}
 use Rattle.cmd_words.specs.Command.{Command, written_by}
 

@@ -1,22 +1,10 @@
 -- The names that the contracts of runs cite.
 pub use Rattle.chain_plain.specs.declared.folded.Folded.{Folded}
 pub use Rattle.chain_spec.specs.Chain.{IsCausal, messages, sent}
-pub use Rattle.cmd_files.specs.Contents.{file_of}
-pub use Rattle.cmd_files.specs.Plain.{plain_end, plain_stop}
-pub use Rattle.cmd_files.specs.Reading.{Judges, Reads, if_found, seen_as}
-pub use Rattle.cmd_files.specs.Saying.{Puts, Says, Tells, put_status}
-pub use Rattle.cmd_files.specs.Writing.{CanWrite, Cuts, names_of, output_of, stop_of_write}
-pub use Rattle.cmd_spec.specs.Copying.{one_file, seal_refusal, task_stop, unseal_refusal}
-pub use Rattle.cmd_spec.specs.Deserts.{EndsOrFails, EndsWith}
+pub use Rattle.cmd_files.specs.{file_of, plain_end, plain_stop, Judges, Reads, if_found, seen_as, Puts, Says, Tells, put_status, CanWrite, Cuts, names_of, output_of, stop_of_write}
+pub use Rattle.cmd_spec.specs.{one_file, seal_refusal, task_stop, unseal_refusal, EndsOrFails, EndsWith, folded_in, held_back_line, IsOneHistory, AskedFor, Does, Recorded, Task, asked_in, bad_journal, bad_trace, check_judged, config_in, does, fold_work, gen_work, judge, key_judged, keyed_in, messages_judged, migrates, only_said, packs, reading_of, recorded_in, replays, reports, seals, unpacks, unseals, pack_refusal, units_text, unpack_refusal, lost_contexts, replay_outputs, replay_text, replay_work, without_context, clashes, is_of, report_text, source_in, sources_in, EndsAs, Ran, RanCommand, StopsFor, WasDone, written_of}
 pub use Rattle.cmd_spec.specs.Fold.{fold_line, fold_outputs}
-pub use Rattle.cmd_spec.specs.FoldedJournal.{folded_in, held_back_line}
-pub use Rattle.cmd_spec.specs.Headline.{IsOneHistory}
-pub use Rattle.cmd_spec.specs.Judge.{AskedFor, Does, Recorded, Task, asked_in, bad_journal, bad_trace, check_judged, config_in, does, fold_work, gen_work, judge, key_judged, keyed_in, messages_judged, migrates, only_said, packs, reading_of, recorded_in, replays, reports, seals, unpacks, unseals}
 pub use Rattle.cmd_spec.specs.Names.{AreWritten, BadMessage, BadMessages, BadSource, CannotRead, CannotWrite, Command, EmptyKey, Err, Failed, Files, FoldFiles, Heard, IsTrue, List, MessageParts, NoMemory, Ok, OnDisk, OneFails, Output, PairFiles, Parts, Reading, Refused, ReplayFiles, Round, SameBut, Shelved, Some, Stop, Told, Turn, Work, WriteFault, [], answer_status, answer_text, number_text, bundle, check, codes, common_prefix_len, config_text, configuration, decode, decoded_text, entries_of, false, fold, gen, journal_text, length, list_any, memory_text, messages_of, messages_read, migrate, misses_context, nat_eq, over, replay, report, reverse, rows_of, sign, sum_by, told, trace_in, unbundle, usage, verify, written_by, ℕ}
-pub use Rattle.cmd_spec.specs.Packing.{pack_refusal, units_text, unpack_refusal}
-pub use Rattle.cmd_spec.specs.Replay.{lost_contexts, replay_outputs, replay_text, replay_work, without_context}
-pub use Rattle.cmd_spec.specs.Report.{clashes, is_of, report_text, source_in, sources_in}
-pub use Rattle.cmd_spec.specs.Run.{EndsAs, Ran, RanCommand, StopsFor, WasDone, written_of}
 pub use Rattle.cmd_steps.specs.Answered.{Finished, IsAnswered, RanWith, RunsWith, TellsFinished, finished_end, written_in}
 pub use Rattle.cmd_steps.specs.Made.{HasCome, Makes, work_of}
 pub use Rattle.cmd_steps.specs.Outcome.{IsFoldable, IsOutcome, recorded_of}
@@ -28,5 +16,4 @@ pub use Rattle.ids_types.specs.declared.entry.Entry.{Entry}
 pub use Rattle.std.specs.List.{AllByRecursion, flat_map}
 pub use Rattle.std.specs.Prelude.{IfErr, IfOk, OnOk, map, string_bytes, ◌*◌, ◌<◌, ◌^◌, ◌↔◌, ◌≤◌, ◌+◌, ◌∷◌, ◌≡◌}
 pub use Rattle.std.specs.declared.alloc.Global.{Global}
-pub use Rattle.text_spec.specs.JournalReading.{IsJournal}
-pub use Rattle.text_spec.specs.JournalText.{enters, turn_told}
+pub use Rattle.text_spec.specs.{IsJournal, enters, turn_told}

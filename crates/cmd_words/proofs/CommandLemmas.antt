@@ -2,8 +2,7 @@
 use Rattle.cmd_words.proofs.Names.{◌≡◌, Bool, true, false, List, [], ◌∷◌, ℕ, map, refl, ap, ◌||◌, list_any}
 use Rattle.std.proofs.Common.{IsTrue, None, Option, Some}
 use Rattle.std.specs.Prelude.{if◌then◌else◌}
-use Rattle.gen_options.specs.Given.{Wanted}
-use Rattle.gen_options.specs.Words.{words_give}
+use Rattle.gen_options.specs.{Wanted, words_give}
 use Rattle.cmd_words.specs.Command.{Command, are_read_by_clap, command_of, disk_of, gen, gen_for, gen_of, replay_of, report_of}
 
 -- a test of mapped elements

@@ -6,10 +6,8 @@ use Rattle.std.specs.Char.{is_ascii_digit}
 use Rattle.std.specs.List.{list_all, join_with_byte}
 use Rattle.std.specs.Prelude.{◌<◌, ◌==◌, nat_le, option_map, if◌then◌else◌}
 use Rattle.cmd_words.specs.Command.{number_between}
-use Rattle.text_spec.specs.Fields.{a_number, first_as}
+use Rattle.text_spec.specs.{a_number, first_as, capped, number_in, pieces_of}
 use Rattle.text_spec.specs.Maybe.{◌>>=◌, ended}
-use Rattle.text_spec.specs.Numbers.{capped, number_in}
-use Rattle.text_spec.specs.Words.{pieces_of}
 
 and_false : (b : Bool) → (b && false) ≡ false
 and_false true = refl

@@ -1,8 +1,7 @@
 -- The commands of the program, as its words give them.
 -- Source: docs/COMMANDS.md.
 use Rattle.std.specs.Prelude.{◌≡◌, ℕ, ◌^◌, ◌&&◌, ◌||◌, ◌==◌, nat_le, not, bytes_eq, Bool, true, false, List, [], ◌∷◌, length, Option, Some, None, option_map, codes, if◌then◌else◌}
-use Rattle.gen_options.specs.Given.{Wanted}
-use Rattle.gen_options.specs.Words.{words_give}
+use Rattle.gen_options.specs.{Wanted, words_give}
 use Rattle.message_export.specs.declared.exporting.Format.{Format}
 use Rattle.message_export.specs.declared.exporting.Format.TheVariants.{Json, Pcap}
 use Rattle.std.specs.List.{list_any}

@@ -1,7 +1,6 @@
 -- A command as the program holds it, with its names lent from the words.
 use Rattle.std.specs.Prelude.{◌^◌, ◌≤◌, IsTrue, length, map, string_bytes, ⊤}
-use Rattle.gen_options.specs.Given.{given_of}
-use Rattle.gen_options.specs.Ranges.{is_in_range}
+use Rattle.gen_options.specs.{given_of, is_in_range}
 use Rattle.cmd_words.specs.declared.files.FoldNames.{FoldNames}
 use Rattle.cmd_words.specs.declared.files.CheckNames.{CheckNames}
 use Rattle.cmd_words.specs.declared.files.RecordingNames.{RecordingNames}

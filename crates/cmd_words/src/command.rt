@@ -1,8 +1,7 @@
 //! The words after the program's name: the one reading of them, for every run.
 
 ghost use Rattle.std.specs.Prelude.{◌≡◌, ◌∷◌, [], codes, map, option_map, string_bytes, IfOk, IfSome, OnErr, IsTrue};
-ghost use Rattle.gen_options.specs.Given.{given_of};
-ghost use Rattle.gen_options.specs.Ranges.{is_in_range};
+ghost use Rattle.gen_options.specs.{given_of, is_in_range};
 ghost use Rattle.cmd_words.specs.Command.{command_of, gen_of, gen_into, are_read_by_clap, are_names, fold, fold_in, named, of_few, replay, replay_in, report_in};
 ghost use Rattle.cmd_words.specs.CommandView.{asked, files_of, five_of, report_files_of, CanReport, CanRun, WritesApart};
 

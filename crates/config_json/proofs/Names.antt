@@ -10,6 +10,4 @@ pub use Rattle.serde_json.specs.Find.{as_object}
 pub use Rattle.serde_json.specs.Read.{max_depth, read}
 pub use Rattle.serde_json.specs.View.{items_of, view, items_view, members_view}
 pub use Rattle.config_json.specs.Kinds.{whole_in, elements, is_null, is_whole}
-pub use Rattle.config_json.specs.Members.{if_object, last_named, window_in, aggregate_in, class_in, state_in, event_in}
-pub use Rattle.config_json.specs.Printed.{whole, optional, context_name, class_tree, window_tree, aggregate_tree, internal_tree, config_text, config_tree, event_tree}
-pub use Rattle.config_json.specs.Shape.{object_shape, class_shape, aggregate_shape, event_shape_at, names_of, is_named, is_there, is_of_kind}
+pub use Rattle.config_json.specs.{if_object, last_named, window_in, aggregate_in, class_in, state_in, event_in, whole, optional, context_name, class_tree, window_tree, aggregate_tree, internal_tree, config_text, config_tree, event_tree, object_shape, class_shape, aggregate_shape, event_shape_at, names_of, is_named, is_there, is_of_kind}

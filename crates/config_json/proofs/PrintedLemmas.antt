@@ -5,10 +5,7 @@ use Rattle.ids_types.specs.declared.mode.Mode.{Mode}
 use Rattle.ids_types.specs.declared.mode.Mode.TheVariants as modes
 use Rattle.ids_types.specs.ModeNames.{mode_name, mode_named}
 use Rattle.config_json.specs.declared.tables.Form.TheVariants as forms
-use Rattle.config_json.specs.Members.{event_in, parts_in}
-use Rattle.config_json.specs.Printed.{event_tree, config_tree}
-use Rattle.config_json.specs.Shape.{event_shape, config_shape}
-use Rattle.config_json.specs.Tables.{window_table, internal_table}
+use Rattle.config_json.specs.{event_in, parts_in, event_tree, config_tree, event_shape, config_shape, window_table, internal_table}
 
 -- ---- names
 

@@ -8,8 +8,7 @@ use Rattle.ids_config.specs.declared.config.Config.{Config}
 use Rattle.ids_config.specs.declared.fault.ConfigFault.{ConfigFault}
 use Rattle.ids_config.specs.declared.fault.ConfigPlace.TheVariants as places
 use Rattle.ids_config.specs.Parts.{Parts}
-use Rattle.ids_config.specs.Steps.{◌>>◌}
-use Rattle.ids_config.specs.Values.{checked}
+use Rattle.ids_config.specs.{◌>>◌, checked}
 use Rattle.config_json.specs.declared.fault.JsonFault.{JsonFault}
 use Rattle.config_json.specs.declared.fault.JsonFault.TheVariants as faults
 use Rattle.config_json.specs.Members.{parts_in}

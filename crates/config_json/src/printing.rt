@@ -3,8 +3,7 @@
 ghost use Rattle.std.specs.Prelude.{◌≡◌, map, IfOk, OnOk, string_bytes};
 ghost use Rattle.serde_json.specs.View.{view, members_view};
 ghost use Rattle.ids_config.specs.Parts.{class_of};
-ghost use Rattle.config_json.specs.Configured.{configuration};
-ghost use Rattle.config_json.specs.Printed.{whole, optional, list_tree, with_members, class_tree, window_tree, aggregate_tree, event_members, filter_members, event_tree, internal_tree, number_members, inner_members, config_tree, config_text};
+ghost use Rattle.config_json.specs.{configuration, whole, optional, list_tree, with_members, class_tree, window_tree, aggregate_tree, event_members, filter_members, event_tree, internal_tree, number_members, inner_members, config_tree, config_text};
 
 use ids_config::{Aggregate, Config, ConfigParts, EventParts, Window};
 use ids_types::NoMemory;

@@ -6,9 +6,7 @@ ghost use Rattle.std.specs.BTreeMap.{keys};
 ghost use Rattle.serde_json.specs.View.{view};
 ghost use Rattle.ids_config.specs.Steps.{each};
 ghost use Rattle.ids_types.specs.ModeNames.{mode_named};
-ghost use Rattle.config_json.specs.Members.{last_named};
-ghost use Rattle.config_json.specs.Rows.{row_of, is_among as among, members_shape};
-ghost use Rattle.config_json.specs.Shape.{object_shape, part_shape, class_shape, aggregate_shape, event_shape, event_shape_at, config_shape, is_there as there, is_of_kind as of_kind, is_known as known};
+ghost use Rattle.config_json.specs.{last_named, row_of, is_among as among, members_shape, object_shape, part_shape, class_shape, aggregate_shape, event_shape, event_shape_at, config_shape, is_there as there, is_of_kind as of_kind, is_known as known};
 
 use crate::kind::has_kind;
 use crate::members::{find_form, find_list, find_object, find_text, last_of};

@@ -1,8 +1,7 @@
 //! The members of each object, in the order in which they are walked.
 
 ghost use Rattle.std.specs.Prelude.{◌≡◌, map};
-ghost use Rattle.config_json.specs.Rows.{row_of};
-ghost use Rattle.config_json.specs.Tables.{form_numbered, top_table, event_table};
+ghost use Rattle.config_json.specs.{row_of, form_numbered, top_table, event_table};
 
 use crate::kind::Kind;
 

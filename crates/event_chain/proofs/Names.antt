@@ -7,32 +7,19 @@ pub use Rattle.std.proofs.lemmas.List.Elements.{recursion_from_All, All-from_rec
 pub use Rattle.std.proofs.lemmas.List.Sorted.{All-permutation, IsPermutation-refl, IsPermutation-trans, IsPermutation-append_left, IsPermutation-append_right, IsPermutation-append_comm, length_permutation}
 pub use Rattle.std.specs.Bool.{IsFalse}
 pub use Rattle.std.specs.List.{All, AllByRecursion, range_with_len, slice_get}
-pub use Rattle.filter_chain.specs.History.{Sends, last_tick, newest_tick}
-pub use Rattle.filter_chain.specs.Parcels.{IsShort, HandsBack, all_parcels, parcel_of}
-pub use Rattle.filter_chain.specs.Turning.{turn_by, FitsAct, carried_room}
+pub use Rattle.filter_chain.specs.{Sends, last_tick, newest_tick, IsShort, HandsBack, all_parcels, parcel_of, turn_by, FitsAct, carried_room}
 pub use Rattle.chain_spec.proofs.StageLemmas.{added_behind, with_all-append}
-pub use Rattle.chain_spec.specs.Calls.{Call, call_tick, closes_due, arrives}
-pub use Rattle.chain_spec.specs.Chain.{messages, message_count, qualified_of}
-pub use Rattle.chain_spec.specs.Endings.{Fate, ending_at, coming, given, qualified_fate}
-pub use Rattle.chain_spec.specs.Filtering.{gated_at, aggregated_at, thresholded_at, gated, aggregated, qualified, counted, arrival, alone}
-pub use Rattle.chain_spec.specs.Heads.{Head as Told, head_for, heads_of}
-pub use Rattle.chain_spec.specs.Items.{Item, item_at, told_by, kept_parcel}
-pub use Rattle.chain_spec.specs.Moments.{Moment, act_moment, comes, closes, mode_is, state_is, head_moment, moments, closings}
-pub use Rattle.chain_spec.specs.Stages.{with_all, where_true}
-pub use Rattle.chain_spec.specs.Threshold.{verdict}
-pub use Rattle.chain_spec.specs.Windows.{EndBy}
+pub use Rattle.chain_spec.specs.{Call, call_tick, closes_due, arrives, messages, message_count, qualified_of, Fate, ending_at, coming, given, qualified_fate, gated_at, aggregated_at, thresholded_at, gated, aggregated, qualified, counted, arrival, alone, Head as Told, head_for, heads_of, Item, item_at, told_by, kept_parcel, Moment, act_moment, comes, closes, mode_is, state_is, head_moment, moments, closings, with_all, where_true, verdict, EndBy}
 pub use Rattle.filter_aggregate.proofs.StandsLemmas.{stands_closing, stands_alone}
-pub use Rattle.filter_aggregate.specs.Account.{Accounts, all_kept}
-pub use Rattle.filter_aggregate.specs.Slots.{item_due, slots_by, fresh_slot, is_due, slot_at, slot_by}
+pub use Rattle.filter_aggregate.specs.{Accounts, all_kept, item_due, slots_by, fresh_slot, is_due, slot_at, slot_by}
 pub use Rattle.filter_aggregate.specs.declared.slot.Slot.{Slot}
 pub use Rattle.filter_gate.proofs.StandsLemmas.{stands_with_closing}
 pub use Rattle.filter_gate.specs.Stands.{with_context, Stands as GateStands}
 pub use Rattle.filter_threshold.specs.Counting.{Stands as ThresholdsStand}
 pub use Rattle.filter_threshold.specs.declared.threshold.Threshold.{Threshold}
 pub use Rattle.ids_config.specs.Parts.{Parts, event_at, Event, index_of, internal_of, plain_event}
-pub use Rattle.ids_types.specs.Carries.{act_by, entry_by}
+pub use Rattle.ids_types.specs.{act_by, entry_by, Turn}
 pub use Rattle.ids_types.specs.Output.{Output}
-pub use Rattle.ids_types.specs.Turns.{Turn}
 pub use Rattle.ids_types.specs.declared.entry.Act.{Act}
 pub use Rattle.ids_types.specs.declared.entry.Entry.{Entry}
 pub use Rattle.ids_types.specs.declared.event.Qualified.{Qualified}
@@ -40,13 +27,6 @@ pub use Rattle.ids_types.specs.declared.internal.Internal.{Internal}
 pub use Rattle.ids_types.specs.declared.names.EventIndex.{EventIndex}
 pub use Rattle.internal_events.specs.HeadView.{head_told}
 pub use Rattle.internal_events.specs.declared.head_list.Head.{Head}
-pub use Rattle.message_sender.specs.Sender.{most_message, source_of, SenderParts}
-pub use Rattle.message_sender.specs.Sending.{Start, Stands as SenderStands, start_of}
-pub use Rattle.event_chain.specs.Behind.{IsBehind, kept_told}
-pub use Rattle.event_chain.specs.Chained.{IsOneOf, IsSound, Watched}
-pub use Rattle.event_chain.specs.Fates.{Knowing, bare, told, counted_fate, passed_fate}
-pub use Rattle.event_chain.specs.Flow.{CountingStands, Flows, joined_with, items_with, EndAt}
-pub use Rattle.event_chain.specs.Outlets.{OutletStands, Stores}
-pub use Rattle.event_chain.specs.Ready.{Windowed, aggregating_in, is_aggregated, CanSend, HasPlaces, HasSentRoom, TakesRoom, IsReady, SettledAt, Stays, AreOwn, HasEvent}
-pub use Rattle.event_chain.specs.Standing.{StandsWatched}
+pub use Rattle.message_sender.specs.{most_message, source_of, SenderParts, Start, Stands as SenderStands, start_of}
+pub use Rattle.event_chain.specs.{IsBehind, kept_told, IsOneOf, IsSound, Watched, Knowing, bare, told, counted_fate, passed_fate, CountingStands, Flows, joined_with, items_with, EndAt, OutletStands, Stores, Windowed, aggregating_in, is_aggregated, CanSend, HasPlaces, HasSentRoom, TakesRoom, IsReady, SettledAt, Stays, AreOwn, HasEvent, StandsWatched}
 pub use Rattle.event_chain.specs.declared.filters.Filters.{Filters}

@@ -1,8 +1,7 @@
 -- The parcels of entries, and what holds of a chain's fields when it is made and while it takes turns.
 use Rattle.event_chain.proofs.Names.{◌≡◌, ℕ, ◌<◌, Bool, true, List, [], ◌∷◌, ◌++◌, length, map, filter, is_some, Option, Some, None, option_map, option_to_list, refl, sym, ap, subst, ◌∙◌, arith, IsFalse, range_with_len, nat_tests, common_steps, get_or-map, get_or_past, length-map, Entry, Internal, Event, Parts, index_of, internal_of, plain_event, all_parcels, parcel_of, all_kept, Slot, fresh_slot, is_due, slot_at, GateStands, ThresholdsStand, source_of, SenderStands, Filters, IsOneOf, IsSound, Stores, AreOwn, HasPlaces, SettledAt, aggregating_in, is_aggregated}
 use Rattle.std.proofs.Math.Path.{fun_ext}
-use Rattle.ids_config.specs.Valid.{IsValid}
-use Rattle.ids_config.specs.Values.{is_within}
+use Rattle.ids_config.specs.{IsValid, is_within}
 use Rattle.event_chain.specs.declared.event_chain.EventChain.TheInside.{Inside}
 
 -- ---- parcels

@@ -3,8 +3,7 @@ use Rattle.std.specs.Prelude.{ℕ, Bool, List, None, if◌then◌else◌}
 use Rattle.ids_types.specs.Output.{Output}
 use Rattle.ids_types.specs.declared.event.Qualified.{Qualified}
 use Rattle.ids_config.specs.Parts.{Parts}
-use Rattle.chain_spec.specs.Filtering.{gated, aggregated, qualified}
-use Rattle.chain_spec.specs.Moments.{Moment}
+use Rattle.chain_spec.specs.{gated, aggregated, qualified, Moment}
 use Rattle.filter_gate.specs.Stands.{Stands as GateStands}
 use Rattle.message_sender.specs.Sending.{Start}
 use Rattle.event_chain.specs.declared.filters.Filters.{Filters}

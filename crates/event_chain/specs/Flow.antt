@@ -3,13 +3,9 @@
 use Rattle.std.specs.Prelude.{ℕ, List, ◌++◌, map, option_to_list, option_and_then}
 use Rattle.ids_types.specs.Output.{Output}
 use Rattle.ids_config.specs.Parts.{Parts}
-use Rattle.chain_spec.specs.Calls.{Call, call_tick}
-use Rattle.chain_spec.specs.Filtering.{aggregated_at, thresholded_at, counted}
-use Rattle.chain_spec.specs.Items.{Item}
-use Rattle.chain_spec.specs.Windows.{EndBy}
-use Rattle.filter_aggregate.specs.Slots.{slots_by}
+use Rattle.chain_spec.specs.{Call, call_tick, aggregated_at, thresholded_at, counted, Item, EndBy}
+use Rattle.filter_aggregate.specs.{slots_by, Stands as WindowsStand}
 use Rattle.filter_aggregate.specs.declared.slot.Slot.{Slot}
-use Rattle.filter_aggregate.specs.Standing.{Stands as WindowsStand}
 use Rattle.filter_threshold.specs.Counting.{Stands as ThresholdsStand}
 use Rattle.message_sender.specs.Sending.{Start}
 use Rattle.event_chain.specs.declared.counting.Counting.{Counting}

@@ -10,13 +10,8 @@ use Rattle.std.proofs.lemmas.List.Sorted.{IsPermutation-refl}
 use Rattle.ids_config.specs.Parts.{Parts, event_at}
 use Rattle.ids_config.specs.declared.parts.Aggregate.{Aggregate}
 use Rattle.filter_chain.specs.Kept.{AreAmong, contexts_after, open_context}
-use Rattle.chain_spec.specs.Aggregation.{joined}
-use Rattle.chain_spec.specs.Calls.{Arrival, Call}
-use Rattle.chain_spec.specs.Closing.{open_window}
-use Rattle.chain_spec.specs.Windows.{Window}
-use Rattle.filter_aggregate.specs.Account.{all_kept, kept_in}
-use Rattle.filter_aggregate.specs.Slots.{slot_at, slot_by, slots_by}
-use Rattle.filter_aggregate.specs.Standing.{Stands, kept_window, slot_after}
+use Rattle.chain_spec.specs.{joined, Arrival, Call, open_window, Window}
+use Rattle.filter_aggregate.specs.{all_kept, kept_in, slot_at, slot_by, slots_by, Stands, kept_window, slot_after}
 use Rattle.filter_aggregate.specs.declared.open.Open.{Open}
 use Rattle.filter_aggregate.specs.declared.slot.Slot.{Slot}
 

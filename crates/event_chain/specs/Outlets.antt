@@ -2,8 +2,7 @@
 use Rattle.std.specs.Prelude.{◌≡◌, List}
 use Rattle.ids_types.specs.Output.{Output}
 use Rattle.ids_config.specs.Parts.{Parts}
-use Rattle.chain_spec.specs.Items.{Item}
-use Rattle.chain_spec.specs.Storing.{stored}
+use Rattle.chain_spec.specs.{Item, stored}
 use Rattle.event_memory.specs.Held.{Stands as MemoryStands}
 use Rattle.message_sender.specs.Sending.{Start, IsSending}
 use Rattle.event_chain.specs.declared.outlet.Outlet.{Outlet}

@@ -2,12 +2,9 @@
 use Rattle.std.specs.Prelude.{◌≡◌, ℕ, List, map, ⊤}
 use Rattle.ids_types.specs.Turns.{Turn}
 use Rattle.ids_config.specs.Parts.{Parts, internal_of}
-use Rattle.chain_spec.specs.Chain.{handed_on}
-use Rattle.chain_spec.specs.Filtering.{counted, gated, aggregated, qualified}
-use Rattle.chain_spec.specs.Moments.{Moment, moments}
+use Rattle.chain_spec.specs.{handed_on, counted, gated, aggregated, qualified, Moment, moments}
 use Rattle.filter_chain.specs.History.{newest_tick}
-use Rattle.filter_aggregate.specs.Slots.{slots_by}
-use Rattle.filter_aggregate.specs.Standing.{Stands as WindowsStand}
+use Rattle.filter_aggregate.specs.{slots_by, Stands as WindowsStand}
 use Rattle.filter_gate.specs.Stands.{Stands as GateStands}
 use Rattle.filter_threshold.specs.Counting.{Stands as ThresholdsStand}
 use Rattle.message_sender.specs.Sending.{Stands as SenderStands}

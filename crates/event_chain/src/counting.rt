@@ -2,16 +2,10 @@
 
 ghost use Rattle.std.specs.Prelude.{◌≡◌, ◌<◌, ◌++◌, ℕ, List, [], ◌∷◌, option_to_list, IfOk};
 ghost use Rattle.ids_config.specs.Parts.{Parts};
-ghost use Rattle.chain_spec.specs.Filtering.{thresholded_at};
-ghost use Rattle.chain_spec.specs.Items.{Item};
-ghost use Rattle.chain_spec.specs.Windows.{EndBy};
-ghost use Rattle.message_sender.specs.Sender.{most_message};
-ghost use Rattle.message_sender.specs.Sending.{Start, TakesOne, Stands as SenderStands};
+ghost use Rattle.chain_spec.specs.{thresholded_at, Item, EndBy};
+ghost use Rattle.message_sender.specs.{most_message, Start, TakesOne, Stands as SenderStands};
 ghost use Rattle.filter_threshold.specs.Counting.{Stands as ThresholdsStand};
-ghost use Rattle.event_chain.specs.Fates.{fate_of, counted_fate};
-ghost use Rattle.event_chain.specs.Flow.{CountingStands};
-ghost use Rattle.event_chain.specs.Outlets.{Stores};
-ghost use Rattle.event_chain.specs.Ready.{CanCount, HasEvent};
+ghost use Rattle.event_chain.specs.{fate_of, counted_fate, CountingStands, Stores, CanCount, HasEvent};
 
 use crate::fate::Fate;
 use crate::outlet::Outlet;

@@ -6,8 +6,7 @@ ghost use Rattle.ids_config.specs.Parts.{Parts};
 ghost use Rattle.filter_chain.specs.History.{rows_of};
 ghost use Rattle.chain_spec.specs.Moments.{moments};
 ghost use Rattle.filter_aggregate.specs.Account.{all_kept};
-ghost use Rattle.event_chain.specs.Ready.{aggregating_in};
-ghost use Rattle.event_chain.specs.Standing.{Stands, StandsWatched};
+ghost use Rattle.event_chain.specs.{aggregating_in, Stands, StandsWatched};
 
 use crate::counting::Counting;
 use crate::filters::Filters;

@@ -3,21 +3,13 @@
 ghost use Rattle.std.specs.Prelude.{◌≡◌, ◌<◌, ◌≤◌, ◌+◌, ◌++◌, ℕ, List, [], ◌∷◌, length, false, option_to_list, vec_len, vec_capacity, IfSome, if◌then◌else◌};
 ghost use Rattle.std.specs.Bool.{IsFalse};
 ghost use Rattle.std.specs.List.{All};
-ghost use Rattle.ids_types.specs.Carries.{act_by};
-ghost use Rattle.ids_types.specs.Output.{room_of};
+ghost use Rattle.ids_types.specs.{act_by, room_of};
 ghost use Rattle.ids_config.specs.Parts.{Parts};
-ghost use Rattle.chain_spec.specs.Filtering.{qualified};
-ghost use Rattle.chain_spec.specs.Items.{item_at, told_by};
-ghost use Rattle.chain_spec.specs.Moments.{Moment, act_moment, closes, comes};
-ghost use Rattle.filter_chain.specs.Parcels.{HandsBack, IsShort, parcel_of};
-ghost use Rattle.filter_chain.specs.Turning.{FitsAct};
-ghost use Rattle.filter_aggregate.specs.Account.{all_kept};
-ghost use Rattle.filter_aggregate.specs.Slots.{is_due, slot_at};
+ghost use Rattle.chain_spec.specs.{qualified, item_at, told_by, Moment, act_moment, closes, comes};
+ghost use Rattle.filter_chain.specs.{HandsBack, IsShort, parcel_of, FitsAct};
+ghost use Rattle.filter_aggregate.specs.{all_kept, is_due, slot_at};
 ghost use Rattle.message_sender.specs.Sending.{Start, start_of};
-ghost use Rattle.event_chain.specs.Behind.{IsBehind, kept_told};
-ghost use Rattle.event_chain.specs.Fates.{ending_of, fate_of, told};
-ghost use Rattle.event_chain.specs.Standing.{Rests};
-ghost use Rattle.event_chain.specs.Ready.{HasPlaces, HasSentRoom, IsReady, Stays, CanSend, TakesRoom};
+ghost use Rattle.event_chain.specs.{IsBehind, kept_told, ending_of, fate_of, told, Rests, HasPlaces, HasSentRoom, IsReady, Stays, CanSend, TakesRoom};
 
 use crate::counting::Counting;
 use crate::fate::{Ending, Fate};

@@ -3,19 +3,11 @@
 ghost use Rattle.std.specs.Prelude.{◌≡◌, ◌<◌, ◌≤◌, ◌+◌, ◌++◌, ℕ, List, ◌∷◌, length, option_copied, option_map, option_to_list, vec_len, vec_capacity, IsSome};
 ghost use Rattle.std.specs.Bool.{IsFalse};
 ghost use Rattle.ids_config.specs.Parts.{Parts};
-ghost use Rattle.chain_spec.specs.Calls.{Call, arrives, call_tick};
-ghost use Rattle.chain_spec.specs.Filtering.{thresholded_at};
-ghost use Rattle.chain_spec.specs.Items.{Item, item_at, told_by};
-ghost use Rattle.chain_spec.specs.Windows.{EndBy};
+ghost use Rattle.chain_spec.specs.{Call, arrives, call_tick, thresholded_at, Item, item_at, told_by, EndBy};
 ghost use Rattle.filter_chain.specs.Parcels.{HandsBack};
-ghost use Rattle.filter_aggregate.specs.Account.{all_kept};
-ghost use Rattle.filter_aggregate.specs.Slots.{is_due, slot_at, slots_by};
-ghost use Rattle.filter_aggregate.specs.Standing.{Stands as WindowsStand};
-ghost use Rattle.message_sender.specs.Sender.{most_message};
-ghost use Rattle.message_sender.specs.Sending.{Start, TakesOne};
-ghost use Rattle.event_chain.specs.Fates.{fate_of, counted_fate, passed_fate};
-ghost use Rattle.event_chain.specs.Flow.{CountingStands, Flows, EndAt, joined_with, items_with};
-ghost use Rattle.event_chain.specs.Ready.{CanCount, HasEvent, SettledAt, TakesRoom, Windowed};
+ghost use Rattle.filter_aggregate.specs.{all_kept, is_due, slot_at, slots_by, Stands as WindowsStand};
+ghost use Rattle.message_sender.specs.{most_message, Start, TakesOne};
+ghost use Rattle.event_chain.specs.{fate_of, counted_fate, passed_fate, CountingStands, Flows, EndAt, joined_with, items_with, CanCount, HasEvent, SettledAt, TakesRoom, Windowed};
 
 use crate::counting::Counting;
 use crate::fate::Fate;

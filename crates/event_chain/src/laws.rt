@@ -5,8 +5,7 @@ ghost use Rattle.ids_types.specs.Turns.{Turn};
 ghost use Rattle.ids_config.specs.Parts.{Parts};
 ghost use Rattle.filter_chain.specs.Kept.{open_contexts};
 ghost use Rattle.filter_aggregate.specs.Account.{all_kept};
-ghost use Rattle.event_chain.specs.Chained.{Watched};
-ghost use Rattle.event_chain.specs.Standing.{StandsWatched};
+ghost use Rattle.event_chain.specs.{Watched, StandsWatched};
 
 use crate::witness::Witness;
 use ids_types::Parcel;

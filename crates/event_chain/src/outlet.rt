@@ -2,11 +2,8 @@
 
 ghost use Rattle.std.specs.Prelude.{◌≡◌, ◌<◌, List, [], ◌∷◌, length, map, IfOk, IfSome};
 ghost use Rattle.ids_config.specs.Parts.{Parts};
-ghost use Rattle.chain_spec.specs.Endings.{qualified_fate};
-ghost use Rattle.chain_spec.specs.Items.{Item};
-ghost use Rattle.chain_spec.specs.Windows.{EndBy};
-ghost use Rattle.message_sender.specs.Sender.{CanQualify, IsShort, most_message, source_of};
-ghost use Rattle.message_sender.specs.Sending.{Start, TakesOne, Stands as SenderStands, answered_fate};
+ghost use Rattle.chain_spec.specs.{qualified_fate, Item, EndBy};
+ghost use Rattle.message_sender.specs.{CanQualify, IsShort, most_message, source_of, Start, TakesOne, Stands as SenderStands, answered_fate};
 ghost use Rattle.event_chain.specs.Outlets.{Stores, OutletStands};
 
 use event_memory::Memory;

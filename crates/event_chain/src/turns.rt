@@ -4,15 +4,12 @@ ghost use Rattle.std.specs.Prelude.{◌≡◌, ◌<◌, ◌≤◌, ◌+◌, ◌+
 ghost use Rattle.std.specs.List.{All};
 ghost use Rattle.ids_types.specs.Carries.{entry_by};
 ghost use Rattle.ids_config.specs.Parts.{Parts};
-ghost use Rattle.chain_spec.specs.Moments.{Moment, act_moment, closings, head_moment};
-ghost use Rattle.chain_spec.specs.Stages.{with_all};
-ghost use Rattle.filter_chain.specs.Parcels.{HandsBack, IsShort, all_parcels};
-ghost use Rattle.filter_chain.specs.Turning.{FitsAct};
+ghost use Rattle.chain_spec.specs.{Moment, act_moment, closings, head_moment, with_all};
+ghost use Rattle.filter_chain.specs.{HandsBack, IsShort, all_parcels, FitsAct};
 ghost use Rattle.filter_aggregate.specs.Account.{all_kept};
 ghost use Rattle.internal_events.specs.HeadView.{head_told};
 ghost use Rattle.message_sender.specs.Sending.{Start};
-ghost use Rattle.event_chain.specs.Behind.{IsBehind};
-ghost use Rattle.event_chain.specs.Ready.{CanSend, HasPlaces, HasSentRoom, SettledAt, Stays, TakesRoom, aggregating_in};
+ghost use Rattle.event_chain.specs.{IsBehind, CanSend, HasPlaces, HasSentRoom, SettledAt, Stays, TakesRoom, aggregating_in};
 
 use crate::filters::Filters;
 use crate::witness::Witness;

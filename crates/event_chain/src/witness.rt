@@ -2,8 +2,7 @@
 
 ghost use Rattle.std.specs.Prelude.{◌≡◌, List, ◌∷◌, Some, None, option_map, ⊤};
 ghost use Rattle.ids_config.specs.Parts.{Parts};
-ghost use Rattle.chain_spec.specs.Endings.{ending_at};
-ghost use Rattle.chain_spec.specs.Moments.{Moment};
+ghost use Rattle.chain_spec.specs.{ending_at, Moment};
 ghost use Rattle.event_chain.specs.Fates.{bare, ending_of};
 
 use crate::fate::Ending;

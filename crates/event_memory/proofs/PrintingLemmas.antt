@@ -2,8 +2,7 @@
 use Rattle.std.proofs.Common.{◌≡◌, ◌<◌, ◌+◌, ℕ, List, [], ◌∷◌, ◌++◌, length, take, get_or, refl, sym, ap, ◌∙◌, append_assoc}
 use Rattle.std.proofs.lemmas.List.{take_more}
 use Rattle.ids_types.specs.MemoryRow.{Row}
-use Rattle.text_spec.specs.MemoryText.{memory_text, row_line}
-use Rattle.text_spec.specs.Words.{line_feed}
+use Rattle.text_spec.specs.{memory_text, row_line, line_feed}
 
 -- the lines of records, and of one more
 text_more : (rows : List Row) (row : Row) → memory_text (rows ++ row ∷ []) ≡ memory_text rows ++ (row_line row ++ line_feed ∷ [])

@@ -3,8 +3,7 @@
 ghost use Rattle.std.specs.Prelude.{◌≡◌, ◌<◌, ◌≤◌, ◌∷◌, [], List, length, reverse, slice_index_or, IfOk};
 ghost use Rattle.std.specs.List.{position, remove};
 ghost use Rattle.chain_spec.specs.Memory.{Stored};
-ghost use Rattle.event_memory.specs.Held.{Stands, after_adding, after_beginning, after_storing, is_of, no_row, no_rows, stored};
-ghost use Rattle.event_memory.specs.Views.{plain_item, plain_row};
+ghost use Rattle.event_memory.specs.{Stands, after_adding, after_beginning, after_storing, is_of, no_row, no_rows, stored, plain_item, plain_row};
 
 use crate::row::Row;
 use crate::slot::{Item, Slot};

@@ -2,10 +2,7 @@
 
 ghost use Rattle.std.specs.Prelude.{◌≡◌, ◌++◌, ◌∷◌, [], IfOk, OnOk, codes, decimal, reverse};
 ghost use Rattle.event_memory.specs.Views.{plain_row};
-ghost use Rattle.text_spec.specs.Fields.{bytes_word};
-ghost use Rattle.text_spec.specs.MemoryText.{memory_text, row_line};
-ghost use Rattle.text_spec.specs.Stamps.{stamp_text};
-ghost use Rattle.text_spec.specs.Words.{line_feed, space};
+ghost use Rattle.text_spec.specs.{bytes_word, memory_text, row_line, stamp_text, line_feed, space};
 
 use crate::memory::Memory;
 use crate::row::Row;

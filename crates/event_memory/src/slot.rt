@@ -1,8 +1,7 @@
 //! A record as it lies in the memory, with room for the longest context data.
 
 ghost use Rattle.std.specs.Prelude.{◌≡◌, ◌≤◌, length, vec_capacity, IfOk};
-ghost use Rattle.event_memory.specs.Held.{added, begun, is_of as is_row_of, no_row, told};
-ghost use Rattle.event_memory.specs.Views.{plain_item, plain_row};
+ghost use Rattle.event_memory.specs.{added, begun, is_of as is_row_of, no_row, told, plain_item, plain_row};
 
 use crate::row::Row;
 use ids_types::{EventIndex, Key, NoMemory, Stamp};

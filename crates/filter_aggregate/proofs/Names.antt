@@ -4,13 +4,10 @@ pub use Rattle.std.proofs.lemmas.Bool.{eqb-false, lt-leb, eq-eqb}
 pub use Rattle.std.proofs.lemmas.List.{append-nil, get_or-map, map-set, get_or-set_same, get_or-set_other, length-set, length-map}
 pub use Rattle.std.specs.List.{AllByRecursion, list_any, cons_option}
 pub use Rattle.std.specs.Prelude.{slice_set, slice_index_or}
-pub use Rattle.chain_spec.specs.Calls.{Call, closes_due, arrives, call_tick, Arrival, arrival_by, arrived, closing_by, closing_ticks}
-pub use Rattle.chain_spec.specs.Items.{told_by}
-pub use Rattle.chain_spec.specs.Windows.{EndBy, Window, opened, extended, covers, windows_of}
+pub use Rattle.chain_spec.specs.{Call, closes_due, arrives, call_tick, Arrival, arrival_by, arrived, closing_by, closing_ticks, told_by, EndBy, Window, opened, extended, covers, windows_of}
 pub use Rattle.ids_config.specs.Parts.{Event, Parts, event_at, plain_event}
 pub use Rattle.ids_config.specs.declared.parts.Aggregate.{Aggregate}
 pub use Rattle.ids_types.specs.declared.event.Qualified.{Qualified}
-pub use Rattle.filter_aggregate.specs.Slots.{fresh_slot, slot_at, held_in, has_passed, item_due, slot_closed, after_closing, keeps_last, kept_of, spare_of, slot_with, after_arrival, HaveIntervals, is_due, window_with, open_by, slot_by, slots_by, with_item}
-pub use Rattle.filter_aggregate.specs.Standing.{slot_after, Stands, kept_window}
+pub use Rattle.filter_aggregate.specs.{fresh_slot, slot_at, held_in, has_passed, item_due, slot_closed, after_closing, keeps_last, kept_of, spare_of, slot_with, after_arrival, HaveIntervals, is_due, window_with, open_by, slot_by, slots_by, with_item, slot_after, Stands, kept_window}
 pub use Rattle.filter_aggregate.specs.declared.open.Open.{Open}
 pub use Rattle.filter_aggregate.specs.declared.slot.Slot.{Slot}

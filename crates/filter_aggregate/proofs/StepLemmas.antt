@@ -1,8 +1,7 @@
 -- The slot of an event after one call more.
 use Rattle.filter_aggregate.proofs.Names.{◌≡◌, ℕ, ◌+◌, ◌<◌, ◌≤◌, ◌==◌, ◌||◌, not, min, nat_le, sum_by, Bool, true, false, List, [], ◌∷◌, Option, Some, None, IfSome, IsSome, option_map, if◌then◌else◌, refl, sym, ap, ◌∙◌, arith, le-leb, ltb-true, ltb-false, list_any, cons_option, lt-leb, eq-eqb, Qualified, Aggregate, Call, Arrival, closes_due, arrives, call_tick, arrival_by, arrived, closing_by, closing_ticks, Window, EndBy, opened, extended, covers, windows_of, Open, Slot, fresh_slot, has_passed, is_due, slot_closed, with_item, window_with, slot_with, kept_window, slot_after}
 use Rattle.std.proofs.lemmas.List.Sums.{sum_by-cons}
-use Rattle.chain_spec.specs.Closing.{newest_where}
-use Rattle.chain_spec.specs.Stages.{where_true}
+use Rattle.chain_spec.specs.{newest_where, where_true}
 use Rattle.chain_spec.proofs.CoverLemmas.{end_of_told, with_newest, windows_with}
 
 -- ---- ticks

@@ -3,10 +3,7 @@
 use Rattle.std.specs.Prelude.{◌≡◌, ℕ, ◌<◌, List, length, Bool, Option, Some, None, option_map}
 use Rattle.ids_config.specs.Parts.{Parts, event_at}
 use Rattle.ids_config.specs.declared.parts.Aggregate.{Aggregate}
-use Rattle.chain_spec.specs.Aggregation.{joined}
-use Rattle.chain_spec.specs.Calls.{Call, Arrival}
-use Rattle.chain_spec.specs.Closing.{open_window}
-use Rattle.chain_spec.specs.Windows.{Window}
+use Rattle.chain_spec.specs.{joined, Call, Arrival, open_window, Window}
 use Rattle.filter_aggregate.specs.declared.open.Open.{Open}
 use Rattle.filter_aggregate.specs.declared.slot.Slot.{Slot}
 use Rattle.filter_aggregate.specs.Slots.{slot_at}

@@ -4,13 +4,8 @@ ghost use Rattle.std.specs.Prelude.{◌≡◌, ◌≢◌, ◌<◌, ℕ, List, []
 ghost use Rattle.std.specs.Bool.{IsFalse};
 ghost use Rattle.std.specs.Option.{option_copied};
 ghost use Rattle.ids_config.specs.Parts.{Parts, event_at};
-ghost use Rattle.chain_spec.specs.Calls.{Call, closes_due, arrives, call_tick};
-ghost use Rattle.chain_spec.specs.Closing.{closing_item};
-ghost use Rattle.chain_spec.specs.Items.{told_by};
-ghost use Rattle.chain_spec.specs.Windows.{EndBy};
-ghost use Rattle.filter_aggregate.specs.Account.{Accounts, all_kept};
-ghost use Rattle.filter_aggregate.specs.Slots.{fresh_slot, slot_at, held_in, is_due, item_due, after_closing, keeps_last, spare_of, after_arrival, slots_by};
-ghost use Rattle.filter_aggregate.specs.Standing.{Stands};
+ghost use Rattle.chain_spec.specs.{Call, closes_due, arrives, call_tick, closing_item, told_by, EndBy};
+ghost use Rattle.filter_aggregate.specs.{Accounts, all_kept, fresh_slot, slot_at, held_in, is_due, item_due, after_closing, keeps_last, spare_of, after_arrival, slots_by, Stands};
 
 use crate::slot::Slot;
 use ids_config::{Config, EventParts};

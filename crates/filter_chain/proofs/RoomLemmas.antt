@@ -7,8 +7,7 @@ use Rattle.std.proofs.lemmas.List.Sums.{sum_by-le}
 use Rattle.ids_types.specs.declared.entry.Act.{Act}
 use Rattle.ids_types.specs.declared.entry.Act.TheVariants.{Report, State, SetMode}
 use Rattle.ids_types.specs.declared.entry.Entry.{Entry}
-use Rattle.filter_chain.specs.Parcels.{IsShort, all_parcels, parcel_of}
-use Rattle.filter_chain.specs.Turning.{FitsAct, FitsLargest, FitsTurn, carried_room, context_room, most_sent}
+use Rattle.filter_chain.specs.{IsShort, all_parcels, parcel_of, FitsAct, FitsLargest, FitsTurn, carried_room, context_room, most_sent}
 use Rattle.filter_chain.proofs.ParcelLemmas.{all_parcels_of}
 
 -- as many bytes for each of some parcels

@@ -5,11 +5,8 @@ use Rattle.std.proofs.lemmas.Grind.{reverse_onto}
 use Rattle.ids_types.specs.Output.{Output}
 use Rattle.ids_types.specs.Turns.{Turn}
 use Rattle.ids_config.specs.Parts.{Parts}
-use Rattle.chain_spec.specs.Chain.{messages, ends, qualified_of, sent}
-use Rattle.chain_spec.specs.Items.{Item}
-use Rattle.chain_spec.specs.Messages.{spelled}
-use Rattle.filter_chain.specs.History.{Sends, count_of, last_tick, messages_of, newest_tick}
-use Rattle.filter_chain.specs.Transcripts.{Adds, IsTranscript, ends_of}
+use Rattle.chain_spec.specs.{messages, ends, qualified_of, sent, Item, spelled}
+use Rattle.filter_chain.specs.{Sends, count_of, last_tick, messages_of, newest_tick, Adds, IsTranscript, ends_of}
 use Rattle.filter_chain.specs.declared.transcript.Transcript.{Transcript}
 
 -- with one turn more the newest is this one

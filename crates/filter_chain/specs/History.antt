@@ -4,8 +4,7 @@ use Rattle.ids_types.specs.MemoryRow.{Row}
 use Rattle.ids_types.specs.Output.{Output}
 use Rattle.ids_types.specs.Turns.{Turn}
 use Rattle.ids_config.specs.Parts.{Parts}
-use Rattle.chain_spec.specs.Chain.{messages, message_count, handed_on}
-use Rattle.chain_spec.specs.Storing.{memory}
+use Rattle.chain_spec.specs.{messages, message_count, handed_on, memory}
 
 -- the tick of the newest turn, 0 where there is none
 abbrev pub newest_tick : List Turn → ℕ

@@ -5,11 +5,7 @@ use Rattle.std.specs.List.Sorted.{IsPermutation}
 use Rattle.ids_types.specs.Turns.{Turn}
 use Rattle.ids_config.specs.Parts.{Parts, event_at}
 use Rattle.ids_config.specs.declared.parts.Aggregate.{Aggregate}
-use Rattle.chain_spec.specs.Aggregation.{joined}
-use Rattle.chain_spec.specs.Calls.{Call}
-use Rattle.chain_spec.specs.Closing.{open_window}
-use Rattle.chain_spec.specs.Filtering.{gated}
-use Rattle.chain_spec.specs.Moments.{moments}
+use Rattle.chain_spec.specs.{joined, Call, open_window, gated, moments}
 
 -- what the open window of an event keeps, as a list: nothing, or the context data of its one item
 abbrev pub open_context : Option Aggregate → ℕ → List (Call (List ℕ)) → List (List ℕ)

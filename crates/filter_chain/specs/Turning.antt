@@ -1,14 +1,12 @@
 -- The turn that a chain takes, and which turns it can take.
 use Rattle.std.specs.Prelude.{ℕ, ◌+◌, ◌*◌, ◌<◌, ◌≤◌, ◌==◌, List, length, map, sum_by, IfSome, if◌then◌else◌, ⊤}
 use Rattle.std.specs.List.{All}
-use Rattle.ids_types.specs.Carries.{entry_by}
+use Rattle.ids_types.specs.{entry_by, kept_bytes, Turn}
 use Rattle.ids_types.specs.declared.entry.Act.{Act}
 use Rattle.ids_types.specs.declared.entry.Act.TheVariants.{Report, State, SetMode}
 use Rattle.ids_types.specs.declared.entry.Entry.{Entry}
 use Rattle.ids_types.specs.declared.entry.TurnHead.{TurnHead}
 use Rattle.ids_types.specs.Output.{Output, room_of}
-use Rattle.ids_types.specs.Plain.{kept_bytes}
-use Rattle.ids_types.specs.Turns.{Turn}
 use Rattle.chain_spec.specs.Items.{kept_parcel}
 use Rattle.filter_chain.specs.Parcels.{IsShort}
 

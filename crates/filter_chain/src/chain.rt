@@ -2,8 +2,7 @@
 
 ghost use Rattle.std.specs.Prelude.{◌≡◌, ◌≤◌, ◌+◌, ◌^◌, ℕ, Bool, true, [], ◌∷◌, ◌++◌, List, length, map, reverse, vec_len, vec_capacity, OnOk};
 ghost use Rattle.std.specs.List.{All};
-ghost use Rattle.ids_types.specs.Output.{room_of};
-ghost use Rattle.ids_types.specs.Turns.{Turn};
+ghost use Rattle.ids_types.specs.{room_of, Turn};
 ghost use Rattle.ids_config.specs.Parts.{Parts};
 ghost use Rattle.filter_chain.specs.History.{last_tick, handed_of, rows_of, Sends};
 ghost use Rattle.filter_chain.specs.Kept.{AreAmong, open_contexts};

@@ -1,8 +1,7 @@
 //! The log of a turn: its head and its entries, as a history has them.
 
 ghost use Rattle.std.specs.Prelude.{◌≡◌, ◌≤◌, [], ◌∷◌, ◌++◌, length};
-ghost use Rattle.ids_types.specs.Output.{room_of};
-ghost use Rattle.ids_types.specs.Turns.{HasRoom, room_after};
+ghost use Rattle.ids_types.specs.{room_of, HasRoom, room_after};
 ghost use Rattle.filter_chain.specs.Turning.{bytes_in, turn_by};
 
 use crate::parcels::lent;

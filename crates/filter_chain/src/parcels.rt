@@ -1,8 +1,7 @@
 //! Parcels of context data, on their way out of entries and back.
 
 ghost use Rattle.std.specs.Prelude.{◌≡◌, ◌≤◌, ◌+◌, ◌++◌, length, option_to_list, vec_len, vec_capacity};
-ghost use Rattle.ids_types.specs.Carries.{act_by, carried_by, entry_by};
-ghost use Rattle.ids_types.specs.Plain.{plain_carried, plain_entry};
+ghost use Rattle.ids_types.specs.{act_by, carried_by, entry_by, plain_carried, plain_entry};
 ghost use Rattle.chain_spec.specs.Items.{kept_parcel};
 
 use ids_types::{Act, Carried, Entry, Numbers, Parcel, Plain};

@@ -5,12 +5,7 @@ use Rattle.std.proofs.lemmas.List.{length-set, get_or-set_same, get_or-set_other
 use Rattle.ids_types.specs.declared.mode.Mode.{Mode}
 use Rattle.ids_types.specs.declared.mode.Mode.TheVariants.{Off, Brief, Detailed, BriefBypassing, DetailedBypassing}
 use Rattle.ids_config.specs.Parts.{Event, Parts, event_at}
-use Rattle.chain_spec.specs.Endings.{Fate, at_mode, at_block, at_nth, coming, qualified_fate}
-use Rattle.chain_spec.specs.Filtering.{qualified}
-use Rattle.chain_spec.specs.Gate.{is_filtered, is_bypassing, is_detailed, mode_at, state_at, item_in, is_blocked, is_arriving, arrivals, is_nth, sampled_at}
-use Rattle.chain_spec.specs.Items.{Item}
-use Rattle.chain_spec.specs.Moments.{Moment, closes, comes}
-use Rattle.chain_spec.specs.Stages.{where_true}
+use Rattle.chain_spec.specs.{Fate, at_mode, at_block, at_nth, coming, qualified_fate, qualified, is_filtered, is_bypassing, is_detailed, mode_at, state_at, item_in, is_blocked, is_arriving, arrivals, is_nth, sampled_at, Item, Moment, closes, comes, where_true}
 use Rattle.filter_gate.specs.declared.verdict.Cause.TheVariants.{Mode as ByMode, Block as ByBlock, Nth as ByNth}
 use Rattle.filter_gate.specs.declared.verdict.Verdict.TheVariants.{Dropped, Bypass, Pass}
 use Rattle.filter_gate.specs.Gate.{Gate, row_at, row_with, verdict_on, after_asking, gate_asked}

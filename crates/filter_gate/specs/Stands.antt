@@ -1,10 +1,7 @@
 -- For which moments a gate stands, what a verdict makes of an item, and where its way ends by it.
 use Rattle.std.specs.Prelude.{◌≡◌, ◌<◌, ℕ, ◌%◌, Bool, List, length, Option, Some, None, is_some, if◌then◌else◌}
 use Rattle.ids_config.specs.Parts.{Parts, event_at}
-use Rattle.chain_spec.specs.Endings.{Fate, at_mode, at_block, at_nth, in_window, aggregated_fate}
-use Rattle.chain_spec.specs.Gate.{mode_at, state_at, arrivals}
-use Rattle.chain_spec.specs.Items.{Item}
-use Rattle.chain_spec.specs.Moments.{Moment}
+use Rattle.chain_spec.specs.{Fate, at_mode, at_block, at_nth, in_window, aggregated_fate, mode_at, state_at, arrivals, Item, Moment}
 use Rattle.filter_gate.specs.declared.verdict.Cause.{Cause}
 use Rattle.filter_gate.specs.declared.verdict.Cause.TheVariants.{Mode as ByMode, Block as ByBlock, Nth as ByNth}
 use Rattle.filter_gate.specs.declared.verdict.Verdict.{Verdict}

@@ -3,11 +3,7 @@
 ghost use Rattle.std.specs.Prelude.{◌≡◌, ◌<◌, ℕ, List, [], ◌∷◌, length, map, IfOk};
 ghost use Rattle.std.specs.List.{All};
 ghost use Rattle.ids_config.specs.Parts.{Parts};
-ghost use Rattle.chain_spec.specs.Endings.{coming, qualified_fate};
-ghost use Rattle.chain_spec.specs.Filtering.{qualified};
-ghost use Rattle.chain_spec.specs.Gate.{sampled_at, bypassing_at};
-ghost use Rattle.chain_spec.specs.Items.{Item};
-ghost use Rattle.chain_spec.specs.Moments.{Moment, comes, state_is, mode_is};
+ghost use Rattle.chain_spec.specs.{coming, qualified_fate, qualified, sampled_at, bypassing_at, Item, Moment, comes, state_is, mode_is};
 ghost use Rattle.filter_gate.specs.Gate.{fresh_row, row_at, verdict_on, gate_asked, gate_with_mode};
 ghost use Rattle.filter_gate.specs.Stands.{Stands, let_through, let_by, fate_by, sampled_fate};
 

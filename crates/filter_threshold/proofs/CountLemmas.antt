@@ -6,9 +6,7 @@ use Rattle.std.proofs.lemmas.List.{get_or-set_same, get_or-set_other, length-set
 use Rattle.std.proofs.lemmas.List.Sums.{sum_by-cons}
 use Rattle.ids_config.specs.Parts.{Parts, event_at}
 use Rattle.ids_config.specs.declared.parts.Window.{Window as Setting}
-use Rattle.chain_spec.specs.Counting.{Occurrence, among}
-use Rattle.chain_spec.specs.Threshold.{newest_sum, verdict}
-use Rattle.chain_spec.specs.Windows.{Window, EndBy, opened, extended, windows_of, sum_of}
+use Rattle.chain_spec.specs.{Occurrence, among, newest_sum, verdict, Window, EndBy, opened, extended, windows_of, sum_of}
 use Rattle.chain_spec.proofs.CoverLemmas.{end_of_some, with_newest, windows_with}
 use Rattle.filter_threshold.specs.declared.threshold.Counted.{Counted}
 use Rattle.filter_threshold.specs.declared.threshold.Threshold.{Threshold}

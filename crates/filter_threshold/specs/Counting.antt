@@ -3,8 +3,7 @@
 use Rattle.std.specs.Prelude.{◌≡◌, ◌≤◌, ℕ, min, List, [], ◌∷◌, Option, Some, None, length, ⊤}
 use Rattle.ids_config.specs.Parts.{Parts, event_at}
 use Rattle.ids_config.specs.declared.parts.Window.{Window as Setting}
-use Rattle.chain_spec.specs.Counting.{Occurrence, among}
-use Rattle.chain_spec.specs.Windows.{Window, windows_of, sum_of}
+use Rattle.chain_spec.specs.{Occurrence, among, Window, windows_of, sum_of}
 use Rattle.filter_threshold.specs.declared.threshold.Counted.{Counted}
 use Rattle.filter_threshold.specs.declared.threshold.Threshold.{Threshold}
 use Rattle.filter_threshold.specs.Slots.{slot_at}

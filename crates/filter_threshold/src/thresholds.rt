@@ -2,9 +2,7 @@
 
 ghost use Rattle.std.specs.Prelude.{◌≡◌, ◌<◌, ℕ, List, [], ◌∷◌, length, map, IfOk};
 ghost use Rattle.ids_config.specs.Parts.{Parts, event_at};
-ghost use Rattle.chain_spec.specs.Counting.{Occurrence};
-ghost use Rattle.chain_spec.specs.Threshold.{verdict};
-ghost use Rattle.chain_spec.specs.Windows.{EndBy};
+ghost use Rattle.chain_spec.specs.{Occurrence, verdict, EndBy};
 ghost use Rattle.filter_threshold.specs.Counting.{Stands};
 ghost use Rattle.filter_threshold.specs.Slots.{fresh_slot, slot_at, passes, after_arrival};
 

@@ -6,22 +6,17 @@ use Rattle.std.specs.Prelude.{codes}
 use Rattle.serde_json.proofs.OnLiterals.{serde_json_on_literals}
 use Rattle.ids_config.specs.Parts.{Parts, plain_event}
 use Rattle.std.specs.Str.{chars, is_utf8}
-use Rattle.config_json.specs.Configured.{configuration}
-use Rattle.config_json.specs.Members.{event_in, parts_in}
-use Rattle.config_json.specs.Shape.{config_shape, event_shape}
+use Rattle.config_json.specs.{configuration, event_in, parts_in, config_shape, event_shape}
 use Rattle.ids_config.specs.Values.{event_value, parts_value}
-use Rattle.report_api.specs.Answers.{Given, given}
-use Rattle.report_api.specs.Terms.{is_sensor}
+use Rattle.report_api.specs.{Given, given, is_sensor}
 use Rattle.report_api.specs.declared.shared.Shared.{Shared}
 use Rattle.main_function.specs.declared.rest.Totals.{Totals}
 use Rattle.idsm_api.specs.declared.answer.Answer.{Answer}
 use Rattle.idsm_api.specs.declared.answer.Answer.TheVariants.{Done, LostEvent, Spent, UnknownEvent, WithoutContext, ZeroCount}
 use Rattle.idsm_api.specs.declared.caller.Caller.{Caller}
 use Rattle.idsm_api.specs.declared.making.Setup.{Setup}
-use Rattle.idsm_api.specs.Callers.{AreCounted, CallLog, ReportDoes, ReportLogs, log_of}
+use Rattle.idsm_api.specs.{AreCounted, CallLog, ReportDoes, ReportLogs, log_of, IsNewSetup, MakesSetup, IsFitCaller}
 use Rattle.idsm_api.proofs.ClosingLemmas.{AreSameCallers}
-use Rattle.idsm_api.specs.Making.{IsNewSetup, MakesSetup}
-use Rattle.idsm_api.specs.Roles.{IsFitCaller}
 use Rattle.first_report.specs.Reporting.{HasReported, HaveReported, IsReady}
 
 -- what each caller is given: event 0, seen once, and nothing else

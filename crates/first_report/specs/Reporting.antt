@@ -2,8 +2,7 @@
 use Rattle.std.specs.Prelude.{◌≡◌, ℕ, ◌+◌, ◌<◌, true, List, length, slice_index_or}
 use Rattle.report_api.specs.Terms.{is_sensor}
 use Rattle.idsm_api.specs.declared.caller.Caller.{Caller}
-use Rattle.idsm_api.specs.Callers.{IsSameCaller, log_of, no_calls}
-use Rattle.idsm_api.specs.Roles.{IsFitCaller, caller_shares}
+use Rattle.idsm_api.specs.{IsSameCaller, log_of, no_calls, IsFitCaller, caller_shares}
 
 -- the caller made no call yet, and a sensor reports event 0
 pub record IsReady (caller : Caller) : Type 0 where

@@ -4,14 +4,6 @@ pub use Rattle.std.proofs.lemmas.List.{append-nil, length-append}
 pub use Rattle.std.specs.Int.{w16, w32, w64, to_be_bytes}
 pub use Rattle.std.specs.List.{AllByRecursion}
 pub use Rattle.sha2.specs.Sha256.{sha256}
-pub use Rattle.ids_frame.specs.Bytes.{IsByte, AreBytes}
-pub use Rattle.ids_frame.specs.Message.{MessageParts, FitsMessage}
-pub use Rattle.ids_frame.specs.Spelling.{flag, header, spelling}
-pub use Rattle.ids_frame.specs.Messages.{joined}
-pub use Rattle.ids_frame.specs.Decoding.{BeginsWith, Begins, CauseOf}
-pub use Rattle.ids_frame.specs.Reading.{Begun}
-pub use Rattle.frame_auth.specs.Tags.{hmac}
-pub use Rattle.frame_auth.specs.Sealing.{with_signature, bare, seal_of, sealed, joined_sealed, Copies, IsPlain, ArePlain, IsSealedWith, HasNoSeal, HasOtherCounter}
-pub use Rattle.frame_auth.specs.Layout.{Moves, CanMark, marked, sealed_bytes, CanUnmark, unmarked}
-pub use Rattle.frame_auth.specs.Faults.{StopsBehind, CannotRead, BeginsSo, StopsSeal, StopsUnseal, Gives, GivesSealed, GivesUnsealed}
+pub use Rattle.ids_frame.specs.{IsByte, AreBytes, MessageParts, FitsMessage, flag, header, spelling, joined, BeginsWith, Begins, CauseOf, Begun}
+pub use Rattle.frame_auth.specs.{hmac, with_signature, bare, seal_of, sealed, joined_sealed, Copies, IsPlain, ArePlain, IsSealedWith, HasNoSeal, HasOtherCounter, Moves, CanMark, marked, sealed_bytes, CanUnmark, unmarked, StopsBehind, CannotRead, BeginsSo, StopsSeal, StopsUnseal, Gives, GivesSealed, GivesUnsealed}
 pub use Rattle.std.proofs.lemmas.Grind.{common_steps}

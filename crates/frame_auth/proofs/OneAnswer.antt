@@ -3,8 +3,7 @@ use Rattle.frame_auth.proofs.Names.{◌≡◌, ℕ, ◌+◌, List, [], ◌∷◌
 use Rattle.ids_frame.specs.declared.fault.BadMessage.{BadMessage}
 use Rattle.ids_frame.proofs.MessageLemmas.{one_message_lem, read_of}
 use Rattle.ids_frame.proofs.PartLemmas.{behind_bytes}
-use Rattle.frame_auth.specs.declared.fault.SealFault.{SealFault}
-use Rattle.frame_auth.specs.declared.fault.UnsealFault.{UnsealFault}
+use Rattle.frame_auth.specs.{SealFault, UnsealFault}
 use Rattle.frame_auth.specs.declared.fault.UnsealFault.TheVariants as unseals
 use Rattle.frame_auth.proofs.LayoutLemmas.{bare_is}
 use Rattle.frame_auth.proofs.WalkLemmas.{Writes, writes_plain, writes_sealed}

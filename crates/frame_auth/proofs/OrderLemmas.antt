@@ -10,12 +10,9 @@ use Rattle.std.proofs.Math.Seq.{take-length, get_or-append_seam}
 use Rattle.ids_frame.proofs.NumberLemmas.{wide16, wide32, wide64}
 use Rattle.ids_frame.specs.declared.context.Form.{Form}
 use Rattle.ids_frame.specs.declared.context.Form.TheVariants.{Short, Long}
-use Rattle.ids_frame.specs.Context.{ContextPart, FitsContext, most_bytes}
-use Rattle.ids_frame.specs.Spelling.{flag, event_part, stamp_part, length_in, context_part, signature_part}
-use Rattle.frame_auth.specs.declared.fault.UnsealFault.{UnsealFault}
+use Rattle.ids_frame.specs.{ContextPart, FitsContext, most_bytes, flag, event_part, stamp_part, length_in, context_part, signature_part}
+use Rattle.frame_auth.specs.{UnsealFault, AreOf, AreFirst, IsOutOfOrder, AnswersInOrder, sealed_from}
 use Rattle.frame_auth.specs.declared.fault.UnsealFault.TheVariants as unseals
-use Rattle.frame_auth.specs.Order.{AreOf, AreFirst, IsOutOfOrder, AnswersInOrder}
-use Rattle.frame_auth.specs.Sealing.{sealed_from}
 use Rattle.frame_auth.proofs.LayoutLemmas.{bare_is, sealed_fits, other_counter}
 use Rattle.frame_auth.proofs.WalkLemmas.{begins_so}
 use Rattle.frame_auth.proofs.OneAnswer.{one_unsealing_lem}

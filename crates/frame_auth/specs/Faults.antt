@@ -1,8 +1,6 @@
 -- Where sealing and unsealing stop, and why: at the first message that is not as it must be.
 use Rattle.std.specs.Prelude.{◌≡◌, ℕ, ◌+◌, List, ◌∷◌, ◌++◌, length, Result, Ok, Err, IsSome}
-use Rattle.ids_frame.specs.Message.{MessageParts}
-use Rattle.ids_frame.specs.Messages.{joined}
-use Rattle.ids_frame.specs.Decoding.{CauseOf, BeginsWith}
+use Rattle.ids_frame.specs.{MessageParts, joined, CauseOf, BeginsWith}
 use Rattle.ids_frame.specs.declared.fault.BadMessage.{BadMessage}
 use Rattle.frame_auth.specs.declared.fault.SealFault.{SealFault}
 use Rattle.frame_auth.specs.declared.fault.SealFault.TheVariants as seals

@@ -1,7 +1,6 @@
 -- One message, copied with its seal or without.
 use Rattle.std.specs.Prelude.{◌≡◌, ℕ, ◌+◌, ◌-◌, ◌≤◌, List, [], ◌∷◌, ◌++◌, length, take}
-use Rattle.ids_frame.specs.Message.{MessageParts}
-use Rattle.ids_frame.specs.Spelling.{spelling}
+use Rattle.ids_frame.specs.{MessageParts, spelling}
 use Rattle.frame_auth.specs.Sealing.{IsPlain, seal_of}
 
 -- a plain message stands in one form before what is left of the input, and is added to the output in another

@@ -1,8 +1,7 @@
 -- What unsealing answers to messages of one sealed list, whichever of them come, in whatever order and however often.
 use Rattle.std.specs.Prelude.{◌≡◌, ℕ, ◌+◌, ◌<◌, List, length, take, Contains, Result, Ok, Err}
 use Rattle.std.specs.List.{AllByRecursion}
-use Rattle.ids_frame.specs.Message.{MessageParts}
-use Rattle.ids_frame.specs.Messages.{joined}
+use Rattle.ids_frame.specs.{MessageParts, joined}
 use Rattle.frame_auth.specs.declared.fault.UnsealFault.{UnsealFault}
 use Rattle.frame_auth.specs.declared.fault.UnsealFault.TheVariants as unseals
 use Rattle.frame_auth.specs.Sealing.{sealed_from}

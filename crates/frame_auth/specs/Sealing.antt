@@ -2,9 +2,7 @@
 use Rattle.std.specs.Prelude.{◌≡◌, ℕ, ◌+◌, List, [], ◌∷◌, ◌++◌, Option, Some, None}
 use Rattle.std.specs.Int.{w64, to_be_bytes}
 use Rattle.std.specs.List.{AllByRecursion}
-use Rattle.ids_frame.specs.Message.{MessageParts, FitsMessage}
-use Rattle.ids_frame.specs.Spelling.{spelling}
-use Rattle.ids_frame.specs.Messages.{joined}
+use Rattle.ids_frame.specs.{MessageParts, FitsMessage, spelling, joined}
 use Rattle.frame_auth.specs.Tags.{hmac}
 
 -- the message with this signature part, or with none

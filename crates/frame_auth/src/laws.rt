@@ -1,14 +1,8 @@
 //! What sealing and unsealing give is decided by the key, the start and the bytes. So an answer comes
 //! exactly where its definition holds, want of memory aside.
 ghost use Rattle.std.specs.Prelude.{◌≡◌, ◌≢◌, ◌↔◌, ℕ, ◌+◌, ◌<◌, ◌^◌, List, length, AllPairs, Result, Ok};
-ghost use Rattle.ids_frame.specs.Bytes.{AreBytes};
-ghost use Rattle.ids_frame.specs.Message.{MessageParts};
-ghost use Rattle.ids_frame.specs.Messages.{joined};
-ghost use Rattle.frame_auth.specs.declared.fault.SealFault.{SealFault};
-ghost use Rattle.frame_auth.specs.declared.fault.UnsealFault.{UnsealFault};
-ghost use Rattle.frame_auth.specs.Faults.{GivesSealed, GivesUnsealed};
-ghost use Rattle.frame_auth.specs.Order.{AreOf, AnswersInOrder};
-ghost use Rattle.frame_auth.specs.Sealing.{ArePlain, sealed_from};
+ghost use Rattle.ids_frame.specs.{AreBytes, MessageParts, joined};
+ghost use Rattle.frame_auth.specs.{SealFault, UnsealFault, GivesSealed, GivesUnsealed, AreOf, AnswersInOrder, ArePlain, sealed_from};
 
 /// What was sealed unseals to the same bytes.
 #[tactic(auto, using(crate::proofs::OneAnswer::sealed_opens_lem))]

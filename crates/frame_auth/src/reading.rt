@@ -1,7 +1,6 @@
 //! The message at the front of bytes.
 ghost use Rattle.std.specs.Prelude.{◌≡◌, IfOk, IfErr};
-ghost use Rattle.ids_frame.specs.Spelling.{spelling};
-ghost use Rattle.ids_frame.specs.Decoding.{BeginsWith};
+ghost use Rattle.ids_frame.specs.{spelling, BeginsWith};
 ghost use Rattle.frame_auth.specs.Faults.{CannotRead};
 
 use ids_frame::{BadMessage, Message, decode};

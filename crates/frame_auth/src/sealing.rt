@@ -1,8 +1,6 @@
 //! Sealing messages.
 ghost use Rattle.std.specs.Prelude.{◌≡◌, ◌⊎◌, ◌++◌, ◌^◌, ◌≤◌, IfOk, IfErr, OnOk};
-ghost use Rattle.frame_auth.specs.Faults.{GivesSealed, StopsSeal};
-ghost use Rattle.frame_auth.specs.Layout.{Moves, CanMark, sealed_bytes};
-ghost use Rattle.frame_auth.specs.Sealing.{sealed};
+ghost use Rattle.frame_auth.specs.{GivesSealed, StopsSeal, Moves, CanMark, sealed_bytes, sealed};
 
 use crate::fault::SealFault;
 use crate::key::{Key, tag};

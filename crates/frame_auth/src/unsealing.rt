@@ -1,8 +1,6 @@
 //! Unsealing messages.
 ghost use Rattle.std.specs.Prelude.{◌≡◌, ◌⊎◌, ◌↔◌, ◌++◌, ◌^◌, ◌≤◌, ℕ, IfOk, IfErr, OnOk, ◌≢◌, IfSome, IfNone, Some, option_copied, IsTrue, length};
-ghost use Rattle.frame_auth.specs.Faults.{GivesUnsealed, StopsUnseal};
-ghost use Rattle.frame_auth.specs.Layout.{Moves, CanUnmark, unmarked};
-ghost use Rattle.frame_auth.specs.Sealing.{sealed, seal_of};
+ghost use Rattle.frame_auth.specs.{GivesUnsealed, StopsUnseal, Moves, CanUnmark, unmarked, sealed, seal_of};
 
 use crate::fault::UnsealFault;
 use crate::key::{Key, tag};

@@ -2,9 +2,7 @@
 
 ghost use Rattle.std.specs.Prelude.{◌≡◌, IfOk, IfSome, IsTrue, map, option_map, string_bytes, codes};
 ghost use Rattle.clap.specs.Words.{first_of, found_of, rows_of};
-ghost use Rattle.gen_options.specs.Given.{given_of};
-ghost use Rattle.gen_options.specs.Ranges.{is_in_range};
-ghost use Rattle.gen_options.specs.Words.{given_by, number_by, options_by, words_give};
+ghost use Rattle.gen_options.specs.{given_of, is_in_range, given_by, number_by, options_by, words_give};
 
 use crate::command::command;
 use crate::options::{Given, Options};

@@ -1,7 +1,6 @@
 -- Numbers that wrap at 64 bits, and the draws that they give.
 use Rattle.gen_recording.proofs.Names.{◌≡◌, ◌≤◌, ℕ, zero, suc, ◌+◌, ◌-◌, ◌*◌, ◌%◌, ◌^◌, [], ◌∷◌, ◌++◌, length, map, take, drop, refl, sym, ap, ap₂, ◌∙◌, add-one, arith, range_with_len, slice_range, length-range_with_len, next_number, context_of, report_of}
-use Rattle.gen_recording.specs.Drawing.{ramp}
-use Rattle.gen_recording.specs.Draws.{number_after}
+use Rattle.gen_recording.specs.{ramp, number_after}
 
 -- wrapping after the product and after the sum is wrapping once
 pub number_wraps : (x : ℕ) → (x * 6364136223846793005 % 2 ^ 64 + 1442695040888963407) % 2 ^ 64

@@ -8,8 +8,7 @@ pub use Rattle.std.proofs.lemmas.List.FromFn.{length-map-range_with_len, length-
 pub use Rattle.std.proofs.lemmas.Result.{IfOk-weaker, on_ok_weaker}
 pub use Rattle.std.specs.List.{AllByRecursion, range_with_len, slice_range, flat_map}
 pub use Rattle.std.specs.Prelude.{Option, cond, count_by, nat_lt, ◌&&◌, if◌then◌else◌, slice_index, replicate}
-pub use Rattle.filter_chain.specs.History.{count_of, messages_of, rows_of}
-pub use Rattle.filter_chain.specs.Turning.{FitsAct, turn_by, FitsTurn}
+pub use Rattle.filter_chain.specs.{count_of, messages_of, rows_of, FitsAct, turn_by, FitsTurn}
 pub use Rattle.chain_spec.specs.Chain.{handed_on}
 pub use Rattle.event_chain.specs.Standing.{Stands}
 pub use Rattle.gen_options.proofs.RangeLemmas.{ranges}
@@ -20,20 +19,10 @@ pub use Rattle.ids_config.specs.Values.{each_event, events_value, internal_value
 pub use Rattle.ids_types.specs.Plain.{plain_entry}
 pub use Rattle.ids_types.specs.declared.class_spec.ClassSpec.{ClassSpec}
 pub use Rattle.ids_types.specs.declared.parcel.Plain.{Plain}
-pub use Rattle.history_spec.specs.Contexts.{too_small}
+pub use Rattle.history_spec.specs.{too_small, KeepUpFrom, Asked, reports, changes, sets, Round, last_tick, lines_at, round_ticks, ticks_of, last_tick as last_of}
 pub use Rattle.history_spec.specs.Names.{EventIndex, Stamp, Entry}
-pub use Rattle.history_spec.specs.Orders.{KeepUpFrom}
-pub use Rattle.history_spec.specs.Rounds.{Asked, reports, changes, sets, Round, last_tick, lines_at, round_ticks, ticks_of, last_tick as last_of}
 pub use Rattle.text_spec.specs.TraceFaults.{begun_round, with_last}
-pub use Rattle.trace_text.specs.Lines.{line_at, line_asked}
-pub use Rattle.trace_text.specs.TraceView.{Traced, round_at, with_line, no_rounds_of}
-pub use Rattle.gen_recording.specs.Counted.{AreCalls, AreClaims, HasClassFor, AreCounts}
-pub use Rattle.gen_recording.specs.Drawing.{HasCaller, OnLast, asking, with_lines}
-pub use Rattle.gen_recording.specs.Draws.{draw, drawn_below, next_number, number_after}
-pub use Rattle.gen_recording.specs.Generated.{digest_of, gen_line, turns_for}
+pub use Rattle.trace_text.specs.{line_at, line_asked, Traced, round_at, with_line, no_rounds_of}
+pub use Rattle.gen_recording.specs.{AreCalls, AreClaims, HasClassFor, AreCounts, HasCaller, OnLast, asking, with_lines, draw, drawn_below, next_number, number_after, digest_of, gen_line, turns_for, changes_by, generated_round, lines_by, rounds_of, tick_after, ticks_beside, draws_before, Call, calls_before, claims_before, is_by, keeps_in, call_by, calls_from, history_of, plans_of, Plan, act_of, calls_of, entries_of, idle, plans_in, entry_of, turn_of, turns_of, CanAsk, IsAt, held, turns_made, context_of, report_of, report_at, size_of}
 pub use Rattle.gen_recording.specs.GeneratedConfig.{all_events, config_of, internal_event, sensor_event}
-pub use Rattle.gen_recording.specs.GeneratedTrace.{changes_by, generated_round, lines_by, rounds_of, tick_after, ticks_beside, draws_before}
-pub use Rattle.gen_recording.specs.Quiet.{Call, calls_before, claims_before, is_by, keeps_in, call_by, calls_from, history_of, plans_of, Plan, act_of, calls_of, entries_of, idle, plans_in, entry_of, turn_of, turns_of}
-pub use Rattle.gen_recording.specs.Recording.{CanAsk, IsAt, held, turns_made}
-pub use Rattle.gen_recording.specs.Reports.{context_of, report_of, report_at, size_of}
 pub use Rattle.gen_recording.specs.declared.recorder.Recorder.{Recorder}

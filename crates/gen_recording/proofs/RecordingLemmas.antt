@@ -5,8 +5,7 @@ use Rattle.ids_types.specs.Turns.{Turn}
 use Rattle.journal.proofs.PrintingLemmas.{entries-push, turns-push}
 use Rattle.journal.specs.Answers.{told}
 use Rattle.journal.specs.Printing.{lines_text}
-use Rattle.text_spec.specs.Fields.{ended_line}
-use Rattle.text_spec.specs.JournalText.{enters, fields_of, journal_text, turn_told}
+use Rattle.text_spec.specs.{ended_line, enters, fields_of, journal_text, turn_told}
 
 -- the journal of turns, none of whose calls was lost
 no_losses : (turns : List Turn) → journal_text (told turns []) ≡ lines_text (flat_map turn_told turns)

@@ -1,8 +1,7 @@
 -- The counts of a recording: its callers' calls, and the claims of its classes.
 use Rattle.std.specs.Prelude.{◌≡◌, ℕ, ◌<◌, List, [], ◌∷◌, length, slice_index, ⊤}
 use Rattle.ids_config.specs.Parts.{Parts}
-use Rattle.history_spec.specs.Contexts.{too_small}
-use Rattle.history_spec.specs.Rounds.{Asked, reports}
+use Rattle.history_spec.specs.{too_small, Asked, reports}
 use Rattle.gen_recording.specs.Quiet.{Call, calls_before, claims_before}
 use Rattle.gen_recording.specs.declared.counts.Counts.{Counts}
 

@@ -6,8 +6,7 @@ use Rattle.sha2.specs.Sha256.{sha256}
 use Rattle.ids_types.specs.Turns.{Turn}
 use Rattle.config_json.specs.Printed.{config_text}
 use Rattle.journal.specs.Answers.{told}
-use Rattle.text_spec.specs.JournalText.{journal_text}
-use Rattle.text_spec.specs.TraceText.{trace_text}
+use Rattle.text_spec.specs.{journal_text, trace_text}
 use Rattle.trace_text.specs.TraceView.{Traced}
 use Rattle.filter_chain.specs.History.{count_of, messages_of, rows_of}
 use Rattle.gen_options.specs.Ranges.{is_in_range}

@@ -6,8 +6,7 @@ use Rattle.history_spec.specs.Names.{Carried, Absent, Kept, Act, Report, State, 
 use Rattle.ids_types.specs.Turns.{Turn}
 use Rattle.ids_config.specs.Parts.{Parts}
 use Rattle.chain_spec.specs.Chain.{handed_on}
-use Rattle.history_spec.specs.Contexts.{too_small}
-use Rattle.history_spec.specs.Rounds.{Asked, reports, changes, sets, Round, last_tick}
+use Rattle.history_spec.specs.{too_small, Asked, reports, changes, sets, Round, last_tick}
 
 -- ---- calls
 

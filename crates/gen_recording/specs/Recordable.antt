@@ -2,8 +2,7 @@
 use Rattle.std.specs.Prelude.{◌≡◌, ℕ, ◌≤◌, List, [], length}
 use Rattle.std.specs.List.{AllByRecursion}
 use Rattle.ids_config.specs.Parts.{Parts}
-use Rattle.history_spec.specs.Orders.{KeepUpFrom}
-use Rattle.history_spec.specs.Rounds.{Asked, Round, lines_at, ticks_of}
+use Rattle.history_spec.specs.{KeepUpFrom, Asked, Round, lines_at, ticks_of}
 use Rattle.trace_text.specs.TraceView.{Traced}
 use Rattle.gen_recording.specs.Quiet.{Plan, calls_from}
 use Rattle.gen_recording.specs.Recording.{CanAsk, IsAt}

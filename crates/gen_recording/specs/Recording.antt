@@ -2,12 +2,9 @@
 use Rattle.std.specs.Prelude.{◌≡◌, ℕ, ◌<◌, ◌≤◌, List, [], ◌++◌, length, map, reverse}
 use Rattle.std.specs.List.{All}
 use Rattle.ids_types.specs.declared.parcel.Plain.{Plain}
-use Rattle.ids_types.specs.Plain.{plain_entry}
-use Rattle.ids_types.specs.Turns.{Turn}
+use Rattle.ids_types.specs.{plain_entry, Turn}
 use Rattle.ids_config.specs.Parts.{Parts}
-use Rattle.filter_chain.specs.History.{last_tick}
-use Rattle.filter_chain.specs.Parcels.{IsShort}
-use Rattle.filter_chain.specs.Turning.{FitsTurn}
+use Rattle.filter_chain.specs.{last_tick, IsShort, FitsTurn}
 use Rattle.chain_plain.specs.Telling.{HasDeskRoom, Tells}
 use Rattle.event_chain.specs.Standing.{Stands}
 use Rattle.filter_aggregate.specs.Account.{all_kept}

@@ -4,10 +4,7 @@ ghost use Rattle.std.specs.Prelude.{◌≡◌, ℕ, ◌≤◌, ◌<◌, ◌+◌,
 ghost use Rattle.history_spec.specs.Rounds.{last_tick};
 ghost use Rattle.trace_text.specs.Lines.{line_asked};
 ghost use Rattle.gen_options.specs.Ranges.{IsInRange};
-ghost use Rattle.gen_recording.specs.Drawing.{HasCaller, ramp as ramp_of, with_lines};
-ghost use Rattle.gen_recording.specs.Draws.{draw, number_after};
-ghost use Rattle.gen_recording.specs.GeneratedTrace.{changes_by, draws_before, generated_round, lines_by, rounds_of, tick_after};
-ghost use Rattle.gen_recording.specs.Reports.{context_of, report_of, stamp_of};
+ghost use Rattle.gen_recording.specs.{HasCaller, ramp as ramp_of, with_lines, draw, number_after, changes_by, draws_before, generated_round, lines_by, rounds_of, tick_after, context_of, report_of, stamp_of};
 
 use crate::draws::Draws;
 use gen_options::Options;

@@ -1,14 +1,12 @@
 //! The entry of a call that loses nothing.
 
 ghost use Rattle.std.specs.Prelude.{◌≡◌, ◌<◌, ◌∷◌, [], ℕ, List, Option, length, map, filter, count_by, nat_lt, IfOk, OnOk};
-ghost use Rattle.ids_types.specs.Carries.{act_by};
-ghost use Rattle.ids_types.specs.Plain.{plain_carried, plain_entry};
+ghost use Rattle.ids_types.specs.{act_by, plain_carried, plain_entry};
 ghost use Rattle.ids_config.specs.Parts.{class_of};
 ghost use Rattle.history_spec.specs.Names.{ClassSpec, EventIndex, Stamp};
 ghost use Rattle.history_spec.specs.Rounds.{reports};
 ghost use Rattle.trace_text.specs.Lines.{line_asked};
-ghost use Rattle.gen_recording.specs.Counted.{AreClaims, AreCounts, HasClass, HasClassFor};
-ghost use Rattle.gen_recording.specs.Quiet.{Call, act_of, carried, entry_of};
+ghost use Rattle.gen_recording.specs.{AreClaims, AreCounts, HasClass, HasClassFor, Call, act_of, carried, entry_of};
 
 use crate::counts::{Counts, count};
 use ids_config::Config;

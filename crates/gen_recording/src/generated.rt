@@ -4,9 +4,7 @@ ghost use Rattle.std.specs.Prelude.{◌≡◌, [], List, IfOk, IsTrue, length};
 ghost use Rattle.ids_config.specs.Parts.{Parts};
 ghost use Rattle.filter_chain.specs.History.{count_of, messages_of, rows_of};
 ghost use Rattle.gen_options.specs.Ranges.{is_in_range};
-ghost use Rattle.gen_recording.specs.Generated.{IsGenerated, IsMade, digest_of, gen_line as line_of};
-ghost use Rattle.gen_recording.specs.Quiet.{Plan};
-ghost use Rattle.gen_recording.specs.Recording.{IsAt, turns_made};
+ghost use Rattle.gen_recording.specs.{IsGenerated, IsMade, digest_of, gen_line as line_of, Plan, IsAt, turns_made};
 
 use crate::config::make_config;
 use crate::drawing::draw_trace;

@@ -1,12 +1,10 @@
 //! The history of a trace in which nothing is lost: one caller after the other makes its calls of a round.
 
 ghost use Rattle.std.specs.Prelude.{◌≡◌, ◌≤◌, ◌<◌, ◌+◌, ◌++◌, [], List, length, map, reverse, OnOk};
-ghost use Rattle.history_spec.specs.Orders.{KeepUpFrom};
-ghost use Rattle.history_spec.specs.Rounds.{lines_at, round_ticks};
+ghost use Rattle.history_spec.specs.{KeepUpFrom, lines_at, round_ticks};
 ghost use Rattle.trace_text.specs.TraceView.{round_at};
-ghost use Rattle.gen_recording.specs.Quiet.{Call, Plan, call_by, plans_in, plans_of};
+ghost use Rattle.gen_recording.specs.{Call, Plan, call_by, plans_in, plans_of, IsAt, IsRecording};
 ghost use Rattle.gen_recording.specs.Recordable.{CanAskAll, CanRecord, CanTake, IsBetween};
-ghost use Rattle.gen_recording.specs.Recording.{IsAt, IsRecording};
 
 use crate::recorder::Recorder;
 use ids_config::Config;

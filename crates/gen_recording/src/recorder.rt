@@ -5,9 +5,7 @@ ghost use Rattle.filter_chain.specs.Turning.{turn_by};
 ghost use Rattle.journal.specs.Printing.{lines_text};
 ghost use Rattle.text_spec.specs.JournalText.{turn_told};
 ghost use Rattle.trace_text.specs.Lines.{line_asked};
-ghost use Rattle.gen_recording.specs.Counted.{HasClass};
-ghost use Rattle.gen_recording.specs.Quiet.{Call, Plan};
-ghost use Rattle.gen_recording.specs.Recording.{CanAsk, IsAt, IsRecording};
+ghost use Rattle.gen_recording.specs.{HasClass, Call, Plan, CanAsk, IsAt, IsRecording};
 
 use crate::counts::Counts;
 use crate::entries::make_entry;

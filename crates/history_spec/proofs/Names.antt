@@ -3,13 +3,7 @@ pub use Rattle.std.proofs.Common.{◌≡◌, ℕ, ◌+◌, ◌==◌, Some, List,
 pub use Rattle.std.proofs.lemmas.Bool.{cases_eq}
 pub use Rattle.std.proofs.lemmas.List.{length-map, append-nil, length-append, append_cancel_left}
 pub use Rattle.ids_config.specs.Parts.{Parts, class_of}
-pub use Rattle.ids_types.specs.Turns.{Turn, entries_of}
-pub use Rattle.history_spec.specs.Contexts.{too_small, claims_of, IsLegalMiss, claim_in, claim_of, Misses, class_at}
-pub use Rattle.history_spec.specs.Decided.{fates_of, AreDecided, tickets_from, tickets_of, IsDecided, losses_from, all_losses}
-pub use Rattle.ids_types.specs.Fates.{Fate, lost, accepted, claims_got, end_of, start_of, FatesFrom, end_from}
+pub use Rattle.ids_types.specs.{Turn, entries_of, Fate, lost, accepted, claims_got, end_of, start_of, FatesFrom, end_from}
+pub use Rattle.history_spec.specs.{too_small, claims_of, IsLegalMiss, claim_in, claim_of, Misses, class_at, fates_of, AreDecided, tickets_from, tickets_of, IsDecided, losses_from, all_losses, entries_by, calls_of, losses_by, IsTicket, IsLegalLoss, AreMerged, IsKeptIn, IsItsLine, IsMerge, StandsIn, times, once_below, RiseFrom, KeepUpFrom, LossesFrom, claims_by, AreSettled, AreLegalContexts, entries_from, IsSettledLog}
 pub use Rattle.history_spec.specs.Follows.{Calls, Follows, CallAsks, CarriedAsks, lost_number, KeptAsks}
-pub use Rattle.history_spec.specs.Losses.{entries_by, calls_of, losses_by, IsTicket, IsLegalLoss}
-pub use Rattle.history_spec.specs.Merge.{AreMerged, IsKeptIn, IsItsLine, IsMerge}
 pub use Rattle.history_spec.specs.Names.{Act, Entry, Loss, Carried, Absent, Kept, Missing, Report, State, SetMode}
-pub use Rattle.history_spec.specs.Orders.{StandsIn, times, once_below, RiseFrom, KeepUpFrom, LossesFrom}
-pub use Rattle.history_spec.specs.Settled.{claims_by, AreSettled, AreLegalContexts, entries_from, IsSettledLog}

@@ -1,8 +1,7 @@
 -- What became of all callers' calls on the report ring, and the losses that it makes.
 use Rattle.std.specs.Prelude.{◌≡◌, ℕ, suc, ◌-◌, ◌==◌, if◌then◌else◌, List, [], ◌∷◌, ◌++◌, length, slice_index_or}
-use Rattle.ids_types.specs.Turns.{Turn, entries_of}
+use Rattle.ids_types.specs.{Turn, entries_of, Fate, lost, accepted, AreAllDecided}
 use Rattle.history_spec.specs.Names.{Entry, Loss}
-use Rattle.ids_types.specs.Fates.{Fate, lost, accepted, AreAllDecided}
 use Rattle.history_spec.specs.Fronts.{IsFront}
 
 -- the accepted calls from one on, each with its ticket

@@ -1,10 +1,9 @@
 -- The logs of class rings when all is over, and what they make of a history.
 use Rattle.std.specs.Prelude.{◌≡◌, ℕ, suc, ◌+◌, ◌≤◌, ◌==◌, if◌then◌else◌, Some, None, List, [], ◌∷◌, length}
 use Rattle.history_spec.specs.Names.{Entry}
-use Rattle.ids_types.specs.Turns.{Turn, entries_of}
+use Rattle.ids_types.specs.{Turn, entries_of, Fate, AreAllDecided, claims_got}
 use Rattle.ids_config.specs.Parts.{Parts}
 use Rattle.history_spec.specs.Contexts.{class_at, too_small, Misses, AreClaims, IsLegalMissing}
-use Rattle.ids_types.specs.Fates.{Fate, AreAllDecided, claims_got}
 use Rattle.history_spec.specs.Follows.{Calls, Follows}
 use Rattle.history_spec.specs.Losses.{entries_by}
 use Rattle.history_spec.specs.Orders.{StandsIn}

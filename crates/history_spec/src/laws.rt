@@ -1,15 +1,9 @@
 //! What the logs of rings make of a history: each function has a law as its contract, and no body.
 
 ghost use Rattle.std.specs.Prelude.{ℕ, List, [], ◌∷◌};
-ghost use Rattle.ids_types.specs.Turns.{Turn};
+ghost use Rattle.ids_types.specs.{Turn, Fate};
 ghost use Rattle.ids_config.specs.Parts.{Parts};
-ghost use Rattle.history_spec.specs.Decided.{AreDecided, all_losses};
-ghost use Rattle.ids_types.specs.Fates.{Fate};
-ghost use Rattle.history_spec.specs.Follows.{Calls};
-ghost use Rattle.history_spec.specs.Fronts.{fronts_from, IsFront};
-ghost use Rattle.history_spec.specs.Merge.{AreMerged};
-ghost use Rattle.history_spec.specs.Orders.{StandsIn};
-ghost use Rattle.history_spec.specs.Settled.{AreSettled, AreLegalContexts};
+ghost use Rattle.history_spec.specs.{AreDecided, all_losses, Calls, fronts_from, IsFront, AreMerged, StandsIn, AreSettled, AreLegalContexts};
 
 /// Where the logs of the class rings are settled and follow what the calls asked, the claims of the history
 /// stand in it once and in order, and each missing context is legal.

@@ -5,11 +5,7 @@ pub use Rattle.std.proofs.lemmas.Grind.{flat_map-append, common_steps}
 pub use Rattle.std.specs.Int.{w16, to_be_bytes, from_be_bytes}
 pub use Rattle.std.specs.List.{flat_map, AllByRecursion}
 pub use Rattle.std.specs.Prelude.{Result, IsTrue, ◌↔◌}
-pub use Rattle.ids_frame.specs.Bytes.{AreBytes}
-pub use Rattle.ids_frame.specs.Decoding.{Begins, BeginsWith, CauseOf}
-pub use Rattle.ids_frame.specs.Message.{MessageParts, FitsMessage}
-pub use Rattle.ids_frame.specs.Messages.{joined, AreMessages, IsJoined, messages_read}
+pub use Rattle.ids_frame.specs.{AreBytes, Begins, BeginsWith, CauseOf, MessageParts, FitsMessage, joined, AreMessages, IsJoined, messages_read, spelling}
 pub use Rattle.ids_bundle.specs.Reading.{AreTexts, StopsBehind, Reads}
-pub use Rattle.ids_frame.specs.Spelling.{spelling}
 pub use Rattle.ids_bundle.specs.Cuts.{IsRun, IsCutFor, IsFullBefore, AreFull, IsPacked}
 pub use Rattle.ids_bundle.specs.Units.{Run, load, all_of, unit, units, FitsUnit, IsUnit, AreSoMany, IsBody, unit_size, IsPart, IsBad}

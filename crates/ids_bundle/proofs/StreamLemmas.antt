@@ -1,8 +1,7 @@
 -- A stream of units has one reading, however it comes.
 use Rattle.ids_bundle.proofs.Names.{◌≡◌, ℕ, List, [], ◌∷◌, ◌++◌, take, drop, refl, sym, ap, subst, ◌∙◌, append_assoc, arith, AllByRecursion, AreBytes, joined, Run, unit, units, FitsUnit, IsUnit, rules, common_steps}
 use Rattle.std.proofs.lemmas.List.Elements.{All-drop}
-use Rattle.ids_frame.specs.Bytes.{IsByte}
-use Rattle.ids_frame.specs.Messages.{messages_of}
+use Rattle.ids_frame.specs.{IsByte, messages_of}
 use Rattle.ids_bundle.specs.declared.unpacker.Fed.{Fed}
 use Rattle.ids_bundle.specs.Stream.{Place, within, pending, given, IsPlace, Takes, Feeds, Call, AreCalls, end_of, used_by, given_by, StandsFor}
 use Rattle.ids_bundle.proofs.ListLemmas.{IsStuck, one_way, all_append}

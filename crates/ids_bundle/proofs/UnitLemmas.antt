@@ -4,8 +4,7 @@ use Rattle.std.proofs.Common.{rules}
 use Rattle.std.proofs.lemmas.Nat.{from_be_bytes-to_be_bytes_2}
 use Rattle.std.specs.Result.{result_map_both}
 use Rattle.ids_frame.specs.declared.fault.FrameFault.{FrameFault}
-use Rattle.ids_frame.specs.Decoding.{decoded}
-use Rattle.ids_frame.specs.Reading.{Begun, message_at}
+use Rattle.ids_frame.specs.{decoded, Begun, message_at}
 use Rattle.ids_frame.proofs.MessageLemmas.{one_message_lem, read_of, told}
 use Rattle.ids_frame.proofs.MessagesLemmas.{read_is_held}
 use Rattle.ids_bundle.specs.Packing.{BeginsLong}

@@ -1,8 +1,7 @@
 -- Cuts of a list of messages into runs of at most so many bytes, and the greedy one.
 use Rattle.std.specs.Prelude.{◌≡◌, ℕ, ◌+◌, ◌<◌, ◌≤◌, List, [], ◌∷◌, length, ⊤}
 use Rattle.std.specs.List.{AllByRecursion}
-use Rattle.ids_frame.specs.Message.{MessageParts}
-use Rattle.ids_frame.specs.Spelling.{spelling}
+use Rattle.ids_frame.specs.{MessageParts, spelling}
 use Rattle.ids_bundle.specs.Units.{Run, load, all_of}
 
 -- there is a message, and they have at most so many bytes

@@ -1,8 +1,6 @@
 -- What packing bytes answers: the runs of the greedy cut, or the first message that is none or is too long.
 use Rattle.std.specs.Prelude.{◌≡◌, ℕ, ◌<◌, ◌≤◌, List, length, Result, Ok, Err, ⊤}
-use Rattle.ids_frame.specs.Message.{MessageParts, FitsMessage}
-use Rattle.ids_frame.specs.Spelling.{spelling}
-use Rattle.ids_frame.specs.Decoding.{BeginsWith, CauseOf}
+use Rattle.ids_frame.specs.{MessageParts, FitsMessage, spelling, BeginsWith, CauseOf}
 use Rattle.ids_bundle.specs.declared.fault.PackFault.{PackFault}
 use Rattle.ids_bundle.specs.declared.fault.PackFault.TheVariants.{Bad, TooLarge, NoMemory}
 use Rattle.ids_bundle.specs.Reading.{AreTexts, StopsBehind}

@@ -1,8 +1,7 @@
 //! Messages packed into units.
 
 ghost use Rattle.std.specs.Prelude.{◌≡◌, ◌≤◌, ℕ, List, Result, length, IfOk, IfErr};
-ghost use Rattle.ids_frame.specs.Bytes.{AreBytes};
-ghost use Rattle.ids_frame.specs.Message.{MessageParts};
+ghost use Rattle.ids_frame.specs.{AreBytes, MessageParts};
 ghost use Rattle.ids_bundle.specs.Units.{Run, units};
 ghost use Rattle.ids_bundle.specs.Cuts.{IsCutFor, IsPacked};
 ghost use Rattle.ids_bundle.specs.Packing.{ArePacked, BeginsLong, MayStop, Packs, StopsAt};

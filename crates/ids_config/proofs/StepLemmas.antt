@@ -4,8 +4,7 @@ use Rattle.std.proofs.lemmas.Bool.{leb-true, and_parts}
 use Rattle.std.specs.Prelude.{Result, ⊤}
 use Rattle.std.specs.List.{AllByRecursion}
 use Rattle.ids_config.specs.declared.fault.ConfigPlace.{ConfigPlace}
-use Rattle.ids_config.specs.Steps.{◌>>◌, asks, in_range, at, each}
-use Rattle.ids_config.specs.Valid.{IsWithin}
+use Rattle.ids_config.specs.{◌>>◌, asks, in_range, at, each, IsWithin}
 
 -- both searches found none
 pub both_ok : {A E : Type 0} (one : Result ⊤ E) (next : Result A E) (x : A)

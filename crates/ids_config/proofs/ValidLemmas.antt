@@ -6,8 +6,7 @@ use Rattle.ids_config.specs.declared.fault.ConfigPlace.TheVariants as places
 use Rattle.ids_config.specs.declared.parts.Aggregate.{Aggregate}
 use Rattle.ids_config.specs.declared.parts.Window.{Window}
 use Rattle.ids_config.specs.Parts.{Event, Parts}
-use Rattle.ids_config.specs.Steps.{in_range, capped}
-use Rattle.ids_config.specs.Valid.{IsInterval, IsWindow, AreClasses, IsEvent, AreInternal, IsValid}
+use Rattle.ids_config.specs.{in_range, capped, IsInterval, IsWindow, AreClasses, IsEvent, AreInternal, IsValid}
 use Rattle.ids_config.specs.Values
 use Rattle.ids_config.proofs.StepLemmas.{both_ok, asks_ok, at_ok, in_range_ok, each_ok}
 

@@ -1,9 +1,7 @@
 //! The configuration as a value that is valid, and what it tells.
 
 ghost use Rattle.std.specs.Prelude.{◌≡◌, ◌<◌, Ok, IfSome, option_map};
-ghost use Rattle.ids_config.specs.Parts.{is_sensor, internal_of, index_of as index_name};
-ghost use Rattle.ids_config.specs.Valid.{IsValid};
-ghost use Rattle.ids_config.specs.Values.{parts_value, checked};
+ghost use Rattle.ids_config.specs.{is_sensor, internal_of, index_of as index_name, IsValid, parts_value, checked};
 
 use crate::events::check_events;
 use crate::fault::{ConfigFault, ConfigPlace};

@@ -1,9 +1,7 @@
 //! The faults of value at the top: the layout of buffers, the limits and the internal events.
 
 ghost use Rattle.std.specs.Prelude.{◌≡◌, ◌≤◌, Some, map, length};
-ghost use Rattle.ids_config.specs.Parts.{class_of};
-ghost use Rattle.ids_config.specs.Steps.{in_range as range_value};
-ghost use Rattle.ids_config.specs.Values.{numbers_value, class_value, classes_value, limit_value, window_value, interval_value, is_within as within, differ as differs, internal_value};
+ghost use Rattle.ids_config.specs.{class_of, in_range as range_value, numbers_value, class_value, classes_value, limit_value, window_value, interval_value, is_within as within, differ as differs, internal_value};
 
 use crate::fault::{ConfigFault, ConfigPlace};
 use crate::limits::{

@@ -4,9 +4,7 @@ use Rattle.std.proofs.Common.{Result, Fits, w8}
 use Rattle.std.specs.Result.{result_map_both}
 use Rattle.std.proofs.lemmas.Grind.{common_steps}
 use Rattle.std.proofs.lemmas.List.{get_or_default}
-use Rattle.ids_frame.specs.Decoding.{CauseOf, decoded}
-use Rattle.ids_frame.specs.Reading.{message_at}
-use Rattle.ids_frame.specs.declared.fault.FrameFault.{FrameFault}
+use Rattle.ids_frame.specs.{CauseOf, decoded, message_at, FrameFault}
 use Rattle.ids_frame.proofs.MessageLemmas.{told}
 
 -- the bytes begin with this message, and so many of them are its spelling

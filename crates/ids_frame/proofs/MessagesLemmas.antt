@@ -2,9 +2,7 @@
 use Rattle.ids_frame.proofs.Names.{◌≡◌, ℕ, zero, suc, ◌-◌, ◌<◌, ◌≤◌, ◌==◌, true, false, List, [], ◌∷◌, ◌++◌, length, drop, Ok, Err, refl, sym, ap, subst, ◌∙◌, append_assoc, arith, ◌↔◌, result_ok, eqb-true, append-nil, length-append, AreBytes, MessageParts, FitsMessage, spelling, Begun, BeginsWith, Begins}
 use Rattle.std.proofs.Math.Dec.{eqb-suc-zero}
 use Rattle.std.proofs.lemmas.Grind.{flat_map-append}
-use Rattle.ids_frame.specs.declared.fault.FrameFault.{FrameFault}
-use Rattle.ids_frame.specs.Reading.{message_at}
-use Rattle.ids_frame.specs.Messages.{joined, AreMessages, IsJoined, HasMessages, Held, Holds, before, held_in, messages_read, messages_of}
+use Rattle.ids_frame.specs.{FrameFault, message_at, joined, AreMessages, IsJoined, HasMessages, Held, Holds, before, held_in, messages_read, messages_of}
 use Rattle.ids_frame.proofs.PartLemmas.{behind_bytes, one_answer}
 use Rattle.ids_frame.proofs.MessageLemmas.{again, told, read_of}
 

@@ -6,10 +6,5 @@ pub use Rattle.std.proofs.lemmas.List.Elements.{All-tail, All-append, All-head, 
 pub use Rattle.std.specs.Int.{w16, w32, w64, to_be_bytes, Width, byte_len, from_be_bytes}
 pub use Rattle.std.specs.Prelude.{Option, IfSome, is_some, ok_or, ◌↔◌, IsNone}
 pub use Rattle.std.specs.Result.{result_ok}
-pub use Rattle.ids_frame.specs.Bytes.{AreBytes, IsByte}
-pub use Rattle.ids_frame.specs.Context.{FitsContext, most_bytes, ContextPart}
-pub use Rattle.ids_frame.specs.Decoding.{IsCut, StrangeVersion, StrangePart, Begins, BeginsWith}
-pub use Rattle.ids_frame.specs.Message.{MessageParts, FitsMessage, IsKnown, last_version}
-pub use Rattle.ids_frame.specs.Reading.{Read, ◌>>=◌, number_at, has_layout, has, message_of, Begun, bytes_at, byte_at, optional}
-pub use Rattle.ids_frame.specs.Spelling.{stamp_part, length_in, context_part, signature_part, flag, header, spelling}
+pub use Rattle.ids_frame.specs.{AreBytes, IsByte, FitsContext, most_bytes, ContextPart, IsCut, StrangeVersion, StrangePart, Begins, BeginsWith, MessageParts, FitsMessage, IsKnown, last_version, Read, ◌>>=◌, number_at, has_layout, has, message_of, Begun, bytes_at, byte_at, optional, stamp_part, length_in, context_part, signature_part, flag, header, spelling}
 pub use Rattle.ids_frame.specs.declared.context.Form.{Form}

@@ -1,11 +1,7 @@
 //! The message that bytes begin with.
 ghost use Rattle.std.specs.Prelude.{◌≡◌, ℕ, ◌/◌, ◌↔◌, ◌++◌, List};
 ghost use Rattle.std.specs.Result.{result_map_both};
-ghost use Rattle.ids_frame.specs.Bytes.{AreBytes};
-ghost use Rattle.ids_frame.specs.Message.{MessageParts, IsKnown, FitsMessage};
-ghost use Rattle.ids_frame.specs.Spelling.{spelling};
-ghost use Rattle.ids_frame.specs.Reading.{Gives, parts_at, Begun, message_at};
-ghost use Rattle.ids_frame.specs.Decoding.{Begins, decoded};
+ghost use Rattle.ids_frame.specs.{AreBytes, MessageParts, IsKnown, FitsMessage, spelling, Gives, parts_at, Begun, message_at, Begins, decoded};
 
 use crate::fault::FrameFault;
 use crate::message::{Message, is_known};

@@ -1,9 +1,6 @@
 //! A message that the manager sends for a security event.
 ghost use Rattle.std.specs.Prelude.{◌≡◌, ◌≤◌, ◌↔◌, length, IsTrue, IsSome, IfSome, option_copied};
-ghost use Rattle.ids_frame.specs.Bytes.{AreBytes};
-ghost use Rattle.ids_frame.specs.Context.{FitsContext};
-ghost use Rattle.ids_frame.specs.Message.{IsKnown, HasRoom, FitsMessage};
-ghost use Rattle.ids_frame.specs.Reading.{has_layout};
+ghost use Rattle.ids_frame.specs.{AreBytes, FitsContext, IsKnown, HasRoom, FitsMessage, has_layout};
 
 use crate::context::Context;
 use ids_types::Stamp;

@@ -1,8 +1,6 @@
 //! Many messages, one after the other.
 ghost use Rattle.std.specs.Prelude.{◌≡◌, ℕ, ◌∷◌, [], List, IfSome, IfNone, ◌↔◌};
-ghost use Rattle.ids_frame.specs.Bytes.{AreBytes};
-ghost use Rattle.ids_frame.specs.Message.{FitsMessage};
-ghost use Rattle.ids_frame.specs.Messages.{Held, Holds, messages_read};
+ghost use Rattle.ids_frame.specs.{AreBytes, FitsMessage, Held, Holds, messages_read};
 
 use crate::decoding::message_of;
 use crate::fault::BadMessage;

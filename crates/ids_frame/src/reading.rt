@@ -2,8 +2,7 @@
 //! where the bytes end before the part does.
 ghost use Rattle.std.specs.Prelude.{◌≤◌, ◌<◌, length, IfSome, option_copied};
 ghost use Rattle.std.specs.Int.{w16};
-ghost use Rattle.ids_frame.specs.Context.{most_bytes};
-ghost use Rattle.ids_frame.specs.Reading.{Gives, byte_at, number_at, has, optional, stamp_at, length_at, context_at, signature_at};
+ghost use Rattle.ids_frame.specs.{most_bytes, Gives, byte_at, number_at, has, optional, stamp_at, length_at, context_at, signature_at};
 
 use crate::context::{Context, Form};
 use ids_types::Stamp;

@@ -1,8 +1,7 @@
 //! A message's spelling, written part by part.
 ghost use Rattle.std.specs.Prelude.{◌≡◌, ◌≤◌, ◌↔◌, length, IsOk, OnOk, OnErr, IfSome, option_copied};
-ghost use Rattle.ids_frame.specs.Context.{most_bytes};
+ghost use Rattle.ids_frame.specs.{most_bytes, flag, header, event_part, stamp_part, length_in, context_part, signature_part, spelling};
 ghost use Rattle.ids_frame.specs.Room.{PutsPiece};
-ghost use Rattle.ids_frame.specs.Spelling.{flag, header, event_part, stamp_part, length_in, context_part, signature_part, spelling};
 
 use crate::context::{Context, Form};
 use crate::message::Message;

@@ -1,9 +1,8 @@
 //! The shelf over the files of the host.
 
 ghost use Rattle.std.specs.Prelude.{◌≡◌, None, Some, IfOk, OnOk, OnErr, Ok, IfSome, string_bytes, length, ◌≤◌};
-ghost use Rattle.ids_outside.specs.Faults.{no_faults, ReadCause, WriteCause};
+ghost use Rattle.ids_outside.specs.{no_faults, ReadCause, WriteCause, Create, Append};
 ghost use Rattle.ids_outside.specs.HostFiles.{ReadsFile, WasWritten};
-ghost use Rattle.ids_outside.specs.declared.faults.FaultKind.TheVariants.{Create, Append};
 
 use crate::fault_log::FaultLog;
 use crate::faults::{FaultKind, ReadFault, WriteFault};

@@ -1,8 +1,7 @@
 //! Files in memory, by name.
 
 ghost use Rattle.std.specs.Prelude.{◌≡◌, Some, string_bytes, IfOk, OnOk, OnErr};
-ghost use Rattle.ids_outside.specs.Files.{Changes, SameFiles};
-ghost use Rattle.ids_outside.specs.MemoryFiles.{given_files, files_in, Adds};
+ghost use Rattle.ids_outside.specs.{Changes, SameFiles, given_files, files_in, Adds};
 
 use std::alloc::{AllocError, Global};
 use std::collections::BTreeMap;

@@ -1,12 +1,7 @@
 //! A shelf in memory, whose calls can be made to fail.
 
 ghost use Rattle.std.specs.Prelude.{◌≡◌, ◌≤◌, length, option_map, IfOk, OnErr, IsTrue};
-ghost use Rattle.ids_outside.specs.Faults.{no_faults, ReadCause, WriteCause};
-ghost use Rattle.ids_outside.specs.Files.{SameFiles, ReadGives, CreateMakes, AppendMakes};
-ghost use Rattle.ids_outside.specs.MemoryFiles.{given_files, names_differ};
-ghost use Rattle.ids_outside.specs.declared.faults.FaultKind.TheVariants.{Create, Append};
-ghost use Rattle.ids_outside.specs.Script.{CountsCall, ReadFollows, WriteFollows};
-ghost use Rattle.ids_outside.specs.Shelved.{telling};
+ghost use Rattle.ids_outside.specs.{no_faults, ReadCause, WriteCause, SameFiles, ReadGives, CreateMakes, AppendMakes, given_files, names_differ, Create, Append, CountsCall, ReadFollows, WriteFollows, telling};
 
 use crate::fault_log::FaultLog;
 use crate::faults::{FaultKind, ReadFault, WriteFault};

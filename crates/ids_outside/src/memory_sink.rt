@@ -1,8 +1,7 @@
 //! A sink in memory, whose puts can be made to fail.
 
 ghost use Rattle.std.specs.Prelude.{◌≡◌, [], IfOk, OnErr};
-ghost use Rattle.ids_outside.specs.Script.{CountsCall, WriteFollows};
-ghost use Rattle.ids_outside.specs.Sinks.{no_misses, PutTakes, PutCause, hearing};
+ghost use Rattle.ids_outside.specs.{CountsCall, WriteFollows, no_misses, PutTakes, PutCause, hearing};
 
 use crate::faults::WriteFault;
 use crate::missed::Missed;

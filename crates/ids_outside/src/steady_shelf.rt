@@ -1,13 +1,9 @@
 //! A shelf in memory that never fails.
 
 ghost use Rattle.std.specs.Prelude.{◌≡◌, ◌≢◌, ◌≤◌, length, option_map, IfOk, Err};
-ghost use Rattle.ids_outside.specs.Faults.{ReadCause, WriteCause};
-ghost use Rattle.ids_outside.specs.Files.{SameFiles, ReadGives, CreateMakes, AppendMakes, empty_elsewhere};
-ghost use Rattle.ids_outside.specs.MemoryFiles.{given_files};
-ghost use Rattle.ids_outside.specs.declared.faults.FaultKind.TheVariants.{Create, Append};
+ghost use Rattle.ids_outside.specs.{ReadCause, WriteCause, SameFiles, ReadGives, CreateMakes, AppendMakes, empty_elsewhere, given_files, Create, Append, telling};
 ghost use Rattle.ids_outside.specs.declared.faults.ReadFault.TheVariants as read;
 ghost use Rattle.ids_outside.specs.declared.faults.WriteFault.TheVariants as write;
-ghost use Rattle.ids_outside.specs.Shelved.{telling};
 
 use crate::fault_log::FaultLog;
 use crate::faults::{ReadFault, WriteFault};

@@ -2,21 +2,15 @@
 pub use Rattle.crossbeam_queue.proofs.Lists.{at_set}
 pub use Rattle.crossbeam_queue.specs.Passes.{view}
 pub use Rattle.ids_frame.proofs.MessagesLemmas.{read_is_held}
-pub use Rattle.ids_frame.specs.Bytes.{AreBytes}
-pub use Rattle.ids_frame.specs.Message.{MessageParts}
-pub use Rattle.ids_frame.specs.Messages.{Held, joined, messages_of, messages_read}
-pub use Rattle.ids_frame.specs.Spelling.{spelling}
-pub use Rattle.ids_reporter.specs.Forwarding.{AreFeeding, AreMerged, named, named_by, IsWorking, SameFeeders}
+pub use Rattle.ids_frame.specs.{AreBytes, MessageParts, Held, joined, messages_of, messages_read, spelling}
+pub use Rattle.ids_reporter.specs.{AreFeeding, AreMerged, named, named_by, IsWorking, SameFeeders, AreAllTaken, back_of, feeders_of, number_of, puts_of, taken_of, IsAt, AreAt, IsFeeding, IsDrainOf, known, IsBackIn, AddsUp, AreWithin, Fits, HasEnded, HasPut, HasTaken, IsBack, IsDraining, IsRelayed, new_feeder, with_back, with_feeder, with_taken, taken_in, made_in, back_in, Nothing, Feeds, Drains}
 pub use Rattle.ids_reporter.specs.Pairs.{indexes, upto, AreInOrder}
-pub use Rattle.ids_reporter.specs.Relays.{AreAllTaken, back_of, feeders_of, number_of, puts_of, taken_of, IsAt, AreAt, IsFeeding, IsDrainOf, known, IsBackIn}
-pub use Rattle.ids_reporter.specs.Rule.{AddsUp, AreWithin, Fits, HasEnded, HasPut, HasTaken, IsBack, IsDraining, IsRelayed, new_feeder, with_back, with_feeder, with_taken, taken_in, made_in, back_in}
 pub use Rattle.ids_reporter.specs.Sources.{IsIndexOf, IsIndexed, end_of, instance_of, spelling_at, AreApart, AreSmall, Sources, count_at, source_at}
 pub use Rattle.ids_reporter.specs.declared.drain.Drain.{Drain}
 pub use Rattle.ids_reporter.specs.declared.feeder.Feeder.{Feeder}
 pub use Rattle.ids_reporter.specs.declared.index.Index.{Index}
 pub use Rattle.ids_reporter.specs.declared.index.Instance.TheVariants.{One, Mixed}
 pub use Rattle.ids_reporter.specs.declared.rule.Known.{Known}
-pub use Rattle.ids_reporter.specs.declared.rule.Known.TheVariants.{Nothing, Feeds, Drains}
 pub use Rattle.ids_reporter.specs.declared.rule.Taken.{Taken}
 pub use Rattle.std.proofs.Common.{◌≡◌, ◌≢◌, ℕ, zero, suc, ◌+◌, ◌^◌, ◌<◌, ◌≤◌, ◌⊎◌, inl, inr, List, [], ◌∷◌, ◌++◌, length, take, Some, None, refl, sym, ap, subst, ◌∙◌, append_assoc, arith, rules, ◌==◌, if◌then◌else◌, ◌-◌, Err, Ok, Bool, true, false, drop, get_or, map, vec_capacity, vec_len}
 pub use Rattle.std.proofs.Math.ListN.{set, get_or-append}

@@ -1,8 +1,7 @@
 -- What is forwarded: the messages that the taken pairs name, which are all sources merged.
 use Rattle.std.specs.Prelude.{◌≡◌, ℕ, ◌<◌, ◌≤◌, ◌==◌, List, length, filter, Option, slice_get, slice_index_or, OnOk}
 use Rattle.std.specs.List.{filter_map, AllByRecursion}
-use Rattle.ids_frame.specs.Message.{MessageParts}
-use Rattle.ids_frame.specs.Messages.{joined}
+use Rattle.ids_frame.specs.{MessageParts, joined}
 use Rattle.ids_reporter.specs.declared.drain.Drain.{Drain}
 use Rattle.ids_reporter.specs.declared.feeder.Feeder.{Feeder}
 use Rattle.ids_reporter.specs.declared.index.Instance.TheVariants.{One}

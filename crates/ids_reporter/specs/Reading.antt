@@ -1,7 +1,6 @@
 -- What reading a source answers.
 use Rattle.std.specs.Prelude.{◌≡◌, List, Result, Ok, Err}
-use Rattle.ids_frame.specs.Message.{MessageParts}
-use Rattle.ids_frame.specs.Messages.{Held}
+use Rattle.ids_frame.specs.{MessageParts, Held}
 use Rattle.ids_reporter.specs.declared.source.SourceFault.{SourceFault}
 use Rattle.ids_reporter.specs.declared.source.SourceFault.TheVariants.{Bad, NoMemory}
 

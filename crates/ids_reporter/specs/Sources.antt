@@ -1,8 +1,7 @@
 -- Sources: the messages of each manager, and of which instance they are.
 use Rattle.std.specs.Prelude.{◌≡◌, ◌≢◌, ℕ, ◌+◌, ◌-◌, ◌^◌, ◌≤◌, ◌==◌, List, [], ◌∷◌, length, take, slice_get, slice_index, slice_index_or, option_to_list, if◌then◌else◌}
 use Rattle.std.specs.List.{list_all}
-use Rattle.ids_frame.specs.Message.{MessageParts}
-use Rattle.ids_frame.specs.Messages.{joined}
+use Rattle.ids_frame.specs.{MessageParts, joined}
 use Rattle.ids_reporter.specs.declared.index.Index.{Index}
 use Rattle.ids_reporter.specs.declared.index.Instance.{Instance}
 use Rattle.ids_reporter.specs.declared.index.Instance.TheVariants.{Empty, One, Mixed}

@@ -1,8 +1,6 @@
 //! The drain: the end of a relay that takes what all feeders put.
 ghost use Rattle.std.specs.Prelude.{◌≡◌, ◌∷◌, All, IfOk, OnErr};
-ghost use Rattle.ids_reporter.specs.Relays.{AreAllTaken, IsAt, IsBackIn, IsDrainOf, IsFeederOf, IsLeft, back_of, feeders_of, known, number_of, puts_of, taken_of};
-ghost use Rattle.ids_reporter.specs.Rule.{with_feeder, with_taken};
-ghost use Rattle.ids_reporter.specs.declared.rule.Known.TheVariants.{Drains};
+ghost use Rattle.ids_reporter.specs.{AreAllTaken, IsAt, IsBackIn, IsDrainOf, IsFeederOf, IsLeft, back_of, feeders_of, known, number_of, puts_of, taken_of, with_feeder, with_taken, Drains};
 
 use crate::feeder::Feeder;
 use crate::relay::Relay;

@@ -1,8 +1,7 @@
 //! Forwarding: in rounds, a feeder for each source, in a thread of its own, beside the drain.
 ghost use Rattle.std.specs.Prelude.{◌≡◌, ◌↔◌, ℕ, ◌<◌, ◌≤◌, length, slice_index_or, IfOk, IsTrue};
 ghost use Rattle.std.specs.Thread.{IsSync};
-ghost use Rattle.ids_reporter.specs.Forwarding.{AreFeeding, IsForwarded, IsWorking, SameFeeders};
-ghost use Rattle.ids_reporter.specs.Relays.{AreAt, IsFeeding, puts_of};
+ghost use Rattle.ids_reporter.specs.{AreFeeding, IsForwarded, IsWorking, SameFeeders, AreAt, IsFeeding, puts_of};
 ghost use Rattle.ids_reporter.specs.Sources.{AreApart, AreSmall, count_at};
 
 use crate::drain::Drain;

@@ -1,7 +1,6 @@
 //! Where messages lie that stand one after the other, and of which instance they are.
 ghost use Rattle.std.specs.Prelude.{◌≡◌, ℕ, ◌+◌, ◌<◌, ◌^◌, [], ◌∷◌, ◌++◌, List, length, slice_index, IfOk, OnOk};
-ghost use Rattle.ids_frame.specs.Message.{MessageParts};
-ghost use Rattle.ids_frame.specs.Spelling.{spelling};
+ghost use Rattle.ids_frame.specs.{MessageParts, spelling};
 ghost use Rattle.ids_reporter.specs.Sources.{IsIndexOf, end_of, instance_of};
 
 use ids_frame::Message;

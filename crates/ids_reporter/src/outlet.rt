@@ -1,8 +1,7 @@
 //! The drain of a run, which writes the message that each pair names as it takes it.
 ghost use Rattle.std.specs.Prelude.{◌≡◌, [], ◌∷◌, ◌++◌, List, IfOk, OnOk};
 ghost use Rattle.ids_frame.specs.Messages.{joined};
-ghost use Rattle.ids_reporter.specs.Forwarding.{IsWorking, SameFeeders, named};
-ghost use Rattle.ids_reporter.specs.Relays.{AreAllTaken};
+ghost use Rattle.ids_reporter.specs.{IsWorking, SameFeeders, named, AreAllTaken};
 ghost use Rattle.ids_reporter.specs.Sources.{Sources};
 
 use crate::drain::{Drain, Empty};

@@ -1,7 +1,6 @@
 //! A relay: the queue, with the ends that were made for it.
 ghost use Rattle.std.specs.Prelude.{◌≡◌, ◌≤◌, [], length, IfOk, OnOk};
-ghost use Rattle.ids_reporter.specs.Relays.{IsNewRelay, AreAt, IsDrainOf, known};
-ghost use Rattle.ids_reporter.specs.declared.rule.Known.TheVariants.{Drains};
+ghost use Rattle.ids_reporter.specs.{IsNewRelay, AreAt, IsDrainOf, known, Drains};
 
 use crate::drain::Drain;
 use crate::feeder::Feeder;

@@ -59,8 +59,7 @@ pub struct Source {
 
 impl Model for Source {
     ghost use Rattle.std.specs.Prelude.{List};
-    ghost use Rattle.ids_frame.specs.Message.{MessageParts};
-    ghost use Rattle.ids_frame.specs.Messages.{messages_of};
+    ghost use Rattle.ids_frame.specs.{MessageParts, messages_of};
     ghost use Rattle.ids_reporter.specs.Sources.{IsIndexed};
 
     ghost Value = { List MessageParts };

@@ -5,9 +5,7 @@ use Rattle.std.specs.List.{AllByRecursion, flat_map}
 use Rattle.std.proofs.lemmas.Grind.{common_steps, flat_map-append}
 use Rattle.std.proofs.lemmas.List.{append-nil, drop-append-le, take-append-le, take_all, map-append, take-map, drop-map, drop_at, length-map, get_or_append_left, get_or-append-add}
 use Rattle.std.proofs.lemmas.List.Elements.{All-from_recursion, recursion_from_All, All-set, All-push, All-weaker}
-use Rattle.ids_types.specs.Names.{Carried, Absent, Kept, Missing, Act, Report, State, SetMode, Entry, TurnHead, Stamp, EntryRow, TurnRow, RowKind, Bare, Holding, Lacking, StateTo, ModeTo}
-use Rattle.ids_types.specs.Plain.{carried_bytes, act_bytes, kept_bytes}
-use Rattle.ids_types.specs.Rows.{stamp_before, context_of, act_of, entry_of, turn_of, stamp_numbers, context_numbers, kind_of, act_numbers, own_numbers, row_by, row_of, KindWithin, EntryWithin, RowWithin, Lies}
+use Rattle.ids_types.specs.{Carried, Absent, Kept, Missing, Act, Report, State, SetMode, Entry, TurnHead, Stamp, EntryRow, TurnRow, RowKind, Bare, Holding, Lacking, StateTo, ModeTo, carried_bytes, act_bytes, kept_bytes, stamp_before, context_of, act_of, entry_of, turn_of, stamp_numbers, context_numbers, kind_of, act_numbers, own_numbers, row_by, row_of, KindWithin, EntryWithin, RowWithin, Lies}
 use Rattle.ids_types.specs.Turns.{Turn, Turns, begun, extended, emptied, with_entry, entries_of, context_bytes}
 
 -- a range within a list is the same in a longer list

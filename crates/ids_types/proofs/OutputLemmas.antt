@@ -3,9 +3,7 @@ use Rattle.std.proofs.Common.{◌≡◌, ℕ, suc, ◌<◌, List, ◌∷◌, [],
 use Rattle.std.specs.List.{flat_map}
 use Rattle.std.proofs.lemmas.Grind.{flat_map-append}
 use Rattle.std.proofs.lemmas.List.{append-nil}
-use Rattle.ids_types.specs.Names.{Entry}
-use Rattle.ids_types.specs.Plain.{kept_bytes}
-use Rattle.ids_types.specs.Turns.{Turn, with_entry, entries_of, context_bytes}
+use Rattle.ids_types.specs.{Entry, kept_bytes, Turn, with_entry, entries_of, context_bytes}
 use Rattle.ids_types.proofs.HistoryLemmas.{entries_of-with_entry}
 
 -- the bytes of context of turns with one entry more

@@ -1,8 +1,7 @@
 //! The history of a run: its turns, each with its entries.
 
 ghost use Rattle.std.specs.Prelude.{◌≡◌, ◌<◌, ◌≤◌, [], ◌∷◌, ◌++◌, length, IfOk, OnOk, OnErr, IsTrue, ◌↔◌};
-ghost use Rattle.ids_types.specs.Turns.{begun, with_entry, turn_at, entry_at, entries_of, context_bytes, HasRoom, room_after, wider_room, emptied};
-ghost use Rattle.ids_types.specs.Plain.{plain_entry, kept_bytes};
+ghost use Rattle.ids_types.specs.{begun, with_entry, turn_at, entry_at, entries_of, context_bytes, HasRoom, room_after, wider_room, emptied, plain_entry, kept_bytes};
 
 use crate::entry::{Entry, TurnHead};
 use crate::memory::NoMemory;

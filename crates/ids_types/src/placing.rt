@@ -1,10 +1,7 @@
 //! Entries on their way into a history's memory and out of it.
 
 ghost use Rattle.std.specs.Prelude.{◌≡◌, ◌+◌, ◌<◌, ◌≤◌, ◌^◌, ◌++◌, length, is_some, IsTrue, slice_index, slice_range, vec_len, vec_capacity};
-ghost use Rattle.ids_types.specs.declared.entry.Act.TheVariants.{Report};
-ghost use Rattle.ids_types.specs.Carries.{act_by};
-ghost use Rattle.ids_types.specs.Plain.{plain_carried, plain_entry, carried_bytes, kept_bytes};
-ghost use Rattle.ids_types.specs.Rows.{stamp_before, stamp_numbers, context_numbers, own_numbers, kind_of, row_of as row_for, entry_of, KindWithin, EntryWithin, bytes_at};
+ghost use Rattle.ids_types.specs.{Report, act_by, plain_carried, plain_entry, carried_bytes, kept_bytes, stamp_before, stamp_numbers, context_numbers, own_numbers, kind_of, row_of as row_for, entry_of, KindWithin, EntryWithin, bytes_at};
 
 use crate::entry::{Act, Carried, Entry};
 use crate::names::{EventIndex, Stamp};

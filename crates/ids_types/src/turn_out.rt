@@ -1,9 +1,7 @@
 //! The output of a turn: its log and its messages.
 
 ghost use Rattle.std.specs.Prelude.{◌≡◌, ◌<◌, ◌≤◌, ◌-◌, ◌^◌, length, IfOk};
-ghost use Rattle.ids_types.specs.Plain.{plain_entry, kept_bytes};
-ghost use Rattle.ids_types.specs.Turns.{HasRoom};
-ghost use Rattle.ids_types.specs.Output.{empty_output, has_begun, has_ended, has_logged, has_put, has_sent, without_messages};
+ghost use Rattle.ids_types.specs.{plain_entry, kept_bytes, HasRoom, empty_output, has_begun, has_ended, has_logged, has_put, has_sent, without_messages};
 
 use crate::entry::{Entry, TurnHead};
 use crate::history::History;

@@ -7,18 +7,15 @@ use Rattle.report_queue.specs.Parts.{ticket_of}
 use Rattle.buffer_classes.specs.Buffers.{Buffer}
 use Rattle.ids_types.specs.Carries.{carried_by}
 use Rattle.report_api.proofs.{OneCall, lost_call, lost_event, put_call, put_without}
-use Rattle.report_api.specs.Answers.{CarriesAll, ControlTells, Given, ModeTells, ReportTells, act_with}
+use Rattle.report_api.specs.{CarriesAll, ControlTells, Given, ModeTells, ReportTells, act_with, IsPassOf, calls_in, call_of, lost_contexts, lost_events, missing_in, pass_memo, sizes_of}
 use Rattle.report_api.specs.Names.{Act, Carried, Absent, Kept, Missing, SetMode, Got, Lost, Outcome, PassMemo}
-use Rattle.report_api.specs.Passes.{IsPassOf, calls_in, call_of, lost_contexts, lost_events, missing_in, pass_memo, sizes_of}
 use Rattle.report_api.specs.declared.pass.Pass.{Pass}
 use Rattle.report_api.specs.declared.answer.Control.{Control}
 use Rattle.report_api.specs.declared.answer.Control.TheVariants as controls
 use Rattle.report_api.specs.declared.answer.Report.{Report as ReportAnswer}
 use Rattle.report_api.specs.declared.answer.Report.TheVariants as reports
 use Rattle.law_closing.specs.Calls.{accepted_in}
-use Rattle.idsm_api.specs.Answers.{report_answer}
-use Rattle.idsm_api.specs.Callers.{HasAll, IsSameCaller, ReportDoes, ReportLogs, log_in, log_of}
-use Rattle.idsm_api.specs.Calls.{Reports, Sets, asked_mode, asked_state}
+use Rattle.idsm_api.specs.{report_answer, HasAll, IsSameCaller, ReportDoes, ReportLogs, log_in, log_of, Reports, Sets, asked_mode, asked_state}
 
 -- how many tickets an outcome got
 abbrev accepts : Outcome → ℕ

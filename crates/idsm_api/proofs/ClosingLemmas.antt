@@ -11,16 +11,10 @@ use Rattle.report_queue.specs.Parts.{queue_positions}
 use Rattle.law_closing.proofs.{or_at}
 use Rattle.law_closing.specs.Calls.{accepted_in}
 use Rattle.permit_ring.proofs.ListLemmas.{at_length, there}
-use Rattle.report_api.specs.Desks.{desk_memo}
-use Rattle.report_api.specs.Names.{PassMemo}
-use Rattle.report_api.specs.Passes.{IsPassOf, lost_events, missing_in, pass_memo, sizes_of}
-use Rattle.main_function.specs.Closing.{AreCountsOf}
-use Rattle.main_function.specs.Standing.{AreAllPasses, largest_size}
+use Rattle.report_api.specs.{desk_memo, PassMemo, IsPassOf, lost_events, missing_in, pass_memo, sizes_of}
+use Rattle.main_function.specs.{AreCountsOf, AreAllPasses, largest_size}
 use Rattle.main_function.specs.declared.rest.Totals.{Totals}
-use Rattle.idsm_api.specs.Callers.{AreAllCallers, AreCounted, IsSameCaller, number_of}
-use Rattle.idsm_api.specs.Making.{passes_of}
-use Rattle.idsm_api.specs.Roles.{IsFitManager}
-use Rattle.idsm_api.specs.Turning.{TurnMade}
+use Rattle.idsm_api.specs.{AreAllCallers, AreCounted, IsSameCaller, number_of, passes_of, IsFitManager, TurnMade}
 
 -- the pass of a caller
 abbrev pass_in : Caller → Pass

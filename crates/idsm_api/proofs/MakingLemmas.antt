@@ -6,19 +6,15 @@ use lib.ListN.{get_elem?}
 use Rattle.atomic_table.proofs.Lists.{at_map}
 use Rattle.permit_ring.proofs.ListLemmas.{at_length, there}
 use Rattle.law_closing.proofs.PlaceLemmas.{or_at}
-use Rattle.report_api.specs.Passes.{IsPassOf, sizes_of}
-use Rattle.main_function.specs.Making.{IsNewManager}
+use Rattle.report_api.specs.{IsPassOf, sizes_of, PassMemo}
+use Rattle.main_function.specs.{IsNewManager, largest_size}
 use Rattle.main_function.specs.declared.manager.Manager.{Manager}
 use Rattle.buffer_classes.specs.Buffers.{Buffer}
 use Rattle.event_chain.specs.Chained.{Chained}
 use Rattle.ids_types.specs.declared.class_spec.ClassSpec.{ClassSpec}
 use Rattle.filter_chain.specs.Turning.{most_sent}
-use Rattle.main_function.specs.Standing.{largest_size}
 use Rattle.report_queue.specs.Parts.{queue_positions, queue_seats}
-use Rattle.report_api.specs.Names.{PassMemo}
-use Rattle.idsm_api.specs.Callers.{AreAllCallers, log_in, log_of, no_calls}
-use Rattle.idsm_api.specs.Making.{passes_of}
-use Rattle.idsm_api.specs.Roles.{most_bytes}
+use Rattle.idsm_api.specs.{AreAllCallers, log_in, log_of, no_calls, passes_of, most_bytes}
 
 module _ (config : Parts) (shared : Shared) (passes : List Pass) (m : Manager (Chained Buffer))
     (new : IsNewManager chain_stands chain_events chain_kept config shared passes m) where

@@ -9,6 +9,5 @@ pub use Rattle.report_api.specs.declared.pass.Pass.{Pass}
 pub use Rattle.report_api.specs.declared.shared.Shared.{Shared}
 pub use Rattle.main_function.specs.Standing.{IsManagerOf}
 pub use Rattle.idsm_api.specs.declared.answer.Answer.{Answer}
-pub use Rattle.idsm_api.specs.declared.caller.Caller.{Caller}
+pub use Rattle.idsm_api.specs.{Caller, IsFitCaller, caller_shares, chain_events, chain_kept, chain_stands, manager_shares}
 pub use Rattle.idsm_api.specs.declared.manager.Manager.{Manager}
-pub use Rattle.idsm_api.specs.Roles.{IsFitCaller, caller_shares, chain_events, chain_kept, chain_stands, manager_shares}

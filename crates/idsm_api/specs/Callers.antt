@@ -8,10 +8,7 @@ use Rattle.ids_types.specs.declared.entry.Carried.{Carried}
 use Rattle.ids_types.specs.declared.entry.Carried.TheVariants.{Absent, Kept, Missing}
 use Rattle.history_spec.specs.Follows.{Calls}
 use Rattle.report_queue.specs.Parts.{queue_seats}
-use Rattle.report_api.specs.Answers.{Given}
-use Rattle.report_api.specs.Names.{PassMemo}
-use Rattle.report_api.specs.Passes.{calls_in, lost_events, missing_in, pass_memo}
-use Rattle.report_api.specs.Terms.{is_sensor}
+use Rattle.report_api.specs.{Given, PassMemo, calls_in, lost_events, missing_in, pass_memo, is_sensor}
 use Rattle.law_closing.specs.Calls.{accepted_in}
 use Rattle.main_function.specs.declared.rest.Totals.{Totals}
 use Rattle.idsm_api.specs.declared.answer.Answer.{Answer}

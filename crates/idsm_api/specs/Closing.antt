@@ -1,8 +1,7 @@
 -- What a close answers, with its cause, and what it leaves.
 use Rattle.std.specs.Prelude.{◌≡◌, ℕ, List, [], length, map}
 use Rattle.report_api.specs.Passes.{pass_memo}
-use Rattle.main_function.specs.Closing.{Closed}
-use Rattle.main_function.specs.Turning.{IsQuick}
+use Rattle.main_function.specs.{Closed, IsQuick}
 use Rattle.main_function.specs.declared.rest.Totals.{Totals}
 use Rattle.idsm_api.specs.declared.answer.Answer.{Answer}
 use Rattle.idsm_api.specs.declared.answer.Answer.TheVariants.{Done}

@@ -4,8 +4,7 @@ use Rattle.ids_types.specs.Turns.{Turn}
 use Rattle.ids_config.specs.Parts.{Parts}
 use Rattle.filter_chain.specs.History.{rows_of}
 use Rattle.buffer_classes.specs.Givers.{late_of}
-use Rattle.report_api.specs.Answers.{Given}
-use Rattle.report_api.specs.Passes.{sizes_of}
+use Rattle.report_api.specs.{Given, sizes_of}
 use Rattle.idsm_api.specs.declared.answer.Answer.{Answer}
 use Rattle.idsm_api.specs.declared.answer.Answer.TheVariants.{OtherRole, OutOfRange, Done}
 use Rattle.idsm_api.specs.declared.caller.Caller.{Caller}

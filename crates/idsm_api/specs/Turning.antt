@@ -4,8 +4,7 @@ use Rattle.ids_types.specs.Output.{Output}
 use Rattle.ids_types.specs.Turns.{turn_at}
 use Rattle.buffer_classes.specs.Givers.{givers_of}
 use Rattle.report_api.specs.Desks.{desk_memo}
-use Rattle.main_function.specs.Standing.{last_of, turns_of}
-use Rattle.main_function.specs.Turning.{IsQuick, Turned}
+use Rattle.main_function.specs.{last_of, turns_of, IsQuick, Turned}
 use Rattle.idsm_api.specs.declared.answer.Answer.{Answer}
 use Rattle.idsm_api.specs.declared.answer.Answer.TheVariants.{Done, Spent, TickBack, TickTooLarge, SmallBuffer}
 use Rattle.idsm_api.specs.declared.manager.Manager.{Manager}

@@ -1,8 +1,6 @@
 //! A caller with what it shares.
 ghost use Rattle.std.specs.Prelude.{None, []};
-ghost use Rattle.idsm_api.specs.Callers.{IsSameCaller, ReportDoes};
-ghost use Rattle.idsm_api.specs.Calls.{Reports, Sets, asked_mode, asked_state};
-ghost use Rattle.idsm_api.specs.Roles.{IsFitCaller};
+ghost use Rattle.idsm_api.specs.{IsSameCaller, ReportDoes, Reports, Sets, asked_mode, asked_state, IsFitCaller};
 ghost use Rattle.report_api.specs.Answers.{given};
 
 use crate::answer::{Answer, answer_of_control, answer_of_report};

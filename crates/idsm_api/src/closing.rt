@@ -1,8 +1,6 @@
 //! What a close answers, and how the callers come back.
 ghost use Rattle.std.specs.Prelude.{◌≡◌, ◌≤◌, [], length, vec_capacity};
-ghost use Rattle.idsm_api.specs.Closing.{no_totals};
-ghost use Rattle.idsm_api.specs.Making.{passes_of};
-ghost use Rattle.idsm_api.specs.Turning.{nothing_told};
+ghost use Rattle.idsm_api.specs.{no_totals, passes_of, nothing_told};
 
 use crate::answer::Answer;
 use crate::caller::Caller;

@@ -3,8 +3,7 @@ ghost use Rattle.std.specs.Prelude.{◌≡◌, IfOk};
 ghost use Rattle.std.specs.Arc.{arc_value};
 ghost use Rattle.std.specs.List.{All};
 ghost use Rattle.config_json.specs.Configured.{configuration};
-ghost use Rattle.idsm_api.specs.Making.{IsNewSetup, MakesSetup, passes_of};
-ghost use Rattle.idsm_api.specs.Roles.{caller_shares};
+ghost use Rattle.idsm_api.specs.{IsNewSetup, MakesSetup, passes_of, caller_shares};
 
 use crate::caller::Caller;
 use crate::manager::Manager;

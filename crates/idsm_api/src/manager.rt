@@ -3,13 +3,8 @@ ghost use Rattle.std.specs.Prelude.{◌≡◌, ◌≤◌, [], List, length, IfEr
 ghost use Rattle.ids_types.specs.Turns.{Turn};
 ghost use Rattle.ids_config.specs.Parts.{Parts};
 ghost use Rattle.filter_chain.specs.History.{rows_of};
-ghost use Rattle.idsm_api.specs.Callers.{AreAllCallers, AreCounted};
-ghost use Rattle.idsm_api.specs.Closing.{CloseMade, CloseTells, CountsTell};
+ghost use Rattle.idsm_api.specs.{AreAllCallers, AreCounted, CloseMade, CloseTells, CountsTell, IsFitManager, StandsFor, manager_shares, most_bytes, MayTurn, Refuses, TurnMade, TurnTells, told_by, told_in, Done, Caller as CallerValue};
 ghost use Rattle.idsm_api.specs.Reading.{LateTells, RowTells};
-ghost use Rattle.idsm_api.specs.Roles.{IsFitManager, StandsFor, manager_shares, most_bytes};
-ghost use Rattle.idsm_api.specs.Turning.{MayTurn, Refuses, TurnMade, TurnTells, told_by, told_in};
-ghost use Rattle.idsm_api.specs.declared.answer.Answer.TheVariants.{Done};
-ghost use Rattle.idsm_api.specs.declared.caller.Caller.{Caller as CallerValue};
 
 use crate::answer::Answer;
 use crate::caller::Caller;

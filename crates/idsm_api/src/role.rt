@@ -1,7 +1,6 @@
 //! A caller or a manager: what one handle can have.
 ghost use Rattle.report_api.specs.Answers.{given};
-ghost use Rattle.idsm_api.specs.Calls.{asked_mode, asked_state};
-ghost use Rattle.idsm_api.specs.Handled.{IsFit, RoleLate, RoleMost, RoleReports, RoleRow, RoleSets, RoleTurns, RoleRows};
+ghost use Rattle.idsm_api.specs.{asked_mode, asked_state, IsFit, RoleLate, RoleMost, RoleReports, RoleRow, RoleSets, RoleTurns, RoleRows};
 
 use crate::answer::Answer;
 use crate::caller::Caller;

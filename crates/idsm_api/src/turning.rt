@@ -1,8 +1,6 @@
 //! What a turn answers.
 ghost use Rattle.std.specs.Prelude.{◌≡◌, ◌<◌, ◌≤◌, length};
-ghost use Rattle.idsm_api.specs.declared.answer.Answer.TheVariants.{Done};
-ghost use Rattle.idsm_api.specs.Turning.{nothing_told, told_in};
-ghost use Rattle.idsm_api.specs.Writing.{IsWritten};
+ghost use Rattle.idsm_api.specs.{Done, nothing_told, told_in, IsWritten};
 
 use crate::answer::Answer;
 use crate::writing::put;

@@ -3,9 +3,7 @@ use Rattle.std.specs.Prelude.{◌≡◌, ℕ, ◌==◌, if◌then◌else◌, Opt
 use Rattle.ids_types.specs.declared.mode.Mode.{Mode}
 use Rattle.ids_types.specs.declared.names.EventIndex.{EventIndex}
 use Rattle.ids_types.specs.declared.names.Stamp.{Stamp}
-use Rattle.idsm_api.specs.Answers.{code_of}
-use Rattle.idsm_api.specs.Calls.{asked_mode}
-use Rattle.idsm_api.specs.Handled.{RoleSets}
+use Rattle.idsm_api.specs.{code_of, asked_mode, RoleSets}
 use Rattle.idsm_api.specs.declared.answer.Answer.{Answer}
 use Rattle.idsm_api.specs.declared.answer.Answer.TheVariants.{OutOfRange, Unset}
 use Rattle.idsm_api.specs.declared.role.Role.{Role}

@@ -9,9 +9,7 @@ use Rattle.ids_config.specs.declared.fault.ConfigPlace.{ConfigPlace}
 use Rattle.ids_config.specs.declared.fault.ConfigPlace.TheVariants.{Top, Class, Event}
 use Rattle.config_json.specs.declared.fault.JsonFault.{JsonFault}
 use Rattle.config_json.specs.declared.fault.JsonFault.TheVariants as faults
-use Rattle.idsm_api.specs.Answers.{code_of}
-use Rattle.idsm_api.specs.Handled.{IsFit}
-use Rattle.idsm_api.specs.Making.{IsNewSetup}
+use Rattle.idsm_api.specs.{code_of, IsFit, IsNewSetup}
 use Rattle.idsm_api.specs.declared.answer.Answer.{Answer}
 use Rattle.idsm_api.specs.declared.answer.Answer.TheVariants.{Done, OutOfRange, NoMemory, Configuration, Occupied}
 use Rattle.idsm_api.specs.declared.caller.Caller.{Caller}

@@ -1,8 +1,7 @@
 -- What reading a manager answers, by what a handle has.
 use Rattle.std.specs.Prelude.{◌≡◌, ℕ, List, Option, Some, None}
 use Rattle.ids_types.specs.declared.names.Stamp.{Stamp}
-use Rattle.idsm_api.specs.Answers.{code_of}
-use Rattle.idsm_api.specs.Handled.{RoleRow}
+use Rattle.idsm_api.specs.{code_of, RoleRow}
 use Rattle.idsm_api.specs.declared.answer.Answer.TheVariants.{Unset}
 use Rattle.idsm_api.specs.declared.number.NumberAnswer.{NumberAnswer}
 use Rattle.idsm_api.specs.declared.reading.RowAnswer.{RowAnswer}

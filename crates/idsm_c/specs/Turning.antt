@@ -1,8 +1,6 @@
 -- What a turn answers, by what a handle has.
 use Rattle.std.specs.Prelude.{◌≡◌, ℕ, List, Option, Some, None}
-use Rattle.idsm_api.specs.Answers.{code_of}
-use Rattle.idsm_api.specs.Handled.{RoleTurns}
-use Rattle.idsm_api.specs.Turning.{nothing_told}
+use Rattle.idsm_api.specs.{code_of, RoleTurns, nothing_told}
 use Rattle.idsm_api.specs.declared.answer.Answer.TheVariants.{Unset}
 use Rattle.idsm_api.specs.declared.role.Role.{Role}
 use Rattle.idsm_api.specs.declared.turning.Told.{Told}

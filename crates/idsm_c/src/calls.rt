@@ -1,7 +1,6 @@
 //! Reports and controls.
 ghost use Rattle.std.specs.Prelude.{◌≡◌};
-ghost use Rattle.idsm_api.specs.Calls.{asked_mode, asked_state};
-ghost use Rattle.idsm_api.specs.Handled.{RoleReports, RoleSets};
+ghost use Rattle.idsm_api.specs.{asked_mode, asked_state, RoleReports, RoleSets};
 ghost use Rattle.report_api.specs.Answers.{given};
 ghost use Rattle.idsm_c.specs.Calls.{Handles, SetsMode, event_of, stamp_given};
 ghost use Rattle.idsm_c.specs.Modes.{mode_at};

@@ -7,9 +7,8 @@ use Rattle.main_function.specs.declared.manager.Manager.{Manager}
 use Rattle.trace_replay.specs.Replayed.{Gives, IsReplay, gives}
 use Rattle.trace_replay.specs.declared.replaying.Replayed.{Replayed as Given}
 use Rattle.cmd_steps.specs.Answered.{RanWith, RunsWith}
-use Rattle.cmd_spec.specs.Headline.{IsOneHistory}
+use Rattle.cmd_spec.specs.{IsOneHistory, replay_work}
 use Rattle.idsm_run.specs.declared.traces.Asked.{Asked}
-use Rattle.cmd_spec.specs.Replay.{replay_work}
 
 -- the manager of a replay
 abbrev pub RunManager : Type 0

@@ -2,8 +2,7 @@
 
 ghost use Rattle.std.specs.Prelude.{◌≡◌};
 ghost use Rattle.cmd_steps.specs.Words.{CanWrite, EndsAs, IsTrue, WritesApart, gen as gen_command, gen_work, map, output_of, plain_end};
-ghost use Rattle.gen_options.specs.Given.{given_of};
-ghost use Rattle.gen_options.specs.Ranges.{is_in_range};
+ghost use Rattle.gen_options.specs.{given_of, is_in_range};
 ghost use Rattle.gen_recording.specs.Generated.{config_for, journal_for, trace_for};
 
 use cmd_files::{NewFile, Stop};

@@ -8,10 +8,7 @@ use Rattle.ids_config.specs.Parts.{Parts}
 use Rattle.ids_types.specs.Turns.{entries_of}
 use Rattle.ids_types.proofs.OutputLemmas.{length_with_entry}
 use Rattle.text_spec.proofs.JournalFits.{all_in_ranges, calls_stay, has_pair-more, in_order, turns_few}
-use Rattle.text_spec.specs.JournalFaults.{Past, start, next, fault_of, pair_of, is_call, is_act, has_event, is_in_ranges}
-use Rattle.text_spec.specs.JournalReading.{Fits, Follows, journal_grammar}
-use Rattle.text_spec.specs.JournalText.{begins, lines_told}
-use Rattle.text_spec.specs.Lines.{AreFaultless}
+use Rattle.text_spec.specs.{Past, start, next, fault_of, pair_of, is_call, is_act, has_event, is_in_ranges, Fits, Follows, journal_grammar, begins, lines_told, AreFaultless}
 use Rattle.journal.specs.Fitting.{IsInOrder}
 
 -- what the lines so far ask of a line

@@ -2,11 +2,7 @@
 use Rattle.journal.proofs.Names.{◌≡◌, ℕ, suc, ◌+◌, ◌-◌, ◌<◌, List, [], ◌∷◌, length, take, set, sym, ap, ◌∙◌, arith, Option, Some, option_map, take_more_set, numbers_in, a_number, first_as, with_front, front_more, numbers_more, bind_again, last_context, last_hex}
 use Rattle.ids_types.specs.declared.entry.Carried.TheVariants.{Kept}
 use Rattle.ids_types.specs.declared.names.Stamp.{Stamp}
-use Rattle.text_spec.specs.Contexts.{colon, a_context, context_in, kept_in}
-use Rattle.text_spec.specs.Fields.{a_stamp, behind, hex_bytes, read_by}
-use Rattle.text_spec.specs.Hexadecimal.{some_hex}
-use Rattle.text_spec.specs.JournalForm.{report_form}
-use Rattle.text_spec.specs.Words.{pieces_of, words_of}
+use Rattle.text_spec.specs.{colon, a_context, context_in, kept_in, a_stamp, behind, hex_bytes, read_by, some_hex, report_form, pieces_of, words_of}
 
 -- one number more was read
 pub next_number : (i n : ℕ) (values : List ℕ) (rest next : List (List ℕ)) (expected : Option (List ℕ)) → i < 4 → i < length values

@@ -12,9 +12,7 @@ pub use Rattle.text_spec.proofs.FrontLemmas.{bind_again}
 pub use Rattle.text_spec.proofs.LastLemmas.{last_context, last_hex}
 pub use Rattle.text_spec.proofs.NumberLists.{with_front, front_more, numbers_more}
 pub use Rattle.text_spec.proofs.WordsLemmas.{text_of-map, one_more}
-pub use Rattle.text_spec.specs.Contexts.{numbers_in, point}
-pub use Rattle.text_spec.specs.Fields.{a_number, first_as, ended_line}
-pub use Rattle.text_spec.specs.JournalFaults.{is_pair, has_pair, is_claim, entry_fault}
+pub use Rattle.text_spec.specs.{numbers_in, point, a_number, first_as, ended_line, is_pair, has_pair, is_claim, entry_fault}
 pub use Rattle.text_spec.specs.JournalText.{Entry, Loss, Line, enters, loses, line_for, fields_of, turn_told, Told}
 pub use Rattle.journal.specs.Answers.{HasNone, told}
 pub use Rattle.journal.specs.Printing.{lines_text, pointed}

@@ -1,9 +1,7 @@
 -- What a reading of a text says of it.
 use Rattle.journal.proofs.Names.{◌≤◌, ℕ, List, length, subst, Result, Ok, Err, IfOk, IfErr, Told, HasNone}
 use Rattle.ids_config.specs.Parts.{Parts}
-use Rattle.text_spec.specs.JournalReading.{IsJournal, journal_in}
-use Rattle.text_spec.specs.LineAnswers.{Fails, Reads}
-use Rattle.text_spec.specs.Lines.{BadLine}
+use Rattle.text_spec.specs.{IsJournal, journal_in, Fails, Reads, BadLine}
 use Rattle.text_spec.specs.declared.fault.TextFault.{TextFault}
 use Rattle.text_spec.specs.declared.fault.TextFault.TheVariants as faults
 use Rattle.text_spec.proofs.JournalLaws.{told_is_journal, journal_is_told, bad_is_none}

@@ -3,10 +3,8 @@ use Rattle.std.specs.Prelude.{ℕ, ◌==◌, ◌&&◌, Bool, List, Result, Ok, �
 use Rattle.ids_config.specs.Parts.{Parts}
 use Rattle.ids_config.specs.Steps.{◌>>◌, asks}
 use Rattle.ids_types.specs.Turns.{Turn}
-use Rattle.text_spec.specs.JournalReading.{IsJournal, journal_in}
-use Rattle.text_spec.specs.JournalFaults.{Past, is_call, next}
+use Rattle.text_spec.specs.{IsJournal, journal_in, Past, is_call, next, Fails}
 use Rattle.text_spec.specs.JournalText.{Loss, Told, Line}
-use Rattle.text_spec.specs.LineAnswers.{Fails}
 use Rattle.text_spec.specs.declared.fault.TextFault.{TextFault}
 use Rattle.text_spec.specs.declared.fault.TextFault.TheVariants as faults
 

@@ -2,9 +2,7 @@
 use Rattle.std.specs.Prelude.{◌≡◌, ◌≤◌, List, ◌∷◌, ◌++◌, length, true}
 use Rattle.std.specs.List.{AllByRecursion}
 use Rattle.ids_config.specs.Parts.{Parts}
-use Rattle.text_spec.specs.JournalFaults.{is_in_ranges}
-use Rattle.text_spec.specs.JournalReading.{IsHeld, Follows}
-use Rattle.text_spec.specs.JournalText.{Told, Line, lines_told}
+use Rattle.text_spec.specs.{is_in_ranges, IsHeld, Follows, Told, Line, lines_told}
 
 -- each line can be held, and its numbers and its event are in their ranges; of any two lines the later one follows the
 -- earlier; and a turn has at most 1,024 entries

@@ -1,8 +1,6 @@
 -- The text of some lines.
 use Rattle.std.specs.Prelude.{ℕ, ◌==◌, List, ◌∷◌, map, decimal, if◌then◌else◌}
-use Rattle.text_spec.specs.Contexts.{point}
-use Rattle.text_spec.specs.JournalText.{Line, line_for}
-use Rattle.text_spec.specs.Words.{text_of}
+use Rattle.text_spec.specs.{point, Line, line_for, text_of}
 
 -- the text of lines
 abbrev pub lines_text : List Line → List ℕ

@@ -1,10 +1,7 @@
 //! The forms of a journal's lines, by the words after the first.
 
 ghost use Rattle.std.specs.Prelude.{◌≡◌, [], ◌∷◌, option_map, Some, None};
-ghost use Rattle.text_spec.specs.Contexts.{claims_in, context_in, kept_in};
-ghost use Rattle.text_spec.specs.Fields.{a_number, a_mode, behind, read_by};
-ghost use Rattle.text_spec.specs.JournalForm.{turn_form, report_form, state_form, setting_form, loss_form, index, entry_of};
-ghost use Rattle.text_spec.specs.JournalText.{begins, enters, loses};
+ghost use Rattle.text_spec.specs.{claims_in, context_in, kept_in, a_number, a_mode, behind, read_by, turn_form, report_form, state_form, setting_form, loss_form, index, entry_of, begins, enters, loses};
 ghost use Rattle.text_spec.specs.Maybe.{or_else};
 ghost use Rattle.journal.specs.RawLines.{context_told, control_told, loss_told, report_told};
 ghost use Rattle.ids_types.specs.declared.entry.Act.TheVariants.{State, SetMode};

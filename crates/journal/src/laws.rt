@@ -2,8 +2,7 @@
 
 ghost use Rattle.std.specs.Prelude.{◌↔◌};
 ghost use Rattle.ids_config.specs.Parts.{Parts};
-ghost use Rattle.text_spec.specs.JournalReading.{Fits};
-ghost use Rattle.text_spec.specs.JournalText.{Told};
+ghost use Rattle.text_spec.specs.{Fits, Told};
 ghost use Rattle.journal.specs.Fitting.{IsInOrder};
 
 /// Turns and losses fit a configuration exactly where each of their lines is in range, of any two the later one follows

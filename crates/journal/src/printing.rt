@@ -2,16 +2,10 @@
 
 ghost use Rattle.std.specs.Prelude.{◌≡◌, ◌<◌, ◌++◌, ◌∷◌, [], map, length, decimal, codes, IfOk, OnOk};
 ghost use Rattle.std.specs.List.{flat_map, join_with_byte};
-ghost use Rattle.ids_types.specs.Plain.{plain_carried, plain_entry};
-ghost use Rattle.ids_types.specs.Turns.{turn_at};
+ghost use Rattle.ids_types.specs.{plain_carried, plain_entry, turn_at};
 ghost use Rattle.ids_types.specs.declared.entry.Act.TheVariants.{Report, State, SetMode};
-ghost use Rattle.text_spec.specs.Contexts.{point, context_word};
-ghost use Rattle.text_spec.specs.Fields.{ended_line};
-ghost use Rattle.text_spec.specs.JournalText.{begins, enters, loses, fields_of, turn_told, line_for, journal_text};
-ghost use Rattle.text_spec.specs.JournalReading.{Fits, IsJournal};
+ghost use Rattle.text_spec.specs.{point, context_word, ended_line, begins, enters, loses, fields_of, turn_told, line_for, journal_text, Fits, IsJournal, stamp_text, space, line_feed, line_of};
 ghost use Rattle.ids_config.specs.Parts.{Parts};
-ghost use Rattle.text_spec.specs.Stamps.{stamp_text};
-ghost use Rattle.text_spec.specs.Words.{space, line_feed, line_of};
 ghost use Rattle.journal.specs.Answers.{told};
 ghost use Rattle.journal.specs.Printing.{lines_text, pointed};
 

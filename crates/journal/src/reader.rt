@@ -48,12 +48,7 @@ pub(crate) struct Reader<'a> {
 }
 
 impl<'a> Reader<'a> {
-    ghost use Rattle.std.specs.Prelude.{◌≡◌, ◌<◌, ◌≤◌, length, IfOk, OnOk};
-    ghost use Rattle.text_spec.specs.JournalFaults.{start, head_fault, entry_fault, loss_fault};
-    ghost use Rattle.text_spec.specs.JournalReading.{journal_grammar};
-    ghost use Rattle.text_spec.specs.JournalText.{begins, enters, loses};
-    ghost use Rattle.text_spec.specs.LineAnswers.{Took};
-    ghost use Rattle.text_spec.specs.Lines.{after_line};
+    ghost use Rattle.text_spec.specs.{start, head_fault, entry_fault, loss_fault, journal_grammar, begins, enters, loses, Took, after_line};
     ghost use Rattle.journal.specs.RawLines.{control_told, loss_told, report_told};
     ghost use Rattle.journal.specs.Answers.{added, entry_asks};
     ghost use Rattle.journal.specs.ReaderView.{past_of, Knows};

@@ -1,9 +1,7 @@
 //! Reading a journal from its text.
 
 ghost use Rattle.std.specs.Prelude.{◌≡◌, Ok, IfOk, IfErr};
-ghost use Rattle.text_spec.specs.JournalReading.{IsJournal, journal_in};
-ghost use Rattle.text_spec.specs.JournalText.{Told};
-ghost use Rattle.text_spec.specs.LineAnswers.{Reads};
+ghost use Rattle.text_spec.specs.{IsJournal, journal_in, Told, Reads};
 ghost use Rattle.journal.specs.Answers.{told, IsFirstBad, HasNone};
 
 use crate::reader::Reader;
@@ -57,9 +55,7 @@ fn read_journal(alloc: Global, text: &[u8], config: &Config) -> Result<Journal, 
 
 impl<'a> LineReader for Reader<'a> {
     ghost use Rattle.ids_config.specs.Parts.{Parts};
-    ghost use Rattle.text_spec.specs.JournalFaults.{Past};
-    ghost use Rattle.text_spec.specs.JournalReading.{journal_grammar};
-    ghost use Rattle.text_spec.specs.JournalText.{Line};
+    ghost use Rattle.text_spec.specs.{Past, journal_grammar, Line};
     ghost use Rattle.journal.specs.ReaderView.{config_of, past_of};
 
     ghost Past = { Past };

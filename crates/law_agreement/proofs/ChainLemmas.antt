@@ -2,8 +2,7 @@
 use Rattle.law_agreement.proofs.Names.{ℕ, ◌+◌, ◌≤◌, ◌&&◌, not, Bool, true, false, List, [], ◌∷◌, length, sum_by, map, None, option_to_list, option_map, if◌then◌else◌, ap, arith, option_or, Parts, event_at, candidates, is_out, sent_at, sent, gated_at, thresholded_at, filtered_at, arrival, gated, aggregated, thresholded, qualified, counted, Item, is_of, spelled, Moment, closes, comes, state_is, mode_is, added, where_true, weight, moment_weight}
 use Rattle.ids_types.specs.declared.mode.Mode.{Mode}
 use Rattle.ids_types.specs.declared.mode.Mode.TheVariants.{Off, Brief, Detailed, BriefBypassing, DetailedBypassing}
-use Rattle.chain_spec.specs.Gate.{is_filtered, is_bypassing, is_blocked, is_nth, mode_at, item_in, bypassing_at}
-use Rattle.chain_spec.specs.Threshold.{verdict}
+use Rattle.chain_spec.specs.{is_filtered, is_bypassing, is_blocked, is_nth, mode_at, item_in, bypassing_at, verdict}
 use Rattle.chain_spec.proofs.FilterLemmas.{filtered_thresholded}
 use Rattle.law_agreement.proofs.MessageLemmas.{spelled_weighs}
 use Rattle.law_agreement.proofs.TotalLemmas.{total, total-sum, total-append, total-filter, weight_in, where_weighs, either_weighs, added_weighs}

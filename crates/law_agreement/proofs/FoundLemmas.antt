@@ -8,9 +8,7 @@ use Rattle.cmd_files.specs.declared.stop.Refusal.TheVariants.{BadConfig}
 use Rattle.ids_config.specs.Steps.{at}
 use Rattle.ids_config.specs.declared.fault.ConfigFault.{ConfigFault}
 use Rattle.ids_config.proofs.StepLemmas.{at_ok, asks_ok, both_ok}
-use Rattle.config_json.specs.Configured.{config_of, configuration, tree_of}
-use Rattle.config_json.specs.Members.{parts_in}
-use Rattle.config_json.specs.Shape.{config_shape}
+use Rattle.config_json.specs.{config_of, configuration, tree_of, parts_in, config_shape}
 use Rattle.cmd_steps.proofs.MadeLemmas.{are_apart}
 use Rattle.ids_config.specs.Values
 use Rattle.ids_config.specs.declared.fault.ConfigPlace.TheVariants as places

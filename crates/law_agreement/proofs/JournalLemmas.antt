@@ -9,9 +9,7 @@ use Rattle.ids_types.specs.declared.entry.TurnHead.{TurnHead}
 use Rattle.ids_types.specs.declared.internal.Internal.{Internal}
 use Rattle.ids_types.specs.declared.names.EventIndex.{EventIndex}
 use Rattle.text_spec.specs.Below.{decimal, encode_lower, to_be_bytes, w64}
-use Rattle.text_spec.specs.Contexts.{context_word, colon}
-use Rattle.text_spec.specs.JournalForm.{entry_of}
-use Rattle.text_spec.specs.Stamps.{stamp_text}
+use Rattle.text_spec.specs.{context_word, colon, entry_of, stamp_text}
 use Rattle.text_spec.proofs.HexadecimalLemmas.{length_hex}
 use Rattle.chain_spec.specs.Heads.{Head, head_for, heads_of}
 use Rattle.law_agreement.proofs.ChainLemmas.{sent_within}

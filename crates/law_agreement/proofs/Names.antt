@@ -3,12 +3,7 @@ pub use Rattle.std.proofs.Common.{ℕ, ◌+◌, ◌≤◌, ◌&&◌, not, Bool, 
 pub use Rattle.std.specs.Fmt.{digits_onto, digit_glyph}
 pub use Rattle.std.specs.List.{range_with_len, list_any}
 pub use Rattle.std.specs.Option.{option_or}
-pub use Rattle.chain_spec.specs.Chain.{candidates, is_out, sent_at, sent, messages}
-pub use Rattle.chain_spec.specs.Filtering.{gated_at, thresholded_at, filtered_at, arrival, gated, aggregated, thresholded, qualified, counted, aggregated_at, alone}
-pub use Rattle.chain_spec.specs.Items.{Item, is_of, kept_parcel, item_at}
-pub use Rattle.chain_spec.specs.Messages.{spelled, message_of}
-pub use Rattle.chain_spec.specs.Moments.{Moment, closes, comes, state_is, mode_is, head_moment, act_moment, closings, turn_moments, moments}
-pub use Rattle.chain_spec.specs.Stages.{added, where_true, Stage, with_all}
+pub use Rattle.chain_spec.specs.{candidates, is_out, sent_at, sent, messages, gated_at, thresholded_at, filtered_at, arrival, gated, aggregated, thresholded, qualified, counted, aggregated_at, alone, Item, is_of, kept_parcel, item_at, spelled, message_of, Moment, closes, comes, state_is, mode_is, head_moment, act_moment, closings, turn_moments, moments, added, where_true, Stage, with_all}
 pub use Rattle.ids_config.specs.Parts.{Parts, event_at, internal_of, plain_event}
 pub use Rattle.ids_frame.specs.Spelling.{stamp_part, context_part, length_in, spelling}
 pub use Rattle.ids_types.specs.declared.entry.Act.TheVariants.{Report, State, SetMode}

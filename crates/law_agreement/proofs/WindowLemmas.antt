@@ -3,10 +3,7 @@
 use Rattle.law_agreement.proofs.Names.{◌≡◌, ℕ, suc, ◌+◌, ◌≤◌, ◌<◌, ◌==◌, ◌||◌, not, Bool, true, false, List, [], ◌∷◌, Option, Some, None, option_to_list, option_map, option_and_then, if◌then◌else◌, refl, arith, eq-eqb, list_any, option_or, Parts, event_at, aggregated_at, alone, item_at, added, where_true, context_weight, told_weight, weight}
 use Rattle.ids_types.specs.declared.event.Qualified.{Qualified}
 use Rattle.ids_config.specs.declared.parts.Aggregate.{Aggregate}
-use Rattle.chain_spec.specs.Aggregation.{first_kept, last_kept, joined}
-use Rattle.chain_spec.specs.Calls.{closes_due, arrives, closing_ticks}
-use Rattle.chain_spec.specs.Closing.{windows_in, is_due, newest_where, due_item, closing_item}
-use Rattle.chain_spec.specs.Windows.{opened, extended, covers, with_item}
+use Rattle.chain_spec.specs.{first_kept, last_kept, joined, closes_due, arrives, closing_ticks, windows_in, is_due, newest_where, due_item, closing_item, opened, extended, covers, with_item}
 use Rattle.chain_spec.proofs.AggregationLemmas.{ACall, AnArrival, AWindow, came_at}
 use Rattle.law_agreement.proofs.SumLemmas.{sum_below, sum_below-none, one_changed}
 use Rattle.law_agreement.proofs.TotalLemmas.{total, total-append, weight_in, where_weighs}

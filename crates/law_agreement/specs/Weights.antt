@@ -3,8 +3,7 @@
 use Rattle.std.specs.Prelude.{ℕ, ◌+◌, List, length, Option, Some, None}
 use Rattle.ids_types.specs.declared.event.Qualified.{Qualified}
 use Rattle.ids_types.specs.declared.names.Stamp.{Stamp}
-use Rattle.chain_spec.specs.Items.{Item, told_of}
-use Rattle.chain_spec.specs.Moments.{Moment, closes, comes, state_is, mode_is}
+use Rattle.chain_spec.specs.{Item, told_of, Moment, closes, comes, state_is, mode_is}
 
 -- a timestamp weighs its eight bytes
 abbrev pub stamp_weight : Option Stamp → ℕ

@@ -3,10 +3,7 @@
 ghost use Rattle.std.specs.Prelude.{◌*◌, ◌≤◌};
 ghost use Rattle.cmd_steps.specs.Words.{IsJournal, List, Parts, Told, journal_text, length, messages, reverse, sent, sum_by, ℕ};
 ghost use Rattle.ids_frame.specs.Spelling.{spelling};
-ghost use Rattle.chain_spec.specs.Filtering.{qualified};
-ghost use Rattle.chain_spec.specs.Items.{Item};
-ghost use Rattle.chain_spec.specs.Messages.{message_of, spelled};
-ghost use Rattle.chain_spec.specs.Moments.{Moment};
+ghost use Rattle.chain_spec.specs.{qualified, Item, message_of, spelled, Moment};
 ghost use Rattle.law_agreement.specs.Weights.{weight, moment_weight};
 
 /// The message of an item has at most as many bytes as the item weighs.

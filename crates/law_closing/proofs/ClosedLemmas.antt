@@ -8,18 +8,12 @@ use Rattle.std.proofs.lemmas.List.{get_or_past, length-map}
 use Rattle.atomic_table.proofs.Lists.{at_map}
 use Rattle.permit_ring.proofs.{some_there, at_length, there}
 use Rattle.ids_config.specs.Parts.{Parts}
-use Rattle.ids_types.specs.Turns.{entries_of}
+use Rattle.ids_types.specs.{entries_of, AreAllDecided}
 use Rattle.ids_types.specs.declared.class_spec.ClassSpec.{ClassSpec}
-use Rattle.ids_types.specs.Fates.{AreAllDecided}
 use Rattle.ids_types.proofs.FatesLemmas.{decided_on}
-use Rattle.history_spec.specs.Contexts.{class_at}
-use Rattle.history_spec.specs.Decided.{AreDecided, IsDecided, tickets_of}
+use Rattle.history_spec.specs.{class_at, AreDecided, IsDecided, tickets_of, IsFront, entries_by, StandsIn, AreLegalContexts, IsSettledLog, entries_from}
 use Rattle.history_spec.specs.Follows.{Follows}
-use Rattle.history_spec.specs.Fronts.{IsFront}
-use Rattle.history_spec.specs.Losses.{entries_by}
 use Rattle.history_spec.specs.Names.{Entry}
-use Rattle.history_spec.specs.Orders.{StandsIn}
-use Rattle.history_spec.specs.Settled.{AreLegalContexts, IsSettledLog, entries_from}
 use Rattle.history_spec.proofs.ContextLemmas.{legal_contexts}
 use Rattle.history_spec.proofs.DecidedLemmas.{are_merged}
 use Rattle.history_spec.proofs.FrontLemmas.{front_was}

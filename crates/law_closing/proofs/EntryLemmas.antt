@@ -3,9 +3,7 @@ use Rattle.std.proofs.Common.{◌≡◌, ◌≢◌, ℕ, zero, suc, ◌+◌, Lis
 use Rattle.std.proofs.lemmas.Bool.{cases_eq}
 use mathlib.Core.Option.{some}
 use lib.ListN.{get_elem?}
-use Rattle.history_spec.specs.Decided.{tickets_from, tickets_of}
-use Rattle.history_spec.specs.Losses.{entries_by}
-use Rattle.history_spec.specs.Settled.{entries_from}
+use Rattle.history_spec.specs.{tickets_from, tickets_of, entries_by, entries_from}
 use Rattle.permit_ring.proofs.{got_from}
 use Rattle.report_queue.specs.{IsWholeCaller, got_of, items_of}
 use Rattle.report_queue.specs.declared.cargo.Item.{Item}

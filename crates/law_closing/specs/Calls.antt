@@ -2,15 +2,10 @@
 use Rattle.std.specs.Prelude.{◌≡◌, ℕ, List, [], length, map, slice_index_or}
 use mathlib.Core.Option.{some}
 use lib.ListN.{get_elem?}
-use Rattle.ids_types.specs.Turns.{Turn, entries_of}
+use Rattle.ids_types.specs.{Turn, entries_of, Fate}
 use Rattle.ids_config.specs.Parts.{Parts}
-use Rattle.history_spec.specs.Decided.{all_losses}
-use Rattle.ids_types.specs.Fates.{Fate}
-use Rattle.history_spec.specs.Follows.{Calls}
-use Rattle.history_spec.specs.Losses.{entries_by}
-use Rattle.history_spec.specs.Merge.{AreMerged}
+use Rattle.history_spec.specs.{all_losses, Calls, entries_by, AreMerged, AreLegalContexts, entries_from}
 use Rattle.history_spec.specs.Names.{Entry, Loss}
-use Rattle.history_spec.specs.Settled.{AreLegalContexts, entries_from}
 use Rattle.report_queue.specs.{got_of}
 use Rattle.report_queue.specs.declared.cargo.Item.{Item}
 use Rattle.report_api.specs.{Act, Got, PassMemo, calls_in, fate_of}

@@ -6,10 +6,8 @@ use Rattle.ids_types.specs.Turns.{Turn, entries_of}
 use Rattle.ids_types.specs.declared.class_spec.ClassSpec.{ClassSpec}
 use Rattle.ids_types.specs.declared.entry.Entry.{Entry}
 use Rattle.ids_config.specs.Parts.{Parts}
-use Rattle.history_spec.specs.Contexts.{class_at}
-use Rattle.history_spec.specs.Fronts.{fronts_from}
-use Rattle.permit_ring.specs.Seats.{ring_positions, ring_seats}
-use Rattle.permit_ring.specs.Steps.{ended}
+use Rattle.history_spec.specs.{class_at, fronts_from}
+use Rattle.permit_ring.specs.{ring_positions, ring_seats, ended}
 use Rattle.buffer_classes.specs.{class_sizes, giver_memo}
 use Rattle.buffer_classes.specs.declared.class.Class.{Class}
 use Rattle.buffer_classes.specs.declared.class.Classes.{Classes}

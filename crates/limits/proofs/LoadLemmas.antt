@@ -6,8 +6,7 @@ use Rattle.std.proofs.lemmas.Bool.{eqb-false, and_parts}
 use Rattle.std.proofs.lemmas.List.Sums.{sum_by-cons}
 use Rattle.std.specs.List.{AllByRecursion}
 use Rattle.ids_config.specs.declared.parts.Window.{Window as Limit}
-use Rattle.chain_spec.specs.Limits.{Candidate, window_at, those_in, load, passes_rate, passes_traffic, is_let_out, sent_of}
-use Rattle.chain_spec.specs.Stages.{where_true}
+use Rattle.chain_spec.specs.{Candidate, window_at, those_in, load, passes_rate, passes_traffic, is_let_out, sent_of, where_true}
 
 -- a later tick lies in no earlier window
 pub later_window : (interval early late : ℕ) → early ≤ late → window_at interval early ≤ window_at interval late

@@ -5,9 +5,7 @@ use Rattle.std.proofs.lemmas.Bool.Decides.{nat_tests}
 use Rattle.std.specs.List.{AllByRecursion}
 use Rattle.ids_config.specs.Parts.{Parts}
 use Rattle.ids_config.specs.declared.parts.Window.{Window as Limit}
-use Rattle.chain_spec.specs.Limits.{Candidate, window_at, load, has_room, passes_rate, passes_traffic, sent_of}
-use Rattle.chain_spec.specs.Stages.{where_true}
-use Rattle.chain_spec.specs.Windows.{EndBy}
+use Rattle.chain_spec.specs.{Candidate, window_at, load, has_room, passes_rate, passes_traffic, sent_of, where_true, EndBy}
 use Rattle.limits.specs.declared.meter.Meter.{Meter}
 use Rattle.limits.specs.Limiting.{Measures, MeasuresAny, Stands, answer_to}
 use Rattle.limits.specs.Meters.{Meters, in_window, has_left, renewed, taken, after_asking, is_allowed, after_any, answer_of, after_message}

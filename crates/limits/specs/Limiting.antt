@@ -4,8 +4,7 @@ use Rattle.std.specs.Prelude.{◌≡◌, ℕ, ◌-◌, ◌≤◌, List, Option, 
 use Rattle.std.specs.List.{AllByRecursion}
 use Rattle.ids_config.specs.Parts.{Parts}
 use Rattle.ids_config.specs.declared.parts.Window.{Window as Limit}
-use Rattle.chain_spec.specs.Limits.{Candidate, window_at, load, passes_rate, passes_traffic, sent_of}
-use Rattle.chain_spec.specs.Windows.{EndBy}
+use Rattle.chain_spec.specs.{Candidate, window_at, load, passes_rate, passes_traffic, sent_of, EndBy}
 use Rattle.limits.specs.Meters.{Meters}
 use Rattle.limits.specs.declared.admit.Admit.{Admit}
 use Rattle.limits.specs.declared.admit.Admit.TheVariants.{Sent, Rate, Traffic}

@@ -2,8 +2,7 @@
 
 ghost use Rattle.std.specs.Prelude.{◌≡◌, ◌≤◌, ℕ, List, [], ◌∷◌, IfSome};
 ghost use Rattle.ids_config.specs.Parts.{Parts};
-ghost use Rattle.chain_spec.specs.Limits.{Candidate};
-ghost use Rattle.chain_spec.specs.Windows.{EndBy};
+ghost use Rattle.chain_spec.specs.{Candidate, EndBy};
 ghost use Rattle.limits.specs.Limiting.{Stands, answer_to};
 ghost use Rattle.limits.specs.Meters.{HasInterval, answer_of, after_message, is_allowed, after_any};
 

@@ -5,29 +5,22 @@ pub use Rattle.std.proofs.lemmas.List.{length-map, length-replicate, map-append,
 pub use Rattle.std.proofs.lemmas.List.Elements.{All-from_recursion, All-weaker, recursion_from_All, All-cons, All-nil, All-pop, All-push}
 pub use Rattle.std.proofs.lemmas.List.Sums.{sum_by-cons, sum_by_push}
 pub use Rattle.std.specs.List.{All, AllByRecursion}
-pub use Rattle.buffer_classes.specs.{Buffer, AllOf, givers_of, AreBuffersIn, IsSpec, Welcomed, Takes, ClassSeat}
-pub use Rattle.buffer_classes.specs.Givers.{AreGiversOf, late_of}
-pub use Rattle.buffer_classes.specs.Making.{spec_sizes, AreSpecs}
-pub use Rattle.filter_chain.specs.Parcels.{HandsBack, IsShort, all_parcels, parcel_of}
-pub use Rattle.filter_chain.specs.Turning.{FitsAct, FitsLargest, FitsTurn, bytes_in, turn_by, HasLogRoom, context_room, most_sent}
+pub use Rattle.buffer_classes.specs.{Buffer, AllOf, givers_of, AreBuffersIn, IsSpec, Welcomed, Takes, ClassSeat, AreGiversOf, late_of, spec_sizes, AreSpecs}
+pub use Rattle.filter_chain.specs.{HandsBack, IsShort, all_parcels, parcel_of, FitsAct, FitsLargest, FitsTurn, bytes_in, turn_by, HasLogRoom, context_room, most_sent}
 pub use Rattle.law_closing.proofs.{all_calls, all_accepted, rings_have, or_at}
 pub use Rattle.law_closing.specs.Closed.{IsMadeFor, came, plain_item}
 pub use Rattle.ids_config.specs.Parts.{Parts, class_of}
-pub use Rattle.ids_types.specs.Carries.{act_by, entry_by}
-pub use Rattle.ids_types.specs.Turns.{Turn}
+pub use Rattle.ids_types.specs.{act_by, entry_by, Turn}
 pub use Rattle.ids_types.specs.declared.entry.Entry.{Entry}
 pub use Rattle.ids_types.specs.declared.entry.TurnHead.{TurnHead}
 pub use Rattle.permit_ring.proofs.ListLemmas.{at_length, there}
 pub use Rattle.permit_ring.specs.Hands.{AllAdmitted}
-pub use Rattle.report_api.specs.{EachSettled, Act, DeskMemo, PassMemo, lost_events, lost_contexts, missing_in, Report, State, SetMode, Absent, Kept, Missing, AdmitsAct, AdmitsItem, is_sensor, term_sizes, IsNewMaking, sizes_of, IsPassOf}
-pub use Rattle.report_api.specs.Desks.{IsDeskOf, desk_memo, to_give_back}
-pub use Rattle.report_api.specs.Passes.{pass_memo}
+pub use Rattle.report_api.specs.{EachSettled, Act, DeskMemo, PassMemo, lost_events, lost_contexts, missing_in, Report, State, SetMode, Absent, Kept, Missing, AdmitsAct, AdmitsItem, is_sensor, term_sizes, IsNewMaking, sizes_of, IsPassOf, IsDeskOf, desk_memo, to_give_back, pass_memo}
 pub use Rattle.report_api.specs.declared.desk.Desk.{Desk}
 pub use Rattle.report_api.specs.declared.pass.Pass.{Pass}
 pub use Rattle.report_api.specs.declared.shared.Shared.{Shared}
 pub use Rattle.report_api.specs.declared.terms.ReportTerms.{ReportTerms}
 pub use Rattle.report_queue.specs.{AreAllBack, AreAllSwept, IsAllTaken, ReapTells, ReapsToEnd, queue_positions, item_note, reaps_all, welcomes}
-pub use Rattle.main_function.specs.{AreCountsOf, AreSumsOf, Closed, IsQuick, OnlyWelcomes, all_back, ShowsHistory, AreTotals, IsManagerOf, Stands, Turned, IsHeld, held, items_of, AreAllPasses, MakesTurn, Took, item_of, largest_size, sweeps_for}
-pub use Rattle.main_function.specs.Making.{IsBuilt, IsNewManager}
+pub use Rattle.main_function.specs.{AreCountsOf, AreSumsOf, Closed, IsQuick, OnlyWelcomes, all_back, ShowsHistory, AreTotals, IsManagerOf, Stands, Turned, IsHeld, held, items_of, AreAllPasses, MakesTurn, Took, item_of, largest_size, sweeps_for, IsBuilt, IsNewManager}
 pub use Rattle.main_function.specs.declared.manager.Manager.{Manager}
 pub use Rattle.main_function.specs.declared.rest.Totals.{Totals}

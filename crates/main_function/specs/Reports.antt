@@ -1,8 +1,7 @@
 -- What the desk shows of a history, and what one more turn does to it.
 use Rattle.std.specs.Prelude.{◌≡◌, ℕ, ◌≤◌, List, [], ◌∷◌, length, map}
-use Rattle.ids_types.specs.Carries.{entry_by}
+use Rattle.ids_types.specs.{entry_by, Turn, entries_of}
 use Rattle.ids_types.specs.declared.entry.Entry.{Entry}
-use Rattle.ids_types.specs.Turns.{Turn, entries_of}
 use Rattle.buffer_classes.specs.Buffers.{Buffer}
 use Rattle.history_spec.specs.Fronts.{fronts_from}
 use Rattle.report_queue.specs.{OffersAll, ReapsToEnd, sweeps}

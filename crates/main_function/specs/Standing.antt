@@ -6,8 +6,7 @@ use Rattle.std.specs.List.{All}
 use Rattle.ids_types.specs.Output.{Output, room_of}
 use Rattle.ids_types.specs.Turns.{Turn}
 use Rattle.ids_config.specs.Parts.{Parts}
-use Rattle.filter_chain.specs.History.{last_tick}
-use Rattle.filter_chain.specs.Turning.{most_sent}
+use Rattle.filter_chain.specs.{last_tick, most_sent}
 use Rattle.permit_ring.specs.Hands.{AllAdmitted}
 use Rattle.buffer_classes.specs.Buffers.{Buffer}
 use Rattle.report_queue.specs.{queue_positions}

@@ -8,8 +8,7 @@ use Rattle.ids_types.specs.declared.entry.TurnHead.{TurnHead}
 use Rattle.ids_types.specs.Output.{Output, room_of}
 use Rattle.ids_types.specs.Turns.{Turn}
 use Rattle.ids_config.specs.Parts.{Parts}
-use Rattle.filter_chain.specs.History.{Sends, handed_of}
-use Rattle.filter_chain.specs.Parcels.{all_parcels}
+use Rattle.filter_chain.specs.{Sends, handed_of, all_parcels}
 use Rattle.buffer_classes.specs.{Buffer, giver_memo, givers_of}
 use Rattle.buffer_classes.specs.declared.giver.Giver.{Giver}
 use Rattle.history_spec.specs.Contexts.{class_at}

@@ -2,8 +2,7 @@
 ghost use Rattle.std.specs.Prelude.{◌≡◌, [], length, map};
 ghost use Rattle.buffer_classes.specs.{AllOf, givers_of};
 ghost use Rattle.report_api.specs.{IsDeskOf, desk_memo, to_give_back, pass_memo};
-ghost use Rattle.main_function.specs.Closing.{OnlyWelcomes, all_back};
-ghost use Rattle.main_function.specs.Standing.{AreAllPasses};
+ghost use Rattle.main_function.specs.{OnlyWelcomes, all_back, AreAllPasses};
 
 use report_api::{Desk, Pass, Shared};
 

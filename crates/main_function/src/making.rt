@@ -2,8 +2,7 @@
 ghost use Rattle.std.specs.Prelude.{◌≡◌, ◌+◌, ◌*◌, ◌≤◌, [], length, map, IfOk};
 ghost use Rattle.ids_config.specs.Parts.{class_of};
 ghost use Rattle.buffer_classes.specs.Making.{spec_sizes};
-ghost use Rattle.main_function.specs.Making.{IsBuilt, IsNewManager};
-ghost use Rattle.main_function.specs.Standing.{largest_size};
+ghost use Rattle.main_function.specs.{IsBuilt, IsNewManager, largest_size};
 
 use crate::manager::Manager;
 use crate::rest::{RestLog, Totals};

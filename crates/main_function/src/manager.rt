@@ -1,16 +1,12 @@
 //! The manager.
 ghost use Rattle.std.specs.Prelude.{◌≡◌, ◌≤◌, ◌<◌, ◌^◌, [], true, List, length, map, reverse, IfOk, OnErr, OnOk};
-ghost use Rattle.ids_types.specs.Output.{room_of};
-ghost use Rattle.ids_types.specs.Turns.{Turn};
+ghost use Rattle.ids_types.specs.{room_of, Turn};
 ghost use Rattle.ids_config.specs.Parts.{Parts};
 ghost use Rattle.filter_chain.specs.History.{rows_of};
 ghost use Rattle.buffer_classes.specs.Givers.{givers_of, late_of};
-ghost use Rattle.main_function.specs.Closing.{AreCountsOf, CloseLeaves, Closed};
-ghost use Rattle.main_function.specs.Standing.{AreAllPasses, HasPasses, IsManager, IsManagerOf, Stands, StaysSo, fits_turn, last_of, rests_of, turns_of};
-ghost use Rattle.main_function.specs.Rests.{calls_by, rests_told, with_rest};
+ghost use Rattle.main_function.specs.{AreCountsOf, CloseLeaves, Closed, AreAllPasses, HasPasses, IsManager, IsManagerOf, Stands, StaysSo, fits_turn, last_of, rests_of, turns_of, calls_by, rests_told, with_rest, IsQuick, LogsOne, TurnFails, TurnLeaves, Turned};
 ghost use Rattle.report_queue.specs.{AreAllBack, AreAllSwept, IsAllTaken};
 ghost use Rattle.report_api.specs.{EachSettled, desk_memo, pass_memo};
-ghost use Rattle.main_function.specs.Turning.{IsQuick, LogsOne, TurnFails, TurnLeaves, Turned};
 
 use crate::closing::welcome_all;
 use crate::rest::{HasPass, RestLog, Totals, TurnFault};

@@ -1,7 +1,6 @@
 -- What contracts see of a disk in memory, and what its calls make of that.
 use Rattle.std.specs.Prelude.{◌≡◌, ◌↔◌, ◌⊎◌, ⊤, ℕ, ◌+◌, ◌<◌, ◌≤◌, [], List, Result, Ok, Err, IsOk, is_ok, if◌then◌else◌}
-use Rattle.ids_outside.specs.Faults.{counted}
-use Rattle.ids_outside.specs.Script.{CountsCall, IsToFail, Plan}
+use Rattle.ids_outside.specs.{counted, CountsCall, IsToFail, Plan}
 use Rattle.memory_disk.specs.Disks.{Run, State, after, synced}
 use Rattle.memory_disk.specs.declared.disk.DiskFailed.{DiskFailed}
 

@@ -5,12 +5,7 @@ use Rattle.std.proofs.lemmas.List.Sums.{sum_by-cons}
 use Rattle.ids_types.specs.declared.event.Qualified.{Qualified}
 use Rattle.ids_types.specs.declared.mode.Mode.{Mode}
 use Rattle.ids_config.specs.declared.parts.Aggregate.{Aggregate}
-use Rattle.chain_spec.specs.Aggregation.{joined, kept_of}
-use Rattle.chain_spec.specs.Calls.{closes_due, arrives, arrived}
-use Rattle.chain_spec.specs.Closing.{windows_in, is_due, newest_where, due_item, closing_item}
-use Rattle.chain_spec.specs.Filtering.{alone, arrival, gated_at, aggregated_at, thresholded_at, filtered_at, qualified_at, qualified}
-use Rattle.chain_spec.specs.Gate.{is_detailed, item_in, bypassing_at}
-use Rattle.chain_spec.specs.Windows.{opened, extended, covers, with_item, windows_of}
+use Rattle.chain_spec.specs.{joined, kept_of, closes_due, arrives, arrived, windows_in, is_due, newest_where, due_item, closing_item, alone, arrival, gated_at, aggregated_at, thresholded_at, filtered_at, qualified_at, qualified, is_detailed, item_in, bypassing_at, opened, extended, covers, with_item, windows_of}
 use Rattle.chain_spec.proofs.AggregationLemmas.{ACall, AnArrival, AWindow, came_at}
 use Rattle.memory_image.proofs.TickLemmas.{AreBy, Keeps, some_or, some_where, added_by, behind_keeps}
 

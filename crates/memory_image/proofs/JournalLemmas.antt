@@ -10,21 +10,12 @@ use Rattle.ids_types.specs.declared.entry.Carried.{Carried}
 use Rattle.ids_types.specs.declared.entry.Carried.TheVariants.{Absent, Kept, Missing}
 use Rattle.ids_types.specs.declared.entry.Entry.{Entry}
 use Rattle.ids_types.specs.declared.entry.TurnHead.{TurnHead}
-use Rattle.ids_config.specs.Parts.{index_of}
-use Rattle.ids_config.specs.Valid.{IsValid}
-use Rattle.ids_config.specs.Values.{is_within}
+use Rattle.ids_config.specs.{index_of, IsValid, is_within}
 use Rattle.filter_chain.specs.History.{rows_of}
-use Rattle.chain_spec.specs.Heads.{head_for, heads_of}
-use Rattle.chain_spec.specs.Moments.{head_moment, act_moment, turn_moments, moments}
-use Rattle.text_spec.specs.Contexts.{IsContext}
-use Rattle.text_spec.specs.Fields.{AreHeld}
-use Rattle.text_spec.specs.JournalFaults.{Past, is_act, is_context, has_event, head_fault, next, start}
-use Rattle.text_spec.specs.JournalReading.{Fits, IsHeld, journal_grammar}
-use Rattle.text_spec.specs.JournalText.{Told, Line, begins, enters, loses, act_fields, turn_told}
-use Rattle.text_spec.specs.Lines.{AreFaultless}
+use Rattle.chain_spec.specs.{head_for, heads_of, head_moment, act_moment, turn_moments, moments, qualified}
+use Rattle.text_spec.specs.{IsContext, AreHeld, Past, is_act, is_context, has_event, head_fault, next, start, Fits, IsHeld, journal_grammar, Told, Line, begins, enters, loses, act_fields, turn_told, AreFaultless}
 use Rattle.text_spec.proofs.JournalFacts.{entry_passes, sensor_is_there}
 use Rattle.text_spec.proofs.TraceFacts.{all_append}
-use Rattle.chain_spec.specs.Filtering.{qualified}
 use Rattle.memory_image.proofs.ChainLemmas.{IsMoment, IsShort, qualified_by}
 use Rattle.memory_image.proofs.RowLemmas.{memory_kept}
 use Rattle.memory_image.proofs.TickLemmas.{AreBy, by_all, by_later}

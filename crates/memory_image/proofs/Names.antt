@@ -18,7 +18,7 @@ pub use Rattle.std.proofs.lemmas.List.Edits.{length-remove}
 pub use Rattle.std.proofs.lemmas.List.Elements.{All-head, All-push, All-tail}
 pub use Rattle.std.proofs.lemmas.List.Quantifiers.{all_pairs_push, position-Some}
 pub use Rattle.std.proofs.lemmas.List.Sums.{fails_before_first, sum_by-le, sum_by-take-le, sum_by_more}
-pub use Rattle.chain_spec.specs.Memory.{Stored, event_of, newest_rows, row_of}
+pub use Rattle.chain_spec.specs.{Stored, event_of, newest_rows, row_of, Item, item_at, kept_parcel, told_of, Moment, closes, comes, mode_is, state_is, Stage, added, behind, where_true, with_all}
 pub use Rattle.event_memory.specs.Held.{Held, Stands, after_storing, after_storing_at, begun, is_of, stored, no_row}
 pub use Rattle.event_memory.proofs.StandsLemmas.{stands_after}
 pub use Rattle.memory_image.specs.Restoring.{HasPlace}
@@ -27,6 +27,3 @@ unfoldable pub use Rattle.memory_image.specs.Reading.{fields_at}
 pub use Rattle.std.specs.Option.{option_or}
 pub use Rattle.std.specs.Prelude.{⊤}
 pub use Rattle.ids_config.specs.Parts.{Parts, event_at, internal_of}
-pub use Rattle.chain_spec.specs.Items.{Item, item_at, kept_parcel, told_of}
-pub use Rattle.chain_spec.specs.Moments.{Moment, closes, comes, mode_is, state_is}
-pub use Rattle.chain_spec.specs.Stages.{Stage, added, behind, where_true, with_all}

@@ -7,8 +7,7 @@ use Rattle.std.proofs.lemmas.List.Kept.{AllPairs-cons, AllPairs-filter}
 use Rattle.std.proofs.lemmas.List.Sums.{sum_by-cons}
 use Rattle.ids_types.specs.MemoryRow.{Row}
 use Rattle.ids_config.specs.Valid.{IsValid, IsEvent}
-use Rattle.chain_spec.specs.Memory.{Stored, event_of, events_of, has_event, renews, run_of, oldest_tick, row_over, row_of, newest_rows, memory_of}
-use Rattle.chain_spec.specs.Storing.{stored, stored_of}
+use Rattle.chain_spec.specs.{Stored, event_of, events_of, has_event, renews, run_of, oldest_tick, row_over, row_of, newest_rows, memory_of, stored, stored_of}
 use Rattle.event_memory.specs.Held.{begun}
 use Rattle.event_memory.proofs.EventsLemmas.{is, is_not, any-of-take}
 use Rattle.memory_image.specs.Images.{IsKeepable}

@@ -1,8 +1,7 @@
 -- Reading an image from left to right.
 use Rattle.std.specs.Prelude.{◌≡◌, ◌++◌, ◌^◌, ◌≤◌, ℕ, List, length, Option, Some, None}
 use Rattle.std.specs.Int.{w16, w64}
-use Rattle.ids_frame.specs.Bytes.{AreBytes}
-use Rattle.ids_frame.specs.Reading.{Read, ◌>>=◌, byte_at, bytes_at, number_at}
+use Rattle.ids_frame.specs.{AreBytes, Read, ◌>>=◌, byte_at, bytes_at, number_at}
 use Rattle.ids_types.specs.MemoryRow.{Row}
 use Rattle.ids_types.specs.declared.names.Stamp.{Stamp}
 use Rattle.memory_image.specs.Images.{Fields, IsKeepable, fields, fields_of, flag_of, number_of, row_bytes}

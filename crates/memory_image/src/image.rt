@@ -2,8 +2,7 @@
 ghost use Rattle.std.specs.Prelude.{◌≡◌, ◌+◌, ◌≤◌, ◌++◌, ℕ, List, length, reverse, vec_capacity, vec_len};
 ghost use Rattle.std.specs.Bool.{OnTrue, OnFalse};
 ghost use Rattle.chain_spec.specs.Memory.{Stored};
-ghost use Rattle.event_memory.specs.Held.{Stands, no_rows};
-ghost use Rattle.event_memory.specs.Views.{plain_row};
+ghost use Rattle.event_memory.specs.{Stands, no_rows, plain_row};
 ghost use Rattle.ids_types.specs.MemoryRow.{Row as MemoryRow};
 ghost use Rattle.memory_image.specs.Images.{AreKeepable, IsImageOf, IsKeepable, joined};
 ghost use Rattle.memory_image.specs.Restoring.{Adds};

@@ -3,8 +3,7 @@
 ghost use Rattle.std.specs.Prelude.{ℕ, take};
 ghost use Rattle.ids_config.specs.Parts.{Parts};
 ghost use Rattle.ids_config.specs.Valid.{IsValid};
-ghost use Rattle.text_spec.specs.JournalReading.{Fits};
-ghost use Rattle.text_spec.specs.JournalText.{Told};
+ghost use Rattle.text_spec.specs.{Fits, Told};
 ghost use Rattle.filter_chain.specs.History.{rows_of};
 ghost use Rattle.memory_image.specs.Images.{AreKeepable};
 

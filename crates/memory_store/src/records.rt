@@ -1,8 +1,7 @@
 //! The records that were found on a disk, and their text.
 
 ghost use Rattle.std.specs.Prelude.{◌≡◌, ◌<◌, length, slice_index_or, IfOk};
-ghost use Rattle.event_memory.specs.Held.{no_row};
-ghost use Rattle.event_memory.specs.Views.{plain_row};
+ghost use Rattle.event_memory.specs.{no_row, plain_row};
 ghost use Rattle.text_spec.specs.MemoryText.{memory_text};
 
 use event_memory::{Memory, Row};

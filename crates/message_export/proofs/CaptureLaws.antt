@@ -8,10 +8,7 @@ use Rattle.std.proofs.lemmas.Nat.{from_be_bytes-to_be_bytes_4}
 use Rattle.ids_types.specs.declared.names.Stamp.{Stamp}
 use Rattle.ids_frame.specs.declared.context.Form.{Form}
 use Rattle.ids_frame.specs.declared.context.Form.TheVariants.{Short, Long}
-use Rattle.ids_frame.specs.Context.{ContextPart, FitsContext, most_bytes}
-use Rattle.ids_frame.specs.Message.{MessageParts, FitsMessage}
-use Rattle.ids_frame.specs.Messages.{AreMessages}
-use Rattle.ids_frame.specs.Spelling.{context_part, length_in, signature_part, spelling, stamp_part}
+use Rattle.ids_frame.specs.{ContextPart, FitsContext, most_bytes, MessageParts, FitsMessage, AreMessages, context_part, length_in, signature_part, spelling, stamp_part}
 use Rattle.ids_frame.proofs.MessageLemmas.{one_message_lem}
 use Rattle.message_export.specs.Capture.{Told, capture_front, exported_pcap, kept, no_time, packet, packets, time_after, told_of}
 use Rattle.message_export.specs.declared.capture.Time.{Time}

@@ -4,11 +4,7 @@ use Rattle.std.proofs.lemmas.Bool.{eqb-true}
 use Rattle.std.proofs.lemmas.Grind.{flat_map-append}
 use Rattle.std.proofs.lemmas.List.{append-nil, length-append}
 use Rattle.std.proofs.lemmas.List.Elements.{All-drop}
-use Rattle.ids_frame.specs.Bytes.{IsByte, AreBytes}
-use Rattle.ids_frame.specs.Message.{MessageParts, FitsMessage}
-use Rattle.ids_frame.specs.Messages.{joined, AreMessages, messages_read}
-use Rattle.ids_frame.specs.Spelling.{spelling}
-use Rattle.ids_frame.specs.Decoding.{CauseOf}
+use Rattle.ids_frame.specs.{IsByte, AreBytes, MessageParts, FitsMessage, joined, AreMessages, messages_read, spelling, CauseOf}
 use Rattle.ids_frame.specs.declared.fault.BadMessage.{BadMessage}
 use Rattle.ids_frame.specs.declared.fault.FrameFault.{FrameFault}
 use Rattle.ids_frame.proofs.DecodeLemmas.{Front}

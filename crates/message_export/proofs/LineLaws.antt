@@ -12,12 +12,9 @@ use Rattle.std.proofs.lemmas.Option.{same_Some}
 use Rattle.ids_types.specs.declared.names.Stamp.{Stamp}
 use Rattle.ids_frame.specs.declared.context.Form.{Form}
 use Rattle.ids_frame.specs.declared.context.Form.TheVariants.{Short, Long}
-use Rattle.ids_frame.specs.Bytes.{AreBytes}
-use Rattle.ids_frame.specs.Context.{ContextPart, FitsContext}
-use Rattle.ids_frame.specs.Message.{MessageParts, FitsMessage}
+use Rattle.ids_frame.specs.{AreBytes, ContextPart, FitsContext, MessageParts, FitsMessage}
 use Rattle.text_spec.specs.Below.{IsBytes, encode_lower}
-use Rattle.text_spec.specs.Hexadecimal.{hex_in, is_lower_digit}
-use Rattle.text_spec.specs.Stamps.{stamp_in}
+use Rattle.text_spec.specs.{hex_in, is_lower_digit, stamp_in}
 use Rattle.text_spec.proofs.HexadecimalLemmas.{hex_in-encode_lower, hex_in-other}
 use Rattle.text_spec.proofs.NumbersLemmas.{own_digits}
 use Rattle.text_spec.proofs.StampsLemmas.{IsBytes-high_first, stamp_again}

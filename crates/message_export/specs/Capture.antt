@@ -5,8 +5,7 @@ use Rattle.std.specs.Prelude.{◌++◌, ◌∷◌, if◌then◌else◌}
 use Rattle.text_spec.specs.Below.{ℕ, List, [], length, min, nat_lt, take, Option, Some, None, to_be_bytes}
 use Rattle.std.specs.Int.{w16, w32}
 use Rattle.ids_types.specs.declared.names.Stamp.{Stamp}
-use Rattle.ids_frame.specs.Message.{MessageParts}
-use Rattle.ids_frame.specs.Spelling.{spelling}
+use Rattle.ids_frame.specs.{MessageParts, spelling}
 use Rattle.message_export.specs.Moments.{seconds_of, nanoseconds_of}
 use Rattle.message_export.specs.declared.capture.Time.{Time}
 

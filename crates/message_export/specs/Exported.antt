@@ -1,9 +1,8 @@
 -- Messages in a format for other programs.
 use Rattle.std.specs.Prelude.{ℕ, List, [], ◌∷◌, ◌++◌}
-use Rattle.ids_frame.specs.Message.{MessageParts}
+use Rattle.ids_frame.specs.{MessageParts, spelling}
 use Rattle.message_export.specs.declared.exporting.Format.{Format}
 use Rattle.message_export.specs.declared.exporting.Format.TheVariants.{Json, Pcap}
-use Rattle.ids_frame.specs.Spelling.{spelling}
 use Rattle.text_spec.specs.Words.{line_feed}
 use Rattle.message_export.specs.declared.capture.Time.{Time}
 use Rattle.message_export.specs.Capture.{capture_front, exported_pcap, packet}

@@ -5,9 +5,7 @@ use Rattle.text_spec.specs.Below.{ℕ, List, [], length, codes, decimal, Option,
 use Rattle.ids_types.specs.declared.names.Stamp.{Stamp}
 use Rattle.ids_frame.specs.declared.context.Form.{Form}
 use Rattle.ids_frame.specs.declared.context.Form.TheVariants.{Short, Long}
-use Rattle.ids_frame.specs.Context.{ContextPart}
-use Rattle.ids_frame.specs.Message.{MessageParts}
-use Rattle.ids_frame.specs.Spelling.{spelling}
+use Rattle.ids_frame.specs.{ContextPart, MessageParts, spelling}
 use Rattle.text_spec.specs.Words.{line_feed}
 use Rattle.message_export.specs.Moments.{seconds_of, nanoseconds_of}
 

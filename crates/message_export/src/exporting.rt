@@ -1,9 +1,7 @@
 //! The messages of a file, in a format for other programs.
 
 ghost use Rattle.std.specs.Prelude.{◌≡◌, ◌⊎◌, ◌++◌, List, Ok, Err, IfOk, IfErr, OnOk};
-ghost use Rattle.ids_frame.specs.Message.{FitsMessage, MessageParts};
-ghost use Rattle.ids_frame.specs.Messages.{messages_read};
-ghost use Rattle.ids_frame.specs.Spelling.{spelling};
+ghost use Rattle.ids_frame.specs.{FitsMessage, MessageParts, messages_read, spelling};
 ghost use Rattle.message_export.specs.Exported.{exported, front_of, piece};
 
 use crate::bytes::append;

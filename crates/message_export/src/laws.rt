@@ -2,9 +2,7 @@
 
 ghost use Rattle.std.specs.Prelude.{◌≡◌, ◌≤◌, ◌<◌, ◌^◌, ℕ, List, length, map};
 ghost use Rattle.std.specs.List.{AllByRecursion};
-ghost use Rattle.ids_frame.specs.Message.{FitsMessage, MessageParts};
-ghost use Rattle.ids_frame.specs.Messages.{AreMessages};
-ghost use Rattle.ids_frame.specs.Spelling.{spelling};
+ghost use Rattle.ids_frame.specs.{FitsMessage, MessageParts, AreMessages, spelling};
 ghost use Rattle.message_export.specs.Capture.{exported_pcap, told_of};
 ghost use Rattle.message_export.specs.JsonLines.{json_line};
 

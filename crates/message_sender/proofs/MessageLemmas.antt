@@ -2,15 +2,12 @@
 use Rattle.std.proofs.Common.{◌≡◌, ℕ, ◌<◌, ◌≤◌, List, length, Option, Some, None, option_map, refl, ap, arith, length-append, ◌+◌}
 use Rattle.std.proofs.lemmas.List.{get_or-map, length-map}
 use Rattle.ids_config.specs.Parts.{Parts, event_at, plain_event}
-use Rattle.ids_frame.specs.Context.{context_of}
-use Rattle.ids_frame.specs.Spelling.{context_part, length_in, spelling, stamp_part}
+use Rattle.ids_frame.specs.{context_of, context_part, length_in, spelling, stamp_part}
 use Rattle.ids_frame.specs.declared.context.Form.{Form}
 use Rattle.ids_frame.specs.declared.context.Form.TheVariants.{Short, Long}
 use Rattle.ids_types.specs.declared.names.Stamp.{Stamp}
-use Rattle.chain_spec.specs.Items.{Item}
-use Rattle.chain_spec.specs.Messages.{message_of}
-use Rattle.message_sender.specs.Sender.{SenderParts, most_message, source_of, source_at, message_by}
-use Rattle.message_sender.specs.Sending.{Stands}
+use Rattle.chain_spec.specs.{Item, message_of}
+use Rattle.message_sender.specs.{SenderParts, most_message, source_of, source_at, message_by, Stands}
 
 -- the timestamp has eight bytes where it is there
 stamp_is_short : (stamp : Option Stamp) → length (stamp_part stamp) ≤ 8

@@ -2,21 +2,14 @@
 use Rattle.std.proofs.Common.{◌≡◌, ℕ, ◌+◌, ◌<◌, ◌&&◌, not, Bool, true, false, Some, List, [], ◌∷◌, ◌++◌, length, map, if◌then◌else◌, refl, sym, ap, subst, ◌∙◌, arith, append_assoc}
 use Rattle.ids_types.specs.Output.{Output, has_sent}
 use Rattle.ids_config.specs.Parts.{Parts, event_at, is_given}
-use Rattle.ids_frame.specs.Message.{MessageParts}
-use Rattle.ids_frame.specs.Spelling.{spelling}
+use Rattle.ids_frame.specs.{MessageParts, spelling}
 use Rattle.limits.specs.declared.admit.Admit.{Admit}
 use Rattle.limits.specs.declared.admit.Admit.TheVariants.{Sent, Rate, Traffic}
 use Rattle.limits.specs.Limiting.{Stands as LimitsStand, answer_to}
 use Rattle.limits.specs.Meters.{Meters}
-use Rattle.chain_spec.specs.Chain.{candidates, is_out}
-use Rattle.chain_spec.specs.Endings.{at_rate, at_traffic, let_out, qualified_fate}
-use Rattle.chain_spec.specs.Items.{Item}
-use Rattle.chain_spec.specs.Limits.{Candidate}
-use Rattle.chain_spec.specs.Messages.{weighed, message_of}
-use Rattle.chain_spec.specs.Windows.{EndBy}
+use Rattle.chain_spec.specs.{candidates, is_out, at_rate, at_traffic, let_out, qualified_fate, Item, Candidate, weighed, message_of, EndBy}
 use Rattle.chain_spec.proofs.CoverLemmas.{end_of_some}
-use Rattle.message_sender.specs.Sender.{SenderParts, source_at, message_by, with_held, with_held_back, lets_out, after_answer, out_after}
-use Rattle.message_sender.specs.Sending.{Stands, Start, IsSending, answered_fate}
+use Rattle.message_sender.specs.{SenderParts, source_at, message_by, with_held, with_held_back, lets_out, after_answer, out_after, Stands, Start, IsSending, answered_fate}
 use Rattle.message_sender.proofs.MessageLemmas.{knows_source, knows_message}
 
 -- candidates end by a tick by which the items end

@@ -2,13 +2,11 @@
 use Rattle.std.specs.Prelude.{ℕ, ◌+◌, ◌-◌, ◌^◌, ◌<◌, ◌≤◌, Bool, true, false, List, length, Option, None, Some, IfSome, option_map, slice_index_or, if◌then◌else◌}
 use Rattle.ids_types.specs.Output.{Output, has_sent}
 use Rattle.ids_config.specs.Parts.{Event, is_given}
-use Rattle.ids_frame.specs.Context.{context_of}
-use Rattle.ids_frame.specs.Message.{MessageParts}
+use Rattle.ids_frame.specs.{context_of, MessageParts}
 use Rattle.limits.specs.declared.admit.Admit.{Admit}
 use Rattle.limits.specs.declared.admit.Admit.TheVariants.{Sent, Rate, Traffic}
 use Rattle.limits.specs.Meters.{Meters}
-use Rattle.chain_spec.specs.Items.{Item}
-use Rattle.chain_spec.specs.Messages.{byte_7}
+use Rattle.chain_spec.specs.{Item, byte_7}
 use Rattle.message_sender.specs.declared.source.Source.{Source}
 
 -- the names in all messages, a source for each event, the event that tells of what was held back, the limits,

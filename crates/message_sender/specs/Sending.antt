@@ -7,10 +7,7 @@ use Rattle.ids_config.specs.Parts.{Parts}
 use Rattle.limits.specs.declared.admit.Admit.{Admit}
 use Rattle.limits.specs.declared.admit.Admit.TheVariants.{Sent, Rate, Traffic}
 use Rattle.limits.specs.Limiting.{Stands as LimitsStand}
-use Rattle.chain_spec.specs.Chain.{candidates, sent, held}
-use Rattle.chain_spec.specs.Endings.{Fate, unsent, at_rate, at_traffic, let_out}
-use Rattle.chain_spec.specs.Items.{Item}
-use Rattle.chain_spec.specs.Messages.{weighed, spelled}
+use Rattle.chain_spec.specs.{candidates, sent, held, Fate, unsent, at_rate, at_traffic, let_out, Item, weighed, spelled}
 use Rattle.message_sender.specs.Sender.{SenderParts, source_of}
 
 -- the sender is that of the configuration after these qualified events: it knows the configured names, and the

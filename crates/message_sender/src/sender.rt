@@ -3,15 +3,9 @@
 ghost use Rattle.std.specs.Prelude.{◌≡◌, ◌<◌, ◌≤◌, ◌-◌, ◌^◌, true, Some, List, [], ◌∷◌, length, map, All, option_copied, option_map, IfOk, IfSome};
 ghost use Rattle.ids_types.specs.Output.{Output, has_sent};
 ghost use Rattle.ids_config.specs.Parts.{Parts};
-ghost use Rattle.ids_frame.specs.Context.{context_of};
-ghost use Rattle.ids_frame.specs.Spelling.{spelling};
-ghost use Rattle.chain_spec.specs.Chain.{held};
-ghost use Rattle.chain_spec.specs.Endings.{qualified_fate};
-ghost use Rattle.chain_spec.specs.Items.{Item};
-ghost use Rattle.chain_spec.specs.Messages.{byte_7};
-ghost use Rattle.chain_spec.specs.Windows.{EndBy};
-ghost use Rattle.message_sender.specs.Sender.{HasSixBits, IsNamed, IsShort, CanQualify, most_message, source_of, source_at, message_by, with_held, with_held_back, after_answer, out_after};
-ghost use Rattle.message_sender.specs.Sending.{Stands, Start, start_of, IsSending, TakesOne, answered_fate};
+ghost use Rattle.ids_frame.specs.{context_of, spelling};
+ghost use Rattle.chain_spec.specs.{held, qualified_fate, Item, byte_7, EndBy};
+ghost use Rattle.message_sender.specs.{HasSixBits, IsNamed, IsShort, CanQualify, most_message, source_of, source_at, message_by, with_held, with_held_back, after_answer, out_after, Stands, Start, start_of, IsSending, TakesOne, answered_fate};
 
 use crate::report::Report;
 use crate::source::Source;

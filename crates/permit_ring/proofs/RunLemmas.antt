@@ -1,8 +1,7 @@
 -- What runs of the keeper's steps add: reaps one after the other, and an offer.
 use Rattle.permit_ring.proofs.Names.{◌≡◌, ℕ, ◌+◌, ◌≤◌, ◌<◌, List, [], ◌∷◌, ◌++◌, length, refl, inl, inr, arith, common_steps, KeeperMemo, append_assoc, append-nil, length_push, length-map}
 use Rattle.std.proofs.Common.{eq-zero-or-pos}
-use Rattle.permit_ring.specs.Calls.{reaps_all, ReapsToEnd, OffersAll, tried, last_word}
-use Rattle.permit_ring.specs.Steps.{reaps, reads}
+use Rattle.permit_ring.specs.{reaps_all, ReapsToEnd, OffersAll, tried, last_word, reaps, reads}
 
 module _ {N : Type 0} where
   -- one reap more

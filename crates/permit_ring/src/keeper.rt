@@ -1,13 +1,9 @@
 //! The one who takes what was finished and offers positions again.
 ghost use Rattle.std.specs.Prelude.{◌≡◌, ◌≢◌, ℕ, ◌+◌, ◌-◌, ◌%◌, ◌^◌, ◌<◌, ◌≤◌, ◌++◌, IsTrue, IsFalse, None, length, take, drop, sum, IfOk, IfErr};
 ghost use Rattle.ring_core.specs.{all_free as all_free_word, field_of};
-ghost use Rattle.permit_ring.specs.Calls.{ReapTells, TriesTell, OfferTells, vacant_after};
-ghost use Rattle.permit_ring.specs.Closing.{AreAllBack, IsAllReaped, IsSettled, AreAllSwept, swept_of};
-ghost use Rattle.permit_ring.specs.Names.{Empty};
-ghost use Rattle.permit_ring.specs.Told.{saw_mark};
+ghost use Rattle.permit_ring.specs.{ReapTells, TriesTell, OfferTells, vacant_after, AreAllBack, IsAllReaped, IsSettled, AreAllSwept, swept_of, Empty, saw_mark, reads, offers_all, misses, sweeps, welcomes};
 ghost use Rattle.atomic_table.specs.Table.{step};
 ghost use mathlib.Core.Option.{none};
-ghost use Rattle.permit_ring.specs.Steps.{reads, offers_all, misses, sweeps, welcomes};
 
 use crate::answer::Unready;
 use crate::freight::Freight;

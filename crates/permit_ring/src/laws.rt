@@ -4,8 +4,7 @@ ghost use Rattle.std.specs.Prelude.{◌≡◌, ℕ, ◌+◌, ◌%◌, ◌<◌, �
 ghost use mathlib.Core.Option.{some};
 ghost use lib.ListN.{get_elem?};
 ghost use Rattle.permit_ring.specs.{SeatMemo, Slot, Key, KeeperMemo, Sits, Lost, Got, HasOnePlace, IsOneSeats, IsMemoThere, IsInOrder, IsNotedAs, IsAdmittedSlot, ShowsRing, IsOrdered, RunningRing, StandsIn, HasFinished, HasOffered, IsOut, OfferTells, AreAllBack, IsAllReaped, IsSettled, AreCounted, AreInOrder, tickets_got, by_seat, by_keeper};
-ghost use Rattle.ring_core.specs.Machine.{seat_at};
-ghost use Rattle.ring_core.specs.Sound.{Holds};
+ghost use Rattle.ring_core.specs.{seat_at, Holds};
 
 use crate::freight::Freight;
 

@@ -1,12 +1,7 @@
 //! How a ring is made, with its keeper and all its seats.
 ghost use Rattle.std.specs.Prelude.{◌≡◌, ◌+◌, ◌<◌, ◌≤◌, [], ◌∷◌, map, length, replicate, IfOk, OnOk};
 ghost use Rattle.ring_core.specs.{all_free as all_free_word, packed};
-ghost use Rattle.permit_ring.specs.declared.memo.Slot.TheVariants.{Offered};
-ghost use Rattle.permit_ring.specs.declared.memo.View.TheVariants.{Keeps};
-ghost use Rattle.permit_ring.specs.Hands.{AllAdmitted};
-ghost use Rattle.permit_ring.specs.Making.{AreNewSeats, IsNewRing, made_memo};
-ghost use Rattle.permit_ring.specs.Seats.{IsKeeping};
-ghost use Rattle.permit_ring.specs.Steps.{first_memo};
+ghost use Rattle.permit_ring.specs.{Offered, Keeps, AllAdmitted, AreNewSeats, IsNewRing, made_memo, IsKeeping, first_memo};
 
 use crate::freight::Freight;
 use crate::keeper::Keeper;

@@ -1,9 +1,7 @@
 //! One who claims positions of a ring.
 ghost use Rattle.std.specs.Prelude.{◌≡◌, ◌+◌, ◌<◌, ◌≤◌, ◌^◌, false, None, Some, is_none, ℕ};
 ghost use Rattle.ring_core.specs.Machine.{marks_of};
-ghost use Rattle.permit_ring.specs.Calls.{ClaimTells, claimed_at, ticket_got};
-ghost use Rattle.permit_ring.specs.Logs.{IsOrdered};
-ghost use Rattle.permit_ring.specs.Steps.{finishes, adds_mark};
+ghost use Rattle.permit_ring.specs.{ClaimTells, claimed_at, ticket_got, IsOrdered, finishes, adds_mark};
 
 use crate::answer::Look;
 use crate::freight::Freight;

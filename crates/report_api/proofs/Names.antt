@@ -3,8 +3,7 @@ pub use Rattle.std.proofs.Common.{◌≡◌, ℕ, suc, ◌+◌, ◌-◌, ◌==�
 pub use Rattle.std.proofs.lemmas.List.{get_or_default, length-map, length-replicate, append-nil, length_push, map-append, map_push, length-set}
 pub use Rattle.atomic_table.proofs.Lists.{at_index, at_map, at_set, set_here, set_else}
 pub use Rattle.buffer_classes.proofs.AskLemmas.{lost_past, below_or, nothing_past}
-pub use Rattle.buffer_classes.specs.{Buffer, filled_with, lost_at, RiseFrom, givers_of, AreSpecs, IsNewClaimant, IsSpec, AllOf, GaveBack, giver_memo, Welcomed, ClassMemo, log_of}
-pub use Rattle.buffer_classes.specs.Making.{AreNewClasses, spec_sizes}
+pub use Rattle.buffer_classes.specs.{Buffer, filled_with, lost_at, RiseFrom, givers_of, AreSpecs, IsNewClaimant, IsSpec, AllOf, GaveBack, giver_memo, Welcomed, ClassMemo, log_of, AreNewClasses, spec_sizes}
 pub use Rattle.buffer_classes.specs.declared.giver.Giver.{Giver}
 pub use Rattle.ids_config.specs.Parts.{Parts, class_of}
 pub use Rattle.ids_types.specs.declared.names.Ticket.{Ticket}

@@ -4,14 +4,12 @@ use mathlib.Core.Option.{some}
 use lib.ListN.{get_elem?}
 use Rattle.ids_types.specs.declared.mode.Mode.{Mode}
 use Rattle.ids_types.specs.declared.names.Ticket.{Ticket}
-use Rattle.buffer_classes.specs.{Buffer, Asks, asked, lost_at, first_fitting, memo_at}
+use Rattle.buffer_classes.specs.{Buffer, Asks, asked, lost_at, first_fitting, memo_at, Outcome as ClassOutcome, steps_of as claim_steps}
 use Rattle.buffer_classes.specs.Claims as classes
-use Rattle.buffer_classes.specs.Names.{Outcome as ClassOutcome}
 use Rattle.buffer_classes.specs.declared.class.Class.{Class}
 use Rattle.buffer_classes.specs.declared.seat.Claim.TheVariants as claims
 use Rattle.buffer_classes.specs.declared.seat.ClaimSeat.{ClaimSeat}
 use Rattle.permit_ring.specs.Seats.{ring_seats}
-use Rattle.buffer_classes.specs.Seats.{steps_of as claim_steps}
 use Rattle.report_queue.specs.{ClaimTells, adds_mark, finishes, item_by, queue_seats, ticket_of}
 use Rattle.report_api.specs.Names.{Act, Report, SetMode, Carried, Absent, Kept, Missing, EventIndex, Stamp, PassMemo}
 use Rattle.report_api.specs.Passes.{IsPassOf, pass_memo, sizes_of, steps_of}

@@ -5,8 +5,7 @@ use mathlib.Core.Option.{some, none}
 use lib.ListN.{get_elem?}
 use Rattle.ids_types.specs.Fates.{Fate}
 use Rattle.history_spec.specs.Follows.{Follows}
-use Rattle.permit_ring.specs.Closing.{IsSettled}
-use Rattle.permit_ring.specs.Logs.{fate_of}
+use Rattle.permit_ring.specs.{IsSettled, fate_of}
 use Rattle.buffer_classes.specs.declared.giver.Giver.{Giver}
 use Rattle.buffer_classes.specs.{AreGiversOf, givers_of, giver_memo}
 use Rattle.buffer_classes.specs.Names as classes

@@ -1,8 +1,7 @@
 -- A pass: what its calls were, what became of them, and what they asked of the classes of context data buffers.
 use Rattle.std.specs.Prelude.{◌≡◌, ℕ, ◌+◌, ◌≤◌, Option, Some, None, is_some, true, List, [], ◌∷◌, length, map}
-use Rattle.ids_types.specs.Carries.{act_by}
+use Rattle.ids_types.specs.{act_by, Fate}
 use Rattle.ids_types.specs.declared.entry.Act.{Act as ActOver}
-use Rattle.ids_types.specs.Fates.{Fate}
 use Rattle.history_spec.specs.Follows.{Calls, Follows}
 use Rattle.buffer_classes.specs.{class_sizes, IsClaimSeatOf, claimant_of, claims_of, log_of}
 use Rattle.buffer_classes.specs.Seats as classes

@@ -1,6 +1,5 @@
 //! Controls: what callers tell the filters.
-ghost use Rattle.report_api.specs.{ControlTells, Controls, ModeTells, IsPassOf, State, IsControl};
-ghost use Rattle.report_api.specs.Terms.{AdmitsAct};
+ghost use Rattle.report_api.specs.{ControlTells, Controls, ModeTells, IsPassOf, State, IsControl, AdmitsAct};
 
 use crate::answer::Control;
 use crate::pass::{Pass, put};

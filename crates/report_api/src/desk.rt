@@ -2,9 +2,7 @@
 ghost use Rattle.std.specs.Prelude.{◌≡◌, ◌<◌, [], true, is_some, length, vec_capacity, IfOk};
 ghost use Rattle.buffer_classes.specs.{AllOf, AreBuffersIn, GaveBack, Welcomed, givers_of, late_of};
 ghost use Rattle.report_queue.specs.{AreAllBack, GivesBack, Sweeps, Takes, Welcomes};
-ghost use Rattle.report_api.specs.Desks.{EachSettled, IsDeskOf, desk_memo};
-ghost use Rattle.report_api.specs.Passes.{IsPassOf, sizes_of};
-ghost use Rattle.report_api.specs.Terms.{AdmitsAct, AdmitsItem};
+ghost use Rattle.report_api.specs.{EachSettled, IsDeskOf, desk_memo, IsPassOf, sizes_of, AdmitsAct, AdmitsItem};
 
 use crate::pass::Pass;
 use crate::shared::{Reports, Shared};

@@ -8,8 +8,7 @@ use Rattle.report_queue.specs.{KeeperMemo, SeatMemo, Item, AreAllBack, OffersAll
 use Rattle.ids_types.specs.Fates.{AreAllDecided}
 use Rattle.ids_types.proofs.FatesLemmas.{decided_on}
 use Rattle.permit_ring.specs.{IsSettled, StandsIn, fate_of, taken_by, waits}
-use Rattle.permit_ring.proofs.{there, got_from, taken_in, more_fronts}
-use Rattle.permit_ring.proofs.Settled.{offer_keeps_back}
+use Rattle.permit_ring.proofs.{there, got_from, taken_in, more_fronts, offer_keeps_back}
 use Rattle.report_queue.proofs.TakerLemmas.{NameTheirs}
 
 -- an element of a mapped list is that of the list, mapped

@@ -1,9 +1,7 @@
 //! Making a list of steps.
 
 ghost use Rattle.std.specs.Prelude.{◌≡◌, ◌≤◌, IfOk};
-ghost use Rattle.ring_core.specs.Machine.{HasSizes, opening};
-ghost use Rattle.ring_core.specs.Runs.{RunAnswers};
-ghost use Rattle.ring_core.specs.Sound.{IsRing};
+ghost use Rattle.ring_core.specs.{HasSizes, opening, RunAnswers, IsRing};
 
 use crate::fault::RunFault;
 use crate::state::RingState;

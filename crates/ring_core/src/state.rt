@@ -1,8 +1,7 @@
 //! The ring as a machine: its state, and one step of it.
 
 ghost use Rattle.std.specs.Prelude.{◌≡◌, ◌+◌, ◌<◌, ◌≤◌, length, IfOk, OnErr, MatchResult, Some, None};
-ghost use Rattle.ring_core.specs.Machine.{opening, next, HasSizes, StepAnswers, seat_at, mark_at, loss_at};
-ghost use Rattle.ring_core.specs.Sound.{IsRing};
+ghost use Rattle.ring_core.specs.{opening, next, HasSizes, StepAnswers, seat_at, mark_at, loss_at, IsRing};
 
 use crate::loss::LossWord;
 use crate::memory::NoMemory;

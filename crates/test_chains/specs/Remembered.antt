@@ -7,8 +7,7 @@ use Rattle.event_memory.specs.Held.{Held}
 use Rattle.filter_chain.specs.History.{handed_of, rows_of}
 use Rattle.filter_aggregate.specs.Account.{all_kept}
 use Rattle.event_chain.specs.Standing.{Stands as ChainStands}
-use Rattle.chain_plain.specs.Recorded.{AreInOrder, CanTake}
-use Rattle.chain_plain.specs.Telling.{IsReady}
+use Rattle.chain_plain.specs.{AreInOrder, CanTake, IsReady}
 use Rattle.test_chains.specs.declared.fresh.Fresh.{Fresh}
 use Rattle.test_chains.specs.declared.plain_chain.PlainChain.TheInside.{Inside}
 

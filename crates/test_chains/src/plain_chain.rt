@@ -1,12 +1,9 @@
 //! A chain that takes its whole history again at each turn.
 
 ghost use Rattle.std.specs.Prelude.{◌≡◌, ℕ, ◌+◌, ◌≤◌, ◌∷◌, ◌++◌, [], true, List, length, vec_len, vec_capacity, IfOk, OnErr, OnOk};
-ghost use Rattle.ids_types.specs.Output.{room_of};
-ghost use Rattle.ids_types.specs.Turns.{Turn, room_after, wider_room};
+ghost use Rattle.ids_types.specs.{room_of, Turn, room_after, wider_room};
 ghost use Rattle.ids_config.specs.Parts.{Parts};
-ghost use Rattle.filter_chain.specs.History.{last_tick, Sends};
-ghost use Rattle.filter_chain.specs.Parcels.{HandsBack, all_parcels};
-ghost use Rattle.filter_chain.specs.Turning.{FitsTurn, most_sent, bytes_in, turn_by};
+ghost use Rattle.filter_chain.specs.{last_tick, Sends, HandsBack, all_parcels, FitsTurn, most_sent, bytes_in, turn_by};
 ghost use Rattle.test_chains.specs.Remembered.{Stands};
 ghost use Rattle.test_chains.specs.Room.{has_turn_room};
 

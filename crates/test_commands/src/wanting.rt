@@ -1,8 +1,7 @@
 //! Runs over a shelf and a sink that want memory: their status and their text.
 
 ghost use Rattle.std.specs.Prelude.{◌-◌, ◌^◌, None};
-ghost use Rattle.ids_outside.specs.Shelved.{silent};
-ghost use Rattle.ids_outside.specs.Sinks.{deaf};
+ghost use Rattle.ids_outside.specs.{silent, deaf};
 
 use crate::shelves::{shelf_of, sink_of, words_of};
 use crate::tables::{Lines, each_line_holds};

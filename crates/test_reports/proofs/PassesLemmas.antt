@@ -5,8 +5,7 @@ use mathlib.Core.Option.{some, some-injective}
 use lib.ListN.{get_elem?}
 use Rattle.atomic_table.proofs.Lists.{at_index, at_set}
 use Rattle.permit_ring.proofs.ListLemmas.{at_length}
-use Rattle.report_api.specs.Names.{DeskMemo}
-use Rattle.report_api.specs.Passes.{IsPassOf, pass_memo}
+use Rattle.report_api.specs.{DeskMemo, IsPassOf, pass_memo}
 use Rattle.report_api.specs.declared.pass.Pass.{Pass}
 use Rattle.report_api.specs.declared.shared.Shared.{Shared}
 use Rattle.main_function.specs.Standing.{AreAllPasses}

@@ -1,9 +1,7 @@
 -- What tests keep from one step to the next.
 use Rattle.std.specs.Prelude.{◌≡◌, ℕ, ◌<◌, ◌⊎◌, List, [], length, slice_index_or}
 use Rattle.buffer_classes.specs.Buffers.{Buffer}
-use Rattle.report_api.specs.Desks.{desk_memo}
-use Rattle.report_api.specs.Names.{DeskMemo}
-use Rattle.report_api.specs.Passes.{IsPassOf, pass_memo, sizes_of}
+use Rattle.report_api.specs.{desk_memo, DeskMemo, IsPassOf, pass_memo, sizes_of}
 use Rattle.report_api.specs.declared.pass.Pass.{Pass}
 use Rattle.report_api.specs.declared.shared.Shared.{Shared}
 use Rattle.main_function.specs.Standing.{AreAllPasses, IsManagerOf}

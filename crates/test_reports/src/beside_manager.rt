@@ -1,8 +1,7 @@
 //! Callers in threads of their own, beside turns of a manager.
 ghost use Rattle.std.specs.Prelude.{◌≡◌, true, All, OnOk};
 ghost use Rattle.std.specs.Thread.{IsSync};
-ghost use Rattle.report_api.specs.Desks.{desk_memo};
-ghost use Rattle.report_api.specs.Passes.{IsPassOf};
+ghost use Rattle.report_api.specs.{desk_memo, IsPassOf};
 ghost use Rattle.test_reports.specs.Running.{AreSamePasses, IsSameManager};
 ghost use Rattle.main_function.specs.Standing.{AreAllPasses, IsManagerOf};
 

@@ -1,8 +1,7 @@
 //! Callers in threads of their own, beside the taker of a queue.
 ghost use Rattle.std.specs.Prelude.{All};
 ghost use Rattle.std.specs.Thread.{IsSync};
-ghost use Rattle.report_queue.specs.Making.{IsUnused};
-ghost use Rattle.report_queue.specs.Parts.{IsIdle, IsTakerOf};
+ghost use Rattle.report_queue.specs.{IsUnused, IsIdle, IsTakerOf};
 ghost use Rattle.test_reports.specs.Waiting.{AreIdle};
 
 use crate::numbers::{Numbers, Told, put, take_ready};

@@ -1,8 +1,6 @@
 //! Queues whose items carry numbers: the steps of a caller and of the taker, and what each answers.
 ghost use Rattle.std.specs.Prelude.{◌≡◌, ◌+◌, ◌<◌, ◌^◌, None, All, IfSome};
-ghost use Rattle.report_queue.specs.Making.{IsUnused};
-ghost use Rattle.report_queue.specs.Parts.{IsCallerOf, IsTakerOf, caller_memo, calls_of, ticket_of};
-ghost use Rattle.report_queue.specs.{marks_made};
+ghost use Rattle.report_queue.specs.{IsUnused, IsCallerOf, IsTakerOf, caller_memo, calls_of, ticket_of, marks_made};
 
 use crate::order::Order;
 use ids_types::Ticket;

@@ -1,7 +1,6 @@
 //! What the callers and the taker of a queue answer, one step after another.
 ghost use Rattle.std.specs.Prelude.{◌≡◌, ◌+◌, ◌<◌, ◌≤◌, ◌^◌, None};
-ghost use Rattle.report_queue.specs.Making.{IsUnused};
-ghost use Rattle.report_queue.specs.Parts.{IsCallerOf, IsIdle, IsTakerOf, calls_of, ticket_of};
+ghost use Rattle.report_queue.specs.{IsUnused, IsCallerOf, IsIdle, IsTakerOf, calls_of, ticket_of};
 
 use crate::numbers::{Numbers, Told, fill, last_of, put, take};
 use report_queue::{MadeQueue, Queue, QueueSeat, Taker, make};

@@ -1,10 +1,9 @@
 -- Texts that are read line by line: the steps of a reading, the text of lines without a fault, and what a text that
 -- was read tells, for any grammar.
 use Rattle.text_spec.proofs.Names.{◌≡◌, ◌<◌, ◌+◌, ◌==◌, ◌∷◌, ◌++◌, Grammar, BadLine, at_line, AreFaultless, after_line, at_end, past_in, line_with, Fails, RefusedFor, fault_at, fault_behind, ℕ, suc, List, [], length, map, refl, sym, ap, ◌∙◌, arith, Option, Some, None, Result, Ok, Err, ⊤, AllByRecursion, eqb-true, join_with_byte, join_with_byte-slice_split, length-append, length-slice_split, nil_from_length, AreExact, AreHeld, Filled, line_feed, line_of, past_with, pieces_of, space, text_of, words_of, words_of_fields}
-use Rattle.text_spec.specs.Lines.{◌>>=◌}
+use Rattle.text_spec.specs.Lines.{◌>>=◌, after_pieces}
 use Rattle.ids_config.specs.Steps.{◌>>◌, asks}
 use Rattle.ids_config.proofs.StepLemmas.{both_ok, asked}
-use Rattle.text_spec.specs.Lines.{after_pieces}
 use Rattle.text_spec.specs.declared.fault.LineFault.{LineFault}
 use Rattle.text_spec.specs.declared.fault.LineFault.TheVariants as line_faults
 use Rattle.text_spec.proofs.FieldsLaws.{AreLawful, IsShown, filled_pass, in_line, in_word, kinds, line_free, words_again}

@@ -14,14 +14,7 @@ pub use Rattle.std.specs.Prelude.{◌≡◌, ◌<◌, ◌≤◌, ◌==◌, ◌�
 pub use Rattle.std.specs.Str.Parse.{digits_value}
 pub use Rattle.hex.proofs.HexLemmas.{length-encode_with, decode_of-encode_lower, decode_of-odd}
 pub use Rattle.ids_types.specs.declared.mode.Mode.TheVariants.{Off, Brief, Detailed, BriefBypassing, DetailedBypassing}
-pub use Rattle.history_spec.specs.Orders.{KeepUpFrom}
-pub use Rattle.history_spec.specs.Rounds.{last_tick, round_ticks, lines_at}
-pub use Rattle.text_spec.specs.Fields.{any_bytes, bytes_in, bytes_word, line_with}
-pub use Rattle.text_spec.specs.JournalFaults.{is_tick}
-pub use Rattle.text_spec.specs.LineAnswers.{Fails, RefusedFor, fault_at, fault_behind}
-pub use Rattle.text_spec.specs.Lines.{at_end, after_pieces}
+pub use Rattle.history_spec.specs.{KeepUpFrom, last_tick, round_ticks, lines_at}
+pub use Rattle.text_spec.specs.{any_bytes, bytes_in, bytes_word, line_with, is_tick, Fails, RefusedFor, fault_at, fault_behind, at_end, after_pieces, is_number, capped, number_in, greatest_told, zero_digit, asked_more, begun_round, ended_at, keep_up, last_from, with_last, act_asked, PastRounds, no_rounds, next_rounds, asked_fault, trace_fault_of, AreTicks, trace_grammar, trace_in, IsHeldAsked, MayAsk, IsAllowedRound, AreRounds}
 pub use Rattle.text_spec.specs.Names.{Absent, Act, All, AllByRecursion, AreExact, AreFaultless, AreHeld, AreWritten, BadLine, Carried, Entry, Err, Field, Filled, Follows, Form, Grammar, HasForm, IfSome, IsBytes, IsContext, IsContextWord, IsExactContext, IsHeld, IsJournal, IsWritten, Kept, Line, Loss, Makes, Missing, Mode, None, Ok, Option, Parts, Past, Report, Result, SetMode, Some, Stamp, State, Told, Turn, a_context, a_mode, a_number, a_stamp, absent, act_fields, after_line, all_modes, at_line, begins, begun, byte_at, bytes_eq, bytes_high_first, bytes_of, claims_in, codes, colon, context_in, context_word, decimal, decode_of, encode_lower, enters, entries_of, entry_fault, entry_of, extended, fault_of, fields_of, find, first_as, flat_map, from_be_bytes, has_event, has_pair, hex_bytes, hex_in, is_act, is_call, is_claim, is_context, is_in_range, is_in_ranges, is_lower_digit, is_pair, is_sensor, join_with_byte, journal_grammar, journal_in, kept_fields, kept_in, kept_places, layout_word, line_feed, line_for, line_forms, line_of, lines_told, list_all, list_any, loses, loss_fault, loss_form, lower_digits, mark, message_line, mode_name, mode_named, nat_lt, next, numbers_in, option_and_then, option_map, or_else, pair_of, past_in, past_with, pieces_of, point, put, read_by, report_form, setting_form, shown_context, shown_signature, simple, slice_split, some_bytes, some_hex, space, stamp_in, stamp_of_bytes, stamp_text, start, state_form, text_of, the, to_be_bytes, told_by, told_in, told_in_one, turn_form, turn_told, w64, with_entry, words_of, words_of_fields, ⊤, ◌>>=◌}
-pub use Rattle.text_spec.specs.Numbers.{is_number, capped, number_in, greatest_told, zero_digit}
-pub use Rattle.text_spec.specs.TraceFaults.{asked_more, begun_round, ended_at, keep_up, last_from, with_last, act_asked, PastRounds, no_rounds, next_rounds, asked_fault, trace_fault_of}
-pub use Rattle.text_spec.specs.TraceReading.{AreTicks, trace_grammar, trace_in, IsHeldAsked, MayAsk, IsAllowedRound, AreRounds}
 pub use Rattle.text_spec.specs.TraceText.{Asked, reports, changes, sets, TraceLine, opens, calls, closes, number_fields, asked_fields, trace_fields, Round, callers_told, round_told, rounds_told, trace_text}

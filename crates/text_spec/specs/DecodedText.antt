@@ -4,8 +4,7 @@ use Rattle.std.specs.Prelude.{◌∷◌, ◌++◌, ◌==◌, if◌then◌else◌
 use Rattle.text_spec.specs.Below.{ℕ, List, [], map, codes, decimal, Option, Some, None, encode_lower}
 use Rattle.ids_frame.specs.declared.context.Form.{Form}
 use Rattle.ids_frame.specs.declared.context.Form.TheVariants.{Short, Long}
-use Rattle.ids_frame.specs.Context.{ContextPart}
-use Rattle.ids_frame.specs.Message.{MessageParts}
+use Rattle.ids_frame.specs.{ContextPart, MessageParts}
 use Rattle.text_spec.specs.Words.{absent, line_of, text_of}
 use Rattle.text_spec.specs.Stamps.{stamp_text}
 

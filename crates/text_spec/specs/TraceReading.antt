@@ -2,8 +2,7 @@
 -- Source: the text formats of this project (docs/FORMATS.md).
 use Rattle.std.specs.Prelude.{◌≡◌, ◌≤◌, ◌^◌}
 use Rattle.text_spec.specs.Below.{ℕ, not, true, List, length, Result, Ok, AllByRecursion, flat_map, Parts, asks}
-use Rattle.history_spec.specs.Orders.{KeepUpFrom}
-use Rattle.history_spec.specs.Rounds.{round_ticks}
+use Rattle.history_spec.specs.{KeepUpFrom, round_ticks}
 use Rattle.text_spec.specs.Fields.{AreHeld}
 use Rattle.text_spec.specs.Lines.{Grammar, BadLine, past_in, ◌>>=◌}
 use Rattle.text_spec.specs.TraceFaults.{PastRounds, no_rounds, is_allowed, trace_fault_of, next_rounds}

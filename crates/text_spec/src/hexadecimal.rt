@@ -3,8 +3,7 @@
 ghost use Rattle.std.specs.Prelude.{◌≡◌, ℕ, ◌/◌, ◌%◌, ◌<◌, ◌≤◌, List, length, take, drop, IsTrue, ◌++◌, ◌*◌, OnOk, OnErr, ◌∷◌, [], ◌+◌, vec_len, vec_capacity, slice_index};
 ghost use Rattle.std.specs.List.{list_all};
 ghost use Rattle.hex.specs.Hex.{IsBytes, encode_lower, lower_digits};
-ghost use Rattle.text_spec.specs.Fields.{bytes_word};
-ghost use Rattle.text_spec.specs.Hexadecimal.{hex_in, is_lower_digit as writes_digit, IsWritten};
+ghost use Rattle.text_spec.specs.{bytes_word, hex_in, is_lower_digit as writes_digit, IsWritten};
 
 use ids_types::NoMemory;
 

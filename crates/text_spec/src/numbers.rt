@@ -4,8 +4,7 @@ ghost use Rattle.std.specs.Prelude.{◌≡◌, ℕ, ◌<◌, ◌≤◌, ◌^◌,
 ghost use Rattle.std.specs.Char.{is_ascii_digit};
 ghost use Rattle.std.specs.List.{list_all};
 ghost use Rattle.std.specs.Str.Parse.{digits_value};
-ghost use Rattle.text_spec.specs.Words.{space};
-ghost use Rattle.text_spec.specs.Numbers.{capped, number_in, begins_number, zero_digit};
+ghost use Rattle.text_spec.specs.{space, capped, number_in, begins_number, zero_digit};
 
 use ids_types::NoMemory;
 use itoa::Buffer;

@@ -6,11 +6,8 @@ use mathlib.Core.Option.{some, some-injective}
 use lib.ListN.{get_elem?}
 use Rattle.ids_types.specs.declared.class_spec.ClassSpec.{ClassSpec}
 use Rattle.buffer_classes.specs.Classes.{first_fitting}
-use Rattle.history_spec.specs.Contexts.{Misses, misses_context}
-use Rattle.history_spec.specs.Follows.{Calls}
-use Rattle.history_spec.specs.Losses.{entries_by}
+use Rattle.history_spec.specs.{Misses, misses_context, Calls, entries_by, AreLegalContexts, entries_from}
 use Rattle.history_spec.specs.Names.{Entry}
-use Rattle.history_spec.specs.Settled.{AreLegalContexts, entries_from}
 use Rattle.history_spec.proofs.FollowsLemmas.{call_was}
 use Rattle.history_spec.proofs.PlaceLemmas.{stands_kept}
 use Rattle.trace_replay.proofs.CallLemmas.{got_none}

@@ -13,37 +13,24 @@ pub use Rattle.law_closing.specs.Calls.{HaveAllCalls, fates_in, losses_in, calls
 pub use Rattle.ids_config.specs.Parts.{Parts, class_of, is_sensor}
 pub use Rattle.ids_config.specs.Valid.{IsValid, AreClasses}
 pub use Rattle.ids_types.specs.Output.{Output}
-pub use Rattle.ids_types.specs.Plain.{kept_bytes}
-pub use Rattle.ids_types.specs.Turns.{Turn, entry_at, extended, with_entry, entries_of, Room, turn_at}
-pub use Rattle.main_function.specs.Closing.{Closed, all_back, CloseLeaves}
-pub use Rattle.main_function.specs.Standing.{IsManagerOf, AreAllPasses, StaysSo, last_of, rests_of, turns_of}
-pub use Rattle.main_function.specs.Rests.{RestsTold, rests_told, with_rest}
-pub use Rattle.main_function.specs.Turning.{Turned, TurnLeaves}
+pub use Rattle.ids_types.specs.{kept_bytes, Turn, entry_at, extended, with_entry, entries_of, Room, turn_at}
+pub use Rattle.main_function.specs.{Closed, all_back, CloseLeaves, IsManagerOf, AreAllPasses, StaysSo, last_of, rests_of, turns_of, RestsTold, rests_told, with_rest, Turned, TurnLeaves}
 pub use Rattle.main_function.specs.declared.manager.Manager.{Manager}
-pub use Rattle.history_spec.specs.Decided.{all_losses, losses_from}
-pub use Rattle.history_spec.specs.Merge.{IsMerge, AreMerged, IsAsAsked, IsItsLine}
-pub use Rattle.history_spec.specs.Orders.{StandsIn, KeepUpFrom}
-pub use Rattle.history_spec.specs.Rounds.{Asked, reports, changes, sets, last_tick, lines_of, ticks_of, Round, is_lost_report, is_report, lines_at, round_ticks}
+pub use Rattle.history_spec.specs.{all_losses, losses_from, IsMerge, AreMerged, IsAsAsked, IsItsLine, StandsIn, KeepUpFrom, Asked, reports, changes, sets, last_tick, lines_of, ticks_of, Round, is_lost_report, is_report, lines_at, round_ticks}
 pub use Rattle.permit_ring.proofs.ListLemmas.{there, at_length}
 pub use Rattle.report_queue.specs.Parts.{calls_of}
-pub use Rattle.report_api.specs.Desks.{desk_memo}
+pub use Rattle.report_api.specs.{desk_memo, sizes_of, lost_events, pass_memo, call_of, calls_in, missing_in, plain_act, misses_context as missed_by}
 pub use Rattle.report_api.specs.Names.{Act, Carried, Absent, Kept, Missing, Lost, Got, DeskMemo, PassMemo, Report, State, SetMode, Outcome}
 pub use Rattle.permit_ring.specs.Logs.{fate_of}
-pub use Rattle.report_api.specs.Passes.{sizes_of, lost_events, pass_memo, call_of, calls_in, missing_in, plain_act, misses_context as missed_by}
 pub use Rattle.report_api.specs.declared.pass.Pass.{Pass}
 pub use Rattle.report_api.specs.declared.shared.Shared.{Shared}
 pub use Rattle.text_spec.proofs.JournalFacts.{flat_map-push}
 pub use Rattle.text_spec.proofs.TraceFacts.{keep_split, last_from-push, last_of_all, last_small}
-pub use Rattle.text_spec.specs.TraceFaults.{begun_round, last_from, act_asked, is_allowed}
-pub use Rattle.text_spec.specs.TraceReading.{AreRounds, IsAllowedRound, AreTicks, MayAsk}
-pub use Rattle.trace_text.specs.Lines.{line_at}
-pub use Rattle.trace_text.specs.TraceView.{Traced, round_at}
+pub use Rattle.text_spec.specs.{begun_round, last_from, act_asked, is_allowed, AreRounds, IsAllowedRound, AreTicks, MayAsk}
+pub use Rattle.trace_text.specs.{line_at, Traced, round_at}
 pub use Rattle.trace_replay.specs.Calls.{AsksOnce, CarriesAsked, IsAsked, control_look, lost_report, report_look, Answers, lost_reports, CallsOnce, Told, loss_of, MayBeAsked}
 pub use Rattle.trace_replay.specs.Played.{HavePlayed, sizes_in}
-pub use Rattle.trace_replay.specs.Recording.{Closes, IsRecordOf, IsSmallTurn, tick_of, turns_in, Advances, Continues, StaysSame, StillRecords}
-pub use Rattle.trace_replay.specs.Rests.{all_rests, as_told, lines_from, rests_before, ticks_before}
-pub use Rattle.trace_replay.specs.Rounds.{IsBetween, CanPlay, EndsRound, Plays, RestsOnce}
-pub use Rattle.trace_replay.specs.Standing.{AreFew, HasListed, losses_by, passes_of, told, HasPlayed, lines_before, AreAtRest, IsAtRest, MayAllBeAsked, HasRoom, calls_of_each}
+pub use Rattle.trace_replay.specs.{Closes, IsRecordOf, IsSmallTurn, tick_of, turns_in, Advances, Continues, StaysSame, StillRecords, all_rests, as_told, lines_from, rests_before, ticks_before, IsBetween, CanPlay, EndsRound, Plays, RestsOnce, AreFew, HasListed, losses_by, passes_of, told, HasPlayed, lines_before, AreAtRest, IsAtRest, MayAllBeAsked, HasRoom, calls_of_each}
 pub use Rattle.trace_replay.specs.declared.caller.Caller.{Caller}
 pub use Rattle.trace_replay.specs.declared.gathered.Gathered.{Gathered}
 pub use Rattle.trace_replay.specs.declared.recorder.Recorder.{Recorder}

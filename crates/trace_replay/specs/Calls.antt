@@ -2,13 +2,10 @@
 use Rattle.std.specs.Prelude.{◌≡◌, ℕ, ◌+◌, ◌-◌, ◌<◌, Option, Some, None, List, [], ◌∷◌, ◌++◌, length, ⊤}
 use Rattle.ids_types.specs.declared.loss.Loss.{Loss}
 use Rattle.history_spec.specs.Rounds.{Asked, reports, changes, sets}
-use Rattle.buffer_classes.specs.Buffers.{Buffer}
-use Rattle.buffer_classes.specs.Classes.{first_fitting}
+use Rattle.buffer_classes.specs.{Buffer, first_fitting}
 use Rattle.permit_ring.specs.declared.answer.Look.{Look}
-use Rattle.report_api.specs.Answers.{CarriesAll}
+use Rattle.report_api.specs.{CarriesAll, lost_events, IsReported}
 use Rattle.report_api.specs.Names.{Act, Report, State, SetMode, Carried, Missing, Outcome, Lost, Got, PassMemo}
-use Rattle.report_api.specs.Passes.{lost_events}
-use Rattle.report_api.specs.Terms.{IsReported}
 use Rattle.report_api.specs.declared.answer.Control.{Control}
 use Rattle.report_api.specs.declared.answer.Control.TheVariants as controls
 use Rattle.report_api.specs.declared.answer.Report.{Report as ReportAnswer}

@@ -9,16 +9,11 @@ use Rattle.filter_chain.specs.Transcripts.{Adds, IsEmpty, IsTranscript}
 use Rattle.chain_spec.specs.Chain.{IsCausal}
 use Rattle.buffer_classes.specs.Buffers.{Buffer}
 use Rattle.report_queue.specs.Parts.{queue_positions}
-use Rattle.report_api.specs.Desks.{desk_memo}
-use Rattle.report_api.specs.Names.{PassMemo}
+use Rattle.report_api.specs.{desk_memo, PassMemo}
 use Rattle.report_api.specs.declared.pass.Pass.{Pass}
 use Rattle.report_api.specs.declared.shared.Shared.{Shared}
-use Rattle.law_closing.specs.Calls.{HaveAllCalls}
-use Rattle.law_closing.specs.Closed.{IsMadeFor, came}
-use Rattle.main_function.specs.Closing.{AreCountsOf, AreSumsOf}
-use Rattle.main_function.specs.Making.{IsNewManager}
-use Rattle.main_function.specs.Standing.{IsManagerOf, Stands, StaysSo, fits_turn, last_of, rests_of, turns_of}
-use Rattle.main_function.specs.Turning.{IsSmallHead}
+use Rattle.law_closing.specs.{HaveAllCalls, IsMadeFor, came}
+use Rattle.main_function.specs.{AreCountsOf, AreSumsOf, IsNewManager, IsManagerOf, Stands, StaysSo, fits_turn, last_of, rests_of, turns_of, IsSmallHead}
 use Rattle.main_function.specs.declared.manager.Manager.{Manager}
 use Rattle.trace_replay.specs.declared.gathered.Gathered.{Gathered}
 use Rattle.trace_replay.specs.declared.recorder.Recorder.{Recorder}

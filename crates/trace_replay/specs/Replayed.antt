@@ -3,8 +3,7 @@ use Rattle.std.specs.Prelude.{◌≡◌, ℕ, List, length, map, reverse}
 use Rattle.ids_types.specs.Turns.{Turn}
 use Rattle.ids_types.specs.declared.loss.Loss.{Loss}
 use Rattle.ids_config.specs.Parts.{Parts}
-use Rattle.history_spec.specs.Merge.{IsMerge}
-use Rattle.history_spec.specs.Rounds.{Round}
+use Rattle.history_spec.specs.{IsMerge, Round}
 use Rattle.text_spec.specs.JournalReading.{Fits}
 use Rattle.filter_chain.specs.History.{count_of, messages_of}
 use Rattle.chain_plain.specs.Telling.{ends_of}
@@ -13,11 +12,9 @@ use Rattle.buffer_classes.specs.Buffers.{Buffer}
 use Rattle.filter_aggregate.specs.Account.{all_kept}
 use Rattle.event_chain.specs.Chained.{Chained}
 use Rattle.event_chain.specs.Standing.{Stands as ChainStands}
-use Rattle.report_api.specs.Desks.{desk_memo}
-use Rattle.report_api.specs.Names.{PassMemo}
+use Rattle.report_api.specs.{desk_memo, PassMemo}
 use Rattle.report_api.specs.declared.shared.Shared.{Shared}
-use Rattle.law_closing.specs.Calls.{HaveAllCalls, losses_in}
-use Rattle.law_closing.specs.Closed.{IsMadeFor, came}
+use Rattle.law_closing.specs.{HaveAllCalls, losses_in, IsMadeFor, came}
 use Rattle.main_function.specs.Standing.{IsManagerOf, Stands, rests_of}
 use Rattle.main_function.specs.declared.manager.Manager.{Manager}
 use Rattle.trace_replay.specs.Played.{HavePlayed}

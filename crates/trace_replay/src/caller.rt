@@ -3,8 +3,7 @@ ghost use Rattle.std.specs.Prelude.{◌≡◌, ◌+◌, ◌<◌, ◌≤◌, ◌^
 ghost use Rattle.history_spec.specs.Rounds.{lines_at, lines_of};
 ghost use Rattle.report_queue.specs.Parts.{queue_positions};
 ghost use Rattle.report_api.specs.Passes.{IsPassOf, pass_memo, sizes_of};
-ghost use Rattle.trace_text.specs.Lines.{act_asked, line_asked};
-ghost use Rattle.trace_text.specs.TraceView.{round_at};
+ghost use Rattle.trace_text.specs.{act_asked, line_asked, round_at};
 ghost use Rattle.trace_replay.specs.Calls.{AsksOnce, CallsOnce, MayBeAsked, control_look, report_look};
 ghost use Rattle.trace_replay.specs.Standing.{HasRoom, IsAtRest, MayAllBeAsked, lines_before, told};
 

@@ -1,7 +1,6 @@
 //! Callers that are handed over for a round, and come back.
 ghost use Rattle.std.specs.Prelude.{◌≡◌, ◌+◌, ◌<◌, ◌≤◌, [], length, IfOk, OnOk};
-ghost use Rattle.trace_replay.specs.Stages.{IsSet};
-ghost use Rattle.trace_replay.specs.Standing.{AreAtRest, IsAtRest, lines_before};
+ghost use Rattle.trace_replay.specs.{IsSet, AreAtRest, IsAtRest, lines_before};
 
 use crate::caller::Caller;
 use crate::gate::Gate;

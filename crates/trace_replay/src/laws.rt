@@ -2,8 +2,7 @@
 
 ghost use Rattle.std.specs.Prelude.{ℕ, List, ◌+◌, ◌<◌, ◌≤◌, length};
 ghost use Rattle.history_spec.specs.Rounds.{Round};
-ghost use Rattle.trace_replay.specs.Rests.{LiesInItsRound};
-ghost use Rattle.trace_replay.specs.Standing.{lines_before};
+ghost use Rattle.trace_replay.specs.{LiesInItsRound, lines_before};
 
 /// Each call of a caller lies between the turn that ended the round before its line's, where there is one, and the
 /// turn that ended its own. The rest after the one tells that it was not made yet. The rest before the other tells

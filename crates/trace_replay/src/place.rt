@@ -1,7 +1,6 @@
 //! Places at which callers are handed over, round by round, to threads that last.
 ghost use Rattle.std.specs.Prelude.{◌≡◌, ◌%◌, ◌^◌, IfErr, IfSome};
-ghost use Rattle.trace_replay.specs.Hands.{StandsAt};
-ghost use Rattle.trace_replay.specs.Places.{IsPlaceOf};
+ghost use Rattle.trace_replay.specs.{StandsAt, IsPlaceOf};
 
 use crate::caller::Caller;
 use counted_slot::{Counted, FREE, Fits, TAKEN};

@@ -2,8 +2,7 @@
 ghost use Rattle.std.specs.Prelude.{◌≡◌, ◌≤◌, ◌^◌, ◌∷◌, [], true, map, OnOk};
 ghost use Rattle.std.specs.List.{All};
 ghost use Rattle.history_spec.specs.Orders.{KeepUpFrom};
-ghost use Rattle.report_api.specs.Desks.{desk_memo};
-ghost use Rattle.report_api.specs.Passes.{pass_memo};
+ghost use Rattle.report_api.specs.{desk_memo, pass_memo};
 ghost use Rattle.main_function.specs.Standing.{AreAllPasses, IsManagerOf, last_of};
 ghost use Rattle.trace_replay.specs.Recording.{CanTurn, Closes, Continues, StaysSame};
 

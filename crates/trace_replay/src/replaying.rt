@@ -1,9 +1,8 @@
 //! The replay of a trace.
 ghost use Rattle.std.specs.Prelude.{◌≡◌, [], length, IfOk};
 ghost use Rattle.text_spec.specs.TraceReading.{AreRounds};
-ghost use Rattle.trace_replay.specs.Recording.{IsNewRecorder};
+ghost use Rattle.trace_replay.specs.{IsNewRecorder, IsSet};
 ghost use Rattle.trace_replay.specs.Replayed.{IsReplay, IsReplayOver, given, gives};
-ghost use Rattle.trace_replay.specs.Stages.{IsSet};
 
 use crate::callers::{callers_of, part};
 use crate::gate::Gate;

@@ -6,10 +6,7 @@ ghost use Rattle.history_spec.specs.Orders.{KeepUpFrom};
 ghost use Rattle.report_api.specs.Desks.{desk_memo};
 ghost use Rattle.main_function.specs.Standing.{IsManagerOf, last_of};
 ghost use Rattle.trace_text.specs.TraceView.{round_at};
-ghost use Rattle.trace_replay.specs.Recording.{Continues};
-ghost use Rattle.trace_replay.specs.Rounds.{EndsRound, IsBetween, Plays};
-ghost use Rattle.trace_replay.specs.Stages.{IsSet};
-ghost use Rattle.trace_replay.specs.Standing.{AreAtRest};
+ghost use Rattle.trace_replay.specs.{Continues, EndsRound, IsBetween, Plays, IsSet, AreAtRest};
 
 use crate::caller::Caller;
 use crate::gate::Gate;

@@ -1,10 +1,7 @@
 //! What all threads of a replay share.
 ghost use Rattle.std.specs.Prelude.{◌≡◌, ◌<◌, ◌≤◌, length, IfOk};
 ghost use Rattle.report_queue.specs.Parts.{queue_positions};
-ghost use Rattle.trace_replay.specs.Hands.{StandsAt};
-ghost use Rattle.trace_replay.specs.Places.{ArePlaces};
-ghost use Rattle.trace_replay.specs.Standing.{MayAllBeAsked};
-ghost use Rattle.trace_replay.specs.Stages.{IsSet};
+ghost use Rattle.trace_replay.specs.{StandsAt, ArePlaces, MayAllBeAsked, IsSet};
 
 use crate::gate::Gate;
 use crate::place::{Hand, Place};

@@ -3,8 +3,7 @@
 use Rattle.trace_text.proofs.Names.{◌≡◌, ℕ, zero, suc, ◌<◌, ◌≤◌, ◌^◌, ◌⊎◌, true, false, List, [], ◌∷◌, length, length-append, refl, sym, ap, subst, arith, ⊎_elim, ◌==◌, slice_index_or, AllByRecursion, flat_map, list_any, and_from, eq-eqb, eqb-true, false_from_ne_true, le-leb, lt-ltb, get_or_past, Turn, entries_of, Parts, class_of, AreClasses, IsValid, ClassSpec, Carried, Absent, Kept, Missing, Act, Report, State, SetMode, Entry, Loss, calls_of, lost_calls_of, CarriesAsAsked, IsAsAsked, IsMerge, StandsIn, Asked, reports, changes, sets, Round, last_tick, lines_at, lines_of, round_ticks, ticks_of, stands_kept, is_act, is_call, is_claim, is_context, is_head, has_event, is_pair, pair_of, act_fields, AreRounds, IsAllowedRound, MayAsk, IsSmall, all_append, all_at, last_small, AreSmall, IsSmallHead}
 use Rattle.history_spec.specs.Contexts.{claim_in, claim_of, claims_of, IsLegalMiss}
 use Rattle.text_spec.specs.Below.{IsBytes}
-use Rattle.text_spec.specs.Contexts.{IsContext}
-use Rattle.text_spec.specs.Fields.{AreHeld}
+use Rattle.text_spec.specs.{IsContext, AreHeld}
 use Rattle.trace_text.proofs.StandsLemmas.{all_stands, once_there, place_within, stands_all, stands_flat_map, stands_map, stands_none, stands_test}
 
 -- entries with their context as bytes

@@ -2,8 +2,7 @@
 -- Source: the text formats of this project (docs/FORMATS.md).
 use Rattle.std.specs.Prelude.{◌≡◌, ◌⊎◌, ℕ, List, [], ◌∷◌, codes}
 use Rattle.std.specs.List.{AllByRecursion}
-use Rattle.text_spec.specs.Fields.{a_number, HasForm}
-use Rattle.text_spec.specs.TraceForm.{trace_forms}
+use Rattle.text_spec.specs.{a_number, HasForm, trace_forms}
 
 -- the words are `N` and any number of numbers
 abbrev pub IsOpening : List (List ℕ) → Type 0

@@ -3,8 +3,7 @@
 use Rattle.std.specs.Prelude.{◌≡◌, ℕ, ◌+◌, ◌-◌, ◌<◌, ◌≤◌, ◌^◌, List, [], ◌∷◌, ◌++◌, length, map, slice_index, slice_index_or, slice_range, take, replicate}
 use Rattle.std.specs.List.{AllByRecursion, flat_map, range_with_len}
 use Rattle.history_spec.specs.Rounds.{last_tick, lines_of}
-use Rattle.text_spec.specs.TraceFaults.{asked_more, begun_round, with_last}
-use Rattle.text_spec.specs.TraceReading.{AreTicks}
+use Rattle.text_spec.specs.{asked_more, begun_round, with_last, AreTicks}
 use Rattle.text_spec.specs.TraceText.{Asked, Round}
 use Rattle.trace_text.specs.declared.trace.RoundEnd.{RoundEnd}
 use Rattle.trace_text.specs.declared.trace.Trace.TheInside.{Inside}

@@ -1,9 +1,7 @@
 //! The forms of a trace's lines.
 
 ghost use Rattle.std.specs.Prelude.{◌≡◌, ◌∷◌, length, option_map, IfOk};
-ghost use Rattle.text_spec.specs.Contexts.{numbers_in};
-ghost use Rattle.text_spec.specs.Fields.{bytes_in, behind, told_in_one};
-ghost use Rattle.text_spec.specs.TraceForm.{asked_mode_form, asked_report_form, asked_state_form, round_end_form, trace_forms};
+ghost use Rattle.text_spec.specs.{numbers_in, bytes_in, behind, told_in_one, asked_mode_form, asked_report_form, asked_state_form, round_end_form, trace_forms};
 ghost use Rattle.trace_text.specs.RawLines.{context_told, line_told, where_all};
 
 use ids_types::{Mode, NoMemory, Stamp};

@@ -1,9 +1,7 @@
 //! The forms of a trace's lines.
 
 ghost use Rattle.std.specs.Prelude.{◌≡◌, ℕ, List, None, Some};
-ghost use Rattle.text_spec.specs.Fields.{AreExact, AreHeld, words_of_fields};
-ghost use Rattle.text_spec.specs.TraceForm.{trace_told_by};
-ghost use Rattle.text_spec.specs.TraceText.{TraceLine, trace_fields};
+ghost use Rattle.text_spec.specs.{AreExact, AreHeld, words_of_fields, trace_told_by, TraceLine, trace_fields};
 ghost use Rattle.trace_text.specs.Forms.{HasTraceForm};
 
 /// The words of a line tell something exactly where they are those of one of the five forms: a number of any length,

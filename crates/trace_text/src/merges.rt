@@ -5,10 +5,8 @@ ghost use Rattle.ids_types.specs.Turns.{Turn};
 ghost use Rattle.ids_types.specs.declared.loss.Loss.{Loss};
 ghost use Rattle.ids_config.specs.Parts.{Parts};
 ghost use Rattle.ids_config.specs.Valid.{IsValid};
-ghost use Rattle.history_spec.specs.Merge.{IsMerge};
-ghost use Rattle.history_spec.specs.Rounds.{Round};
-ghost use Rattle.text_spec.specs.JournalReading.{Fits};
-ghost use Rattle.text_spec.specs.TraceReading.{AreRounds};
+ghost use Rattle.history_spec.specs.{IsMerge, Round};
+ghost use Rattle.text_spec.specs.{Fits, AreRounds};
 ghost use Rattle.trace_text.specs.Small.{AreSmall};
 
 /// Turns and losses that are one merge of a trace's lines are a journal under its configuration: what each of their

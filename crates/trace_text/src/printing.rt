@@ -4,14 +4,8 @@ ghost use Rattle.std.specs.Prelude.{◌≡◌, ◌<◌, ◌≤◌, ◌++◌, ◌
 ghost use Rattle.std.specs.List.{AllByRecursion};
 ghost use Rattle.ids_config.specs.Parts.{Parts};
 ghost use Rattle.history_spec.specs.Rounds.{lines_at};
-ghost use Rattle.text_spec.specs.Fields.{bytes_word, ended_line};
-ghost use Rattle.text_spec.specs.Stamps.{stamp_text};
-ghost use Rattle.text_spec.specs.TraceReading.{MayAsk, trace_in};
-ghost use Rattle.text_spec.specs.TraceText.{asked_fields, calls, closes, opens, round_told, trace_fields, trace_text};
-ghost use Rattle.text_spec.specs.Words.{space};
-ghost use Rattle.trace_text.specs.Lines.{line_asked};
-ghost use Rattle.trace_text.specs.Printing.{caller_text, lines_text, ticks_text};
-ghost use Rattle.trace_text.specs.TraceView.{round_at};
+ghost use Rattle.text_spec.specs.{bytes_word, ended_line, stamp_text, MayAsk, trace_in, asked_fields, calls, closes, opens, round_told, trace_fields, trace_text, space};
+ghost use Rattle.trace_text.specs.{line_asked, caller_text, lines_text, ticks_text, round_at};
 
 use crate::line::{Line, TraceAct};
 use crate::trace::Trace;

@@ -2,8 +2,7 @@
 
 ghost use Rattle.std.specs.Prelude.{◌≡◌, ◌≤◌, length};
 ghost use Rattle.std.specs.List.{list_all};
-ghost use Rattle.text_spec.specs.JournalFaults.{has_event as event_is, is_act as act_is, is_tick as tick_is};
-ghost use Rattle.text_spec.specs.TraceFaults.{act_asked, keep_up as ticks_keep_up, last_from as last_of_ticks};
+ghost use Rattle.text_spec.specs.{has_event as event_is, is_act as act_is, is_tick as tick_is, act_asked, keep_up as ticks_keep_up, last_from as last_of_ticks};
 ghost use Rattle.trace_text.specs.RawLines.{act_told};
 
 use crate::form::RawAct;

@@ -29,12 +29,7 @@ pub(crate) struct Reader<'a> {
 
 impl<'a> Reader<'a> {
     ghost use Rattle.std.specs.Prelude.{◌≡◌, ◌<◌, ◌≤◌, length, option_map, IfOk, OnOk};
-    ghost use Rattle.text_spec.specs.Contexts.{numbers_in};
-    ghost use Rattle.text_spec.specs.LineAnswers.{Took};
-    ghost use Rattle.text_spec.specs.Lines.{after_line, past_with};
-    ghost use Rattle.text_spec.specs.TraceFaults.{asked_fault, closing_fault, no_rounds, opening_fault};
-    ghost use Rattle.text_spec.specs.TraceReading.{trace_grammar};
-    ghost use Rattle.text_spec.specs.TraceText.{calls, closes, opens};
+    ghost use Rattle.text_spec.specs.{numbers_in, Took, after_line, past_with, asked_fault, closing_fault, no_rounds, opening_fault, trace_grammar, calls, closes, opens};
     ghost use Rattle.trace_text.specs.Answers.{added};
     ghost use Rattle.trace_text.specs.RawLines.{act_told};
     ghost use Rattle.trace_text.specs.ReaderView.{past_of};

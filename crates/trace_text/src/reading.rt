@@ -1,8 +1,7 @@
 //! Reading a trace from its text.
 
 ghost use Rattle.std.specs.Prelude.{◌≡◌, IfOk};
-ghost use Rattle.text_spec.specs.LineAnswers.{Reads};
-ghost use Rattle.text_spec.specs.TraceReading.{AreRounds, trace_in};
+ghost use Rattle.text_spec.specs.{Reads, AreRounds, trace_in};
 
 use crate::reader::Reader;
 use crate::trace::Trace;
@@ -33,9 +32,7 @@ fn read_trace(alloc: Global, text: &[u8], config: &Config) -> Result<Trace, Text
 
 impl<'a> LineReader for Reader<'a> {
     ghost use Rattle.ids_config.specs.Parts.{Parts};
-    ghost use Rattle.text_spec.specs.TraceFaults.{PastRounds};
-    ghost use Rattle.text_spec.specs.TraceReading.{trace_grammar};
-    ghost use Rattle.text_spec.specs.TraceText.{TraceLine};
+    ghost use Rattle.text_spec.specs.{PastRounds, trace_grammar, TraceLine};
     ghost use Rattle.trace_text.specs.ReaderView.{config_of, past_of};
 
     ghost Past = { PastRounds };

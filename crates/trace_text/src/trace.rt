@@ -2,12 +2,9 @@
 
 ghost use Rattle.std.specs.Prelude.{◌≡◌, ℕ, ◌-◌, ◌<◌, ◌≤◌, ◌^◌, ◌∷◌, ◌++◌, [], length, slice_range, IfOk, OnOk, OnErr};
 ghost use Rattle.std.specs.List.{AllByRecursion};
-ghost use Rattle.history_spec.specs.Orders.{KeepUpFrom};
-ghost use Rattle.history_spec.specs.Rounds.{last_tick, lines_at, lines_of};
-ghost use Rattle.text_spec.specs.TraceFaults.{ended_at, with_last};
-ghost use Rattle.text_spec.specs.TraceReading.{AreTicks};
-ghost use Rattle.trace_text.specs.Lines.{line_asked, line_at};
-ghost use Rattle.trace_text.specs.TraceView.{end_at as place_at, no_rounds_of, round_at, with_line, with_round};
+ghost use Rattle.history_spec.specs.{KeepUpFrom, last_tick, lines_at, lines_of};
+ghost use Rattle.text_spec.specs.{ended_at, with_last, AreTicks};
+ghost use Rattle.trace_text.specs.{line_asked, line_at, end_at as place_at, no_rounds_of, round_at, with_line, with_round};
 
 use crate::line::Line;
 use crate::rows::CallerRows;

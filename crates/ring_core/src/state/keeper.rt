@@ -1,7 +1,6 @@
 //! The steps of the one that takes.
 
-ghost use Rattle.ring_core.specs.Machine.{StepAnswers};
-ghost use Rattle.ring_core.specs.declared.step.Step.TheVariants.{See, Read, Offer, Sweep};
+ghost use Rattle.ring_core.specs.{StepAnswers, See, Read, Offer, Sweep};
 
 use crate::state::RingState;
 use crate::step::NotPossible;

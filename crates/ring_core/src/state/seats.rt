@@ -1,7 +1,6 @@
 //! The steps of those that put.
 
-ghost use Rattle.ring_core.specs.Machine.{StepAnswers};
-ghost use Rattle.ring_core.specs.declared.step.Step.TheVariants.{Look, Claim, Finish, Mark, Split, Join};
+ghost use Rattle.ring_core.specs.{StepAnswers, Look, Claim, Finish, Mark, Split, Join};
 
 use crate::seat::{SeatView, Ticket0};
 use crate::state::RingState;

@@ -1,8 +1,7 @@
 use Rattle.std.proofs.Common.{◌≡◌, subst, arith}
 use Rattle.buffer_classes.specs.Givers.{IsBufferIn}
 use Rattle.buffer_classes.proofs.GiveLemmas.{admitted_more}
-use Rattle.report_api.specs.Terms.{AdmitsAct, AdmitsContext}
-use Rattle.report_api.specs.Passes.{sizes_of}
+use Rattle.report_api.specs.{AdmitsAct, AdmitsContext, sizes_of}
 use Rattle.bench.proofs.reports.keep.Goals as goal
 
 pub returns-in_ok-push : goal.returns-in_ok-push

@@ -4,10 +4,7 @@ use Rattle.std.proofs.lemmas.List.FromFn.{map-range_with_len_more}
 use Rattle.std.specs.List.{range_with_len}
 use Rattle.std.proofs.lemmas.Grind.{common_steps}
 use Rattle.ids_config.specs.Parts.{Event, Parts, event_at, plain_event}
-use Rattle.chain_spec.specs.Accounts.{account_of, nothing, tally}
-use Rattle.chain_spec.specs.Endings.{Ending}
-use Rattle.chain_spec.specs.Items.{is_of}
-use Rattle.chain_spec.specs.Moments.{moments}
+use Rattle.chain_spec.specs.{account_of, nothing, tally, Ending, is_of, moments}
 use Rattle.text_spec.specs.Words.{line_feed, text_of}
 use Rattle.chain_endings.specs.ExplainedText.{account_fields, account_line, field}
 use Rattle.chain_endings.proofs.AccountingLemmas.{told_account}

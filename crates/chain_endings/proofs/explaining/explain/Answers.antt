@@ -4,8 +4,7 @@ use Rattle.ids_types.specs.declared.loss.Loss.{Loss}
 use Rattle.ids_config.specs.Parts.{Parts}
 use Rattle.chain_spec.specs.Accounts.{events_in}
 use Rattle.text_spec.proofs.WordsLemmas.{one_more, text_of-append}
-use Rattle.text_spec.specs.JournalText.{line_for, loses}
-use Rattle.text_spec.specs.Words.{line_feed, text_of}
+use Rattle.text_spec.specs.{line_for, loses, line_feed, text_of}
 use Rattle.chain_endings.specs.ExplainedText.{account_line, turns_lines}
 use Rattle.chain_endings.proofs.TurnsLemmas.{lines_push}
 use Rattle.chain_endings.proofs.explaining.explain.Goals as goal

@@ -1,6 +1,5 @@
 use Rattle.std.proofs.Common.{◌≡◌, ◌++◌, [], map, take}
-use Rattle.text_spec.specs.JournalText.{line_for, loses}
-use Rattle.text_spec.specs.Words.{text_of}
+use Rattle.text_spec.specs.{line_for, loses, text_of}
 use Rattle.chain_endings.specs.ExplainedText.{turns_lines}
 use Rattle.chain_endings.proofs.explaining.explain.Given as goal
 

@@ -7,14 +7,11 @@ use Rattle.ids_types.specs.declared.parcel.Plain.{Plain}
 use Rattle.ids_config.specs.Parts.{Parts}
 use Rattle.filter_chain.specs.History.{last_tick}
 use Rattle.filter_chain.proofs.TranscriptLemmas.{last_of, newest_first}
-use Rattle.chain_plain.specs.Recorded.{CanTake, RiseFrom, turn_with}
-use Rattle.chain_plain.specs.Telling.{IsReady}
+use Rattle.chain_plain.specs.{CanTake, RiseFrom, turn_with, IsReady}
 use Rattle.chain_spec.specs.Moments.{moments}
-use Rattle.event_chain.specs.Fates.{bare, ending_of}
-use Rattle.event_chain.specs.Standing.{StandsWatched}
+use Rattle.event_chain.specs.{bare, ending_of, StandsWatched}
 use Rattle.text_spec.specs.Words.{text_of}
-use Rattle.chain_endings.specs.ExplainedText.{turn_lines, turns_lines}
-use Rattle.chain_endings.specs.Hearing.{Hears, told_in, turn_endings}
+use Rattle.chain_endings.specs.{turn_lines, turns_lines, Hears, told_in, turn_endings}
 use Rattle.chain_endings.proofs.HearingLemmas.{heard_grows, heard_since}
 use Rattle.chain_endings.proofs.TurnsLemmas.{text_more, turn_behind}
 use Rattle.chain_endings.proofs.explaining.push_turns.Goals.{In_ok-heard}

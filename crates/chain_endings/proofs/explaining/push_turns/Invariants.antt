@@ -1,15 +1,12 @@
 use Rattle.std.proofs.Common.{◌≡◌, ◌++◌, [], List, length, reverse}
 use Rattle.std.specs.List.{All, AllByRecursion}
 use Rattle.ids_types.specs.Turns.{Turn}
-use Rattle.filter_chain.specs.History.{last_tick}
-use Rattle.filter_chain.specs.Parcels.{IsShort}
-use Rattle.chain_plain.specs.Recorded.{CanTake, RiseFrom}
-use Rattle.chain_plain.specs.Telling.{IsReady}
+use Rattle.filter_chain.specs.{last_tick, IsShort}
+use Rattle.chain_plain.specs.{CanTake, RiseFrom, IsReady}
 use Rattle.event_chain.specs.Standing.{StandsWatched}
 use Rattle.filter_aggregate.specs.Account.{all_kept}
 use Rattle.text_spec.specs.Words.{text_of}
-use Rattle.chain_endings.specs.ExplainedText.{turns_lines}
-use Rattle.chain_endings.specs.Hearing.{Hears}
+use Rattle.chain_endings.specs.{turns_lines, Hears}
 use Rattle.chain_endings.proofs.explaining.push_turns.Given as goal
 
 -- the chain stands for the turns that were taken, their lines have been printed, and what is left can be taken

@@ -1,7 +1,6 @@
 use Rattle.std.proofs.Common.{ℕ, ◌<◌, ◌≤◌, ◌++◌, List, length, map, refl, subst, arith}
 use Rattle.std.proofs.lemmas.List.{drop_all}
-use Rattle.ids_types.specs.Plain.{plain_entry}
-use Rattle.ids_types.specs.Turns.{turn_at}
+use Rattle.ids_types.specs.{plain_entry, turn_at}
 use Rattle.ids_types.specs.declared.entry.Act.TheVariants.{State}
 use Rattle.ids_types.specs.declared.entry.Entry.{Entry}
 use Rattle.event_chain.specs.Fates.{ending_of}

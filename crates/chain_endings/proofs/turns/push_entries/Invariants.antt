@@ -3,8 +3,7 @@ use Rattle.ids_types.specs.Turns.{turn_at}
 use Rattle.chain_spec.specs.Moments.{Moment}
 use Rattle.event_chain.specs.Fates.{bare, ending_of}
 use Rattle.text_spec.specs.Words.{text_of}
-use Rattle.chain_endings.specs.ExplainedText.{entry_lines}
-use Rattle.chain_endings.specs.Hearing.{endings_along, entry_moments}
+use Rattle.chain_endings.specs.{entry_lines, endings_along, entry_moments}
 use Rattle.chain_endings.proofs.TurnsLemmas.{Left}
 use Rattle.chain_endings.proofs.turns.push_entries.Given as goal
 

@@ -1,14 +1,10 @@
 use Rattle.std.proofs.Common.{◌++◌, List, drop, map, take, ap, ◌∙◌}
 use Rattle.ids_types.specs.Turns.{turn_at}
 use Rattle.ids_types.specs.declared.entry.TurnHead.{TurnHead}
-use Rattle.chain_spec.specs.Endings.{Ending}
-use Rattle.chain_spec.specs.Stages.{with_all}
+use Rattle.chain_spec.specs.{Ending, with_all}
 use Rattle.event_chain.specs.Fates.{ending_of}
-use Rattle.text_spec.specs.Fields.{ended_line}
-use Rattle.text_spec.specs.JournalText.{begins, fields_of, line_for}
-use Rattle.text_spec.specs.Words.{text_of}
-use Rattle.chain_endings.specs.ExplainedText.{entry_lines, given_line, opening}
-use Rattle.chain_endings.specs.Hearing.{endings_along}
+use Rattle.text_spec.specs.{ended_line, begins, fields_of, line_for, text_of}
+use Rattle.chain_endings.specs.{entry_lines, given_line, opening, endings_along}
 use Rattle.chain_endings.proofs.TurnsLemmas.{same_lines, three_printed, turn_parts}
 use Rattle.chain_endings.proofs.turns.push_turn.Goals as goal
 

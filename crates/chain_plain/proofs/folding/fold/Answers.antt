@@ -2,8 +2,7 @@ use Rattle.std.proofs.Common.{◌≡◌, ℕ, [], ◌∷◌, ◌++◌, length, s
 use Rattle.std.specs.List.{AllByRecursion}
 use Rattle.std.proofs.lemmas.Grind.{common_steps}
 use Rattle.filter_chain.specs.History.{last_tick}
-use Rattle.chain_plain.specs.Recorded.{CanTake, RiseFrom, turn_with}
-use Rattle.chain_plain.specs.Telling.{IsReady}
+use Rattle.chain_plain.specs.{CanTake, RiseFrom, turn_with, IsReady}
 use Rattle.filter_chain.proofs.TranscriptLemmas.{last_of}
 use Rattle.chain_plain.proofs.TellingLemmas.{tells_more}
 use Rattle.chain_plain.proofs.folding.fold.Goals as goal

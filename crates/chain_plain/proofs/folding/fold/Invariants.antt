@@ -1,10 +1,8 @@
 use Rattle.std.proofs.Common.{◌≡◌, ◌++◌, List, length}
 use Rattle.std.specs.List.{All, AllByRecursion}
 use Rattle.ids_types.specs.Turns.{Turn}
-use Rattle.filter_chain.specs.History.{last_tick}
-use Rattle.filter_chain.specs.Parcels.{IsShort}
-use Rattle.chain_plain.specs.Recorded.{CanTake, RiseFrom}
-use Rattle.chain_plain.specs.Telling.{IsReady, Tells}
+use Rattle.filter_chain.specs.{last_tick, IsShort}
+use Rattle.chain_plain.specs.{CanTake, RiseFrom, IsReady, Tells}
 use Rattle.chain_plain.proofs.folding.fold.Given as goal
 
 -- the chain stands for the turns that were taken, the tally tells of them, and what is left can be taken

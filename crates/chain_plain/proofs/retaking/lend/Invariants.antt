@@ -1,6 +1,5 @@
 use Rattle.std.proofs.Common.{◌≡◌, map, take, vec_capacity, vec_len}
-use Rattle.ids_types.specs.Carries.{entry_by}
-use Rattle.ids_types.specs.Plain.{plain_entry}
+use Rattle.ids_types.specs.{entry_by, plain_entry}
 use Rattle.chain_plain.proofs.retaking.lend.Given as goal
 
 -- the first items are lent

@@ -4,11 +4,9 @@ use Rattle.std.proofs.lemmas.Grind.{common_steps}
 use Rattle.std.proofs.lemmas.List.{append-nil}
 use Rattle.std.proofs.lemmas.List.Elements.{recursion_from_All}
 use Rattle.ids_types.specs.declared.parcel.Plain.{Plain}
-use Rattle.filter_chain.specs.History.{Sends}
-use Rattle.filter_chain.specs.Turning.{FitsTurn, most_sent}
+use Rattle.filter_chain.specs.{Sends, FitsTurn, most_sent}
 use Rattle.ids_types.specs.Output.{room_of}
-use Rattle.chain_plain.specs.Recorded.{AreInOrder, CanTake, turn_with}
-use Rattle.chain_plain.specs.Telling.{IsReady}
+use Rattle.chain_plain.specs.{AreInOrder, CanTake, turn_with, IsReady}
 use Rattle.filter_chain.proofs.TranscriptLemmas.{newest_first}
 use Rattle.chain_plain.proofs.TurningLemmas.{items_fit, told_fits}
 use Rattle.chain_plain.proofs.retaking.retake.Goals as goal

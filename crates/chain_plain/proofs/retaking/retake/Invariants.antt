@@ -3,8 +3,7 @@ use Rattle.std.specs.List.{All, AllByRecursion}
 use Rattle.ids_types.specs.Turns.{Turn}
 use Rattle.ids_config.specs.Parts.{Parts}
 use Rattle.filter_chain.specs.Parcels.{IsShort}
-use Rattle.chain_plain.specs.Recorded.{AreInOrder, CanTake}
-use Rattle.chain_plain.specs.Telling.{IsReady}
+use Rattle.chain_plain.specs.{AreInOrder, CanTake, IsReady}
 use Rattle.chain_plain.proofs.retaking.retake.Given as goal
 
 -- the chain stands for the turns that were taken, if they are in order, and what is left can be taken

@@ -1,8 +1,7 @@
 use Rattle.gen_recording.proofs.Names.{◌≡◌, map, get_or, arith, rules, plain_entry}
 use Rattle.journal.specs.Printing.{lines_text}
 use Rattle.text_spec.proofs.WordsLemmas.{one_more}
-use Rattle.text_spec.specs.Fields.{ended_line}
-use Rattle.text_spec.specs.JournalText.{enters, fields_of}
+use Rattle.text_spec.specs.{ended_line, enters, fields_of}
 use Rattle.gen_recording.proofs.RecordingLemmas.{entries_push}
 use Rattle.gen_recording.proofs.recorder.push_turn.Goals as goal
 

@@ -1,6 +1,5 @@
 use Rattle.std.proofs.Common.{◌≡◌, map, drop}
-use Rattle.ids_config.specs.Parts.{class_of}
-use Rattle.ids_config.specs.Values.{each_class}
+use Rattle.ids_config.specs.{class_of, each_class}
 use Rattle.ids_config.proofs.layout.check_classes.Given as goal
 
 -- the rest has the fault that all classes have

@@ -1,7 +1,6 @@
 use Rattle.journal.proofs.Names.{sym, ap, ◌∙◌, option_map}
 use Rattle.ids_types.specs.declared.entry.Carried.TheVariants.{Kept}
-use Rattle.text_spec.specs.Contexts.{colon}
-use Rattle.text_spec.specs.PiecesView.{pieces_left}
+use Rattle.text_spec.specs.{colon, pieces_left}
 use Rattle.journal.specs.RawLines.{context_told}
 use Rattle.journal.proofs.FormLemmas.{kept_by}
 use Rattle.journal.proofs.form.kept_of.Goals as goal

@@ -1,7 +1,5 @@
 use Rattle.journal.proofs.Names.{sym, ap, ◌∙◌, option_map, enters}
-use Rattle.text_spec.specs.JournalForm.{report_form}
-use Rattle.text_spec.specs.PiecesView.{pieces_left}
-use Rattle.text_spec.specs.Words.{space}
+use Rattle.text_spec.specs.{report_form, pieces_left, space}
 use Rattle.journal.specs.RawLines.{context_told, report_told}
 use Rattle.journal.specs.declared.line.RawReport.{RawReport}
 use Rattle.journal.proofs.FormLemmas.{report_by}

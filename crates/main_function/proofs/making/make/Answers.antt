@@ -1,6 +1,5 @@
 use Rattle.main_function.proofs.Names.{◌≡◌, ◌≤◌, ◌∙◌, map, length, refl, subst, sym, rules, Parts, class_of, ap, AreSpecs, spec_sizes, IsBuilt, IsNewManager, largest_size}
-use Rattle.ids_config.specs.PartsView.{parts_of}
-use Rattle.ids_config.specs.Valid.{IsValid}
+use Rattle.ids_config.specs.{parts_of, IsValid}
 use Rattle.report_api.specs.Making.{IsNewMaking}
 use Rattle.report_api.proofs.MakingLemmas.{valid_specs}
 use Rattle.buffer_classes.specs.Classes.{RiseFrom}

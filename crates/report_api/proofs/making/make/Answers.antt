@@ -1,6 +1,5 @@
 use Rattle.report_api.proofs.Names.{◌≡◌, ◌∙◌, Some, refl, subst, sym, AreNewClasses}
-use Rattle.ids_config.specs.PartsView.{parts_of}
-use Rattle.ids_config.specs.Valid.{IsValid}
+use Rattle.ids_config.specs.{parts_of, IsValid}
 use Rattle.report_api.specs.Making.{IsNewMaking, IsOfConfig, as_passes}
 use Rattle.report_api.proofs.MakingLemmas.{new_making, valid_specs}
 use Rattle.report_api.proofs.making.make.Goals as goal

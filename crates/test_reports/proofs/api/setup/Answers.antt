@@ -2,8 +2,7 @@ use Rattle.std.specs.Prelude.{Result, Ok, Err}
 use Rattle.std.specs.List.{All}
 use Rattle.ids_config.specs.Parts.{Parts}
 use Rattle.ids_config.specs.declared.fault.ConfigFault.{ConfigFault}
-use Rattle.idsm_api.specs.Making.{MakesSetup}
-use Rattle.idsm_api.specs.Roles.{IsFitCaller, IsFitManager}
+use Rattle.idsm_api.specs.{MakesSetup, IsFitCaller, IsFitManager}
 use Rattle.idsm_api.specs.declared.making.Setup.{Setup}
 use Rattle.test_reports.proofs.api.setup.Goals as goal
 

@@ -1,7 +1,6 @@
 use Rattle.std.proofs.Common.{◌≡◌}
 use Rattle.buffer_classes.specs.Givers.{AreBuffersIn}
-use Rattle.report_api.specs.Desks.{IsDeskOf}
-use Rattle.report_api.specs.Passes.{sizes_of}
+use Rattle.report_api.specs.{IsDeskOf, sizes_of}
 use Rattle.bench.proofs.reports.ReportingRing.take.Given as goal
 
 abbrev pub invariant-loop-number : goal.invariant-loop-number

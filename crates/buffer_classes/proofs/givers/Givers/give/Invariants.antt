@@ -1,6 +1,5 @@
 use Rattle.buffer_classes.proofs.Names.{◌≡◌, length, vec_capacity, AllOf, class_sizes, AreBuffersIn, AreGiversOf, Begins, Offers, givers_of}
-use Rattle.buffer_classes.proofs.ByIndexLemmas.{AllBelow}
-use Rattle.buffer_classes.proofs.PutLemmas.{PutsSome}
+use Rattle.buffer_classes.proofs.{AllBelow, PutsSome}
 use Rattle.buffer_classes.proofs.givers.Givers.give.Given as goal
 
 -- the classes before this one were begun

@@ -1,7 +1,6 @@
 use Rattle.std.proofs.Common.{◌<◌, length, reverse, arith, rules}
 use Rattle.std.proofs.lemmas.List.{length-reverse}
-use Rattle.event_memory.specs.Held.{no_row}
-use Rattle.event_memory.specs.Views.{plain_row}
+use Rattle.event_memory.specs.{no_row, plain_row}
 use Rattle.event_memory.proofs.PrintingLemmas.{row_printed}
 use Rattle.event_memory.proofs.memory.Memory.print.Goals as goal
 

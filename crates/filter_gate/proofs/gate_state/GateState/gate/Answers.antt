@@ -1,8 +1,5 @@
 use Rattle.std.proofs.Common.{◌≡◌, ◌∷◌, sym, subst}
-use Rattle.chain_spec.specs.Endings.{coming, qualified_fate}
-use Rattle.chain_spec.specs.Filtering.{qualified}
-use Rattle.chain_spec.specs.Gate.{sampled_at}
-use Rattle.chain_spec.specs.Moments.{comes}
+use Rattle.chain_spec.specs.{coming, qualified_fate, qualified, sampled_at, comes}
 use Rattle.filter_gate.specs.Stands.{Stands, let_through, fate_by, sampled_fate}
 use Rattle.filter_gate.proofs.StandsLemmas.{fate_told, sampled_by, stands_with_item}
 use Rattle.filter_gate.proofs.gate_state.GateState.gate.Goals as goal

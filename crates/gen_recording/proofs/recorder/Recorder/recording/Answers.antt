@@ -1,8 +1,7 @@
 use Rattle.gen_recording.proofs.Names.{◌≡◌, [], ap, ◌∙◌, arith, rules, Traced, ranges}
 use Rattle.config_json.specs.Printed.{config_text}
 use Rattle.journal.specs.Answers.{told}
-use Rattle.text_spec.specs.JournalText.{journal_text}
-use Rattle.text_spec.specs.TraceText.{trace_text}
+use Rattle.text_spec.specs.{journal_text, trace_text}
 use Rattle.gen_recording.specs.Generated.{config_for, journal_for, line_for, trace_for}
 use Rattle.gen_recording.proofs.FitLemmas.{rounds_fit}
 use Rattle.gen_recording.proofs.GenerateLemmas.{line_is, recorded}

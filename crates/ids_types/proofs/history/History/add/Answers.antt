@@ -1,7 +1,6 @@
 use Rattle.std.proofs.Common.{◌≡◌, suc, ◌-◌, ◌<◌, [], ◌∷◌, ◌++◌, length, ap, ◌∙◌, arith, rules, vec_len}
 use Rattle.std.proofs.lemmas.List.{length-map}
-use Rattle.ids_types.specs.Plain.{plain_entry, kept_bytes}
-use Rattle.ids_types.specs.Rows.{own_numbers, row_of, turn_of, EntryWithin}
+use Rattle.ids_types.specs.{plain_entry, kept_bytes, own_numbers, row_of, turn_of, EntryWithin}
 use Rattle.ids_types.specs.Turns.{Turns, with_entry}
 use Rattle.ids_types.proofs.HistoryLemmas.{turns_added, lies_added}
 use Rattle.ids_types.proofs.history.History.add.Goals as goal

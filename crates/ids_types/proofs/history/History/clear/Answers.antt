@@ -1,8 +1,7 @@
 use Rattle.std.proofs.Common.{◌≡◌, [], length, map, refl, sym, ap, ◌∙◌, rules}
 use Rattle.std.proofs.lemmas.List.{length-map}
 use Rattle.ids_types.specs.Views.{turns_of}
-use Rattle.ids_types.specs.Rows.{turn_of}
-use Rattle.ids_types.specs.Turns.{emptied}
+use Rattle.ids_types.specs.{turn_of, emptied}
 use Rattle.ids_types.proofs.HistoryLemmas.{cleared}
 use Rattle.ids_types.proofs.history.History.clear.Goals as goal
 

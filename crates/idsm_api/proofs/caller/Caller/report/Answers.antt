@@ -1,7 +1,6 @@
 use Rattle.idsm_api.proofs.Names.{rules}
 use Rattle.report_api.specs.Answers.{given}
-use Rattle.idsm_api.specs.Calls.{Reports}
-use Rattle.idsm_api.specs.declared.caller.Caller.{Caller}
+use Rattle.idsm_api.specs.{Reports, Caller}
 use Rattle.idsm_api.proofs.CallerLemmas.{report_does}
 use Rattle.idsm_api.proofs.caller.Caller.report.Goals as goal
 

@@ -1,8 +1,6 @@
 use Rattle.idsm_api.proofs.Names.{◌≡◌, ◌∙◌, rules, refl, sym, ap, subst, arith, arc_value, Output, Shared, IsManagerOf, chain_events, chain_kept, chain_stands}
 use Rattle.main_function.specs.Turning.{IsQuick, TurnLeaves}
-use Rattle.idsm_api.specs.Turning.{told_in}
-use Rattle.idsm_api.specs.Writing.{IsWritten}
-use Rattle.idsm_api.specs.declared.answer.Answer.TheVariants.{Done}
+use Rattle.idsm_api.specs.{told_in, IsWritten, Done}
 use Rattle.idsm_api.proofs.ClosingLemmas.{room_is}
 use Rattle.idsm_api.proofs.manager.Manager.step.Goals as goal
 

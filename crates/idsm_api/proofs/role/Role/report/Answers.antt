@@ -1,8 +1,7 @@
 use Rattle.idsm_api.proofs.Names.{refl, sym, subst}
 use Rattle.report_api.specs.Answers.{given}
-use Rattle.idsm_api.specs.declared.role.Role.{Role}
+use Rattle.idsm_api.specs.{Role, RoleReports}
 use Rattle.idsm_api.specs.declared.role.Role.TheVariants.{Calls}
-use Rattle.idsm_api.specs.Handled.{RoleReports}
 use Rattle.idsm_api.proofs.role.Role.report.Goals as goal
 
 pub returns-in-Calls-clause-told : goal.returns-in-Calls-clause-told

@@ -1,8 +1,6 @@
 use Rattle.idsm_api.proofs.Names.{refl, sym, subst}
-use Rattle.idsm_api.specs.Calls.{asked_mode}
-use Rattle.idsm_api.specs.declared.role.Role.{Role}
+use Rattle.idsm_api.specs.{asked_mode, Role, RoleSets}
 use Rattle.idsm_api.specs.declared.role.Role.TheVariants.{Calls}
-use Rattle.idsm_api.specs.Handled.{RoleSets}
 use Rattle.idsm_api.proofs.role.Role.set_mode.Goals as goal
 
 pub returns-in-Calls-clause-told : goal.returns-in-Calls-clause-told

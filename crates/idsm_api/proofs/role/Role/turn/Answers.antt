@@ -1,7 +1,6 @@
 use Rattle.idsm_api.proofs.Names.{refl, sym, subst}
-use Rattle.idsm_api.specs.declared.role.Role.{Role}
+use Rattle.idsm_api.specs.{Role, RoleTurns}
 use Rattle.idsm_api.specs.declared.role.Role.TheVariants.{Turns}
-use Rattle.idsm_api.specs.Handled.{RoleTurns}
 use Rattle.idsm_api.proofs.role.Role.turn.Goals as goal
 
 pub returns-in-Turns-clause-told : goal.returns-in-Turns-clause-told

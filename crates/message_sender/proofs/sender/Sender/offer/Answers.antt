@@ -1,12 +1,9 @@
 use Rattle.std.proofs.Common.{◌≡◌, ◌∷◌, List, Some, sym, subst}
 use Rattle.ids_config.specs.Parts.{Parts}
-use Rattle.chain_spec.specs.Endings.{qualified_fate}
-use Rattle.chain_spec.specs.Items.{Item}
-use Rattle.chain_spec.specs.Windows.{EndBy}
+use Rattle.chain_spec.specs.{qualified_fate, Item, EndBy}
 use Rattle.message_sender.specs.ReportView.{item_of}
-use Rattle.message_sender.specs.Sender.{SenderParts}
+use Rattle.message_sender.specs.{SenderParts, Start, IsSending, answered_fate}
 use Rattle.message_sender.specs.SenderView.{sender_of}
-use Rattle.message_sender.specs.Sending.{Start, IsSending, answered_fate}
 use Rattle.message_sender.proofs.SendingLemmas.{Offers, fate_is, offered}
 use Rattle.message_sender.proofs.sender.Sender.offer.Goals.{After-settle}
 use Rattle.message_sender.proofs.sender.Sender.offer.Goals as goal

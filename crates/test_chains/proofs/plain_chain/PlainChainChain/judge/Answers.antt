@@ -1,15 +1,12 @@
 use Rattle.std.proofs.Common.{ℕ, ◌≤◌, List, [], ◌∷◌, ◌++◌, length, reverse, refl, subst, sym, ap, arith}
 use Rattle.std.specs.List.{All}
 use Rattle.std.proofs.lemmas.List.Elements.{All-push}
-use Rattle.ids_types.specs.Output.{room_of}
-use Rattle.ids_types.specs.Turns.{Room}
+use Rattle.ids_types.specs.{room_of, Room}
 use Rattle.ids_types.specs.declared.parcel.Plain.{Plain}
-use Rattle.filter_chain.specs.History.{last_tick}
-use Rattle.filter_chain.specs.Turning.{FitsTurn, most_sent, turn_by}
+use Rattle.filter_chain.specs.{last_tick, FitsTurn, most_sent, turn_by}
 use Rattle.filter_chain.proofs.TranscriptLemmas.{newest_first}
 use Rattle.chain_plain.proofs.TurningLemmas.{told_fits}
-use Rattle.chain_plain.specs.Recorded.{AreInOrder, CanTake}
-use Rattle.chain_plain.specs.Telling.{IsReady}
+use Rattle.chain_plain.specs.{AreInOrder, CanTake, IsReady}
 use Rattle.event_chain.specs.Standing.{Stands as ChainStands}
 use Rattle.test_chains.specs.Remembered.{IsFresh, Remembered, Stands}
 use Rattle.test_chains.specs.Room.{has_room}
