@@ -1,8 +1,8 @@
 //! What a chain is handed at each turn, made once.
 
-ghost use Rattle.std.specs.Prelude.{◌≡◌, ◌+◌, ◌*◌, ◌≤◌, ◌∷◌, ◌++◌, [], ℕ, true, List, length, map, vec_len, vec_capacity, IfOk};
+ghost use Rattle.std.specs.Prelude.{◌≡◌, ◌*◌, ◌≤◌, ◌∷◌, ◌++◌, [], true, List, IfOk};
 ghost use Rattle.std.specs.List.{All};
-ghost use Rattle.ids_types.specs.{plain_entry, Turn};
+ghost use Rattle.ids_types.specs.{Turn};
 ghost use Rattle.ids_config.specs.Parts.{Parts};
 ghost use Rattle.filter_chain.specs.{last_tick, Sends, IsShort, FitsTurn, turn_by};
 ghost use Rattle.chain_plain.specs.{CanTake, turn_with, HasDeskRoom, IsReady};
@@ -67,7 +67,7 @@ impl<'h> Desk<'h> {
         ensures kept { All (IsShort (λ p. p.0.now)) (C.kept chain.new) }
         ensures ready { IsReady (C.events chain.old) self.new }
     {
-        put_entries(entries, &mut self.items);
+        entries.put_after(&mut self.items);
         self.turn(chain, head);
     }
 
@@ -91,17 +91,5 @@ impl<'h> Desk<'h> {
     {
         chain.judge(head, &mut self.items, &mut self.back, &mut self.out);
         self.back.clear();
-    }
-}
-
-/// Puts the entries after the items.
-fn put_entries<'h>(entries: EntryWalk<'h>, items: &mut Vec<Entry<Plain<'h>>>)
-    requires { vec_len items.old + length entries ≤ vec_capacity items.old }
-    ensures items { map plain_entry items.new.items ≡ map plain_entry items.old.items ++ entries.entry }
-    ensures capacity { vec_capacity items.new ≡ vec_capacity items.old }
-{
-    let mut rest = entries;
-    while let Some(entry) = rest.pop_front() {
-        items.push_reserved(entry);
     }
 }

@@ -1,7 +1,8 @@
 //! Entries on their way into a history's memory and out of it.
 
-ghost use Rattle.std.specs.Prelude.{◌≡◌, ◌+◌, ◌<◌, ◌≤◌, ◌^◌, ◌++◌, length, is_some, IsTrue, slice_index, slice_range, vec_len, vec_capacity};
-ghost use Rattle.ids_types.specs.{Report, act_by, plain_carried, plain_entry, carried_bytes, kept_bytes, stamp_before, stamp_numbers, context_numbers, own_numbers, kind_of, row_of as row_for, entry_of, KindWithin, EntryWithin, bytes_at};
+ghost use Rattle.std.specs.Prelude.{◌≡◌, ◌+◌, ◌<◌, ◌≤◌, ◌^◌, ◌++◌, [], ◌∷◌, length, map, is_some, IsTrue, slice_index, slice_range, vec_len, vec_capacity};
+ghost use Rattle.std.specs.List.{AllByRecursion};
+ghost use Rattle.ids_types.specs.{Report, Holding, act_by, act_of, plain_carried, plain_entry, carried_bytes, kept_bytes, stamp_before, stamp_numbers, context_numbers, own_numbers, kind_of, row_of as row_for, entry_of, KindWithin, EntryWithin, bytes_at};
 
 use crate::entry::{Act, Carried, Entry};
 use crate::names::{EventIndex, Stamp};
@@ -199,6 +200,39 @@ fn asked_of(numbers: &[u64], place: usize, count: u8) -> Numbers
     Numbers::make(&numbers[place..place + count as usize])
 }
 
+/// The report of a row whose context was kept by this class, with its bytes lent.
+#[inline(always)]
+fn kept_report<'a>(row: &EntryRow, numbers: &[u64], bytes: &'a [u8], class: u8) -> Act<Plain<'a>>
+    requires within { EntryWithin numbers.now (length bytes.now) row.now }
+    requires kind { row.now.kind ≡ Holding class }
+    ensures { act_by (λ p. p.0.now) result ≡ act_of numbers.now bytes.now row.now (Holding class) }
+{
+    let claim = numbers[row.place];
+    let parcel = Plain(bytes_of(numbers, bytes, row.place + 1));
+    let context = Carried::Kept {
+        class,
+        claim,
+        parcel,
+    };
+    report_of(row, numbers, context)
+}
+
+/// The entry of a row that has this act.
+#[inline(always)]
+fn entry_by<'a>(row: &EntryRow, act: Act<Plain<'a>>) -> Entry<Plain<'a>>
+    ensures { plain_entry result ≡ record {
+      caller = row.now.caller;
+      call = row.now.call;
+      act = act_by (λ p. p.0.now) act.entry;
+    } }
+{
+    Entry {
+        caller: row.caller,
+        call: row.call,
+        act,
+    }
+}
+
 /// The entry of a row, with its bytes lent from all of a history's.
 #[inline(always)]
 pub(crate) fn lent<'a>(row: &EntryRow, numbers: &[u64], bytes: &'a [u8]) -> Entry<Plain<'a>>
@@ -207,19 +241,7 @@ pub(crate) fn lent<'a>(row: &EntryRow, numbers: &[u64], bytes: &'a [u8]) -> Entr
 {
     let act = match row.kind {
         RowKind::Bare => report_of(row, numbers, Carried::Absent),
-        RowKind::Holding(class) => {
-            let claim = numbers[row.place];
-            let parcel = Plain(bytes_of(numbers, bytes, row.place + 1));
-            report_of(
-                row,
-                numbers,
-                Carried::Kept {
-                    class,
-                    claim,
-                    parcel,
-                },
-            )
-        }
+        RowKind::Holding(class) => kept_report(row, numbers, bytes, class),
         RowKind::Lacking(count) => {
             let asked = asked_of(numbers, row.place, count);
             report_of(row, numbers, Carried::Missing(asked))
@@ -230,9 +252,58 @@ pub(crate) fn lent<'a>(row: &EntryRow, numbers: &[u64], bytes: &'a [u8]) -> Entr
             mode,
         },
     };
-    Entry {
-        caller: row.caller,
-        call: row.call,
-        act,
+    entry_by(row, act)
+}
+
+/// The same for the rows that are few.
+#[inline(never)]
+fn lent_rarely<'a>(row: &EntryRow, numbers: &[u64], bytes: &'a [u8]) -> Entry<Plain<'a>>
+    requires { EntryWithin numbers.now (length bytes.now) row.now }
+    ensures { plain_entry result ≡ entry_of numbers.now bytes.now row.now }
+{
+    lent(row, numbers, bytes)
+}
+
+/// Puts the entries of these rows after the items.
+#[inline(always)]
+pub(crate) fn put_rows<'a>(
+    rows: &[EntryRow],
+    numbers: &[u64],
+    bytes: &'a [u8],
+    items: &mut Vec<Entry<Plain<'a>>>,
+)
+    requires within { AllByRecursion (EntryWithin numbers.now (length bytes.now)) rows.now }
+    requires room { vec_len items.old + length rows.now ≤ vec_capacity items.old }
+    ensures items { map plain_entry items.new.items ≡
+        map plain_entry items.old.items ++ map (entry_of numbers.now bytes.now) rows.now }
+    ensures capacity { vec_capacity items.new ≡ vec_capacity items.old }
+{
+    let mut left = rows;
+    while let [row, rest @ ..] = left {
+        put_lent(row, numbers, bytes, items);
+        left = rest;
+    }
+}
+
+/// Puts the entry of a row after the items. It is made whole for each of the two kinds that most rows have, so
+/// that it goes from registers to its place at once.
+#[inline(always)]
+fn put_lent<'a>(row: &EntryRow, numbers: &[u64], bytes: &'a [u8], items: &mut Vec<Entry<Plain<'a>>>)
+    requires within { EntryWithin numbers.now (length bytes.now) row.now }
+    requires room { vec_len items.old + 1 ≤ vec_capacity items.old }
+    ensures items { map plain_entry items.new.items ≡
+        map plain_entry items.old.items ++ entry_of numbers.now bytes.now row.now ∷ [] }
+    ensures capacity { vec_capacity items.new ≡ vec_capacity items.old }
+{
+    match row.kind {
+        RowKind::Bare => {
+            let act = report_of(row, numbers, Carried::Absent);
+            items.push_reserved(entry_by(row, act));
+        }
+        RowKind::Holding(class) => {
+            let act = kept_report(row, numbers, bytes, class);
+            items.push_reserved(entry_by(row, act));
+        }
+        _ => items.push_reserved(lent_rarely(row, numbers, bytes)),
     }
 }

@@ -1,11 +1,11 @@
 //! Going over a history once, from its first turn to its last.
 
-ghost use Rattle.std.specs.Prelude.{◌≡◌, [], ◌∷◌, length, IfSome, IfNone};
+ghost use Rattle.std.specs.Prelude.{◌≡◌, ◌+◌, ◌≤◌, [], ◌∷◌, ◌++◌, length, map, IfSome, IfNone, vec_len, vec_capacity};
 ghost use Rattle.ids_types.specs.Plain.{plain_entry};
 
 use crate::entry::{Entry, TurnHead};
 use crate::parcel::Plain;
-use crate::placing::lent;
+use crate::placing::{lent, put_rows};
 use crate::rows::{EntryRow, TurnRow};
 use std::marker::Model;
 
@@ -102,5 +102,16 @@ impl<'a> EntryWalk<'a> {
                 Some(lent(row, self.numbers, self.bytes))
             }
         }
+    }
+
+    /// Puts the entries that are left after the items.
+    /// Steps: the entries; at most 4 numbers of each are copied. By: read off; condition: room for them.
+    #[inline(never)]
+    pub fn put_after(self, items: &mut Vec<Entry<Plain<'a>>>)
+        requires { vec_len items.old + length self ≤ vec_capacity items.old }
+        ensures items { map plain_entry items.new.items ≡ map plain_entry items.old.items ++ self.entry }
+        ensures capacity { vec_capacity items.new ≡ vec_capacity items.old }
+    {
+        put_rows(self.rows, self.numbers, self.bytes, items);
     }
 }

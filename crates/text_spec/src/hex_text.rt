@@ -47,6 +47,7 @@ impl<'a> HexText<'a> {
 
     /// Decodes the bytes into the front of `room`, and returns how many they are.
     /// Steps: the bytes that it writes. By: `count`; read off; condition: room for them.
+    #[inline(always)]
     pub fn decode(&self, room: &mut [u8]) -> usize
         requires { length self.now ≤ length room.old }
         ensures count { result ≡ length self.now }

@@ -12,9 +12,9 @@ held p = p.0.now
 -- the items fit, since the entries do, and there is as much room as before
 pub turn-requires : goal.turn-requires
 turn-requires g c κs =
-    let same : map plain_entry c.put_entries.new.items.items ≡ c.args.entries = grind (arith, common_steps) in
+    let same : map plain_entry c.put_after.new.items.items ≡ c.args.entries = grind (arith, common_steps) in
     let before = c.requires.ready.room in
-    let room : 1024 ≤ vec_capacity c.put_entries.new.items = grind (arith, common_steps, before.items_room) in
+    let room : 1024 ≤ vec_capacity c.put_after.new.items = grind (arith, common_steps, before.items_room) in
     let fits = items_fit held _ _ c.args.entries same c.requires.entries in (
       (refl, tt),
       (
