@@ -1,6 +1,7 @@
 //! Parcels of context data, on their way out of entries and back.
 
 ghost use Rattle.std.specs.Prelude.{◌≡◌, ◌≤◌, ◌+◌, ◌++◌, length, option_to_list, vec_len, vec_capacity};
+ghost use Rattle.ids_types.specs.declared.entry.Carried.TheVariants.{Absent};
 ghost use Rattle.ids_types.specs.{act_by, carried_by, entry_by, plain_carried, plain_entry};
 ghost use Rattle.chain_spec.specs.Items.{kept_parcel};
 
@@ -75,7 +76,8 @@ fn once_more(numbers: &Numbers) -> Numbers
 /// By: no loop; the parcel is moved.
 #[inline(always)]
 pub fn take_kept<B: Parcel>(context: &mut Carried<B>) -> Option<B>
-    ensures { result ≡ kept_parcel context.old }
+    ensures took { result ≡ kept_parcel context.old }
+    ensures left { context.new ≡ Absent }
 {
     match replace(context, Carried::Absent) {
         Carried::Kept { parcel, .. } => Some(parcel),

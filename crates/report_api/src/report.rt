@@ -3,7 +3,7 @@ ghost use Rattle.std.specs.Prelude.{◌≡◌, ◌<◌, ◌^◌, ℕ, [], None, 
 ghost use Rattle.report_queue.specs.{IsCallerOf, adds_mark, caller_memo, finishes, item_by, queue_terms, ticket_of};
 ghost use Rattle.ids_types.specs.declared.names.Ticket.{Ticket as TicketValue};
 ghost use Rattle.report_api.specs.declared.answer.Report.TheVariants.{WithoutContext};
-ghost use Rattle.report_api.specs.{PutsUnder, Reports, given, IsPassAt, IsPassOf, IsReported, AdmitsAct, lost_contexts, Absent, Kept, Missing, Report as Bare};
+ghost use Rattle.report_api.specs.{PutsUnder, Reports, given, IsPassAt, IsPassOf, IsReported, AdmitsAct, lost_contexts, Absent, Kept, Missing, Report as Reported};
 
 use crate::answer::Report;
 use crate::pass::{Pass, put};
@@ -17,7 +17,7 @@ use std::mem::replace;
 // those below.
 #[inline(always)]
 fn bare(event: EventIndex, count: u16, stamp: Option<Stamp>) -> Act<CtxBuf>
-    ensures { result ≡ Bare event count stamp Absent }
+    ensures { result ≡ Reported event count stamp Absent }
 {
     Act::Report {
         event,
@@ -30,7 +30,7 @@ fn bare(event: EventIndex, count: u16, stamp: Option<Stamp>) -> Act<CtxBuf>
 // A report with its context.
 #[inline(always)]
 fn kept(event: EventIndex, count: u16, stamp: Option<Stamp>, buf: CtxBuf) -> Act<CtxBuf>
-    ensures { result ≡ Bare event count stamp (Kept buf.class buf.claim buf) }
+    ensures { result ≡ Reported event count stamp (Kept buf.class buf.claim buf) }
 {
     Act::Report {
         event,
@@ -59,12 +59,12 @@ fn put_missing(
     requires spare { is_some spare.old ≡ true }
     requires busy { is_none (ticket_of seat.old) ≡ false }
     requires few { lost_contexts (caller_memo seat.old) < 2 ^ 40 }
-    requires admitted { AdmitsAct (queue_terms queue.now) (Bare event count stamp (Missing looks.old)) }
+    requires admitted { AdmitsAct (queue_terms queue.now) (Reported event count stamp (Missing looks.old)) }
     ensures mine { IsCallerOf queue.now seat.new }
     ensures spare { is_some spare.new ≡ true }
     ensures reported { (ticket : TicketValue) × (result ≡ WithoutContext ticket looks.old) × (ticket_of seat.old ≡ Some ticket) }
     ensures told { (found : ℕ) × (caller_memo seat.new ≡ adds_mark 1 found
-        (finishes (item_by (caller_memo seat.old) (Bare event count stamp (Missing looks.old))) (caller_memo seat.old))) }
+        (finishes (item_by (caller_memo seat.old) (Reported event count stamp (Missing looks.old))) (caller_memo seat.old))) }
     ensures held { ticket_of seat.new ≡ None }
 {
     let act = Act::Report {

@@ -1,5 +1,5 @@
 //! The one who takes the items.
-ghost use Rattle.std.specs.Prelude.{◌≡◌, None, is_some, true, OnErr};
+ghost use Rattle.std.specs.Prelude.{◌≡◌, None, is_some, true, OnOk, OnErr};
 ghost use Rattle.report_queue.specs.{GivesBack, Sweeps, Takes, Welcomes};
 
 use crate::cargo::{Cargo, Item, Items};
@@ -29,6 +29,7 @@ impl<P: Cargo> Taker<P> {
         requires mine { IsTakerOf queue.now self.old }
         requires spent { is_some spent.old ≡ true }
         ensures took { Takes queue.now self.old P.note P.admits_note result self.new }
+        ensures left { OnOk result (spent.new ≡ None) }
         ensures kept { OnErr result (spent.new ≡ spent.old) }
     {
         match self.keeper.reap(&queue.ring) {

@@ -10,7 +10,7 @@ returns-in-Report-clause-behind g c config start moments behind =
     let r = c.in-Report in
     let moment = λ (o : Option g.row.B.Denot).
     comes (item_at tick (told_by held (record { event = r.event; count = r.count; stamp = r.stamp; context = o }))) in
-    let same = ap moment c.take_kept.ensures ∙ report_moment held tick r.event r.count r.stamp r.context
+    let same = ap moment c.take_kept.ensures.took ∙ report_moment held tick r.event r.count r.stamp r.context
     ∙ ap (λ (a : Act g.row.B.Denot). act_moment tick (act_by held a)) (sym r.is) in
     subst (λ (m : Moment). IsBehind held g.W.Witness.knows config start tick (m ∷ moments) c.take.new.self c.take.new.out) same
     (c.take.ensures.behind config start moments behind)
