@@ -1,5 +1,5 @@
 -- A sealed message by its bytes: the plain one, marked in its first byte, and the signature part after it.
-use Rattle.frame_auth.proofs.Names.{◌≡◌, ℕ, zero, suc, IsByte, AreBytes, ◌+◌, ◌*◌, ◌^◌, ◌≤◌, ◌<◌, List, [], ◌∷◌, ◌++◌, length, take, drop, Option, Some, None, refl, sym, ap, subst, ◌∙◌, arith, length-append, w16, w64, to_be_bytes, MessageParts, FitsMessage, header, spelling, joined, with_signature, bare, hmac, seal_of, sealed, joined_sealed, IsPlain, ArePlain, IsSealedWith, HasNoSeal, HasOtherCounter, marked, sealed_bytes, CanUnmark, unmarked, rules, common_steps}
+use Rattle.frame_auth.proofs.Names.{◌≡◌, ℕ, zero, suc, IsByte, AreBytes, ◌+◌, ◌*◌, ◌^◌, ◌≤◌, ◌<◌, List, [], ◌∷◌, ◌++◌, length, take, drop, Option, Some, None, refl, sym, ap, subst, ◌∙◌, arith, length-append, w16, w64, to_be_bytes, MessageParts, FitsMessage, BeginsWith, header, spelling, joined, with_signature, bare, hmac, seal_of, sealed, joined_sealed, IsPlain, ArePlain, IsSealedWith, HasNoSeal, HasOtherCounter, Moves, marked, sealed_bytes, CanUnmark, unmarked, rules, common_steps}
 use Rattle.std.proofs.lemmas.List.{take_at, drop_at}
 use Rattle.std.proofs.Common.{◌≢◌, IfSome, Bor, is_some, option_copied, false}
 use Rattle.ids_frame.proofs.NumberLemmas.{wide32, wide64}
@@ -20,13 +20,15 @@ signed_layout : (m : MessageParts) (part : List ℕ)
     → spelling (with_signature (Some part) m) ≡ marked (spelling (bare m)) ++ (to_be_bytes w16 (length part) ++ part)
 signed_layout m part = search rules
 
+-- a message without one, with one of 40 bytes
+with_forty : (m : MessageParts) (part : List ℕ) → m.signature ≡ None → length part ≡ 40
+    → spelling (with_signature (Some part) m) ≡ marked (spelling m) ++ 0 ∷ 40 ∷ part
+with_forty m part none size = grind (arith, common_steps)
+
 -- a plain message, sealed
 pub sealed_layout : (key : List ℕ) (counter : ℕ) (m : MessageParts) → m.signature ≡ None
     → spelling (sealed key counter m) ≡ sealed_bytes key counter (spelling m)
-sealed_layout key counter m none =
-    let seal = seal_of key counter (spelling m) in
-    signed_layout m seal ∙ ap (λ n. marked (spelling n) ++ (to_be_bytes w16 (length seal) ++ seal)) (bare_is m none)
-    ∙ ap (λ size. marked (spelling m) ++ (to_be_bytes w16 size ++ seal)) (length-seal_of key counter (spelling m))
+sealed_layout key counter m none = with_forty m _ none (length-seal_of key counter (spelling m))
 
 -- each seal adds 42 bytes
 pub length-joined_sealed : (key : List ℕ) (start : ℕ) (messages : List MessageParts) → ArePlain messages
@@ -94,10 +96,14 @@ pub sealed_with : (key part : List ℕ) (counter : ℕ) (m : MessageParts) → m
     → part ≡ seal_of key counter (spelling (bare m)) → IsSealedWith key counter m
 sealed_with key part counter m some made = ap (λ s. with_signature s m) (some ∙ ap Some made)
 
--- and then another counter is none
-pub other_counter : (key part : List ℕ) (counter due : ℕ) (m : MessageParts) → m.signature ≡ Some part
-    → part ≡ seal_of key counter (spelling (bare m)) → counter < 2 ^ 64 → due < 2 ^ 64 → counter ≢ due → HasOtherCounter key due m
-other_counter key part counter due m some made fits due_fits other = search rules
+-- a plain message, sealed, is sealed so
+pub sealed_is : (key : List ℕ) (counter : ℕ) (m : MessageParts) → IsPlain m → IsSealedWith key counter (sealed key counter m)
+sealed_is key counter m plain = ap (sealed key counter) (sym (bare_is m plain.none))
+
+-- a message that is sealed with one counter is sealed with no other
+pub other_counter : (key : List ℕ) (counter due : ℕ) (m : MessageParts) → IsSealedWith key counter m
+    → counter < 2 ^ 64 → due < 2 ^ 64 → counter ≢ due → HasOtherCounter key due m
+other_counter key counter due m with fits due_fits other = search rules
 
 -- ---- other signature parts
 
@@ -133,3 +139,14 @@ unsigned s none = search rules
 pub added_bare : (old now spelled part : List ℕ) (from : ℕ) (m : MessageParts) → now ≡ old ++ unmarked spelled → spelled ≡ spelling m
     → from ≡ length old → m.signature ≡ Some part → length part ≡ 40 → drop from now ≡ spelling (bare m)
 added_bare old now spelled part from m added is place some size = grind (arith, common_steps, unsealed_layout)
+
+-- so the message is moved, without its signature part
+pub moved : (key part : List ℕ) (due : ℕ) (m : MessageParts) (rest behind old new spelled : List ℕ) → BeginsWith rest m behind
+    → m.signature ≡ Some part → length part ≡ 40 → part ≡ seal_of key due (spelling (bare m)) → spelled ≡ spelling m
+    → new ≡ old ++ unmarked spelled → Moves (sealed key due) (λ m. m) rest behind old new
+moved key part due m rest behind old new spelled begins some size made is added = record {
+  message = bare m;
+  is_plain = bare_is_plain m begins.fits;
+  read = rw (begins.whole, sealed_with key part due m some made) refl;
+  written = rw (added, is, (unsealed_layout m part some size).1) refl;
+}

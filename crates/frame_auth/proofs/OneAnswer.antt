@@ -1,11 +1,11 @@
 -- What sealing gives is one answer, and so is what unsealing gives.
-use Rattle.frame_auth.proofs.Names.{◌≡◌, ℕ, ◌+◌, List, [], ◌∷◌, ◌++◌, length, Result, Ok, Err, refl, sym, ap, subst, ◌∙◌, append_assoc, arith, append-nil, AreBytes, MessageParts, spelling, joined, BeginsWith, Begins, Begun, bare, sealed, joined_sealed, Copies, IsPlain, ArePlain, HasNoSeal, HasOtherCounter, StopsBehind, CannotRead, BeginsSo, StopsSeal, StopsUnseal, Gives, GivesSealed, GivesUnsealed, rules, common_steps}
+use Rattle.frame_auth.proofs.Names.{◌≡◌, ℕ, ◌+◌, List, [], ◌∷◌, ◌++◌, length, Result, Ok, Err, refl, sym, ap, subst, ◌∙◌, append_assoc, arith, append-nil, AreBytes, MessageParts, spelling, joined, BeginsWith, Begins, Begun, sealed, joined_sealed, Copies, IsPlain, ArePlain, HasNoSeal, HasOtherCounter, StopsBehind, CannotRead, BeginsSo, StopsSeal, StopsUnseal, Gives, GivesSealed, GivesUnsealed, rules, common_steps}
 use Rattle.ids_frame.specs.declared.fault.BadMessage.{BadMessage}
 use Rattle.ids_frame.proofs.MessageLemmas.{one_message_lem, read_of}
 use Rattle.ids_frame.proofs.PartLemmas.{behind_bytes}
 use Rattle.frame_auth.specs.{SealFault, UnsealFault}
 use Rattle.frame_auth.specs.declared.fault.UnsealFault.TheVariants as unseals
-use Rattle.frame_auth.proofs.LayoutLemmas.{bare_is}
+use Rattle.frame_auth.proofs.LayoutLemmas.{sealed_is}
 use Rattle.frame_auth.proofs.WalkLemmas.{Writes, writes_plain, writes_sealed}
 
 -- the bytes begin with a plain message in the form that is due
@@ -15,29 +15,31 @@ record MayGo (form : ℕ → MessageParts → MessageParts) (due : ℕ) (bytes :
   behind : List ℕ
   read : bytes ≡ spelling (form due message) ++ behind
 
+-- the first message's spelling stands in front
+cut : {write : ℕ → List MessageParts → List ℕ} {form : ℕ → MessageParts → MessageParts} → Writes write form
+    → (start : ℕ) (x : MessageParts) (xs : List MessageParts) (a : List ℕ)
+    → write start (x ∷ xs) ++ a ≡ spelling (form start x) ++ (write (start + 1) xs ++ a)
+cut {write} {form} w start x xs a =
+    ap (λ l. l ++ a) (w.more start x xs) ∙ append_assoc (spelling (form start x)) (write (start + 1) xs) a
+
 -- where messages that are read end, because no more may go, is one place
 one_front : {write : ℕ → List MessageParts → List ℕ} {form : ℕ → MessageParts → MessageParts} → Writes write form
     → (start : ℕ) (xs ys : List MessageParts) (a b : List ℕ) → ArePlain xs → ArePlain ys → write start xs ++ a ≡ write start ys ++ b
     → ((due : ℕ) → due ≡ start + length xs → MayGo form due a → ⊥) → ((due : ℕ) → due ≡ start + length ys → MayGo form due b → ⊥)
     → (xs ≡ ys) × (a ≡ b)
 one_front w start [] [] a b all_x all_y e no_a no_b = (refl, rw (w.none start) at e)
-one_front {write} {form} w start [] (y ∷ ys) a b all_x all_y e no_a no_b =
-    let read : a ≡ spelling (form start y) ++ (write (start + 1) ys ++ b) =
-    (rw (w.none start, w.more start y ys) at e) ∙ append_assoc (spelling (form start y)) (write (start + 1) ys) b in
-    absurd (no_a start (omega arith) (record { message = y; is_plain = all_y.0; behind = _; read = read }))
-one_front {write} {form} w start (x ∷ xs) [] a b all_x all_y e no_a no_b =
-    let read : b ≡ spelling (form start x) ++ (write (start + 1) xs ++ a) =
-    sym (rw (w.none start, w.more start x xs) at e) ∙ append_assoc (spelling (form start x)) (write (start + 1) xs) a in
-    absurd (no_b start (omega arith) (record { message = x; is_plain = all_x.0; behind = _; read = read }))
-one_front {write} {form} w start (x ∷ xs) (y ∷ ys) a b all_x all_y e no_a no_b =
-    let whole : spelling (form start x) ++ (write (start + 1) xs ++ a) ≡ spelling (form start y) ++ (write (start + 1) ys ++ b) =
-    sym (append_assoc (spelling (form start x)) (write (start + 1) xs) a) ∙ (rw (w.more start x xs, w.more start y ys) at e)
-    ∙ append_assoc (spelling (form start y)) (write (start + 1) ys) b in
+one_front {write} w start [] (y ∷ ys) a b all_x all_y e no_a no_b =
+    let read = (rw (w.none start) at e) ∙ cut w start y ys b in
+    absurd (no_a start (omega arith) (record { message = y; is_plain = all_y.0; behind = write (start + 1) ys ++ b; read = read }))
+one_front {write} w start (x ∷ xs) [] a b all_x all_y e no_a no_b =
+    let read = sym (rw (w.none start) at e) ∙ cut w start x xs a in
+    absurd (no_b start (omega arith) (record { message = x; is_plain = all_x.0; behind = write (start + 1) xs ++ a; read = read }))
+one_front w start (x ∷ xs) (y ∷ ys) a b all_x all_y e no_a no_b =
+    let whole = sym (cut w start x xs a) ∙ e ∙ cut w start y ys b in
     let first = one_message_lem _ _ _ _ (w.fits start x all_x.0) (w.fits start y all_y.0) whole in
-    let m : x ≡ y = w.same start x y all_x.0 all_y.0 first.0 in
     let behind = one_front w (start + 1) xs ys a b all_x.1 all_y.1 first.1
     (λ due is. no_a due (omega arith)) (λ due is. no_b due (omega arith)) in
-    (ap (λ z. z ∷ xs) m ∙ ap (λ zs. y ∷ zs) behind.0, behind.1)
+    (ap (λ z. z ∷ xs) (w.same start x y all_x.0 all_y.0 first.0) ∙ ap (λ zs. y ∷ zs) behind.0, behind.1)
 
 -- ---- where going over messages ends
 
@@ -114,16 +116,13 @@ seal_faults = search (rules, bad_apart, bad_one, go_begins, holds_of, writes_pla
 unseal_faults : (key : List ℕ) → AreFaults (sealed key) (λ fault due at bytes. StopsUnseal key due fault at bytes)
 unseal_faults key = record { stuck = stuck; one = one }
   where
-    is_sealed : (due : ℕ) (m : MessageParts) → IsPlain m → sealed key due m ≡ sealed key due (bare (sealed key due m))
-    is_sealed due m plain = ap (λ n. sealed key due n) (sym (bare_is m plain.none))
-
     stuck : (fault : UnsealFault) (due at : ℕ) (bytes : List ℕ) → AreBytes bytes → StopsUnseal key due fault at bytes
         → MayGo (sealed key) due bytes → ⊥
     stuck (unseals.Bad bad) due at bytes fit why go = bad_apart at bytes bad _ _ fit why (go_begins (writes_sealed key) go)
     stuck (unseals.Tag place) due at bytes fit why go =
-        holds_of bytes _ _ why.1 (go_begins (writes_sealed key) go) due (is_sealed due go.message go.is_plain)
+        holds_of bytes _ _ why.1 (go_begins (writes_sealed key) go) due (sealed_is key due go.message go.is_plain)
     stuck (unseals.Counter place) due at bytes fit why go =
-        (holds_of bytes _ _ why.1 (go_begins (writes_sealed key) go)).other (is_sealed due go.message go.is_plain)
+        (holds_of bytes _ _ why.1 (go_begins (writes_sealed key) go)).other (sealed_is key due go.message go.is_plain)
     stuck unseals.NoMemory due at bytes fit why go = why
 
     apart : (due : ℕ) (bytes : List ℕ) → BeginsSo (HasNoSeal key) bytes → BeginsSo (HasOtherCounter key due) bytes → ⊥

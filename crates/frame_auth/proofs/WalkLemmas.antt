@@ -1,6 +1,6 @@
 -- Going over messages one by one, each written as it is due: so sealing reads plain messages and writes sealed ones, and
 -- unsealing the other way round.
-use Rattle.frame_auth.proofs.Names.{◌≡◌, ℕ, ◌+◌, ◌-◌, ◌*◌, ◌≤◌, ◌==◌, ◌⊎◌, inl, inr, false, List, [], ◌∷◌, ◌++◌, length, sym, ap, ◌∙◌, append_assoc, arith, length-append, MessageParts, FitsMessage, spelling, BeginsWith, BeginsSo, joined, sealed, joined_sealed, IsPlain, ArePlain, Moves, StopsBehind, rules, common_steps}
+use Rattle.frame_auth.proofs.Names.{◌≡◌, ℕ, ◌+◌, ◌-◌, ◌*◌, ◌≤◌, ◌==◌, ◌⊎◌, inl, inr, false, List, [], ◌∷◌, ◌++◌, length, refl, sym, ap, append_assoc, arith, length-append, MessageParts, FitsMessage, spelling, BeginsWith, BeginsSo, joined, sealed, joined_sealed, IsPlain, ArePlain, Moves, StopsBehind, rules, common_steps}
 use Rattle.frame_auth.proofs.LayoutLemmas.{bare_is, sealed_fits}
 
 -- messages from a counter on are written one after the other, each plain one in a form of its own, which tells it
@@ -22,10 +22,8 @@ written_more : {write : ℕ → List MessageParts → List ℕ} {form : ℕ → 
     → write due (ms ++ m ∷ []) ≡ write due ms ++ spelling (form now m)
 written_more {write} {form} w due now [] m e = search rules
 written_more {write} {form} w due now (x ∷ ms) m e =
-    let behind = written_more w (due + 1) now ms m (omega arith) in
-    w.more due x (ms ++ m ∷ []) ∙ ap (λ l. spelling (form due x) ++ l) behind
-    ∙ sym (append_assoc (spelling (form due x)) (write (due + 1) ms) (spelling (form now m)))
-    ∙ ap (λ l. l ++ spelling (form now m)) (sym (w.more due x ms))
+    rw (w.more due x (ms ++ m ∷ []), w.more due x ms, written_more w (due + 1) now ms m (omega arith))
+    (sym (append_assoc (spelling (form due x)) (write (due + 1) ms) (spelling (form now m))))
 
 plain_more : (ms : List MessageParts) (m : MessageParts) → ArePlain ms → IsPlain m → ArePlain (ms ++ m ∷ [])
 plain_more ms m all plain = grind (arith, common_steps)
@@ -43,31 +41,29 @@ length-spelling : (m : MessageParts) → 8 ≤ length (spelling m)
 length-spelling m = omega arith
 
 -- and then one more
-pub goes_on : {from to : ℕ → List MessageParts → List ℕ} {form other : ℕ → MessageParts → MessageParts}
-    → Writes from form → Writes to other → (start due : ℕ) (bytes rest behind out new : List ℕ)
-    → Goes from to start due bytes rest out → Moves (form due) (other due) rest behind out new
-    → Goes from to start (due + 1) bytes behind new
-goes_on {from} {to} {form} {other} w v start due bytes rest behind out new g move =
+pub goes_on : {from to : ℕ → List MessageParts → List ℕ} {form other : ℕ → MessageParts → MessageParts} {start due : ℕ}
+    {bytes rest behind out new : List ℕ} → Writes from form → Writes to other → Goes from to start due bytes rest out
+    → Moves (form due) (other due) rest behind out new → Goes from to start (due + 1) bytes behind new
+goes_on {from} {to} {form} {other} {start} {due} {bytes} {rest} {behind} {out} {new} w v g move =
     let m = move.message in
     let read = written_more w start due g.front m g.next in
     record {
       front = g.front ++ m ∷ [];
       are_plain = plain_more g.front m g.are_plain move.is_plain;
-      read = g.read ∙ ap (λ l. from start g.front ++ l) move.read
-          ∙ sym (append_assoc (from start g.front) (spelling (form due m)) behind) ∙ ap (λ l. l ++ behind) (sym read);
-      written = move.written ∙ ap (λ l. l ++ spelling (other due m)) g.written ∙ sym (written_more v start due g.front m g.next);
+      read = rw (g.read, move.read, read) (sym (append_assoc (from start g.front) (spelling (form due m)) behind));
+      written = rw (move.written, g.written, written_more v start due g.front m g.next) refl;
       next = omega (arith, g.next, length-append g.front (m ∷ []));
       few = omega (arith, g.few, ap (λ l. length l) read, length-append (from start g.front) (spelling (form due m)), length-spelling (form due m), length-append g.front (m ∷ []));
     }
 
 -- a fault of the next message is the first one
-pub stops_here : {F : Type 0} {none fault : F} {from to : ℕ → List MessageParts → List ℕ} (Why : F → (due at : ℕ) → List ℕ → Type 0)
-    → (start due at : ℕ) (bytes rest out : List ℕ) → Goes from to start due bytes rest out → (length rest == 0) ≡ false
-    → at ≡ length bytes - length rest → (fault ≡ none) ⊎ Why fault due at rest
+pub stops_here : {F : Type 0} {none fault : F} {from to : ℕ → List MessageParts → List ℕ} {start due : ℕ} {bytes rest out : List ℕ}
+    (Why : F → (due at : ℕ) → List ℕ → Type 0) → Goes from to start due bytes rest out → (length rest == 0) ≡ false
+    → (fault ≡ none) ⊎ Why fault due (length bytes - length rest) rest
     → (fault ≡ none) ⊎ StopsBehind (from start) (λ at count. Why fault (start + count) at) bytes
-stops_here Why start due at bytes rest out g some place (inl is) = inl is
-stops_here Why start due at bytes [] out g some place (inr why) = absurd (cc some)
-stops_here {F} {none} {fault} {from} Why start due at bytes (next ∷ rest) out g some place (inr why) = grind (arith, common_steps)
+stops_here Why g some (inl is) = inl is
+stops_here {rest = []} Why g some (inr why) = absurd (cc some)
+stops_here {rest = next ∷ rest} Why g some (inr why) = grind (arith, common_steps)
 
 -- what holds of the message that the bytes begin with
 pub begins_so : {P : MessageParts → Type 0} {bytes behind : List ℕ} {m : MessageParts} → BeginsWith bytes m behind → P m → BeginsSo P bytes

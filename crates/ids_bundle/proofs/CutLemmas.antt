@@ -1,6 +1,5 @@
 -- The greedy cut is one, and has the fewest runs.
-use Rattle.ids_bundle.proofs.Names.{◌≡◌, ℕ, ◌+◌, ◌<◌, ◌≤◌, List, [], ◌∷◌, ◌++◌, length, refl, sym, ap, subst, ◌∙◌, append_assoc, arith, inl, inr, append-nil, length-append, AllByRecursion, MessageParts, spelling, IsRun, IsCutFor, IsFullBefore, AreFull, IsPacked, Run, load, all_of, rules, common_steps}
-use Rattle.std.proofs.lemmas.Bool.{cases_lt, le-ltb, lt-ltb}
+use Rattle.ids_bundle.proofs.Names.{◌≡◌, ℕ, ◌+◌, ◌≤◌, List, [], ◌∷◌, ◌++◌, length, refl, sym, ap, ◌∙◌, arith, append-nil, AllByRecursion, MessageParts, spelling, IsRun, IsCutFor, IsFullBefore, AreFull, IsPacked, Run, load, all_of, rules, common_steps}
 use Rattle.std.specs.Prelude.{nat_lt, if◌then◌else◌}
 use Rattle.ids_bundle.specs.Packing.{FitsIn}
 use Rattle.ids_bundle.proofs.ListLemmas.{split}
@@ -15,13 +14,9 @@ too_long size front full behind next more rest run is_full e whole few = grind (
 pub fewest : (size : ℕ) (packed runs : List Run) (front : Run) → AllByRecursion (IsRun size) packed → AreFull size packed
     → AllByRecursion (IsRun size) runs → front ++ all_of packed ≡ all_of runs → length packed ≤ length runs
 fewest size [] runs front each full each_run e = omega arith
-fewest size (p ∷ packed) [] front each full each_run e =
-    absurd (omega (arith, each.0.some, ap (λ l. length l) e, length-append front (p ++ all_of packed), length-append p (all_of packed)))
+fewest size (p ∷ packed) [] front each full each_run e = grind (arith, common_steps, ap (λ l. length l) e)
 fewest size (p ∷ packed) (r ∷ runs) front each full each_run e =
-    elim (split (front ++ p) (all_of packed) r (all_of runs) (append_assoc front p (all_of packed) ∙ e)) [
-      | inl s ↦ omega (arith, fewest size packed runs s.0 each.1 full.1 each_run.1 s.2)
-      | inr s ↦ absurd (too_long size front p (all_of packed) s.0 s.1 (s.1 ++ all_of runs) r full.0 s.3 s.2 each_run.0.few)
-    ]
+    grind (arith, common_steps, split (front ++ p) (all_of packed) r (all_of runs), too_long, fewest size packed runs)
 
 -- a run is no longer than a full one that it begins with
 same_front : (size : ℕ) (run full more : Run) (rest behind : List MessageParts) → IsFullBefore size full behind → load run ≤ size
@@ -33,17 +28,10 @@ same_front size run full (next ∷ more) rest behind is_full few same e = grind 
 pub one_cut : (size : ℕ) (packed others : List Run) → AllByRecursion (IsRun size) packed → AreFull size packed
     → AllByRecursion (IsRun size) others → AreFull size others → all_of packed ≡ all_of others → packed ≡ others
 one_cut size [] [] each full each_other full_other e = refl
-one_cut size [] (q ∷ others) each full each_other full_other e =
-    absurd (omega (arith, each_other.0.some, ap (λ l. length l) e, length-append q (all_of others)))
-one_cut size (p ∷ packed) [] each full each_other full_other e =
-    absurd (omega (arith, each.0.some, ap (λ l. length l) e, length-append p (all_of packed)))
+one_cut size [] (q ∷ others) each full each_other full_other e = grind (arith, common_steps, ap (λ l. length l) e)
+one_cut size (p ∷ packed) [] each full each_other full_other e = grind (arith, common_steps, ap (λ l. length l) e)
 one_cut size (p ∷ packed) (q ∷ others) each full each_other full_other e =
-    elim (split p (all_of packed) q (all_of others) e) [
-      | inl s ↦
-          let same = same_front size p q s.0 (all_of packed) (all_of others) full_other.0 each.0.few s.1 s.2 in
-          cc (same.0, one_cut size packed others each.1 full.1 each_other.1 full_other.1 same.1)
-      | inr s ↦ absurd (too_long size [] p (all_of packed) s.0 s.1 (s.1 ++ all_of others) q full.0 s.3 s.2 each_other.0.few)
-    ]
+    grind (arith, common_steps, split p (all_of packed) q (all_of others) e, same_front, too_long, one_cut size packed others)
 
 -- no cut has fewer runs than the greedy one
 pub fewest_lem : (size : ℕ) (messages : List MessageParts) (packed runs : List Run) → IsPacked size messages packed
@@ -64,32 +52,9 @@ greedy size run [] = run ∷ []
 greedy size run (m ∷ left) =
     if nat_lt size (load run + length (spelling m)) then run ∷ greedy size (m ∷ []) left else greedy size (run ++ m ∷ []) left
 
--- a message that fits joins the open run
-pub keeps : (size : ℕ) (run : Run) (m : MessageParts) (left : List MessageParts) → load run + length (spelling m) ≤ size
-    → greedy size run (m ∷ left) ≡ greedy size (run ++ m ∷ []) left
-keeps size run m left le = rw (le-ltb _ _ le) refl
-
--- another begins the next
-pub closes : (size : ℕ) (run : Run) (m : MessageParts) (left : List MessageParts) → size < load run + length (spelling m)
-    → greedy size run (m ∷ left) ≡ run ∷ greedy size (m ∷ []) left
-closes size run m left lt = rw (lt-ltb _ _ lt) refl
-
 -- these runs are the greedy cut
 pub greedy_packed : (size : ℕ) (run : Run) (left : List MessageParts) → 1 ≤ length run → load run ≤ size → AllByRecursion (FitsIn size) left
     → IsPacked size (run ++ left) (greedy size run left)
 greedy_packed size run [] some few fit = search rules
 greedy_packed size run (m ∷ left) some few fit =
-    elim (cases_lt size (load run + length (spelling m))) [
-      | inl lt ↦
-          let one : load (m ∷ []) ≤ size = omega (arith, fit.0.few, length-append (spelling m) []) in
-          let p = greedy_packed size (m ∷ []) left (omega arith) one fit.1 in
-          subst (IsPacked size (run ++ m ∷ left)) (sym (closes size run m left lt)) (record {
-            cut = record { each = (record { some = some; few = few }, p.cut.each); whole = ap (λ ms. run ++ ms) p.cut.whole };
-            full = (subst (IsFullBefore size run) (sym p.cut.whole) lt, p.full);
-          })
-      | inr le ↦
-          let more : load (run ++ m ∷ []) ≤ size = omega (arith, le, load-append run (m ∷ []), length-append (spelling m) []) in
-          let p = greedy_packed size (run ++ m ∷ []) left (omega (arith, length-append run (m ∷ []))) more fit.1 in
-          subst (IsPacked size (run ++ m ∷ left)) (sym (keeps size run m left le))
-          (subst (λ ms. IsPacked size ms (greedy size (run ++ m ∷ []) left)) (append_assoc run (m ∷ []) left) p)
-    ]
+    grind (arith, common_steps, greedy_packed size (m ∷ []) left, greedy_packed size (run ++ m ∷ []) left, load-append)

@@ -1,11 +1,11 @@
 -- The names of other crates and of this crate's specs that more than one of its proofs stands on.
-pub use Rattle.std.proofs.Common.{◌≡◌, ℕ, ◌+◌, ◌*◌, ◌-◌, ◌/◌, ◌%◌, ◌^◌, ◌<◌, ◌≤◌, ◌⊎◌, Bool, false, List, [], ◌∷◌, ◌++◌, length, get_or, take, drop, Ok, Err, refl, sym, ap, subst, ◌∙◌, append_assoc, arith, rules, inl, inr}
-pub use Rattle.std.proofs.lemmas.List.{append-nil, length-append, take_at, drop_at, take_all, take_rest, take-append-drop, flat_map_more}
-pub use Rattle.std.proofs.lemmas.Grind.{flat_map-append, common_steps}
-pub use Rattle.std.specs.Int.{w16, to_be_bytes, from_be_bytes}
+pub use Rattle.std.proofs.Common.{◌≡◌, ℕ, ◌+◌, ◌*◌, ◌-◌, ◌^◌, ◌<◌, ◌≤◌, ◌⊎◌, Bool, List, [], ◌∷◌, ◌++◌, length, get_or, take, drop, Ok, Err, refl, sym, ap, subst, ◌∙◌, append_assoc, arith, rules, inl, inr}
+pub use Rattle.std.proofs.lemmas.List.{append-nil, take_at, take_rest}
+pub use Rattle.std.proofs.lemmas.Grind.{common_steps}
+pub use Rattle.std.specs.Int.{w16, to_be_bytes}
 pub use Rattle.std.specs.List.{flat_map, AllByRecursion}
 pub use Rattle.std.specs.Prelude.{Result, IsTrue, ◌↔◌}
-pub use Rattle.ids_frame.specs.{AreBytes, Begins, BeginsWith, CauseOf, MessageParts, FitsMessage, joined, AreMessages, IsJoined, messages_read, spelling}
-pub use Rattle.ids_bundle.specs.Reading.{AreTexts, StopsBehind, Reads}
+pub use Rattle.ids_frame.specs.{AreBytes, CauseOf, MessageParts, FitsMessage, joined, AreMessages, IsJoined, spelling}
+pub use Rattle.ids_bundle.specs.Reading.{Reads}
 pub use Rattle.ids_bundle.specs.Cuts.{IsRun, IsCutFor, IsFullBefore, AreFull, IsPacked}
 pub use Rattle.ids_bundle.specs.Units.{Run, load, all_of, unit, units, FitsUnit, IsUnit, AreSoMany, IsBody, unit_size, IsPart, IsBad}

@@ -1,9 +1,9 @@
 -- Unpacking: units are taken from the front.
-use Rattle.ids_bundle.proofs.Names.{◌≡◌, ℕ, ◌-◌, ◌^◌, ◌<◌, ◌≤◌, List, [], ◌∷◌, ◌++◌, length, take, drop, Err, sym, ap, ◌∙◌, arith, take-append-drop, take_rest, flat_map_more, flat_map-append, AllByRecursion, Result, joined, AreMessages, MessageParts, spelling, IsRun, Run, all_of, unit, units, FitsUnit, IsUnit, rules, common_steps}
+use Rattle.ids_bundle.proofs.Names.{◌≡◌, ℕ, ◌-◌, ◌^◌, ◌<◌, ◌≤◌, List, [], ◌∷◌, ◌++◌, length, take, drop, Err, arith, AllByRecursion, Result, joined, AreMessages, MessageParts, IsRun, Run, all_of, unit, units, FitsUnit, IsUnit, rules, common_steps}
 use Rattle.ids_bundle.specs.declared.fault.UnpackFault.{UnpackFault}
 use Rattle.ids_bundle.specs.Packing.{FitsIn, ArePacked}
 use Rattle.ids_bundle.specs.Unpacking.{StopsAt, Unpacks}
-use Rattle.ids_bundle.proofs.ListLemmas.{all_append, all_parts, one_more, one_answer}
+use Rattle.ids_bundle.proofs.ListLemmas.{all_parts, one_answer}
 use Rattle.ids_bundle.proofs.UnitLemmas.{free_units, part_is_stuck}
 
 -- ---- taking units
@@ -19,18 +19,12 @@ pub record IsUnpacking (bytes rest out : List ℕ) : Type 0 where
 pub unpacking_more : (bytes rest out out_now front behind : List ℕ) (size : ℕ) → IsUnpacking bytes rest out → IsUnit front
     → front ≡ take size rest → behind ≡ drop size rest → out_now ≡ out ++ take (length front - 4) (drop 4 front)
     → IsUnpacking bytes behind out_now
-unpacking_more bytes rest out out_now front behind size u is is_front is_behind written =
-    let run = is.0 in
-    let parts : rest ≡ unit run ++ behind =
-    sym (take-append-drop size rest) ∙ ap (λ l. l ++ drop size rest) (sym is_front) ∙ ap (λ l. front ++ l) (sym is_behind) ∙ ap (λ l. l ++ behind) is.2 in
-    let body : take (length front - 4) (drop 4 front) ≡ joined run = take_rest front 4 ∙ ap (λ l. drop 4 l) is.2 in
-    record {
-      runs = u.runs ++ run ∷ [];
-      fit = all_append FitsUnit u.runs (run ∷ []) u.fit (is.1, tt);
-      whole = u.whole ∙ ap (λ l. units u.runs ++ l) parts ∙ one_more unit u.runs run behind;
-      made = written ∙ ap (λ l. l ++ take (length front - 4) (drop 4 front)) u.made ∙ ap (λ l. joined (all_of u.runs) ++ l) body
-          ∙ sym (flat_map-append spelling (all_of u.runs) run) ∙ ap joined (flat_map_more (λ (r : Run). r) [] u.runs run);
-    }
+unpacking_more bytes rest out out_now front behind size u is is_front is_behind written = record {
+  runs = u.runs ++ is.0 ∷ [];
+  fit = grind (arith, common_steps);
+  whole = grind (arith, common_steps);
+  made = grind (arith, common_steps);
+}
 
 -- unpacking stops before what is left
 pub unpacking_stops : (bytes rest out : List ℕ) (fault : UnpackFault) → IsUnpacking bytes rest out → 1 ≤ length rest
@@ -61,7 +55,7 @@ runs_have_units : (size : ℕ) (runs : List Run) → size < 2 ^ 16 → AllByRecu
 runs_have_units size [] small fit each = tt
 runs_have_units size (run ∷ runs) small fit each =
     let parts = all_parts (FitsIn size) run (all_of runs) fit in
-    (record { fit = are_messages run parts.0; some = each.0.some; few = omega (arith, each.0.few) }, runs_have_units size runs small parts.1 each.1)
+    grind (arith, common_steps, are_messages run parts.0, runs_have_units size runs small parts.1)
   where
     are_messages : (messages : List MessageParts) → AllByRecursion (FitsIn size) messages → AreMessages messages
     are_messages [] fit = tt

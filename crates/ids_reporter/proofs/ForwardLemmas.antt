@@ -1,5 +1,9 @@
 -- What the taken pairs name is all sources merged.
-use Rattle.ids_reporter.proofs.Names.{◌≡◌, ℕ, zero, suc, ◌+◌, ◌<◌, ◌≤◌, inl, inr, List, [], ◌∷◌, ◌++◌, length, Option, Some, None, refl, sym, ap, subst, ◌∙◌, arith, cases_lt, eqb_tells, indexes, upto, AreInOrder, Taken, Bool, true, false, ◌==◌, get_or, eq-eqb, flat_map-append, get_or_past, filter_map-append, none-some, slice_get_past, AllByRecursion, cons_option, filter_map, range_with_len, All, OnOk, Result, filter, if◌then◌else◌, is_ok, slice_get, MessageParts, joined, Drain, Feeder, One, AreMerged, named, named_by, AreAllTaken, back_of, feeders_of, number_of, puts_of, taken_of, IsBack, AreApart, Sources, count_at, instance_of, source_at, rules, common_steps}
+use Rattle.ids_reporter.proofs.Names.{◌≡◌, ℕ, zero, suc, ◌+◌, ◌<◌, ◌≤◌, inl, inr, List, [], ◌∷◌, ◌++◌, length, Option, Some, refl, ap, ◌∙◌, arith, eqb_tells, indexes, upto, AreInOrder, Taken, Bool, true, false, ◌==◌, flat_map-append, get_or_past, filter_map-append, AllByRecursion, cons_option, filter_map, range_with_len, All, OnOk, Result, filter, if◌then◌else◌, is_ok, slice_get, MessageParts, joined, Drain, Feeder, One, AreMerged, named, named_by, AreAllTaken, back_of, feeders_of, taken_of, AreApart, Sources, count_at, instance_of, source_at, rules, common_steps}
+use Rattle.std.proofs.lemmas.Option.{slice_get_cases, slice_get_within}
+use Rattle.std.proofs.lemmas.Bool.Decides.{nat_tests}
+use Rattle.ids_reporter.specs.declared.relay.Relay.{Relay}
+use Rattle.ids_reporter.specs.{AreAt, IsBackIn}
 use Rattle.ids_reporter.proofs.SourceLemmas.{instance_at}
 
 -- ---- what a pair names
@@ -33,18 +37,12 @@ of_source sources s i apart one (pair ∷ pairs) =
     λ m at. instance_at (source_at sources pair.source) pair.index m (apart.pure pair.source) at in
     elim (eqb_tells pair.source s) [
       | inl t ↦
-          let yes : (m : MessageParts) → named_by sources pair ≡ Some m → test m ≡ true = λ m at.
-          let same : One m.instance ≡ One i = sym (is m at) ∙ ap (λ r. instance_of (source_at sources r)) t.1 ∙ one in
-          eq-eqb m.instance i (cc same) in
-          rw t.0 (kept test (named_by sources pair) (named sources pairs) yes
-          ∙ ap (λ r. cons_option (slice_get (source_at sources r) pair.index) (filter test (named sources pairs))) t.1
-          ∙ ap (cons_option (slice_get (source_at sources s) pair.index)) others)
+          let yes : (m : MessageParts) → named_by sources pair ≡ Some m → test m ≡ true = λ m at. grind (arith, nat_tests, is m at, t.1) in
+          let first = kept test (named_by sources pair) (named sources pairs) yes in
+          grind (arith, common_steps, first, t.1)
       | inr t ↦
           let not : (m : MessageParts) → named_by sources pair ≡ Some m → test m ≡ false = λ m at.
-          elim (eqb_tells m.instance i) [
-            | inl same ↦ absurd (t.1 (apart.differ pair.source s i (is m at ∙ ap One same.1) one))
-            | inr other ↦ other.0
-          ] in
+          grind (arith, nat_tests, apart.differ pair.source s i, is m at) in
           rw t.0 (dropped test (named_by sources pair) (named sources pairs) not ∙ others)
     ]
 
@@ -52,10 +50,7 @@ of_source sources s i apart one (pair ∷ pairs) =
 shift : (x : MessageParts) (xs : List MessageParts) (a n : ℕ)
     → filter_map (slice_get (x ∷ xs)) (range_with_len (a + 1) n) ≡ filter_map (slice_get xs) (range_with_len a n)
 shift x xs a zero = refl
-shift x xs a (suc n) =
-    let on : a + 1 ≡ suc a = omega arith in
-    ap (λ k. cons_option (slice_get (x ∷ xs) k) (filter_map (slice_get (x ∷ xs)) (range_with_len (a + 1 + 1) n))) on
-    ∙ ap (cons_option (slice_get xs a)) (shift x xs (a + 1) n)
+shift x xs a (suc n) = let on : a + 1 ≡ suc a = omega arith in rw (shift x xs (a + 1) n, on) refl
 
 all_named : (messages : List MessageParts) → filter_map (slice_get messages) (upto (length messages)) ≡ messages
 all_named [] = refl
@@ -73,13 +68,7 @@ of_some : (sources : Sources) → AreApart sources → (pairs : List Taken)
 of_some sources apart [] = tt
 of_some sources apart (pair ∷ pairs) = all_cons (named_by sources pair) (named sources pairs) (λ m at. (
   pair.source,
-  elim (cases_lt pair.source (length sources)) [
-    | inl lt ↦ lt
-    | inr le ↦
-        let past : slice_get (source_at sources pair.source) pair.index ≡ None =
-        slice_get_past (source_at sources pair.source) pair.index (omega (arith, no_source sources pair.source le)) in
-        absurd (none-some m (sym past ∙ at))
-  ],
+  grind (arith, no_source sources pair.source, slice_get_within (source_at sources pair.source) pair.index m at),
   instance_at (source_at sources pair.source) pair.index m (apart.pure pair.source) at,
 )) (of_some sources apart pairs)
 
@@ -87,28 +76,14 @@ pub merged : (sources : Sources) (pairs : List Taken) → AreApart sources → (
     → AreMerged sources (named sources pairs)
 merged sources pairs apart all = grind (arith, common_steps, all_named, of_some, of_source)
 
--- some item of a list that has one
-some_of : {A : Type 0} (xs : List A) (i : ℕ) → i < length xs → A
-some_of [] i lt = absurd (omega (arith, lt))
-some_of (x ∷ xs) i lt = x
-
 -- once all feeders are back and nothing is left, all pairs of each source were taken
-pub all_indexes : (sources : Sources) (feeders : List Feeder) (drain : Drain)
-    → ((s : ℕ) (d : Feeder) → s < length feeders → (number_of (get_or feeders s d) ≡ s) × (puts_of (get_or feeders s d) ≡ count_at sources s))
-    → length feeders ≡ length sources → feeders_of drain ≡ length sources
-    → All (λ feeder. IsBack (number_of feeder) (puts_of feeder) (back_of drain)) feeders
+pub all_indexes : (relay : Relay) (sources : Sources) (feeders : List Feeder) (old drain : Drain) → AreAt relay (count_at sources) feeders
+    → length feeders ≡ length sources → feeders_of drain ≡ length sources → All (IsBackIn old) feeders → back_of drain ≡ back_of old
     → AreInOrder (taken_of drain) → AreAllTaken drain → (s : ℕ) → indexes s (taken_of drain) ≡ upto (count_at sources s)
-all_indexes sources feeders drain at count made back in_order all s =
-    let done : length (indexes s (taken_of drain)) ≡ count_at sources s = elim (cases_lt s (length sources)) [
-      | inl lt ↦
-          let here : s < length feeders = omega (arith, lt, count) in
-          let feeder = some_of feeders s here in
-          let is = at s feeder here in
-          all s (count_at sources s) (inl (subst (λ n. IsBack s n (back_of drain)) is.1
-          (subst (λ r. IsBack r (puts_of (get_or feeders s feeder)) (back_of drain)) is.0 (back s feeder here))))
-      | inr le ↦ all s (count_at sources s) (inr (omega (arith, made, le), no_source sources s le))
-    ] in
-    in_order s ∙ ap upto done
+all_indexes relay sources feeders old drain at count made back same in_order all s = in_order s ∙ ap upto (elim (slice_get_cases feeders s).1 [
+  | inl x ↦ let is = at s x.0 x.1 in all s (count_at sources s) (inl (rw (is.number, is.puts, ← same) at (back s x.0 x.1)))
+  | inr x ↦ all s (count_at sources s) (inr (omega (arith, made, x.0, count), no_source sources s (omega (arith, x.0, count))))
+])
 
 -- what was written, with a message more, unless there was no memory
 pub written_more : {A B C E F G : Type 0} (before : Result A E) (extended : Result B F) (after : Result C G) (out message now bytes : List ℕ)

@@ -1,23 +1,16 @@
 -- Sources that are read one after the other.
-use Rattle.ids_reporter.proofs.Names.{◌≡◌, ◌≢◌, ℕ, zero, suc, ◌^◌, ◌≤◌, ◌⊎◌, inl, inr, List, [], ◌∷◌, ◌++◌, length, refl, arith, MessageParts, One, Mixed, AreApart, AreSmall, Sources, instance_of, source_at, rules, common_steps}
+use Rattle.ids_reporter.proofs.Names.{◌≡◌, ◌≢◌, ℕ, ◌^◌, ◌≤◌, ◌⊎◌, List, [], ◌∷◌, ◌++◌, length, arith, MessageParts, One, Mixed, AreApart, AreSmall, Sources, instance_of, source_at, rules, common_steps}
 
 -- a source is one of the old ones, or the last
 source_more : (sources : Sources) (messages : List MessageParts) (s : ℕ)
     → (source_at sources s ≡ source_at (sources ++ messages ∷ []) s)
     ⊎ ((messages ≡ source_at (sources ++ messages ∷ []) s) × (s ≡ length sources))
-source_more [] messages zero = inr (refl, refl)
-source_more [] messages (suc s) = inl refl
-source_more (x ∷ sources) messages zero = inl refl
-source_more (x ∷ sources) messages (suc s) = grind (arith, common_steps)
+source_more sources messages s = grind (arith, common_steps)
 
 -- and with one more that has one instance, which none of them has
 pub apart_more : (sources : Sources) (messages : List MessageParts) → AreApart sources → instance_of messages ≢ Mixed
     → ((s i : ℕ) → instance_of (source_at sources s) ≡ One i → instance_of messages ≡ One i → ⊥) → AreApart (sources ++ messages ∷ [])
 apart_more sources messages apart pure new = search (rules, source_more)
-
--- no sources are small
-pub none_small : AreSmall []
-none_small = λ s. omega arith
 
 -- and with a small one more
 pub small_more : (sources : Sources) (messages : List MessageParts) → AreSmall sources → length messages ≤ 2 ^ 40

@@ -1,18 +1,10 @@
 -- How long the records of an image are.
-use Rattle.memory_image.proofs.Names.{◌≡◌, ℕ, ◌+◌, ◌*◌, ◌<◌, ◌≤◌, List, ◌++◌, length, take, get_or, arith, append_assoc, All, Row, IsKeepable, joined, row_bytes, length-flat_map, sum_by-le, sum_by-take-le, sum_by_more}
+use Rattle.memory_image.proofs.Names.{◌≡◌, ℕ, ◌*◌, ◌≤◌, List, ◌++◌, length, arith, append_assoc, All, Row, IsKeepable, joined, row_bytes, length-flat_map, sum_by-le}
 
 -- pieces that were appended, one after the other
 pub appended : (a b c d e f g h i j : List ℕ)
     → ((((((((a ++ b) ++ c) ++ d) ++ e) ++ f) ++ g) ++ h) ++ i) ++ j ≡ a ++ (b ++ (c ++ (d ++ (e ++ (f ++ (g ++ (h ++ (i ++ j))))))))
 appended a b c d e f g h i j = simp append_assoc
-
--- the first ones and the next are no longer than all
-pub with_next : (rows : List Row) (i : ℕ) (d : Row) → i < length rows
-    → length (joined (take i rows)) + length (row_bytes (get_or rows i d)) ≤ length (joined rows)
-with_next rows i d low =
-    let len = λ (row : Row). length (row_bytes row) in
-    rw (length-flat_map row_bytes (take i rows), length-flat_map row_bytes rows)
-    (omega (arith, sum_by_more len rows i d low, sum_by-take-le len rows (i + 1)))
 
 -- at most 1,058 bytes for each
 pub length-all : (rows : List Row) → All IsKeepable rows → length (joined rows) ≤ 1058 * length rows

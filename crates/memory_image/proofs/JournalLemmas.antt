@@ -1,19 +1,20 @@
 -- What a fitting journal tells can be kept: the moments of its first turns, and the records after them.
 use Rattle.memory_image.proofs.Names.{◌≡◌, ℕ, suc, ◌^◌, ◌≤◌, ◌==◌, Bool, true, false, List, [], ◌∷◌, ◌++◌, length, map, min, take, reverse, flat_map, Option, Some, None, IfSome, if◌then◌else◌, option_map, refl, sym, subst, arith, append_assoc, ltb-true, eqb-false, AllByRecursion, Parts, internal_of, Moment, closes, kept_parcel, AreKeepable}
 use mathlib.Core.List.{reverse_aux}
+use Rattle.std.specs.List.{range_with_len}
 use Rattle.std.proofs.lemmas.List.{get_or_default, map-append}
-use Rattle.std.specs.Prelude.{Ok}
+use Rattle.std.proofs.lemmas.List.Elements.{All-map, recursion_from_All}
 use Rattle.ids_types.specs.Turns.{Turn}
 use Rattle.ids_types.specs.declared.entry.Act.{Act}
-use Rattle.ids_types.specs.declared.entry.Act.TheVariants.{Report, State, SetMode}
+use Rattle.ids_types.specs.declared.entry.Act.TheVariants.{Report}
 use Rattle.ids_types.specs.declared.entry.Carried.{Carried}
-use Rattle.ids_types.specs.declared.entry.Carried.TheVariants.{Absent, Kept, Missing}
+use Rattle.ids_types.specs.declared.entry.Carried.TheVariants.{Kept}
 use Rattle.ids_types.specs.declared.entry.Entry.{Entry}
 use Rattle.ids_types.specs.declared.entry.TurnHead.{TurnHead}
 use Rattle.ids_config.specs.{index_of, IsValid, is_within}
 use Rattle.filter_chain.specs.History.{rows_of}
 use Rattle.chain_spec.specs.{head_for, heads_of, head_moment, act_moment, turn_moments, moments, qualified}
-use Rattle.text_spec.specs.{IsContext, AreHeld, Past, is_act, is_context, has_event, head_fault, next, start, Fits, IsHeld, journal_grammar, Told, Line, begins, enters, loses, act_fields, turn_told, AreFaultless}
+use Rattle.text_spec.specs.{IsContext, AreHeld, Past, is_act, is_context, has_event, next, start, Fits, IsHeld, journal_grammar, Told, Line, begins, enters, loses, act_fields, turn_told, AreFaultless}
 use Rattle.text_spec.proofs.JournalFacts.{entry_passes, sensor_is_there}
 use Rattle.text_spec.proofs.TraceFacts.{all_append}
 use Rattle.memory_image.proofs.ChainLemmas.{IsMoment, IsShort, qualified_by}
@@ -22,15 +23,9 @@ use Rattle.memory_image.proofs.TickLemmas.{AreBy, by_all, by_later}
 
 -- the context data of a report can be kept
 context_fits : (context : Carried (List ℕ)) → is_context context ≡ true → IsContext context → IfSome (kept_parcel context) IsShort
-context_fits Absent is held = tt
 context_fits (Kept class claim bytes) is held =
     (grind (arith, is), λ k d within. omega (arith, get_or_default bytes k d 0 within, held.1.1.0.0 k))
-context_fits (Missing numbers) is held = tt
-
--- windows close
-closings_fit : (events tick : ℕ) (indices : List ℕ) → AllByRecursion (IsMoment events tick) (map (closes tick) indices)
-closings_fit events tick [] = tt
-closings_fit events tick (event ∷ indices) = (refl, closings_fit events tick indices)
+context_fits context is held = tt
 
 -- an internal event comes
 head_fits : (events tick : ℕ) (index : Option ℕ) (number : ℕ) → is_within events index ≡ true
@@ -41,10 +36,8 @@ head_fits events tick (Some index) number within =
     (map (head_moment tick) (if b then [] else record { event = index_of index; count = min number 65535 } ∷ []))) [
       | true ↦ λ none. tt
       | false ↦ λ is.
-          let some = eqb-false number 0 is in (
-            (refl, record { event = ltb-true index events within; some = omega (arith, some); few = omega arith; stamp = tt; context = tt }),
-            tt,
-          )
+          let some = eqb-false number 0 is in
+          ((refl, record { event = ltb-true index events within; some = omega (arith, some); few = omega arith; stamp = tt; context = tt }), tt)
     ] refl
 
 module _ (config : Parts) where
@@ -64,8 +57,7 @@ module _ (config : Parts) where
       let few : count ≤ 65535 = grind (arith, is) in
       let short = context_fits context (grind (arith, is)) held.1.1.1.1.1.1.0 in
       (refl, assumption (sensor_is_there config event.0 has, some, few, held.1.1.1.1.1.0, short))
-  act_fits tick caller call (State state) is has held = tt
-  act_fits tick caller call (SetMode event mode) is has held = tt
+  act_fits tick caller call act is has held = tt
 
   -- the entries of a turn come, and the lines after them are fitting
   entries_fit : (tick : ℕ) (past : Past) (entries : List (Entry (List ℕ))) (rest : List Line) → AreFitting past (map enters entries ++ rest)
@@ -84,10 +76,6 @@ module _ (config : Parts) where
         let internal = valid.internal in
         simp map-append (search (all_append, head_fits, internal.lost_events, internal.lost_contexts, internal.limited))
 
-    -- a turn begins no earlier than the one before, and by the greatest tick
-    turn_rises : (past : Past) (head : TurnHead) → head_fault past head ≡ Ok tt → (past.tick ≤ head.tick) × (head.tick ≤ 2 ^ 62)
-    turn_rises past head none = (grind (arith, none), grind (arith, none))
-
     -- the moments of the first k turns, after those of earlier turns
     turns_fit : (k : ℕ) (past : Past) (before turns : List Turn) (rest : List Line) → past.tick ≤ 2 ^ 62
         → AreBy Fitting past.tick (moments config before) → AreFitting past (flat_map turn_told turns ++ rest)
@@ -97,9 +85,11 @@ module _ (config : Parts) where
         let lines = flat_map turn_told turns ++ rest in
         let entered = subst (AreFitting (next past (begins turn.head))) (append_assoc (map enters turn.entries) (flat_map turn_told turns) rest)
         (fit.0.1, fit.1.1) in
-        let rises = turn_rises past turn.head fit.0.0 in
+        let rises : (past.tick ≤ tick) × (tick ≤ 2 ^ 62) = (grind (arith, fit.0.0), grind (arith, fit.0.0)) in
+        let closed = recursion_from_All (Fitting tick) (map (closes tick) (range_with_len 0 (length config.events)))
+        (All-map (Fitting tick) (closes tick) (range_with_len 0 (length config.events)) (λ k d low. refl)) in
         let entries = entries_fit tick (next past (begins turn.head)) turn.entries lines entered in
-        let all : AllByRecursion (Fitting tick) (turn_moments config turn) = search (all_append, closings_fit, heads_fit, entries.0) in
+        let all : AllByRecursion (Fitting tick) (turn_moments config turn) = search (all_append, closed, heads_fit, entries.0) in
         let now = by_all Fitting tick (moments config before) (turn_moments config turn) all
         (by_later Fitting past.tick tick (moments config before) rises.0 by) in
         turns_fit k entries.1 (turn ∷ before) turns rest (omega (arith, entries.2, rises.1))

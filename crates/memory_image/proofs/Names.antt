@@ -1,5 +1,5 @@
 -- The names of other crates and of this crate's specs that its proofs stand on.
-pub use Rattle.std.proofs.Common.{◌≡◌, ℕ, suc, ◌+◌, ◌-◌, ◌*◌, ◌^◌, ◌<◌, ◌≤◌, ◌⊎◌, ◌==◌, Bool, true, false, nat_lt, List, [], ◌∷◌, ◌++◌, length, reverse, take, get_or, Option, Some, None, IfSome, refl, sym, ap, subst, ◌∙◌, inl, inr, arith, rules, append_assoc, Fits, w8, map, min, eq-eqb, lt-ltb, vec_capacity, ◌≢◌, ◌||◌, filter, flat_map, sum_by, if◌then◌else◌, option_to_list, option_and_then, option_map, unwrap_or, eqb-true, ltb-true}
+pub use Rattle.std.proofs.Common.{◌≡◌, ℕ, suc, ◌+◌, ◌-◌, ◌*◌, ◌^◌, ◌<◌, ◌≤◌, ◌⊎◌, ◌==◌, Bool, true, false, nat_lt, List, [], ◌∷◌, ◌++◌, length, reverse, take, get_or, Option, Some, None, IfSome, refl, sym, ap, ap₂, subst, ◌∙◌, inl, inr, arith, rules, append_assoc, Fits, w8, map, min, eq-eqb, lt-ltb, vec_capacity, ◌≢◌, ◌||◌, filter, flat_map, sum_by, if◌then◌else◌, option_to_list, option_and_then, option_map, unwrap_or, eqb-true, ltb-true}
 pub use Rattle.std.proofs.lemmas.Bool.{cases_lt, eqb-false, eqb-true}
 pub use Rattle.std.proofs.lemmas.List.{append-nil, length-append, length-reverse, length-take, take_all, get_or_default, get_or-reverse, get_or_append_left, get_or_at, length-map, nil_from_length, reverse-append}
 pub use Rattle.std.specs.List.{All, AllPairs, position, position_or_len, AllByRecursion, cons_option, list_any}
@@ -16,6 +16,7 @@ pub use Rattle.std.proofs.lemmas.Bool.Decides.{nat_tests}
 pub use Rattle.std.proofs.lemmas.List.Concat.{flat_map-append, length-flat_map}
 pub use Rattle.std.proofs.lemmas.List.Edits.{length-remove}
 pub use Rattle.std.proofs.lemmas.List.Elements.{All-head, All-push, All-tail}
+pub use Rattle.std.proofs.lemmas.List.Sorted.{All-permutation, IsPermutation-reverse, IsPermutation-sym}
 pub use Rattle.std.proofs.lemmas.List.Quantifiers.{all_pairs_push, position-Some}
 pub use Rattle.std.proofs.lemmas.List.Sums.{fails_before_first, sum_by-le, sum_by-take-le, sum_by_more}
 pub use Rattle.chain_spec.specs.{Stored, event_of, newest_rows, row_of, Item, item_at, kept_parcel, told_of, Moment, closes, comes, mode_is, state_is, Stage, added, behind, where_true, with_all}

@@ -1,6 +1,6 @@
 -- Lists whose elements fit, each at a tick, where ticks do not fall: what stages make of them. The newest element
 -- stands first.
-use Rattle.memory_image.proofs.Names.{◌≤◌, ℕ, Bool, true, false, List, [], ◌∷◌, ◌++◌, Option, Some, None, IfSome, ⊤, if◌then◌else◌, option_to_list, option_and_then, option_or, map, filter, arith, AllByRecursion, Stage, added, behind, where_true, with_all}
+use Rattle.memory_image.proofs.Names.{◌≤◌, ℕ, Bool, true, false, List, [], ◌∷◌, ◌++◌, Option, Some, None, IfSome, ⊤, if◌then◌else◌, option_to_list, option_and_then, option_map, option_or, map, filter, arith, AllByRecursion, Stage, added, behind, where_true, with_all}
 
 -- each element fits at a tick, ticks do not fall, and the newest is at most this one
 abbrev pub AreBy : {A : Type 0} → (ℕ → A → Type 0) → ℕ → List A → Type 0
@@ -25,11 +25,11 @@ module _ {A : Type 0} (P : A → Type 0) where
   some_or None p one other = other
   some_or (Some x) p one other = one
 
--- what comes of what there is
-some_then : {A B : Type 0} (P : A → Type 0) (Q : B → Type 0) (f : A → Option B) (o : Option A)
-    → ((x : A) → P x → IfSome (f x) Q) → IfSome o P → IfSome (option_and_then f o) Q
-some_then P Q f None gives is = tt
-some_then P Q f (Some x) gives is = gives x is
+-- what becomes of an element, where two tests hold
+pub some_of : {A B : Type 0} (P : B → Type 0) (f : A → B) (first second : Bool) (x : A) → P (f x)
+    → IfSome (option_map f (if first then where_true second x else None)) P
+some_of P f true true x is = is
+some_of P f first second x is = tt
 
 -- ---- ticks
 
@@ -47,17 +47,14 @@ module _ {A : Type 0} (Fits : ℕ → A → Type 0) where
 -- ---- stages
 
 module _ {A B : Type 0} (Fits : ℕ → A → Type 0) (Gives : ℕ → B → Type 0) where
-  -- one more in front, if there is one
-  by_more : (tick at : ℕ) (o : Option B) (ys : List B) → at ≤ tick → IfSome o (Gives at) → AreBy Gives at ys
-      → AreBy Gives tick (option_to_list o ++ ys)
-  by_more tick at None ys le is by = by_later Gives at tick ys le by
-  by_more tick at (Some y) ys le is by = (at, le, is, by)
-
   -- what a stage adds
   pub added_by : (stage : Stage A B) → Keeps Fits Gives stage → (tick : ℕ) (xs : List A) → AreBy Fits tick xs → AreBy Gives tick (added stage xs)
   added_by stage keeps tick [] by = tt
   added_by stage keeps tick (x ∷ before) by =
-      by_more tick by.0 (stage before x) (added stage before) by.1 (keeps by.0 before x by.2 by.3) (added_by stage keeps by.0 before by.3)
+      let rest = added_by stage keeps by.0 before by.3 in
+      elim (stage before x) as (λ (o : Option B). IfSome o (Gives by.0) → AreBy Gives tick (option_to_list o ++ added stage before))
+      [ None ↦ λ none. by_later Gives by.0 tick (added stage before) by.1 rest | Some y ↦ λ is. (by.0, by.1, is, rest) ]
+      (keeps by.0 before x by.2 by.3)
 
   -- what those that pass a test become
   pub kept_by : (test : A → Bool) (f : A → B) (most : ℕ) → ((at : ℕ) (x : A) → at ≤ most → Fits at x → Gives at (f x))
@@ -73,6 +70,7 @@ module _ {A B : Type 0} (Fits : ℕ → A → Type 0) (Gives : ℕ → B → Typ
 -- one stage after another
 pub behind_keeps : {A B C : Type 0} (Fits : ℕ → A → Type 0) (Between : ℕ → B → Type 0) (Gives : ℕ → C → Type 0)
     (first : Stage A B) (second : Stage B C) → Keeps Fits Between first → Keeps Between Gives second → Keeps Fits Gives (behind first second)
-behind_keeps Fits Between Gives first second one two tick before x fits by =
-    some_then (Between tick) (Gives tick) (second (added first before)) (first before x)
-    (λ y is. two tick (added first before) y is (added_by Fits Between first one tick before by)) (one tick before x fits by)
+behind_keeps {B = B} Fits Between Gives first second one two tick before x fits by =
+    elim (first before x) as (λ (o : Option B). IfSome o (Between tick) → IfSome (option_and_then (second (added first before)) o) (Gives tick))
+    [ None ↦ λ none. tt | Some y ↦ λ is. two tick (added first before) y is (added_by Fits Between first one tick before by) ]
+    (one tick before x fits by)

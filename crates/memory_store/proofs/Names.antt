@@ -1,12 +1,11 @@
 -- The names of other crates and of this crate's specs that its proofs stand on.
-pub use Rattle.std.proofs.Common.{◌≡◌, ℕ, zero, suc, ◌+◌, ◌-◌, ◌*◌, ◌^◌, ◌<◌, ◌≤◌, ◌⊎◌, ◌==◌, Bool, true, false, nat_lt, List, [], ◌∷◌, ◌++◌, length, take, drop, get_or, Option, Some, None, is_some, IfSome, Ok, Err, Result, refl, sym, ap, subst, ◌∙◌, inl, inr, arith, rules, if◌then◌else◌, reverse}
+pub use Rattle.std.proofs.Common.{◌≡◌, ℕ, zero, suc, ◌+◌, ◌-◌, ◌*◌, ◌^◌, ◌<◌, ◌≤◌, ◌⊎◌, ◌==◌, Bool, true, false, nat_lt, List, [], ◌∷◌, ◌++◌, length, take, drop, get_or, Option, Some, None, is_some, IfSome, Ok, Err, Result, refl, sym, ap, ap₂, subst, ◌∙◌, inl, inr, arith, rules, lt-ltb, if◌then◌else◌, reverse}
 pub use Rattle.std.proofs.lemmas.Grind.{common_steps, same_number_lists}
 pub use Rattle.std.proofs.lemmas.List.{length-take, length-drop, get_or-take, get_or-drop, drop_at, take_all, get_or_at, take-append-le, drop-append-le, length-take-le, drop-drop, drop-take}
 pub use Rattle.std.specs.Prelude.{⊤, OnOk, IsTrue}
 pub use Rattle.memory_disk.specs.Disks.{Run, Shown, IsIn, ChangesIn, MayBeLeft, LeavesSince, Reads, Syncs, span_of, overwritten, part, bytes_of}
 pub use Rattle.memory_disk.specs.declared.disk.DiskFailed.{DiskFailed}
 pub use Rattle.memory_disk.specs.declared.disk.Span.{Span}
-pub use Rattle.std.proofs.lemmas.Bool.{lt-ltb}
 pub use Rattle.std.proofs.lemmas.Nat.{from_be_bytes-to_be_bytes_4, from_be_bytes-to_be_bytes_8}
 pub use Rattle.std.specs.Int.{w32, w64, to_be_bytes}
 pub use Rattle.ids_types.specs.MemoryRow.{Row}

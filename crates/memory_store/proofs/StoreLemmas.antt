@@ -1,59 +1,35 @@
 -- What a save and a beginning make of the slots that a disk keeps.
-use Rattle.memory_store.proofs.Names.{◌≡◌, ℕ, ◌+◌, ◌-◌, ◌^◌, ◌<◌, ◌≤◌, nat_lt, List, ◌++◌, length, Some, Ok, Err, Result, is_some, IfSome, refl, sym, ap, subst, ◌∙◌, inl, inr, arith, ⊤, part, Run, Shown, LeavesSince, MayBeLeft, Reads, Syncs, goes_on_with, read_leaves, sync_leaves, DiskFailed, lt-ltb, take_all, from_be_bytes-to_be_bytes_4, from_be_bytes-to_be_bytes_8, OnOk, w32, w64, to_be_bytes, Row, AreKeepable, joined, length-all, IsBody, IsPlaceOn, IsSet, KeepsEither, KeepsRowsOr, slot_for, Holds, KeepsRows, KeptIs, Slot, kept_slot, only, slot_at, slot_in, Place, bytes_of, weaker}
-use Rattle.memory_store.proofs.SaveLemmas.{above}
-use Rattle.memory_store.proofs.SlotLemmas.{kept_newer}
+use Rattle.memory_store.proofs.Names.{◌≡◌, ℕ, ◌+◌, ◌-◌, ◌^◌, ◌<◌, ◌≤◌, nat_lt, List, ◌++◌, length, Some, Ok, Err, Result, is_some, refl, sym, ap, ap₂, ◌∙◌, inl, inr, arith, ⊤, part, Run, Shown, LeavesSince, MayBeLeft, Reads, Syncs, goes_on_with, read_leaves, sync_leaves, DiskFailed, lt-ltb, take_all, from_be_bytes-to_be_bytes_4, from_be_bytes-to_be_bytes_8, OnOk, w32, w64, to_be_bytes, Row, AreKeepable, joined, length-all, IsBody, IsPlaceOn, IsSet, KeepsEither, KeepsRowsOr, slot_for, Holds, KeepsRows, Slot, kept_slot, only, slot_at, slot_in, Place, bytes_of, weaker}
+use Rattle.memory_store.proofs.SaveLemmas.{saved_kept}
 
-module _ (body : List ℕ) (sequence : ℕ) (rows : List Row) (low : sequence < 2 ^ 64) (all : AreKeepable rows)
-    (is : body ≡ to_be_bytes w64 sequence ++ (to_be_bytes w32 (length (joined rows)) ++ joined rows)) where
-  few : length (joined rows) ≤ 270848
-  few = omega (arith, length-all rows all.each, all.few)
-
-  -- what a body says
-  pub body_says : slot_in body ≡ slot_for sequence rows
-  body_says =
-      rw (
-        is,
-        from_be_bytes-to_be_bytes_8 sequence low,
-        from_be_bytes-to_be_bytes_4 (length (joined rows)) (omega (arith, few)),
-        take_all (length (joined rows)) (joined rows) (omega arith),
-      ) refl
-
-  -- and that it fits a slot
-  pub body_fits : IsBody body sequence
-  body_fits =
-      let long : length body ≡ 12 + length (joined rows) = ap (λ bytes. length bytes) is ∙ omega arith in
-      record {
-        few = omega (arith, long, few);
-        whole = long ∙ ap (λ (slot : Slot). 12 + slot.size) (sym body_says);
-        numbered = ap (λ (slot : Slot). slot.sequence) body_says;
-      }
+-- what a body says, and that it fits a slot
+pub body_told : (body : List ℕ) (sequence : ℕ) (rows : List Row) → sequence < 2 ^ 64 → AreKeepable rows
+    → body ≡ to_be_bytes w64 sequence ++ (to_be_bytes w32 (length (joined rows)) ++ joined rows)
+    → IsBody body sequence × (slot_in body ≡ slot_for sequence rows)
+body_told body sequence rows low all is =
+    let few : length (joined rows) ≤ 270848 = omega (arith, length-all rows all.each, all.few) in
+    let long : length body ≡ 12 + length (joined rows) = ap (λ bytes. length bytes) is ∙ omega arith in
+    let size = from_be_bytes-to_be_bytes_4 (length (joined rows)) (omega (arith, few)) in
+    let says : slot_in body ≡ slot_for sequence rows =
+    rw (is, from_be_bytes-to_be_bytes_8 sequence low, size, take_all (length (joined rows)) (joined rows) (omega arith)) refl in
+    (record { few = omega (arith, long, few); whole = long ∙ ap (λ (slot : Slot). 12 + slot.size) (sym says); numbered = ap (λ (slot : Slot). slot.sequence) says }, says)
 
 -- a saved slot keeps these records
 pub keeps_saved : (left : List ℕ) (sequence : ℕ) (rows : List Row) (saved : Slot) → kept_slot left ≡ Holds saved
     → saved ≡ slot_for sequence rows → 1 ≤ sequence → sequence ≤ 2 ^ 62 → AreKeepable rows → KeepsRows left sequence rows
 keeps_saved left sequence rows saved kept is begun last all =
-    subst (λ kept. KeptIs kept sequence rows) (sym (kept ∙ ap Holds is))
-    (record { numbered = refl; begun = begun; last = last; size = refl; image = record { keepable = all; whole = refl } })
-
--- the slot that was saved is kept
-pub saved_kept : (place : Place) (old new : List ℕ) (saved : Slot) → place.slot ≤ 1 → IsPlaceOn place old → IsSet place.slot (Some saved) old new
-    → saved.sequence ≡ place.sequence + 1 → kept_slot new ≡ Holds saved
-saved_kept place old new saved low next is newer =
-    kept_newer place.slot new saved low is.own
-    (subst (λ one. IfSome one (λ other. other.sequence < saved.sequence)) (sym is.other)
-    (above (slot_at (1 - place.slot) old) place.sequence saved.sequence next.numbered newer))
+    rw (kept, is) (record { numbered = refl; begun = begun; last = last; size = refl; image = record { keepable = all; whole = refl } })
 
 -- the next save goes to the other slot
 pub place_after : (place : Place) (old new : List ℕ) (saved : Slot) → place.slot ≤ 1 → IsPlaceOn place old → IsSet place.slot (Some saved) old new
     → saved.sequence ≡ place.sequence + 1
     → IsPlaceOn (record { slot = 1 - place.slot; is_open = nat_lt 0 place.sequence; sequence = place.sequence + 1 }) new
 place_after place old new saved low next is newer =
-    let back : 1 - (1 - place.slot) ≡ place.slot = omega arith in
-    let own : slot_at (1 - (1 - place.slot)) new ≡ Some saved = ap (λ slot. slot_at slot new) back ∙ is.own in
+    let own : slot_at (1 - (1 - place.slot)) new ≡ Some saved = ap (λ slot. slot_at slot new) (omega arith) ∙ is.own in
     record {
       gate = ap is_some is.other ∙ next.begun;
       begun = ap is_some own ∙ sym (lt-ltb 0 (place.sequence + 1) (omega arith));
-      numbered = subst (λ one. IfSome one (λ slot. slot.sequence ≡ place.sequence + 1)) (sym own) newer;
+      numbered = rw own newer;
       keeps = saved_kept place old new saved low next is newer ∙ sym (ap only own);
     }
 
@@ -62,17 +38,12 @@ pub either_rows : (old new : Shown) (saved : Slot) (base : ℕ) (was rows : List
     → base < 2 ^ 62 → KeepsRows (bytes_of old) base was → LeavesSince old.run new.run (KeepsEither saved (bytes_of old))
     → LeavesSince old.run new.run (KeepsRowsOr base was (base + 1) rows)
 either_rows old new saved base was rows says all low keeps =
-    weaker (KeepsEither saved (bytes_of old)) (KeepsRowsOr base was (base + 1) rows) old.run new.run by
-  where
-    by : (left : List ℕ) → KeepsEither saved (bytes_of old) left → KeepsRowsOr base was (base + 1) rows left
-    by left (inl same) = inl (subst (λ kept. KeptIs kept base was) (sym same) keeps)
-    by left (inr now) = inr (keeps_saved left (base + 1) rows saved now says (omega arith) (omega arith) all)
+    weaker (KeepsEither saved (bytes_of old)) (KeepsRowsOr base was (base + 1) rows) old.run new.run (λ left either. elim either [
+      | inl same ↦ inl (rw same keeps)
+      | inr now ↦ inr (keeps_saved left (base + 1) rows saved now says (omega arith) (omega arith) all)
+    ])
 
 -- ---- a beginning
-
-pub always : {P : Type 0} (result : Result ⊤ DiskFailed) → P → OnOk result P
-always (Ok done) holds = holds
-always (Err failed) holds = tt
 
 -- a sync and a read leave what might be left before them
 pub synced_read : (old mid new : Run) (result : Result ⊤ DiskFailed) (at : ℕ) (out : List ℕ) (result' : Result ⊤ DiskFailed) → Syncs old mid result
@@ -85,5 +56,5 @@ synced_read old mid new result at out result' syncs reads =
 pub read_gives : (old new : Run) (at count : ℕ) (out bytes : List ℕ) (result : Result ⊤ DiskFailed) → Reads old new at out result
     → old.now.contents ≡ bytes → length out ≡ count → OnOk result (out ≡ part at count bytes)
 read_gives old new at count out bytes (Ok done) reads same size =
-    reads.1 ∙ ap (λ count. part at count old.now.contents) size ∙ ap (λ bytes. part at count bytes) same
+    reads.1 ∙ ap₂ (part at) size same
 read_gives old new at count out bytes (Err failed) reads same size = tt

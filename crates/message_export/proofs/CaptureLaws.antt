@@ -1,55 +1,26 @@
 -- What a capture tells of its messages.
-use Rattle.std.proofs.Common.{◌≡◌, ◌+◌, ◌<◌, ◌≤◌, ◌^◌, ◌++◌, ◌∷◌, [], ℕ, List, Option, Some, None, length, map, take, drop, min, refl, sym, ap, ◌∙◌, arith}
-use Rattle.std.specs.Prelude.{IfSome}
+use Rattle.std.proofs.Common.{◌≡◌, ◌<◌, ◌≤◌, ◌^◌, ◌++◌, ◌∷◌, [], ℕ, List, length, map, take, drop, min, refl, sym, ap, ◌∙◌, arith}
 use Rattle.std.specs.Int.{w32, from_be_bytes, to_be_bytes}
 use Rattle.std.specs.List.{AllByRecursion}
-use Rattle.std.proofs.lemmas.List.{append_cancel_left, drop_at, length-append, length-take, take_all, take_at}
+use Rattle.std.proofs.lemmas.List.{append_cancel_left, drop_at, length-take, take_all, take_at}
+use Rattle.std.proofs.lemmas.Grind.{common_steps}
 use Rattle.std.proofs.lemmas.Nat.{from_be_bytes-to_be_bytes_4}
-use Rattle.ids_types.specs.declared.names.Stamp.{Stamp}
-use Rattle.ids_frame.specs.declared.context.Form.{Form}
-use Rattle.ids_frame.specs.declared.context.Form.TheVariants.{Short, Long}
-use Rattle.ids_frame.specs.{ContextPart, FitsContext, most_bytes, MessageParts, FitsMessage, AreMessages, context_part, length_in, signature_part, spelling, stamp_part}
+use Rattle.ids_frame.specs.{MessageParts, FitsMessage, AreMessages, spelling}
 use Rattle.ids_frame.proofs.MessageLemmas.{one_message_lem}
 use Rattle.message_export.specs.Capture.{Told, capture_front, exported_pcap, kept, no_time, packet, packets, time_after, told_of}
 use Rattle.message_export.specs.declared.capture.Time.{Time}
 
 -- ---- the length of a message is told in four bytes
 
-stamp_len : (stamp : Option Stamp) → length (stamp_part stamp) ≤ 8
-stamp_len None = omega arith
-stamp_len (Some stamp) = omega arith
-
-form_len : (form : Form) (size : ℕ) → size ≤ most_bytes form → length (length_in form size) + size ≤ 2 ^ 31 + 3
-form_len Short size few = omega (arith, few)
-form_len Long size few = omega (arith, few)
-
-context_len : (context : Option ContextPart) → IfSome context FitsContext → length (context_part context) ≤ 2 ^ 31 + 3
-context_len None fits = omega arith
-context_len (Some c) fits = rw length-append (form_len c.form (length c.bytes) fits.size)
-
-signature_len : (signature : Option (List ℕ)) → IfSome signature (λ bytes. length bytes ≤ 65535)
-    → length (signature_part signature) ≤ 65537
-signature_len None fits = omega arith
-signature_len (Some bytes) fits = omega (arith, fits)
-
 -- a message has fewer bytes than that
 pub fits_32 : (m : MessageParts) → FitsMessage m → length (spelling m) < 2 ^ 32
-fits_32 m fits =
-    simp length-append (omega (
-      arith,
-      stamp_len m.stamp,
-      context_len m.context fits.context,
-      signature_len m.signature fits.room.two_bytes,
-    ))
+fits_32 m fits = grind (arith, common_steps)
 
 -- ---- packets tell
 
 -- texts whose first parts are as long have the same parts
 same_parts : (a b c d : List ℕ) → length a ≡ length b → a ++ c ≡ b ++ d → (a ≡ b) × (c ≡ d)
-same_parts a b c d len e = (
-  sym (take_at a c (length a) refl) ∙ ap (take (length a)) e ∙ take_at b d (length a) (sym len),
-  sym (drop_at a c (length a) refl) ∙ ap (drop (length a)) e ∙ drop_at b d (length a) (sym len),
-)
+same_parts a b c d len e = grind (arith, common_steps, take_at a c (length a), take_at b d (length a), drop_at a c (length a), drop_at b d (length a))
 
 -- what one packet tells, and those after it
 record Tells (m n : MessageParts) (behind others : List ℕ) : Type 0 where
@@ -73,20 +44,14 @@ one_tells t u m n behind others fit fits e =
 all_tell : (t u : Time) (messages others : List MessageParts) → AreMessages messages → AreMessages others
     → packets t messages ≡ packets u others → map told_of messages ≡ map told_of others
 all_tell t u [] [] fit fits e = refl
-all_tell t u [] (n ∷ others) fit fits e =
-    let no : 0 ≡ 1 = ap (λ l. length (take 1 l)) e in
-    absurd (omega (arith, no))
-all_tell t u (m ∷ messages) [] fit fits e =
-    let no : 1 ≡ 0 = ap (λ l. length (take 1 l)) e in
-    absurd (omega (arith, no))
 all_tell t u (m ∷ messages) (n ∷ others) fit fits e =
     let now = time_after t m.stamp in
     let later = time_after u n.stamp in
     let one = one_tells now later m n (packets now messages) (packets later others) fit.0 fits.0 e in
-    let more = all_tell now later messages others fit.1 fits.1 one.rest in
-    let of : ℕ → List ℕ → Told = λ len bytes. record { len = len; bytes = bytes } in
-    let first : told_of m ≡ told_of n = ap (λ k. of k (kept (spelling m))) one.len ∙ ap (λ b. of (length (spelling n)) b) one.bytes in
-    ap (λ (told : Told). told ∷ map told_of messages) first ∙ ap (λ l. told_of n ∷ l) more
+    let first : told_of m ≡ told_of n = grind (arith, one) in
+    cc (first, all_tell now later messages others fit.1 fits.1 one.rest)
+all_tell t u [] (n ∷ others) fit fits e = absurd (omega (arith, ap (λ l. length (take 1 l)) e))
+all_tell t u (m ∷ messages) [] fit fits e = absurd (omega (arith, ap (λ l. length (take 1 l)) e))
 
 pub told_lem : (messages others : List MessageParts) → AreMessages messages → AreMessages others
     → exported_pcap messages ≡ exported_pcap others → map told_of messages ≡ map told_of others
@@ -106,18 +71,12 @@ all_short : (messages others : List MessageParts) → AreMessages messages → A
     → AllByRecursion (λ m. length (spelling m) ≤ 262144) messages
     → map told_of messages ≡ map told_of others → messages ≡ others
 all_short [] [] fit fits short e = refl
-all_short [] (n ∷ others) fit fits short e =
-    let no : 0 ≡ 1 = ap (λ l. length (take 1 l)) e in
-    absurd (omega (arith, no))
-all_short (m ∷ messages) [] fit fits short e =
-    let no : 1 ≡ 0 = ap (λ l. length (take 1 l)) e in
-    absurd (omega (arith, no))
+all_short [] (n ∷ others) fit fits short e = absurd (cc e)
+all_short (m ∷ messages) [] fit fits short e = absurd (cc e)
 all_short (m ∷ messages) (n ∷ others) fit fits short e =
     let first : told_of m ≡ told_of n = cc e in
-    let more : map told_of messages ≡ map told_of others = cc e in
     let one = one_short m n fit.0 fits.0 short.0 (ap (λ (told : Told). told.len) first) (ap (λ (told : Told). told.bytes) first) in
-    let rest = all_short messages others fit.1 fits.1 short.1 more in
-    ap (λ x. x ∷ messages) one ∙ ap (λ l. n ∷ l) rest
+    cc (one, all_short messages others fit.1 fits.1 short.1 (cc e))
 
 pub short_lem : (messages others : List MessageParts) → AreMessages messages → AreMessages others
     → AllByRecursion (λ m. length (spelling m) ≤ 262144) messages

@@ -1,10 +1,9 @@
 -- Messages are exported one by one: those in front were, and the others are left.
-use Rattle.std.proofs.Common.{◌≡◌, ◌+◌, ◌-◌, ◌<◌, ◌==◌, ◌∷◌, ◌++◌, ℕ, List, [], Ok, Err, arith, false, true, length, drop, refl, sym, ap, subst, ◌∙◌, append_assoc}
-use Rattle.std.proofs.lemmas.Bool.{eqb-true}
-use Rattle.std.proofs.lemmas.Grind.{flat_map-append}
-use Rattle.std.proofs.lemmas.List.{append-nil, length-append}
+use Rattle.std.proofs.Common.{◌≡◌, ◌+◌, ◌-◌, ◌<◌, ◌==◌, ◌∷◌, ◌++◌, ℕ, List, [], Ok, Err, arith, false, true, length, drop, refl, sym, ap, ◌∙◌, append_assoc}
+use Rattle.std.proofs.lemmas.Grind.{common_steps}
+use Rattle.std.proofs.lemmas.List.{append-nil, length-append, nil_from_length}
 use Rattle.std.proofs.lemmas.List.Elements.{All-drop}
-use Rattle.ids_frame.specs.{IsByte, AreBytes, MessageParts, FitsMessage, joined, AreMessages, messages_read, spelling, CauseOf}
+use Rattle.ids_frame.specs.{IsByte, AreBytes, MessageParts, IsJoined, joined, AreMessages, messages_read, spelling, CauseOf}
 use Rattle.ids_frame.specs.declared.fault.BadMessage.{BadMessage}
 use Rattle.ids_frame.specs.declared.fault.FrameFault.{FrameFault}
 use Rattle.ids_frame.proofs.DecodeLemmas.{Front}
@@ -27,17 +26,8 @@ latest time (m ∷ messages) = latest (time_after time m.stamp) messages
 -- a line after others
 lines_more : (at : ℕ) (front : List MessageParts) (m : MessageParts)
     → json_lines at (front ++ m ∷ []) ≡ json_lines at front ++ (json_line (at + length (joined front)) m ++ line_feed ∷ [])
-lines_more at [] m =
-    let same : at ≡ at + length (joined []) = omega arith in
-    append-nil (json_line at m ++ line_feed ∷ []) ∙ ap (λ k. json_line k m ++ line_feed ∷ []) same
-lines_more at (x ∷ front) m =
-    let first = json_line at x ++ line_feed ∷ [] in
-    let others = json_lines (at + length (spelling x)) front in
-    let place : at + length (spelling x) + length (joined front) ≡ at + length (spelling x ++ joined front) =
-    omega (arith, length-append (spelling x) (joined front)) in
-    ap (λ l. first ++ l) (lines_more (at + length (spelling x)) front m
-    ∙ ap (λ k. others ++ (json_line k m ++ line_feed ∷ [])) place)
-    ∙ sym (append_assoc first others _)
+lines_more at [] m = grind (arith, common_steps)
+lines_more at (x ∷ front) m = grind (arith, common_steps, append_assoc, lines_more (at + length (spelling x)) front m)
 
 -- a packet after others
 packets_more : (time : Time) (front : List MessageParts) (m : MessageParts)
@@ -52,16 +42,9 @@ packets_more time (x ∷ front) m =
 exported_more : (format : Format) (front : List MessageParts) (m : MessageParts)
     → exported format (front ++ m ∷ [])
     ≡ exported format front ++ piece format (length (joined front)) (time_after (latest no_time front) m.stamp) m
-exported_more Json front m =
-    let same : 0 + length (joined front) ≡ length (joined front) = omega arith in
-    lines_more 0 front m ∙ ap (λ k. json_lines 0 front ++ (json_line k m ++ line_feed ∷ [])) same
+exported_more Json front m = grind (arith, common_steps, lines_more 0 front m)
 exported_more Pcap front m =
     ap (λ l. capture_front ++ l) (packets_more no_time front m) ∙ sym (append_assoc capture_front (packets no_time front) _)
-
--- no messages
-exported_none : (format : Format) → front_of format ≡ exported format []
-exported_none Json = refl
-exported_none Pcap = sym (append-nil capture_front)
 
 -- and the time after them
 latest_more : (time : Time) (front : List MessageParts) (m : MessageParts)
@@ -69,56 +52,34 @@ latest_more : (time : Time) (front : List MessageParts) (m : MessageParts)
 latest_more time [] m = refl
 latest_more time (x ∷ front) m = latest_more (time_after time x.stamp) front m
 
--- and all of them are messages
-fit_more : (front : List MessageParts) (m : MessageParts) → AreMessages front → FitsMessage m → AreMessages (front ++ m ∷ [])
-fit_more [] m fit fits = (fits, tt)
-fit_more (x ∷ front) m fit fits = (fit.0, fit_more front m fit.1 fits)
-
 -- ---- the loop
 
 -- these messages were exported, and these bytes are left
-pub record ArePut (format : Format) (bytes rest out : List ℕ) (time : Time) : Type 0 where
-  pub front : List MessageParts
+pub record Stands (format : Format) (bytes rest out : List ℕ) (time : Time) (front : List MessageParts) : Type 0 where
   pub fit : AreMessages front
   pub whole : bytes ≡ joined front ++ rest
   pub are_bytes : AreBytes rest
   pub clock : time ≡ latest no_time front
   pub put : out ≡ exported format front
 
+-- some were
+pub record ArePut (format : Format) (bytes rest out : List ℕ) (time : Time) : Type 0 where
+  pub front : List MessageParts
+  pub stands : Stands format bytes rest out time front
+
 -- at first none
 pub none_put : (format : Format) (bytes out : List ℕ) → AreBytes bytes → out ≡ front_of format → ArePut format bytes bytes out no_time
-none_put format bytes out fits begun = record {
-  front = [];
-  fit = tt;
-  whole = refl;
-  are_bytes = fits;
-  clock = refl;
-  put = begun ∙ exported_none format;
-}
+none_put format bytes out fits begun = record { front = []; stands = grind (arith, common_steps, append-nil) }
 
 -- then one more
 pub more_put : (format : Format) (bytes rest behind out now : List ℕ) (time later : Time) (m : MessageParts) (size : ℕ)
     → ArePut format bytes rest out time → Front rest m size → behind ≡ drop size rest → later ≡ time_after time m.stamp
     → now ≡ out ++ piece format (length bytes - length rest) later m
     → ArePut format bytes behind now later
-more_put format bytes rest behind out now time later m size so front cut clock put =
-    let left = drop size rest in
-    let grouped : joined so.front ++ (spelling m ++ left) ≡ joined (so.front ++ m ∷ []) ++ left = simp (flat_map-append, append-nil, append_assoc) in
-    let place : length bytes - length rest ≡ length (joined so.front) =
-    omega (arith, ap (λ l. length l) so.whole, length-append (joined so.front) rest) in
-    let hour : later ≡ time_after (latest no_time so.front) m.stamp = clock ∙ ap (λ t. time_after t m.stamp) so.clock in
-    let made : ArePut format bytes left now later = record {
-      front = so.front ++ m ∷ [];
-      fit = fit_more so.front m so.fit front.begins.fits;
-      whole = so.whole ∙ ap (λ l. joined so.front ++ l) front.begins.whole ∙ grouped;
-      are_bytes = All-drop IsByte size rest so.are_bytes;
-      clock = hour ∙ sym (latest_more no_time so.front m);
-      put = put ∙ ap (λ l. l ++ piece format (length bytes - length rest) later m) so.put
-          ∙ ap (λ k. exported format so.front ++ piece format k later m) place
-          ∙ ap (λ t. exported format so.front ++ piece format (length (joined so.front)) t m) hour
-          ∙ sym (exported_more format so.front m);
-    } in
-    subst (λ b. ArePut format bytes b now later) (sym cut) made
+more_put format bytes rest behind out now time later m size so front cut clock put = record {
+  front = so.front ++ m ∷ [];
+  stands = grind (arith, common_steps, All-drop IsByte size rest, latest_more no_time so.front m, exported_more format so.front m);
+}
 
 -- which leaves fewer bytes
 pub fewer_left : (rest behind : List ℕ) (m : MessageParts) (size : ℕ) → Front rest m size → behind ≡ drop size rest → length behind < length rest
@@ -129,9 +90,9 @@ fewer_left rest behind m size front cut =
 pub all_put : (format : Format) (bytes rest out : List ℕ) (time : Time) → AreBytes bytes → ArePut format bytes rest out time
     → (length rest == 0) ≡ true
     → (messages : List MessageParts) × (messages_read bytes ≡ Ok messages) × (out ≡ exported format messages)
-all_put format bytes [] out time are so none =
-    (so.front, (read_is_held bytes (Ok so.front) are).1 (record { fit = so.fit; whole = so.whole ∙ append-nil (joined so.front) }), so.put)
-all_put format bytes (next ∷ rest) out time are so none = absurd (omega (arith, eqb-true _ _ none))
+all_put format bytes rest out time are so none =
+    let joins : IsJoined bytes so.front = grind (arith, common_steps, append-nil, nil_from_length rest, so.stands) in
+    (so.front, (read_is_held bytes (Ok so.front) are).1 joins, so.stands.put)
 
 -- where none can be read the messages stop
 pub putting_stops : (format : Format) (bytes rest out : List ℕ) (time : Time) (fault : FrameFault) → AreBytes bytes
@@ -140,6 +101,6 @@ pub putting_stops : (format : Format) (bytes rest out : List ℕ) (time : Time) 
 putting_stops format bytes [] out time fault are so some cause = absurd (cc some)
 putting_stops format bytes (next ∷ rest) out time fault are so some cause =
     let bad : BadMessage = record { at = length bytes - length (next ∷ rest); fault = fault } in
-    let place : length bytes - length (next ∷ rest) ≡ length (joined so.front) =
-    omega (arith, ap (λ l. length l) so.whole, length-append (joined so.front) (next ∷ rest)) in
-    (read_is_held bytes (Err bad) are).1 (record { front = so.front; fit = so.fit; next = next; rest = rest; whole = so.whole; place = place; cause = cause })
+    let place : bad.at ≡ length (joined so.front) = grind (arith, common_steps) in
+    let s = so.stands in
+    (read_is_held bytes (Err bad) are).1 (record { front = so.front; fit = s.fit; next = next; rest = rest; whole = s.whole; place = place; cause = cause })

@@ -1,8 +1,8 @@
 -- Pieces of a line that are put one after another.
-use Rattle.std.proofs.Common.{◌≡◌, ◌++◌, ◌∷◌, [], ℕ, List, sym, ap, ◌∙◌, append_assoc}
-use Rattle.std.specs.Prelude.{codes, decimal, OnOk, Result, Ok, Err}
+use Rattle.std.proofs.Common.{◌≡◌, ◌++◌, ◌∷◌, [], ℕ, List, sym, ap, ◌∙◌, append_assoc, arith}
+use Rattle.std.specs.Prelude.{codes, decimal}
 use Rattle.std.specs.List.{join_with_byte}
-use Rattle.std.proofs.lemmas.Grind.{flat_map-append}
+use Rattle.std.proofs.lemmas.Grind.{common_steps, flat_map-append}
 use Rattle.std.proofs.lemmas.List.{append-nil}
 use Rattle.text_spec.specs.Words.{line_feed}
 use Rattle.message_export.specs.JsonLines.{comma, continued, object, quoted}
@@ -11,12 +11,6 @@ use Rattle.message_export.specs.JsonLines.{comma, continued, object, quoted}
 pub and_put : (out first second : List ℕ) {mid last : List ℕ} → mid ≡ out ++ first → last ≡ mid ++ second
     → last ≡ out ++ (first ++ second)
 and_put out first second one next = next ∙ ap (λ l. l ++ second) one ∙ append_assoc out first second
-
--- the last piece that is put makes the whole
-pub on_last : {T E : Type 0} (result : Result T E) (last mid piece whole : List ℕ) → OnOk result (last ≡ mid ++ piece)
-    → mid ++ piece ≡ whole → OnOk result (last ≡ whole)
-on_last (Ok done) last mid piece whole put same = put ∙ same
-on_last (Err fault) last mid piece whole put same = tt
 
 -- a comma, a name, and what stands before the value
 abbrev pub lead : List ℕ → List ℕ
@@ -27,17 +21,14 @@ pub numbered : (out name : List ℕ) {given value : ℕ} {last : List ℕ} → l
     → last ≡ out ++ (name ++ decimal value)
 numbered out name put same = put ∙ ap (λ n. out ++ (name ++ decimal n)) same
 
--- three pieces, and five
-pub three_put : (a b c : List ℕ) → (a ++ b) ++ c ≡ a ++ (b ++ (c ++ []))
-three_put a b c = simp (append_assoc, append-nil)
-
+-- five pieces
 pub five_put : (a b c d e : List ℕ) → (((a ++ b) ++ c) ++ d) ++ e ≡ a ++ (b ++ (c ++ (d ++ (e ++ []))))
 five_put a b c d e = simp (append_assoc, append-nil)
 
 -- the first member, and those after it
 joined_continued : (first : List ℕ) (rest : List (List ℕ)) → join_with_byte comma (first ∷ rest) ≡ first ++ continued rest
 joined_continued first [] = sym (append-nil first)
-joined_continued first (next ∷ rest) = ap (λ l. first ++ comma ∷ l) (joined_continued next rest)
+joined_continued first (next ∷ rest) = grind (arith, common_steps, joined_continued next rest)
 
 -- the line of an object, put member by member
 pub object_put : (first : List ℕ) (a b c d e : List (List ℕ))

@@ -1,10 +1,11 @@
 -- What a line of JSON tells: its members are what stands between its commas.
-use Rattle.std.proofs.Common.{◌≡◌, ◌+◌, ◌<◌, ◌^◌, ◌==◌, ◌∷◌, [], ℕ, Bool, true, false, not, List, Option, Some, None, drop, get_or, inl, inr, length, refl, sym, ap, subst, ◌∙◌, arith}
+use Rattle.std.proofs.Common.{◌≡◌, ◌+◌, ◌<◌, ◌^◌, ◌==◌, ◌∷◌, [], ℕ, Bool, true, not, List, Option, Some, None, drop, get_or, inl, inr, length, refl, sym, ap, ◌∙◌, arith}
 use Rattle.std.specs.Prelude.{IfSome, decimal, codes, if◌then◌else◌}
 use Rattle.std.specs.Char.{is_ascii_digit}
 use Rattle.std.specs.Int.{w64, to_be_bytes}
 use Rattle.std.specs.List.{join_with_byte, list_all, slice_split}
-use Rattle.std.proofs.lemmas.Bool.{and_from, cases_Bool, cases_lt}
+use Rattle.std.proofs.lemmas.Bool.{and_from, cases_lt}
+use Rattle.std.proofs.lemmas.Grind.{common_steps}
 use Rattle.std.proofs.lemmas.Fmt.{decimal_injective, digits_decimal}
 use Rattle.std.proofs.lemmas.List.{append_cancel_right, get_or_past}
 use Rattle.std.proofs.lemmas.List.Folds.{list_all-append}
@@ -15,11 +16,11 @@ use Rattle.ids_frame.specs.declared.context.Form.TheVariants.{Short, Long}
 use Rattle.ids_frame.specs.{AreBytes, ContextPart, FitsContext, MessageParts, FitsMessage}
 use Rattle.text_spec.specs.Below.{IsBytes, encode_lower}
 use Rattle.text_spec.specs.{hex_in, is_lower_digit, stamp_in}
-use Rattle.text_spec.proofs.HexadecimalLemmas.{hex_in-encode_lower, hex_in-other}
+use Rattle.text_spec.proofs.HexadecimalLemmas.{hex_in-encode_lower, lower_text}
 use Rattle.text_spec.proofs.NumbersLemmas.{own_digits}
 use Rattle.text_spec.proofs.StampsLemmas.{IsBytes-high_first, stamp_again}
 use Rattle.text_spec.proofs.WordsLemmas.{Pass, split_joined, weaker}
-use Rattle.message_export.specs.JsonLines.{comma, form_word, hexadecimal, json_line, members, or_null, quoted}
+use Rattle.message_export.specs.JsonLines.{byte_members, comma, context_members, signature_members, stamp_members, form_word, hexadecimal, json_line, members, or_null, quoted}
 use Rattle.message_export.specs.Moments.{nanoseconds_of, seconds_of}
 
 -- ---- no value has a comma
@@ -45,78 +46,35 @@ plain_quoted : (text : List ℕ) → Plain text → Plain (quoted text)
 plain_quoted text plain = list_all-append is_plain text (34 ∷ []) ∙ and_from _ _ plain refl
 
 plain_hex : (bytes : List ℕ) → IsBytes bytes → Plain (hexadecimal bytes)
-plain_hex bytes are = elim (cases_Bool (list_all is_lower_digit (encode_lower bytes))) [
-  | inl all ↦ plain_quoted (encode_lower bytes) (weaker is_lower_digit is_plain (encode_lower bytes) (λ b digit. grind (arith, digit)) all)
-  | inr other ↦ absurd (cc (hex_in-encode_lower bytes are, hex_in-other (encode_lower bytes) other))
-]
+plain_hex bytes are =
+    plain_quoted (encode_lower bytes) (weaker is_lower_digit is_plain (encode_lower bytes) (λ b digit. grind (arith, digit)) (lower_text bytes are))
 
-plain_if : (b : Bool) (x y : List ℕ) → Plain x → Plain y → Plain (if b then x else y)
-plain_if true x y plain flat = plain
-plain_if false x y plain flat = flat
+plain_byte : (version byte : ℕ) → byte < 2 ^ 64 → Pass is_plain (byte_members version byte)
+plain_byte version byte small = grind (arith, common_steps, plain_number)
 
-plain_or : {A : Type 0} (value : A → List ℕ) (part : Option A) → ((x : A) → part ≡ Some x → Plain (value x)) → Plain (or_null value part)
-plain_or value None all = refl
-plain_or value (Some x) all = all x refl
+plain_stamp : (stamp : Option Stamp) → Pass is_plain (stamp_members stamp)
+plain_stamp None = (refl, (refl, (refl, tt)))
+plain_stamp (Some s) =
+    (plain_hex _ (IsBytes-high_first 8 s.0), (plain_number (seconds_of s) (omega arith), (plain_number (nanoseconds_of s) (omega arith), tt)))
 
 plain_form : (form : Form) → Plain (quoted (form_word form))
 plain_form Short = refl
 plain_form Long = refl
 
-context_bytes : (context : Option ContextPart) (c : ContextPart) → IfSome context FitsContext → context ≡ Some c → IsBytes c.bytes
-context_bytes context c fits e =
-    let fit : FitsContext c = subst (λ o. IfSome o FitsContext) e fits in
-    is_bytes c.bytes fit.bytes
+plain_context : (context : Option ContextPart) → IfSome context FitsContext → Pass is_plain (context_members context)
+plain_context None fits = (refl, (refl, tt))
+plain_context (Some c) fits = (plain_form c.form, (plain_hex c.bytes (is_bytes c.bytes fits.bytes), tt))
 
-signature_bytes : (signature : Option (List ℕ)) (bytes : List ℕ) → IfSome signature AreBytes → signature ≡ Some bytes → IsBytes bytes
-signature_bytes signature bytes fits e =
-    let fit : AreBytes bytes = subst (λ o. IfSome o AreBytes) e fits in
-    is_bytes bytes fit
+plain_signature : (signature : Option (List ℕ)) → IfSome signature AreBytes → Pass is_plain (signature_members signature)
+plain_signature None fits = (refl, tt)
+plain_signature (Some bytes) fits = (plain_hex bytes (is_bytes bytes fits), tt)
 
 plain_members : (at : ℕ) (m : MessageParts) → at < 2 ^ 64 → FitsMessage m → Pass is_plain (members at m)
 plain_members at m small fits =
-    let byte = plain_number m.reserved (omega (arith, fits.reserved)) in (
-      plain_number at small,
-      (
-        plain_number m.version (omega (arith, fits.known.1)),
-        (
-          plain_number m.instance (omega (arith, fits.room.ten_bits)),
-          (
-            plain_number m.sensor (omega (arith, fits.room.six_bits)),
-            (
-              plain_number m.event (omega (arith, fits.event)),
-              (
-                plain_number m.count (omega (arith, fits.count)),
-                (
-                  plain_if (m.version == 2) (codes "null") (decimal m.reserved) refl byte,
-                  (
-                    plain_if (m.version == 2) (decimal m.reserved) (codes "null") byte refl,
-                    (
-                      plain_or (λ s. hexadecimal (to_be_bytes w64 s.0)) m.stamp (λ s e. plain_hex _ (IsBytes-high_first 8 s.0)),
-                      (
-                        plain_or (λ s. decimal (seconds_of s)) m.stamp (λ s e. plain_number (seconds_of s) (omega arith)),
-                        (
-                          plain_or (λ s. decimal (nanoseconds_of s)) m.stamp (λ s e. plain_number (nanoseconds_of s) (omega arith)),
-                          (
-                            plain_or (λ c. quoted (form_word c.form)) m.context (λ c e. plain_form c.form),
-                            (
-                              plain_or (λ c. hexadecimal c.bytes) m.context (λ c e. plain_hex c.bytes (context_bytes m.context c fits.context e)),
-                              (
-                                plain_or hexadecimal m.signature (λ bytes e. plain_hex bytes (signature_bytes m.signature bytes fits.signature e)),
-                                tt,
-                              ),
-                            ),
-                          ),
-                        ),
-                      ),
-                    ),
-                  ),
-                ),
-              ),
-            ),
-          ),
-        ),
-      ),
-    )
+    let byte = plain_byte m.version m.reserved in
+    let context = plain_context m.context fits.context in
+    let signature = plain_signature m.signature fits.signature in
+    grind (arith, common_steps, plain_number, byte, plain_stamp m.stamp, context, signature)
 
 -- so a line is cut into its members again
 same_members : (at place : ℕ) (m n : MessageParts) → at < 2 ^ 64 → place < 2 ^ 64 → FitsMessage m → FitsMessage n
@@ -137,10 +95,7 @@ hex_tells a b all are e =
 byte_tells : (b c : Bool) (x y : ℕ) → b ≡ c → x < 2 ^ 64 → y < 2 ^ 64
     → (if b then codes "null" else decimal x) ≡ (if c then codes "null" else decimal y)
     → (if b then decimal x else codes "null") ≡ (if c then decimal y else codes "null") → x ≡ y
-byte_tells true true x y same small few plain other = decimal_injective x y small few other
-byte_tells false false x y same small few plain other = decimal_injective x y small few plain
-byte_tells true false x y same small few plain other = absurd (cc same)
-byte_tells false true x y same small few plain other = absurd (cc same)
+byte_tells b c x y same small few plain other = grind (arith, common_steps, decimal_injective)
 
 stamp_tells : (s t : Option Stamp) → IfSome s (λ s. s.0 < 2 ^ 64) → IfSome t (λ s. s.0 < 2 ^ 64)
     → or_null (λ s. hexadecimal (to_be_bytes w64 s.0)) s ≡ or_null (λ s. hexadecimal (to_be_bytes w64 s.0)) t → s ≡ t
@@ -164,11 +119,8 @@ context_tells None None fit fits form bytes = refl
 context_tells None (Some d) fit fits form bytes = absurd (omega (arith, ap (λ l. get_or l 0 0) form))
 context_tells (Some c) None fit fits form bytes = absurd (omega (arith, ap (λ l. get_or l 0 0) form))
 context_tells (Some c) (Some d) fit fits form bytes =
-    let of : Form → List ℕ → ContextPart = λ form bytes. record { form = form; bytes = bytes } in
-    let same : of c.form c.bytes ≡ of d.form d.bytes =
-    ap (λ f. of f c.bytes) (form_tells c.form d.form form)
-    ∙ ap (λ b. of d.form b) (hex_tells c.bytes d.bytes (is_bytes c.bytes fit.bytes) (is_bytes d.bytes fits.bytes) bytes) in
-    ap Some same
+    let same = hex_tells c.bytes d.bytes (is_bytes c.bytes fit.bytes) (is_bytes d.bytes fits.bytes) bytes in
+    grind (arith, same, form_tells c.form d.form form)
 
 signature_tells : (s t : Option (List ℕ)) → IfSome s AreBytes → IfSome t AreBytes
     → or_null hexadecimal s ≡ or_null hexadecimal t → s ≡ t
@@ -176,20 +128,6 @@ signature_tells None None fit fits e = refl
 signature_tells None (Some t) fit fits e = absurd (omega (arith, ap (λ l. get_or l 0 0) e))
 signature_tells (Some s) None fit fits e = absurd (omega (arith, ap (λ l. get_or l 0 0) e))
 signature_tells (Some s) (Some t) fit fits e = ap Some (hex_tells s t (is_bytes s fit) (is_bytes t fits) e)
-
--- a message of these parts
-abbrev parts : (version instance sensor event count reserved : ℕ) → Option Stamp → Option ContextPart → Option (List ℕ) → MessageParts
-parts version instance sensor event count reserved stamp context signature = record {
-  version = version;
-  instance = instance;
-  sensor = sensor;
-  event = event;
-  count = count;
-  reserved = reserved;
-  stamp = stamp;
-  context = context;
-  signature = signature;
-}
 
 pub line_lem : (at place : ℕ) (m n : MessageParts) → at < 2 ^ 64 → place < 2 ^ 64 → FitsMessage m → FitsMessage n
     → json_line at m ≡ json_line place n → (at ≡ place) × (m ≡ n)
@@ -206,7 +144,4 @@ line_lem at place m n small few fit fits e =
     let stamp = stamp_tells m.stamp n.stamp fit.stamp fits.stamp (ap (value 9 8) same) in
     let context = context_tells m.context n.context fit.context fits.context (ap (value 12 11) same) (ap (value 7 12) same) in
     let signature = signature_tells m.signature n.signature fit.signature fits.signature (ap (value 9 13) same) in
-    let made : parts m.version m.instance m.sensor m.event m.count m.reserved m.stamp m.context m.signature
-    ≡ parts n.version n.instance n.sensor n.event n.count n.reserved n.stamp n.context n.signature =
-    rw (version, instance, sensor, event, count, byte, stamp, context, signature) refl in
-    (decimal_injective at place small few (ap (value 6 0) same), made)
+    (decimal_injective at place small few (ap (value 6 0) same), grind (arith, version, instance, sensor, event, count, byte, stamp, context, signature))

@@ -1,6 +1,6 @@
 -- What the answers of a pass's calls tell of what was asked for.
 use Rattle.std.proofs.Common.{Option}
-use Rattle.trace_replay.proofs.Names.{◌≡◌, ℕ, ◌<◌, ◌^◌, List, refl, arith, Outcome, Asked, reports, changes, sets, Act, Lost, Got, PassMemo, sizes_of, Shared, AsksOnce, IsAsked, control_look, lost_report}
+use Rattle.trace_replay.proofs.Names.{◌≡◌, ℕ, ◌<◌, ◌^◌, List, refl, arith, Outcome, Asked, reports, Act, Lost, Got, PassMemo, sizes_of, Shared, AsksOnce, IsAsked, control_look, lost_report}
 use Rattle.report_api.proofs.{OneCall, lost_call, put_call}
 use Rattle.report_api.specs.Answers.{ControlTells}
 use Rattle.report_api.specs.declared.answer.Control.{Control}
@@ -27,8 +27,7 @@ once_is outcome answers tells lost call = record {
 -- a call that was accepted is no lost report
 pub got_none : (asked : Asked) (ticket : ℕ) (item : Item Act) → lost_report asked (Got ticket item) ≡ 0
 got_none (reports event count stamp bytes) ticket item = refl
-got_none (changes state) ticket item = refl
-got_none (sets event mode) ticket item = refl
+got_none asked ticket item = refl
 
 -- a control tells of no lost report
 pub control_asks : (shared : Shared) (asked : Asked) (act : Act) (old new : PassMemo) (answer : Control)

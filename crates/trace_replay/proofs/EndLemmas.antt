@@ -1,15 +1,15 @@
 -- The end of a replay: from where its callers and its manager stand to what it gives.
-use Rattle.trace_replay.proofs.Names.{◌≡◌, ℕ, suc, ◌+◌, ◌≤◌, ◌<◌, ◌⊎◌, ⊎_elim, List, [], ◌∷◌, ◌++◌, length, map, take, refl, sym, ap, subst, ◌∙◌, arith, AllByRecursion, length-map, map-append, take_all, flat_map-cons, Turn, Parts, IsValid, all_losses, losses_from, IsMerge, last_tick, lines_of, ticks_of, AreRounds, IsAllowedRound, Buffer, desk_memo, PassMemo, pass_memo, Shared, HaveAllCalls, fates_in, losses_in, Traced, HavePlayed, sizes_in, Closes, IsRecordOf, IsSmallTurn, tick_of, turns_in, IsBetween, all_rests, as_told, AreFew, HasListed, losses_by, passes_of, told, Caller, Recorder}
+use Rattle.trace_replay.proofs.Names.{◌≡◌, ℕ, suc, ◌+◌, ◌≤◌, ◌<◌, ◌⊎◌, ⊎_elim, List, [], ◌∷◌, length, map, take, refl, sym, ap, ◌∙◌, arith, AllByRecursion, length-map, map-append, take_all, flat_map-cons, Turn, Parts, IsValid, all_losses, losses_from, IsMerge, last_tick, lines_of, ticks_of, AreRounds, IsAllowedRound, Buffer, desk_memo, PassMemo, pass_memo, Shared, HaveAllCalls, fates_in, losses_in, Traced, HavePlayed, sizes_in, Closes, IsRecordOf, IsSmallTurn, tick_of, turns_in, IsBetween, all_rests, as_told, AreFew, HasListed, losses_by, passes_of, told, Caller, Recorder}
 use mathlib.Core.Option.{some}
 use lib.ListN.{get_elem?}
 use Rattle.trace_text.specs.Small.{AreSmall}
 use Rattle.trace_text.proofs.JournalLemmas.{merge_fits}
-use Rattle.report_queue.specs.Parts.{queue_positions}
 use Rattle.law_closing.specs.Closed.{IsMadeFor, plain_item}
 use Rattle.trace_replay.specs.Replayed.{IsReplayOver, given}
-use Rattle.trace_replay.proofs.MergeLemmas.{TellLosses, merged, no_lines}
-use Rattle.trace_replay.proofs.RecordingLemmas.{all_push}
-use Rattle.trace_replay.proofs.RoundLemmas.{at_rest, mapped_at}
+use Rattle.trace_replay.proofs.MergeLemmas.{merged, no_lines}
+use Rattle.text_spec.proofs.TraceFacts.{all_append}
+use Rattle.trace_replay.proofs.RoundLemmas.{at_rest}
+use Rattle.report_queue.proofs.ClosingLemmas.{at_map_back}
 
 -- what the passes of callers show
 abbrev pub views_of : List Caller → List PassMemo
@@ -22,10 +22,11 @@ all_listed : (n from : ℕ) (callers : List Caller)
     → losses_by callers ≡ all_losses n from (map fates_in (views_of callers))
 all_listed n from [] each = refl
 all_listed n from (caller ∷ callers) each =
-    flat_map-cons (λ (c : Caller). c.losses.items) caller callers
-    ∙ ap (λ losses. losses ++ losses_by callers) (each 0 from caller (omega arith) refl)
-    ∙ ap (λ losses. losses_from n from 0 (fates_in (pass_memo caller.pass)) ++ losses)
-    (all_listed n (suc from) callers (λ i j c is. each (suc i) j c (omega (arith, is))))
+    rw (
+      flat_map-cons (λ (c : Caller). c.losses.items) caller callers,
+      each 0 from caller (omega arith) refl,
+      all_listed n (suc from) callers (λ i j c is. each (suc i) j c (omega (arith, is))),
+    ) refl
 
 all_map : {A : Type 0} (P Q : A → Type 0) → ((x : A) → P x → Q x) → (xs : List A) → AllByRecursion P xs → AllByRecursion Q xs
 all_map P Q f [] all = tt
@@ -49,19 +50,14 @@ module _ {C : Type 0} (stands : C → Parts → List Turn → Type 0) (events : 
   listed : (i : ℕ) (caller : Caller) → get_elem? callers i ≡ some caller
       → HasListed (sizes_in config) config.ring i (lines_of i trace.rounds) (told caller)
   listed i caller at =
-      let its = told caller in
-      let is = (at_rest shared trace.rounds (length trace.rounds) callers between.at_rest i caller at).listed in
-      let lines = lines_of i (take (length trace.rounds) trace.rounds) in
-      subst (λ rounds. HasListed (sizes_in config) config.ring i (lines_of i rounds) its) whole
-      (subst (λ n. HasListed (sizes_in config) n i lines its) made_for.positions_are
-      (subst (λ sizes. HasListed sizes (queue_positions shared.queue) i lines its) made_for.sizes is))
+      rw (whole, made_for.positions_are, made_for.sizes) at (at_rest shared trace.rounds (length trace.rounds) callers between.at_rest i caller at).listed
 
   played : HavePlayed config trace.rounds views
   played = record {
     all = length-map (passes_of callers) pass_memo ∙ length-map callers (λ (c : Caller). c.pass) ∙ between.as_many ∙ of_config;
     each = λ i view at.
-        let pass = mapped_at pass_memo (passes_of callers) i view at in
-        let caller = mapped_at (λ (c : Caller). c.pass) callers i pass.0 pass.1 in
+        let pass = at_map_back pass_memo (passes_of callers) i view at in
+        let caller = at_map_back (λ (c : Caller). c.pass) callers i pass.0 pass.1 in
         rw (sym pass.2, sym caller.2) (listed i caller.0 caller.1).played;
   }
 
@@ -71,29 +67,22 @@ module _ {C : Type 0} (stands : C → Parts → List Turn → Type 0) (events : 
   calls_are : HaveAllCalls config views (turns_in r2)
   calls_are = closes.all_calls config made_for was
 
-  tell : TellLosses views (turns_in r2)
-  tell =
-      let sums = closes.sums config was in
-      record {
-        lost_events = sym sums.lost_events_are ∙ closes.counts.lost_events_are;
-        lost_contexts = sym sums.lost_contexts_are ∙ closes.counts.lost_contexts_are;
-      }
-
   ticks_are : map tick_of (turns_in r2) ≡ ticks_of trace.rounds
   ticks_are = rw closes.advances.turns_are (map-append tick_of (turns_in r1) closes.advances.turns
       ∙ rw (between.ticks_are, closes.advances.ticks_are, tick_is, whole) refl)
 
   small : AllByRecursion (IsSmallTurn config.ring) (turns_in r2)
-  small = rw closes.advances.turns_are (rw (sym made_for.positions_are) (all_push _ (turns_in r1) closes.advances.turns between.small closes.advances.small))
+  small = rw closes.advances.turns_are (rw (sym made_for.positions_are) (all_append _ (turns_in r1) closes.advances.turns between.small closes.advances.small))
 
   merge : IsMerge config trace.rounds (turns_in r2) (losses_in config.ring views)
-  merge = merged config trace.rounds (turns_in r2) views valid each_caller played calls_are tell ticks_are
+  merge =
+      let sums = closes.sums config was in
+      merged config trace.rounds (turns_in r2) views valid each_caller played calls_are (sym sums.lost_events_are ∙ closes.counts.lost_events_are)
+      (sym sums.lost_contexts_are ∙ closes.counts.lost_contexts_are) ticks_are
       (all_map (IsSmallTurn config.ring) _ (λ turn is. is.few) (turns_in r2) small)
 
   losses_are : losses_by callers ≡ losses_in config.ring views
-  losses_are = all_listed config.ring 0 callers (λ i j caller is at.
-      let same : i ≡ j = omega (arith, is) in
-      subst (λ k. caller.losses.items ≡ losses_from config.ring k 0 (fates_in (pass_memo caller.pass))) same (listed i caller at).losses_are)
+  losses_are = all_listed config.ring 0 callers (λ i j caller is at. let same : j ≡ i = omega (arith, is) in rw same (listed i caller at).losses_are)
 
   are_small : AreSmall trace.rounds (turns_in r2)
   are_small = record {

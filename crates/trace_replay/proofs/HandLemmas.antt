@@ -1,35 +1,25 @@
 -- Callers that are handed over, one by one, and come back.
-use Rattle.trace_replay.proofs.Names.{◌≡◌, ℕ, List, [], ◌∷◌, ◌++◌, length, true, refl, ◌∙◌, sym, ap, subst, arith, inl, inr, cases_lt, length_push, slice_index_or, lines_at, round_at, Shared, Traced, Round, IsAtRest, AreAtRest, lines_before, HasRoom, Caller}
+use Rattle.trace_replay.proofs.Names.{◌≡◌, ℕ, List, [], ◌∷◌, ◌++◌, length, true, refl, sym, subst, arith, inl, inr, cases_lt, length_push, lines_at, round_at, Shared, Traced, Round, IsAtRest, AreAtRest, lines_before, HasRoom, Caller}
 use Rattle.std.proofs.lemmas.List.{get_or_append_left, get_or_push}
 use Rattle.trace_replay.specs.{StandsAt, IsPlaceOf}
 use Rattle.trace_replay.specs.declared.place.Place.{Place}
 
 module _ (shared : Shared) (rounds : List Round) (k : ℕ) (front : List Caller) (last : Caller) where
   -- the last of callers, and those before it
-  pub rest_last : (all : List Caller) → AreAtRest shared rounds k all → all ≡ front ++ last ∷ []
-      → IsAtRest shared (length front) (lines_before rounds k (length front)) last
-  rest_last all rest are =
-      subst (IsAtRest shared (length front) (lines_before rounds k (length front)))
-      (ap (λ (cs : List Caller). slice_index_or cs (length front) last) are ∙ get_or_push front last last (length front) refl)
-      (rest (length front) last (omega (arith, ap length are, length_push front last)))
+  pub rest_last : AreAtRest shared rounds k (front ++ last ∷ []) → IsAtRest shared (length front) (lines_before rounds k (length front)) last
+  rest_last rest = rw (get_or_push front last last (length front) refl) at (rest (length front) last (omega (arith, length_push front last)))
 
-  pub rest_front : (all : List Caller) → AreAtRest shared rounds k all → all ≡ front ++ last ∷ [] → AreAtRest shared rounds k front
-  rest_front all rest are = λ i d low.
-      subst (IsAtRest shared i (lines_before rounds k i))
-      (ap (λ (cs : List Caller). slice_index_or cs i d) are ∙ get_or_append_left front (last ∷ []) d i low)
-      (rest i d (omega (arith, low, ap length are, length_push front last)))
+  pub rest_front : AreAtRest shared rounds k (front ++ last ∷ []) → AreAtRest shared rounds k front
+  rest_front rest = λ i d low. rw (get_or_append_left front (last ∷ []) d i low) at (rest i d (omega (arith, low, length_push front last)))
 
   -- one more is at rest
   pub rest_push : AreAtRest shared rounds k front → IsAtRest shared (length front) (lines_before rounds k (length front)) last
       → AreAtRest shared rounds k (front ++ last ∷ [])
   rest_push rest one = λ i d low.
       elim (cases_lt i (length front)) [
-        | inl below ↦
-            subst (IsAtRest shared i (lines_before rounds k i)) (sym (get_or_append_left front (last ∷ []) d i below)) (rest i d below)
+        | inl below ↦ rw (get_or_append_left front (last ∷ []) d i below) (rest i d below)
         | inr above ↦
-            let at : length front ≡ i = omega (arith, low, above, length_push front last) in
-            subst (IsAtRest shared i (lines_before rounds k i)) (sym (get_or_push front last d i at))
-            (subst (λ n. IsAtRest shared n (lines_before rounds k n) last) at one)
+            let at : i ≡ length front = omega (arith, low, above, length_push front last) in rw (get_or_push front last d i (sym at), at) one
       ]
 
 -- a caller with room for what it may lose can be put at its place

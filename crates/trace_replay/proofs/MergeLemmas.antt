@@ -1,8 +1,8 @@
 -- What the passes of a replay did is a merge of their callers' lines.
-use Rattle.trace_replay.proofs.Names.{◌≡◌, ℕ, zero, suc, ◌+◌, ◌<◌, ◌≤◌, ◌==◌, if◌then◌else◌, nat_lt, Some, Bool, List, [], ◌∷◌, length, map, filter, sum_by, slice_index_or, refl, sym, ap, subst, ◌∙◌, arith, eq-eqb, inl, inr, le-ltb, length-append, AllByRecursion, AllZip, cases_lt, get_or_past, length-map, filter-append, sum_by-cons, Turn, entries_of, Parts, class_of, AreClasses, IsValid, there, all_losses, losses_from, AreMerged, IsAsAsked, IsItsLine, IsMerge, StandsIn, Asked, reports, changes, sets, Round, is_lost_report, is_report, lines_of, ticks_of, Act, Report, State, SetMode, Absent, Kept, Missing, Outcome, Lost, Got, PassMemo, lost_events, call_of, calls_in, fate_of, missing_in, plain_act, missed_by, HaveAllCalls, calls_by, fates_in, losses_in, or_at, Answers, IsAsked, lost_report, lost_reports, HavePlayed, sizes_in, HasPlayed}
+use Rattle.trace_replay.proofs.Names.{◌≡◌, ℕ, zero, suc, ◌+◌, ◌<◌, ◌≤◌, ◌==◌, if◌then◌else◌, nat_lt, Some, Bool, List, [], ◌∷◌, length, map, filter, sum_by, refl, sym, ap, subst, ◌∙◌, arith, eq-eqb, inl, inr, le-ltb, length-append, AllByRecursion, AllZip, cases_lt, get_or_past, length-map, filter-append, sum_by-cons, Turn, entries_of, Parts, class_of, AreClasses, IsValid, there, all_losses, losses_from, AreMerged, IsAsAsked, IsItsLine, IsMerge, StandsIn, Asked, reports, changes, sets, Round, is_lost_report, is_report, lines_of, ticks_of, Act, Report, State, SetMode, Absent, Kept, Missing, Outcome, Lost, Got, PassMemo, lost_events, call_of, calls_in, fate_of, missing_in, plain_act, missed_by, HaveAllCalls, calls_by, fates_in, losses_in, or_at, Answers, IsAsked, lost_report, lost_reports, HavePlayed, sizes_in, HasPlayed}
 use Rattle.std.proofs.Math.Path.{fun_ext}
 use Rattle.std.specs.Prelude.{sum}
-use mathlib.Core.Option.{some, some-injective}
+use mathlib.Core.Option.{some}
 use lib.ListN.{get_elem?}
 use Rattle.ids_types.specs.declared.class_spec.ClassSpec.{ClassSpec}
 use Rattle.buffer_classes.specs.Classes.{first_fitting}
@@ -11,13 +11,10 @@ use Rattle.history_spec.specs.Names.{Entry}
 use Rattle.history_spec.proofs.FollowsLemmas.{call_was}
 use Rattle.history_spec.proofs.PlaceLemmas.{stands_kept}
 use Rattle.trace_replay.proofs.CallLemmas.{got_none}
-use Rattle.trace_replay.proofs.PlayedLemmas.{zip_length}
-use Rattle.trace_replay.proofs.RoundLemmas.{map_at}
-
--- the turns tell how many reports the passes lost, and how many contexts they missed
-pub record TellLosses (passes : List PassMemo) (turns : List Turn) : Type 0 where
-  pub lost_events : sum (map (λ turn. turn.head.lost_events) turns) ≡ sum_by lost_events passes
-  pub lost_contexts : sum (map (λ turn. turn.head.lost_contexts) turns) ≡ sum_by (λ pass. missing_in pass.log) passes
+use Rattle.std.proofs.lemmas.Slice.Zip.{AllZip-long}
+use Rattle.atomic_table.proofs.Lists.{at_map}
+use Rattle.report_queue.proofs.ClosingLemmas.{at_map_back}
+use Rattle.permit_ring.proofs.ListLemmas.{at_length}
 
 -- ---- lists
 
@@ -32,10 +29,6 @@ each_from : {A : Type 0} (P : ℕ → A → Type 0) (from : ℕ) (xs : List A)
 each_from P from [] each = tt
 each_from P from (x ∷ xs) each =
     (each 0 from x (omega arith) refl, each_from P (suc from) xs (λ i j y is. each (suc i) j y (omega (arith, is))))
-
--- and from the first one
-by_place : {A : Type 0} (P : ℕ → A → Type 0) (xs : List A) → ((i : ℕ) (x : A) → get_elem? xs i ≡ some x → P i x) → EachFrom P 0 xs
-by_place P xs each = each_from P 0 xs (λ i j x is at. subst (λ k. P k x) (omega (arith, is)) (each i x at))
 
 -- ---- classes
 
@@ -61,13 +54,6 @@ first_in bytes above (spec ∷ specs) rise =
     let fits : bytes ≤ spec.size → small_in bytes specs ≡ 0 = λ le. none_small bytes spec.size specs le rise.3 in
     grind (arith, rest, fits)
 
--- the size at a place is that of the class there
-size_at : (specs : List ClassSpec) (i size : ℕ) → get_elem? (sizes_of specs) i ≡ some size
-    → (i < length specs) × ((slice_index_or specs i (class_of (0, 0))).size ≡ size)
-size_at [] i size at = cc
-size_at (spec ∷ specs) zero size at = (omega arith, some-injective spec.size size at)
-size_at (spec ∷ specs) (suc i) size at = let rest = size_at specs i size at in (omega (arith, rest.0), rest.1)
-
 -- ---- what was asked
 
 -- an act that is what was asked for is so as plain data, where an entry misses the numbers that it misses
@@ -77,8 +63,9 @@ module _ (config : Parts) (valid : IsValid config) (turns : List Turn) (contexts
       → IsAsked (sizes_in config) asked act → IsAsAsked config turns e.caller e.call asked (plain_act act)
   plainly (reports event count stamp bytes) (Report its its_count its_stamp Absent) misses is = is
   plainly (reports event count stamp bytes) (Report its its_count its_stamp (Kept class claim buf)) misses is =
-      let place = size_at config.classes class buf.size is.3.2 in
-      (is.0, is.1, is.2, record { some_bytes = is.3.0; kept_is = is.3.1; class_within = place.0; fits = omega (arith, is.3.3, place.1) })
+      let place = at_map_back (λ (spec : ClassSpec). spec.size) config.classes class buf.size is.3.2 in
+      let its = ap (λ (spec : ClassSpec). spec.size) (or_at config.classes class (class_of (0, 0)) place.0 place.1) in
+      (is.0, is.1, is.2, record { some_bytes = is.3.0; kept_is = is.3.1; class_within = at_length config.classes class place.0 place.1; fits = omega (arith, is.3.3, place.2, its) })
   plainly (reports event count stamp bytes) (Report its its_count its_stamp (Missing numbers)) misses is =
       let small = first_in (length bytes) 0 config.classes valid.classes in
       let as_many = length-map config.classes (λ (class : ClassSpec). class.size) in
@@ -112,27 +99,22 @@ module _ (sizes : List ℕ) (rounds : List Round) (n : ℕ) where
       → EachFrom (λ j asked. get_elem? (lines_of i rounds) j ≡ some asked) call lines → AllZip (Answers sizes) lines log
       → length (filter (is_lost_report rounds) (losses_from n i call (map fate_of log))) ≡ lost_reports lines log
   lost_by i call [] [] own all = refl
-  lost_by i call [] (outcome ∷ log) own all = absurd all
-  lost_by i call (asked ∷ lines) [] own all = absurd all
   lost_by i call (asked ∷ lines) (Lost claimed ∷ log) own all =
       let rest = lost_by i (suc call) lines log own.1 all.1 in
       let one = lost_one asked claimed in rw own.0 (grind (arith, rest, one))
   lost_by i call (asked ∷ lines) (Got ticket item ∷ log) own all =
       omega (arith, lost_by i (suc call) lines log own.1 all.1, got_none asked ticket item)
+  lost_by i call lines log own all = absurd all
 
   -- and those of all passes
   lost_by_all : (i : ℕ) (passes : List PassMemo) → EachFrom (λ j pass. HasPlayed sizes (lines_of j rounds) pass) i passes
       → length (filter (is_lost_report rounds) (all_losses n i (map fates_in passes))) ≡ sum_by lost_events passes
   lost_by_all i [] each = refl
   lost_by_all i (pass ∷ passes) each =
-      let test = is_lost_report rounds in
       let lines = lines_of i rounds in
-      let own = losses_from n i 0 (fates_in pass) in
-      let others = all_losses n (suc i) (map fates_in passes) in
-      let both = ap length (filter-append test own others) ∙ length-append (filter test own) (filter test others) in
-      let here = lost_by i 0 lines pass.log (by_place (λ j asked. get_elem? lines j ≡ some asked) lines (λ j asked at. at)) each.0.each in
+      let here = lost_by i 0 lines pass.log (each_from (λ j asked. get_elem? lines j ≡ some asked) 0 lines (λ k j asked is at. let same : j ≡ k = omega (arith, is) in rw same at)) each.0.each in
       let rest = lost_by_all (suc i) passes each.1 in
-      omega (arith, both, here, rest, each.0.lost_events_are, sum_by-cons lost_events pass passes)
+      simp (filter-append, length-append) (omega (arith, here, rest, each.0.lost_events_are, sum_by-cons lost_events pass passes))
 
 -- ---- missing contexts
 
@@ -164,11 +146,8 @@ missed_none n (e ∷ es) within =
 
 -- an act misses its context where it does as plain data
 missed_plainly : (act : Act) → (if misses_context (plain_act act) then 1 else 0) ≡ missed_by act
-missed_plainly (Report event count stamp Absent) = refl
-missed_plainly (Report event count stamp (Kept class claim buf)) = refl
 missed_plainly (Report event count stamp (Missing numbers)) = refl
-missed_plainly (State state) = refl
-missed_plainly (SetMode event mode) = refl
+missed_plainly act = refl
 
 -- the entries of a log miss as many contexts as it
 missed_in : (caller call : ℕ) (log : List Outcome) → length (filter missed (entries_from caller call (calls_in log))) ≡ missing_in log
@@ -205,7 +184,7 @@ module _ (passes : List PassMemo) (i : ℕ) where
 
   -- the calls of a caller are those of its pass
   calls_at : (pass : PassMemo) → get_elem? passes i ≡ some pass → calls_by passes i ≡ calls_in pass.log
-  calls_at pass at = or_at logs i [] (calls_in pass.log) (map_at (λ (p : PassMemo). calls_in p.log) passes i pass at)
+  calls_at pass at = or_at logs i [] (calls_in pass.log) (at_map (λ (p : PassMemo). calls_in p.log) passes i pass at)
 
   -- and none, where it has no pass
   no_calls : length passes ≤ i → calls_by passes i ≡ []
@@ -220,7 +199,7 @@ module _ (config : Parts) (rounds : List Round) (turns : List Turn) (passes : Li
     | inl low ↦
         let its = there passes caller low in
         ap length (calls_at passes caller its.0 its.1) ∙ length-map its.0.log call_of
-        ∙ sym (zip_length (Answers (sizes_in config)) (lines_of caller rounds) its.0.log (played.each caller its.0 its.1).each)
+        ∙ (AllZip-long (Answers (sizes_in config)) (lines_of caller rounds) its.0.log (played.each caller its.0 its.1).each)
     | inr past ↦ ap length (no_calls passes caller past)
         ∙ ap length (sym (no_lines config.callers caller rounds each (omega (arith, past, played.all))))
   ]
@@ -254,25 +233,26 @@ module _ (config : Parts) (rounds : List Round) (turns : List Turn) (passes : Li
   lost_reports_are : length (filter (is_lost_report rounds) (losses_in config.ring passes)) ≡ sum_by lost_events passes
   lost_reports_are =
       let sizes = sizes_in config in
-      lost_by_all sizes rounds config.ring 0 passes (by_place (λ i. HasPlayed sizes (lines_of i rounds)) passes played.each)
+      lost_by_all sizes rounds config.ring 0 passes (each_from (λ j. HasPlayed sizes (lines_of j rounds)) 0 passes (λ i j pass is. let same : j ≡ i = omega (arith, is) in rw same (played.each i pass)))
 
   -- and so are the missing contexts
   missing_are : length (filter (λ e. misses_context e.act) (entries_of turns)) ≡ sum_by (λ pass. missing_in pass.log) passes
   missing_are =
       let entries = entries_of turns in
-      let each = by_place (λ i pass. entries_by i entries ≡ entries_from i 0 (calls_in pass.log)) passes
-      (λ i pass at. have.accepted i ∙ ap (entries_from i 0) (calls_at passes i pass at)) in
+      let each = each_from (λ j pass. entries_by j entries ≡ entries_from j 0 (calls_in pass.log)) 0 passes
+      (λ i j pass is at. let same : j ≡ i = omega (arith, is) in rw same (have.accepted i ∙ ap (entries_from i 0) (calls_at passes i pass at))) in
       missed_all entries ∙ missed_by_all entries 0 passes (λ e stands. omega (arith, its_pass e stands)) each
 
   -- so what the passes did is a merge of the lines
-  pub merged : TellLosses passes turns → map (λ t. t.head.tick) turns ≡ ticks_of rounds
+  pub merged : sum (map (λ turn. turn.head.lost_events) turns) ≡ sum_by lost_events passes
+      → sum (map (λ turn. turn.head.lost_contexts) turns) ≡ sum_by (λ pass. missing_in pass.log) passes → map (λ t. t.head.tick) turns ≡ ticks_of rounds
       → AllByRecursion (λ t. length t.entries ≤ config.ring) turns → IsMerge config rounds turns (losses_in config.ring passes)
-  merged tell ticks few = record {
+  merged events contexts ticks few = record {
     calls = subst (λ calls. AreMerged config.ring calls turns (losses_in config.ring passes)) (fun_ext as_many_calls) have.merged;
     as_asked = its_line;
     claims = have.contexts.claims;
-    lost_events = tell.lost_events ∙ sym lost_reports_are;
-    lost_contexts = tell.lost_contexts ∙ sym missing_are;
+    lost_events = events ∙ sym lost_reports_are;
+    lost_contexts = contexts ∙ sym missing_are;
     ticks_are = ticks;
     few = few;
   }

@@ -1,28 +1,13 @@
 -- A caller with one call more, and with those of one round more.
-use Rattle.trace_replay.proofs.Names.{◌≡◌, ℕ, suc, ◌+◌, ◌-◌, ◌≤◌, ◌<◌, ◌^◌, List, [], ◌∷◌, ◌++◌, length, map, take, refl, sym, ap, ◌∙◌, arith, append_assoc, length-append, length_push, length-take-le, take_all, take_more, length-flat_map-take, AllZip, losses_from, Asked, Round, changes, lines_at, lines_of, begun_round, flat_map-push, line_at, round_at, Outcome, Lost, Got, PassMemo, fate_of, Answers, CallsOnce, Told, loss_of, lost_report, lost_reports, HasListed, HasPlayed, lines_before}
-
-module _ {A B : Type 0} (R : A → B → Type 0) where
-  -- one more of each
-  zip_push : (xs : List A) (ys : List B) (x : A) (y : B) → AllZip R xs ys → R x y → AllZip R (xs ++ x ∷ []) (ys ++ y ∷ [])
-  zip_push [] [] x y all one = (one, tt)
-  zip_push [] (b ∷ ys) x y all one = absurd all
-  zip_push (a ∷ xs) [] x y all one = absurd all
-  zip_push (a ∷ xs) (b ∷ ys) x y all one = (all.0, zip_push xs ys x y all.1 one)
-
-  -- they are as many
-  pub zip_length : (xs : List A) (ys : List B) → AllZip R xs ys → length xs ≡ length ys
-  zip_length [] [] all = refl
-  zip_length [] (b ∷ ys) all = absurd all
-  zip_length (a ∷ xs) [] all = absurd all
-  zip_length (a ∷ xs) (b ∷ ys) all = ap suc (zip_length xs ys all.1)
+use Rattle.trace_replay.proofs.Names.{◌≡◌, ℕ, suc, ◌+◌, ◌-◌, ◌≤◌, ◌<◌, ◌^◌, List, [], ◌∷◌, ◌++◌, length, map, take, refl, sym, ap, ◌∙◌, arith, append_assoc, length-append, length_push, length-take-le, take_more, length-flat_map-take, losses_from, Asked, Round, changes, lines_at, lines_of, begun_round, line_at, round_at, Outcome, Lost, Got, PassMemo, fate_of, Answers, CallsOnce, Told, loss_of, lost_report, lost_reports, HasListed, HasPlayed, lines_before}
+use Rattle.std.proofs.lemmas.Slice.Zip.{AllZip-long, all_zipped_more}
 
 -- the lost reports, with one call more
 lost_push : (lines : List Asked) (log : List Outcome) (asked : Asked) (outcome : Outcome) → length lines ≡ length log
     → lost_reports (lines ++ asked ∷ []) (log ++ outcome ∷ []) ≡ lost_reports lines log + lost_report asked outcome
 lost_push [] [] asked outcome same = omega arith
-lost_push [] (o ∷ log) asked outcome same = absurd (omega (arith, same))
-lost_push (a ∷ lines) [] asked outcome same = absurd (omega (arith, same))
 lost_push (a ∷ lines) (o ∷ log) asked outcome same = omega (arith, lost_push lines log asked outcome (omega (arith, same)))
+lost_push lines log asked outcome same = absurd (omega (arith, same))
 
 -- the losses, with one call more
 losses_push : (n i call : ℕ) (log : List Outcome) (outcome : Outcome)
@@ -43,10 +28,10 @@ module _ {sizes : List ℕ} {n i : ℕ} {old new : Told} where
   -- a caller that made one call more
   plays_on : {lines : List Asked} {asked : Asked} → HasListed sizes n i lines old → CallsOnce sizes n asked old new → HasListed sizes n i (lines ++ asked ∷ []) new
   plays_on {lines} {asked} before once =
-      let as_many = zip_length (Answers sizes) lines old.pass.log before.played.each in
+      let as_many = sym (AllZip-long (Answers sizes) lines old.pass.log before.played.each) in
       record {
         played = record {
-          each = rw once.log_is (zip_push (Answers sizes) lines old.pass.log asked once.outcome before.played.each once.answers);
+          each = rw once.log_is (all_zipped_more (Answers sizes) lines old.pass.log asked once.outcome before.played.each once.answers);
           calls_are = omega (arith, once.calls_are, before.played.calls_are, length_push lines asked);
           lost_events_are = rw once.log_is
               (once.lost_events_are ∙ ap (λ k. k + lost_report asked once.outcome) before.played.lost_events_are
@@ -70,12 +55,6 @@ pub one_loss : {sizes : List ℕ} {n : ℕ} {asked : Asked} {old new : Told} →
 one_loss {n = n} {old = old} once =
     let one = at_most n old.pass.number old.pass.view.calls once.outcome in
     omega (arith, ap length once.losses_are, length-append old.losses (loss_of n old.pass.number old.pass.view.calls once.outcome), one)
-
--- the lines of one round more
-pub lines_more : (rounds : List Round) (k caller : ℕ) → k < length rounds
-    → lines_before rounds k caller ++ take (length (lines_at caller (round_at rounds k))) (lines_at caller (round_at rounds k)) ≡ lines_before rounds (k + 1) caller
-lines_more rounds k caller less =
-    rw (take_more rounds k (begun_round 0 [] 0) less, flat_map-push (lines_at caller) (take k rounds) (round_at rounds k), take_all (length (lines_at caller (round_at rounds k))) (lines_at caller (round_at rounds k)) (omega arith)) refl
 
 -- the calls of the first lines of a round are few, where all calls are
 pub few_calls : {sizes : List ℕ} {pass : PassMemo} (rounds : List Round) (k caller i : ℕ) → k < length rounds

@@ -1,14 +1,11 @@
 -- What was gathered, with one turn more, and with those of one list of ticks after those of another.
-use Rattle.trace_replay.proofs.Names.{◌≡◌, ℕ, zero, suc, ◌+◌, ◌-◌, ◌≤◌, ◌<◌, List, [], ◌∷◌, ◌++◌, length, take, get_or, refl, sym, ap, ◌∙◌, arith, append_assoc, append-nil, length-append, AllByRecursion, length-map, map-append, Turn, Parts, KeepUpFrom, last_from, Buffer, DeskMemo, desk_memo, PassMemo, Shared, Closed, all_back, IsManagerOf, rests_told, Turned, Manager, Advances, Closes, Continues, StaysSame, tick_of, turns_in, Gathered, Recorder}
+use Rattle.trace_replay.proofs.Names.{◌≡◌, ℕ, zero, suc, ◌≤◌, ◌<◌, List, [], ◌∷◌, ◌++◌, length, take, get_or, refl, sym, ap, ◌∙◌, arith, append_assoc, append-nil, length-append, length-map, map-append, Turn, Parts, KeepUpFrom, last_from, Buffer, DeskMemo, desk_memo, PassMemo, Shared, Closed, all_back, IsManagerOf, rests_told, Turned, Manager, Advances, Closes, Continues, StaysSame, tick_of, turns_in, Gathered, Recorder}
 use Rattle.ids_types.specs.Carries.{entry_by}
 use Rattle.filter_chain.proofs.TranscriptLemmas.{newest_first, transcript_more}
 use Rattle.trace_replay.specs.Recording.{Gathers}
 use Rattle.buffer_classes.specs.declared.giver.Giver.{Giver}
 use Rattle.main_function.specs.Reports.{held}
-
-pub all_push : {A : Type 0} (P : A → Type 0) (xs ys : List A) → AllByRecursion P xs → AllByRecursion P ys → AllByRecursion P (xs ++ ys)
-all_push P [] ys all more = more
-all_push P (x ∷ xs) ys all more = (all.0, all_push P xs ys all.1 more)
+use Rattle.text_spec.proofs.TraceFacts.{all_append}
 
 pub last_on : (low : ℕ) (ticks more : List ℕ) → last_from low (ticks ++ more) ≡ last_from (last_from low ticks) more
 last_on low [] more = refl
@@ -50,7 +47,7 @@ module _ {C : Type 0} (stands : C → Parts → List Turn → Type 0) (events : 
           turns = one.turns ++ other.turns;
           turns_are = other.turns_are ∙ ap (λ turns. turns ++ other.turns) one.turns_are ∙ append_assoc (turns_in old) one.turns other.turns;
           ticks_are = map-append tick_of one.turns other.turns ∙ rw (one.ticks_are, other.ticks_are) refl;
-          small = all_push _ one.turns other.turns one.small other.small;
+          small = all_append _ one.turns other.turns one.small other.small;
           records = λ config was. other.records config (one.records config was);
           rests_are = other.rests_are ∙ one.rests_are;
           last_is = other.last_is ∙ rw one.last_is (sym (last_on _ ticks more));

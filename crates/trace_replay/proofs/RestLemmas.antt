@@ -1,9 +1,11 @@
 -- What the rests of a replay tell, round by round and caller by caller.
-use Rattle.trace_replay.proofs.Names.{◌⊎◌, ⊎_elim, ◌≡◌, ℕ, zero, suc, ◌+◌, ◌-◌, ◌*◌, ◌≤◌, ◌<◌, List, [], ◌∷◌, ◌++◌, length, take, refl, sym, ap, subst, ◌∙◌, arith, length-append, append-nil, append_assoc, map-append, Round, lines_of, calls_of, RestsTold, with_rest, calls_of_each, lines_before, Caller}
+use Rattle.trace_replay.proofs.Names.{◌≡◌, ℕ, zero, suc, ◌+◌, ◌-◌, ◌*◌, ◌≤◌, ◌<◌, List, [], ◌∷◌, ◌++◌, length, take, refl, ap, ◌∙◌, arith, length-append, append-nil, append_assoc, map-append, Round, lines_of, calls_of, with_rest, calls_of_each, lines_before, Caller}
 use Rattle.std.proofs.lemmas.Grind.{flat_map-append}
 use mathlib.Core.Option.{some}
 use lib.ListN.{get_elem?}
-use Rattle.trace_replay.specs.Rests.{as_told, CallerRest, LiesInItsRound, TellsCalls, all_rests, lines_from, rests_before, ticks_before}
+use Rattle.trace_replay.specs.Rests.{as_told, CallerRest, LiesInItsRound, TellsCalls, lines_from, rests_before, ticks_before}
+use Rattle.atomic_table.proofs.Lists.{at_longer}
+use Rattle.std.proofs.Common.{add-one}
 
 -- ---- callers
 
@@ -14,15 +16,9 @@ pub each_made : (rounds : List Round) (from : ℕ) (callers : List Caller)
 each_made rounds from [] each = refl
 each_made rounds from (caller ∷ callers) each =
     let rest = each_made rounds (suc from) callers (λ i j c is at. each (suc i) j c (omega (arith, is)) at) in
-    ap (λ calls. calls_of caller.pass.seat ∷ calls) rest
-    ∙ ap (λ n. n ∷ lines_from (suc from) (length callers) rounds) (each 0 from caller (omega arith) refl)
+    let one = each 0 from caller (omega arith) refl in cc
 
 -- ---- places
-
-at_front : {A : Type 0} (xs ys : List A) (i : ℕ) → i < length xs → get_elem? (xs ++ ys) i ≡ get_elem? xs i
-at_front [] ys i low = absurd (omega (arith, low))
-at_front (x ∷ xs) ys zero low = refl
-at_front (x ∷ xs) ys (suc i) low = at_front xs ys i (omega (arith, low))
 
 at_behind : {A : Type 0} (xs ys : List A) (i j : ℕ) → i ≡ length xs + j → get_elem? (xs ++ ys) i ≡ get_elem? ys j
 at_behind [] ys i j is = let same : i ≡ j = omega (arith, is) in ap (get_elem? ys) same
@@ -36,62 +32,49 @@ line_at_place from (suc n) (suc i) j rounds low is = line_at_place (suc from) n 
 
 -- ---- rests
 
-abbrev log : List ℕ → List ℕ → RestsTold
-log turns calls = record { turns = turns; calls = calls }
-
 -- two rests more, as the manager tells them
 pub two_told : (rests : List CallerRest) (calls lines : List ℕ) (t1 t3 m1 m3 : ℕ) → t1 ≡ m1 → t3 ≡ m3 → calls ≡ lines
     → with_rest t3 calls (with_rest t1 calls (as_told rests)) ≡ as_told (rests ++ record { turns = m1; calls = lines } ∷ record { turns = m3; calls = lines } ∷ [])
 two_told rests calls lines t1 t3 m1 m3 first second same =
-    let more : List CallerRest = record { turns = m1; calls = lines } ∷ record { turns = m3; calls = lines } ∷ [] in
-    let told : RestsTold = as_told rests in
-    let all : RestsTold = as_told (rests ++ more) in
-    let turns : (told.turns ++ t1 ∷ []) ++ t3 ∷ [] ≡ all.turns =
-    rw (first, second) (append_assoc told.turns (_ ∷ []) (_ ∷ []) ∙ sym (map-append (λ rest. rest.turns) rests more)) in
-    let made : (told.calls ++ calls) ++ calls ≡ all.calls =
-    rw same (append_assoc told.calls lines lines ∙ ap (λ ls. told.calls ++ (lines ++ ls)) (sym (append-nil lines))
-    ∙ sym (flat_map-append (λ rest. rest.calls) rests more)) in
-    ap (λ ts. log ts ((told.calls ++ calls) ++ calls)) turns ∙ ap (log all.turns) made
+    rw (first, second, same) (simp (append_assoc, map-append, flat_map-append, append-nil))
 
 module _ (n : ℕ) (rounds : List Round) where
-  -- the two rests of round k
-  abbrev pub two_rests : ℕ → List CallerRest
+  -- the two rests of a round, which stand after those of the rounds before
+  abbrev two_rests : ℕ → List CallerRest
   two_rests k =
-      let turns = length (ticks_before rounds (k + 1)) in
-      let calls = lines_from 0 n (take (k + 1) rounds) in
+      let turns = length (ticks_before rounds (suc k)) in
+      let calls = lines_from 0 n (take (suc k) rounds) in
       record { turns = turns - 1; calls = calls } ∷ record { turns = turns; calls = calls } ∷ []
-
-  -- they stand after those of the rounds before
-  pub rests_more : (k : ℕ) → rests_before n rounds (k + 1) ≡ rests_before n rounds k ++ two_rests k
-  rests_more k =
-      let is : suc k ≡ k + 1 = omega arith in
-      subst (λ m. rests_before n rounds m ≡ rests_before n rounds k ++ (record {
-        turns = length (ticks_before rounds m) - 1;
-        calls = lines_from 0 n (take m rounds);
-      } ∷ record { turns = length (ticks_before rounds m); calls = lines_from 0 n (take m rounds) } ∷ [])) is refl
 
   two_each : (k : ℕ) → length (rests_before n rounds k) ≡ 2 * k
   two_each zero = refl
-  two_each (suc k) =
-      let is : k + 1 ≡ suc k = omega arith in
-      let more = ap length (subst (λ m. rests_before n rounds m ≡ rests_before n rounds k ++ two_rests k) is (rests_more k)) in
-      omega (arith, more, two_each k, length-append (rests_before n rounds k) (two_rests k))
+  two_each (suc k) = simp length-append (omega (arith, two_each k))
 
   -- and before those of the rounds after
-  stays : (all k j : ℕ) → k ≤ all → j < 2 * k → get_elem? (rests_before n rounds all) j ≡ get_elem? (rests_before n rounds k) j
-  stays zero k j le low = absurd (omega (arith, le, low))
-  stays (suc all) k j le low =
-      let which : (k ≤ all) ⊎ (suc all ≡ k) = search arith in
-      ⊎_elim (λ below. at_front (rests_before n rounds all) _ j (omega (arith, low, below, two_each all)) ∙ stays all k j below low)
-      (λ same. ap (λ m. get_elem? (rests_before n rounds m) j) same) which
+  stays : (more k all j : ℕ) (rest : CallerRest) → all ≡ more + k → get_elem? (rests_before n rounds k) j ≡ some rest
+      → get_elem? (rests_before n rounds all) j ≡ some rest
+  stays zero k all j rest is at = let same : all ≡ k = omega (arith, is) in rw same at
+  stays (suc more) k zero j rest is at = absurd (omega (arith, is))
+  stays (suc more) k (suc all) j rest is at =
+      at_longer (rests_before n rounds all) (two_rests all) j rest (stays more k all j rest (omega (arith, is)) at)
 
-  -- rest e of round k
-  round_rest : (k e : ℕ) (rest : CallerRest) → k < length rounds → e < 2 → get_elem? (two_rests k) e ≡ some rest
-      → get_elem? (all_rests n rounds) (2 * k + e) ≡ some rest
-  round_rest k e rest less few is =
-      stays (length rounds) (k + 1) (2 * k + e) (omega (arith, less)) (omega (arith, few))
-      ∙ ap (λ rests. get_elem? rests (2 * k + e)) (rests_more k)
-      ∙ at_behind (rests_before n rounds k) (two_rests k) (2 * k + e) e (omega (arith, two_each k)) ∙ is
+  -- rest e of round k tells what each caller had called
+  tells : (k e j caller turns : ℕ) → k < length rounds → caller < n → j ≡ 2 * k + e
+      → get_elem? (two_rests k) e ≡ some (record { turns = turns; calls = lines_from 0 n (take (suc k) rounds) })
+      → TellsCalls n rounds j turns caller (length (lines_before rounds (suc k) caller))
+  tells k e j caller turns less low at is =
+      let here = at_behind (rests_before n rounds k) (two_rests k) j e (omega (arith, at, two_each k)) ∙ is in
+      record {
+        rest = record { turns = turns; calls = lines_from 0 n (take (suc k) rounds) };
+        is_there = stays (length rounds - suc k) (suc k) (length rounds) j _ (omega (arith, less)) here;
+        turns_are = refl;
+        calls_are = line_at_place 0 n caller caller (take (suc k) rounds) low (omega arith);
+      }
+
+  after_last : (k caller : ℕ) → 0 < k → k ≤ length rounds → caller < n
+      → TellsCalls n rounds (2 * k - 1) (length (ticks_before rounds k)) caller (length (lines_before rounds k caller))
+  after_last zero caller begun within low = absurd (omega (arith, begun))
+  after_last (suc k) caller begun within low = tells k 1 (2 * suc k - 1) caller _ (omega (arith, within)) low (omega arith) refl
 
   -- a call lies between the turns that ended the round before and its own
   pub lies_in_its_round : (k caller call : ℕ) → k < length rounds → caller < n → length (lines_before rounds k caller) ≤ call
@@ -101,28 +84,6 @@ module _ (n : ℕ) (rounds : List Round) where
     calls_after = length (lines_before rounds (k + 1) caller);
     not_made = from;
     made = below;
-    after_the_last = λ some_before.
-        let last = k - 1 in
-        let is : last + 1 ≡ k = omega (arith, some_before) in
-        let at : 2 * last + 1 ≡ 2 * k - 1 = omega (arith, some_before) in
-        subst (λ m. TellsCalls n rounds (2 * k - 1) (length (ticks_before rounds m)) caller (length (lines_before rounds m caller))) is record {
-          rest = record { turns = length (ticks_before rounds (last + 1)); calls = lines_from 0 n (take (last + 1) rounds) };
-          is_there = subst (λ j. get_elem? (all_rests n rounds) j ≡ some (record {
-            turns = length (ticks_before rounds (last + 1));
-            calls = lines_from 0 n (take (last + 1) rounds);
-          })) at (round_rest last 1 _ (omega (arith, less)) (omega arith) refl);
-          turns_are = refl;
-          calls_are = line_at_place 0 n caller caller (take (last + 1) rounds) low (omega arith);
-        };
-    before_its_own = record {
-      rest = record { turns = length (ticks_before rounds (k + 1)) - 1; calls = lines_from 0 n (take (k + 1) rounds) };
-      is_there =
-          let at : 2 * k + 0 ≡ 2 * k = omega arith in
-          subst (λ j. get_elem? (all_rests n rounds) j ≡ some (record {
-            turns = length (ticks_before rounds (k + 1)) - 1;
-            calls = lines_from 0 n (take (k + 1) rounds);
-          })) at (round_rest k 0 _ less (omega arith) refl);
-      turns_are = refl;
-      calls_are = line_at_place 0 n caller caller (take (k + 1) rounds) low (omega arith);
-    };
+    after_the_last = λ begun. after_last k caller begun (omega (arith, less)) low;
+    before_its_own = rw add-one (tells k 0 (2 * k) caller _ less low (omega arith) refl);
   }

@@ -1,37 +1,19 @@
 -- One round more.
-use Rattle.trace_replay.proofs.Names.{◌≡◌, ℕ, zero, suc, ◌+◌, ◌≤◌, ◌<◌, ◌^◌, List, [], ◌∷◌, ◌++◌, length, map, take, drop, refl, sym, ap, subst, ◌∙◌, arith, append_assoc, length-append, ◌-◌, All, AllByRecursion, flat_map, length-map, length_push, map-append, take_more, take-append-drop, All-from_recursion, Turn, Parts, KeepUpFrom, Round, lines_of, round_ticks, begun_round, last_from, AreTicks, flat_map-push, keep_split, last_from-push, Buffer, at_length, DeskMemo, desk_memo, Shared, or_at, AreAllPasses, turns_of, with_rest, Traced, round_at, Continues, StaysSame, StaysSo, StillRecords, tick_of, turns_in, CanPlay, EndsRound, IsBetween, Plays, as_told, calls_of, calls_of_each, lines_from, rests_before, ticks_before, AreAtRest, IsAtRest, passes_of, Caller, Recorder}
+use Rattle.trace_replay.proofs.Names.{◌≡◌, ℕ, ◌+◌, ◌≤◌, ◌<◌, ◌^◌, List, [], ◌∷◌, ◌++◌, length, take, drop, refl, sym, ap, subst, ◌∙◌, arith, append_assoc, length-append, ◌-◌, All, AllByRecursion, flat_map, length-map, length_push, map-append, take_more, take-append-drop, All-from_recursion, Turn, Parts, KeepUpFrom, Round, lines_of, round_ticks, begun_round, last_from, AreTicks, flat_map-push, keep_split, last_from-push, Buffer, at_length, DeskMemo, desk_memo, Shared, or_at, AreAllPasses, turns_of, Traced, round_at, Continues, StaysSame, StaysSo, StillRecords, tick_of, turns_in, CanPlay, EndsRound, IsBetween, Plays, calls_of_each, with_rest, lines_from, rests_before, ticks_before, AreAtRest, IsAtRest, passes_of, Caller, Recorder}
 use Rattle.std.proofs.lemmas.Grind.{flat_map-append}
-use mathlib.Core.Option.{some, some-injective}
+use mathlib.Core.Option.{some}
 use lib.ListN.{get_elem?}
-use Rattle.trace_replay.proofs.RecordingLemmas.{all_push, last_on}
-use Rattle.trace_replay.proofs.RestLemmas.{each_made, rests_more, two_told}
+use Rattle.trace_replay.proofs.RecordingLemmas.{last_on}
+use Rattle.trace_replay.proofs.RestLemmas.{each_made, two_told}
+use Rattle.report_queue.proofs.ClosingLemmas.{at_map_back}
+use Rattle.text_spec.proofs.TraceFacts.{all_append}
+use Rattle.std.proofs.Common.{add-one}
 
 -- ---- lists
 
-all_front : {A : Type 0} (P : A → Type 0) (xs ys : List A) → AllByRecursion P (xs ++ ys) → AllByRecursion P xs
-all_front P [] ys all = tt
-all_front P (x ∷ xs) ys all = (all.0, all_front P xs ys all.1)
-
-all_behind : {A : Type 0} (P : A → Type 0) (xs ys : List A) → AllByRecursion P (xs ++ ys) → AllByRecursion P ys
-all_behind P [] ys all = all
-all_behind P (x ∷ xs) ys all = all_behind P xs ys all.1
-
-all_first : {A : Type 0} (P : A → Type 0) (k : ℕ) (xs : List A) → AllByRecursion P xs → AllByRecursion P (take k xs)
-all_first P zero xs all = tt
-all_first P (suc k) [] all = tt
-all_first P (suc k) (x ∷ xs) all = (all.0, all_first P k xs all.1)
-
--- what stands in a list made of another, and the other way round
-pub map_at : {A B : Type 0} (f : A → B) (xs : List A) (i : ℕ) (x : A) → get_elem? xs i ≡ some x → get_elem? (map f xs) i ≡ some (f x)
-map_at f [] i x at = cc
-map_at f (y ∷ xs) zero x at = ap (λ a. some (f a)) (some-injective y x at)
-map_at f (y ∷ xs) (suc i) x at = map_at f xs i x at
-
-pub mapped_at : {A B : Type 0} (f : A → B) (xs : List A) (i : ℕ) (y : B) → get_elem? (map f xs) i ≡ some y
-    → (x : A) × (get_elem? xs i ≡ some x) × (f x ≡ y)
-mapped_at f [] i y at = cc
-mapped_at f (x ∷ xs) zero y at = (x, refl, some-injective (f x) y at)
-mapped_at f (x ∷ xs) (suc i) y at = mapped_at f xs i y at
+all_parts : {A : Type 0} (P : A → Type 0) (xs ys : List A) → AllByRecursion P (xs ++ ys) → AllByRecursion P xs × AllByRecursion P ys
+all_parts P [] ys all = (tt, all)
+all_parts P (x ∷ xs) ys all = let rest = all_parts P xs ys all.1 in ((all.0, rest.0), rest.1)
 
 -- ---- ticks
 
@@ -47,12 +29,8 @@ module _ (rounds : List Round) (k : ℕ) (less : k < length rounds) where
   all_ticks : flat_map round_ticks rounds
       ≡ ticks_before rounds k ++ (here.beside ++ (here.after ∷ flat_map round_ticks (drop (k + 1) rounds)))
   all_ticks =
-      let rest = flat_map round_ticks (drop (k + 1) rounds) in
       ap (flat_map round_ticks) (sym (take-append-drop (k + 1) rounds))
-      ∙ flat_map-append round_ticks (take (k + 1) rounds) (drop (k + 1) rounds)
-      ∙ ap (λ ticks. ticks ++ rest) ticks_more
-      ∙ append_assoc (ticks_before rounds k) (here.beside ++ here.after ∷ []) rest
-      ∙ ap (λ ticks. ticks_before rounds k ++ ticks) (append_assoc here.beside (here.after ∷ []) rest)
+      ∙ rw (flat_map-append round_ticks (take (k + 1) rounds) (drop (k + 1) rounds)) (simp (ticks_more, append_assoc))
 
   -- those of the next round keep up with the ones before
   pub record NextKeeps : Type 0 where
@@ -66,12 +44,12 @@ module _ (rounds : List Round) (k : ℕ) (less : k < length rounds) where
       let rest = flat_map round_ticks (drop (k + 1) rounds) in
       let keeps = (keep_split 0 (ticks_before rounds k) (here.beside ++ (here.after ∷ rest)) (subst (KeepUpFrom 0) all_ticks ticks.keep_up)).1 in
       let parts = keep_split (last_from 0 (ticks_before rounds k)) here.beside (here.after ∷ rest) keeps in
-      let small = all_behind _ (ticks_before rounds k) _ (subst (AllByRecursion (λ tick. tick ≤ 2 ^ 62)) all_ticks ticks.small) in
+      let small = all_parts _ here.beside _ (all_parts _ (ticks_before rounds k) _ (subst (AllByRecursion (λ tick. tick ≤ 2 ^ 62)) all_ticks ticks.small)).1 in
       record {
         beside = parts.0;
         after = parts.1.0;
-        small = All-from_recursion _ here.beside (all_front _ here.beside (here.after ∷ rest) small);
-        small_after = (all_behind _ here.beside (here.after ∷ rest) small).0;
+        small = All-from_recursion _ here.beside small.0;
+        small_after = small.1.0;
       }
 
 -- ---- callers
@@ -86,7 +64,7 @@ module _ (shared : Shared) (rounds : List Round) (k : ℕ) (callers : List Calle
   all_passes desk all = record {
     all = length-map callers (λ (caller : Caller). caller.pass) ∙ all;
     each = λ i pass at.
-        let its = mapped_at (λ (caller : Caller). caller.pass) callers i pass at in
+        let its = at_map_back (λ (caller : Caller). caller.pass) callers i pass at in
         let is = at_rest i its.0 its.1 in
         rw (sym its.2) (is.is_pass, is.listed.number_is);
   }
@@ -94,10 +72,7 @@ module _ (shared : Shared) (rounds : List Round) (k : ℕ) (callers : List Calle
   -- they made as many calls as each has lines
   pub calls_made : calls_of_each callers ≡ lines_from 0 (length callers) (take k rounds)
   calls_made = each_made (take k rounds) 0 callers (λ i j caller is at.
-      let same : i ≡ j = omega (arith, is) in
-      let its = at_rest i caller at in
-      subst (λ place. calls_of caller.pass.seat ≡ length (lines_of place (take k rounds))) same
-      (its.is_pass.at.caller.calls_are ∙ its.listed.played.calls_are))
+      let its = at_rest i caller at in let same : j ≡ i = omega (arith, is) in rw same (its.is_pass.at.caller.calls_are ∙ its.listed.played.calls_are))
 
 -- ---- one round more
 
@@ -146,9 +121,8 @@ module _ {C : Type 0} (stands : C → Parts → List Turn → Type 0) (events : 
         (still_records r1 r2 ends.before.manager_is ends.before.gathered_is config (beside.advances.records config was)))
 
     turns_more : turns_in r4 ≡ turns_in r0 ++ (beside.advances.turns ++ ends.turn.advances.turns)
-    turns_more = ap (λ g. g.history.turns) ends.after.gathered_is ∙ ends.turn.advances.turns_are
-        ∙ ap (λ turns. turns ++ ends.turn.advances.turns) (ap (λ g. g.history.turns) ends.before.gathered_is ∙ beside.advances.turns_are)
-        ∙ append_assoc (turns_in r0) beside.advances.turns ends.turn.advances.turns
+    turns_more = rw (ends.after.gathered_is, ends.turn.advances.turns_are, ends.before.gathered_is, beside.advances.turns_are)
+        (append_assoc (turns_in r0) beside.advances.turns ends.turn.advances.turns)
 
     -- all stands as it does between rounds
     round_between : IsBetween events kept shared trace (k + 1) new r4
@@ -173,12 +147,11 @@ module _ {C : Type 0} (stands : C → Parts → List Turn → Type 0) (events : 
               ∙ ap (λ desk. length (desk_memo desk).back) ends.before.manager_is.desk_is ∙ ap length beside.back_is);
           ticks_are = rw (turns_more, more) (map-append tick_of (turns_in r0) (beside.advances.turns ++ ends.turn.advances.turns)
               ∙ rw (between.ticks_are, map-append tick_of beside.advances.turns ends.turn.advances.turns, beside.advances.ticks_are, ends.turn.advances.ticks_are) refl);
-          small = rw turns_more (all_push _ (turns_in r0) _ between.small (all_push _ beside.advances.turns ends.turn.advances.turns beside.advances.small ends.turn.advances.small));
-          rests_are = ends.after.rests_are
+          small = rw turns_more (all_append _ (turns_in r0) _ between.small (all_append _ beside.advances.turns ends.turn.advances.turns beside.advances.small ends.turn.advances.small));
+          rests_are = rw add-one (ends.after.rests_are
               ∙ ap (with_rest (turns_of r3.manager) (calls_of_each new)) (ends.turn.advances.rests_are ∙ ends.before.rests_are
               ∙ ap (with_rest (turns_of r1.manager) (calls_of_each new)) (beside.advances.rests_are ∙ between.rests_are))
-              ∙ two_told (rests_before n trace.rounds k) (calls_of_each new) (lines_from 0 n (take (k + 1) trace.rounds)) _ _ _ _ first second calls_now
-              ∙ ap as_told (sym (rests_more n trace.rounds k));
+              ∙ two_told (rests_before n trace.rounds k) (calls_of_each new) _ _ _ _ _ (rw add-one at first) (rw add-one at second) (rw add-one at calls_now));
           last_is = ends.after.manager_is.last_is ∙ ends.turn.advances.last_is ∙ sym (rw more (last_on 0 (ticks_before trace.rounds k) (here.beside ++ here.after ∷ [])
               ∙ last_from-push _ here.beside here.after []));
           count_is = ends.after.manager_is.turns_are ∙ second;

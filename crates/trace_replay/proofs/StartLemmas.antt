@@ -1,12 +1,13 @@
 -- The start of a replay: what may be asked, and where callers and manager stand before the first round.
-use Rattle.trace_replay.proofs.Names.{◌≡◌, ℕ, zero, suc, ◌≤◌, ◌<◌, ◌⊎◌, ⊎_elim, true, nat_le, nat_lt, ◌&&◌, List, [], ◌∷◌, ◌++◌, length, map, refl, sym, ap, subst, ◌∙◌, arith, leb-true, ltb-true, AllByRecursion, and_parts, get_or_past, length-map, flat_map-cons, All-from_recursion, Turn, Parts, is_sensor, Asked, Round, reports, changes, sets, lines_at, act_asked, begun_round, is_allowed, IsAllowedRound, MayAsk, Buffer, there, Pass, Shared, or_at, line_at, Traced, round_at, MayBeAsked, IsRecordOf, tick_of, IsBetween, AreAtRest, MayAllBeAsked, losses_by, passes_of, Caller, Recorder}
-use mathlib.Core.Option.{some, some-injective}
+use Rattle.trace_replay.proofs.Names.{◌≡◌, ℕ, ◌≤◌, ◌<◌, ◌⊎◌, ⊎_elim, true, nat_le, nat_lt, ◌&&◌, List, [], length, map, refl, sym, ap, subst, ◌∙◌, arith, leb-true, ltb-true, AllByRecursion, and_parts, get_or_past, length-map, length-flat_map-take, All-from_recursion, Turn, Parts, is_sensor, Asked, Round, reports, changes, sets, lines_at, act_asked, begun_round, is_allowed, IsAllowedRound, MayAsk, Buffer, there, Pass, Shared, or_at, line_at, Traced, round_at, MayBeAsked, IsRecordOf, tick_of, IsBetween, AreAtRest, MayAllBeAsked, losses_by, passes_of, Caller, Recorder}
+use mathlib.Core.Option.{some}
 use lib.ListN.{get_elem?}
 use Rattle.text_spec.specs.JournalFaults.{is_act}
 use Rattle.report_api.specs.Making.{IsOfConfig}
 use Rattle.report_api.specs.declared.terms.ReportTerms.{ReportTerms}
 use Rattle.trace_replay.specs.Recording.{IsNewRecorder}
-use Rattle.trace_replay.proofs.RoundLemmas.{map_at}
+use Rattle.atomic_table.proofs.Lists.{at_map}
+use Rattle.std.proofs.lemmas.List.{nil_from_length}
 
 module _ (config : Parts) (terms : ReportTerms) (is : IsOfConfig config terms) where
   may_be_asked : (asked : Asked) → is_allowed config asked ≡ true → MayBeAsked terms asked
@@ -29,39 +30,22 @@ module _ (config : Parts) (terms : ReportTerms) (is : IsOfConfig config terms) w
       may_be_asked (line_at (lines_at caller (round_at rounds k)) i) asked.1)
       (λ past. absurd (omega (arith, within, ap length (get_or_past (round_at rounds k).lines caller [] past)))) which
 
-front_empty : {A : Type 0} (xs ys : List A) → xs ++ ys ≡ [] → xs ≡ []
-front_empty [] ys none = refl
-front_empty (x ∷ xs) ys none = cc
-
-back_empty : {A : Type 0} (xs ys : List A) → xs ++ ys ≡ [] → ys ≡ []
-back_empty [] ys none = none
-back_empty (x ∷ xs) ys none = cc
-
--- callers that list no loss
-none_listed : (callers : List Caller) → losses_by callers ≡ [] → (i : ℕ) (caller : Caller) → get_elem? callers i ≡ some caller
-    → caller.losses.items ≡ []
-none_listed [] none i caller at = cc
-none_listed (first ∷ callers) none zero caller at =
-    let parts = sym (flat_map-cons (λ (c : Caller). c.losses.items) first callers) ∙ none in
-    subst (λ (c : Caller). c.losses.items ≡ []) (some-injective first caller at) (front_empty first.losses.items (losses_by callers) parts)
-none_listed (first ∷ callers) none (suc i) caller at =
-    let parts = sym (flat_map-cons (λ (c : Caller). c.losses.items) first callers) ∙ none in
-    none_listed callers (back_empty first.losses.items (losses_by callers) parts) i caller at
-
 module _ {C : Type 0} (stands : C → Parts → List Turn → Type 0) (events : C → ℕ) (kept : C → List Buffer) (config : Parts) (shared : Shared)
     (trace : Traced) (passes : List Pass) (callers : List Caller) (r : Recorder C) (new : IsNewRecorder stands events kept config shared passes r)
     (are : passes_of callers ≡ passes) (none : losses_by callers ≡ []) (of_config : trace.callers ≡ config.callers) where
   begin_at_rest : AreAtRest shared trace.rounds 0 callers
   begin_at_rest = λ i d low.
       let caller = there callers i low in
-      let at = subst (λ ps. get_elem? ps i ≡ some caller.0.pass) are (map_at (λ (c : Caller). c.pass) callers i caller.0 caller.1) in
+      let at = subst (λ ps. get_elem? ps i ≡ some caller.0.pass) are (at_map (λ (c : Caller). c.pass) callers i caller.0 caller.1) in
       let is = new.manager_is.making.each i caller.0.pass at in
       rw (or_at callers i d caller.0 caller.1) record {
         is_pass = is.is_pass;
         listed = rw is.knows record {
           played = record { each = tt; calls_are = refl; lost_events_are = refl };
           number_is = refl;
-          losses_are = none_listed callers none i caller.0 caller.1;
+          losses_are =
+              let all = length-flat_map-take (λ (c : Caller). c.losses.items) callers i d low in
+              nil_from_length caller.0.losses.items (omega (arith, all, ap length none, ap (λ (c : Caller). length c.losses.items) (or_at callers i d caller.0 caller.1)));
         };
       }
 

@@ -52,26 +52,18 @@ pass_field = struct_sync (shape pass.the_type) (
 caller_field : IsSync (caller.the_field).row
 caller_field = struct_sync (shape caller.the_type) (pass_field, (search (sendable, vecs.the_sync, heap.the_sync) depth 12, tt))
 
-hand_field : IsSync (hand.the_field).row
-hand_field = struct_sync (shape hand.the_type) (caller_field, (search sendable, (search sendable, tt)))
-
 hand_sync : IsSync hand.the_row
-hand_sync = recorded_sync (hand.the_field).row _ _ (hand.the_type).to_one hand_field
+hand_sync = recorded_sync (hand.the_field).row _ _ (hand.the_type).to_one (struct_sync (shape hand.the_type) (caller_field, (search sendable, (search sendable, tt))))
 
 -- the places of callers may be seen by their threads
-place_field : IsSync (place.the_field).row
-place_field = struct_sync (shape place.the_type) (search (sendable, slot.the_sync, hand_sync, hands.the_send) depth 12, tt)
-
-pub place_sync : IsSync place.the_row
-place_sync = recorded_sync (place.the_field).row _ _ (place.the_type).to_one place_field
+place_sync : IsSync place.the_row
+place_sync = recorded_sync (place.the_field).row _ _ (place.the_type).to_one
+    (struct_sync (shape place.the_type) (search (sendable, slot.the_sync, hand_sync, hands.the_send) depth 12, tt))
 
 -- and so may all that they share
 module _ (l : NamedLft) (G : RattleType) (g : IsSync G) where
-  stage_field : IsSync (stage.the_field l G).row
-  stage_field = struct_sync (shape (stage.the_type l G)) (
+  pub stage_sync : IsSync (stage.the_row l G)
+  stage_sync = recorded_sync (stage.the_field l G).row _ _ (stage.the_type l G).to_one (struct_sync (shape (stage.the_type l G)) (
     shr_sync _ _ _ shared.the_sync,
     (search sendable, (shr_sync _ _ _ trace.the_sync, (shr_sync _ _ _ g, (search (sendable, vecs.the_sync, heap.the_sync, place_sync) depth 12, (shr_sync _ _ _ flag.the_sync, tt))))),
-  )
-
-  pub stage_sync : IsSync (stage.the_row l G)
-  stage_sync = recorded_sync (stage.the_field l G).row _ _ (stage.the_type l G).to_one stage_field
+  ))

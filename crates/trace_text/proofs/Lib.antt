@@ -6,7 +6,6 @@ pub mod Names
 pub mod PastLemmas
 pub mod PrintingLemmas
 pub mod ReaderLemmas
-pub mod ReadingLemmas
 pub mod RowsLemmas
 pub mod StandsLemmas
 pub mod TicksLemmas

@@ -1,25 +1,24 @@
 -- Each turn, entry and loss of a merge by itself: what its line tells can be held, its numbers are in range, and its
 -- event may stand there.
-use Rattle.trace_text.proofs.Names.{◌≡◌, ℕ, zero, suc, ◌<◌, ◌≤◌, ◌^◌, ◌⊎◌, true, false, List, [], ◌∷◌, length, length-append, refl, sym, ap, subst, arith, ⊎_elim, ◌==◌, slice_index_or, AllByRecursion, flat_map, list_any, and_from, eq-eqb, eqb-true, false_from_ne_true, le-leb, lt-ltb, get_or_past, Turn, entries_of, Parts, class_of, AreClasses, IsValid, ClassSpec, Carried, Absent, Kept, Missing, Act, Report, State, SetMode, Entry, Loss, calls_of, lost_calls_of, CarriesAsAsked, IsAsAsked, IsMerge, StandsIn, Asked, reports, changes, sets, Round, last_tick, lines_at, lines_of, round_ticks, ticks_of, stands_kept, is_act, is_call, is_claim, is_context, is_head, has_event, is_pair, pair_of, act_fields, AreRounds, IsAllowedRound, MayAsk, IsSmall, all_append, all_at, last_small, AreSmall, IsSmallHead}
+use Rattle.trace_text.proofs.Names.{◌≡◌, ℕ, zero, suc, ◌-◌, ◌<◌, ◌≤◌, ◌^◌, true, false, List, [], ◌∷◌, length, length-append, refl, sym, ap, subst, arith, ◌==◌, slice_index_or, AllByRecursion, flat_map, list_any, eq-eqb, eqb-true, false_from_ne_true, le-leb, get_or_past, Turn, entries_of, Parts, class_of, AreClasses, IsValid, ClassSpec, Carried, Absent, Kept, Missing, Act, Report, State, SetMode, Entry, Loss, calls_of, lost_calls_of, CarriesAsAsked, IsAsAsked, IsMerge, StandsIn, Asked, reports, changes, sets, Round, last_tick, lines_at, lines_of, round_ticks, ticks_of, stands_kept, is_act, is_call, is_claim, is_context, is_head, has_event, is_pair, pair_of, act_fields, AreRounds, IsAllowedRound, MayAsk, IsSmall, all_append, all_at, last_small, AreSmall, IsSmallHead}
 use Rattle.history_spec.specs.Contexts.{claim_in, claim_of, claims_of, IsLegalMiss}
 use Rattle.text_spec.specs.Below.{IsBytes}
 use Rattle.text_spec.specs.{IsContext, AreHeld}
-use Rattle.trace_text.proofs.StandsLemmas.{all_stands, once_there, place_within, stands_all, stands_flat_map, stands_map, stands_none, stands_test}
+use Rattle.std.proofs.lemmas.List.Elements.{All-from_recursion}
+use Rattle.std.proofs.lemmas.List.Folds.{list_any_none}
+use Rattle.std.proofs.lemmas.List.Sums.{list_all-from_AllPass}
+use Rattle.trace_text.proofs.StandsLemmas.{all_stands, once_there, stands_all, stands_at, stands_counted, stands_flat_map, stands_map}
 
 -- entries with their context as bytes
 abbrev pub Entries : Type 0
 Entries = List (Entry (List ℕ))
 
--- what holds of the caller, the call and the act of an entry that a journal has a line for
-pub record LineFits (config : Parts) (caller call : ℕ) (act : Act (List ℕ)) : Type 0 where
-  pub held : AreHeld (act_fields caller call act)
-  pub place : is_call caller call ≡ true
-  pub ranges : is_act act ≡ true
-  pub event : has_event config act ≡ true
-
--- the same of the entry
-abbrev pub EntryFits : Parts → Entry (List ℕ) → Type 0
-EntryFits config e = LineFits config e.caller e.call e.act
+-- what holds of an entry that a journal has a line for
+pub record EntryFits (config : Parts) (e : Entry (List ℕ)) : Type 0 where
+  pub held : AreHeld (act_fields e.caller e.call e.act)
+  pub place : is_call e.caller e.call ≡ true
+  pub ranges : is_act e.act ≡ true
+  pub event : has_event config e.act ≡ true
 
 -- what holds of a turn that a journal has lines for
 pub record TurnFits (config : Parts) (turn : Turn) : Type 0 where
@@ -46,20 +45,11 @@ size_small above (suc i) (class ∷ classes) are = size_small class.size i class
 
 -- an act has one claim of a class at most, so entries have no more claims than they are
 one_claim : (i : ℕ) (act : Act (List ℕ)) → length (claim_of i act) ≤ 1
-one_claim i (Report event count stamp (Kept class claim bytes)) = grind arith
-one_claim i (Report event count stamp context) = omega arith
-one_claim i act = omega arith
+one_claim i act = grind arith
 
 few_claims : (i : ℕ) (entries : Entries) → length (claims_of i entries) ≤ length entries
 few_claims i [] = omega arith
-few_claims i (e ∷ entries) =
-    omega (arith, length-append (claim_of i e.act) (claims_of i entries), one_claim i e.act, few_claims i entries)
-
--- calls that have one pair are one
-same_pair : (caller call other its : ℕ) → is_call caller call ≡ true → is_call other its ≡ true
-    → pair_of caller call ≡ pair_of other its → (caller ≡ other) × (call ≡ its)
-same_pair caller call other its is also same =
-    let by : caller ≡ other = grind (arith, is, also, same) in (by, omega (arith, same, by))
+few_claims i (e ∷ entries) = grind (arith, length-append, one_claim i e.act, few_claims i entries)
 
 module _ (config : Parts) where
   -- a caller may ask each of its lines, and callers beyond the configured ones have none
@@ -70,29 +60,24 @@ module _ (config : Parts) where
       all_append (MayAsk config) (lines_at caller round) (lines_of caller rounds)
       (all_at (AllByRecursion (MayAsk config)) round.lines caller [] all.0.asked tt) (lines_allowed caller rounds all.1)
 
-  none_beyond : (caller : ℕ) (rounds : List Round) → AllByRecursion (IsAllowedRound config) rounds
-      → config.callers ≤ caller → lines_of caller rounds ≡ []
-  none_beyond caller [] all beyond = refl
-  none_beyond caller (round ∷ rounds) all beyond =
-      rw (get_or_past round.lines caller [] (omega (arith, all.0.callers, beyond))) (none_beyond caller rounds all.1 beyond)
+  caller_there : (caller : ℕ) (rounds : List Round) → AllByRecursion (IsAllowedRound config) rounds
+      → (call : ℕ) → call < length (lines_of caller rounds) → caller < config.callers
+  caller_there caller [] all call within = absurd (omega arith)
+  caller_there caller (round ∷ rounds) all call within =
+      let later = caller_there caller rounds all.1 (call - length (lines_at caller round)) in
+      grind (arith, length-append, get_or_past round.lines caller [], all.0.callers, later)
 
   module _ (rounds : List Round) (turns : List Turn) (losses : List Loss) (valid : IsValid config)
       (fit : AreRounds config rounds) (small : AreSmall rounds turns) (merge : IsMerge config rounds turns losses) where
     -- the place of a line is a call
     line_is_call : (caller call : ℕ) → call < length (lines_of caller rounds) → is_call caller call ≡ true
     line_is_call caller call within =
-        let none = λ (beyond : config.callers ≤ caller). ap length (none_beyond caller rounds fit.allowed beyond) in
-        let which : (config.callers ≤ caller) ⊎ (caller < config.callers) = search arith in
-        let there = ⊎_elim (λ beyond. absurd (omega (arith, within, none beyond))) (λ less. less) which in
-        and_from _ _ (le-leb caller 31 (omega (arith, there, valid.callers.most)))
-        (lt-ltb call (2 ^ 40) (omega (arith, within, small.few_lines caller)))
+        grind (arith, caller_there caller rounds fit.allowed call within, valid.callers.most, small.few_lines caller)
 
     -- the claims of the turns are small, and so is a number of a missing context
     claims_small : AreSmallClaims (λ i. claims_of i (entries_of turns))
     claims_small i claim stands =
-        let claims = claims_of i (entries_of turns) in
-        let once = once_there claim (length claims) [] claims (omega (arith, merge.claims.each_claim i claim)) stands in
-        omega (arith, once.0, few_claims i (entries_of turns), small.few_entries)
+        grind (arith, stands_counted _ _ stands, merge.claims.each_claim i claim, few_claims i (entries_of turns), small.few_entries)
 
     miss_small : (caller call i claimed : ℕ) → IsLegalMiss config turns caller call i claimed → is_claim claimed ≡ true
     miss_small caller call i zero legal = refl
@@ -105,36 +90,31 @@ module _ (config : Parts) where
         → IsContext context × (is_context context ≡ true)
     context_fits caller call bytes Absent are low carries = (tt, refl)
     context_fits caller call bytes (Kept class claim kept) are low carries =
-        let long : length kept ≡ length bytes = ap length carries.kept_is in
-        let some : 1 ≤ length kept = omega (arith, long, carries.some_bytes) in
-        let fits : length kept ≤ 1024 = omega (arith, long, size_small 0 class config.classes valid.classes, carries.fits) in
-        let its_claim : claim ≤ 2 ^ 46 = omega (arith, low class claim (rw (eq-eqb class class refl) (0, refl))) in
-        let its_class : class ≤ 3 = omega (arith, carries.class_within, valid.few_classes) in (
-          (tt, (tt, ((subst IsBytes (sym carries.kept_is) are, some), tt))),
-          rw (le-leb class 3 its_class, le-leb claim (2 ^ 46) its_claim, le-leb 1 _ some, le-leb _ 1024 fits) refl,
+        let its_claim = low class claim (rw (eq-eqb class class refl) (0, refl)) in
+        let long = ap length carries.kept_is in (
+          (tt, (tt, ((subst IsBytes (sym carries.kept_is) are, omega (arith, long, carries.some_bytes)), tt))),
+          grind (arith, its_claim, long, carries, valid.few_classes, size_small 0 class config.classes valid.classes),
         )
     context_fits caller call bytes (Missing numbers) are low carries = (
       omega (arith, carries.1.each_class, valid.few_classes),
-      stands_test is_claim numbers (λ n at. miss_small caller call _ n (carries.1.each_miss at.0 n at.1)),
+      list_all-from_AllPass is_claim numbers (All-from_recursion _ numbers (stands_all _ numbers (λ n at. miss_small caller call _ n (carries.1.each_miss at.0 n at.1)))),
     )
 
     -- an act that is as its line asks
     act_fits : (caller call : ℕ) (asked : Asked) (act : Act (List ℕ)) → MayAsk config asked
         → AreSmallClaims (λ i. claim_of i act) → is_call caller call ≡ true → IsAsAsked config turns caller call asked act
-        → LineFits config caller call act
+        → EntryFits config (record { caller = caller; call = call; act = act })
     act_fits caller call (reports event count stamp bytes) (Report its its_count its_stamp context) may low is
         (is_event, is_count, is_stamp, carries) =
         let fits = context_fits caller call bytes context may.0.1.1.1.1.1.0 low carries in
         rw (is_event, is_count, is_stamp) (record {
           held = (tt, (tt, (tt, (tt, (tt, (may.0.1.1.1.1.0, (fits.0, tt)))))));
           place = is;
-          ranges = let allowed = may.1 in let good = fits.1 in grind (arith, allowed, good);
-          event = let allowed = may.1 in grind (arith, allowed);
+          ranges = grind (arith, may.1, fits.1);
+          event = grind (arith, may.1);
         })
     act_fits caller call (changes state) (State its) may low is is_state =
-        let allowed = may.1 in
-        let ranges : is_act (State state) ≡ true = grind (arith, allowed) in
-        rw is_state (record { held = (tt, (tt, (tt, (tt, (tt, tt))))); place = is; ranges = ranges; event = refl })
+        rw is_state (record { held = (tt, (tt, (tt, (tt, (tt, tt))))); place = is; ranges = grind (arith, may.1); event = refl })
     act_fits caller call (sets event mode) (SetMode its its_mode) may low is (is_event, is_mode) =
         rw (is_event, is_mode) (record { held = (tt, (tt, (tt, (tt, (tt, (tt, tt)))))); place = is; ranges = refl; event = may.1 })
     act_fits caller call asked act may low is none = absurd none
@@ -147,7 +127,7 @@ module _ (config : Parts) where
         let may = all_stands (MayAsk config) its_lines line.0 (lines_allowed e.caller rounds fit.allowed) (e.call, line.1) in
         let low = λ (i claim : ℕ) (at : StandsIn (claim_of i e.act) claim).
         claims_small i claim (stands_flat_map (λ x. claim_of i x.act) (entries_of turns) e claim stands at) in
-        let is = line_is_call e.caller e.call (place_within its_lines e.call line.0 line.1) in
+        let is = line_is_call e.caller e.call (stands_at its_lines e.call line.0 line.1).0 in
         act_fits e.caller e.call line.0 e.act may low is line.2
 
     -- each turn; the last tick comes once more at the close
@@ -176,11 +156,13 @@ module _ (config : Parts) where
         let is = line_is_call loss.caller loss.call once.0 in
         let none_is = λ (e : Entry (List ℕ)) (at : StandsIn (entries_of turns) e)
         (same : is_pair (pair_of loss.caller loss.call) e ≡ true).
-        let one = same_pair e.caller e.call loss.caller loss.call (entry_fits e at).place is (eqb-true _ _ same) in
-        let own = stands_kept (λ x. loss.caller == x.caller) (entries_of turns) e at (eq-eqb _ _ (sym one.0)) in
-        once.1 (subst (StandsIn calls) one.1 (stands_map (λ x. x.call) _ e own)) in
+        let place = (entry_fits e at).place in
+        let pair = eqb-true _ _ same in
+        let by : e.caller ≡ loss.caller = grind (arith, place, is, pair) in
+        let own = stands_kept (λ x. loss.caller == x.caller) (entries_of turns) e at (eq-eqb _ _ (sym by)) in
+        once.1 (subst (StandsIn calls) (omega (arith, pair, by)) (stands_map (λ x. x.call) _ e own)) in
         record {
           place = is;
           given = le-leb loss.given (2 ^ 46) (omega (arith, (merge.calls.legal loss stands).claimed, small.few_entries));
-          apart = stands_none _ (entries_of turns) (λ e at. false_from_ne_true _ (none_is e at));
+          apart = list_any_none _ (entries_of turns) (All-from_recursion _ _ (stands_all _ (entries_of turns) (λ e at. false_from_ne_true _ (none_is e at))));
         }

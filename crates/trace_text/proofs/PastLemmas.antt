@@ -1,5 +1,6 @@
 -- What the lines so far of a journal are after some of a history: where they await the rest of it, that has no fault.
-use Rattle.trace_text.proofs.Names.{◌≡◌, ℕ, suc, ◌+◌, ◌<◌, ◌≤◌, ◌^◌, ◌++◌, false, List, [], ◌∷◌, length, length-append, map, get_or, set, refl, sym, ap, subst, ◌∙◌, append_assoc, inl, inr, arith, length-set, get_or-set_same, get_or-set_other, Ok, AllByRecursion, flat_map, list_any, cases_eq, eq-eqb, le-leb, lt-ltb, ne_eqb, append-nil, Turn, begun, entries_of, Parts, Entry, Loss, calls_of, KeepUpFrom, LossesFrom, RiseFrom, Past, fault_of, is_pair, next, pair_of, IsHeld, journal_grammar, Line, begins, enters, loses, turn_told}
+use Rattle.trace_text.proofs.Names.{◌≡◌, ℕ, suc, ◌+◌, ◌<◌, ◌≤◌, ◌^◌, ◌++◌, List, [], ◌∷◌, length, length-append, map, get_or, refl, sym, subst, ◌∙◌, append_assoc, arith, length-set, Ok, AllByRecursion, flat_map, eq-eqb, le-leb, lt-ltb, append-nil, Turn, begun, entries_of, Parts, Entry, Loss, calls_of, KeepUpFrom, LossesFrom, RiseFrom, Past, fault_of, next, pair_of, IsHeld, journal_grammar, Line, begins, enters, loses, turn_told}
+use Rattle.std.proofs.lemmas.Grind.{common_steps}
 use Rattle.ids_types.proofs.HistoryLemmas.{entries_of-with_entry}
 use Rattle.ids_types.proofs.OutputLemmas.{length_with_entry}
 use Rattle.text_spec.specs.Lines.{AreFaultless}
@@ -24,42 +25,24 @@ module _ (config : Parts) (all : Entries) where
 
   -- ---- one line
 
-  -- the calls of each caller rise after an entry
-  rise_on : (past : Past) (e : Entry (List ℕ)) (entries : Entries) (caller : ℕ) → e.caller < length past.calls
-      → RiseFrom (get_or past.calls caller 0) (calls_of caller (e ∷ entries))
-      → RiseFrom (get_or (set past.calls e.caller (e.call + 1)) caller 0) (calls_of caller entries)
-  rise_on past e entries caller within rise = elim (cases_eq caller e.caller) [
-    | inl own ↦
-        let least : get_or (set past.calls e.caller (e.call + 1)) caller 0 ≡ suc e.call =
-        ap (λ c. get_or (set past.calls e.caller (e.call + 1)) c 0) own
-        ∙ get_or-set_same past.calls e.caller (e.call + 1) 0 within ∙ omega arith in
-        rw least (rw (eq-eqb caller e.caller own) at rise).1
-    | inr other ↦
-        rw (get_or-set_other past.calls e.caller caller (e.call + 1) 0 other) (rw (ne_eqb caller e.caller other) at rise)
-  ]
-
   -- an entry that is awaited
   entry_taken : (past : Past) (e : Entry (List ℕ)) (entries : Entries) (turns : List Turn) → EntryFits config e
       → Awaits all past (e ∷ entries) turns
       → (fault_of config past (enters e) ≡ Ok tt) × Awaits all (next past (enters e)) entries turns
   entry_taken past e entries turns fits awaits =
       let begun : 0 < length past.told.turns = awaits.has_begun (omega arith) in
-      let call = fits.place in
-      let callers = awaits.callers in
-      let within : e.caller < length past.calls = grind (arith, call, callers) in
+      let within : e.caller < length past.calls = grind (arith, fits.place, awaits.callers) in
       let least = (rw (eq-eqb e.caller e.caller refl) at (awaits.calls_rise e.caller)).0 in
       let few : past.entries < 1024 = omega (arith, awaits.few) in (
-        rw (awaits.no_losses, lt-ltb 0 _ begun, call, fits.ranges, fits.event, le-leb _ _ least, lt-ltb _ 1024 few) refl,
+        rw (awaits.no_losses, lt-ltb 0 _ begun, fits.place, fits.ranges, fits.event, le-leb _ _ least, lt-ltb _ 1024 few) refl,
         record {
-          callers = length-set past.calls e.caller (e.call + 1) ∙ callers;
+          callers = grind (arith, length-set, awaits.callers);
           no_losses = awaits.no_losses;
           has_begun = λ more. omega (arith, length_with_entry past.told.turns e, begun);
           few = omega (arith, awaits.few);
-          calls_rise = λ caller. rise_on past e (entries ++ entries_of turns) caller within (awaits.calls_rise caller);
+          calls_rise = λ caller. grind (arith, common_steps, within, awaits.calls_rise caller);
           ticks_keep_up = awaits.ticks_keep_up;
-          are_all = ap (λ es. es ++ (entries ++ entries_of turns)) (entries_of-with_entry past.told.turns e begun)
-              ∙ append_assoc (entries_of past.told.turns) (e ∷ []) (entries ++ entries_of turns)
-              ∙ awaits.are_all;
+          are_all = grind (arith, append_assoc, entries_of-with_entry, begun, awaits.are_all);
           no_pair = awaits.no_pair;
         },
       )
@@ -69,7 +52,7 @@ module _ (config : Parts) (all : Entries) where
       → (fault_of config past (begins turn.head) ≡ Ok tt) × Awaits all (next past (begins turn.head)) turn.entries turns
   head_taken past turn turns fits awaits =
       let same = flat_map-push (λ (t : Turn). t.entries) past.told.turns (begun turn.head) ∙ append-nil _ in (
-        rw (awaits.no_losses, fits.head, le-leb _ _ awaits.ticks_keep_up.0) refl,
+        grind (arith, awaits.no_losses, fits.head, awaits.ticks_keep_up.0),
         record {
           callers = awaits.callers;
           no_losses = awaits.no_losses;
@@ -77,7 +60,7 @@ module _ (config : Parts) (all : Entries) where
           few = omega (arith, fits.few);
           calls_rise = awaits.calls_rise;
           ticks_keep_up = awaits.ticks_keep_up.1;
-          are_all = ap (λ es. es ++ (turn.entries ++ entries_of turns)) same ∙ awaits.are_all;
+          are_all = rw same awaits.are_all;
           no_pair = awaits.no_pair;
         },
       )
@@ -90,14 +73,9 @@ module _ (config : Parts) (all : Entries) where
       → AreTaken past (map loses losses)
   losses_taken past caller call [] pair small are order fits = (tt, tt)
   losses_taken past caller call (loss ∷ losses) pair small are order fits =
-      let is = fits.0.place in
-      let its = pair_of loss.caller loss.call in
-      let low : loss.call < 2 ^ 40 = grind (arith, is) in
-      let least : past.pair ≤ its = omega (arith, pair, small, order.0) in
-      let apart : list_any (is_pair its) (entries_of past.told.turns) ≡ false = rw are fits.0.apart in
-      let none : fault_of config past (loses loss) ≡ Ok tt = rw (is, fits.0.given, le-leb past.pair its least, apart) refl in
-      let rest = losses_taken (next past (loses loss)) loss.caller (suc loss.call) losses (omega arith) (omega (arith, low)) are
-      order.1 fits.1 in
+      let least : past.pair ≤ pair_of loss.caller loss.call = omega (arith, pair, small, order.0) in
+      let none : fault_of config past (loses loss) ≡ Ok tt = grind (arith, fits.0.place, fits.0.given, fits.0.apart, are, least) in
+      let rest = losses_taken (next past (loses loss)) loss.caller (suc loss.call) losses (omega arith) (grind (arith, fits.0.place)) are order.1 fits.1 in
       (((tt, (tt, (tt, (tt, tt)))), rest.0), (none, rest.1))
 
   -- entries that are awaited, and some lines after them
@@ -120,6 +98,5 @@ module _ (config : Parts) (all : Entries) where
       let later = flat_map turn_told turns ++ rest in
       let more = entries_taken (next past (begins turn.head)) turn.entries turns later fits.0.entries one.1
       (λ now behind. turns_taken now turns rest fits.1 behind then) in
-      let lines = append_assoc (map enters turn.entries) (flat_map turn_told turns) rest in
-      let both = subst (AreTaken (next past (begins turn.head))) (sym lines) more in
+      let both = subst (AreTaken (next past (begins turn.head))) (sym (append_assoc (map enters turn.entries) (flat_map turn_told turns) rest)) more in
       (((tt, (tt, (tt, (tt, (tt, tt))))), both.0), (one.0, both.1))

@@ -1,5 +1,5 @@
 -- What a line tells, by its first word.
-use Rattle.trace_text.proofs.Names.{◌≡◌, ℕ, false, List, [], ◌∷◌, length, refl, sym, ap, ◌∙◌, Option, Some, None, bytes_eq, codes, option_map, if◌then◌else◌, Parts, numbers_in, told_in_one, first_of, or_else, ◌>>=◌, PastRounds, opening_in, trace_forms, trace_told_by, trace_grammar, TraceLine, opens, words_of}
+use Rattle.trace_text.proofs.Names.{◌≡◌, ℕ, false, List, [], ◌∷◌, length, refl, ap, Option, Some, None, bytes_eq, codes, option_map, if◌then◌else◌, Parts, numbers_in, told_in_one, first_of, or_else, ◌>>=◌, PastRounds, opening_in, trace_forms, trace_grammar, TraceLine, opens, words_of}
 use Rattle.std.proofs.lemmas.Option.{same_Some}
 use Rattle.text_spec.specs.Lines.{after_line, past_with}
 
@@ -23,12 +23,9 @@ module _ (config : Parts) (past : PastRounds) (line kind : List ℕ) (words : Li
   -- a line that opens a round
   pub opening_told : kind ≡ codes "N" → after_line (trace_grammar config) past line ≡ past_with (trace_grammar config) past (option_map opens (numbers_in (length words) words))
   opening_told is =
-      ap (λ ws. past_with (trace_grammar config) past (trace_told_by ws)) (are ∙ ap (λ w. w ∷ words) is)
-      ∙ ap (past_with (trace_grammar config) past) (or_none (option_map opens (numbers_in (length words) words)))
+      rw (are, is) (ap (past_with (trace_grammar config) past) (or_none _))
 
   -- another line
   pub other_told : (told : Option TraceLine) → bytes_eq kind (codes "N") ≡ false → told ≡ told_in_one trace_forms (kind ∷ words) → after_line (trace_grammar config) past line ≡ past_with (trace_grammar config) past told
   other_told told other is =
-      ap (λ ws. past_with (trace_grammar config) past (trace_told_by ws)) are
-      ∙ ap (λ (o : Option TraceLine). past_with (trace_grammar config) past (or_else o (told_in_one trace_forms (kind ∷ words)))) (no_opening kind words other)
-      ∙ ap (past_with (trace_grammar config) past) (sym is)
+      rw (are, is) (ap (λ (o : Option TraceLine). past_with (trace_grammar config) past (or_else o (told_in_one trace_forms (kind ∷ words)))) (no_opening kind words other))

@@ -1,7 +1,9 @@
 -- A row more among those of a caller, and bytes more after those of all lines.
-use Rattle.trace_text.proofs.Names.{◌≡◌, ℕ, zero, suc, ◌+◌, ◌<◌, ◌≤◌, List, [], ◌∷◌, ◌++◌, length, map, set, get_or, refl, sym, ap, ap₂, ◌∙◌, arith, Vec, get_or-map, length-map, map-append, map-set, set-get_or, slice_range, AllByRecursion, Asked, reports, callers_asked, row_asked, take_all, drop_at}
+use Rattle.trace_text.proofs.Names.{◌≡◌, ℕ, ◌<◌, ◌≤◌, List, [], ◌∷◌, ◌++◌, length, map, set, get_or, refl, ap, ap₂, ◌∙◌, subst, sym, arith, Vec, get_or-map, length-append, length-map, map-append, map-set, all_append, AllByRecursion, Asked, reports, callers_asked, row_asked}
 use Rattle.std.specs.declared.alloc.Global.{Global}
+use Rattle.std.proofs.lemmas.List.Elements.{All-from_recursion, All-weaker, recursion_from_All}
 use Rattle.ids_types.proofs.HistoryLemmas.{range_of_front}
+use Rattle.text_spec.proofs.TraceFacts.{all_set}
 use Rattle.trace_text.specs.Lines.{AreWithin, IsRowWithin}
 use Rattle.trace_text.specs.declared.row.Row.{Row}
 use Rattle.trace_text.specs.declared.row.Row.TheVariants as rows
@@ -16,78 +18,39 @@ rows_asked bytes rows = map (row_asked bytes) rows.items
 -- ---- bytes more
 
 row_same : (bytes more : List ℕ) (row : Row) → IsRowWithin (length bytes) row → row_asked (bytes ++ more) row ≡ row_asked bytes row
-row_same bytes more (rows.Report event count stamp start end) within =
-    ap (reports event count stamp) (range_of_front bytes more start end within.0 within.1)
-row_same bytes more (rows.State state) within = refl
-row_same bytes more (rows.SetMode event mode) within = refl
+row_same bytes more (rows.Report event count stamp start end) within = ap (reports event count stamp) (range_of_front bytes more start end within.0 within.1)
+row_same bytes more row within = refl
 
-rows_same : (bytes more : List ℕ) (rows : List Row) → AllByRecursion (IsRowWithin (length bytes)) rows
-    → map (row_asked (bytes ++ more)) rows ≡ map (row_asked bytes) rows
-rows_same bytes more [] within = refl
-rows_same bytes more (row ∷ rows) within = ap₂ ◌∷◌ (row_same bytes more row within.0) (rows_same bytes more rows within.1)
+maps_same : {A B : Type 0} (f g : A → B) (P : A → Type 0) → ((x : A) → P x → f x ≡ g x) → (xs : List A) → AllByRecursion P xs → map f xs ≡ map g xs
+maps_same f g P same [] all = refl
+maps_same f g P same (x ∷ xs) all = ap₂ ◌∷◌ (same x all.0) (maps_same f g P same xs all.1)
 
--- all callers ask for the same
-pub callers_same : (bytes more : List ℕ) (callers : List Rows) → AreWithin (length bytes) callers
-    → callers_asked (bytes ++ more) callers ≡ callers_asked bytes callers
-callers_same bytes more [] within = refl
-callers_same bytes more (rows ∷ callers) within =
-    ap₂ ◌∷◌ (rows_same bytes more rows.items within.0) (callers_same bytes more callers within.1)
+row_within : (n m : ℕ) → n ≤ m → (row : Row) → IsRowWithin n row → IsRowWithin m row
+row_within n m le (rows.Report event count stamp start end) within = (within.0, omega (arith, le, within.1))
+row_within n m le row within = tt
 
-row_within : (n m : ℕ) (row : Row) → n ≤ m → IsRowWithin n row → IsRowWithin m row
-row_within n m (rows.Report event count stamp start end) le within = (within.0, omega (arith, le, within.1))
-row_within n m (rows.State state) le within = tt
-row_within n m (rows.SetMode event mode) le within = tt
-
-rows_within : (n m : ℕ) (rows : List Row) → n ≤ m → AllByRecursion (IsRowWithin n) rows → AllByRecursion (IsRowWithin m) rows
-rows_within n m [] le within = tt
-rows_within n m (row ∷ rows) le within = (row_within n m row le within.0, rows_within n m rows le within.1)
-
--- all contexts are there
-pub callers_within : (n m : ℕ) (callers : List Rows) → n ≤ m → AreWithin n callers → AreWithin m callers
-callers_within n m [] le within = tt
-callers_within n m (rows ∷ callers) le within = (rows_within n m rows.items le within.0, callers_within n m callers le within.1)
-
--- the bytes that were put at the end are those of their range
-pub range_of_end : (bytes own : List ℕ) (end : ℕ) → end ≡ length bytes + length own → slice_range (bytes ++ own) (length bytes) end ≡ own
-range_of_end bytes own end is = rw is (grind (arith, drop_at, take_all))
+all_weaker : {A : Type 0} (P Q : A → Type 0) → ((x : A) → P x → Q x) → (xs : List A) → AllByRecursion P xs → AllByRecursion Q xs
+all_weaker P Q less xs all = recursion_from_All Q xs (All-weaker P Q less xs (All-from_recursion P xs all))
 
 -- ---- a row more
 
-asked_set : (bytes : List ℕ) (callers : List Rows) (i : ℕ) (new : Rows) → callers_asked bytes (set callers i new) ≡ set (callers_asked bytes callers) i (rows_asked bytes new)
-asked_set bytes callers i new = map-set (rows_asked bytes) callers i new
+-- rows of a caller are put in the place of its old ones: they are the old ones and some more, over more bytes
+module _ (bytes own now : List ℕ) (callers : List Rows) (value : List (List Asked)) (i : ℕ) (old new : Rows) (more : List Row) (long : now ≡ bytes ++ own) (view : callers_asked bytes callers ≡ value)
+    (sound : AreWithin (length bytes) callers) (within : i < length value) (is : old ≡ get_or callers i old) (are : new.items ≡ old.items ++ more) where
+  there : i < length callers
+  there = omega (arith, within, ap length view, length-map callers (rows_asked bytes))
 
-pub asked_at : (bytes : List ℕ) (callers : List Rows) (i : ℕ) (rows : Rows) → i < length (callers_asked bytes callers) → rows ≡ get_or callers i rows → get_or (callers_asked bytes callers) i [] ≡ rows_asked bytes rows
-asked_at bytes callers i rows within is = get_or-map (rows_asked bytes) callers i rows [] (omega (arith, within, length-map callers (rows_asked bytes))) ∙ ap (rows_asked bytes) (sym is)
+  pub rows_added : callers_asked now (set callers i new) ≡ set value i (get_or value i [] ++ map (row_asked (bytes ++ own)) more)
+  rows_added =
+      let f = rows_asked (bytes ++ own) in
+      let same : map f callers ≡ value = maps_same f (rows_asked bytes) _ (λ (rows : Rows) all. maps_same _ _ _ (row_same bytes own) rows.items all) callers sound ∙ view in
+      let asked : get_or value i [] ≡ f old = ap (λ (ls : List (List Asked)). get_or ls i []) (sym same) ∙ get_or-map f callers i old [] there ∙ ap f (sym is) in
+      rw (long, asked, ← same) (map-set f callers i new ∙ ap (λ (rs : List Row). set (map f callers) i (map (row_asked (bytes ++ own)) rs)) are ∙ ap (set (map f callers) i) (map-append (row_asked (bytes ++ own)) old.items more))
 
--- it was added
-pub row_added : (bytes : List ℕ) (callers : List Rows) (i : ℕ) (old new : Rows) (row : Row) → i < length (callers_asked bytes callers) → old ≡ get_or callers i old → new.items ≡ old.items ++ row ∷ []
-    → callers_asked bytes (set callers i new) ≡ set (callers_asked bytes callers) i (get_or (callers_asked bytes callers) i [] ++ row_asked bytes row ∷ [])
-row_added bytes callers i old new row within is added =
-    asked_set bytes callers i new
-    ∙ ap (set (callers_asked bytes callers) i) (ap (map (row_asked bytes)) added ∙ map-append (row_asked bytes) old.items (row ∷ []) ∙ ap (λ (ls : List Asked). ls ++ row_asked bytes row ∷ []) (sym (asked_at bytes callers i old within is)))
-
--- nothing was added
-pub row_refused : (bytes : List ℕ) (callers : List Rows) (i : ℕ) (old new : Rows) → i < length (callers_asked bytes callers) → old ≡ get_or callers i old → new.items ≡ old.items → callers_asked bytes (set callers i new) ≡ callers_asked bytes callers
-row_refused bytes callers i old new within is same =
-    asked_set bytes callers i new
-    ∙ ap (set (callers_asked bytes callers) i) (ap (map (row_asked bytes)) same ∙ sym (asked_at bytes callers i old within is))
-    ∙ set-get_or (callers_asked bytes callers) i []
-
--- the rows at a place are within
-pub within_at : (n : ℕ) (callers : List Rows) (i : ℕ) (rows : Rows) → i < length callers → rows ≡ get_or callers i rows → AreWithin n callers
-    → AllByRecursion (IsRowWithin n) rows.items
-within_at n (first ∷ callers) zero rows there is all = rw is all.0
-within_at n (first ∷ callers) (suc i) rows there is all = within_at n callers i rows (omega (arith, there)) is all.1
-within_at n [] i rows there is all = absurd (omega (arith, there))
-
--- and so is one that was added there
-pub within_set : (n : ℕ) (callers : List Rows) (i : ℕ) (new : Rows) → AllByRecursion (IsRowWithin n) new.items → AreWithin n callers
-    → AreWithin n (set callers i new)
-within_set n [] i new own all = tt
-within_set n (rows ∷ callers) zero new own all = (own, all.1)
-within_set n (rows ∷ callers) (suc i) new own all = (all.0, within_set n callers i new own all.1)
-
-pub within_push : (n : ℕ) (rows : List Row) (row : Row) → AllByRecursion (IsRowWithin n) rows → IsRowWithin n row
-    → AllByRecursion (IsRowWithin n) (rows ++ row ∷ [])
-within_push n [] row all own = (own, tt)
-within_push n (first ∷ rows) row all own = (all.0, within_push n rows row all.1 own)
+  -- all contexts are there
+  pub rows_within : AllByRecursion (IsRowWithin (length now)) more → AreWithin (length now) (set callers i new)
+  rows_within there_too =
+      let le : length bytes ≤ length now = grind (arith, long, length-append) in
+      let all = all_weaker _ (λ (rows : Rows). AllByRecursion (IsRowWithin (length now)) rows.items) (λ (rows : Rows). all_weaker _ _ (row_within (length bytes) (length now) le) rows.items) callers sound in
+      let own_rows = subst (λ (rows : Rows). AllByRecursion (IsRowWithin (length now)) rows.items) (sym is) (All-from_recursion _ callers all i old there) in
+      all_set _ callers i new all (rw are (all_append _ old.items more own_rows there_too))

@@ -1,10 +1,12 @@
 -- What stands in a list: its place, how often it is counted, and facts of all that stands there.
-use Rattle.trace_text.proofs.Names.{◌≡◌, ℕ, zero, suc, ◌+◌, ◌<◌, Bool, true, false, List, [], ◌∷◌, length, map, refl, sym, ap, ap₂, subst, arith, ◌||◌, AllByRecursion, flat_map, list_all, list_any, and_from, eq-eqb, StandsIn, times, once_below, stands_left, stands_right}
+use Rattle.trace_text.proofs.Names.{◌≡◌, ℕ, zero, suc, ◌+◌, ◌<◌, List, [], ◌∷◌, length, map, get_or, refl, sym, ap, subst, arith, AllByRecursion, flat_map, replicate, eq-eqb, StandsIn, times, once_below, stands_left, stands_right}
+use Rattle.std.proofs.lemmas.Grind.{common_steps}
+use Rattle.std.proofs.lemmas.List.Elements.{All-from_recursion}
 use mathlib.Core.Option.{some, some-injective}
 use lib.ListN.{get_elem?}
 
 -- a number that stands there is counted
-stands_counted : (x : ℕ) (xs : List ℕ) → StandsIn xs x → 0 < times x xs
+pub stands_counted : (x : ℕ) (xs : List ℕ) → StandsIn xs x → 0 < times x xs
 stands_counted x [] (place, at) = cc
 stands_counted x (y ∷ xs) (zero, at) = rw (eq-eqb y x (some-injective y x at)) (omega arith)
 stands_counted x (y ∷ xs) (suc place, at) = omega (arith, stands_counted x xs (place, at))
@@ -13,35 +15,26 @@ stands_counted x (y ∷ xs) (suc place, at) = omega (arith, stands_counted x xs 
 -- and does not stand in the first
 pub once_there : (x n : ℕ) (xs ys : List ℕ) → times x xs + times x ys ≡ once_below x n → StandsIn ys x
     → (x < n) × (StandsIn xs x → ⊥)
-once_there x n xs ys once stands =
-    let counted = stands_counted x ys stands in
-    (grind (arith, once, counted), λ first. let again = stands_counted x xs first in grind (arith, once, counted, again))
+once_there x n xs ys once stands = (grind (arith, stands_counted), λ first. grind (arith, stands_counted))
+
+-- at each place of a list of one thing, and at any other, stands that thing
+pub same_replicate : {A : Type 0} (n i : ℕ) (x : A) → get_or (replicate n x) i x ≡ x
+same_replicate n i x = grind (arith, common_steps)
 
 module _ {A : Type 0} where
   -- a place with an element is one of the list
-  pub place_within : (xs : List A) (i : ℕ) (x : A) → get_elem? xs i ≡ some x → i < length xs
-  place_within [] i x at = cc
-  place_within (y ∷ xs) zero x at = omega arith
-  place_within (y ∷ xs) (suc i) x at = omega (arith, place_within xs i x at)
+  pub stands_at : (xs : List A) (i : ℕ) (x : A) → get_elem? xs i ≡ some x → (i < length xs) × (get_or xs i x ≡ x)
+  stands_at [] i x at = cc
+  stands_at (y ∷ xs) zero x at = (omega arith, some-injective y x at)
+  stands_at (y ∷ xs) (suc i) x at = let rest = stands_at xs i x at in (omega (arith, rest.0), rest.1)
 
   -- a fact of all elements holds of each, and one of each of all
   pub all_stands : (P : A → Type 0) (xs : List A) (x : A) → AllByRecursion P xs → StandsIn xs x → P x
-  all_stands P [] x all (place, at) = cc
-  all_stands P (y ∷ xs) x all (zero, at) = subst P (some-injective y x at) all.0
-  all_stands P (y ∷ xs) x all (suc place, at) = all_stands P xs x all.1 (place, at)
+  all_stands P xs x all (place, at) = let here = stands_at xs place x at in subst P here.1 (All-from_recursion P xs all place x here.0)
 
   pub stands_all : (P : A → Type 0) (xs : List A) → ((x : A) → StandsIn xs x → P x) → AllByRecursion P xs
   stands_all P [] each = tt
   stands_all P (x ∷ xs) each = (each x (0, refl), stands_all P xs (λ y at. each y (suc at.0, at.1)))
-
-  -- a test that each passes, and one that none does
-  pub stands_test : (p : A → Bool) (xs : List A) → ((x : A) → StandsIn xs x → p x ≡ true) → list_all p xs ≡ true
-  stands_test p [] each = refl
-  stands_test p (x ∷ xs) each = and_from _ _ (each x (0, refl)) (stands_test p xs (λ y at. each y (suc at.0, at.1)))
-
-  pub stands_none : (p : A → Bool) (xs : List A) → ((x : A) → StandsIn xs x → p x ≡ false) → list_any p xs ≡ false
-  stands_none p [] each = refl
-  stands_none p (x ∷ xs) each = ap₂ ◌||◌ (each x (0, refl)) (stands_none p xs (λ y at. each y (suc at.0, at.1)))
 
   module _ {B : Type 0} where
     -- what a function gives stands among what it gives for all

@@ -6,4 +6,4 @@ use Rattle.chain_endings.proofs.explaining.explain.Given as goal
 -- the turns and the first losses have been printed
 abbrev pub invariant-loop-loss : goal.invariant-loop-loss
 invariant-loop-loss l =
-    l.text.items ≡ text_of (turns_lines l.config [] l.history.turns ++ map (λ loss. line_for (loses loss)) (take l.loss-index l.losses))
+    l.text.items ≡ text_of (turns_lines l.config [] l.history.turns) ++ text_of (map (λ loss. line_for (loses loss)) (take l.loss-index l.losses))

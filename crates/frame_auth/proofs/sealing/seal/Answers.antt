@@ -1,17 +1,13 @@
-use Rattle.frame_auth.proofs.Names.{List, ℕ, refl, sym, ◌∙◌, StopsSeal}
+use Rattle.frame_auth.proofs.Names.{sym, ◌∙◌, StopsSeal}
 use Rattle.std.proofs.lemmas.Result.{err_from_is_err_and}
 use Rattle.frame_auth.proofs.WalkLemmas.{goes_on, writes_plain, writes_sealed, stops_here}
-use Rattle.frame_auth.specs.declared.fault.SealFault.{SealFault}
 use Rattle.frame_auth.proofs.sealing.seal.Goals as goal
 
 pub loop-rest-preserved : goal.loop-rest-preserved
-loop-rest-preserved c =
-    goes_on writes_plain (writes_sealed c.args.key.now) c.args.start c.loop-rest.due c.args.messages.now c.loop-rest.rest.now
-    c.in_ok-rest.rest.now c.loop-rest.out.items c.seal_first.new.out.items c.loop-rest.invariant c.in_ok-rest.ensures.found
+loop-rest-preserved c = goes_on writes_plain (writes_sealed c.args.key.now) c.loop-rest.invariant c.in_ok-rest.ensures.found
 
 pub returns-in_err-rest-clause-place : goal.returns-in_err-rest-clause-place
 returns-in_err-rest-clause-place c =
     let told = err_from_is_err_and c.from_residual.result c.from_residual.ensures.1 in
-    let Why = λ (fault : SealFault) (due at : ℕ) (l : List ℕ). StopsSeal fault at l in
-    rw (told.1, told.2) (stops_here Why c.args.start c.loop-rest.due _ c.args.messages.now c.loop-rest.rest.now c.loop-rest.out.items
-    c.loop-rest.invariant (sym c.is_empty.ensures ∙ c.loop-rest-test.true) refl c.in_err-rest.ensures.place)
+    rw (told.1, told.2) (stops_here (λ fault due at l. StopsSeal fault at l) c.loop-rest.invariant
+    (sym c.is_empty.ensures ∙ c.loop-rest-test.true) c.in_err-rest.ensures.place)

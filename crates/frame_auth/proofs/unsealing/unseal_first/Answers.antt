@@ -1,7 +1,7 @@
-use Rattle.frame_auth.proofs.Names.{◌≡◌, ◌++◌, Some, refl, sym, ap, ◌∙◌, arith, inr, spelling, bare, seal_of, unmarked, common_steps}
+use Rattle.frame_auth.proofs.Names.{◌≡◌, ◌++◌, Some, refl, sym, ap, ◌∙◌, arith, inr, seal_of, common_steps}
 use Rattle.std.proofs.Common.{option_copied}
 use Rattle.frame_auth.proofs.WalkLemmas.{begins_so}
-use Rattle.frame_auth.proofs.LayoutLemmas.{unsealed_layout, no_seal, no_counter, sealed_with, other_counter, bare_is_plain, added_bare}
+use Rattle.frame_auth.proofs.LayoutLemmas.{unsealed_layout, no_seal, no_counter, sealed_with, other_counter, added_bare, moved}
 use Rattle.frame_auth.proofs.unsealing.unseal_first.Goals as goal
 
 pub returns-in_default-clause-place : goal.returns-in_default-clause-place
@@ -32,7 +32,7 @@ returns-in_default-counter_of-clause-place c =
     )
 
 pub returns-then-counter-due-clause-place : goal.returns-then-counter-due-clause-place
-returns-then-counter-due-clause-place c = grind (arith, common_steps, begins_so, other_counter, added_bare)
+returns-then-counter-due-clause-place c = grind (arith, common_steps, begins_so, sealed_with, other_counter, added_bare)
 
 pub returns-clause-found : goal.returns-clause-found
 returns-clause-found c =
@@ -41,16 +41,8 @@ returns-clause-found c =
     let due = c.args.due in
     let part = c.in-Some.counter.now ++ c.in-Some.told.now in
     let some : m.signature ≡ Some part = sym c.signature.ensures.value ∙ c.in-Some.ensures.some.0 in
-    let layout = unsealed_layout m part some c.in-Some.ensures.some.1 in
     let plain = c.split_at.ensures.back ∙ added_bare c.args.out.now.items c.deref.result.now c.in_ok-message.spelled.now part
     c.len-from.result m (c.deref.ensures.value ∙ c.in_ok-push_bare.ensures) c.in_ok-message.ensures.spelled
     (omega (arith, c.len-from.ensures)) some c.in-Some.ensures.some.1 in
     let made = c.in-Some-counter_of.ensures.some ∙ ap (λ d. seal_of key d c.split_at.result.1.now) c.if-counter-due.false ∙ ap (seal_of key due) plain in
-    let begins = c.in_ok-message.ensures.begins in
-    record {
-      message = bare m;
-      is_plain = bare_is_plain m begins.fits;
-      read = begins.whole ∙ ap (λ n. spelling n ++ c.in_ok-message.behind.now) (sealed_with key part due m some made);
-      written = c.in_ok-push_bare.ensures
-          ∙ ap (λ l. c.args.out.now.items ++ l) (ap unmarked c.in_ok-message.ensures.spelled ∙ layout.1);
-    }
+    moved key part due m _ _ _ _ _ c.in_ok-message.ensures.begins some c.in-Some.ensures.some.1 made c.in_ok-message.ensures.spelled c.in_ok-push_bare.ensures

@@ -3,7 +3,6 @@ use Rattle.std.proofs.lemmas.Bool.{eqb-false}
 use Rattle.ids_bundle.proofs.UnitLemmas.{few_messages}
 use Rattle.ids_bundle.proofs.PackLemmas.{packing_first, packing_keeps, packing_closes, packing_ends}
 use Rattle.ids_bundle.proofs.packing.pack.Goals as goal
-use Rattle.ids_bundle.proofs.packing.pack.Goals.{then-load-len+in_ok-push_unit}
 
 pub loop-load-init : goal.loop-load-init
 loop-load-init c = packing_first _ _ _ c.in_ok-out.ensures.items
@@ -13,7 +12,7 @@ overflow_add-number c = grind (arith, common_steps, few_messages)
 
 -- the next message begins a run or fits into the open one
 pub loop-load-preserved : goal.loop-load-preserved
-loop-load-preserved c = search (rules, packing_keeps, packing_closes)
+loop-load-preserved c = search (rules, packing_keeps, packing_closes) fits 4000
 
 pub returns-clause-packed : goal.returns-clause-packed
 returns-clause-packed c =

@@ -6,9 +6,7 @@ use Rattle.memory_image.proofs.fields.row_of.Goals as goal
 pub returns-in_err-fields : goal.returns-in_err-fields
 returns-in_err-fields c =
     let none : c.from_residual.result ≡ None = search rules in
-    rw none (λ row rest keeps is.
-    let e = sym c.in_err-fields.ensures ∙ ap fields_at is ∙ fields_again row rest keeps in
-    absurd cc)
+    rw none (λ row rest keeps is. absurd (cc (sym c.in_err-fields.ensures ∙ ap fields_at is ∙ fields_again row rest keeps)))
 
 pub returns-in_err-row : goal.returns-in_err-row
 returns-in_err-row c =

@@ -1,5 +1,5 @@
 use Rattle.memory_image.proofs.Names.{◌<◌, length, reverse, ap, arith, length-append, length-reverse, no_row, row_bytes}
-use Rattle.memory_image.proofs.ImageLemmas.{with_next}
+use Rattle.std.proofs.lemmas.List.Folds.{length-flat_map-take}
 use Rattle.memory_image.proofs.image.put_image.Goals as goal
 
 pub put_row-requires-clause-room : goal.put_row-requires-clause-room
@@ -8,4 +8,4 @@ put_row-requires-clause-room c =
     let low : c.loop-i.i < length rows = omega (arith, length-reverse c.args.memory.now.rows) in
     let long = simp length-append at (ap (λ bytes. length bytes) c.loop-i.invariant.items) in
     let next = ap (λ row. length (row_bytes row)) c.row.ensures in
-    omega (arith, with_next rows c.loop-i.i no_row low)
+    omega (arith, length-flat_map-take row_bytes rows c.loop-i.i no_row low)

@@ -1,39 +1,43 @@
-use Rattle.memory_image.proofs.Names.{◌≡◌, ◌++◌, ◌∷◌, [], length, reverse, sym, ap, subst, ◌∙◌, rules, arith, nat_tests, append-nil, length-append, nil_from_length, reverse-append, Held, plain_row, AreKeepable, joined, row_bytes}
-use Rattle.memory_image.proofs.RestoreLemmas.{keepable_more, no_next, none_keepable, none_newest, place_of_next, read_more}
+use Rattle.memory_image.proofs.Names.{◌≡◌, ◌++◌, ◌∷◌, [], length, reverse, sym, ap, subst, ◌∙◌, rules, arith, nat_tests, append-nil, append_assoc, All, Row, Differ, IsKeepable, All-head, All-push, all_pairs_push, length-reverse, length-append, nil_from_length, reverse-append, List, ℕ, map, refl, row_of, take-nil, plain_row, AreKeepable, joined, row_bytes}
+use Rattle.memory_image.proofs.RestoreLemmas.{alone, apart, goes_on, read_more}
 use Rattle.memory_image.proofs.image.restore.Goals as goal
 
 pub loop-rest-init : goal.loop-rest-init
-loop-rest-init c =
-    let memory = c.args.memory.now in
-    let none : reverse memory.rows ≡ [] = ap (λ (memory : Held). reverse memory.rows) c.requires in
-    record {
-      room = ap (λ (memory : Held). memory.room) c.requires;
-      keepable = subst AreKeepable (sym none) none_keepable;
-      read = ap (λ done. joined done ++ c.args.image.now) (sym none);
-      stands = ([], ap (λ (memory : Held). memory.rows) c.requires ∙ none_newest memory.room);
-    }
+loop-rest-init c = rw c.requires (record {
+  room = refl;
+  keepable = record { each = λ k d below. absurd (omega arith); differ = λ i j d below within. absurd (omega arith); few = omega arith };
+  read = refl;
+  stands = ([], sym (ap (λ (events : List ℕ). map (row_of 256 []) events) (take-nil 256)));
+})
 
 pub returns-in_default-clause-none : goal.returns-in_default-clause-none
 returns-in_default-clause-none c rows of =
     let so_far = c.loop-rest.invariant in
-    let some : c.loop-rest.rest.now ≡ [] → ⊥ = λ none. search rules in
-    no_next (reverse c.loop-rest.memory.rows) rows c.args.image.now c.loop-rest.rest.now so_far.keepable.each so_far.read of some c.in_default.ensures
+    let goes = goes_on (reverse c.loop-rest.memory.rows) rows c.loop-rest.rest.now so_far.keepable.each of.keepable.each
+    (sym of.whole ∙ so_far.read) in
+    elim goes.0 as (λ (more : List Row). All IsKeepable more → c.loop-rest.rest.now ≡ joined more → ⊥) [
+      | [] ↦ λ keeps is. search rules
+      | next ∷ others ↦ λ keeps is. c.in_default.ensures next (joined others) (All-head IsKeepable next others keeps) is
+    ] goes.2 goes.3
 
 pub returns-then-not-add-clause-none : goal.returns-then-not-add-clause-none
 returns-then-not-add-clause-none c rows of =
     let so_far = c.loop-rest.invariant in
     let memory = c.loop-rest.memory in
     let row = plain_row c.in-Some.row in
-    let image = c.args.image.now in
-    let read = read_more (reverse memory.rows) row image c.loop-rest.rest.now c.in-Some.after.now so_far.read c.in-Some.ensures.1 in
-    c.if-not-add.ensures so_far.stands.0 so_far.stands.1
-    (place_of_next memory row rows image c.in-Some.after.now so_far.room so_far.keepable c.in-Some.ensures.0 read of)
+    let done = reverse memory.rows in
+    let after = c.in-Some.after.now in
+    let read = read_more done row c.args.image.now c.loop-rest.rest.now after so_far.read c.in-Some.ensures.1 in
+    let goes = goes_on (done ++ row ∷ []) rows after (All-push IsKeepable done row so_far.keepable.each c.in-Some.ensures.0) of.keepable.each
+    (sym of.whole ∙ read) in
+    let are = subst AreKeepable (goes.1 ∙ append_assoc done (row ∷ []) goes.0) of.keepable in
+    c.if-not-add.ensures so_far.stands.0 so_far.stands.1 (record {
+      alone = alone memory.rows goes.0 row are.differ;
+      room = omega (arith, so_far.room, are.few, length-append done (row ∷ goes.0), length-reverse memory.rows);
+    })
 
 pub loop-rest-smaller : goal.loop-rest-smaller
-loop-rest-smaller c =
-    let row = plain_row c.in-Some.row in
-    let long = ap (λ bytes. length bytes) c.in-Some.ensures.1 ∙ length-append (row_bytes row) c.in-Some.after.now in
-    omega (arith, long)
+loop-rest-smaller c = omega (arith, length-append (row_bytes (plain_row c.in-Some.row)) c.in-Some.after.now, ap (λ bytes. length bytes) c.in-Some.ensures.1)
 
 pub loop-rest-preserved : goal.loop-rest-preserved
 loop-rest-preserved c =
@@ -46,10 +50,12 @@ loop-rest-preserved c =
     let rows : reverse c.add.new.memory.rows ≡ done ++ row ∷ [] = ap (λ rows. reverse rows) adds.rows ∙ reverse-append (row ∷ []) memory.rows in
     record {
       room = adds.room ∙ so_far.room;
-      keepable = subst AreKeepable (sym rows) (keepable_more memory.rows row so_far.keepable c.in-Some.ensures.0 adds.place.alone
-          (omega (arith, adds.place.room, so_far.room)));
-      read = subst (λ done. c.args.image.now ≡ joined done ++ after) (sym rows)
-          (read_more done row c.args.image.now c.loop-rest.rest.now after so_far.read c.in-Some.ensures.1);
+      keepable = rw rows (record {
+        each = All-push IsKeepable done row so_far.keepable.each c.in-Some.ensures.0;
+        differ = all_pairs_push Differ done row so_far.keepable.differ (apart memory.rows row adds.place.alone);
+        few = omega (arith, adds.place.room, so_far.room, length-append done (row ∷ []), length-reverse memory.rows);
+      });
+      read = rw rows (read_more done row c.args.image.now c.loop-rest.rest.now after so_far.read c.in-Some.ensures.1);
       stands = (adds.items, adds.stands);
     }
 

@@ -24,21 +24,17 @@ returns-in-Some-None c =
 pub returns-then-first-second : goal.returns-then-first-second
 returns-then-first-second c =
     let both = c.in-Some-Some in
-    let below = c.if-first-second.true in
     rw (← both.ensures, ← both.ensures') (c.take-then-first-second.ensures (Some (plain_slot both.first)) (Some (plain_slot both.second))
     (record { holds = grind (arith, nat_tests); is = grind (arith, nat_tests); own = refl; other = refl }))
 
 pub returns-then-second-first : goal.returns-then-second-first
 returns-then-second-first c =
     let both = c.in-Some-Some in
-    let below = c.if-second-first.true in
     rw (← both.ensures, ← both.ensures') (c.take-then-second-first.ensures (Some (plain_slot both.first)) (Some (plain_slot both.second))
     (record { holds = grind (arith, nat_tests); is = grind (arith, nat_tests); own = refl; other = refl }))
 
 pub returns-else-second-first : goal.returns-else-second-first
 returns-else-second-first c =
     let both = c.in-Some-Some in
-    let up = c.if-first-second.false in
-    let down = c.if-second-first.false in
     rw (← both.ensures, ← both.ensures')
     (record { none = λ sequence rows keeps. grind (arith, nat_tests, keeps); is_chosen = grind (arith, nat_tests) })

@@ -1,5 +1,5 @@
-use Rattle.memory_store.proofs.Names.{Ok, sym, ap, subst, ◌∙◌, arith, IsTrue, MayBeLeft, Run, bytes_of, goes_on_with, read_leaves}
-use Rattle.memory_store.proofs.StoreLemmas.{always, read_gives, synced_read}
+use Rattle.memory_store.proofs.Names.{Result, ⊤, DiskFailed, OnOk, Ok, Err, ◌≡◌, length, ap₂, part, sym, ap, subst, ◌∙◌, arith, IsTrue, MayBeLeft, Run, bytes_of, goes_on_with, read_leaves}
+use Rattle.memory_store.proofs.StoreLemmas.{read_gives, synced_read}
 use Rattle.memory_store.proofs.store.read_slots.Goals as goal
 
 pub returns-in_err-read-clause-any_moment : goal.returns-in_err-read-clause-any_moment
@@ -13,19 +13,18 @@ returns-clause-any_moment g c tells =
     let shows = g.D.Disk.shows in
     let old = (shows c.args.disk.now).run in
     let half = (shows c.read.new.self).run in
-    let now = (shows c.read-2.new.self).run in
     let tells_mid = subst IsTrue (sym c.sync.ensures.tells) tells in
     let first = synced_read old (shows c.sync.new.self).run half c.sync.result 0 c.read.new.out c.read.result (c.sync.ensures.syncs tells) (c.read.ensures.reads tells_mid) in
-    goes_on_with (MayBeLeft old.now) old half now first (read_leaves (MayBeLeft old.now) half now 270864 c.read-2.new.out c.read-2.result first.now
+    goes_on_with (MayBeLeft old.now) old half (shows c.read-2.new.self).run first
+    (read_leaves (MayBeLeft old.now) half (shows c.read-2.new.self).run 270864 c.read-2.new.out c.read-2.result first.now
     (c.read-2.ensures.reads (subst IsTrue (sym c.read.ensures.tells) tells_mid)))
 
 pub returns-clause-first : goal.returns-clause-first
 returns-clause-first g c tells =
-    let shows = g.D.Disk.shows in
     let reads = c.in_ok-read.ensures.reads (subst IsTrue (sym c.sync.ensures.tells) tells) in
-    let same = ap (λ (run : Run). run.now.contents) (c.in_ok-sync.ensures.syncs tells).0 in
-    always c.read-2.result (read_gives (shows c.sync.new.self).run (shows c.read.new.self).run 0 270861 c.read.new.out
-    (bytes_of (shows c.args.disk.now)) (Ok c.in_ok-read.field-0) reads same (omega arith))
+    let size : length c.read.new.out ≡ 270861 = omega arith in
+    elim c.read-2.result as (λ (r : Result ⊤ DiskFailed). OnOk r (c.read.new.out ≡ part 0 270861 (bytes_of (g.D.Disk.shows c.args.disk.now))))
+    [ Ok done ↦ reads.1 ∙ ap₂ (part 0) size (ap (λ (run : Run). run.now.contents) (c.in_ok-sync.ensures.syncs tells).0) | Err failed ↦ tt ]
 
 pub returns-clause-second : goal.returns-clause-second
 returns-clause-second g c tells =

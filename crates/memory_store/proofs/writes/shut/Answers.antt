@@ -6,17 +6,16 @@ use Rattle.memory_store.proofs.writes.shut.Goals as goal
 pub returns-then-not-place-clause-any_moment : goal.returns-then-not-place-clause-any_moment
 returns-then-not-place-clause-any_moment g c ready =
     let shown = g.D.Disk.shows c.args.disk.now in
-    let keeps = KeepsSlot (bytes_of shown) in
-    no_call keeps shown.run (settled_leaves keeps shown.run.now ready.settled.synced refl)
+    no_call (KeepsSlot (bytes_of shown)) shown.run (settled_leaves (KeepsSlot (bytes_of shown)) shown.run.now ready.settled.synced refl)
 
 pub returns-clause-any_moment : goal.returns-clause-any_moment
 returns-clause-any_moment g c ready =
     let old = g.D.Disk.shows c.args.disk.now in
     let slot = c.args.place.now.slot in
     let opened : c.args.place.now.is_open ≡ true = first_of (cc, search rules, grind arith) in
-    let changes = rw c.from.ensures at (c.write_through.ensures.any_moment ready.settled) in
     weaker (ChangesIn (gate_span slot) (bytes_of old)) (KeepsSlot (bytes_of old)) old.run (g.D.Disk.shows c.write_through.new.disk).run
-    (λ left. shutting_keeps slot c.requires (bytes_of old) left (ready.next.gate ∙ opened) ready.next.keeps) changes
+    (λ left. shutting_keeps slot c.requires (bytes_of old) left ready.next.keeps (ready.next.gate ∙ opened))
+    (rw c.from.ensures at (c.write_through.ensures.any_moment ready.settled))
 
 pub returns-clause-shut : goal.returns-clause-shut
 returns-clause-shut g c ready =

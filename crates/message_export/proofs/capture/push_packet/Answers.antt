@@ -1,14 +1,13 @@
 use Rattle.std.proofs.Common.{◌≡◌, ◌++◌, ℕ, List, ap, arith, length, min, refl, take, ◌∙◌}
 use Rattle.std.specs.Int.{w32, to_be_bytes}
-use Rattle.std.proofs.lemmas.List.{take_min}
+use Rattle.std.proofs.lemmas.Grind.{common_steps}
+use Rattle.std.proofs.lemmas.Result.{IfOk-equal}
 use Rattle.message_export.specs.Capture.{kept, packet}
-use Rattle.message_export.proofs.JsonLemmas.{and_put, on_last}
+use Rattle.message_export.proofs.JsonLemmas.{and_put}
 use Rattle.message_export.proofs.capture.push_packet.Goals as goal
 
 cut : (n : ℕ) (bytes : List ℕ) → take (min (length bytes) n) bytes ≡ take n bytes
-cut n bytes =
-    let same : min (length bytes) n ≡ min n (length bytes) = omega arith in
-    ap (λ k. take k bytes) same ∙ take_min n bytes
+cut n bytes = grind (arith, common_steps)
 
 pub returns : goal.returns
 returns c =
@@ -23,7 +22,7 @@ returns c =
     ∙ ap (λ k. c.append_number-2.new.out.items ++ to_be_bytes w32 k) (c.split_at.ensures.front_len ∙ c.min.ensures)) in
     let four = and_put out (seconds ++ nanoseconds ++ few) all three c.in_ok-append_number-4.ensures in
     let same = c.split_at.ensures.front ∙ ap (λ k. take k bytes) c.min.ensures ∙ cut 262144 bytes in
-    on_last c.append.result c.append.new.out.items c.append_number-4.new.out.items c.split_at.result.0.now (out ++ packet c.args.time bytes)
+    IfOk-equal c.append.result c.append.new.out.items (c.append_number-4.new.out.items ++ c.split_at.result.0.now) (out ++ packet c.args.time bytes)
     c.append.ensures
     (ap (λ l. c.append_number-4.new.out.items ++ l) same
     ∙ and_put out (seconds ++ nanoseconds ++ few ++ all) (kept bytes) four refl)

@@ -1,7 +1,8 @@
 use Rattle.std.proofs.Common.{◌++◌, ap, refl, ◌∙◌}
 use Rattle.std.specs.Prelude.{codes, decimal}
+use Rattle.std.proofs.lemmas.Result.{IfOk-equal}
 use Rattle.message_export.specs.JsonLines.{continued, event_members}
-use Rattle.message_export.proofs.JsonLemmas.{and_put, five_put, lead, numbered, on_last}
+use Rattle.message_export.proofs.JsonLemmas.{and_put, five_put, lead, numbered}
 use Rattle.message_export.proofs.json.push_event.Goals as goal
 
 pub returns : goal.returns
@@ -20,8 +21,8 @@ returns c =
     (numbered c.push_numbered-2.new.out.items (lead (codes "sensor")) c.in_ok-push_numbered-3.ensures (c.from-3.ensures ∙ c.sensor.ensures.value)) in
     let four = and_put out (version ++ instance ++ sensor) event three
     (numbered c.push_numbered-3.new.out.items (lead (codes "event")) c.in_ok-push_numbered-4.ensures (c.from-4.ensures ∙ c.event.ensures)) in
-    on_last c.push_numbered-5.result c.push_numbered-5.new.out.items c.push_numbered-4.new.out.items
-    (lead (codes "count") ++ decimal c.from-5.result) (out ++ continued (event_members m)) c.push_numbered-5.ensures
+    IfOk-equal c.push_numbered-5.result c.push_numbered-5.new.out.items
+    (c.push_numbered-4.new.out.items ++ (lead (codes "count") ++ decimal c.from-5.result)) (out ++ continued (event_members m)) c.push_numbered-5.ensures
     (and_put out (version ++ instance ++ sensor ++ event) count four
     (numbered c.push_numbered-4.new.out.items (lead (codes "count")) refl (c.from-5.ensures ∙ c.count.ensures))
     ∙ ap (λ l. out ++ l) (five_put version instance sensor event count))

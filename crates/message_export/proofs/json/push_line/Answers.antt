@@ -1,8 +1,9 @@
 use Rattle.std.proofs.Common.{◌++◌, ◌∷◌, [], ap, refl, ◌∙◌}
 use Rattle.std.specs.Prelude.{codes}
+use Rattle.std.proofs.lemmas.Result.{IfOk-equal}
 use Rattle.text_spec.specs.Words.{line_feed}
 use Rattle.message_export.specs.JsonLines.{byte_members, context_members, continued, event_members, json_line, number, signature_members, stamp_members}
-use Rattle.message_export.proofs.JsonLemmas.{and_put, object_put, on_last}
+use Rattle.message_export.proofs.JsonLemmas.{and_put, object_put}
 use Rattle.message_export.proofs.json.push_line.Goals as goal
 
 pub returns : goal.returns
@@ -25,7 +26,7 @@ returns c =
     ∙ ap (λ x. c.push_stamp.new.out.items ++ continued (context_members x)) c.context.ensures.value) in
     let five = and_put out ((123 ∷ first) ++ continued event ++ continued byte ++ continued stamp ++ continued context) (continued signature) four (c.in_ok-push_signature.ensures
     ∙ ap (λ s. c.push_context.new.out.items ++ continued (signature_members s)) c.signature.ensures.value) in
-    on_last c.append.result c.append.new.out.items c.push_signature.new.out.items (125 ∷ 10 ∷ []) (out ++ (json_line c.args.offset m ++ line_feed ∷ []))
+    IfOk-equal c.append.result c.append.new.out.items (c.push_signature.new.out.items ++ 125 ∷ 10 ∷ []) (out ++ (json_line c.args.offset m ++ line_feed ∷ []))
     c.append.ensures
     (and_put out ((123 ∷ first) ++ continued event ++ continued byte ++ continued stamp ++ continued context ++ continued signature) (125 ∷ 10 ∷ []) five refl
     ∙ ap (λ l. out ++ l) (object_put first event byte stamp context signature))

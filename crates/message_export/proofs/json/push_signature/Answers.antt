@@ -1,14 +1,14 @@
-use Rattle.std.proofs.Common.{◌++◌, Some, ap, sym}
+use Rattle.std.proofs.Common.{◌++◌, Some}
 use Rattle.std.specs.Prelude.{codes}
 use Rattle.std.proofs.lemmas.List.{append-nil}
+use Rattle.std.proofs.lemmas.Result.{IfOk-equal}
 use Rattle.message_export.specs.JsonLines.{continued, hexadecimal, signature_members}
-use Rattle.message_export.proofs.JsonLemmas.{lead, on_last}
+use Rattle.message_export.proofs.JsonLemmas.{lead}
 use Rattle.message_export.proofs.json.push_signature.Goals as goal
 
 pub returns-in-Some : goal.returns-in-Some
 returns-in-Some c =
-    let bytes = c.in-Some.bytes.now in
     let out = c.args.out.now.items in
-    let piece = lead (codes "signature") ++ hexadecimal bytes in
-    rw c.in-Some.is (on_last c.push_digits.result c.push_digits.new.out.items out piece (out ++ continued (signature_members (Some bytes)))
-    c.push_digits.ensures (ap (λ l. out ++ l) (sym (append-nil piece))))
+    let piece = lead (codes "signature") ++ hexadecimal c.in-Some.bytes.now in
+    let whole = out ++ continued (signature_members (Some c.in-Some.bytes.now)) in
+    rw c.in-Some.is (IfOk-equal c.push_digits.result c.push_digits.new.out.items (out ++ piece) whole c.push_digits.ensures (simp append-nil))

@@ -12,7 +12,7 @@ put-requires-clause-hand g c =
     let caller = c.in-Some.caller in
     let number = c.len-number.result in
     let place = c.index.result.now in
-    let last = rest_last shared rounds c.args.round front caller c.loop-caller.callers.items c.loop-caller.invariant.0 c.in-Some.ensures.items in
+    let last = rest_last shared rounds c.args.round front caller (rw c.in-Some.ensures.items at c.loop-caller.invariant.0) in
     let is : length front ≡ number = omega (arith, c.len-number.ensures, c.pop.new.self.ok) in
     let low : number < length c.args.stage.now.places.items =
     omega (arith, is, c.loop-caller.invariant.1, ap length c.in-Some.ensures.items, length_push front caller, c.requires.set.all) in
@@ -24,8 +24,7 @@ put-requires-clause-hand g c =
 pub loop-caller-preserved : goal.loop-caller-preserved
 loop-caller-preserved g c =
     let front = c.pop.new.self.items in
-    let caller = c.in-Some.caller in
-    let all = c.loop-caller.callers.items in (
-      rest_front c.args.stage.now.shared.now c.args.stage.now.trace.now.rounds c.args.round front caller all c.loop-caller.invariant.0 c.in-Some.ensures.items,
+    let caller = c.in-Some.caller in (
+      rest_front c.args.stage.now.shared.now c.args.stage.now.trace.now.rounds c.args.round front caller (rw c.in-Some.ensures.items at c.loop-caller.invariant.0),
       omega (arith, c.loop-caller.invariant.1, ap length c.in-Some.ensures.items, length_push front caller),
     )

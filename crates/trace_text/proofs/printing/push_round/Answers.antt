@@ -1,14 +1,11 @@
-use Rattle.trace_text.proofs.Names.{◌≡◌, ◌<◌, ◌++◌, [], length, refl, rules, arith, ap, ◌∙◌, ended_line, lines_at, callers_told, closes, opens, trace_fields, one_more, caller_text, lines_text, round_at}
+use Rattle.trace_text.proofs.Names.{◌≡◌, ◌++◌, length, rules, arith, ap, ◌∙◌, ended_line, closes, opens, trace_fields, round_at}
+use Rattle.std.proofs.lemmas.Grind.{common_steps}
 use Rattle.std.proofs.lemmas.Result.{on_ok_weaker}
 use Rattle.trace_text.proofs.PrintingLemmas.{callers_text-push, round_printed}
 use Rattle.trace_text.proofs.printing.push_round.Goals as goal
 
 pub loop-caller-preserved : goal.loop-caller-preserved
-loop-caller-preserved c =
-    let round = round_at c.args.trace.now.rounds c.args.round in
-    let within : c.loop-caller.caller < length round.lines = omega (arith, c.loop-caller-test.true, c.callers-caller-end.ensures.callers, c.requires.callers) in
-    one_more (λ ls. lines_text (callers_told 0 ls)) caller_text callers_text-push c.push_opening.new.out.items c.loop-caller.out.items c.push_caller.new.out.items round.lines c.loop-caller.caller
-    (lines_at c.loop-caller.caller round) [] within refl c.loop-caller.invariant c.in_ok-push_caller.ensures
+loop-caller-preserved c = grind (arith, common_steps, callers_text-push)
 
 pub returns : goal.returns
 returns c =

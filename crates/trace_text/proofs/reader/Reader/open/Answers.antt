@@ -1,4 +1,4 @@
-use Rattle.trace_text.proofs.Names.{◌≡◌, ◌∷◌, ◌++◌, [], true, List, ℕ, arith, rules, sym, subst, Ok, AllByRecursion, list_all, KeepUpFrom, last_tick, is_tick, keep_up, last_from, opening_fault, IsSmall, opening_keeps_up, opening_small}
+use Rattle.trace_text.proofs.Names.{◌≡◌, arith, rules, Ok, last_tick, last_from, opening_fault, opening_keeps_up, opening_small}
 use Rattle.trace_text.proofs.reader.Reader.open.Goals as goal
 
 -- the ticks were read and checked
@@ -14,17 +14,10 @@ module _ (c : goal.After-deref-2) where
 
 pub push_round-requires-clause-small : goal.push_round-requires-clause-small
 push_round-requires-clause-small c =
-    let ticks = c.read_ticks.new.ticks.items in
     let fine = none c in
-    let small : list_all is_tick ticks ≡ true = grind (arith, fine) in
-    subst (λ (ts : List ℕ). AllByRecursion IsSmall (ts ++ c.last_from-after.result ∷ [])) (sym (ticks_are c))
-    (subst (λ n. AllByRecursion IsSmall (ticks ++ n ∷ [])) (sym (end_is c)) (opening_small c.args.self.now.trace.rounds ticks c.last_tick.ensures.ticks small))
+    rw (ticks_are c, end_is c) (opening_small c.args.self.now.trace.rounds c.read_ticks.new.ticks.items c.last_tick.ensures.ticks (grind (arith, fine)))
 
 pub push_round-requires-clause-keeps_up : goal.push_round-requires-clause-keeps_up
 push_round-requires-clause-keeps_up c =
-    let ticks = c.read_ticks.new.ticks.items in
-    let last = last_tick c.args.self.now.trace.rounds in
     let fine = none c in
-    let keeps : keep_up last ticks ≡ true = grind (arith, fine) in
-    subst (λ (ts : List ℕ). KeepUpFrom last (ts ++ c.last_from-after.result ∷ [])) (sym (ticks_are c))
-    (subst (λ n. KeepUpFrom last (ticks ++ n ∷ [])) (sym (end_is c)) (opening_keeps_up last ticks keeps))
+    rw (ticks_are c, end_is c) (opening_keeps_up (last_tick c.args.self.now.trace.rounds) c.read_ticks.new.ticks.items (grind (arith, fine)))
