@@ -1,20 +1,21 @@
 -- A claim from class to class.
-use Rattle.buffer_classes.proofs.Names.{◌≡◌, ◌≢◌, ℕ, ◌+◌, ◌-◌, ◌*◌, ◌<◌, ◌≤◌, ◌^◌, List, [], ◌∷◌, ◌++◌, length, set, get_or, refl, sym, ap, ◌∙◌, arith, inl, inr, eq-eqb, ne_eqb, All, sum_by, append-nil, length-map, length_push, at_index, at_length, at_map, there, ring_seats, ring_terms, seat_calls, seat_memo, Buffer, IsBufferOf, AllOf, Asks, AsksClass, ClaimTells, asked, lost_at, RiseFrom, class_sizes, first_fitting, Class, ClassSeat, Lost, Got, Outcome, IsClaimSeatOf, IsClassSeat, claimant_of, claims_of, log_of, memo_in, memo_at, steps_of, Classes, ClaimSeat}
+use Rattle.buffer_classes.proofs.Names.{◌≡◌, ◌≢◌, ℕ, ◌+◌, ◌-◌, ◌*◌, ◌<◌, ◌≤◌, ◌^◌, List, [], ◌∷◌, ◌++◌, length, set, get_or, ◌∙◌, arith, inl, inr, All, append-nil, length_push, at_index, at_length, at_map, there, ring_seats, ring_terms, seat_calls, seat_memo, Buffer, IsBufferOf, AllOf, Asks, AsksClass, ClaimTells, asked, lost_at, RiseFrom, class_sizes, first_fitting, Class, ClassSeat, Lost, Got, Outcome, IsClaimSeatOf, IsClassSeat, claimant_of, claims_of, log_of, memo_at, steps_of, Classes, ClaimSeat, refl}
+use Rattle.std.proofs.lemmas.Bool.Decides.{nat_tests}
 use Rattle.std.proofs.lemmas.List.Elements.{All-push}
 use Rattle.std.proofs.lemmas.List.Sums.{sum_by-set}
-use mathlib.Core.Option.{some, some-injective}
+use mathlib.Core.Option.{some}
 use lib.ListN.{get_elem?}
 use Rattle.buffer_classes.specs.Claims.{AreSmall, HoldsSoMany}
 use Rattle.buffer_classes.specs.declared.seat.Claim.{Claim}
 use Rattle.buffer_classes.specs.declared.seat.Claim.TheVariants as answers
-use Rattle.buffer_classes.proofs.AskLemmas.{asked_past, asks_log, below_or, lost_else, lost_here, lost_past, nothing_past}
+use Rattle.buffer_classes.proofs.AskLemmas.{asked_past, asks_log, below_or, lost_more, lost_past, nothing_past}
 use Rattle.buffer_classes.proofs.ByIndexLemmas.{all_more}
-use Rattle.buffer_classes.proofs.FittingLemmas.{fits_from}
+use Rattle.buffer_classes.proofs.FittingLemmas.{fits_from, many_sizes}
 
 -- a buffer that a claim got holds as much as was asked for
 holds_so : (bytes : ℕ) (sizes : List ℕ) (result : Claim) → RiseFrom 0 sizes → ClaimTells (first_fitting bytes sizes) sizes result
     → HoldsSoMany bytes result
-holds_so bytes sizes (answers.Got buf skipped) rise told = fits_from bytes 0 buf.class buf.size sizes rise (omega (arith, told.0)) told.1
+holds_so bytes sizes (answers.Got buf skipped) rise told = (fits_from bytes 0 buf.class buf.size sizes rise told.1).1 (omega (arith, told.0))
 holds_so bytes sizes (answers.NoneFree looks) rise told = tt
 
 -- the seat of class i made these calls, and is the same where it made none
@@ -43,9 +44,7 @@ module _ {classes : Classes} {me : ClaimSeat} (mine : IsClaimSeatOf classes me) 
   asked_none = record {
     as_many = refl;
     each = λ i old new was is class at.
-        let same : new ≡ old = some-injective new old (sym is ∙ was) in
-        let his = mine.each i class old at was in
-        ((λ _. same), grind (arith, same, his));
+        let same : new ≡ old = cc in ((λ _. same), grind (arith, same, mine.each i class old at was));
   }
 
   -- what a claim leaves
@@ -79,9 +78,7 @@ module _ {classes : Classes} {me : ClaimSeat} (mine : IsClaimSeatOf classes me) 
         all = all.as_many ∙ mine.all;
         each = λ i class s at e.
             let old = there me.seats.items i (omega (arith, at_length now.seats.items i s e, all.as_many)) in
-            let was = mine.each i class old.0 at old.1 in
-            let did = (all.each i old.0 s old.1 e class at).1 in
-            grind (arith, was, did, number, claims);
+            grind (arith, mine.each i class old.0 at old.1, (all.each i old.0 s old.1 e class at).1, number, claims);
       };
       told = told;
       holds = holds_so bytes sizes result mine.are.rise told;
@@ -92,10 +89,9 @@ module _ {classes : Classes} {me : ClaimSeat} (mine : IsClaimSeatOf classes me) 
       logs = λ i. elim (below_or classes.classes.items i) [
         | inl at ↦ asks_log (ring_seats at.0.ring) (memo_at me i) (memo_at now i) (asked first result i) (all_asked i at.0 at.1)
         | inr past ↦
-            let none = asked_past first i sizes result told (omega (arith, past, length-map classes.classes.items (λ (class : Class). class.size))) in
-            let old = nothing_past me.seats.items i (omega (arith, past, mine.all)) in
-            let new = nothing_past now.seats.items i (omega (arith, past, mine.all, all.as_many)) in
-            rw none (ap (λ s. (memo_in s).log) (new ∙ sym old) ∙ sym (append-nil (log_of me i)))
+            let none = asked_past first i sizes result told in
+            let nothing = nothing_past {A = ClassSeat} in
+            grind (arith, none, many_sizes classes, nothing, past, mine.all, all.as_many, append-nil (log_of me i))
       ];
     }
 
@@ -119,46 +115,35 @@ module _ {classes : Classes} {me : ClaimSeat} (mine : IsClaimSeatOf classes me) 
         let his = mine.each place class old.0 class_there old.1 in
         rw same (his.is_seat, his.calls_within)
 
-    module _ (new : ClassSeat) (after : ClaimSeat) (seats : after.seats.items ≡ set now.seats.items place new) where
+    module _ (new : ClassSeat) (after : ClaimSeat) (seats : after.seats.items ≡ set now.seats.items place new) (number : after.number ≡ now.number)
+        (claims : after.claims ≡ now.claims) where
       asks_more : (call : Outcome) (done : ℕ → List Outcome) → AsksClass class seat (call ∷ []) new → done place ≡ call ∷ []
-          → ((i : ℕ) → i ≢ place → done i ≡ lost_at first looks i) → AllOf (AskedSo classes done) me.seats.items after.seats.items
-      asks_more call done did here others = rw seats (all_more place seat new seat_there l.asked
-          (λ old was its at.
-          let same : seat ≡ old = (was class class_there).0 not_yet in
-          let one : class ≡ its = some-injective class its (sym class_there ∙ at) in
-          ((λ none. cc), rw (← one, ← same, here) did))
-          (λ j old now away was its at. rw (others j away) (was its at)))
-
-      more_steps : (call : Outcome) → AsksClass class seat (call ∷ []) new → steps_of after ≤ steps_of me + 3 * length looks + 3
-      more_steps call did =
-          let moves : ClassSeat → ℕ = λ s. length (seat_memo s).moves in
-          let sums = sum_by-set moves now.seats.items place new seat below in
-          omega (arith, sums, ap moves seat_at, ap (sum_by moves) seats, did.few_steps, l.steps)
+          → ((i : ℕ) → i ≢ place → done i ≡ lost_at first looks i)
+          → AllOf (AskedSo classes done) me.seats.items after.seats.items × (steps_of after ≤ steps_of me + 3 * length looks + 3)
+      asks_more call done did here others =
+          let sums = sum_by-set (λ (s : ClassSeat). length (seat_memo s).moves) now.seats.items place new seat below in (
+            rw seats (all_more place seat new seat_there l.asked (λ old was. grind (arith, was, class_there, not_yet, did, here))
+                (λ j old now away was. rw (others j away) was)),
+            grind (arith, sums, seat_at, seats, did.few_steps, l.steps),
+          )
 
       -- it had none free
       pub in_vain : (claimed : ℕ) → AsksClass class seat (Lost claimed ∷ []) new → claimed ≤ 2 ^ 45
-          → after.number ≡ now.number → after.claims ≡ now.claims → AskedTo classes me bytes (place + 1) (looks ++ claimed ∷ []) after
-      in_vain claimed did small number claims = record {
-        many = omega (arith, l.many, length_push looks claimed);
-        small = All-push (λ (claimed : ℕ). claimed ≤ 2 ^ 45) looks claimed l.small small;
-        number_is = number ∙ l.number_is;
-        claims_are = claims ∙ l.claims_are;
-        asked = asks_more (Lost claimed) (lost_at first (looks ++ claimed ∷ [])) did (lost_here first claimed place looks l.many)
-            (λ i apart. lost_else first claimed place i looks l.many apart);
-        steps = omega (arith, more_steps (Lost claimed) did, length_push looks claimed);
-      }
+          → AskedTo classes me bytes (place + 1) (looks ++ claimed ∷ []) after
+      in_vain claimed did small =
+          let more = λ (i : ℕ). lost_more first claimed place i looks l.many in
+          let asked = asks_more (Lost claimed) (lost_at first (looks ++ claimed ∷ [])) did (grind (arith, nat_tests, more place))
+          (λ i apart. grind (arith, nat_tests, more i, apart)) in
+          let all = All-push (λ (claimed : ℕ). claimed ≤ 2 ^ 45) looks claimed l.small small in
+          grind (arith, l, number, claims, asked, all, length_push looks claimed)
 
       -- it gave a buffer
       pub got : (buf : Buffer) → AsksClass class seat (Got buf.claim tt ∷ []) new → IsBufferOf (ring_terms class.ring) buf → buf.claim ≤ 2 ^ 45
-          → after.number ≡ now.number → after.claims ≡ now.claims → Leaves (answers.Got buf looks) after
-      got buf did its small number claims =
-          let terms = mine.are.terms place class class_there in
+          → Leaves (answers.Got buf looks) after
+      got buf did its small =
           let size = at_map (λ (class : Class). class.size) classes.classes.items place class class_there in
-          let told : ClaimTells first sizes (answers.Got buf looks) = grind (arith, terms, size, its, l.many) in
-          let is : buf.class ≡ place = sym told.0 ∙ l.many in
-          let low = length-map classes.classes.items (λ (class : Class). class.size) in
-          leaves (answers.Got buf looks) after (number ∙ l.number_is) (claims ∙ l.claims_are)
-          (asks_more (Got buf.claim tt) (asked first (answers.Got buf looks)) did
-          (rw (eq-eqb place buf.class (sym is)) refl) (λ i apart. rw (ne_eqb i buf.class (λ e. apart (e ∙ is))) refl))
-          told (small, l.small)
-          (omega (arith, more_steps (Got buf.claim tt) did, l.many, below, l.asked.as_many, mine.all, low))
+          let told : ClaimTells first sizes (answers.Got buf looks) = grind (arith, mine.are.terms place class class_there, size, its, l.many) in
+          let done = asks_more (Got buf.claim tt) (asked first (answers.Got buf looks)) did (grind (arith, nat_tests, told.0, l.many))
+          (grind (arith, nat_tests, told.0, l.many)) in
+          leaves (answers.Got buf looks) after (number ∙ l.number_is) (claims ∙ l.claims_are) done.0 told (small, l.small)
+          (omega (arith, done.1, l.many, below, l.asked.as_many, mine.all, many_sizes classes))

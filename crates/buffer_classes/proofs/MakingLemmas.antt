@@ -1,5 +1,7 @@
 -- Classes that are made one after another.
-use Rattle.buffer_classes.proofs.Names.{◌≡◌, ℕ, zero, suc, ◌+◌, ◌<◌, ◌⊎◌, List, [], ◌∷◌, ◌++◌, length, take, refl, sym, ◌∙◌, ap, arith, length-map, length_push, map_push, at_end, at_length, there, ClassSpec, IsNewSeat, seat_memo, new_memo, IsBufferOf, AllOf, AreClasses, RiseFrom, class_sizes, AreGiversOf, givers_of, AreNewClasses, GetsOne, GetsSeat, IsNewClaimant, IsNewClass, spec_sizes, Class, ClassSeat, IsHisSeat, memo_in, Classes, Giver, Givers, ClaimSeat}
+use Rattle.buffer_classes.proofs.Names.{◌≡◌, ℕ, zero, suc, ◌<◌, List, [], ◌∷◌, ◌++◌, length, take, refl, sym, ◌∙◌, ap, arith, length-map, length_push, map_push, at_end, at_length, there, ClassSpec, IsNewSeat, seat_memo, new_memo, IsBufferOf, AllOf, AreClasses, RiseFrom, class_sizes, givers_of, AreNewClasses, GetsOne, GetsSeat, IsNewClaimant, IsNewClass, spec_sizes, Class, ClassSeat, IsHisSeat, memo_in, Classes, Giver, Givers, ClaimSeat, IsGiverOf}
+use Rattle.buffer_classes.specs.{IsNewGiver}
+use Rattle.buffer_classes.proofs.FittingLemmas.{many_sizes}
 use mathlib.Core.Option as maybe
 use mathlib.Core.Option.{some, none}
 use lib.ListN.{get_elem?}
@@ -11,12 +13,12 @@ rise_taken above zero specs rise = tt
 rise_taken above (suc n) [] rise = tt
 rise_taken above (suc n) (spec ∷ specs) rise = (rise.0, rise_taken spec.size n specs rise.1)
 
--- two lists with one more each have the same place's elements from before, or their last
-both_end : {A B : Type 0} (xs : List A) (ys : List B) (x a : A) (y b : B) (i : ℕ) → length xs ≡ length ys
-    → get_elem? (xs ++ x ∷ []) i ≡ some a → get_elem? (ys ++ y ∷ []) i ≡ some b
-    → ((get_elem? xs i ≡ some a) × (get_elem? ys i ≡ some b)) ⊎ ((i ≡ length xs) × (x ≡ a) × (y ≡ b))
-both_end xs ys x a y b i many at bt =
-    grind (arith, at_end xs x a i at, at_end ys y b i bt, at_length xs i a, at_length ys i b, many)
+-- what holds of the elements of two lists place by place holds with one more each
+both_more : {A B : Type 0} (R : ℕ → A → B → Type 0) (xs : List A) (ys : List B) (x : A) (y : B) → length xs ≡ length ys
+    → ((i : ℕ) (a : A) (b : B) → get_elem? xs i ≡ some a → get_elem? ys i ≡ some b → R i a b) → R (length xs) x y
+    → (i : ℕ) (a : A) (b : B) → get_elem? (xs ++ x ∷ []) i ≡ some a → get_elem? (ys ++ y ∷ []) i ≡ some b → R i a b
+both_more R xs ys x y many each last i a b at bt =
+    grind (arith, at_end xs x a i at, at_end ys y b i bt, at_length xs i a, at_length ys i b, many, each i a b, last)
 
 -- who made no call at any class has no log there
 no_log : (i : ℕ) (o : maybe.Option ClassSeat) → ((s : ClassSeat) → o ≡ some s → seat_memo s ≡ new_memo i) → (memo_in o).log ≡ []
@@ -36,9 +38,7 @@ got_of seats {olds} {news} gets many i now at =
 -- there are as many classes as were made
 pub as_many : {done : List ClassSpec} {limit : ℕ} {classes : Classes} {givers : Givers} {seats : List ClaimSeat}
     → AreNewClasses done limit classes givers seats → length classes.classes.items ≡ length done
-as_many {done} {classes = classes} was =
-    let sizes = length-map classes.classes.items (λ (class : Class). class.size) in
-    omega (arith, ap length was.sizes_are, sizes, length-map done (λ (spec : ClassSpec). spec.size))
+as_many {done} {classes = classes} was = sym (many_sizes classes) ∙ ap length was.sizes_are ∙ length-map done (λ (spec : ClassSpec). spec.size)
 
 module _ {done : List ClassSpec} {limit : ℕ} {classes : Classes} {givers : Givers} {olds : List ClaimSeat}
     (was : AreNewClasses done limit classes givers olds)
@@ -47,46 +47,28 @@ module _ {done : List ClassSpec} {limit : ℕ} {classes : Classes} {givers : Giv
     (classes' : Classes) (givers' : Givers) (news : List ClaimSeat)
     (classes_are : classes'.classes.items ≡ classes.classes.items ++ class ∷ []) (givers_are : givers_of givers' ≡ givers_of givers ++ giver ∷ [])
     (gets : AllOf (GetsSeat seats) olds news) where
-  one_more : length classes'.classes.items ≡ length classes.classes.items + 1
-  one_more = ap length classes_are ∙ length_push classes.classes.items class
-
   sizes_more : class_sizes classes' ≡ spec_sizes (done ++ spec ∷ [])
   sizes_more = simp (classes_are, map_push, was.sizes_are, new.size_is)
 
   classes_more : AreClasses classes'
-  classes_more = record {
-    few = omega (arith, one_more, as_many was, few);
-    rise = rw sizes_more rise;
-    terms = λ i other is.
-        let c = at_end classes.classes.items class other i (rw (← classes_are) is) in
-        grind (arith, c, as_many was, last, new.terms_are, was.givers_are.are.terms i other);
-  }
-
-  givers_more : AreGiversOf classes' givers'
-  givers_more = record {
-    are = classes_more;
-    all = omega (arith, one_more, ap length givers_are, length_push (givers_of givers) giver, was.givers_are.all);
-    each = λ i other g at gt.
-        let both = both_end classes.classes.items (givers_of givers) class other giver g i (sym was.givers_are.all)
-        (rw (← classes_are) at) (rw (← givers_are) gt) in
-        grind (arith, both, was.givers_are.each i other g, new.is_giver);
-  }
+  classes_more =
+      let sizes : RiseFrom 0 (class_sizes classes') = rw sizes_more rise in
+      let end = at_end classes.classes.items class in
+      grind (arith, length_push classes.classes.items class, as_many was, few, sizes, end, classes_are, last, new.terms_are, was.givers_are.are.terms)
 
   claimant_more : (i : ℕ) (old now : ClaimSeat) (s : ClassSeat) → IsNewClaimant classes i old → IsNewSeat IsBufferOf class.ring i s
       → GetsOne s old now → IsNewClaimant classes' i now
   claimant_more i old now s is seat got =
-      let order = new_ordered {N = Unit {0}} i in
-      let his : IsHisSeat i 0 class s = grind (arith, seat, order) in
-      let knows : (k : ℕ) (t : ClassSeat) → get_elem? now.seats.items k ≡ some t → seat_memo t ≡ new_memo i = λ k t there.
-      let c = at_end old.seats.items s t k (rw (← got.0) there) in grind (arith, c, is.knows k t, seat.knows) in
+      let his : IsHisSeat i 0 class s = grind (arith, seat, new_ordered {N = Unit {0}} i) in
+      let end = at_end old.seats.items s in
+      let knows : (k : ℕ) (t : ClassSeat) → get_elem? now.seats.items k ≡ some t → seat_memo t ≡ new_memo i =
+      grind (arith, end, got.0, is.knows, seat.knows) in
       record {
         is_claimant = record {
           are = classes_more;
-          all = omega (arith, one_more, ap length got.0, length_push old.seats.items s, is.is_claimant.all);
-          each = λ k other t at st.
-              let both = both_end classes.classes.items old.seats.items class other s t k (sym is.is_claimant.all)
-              (rw (← classes_are) at) (rw (← got.0) st) in
-              grind (arith, both, is.is_claimant.each k other t, his, got, is.number_is, is.no_claims);
+          all = grind (arith, classes_are, got.0, length_push {X = Class}, length_push {X = ClassSeat}, is.is_claimant.all);
+          each = rw (classes_are, got.0, got.2, got.3) (both_more (λ k. IsHisSeat old.number old.claims) classes.classes.items old.seats.items class s
+              (sym is.is_claimant.all) is.is_claimant.each (rw (is.number_is, is.no_claims) his));
         };
         number_is = got.2 ∙ is.number_is;
         no_claims = got.3 ∙ is.no_claims;
@@ -98,11 +80,14 @@ module _ {done : List ClassSpec} {limit : ℕ} {classes : Classes} {givers : Giv
   pub class_made : AreNewClasses (done ++ spec ∷ []) limit classes' givers' news
   class_made = record {
     sizes_are = sizes_more;
-    givers_are = givers_more;
-    each_giver = λ i other g at gt.
-        let both = both_end done (givers_of givers) spec other giver g i (omega (arith, as_many was, was.givers_are.all)) at
-        (rw (← givers_are) gt) in
-        grind (arith, both, was.each_giver i other g, new.is_new);
+    givers_are = record {
+      are = classes_more;
+      all = grind (arith, classes_are, givers_are, length_push {X = Class}, length_push {X = Giver}, was.givers_are.all);
+      each = rw (classes_are, givers_are) (both_more (λ i (class : Class). IsGiverOf class.ring) classes.classes.items (givers_of givers) class giver
+          (sym was.givers_are.all) was.givers_are.each new.is_giver);
+    };
+    each_giver = rw givers_are (both_more (λ i (spec : ClassSpec). IsNewGiver spec.number limit) done (givers_of givers) spec giver
+        (omega (arith, as_many was, was.givers_are.all)) was.each_giver new.is_new);
     all_made = gets.as_many ∙ was.all_made;
     each = λ i now at.
         let got = got_of seats gets (new.seats_are.all_made ∙ sym was.all_made) i now at in

@@ -1,15 +1,20 @@
 -- The filters of one event, said over whole lists.
-use Rattle.chain_spec.proofs.Names.{◌≡◌, ℕ, ◌+◌, ◌%◌, ◌==◌, ◌&&◌, not, Bool, true, false, List, [], ◌∷◌, ◌++◌, length, map, filter, Option, Some, None, option_to_list, option_and_then, option_map, IfSome, ◌↔◌, ◌⊎◌, inl, inr, if◌then◌else◌, refl, sym, ap, subst, ◌∙◌, eqb-true, option_or, Mode, Off, Brief, Detailed, BriefBypassing, DetailedBypassing, Parts, event_at, Setting, every, reaching, Call, gated_at, aggregated_at, thresholded_at, filtered_at, qualified_at, counted, gated, thresholded, arrival, is_filtered, is_bypassing, is_blocked, is_nth, mode_at, item_in, arrival_at, arrivals, sampled_at, sampled, bypassing_at, Item, is_of, Moment, closes, comes, state_is, mode_is, added, behind, where_true, Occurrence, verdict}
+use Rattle.chain_spec.proofs.Names.{◌≡◌, ℕ, ◌+◌, ◌%◌, ◌==◌, Bool, cases_Bool, eq-eqb, true, false, List, [], ◌∷◌, ◌++◌, length, map, filter, Option, Some, None, option_to_list, option_and_then, IfSome, ◌↔◌, ◌⊎◌, inl, inr, if◌then◌else◌, refl, ap, ◌∙◌, eqb-true, Mode, Brief, Detailed, Parts, event_at, Setting, every, reaching, gated_at, aggregated_at, thresholded_at, filtered_at, qualified_at, counted, thresholded, is_filtered, is_bypassing, is_nth, mode_at, arrival_at, arrivals, sampled, bypassing_at, Item, is_of, Moment, comes, added, behind, where_true, Occurrence, verdict, Stage, sampled_at, item_in}
+use Rattle.std.proofs.Math.Path.{fun_ext}
 use Rattle.chain_spec.specs.Counting.{among}
-use Rattle.chain_spec.proofs.StageLemmas.{added_behind, added_same}
+use Rattle.chain_spec.proofs.StageLemmas.{cases_Option, added_behind}
 
 -- ---- forward every nth
 
+-- nothing, whatever the rank
+pub none_either : {A : Type 0} (b : Bool) → ◌≡◌ {A = Option A} (if b then None else None) None
+none_either true = refl
+none_either false = refl
+
 -- what there is, where a test holds
 where_there : {A : Type 0} (b : Bool) (o : Option A) → (if b then o else None) ≡ option_and_then (λ x. where_true b x) o
-where_there true None = refl
+where_there b None = none_either b
 where_there true (Some x) = refl
-where_there false None = refl
 where_there false (Some x) = refl
 
 pub sampled_every : (config : Parts) (event : ℕ) (moments : List Moment)
@@ -17,8 +22,9 @@ pub sampled_every : (config : Parts) (event : ℕ) (moments : List Moment)
 sampled_every config event moments =
     let n = (event_at config event).nth in
     let nth = λ (before : List Item) (item : Item). where_true ((length before + 1) % n == 0) item in
-    added_same (sampled_at config event) (behind (arrival_at config event) nth)
-    (λ before moment. where_there (is_nth config event before) (arrival_at config event before moment)) moments
+    ap (λ (stage : Stage Moment Item). added stage moments)
+    (fun_ext (λ (before : List Moment). fun_ext (λ (moment : Moment).
+    where_there (is_nth config event before) (arrival_at config event before moment))))
     ∙ added_behind (arrival_at config event) nth moments
 
 -- ---- all filters
@@ -30,66 +36,40 @@ filtered_thresholded config moments =
 
 -- a mode that bypasses the filters does not go through them
 pub not_filtered : (mode : Mode) → is_bypassing mode ≡ true → is_filtered mode ≡ false
-not_filtered Off is = refl
 not_filtered Brief is = cc
 not_filtered Detailed is = cc
-not_filtered BriefBypassing is = refl
-not_filtered DetailedBypassing is = refl
-
--- an item of a mode that is not filtered does not arrive
-none_arrives : (of filtered unblocked nth : Bool) (item : Item) → filtered ≡ false
-    → option_map arrival (if nth then where_true (of && (filtered && unblocked)) item else None) ≡ None
-none_arrives true filtered unblocked true item is = rw is refl
-none_arrives true filtered unblocked false item is = refl
-none_arrives false filtered unblocked true item is = refl
-none_arrives false filtered unblocked false item is = refl
+not_filtered _ is = refl
 
 -- what bypasses the filters does not go through them
 pub bypassing_alone : (config : Parts) (before : List Moment) (moment : Moment) (item : Item)
     → bypassing_at config before moment ≡ Some item → filtered_at config before moment ≡ None
-bypassing_alone config before (closes tick event) item is = cc
 bypassing_alone config before (comes own) item is =
-    let mode = mode_at config own.event before in
-    let calls = gated config before in
-    let behind_gate = λ (call : Option (Call (List ℕ))). option_and_then
-    (thresholded_at config (added (behind (gated_at config) (aggregated_at config)) before))
-    (option_and_then (aggregated_at config calls) call) in
-    elim (is_bypassing mode) as (λ (b : Bool). is_bypassing mode ≡ b → where_true b (item_in mode own) ≡ Some item
-    → filtered_at config before (comes own) ≡ None) [
-      | true ↦ λ bypasses is. ap behind_gate
-          (none_arrives (is_of own.event own) (is_filtered mode) (not (is_blocked config own.event before))
-          (is_nth config own.event before) (item_in mode own) (not_filtered mode bypasses))
-      | false ↦ λ bypasses is. cc
-    ] refl is
-bypassing_alone config before (state_is state) item is = cc
-bypassing_alone config before (mode_is event mode) item is = cc
-
--- the first that is there, where the two are not there together, is either
-either_there : {A : Type 0} (o p : Option A) (x : A) → ((y : A) → o ≡ Some y → p ≡ None) → (option_or o p ≡ Some x) ↔
-    ((o ≡ Some x) ⊎ (p ≡ Some x))
-either_there None p x alone = (inr, λ either. elim either [ inl none ↦ cc | inr is ↦ is ])
-either_there (Some y) p x alone = (inl, λ either. elim either [ inl is ↦ is | inr is ↦ cc (alone y refl) ])
+    elim (cases_Bool (is_bypassing (mode_at config own.event before))) [
+      | inl bypasses ↦ rw (eq-eqb own.event own.event refl, not_filtered _ bypasses, none_either (is_nth config own.event before)) refl
+      | inr filters ↦ let none = rw filters at is in cc
+    ]
+bypassing_alone config before _ item is = cc
 
 -- a moment qualifies what bypasses the filters, and what passes them
 pub qualified_either : (config : Parts) (before : List Moment) (moment : Moment) (item : Item)
     → (qualified_at config before moment ≡ Some item) ↔
     ((bypassing_at config before moment ≡ Some item) ⊎ (filtered_at config before moment ≡ Some item))
 qualified_either config before moment item =
-    either_there (bypassing_at config before moment) (filtered_at config before moment) item (bypassing_alone config before moment)
+    elim (cases_Option (bypassing_at config before moment)) [
+      | inl none ↦ rw none (inr, λ either. elim either [ inl none_is ↦ cc | inr is ↦ is ])
+      | inr some ↦ let alone = bypassing_alone config before moment some.0 some.1 in
+          rw some.1 (inl, λ either. elim either [ inl is ↦ is | inr is ↦ cc ])
+    ]
 
 -- ---- one event's items
 
--- an item of the event is kept among the event's
-pub keeps_own : (event : ℕ) (o : Option Item) (items : List Item) → IfSome o (λ item. is_of event item ≡ true)
-    → filter (is_of event) (option_to_list o ++ items) ≡ option_to_list o ++ filter (is_of event) items
-keeps_own event None items own = refl
-keeps_own event (Some item) items own = rw own refl
-
--- and another event's is not
-pub drops_other : (event : ℕ) (o : Option Item) (items : List Item) → IfSome o (λ item. is_of event item ≡ false)
-    → filter (is_of event) (option_to_list o ++ items) ≡ filter (is_of event) items
-drops_other event None items other = refl
-drops_other event (Some item) items other = rw other refl
+-- an item of the event is kept among the event's, and another event's is not
+pub keeps_own : (event : ℕ) (own : Bool) (o : Option Item) (items : List Item) → IfSome o (λ item. is_of event item ≡ own)
+    → filter (is_of event) (option_to_list o ++ items) ≡ (if own then option_to_list o else []) ++ filter (is_of event) items
+keeps_own event true None items is = refl
+keeps_own event false None items is = refl
+keeps_own event true (Some item) items is = rw is refl
+keeps_own event false (Some item) items is = rw is refl
 
 -- ---- threshold
 
@@ -98,42 +78,37 @@ among_own : (event : ℕ) (items : List Item) → among event (map counted (filt
 among_own event [] = refl
 among_own event (item ∷ items) =
     let rest = among_own event items in
-    elim (item.event == event) as (λ (b : Bool). item.event == event ≡ b
-    → among event (map counted (if b then item ∷ filter (is_of event) items else filter (is_of event) items)) ≡
-    (if b then counted item ∷ among event (map counted items) else among event (map counted items)))
-    [ true ↦ λ is. rw is (ap (λ (xs : List Occurrence). counted item ∷ xs) rest) | false ↦ λ is. rest ] refl
+    elim (cases_Bool (item.event == event)) [
+      | inl is ↦ rw (is, is) (ap (λ (xs : List Occurrence). counted item ∷ xs) rest)
+      | inr is ↦ rw is rest
+    ]
 
 -- a verdict depends on the event's own alone
-verdict_by_own : (threshold : Option Setting) (item : Occurrence) (xs ys : List Occurrence)
-    → among item.event xs ≡ among item.event ys → verdict threshold item xs ≡ verdict threshold item ys
-verdict_by_own None item xs ys same = refl
-verdict_by_own (Some setting) item xs ys same = rw same refl
+verdict_by_own : (threshold : Option Setting) (item : Item) (items : List Item)
+    → verdict threshold (counted item) (map counted items) ≡ verdict threshold (counted item) (map counted (filter (is_of item.event) items))
+verdict_by_own None item items = refl
+verdict_by_own (Some setting) item items = rw (among_own item.event items) refl
 
--- whatever the verdict, the item is the event's own
-pub own_where : (event : ℕ) (b c : Bool) (item : Item) → is_of event item ≡ c → IfSome (where_true b item) (λ one. is_of event one ≡ c)
-own_where event true c item is = is
-own_where event false c item is = tt
+-- what holds of an item holds of what a test leaves of it
+pub there_where : (Holds : Item → Type 0) (b : Bool) (item : Item) → Holds item → IfSome (where_true b item) Holds
+there_where Holds true item is = is
+there_where Holds false item is = tt
+
+-- and of what is sampled of it
+pub there_sampled : (config : Parts) (item : Item) (before : List Moment) (Holds : Item → Type 0)
+    → Holds (item_in (mode_at config item.event before) item) → IfSome (sampled_at config item.event before (comes item)) Holds
+there_sampled config item before Holds is =
+    elim (cases_Bool (is_nth config item.event before)) [ inl nth ↦ rw nth (there_where Holds _ _ is) | inr other ↦ rw other tt ]
 
 pub thresholded_reaching : (config : Parts) (event : ℕ) (items : List Item)
     → filter (is_of event) (added (thresholded_at config) items) ≡ reaching (event_at config event).threshold (filter (is_of event) items)
 thresholded_reaching config event [] = refl
 thresholded_reaching config event (item ∷ before) =
     let rest = thresholded_reaching config event before in
-    let own = filter (is_of event) before in
     let passes = verdict (event_at config item.event).threshold (counted item) (map counted before) in
-    elim (item.event == event) as (λ (b : Bool). item.event == event ≡ b
-    → filter (is_of event) (option_to_list (where_true passes item) ++ added (thresholded_at config) before)
-    ≡ reaching (event_at config event).threshold (if b then item ∷ own else own)) [
-      | true ↦ λ is.
-          let event_is : item.event ≡ event = eqb-true item.event event is in
-          let same : verdict (event_at config item.event).threshold (counted item) (map counted before) ≡ verdict
-          (event_at config event).threshold (counted item) (map counted own) =
-          verdict_by_own (event_at config item.event).threshold (counted item) (map counted before) (map counted own)
-          (subst (λ e. among e (map counted before) ≡ among e (map counted own)) (sym event_is) (sym (among_own event before)))
-          ∙ ap (λ e. verdict (event_at config e).threshold (counted item) (map counted own)) event_is in
-          keeps_own event (where_true passes item) (added (thresholded_at config) before) (own_where event passes true item is)
-          ∙ ap (λ (items : List Item). option_to_list (where_true passes item) ++ items) rest
-          ∙ ap (λ (b : Bool). option_to_list (where_true b item) ++ reaching (event_at config event).threshold own) same
-      | false ↦ λ is. drops_other event (where_true passes item) (added (thresholded_at config) before)
-          (own_where event passes false item is) ∙ rest
-    ] refl
+    let kept = keeps_own event (item.event == event) (where_true passes item) (added (thresholded_at config) before)
+    (there_where _ passes item refl) in
+    elim (cases_Bool (item.event == event)) [
+      | inl is ↦ rw (kept, is, rest, verdict_by_own (event_at config item.event).threshold item before, eqb-true item.event event is) refl
+      | inr is ↦ rw (kept, is, rest) refl
+    ]

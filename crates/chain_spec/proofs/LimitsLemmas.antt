@@ -1,5 +1,5 @@
 -- What is sent, in the words of the limits.
-use Rattle.chain_spec.proofs.Names.{◌≡◌, ◌+◌, ◌<◌, ◌≤◌, ◌&&◌, ◌↔◌, IsTrue, Bool, true, false, List, [], ◌∷◌, ◌++◌, length, map, sum_by, Some, option_to_list, refl, ap, ◌∙◌, arith, le-leb, leb-true, Parts, Limit, sent_at, is_out, Item, weighed, added, where_true, sum_by-cons, passes_rate, passes_traffic, sent_of}
+use Rattle.chain_spec.proofs.Names.{◌≡◌, ◌+◌, ◌<◌, ◌≤◌, ◌&&◌, ◌↔◌, IsTrue, Bool, true, false, List, [], ◌∷◌, length, map, sum_by, Some, refl, ◌∙◌, arith, le-leb, leb-true, Parts, Limit, sent_at, is_out, Item, weighed, added, sum_by-cons, passes_rate, passes_traffic, sent_of, cases_Bool, inl, inr}
 use Rattle.chain_spec.specs.Limits.{Candidate, window_at, those_in}
 
 -- a sum of ones is how many there are
@@ -23,8 +23,7 @@ bytes_fit limit before candidate = (λ passes. leb-true _ _ passes, λ fit. le-l
 
 -- both tests hold
 pub both_hold : (a b : Bool) → IsTrue (a && b) ↔ (IsTrue a × IsTrue b)
-both_hold true true = (λ both. (refl, refl), λ both. refl)
-both_hold true false = (λ both. absurd (cc both), λ both. both.1)
+both_hold true b = (λ is. (refl, is), λ both. both.1)
 both_hold false b = (λ both. absurd (cc both), λ both. both.0)
 
 -- the items that are sent are the candidates that the limits let out
@@ -33,10 +32,7 @@ pub weighed_sent : (config : Parts) (items : List Item)
 weighed_sent config [] = refl
 weighed_sent config (item ∷ before) =
     let rest = weighed_sent config before in
-    elim (is_out config before item) as
-    (λ (b : Bool). map (weighed config) (option_to_list (where_true b item) ++ added (sent_at config) before)
-    ≡ option_to_list (where_true b (weighed config item)) ++ sent_of config.rate config.traffic (map (weighed config) before))
-    [ true ↦ ap (λ (xs : List Candidate). weighed config item ∷ xs) rest | false ↦ rest ]
+    elim (cases_Bool (is_out config before item)) [ inl is ↦ rw (is, rest) refl | inr is ↦ rw is rest ]
 
 -- what is sent in the words of the limits
 pub ruleset limit_laws = (fewer_before, bytes_fit, both_hold, weighed_sent)

@@ -1,23 +1,21 @@
 -- Lists by stages: their composition, and how they grow.
-use Rattle.chain_spec.proofs.Names.{◌≡◌, ℕ, suc, ◌<◌, List, [], ◌∷◌, ◌++◌, length, map, filter, Option, Some, None, Bool, option_to_list, option_and_then, option_map, refl, sym, ap, ◌∙◌, append_assoc, arith, AllByRecursion, map-append, filter-append, All-from_recursion, AllPairs-cons, EndsWith, Stage, added, behind, with_all}
+use Rattle.chain_spec.proofs.Names.{◌≡◌, suc, ◌<◌, List, [], ◌∷◌, ◌++◌, length, map, filter, Option, Some, None, Bool, option_to_list, refl, sym, ap, ◌∙◌, append_assoc, arith, map-append, filter-append, AllPairs-cons, EndsWith, Stage, added, behind, with_all, ◌⊎◌, inl, inr}
+use Rattle.std.specs.List.{All}
+use Rattle.std.proofs.lemmas.List.Elements.{All-cons}
 use Rattle.chain_spec.specs.Places.{placed, HaveOwnPlaces}
+
+-- there is nothing, or something
+pub cases_Option : {A : Type 0} (o : Option A) → (o ≡ None) ⊎ ((x : A) × (o ≡ Some x))
+cases_Option None = inl refl
+cases_Option (Some x) = inr (x, refl)
 
 -- two stages one after the other add what the second adds to the list of the first
 pub added_behind : {A B C : Type 0} (first : Stage A B) (second : Stage B C) (xs : List A)
     → added (behind first second) xs ≡ added second (added first xs)
 added_behind first second [] = refl
-added_behind {A} {B} {C} first second (x ∷ before) =
+added_behind first second (x ∷ before) =
     let rest = added_behind first second before in
-    elim (first before x) as (λ (y : Option B). option_to_list (option_and_then (second (added first before)) y) ++ added
-    (behind first second) before
-    ≡ added second (option_to_list y ++ added first before))
-    [ None ↦ rest | Some y ↦ ap (λ (zs : List C). option_to_list (second (added first before) y) ++ zs) rest ]
-
--- stages that agree at each element add the same
-pub added_same : {A B : Type 0} (first second : Stage A B) → ((before : List A) (x : A) → first before x ≡ second before x)
-    → (xs : List A) → added first xs ≡ added second xs
-added_same first second same [] = refl
-added_same first second same (x ∷ before) = rw (same before x, added_same first second same before) refl
+    elim (cases_Option (first before x)) [ inl none ↦ rw none rest | inr some ↦ rw (some.1, rest) refl ]
 
 -- elements that came one after another, in two parts
 pub with_all-append : {A : Type 0} (before xs ys : List A) → with_all before (xs ++ ys) ≡ with_all (with_all before xs) ys
@@ -64,35 +62,21 @@ map_grows f longer shorter ends =
 -- what is placed is what was added
 pub placed_added : {A B : Type 0} (stage : Stage A B) (xs : List A) → map (λ p. p.1) (placed stage xs) ≡ added stage xs
 placed_added stage [] = refl
-placed_added {A} {B} stage (x ∷ before) =
+placed_added stage (x ∷ before) =
     let rest = placed_added stage before in
-    elim (stage before x) as (λ (y : Option B). map (λ p. p.1)
-    (option_to_list (option_map (λ z. (length before, z)) y) ++ placed stage before)
-    ≡ option_to_list y ++ added stage before)
-    [ None ↦ rest | Some y ↦ ap (λ (zs : List B). y ∷ zs) rest ]
-
--- each place is below a number
-abbrev AreBelow : {B : Type 0} → ℕ → List (ℕ × B) → Type 0
-AreBelow n placed = AllByRecursion (λ p. p.0 < n) placed
-
--- it is below a greater one
-below_greater : {B : Type 0} (n : ℕ) (ps : List (ℕ × B)) → AreBelow n ps → AreBelow (suc n) ps
-below_greater n [] below = tt
-below_greater n (p ∷ ps) below = (omega (arith, below.0), below_greater n ps below.1)
+    elim (cases_Option (stage before x)) [ inl none ↦ rw none rest | inr some ↦ rw (some.1, rest) refl ]
 
 -- the places lie below the number of elements, and each newer one is the greater
-places_fall : {A B : Type 0} (stage : Stage A B) (xs : List A) → AreBelow (length xs) (placed stage xs) × HaveOwnPlaces (placed stage xs)
-places_fall stage [] = (tt, λ i j d less within. absurd (omega arith))
-places_fall {A} {B} stage (x ∷ before) =
+places_fall : {A B : Type 0} (stage : Stage A B) (xs : List A) → All (λ p. p.0 < length xs) (placed stage xs) × HaveOwnPlaces (placed stage xs)
+places_fall stage [] = (λ k d less. absurd (omega arith), λ i j d less within. absurd (omega arith))
+places_fall stage (x ∷ before) =
     let rest = places_fall stage before in
-    let below = below_greater (length before) (placed stage before) rest.0 in
-    elim (stage before x) as (λ (y : Option B). let ps = option_to_list (option_map (λ z. (length before, z)) y) ++ placed stage before in
-    AreBelow (suc (length before)) ps × HaveOwnPlaces ps) [
-      | None ↦ (below, rest.1)
-      | Some y ↦ (
-        (omega arith, below),
-        AllPairs-cons (λ newer older. older.0 < newer.0) (length before, y) (placed stage before)
-            (All-from_recursion (λ older. older.0 < length before) (placed stage before) rest.0) rest.1,
+    elim (cases_Option (stage before x)) [
+      | inl none ↦ rw none (λ k d less. omega (arith, rest.0 k d less), rest.1)
+      | inr some ↦ rw some.1 (
+        All-cons (λ p. p.0 < suc (length before)) (length before, some.0) (placed stage before) (omega arith)
+            (λ k d less. omega (arith, rest.0 k d less)),
+        AllPairs-cons (λ newer older. older.0 < newer.0) (length before, some.0) (placed stage before) rest.0 rest.1,
       )
     ]
 

@@ -1,5 +1,5 @@
 -- One call of aggregation, and one moment, over what each filter tells of it.
-use Rattle.event_chain.proofs.Names.{◌≡◌, ℕ, ◌≤◌, Bool, true, false, List, [], ◌∷◌, ◌++◌, length, Option, Some, None, IfSome, is_some, option_to_list, option_and_then, option_map, refl, arith, All, common_steps, recursion_from_All, All-permutation, act_by, Output, Qualified, EventIndex, Parts, Call, call_tick, gated_at, aggregated_at, thresholded_at, gated, aggregated, qualified, Item, item_at, told_by, kept_parcel, Moment, act_moment, comes, IsShort, Accounts, item_due, slots_by, Slot, with_context, GateStands, Start, added_behind, Filters, Knowing, IsBehind, kept_told, CountingStands, Flows, joined_with, items_with}
+use Rattle.event_chain.proofs.Names.{◌≡◌, ℕ, Bool, true, false, List, ◌∷◌, ◌++◌, Option, Some, None, IfSome, is_some, option_to_list, option_and_then, option_map, refl, arith, common_steps, act_by, Output, Qualified, EventIndex, Parts, Call, call_tick, gated_at, aggregated_at, thresholded_at, gated, aggregated, qualified, Item, item_at, told_by, kept_parcel, Moment, act_moment, comes, item_due, slots_by, Slot, with_context, GateStands, Start, added_behind, Filters, Knowing, IsBehind, kept_told, CountingStands, Flows, joined_with, items_with, ap, closes, closes_due, ending_at, given, stands_with_closing}
 use Rattle.ids_types.specs.declared.entry.Act.TheVariants.{Report}
 use Rattle.ids_types.specs.declared.entry.Carried.{Carried}
 use Rattle.ids_types.specs.declared.entry.Carried.TheVariants.{Absent, Kept, Missing}
@@ -15,25 +15,18 @@ pub none_of : {A : Type 0} (o : Option A) → is_some o ≡ false → o ≡ None
 none_of None is = refl
 none_of (Some x) is = cc
 
+-- where nothing ends by a moment, a witness knows this without being told
+abbrev pub IsSilent : {W : Type 0} → Knowing W → Type 0
+IsSilent {W} knows = (witness : W) (config : Parts) (before : List Moment) (moment : Moment)
+    → knows witness config before → ending_at config before moment ≡ None → knows witness config (moment ∷ before)
+
 module _ {B : Type 0} where
   -- the item that a window gives is of the event that the window is of
   pub due_own : (k tick : ℕ) (slot : Slot B) (item : Qualified B) → IfSome slot.window (λ w. w.item.event.0 ≡ k)
       → Some item ≡ item_due tick slot → item.event.0 ≡ k
   due_own k tick slot item own is = grind (arith, common_steps, own, is)
 
-  -- a parcel that was kept and is handed out is as short as those that were kept
-  pub given_short : (P : B → Type 0) (context : Option B) (kept now : List B)
-      → Accounts [] kept (option_to_list context) now → All P kept → IfSome context P
-  given_short P None kept now same all = tt
-  given_short P (Some parcel) kept now same all =
-      (recursion_from_All P (parcel ∷ now) (All-permutation P kept (parcel ∷ now) same all)).0
-
   module _ (held : B → List ℕ) where
-    -- short context data have few bytes
-    pub short_by : (context : Option B) → IfSome context (IsShort held) → IfSome (option_map held context) (λ bytes. length bytes ≤ 1024)
-    short_by None short = tt
-    short_by (Some parcel) short = short
-
     -- the item of a verdict, over the parcel's bytes
     pub item_kept : (context : Bool) (tick : ℕ) (item : Qualified B)
         → with_context context (item_at tick (told_by held item)) ≡ item_at tick (told_by held (kept_told context item))
@@ -76,8 +69,8 @@ module _ {B : Type 0} where
         let passed = added_behind (gated_at config) (aggregated_at config) before in
         record { gate = stands; flows = rw (by, is, passed) flows; ends = rw (by, is, passed) ends; witness = known }
 
-    -- one moment more, by which none comes
-    pub behind_item : (o : Option Item) → gated_at config before moment ≡ None → bypassing_at config before moment ≡ o
+    -- an item comes that goes no further, or bypasses the filters
+    pub behind_item : (o : Option Item) → None ≡ gated_at config before moment → o ≡ bypassing_at config before moment
         → IfSome o (λ item. item.tick ≡ tick)
         → Flows held config start (gated config before) (aggregated config before) (option_to_list o ++ qualified config before)
         windows counting out
@@ -85,4 +78,15 @@ module _ {B : Type 0} where
         (record { gate = gate; windows = windows; counting = counting; witness = witness }) out
     behind_item o is by at flows =
         let ends = ends_with_item o at behind.ends in
-        record { gate = stands; flows = rw (is, by, or_none) flows; ends = rw (is, by, or_none) ends; witness = known }
+        record { gate = stands; flows = rw (← is, ← by, or_none) flows; ends = rw (← is, ← by, or_none) ends; witness = known }
+
+  -- an event's window closes, of which nothing comes
+  pub behind_none : {W : Type 0} {held : B → List ℕ} {knows : Knowing W} {config : Parts} {start : Start} {tick : ℕ} {before : List Moment}
+      {old : Filters B W} {windows : List (Slot B)} {was : Output} → IsBehind held knows config start tick before old was → IsSilent knows
+      → (event : ℕ) → aggregated_at config (gated config before) (closes_due tick event) ≡ None
+      → WindowsStand config (closes_due tick event ∷ gated config before) (slots_by held windows)
+      → IsBehind held knows config start tick (closes tick event ∷ before) (record old { windows = windows }) was
+  behind_none {config = config} {tick = tick} {before = before} {old = old} behind silent event gives stands =
+      behind_call behind (stands_with_closing config before tick event old.gate behind.gate)
+      (silent old.witness config before (closes tick event) behind.witness (ap (option_map (given config before)) gives))
+      (closes_due tick event) refl refl refl (flows_with (closes_due tick event) None behind.flows gives stands behind.flows.behind)

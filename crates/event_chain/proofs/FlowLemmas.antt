@@ -1,7 +1,6 @@
 -- One moment more, by the list that it adds to.
-use Rattle.event_chain.proofs.Names.{◌≡◌, ℕ, ◌≤◌, Bool, List, [], ◌∷◌, ◌++◌, map, Option, Some, None, IfSome, option_to_list, option_and_then, refl, arith, rules, common_steps, Output, Parts, event_at, Call, call_tick, closes_due, arrives, aggregated_at, thresholded_at, counted, Item, where_true, verdict, EndBy, ThresholdsStand, Threshold, Start, CountingStands, EndAt, joined_with, items_with, OutletStands}
+use Rattle.event_chain.proofs.Names.{◌≡◌, ℕ, ◌≤◌, List, [], ◌∷◌, ◌++◌, map, Option, Some, None, IfSome, option_to_list, option_and_then, refl, arith, rules, common_steps, Parts, Call, call_tick, closes_due, arrives, aggregated_at, thresholded_at, counted, Item, EndBy, EndAt, joined_with, items_with}
 use Rattle.std.specs.Option.{option_or}
-use Rattle.event_chain.specs.declared.outlet.Outlet.{Outlet}
 
 -- ---- ticks
 
@@ -51,15 +50,6 @@ module _ {tick : ℕ} {calls : List (Call (List ℕ))} {joined items : List Item
 pub end_counted : (tick : ℕ) (items : List Item) → EndBy (λ item. item.tick) tick items → EndBy (λ one. one.tick) tick (map counted items)
 end_counted tick [] by = tt
 end_counted tick (item ∷ items) by = (by.0, end_counted item.tick items by.1)
-
--- an item that passes is the newest qualified event, and another changes nothing after the filter
-pub counts : {config : Parts} {start : Start} {joined : List Item} (items : List Item) {item : Item} {thresholds : List (Option Threshold)}
-    {outlet : Outlet} {out : Output} (b : Bool) → verdict (event_at config item.event).threshold (counted item) (map counted joined) ≡ b
-    → ThresholdsStand config (counted item ∷ map counted joined) thresholds
-    → OutletStands config start (option_to_list (where_true b item) ++ items) outlet out
-    → CountingStands config start (item ∷ joined) (option_to_list (thresholded_at config joined item) ++ items)
-    (record { thresholds = thresholds; outlet = outlet }) out
-counts items b is told stands = record { thresholds = told; outlet = rw is stands }
 
 -- the first that is there of two, where there is no second
 pub or_none : (o : Option Item) → option_or o None ≡ o

@@ -8,4 +8,3 @@ mod HandsLemmas
 mod HeadLemmas
 mod RoomLemmas
 mod SoundLemmas
-mod TurnLemmas

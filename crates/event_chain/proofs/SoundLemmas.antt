@@ -1,5 +1,5 @@
 -- The parcels of entries, and what holds of a chain's fields when it is made and while it takes turns.
-use Rattle.event_chain.proofs.Names.{◌≡◌, ℕ, ◌<◌, Bool, true, List, [], ◌∷◌, ◌++◌, length, map, filter, is_some, Option, Some, None, option_map, option_to_list, refl, sym, ap, subst, ◌∙◌, arith, IsFalse, range_with_len, nat_tests, common_steps, get_or-map, get_or_past, length-map, Entry, Internal, Event, Parts, index_of, internal_of, plain_event, all_parcels, parcel_of, all_kept, Slot, fresh_slot, is_due, slot_at, GateStands, ThresholdsStand, source_of, SenderStands, Filters, IsOneOf, IsSound, Stores, AreOwn, HasPlaces, SettledAt, aggregating_in, is_aggregated}
+use Rattle.event_chain.proofs.Names.{◌≡◌, ℕ, ◌<◌, true, List, [], ◌∷◌, ◌++◌, length, map, is_some, Option, Some, None, option_map, option_to_list, refl, ap, ◌∙◌, arith, IsFalse, nat_tests, common_steps, get_or-map, get_or_past, length-map, Entry, Event, Parts, index_of, internal_of, plain_event, all_parcels, parcel_of, all_kept, Slot, fresh_slot, is_due, slot_at, GateStands, ThresholdsStand, source_of, SenderStands, Filters, IsOneOf, IsSound, Stores, AreOwn, HasPlaces, SettledAt, aggregating_in, is_aggregated}
 use Rattle.std.proofs.Math.Path.{fun_ext}
 use Rattle.ids_config.specs.{IsValid, is_within}
 use Rattle.event_chain.specs.declared.event_chain.EventChain.TheInside.{Inside}
@@ -51,15 +51,6 @@ module _ {B W : Type 0} where
       let internal = valid.internal in
       let count : length c.filters.windows ≡ length events =
       ap length slots ∙ length-map events (λ (event : Event). fresh_slot {C = B} event.aggregate) in
-      let known_within = λ (index : Option ℕ) (is : is_within (length events) index ≡ true).
-      subst (λ n. IsOneOf n (option_map index_of index)) (sym count) (within (length events) index is) in
-      let of = λ (i : Internal). IsOneOf (length c.filters.windows) i.lost_events × IsOneOf (length c.filters.windows) i.lost_contexts
-      × IsOneOf (length c.filters.windows) i.limited in
-      let all = subst of (sym known) (
-        known_within config.lost_events internal.lost_events,
-        known_within config.lost_contexts internal.lost_contexts,
-        known_within config.limited internal.limited,
-      ) in
       record {
         places = record {
           gate = λ k less. omega (arith, less, count, gate.events);
@@ -67,13 +58,13 @@ module _ {B W : Type 0} where
             threshold = omega (arith, less, count, thresholds.events);
             source = omega (arith, less, count, ap length sender.sources, length-map events source_of);
           };
-          own = subst (λ (ws : List (Slot B)). AreOwn ws) (sym slots) (own_fresh B events);
+          own = rw slots (own_fresh B events);
         };
         few = omega (arith, count, valid.count.most);
         aggregating = aggregating;
-        lost_events = all.0;
-        lost_contexts = all.1;
-        limited = all.2;
+        lost_events = rw (known, count) (within _ config.lost_events internal.lost_events);
+        lost_contexts = rw (known, count) (within _ config.lost_contexts internal.lost_contexts);
+        limited = rw (known, count) (within _ config.limited internal.limited);
       }
 
   -- its fields with other filters, over as many windows that are aggregated as they were
@@ -81,13 +72,11 @@ module _ {B W : Type 0} where
       → ((k : ℕ) → (slot_at new.windows k).setting ≡ (slot_at c.filters.windows k).setting)
       → IsSound (record { filters = new; aggregating = c.aggregating; internal = c.internal })
   sound_kept c new sound places count settings =
-      let among = λ (n : ℕ) (test : ℕ → Bool). filter test (range_with_len 0 n) in
-      let tests = ap (among (length new.windows)) (fun_ext (λ k. ap is_some (settings k))) in
-      let counts = ap (λ n. among n (is_aggregated c.filters.windows)) count in
+      let tests : is_aggregated new.windows ≡ is_aggregated c.filters.windows = fun_ext (λ k. ap is_some (settings k)) in
       record {
         places = places;
         few = omega (arith, count, sound.few);
-        aggregating = sound.aggregating ∙ sym (tests ∙ counts);
+        aggregating = rw (tests, count) sound.aggregating;
         lost_events = rw count sound.lost_events;
         lost_contexts = rw count sound.lost_contexts;
         limited = rw count sound.limited;

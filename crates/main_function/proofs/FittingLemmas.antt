@@ -1,7 +1,5 @@
 -- What is known of items that the desk admits.
-use Rattle.main_function.proofs.Names.{◌≡◌, ℕ, zero, suc, ◌+◌, ◌*◌, ◌≤◌, ◌<◌, true, List, [], ◌∷◌, length, IfSome, subst, sym, arith, rules, All, AllByRecursion, All-from_recursion, All-weaker, recursion_from_All, sum_by-cons, act_by, entry_by, Entry, AllAdmitted, HandsBack, IsShort, all_parcels, parcel_of, FitsAct, FitsLargest, FitsTurn, bytes_in, context_room, Buffer, AreBuffersIn, Act, Report, State, SetMode, Absent, Kept, Missing, AdmitsAct, AdmitsItem, is_sensor, term_sizes, ReportTerms, IsHeld, held, items_of}
-use mathlib.Core.Option.{some}
-use lib.ListN.{get_elem?}
+use Rattle.main_function.proofs.Names.{◌≡◌, ℕ, zero, suc, ◌*◌, ◌≤◌, ◌<◌, true, List, [], ◌∷◌, length, IfSome, arith, rules, All, AllByRecursion, All-from_recursion, All-weaker, recursion_from_All, sum_by-cons, act_by, entry_by, Entry, AllAdmitted, HandsBack, IsShort, all_parcels, parcel_of, FitsAct, FitsLargest, FitsTurn, bytes_in, Buffer, AreBuffersIn, Act, Report, State, SetMode, Absent, Kept, Missing, AdmitsAct, AdmitsItem, is_sensor, term_sizes, ReportTerms, IsHeld, held, items_of}
 use Rattle.ids_types.specs.Plain.{act_bytes, kept_bytes}
 use Rattle.std.proofs.lemmas.Bool.Decides.{nat_tests}
 use Rattle.filter_chain.proofs.ParcelLemmas.{all_parcels_of, parcels_keep}
@@ -10,10 +8,6 @@ use Rattle.filter_chain.proofs.ParcelLemmas.{all_parcels_of, parcels_keep}
 known : (terms : ReportTerms) (event : ℕ) → is_sensor terms event ≡ true → event < terms.events
 known terms event is = search rules
 
--- as many bytes find room where the largest has as many, and some
-some_room : (largest bytes : ℕ) → 1 ≤ largest → bytes ≤ largest → 4 + bytes ≤ context_room largest
-some_room largest bytes some_bytes few = grind (arith, nat_tests, some_bytes, few)
-
 module _ (terms : ReportTerms) (most : ℕ) (within : AllAdmitted (λ size. size ≤ most) (term_sizes terms)) (short : most ≤ 1024) where
   -- an act fits, its buffer is one of the classes, and its bytes are few
   act_facts : (act : Act) → AdmitsAct terms act
@@ -21,12 +15,8 @@ module _ (terms : ReportTerms) (most : ℕ) (within : AllAdmitted (λ size. size
   act_facts (Report event count stamp Absent) fits = ((known terms event.0 fits.0.sensor, tt), tt, omega arith)
   act_facts (Report event count stamp (Kept class claim buf)) fits =
       let size = within class buf.size fits.1.size_is in
-      let bytes = fits.1.fits in
-      let is_held : IsHeld (term_sizes terms) buf = record {
-        size_is = subst (λ (k : ℕ). get_elem? (term_sizes terms) k ≡ some buf.size) (sym fits.1.class_is) fits.1.size_is;
-        fits = bytes;
-      } in
-      ((known terms event.0 fits.0.sensor, omega (arith, size, bytes, short)), is_held, omega (arith, size, bytes))
+      let is_held : IsHeld (term_sizes terms) buf = grind (arith, fits.1) in
+      ((known terms event.0 fits.0.sensor, omega (arith, size, fits.1.fits, short)), is_held, omega (arith, size, fits.1.fits))
   act_facts (Report event count stamp (Missing numbers)) fits = ((known terms event.0 fits.0.sensor, tt), tt, omega arith)
   act_facts (State state) fits = (tt, tt, omega arith)
   act_facts (SetMode event mode) fits = (fits, tt, omega arith)
@@ -44,12 +34,15 @@ module _ (terms : ReportTerms) (most : ℕ) (within : AllAdmitted (λ size. size
   -- a chain of so many events can take the items
   pub items_fit : (events : ℕ) (items : List (Entry Buffer)) → events ≡ terms.events → length items ≤ 1024 → All (AdmitsItem terms) (items_of items)
       → FitsTurn held events items
-  items_fit events items are few admitted =
-      let fit : FitsTurn held terms.events items = record {
-        few = few;
-        acts = All-from_recursion (λ e. FitsAct held terms.events e.act) items (facts items (recursion_from_All _ _ admitted)).0;
-      } in
-      subst (λ (n : ℕ). FitsTurn held n items) (sym are) fit
+  items_fit events items are few admitted = rw are record {
+    few = few;
+    acts = All-from_recursion (λ e. FitsAct held terms.events e.act) items (facts items (recursion_from_All _ _ admitted)).0;
+  }
+
+  -- the buffers that come with them are of the classes
+  parcels_held : (items : List (Entry Buffer)) → All (AdmitsItem terms) (items_of items)
+      → All (λ (e : Entry Buffer). IfSome (parcel_of e.act) (IsHeld (term_sizes terms))) items
+  parcels_held items admitted = All-from_recursion _ items (facts items (recursion_from_All _ _ admitted)).1
 
   -- they have no more bytes than the largest buffers
   pub bytes_fit : (items : List (Entry Buffer)) → All (AdmitsItem terms) (items_of items) → bytes_in held items ≤ length items * most
@@ -58,30 +51,25 @@ module _ (terms : ReportTerms) (most : ℕ) (within : AllAdmitted (λ size. size
   -- what is held is short
   pub held_short : (bufs : List Buffer) → All (IsHeld (term_sizes terms)) bufs → All (IsShort held) bufs
   held_short bufs are = All-weaker (IsHeld (term_sizes terms)) (IsShort held)
-      (λ buf is. let size = within buf.class buf.size is.size_is in let bytes = is.fits in omega (arith, size, bytes, short)) bufs are
+      (λ buf is. omega (arith, within buf.class buf.size is.size_is, is.fits, short)) bufs are
 
   -- and no larger than the largest class, where that has some bytes
   pub held_fit : AllAdmitted (λ size. 1 ≤ size) (term_sizes terms) → (bufs : List Buffer) → All (IsHeld (term_sizes terms)) bufs
       → All (FitsLargest held most) bufs
   held_fit given bufs are = All-weaker (IsHeld (term_sizes terms)) (FitsLargest held most)
-      (λ buf is. let size = within buf.class buf.size is.size_is in let some_bytes = given buf.class buf.size is.size_is in let bytes = is.fits in
-      some_room most (length buf.bytes) (omega (arith, size, some_bytes)) (omega (arith, size, bytes))) bufs are
+      (λ buf is. grind (arith, nat_tests, within buf.class buf.size is.size_is, given buf.class buf.size is.size_is, is.fits)) bufs are
 
   -- so are those that come with items
   pub came_fit : AllAdmitted (λ size. 1 ≤ size) (term_sizes terms) → (items : List (Entry Buffer)) → All (AdmitsItem terms) (items_of items)
       → All (FitsLargest held most) (all_parcels items)
-  came_fit given items admitted = held_fit given (all_parcels items) (all_parcels_of (IsHeld (term_sizes terms)) items
-      (All-from_recursion (λ (e : Entry Buffer). IfSome (parcel_of e.act) (IsHeld (term_sizes terms))) items
-      (facts items (recursion_from_All _ _ admitted)).1))
+  came_fit given items admitted = held_fit given (all_parcels items) (all_parcels_of (IsHeld (term_sizes terms)) items (parcels_held items admitted))
 
   -- each buffer that comes out of a turn is one of the classes, where those that came with items do
   pub come_out : (items : List (Entry Buffer)) (before now back end : List Buffer) → All (AdmitsItem terms) (items_of items)
       → All (IsHeld (term_sizes terms)) before → (hands : HandsBack (all_parcels items) before now back end)
       → All (IsHeld (term_sizes terms)) hands.further × All (IsHeld (term_sizes terms)) now
   come_out items before now back end admitted were hands =
-      let came = All-from_recursion (λ (e : Entry Buffer). IfSome (parcel_of e.act) (IsHeld (term_sizes terms))) items
-      (facts items (recursion_from_All _ _ admitted)).1 in
-      parcels_keep (IsHeld (term_sizes terms)) items before now back end came were hands
+      parcels_keep (IsHeld (term_sizes terms)) items before now back end (parcels_held items admitted) were hands
 
 -- buffers of the classes, by their places
 pub held_in : (sizes : List ℕ) (bufs : List Buffer) → AllByRecursion (IsHeld sizes) bufs → AreBuffersIn sizes bufs

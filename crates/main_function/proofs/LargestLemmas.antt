@@ -1,56 +1,37 @@
 -- The largest of some sizes.
-use Rattle.main_function.proofs.Names.{◌≡◌, ℕ, zero, suc, ◌+◌, ◌≤◌, ◌<◌, max, List, [], ◌∷◌, ◌++◌, get_or, length, map, take, sym, ap, ◌∙◌, arith, rules, AllByRecursion, take_more, map-append, AllAdmitted, class_of, spec_sizes, largest_size}
-use Rattle.std.proofs.Math.Nat.{le-max_left, le-max_right, max-le}
+use Rattle.main_function.proofs.Names.{◌≡◌, ℕ, zero, suc, ◌+◌, ◌≤◌, ◌<◌, max, List, [], ◌∷◌, get_or, length, map, take, arith, take_more, AllAdmitted, class_of, spec_sizes, largest_size, refl, IsSpec}
+use Rattle.ids_types.specs.declared.class_spec.ClassSpec.{ClassSpec}
+use lib.ListN.{get_elem?}
+use mathlib.Core.Option.{some}
+use Rattle.std.proofs.lemmas.List.{map_push}
 use Rattle.std.proofs.lemmas.List.Sums.{fold_push}
 use Rattle.std.specs.List.{fold}
 use Rattle.buffer_classes.specs.Classes.{RiseFrom}
 
--- what holds of all elements, by their places
-pub admitted_at : (P : ℕ → Type 0) (xs : List ℕ) → AllByRecursion P xs → AllAdmitted P xs
-admitted_at P (x ∷ xs) all zero y is = search (rules, all.0)
-admitted_at P (x ∷ xs) all (suc j) y is = admitted_at P xs all.1 j y is
-admitted_at P [] all j y is = search rules
+-- what a largest begins with is not larger, and no size is
+begun_with : (first : ℕ) (sizes : List ℕ) → first ≤ fold max first sizes
+begun_with first [] = omega arith
+begun_with first (size ∷ sizes) = omega (arith, begun_with (max first size) sizes)
 
--- no size is larger, nor what it begins with
-bounds : (first : ℕ) (sizes : List ℕ) → (first ≤ fold max first sizes) × AllByRecursion (λ size. size ≤ fold max first sizes) sizes
-bounds first [] = (omega arith, tt)
-bounds first (size ∷ sizes) =
-    let rest = bounds (max first size) sizes in
-    let left = le-max_left first size in
-    let right = le-max_right first size in
-    (omega (arith, left, rest.0), (omega (arith, right, rest.0), rest.1))
+pub largest_admits : (first : ℕ) (sizes : List ℕ) → AllAdmitted (λ size. size ≤ fold max first sizes) sizes
+largest_admits first [] i size at = cc
+largest_admits first (x ∷ sizes) zero size at = grind (arith, begun_with (max first x) sizes, at)
+largest_admits first (x ∷ sizes) (suc i) size at = largest_admits (max first x) sizes i size at
 
-pub largest_admits : (sizes : List ℕ) → AllAdmitted (λ size. size ≤ largest_size sizes) sizes
-largest_admits sizes = admitted_at (λ size. size ≤ largest_size sizes) sizes (bounds 0 sizes).1
-
--- and it is within each bound
-least : (bound first : ℕ) (sizes : List ℕ) → first ≤ bound → AllByRecursion (λ size. size ≤ bound) sizes → fold max first sizes ≤ bound
-least bound first [] le all = le
-least bound first (size ∷ sizes) le all = least bound (max first size) sizes (max-le le all.0) all.1
-
-pub largest_least : (bound : ℕ) (sizes : List ℕ) → AllByRecursion (λ size. size ≤ bound) sizes → largest_size sizes ≤ bound
-largest_least bound sizes all = least bound 0 sizes (omega arith) all
+-- no class is larger than 1,024
+pub largest_least : (first : ℕ) (specs : List ClassSpec) → first ≤ 1024 → AllAdmitted IsSpec specs → fold max first (spec_sizes specs) ≤ 1024
+largest_least first [] low are = low
+largest_least first (spec ∷ specs) low are =
+    largest_least (max first spec.size) specs (omega (arith, low, (are 0 spec refl).size)) (λ i. are (suc i))
 
 -- the largest of one class more
 pub larger_class : (classes : List (ℕ × ℕ)) (i largest : ℕ) (class : ℕ × ℕ) → i < length classes
     → largest ≡ largest_size (spec_sizes (map class_of (take i classes)))
     → max largest (get_or classes i class).0 ≡ largest_size (spec_sizes (map class_of (take (i + 1) classes)))
-larger_class classes i largest class below is =
-    let next = (get_or classes i class).0 in
-    let more = take_more classes i class below in
-    let inner = map-append class_of (take i classes) (get_or classes i class ∷ []) in
-    let outer = map-append (λ spec. spec.size) (map class_of (take i classes)) (class_of (get_or classes i class) ∷ []) in
-    let same : spec_sizes (map class_of (take (i + 1) classes)) ≡ spec_sizes (map class_of (take i classes)) ++ next ∷ [] =
-    ap (λ pairs. spec_sizes (map class_of pairs)) more ∙ ap spec_sizes inner ∙ outer in
-    ap (λ n. max n next) is ∙ sym (fold_push max 0 (spec_sizes (map class_of (take i classes))) next) ∙ ap largest_size (sym same)
+larger_class classes i largest class below is = rw (is, take_more classes i class below) (simp (map_push, fold_push))
 
 -- sizes that rise from above a number are larger than it
-pub rise_above : (above : ℕ) (sizes : List ℕ) → RiseFrom above sizes → AllByRecursion (λ size. above + 1 ≤ size) sizes
-rise_above above [] rise = tt
-rise_above above (size ∷ sizes) rise =
-    (omega (arith, rise.0), weaker size above sizes (omega (arith, rise.0)) (rise_above size sizes rise.1))
-  where
-    weaker : (more less : ℕ) (sizes : List ℕ) → less ≤ more → AllByRecursion (λ size. more + 1 ≤ size) sizes
-        → AllByRecursion (λ size. less + 1 ≤ size) sizes
-    weaker more less [] le all = tt
-    weaker more less (size ∷ sizes) le all = (omega (arith, le, all.0), weaker more less sizes le all.1)
+pub rise_above : (above : ℕ) (sizes : List ℕ) → RiseFrom above sizes → (i size : ℕ) → get_elem? sizes i ≡ some size → above + 1 ≤ size
+rise_above above [] rise i size at = cc
+rise_above above (x ∷ sizes) rise zero size at = grind (arith, rise.0, at)
+rise_above above (x ∷ sizes) rise (suc i) size at = omega (arith, rise.0, rise_above x sizes rise.1 i size at)

@@ -1,14 +1,14 @@
 -- The names of other crates and of this crate's specs that more than one of its proofs stands on.
-pub use Rattle.std.proofs.Common.{◌≡◌, ℕ, zero, suc, ◌+◌, ◌<◌, true, is_some, Option, Some, List, [], ◌∷◌, ◌++◌, length, map, refl, sym, subst, ap, ◌∙◌, sum, sum_by, arith, ◌*◌, ◌≤◌, IfSome, rules, max, None, get_or, take, ◌^◌, ◌≢◌, Ok, Err, slice_set, ◌-◌, vec_capacity}
+pub use Rattle.std.proofs.Common.{◌≡◌, ℕ, zero, suc, ◌+◌, ◌<◌, true, is_some, Option, List, [], ◌∷◌, ◌++◌, length, map, refl, sym, subst, ap, ◌∙◌, sum, sum_by, arith, ◌*◌, ◌≤◌, IfSome, rules, max, None, get_or, take, ◌^◌, Ok, Err, slice_set, ◌-◌, vec_capacity}
 pub use Rattle.std.proofs.lemmas.Grind.{common_steps, flat_map-append}
 pub use Rattle.std.proofs.lemmas.List.{length-map, length-replicate, map-append, take_more, append-nil, append_assoc}
-pub use Rattle.std.proofs.lemmas.List.Elements.{All-from_recursion, All-weaker, recursion_from_All, All-cons, All-nil, All-pop, All-push}
+pub use Rattle.std.proofs.lemmas.List.Elements.{All-from_recursion, All-weaker, recursion_from_All, All-nil, All-push}
 pub use Rattle.std.proofs.lemmas.List.Sums.{sum_by-cons, sum_by_push}
 pub use Rattle.std.specs.List.{All, AllByRecursion}
-pub use Rattle.buffer_classes.specs.{Buffer, AllOf, givers_of, AreBuffersIn, IsSpec, Welcomed, Takes, ClassSeat, AreGiversOf, late_of, spec_sizes, AreSpecs}
-pub use Rattle.filter_chain.specs.{HandsBack, IsShort, all_parcels, parcel_of, FitsAct, FitsLargest, FitsTurn, bytes_in, turn_by, HasLogRoom, context_room, most_sent}
+pub use Rattle.buffer_classes.specs.{Buffer, AllOf, givers_of, AreBuffersIn, IsSpec, Welcomed, AreGiversOf, late_of, spec_sizes, AreSpecs}
+pub use Rattle.filter_chain.specs.{HandsBack, IsShort, all_parcels, parcel_of, FitsAct, FitsLargest, FitsTurn, bytes_in, turn_by, HasLogRoom, most_sent}
 pub use Rattle.law_closing.proofs.{all_calls, all_accepted, rings_have, or_at}
-pub use Rattle.law_closing.specs.Closed.{IsMadeFor, came, plain_item}
+pub use Rattle.law_closing.specs.Closed.{came, plain_item}
 pub use Rattle.ids_config.specs.Parts.{Parts, class_of}
 pub use Rattle.ids_types.specs.{act_by, entry_by, Turn}
 pub use Rattle.ids_types.specs.declared.entry.Entry.{Entry}
@@ -20,7 +20,7 @@ pub use Rattle.report_api.specs.declared.desk.Desk.{Desk}
 pub use Rattle.report_api.specs.declared.pass.Pass.{Pass}
 pub use Rattle.report_api.specs.declared.shared.Shared.{Shared}
 pub use Rattle.report_api.specs.declared.terms.ReportTerms.{ReportTerms}
-pub use Rattle.report_queue.specs.{AreAllBack, AreAllSwept, IsAllTaken, ReapTells, ReapsToEnd, queue_positions, item_note, reaps_all, welcomes}
-pub use Rattle.main_function.specs.{AreCountsOf, AreSumsOf, Closed, IsQuick, OnlyWelcomes, all_back, ShowsHistory, AreTotals, IsManagerOf, Stands, Turned, IsHeld, held, items_of, AreAllPasses, MakesTurn, Took, item_of, largest_size, sweeps_for, IsBuilt, IsNewManager}
+pub use Rattle.report_queue.specs.{AreAllBack, AreAllSwept, IsAllTaken, ReapTells, queue_positions, item_note, reaps_all, welcomes}
+pub use Rattle.main_function.specs.{Closed, IsQuick, OnlyWelcomes, all_back, ShowsHistory, AreTotals, IsManagerOf, Stands, Turned, IsHeld, held, items_of, MakesTurn, Took, item_of, largest_size, sweeps_for, IsBuilt, IsNewManager}
 pub use Rattle.main_function.specs.declared.manager.Manager.{Manager}
 pub use Rattle.main_function.specs.declared.rest.Totals.{Totals}

@@ -1,13 +1,13 @@
 -- What a turn adds to the desk, and to what it shows of a history.
-use Rattle.main_function.proofs.Names.{◌≡◌, ℕ, zero, suc, ◌+◌, ◌*◌, ◌≤◌, ◌<◌, List, [], ◌∷◌, ◌++◌, length, map, refl, ap, arith, common_steps, flat_map-append, length-map, map-append, sum_by_push, entry_by, Entry, Turn, Buffer, DeskMemo, MakesTurn, ShowsHistory, held, item_of, items_of, sweeps_for, AreTotals, plain_item, Totals}
+use Rattle.main_function.proofs.Names.{◌≡◌, ℕ, zero, suc, ◌+◌, ◌*◌, ◌≤◌, ◌<◌, List, [], ◌∷◌, ◌++◌, length, map, refl, arith, common_steps, flat_map-append, length-map, map-append, sum_by_push, entry_by, Entry, Turn, Buffer, DeskMemo, MakesTurn, ShowsHistory, held, item_of, items_of, sweeps_for, AreTotals, plain_item, Totals}
+use mathlib.Core.List.{map-map}
 use Rattle.history_spec.specs.Fronts.{and_front}
 use Rattle.history_spec.proofs.FrontLemmas.{fronts_more}
 use Rattle.permit_ring.proofs.{end_steps, gave_of, only_reaps}
 
 -- the entries of a turn are the items that were taken
 entries_same : (taken : List (Entry Buffer)) → map plain_item (items_of taken) ≡ map (entry_by held) taken
-entries_same [] = refl
-entries_same (e ∷ taken) = ap (λ es. plain_item (record { caller = e.caller; call = e.call; payload = e.act }) ∷ es) (entries_same taken)
+entries_same taken = map-map plain_item item_of taken
 
 -- the fronts after an offer
 front_as : (offered count : ℕ) (fronts new : List ℕ) → (count ≡ 0 → new ≡ fronts) → (0 < count → new ≡ fronts ++ (offered + count) ∷ [])
@@ -56,9 +56,8 @@ module _ (positions : ℕ) (old new : DeskMemo) (turn : Turn) (taken : List (Ent
       → after.lost_contexts ≡ before.lost_contexts + turn.head.lost_contexts → AreTotals new after
   totals_more before after are entries events contexts =
       let adds = turn_adds in
-      let swept_events = sum_by_push (λ n. n) old.swept0 turn.head.lost_events in
-      let swept_contexts = sum_by_push (λ n. n) old.swept1 turn.head.lost_contexts in
-      grind (arith, common_steps, are, entries, events, contexts, adds, length-map taken item_of, swept_events, swept_contexts)
+      let swept = sum_by_push (λ n. n) in
+      grind (arith, common_steps, are, entries, events, contexts, adds, length-map taken item_of, swept)
 
   -- and what was offered
   pub offered_more : old.offered ≡ positions + length old.notes → new.offered ≡ positions + length new.notes

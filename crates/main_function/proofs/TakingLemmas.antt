@@ -1,7 +1,6 @@
 -- A run of takes, one more at a time.
-use Rattle.main_function.proofs.Names.{◌≡◌, ◌≢◌, ℕ, ◌+◌, ◌≤◌, ◌<◌, List, [], ◌∷◌, ◌++◌, length, Ok, Err, sym, ap, ◌∙◌, subst, arith, All, common_steps, map-append, All-push, Entry, Buffer, AdmitsItem, DeskMemo, ReapTells, Act, item_note, reaps_all, ReportTerms, Took, item_of, items_of}
+use Rattle.main_function.proofs.Names.{◌≡◌, ℕ, ◌≤◌, ◌<◌, List, [], ◌∷◌, ◌++◌, length, Ok, Err, arith, All, common_steps, map-append, All-push, Entry, Buffer, AdmitsItem, DeskMemo, ReapTells, Act, item_note, reaps_all, ReportTerms, Took, item_of, items_of}
 use Rattle.permit_ring.proofs.{reaps_push}
-use Rattle.permit_ring.specs.Steps.{reaps, waits}
 use Rattle.permit_ring.specs.declared.answer.Unready.{Unready}
 
 -- so far each take had an item
@@ -17,16 +16,15 @@ module _ (terms : ReportTerms) (most : ℕ) (old mid new : DeskMemo) (taken : Li
   took_one entry more admitted told =
       let items = map-append item_of taken (entry ∷ []) in
       record {
-        is = told ∙ ap (λ (k : DeskMemo). reaps (length k.notes + 1) (item_of entry) k) on.is
-            ∙ sym (ap (λ is. reaps_all is old) items ∙ reaps_push (items_of taken) (item_of entry) old);
+        is = rw (items, reaps_push, ← on.is) told;
         few = grind (arith, common_steps, more);
-        admitted = subst (All (AdmitsItem terms)) (sym items) (All-push (AdmitsItem terms) (items_of taken) (item_of entry) on.admitted admitted);
+        admitted = rw items (All-push (AdmitsItem terms) (items_of taken) (item_of entry) on.admitted admitted);
       }
 
   -- one was not ready
   pub took_till : (unready : Unready) → ReapTells (item_note (λ (act : Act). act)) mid (Err unready) new → Took terms most old taken new
   took_till unready told = record {
-    run = subst (λ (k : DeskMemo). (mark : ℕ) × (mark ≢ length k.notes + 1) × (new ≡ waits mark k)) on.is (unready.mark, told.0, told.1);
+    run = rw (← on.is) (unready.mark, told.0, told.1);
     few = on.few;
     admitted = on.admitted;
   }

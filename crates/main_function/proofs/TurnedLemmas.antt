@@ -7,10 +7,6 @@ use Rattle.main_function.proofs.ReportLemmas.{shows_more}
 pub last_within : (before all : List ℕ) (x : ℕ) → all ≡ before ++ x ∷ [] → sum all ≤ 2 ^ 45 → x ≤ 2 ^ 45
 last_within before all x is few = omega (arith, few, ap sum is, sum_by_push (λ n. n) before x)
 
--- the tick of turns with one more
-tick_more : (turns : List Turn) (turn : Turn) → last_tick (turns ++ turn ∷ []) ≡ turn.head.tick
-tick_more turns turn = grind (arith, common_steps)
-
 module _ {C : Type 0} (stands : C → Parts → List Turn → Type 0) (config : Parts) (turns : List Turn) where
   -- the manager stands for one turn more where its chain does
   pub stands_more : (old new : Manager C) (turn : Turn) (taken : List (Entry Buffer)) → Stands stands config old turns
@@ -24,6 +20,6 @@ module _ {C : Type 0} (stands : C → Parts → List Turn → Type 0) (config : 
       record {
         chain_stands = chain (omega (arith, before, later));
         reports_show = search (rules, positions, shows_more old.positions (desk_memo old.desk) (desk_memo new.desk) turn taken makes turns offered is.reports_show);
-        tick_is = grind (arith, common_steps, last, tick_more turns turn);
+        tick_is = grind (arith, common_steps, last);
         count_is = grind (arith, common_steps, count, is.count_is);
       }

@@ -1,5 +1,5 @@
 -- The slots in the keeper's hand, as one is reaped, filled or offered.
-use Rattle.permit_ring.proofs.Names.{◌≡◌, ℕ, zero, suc, ◌+◌, ◌-◌, ◌%◌, ◌<◌, ◌≤◌, List, [], ◌∷◌, ◌++◌, map, length, replicate, take, drop, get_or, refl, sym, ◌∙◌, ap, ap₂, subst, inl, inr, arith, append_assoc, length-map, length-append, length-replicate, replicate_more, map_push, take_at, drop_at, take_more, drop_more, length_push, turned, rest, Slot, Empty, Offered, hand_from, filled_then, ready, KeepsInHand, at_snoc}
+use Rattle.permit_ring.proofs.Names.{◌≡◌, ℕ, zero, suc, ◌+◌, ◌-◌, ◌%◌, ◌<◌, ◌≤◌, List, [], ◌∷◌, ◌++◌, map, length, replicate, take, drop, get_or, refl, sym, ◌∙◌, ap, ap₂, ⊎_elim, arith, append_assoc, length-map, length-append, length-replicate, replicate_more, map_push, take_at, drop_at, take_more, drop_more, length_push, turned, rest, Slot, Empty, Offered, hand_from, filled_then, ready, KeepsInHand, at_snoc}
 use mathlib.Core.Option.{some-ne-none}
 
 -- a hand that is turned by one more
@@ -24,9 +24,7 @@ module _ {O : Type 0} (n : ℕ) where
   hand-append : {D : Type 0} (t : ℕ) (xs ys : List (Slot O D))
       → hand_from n t (xs ++ ys) ≡ hand_from n t xs ++ hand_from n (t + length xs) ys
   hand-append t [] ys = let same : t ≡ t + 0 = omega arith in ap (λ (k : ℕ). hand_from n k ys) same
-  hand-append t (x ∷ xs) ys =
-      let same : suc t + length xs ≡ t + suc (length xs) = omega arith in
-      cc (hand-append (suc t) xs ys)
+  hand-append t (x ∷ xs) ys = grind (arith, hand-append (suc t) xs ys)
 
   ready_filled : (D : Type 0) (t : ℕ) (ys : List O) (vacant : ℕ) → ready (hand_from n t (filled_then {D = D} ys vacant)) ≡ length ys
   ready_filled D t [] zero = refl
@@ -76,11 +74,8 @@ module _ {O D : Type 0} {Admits : O → Type 0} {n t filled vacant : ℕ} {hand 
   -- while a vacant slot is filled, the hand is turned until that slot is in front, and back
   module _ (some_vacant : 0 < vacant) {vacancy : ℕ} (vacancy_is : vacancy ≡ (t + filled) % n) where
     -- the vacant slots after the first
-    abbrev others : List (Slot O D)
-    others = replicate (vacant - 1) Empty
-
     abbrev back : List (ℕ × Slot O D)
-    back = hand_from n (suc (t + filled)) others
+    back = hand_from n (suc (t + filled)) (replicate (vacant - 1) Empty)
 
     length-back : suc (length back) ≡ vacant
     length-back = simp (length-hand, length-replicate) (omega arith)
@@ -108,14 +103,11 @@ module _ {O D : Type 0} {Admits : O → Type 0} {n t filled vacant : ℕ} {hand 
       one_more_filled admitted {after} is = record {
         values = keeps.values ++ value ∷ [];
         filled_are = length_push keeps.values value ∙ ap (λ (k : ℕ). k + 1) keeps.filled_are;
-        admitted = λ j y e. elim (at_snoc keeps.values value y j e) [
-          | inl old ↦ keeps.admitted j y old
-          | inr new ↦ subst Admits new admitted
-        ];
+        admitted = λ j y e. ⊎_elim (keeps.admitted j y) (λ new. rw (← new) admitted) (at_snoc keeps.values value y j e);
         in_hand =
             let turns = ap₂ ◌++◌ (drop_at ((vacancy, Offered value) ∷ back) front vacant length-back)
             (take_at ((vacancy, Offered value) ∷ back) front vacant length-back) in
             let more = map_push {Y = Slot O D} Offered keeps.values value in
-            let one = append_assoc row (Offered value ∷ []) others in
-            cc (is, put, turns, two_rows (Offered value ∷ others), more, one);
+            let one = append_assoc row (Offered value ∷ []) (replicate (vacant - 1) Empty) in
+            cc (is, put, turns, two_rows (Offered value ∷ replicate (vacant - 1) Empty), more, one);
       }

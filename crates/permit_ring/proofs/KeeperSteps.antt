@@ -1,5 +1,5 @@
 -- Each step of the keeper keeps the rule: no seat changes, and no claim.
-use Rattle.permit_ring.proofs.Names.{◌≡◌, ◌≢◌, ℕ, zero, suc, ◌+◌, ◌%◌, ◌^◌, ◌<◌, ◌≤◌, true, false, eqb, List, [], ◌∷◌, ◌++◌, set, length, drop, slice_index, sum, Option, Some, refl, sym, ◌∙◌, ap, ap₂, subst, inl, inr, le_refl, mod-lt, arith, cases_eq, length-set, length_push, set-get_or, fold_push, at_set, at_longer, exchanged, set_here, set_else, State, Act, Valid, step, keeps, takes, gives, chain, put_back, rest, stepped, carried_after, homes_after, Allows, SeatView, Step, See, Read, Offer, Sweep, PermitWord, Key, KeeperMemo, SeatMemo, Move, Slot, Offered, Finished, View, Keeps, hand_from, filled_then, AllAdmitted, found_at, is_of_seat, is_of_keeper, by_seat, KeepsInHand, Known, IsWord, keeper_in, ready, saw_mark, read_word, tried_offer, swept_loss, words_of, StandsIn, AreSlots, Counts, IsSeatMemo, Runs, and_move, waits, reaps, reads, offers_all, misses, sweeps, Machine, HasSizes, opening, seat_at, mark_at, next, offered_to, IsRing, packed, small, see_takes_next, see_waits_next, read_next, sweep_next, offer_takes_next, offer_misses_next, word_packs, seen_packs, missed_field_falls, next_keeps, same_position, other_word, packed_apart}
+use Rattle.permit_ring.proofs.Names.{◌≡◌, ◌≢◌, ℕ, zero, suc, ◌+◌, ◌%◌, ◌^◌, ◌<◌, ◌≤◌, true, false, eqb, List, [], ◌∷◌, set, length, drop, slice_index, sum, Option, Some, refl, sym, ◌∙◌, ap, ap₂, inl, inr, le_refl, mod-lt, arith, ⊎_elim, cases_eq, length-set, length_push, set-get_or, fold_push, at_set, at_longer, set_here, set_else, State, Act, Valid, step, keeps, takes, gives, chain, put_back, rest, carried_after, homes_after, Allows, SeatView, Step, See, Read, Offer, Sweep, Key, KeeperMemo, SeatMemo, Move, Slot, Offered, Finished, View, Keeps, hand_from, filled_then, AllAdmitted, found_at, is_of_seat, is_of_keeper, by_seat, KeepsInHand, Known, IsWord, ready, saw_mark, read_word, tried_offer, swept_loss, words_of, StandsIn, AreSlots, Counts, IsSeatMemo, Runs, and_move, waits, reaps, reads, offers_all, misses, sweeps, Machine, HasSizes, opening, seat_at, mark_at, next, offered_to, IsRing, packed, small, see_takes_next, see_waits_next, read_next, sweep_next, offer_takes_next, offer_misses_next, word_packs, seen_packs, missed_field_falls, next_keeps, same_position, other_word, packed_apart, eq-eqb, ne_eqb, PermitWord, ◌++◌}
 use mathlib.Core.Option.{some, none}
 use mathlib.Core.Option as maybe
 use native.Mathlib.Nat.{add-mod_right}
@@ -10,7 +10,7 @@ use Rattle.permit_ring.proofs.ListLemmas.{at_end, at_length}
 use Rattle.permit_ring.proofs.MoveLemmas.{leads_on, by_seat-else, by_keeper-own}
 use Rattle.permit_ring.proofs.SeatSteps.{number_is, number_reads, read_back, word_packs_here}
 use Rattle.permit_ring.proofs.Settled.{all_marks, not_over, settled, some_there, more_fronts}
-use Rattle.permit_ring.proofs.States.{ring_of, sizes_of, one_turn_ahead, keeper_port, not_first, seat_stays, fates_stay, slots_stay, slots_set}
+use Rattle.permit_ring.proofs.States.{ring_of, sizes_of, one_turn_ahead, keeper_port, not_first, fates_stay, slots_stay, slots_set}
 
 -- a ring's permit word is one of its sizes
 is_word : (n limit : ℕ) (m : Machine) → IsRing m → HasSizes n limit m → IsWord n limit m.word
@@ -76,11 +76,6 @@ swept_more {swept = swept} {value} {marks} {back} {found} taken was read low all
     (omega arith, omega arith, λ b. let marked = gone b in omega arith)
 
 module _ {O D T N : Type 0} (note : D → N) (Ao : T → O → Type 0) (An : T → N → Type 0) (key : Key T) where
-  -- what a step owes that leaves this value in a word
-  abbrev EndsAt : ℕ → (Known O D T N → ℕ → Known O D T N → Type 0) → Known O D T N → State (Slot O D) (View T N) → ℕ → ℕ → Type 0
-  EndsAt word told me s id value = (w : View T N) × (a : Act (Slot O D)) × Valid s.homes me.1 a
-      × Runs note Ao An key (stepped s word value id me.1 w a) × told me (slice_index s.words word) (w, carried_after me.1 a)
-
   -- what the keeper knows that makes a try
   pub record CanOffer (old new filled vacant : ℕ) (hand : List (ℕ × Slot O D)) (k : KeeperMemo N) : Type 0 where
     pub in_hand : KeepsInHand (Ao key.terms) key.positions k.offered filled vacant hand
@@ -117,11 +112,9 @@ module _ {O D T N : Type 0} (note : D → N) (Ao : T → O → Type 0) (An : T �
         let then : List Move = and_move r.moves step at in
         let else : (i : ℕ) → by_seat i then ≡ by_seat i r.moves = λ i. by_seat-else r.moves step at i (its.no_seats i) in
         let own = by_keeper-own r.moves step at its.own in
-        let seats : (i : ℕ) → seat_at now.seats i ≡ seat_at m.seats i = λ i. ap (λ (l : List SeatView). seat_at l i) its.seats_stay in
         let others : (other : SeatMemo N) → IsSeatMemo m r.moves r.fates r.keeper.fronts r.keeper.made other
         → IsSeatMemo now then r.fates k.fronts k.made other =
-        λ other knew. seat_stays knew (seats other.number) (else other.number) refl (omega (arith, its.claims_stay)) its.fronts_stay
-        (omega (arith, its.made_stays)) in
+        λ other knew. grind (arith, its, else) in
         record {
           sizes = r.sizes;
           machine = now;
@@ -130,7 +123,7 @@ module _ {O D T N : Type 0} (note : D → N) (Ao : T → O → Type 0) (An : T �
           words_are = told;
           fates = r.fates;
           keeper = k;
-          are_fates = fates_stay (omega (arith, its.made_stays)) (λ i. ap (λ (v : SeatView). v.held) (seats i)) its.claims_stay r.are_fates;
+          are_fates = fates_stay (omega (arith, its.made_stays)) (λ i. ap (λ (l : List SeatView). (seat_at l i).held) its.seats_stay) its.claims_stay r.are_fates;
           are_slots = slots;
           keeper_there = set_here s.views 0 (Keeps key k) (at_length s.views 0 (Keeps key r.keeper) r.keeper_there);
           knows = grind (arith, its, r.knows, read, else, own);
@@ -149,173 +142,131 @@ module _ {O D T N : Type 0} (note : D → N) (Ao : T → O → Type 0) (An : T �
     here : packed key.limit m.word ≡ packed m.limit m.word
     here = ap (λ (limit : ℕ). packed limit m.word) (sym (sizes_of r).limit_is)
 
-    -- where the next ticket is finished, its slot has a value of its note
-    next_value : mark_at m.marks (m.reaped % m.positions) ≡ m.reaped + 1
-        → (m.reaped < m.word.claimed) × (i : ℕ) × (d : D)
-        × (get_elem? r.fates m.reaped ≡ some (Some (i, note d)))
-        × (get_elem? s.homes (m.reaped % key.positions) ≡ some (some (Finished d)))
-    next_value ready =
-        let mark = (ring_of r).marks (m.reaped % m.positions) (mod-lt m.reaped (ring_of r).sizes.some_position) in
-        let over = mark.just_above m.reaped ready in
+  -- the steps of a token whose view is the keeper's
+  module _ (slots id : ℕ) (me : Known O D T N) (keeper : KeeperMemo N) (keeps_it : me.0 ≡ Keeps key keeper) where
+    -- its look at the mark of the next ticket: where it is finished its slot is taken, and else only the list of marks grows
+    pub see_ready : (word : ℕ) → slots ≡ key.positions → word ≡ length keeper.notes % key.positions + 3
+        → Allows (Runs note Ao An key) slots id me word (λ n. n) (saw_mark note An (step slots word 0 0 none) me)
+    see_ready word wide e = rw keeps_it (λ s r _ at _.
+        let p = keeper_port r at in
+        let m : Machine = r.machine in
+        let ring = ring_of r in
+        let count = r.knows.counted.reaped_is in
+        let here = rw (p.1, ← count, ← (sizes_of r).positions_are) at e in
+        let place : word ≡ suc (suc (suc (m.reaped % m.positions))) = omega arith in
+        let read : slice_index s.words word ≡ mark_at m.marks (m.reaped % m.positions) = rw (r.words_are, place) in
+        let words = set-get_or s.words word 0 ∙ r.words_are in
+        rw (p.0, p.1) (⊎_elim
+        (λ hit.
+        let mark = ring.marks (m.reaped % m.positions) (mod-lt m.reaped ring.sizes.some_position) in
+        let over = mark.just_above m.reaped (omega arith) in
         let out = over.claimed_before in
         let x = some_there r.fates m.reaped (omega (arith, r.are_fates.each_claimed))
         (λ e. let o = r.are_fates.open_is_held m.reaped e in over.held_by_none o.0 o.1) in
-        let home = (r.are_slots.each m.reaped (le_refl m.reaped) (omega (arith, r.sizes.some_position))).finished_home x.0.0 x.0.1 x.1 in
-        (out, x.0.0, home.0, rw home.1 x.1, home.2)
-
-    -- the look at the mark of the next ticket: where it is finished its slot is taken, and else only the list of marks grows
-    sees : (slots word : ℕ) (hand : List (ℕ × Slot O D)) → slots ≡ key.positions → word ≡ length r.keeper.notes % key.positions + 3
-        → EndsAt word (saw_mark note An (step slots word 0 0 none)) (Keeps key r.keeper, hand) s 0 (slice_index s.words word)
-    sees slots word hand wide e =
-        let count : m.reaped ≡ length r.keeper.notes = r.knows.counted.reaped_is in
-        let place : m.reaped % m.positions ≡ length r.keeper.notes % key.positions = ap₂ ◌%◌ count (sizes_of r).positions_are in
-        let at : word ≡ suc (suc (suc (m.reaped % m.positions))) = omega arith in
-        let read : slice_index s.words word ≡ mark_at m.marks (m.reaped % m.positions) = ap₂ slice_index r.words_are at in
-        let words = set-get_or s.words word 0 ∙ r.words_are in
-        elim (cases_eq (slice_index s.words word) (length r.keeper.notes + 1)) [
-          | inl hit ↦
-              let mark : mark_at m.marks (m.reaped % m.positions) ≡ m.reaped + 1 = omega arith in
-              let x = next_value mark in
-              let note_is : N = note x.2 in
-              let account = (ring_of r).permits.account in
-              let turn = one_turn_ahead r in
-              let slots_now = slots_reaped m r.sizes.some_position (omega arith) turn r.are_fates.each_claimed x.0 r.are_slots in
-              let noted = λ (t : ℕ) (y : N) (e : get_elem? (r.keeper.notes ++ note_is ∷ []) t ≡ some y).
-              elim (at_end r.keeper.notes note_is y t e) as (λ _. (i : ℕ) × (get_elem? r.fates t ≡ some (Some (i, y)))) [
-                | inl old ↦ r.knows.noted t y old
-                | inr new ↦ (x.1, ap (get_elem? r.fates) (new.0 ∙ sym count) ∙ x.3 ∙ ap (λ (z : N). some (Some (x.1, z))) new.1)
-              ] in
-              let reaped : m.reaped + 1 ≡ length (r.keeper.notes ++ note_is ∷ []) = omega (arith, length_push r.keeper.notes note_is) in
-              let home : length r.keeper.notes % slots ≡ m.reaped % key.positions = ap₂ ◌%◌ (sym count) wide in
-              let claimed = (small m (ring_of r)).claimed in (
-                Keeps key (reaps (slice_index s.words word) note_is r.keeper),
-                takes (length r.keeper.notes % slots) (Finished x.2),
-                ap (get_elem? s.homes) home ∙ x.4,
-                keeper_steps See (see_takes_next m mark) read words (rw home slots_now) (assumption (reaped, noted)),
-                (
-                  λ _. (x.2, (r.are_fates.finished m.reaped x.1 note_is x.3).1, refl, omega arith, omega arith, not_over r x.1 note_is x.3),
-                  λ miss. absurd (miss hit),
-                ),
-              )
-          | inr miss ↦
-              let other : mark_at m.marks (m.reaped % m.positions) ≢ m.reaped + 1 = λ hit. miss (omega arith) in
-              let k : KeeperMemo N = waits (slice_index s.words word) r.keeper in
-              let runs = keeper_steps See {k = k} (see_waits_next m other) read words r.are_slots (assumption) in
-              (Keeps key k, keeps, tt, runs, ((λ hit. absurd (miss hit)), λ _. (refl, λ back. search (settled r other back))))
-        ]
-
-    -- a sweep of a kind of loss
-    sweeps_loss : (slots kind : ℕ) (hand : List (ℕ × Slot O D)) → kind < 2
-        → EndsAt (kind + 1) (swept_loss (step slots (kind + 1) 0 0 none)) (Keeps key r.keeper, hand) s 0 0
-    sweeps_loss slots zero hand low =
-        let read : slice_index s.words 1 ≡ m.loss0.value = ap (λ (ws : List ℕ). slice_index ws 1) r.words_are in
-        let swept = swept_more r.keeper.swept0 r.knows.counted.swept0_is read (small m (ring_of r)).loss0 (ring_of r).loss0
-        (λ back. all_marks r back 0 refl) in
-        let k : KeeperMemo N = sweeps 0 (slice_index s.words 1) r.keeper in
-        let runs = keeper_steps (Sweep 0) {k = k} (sweep_next m 0 low) read (ap (λ (ws : List ℕ). set ws 1 0) r.words_are)
-        (slots_stay refl refl refl r.are_slots) (assumption swept.0) in
-        (Keeps key k, keeps, tt, runs, (refl, swept.1, swept.2))
-    sweeps_loss slots (suc zero) hand low =
-        let read : slice_index s.words 2 ≡ m.loss1.value = ap (λ (ws : List ℕ). slice_index ws 2) r.words_are in
-        let swept = swept_more r.keeper.swept1 r.knows.counted.swept1_is read (small m (ring_of r)).loss1 (ring_of r).loss1
-        (λ back. all_marks r back 1 refl) in
-        let k : KeeperMemo N = sweeps 1 (slice_index s.words 2) r.keeper in
-        let runs = keeper_steps (Sweep 1) {k = k} (sweep_next m 1 low) read (ap (λ (ws : List ℕ). set ws 2 0) r.words_are)
-        (slots_stay refl refl refl r.are_slots) (assumption swept.0) in
-        (Keeps key k, keeps, tt, runs, (refl, swept.1, swept.2))
-    sweeps_loss slots (suc (suc kind)) hand low = absurd (omega (arith, low))
-
-    module _ (slots old new filled vacant : ℕ) (hand : List (ℕ × Slot O D)) (can : CanOffer old new filled vacant hand r.keeper) where
-      -- the ring has room for what was filled
-      has_room : (1 ≤ ready hand) × (m.offered + ready hand ≤ m.reaped + m.positions)
-      has_room = grind (arith, can, sizes_of r, r.knows.counted, ready_is can.in_hand)
-
-      -- another word was found: only the word that the keeper knows changes
-      offers_missing : slice_index s.words 0 ≢ old
-          → EndsAt 0 (tried_offer (step slots 0 old new none)) (Keeps key r.keeper, hand) s 0 (slice_index s.words 0)
-      offers_missing miss =
-          let seen = r.knows.counted.seen_is in
-          let other : m.word ≢ m.seen = λ same. miss (number_is r ∙ ap (packed key.limit) (same ∙ seen) ∙ sym can.was) in
-          let falls = rw ((sizes_of r).limit_is, seen) at (missed_field_falls r.machine (ring_of r) (other_word m.word m.seen other)) in
-          let k : KeeperMemo N = misses key.limit (ready hand) m.word r.keeper in
-          let runs = keeper_steps (Offer (ready hand)) {k = k} (offer_misses_next m (ready hand) has_room.0 has_room.1 other) here
-          (set-get_or s.words 0 0 ∙ r.words_are) (slots_stay refl refl refl r.are_slots) (assumption) in
-          (Keeps key k, keeps, tt, runs, ((λ hit. absurd (miss hit)), λ _. rw (read_back r) (number_reads r, refl, word_in, falls)))
-
-      -- the keeper's word was found: all slots that are filled again are given back
-      offers_hitting : slice_index s.words 0 ≡ old → EndsAt 0 (tried_offer (step slots 0 old new none)) (Keeps key r.keeper, hand) s 0 new
-      offers_hitting hit =
-          let m : Machine = r.machine in
-          let counted = r.knows.counted in
-          let its = can.in_hand in
-          let count : ℕ = ready hand in
-          let positions = (sizes_of r).positions_are in
-          let limit = (sizes_of r).limit_is in
-          let read = sym (number_is r) ∙ hit ∙ can.was ∙ ap (packed key.limit) (sym counted.seen_is) in
-          let same : m.word ≡ m.seen = packed_apart key.limit m.word m.seen (omega (arith, r.sizes.most_seats)) (word_packs_here r)
-          (rw limit at (seen_packs r.machine (ring_of r))) read in
-          let word : m.word ≡ r.keeper.seen = same ∙ counted.seen_is in
-          let leads = offer_takes_next m count has_room.0 has_room.1 same in
-          let now : Machine = record m { word = offered_to m.word count; offered = m.offered + count; seen = offered_to m.word count } in
-          let left = is_word key.positions key.limit now (rw leads at (next_keeps r.machine (ring_of r) (Offer count)))
-          (record { positions_are = positions; limit_is = limit }) in
-          let permits = (ring_of r).permits in
-          let long : ready hand ≡ length its.values = ready_is its ∙ sym its.filled_are in
-          let room = has_room.1 in
-          let k : KeeperMemo N = offers_all key.limit count r.keeper in
-          let last : (earlier : List ℕ) × (k.fronts ≡ earlier ++ k.offered ∷ []) = (r.keeper.fronts, refl) in
-          let words = ap₂ (λ (ws : List ℕ) (n : ℕ). set ws 0 n) r.words_are (can.becomes ∙ λ i. packed (sym limit i)
-          (offered_to (sym word i) (sym (ready_is its) i))) in
-          let offered = ap (λ (o : ℕ). o + count) counted.offered_is in
-          let first = at_longer r.keeper.fronts (k.offered ∷ []) 0 key.positions counted.first_front in
-          let seen = ap (λ (w : PermitWord). offered_to w count) word in
-          let runs = keeper_steps (Offer count) {k = k} leads (ap₂ packed (sym limit) (sym word)) words
-          (rw (long, its.in_hand, ← counted.offered_is) (slots_offered its.values vacant m s.homes refl refl refl its.admitted
-          permits.reaped_claimed (omega (arith, permits.account)) (omega arith) r.are_fates.each_claimed r.are_slots))
-          (assumption (offered, first, last, seen, more_fronts r.keeper.fronts k.offered)) in
-          let valid = gives_valid count s.homes hand in
-          (Keeps key k, gives_all count, valid, runs, ((λ _. (rw (gives_rest count hand) refl, rw word at left)), λ m. absurd (m hit)))
-
-  -- the steps of a token whose view is the keeper's
-  module _ (slots id : ℕ) (me : Known O D T N) (keeps_it : me.0 ≡ Keeps key (keeper_in me.0)) where
-    -- that view is the rule's keeper at the first port, so a step is allowed that this keeper may make there
-    keeper_allowed : (word : ℕ) (f : ℕ → ℕ) (told : Known O D T N → ℕ → Known O D T N → Type 0)
-        → ((s : State (Slot O D) (View T N)) (r : Runs note Ao An key s) → keeper_in me.0 ≡ r.keeper
-        → EndsAt word told (Keeps key r.keeper, me.1) s 0 (f (slice_index s.words word)))
-        → Allows (Runs note Ao An key) slots id me word f (told me)
-    keeper_allowed word f told ends s r wide at fits =
-        let here = keeper_port r (at ∙ ap some keeps_it) in
-        let view : Keeps key r.keeper ≡ me.0 = ap (Keeps key) (sym here.1) ∙ sym keeps_it in
-        subst (λ (x : ℕ × View T N). EndsAt word told (x.1, me.1) s x.0 (f (slice_index s.words word))) (λ j. (sym here.0 j, view j))
-        (ends s r here.1)
-
-    -- its look at the mark of the next ticket
-    pub see_ready : (word : ℕ) → slots ≡ key.positions → word ≡ length (keeper_in me.0).notes % key.positions + 3
-        → Allows (Runs note Ao An key) slots id me word (λ n. n) (saw_mark note An (step slots word 0 0 none) me)
-    see_ready word same is = keeper_allowed word (λ n. n) (saw_mark note An (step slots word 0 0 none))
-        (λ s r known. sees r slots word me.1 same (rw known at is))
+        let slot = r.are_slots.each m.reaped (le_refl m.reaped) (omega (arith, r.sizes.some_position)) in
+        let home = slot.finished_home x.0.0 x.0.1 x.1 in
+        let value : D = home.0 in
+        let fate : get_elem? r.fates m.reaped ≡ some (Some (x.0.0, note value)) = rw home.1 x.1 in
+        let account = ring.permits.account in
+        let turn = one_turn_ahead r in
+        let slots_now = slots_reaped m r.sizes.some_position (omega arith) turn r.are_fates.each_claimed out r.are_slots in
+        let noted : (t : ℕ) (y : N) → get_elem? (r.keeper.notes ++ note value ∷ []) t ≡ some y → (i : ℕ) × (get_elem? r.fates t ≡ some (Some (i, y))) =
+        λ t y e. ⊎_elim (r.knows.noted t y) (λ new. (x.0.0, cc (new.0, new.1, count, fate))) (at_end r.keeper.notes (note value) y t e) in
+        let reaped : m.reaped + 1 ≡ length (r.keeper.notes ++ note value ∷ []) = omega (arith, length_push r.keeper.notes (note value)) in
+        let home_place : length r.keeper.notes % slots ≡ m.reaped % key.positions = ap₂ ◌%◌ (sym count) wide in
+        let admitted = (r.are_fates.finished m.reaped x.0.0 (note value) fate).1 in
+        let left = not_over r x.0.0 (note value) fate in
+        let claimed = (small m ring).claimed in (
+          Keeps key (reaps (slice_index s.words word) (note value) r.keeper),
+          takes (length r.keeper.notes % slots) (Finished value),
+          ap (get_elem? s.homes) home_place ∙ home.2,
+          keeper_steps r See (see_takes_next m (omega arith)) read words (rw home_place slots_now) (assumption (reaped, noted)),
+          ((λ _. (value, admitted, refl, omega arith, omega arith, left)), λ miss. absurd (miss hit)),
+        ))
+        (λ miss.
+        let other : mark_at m.marks (m.reaped % m.positions) ≢ m.reaped + 1 = λ hit. miss (omega arith) in
+        let k : KeeperMemo N = waits (slice_index s.words word) r.keeper in
+        let runs = keeper_steps r See {k = k} (see_waits_next m other) read words r.are_slots (assumption) in
+        (Keeps key k, keeps, tt, runs, ((λ hit. absurd (miss hit)), λ _. (refl, λ back. search (settled r other back)))))
+        (cases_eq (slice_index s.words word) (length r.keeper.notes + 1))))
 
     -- its look at the permit word: only the word that it knows changes
     pub read_ready : Allows (Runs note Ao An key) slots id me 0 (λ n. n) (read_word (step slots 0 0 0 none) me)
-    read_ready = keeper_allowed 0 (λ n. n) (read_word (step slots 0 0 0 none)) (λ s r _. (
-      Keeps key (reads key.limit r.machine.word r.keeper),
-      keeps,
-      tt,
-      keeper_steps r Read (read_next r.machine) (here r) (set-get_or s.words 0 0 ∙ r.words_are) (slots_stay refl refl refl r.are_slots)
-          (assumption),
-      rw (read_back r) (number_reads r, refl, word_in r),
-    ))
+    read_ready = rw keeps_it (λ s r _ at _.
+        let p = keeper_port r at in
+        let words = set-get_or s.words 0 0 ∙ r.words_are in
+        let k : KeeperMemo N = reads key.limit r.machine.word r.keeper in
+        let runs = keeper_steps r Read {k = k} (read_next r.machine) (here r) words (slots_stay refl refl refl r.are_slots) (assumption) in
+        rw (p.0, p.1, read_back r) (Keeps key k, keeps, tt, runs, (number_reads r, refl, word_in r)))
 
     -- its sweep of a kind of loss
     pub sweep_ready : (kind : ℕ) → kind < 2 → Allows (Runs note Ao An key) slots id me (kind + 1) (λ _. 0)
         (swept_loss (step slots (kind + 1) 0 0 none) me)
-    sweep_ready kind low = keeper_allowed (kind + 1) (λ _. 0) (swept_loss (step slots (kind + 1) 0 0 none))
-        (λ s r _. sweeps_loss r slots kind me.1 low)
+    sweep_ready zero low = rw keeps_it (λ s r _ at _.
+        let p = keeper_port r at in
+        let read : slice_index s.words 1 ≡ r.machine.loss0.value = ap (λ (ws : List ℕ). slice_index ws 1) r.words_are in
+        let swept = swept_more r.keeper.swept0 r.knows.counted.swept0_is read (small r.machine (ring_of r)).loss0 (ring_of r).loss0
+        (λ back. all_marks r back 0 refl) in
+        let k : KeeperMemo N = sweeps 0 (slice_index s.words 1) r.keeper in
+        let runs = keeper_steps r (Sweep 0) {k = k} (sweep_next r.machine 0 low) read (ap (λ (ws : List ℕ). set ws 1 0) r.words_are)
+        (slots_stay refl refl refl r.are_slots) (assumption swept.0) in
+        rw (p.0, p.1) (Keeps key k, keeps, tt, runs, (refl, swept.1, swept.2)))
+    sweep_ready (suc zero) low = rw keeps_it (λ s r _ at _.
+        let p = keeper_port r at in
+        let read : slice_index s.words 2 ≡ r.machine.loss1.value = ap (λ (ws : List ℕ). slice_index ws 2) r.words_are in
+        let swept = swept_more r.keeper.swept1 r.knows.counted.swept1_is read (small r.machine (ring_of r)).loss1 (ring_of r).loss1
+        (λ back. all_marks r back 1 refl) in
+        let k : KeeperMemo N = sweeps 1 (slice_index s.words 2) r.keeper in
+        let runs = keeper_steps r (Sweep 1) {k = k} (sweep_next r.machine 1 low) read (ap (λ (ws : List ℕ). set ws 2 0) r.words_are)
+        (slots_stay refl refl refl r.are_slots) (assumption swept.0) in
+        rw (p.0, p.1) (Keeps key k, keeps, tt, runs, (refl, swept.1, swept.2)))
+    sweep_ready (suc (suc kind)) low = absurd (omega (arith, low))
 
-    -- and its try to offer what is filled
-    pub offer_ready : (old new filled vacant : ℕ) → CanOffer old new filled vacant me.1 (keeper_in me.0)
+    -- and its try to offer what is filled: all slots that are filled again are given back, or another word was found
+    pub offer_ready : (old new filled vacant : ℕ) → CanOffer old new filled vacant me.1 keeper
         → Allows (Runs note Ao An key) slots id me 0 (λ n. either (eqb n old) new n) (tried_offer (step slots 0 old new none) me)
-    offer_ready old new filled vacant can = keeper_allowed 0 (λ n. either (eqb n old) new n) (tried_offer (step slots 0 old new none))
-        (λ s r known. let its = subst (CanOffer old new filled vacant me.1) known can in
-        exchanged (slice_index s.words 0) old new (EndsAt 0 (tried_offer (step slots 0 old new none)) (Keeps key r.keeper, me.1) s 0)
-        (offers_hitting r slots old new filled vacant me.1 its) (offers_missing r slots old new filled vacant me.1 its))
+    offer_ready old new filled vacant may = rw keeps_it (λ s r _ at _.
+        let p = keeper_port r at in
+        let can = rw p.1 at may in
+        let its = can.in_hand in
+        let m : Machine = r.machine in
+        let count : ℕ = ready me.1 in
+        let ring = ring_of r in
+        let counted = r.knows.counted in
+        let limit = (sizes_of r).limit_is in
+        let room : (1 ≤ count) × (m.offered + count ≤ m.reaped + m.positions) = grind (arith, can, sizes_of r, counted, ready_is its) in
+        rw (p.0, p.1) (⊎_elim
+        (λ hit.
+        let read = sym (number_is r) ∙ hit ∙ can.was ∙ ap (packed key.limit) (sym counted.seen_is) in
+        let same : m.word ≡ m.seen = packed_apart key.limit m.word m.seen (omega (arith, r.sizes.most_seats)) (word_packs_here r)
+        (rw limit at (seen_packs m ring)) read in
+        let word : m.word ≡ r.keeper.seen = same ∙ counted.seen_is in
+        let leads = offer_takes_next m count room.0 room.1 same in
+        let now : Machine = record m { word = offered_to m.word count; offered = m.offered + count; seen = offered_to m.word count } in
+        let left = is_word key.positions key.limit now (rw leads at (next_keeps m ring (Offer count)))
+        (record { positions_are = (sizes_of r).positions_are; limit_is = limit }) in
+        let account = ring.permits.account in
+        let long : count ≡ length its.values = ready_is its ∙ sym its.filled_are in
+        let k : KeeperMemo N = offers_all key.limit count r.keeper in
+        let first = at_longer r.keeper.fronts (k.offered ∷ []) 0 key.positions counted.first_front in
+        let words : set s.words 0 new ≡ words_of now = rw (r.words_are, can.becomes, limit, word, ready_is its) in
+        let offered = ap (λ (o : ℕ). o + count) counted.offered_is in
+        let last : (earlier : List ℕ) × (k.fronts ≡ earlier ++ k.offered ∷ []) = (r.keeper.fronts, refl) in
+        let seen = ap (λ (w : PermitWord). offered_to w count) word in
+        let runs = keeper_steps r (Offer count) {k = k} leads (ap₂ packed (sym limit) (sym word)) words
+        (rw (long, its.in_hand, ← counted.offered_is) (slots_offered its.values vacant m s.homes refl refl refl its.admitted
+        ring.permits.reaped_claimed (omega (arith, account)) (omega arith) r.are_fates.each_claimed r.are_slots))
+        (assumption (offered, first, last, seen, more_fronts r.keeper.fronts k.offered)) in
+        let valid = gives_valid count s.homes me.1 in
+        let rest = gives_rest count me.1 in
+        rw (eq-eqb (slice_index s.words 0) old hit)
+        (Keeps key k, gives_all count, valid, runs, ((λ _. (rw rest refl, rw word at left)), λ miss. absurd (miss hit))))
+        (λ miss.
+        let other : m.word ≢ m.seen = λ same. miss (number_is r ∙ ap (packed key.limit) (same ∙ counted.seen_is) ∙ sym can.was) in
+        let falls = rw (limit, counted.seen_is) at (missed_field_falls m ring (other_word m.word m.seen other)) in
+        let k : KeeperMemo N = misses key.limit count m.word r.keeper in
+        let runs = keeper_steps r (Offer count) {k = k} (offer_misses_next m count room.0 room.1 other) (here r)
+        (set-get_or s.words 0 0 ∙ r.words_are) (slots_stay refl refl refl r.are_slots) (assumption) in
+        rw (ne_eqb (slice_index s.words 0) old miss, read_back r)
+        (Keeps key k, keeps, tt, runs, ((λ hit. absurd (miss hit)), λ _. (number_reads r, refl, word_in r, falls))))
+        (cases_eq (slice_index s.words 0) old)))

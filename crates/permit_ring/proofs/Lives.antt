@@ -1,12 +1,12 @@
 -- Splits and joins keep the rule: the keeper makes one more seat, or takes one back.
-use Rattle.permit_ring.proofs.Names.{◌≡◌, ◌≢◌, ℕ, ◌+◌, ◌<◌, true, false, cond, eqb, List, [], ◌∷◌, ◌++◌, set, length, Option, Some, None, refl, sym, ◌∙◌, ap, inl, inr, le_refl, eq-eqb, ne_eqb, arith, common_steps, length-append, length-set, State, Joins, Splits, at_set, set_here, set_else, at_longer, at_last, Machine, opening, new_seat, after, seat_at, is_idle, with_seat, split_next, join_next, SameHolders, holders_stay_push, live_is_made, holders_stay, seat_at-here, seat_at-else, SeatView, Split, Join, Key, KeeperMemo, Move, SeatMemo, Slot, View, Sits, Keeps, Spent, Leads, by_seat, by_keeper, join_both, join_spent, split_left, split_right, IsSeatMemo, IsSomewhere, Runs, and_move, ended, new_memo, makes, welcomes}
+use Rattle.permit_ring.proofs.Names.{◌≡◌, ◌≢◌, ℕ, ◌+◌, ◌<◌, true, false, cond, eqb, List, [], ◌∷◌, ◌++◌, set, length, Some, None, refl, sym, ◌∙◌, ap, inl, inr, le_refl, eq-eqb, ne_eqb, arith, ⊎_elim, common_steps, length-append, length-set, State, Joins, Splits, at_set, set_here, set_else, at_longer, at_last, Machine, opening, new_seat, after, seat_at, is_idle, with_seat, split_next, join_next, SameHolders, holders_stay_push, live_is_made, holders_stay, seat_at-here, seat_at-else, SeatView, Split, Join, Key, KeeperMemo, Move, SeatMemo, Slot, View, Sits, Keeps, Spent, Leads, by_seat, by_keeper, join_both, join_spent, split_left, split_right, IsSeatMemo, Runs, and_move, ended, new_memo, makes, welcomes}
 use mathlib.Core.Option.{some}
 use lib.ListN.{get_elem?}
 use Rattle.permit_ring.proofs.LogLemmas.{taken_none}
 use Rattle.permit_ring.proofs.ListLemmas.{at_end, at_length}
 use Rattle.permit_ring.proofs.MoveLemmas.{leads_on, by_seat-else, by_keeper-own}
 use Rattle.permit_ring.proofs.NewRings.{new_ordered}
-use Rattle.permit_ring.proofs.States.{seat_stays, fates_stay, slots_stay, keeper_port, not_first, at_own_port, knows_it, is_live, sizes_of}
+use Rattle.permit_ring.proofs.States.{fates_stay, slots_stay, keeper_port, not_first, seated, sizes_of}
 
 -- the seats and the moves after the seat of this number was made
 record IsSplit (made : ℕ) (seats now : List SeatView) (moves then : List Move) : Type 0 where
@@ -32,32 +32,15 @@ module _ {O D T N : Type 0} {note : D → N} {Ao : T → O → Type 0} {An : T �
   abbrev owner : ℕ → ℕ
   owner i = cond (eqb i r.keeper.made) (length s.views) (r.owner i)
 
-  -- the seats that were made before know what they knew
+  -- the seats that were made before know what they knew, and the new one knows of no call
   known : (memo : SeatMemo N) → IsSeatMemo r.machine r.moves r.fates r.keeper.fronts r.keeper.made memo
       → IsSeatMemo after_it then r.fates r.keeper.fronts (r.keeper.made + 1) memo
   known memo is = grind (arith, split)
 
-  -- and the new one knows of no call
   known_new : IsSeatMemo after_it then r.fates r.keeper.fronts (r.keeper.made + 1) (new_memo r.keeper.made)
   known_new =
       let none_taken = taken_none r.keeper.made 0 r.fates (λ t x e. let done = r.are_fates.finished t r.keeper.made x e in omega arith) in
-      let unmade = r.knows.unmade_rest r.keeper.made (le_refl r.keeper.made) in
-      grind (arith, common_steps, split.new, split.quiet r.keeper.made, unmade, new_ordered {N = N} r.keeper.made, none_taken)
-
-  -- each seat of before is where it was, and the new one is at its port
-  each_made : (i : ℕ) (back : Option (SeatMemo N)) → get_elem? (r.keeper.back ++ None ∷ []) i ≡ some back
-      → IsSomewhere key after_it then r.fates (makes r.keeper) (kept ++ newest ∷ []) owner i back
-  each_made i back e = elim (at_end r.keeper.back None back i e) [
-    | inl before ↦
-        let less = at_length r.keeper.back i back before in
-        let else = set_else s.views 0 (r.owner i) (Keeps key (makes r.keeper)) in
-        let longer = at_longer kept (newest ∷ []) (r.owner i) in
-        grind (arith, before, less, r.knows.back_is, r.each_seat i back, else, not_first r (r.owner i), longer, known, ne_eqb)
-    | inr last ↦
-        let here : i ≡ r.keeper.made = last.0 ∙ r.knows.back_is in
-        let end = at_last kept newest (length s.views) (length-set s.views 0 (Keeps key (makes r.keeper))) in
-        rw (← last.1) (new_memo r.keeper.made, sym here, rw (eq-eqb i r.keeper.made here) end)
-  ]
+      grind (arith, common_steps, split, r.knows.unmade_rest, new_ordered {N = N} r.keeper.made, none_taken)
 
   -- the rule after the split
   split_runs : Leads (opening key.positions key.limit) then after_it → (makes r.keeper).moves ≡ by_keeper then
@@ -81,71 +64,18 @@ module _ {O D T N : Type 0} {note : D → N} {Ao : T → O → Type 0} {An : T �
         let last = at_end kept newest v port e in
         let before = at_set s.views 0 port (Keeps key (makes r.keeper)) v in
         grind (arith, last, before, r.each_view port v, known, known_new, long, eq-eqb, ne_eqb);
-    each_seat = each_made;
-  }
-
-module _ {O D T N : Type 0} {note : D → N} {Ao : T → O → Type 0} {An : T → N → Type 0} {key : Key T} {s : State (Slot O D) (View T N)}
-    (r : Runs note Ao An key s) (other : ℕ) (memo : SeatMemo N) (at : get_elem? s.views other ≡ some (Sits key memo))
-    (idle : is_idle memo.view ≡ true) where
-  -- the seat that ends, as the machine has it
-  abbrev gone : SeatView
-  gone = record (seat_at r.machine.seats memo.number) { live = false }
-
-  abbrev after_join : Machine
-  after_join = with_seat r.machine memo.number gone
-
-  abbrev further : List Move
-  further = and_move r.moves (Join memo.number) 0
-
-  abbrev kept_back : List (View T N)
-  kept_back = set s.views 0 (Keeps key (welcomes memo r.keeper))
-
-  was_made : memo.number < length r.machine.seats
-  was_made = live_is_made r.machine.seats memo.number (rw (knows_it r other at).shows at (is_live r other at))
-
-  -- each other seat that was made knows what it knew
-  join_known : (k : SeatMemo N) → k.number ≢ memo.number → IsSeatMemo r.machine r.moves r.fates r.keeper.fronts r.keeper.made k
-      → IsSeatMemo after_join further r.fates r.keeper.fronts r.keeper.made k
-  join_known k apart was = seat_stays was (seat_at-else r.machine.seats memo.number gone was_made k.number apart)
-      (by_seat-else r.moves (Join memo.number) 0 k.number refl) refl (le_refl r.machine.word.claimed) (λ g stands. stands)
-      (le_refl r.keeper.made)
-
-  -- and so does this one, but that it is not live any more
-  join_ended : IsSeatMemo after_join further r.fates r.keeper.fronts r.keeper.made (ended memo)
-  join_ended =
-      let here = seat_at-here r.machine.seats memo.number gone was_made in
-      grind (arith, common_steps, here, by_seat-else r.moves (Join memo.number) 0, knows_it r other at)
-
-  -- the rule after the join
-  joins : Runs note Ao An key record { words = s.words; homes = s.homes; views = set kept_back other Spent }
-  joins = record {
-    sizes = r.sizes;
-    machine = after_join;
-    moves = further;
-    reached = leads_on (opening key.positions key.limit) r.machine after_join r.moves (Join memo.number) r.reached
-        (join_next r.machine memo.number (rw (knows_it r other at).shows at idle));
-    words_are = r.words_are;
-    fates = r.fates;
-    keeper = welcomes memo r.keeper;
-    are_fates = fates_stay (le_refl r.keeper.made) (holders_stay r.machine.seats memo.number gone was_made refl) refl r.are_fates;
-    are_slots = slots_stay refl refl refl r.are_slots;
-    keeper_there = set_else kept_back other 0 Spent (λ e. not_first r other at (sym e))
-        ∙ set_here s.views 0 (Keeps key (welcomes memo r.keeper)) (at_length s.views 0 (Keeps key r.keeper) r.keeper_there);
-    knows =
-        let own = by_keeper-own r.moves (Join memo.number) 0 refl in
-        let long = length-set r.machine.seats memo.number gone in
-        let back = length-set r.keeper.back memo.number (Some (ended memo)) in
-        grind (arith, r.knows, (knows_it r other at).is_made, own, long, back, by_seat-else r.moves (Join memo.number) 0);
-    owner = r.owner;
-    each_view = λ port v e.
-        let spent = at_set kept_back other port Spent v e in
-        let before = at_set s.views 0 port (Keeps key (welcomes memo r.keeper)) v in
-        grind (arith, spent, before, r.each_view port v, join_known, at_own_port r other at);
-    each_seat = λ i back e.
-        let back_now = at_set r.keeper.back memo.number i (Some (ended memo)) back e in
-        let spent = set_else kept_back other (r.owner i) Spent in
-        let else = set_else s.views 0 (r.owner i) (Keeps key (welcomes memo r.keeper)) in
-        grind (arith, back_now, r.each_seat i back, spent, else, not_first r (r.owner i), at, join_known, join_ended);
+    -- each seat of before is where it was, and the new one is at its port
+    each_seat = λ i back e. ⊎_elim
+        (λ before.
+        let less = at_length r.keeper.back i back before in
+        let else = set_else s.views 0 (r.owner i) (Keeps key (makes r.keeper)) in
+        let longer = at_longer kept (newest ∷ []) (r.owner i) in
+        grind (arith, before, less, r.knows.back_is, r.each_seat i back, else, not_first r (r.owner i), longer, known, ne_eqb))
+        (λ last.
+        let here : i ≡ r.keeper.made = last.0 ∙ r.knows.back_is in
+        let end = at_last kept newest (length s.views) (length-set s.views 0 (Keeps key (makes r.keeper))) in
+        rw (← last.1) (new_memo r.keeper.made, sym here, rw (eq-eqb i r.keeper.made here) end))
+        (at_end r.keeper.back None back i e);
   }
 
 module _ {O D T N : Type 0} (note : D → N) (Ao : T → O → Type 0) (An : T → N → Type 0) (key : Key T) where
@@ -173,4 +103,48 @@ module _ {O D T N : Type 0} (note : D → N) (Ao : T → O → Type 0) (An : T �
       let p = keeper_port r (at ∙ ap some keeps) in
       let there : get_elem? s.views other ≡ some (Sits key memo) = sym (set_else s.views id other (join_both v w) apart) ∙ at_other
       ∙ ap some sits in
-      rw (keeps, sits, p.0, p.1) (joins r other memo there idle)
+      let m : Machine = r.machine in
+      let its = (seated r other there).2 in
+      -- the seat that ends, as the machine has it
+      let gone : SeatView = record (seat_at m.seats memo.number) { live = false } in
+      let now : Machine = with_seat m memo.number gone in
+      let moves : List Move = and_move r.moves (Join memo.number) 0 in
+      let quiet = by_seat-else r.moves (Join memo.number) 0 in
+      let made = live_is_made m.seats memo.number (rw its.shows at (seated r other there).1) in
+      -- each other seat that was made knows what it knew
+      let known : (k : SeatMemo N) → k.number ≢ memo.number → IsSeatMemo m r.moves r.fates r.keeper.fronts r.keeper.made k
+      → IsSeatMemo now moves r.fates r.keeper.fronts r.keeper.made k =
+      λ k apart was. grind (arith, seat_at-else m.seats memo.number gone made, quiet) in
+      -- and so does this one, but that it is not live any more
+      let here = seat_at-here m.seats memo.number gone made in
+      let ends : IsSeatMemo now moves r.fates r.keeper.fronts r.keeper.made (ended memo) = grind (arith, common_steps) in
+      let kept : List (View T N) = set s.views 0 (Keeps key (welcomes memo r.keeper)) in
+      rw (keeps, sits, p.0, p.1) record {
+        sizes = r.sizes;
+        machine = now;
+        moves = moves;
+        reached = leads_on (opening key.positions key.limit) m now r.moves (Join memo.number) r.reached
+            (join_next m memo.number (rw its.shows at idle));
+        words_are = r.words_are;
+        fates = r.fates;
+        keeper = welcomes memo r.keeper;
+        are_fates = fates_stay (le_refl r.keeper.made) (holders_stay m.seats memo.number gone made refl) refl r.are_fates;
+        are_slots = slots_stay refl refl refl r.are_slots;
+        keeper_there = set_else kept other 0 Spent (λ e. not_first r other there (sym e))
+            ∙ set_here s.views 0 (Keeps key (welcomes memo r.keeper)) (at_length s.views 0 (Keeps key r.keeper) r.keeper_there);
+        knows =
+            let own = by_keeper-own r.moves (Join memo.number) 0 refl in
+            let long = length-set m.seats memo.number gone in
+            let back = length-set r.keeper.back memo.number (Some (ended memo)) in
+            grind (arith, r.knows, its.is_made, own, long, back, quiet);
+        owner = r.owner;
+        each_view = λ port v e.
+            let spent = at_set kept other port Spent v e in
+            let before = at_set s.views 0 port (Keeps key (welcomes memo r.keeper)) v in
+            grind (arith, spent, before, r.each_view port v, known, (seated r other there).0);
+        each_seat = λ i back e.
+            let back_now = at_set r.keeper.back memo.number i (Some (ended memo)) back e in
+            let spent = set_else kept other (r.owner i) Spent in
+            let else = set_else s.views 0 (r.owner i) (Keeps key (welcomes memo r.keeper)) in
+            grind (arith, back_now, r.each_seat i back, spent, else, not_first r (r.owner i), there, known, ends);
+      }

@@ -1,9 +1,9 @@
 -- The log of a seat and what became of tickets, with one call or one ticket more.
-use Rattle.permit_ring.proofs.Names.{◌≡◌, ◌≢◌, ℕ, zero, suc, ◌+◌, ◌<◌, ◌≤◌, ◌⊎◌, Bool, true, false, cond, List, [], ◌∷◌, ◌++◌, set, Option, Some, None, refl, sym, ◌∙◌, ap, inl, inr, eqb, eq-eqb, ne_eqb, eqb-true, arith, lt-ltb, le-ltb, common_steps, append-nil, at_snoc, at_map, map, PermitWord, Outcome, Lost, Got, start_of, end_of, RisesFrom, end_from, got_of, taken_by, StandsIn, and_lost}
-use mathlib.Core.Option.{some, some-injective}
+use Rattle.permit_ring.proofs.Names.{◌≡◌, ◌≢◌, ℕ, zero, suc, ◌+◌, ◌<◌, ◌≤◌, ◌⊎◌, Bool, true, false, cond, List, [], ◌∷◌, ◌++◌, set, Option, Some, None, refl, sym, ◌∙◌, ap, inl, inr, eqb, eq-eqb, ne_eqb, eqb-true, arith, lt-ltb, le-ltb, common_steps, at_map, map, PermitWord, Outcome, Lost, Got, start_of, end_of, RisesFrom, end_from, got_of, taken_by, and_lost}
+use mathlib.Core.Option.{some}
 use lib.ListN.{get_elem?}
 use Rattle.ids_types.specs.Fates.{lost}
-use Rattle.ids_types.proofs.FatesLemmas.{fate_within, fates_in_order}
+use Rattle.ids_types.proofs.FatesLemmas.{fate_within}
 use Rattle.permit_ring.specs.Logs.{fate_of}
 
 module _ {N : Type 0} where
@@ -30,23 +30,6 @@ module _ {N : Type 0} where
   -- and one that found none lost its call
   pub lost_log : (word : PermitWord) (log : List (Outcome N)) → word.free ≡ 0 → and_lost word log ≡ log ++ Lost word.claimed ∷ []
   lost_log word log full = ap (λ (b : Bool). cond b log (log ++ Lost word.claimed ∷ [])) (le-ltb 0 word.free (omega arith))
-
-module _ {N : Type 0} (word : PermitWord) (log : List (Outcome N)) (fronts : List ℕ) where
-  -- the log after a step is in order
-  pub record IsOrderly (after : List (Outcome N)) : Type 0 where
-    pub rises : RisesFrom 0 after
-    pub below : end_from 0 after ≤ word.claimed
-    pub got : got_of after ≡ got_of log
-    pub at_front : (j g : ℕ) → get_elem? after j ≡ some (Lost g) → StandsIn fronts g
-
-  pub orderly : RisesFrom 0 log → end_from 0 log ≤ word.claimed → ((j g : ℕ) → get_elem? log j ≡ some (Lost g) → StandsIn fronts g)
-      → (word.free ≡ 0 → StandsIn fronts word.claimed) → IsOrderly (and_lost word log)
-  orderly rises below at_front full =
-      let on = rises_on 0 log (Lost word.claimed) rises below in
-      let end = end_on 0 log (Lost word.claimed) in
-      let got = got_of-append log (Lost word.claimed ∷ []) in
-      let last = λ (j g : ℕ). at_snoc log (Lost word.claimed) (Lost g) j in
-      grind (arith, append-nil (got_of log))
 
 -- an element of a list with or without one more in front
 first_or_behind : {A : Type 0} (b : Bool) (x a : A) (l : List A) (k : ℕ) → get_elem? (cond b (x ∷ l) l) k ≡ some a
@@ -92,13 +75,7 @@ module _ {N : Type 0} where
     | inr later ↦ let rest = taken_from i (suc from) fates later.0 t x later.1 in (suc rest.0, omega arith, rest.2)
   ]
 
-  -- no call stands before the end of one before it
-  pub rises_apart : (low : ℕ) (log : List (Outcome N)) (j l : ℕ) (a b : Outcome N) → RisesFrom low log → j < l → get_elem? log j ≡ some a
-      → get_elem? log l ≡ some b → end_of a ≤ start_of b
-  rises_apart low log j l a b rises less ea eb =
-      fates_in_order low (map fate_of log) j l (fate_of a) (fate_of b) rises (at_map fate_of log j a ea) (at_map fate_of log l b eb) less
-
-  -- and the end of the last is that of each, or above it
+  -- the end of the last call is that of each, or above it
   pub within_end : (low : ℕ) (log : List (Outcome N)) (j : ℕ) (a : Outcome N) → RisesFrom low log → get_elem? log j ≡ some a
       → end_of a ≤ end_from low log
   within_end low log j a rises e = (fate_within low (map fate_of log) j (fate_of a) rises (at_map fate_of log j a e)).1
@@ -113,28 +90,19 @@ module _ {N : Type 0} where
 abbrev Fates : Type 0 → Type 0
 Fates N = List (Option (ℕ × N))
 
--- an open fate is not decided
-pub open_undecided : {A N : Type 0} (fates : Fates N) (t : ℕ) (x : ℕ × N) → get_elem? fates t ≡ some None
-    → get_elem? fates t ≡ some (Some x) → A
-open_undecided fates t x is_open done = cc
-
--- the tickets with the first one, where it is the seat's
-abbrev and_own : {N : Type 0} → ℕ → ℕ → ℕ × N → List (ℕ × N) → List (ℕ × N)
-and_own i f x rest = cond (eqb i x.0) ((f, x.1) ∷ rest) rest
-
 module _ {N : Type 0} where
   -- a ticket that is held belongs to no log
   pub taken-open : (i f : ℕ) (fates : Fates N) → taken_by i f (fates ++ None ∷ []) ≡ taken_by i f fates
   taken-open i f [] = refl
   taken-open i f (None ∷ fates) = taken-open i (suc f) fates
-  taken-open i f (Some x ∷ fates) = ap (and_own i f x) (taken-open i (suc f) fates)
+  taken-open i f (Some x ∷ fates) = cc (taken-open i (suc f) fates)
 
   -- one that another seat finishes is none of this seat's
   pub taken-else : (i j f : ℕ) (x : N) (fates : Fates N) (t : ℕ) → i ≢ j → get_elem? fates t ≡ some None
       → taken_by i f (set fates t (Some (j, x))) ≡ taken_by i f fates
   taken-else i j f x (None ∷ fates) zero other e = simp (ne_eqb i j other)
   taken-else i j f x (None ∷ fates) (suc t) other e = taken-else i j (suc f) x fates t other e
-  taken-else i j f x (Some y ∷ fates) (suc t) other e = ap (and_own i f y) (taken-else i j (suc f) x fates t other e)
+  taken-else i j f x (Some y ∷ fates) (suc t) other e = cc (taken-else i j (suc f) x fates t other e)
   taken-else i j f x _ _ other e = cc
 
   -- a seat that finished no ticket took none

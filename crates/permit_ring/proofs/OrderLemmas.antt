@@ -1,27 +1,19 @@
 -- Tickets are got in the order of all moves.
-use Rattle.permit_ring.proofs.Names.{◌≡◌, ℕ, zero, suc, ◌+◌, ◌<◌, ◌≤◌, true, false, List, [], ◌∷◌, take, arith, common_steps, Machine, IsRing, after, packed, unpacked, word_packs, unpacked-packed, after_keeps, after_sizes, opening, opens, length, State, Key, Slot, View, Runs, Move, found_at, Leads}
+use Rattle.permit_ring.proofs.Names.{◌≡◌, ℕ, zero, suc, ◌+◌, ◌<◌, ◌≤◌, true, false, List, [], ◌∷◌, take, arith, common_steps, Machine, IsRing, after, word_packs, unpacked-packed, after_keeps, after_sizes, opening, opens, length, State, Key, Slot, View, Runs, Move, found_at, Leads}
 use mathlib.Core.Option.{some}
 use lib.ListN.{get_elem?}
 use Rattle.permit_ring.proofs.ListLemmas.{at_length}
 use Rattle.permit_ring.specs.Order.{gets_ticket, ticket_at, tickets_got, AreCounted, AreInOrder}
 
 module _ (m : Machine) (r : IsRing m) where
-  -- the word is told from its number
-  shows_word : unpacked m.limit (packed m.limit m.word) ≡ m.word
-  shows_word = unpacked-packed m.limit m.word (omega (arith, r.sizes.most_seats)) (word_packs m r)
-
-  module _ (v : Move) (found : v.found ≡ found_at m v.step) where
-    -- a move that gets a ticket claims one more
-    claims_one : gets_ticket m.limit v ≡ true → (after m v.step).word.claimed ≡ m.word.claimed + 1
-    claims_one gets = grind (arith, common_steps, shows_word)
-
-    -- and any other none
-    claims_none : gets_ticket m.limit v ≡ false → (after m v.step).word.claimed ≡ m.word.claimed
-    claims_none gets = grind (arith, common_steps, shows_word)
-
-    -- the ticket is the number of those before
-    gets_next : gets_ticket m.limit v ≡ true → ticket_at m.limit v ≡ m.word.claimed
-    gets_next gets = grind (arith, common_steps, shows_word)
+  -- a move that gets a ticket claims one more, and the ticket is the number of those before; any other claims none
+  counts_one : (v : Move) → v.found ≡ found_at m v.step
+      → (gets_ticket m.limit v ≡ true → (after m v.step).word.claimed ≡ m.word.claimed + 1)
+      × (gets_ticket m.limit v ≡ true → ticket_at m.limit v ≡ m.word.claimed)
+      × (gets_ticket m.limit v ≡ false → (after m v.step).word.claimed ≡ m.word.claimed)
+  counts_one v found =
+      let shows = unpacked-packed m.limit m.word (omega (arith, r.sizes.most_seats)) (word_packs m r) in
+      grind (arith, common_steps, shows)
 
 -- where so many were got before, each move that gets a ticket gets the one after those
 abbrev AreFrom : ℕ → ℕ → List Move → Type 0
@@ -35,15 +27,12 @@ all_counted m now [] r led = (λ p v at gets. absurd (grind arith), grind arith)
 all_counted m now (v ∷ vs) r led =
     let rest = all_counted (after m v.step) now vs (after_keeps m r v.step led.0) led.2 in
     let same : (after m v.step).limit ≡ m.limit = (after_sizes m v.step).limit_is in
-    let one = claims_one m r v led.1 in
-    let none = claims_none m r v led.1 in
-    let next = gets_next m r v led.1 in
-    let each : (p : ℕ) (x : Move) → get_elem? (v ∷ vs) p ≡ some x → gets_ticket m.limit x ≡ true
-    → ticket_at m.limit x ≡ m.word.claimed + tickets_got m.limit (take p (v ∷ vs)) = λ p. elim p [
-      | zero ↦ λ x at gets. grind (arith, next)
-      | suc q ↦ λ x at gets. grind (arith, rest.0 q x, one, none)
+    let counts = counts_one m r v led.1 in
+    let each : AreFrom m.limit m.word.claimed (v ∷ vs) = λ p. elim p [
+      | zero ↦ λ x at gets. grind (arith, counts.1)
+      | suc q ↦ λ x at gets. grind (arith, rest.0 q x, counts.0, counts.2)
     ] in
-    (each, grind (arith, rest.1, one, none))
+    (each, grind (arith, rest.1, counts.0, counts.2))
 
 -- more were got before a later move, where an earlier one got one
 got_rises : (limit : ℕ) (moves : List Move) (p q : ℕ) (v : Move) → p < q → q ≤ length moves → get_elem? moves p ≡ some v
@@ -57,12 +46,8 @@ got_rises limit (x ∷ xs) (suc p) (suc q) v less within at gets =
 -- so tickets rise with the moves that got them
 pub rise : (limit : ℕ) (moves : List Move) → AreCounted limit moves → AreInOrder limit moves
 rise limit moves counted = λ p q a b less at_a at_b gets_a gets_b.
-    omega (
-      arith,
-      counted p a at_a gets_a,
-      counted q b at_b gets_b,
-      got_rises limit moves p q a less (omega (arith, at_length moves q b at_b)) at_a gets_a,
-    )
+    let more = got_rises limit moves p q a less (omega (arith, at_length moves q b at_b)) at_a gets_a in
+    omega (arith, counted p a at_a gets_a, counted q b at_b gets_b)
 
 module _ {O D T N : Type 0} {note : D → N} {Ao : T → O → Type 0} {An : T → N → Type 0} {key : Key T} {s : State (Slot O D) (View T N)}
     (r : Runs note Ao An key s) where

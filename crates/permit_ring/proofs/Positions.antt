@@ -1,8 +1,7 @@
 -- A ticket's position by a mask.
-use Rattle.permit_ring.proofs.Names.{◌≡◌, ℕ, zero, suc, ◌-◌, ◌%◌, ◌^◌, ◌≤◌, sym, ◌∙◌, ap, arith}
-use Rattle.std.proofs.Common.{◌*◌, ◌/◌, ⊎_elim}
+use Rattle.permit_ring.proofs.Names.{◌≡◌, ℕ, zero, suc, ◌-◌, ◌%◌, ◌^◌, ◌≤◌, sym, ◌∙◌, ap, arith, cases_eq}
+use Rattle.std.proofs.Common.{◌/◌, ⊎_elim}
 use Rattle.std.specs.Prelude.{count_ones}
-use Rattle.std.proofs.Math.Nat.{eq-or-lt_of_le}
 use Rattle.std.proofs.lemmas.Nat.{and_mask, ones_le_self, zero_from_ones}
 use lib.Bits.{bit_and}
 use lib.Count.{ones_step}
@@ -13,13 +12,12 @@ one_digit : (d n : ℕ) → n ≤ d → count_ones n ≡ 1 → (k : ℕ) × (n �
 one_digit zero n low one = absurd (omega (arith, low, one, ones_le_self n))
 one_digit (suc d) n low one =
     let s = ones_step n in
-    let bit : n % 2 ≤ 1 = omega arith in
     ⊎_elim
-    (λ odd. let none = zero_from_ones (n / 2) (omega (arith, s, odd, one)) in (zero, omega (arith, none, odd)))
     (λ even.
     let half : (k : ℕ) × (n / 2 ≡ 2 ^ k) = one_digit d (n / 2) (omega (arith, low, even, one, ones_le_self n)) (omega (arith, s, even, one)) in
     (suc half.0, simp unary_clauses (omega (arith, even, half.1))))
-    (eq-or-lt_of_le bit)
+    (λ odd. let none = zero_from_ones (n / 2) (omega (arith, s, odd, one)) in (zero, omega (arith, none, odd)))
+    (cases_eq (n % 2) 0)
 
 -- where one digit of n is set, the low bits of a ticket are its position
 pub masked : (n ticket : ℕ) → count_ones n ≡ 1 → bit_and ticket (n - 1) ≡ ticket % n

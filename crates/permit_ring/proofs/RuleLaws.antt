@@ -1,13 +1,15 @@
 -- What the rule says of a ring: of its tickets, its logs, its slots and its words.
-use Rattle.permit_ring.proofs.Names.{◌≡◌, ℕ, zero, suc, ◌+◌, ◌%◌, ◌<◌, ◌≤◌, true, false, is_some, Option, Some, None, refl, sym, ◌∙◌, ap, inl, inr, mod-eq_of_lt, arith, cases_eq, common_steps, State, seat_at, Holds, Key, Lost, Got, SeatMemo, Slot, View, Sits, SitsThere, CameBack, IsMemoThere, IsHeldOnce, IsLoggedOnce, HasOnePlace, IsNotedAs, IsInOrder, IsAdmittedSlot, IsOneSeats, Home, IsSlot, IsSeatMemo, IsSomewhere, Runs}
+use Rattle.permit_ring.proofs.Names.{◌≡◌, ℕ, zero, suc, ◌+◌, ◌%◌, ◌<◌, ◌≤◌, false, is_some, Option, Some, None, refl, sym, ◌∙◌, ap, inl, inr, mod-eq_of_lt, arith, ⊎_elim, map, at_map, cases_eq, common_steps, State, seat_at, Holds, Key, Lost, Got, SeatMemo, Slot, View, Sits, SitsThere, CameBack, IsMemoThere, IsHeldOnce, HasOnePlace, IsNotedAs, IsInOrder, IsAdmittedSlot, IsOneSeats, Home, IsSlot, IsSeatMemo, IsSomewhere, Runs}
 use native.Mathlib.Nat.{add-mod_right}
 use mathlib.Core.Option.{some}
 use mathlib.Core.Option as maybe
 use lib.ListN.{get_elem?}
 use Rattle.ring_core.proofs.SeatLemmas.{live_is_made}
-use Rattle.permit_ring.proofs.States.{ring_of, one_turn_ahead, keeper_port, at_own_port, is_live, knows_it}
+use Rattle.permit_ring.proofs.States.{ring_of, one_turn_ahead, keeper_port, seated}
 use Rattle.permit_ring.proofs.ListLemmas.{at_length, there}
-use Rattle.permit_ring.proofs.LogLemmas.{open_undecided, got_in, got_from, taken_in, taken_from, rises_apart, within_end}
+use Rattle.permit_ring.proofs.LogLemmas.{got_in, got_from, taken_in, taken_from, within_end}
+use Rattle.permit_ring.specs.Logs as logs
+use Rattle.ids_types.proofs.FatesLemmas.{fates_in_order}
 
 -- each place of a turn is that of a ticket in it
 in_turn : (n from p : ℕ) → p < n → (t : ℕ) × (from ≤ t) × (t < from + n) × (t % n ≡ p)
@@ -30,19 +32,19 @@ module _ {O D T N : Type 0} {note : D → N} {Ao : T → O → Type 0} {An : T �
 
   -- what a seat that was made knows
   pub memo_known : (memo : SeatMemo N) → IsMemoThere s.views memo → Known memo
-  memo_known memo (inl sits) = knows_it r _ sits.there
+  memo_known memo (inl sits) = (seated r _ sits.there).2
   memo_known memo (inr back) = (came_back memo back).2
 
   -- a number has one port
   pub one_port : (p q : ℕ) (its other : Key T) (a b : SeatMemo N) → get_elem? s.views p ≡ some (Sits its a)
       → get_elem? s.views q ≡ some (Sits other b) → a.number ≡ b.number → p ≡ q
-  one_port p q its other a b at_a at_b e = sym (at_own_port r _ at_a) ∙ ap r.owner e ∙ at_own_port r _ at_b
+  one_port p q its other a b at_a at_b e = sym (seated r _ at_a).0 ∙ ap r.owner e ∙ (seated r _ at_b).0
 
   -- a number has one memo
   one_each : (a b : SeatMemo N) → IsMemoThere s.views a → IsMemoThere s.views b → a.number ≡ b.number → a ≡ b
   one_each a b (inl x) (inl y) e = let same = one_port x.port y.port x.its_key y.its_key a b x.there y.there e in cc (x.there, y.there)
-  one_each a b (inl x) (inr y) e = let was = came_back b y in cc (is_live r _ x.there, (knows_it r _ x.there).shows, was.1, was.2.shows)
-  one_each a b (inr x) (inl y) e = let was = came_back a x in cc (is_live r _ y.there, (knows_it r _ y.there).shows, was.1, was.2.shows)
+  one_each a b (inl x) (inr y) e = let at = seated r _ x.there in let was = came_back b y in cc (at.1, at.2.shows, was.1, was.2.shows)
+  one_each a b (inr x) (inl y) e = let at = seated r _ y.there in let was = came_back a x in cc (at.1, at.2.shows, was.1, was.2.shows)
   one_each a b (inr x) (inr y) e = cc ((came_back a x).0, (came_back b y).0)
 
   -- the memo of a seat by its number
@@ -78,7 +80,8 @@ module _ {O D T N : Type 0} {note : D → N} {Ao : T → O → Type 0} {An : T �
     -- the calls of a log are in order
     pub records_rise : IsInOrder r.machine.word.claimed memo.log
     records_rise = let known = memo_known memo is in record {
-      rises = λ j l a b less ea eb. rises_apart 0 memo.log j l a b known.ordered.rises less ea eb;
+      rises = λ j l a b less ea eb. fates_in_order 0 (map logs.fate_of memo.log) j l (logs.fate_of a) (logs.fate_of b) known.ordered.rises
+          (at_map logs.fate_of memo.log j a ea) (at_map logs.fate_of memo.log l b eb) less;
       lost_within = λ j g e. omega (arith, within_end 0 memo.log j (Lost g) known.ordered.rises e, known.below_claims);
     }
 
@@ -105,34 +108,26 @@ module _ {O D T N : Type 0} {note : D → N} {Ao : T → O → Type 0} {An : T �
       let here : get_elem? a.log l ≡ some (Got t y) = rw one eb in
       (one, grind (arith, here, rises j l (Got t x) (Got t y), rises l j (Got t y) (Got t x)), ap (λ (p : ℕ × N). p.1) fate)
 
-  -- a seat that holds a ticket is live
-  holder_lives : (i t : ℕ) → Holds (seat_at r.machine.seats i) t → (seat_at r.machine.seats i).live ≡ true
-  holder_lives i t h = ((ring_of r).seats.each i).holder_is_live (ap is_some h)
-
-  -- so it sits at a port
-  holder_sits : (memo : SeatMemo N) (t : ℕ) → IsMemoThere s.views memo → Holds memo.view t → SitsThere s.views memo
-  holder_sits memo t (inl sits) h = sits
-  holder_sits memo t (inr back) h =
-      let was = came_back memo back in
-      cc (was.1, was.2.shows, holder_lives memo.number t (machine_holds memo (inr back) t h))
-
   -- a ticket of which nothing became is held, and has this place alone
   held_once : (t : ℕ) → get_elem? r.fates t ≡ some None → IsHeldOnce s.views t
   held_once t undone =
       let held = r.are_fates.open_is_held t undone in
-      let made = live_is_made r.machine.seats held.0 (holder_lives held.0 t held.1) in
+      let live = ((ring_of r).seats.each held.0).holder_is_live (ap is_some held.1) in
+      let made = live_is_made r.machine.seats held.0 live in
       let one = each_number_is_one_seats held.0 (grind (arith, common_steps, r.knows.made_is, made, held.1)) in
       let h : Holds one.memo.view t = rw ((memo_known one.memo one.is_there).shows, one.number_is) held.1 in
-      let sits = holder_sits one.memo t one.is_there h in
+      -- a seat that holds a ticket is live, so it sits at a port
+      let sits : SitsThere s.views one.memo = ⊎_elim (λ there. there)
+      (λ back. let was = came_back one.memo back in cc (live, one.number_is, was.1, was.2.shows)) one.is_there in
       record {
         holder = one.memo;
         sits = sits;
-        is_live = is_live r _ sits.there;
+        is_live = (seated r _ sits.there).1;
         holds = h;
         no_other = λ other is h_too. let theirs = machine_holds other is t h_too in
             one_each other one.memo is one.is_there ((ring_of r).seats.apart other.number one.memo.number t theirs
             (machine_holds one.memo one.is_there t h));
-        in_no_log = λ other j x is e. open_undecided r.fates t (other.number, x) undone (fate_of other is j t x e);
+        in_no_log = λ other j x is e. cc (undone, fate_of other is j t x e);
       }
 
   -- any other is in a log
@@ -143,22 +138,18 @@ module _ {O D T N : Type 0} {note : D → N} {Ao : T → O → Type 0} {An : T �
       let entry = got_from one.memo.log took.0 t y.1 (rw (← (memo_known one.memo one.is_there).got) at took.1) in
       record { taker = one.memo; is_there = one.is_there; place = entry.0; stands = entry.1 }
 
-  -- in one log alone, there once
-  logged_once : (t : ℕ) (y : ℕ × N) → get_elem? r.fates t ≡ some (Some y) → IsLoggedOnce s.views t
-  logged_once t y done = let noted = noted_as t y done in record {
+  -- so a ticket has one place, whatever became of it
+  pub place_from : (t : ℕ) (fate : Option (ℕ × N)) → get_elem? r.fates t ≡ some fate → HasOnePlace s.views t
+  place_from t None e = inl (held_once t e)
+  place_from t (Some y) e = let noted = noted_as t y e in inr record {
     taker = noted.taker;
     is_there = noted.is_there;
     place = noted.place;
     its_note = y.1;
     stands = noted.stands;
-    no_other = λ other j x is_too e. one_entry other noted.taker j noted.place t x y.1 is_too noted.is_there e noted.stands;
-    held_by_none = λ other is_too h. open_undecided r.fates t y (open_of other is_too t h) done;
+    no_other = λ other j x is_too at. one_entry other noted.taker j noted.place t x y.1 is_too noted.is_there at noted.stands;
+    held_by_none = λ other is_too h. cc (open_of other is_too t h, e);
   }
-
-  -- a ticket has one place, whatever became of it
-  pub place_from : (t : ℕ) (fate : Option (ℕ × N)) → get_elem? r.fates t ≡ some fate → HasOnePlace s.views t
-  place_from t None e = inl (held_once t e)
-  place_from t (Some y) e = inr (logged_once t y e)
 
   -- the value at home of a ticket is admitted, whatever became of it
   value_at : (t : ℕ) (x : Slot O D) (home : Home O D) (fate : maybe.Option (Option (ℕ × N))) → get_elem? r.fates t ≡ fate

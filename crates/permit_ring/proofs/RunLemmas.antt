@@ -1,7 +1,7 @@
 -- What runs of the keeper's steps add: reaps one after the other, and an offer.
-use Rattle.permit_ring.proofs.Names.{◌≡◌, ℕ, ◌+◌, ◌≤◌, ◌<◌, List, [], ◌∷◌, ◌++◌, length, refl, inl, inr, arith, common_steps, KeeperMemo, append_assoc, append-nil, length_push, length-map}
+use Rattle.permit_ring.proofs.Names.{◌≡◌, ℕ, ◌+◌, ◌≤◌, ◌<◌, List, [], ◌∷◌, ◌++◌, length, refl, inl, inr, arith, common_steps, KeeperMemo}
 use Rattle.std.proofs.Common.{eq-zero-or-pos}
-use Rattle.permit_ring.specs.{reaps_all, ReapsToEnd, OffersAll, tried, last_word, reaps, reads}
+use Rattle.permit_ring.specs.{reaps_all, ReapsToEnd, OffersAll, reaps}
 
 module _ {N : Type 0} where
   -- one reap more
@@ -23,18 +23,12 @@ module _ {N : Type 0} where
     pub back_is : new.back ≡ old.back
 
   pub only_reaps : (xs : List N) (k : KeeperMemo N) → OnlyReaps xs k (reaps_all xs k)
-  only_reaps [] k = let none = append-nil k.notes in grind (arith, none)
-  only_reaps (x ∷ xs) k =
-      let rest = only_reaps xs (reaps (length k.notes + 1) x k) in
-      let notes = append_assoc k.notes (x ∷ []) xs in
-      let marks = length_push k.marks (length k.notes + 1) in
-      grind (arith, common_steps, rest, notes, marks)
+  only_reaps [] k = grind (arith, common_steps)
+  only_reaps (x ∷ xs) k = grind (arith, common_steps, only_reaps xs (reaps (length k.notes + 1) x k))
 
   -- a run to the end makes one move for each ticket, and one more
   pub end_steps : (xs : List N) (old new : KeeperMemo N) → ReapsToEnd xs old new → length new.moves ≡ length old.moves + length xs + 1
-  end_steps xs old new run =
-      let only = only_reaps xs old in
-      grind (arith, common_steps, run, only)
+  end_steps xs old new run = grind (arith, common_steps, run, only_reaps xs old)
 
   -- what an offer leaves, with or without a step
   pub record Gave (most count : ℕ) (old new : KeeperMemo N) : Type 0 where
@@ -51,11 +45,5 @@ module _ {N : Type 0} where
   gave_of n limit count old new gave = elim (eq-zero-or-pos count) [
     | inl none ↦ let same = gave.0 none in grind (arith, none, same)
     | inr some ↦
-        let did = gave.1 some in
-        let first = did.2.0 in
-        let missed = did.2.1.0 in
-        let all = missed ++ last_word (reads limit first old).seen missed ∷ [] in
-        let long = length-map all (tried limit count) in
-        let more = length_push missed (last_word (reads limit first old).seen missed) in
-        grind (arith, common_steps, did, long, more)
+        let did = gave.1 some in grind (arith, common_steps, did)
   ]

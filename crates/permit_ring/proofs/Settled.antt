@@ -1,5 +1,5 @@
 -- What is left once all seats are back, and that what is settled stays so.
-use Rattle.permit_ring.proofs.Names.{◌≡◌, ◌≢◌, ℕ, zero, suc, ◌+◌, ◌-◌, ◌%◌, ◌<◌, is_some, List, [], ◌∷◌, ◌++◌, map, length, get_or, sum_by, Option, Some, None, refl, sym, ◌∙◌, ap, ap₂, subst, inl, inr, mod-lt, arith, cases_lt, false≢true, common_steps, length-map, nil_from_length, sum_by-cons, at_longer, at_map, State, SeatView, Key, KeeperMemo, Got, SeatMemo, Slot, View, OfferTells, AreAllBack, IsAllReaped, IsSettled, IsWholeLog, marks_back, taken_by, StandsIn, Runs, Machine, marks_of, new_seat, nobody, mark_at, seat_at, Holds, IsRing, all_but_a_turn_reaped, live_is_made, one_turn}
+use Rattle.permit_ring.proofs.Names.{◌≡◌, ◌≢◌, ℕ, zero, suc, ◌+◌, ◌-◌, ◌%◌, ◌<◌, is_some, List, [], ◌∷◌, ◌++◌, map, length, get_or, sum_by, Option, Some, None, refl, sym, ◌∙◌, ap, subst, inl, inr, mod-lt, arith, cases_lt, false≢true, common_steps, length-map, nil_from_length, sum_by-cons, at_longer, at_map, State, SeatView, Key, KeeperMemo, Got, SeatMemo, Slot, View, OfferTells, AreAllBack, IsAllReaped, IsSettled, IsWholeLog, marks_back, StandsIn, Runs, Machine, marks_of, new_seat, nobody, mark_at, seat_at, Holds, IsRing, all_but_a_turn_reaped, live_is_made, one_turn}
 use mathlib.Core.Option.{some}
 use lib.ListN.{get_elem?}
 use Rattle.ids_types.specs.Fates.{lost}
@@ -13,12 +13,11 @@ all_noted : {N : Type 0} (fates : List (Option (ℕ × N))) (notes : List N) →
     → ((t : ℕ) (x : N) → get_elem? notes t ≡ some x → (i : ℕ) × (get_elem? fates t ≡ some (Some (i, x))))
     → (taken : List (ℕ × N)) × (notes ≡ map (λ (x : ℕ × N). x.1) taken) × (fates ≡ map Some taken)
 all_noted [] [] long each = ([], refl, refl)
-all_noted [] (x ∷ notes) long each = absurd (omega arith)
-all_noted (fate ∷ fates) [] long each = absurd (omega arith)
-all_noted {N} (fate ∷ fates) (x ∷ notes) long each =
+all_noted (fate ∷ fates) (x ∷ notes) long each =
     let here = each zero x refl in
     let rest = all_noted fates notes (omega arith) (λ t y e. each (suc t) y e) in
-    ((here.0, x) ∷ rest.0, ap (λ (ys : List N). x ∷ ys) rest.1, cc (here.1, rest.2))
+    ((here.0, x) ∷ rest.0, cc rest.1, cc (here.1, rest.2))
+all_noted _ _ long each = absurd (omega arith)
 
 -- a place of a list of options that is not open has something
 pub some_there : {A : Type 0} (xs : List (Option A)) (i : ℕ) → i < length xs → (get_elem? xs i ≡ some None → ⊥)
@@ -48,13 +47,11 @@ all_reaped m ring none_holds other = elim (cases_lt m.reaped m.word.claimed) [
 same_sums : {A B : Type 0} (f : A → ℕ) (g : B → ℕ) (d : A) (xs : List A) (ys : List B) → length ys ≡ length xs
     → ((i : ℕ) → i < length ys → (y : B) × (get_elem? ys i ≡ some y) × (f (get_or xs i d) ≡ g y)) → sum_by f xs ≡ sum_by g ys
 same_sums f g d [] [] long each = refl
-same_sums f g d [] (y ∷ ys) long each = absurd (omega arith)
-same_sums f g d (x ∷ xs) [] long each = absurd (omega arith)
 same_sums f g d (x ∷ xs) (y ∷ ys) long each =
     let here = each zero (omega arith) in
-    let first : f x ≡ g y = cc (here.1, here.2) in
     let rest = same_sums f g d xs ys (omega arith) (λ i low. each (suc i) (omega arith)) in
-    sum_by-cons f x xs ∙ ap₂ ◌+◌ first rest ∙ sym (sum_by-cons g y ys)
+    cc (here.1, here.2, rest, sum_by-cons f x xs, sum_by-cons g y ys)
+same_sums f g d _ _ long each = absurd (omega arith)
 
 -- a front stands among more
 pub more_fronts : (fronts : List ℕ) (next g : ℕ) → StandsIn fronts g → StandsIn (fronts ++ next ∷ []) g
@@ -78,12 +75,10 @@ module _ {N : Type 0} where
       taken = s.taken;
       notes_are = s.notes_are;
       seats_are = s.seats_are;
-      logs_are = λ i memo e. let its = s.logs_are i memo e in record {
-        number_is = its.number_is;
-        calls_are = its.calls_are;
-        decided = decided_on its.decided (more_fronts old.fronts (old.offered + count));
-        got = its.got;
-      };
+      logs_are = λ i memo e.
+          let its = s.logs_are i memo e in
+          let decided = decided_on its.decided (more_fronts old.fronts (old.offered + count)) in
+          assumption;
     }
 
 module _ {O D T N : Type 0} {note : D → N} {Ao : T → O → Type 0} {An : T → N → Type 0} {key : Key T} {s : State (Slot O D) (View T N)}
@@ -98,10 +93,8 @@ module _ {O D T N : Type 0} {note : D → N} {Ao : T → O → Type 0} {An : T �
     | inl made ↦
         let live = ((ring_of r).seats.each i).holder_is_live (ap is_some holds) in
         let below = live_is_made r.machine.seats i live in
-        let long = r.knows.back_is in
-        let b = some_there r.keeper.back i (omega (arith, made.1)) (λ e. false≢true (back i None e)) in
-        let off = (r.each_seat i (Some b.0) b.1).1 in
-        false≢true (sym off ∙ ap (λ (seat : SeatView). seat.live) (shown i b.0 b.1) ∙ live)
+        let b = some_there r.keeper.back i (omega (arith, made.1, r.knows.back_is)) (λ e. false≢true (back i None e)) in
+        cc (live, shown i b.0 b.1, (r.each_seat i (Some b.0) b.1).1)
     | inr start ↦ let one = start.1 in grind (arith, common_steps)
   ]
 
@@ -141,8 +134,7 @@ module _ {O D T N : Type 0} {note : D → N} {Ao : T → O → Type 0} {An : T �
       let b = some_there r.keeper.back i (omega (arith, r.knows.back_is)) (λ e. false≢true (back i None e)) in
       let p = r.each_seat i (Some b.0) b.1 in
       let took = taken_in i 0 r.fates r.machine.reaped r.machine.reaped x (omega arith) e in
-      let own = p.2.got ∙ ap (λ (j : ℕ). taken_by j 0 r.fates) p.0 in
-      let entry = got_from b.0.log took.0 r.machine.reaped x (ap (λ (l : List (ℕ × N)). get_elem? l took.0) own ∙ took.1) in
+      let entry = got_from b.0.log took.0 r.machine.reaped x (rw (p.2.got, p.0) took.1) in
       let above = within_end 0 b.0.log entry.0 (Got r.machine.reaped x) p.2.ordered.rises entry.1 in
       omega (arith, reaped i b.0 b.1, r.knows.counted.reaped_is)
 
@@ -153,6 +145,5 @@ module _ {O D T N : Type 0} {note : D → N} {Ao : T → O → Type 0} {An : T �
     | inl made ↦ same_sums (λ (v : SeatView). marks_of v kind) (marks_back kind) nobody r.machine.seats r.keeper.back
         (r.knows.back_is ∙ made.1) (λ i low. let b = some_there r.keeper.back i low (λ e. false≢true (back i None e)) in
         (Some b.0, b.1, ap (λ (v : SeatView). marks_of v kind) (sym (shown i b.0 b.1))))
-    | inr start ↦ ap (sum_by (λ (v : SeatView). marks_of v kind)) start.1 ∙ clean
-        ∙ ap (sum_by (marks_back kind)) (sym (nil_from_length r.keeper.back (r.knows.back_is ∙ start.0)))
+    | inr start ↦ rw (start.1, nil_from_length r.keeper.back (r.knows.back_is ∙ start.0)) clean
   ]

@@ -1,18 +1,9 @@
 -- What stays of the rule where one view changes.
-use Rattle.permit_ring.proofs.Names.{◌≡◌, ◌≢◌, ℕ, ◌+◌, ◌%◌, ◌<◌, ◌≤◌, true, List, set, Option, ◌∙◌, inl, inr, mod-lt, arith, cases_eq, common_steps, length-set, set_here, set_else, State, Machine, HasSizes, opening, seat_at, IsRing, SameHolders, same_position, opens, Key, KeeperMemo, Move, SeatMemo, Slot, View, Sits, Keeps, taken_by, by_seat, StandsIn, AreFates, Home, IsSlot, AreSlots, IsSeatMemo, Runs}
+use Rattle.permit_ring.proofs.Names.{◌≡◌, ◌≢◌, ℕ, ◌+◌, ◌%◌, ◌<◌, ◌≤◌, true, List, set, Option, ◌∙◌, inl, inr, mod-lt, arith, cases_eq, common_steps, length-set, set_here, set_else, State, Machine, HasSizes, opening, IsRing, SameHolders, same_position, opens, Key, KeeperMemo, SeatMemo, Slot, View, Sits, Keeps, AreFates, Home, IsSlot, AreSlots, IsSeatMemo, Runs}
 use mathlib.Core.Option.{some}
 use mathlib.Core.Option as maybe
 use lib.ListN.{get_elem?}
 use Rattle.permit_ring.proofs.MoveLemmas.{led_ring, led_sizes}
-
-module _ {N : Type 0} {m now : Machine} {fates later : List (Option (ℕ × N))} where
-  -- a seat that a step leaves alone still knows what it knew
-  pub seat_stays : {moves then : List Move} {fronts further : List ℕ} {made more : ℕ} {memo : SeatMemo N}
-      → IsSeatMemo m moves fates fronts made memo
-      → seat_at now.seats memo.number ≡ seat_at m.seats memo.number → by_seat memo.number then ≡ by_seat memo.number moves
-      → taken_by memo.number 0 later ≡ taken_by memo.number 0 fates → m.word.claimed ≤ now.word.claimed
-      → ((g : ℕ) → StandsIn fronts g → StandsIn further g) → made ≤ more → IsSeatMemo now then later further more memo
-  seat_stays k seat moved took claimed wider grown = grind (arith, common_steps)
 
 module _ {N : Type 0} {m now : Machine} {fates : List (Option (ℕ × N))} where
   -- where no ticket changes hands, the fates stay
@@ -25,9 +16,7 @@ module _ {N : Type 0} {m now : Machine} {fates : List (Option (ℕ × N))} where
     pub slots_stay : now.reaped ≡ m.reaped → now.word.claimed ≡ m.word.claimed → now.offered ≡ m.offered
         → AreSlots note Admits m fates n homes → AreSlots note Admits now fates n homes
     slots_stay reaped claimed offered a =
-        let each : (t : ℕ) → now.reaped ≤ t → t < now.reaped + n → IsSlot note Admits now fates t (get_elem? homes (t % n)) =
-        λ t from to. let is = a.each t (omega arith) (omega arith) in grind (arith, is) in
-        assumption
+        record { a_slot_each = a.a_slot_each; each = λ t from to. let is = a.each t (omega arith) (omega arith) in grind (arith, is) }
 
 module _ {O D N : Type 0} {note : D → N} {Admits : O
     → Type 0} {n : ℕ} {homes : List (maybe.Option (Slot O D))} {m now : Machine} {fates later : List (Option (ℕ × N))} where
@@ -73,11 +62,6 @@ module _ {O D T N : Type 0} {note : D → N} {Ao : T → O → Type 0} {An : T �
     not_first e = cc r.keeper_there
 
     -- at its own port, live, and knows
-    pub at_own_port : r.owner memo.number ≡ id
-    at_own_port = (r.each_view id (Sits its memo) at).1
-
-    pub is_live : memo.view.live ≡ true
-    is_live = (r.each_view id (Sits its memo) at).2
-
-    pub knows_it : IsSeatMemo r.machine r.moves r.fates r.keeper.fronts r.keeper.made memo
-    knows_it = (r.each_view id (Sits its memo) at).3
+    pub seated : (r.owner memo.number ≡ id) × (memo.view.live ≡ true)
+        × IsSeatMemo r.machine r.moves r.fates r.keeper.fronts r.keeper.made memo
+    seated = let v = r.each_view id (Sits its memo) at in (v.1, v.2, v.3)

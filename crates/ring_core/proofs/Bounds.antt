@@ -1,19 +1,13 @@
 -- The numbers of a ring are small: each fits far below 64 bits.
-use Rattle.ring_core.proofs.Names.{ℕ, suc, ◌+◌, ◌*◌, ◌^◌, ◌≤◌, List, [], ◌∷◌, length, sum_by, suc-mul, arith, common_steps, sum_by-cons, SeatView, seat_at, IsRing, machine_of, Machine}
+use Rattle.ring_core.proofs.Names.{ℕ, ◌+◌, ◌^◌, ◌≤◌, length, sum_by, arith, common_steps, All-from_get_or, sum_by-le, SeatView, nobody, seat_at, IsRing, machine_of, Machine}
 use Rattle.ring_core.specs.declared.state.RingState.TheInside.{Inside}
-
--- a sum over seats that each add at most `most`
-sum_within : (f : SeatView → ℕ) (most : ℕ) (seats : List SeatView) → ((i : ℕ) → f (seat_at seats i) ≤ most)
-    → sum_by f seats ≤ length seats * most
-sum_within f most [] each = omega arith
-sum_within f most (seat ∷ seats) each =
-    let here = each 0 in
-    let rest = sum_within f most seats (λ i. each (suc i)) in
-    omega (arith, sum_by-cons f seat seats, suc-mul (length seats) most)
 
 -- a sum over the seats of a ring is at most 2^45
 pub ring_sum_within : (m : Machine) → IsRing m → (f : SeatView → ℕ) → ((i : ℕ) → f (seat_at m.seats i) ≤ 2 ^ 40) → sum_by f m.seats ≤ 2 ^ 45
-ring_sum_within m r f each = let few : length m.seats ≤ 32 = omega arith in omega (arith, sum_within f (2 ^ 40) m.seats each)
+ring_sum_within m r f each =
+    let few : length m.seats ≤ 32 = omega arith in
+    let all = All-from_get_or (λ (s : SeatView). f s ≤ 2 ^ 40) m.seats nobody (λ i h. each i) in
+    omega (arith, sum_by-le f (2 ^ 40) m.seats all)
 
 -- bounds of the numbers of a ring
 pub record AreSmall (m : Machine) : Type 0 where

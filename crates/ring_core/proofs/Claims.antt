@@ -1,7 +1,7 @@
 -- A claim keeps what holds of a ring, whether it gets a position or not.
-use Rattle.ring_core.proofs.Names.{◌≡◌, ℕ, ◌+◌, ◌-◌, ◌<◌, ◌⊎◌, true, false, Some, None, List, length, set, refl, ap, inl, inr, arith, lt-ltb, le-ltb, cases_lt, common_steps, SeatView, Claim, seat_at, with_seat, after, IsRing, IsSeat, AreSeats, IsFinished, Holds, Machine}
+use Rattle.ring_core.proofs.Names.{◌≡◌, ℕ, ◌+◌, ◌-◌, ◌<◌, ◌⊎◌, true, false, Some, List, length, set, ap, inl, inr, arith, lt-ltb, le-ltb, cases_lt, common_steps, SeatView, Claim, seat_at, with_seat, after, IsRing, AreSeats, IsFinished, Holds, Machine}
 use Rattle.ring_core.proofs.Changes.{seats_set, seat_sound}
-use Rattle.ring_core.proofs.SeatLemmas.{live_is_made, one_if, mark_stays, sums_after, holder_after, holder_before, seat_at-here, none_held, one_ticket}
+use Rattle.ring_core.proofs.SeatLemmas.{live_is_made, one_if, mark_stays, sums_after, holder_after, holder_before, seat_at-here, one_ticket}
 
 module _ (m : Machine) (r : IsRing m) (i : ℕ) (is_armed : (seat_at m.seats i).armed ≡ true) where
   abbrev old : SeatView
@@ -10,26 +10,14 @@ module _ (m : Machine) (r : IsRing m) (i : ℕ) (is_armed : (seat_at m.seats i).
   made : i < length m.seats
   made = live_is_made m.seats i ((r.seats.each i).armed_is_live is_armed)
 
-  no_ticket : old.held ≡ None
-  no_ticket = (r.seats.each i).armed_holds_none is_armed
-
-  in_vain : IsSeat m.reaped m.word.claimed (record old { armed = false })
-  in_vain = let s = r.seats.each i in grind (arith, common_steps)
-
   vain_sound : m.word.free ≡ 0
       → IsRing (record (with_seat m i (record old { armed = false })) { word = record m.word { over = m.word.over + 1 } })
-  vain_sound full =
-      let sums = sums_after m.seats i (record old { armed = false }) made in
-      let one : one_if old.armed ≡ 1 = ap one_if is_armed in
-      seat_sound m r i made (record old { armed = false }) in_vain refl (m.word.over + 1) m.loss0 m.loss1 (inl full) (omega arith)
-      (omega arith) (omega arith) (omega arith) (omega arith)
+  vain_sound full = let s = r.seats.each i in
+      seat_sound m r i (record old { armed = false }) (m.word.over + 1) m.loss0 m.loss1 (grind (arith, common_steps))
 
   -- the seat gets the ticket `claimed`
   abbrev served : SeatView
   served = record old { armed = false; held = Some (record { 0 = m.word.claimed }) }
-
-  served_in_order : IsSeat m.reaped (m.word.claimed + 1) served
-  served_in_order = let s = r.seats.each i in grind (arith, common_steps)
 
   abbrev now : List SeatView
   now = set m.seats i served
@@ -38,13 +26,11 @@ module _ (m : Machine) (r : IsRing m) (i : ℕ) (is_armed : (seat_at m.seats i).
   held_after : (j t : ℕ) → Holds (seat_at now j) t → ((j ≡ i) × (m.word.claimed ≡ t)) ⊎ (Holds (seat_at m.seats j) t × (t < m.word.claimed))
   held_after j t h = grind (arith, holder_after m.seats i served made j t h, one_ticket, (r.seats.each j).held_is_out t)
 
-  apart : (a b t : ℕ) → Holds (seat_at now a) t → Holds (seat_at now b) t → a ≡ b
-  apart a b t ha hb = grind (arith, held_after a t ha, held_after b t hb, r.seats.apart a b t)
-
   finished_before : (p t : ℕ) → IsFinished m.positions (m.word.claimed + 1) now p t → IsFinished m.positions m.word.claimed m.seats p t
   finished_before p t f =
       let here = seat_at-here m.seats i served made in
-      let before = λ (j : ℕ). holder_before m.seats i served made j t (none_held old.held t no_ticket) in
+      let none = (r.seats.each i).armed_holds_none is_armed in
+      let before = λ (j : ℕ). holder_before m.seats i served made j t (λ was. absurd cc) in
       grind (arith, f.held_by_none i)
 
   finished_after : (p t : ℕ) → IsFinished m.positions m.word.claimed m.seats p t → IsFinished m.positions (m.word.claimed + 1) now p t
@@ -55,9 +41,9 @@ module _ (m : Machine) (r : IsRing m) (i : ℕ) (is_armed : (seat_at m.seats i).
   served_sound some =
       let sums = sums_after m.seats i served made in
       let one : one_if old.armed ≡ 1 = ap one_if is_armed in
-      let wider : (j : ℕ) → IsSeat m.reaped (m.word.claimed + 1) (seat_at m.seats j) = λ j. let s = r.seats.each j in grind arith in
       let seats : AreSeats m.limit m.reaped (record m.word { claimed = m.word.claimed + 1; free = m.word.free - 1 }) now =
-      seats_set m r i made served wider served_in_order apart (omega arith) (omega arith) in
+      seats_set m r i served made (λ j. let s = r.seats.each j in grind arith) (let s = r.seats.each i in grind (arith, common_steps))
+      (λ a b t ha hb. grind (arith, held_after a t ha, held_after b t hb, r.seats.apart a b t)) (omega arith) (omega arith) in
       let marks = λ (p : ℕ) (h : p < m.positions). mark_stays (finished_before p) (finished_after p) (r.marks p h) in
       grind (arith, common_steps)
 

@@ -1,5 +1,5 @@
 -- The keeper's sees, reads and offers keep what holds of a ring.
-use Rattle.ring_core.proofs.Names.{◌≡◌, ℕ, ◌+◌, ◌%◌, ◌≤◌, true, arith, mod-lt, inl, inr, cases_Bool, common_steps, See, Read, Offer, seat_at, mark_at, same_word, offered_to, possible, after, IsRing, IsSeat, Holds, Machine}
+use Rattle.ring_core.proofs.Names.{◌≡◌, ℕ, ◌+◌, ◌%◌, ◌≤◌, true, arith, mod-lt, inl, inr, cases_Bool, common_steps, See, Read, Offer, seat_at, mark_at, same_word, possible, after, IsRing, IsSeat, Holds, Machine}
 
 module _ (m : Machine) (r : IsRing m) where
   -- the next ticket is finished, so no seat holds it
@@ -16,12 +16,7 @@ module _ (m : Machine) (r : IsRing m) where
   pub read_keeps : IsRing (after m Read)
   read_keeps = grind (arith, common_steps)
 
-  -- an offer whose word was the keeper's
-  offer_taken : (k : ℕ) → m.offered + k ≤ m.reaped + m.positions
-      → IsRing (record m { word = offered_to m.word k; offered = m.offered + k; seen = offered_to m.word k })
-  offer_taken k room = grind (arith, common_steps)
-
   pub offer_keeps : (k : ℕ) → possible m (Offer k) ≡ true → IsRing (after m (Offer k))
   offer_keeps k ok =
       let room : m.offered + k ≤ m.reaped + m.positions = grind arith in
-      elim (cases_Bool (same_word m.word m.seen)) [ inl same ↦ rw same (offer_taken k room) | inr other ↦ rw other read_keeps ]
+      elim (cases_Bool (same_word m.word m.seen)) [ inl same ↦ rw same (grind (arith, common_steps)) | inr other ↦ rw other read_keeps ]

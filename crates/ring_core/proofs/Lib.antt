@@ -4,8 +4,6 @@ pub mod Claims
 pub mod Finishes
 pub mod Keeps
 pub mod Lives
-pub mod Looks
-pub mod Losses
 pub mod Names
 pub mod Nexts
 pub mod Opens

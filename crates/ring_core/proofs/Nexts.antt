@@ -1,5 +1,5 @@
 -- The next state of each kind of step, from what its caller knows.
-use Rattle.ring_core.proofs.Names.{◌≡◌, ◌≢◌, ℕ, ◌+◌, ◌%◌, ◌<◌, ◌≤◌, true, false, Some, [], ◌∷◌, ◌++◌, length, refl, lt-ltb, le-leb, eq-eqb, ne_eqb, See, Read, Offer, Sweep, Split, Join, new_seat, seat_at, mark_at, loss_at, is_idle, offered_to, with_seat, with_loss, swept_clean, same_word, next, Machine}
+use Rattle.ring_core.proofs.Names.{◌≡◌, ◌≢◌, ℕ, ◌+◌, ◌%◌, ◌<◌, ◌≤◌, true, false, Some, [], ◌∷◌, ◌++◌, length, refl, lt-ltb, le-leb, eq-eqb, ne_eqb, See, Read, Offer, Sweep, Split, Join, new_seat, seat_at, mark_at, loss_at, is_idle, offered_to, with_seat, with_loss, swept_clean, next, Machine}
 use Rattle.ring_core.proofs.WordLemmas.{one_word, other_word}
 
 module _ (m : Machine) where
@@ -18,8 +18,7 @@ module _ (m : Machine) where
     seen = offered_to m.word k;
   })
   offer_takes_next k some room same =
-      let one : same_word m.word m.seen ≡ true = one_word m.word m.seen (cc) (cc) (cc) in
-      rw (le-leb 1 k some, le-leb (m.offered + k) (m.reaped + m.positions) room, one) refl
+      rw (le-leb 1 k some, le-leb (m.offered + k) (m.reaped + m.positions) room, one_word m.word m.seen (cc) (cc) (cc)) refl
 
   pub offer_misses_next : (k : ℕ) → 1 ≤ k → m.offered + k ≤ m.reaped + m.positions → m.word ≢ m.seen
       → next m (Offer k) ≡ Some (record m { seen = m.word })

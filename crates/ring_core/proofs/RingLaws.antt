@@ -1,7 +1,7 @@
 -- What the ring that threads share rests on, beside that each step keeps what holds of a ring.
-use Rattle.ring_core.proofs.Names.{◌≡◌, ℕ, ◌+◌, ◌<◌, ◌≤◌, true, false, Some, ap, arith, common_steps, Machine, Step, seat_at, same_word, possible, after, next, IsRing, field_of, IsPackable}
+use Rattle.ring_core.proofs.Names.{◌≡◌, ℕ, ◌+◌, ◌<◌, ◌≤◌, true, false, Some, arith, common_steps, Machine, Step, seat_at, same_word, possible, after, next, IsRing, field_of, IsPackable}
 use Rattle.ring_core.proofs.Bounds.{small}
-use Rattle.ring_core.proofs.SeatLemmas.{live_is_made, one_if, sums_after}
+use Rattle.ring_core.proofs.SeatLemmas.{live_is_made, sums_after}
 use Rattle.ring_core.proofs.WordLemmas.{one_word}
 
 module _ (m : Machine) (r : IsRing m) where
@@ -30,8 +30,7 @@ module _ (m : Machine) (r : IsRing m) where
   armed_leaves_field i armed =
       let made = live_is_made m.seats i ((r.seats.each i).armed_is_live armed) in
       let changed = sums_after m.seats i (record (seat_at m.seats i) { armed = false }) made in
-      let was : one_if (seat_at m.seats i).armed ≡ 1 = ap one_if armed in
-      omega arith
+      grind (arith, common_steps)
 
 -- a step that leads on is possible, and leads to the state after it
 pub record IsStep (m : Machine) (step : Step) (now : Machine) : Type 0 where

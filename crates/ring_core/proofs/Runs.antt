@@ -1,13 +1,9 @@
 -- What holds of a ring is kept by each step, and by each list of steps.
-use Rattle.ring_core.proofs.Names.{◌≡◌, ℕ, Bool, cond, ◌+◌, ◌<◌, true, Option, Some, None, IfSome, is_some, List, [], ◌∷◌, ◌++◌, length, take, get_or, refl, sym, ◌∙◌, ap, subst, take_more, Step, Look, Claim, Finish, See, Read, Offer, Mark, Sweep, Split, Join, HasSizes, possible, after, next, after_all, StopsAt, IsRing, Machine}
-use Rattle.std.specs.Option.{option_and_then}
-use Rattle.std.proofs.lemmas.Option.{option_and_then_some}
+use Rattle.ring_core.proofs.Names.{◌≡◌, ℕ, Bool, cond, ◌+◌, ◌<◌, true, Some, None, IfSome, is_some, List, [], ◌∷◌, ◌++◌, length, take, get_or, refl, ◌∙◌, ap, inl, inr, zero, suc, arith, common_steps, cases_Bool, take_more, Step, Look, Claim, Finish, See, Read, Offer, Mark, Sweep, Split, Join, HasSizes, possible, after, next, after_all, StopsAt, IsRing, Machine}
 use Rattle.ring_core.proofs.Claims.{claim_keeps}
 use Rattle.ring_core.proofs.Finishes.{finish_keeps}
 use Rattle.ring_core.proofs.Keeps.{see_keeps, read_keeps, offer_keeps}
-use Rattle.ring_core.proofs.Lives.{split_keeps, join_keeps}
-use Rattle.ring_core.proofs.Looks.{look_keeps}
-use Rattle.ring_core.proofs.Losses.{mark_keeps, sweep_keeps}
+use Rattle.ring_core.proofs.Lives.{split_keeps, join_keeps, look_keeps, mark_keeps}
 use Rattle.ring_core.proofs.RingLaws.{step_of_next}
 
 -- each kind of step keeps what holds of a ring
@@ -19,7 +15,8 @@ after_keeps m r See ok = see_keeps m r
 after_keeps m r Read ok = read_keeps m r
 after_keeps m r (Offer k) ok = offer_keeps m r k ok
 after_keeps m r (Mark i kind) ok = mark_keeps m r i kind ok
-after_keeps m r (Sweep kind) ok = sweep_keeps m r kind
+after_keeps m r (Sweep zero) ok = grind (arith, common_steps)
+after_keeps m r (Sweep (suc kind)) ok = grind (arith, common_steps)
 after_keeps m r Split ok = split_keeps m r ok
 after_keeps m r (Join i) ok = join_keeps m r i ok
 
@@ -29,36 +26,28 @@ next_of_possible m step ok = ap (λ (b : Bool). cond b (Some (after m step)) Non
 
 -- what follows a ring by a step is a ring
 pub step_sound : {m now : Machine} → IsRing m → (step : Step) → next m step ≡ Some now → IsRing now
-step_sound {m = m} {now = now} r step e =
-    let is = step_of_next m now step e in
-    subst IsRing (sym is.is_after) (after_keeps m r step is.possible_here)
-
--- and so is what follows it by any list of steps
-steps_sound : (m now : Machine) → IsRing m → (steps : List Step) → after_all m steps ≡ Some now → IsRing now
-steps_sound m now r [] e = let same : m ≡ now = cc in subst IsRing same r
-steps_sound m now r (step ∷ steps) e = option_and_then_some (λ (k : Machine). after_all k steps) (next m step) now e
-    (λ k made rest. steps_sound k now (step_sound r step made) steps rest)
-
-if_some : (now : Option Machine) → ((m : Machine) → now ≡ Some m → IsRing m) → IfSome now IsRing
-if_some None sound = tt
-if_some (Some m) sound = sound m refl
+step_sound {m = m} {now = now} r step e = let is = step_of_next m now step e in rw (is.is_after) (after_keeps m r step is.possible_here)
 
 pub next_keeps : (m : Machine) → IsRing m → (step : Step) → IfSome (next m step) IsRing
-next_keeps m r step = if_some (next m step) (λ now e. step_sound r step e)
+next_keeps m r step = elim (cases_Bool (possible m step)) [ inl ok ↦ rw ok (after_keeps m r step ok) | inr stuck ↦ rw stuck tt ]
 
+-- what follows a ring by any list of steps is a ring
 pub runs_keep : (m : Machine) → IsRing m → (steps : List Step) → IfSome (after_all m steps) IsRing
-runs_keep m r steps = if_some (after_all m steps) (λ now e. steps_sound m now r steps e)
-
-one_step : (now : Option Machine) → option_and_then (λ (m : Machine). after_all m []) now ≡ now
-one_step None = refl
-one_step (Some m) = refl
+runs_keep m r [] = r
+runs_keep m r (step ∷ steps) = elim (cases_Bool (possible m step)) [
+  | inl ok ↦ rw ok (runs_keep (after m step) (after_keeps m r step ok) steps)
+  | inr stuck ↦ rw stuck tt
+]
 
 -- one step more
 after_all-step : (start m : Machine) (steps : List Step) (step : Step) → after_all start steps ≡ Some m
     → after_all start (steps ++ step ∷ []) ≡ next m step
-after_all-step start m [] step e = let same : start ≡ m = cc in one_step (next start step) ∙ ap (λ (k : Machine). next k step) same
-after_all-step start m (first ∷ steps) step e = option_and_then_some (λ (k : Machine). after_all k steps) (next start first) m e
-    (λ k made rest. ap (option_and_then (λ (now : Machine). after_all now (steps ++ step ∷ []))) made ∙ after_all-step k m steps step rest)
+after_all-step start m [] step e =
+    let same : m ≡ start = cc in rw same (elim (cases_Bool (possible start step)) [ inl ok ↦ rw ok refl | inr stuck ↦ rw stuck refl ])
+after_all-step start m (first ∷ steps) step e = elim (cases_Bool (possible start first)) [
+  | inl ok ↦ rw ok (after_all-step (after start first) m steps step (rw ok at e))
+  | inr stuck ↦ let none = rw stuck at e in absurd cc
+]
 
 -- the steps lead to this state, and it is that of a ring
 pub record IsReached (start : Machine) (steps : List Step) (now : Machine) : Type 0 where

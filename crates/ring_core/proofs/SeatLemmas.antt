@@ -10,16 +10,9 @@ pub record Idle (seat : SeatView) : Type 0 where
 pub idle_parts : (seat : SeatView) → is_idle seat ≡ true → Idle seat
 idle_parts seat e = grind (arith, common_steps)
 
-abbrev ticket_of : ℕ → Option Ticket0
-ticket_of t = Some (record { 0 = t })
-
 -- tickets that are one value are one number
-pub one_ticket : (t u : ℕ) → ticket_of t ≡ ticket_of u → t ≡ u
+pub one_ticket : (t u : ℕ) → ◌≡◌ {A = Option Ticket0} (Some (record { 0 = t })) (Some (record { 0 = u })) → t ≡ u
 one_ticket t u e = let one : ◌≡◌ {A = Ticket0} (record { 0 = t }) (record { 0 = u }) = cc in ap (λ (k : Ticket0). k.0) one
-
--- where none is held, no ticket is
-pub none_held : {A : Type 0} (held : Option Ticket0) (t : ℕ) → held ≡ None → held ≡ ticket_of t → A
-none_held held t none some = cc
 
 -- the armed seat counts one
 abbrev pub one_if : Bool → ℕ
@@ -41,18 +34,14 @@ mark_stays before after old =
 abbrev pub SameHolders : List SeatView → List SeatView → Type 0
 SameHolders seats now = (j : ℕ) → (seat_at now j).held ≡ (seat_at seats j).held
 
--- what is finished for the one list is finished for the other
-finished_same : {n claimed p : ℕ} (seats now : List SeatView) → SameHolders seats now → (t : ℕ) → IsFinished n claimed seats p t
-    → IsFinished n claimed now p t
-finished_same seats now same t f = grind arith
-
 module _ (seats now : List SeatView) (same : SameHolders seats now) where
   pub apart_same : ((i j t : ℕ) → Holds (seat_at seats i) t → Holds (seat_at seats j) t → i ≡ j) → (i j t : ℕ)
       → Holds (seat_at now i) t → Holds (seat_at now j) t → i ≡ j
   apart_same apart i j t hi hj = apart i j t (sym (same i) ∙ hi) (sym (same j) ∙ hj)
 
   pub mark_same : {n claimed p mark : ℕ} → IsMark n claimed seats p mark → IsMark n claimed now p mark
-  mark_same old = mark_stays (finished_same now seats (λ j. sym (same j))) (finished_same seats now same) old
+  mark_same old = let back = λ (j : ℕ). sym (same j) in
+      record { above_all = λ t f. old.above_all t (grind arith); just_above = λ t e. let f = old.just_above t e in grind arith }
 
 -- what a list of seats adds up to beside one where seat `old` became `new`
 pub record AreSums (seats now : List SeatView) (old new : SeatView) : Type 0 where
@@ -71,10 +60,7 @@ module _ (seats : List SeatView) (i : ℕ) (seat : SeatView) (made : i < length 
 
   -- seat j is the new one, or as before
   seat_at-set : (j : ℕ) → ((j ≡ i) × (seat_at (set seats i seat) j ≡ seat)) ⊎ ((j ≢ i) × (seat_at (set seats i seat) j ≡ seat_at seats j))
-  seat_at-set j = elim (cases_eq j i) [
-    | inl here ↦ inl (here, ap (seat_at (set seats i seat)) here ∙ seat_at-here)
-    | inr other ↦ inr (other, seat_at-else j other)
-  ]
+  seat_at-set j = grind (arith, cases_eq j i, seat_at-here, seat_at-else j)
 
   -- what holds of each seat and of the new one holds of each seat after
   pub each_after : (P : SeatView → Type 0) → ((j : ℕ) → P (seat_at seats j)) → P seat → (j : ℕ) → P (seat_at (set seats i seat) j)
@@ -96,10 +82,7 @@ module _ (seats : List SeatView) (i : ℕ) (seat : SeatView) (made : i < length 
   -- who held a ticket holds it now, unless seat i gave it up
   pub holder_before : (j t : ℕ) → (Holds (seat_at seats i) t → Holds seat t) → Holds (seat_at seats j) t
       → Holds (seat_at (set seats i seat) j) t
-  holder_before j t kept h = elim (seat_at-set j) [
-    | inl e ↦ let now = kept (ap (λ (k : ℕ). (seat_at seats k).held) (sym e.0) ∙ h) in cc
-    | inr e ↦ cc
-  ]
+  holder_before j t kept h = grind (arith, seat_at-set j, kept)
 
   -- a change that leaves the ticket alone leaves all tickets alone
   pub holders_stay : seat.held ≡ (seat_at seats i).held → SameHolders seats (set seats i seat)
@@ -110,13 +93,11 @@ module _ (seats : List SeatView) where
   -- seat j is as before, or the new one
   pushed : (j : ℕ) → (seat_at (seats ++ new_seat ∷ []) j ≡ seat_at seats j)
       ⊎ ((seat_at (seats ++ new_seat ∷ []) j ≡ new_seat) × (seat_at seats j ≡ nobody))
-  pushed j = elim (cases_lt j (length seats)) [
-    | inl before ↦ inl (get_or_append_left seats (new_seat ∷ []) nobody j before)
-    | inr from ↦ let past = get_or_past seats j nobody from in elim (cases_eq (length seats) j) [
-      | inl last ↦ inr (get_or_push seats new_seat nobody j last, past)
-      | inr after ↦ inl (get_or_past (seats ++ new_seat ∷ []) j nobody (grind (arith, length-append seats (new_seat ∷ []))) ∙ sym past)
-    ]
-  ]
+  pushed j =
+      let long = length-append seats (new_seat ∷ []) in
+      let left = get_or_append_left seats (new_seat ∷ []) nobody j in
+      let past = get_or_past (seats ++ new_seat ∷ []) j nobody in
+      grind (arith, cases_lt j (length seats), cases_eq (length seats) j, get_or_past seats j nobody, get_or_push seats new_seat nobody j)
 
   pub seat_at-push : (P : SeatView → Type 0) → ((j : ℕ) → P (seat_at seats j)) → P new_seat → (j : ℕ)
       → P (seat_at (seats ++ new_seat ∷ []) j)

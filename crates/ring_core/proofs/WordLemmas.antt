@@ -1,15 +1,10 @@
 -- The permit word as a number: what is packed can be told, and a claim adds one number to it.
-use Rattle.ring_core.proofs.Names.{◌≡◌, ℕ, ◌+◌, ◌<◌, ◌≤◌, ◌≢◌, ◌^◌, true, false, sym, ◌∙◌, ap, ap₂, arith, common_steps, PermitWord, same_word, claimed_from, tries_of, field_of, packed, word_of, unpacked, FreeOrOver, IsPackable}
+use Rattle.ring_core.proofs.Names.{◌≡◌, ℕ, ◌+◌, ◌<◌, ◌≢◌, ◌^◌, true, false, sym, ◌∙◌, ap, arith, common_steps, PermitWord, same_word, claimed_from, tries_of, field_of, packed, unpacked, FreeOrOver, IsPackable}
 use Rattle.std.proofs.lemmas.Nat.{div-mul-add, mod-mul-add}
 
 -- words that are equal in each number are one word
 pub one_word : (a b : PermitWord) → a.claimed ≡ b.claimed → a.free ≡ b.free → a.over ≡ b.over → same_word a b ≡ true
 one_word a b c f o = grind (arith, common_steps)
-
--- a word is told from its tries and its field
-word_of-parts : (seats : ℕ) (word : PermitWord) → FreeOrOver word → word.over ≤ seats
-    → word_of seats (tries_of word) (field_of seats word) ≡ word
-word_of-parts seats word either within = grind (arith, common_steps)
 
 -- unpacking gives the word that was packed
 pub unpacked-packed : (seats : ℕ) (word : PermitWord) → seats < 256 → IsPackable seats word → unpacked seats (packed seats word) ≡ word
@@ -17,7 +12,7 @@ unpacked-packed seats word few fits =
     let field : field_of seats word < 2 ^ 16 = omega arith in
     let tries = div-mul-add (tries_of word) (2 ^ 16) (field_of seats word) field in
     let low = mod-mul-add (tries_of word) (2 ^ 16) (field_of seats word) field in
-    ap₂ (word_of seats) tries low ∙ word_of-parts seats word fits.either fits.over_fits
+    rw (tries, low) (grind (arith, common_steps))
 
 -- two words that pack to one number are one
 pub packed_apart : (seats : ℕ) (a b : PermitWord) → seats < 256 → IsPackable seats a → IsPackable seats b

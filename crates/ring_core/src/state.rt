@@ -75,6 +75,7 @@ impl RingState {
 
     /// Makes one step. Takes no memory.
     /// By: no loop; answer `NotPossible`, no NoMemory.
+    #[tactic(auto, using(crate::proofs::Sizes::after_sizes))]
     pub fn step(&mut self, step: &Step) -> Result<(), NotPossible>
         ensures next { MatchResult
             result

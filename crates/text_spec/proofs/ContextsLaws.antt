@@ -1,9 +1,9 @@
 -- The fields of the texts keep the laws of a field.
-use Rattle.text_spec.proofs.Names.{◌≡◌, ◌<◌, ◌≤◌, ◌==◌, ◌∷◌, ◌++◌, ◌^◌, if◌then◌else◌, is_ascii_digit, digits_value, ◌/◌, and_right, any_bytes, bytes_in, bytes_word, is_number, capped, ℕ, zero, suc, Bool, true, false, inl, inr, List, [], length, map, refl, sym, ap, subst, ◌∙◌, arith, Option, Some, None, IfSome, option_map, decimal, bytes_eq, ⊤, w64, to_be_bytes, AllByRecursion, slice_split, join_with_byte, list_all, and_left, and_parts, both_ways, cond-true, cond-false, eqb-true, ne_eqb, join_with_byte-slice_split, same_Some, none-some, cond_some, bytes_eq-Decides, IsBytes, encode_lower, Carried, Absent, Kept, Missing, Stamp, colon, point, mark, kept_fields, kept_places, context_word, IsContextWord, IsContext, IsExactContext, kept_in, numbers_in, claims_in, context_in, a_context, the, a_number, a_stamp, a_mode, hex_bytes, words_of_fields, AreWritten, is_lower_digit, some_hex, mode_name, mode_named, all_modes, stamp_in, stamp_text, absent, slice_index, lower_digits}
-use Rattle.hex.specs.Hex.{encode_with}
+use Rattle.text_spec.proofs.Names.{◌≡◌, ◌<◌, ◌≤◌, ◌==◌, ◌∷◌, ◌^◌, if◌then◌else◌, is_ascii_digit, digits_value, any_bytes, bytes_in, bytes_word, is_number, capped, ℕ, zero, suc, true, false, inl, inr, List, [], length, map, refl, sym, ap, subst, ◌∙◌, arith, Option, Some, None, IfSome, option_map, decimal, bytes_eq, ⊤, w64, to_be_bytes, AllByRecursion, slice_split, join_with_byte, list_all, and_parts, cond-true, eqb-true, join_with_byte-slice_split, same_Some, none-some, cond_some, bytes_eq-Decides, IsBytes, encode_lower, Carried, Absent, Kept, Missing, Stamp, colon, point, mark, kept_fields, kept_places, context_word, IsContextWord, IsContext, IsExactContext, kept_in, numbers_in, claims_in, context_in, a_context, the, a_number, a_stamp, a_mode, hex_bytes, words_of_fields, AreWritten, is_lower_digit, some_hex, mode_name, mode_named, all_modes, stamp_in, stamp_text, absent, rules}
+use Rattle.std.proofs.lemmas.Bool.Decides.{nat_tests}
 use Rattle.text_spec.proofs.FieldsLaws.{Told, IsReading, Lawful, AreLawful, in_word, lawful, simple_lawful, AreReading, reads, fields_are, fields_again, fields_pass}
-use Rattle.text_spec.proofs.FrontLemmas.{bind_some, bind_again, chosen, is_some, mapped_some}
-use Rattle.text_spec.proofs.HexadecimalLemmas.{hex_in-encode_lower, lower_text, some_hex_takes, some_hex_again}
+use Rattle.text_spec.proofs.FrontLemmas.{bind_again, bind_some, chosen, is_some, mapped_some}
+use Rattle.text_spec.proofs.HexadecimalLemmas.{hex_in-encode_lower, hex_not_absent, lower_text, some_hex_takes, some_hex_again}
 use Rattle.text_spec.proofs.ModesLemmas.{named_takes, mode_again}
 use Rattle.text_spec.proofs.NumbersLemmas.{number_parts, decimal-told, told-decimal}
 use Rattle.text_spec.proofs.StampsLemmas.{IsBytes-high_first, stamp_takes, stamp_again}
@@ -23,27 +23,18 @@ mode_lawful = simple_lawful (λ _. ⊤) mode_name mode_named
 
 -- the digits of a number are digits of hexadecimal
 number_lower : (word : List ℕ) → is_number word ≡ true → list_all is_lower_digit word ≡ true
-number_lower word is = weaker is_ascii_digit is_lower_digit word (λ b digit. grind (arith, digit)) (number_parts word is).digits
+number_lower word is = weaker is_ascii_digit is_lower_digit word (λ b digit. grind (arith, digit)) (number_parts word is).0
 
 -- which are bytes that words have
 lower_passes : (word : List ℕ) → list_all is_lower_digit word ≡ true → list_all in_word word ≡ true
 lower_passes word all = weaker is_lower_digit in_word word (λ b digit. grind (arith, digit)) all
 
--- what holds of a word by whether it is a number
-number_is : (word : List ℕ) (is : Bool) → is_number word ≡ is → IsReading a_number word (option_map capped (if is then Some (digits_value 10 word) else None))
-number_is word true is = record {
-  written = is;
-  held = tt;
-  takes = decimal-told word _ (ap (λ b. option_map capped (if b then Some (digits_value 10 word) else None)) is);
-}
-number_is word false none = λ written. both_ways (is_number word) none written
-
 pub number_lawful : Lawful a_number
-number_lawful = record {
-  is = λ word. number_is word (is_number word) refl;
-  again = λ n held exact. told-decimal n (omega (arith, exact));
-  passes = λ word is. lower_passes word (number_lower word is);
-}
+number_lawful = lawful a_number
+    (λ word n read. record { written = grind (arith, read); held = tt; takes = decimal-told word n read })
+    (λ word is. (capped (digits_value 10 word), rw is refl))
+    (λ n held exact. told-decimal n (omega (arith, exact)))
+    (λ word is. lower_passes word (number_lower word is))
 
 -- ---- timestamps and bytes
 
@@ -61,75 +52,41 @@ bytes_lawful = simple_lawful (λ bytes. IsBytes bytes × (1 ≤ length bytes)) e
     (λ bytes held. some_hex_again (encode_lower bytes) bytes held.1 (hex_in-encode_lower bytes held.0))
     (λ bytes held. lower_passes (encode_lower bytes) (lower_text bytes held.0))
 
--- the word of some bytes is not `-`
-hex_not_absent : (byte : ℕ) (bytes : List ℕ) → bytes_eq (encode_lower (byte ∷ bytes)) absent ≡ false
-unfolding encode_with
-hex_not_absent byte bytes = and_right (slice_index lower_digits (byte / 16) == 45) false refl
-
--- a byte or more has its text as its word
-some_word : (bytes : List ℕ) → 1 ≤ length bytes → encode_lower bytes ≡ bytes_word bytes
-some_word [] some = absurd (omega arith)
-some_word (byte ∷ bytes) some = refl
-
 any_takes : (word bytes : List ℕ) → bytes_in word ≡ Some bytes → IsBytes bytes × (word ≡ bytes_word bytes)
-any_takes word bytes read = elim (chosen (bytes_eq word absent) (Some []) (some_hex word) _ read) [
-  | inl none ↦
-      subst (λ bs. IsBytes bs × (word ≡ bytes_word bs)) (same_Some [] bytes none.1) (λ k. omega arith, (bytes_eq-Decides word absent).0 none.0)
-  | inr some ↦
-      let is = some_hex_takes word bytes some.1 in
-      (is.0.are_bytes, sym is.0.text ∙ some_word bytes is.1)
-]
+any_takes word [] read = (λ k. omega arith, grind (arith, bytes_eq-Decides word absent, some_hex_takes word [], read))
+any_takes word (byte ∷ bytes) read = let is = some_hex_takes word (byte ∷ bytes) (grind (arith, read)) in (is.0.are_bytes, sym is.0.text)
 
-any_again : (bytes : List ℕ) → IsBytes bytes → bytes_in (bytes_word bytes) ≡ Some bytes
-any_again [] held = refl
+any_again : (bytes : List ℕ) → IsBytes bytes → (bytes_in (bytes_word bytes) ≡ Some bytes) × (list_all in_word (bytes_word bytes) ≡ true)
+any_again [] held = (refl, refl)
 any_again (byte ∷ bytes) held =
-    cond-false _ (Some []) _ (hex_not_absent byte bytes) ∙ some_hex_again (encode_lower (byte ∷ bytes)) (byte ∷ bytes) (omega arith) (hex_in-encode_lower (byte ∷ bytes) held)
-
-any_passes : (bytes : List ℕ) → IsBytes bytes → list_all in_word (bytes_word bytes) ≡ true
-any_passes [] held = refl
-any_passes (byte ∷ bytes) held = lower_passes (encode_lower (byte ∷ bytes)) (lower_text (byte ∷ bytes) held)
+    let all = byte ∷ bytes in
+    (rw (hex_not_absent all) (some_hex_again (encode_lower all) all (omega arith) (hex_in-encode_lower all held)), lower_passes (encode_lower all) (lower_text all held))
 
 pub any_lawful : Lawful any_bytes
-any_lawful = simple_lawful IsBytes bytes_word bytes_in any_takes any_again any_passes
+any_lawful = simple_lawful IsBytes bytes_word bytes_in any_takes (λ bytes held. (any_again bytes held).0) (λ bytes held. (any_again bytes held).1)
 
 -- ---- a kept context
 
 kept_lawful : AreLawful kept_places
 kept_lawful = (number_lawful, (number_lawful, (bytes_lawful, tt)))
 
--- what makes a kept context
-abbrev kept : ℕ → ℕ → List ℕ → Carried (List ℕ)
-kept class claim bytes = Kept class claim bytes
-
 kept_takes : (word : List ℕ) (context : Carried (List ℕ)) → kept_in (slice_split (λ b. b == colon) word) ≡ Some context → Told a_context word context
 kept_takes word context read =
     let pieces = slice_split (λ b. b == colon) word in
-    let all = reads kept_places kept pieces context kept_lawful read in
+    let all = reads kept_places Kept pieces context kept_lawful read in
     let joined = sym (join_with_byte-slice_split colon word) in
-    subst (Told a_context word) all.made (record { written = inr (inl (pieces, all.written, joined)); held = all.held; takes = λ exact. joined ∙ ap (join_with_byte colon) (all.are exact) })
+    subst (Told a_context word) all.made (record { written = inr (inl (pieces, all.written, joined)); held = all.shown.held; takes = λ exact. joined ∙ ap (join_with_byte colon) (all.shown.are exact) })
 
--- its pieces have digits of hexadecimal alone
-kept_lower : (class claim hex : List ℕ) → AreWritten kept_places (class ∷ claim ∷ hex ∷ []) → Pass is_lower_digit (class ∷ claim ∷ hex ∷ [])
-kept_lower class claim hex is =
-    let bytes = is.1.1.0 in
-    (number_lower class is.0, (number_lower claim is.1.0, (ap (list_all is_lower_digit) bytes.2 ∙ lower_text bytes.0 bytes.1.0, tt)))
-
--- a word that begins with a digit is cut at its colons
-context_of_digit : (digit : ℕ) (rest : List ℕ) → is_lower_digit digit ≡ true → context_in (digit ∷ rest) ≡ kept_in (slice_split (λ b. b == colon) (digit ∷ rest))
-context_of_digit digit rest is =
-    let other : (c : ℕ) → is_lower_digit c ≡ false → (digit == c) ≡ false = λ c out. ne_eqb digit c (λ e. both_ways (is_lower_digit c) out (ap is_lower_digit (sym e) ∙ is)) in
-    cond-false (digit == mark) _ _ (other mark refl) ∙ cond-false (bytes_eq (digit ∷ rest) absent) _ _ (and_left _ _ (other 45 refl))
-
--- joined pieces are cut again
+-- joined pieces, which have digits of hexadecimal alone, are cut again
 kept_cut : (pieces : List (List ℕ)) → AreWritten kept_places pieces → context_in (join_with_byte colon pieces) ≡ kept_in pieces
-kept_cut [] is = absurd is
-kept_cut ([] ∷ pieces) is = cc is.0
-kept_cut (class ∷ []) is = absurd is.1
-kept_cut (class ∷ claim ∷ []) is = absurd is.1.1
 kept_cut ((digit ∷ digits) ∷ claim ∷ hex ∷ []) is =
-    let all = kept_lower (digit ∷ digits) claim hex is in
-    context_of_digit digit (digits ++ colon ∷ join_with_byte colon (claim ∷ hex ∷ [])) (and_parts (is_lower_digit digit) _ all.0).0 ∙ ap kept_in (split_joined is_lower_digit colon (digit ∷ digits) (claim ∷ hex ∷ []) refl all)
-kept_cut (class ∷ claim ∷ hex ∷ other ∷ pieces) is = absurd is.1.1.1
+    let bytes = is.1.1.0 in
+    let first = number_lower (digit ∷ digits) is.0 in
+    let all : Pass is_lower_digit ((digit ∷ digits) ∷ claim ∷ hex ∷ []) = (first, (number_lower claim is.1.0, (rw bytes.2 (lower_text bytes.0 bytes.1.0), tt))) in
+    let is = (and_parts (is_lower_digit digit) _ first).0 in
+    let apart : ((digit == mark) ≡ false) × ((digit == 45) ≡ false) = grind (arith, nat_tests, is) in
+    rw (apart.0, apart.1) (ap kept_in (split_joined is_lower_digit colon (digit ∷ digits) (claim ∷ hex ∷ []) refl all))
+kept_cut pieces is = absurd (grind (arith, is))
 
 -- ---- the numbers of a missing context
 
@@ -153,15 +110,14 @@ numbers_take (suc most) (piece ∷ pieces) numbers read =
       written = (told.written, more.written);
       few = omega (arith, more.few);
       as_many = omega (arith, more.as_many);
-      takes = λ exact. ap (λ w. w ∷ pieces) (told.takes exact.0) ∙ ap (λ ws. decimal first.0 ∷ ws) (more.takes exact.1);
+      takes = λ exact. cc (told.takes exact.0, more.takes exact.1);
     })
 
 pub numbers_again : (most : ℕ) (numbers : List ℕ) → AllByRecursion a_number.Exact numbers → length numbers ≤ most → numbers_in most (map decimal numbers) ≡ Some numbers
 numbers_again most [] exact few = refl
 numbers_again zero (n ∷ numbers) exact few = absurd (omega arith)
 numbers_again (suc most) (n ∷ numbers) exact few =
-    bind_again (a_number.reading (decimal n)) (λ x. option_map (λ ns. x ∷ ns) (numbers_in most (map decimal numbers))) n (number_lawful.again n tt exact.0)
-    ∙ ap (option_map (λ ns. n ∷ ns)) (numbers_again most numbers exact.1 (omega arith))
+    rw (number_lawful.again n tt exact.0, numbers_again most numbers exact.1 (omega arith)) refl
 
 numbers_read : (most : ℕ) (pieces : List (List ℕ)) → AllByRecursion a_number.Writes pieces → length pieces ≤ most → (numbers : List ℕ) × (numbers_in most pieces ≡ Some numbers)
 numbers_read most [] are few = ([], refl)
@@ -171,31 +127,25 @@ numbers_read (suc most) (piece ∷ pieces) are few =
     let rest = numbers_read most pieces are.1 (omega arith) in
     (first.0 ∷ rest.0, bind_again (a_number.reading piece) (λ n. option_map (λ ns. n ∷ ns) (numbers_in most pieces)) first.0 first.1 ∙ ap (option_map (λ ns. first.0 ∷ ns)) rest.1)
 
+claims_are : (word numbers : List ℕ) → claims_in word ≡ Some numbers → (pieces : List (List ℕ)) × AreNumbers 4 pieces numbers × (word ≡ join_with_byte point pieces)
+claims_are [] numbers read = ([], numbers_take 4 [] numbers read, refl)
+claims_are (b ∷ word) numbers read = (slice_split (λ c. c == point) (b ∷ word), numbers_take 4 _ numbers read, sym (join_with_byte-slice_split point (b ∷ word)))
+
 claims_take : (word numbers : List ℕ) → claims_in word ≡ Some numbers → Told a_context (mark ∷ word) (Missing numbers)
-claims_take [] numbers read =
-    subst (λ ns. Told a_context (mark ∷ []) (Missing ns)) (same_Some [] numbers read) (record { written = inr (inr ([], tt, omega arith, refl)); held = omega arith; takes = λ exact. refl })
-claims_take (b ∷ word) numbers read =
-    let pieces = slice_split (λ c. c == point) (b ∷ word) in
-    let are = numbers_take 4 pieces numbers read in
-    let joined = sym (join_with_byte-slice_split point (b ∷ word)) in
+claims_take word numbers read =
+    let are = claims_are word numbers read in
     record {
-      written = inr (inr (pieces, are.written, are.few, ap (λ w. mark ∷ w) joined));
-      held = omega (arith, are.few, are.as_many);
-      takes = λ exact. ap (λ w. mark ∷ w) (joined ∙ ap (join_with_byte point) (are.takes exact));
+      written = inr (inr (are.0, are.1.written, are.1.few, ap (λ w. mark ∷ w) are.2));
+      held = omega (arith, are.1.few, are.1.as_many);
+      takes = λ exact. ap (λ w. mark ∷ w) (are.2 ∙ ap (join_with_byte point) (are.1.takes exact));
     }
 
--- numbers have digits of hexadecimal alone
-numbers_lower : (pieces : List (List ℕ)) → AllByRecursion a_number.Writes pieces → Pass is_lower_digit pieces
-numbers_lower pieces are = all_pass is_lower_digit a_number.Writes pieces number_lower are
-
--- joined numbers are cut again
+-- joined numbers, which have digits of hexadecimal alone, are cut again
 claims_cut : (pieces : List (List ℕ)) → AllByRecursion a_number.Writes pieces → claims_in (join_with_byte point pieces) ≡ numbers_in 4 pieces
 claims_cut [] are = refl
 claims_cut ([] ∷ pieces) are = cc are.0
-claims_cut ((digit ∷ digits) ∷ []) are =
-    ap (numbers_in 4) (split_joined is_lower_digit point (digit ∷ digits) [] refl (numbers_lower ((digit ∷ digits) ∷ []) are))
-claims_cut ((digit ∷ digits) ∷ next ∷ pieces) are =
-    ap (numbers_in 4) (split_joined is_lower_digit point (digit ∷ digits) (next ∷ pieces) refl (numbers_lower ((digit ∷ digits) ∷ next ∷ pieces) are))
+claims_cut ((digit ∷ digits) ∷ []) are = ap (numbers_in 4) (split_joined is_lower_digit point (digit ∷ digits) [] refl (all_pass _ a_number.Writes ((digit ∷ digits) ∷ []) number_lower are))
+claims_cut ((digit ∷ digits) ∷ pieces) are = ap (numbers_in 4) (split_joined is_lower_digit point (digit ∷ digits) pieces refl (all_pass _ a_number.Writes ((digit ∷ digits) ∷ pieces) number_lower are))
 
 -- ---- a context
 
@@ -217,33 +167,28 @@ context_again : (context : Carried (List ℕ)) → IsContext context → IsExact
 context_again Absent held exact = refl
 context_again (Kept class claim bytes) held exact =
     let words = words_of_fields (kept_fields class claim bytes) in
-    let again = fields_again kept_places kept (class, (claim, (bytes, tt))) kept_lawful held exact in
-    kept_cut words (reads kept_places kept words _ kept_lawful again).written ∙ again
+    let again = fields_again kept_places Kept (class, (claim, (bytes, tt))) kept_lawful held exact in
+    kept_cut words (reads kept_places Kept words _ kept_lawful again).written ∙ again
 context_again (Missing numbers) held exact =
     let again = numbers_again 4 numbers exact held in
     ap (option_map Missing) (claims_cut (map decimal numbers) (numbers_take 4 (map decimal numbers) numbers again).written ∙ again)
 
 context_reads : (word : List ℕ) → IsContextWord word → (context : Carried (List ℕ)) × (context_in word ≡ Some context)
-context_reads word is = elim is [
-  | inl none ↦ (Absent, ap context_in none)
-  | inr other ↦ elim other [
-    | inl three ↦
-        let read = is_some (kept_in three.0) (λ none. subst (AreReading kept_places kept three.0) none (fields_are _ kept_places kept three.0 kept_lawful) three.1) in
-        (read.0, ap context_in three.2 ∙ kept_cut three.0 three.1 ∙ read.1)
-    | inr missing ↦
-        let read = numbers_read 4 missing.0 missing.1 missing.2 in
-        (Missing read.0, ap context_in missing.3 ∙ ap (option_map Missing) (claims_cut missing.0 missing.1 ∙ read.1))
-  ]
-]
+context_reads word (inl none) = (Absent, ap context_in none)
+context_reads word (inr (inl three)) =
+    let read = is_some (kept_in three.0) (λ none. subst (AreReading kept_places Kept three.0) none (fields_are _ kept_places Kept three.0 kept_lawful) three.1) in
+    (read.0, ap context_in three.2 ∙ kept_cut three.0 three.1 ∙ read.1)
+context_reads word (inr (inr missing)) =
+    let read = numbers_read 4 missing.0 missing.1 missing.2 in
+    (Missing read.0, ap context_in missing.3 ∙ ap (option_map Missing) (claims_cut missing.0 missing.1 ∙ read.1))
 
 context_passes : (word : List ℕ) → IsContextWord word → list_all in_word word ≡ true
-context_passes word is = elim is [
-  | inl none ↦ ap (list_all in_word) none
-  | inr other ↦ elim other [
-    | inl three ↦ ap (list_all in_word) three.2 ∙ join_passes in_word colon three.0 refl (fields_pass kept_places three.0 kept_lawful three.1)
-    | inr missing ↦ ap (list_all in_word) missing.3 ∙ join_passes in_word point missing.0 refl (all_pass in_word a_number.Writes missing.0 number_lawful.passes missing.1)
-  ]
-]
+context_passes word (inl none) = ap (list_all in_word) none
+context_passes word (inr (inl three)) = rw three.2 (join_passes in_word colon three.0 refl (fields_pass kept_places three.0 kept_lawful three.1))
+context_passes word (inr (inr missing)) = rw missing.3 (join_passes in_word point missing.0 refl (all_pass in_word a_number.Writes missing.0 number_lawful.passes missing.1))
 
 pub context_lawful : Lawful a_context
 context_lawful = lawful a_context context_takes context_reads context_again context_passes
+
+-- the fields that a form may have
+pub ruleset lawfuls = (number_lawful, stamp_lawful, mode_lawful, any_lawful, context_lawful, the_lawful, rules)

@@ -1,5 +1,5 @@
 -- The line of a decoded message.
-use Rattle.text_spec.proofs.Names.{◌≡◌, ◌+◌, ◌<◌, ◌≤◌, ◌^◌, ◌++◌, ℕ, List, Option, Some, None, Stamp, w64, to_be_bytes, append_assoc, length, length-append, arith, decimal, layout_word, message_line, shown_context, shown_signature, stamp_text}
+use Rattle.text_spec.proofs.Names.{◌≡◌, ◌+◌, ◌<◌, ◌≤◌, ◌++◌, ℕ, List, Option, Some, None, Stamp, w64, to_be_bytes, append_assoc, length, length-append, arith, decimal, layout_word, message_line, shown_context, shown_signature, stamp_text}
 use Rattle.std.proofs.lemmas.Grind.{common_steps}
 use Rattle.ids_frame.specs.Message.{MessageParts, FitsMessage}
 use Rattle.text_spec.proofs.HexadecimalLemmas.{length_hex}
@@ -14,24 +14,18 @@ length_line m = simp length-append (omega arith)
 pub few_in_front : (m : MessageParts) → FitsMessage m
     → length (message_line m) < 127 + length (shown_context m.context) + length (shown_signature m.signature)
 few_in_front m fits =
+    let layout : length (layout_word m.version) ≤ 2 = grind (arith, common_steps) in
     omega (
       arith,
       length_line m,
-      digits m.instance (omega (arith, fits.room.ten_bits)),
-      digits m.sensor (omega (arith, fits.room.six_bits)),
-      digits m.event fits.event,
-      digits m.count fits.count,
-      digits m.reserved (omega (arith, fits.reserved)),
-      length_layout m.version,
+      few_digits m.instance (omega (arith, fits.room.ten_bits)),
+      few_digits m.sensor (omega (arith, fits.room.six_bits)),
+      few_digits m.event (omega (arith, fits.event)),
+      few_digits m.count (omega (arith, fits.count)),
+      few_digits m.reserved (omega (arith, fits.reserved)),
       length_stamp m.stamp,
     )
   where
-    digits : (n : ℕ) → n < 2 ^ 16 → length (decimal n) ≤ 20
-    digits n small = few_digits n (omega arith)
-
-    length_layout : (version : ℕ) → length (layout_word version) ≤ 2
-    length_layout version = grind (arith, common_steps)
-
     length_stamp : (stamp : Option Stamp) → length (stamp_text stamp) ≤ 16
     length_stamp None = omega arith
     length_stamp (Some stamp) = omega (arith, length_hex (to_be_bytes w64 stamp.0))

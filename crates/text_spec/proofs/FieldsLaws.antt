@@ -1,6 +1,5 @@
 -- Lists of fields: their reading against their words, both ways, for any fields that keep the laws.
-use Rattle.text_spec.proofs.Names.{◌≡◌, ◌<◌, ◌==◌, ◌∷◌, ℕ, not, Bool, true, List, [], length, refl, sym, ap, subst, ◌∙◌, arith, inl, inr, Option, Some, None, option_map, nat_lt, list_all, none-some, Field, Filled, simple, put, the, words_of_fields, AreHeld, AreExact, AreWritten, HasForm, Makes, first_as, read_by, Form, told_in, told_in_one, ◌>>=◌, or_else, space, line_feed, words_of, line_of}
-use Rattle.text_spec.proofs.FrontLemmas.{bind_again}
+use Rattle.text_spec.proofs.Names.{◌≡◌, ◌<◌, ◌==◌, ◌∷◌, ℕ, not, Bool, true, List, [], length, refl, sym, ap, subst, ◌∙◌, arith, inl, inr, Option, Some, None, option_map, nat_lt, list_all, none-some, Field, Filled, simple, put, the, words_of_fields, AreHeld, AreExact, AreWritten, HasForm, Makes, read_by, Form, told_in, told_in_one, or_else, space, line_feed, words_of, line_of, ◌>>=◌}
 use Rattle.text_spec.proofs.WordsLemmas.{Pass, all_pass, weaker, split_joined, join_passes}
 
 -- ---- the laws of a field
@@ -76,50 +75,44 @@ abbrev pub fill : (fields : List Field) → Values fields → List Filled
 fill [] values = []
 fill (field ∷ fields) values = put field values.0 ∷ fill fields values.1
 
+-- the words are those of these fields, where the values are told as they are
+pub record IsShown (words : List (List ℕ)) (fields : List Filled) : Type 0 where
+  pub held : AreHeld fields
+  pub are : AreExact fields → words ≡ words_of_fields fields
+
 -- the values that words were read as
 pub record Reads {A : Type 0} (fields : List Field) (makes : Makes fields A) (words : List (List ℕ)) (a : A) : Type 0 where
   pub values : Values fields
   pub made : made_of fields makes values ≡ a
   pub written : AreWritten fields words
-  pub held : AreHeld (fill fields values)
-  pub are : AreExact (fill fields values) → words ≡ words_of_fields (fill fields values)
-
--- the words are those of these fields, where the values are told as they are
-pub record IsShown (words : List (List ℕ)) (fields : List Filled) : Type 0 where
-  pub held : AreHeld fields
-  pub are : AreExact fields → words ≡ words_of_fields fields
+  pub shown : IsShown words (fill fields values)
 
 -- what holds of words by what they are read as
 abbrev pub AreReading : {A : Type 0} → (fields : List Field) → Makes fields A → List (List ℕ) → Option A → Type 0
 AreReading fields makes words None = AreWritten fields words → ⊥
 AreReading fields makes words (Some a) = Reads fields makes words a
 
--- a word before words that are read
-then_read : {A : Type 0} (field : Field) (fields : List Field) (makes : Makes (field ∷ fields) A) (word : List ℕ) (words : List (List ℕ)) (x : field.Value) (read : Option A)
-    → Told field word x → AreReading fields (makes x) words read → AreReading (field ∷ fields) makes (word ∷ words) read
-then_read field fields makes word words x None told none = λ written. none written.1
-then_read field fields makes word words x (Some a) told rest = record {
-  values = (x, rest.values);
-  made = rest.made;
-  written = (told.written, rest.written);
-  held = (told.held, rest.held);
-  are = λ exact. ap (λ w. w ∷ words) (told.takes exact.0) ∙ ap (λ ws. field.word x ∷ ws) (rest.are exact.1);
-}
-
 -- words that are read, by what the first of them is read as
 first_read : (A : Type 0) (field : Field) (fields : List Field) (makes : Makes (field ∷ fields) A) (word : List ℕ) (words : List (List ℕ)) (read : Option field.Value)
     → IsReading field word read → ((x : field.Value) → AreReading fields (makes x) words (read_by fields (makes x) words))
     → AreReading (field ∷ fields) makes (word ∷ words) (◌>>=◌ {A = field.Value × List (List ℕ)} (option_map (λ x. (x, words)) read) (λ x. read_by fields (makes x.0) x.1))
 first_read A field fields makes word words None none rest = λ written. none written.0
-first_read A field fields makes word words (Some x) told rest = then_read field fields makes word words x (read_by fields (makes x) words) told (rest x)
+first_read A field fields makes word words (Some x) told rest = elim (read_by fields (makes x) words) as (λ read. AreReading fields (makes x) words read → AreReading (field ∷ fields) makes (word ∷ words) read) [
+  | None ↦ λ none written. none written.1
+  | Some a ↦ λ more. record {
+    values = (x, more.values);
+    made = more.made;
+    written = (told.written, more.written);
+    shown = record { held = (told.held, more.shown.held); are = λ exact. rw (told.takes exact.0, more.shown.are exact.1) refl };
+  }
+] (rest x)
 
 -- words are read exactly where the fields may be they
 pub fields_are : (A : Type 0) (fields : List Field) (makes : Makes fields A) (words : List (List ℕ)) → AreLawful fields → AreReading fields makes words (read_by fields makes words)
-fields_are A [] makes [] laws = record { values = tt; made = refl; written = tt; held = tt; are = λ exact. refl }
-fields_are A [] makes (word ∷ words) laws = λ written. written
-fields_are A (field ∷ fields) makes [] laws = λ written. written
+fields_are A [] makes [] laws = record { values = tt; made = refl; written = tt; shown = record { held = tt; are = λ exact. refl } }
 fields_are A (field ∷ fields) makes (word ∷ words) laws =
     first_read A field fields makes word words (field.reading word) (laws.0.is word) (λ x. fields_are A fields (makes x) words laws.1)
+fields_are A fields makes words laws = λ written. written
 
 -- what was read of words
 pub reads : {A : Type 0} (fields : List Field) (makes : Makes fields A) (words : List (List ℕ)) (a : A) → AreLawful fields → read_by fields makes words ≡ Some a → Reads fields makes words a
@@ -130,27 +123,20 @@ pub fields_again : {A : Type 0} (fields : List Field) (makes : Makes fields A) (
     → read_by fields makes (words_of_fields (fill fields values)) ≡ Some (made_of fields makes values)
 fields_again [] makes values laws held exact = refl
 fields_again (field ∷ fields) makes values laws held exact =
-    let rest = words_of_fields (fill fields values.1) in
-    bind_again (first_as field (field.word values.0 ∷ rest)) (λ x. read_by fields (makes x.0) x.1) (values.0, rest) (ap (option_map (λ x. (x, rest))) (laws.0.again values.0 held.0 exact.0))
-    ∙ fields_again fields (makes values.0) values.1 laws.1 held.1 exact.1
-
--- the word of a value is one that the field may be
-pub word_written : (field : Field) (x : field.Value) → Lawful field → field.Held x → field.Exact x → field.Writes (field.word x)
-word_written field x laws held exact = (subst (IsReading field (field.word x)) (laws.again x held exact) (laws.is (field.word x))).written
+    rw (laws.0.again values.0 held.0 exact.0) (fields_again fields (makes values.0) values.1 laws.1 held.1 exact.1)
 
 -- words that fields may be have only bytes that words have
 pub fields_pass : (fields : List Field) (words : List (List ℕ)) → AreLawful fields → AreWritten fields words → Pass in_word words
 fields_pass [] [] laws written = tt
-fields_pass [] (word ∷ words) laws written = absurd written
-fields_pass (field ∷ fields) [] laws written = absurd written
 fields_pass (field ∷ fields) (word ∷ words) laws written = (laws.0.passes word written.0, fields_pass fields words laws.1 written.1)
+fields_pass fields words laws written = absurd written
 
 -- a form is read where it is the first
 pub first_form : {A : Type 0} (form : Form A) (values : Values form.fields) (others : Option A) → AreLawful (the form.letter ∷ form.fields)
     → AreHeld (fill form.fields values) → AreExact (fill form.fields values)
     → or_else (told_in form (form.letter ∷ words_of_fields (fill form.fields values))) others ≡ Some (made_of form.fields form.makes values)
 first_form form values others laws held exact =
-    ap (λ o. or_else o others) (fields_again (the form.letter ∷ form.fields) (λ _. form.makes) (tt, values) laws (tt, held) (tt, exact))
+    rw (fields_again (the form.letter ∷ form.fields) (λ _. form.makes) (tt, values) laws (tt, held) (tt, exact)) refl
 
 -- the fields of some with their values
 abbrev pub kinds : List Filled → List Field
@@ -160,7 +146,9 @@ kinds (one ∷ more) = one.field ∷ kinds more
 -- values that there are and that are told as they are have words that pass
 pub filled_pass : (fields : List Filled) → AreLawful (kinds fields) → AreHeld fields → AreExact fields → Pass in_word (words_of_fields fields)
 filled_pass [] laws held exact = tt
-filled_pass (one ∷ more) laws held exact = (laws.0.passes _ (word_written one.field one.value laws.0 held.0 exact.0), filled_pass more laws.1 held.1 exact.1)
+filled_pass (one ∷ more) laws held exact =
+    let word = one.field.word one.value in
+    (laws.0.passes word (subst (IsReading one.field word) (laws.0.again one.value held.0 exact.0) (laws.0.is word)).written, filled_pass more laws.1 held.1 exact.1)
 
 -- ---- the line of some words
 
@@ -201,7 +189,7 @@ module _ {A : Type 0} (shows : A → List Filled) where
   told_or form forms words None None is none nor = λ written. elim written [ inl here ↦ none here | inr later ↦ nor later ]
   told_or form forms words None (Some a) is none later = (inr later.0, later.1)
   told_or form forms words (Some a) other is here later =
-      (inl here.written, subst (IsShown words) (sym (ap shows (sym here.made) ∙ is.is here.values.1)) (record { held = here.held; are = here.are }))
+      (inl here.written, subst (IsShown words) (sym (ap shows (sym here.made) ∙ is.is here.values.1)) here.shown)
 
   -- words tell something exactly where they have one of the forms
   pub forms_are : (forms : List (Form A)) (words : List (List ℕ)) → AreForms forms → IsTold forms words (told_in_one forms words)

@@ -1,5 +1,5 @@
 -- A line without a fault: what holds of it, and what it adds to the lines before it.
-use Rattle.text_spec.proofs.Names.{◌≡◌, ◌<◌, ◌≤◌, ◌∷◌, ◌++◌, recursion_from_All, AllPass-from_list_all, ℕ, true, List, [], length, map, sym, ap, append_assoc, arith, Ok, slice_index, AllByRecursion, flat_map, list_all, append-nil, flat_map_more, map-append, nil_from_length, Parts, is_sensor, Turn, begun, extended, with_entry, IsExactContext, a_number, AreExact, Past, is_claim, is_call, is_context, is_act, has_event, entry_fault, fault_of, next, entry_of, Carried, Absent, Kept, Missing, Act, Report, State, SetMode, Entry, Line, begins, enters, loses, act_fields, fields_of, turn_told, lines_told}
+use Rattle.text_spec.proofs.Names.{◌≡◌, ◌<◌, ◌≤◌, ◌∷◌, ◌++◌, recursion_from_All, AllPass-from_list_all, ℕ, true, List, [], length, map, sym, ap, append_assoc, arith, Ok, slice_index, flat_map, append-nil, flat_map_more, map-append, nil_from_length, Parts, is_sensor, Turn, begun, extended, with_entry, IsExactContext, AreExact, Past, is_claim, is_call, is_context, is_act, has_event, entry_fault, fault_of, next, entry_of, Carried, Absent, Kept, Missing, Act, Report, Entry, Line, begins, enters, loses, act_fields, fields_of, turn_told, lines_told, State, SetMode}
 
 -- what holds of an entry without a fault
 pub record EntryPasses (config : Parts) (past : Past) (entry : Entry (List ℕ)) : Type 0 where
@@ -26,15 +26,12 @@ entry_passes config past entry none = record {
 
 -- ---- its numbers are told as they are
 
-small_claims : (numbers : List ℕ) → list_all is_claim numbers ≡ true → AllByRecursion a_number.Exact numbers
-small_claims numbers all = recursion_from_All _ numbers (λ k d within.
-    let is = AllPass-from_list_all is_claim numbers all k d within in
-    grind (arith, is))
-
 exact_context : (context : Carried (List ℕ)) → is_context context ≡ true → IsExactContext context
 exact_context Absent is = tt
-exact_context (Kept class claim bytes) is = (grind (arith, is), (grind (arith, is), (tt, tt)))
-exact_context (Missing numbers) is = small_claims numbers is
+exact_context (Kept class claim bytes) is = grind (arith, is)
+exact_context (Missing numbers) is = recursion_from_All _ numbers (λ k d within.
+    let one = AllPass-from_list_all is_claim numbers is k d within in
+    grind (arith, one))
 
 -- an event that sensors report is there
 pub sensor_is_there : (config : Parts) (k : ℕ) → is_sensor config k ≡ true → k < length config.events
@@ -51,9 +48,8 @@ exact_act config past caller call (SetMode event mode) few none = (tt, (grind (a
 
 -- a line without a fault is told as it is
 pub line_exact : (config : Parts) (past : Past) (line : Line) → length config.events ≤ 256 → fault_of config past line ≡ Ok tt → AreExact (fields_of line)
-line_exact config past (begins head) few none = (tt, (grind (arith, none), (grind (arith, none), (grind (arith, none), (grind (arith, none), tt)))))
 line_exact config past (enters entry) few none = exact_act config past entry.caller entry.call entry.act few none
-line_exact config past (loses loss) few none = (tt, (grind (arith, none), (grind (arith, none), (grind (arith, none), tt))))
+line_exact config past line few none = grind (arith, none)
 
 -- ---- what it adds
 

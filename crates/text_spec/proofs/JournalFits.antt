@@ -1,5 +1,6 @@
 -- What turns and losses that fit a configuration keep.
-use Rattle.text_spec.proofs.Names.{◌≡◌, ◌+◌, ◌<◌, ◌≤◌, ◌||◌, ◌∷◌, ◌++◌, ℕ, true, false, inl, inr, List, [], length, map, get_or, length-set, get_or-set_same, get_or-set_other, set, refl, sym, ap, subst, ◌∙◌, append_assoc, arith, Ok, AllByRecursion, flat_map, list_any, and_from, both_ways, cases_eq, eq-eqb, append-nil, length-append, list_any-append, Parts, Turn, begun, with_entry, entries_of, Past, is_in_ranges, loss_fault, fault_of, next, is_pair, has_pair, pair_of, AreFaultless, journal_grammar, Follows, Loss, Entry, Line, begins, enters, loses, turn_told}
+use Rattle.text_spec.proofs.Names.{◌≡◌, ◌+◌, ◌<◌, ◌≤◌, ◌||◌, ◌∷◌, ◌++◌, ℕ, true, false, List, [], length, map, get_or, length-set, get_or-set_same, set, refl, ap, ◌∙◌, append_assoc, arith, Ok, AllByRecursion, flat_map, list_any, both_ways, eq-eqb, append-nil, length-append, list_any-append, Parts, Turn, begun, with_entry, entries_of, Past, is_in_ranges, fault_of, next, is_pair, has_pair, pair_of, AreFaultless, journal_grammar, Follows, Entry, Line, begins, enters, loses, turn_told}
+use Rattle.std.proofs.lemmas.Grind.{common_steps}
 use Rattle.text_spec.proofs.JournalFacts.{entry_passes, flat_map-push, flat_map-with_entry}
 
 -- what the lines so far keep of one of them
@@ -12,25 +13,17 @@ Keeps past (loses loss) = (pair_of loss.caller loss.call < past.pair) × (0 < le
 pub has_pair-more : (turns : List Turn) (entry : Entry (List ℕ)) (pair : ℕ) → 0 < length turns → has_pair (with_entry turns entry) pair ≡ (has_pair turns pair || (is_pair pair entry || false))
 has_pair-more turns entry pair some = ap (list_any (is_pair pair)) (flat_map-with_entry (λ (turn : Turn). turn.entries) entry turns entry some (λ turn. refl)) ∙ list_any-append (is_pair pair) (entries_of turns) (entry ∷ [])
 
--- the pair of a loss without a fault is no entry's
-no_entry : (past : Past) (loss : Loss) → loss_fault past loss ≡ Ok tt → has_pair past.told.turns (pair_of loss.caller loss.call) ≡ false
-no_entry past loss none = grind (arith, none)
-
 -- there are 32 callers
 pub calls_stay : (past : Past) (line : Line) → length past.calls ≡ 32 → length (next past line).calls ≡ 32
-calls_stay past (begins head) calls = calls
 calls_stay past (enters entry) calls = length-set past.calls entry.caller (entry.call + 1) ∙ calls
-calls_stay past (loses loss) calls = calls
+calls_stay past line calls = calls
 
 module _ (config : Parts) where
   -- ---- ranges
 
   in_ranges_of : (past : Past) (line : Line) → fault_of config past line ≡ Ok tt → is_in_ranges config line ≡ true
   in_ranges_of past (begins head) none = grind (arith, none)
-  in_ranges_of past (enters entry) none =
-      let passes = entry_passes config past entry none in
-      and_from _ _ (and_from _ _ passes.call passes.act) passes.event
-  in_ranges_of past (loses loss) none = grind (arith, none)
+  in_ranges_of past line none = grind (arith, none)
 
   pub all_in_ranges : (past : Past) (lines : List Line) → AreFaultless (journal_grammar config) past lines → AllByRecursion (λ line. is_in_ranges config line ≡ true) lines
   all_in_ranges past [] none = tt
@@ -52,32 +45,19 @@ module _ (config : Parts) where
 
   -- what is kept stays kept, and a line follows it
   kept_on : (past : Past) (first line : Line) → Keeps past first → fault_of config past line ≡ Ok tt → Keeps (next past line) first × Follows first line
-  kept_on past (begins one) (begins head) keeps none = (grind (arith, keeps, none), grind (arith, keeps, none))
-  kept_on past (begins one) (enters entry) keeps none = (keeps, tt)
-  kept_on past (begins one) (loses loss) keeps none = (keeps, tt)
+  kept_on past (begins one) (begins head) keeps none = grind (arith, keeps, none)
+  kept_on past (begins one) line keeps none = (keeps, tt)
   kept_on past (enters one) (begins head) keeps none =
-      let same = flat_map-push (λ (t : Turn). t.entries) past.told.turns (begun head) ∙ append-nil (entries_of past.told.turns) in
-      ((keeps.0, keeps.1, ap (list_any (is_pair (pair_of one.caller one.call))) same ∙ keeps.2), tt)
+      ((keeps.0, keeps.1, rw (flat_map-push (λ (t : Turn). t.entries) past.told.turns (begun head), append-nil) keeps.2), tt)
   kept_on past (enters one) (enters entry) keeps none =
       let passes = entry_passes config past entry none in
-      let rises : one.caller ≡ entry.caller → one.call < entry.call = λ own.
-      let before : one.call < get_or past.calls entry.caller 0 = subst (λ c. one.call < get_or past.calls c 0) own keeps.1 in
-      omega (arith, before, passes.rises) in
-      let still : one.call < get_or (set past.calls entry.caller (entry.call + 1)) one.caller 0 = elim (cases_eq one.caller entry.caller) [
-        | inl own ↦
-            let within : entry.caller < length past.calls = subst (λ c. c < length past.calls) own keeps.0 in
-            rw (own, get_or-set_same past.calls entry.caller (entry.call + 1) 0 within) (omega (arith, rises own))
-        | inr other ↦ rw (get_or-set_other past.calls entry.caller one.caller (entry.call + 1) 0 other) keeps.1
-      ] in
+      let rises : one.caller ≡ entry.caller → one.call < entry.call = λ own. omega (arith, rw own at keeps.1, passes.rises) in
+      let still : one.call < get_or (set past.calls entry.caller (entry.call + 1)) one.caller 0 = grind (arith, common_steps, keeps.0, keeps.1, rises) in
       ((rw length-set keeps.0, still, has_pair-more past.told.turns entry (pair_of one.caller one.call) passes.some ∙ grind (arith, keeps.2)), rises)
-  kept_on past (enters one) (loses loss) keeps none = (
-    keeps,
-    λ same.
-        both_ways (has_pair past.told.turns (pair_of loss.caller loss.call)) (no_entry past loss none) (ap (has_pair past.told.turns) (sym same) ∙ keeps.2),
-  )
-  kept_on past (loses one) (begins head) keeps none = (keeps, grind (arith, keeps.1, none))
-  kept_on past (loses one) (enters entry) keeps none = (keeps, grind (arith, keeps.1, none))
+  kept_on past (enters one) (loses loss) keeps none =
+      (keeps, λ same. both_ways (has_pair past.told.turns (pair_of loss.caller loss.call)) (grind (arith, none)) (rw same at keeps.2))
   kept_on past (loses one) (loses loss) keeps none = ((grind (arith, keeps.0, none), rw length-append (omega arith)), grind (arith, keeps.0, none))
+  kept_on past (loses one) line keeps none = (keeps, grind (arith, keeps.1, none))
 
   -- each line follows one that is kept
   later_follows : (past : Past) (first : Line) (middle : List Line) (last : Line) (behind : List Line) → Keeps past first → AreFaultless (journal_grammar config) past (middle ++ last ∷ behind) → Follows first last
@@ -103,6 +83,5 @@ module _ (config : Parts) where
   pub turns_few : (past : Past) (turns : List Turn) (rest : List Line) → AreFaultless (journal_grammar config) past (flat_map turn_told turns ++ rest) → AllByRecursion (λ turn. length turn.entries ≤ 1024) turns
   turns_few past [] rest none = tt
   turns_few past (turn ∷ turns) rest none =
-      let lines : (map enters turn.entries ++ flat_map turn_told turns) ++ rest ≡ map enters turn.entries ++ (flat_map turn_told turns ++ rest) = append_assoc (map enters turn.entries) (flat_map turn_told turns) rest in
-      let more = few_more (next past (begins turn.head)) turn.entries (flat_map turn_told turns ++ rest) (omega arith) (subst (AreFaultless (journal_grammar config) (next past (begins turn.head))) lines none.1) in
+      let more = few_more (next past (begins turn.head)) turn.entries (flat_map turn_told turns ++ rest) (omega arith) (rw (append_assoc (map enters turn.entries) (flat_map turn_told turns) rest) at none.1) in
       (omega (arith, more.0), turns_few more.1 turns rest more.2)

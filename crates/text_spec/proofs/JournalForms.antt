@@ -1,24 +1,12 @@
 -- One line of a journal: its reading against its own text, both ways.
-use Rattle.text_spec.proofs.Names.{◌≡◌, ◌<◌, ℕ, List, length, refl, ap, subst, ◌∙◌, arith, Some, None, codes, words_of_fields, AreHeld, AreExact, HasForm, told_in, entry_of, turn_form, report_form, state_form, setting_form, loss_form, line_forms, told_by, Act, Report, State, SetMode, Line, begins, enters, loses, act_fields, fields_of, or_else}
-use Rattle.text_spec.proofs.ContextsLaws.{the_lawful, number_lawful, stamp_lawful, mode_lawful, context_lawful}
+use Rattle.text_spec.proofs.Names.{◌≡◌, ◌<◌, ℕ, List, length, refl, subst, arith, Some, None, words_of_fields, AreHeld, AreExact, HasForm, told_in, entry_of, turn_form, report_form, state_form, setting_form, loss_form, line_forms, told_by, Act, Report, State, SetMode, Line, begins, enters, loses, act_fields, fields_of}
+use Rattle.text_spec.proofs.ContextsLaws.{lawfuls, number_lawful}
 use Rattle.text_spec.proofs.FieldsLaws.{AreForms, AreLawful, IsShown, IsTold, first_form, forms_are, kinds}
 
 -- ---- the forms of a journal
 
 are_forms : AreForms fields_of line_forms
-are_forms = (
-  record { laws = (the_lawful (codes "T") refl, (number_lawful, (number_lawful, (number_lawful, (number_lawful, tt))))); is = λ values. refl },
-  (
-    record { laws = (the_lawful (codes "R") refl, (number_lawful, (number_lawful, (number_lawful, (number_lawful, (stamp_lawful, (context_lawful, tt))))))); is = λ values. refl },
-    (
-      record { laws = (the_lawful (codes "C") refl, (number_lawful, (number_lawful, (the_lawful (codes "S") refl, (number_lawful, tt))))); is = λ values. refl },
-      (
-        record { laws = (the_lawful (codes "C") refl, (number_lawful, (number_lawful, (the_lawful (codes "M") refl, (number_lawful, (mode_lawful, tt)))))); is = λ values. refl },
-        (record { laws = (the_lawful (codes "L") refl, (number_lawful, (number_lawful, (number_lawful, tt)))); is = λ values. refl }, tt),
-      ),
-    ),
-  ),
-)
+are_forms = search lawfuls depth 40
 
 -- words tell something exactly where they have a form, and are then the line's
 line_is : (words : List (List ℕ)) → IsTold fields_of line_forms words (told_by words)
@@ -40,8 +28,7 @@ act_again caller call (State state) held exact = first_form state_form (caller, 
 act_again caller call (SetMode event mode) held exact =
     let no_state : told_in state_form (words_of_fields (act_fields caller call (SetMode event mode))) ≡ None =
     rw (number_lawful.again caller tt exact.1.0, number_lawful.again call tt exact.1.1.0) refl in
-    ap (λ o. or_else o (or_else (told_in setting_form (words_of_fields (act_fields caller call (SetMode event mode)))) None)) no_state
-    ∙ first_form setting_form (caller, (call, (tt, (event.0, (mode, tt))))) _ are_forms.1.1.1.0.laws held.1 exact.1
+    rw no_state (first_form setting_form (caller, (call, (tt, (event.0, (mode, tt))))) _ are_forms.1.1.1.0.laws held.1 exact.1)
 
 -- a line is read from its words
 pub line_again : (line : Line) → AreHeld (fields_of line) → AreExact (fields_of line) → told_by (words_of_fields (fields_of line)) ≡ Some line
@@ -53,12 +40,10 @@ line_again (loses loss) held exact = first_form loss_form (loss.caller, (loss.ca
 -- ---- its fields
 
 act_lawful : (caller call : ℕ) (act : Act (List ℕ)) → AreLawful (kinds (act_fields caller call act)) × (0 < length (words_of_fields (act_fields caller call act)))
-act_lawful caller call (Report event count stamp context) = (are_forms.1.0.laws, omega arith)
-act_lawful caller call (State state) = (are_forms.1.1.0.laws, omega arith)
-act_lawful caller call (SetMode event mode) = (are_forms.1.1.1.0.laws, omega arith)
+act_lawful caller call (State state) = (search lawfuls depth 20, omega arith)
+act_lawful caller call act = (search lawfuls depth 20, omega arith)
 
 -- they keep the laws, and there are some
 pub line_lawful : (line : Line) → AreLawful (kinds (fields_of line)) × (0 < length (words_of_fields (fields_of line)))
-line_lawful (begins head) = (are_forms.0.laws, omega arith)
 line_lawful (enters entry) = act_lawful entry.caller entry.call entry.act
-line_lawful (loses loss) = (are_forms.1.1.1.1.0.laws, omega arith)
+line_lawful line = (search lawfuls depth 20, omega arith)

@@ -1,6 +1,5 @@
 -- All lines of a journal: what a text tells is a journal, and each journal is told by its own text.
-use Rattle.text_spec.proofs.Names.{◌≡◌, ◌≤◌, ◌∷◌, ◌++◌, ℕ, List, [], length, map, refl, sym, ap, subst, ◌∙◌, append_assoc, AllByRecursion, Result, Ok, Err, flat_map, append-nil, Parts, Turn, Past, next, start, AreFaultless, IsHeld, IsJournal, journal_grammar, BadLine, journal_in, Entry, Loss, Told, Line, begins, enters, loses, fields_of, line_for, turn_told, lines_told, past_in, text_of}
-use Rattle.text_spec.specs.Lines.{◌>>=◌}
+use Rattle.text_spec.proofs.Names.{◌≡◌, ◌≤◌, ◌∷◌, ◌++◌, ℕ, List, [], length, map, refl, sym, ap, ◌∙◌, append_assoc, Ok, Err, flat_map, append-nil, Parts, Turn, Past, next, start, AreFaultless, IsJournal, journal_grammar, BadLine, journal_in, Entry, Loss, Told, Line, begins, enters, loses, fields_of, turn_told, lines_told, past_in, IsHeld, line_for, subst, text_of, AllByRecursion}
 use Rattle.text_spec.proofs.JournalFacts.{line_exact, line_grows}
 use Rattle.text_spec.proofs.JournalForms.{line_again, line_lawful, told_is}
 use Rattle.text_spec.proofs.LinesLaws.{Tells, all_next, bind_ok, is_their_text, text_adds, text_read}
@@ -8,46 +7,35 @@ use Rattle.text_spec.proofs.LinesLaws.{Tells, all_next, bind_ok, is_their_text, 
 -- ---- what lines tell
 
 -- the entries that lines begin with, and what the lines after them tell
-pub record Grouped : Type 0 where
-  pub entries : List (Entry (List ℕ))
-  pub turns : List Turn
-  pub losses : List Loss
-
--- the lines in their groups
-abbrev grouped : List Line → Grouped
-grouped [] = record { entries = []; turns = []; losses = [] }
-grouped (begins head ∷ lines) =
-    record { entries = []; turns = record { head = head; entries = (grouped lines).entries } ∷ (grouped lines).turns; losses = (grouped lines).losses }
-grouped (enters entry ∷ lines) = record { entries = entry ∷ (grouped lines).entries; turns = (grouped lines).turns; losses = (grouped lines).losses }
-grouped (loses loss ∷ lines) = record { entries = (grouped lines).entries; turns = (grouped lines).turns; losses = loss ∷ (grouped lines).losses }
+abbrev grouped : List Line → List (Entry (List ℕ)) × Told
+grouped [] = ([], record { turns = []; losses = [] })
+grouped (begins head ∷ lines) = let rest = grouped lines in ([], record rest.1 { turns = record { head = head; entries = rest.0 } ∷ rest.1.turns })
+grouped (enters entry ∷ lines) = let rest = grouped lines in (entry ∷ rest.0, rest.1)
+grouped (loses loss ∷ lines) = let rest = grouped lines in (rest.0, record rest.1 { losses = loss ∷ rest.1.losses })
 
 -- losses alone, entries before other lines, and the lines of a whole journal
-grouped-losses : (losses : List Loss) → grouped (map loses losses) ≡ record { entries = []; turns = []; losses = losses }
+grouped-losses : (losses : List Loss) → grouped (map loses losses) ≡ ([], record { turns = []; losses = losses })
 grouped-losses [] = refl
 grouped-losses (loss ∷ losses) = rw (grouped-losses losses) refl
 
-grouped-entries : (entries : List (Entry (List ℕ))) (lines : List Line)
-    → grouped (map enters entries ++ lines) ≡ record { entries = entries ++ (grouped lines).entries; turns = (grouped lines).turns; losses = (grouped lines).losses }
+grouped-entries : (entries : List (Entry (List ℕ))) (lines : List Line) → grouped (map enters entries ++ lines) ≡ (entries ++ (grouped lines).0, (grouped lines).1)
 grouped-entries [] lines = refl
 grouped-entries (entry ∷ entries) lines = rw (grouped-entries entries lines) refl
 
-grouped-turns : (turns : List Turn) (losses : List Loss) → grouped (flat_map turn_told turns ++ map loses losses) ≡ record { entries = []; turns = turns; losses = losses }
+grouped-turns : (turns : List Turn) (losses : List Loss) → grouped (flat_map turn_told turns ++ map loses losses) ≡ ([], record { turns = turns; losses = losses })
 grouped-turns [] losses = grouped-losses losses
 grouped-turns (turn ∷ turns) losses =
     rw (append_assoc (map enters turn.entries) (flat_map turn_told turns) (map loses losses), grouped-entries turn.entries, grouped-turns turns losses, append-nil) refl
 
 -- they are told by one history with its losses alone
 same_told : (a b : Told) → lines_told a ≡ lines_told b → a ≡ b
-same_told a b same =
-    let groups = sym (grouped-turns a.turns a.losses) ∙ ap grouped same ∙ grouped-turns b.turns b.losses in
-    ap (λ (g : Grouped). record { turns = g.turns; losses = g.losses }) groups
+same_told a b same = ap (λ (g : List (Entry (List ℕ)) × Told). g.1) (sym (grouped-turns a.turns a.losses) ∙ ap grouped same ∙ grouped-turns b.turns b.losses)
 
 module _ (config : Parts) (few : length config.events ≤ 256) where
   -- a line without a fault is read from its own words alone
   tells : Tells (journal_grammar config) fields_of
   tells = record {
-    lawful = λ line. (line_lawful line).0;
-    some = λ line. (line_lawful line).1;
+    lawful = line_lawful;
     exact = λ past line none. line_exact config past line few none;
     again = line_again;
     takes = λ words line read. (told_is words line read).1;
@@ -57,9 +45,7 @@ module _ (config : Parts) (few : length config.events ≤ 256) where
   lines_told_behind : (past : Past) (lines : List Line) → AreFaultless (journal_grammar config) past lines → lines_told (all_next (journal_grammar config) past lines).told ≡ lines_told past.told ++ lines
   lines_told_behind past [] none = sym (append-nil (lines_told past.told))
   lines_told_behind past (line ∷ lines) none =
-      lines_told_behind (next past line) lines none.1
-      ∙ ap (λ (ls : List Line). ls ++ lines) (line_grows config past line none.0)
-      ∙ append_assoc (lines_told past.told) (line ∷ []) lines
+      rw (lines_told_behind (next past line) lines none.1, line_grows config past line none.0) (append_assoc (lines_told past.told) (line ∷ []) lines)
 
   -- what a text tells is a journal, and the text is its own
   pub told_is_journal : (text : List ℕ) (told : Told) → journal_in config text ≡ Ok told → IsJournal config text told
@@ -78,19 +64,15 @@ module _ (config : Parts) (few : length config.events ≤ 256) where
   journal_is_told text told journal =
       let lines = lines_told told in
       let all = text_adds (journal_grammar config) fields_of tells start lines journal.fits.faultless journal.fits.held in
-      ap (journal_in config) journal.is_text
-      ∙ ap (λ (r : Result Past BadLine). r >>= λ past. Ok past.told) all.1
-      ∙ ap Ok (same_told (all_next (journal_grammar config) start lines).told told (lines_told_behind start lines journal.fits.faultless))
+      rw (journal.is_text, all.1) (ap Ok (same_told (all_next (journal_grammar config) start lines).told told (lines_told_behind start lines journal.fits.faultless)))
 
   -- a text is the journal of one history and its losses at most
   pub one_reading : (text : List ℕ) (a b : Told) → IsJournal config text a → IsJournal config text b → a ≡ b
-  one_reading text a b is_a is_b = cc (sym (journal_is_told text a is_a) ∙ journal_is_told text b is_b)
+  one_reading text a b is_a is_b = cc (journal_is_told text a is_a, journal_is_told text b is_b)
 
   -- a text with a bad line is no journal
   pub bad_is_none : (text : List ℕ) (bad : BadLine) → journal_in config text ≡ Err bad → (told : Told) → IsJournal config text told → ⊥
-  bad_is_none text bad read told journal =
-      let both : Ok told ≡ Err bad = sym (journal_is_told text told journal) ∙ read in
-      cc both
+  bad_is_none text bad read told journal = cc (journal_is_told text told journal, read)
 
 -- a text has one journal at most, which is read of it
 pub ruleset journal_laws = (one_reading, journal_is_told, told_is_journal, bad_is_none)

@@ -1,5 +1,5 @@
 -- The last field of a text, after which nothing stands, is read from the whole text.
-use Rattle.text_spec.proofs.Names.{◌≡◌, ℕ, Bool, true, false, List, [], ◌∷◌, sym, ap, subst, ◌∙◌, refl, Option, Some, None, option_map, list_all, join_with_byte, join_with_byte-slice_split, Carried, a_context, any_bytes, hex_bytes, bytes_in, context_in, some_hex, is_lower_digit, colon, space, Field, read_by, pieces_of, words_of, ◌>>=◌}
+use Rattle.text_spec.proofs.Names.{◌≡◌, ℕ, Bool, true, false, List, [], ◌∷◌, sym, ap, subst, ◌∙◌, refl, Option, Some, None, option_map, list_all, join_with_byte-slice_split, Carried, a_context, any_bytes, hex_bytes, bytes_in, context_in, some_hex, is_lower_digit, colon, space, Field, read_by, pieces_of, words_of, ◌>>=◌}
 use Rattle.text_spec.specs.Maybe.{ended}
 use Rattle.text_spec.proofs.ContextsLaws.{any_lawful, context_lawful}
 use Rattle.text_spec.proofs.FieldsLaws.{in_word, IsReading, Lawful}
@@ -12,20 +12,14 @@ not_last : {A B : Type 0} (make : A → B) (next : List ℕ) (pieces : List (Lis
 not_last make next pieces None = refl
 not_last make next pieces (Some x) = refl
 
--- the value of a last piece
-of_last : {A B : Type 0} (make : A → B) (none : List (List ℕ)) (read : Option A) → none ≡ []
-    → ◌>>=◌ {A = A × List (List ℕ)} (option_map (λ x. (x, none)) read) (λ x. ended (make x.0) x.1) ≡ option_map make read
-of_last make none None is = refl
-of_last make none (Some x) is = ap (ended (make x)) is
-
 module _ {A : Type 0} (field : Field) (make : field.Value → A) (separator : ℕ) where
   -- a text that is no word of the field has no last piece that is one
   none_last : (text : List ℕ) (pieces : List (List ℕ)) → pieces_of separator text ≡ pieces → field.reading text ≡ None
       → read_by (field ∷ []) make pieces ≡ None
   none_last text [] is none = refl
   none_last text (word ∷ []) is none =
-      let same : word ≡ text = sym (ap (join_with_byte separator) is) ∙ join_with_byte-slice_split separator text in
-      of_last make [] (field.reading word) refl ∙ ap (option_map make) (ap field.reading same ∙ none)
+      let same : word ≡ text = rw is at (join_with_byte-slice_split separator text) in
+      rw (same, none) refl
   none_last text (word ∷ next ∷ pieces) is none = not_last make next pieces (field.reading word)
 
   by_reading : (p : ℕ → Bool) → p separator ≡ false
@@ -33,16 +27,14 @@ module _ {A : Type 0} (field : Field) (make : field.Value → A) (separator : �
       → (read : Option field.Value) → field.reading text ≡ read
       → read_by (field ∷ []) make (pieces_of separator text) ≡ option_map make (field.reading text)
   by_reading p out text passes None is = none_last text _ refl is ∙ sym (ap (option_map make) is)
-  by_reading p out text passes (Some x) is =
-      ap (read_by (field ∷ []) make) (split_joined p separator text [] out (passes x is, tt))
-      ∙ of_last make [] (field.reading text) refl
+  by_reading p out text passes (Some x) is = rw (split_joined p separator text [] out (passes x is, tt), is) refl
 
 -- a byte or more, after the last colon
 pub last_hex : {A : Type 0} (make : List ℕ → A) (text : List ℕ)
     → read_by (hex_bytes ∷ []) make (pieces_of colon text) ≡ option_map make (some_hex text)
 last_hex make text =
     by_reading hex_bytes make colon is_lower_digit refl text
-    (λ bytes read. let is = (some_hex_takes text bytes read).0 in subst (λ w. list_all is_lower_digit w ≡ true) is.text (lower_text bytes is.are_bytes))
+    (λ bytes read. let is = (some_hex_takes text bytes read).0 in rw is.text at (lower_text bytes is.are_bytes))
     (some_hex text) refl
 
 -- a field of a line, after its last space

@@ -1,12 +1,12 @@
 -- Texts that are read line by line: the steps of a reading, the text of lines without a fault, and what a text that
 -- was read tells, for any grammar.
-use Rattle.text_spec.proofs.Names.{◌≡◌, ◌<◌, ◌+◌, ◌==◌, ◌∷◌, ◌++◌, Grammar, BadLine, at_line, AreFaultless, after_line, at_end, past_in, line_with, Fails, RefusedFor, fault_at, fault_behind, ℕ, suc, List, [], length, map, refl, sym, ap, ◌∙◌, arith, Option, Some, None, Result, Ok, Err, ⊤, AllByRecursion, eqb-true, join_with_byte, join_with_byte-slice_split, length-append, length-slice_split, nil_from_length, AreExact, AreHeld, Filled, line_feed, line_of, past_with, pieces_of, space, text_of, words_of, words_of_fields}
+use Rattle.text_spec.proofs.Names.{◌≡◌, ◌<◌, ◌+◌, ◌==◌, ◌∷◌, ◌++◌, Grammar, BadLine, at_line, AreFaultless, after_line, at_end, past_in, line_with, Fails, RefusedFor, fault_at, fault_behind, ℕ, suc, List, [], length, map, refl, sym, ap, arith, Option, Some, None, Result, Ok, Err, ⊤, AllByRecursion, eqb-true, join_with_byte-slice_split, length-append, length-slice_split, nil_from_length, AreExact, AreHeld, Filled, line_feed, past_with, pieces_of, space, text_of, words_of, words_of_fields, add-one}
 use Rattle.text_spec.specs.Lines.{◌>>=◌, after_pieces}
 use Rattle.ids_config.specs.Steps.{◌>>◌, asks}
 use Rattle.ids_config.proofs.StepLemmas.{both_ok, asked}
 use Rattle.text_spec.specs.declared.fault.LineFault.{LineFault}
 use Rattle.text_spec.specs.declared.fault.LineFault.TheVariants as line_faults
-use Rattle.text_spec.proofs.FieldsLaws.{AreLawful, IsShown, filled_pass, in_line, in_word, kinds, line_free, words_again}
+use Rattle.text_spec.proofs.FieldsLaws.{AreLawful, IsShown, filled_pass, in_line, kinds, line_free, words_again}
 use Rattle.text_spec.proofs.WordsLemmas.{Pass, join_ended, split_text}
 
 -- ---- steps that found no fault
@@ -34,27 +34,16 @@ module _ {Past Line : Type 0} (grammar : Grammar Past Line) where
   at_front n past line [] some = absurd (omega arith)
   at_front n past line (piece ∷ pieces) some = refl
 
-  -- the last piece
-  pub at_last : (n : ℕ) (past : Past) (rest : List ℕ) → after_pieces grammar n past (rest ∷ []) ≡ at_line n (at_end grammar past rest)
-  unfolding after_pieces
-  at_last n past rest = refl
-
-  -- pieces that were cut off at a line feed, and those after it, of which there is one at least
-  module _ (n : ℕ) (past : Past) (line : List ℕ) (rest pieces : List (List ℕ)) (expected : Result Past BadLine) (some : 0 < length rest)
-      (are : pieces ≡ line ∷ rest) (was : after_pieces grammar n past pieces ≡ expected) where
+  -- a piece that was cut off at a line feed, and those after it
+  module _ (n : ℕ) (past : Past) (line behind : List ℕ) (pieces : List (List ℕ)) (expected : Result Past BadLine)
+      (are : pieces ≡ line ∷ pieces_of line_feed behind) (was : after_pieces grammar n past pieces ≡ expected) where
     -- the reading of the first of them, and then of the others
-    goes_by : {r : Result Past ℕ} → after_line grammar past line ≡ r → (at_line n r >>= λ now. after_pieces grammar (suc n) now rest) ≡ expected
-    goes_by is =
-        ap (λ (r : Result Past ℕ). at_line n r >>= λ now. after_pieces grammar (suc n) now rest) (sym is)
-        ∙ sym (at_front n past line rest some)
-        ∙ sym (ap (after_pieces grammar n past) are)
-        ∙ was
+    goes_by : {r : Result Past ℕ} → after_line grammar past line ≡ r → (at_line n r >>= λ now. after_pieces grammar (suc n) now (pieces_of line_feed behind)) ≡ expected
+    goes_by is = rw (← is, ← at_front n past line (pieces_of line_feed behind) (omega (arith, length-slice_split (λ b. b == line_feed) behind)), ← are) was
 
     -- after a line that was taken
-    pub goes_on : (now : Past) → after_line grammar past line ≡ Ok now → after_pieces grammar (n + 1) now rest ≡ expected
-    goes_on now took =
-        let more : n + 1 ≡ suc n = omega arith in
-        ap (λ k. after_pieces grammar k now rest) more ∙ goes_by took
+    pub goes_on : (now : Past) → after_line grammar past line ≡ Ok now → after_pieces grammar (n + 1) now (pieces_of line_feed behind) ≡ expected
+    goes_on now took = rw add-one (goes_by took)
 
     -- at a line that was refused, or for want of memory
     pub refuses : (fault : LineFault) → RefusedFor (after_line grammar past line) fault → Fails expected (fault_at n fault)
@@ -64,10 +53,8 @@ module _ {Past Line : Type 0} (grammar : Grammar Past Line) where
   -- after all lines, by what was found of the last piece
   pub ends : (n : ℕ) (past : Past) (rest : List ℕ) (pieces : List (List ℕ)) (expected : Result Past BadLine) → pieces ≡ rest ∷ [] → after_pieces grammar n past pieces ≡ expected
       → (found : Result ⊤ ℕ) → found ≡ fault_behind rest (grammar.end_fault past) → expected ≡ at_line n (found >> Ok past)
-  ends n past rest pieces expected are was found is =
-      sym was ∙ ap (after_pieces grammar n past) are ∙ at_last n past rest
-      ∙ ap (at_line n) (then_all (asks 1 (length rest == 0)) (grammar.end_fault past) (Ok past))
-      ∙ ap (λ (r : Result ⊤ ℕ). at_line n (r >> Ok past)) (sym is)
+  unfolding after_pieces
+  ends n past rest pieces expected are was found is = rw (← was, are, is) (ap (at_line n) (then_all (asks 1 (length rest == 0)) (grammar.end_fault past) (Ok past)))
 
   -- ---- lines one after the other
 
@@ -75,10 +62,6 @@ module _ {Past Line : Type 0} (grammar : Grammar Past Line) where
   abbrev pub all_next : Past → List Line → Past
   all_next past [] = past
   all_next past (line ∷ lines) = all_next (grammar.next past line) lines
-
-  all_next-append : (past : Past) (lines more : List Line) → all_next past (lines ++ more) ≡ all_next (all_next past lines) more
-  all_next-append past [] more = refl
-  all_next-append past (line ∷ lines) more = all_next-append (grammar.next past line) lines more
 
 module _ {Past Line : Type 0} (grammar : Grammar Past Line) (shows : Line → List Filled) where
   abbrev pub AreHeldLines : List Line → Type 0
@@ -92,13 +75,6 @@ module _ {Past Line : Type 0} (grammar : Grammar Past Line) (shows : Line → Li
 
   -- ---- what a text that was read tells
 
-  -- a line that was read
-  record IsRead (past now : Past) (text : List ℕ) : Type 0 where
-    line : Line
-    none : grammar.fault_of past line ≡ Ok tt
-    is : grammar.next past line ≡ now
-    shown : IsShown (words_of text) (shows line)
-
   -- lines that were read
   pub record AreRead (past now : Past) (pieces : List (List ℕ)) : Type 0 where
     pub lines : List Line
@@ -109,11 +85,12 @@ module _ {Past Line : Type 0} (grammar : Grammar Past Line) (shows : Line → Li
 
   -- where words are read as a line that they show
   module _ (takes : (words : List (List ℕ)) (line : Line) → grammar.told_by words ≡ Some line → IsShown words (shows line)) where
-    is_read : (past now : Past) (text : List ℕ) (read : Option Line) → grammar.told_by (words_of text) ≡ read → past_with grammar past read ≡ Ok now → IsRead past now text
+    is_read : (past now : Past) (text : List ℕ) (read : Option Line) → grammar.told_by (words_of text) ≡ read → past_with grammar past read ≡ Ok now
+        → (line : Line) × (grammar.fault_of past line ≡ Ok tt) × (grammar.next past line ≡ now) × IsShown (words_of text) (shows line)
     is_read past now text None told step = cc step
     is_read past now text (Some line) told step =
         let parts = both_ok (grammar.fault_of past line) (Ok (grammar.next past line)) now step in
-        record { line = line; none = parts.0; is = cc parts.1; shown = takes (words_of text) line told }
+        (line, parts.0, cc parts.1, takes (words_of text) line told)
 
     are_read : (n : ℕ) (past now : Past) (pieces : List (List ℕ)) → 0 < length pieces → after_pieces grammar n past pieces ≡ Ok now → AreRead past now pieces
     unfolding after_pieces
@@ -121,17 +98,17 @@ module _ {Past Line : Type 0} (grammar : Grammar Past Line) (shows : Line → Li
     are_read n past now (piece ∷ []) some read =
         let last = asked 1 (length piece == 0) (grammar.end_fault past >> Ok past) now (at_line_ok n (at_end grammar past piece) now read) in
         let end = both_ok (grammar.end_fault past) (Ok past) now last.1 in
-        record { lines = []; none = tt; held = tt; leave = cc end.1; are = λ exact. ap (λ p. p ∷ []) (sym (nil_from_length piece (eqb-true (length piece) 0 last.0))) }
+        record { lines = []; none = tt; held = tt; leave = cc end.1; are = λ exact. rw (nil_from_length piece (eqb-true (length piece) 0 last.0)) refl }
     are_read n past now (piece ∷ another ∷ pieces) some read =
         let step = bind_ok (at_line n (after_line grammar past piece)) (λ then. after_pieces grammar (suc n) then (another ∷ pieces)) now read in
         let one = is_read past step.0 piece (grammar.told_by (words_of piece)) refl (at_line_ok n (after_line grammar past piece) step.0 step.1) in
         let more = are_read (suc n) step.0 now (another ∷ pieces) (omega arith) step.2 in
         record {
-          lines = one.line ∷ more.lines;
-          none = (one.none, rw one.is more.none);
-          held = (one.shown.held, more.held);
-          leave = rw one.is more.leave;
-          are = λ exact. ap (λ (t : List ℕ). t ∷ (lines_for more.lines ++ [] ∷ [])) (ap line_of (sym (one.shown.are exact.0)) ∙ join_with_byte-slice_split space piece) ∙ ap (λ (ts : List (List ℕ)). piece ∷ ts) (more.are exact.1);
+          lines = one.0 ∷ more.lines;
+          none = (one.1, rw one.2 more.none);
+          held = (one.3.held, more.held);
+          leave = rw one.2 more.leave;
+          are = λ exact. rw (more.are exact.1, ← one.3.are exact.0, join_with_byte-slice_split space piece) refl;
         }
 
     pub text_read : (past now : Past) (text : List ℕ) → past_in grammar past text ≡ Ok now → AreRead past now (pieces_of line_feed text)
@@ -158,8 +135,7 @@ module _ {Past Line : Type 0} (grammar : Grammar Past Line) (shows : Line → Li
 
   pub record Tells : Type 0 where
     -- the fields keep the laws, and there are some
-    pub lawful : (line : Line) → AreLawful (kinds (shows line))
-    pub some : (line : Line) → 0 < length (words_of_fields (shows line))
+    pub lawful : (line : Line) → AreLawful (kinds (shows line)) × (0 < length (words_of_fields (shows line)))
     -- a line without a fault is told as it is
     pub exact : (past : Past) (line : Line) → grammar.fault_of past line ≡ Ok tt → AreExact (shows line)
     -- a line is read from its words, and no other words are read as it
@@ -167,44 +143,27 @@ module _ {Past Line : Type 0} (grammar : Grammar Past Line) (shows : Line → Li
     pub takes : (words : List (List ℕ)) (line : Line) → grammar.told_by words ≡ Some line → IsShown words (shows line)
 
   module _ (tells : Tells) where
-    passes : (past : Past) (line : Line) → grammar.fault_of past line ≡ Ok tt → AreHeld (shows line) → Pass in_word (words_of_fields (shows line))
-    passes past line none held = filled_pass (shows line) (tells.lawful line) held (tells.exact past line none)
-
-    -- the line of what can be told without a fault adds it
-    line_adds : (past : Past) (line : Line) → grammar.fault_of past line ≡ Ok tt → AreHeld (shows line) → after_line grammar past (line_with (shows line)) ≡ Ok (grammar.next past line)
-    line_adds past line none held =
-        ap (λ ws. past_with grammar past (grammar.told_by ws)) (words_again (words_of_fields (shows line)) (tells.some line) (passes past line none held))
-        ∙ ap (past_with grammar past) (tells.again line held (tells.exact past line none))
-        ∙ ap (λ (r : Result ⊤ ℕ). r >> Ok (grammar.next past line)) none
-
-    -- no line has a line feed
-    lines_free : (past : Past) (lines : List Line) → AreFaultless grammar past lines → AreHeldLines lines → Pass in_line (lines_for lines)
-    lines_free past [] none held = tt
-    lines_free past (line ∷ lines) none held = (line_free (words_of_fields (shows line)) (passes past line none.0 held.0), lines_free (grammar.next past line) lines none.1 held.1)
-
-    -- lines without a fault, one after another
+    -- lines without a fault, one after another: each is told as it is, and none has a line feed
     lines_add : (n : ℕ) (past : Past) (lines : List Line) → AreFaultless grammar past lines → AreHeldLines lines
-        → (end : ℕ) × (after_pieces grammar n past (lines_for lines ++ [] ∷ []) ≡ at_line end (at_end grammar (all_next grammar past lines) []))
-    lines_add n past [] none held = (n, at_last grammar n past [])
+        → AreExactLines lines × Pass in_line (lines_for lines) × ((end : ℕ) × (after_pieces grammar n past (lines_for lines ++ [] ∷ []) ≡ at_line end (at_end grammar (all_next grammar past lines) [])))
+    unfolding after_pieces
+    lines_add n past [] none held = (tt, tt, (n, refl))
     lines_add n past (line ∷ lines) none held =
+        let exact = tells.exact past line none.0 in
+        let words = words_of_fields (shows line) in
+        let passes = filled_pass (shows line) (tells.lawful line).0 held.0 exact in
         let rest = lines_add (suc n) (grammar.next past line) lines none.1 held.1 in
         let step = at_front grammar n past (line_with (shows line)) (lines_for lines ++ [] ∷ []) (omega (arith, length-append (lines_for lines) ([] ∷ []))) in
-        let one = ap (at_line n) (line_adds past line none.0 held.0) in
-        (rest.0, step ∙ ap (λ (r : Result Past BadLine). r >>= λ now. after_pieces grammar (suc n) now (lines_for lines ++ [] ∷ [])) one ∙ rest.1)
-
-    -- the lines are told as they are
-    all_exact : (past : Past) (lines : List Line) → AreFaultless grammar past lines → AreExactLines lines
-    all_exact past [] none = tt
-    all_exact past (line ∷ lines) none = (tells.exact past line none.0, all_exact (grammar.next past line) lines none.1)
+        ((exact, rest.0), (line_free words passes, rest.1), (rest.2.0, rw (step, words_again words (tells.lawful line).1 passes, tells.again line held.0 exact, none.0) rest.2.1))
 
     -- the text of lines without a fault
     pub text_adds : (past : Past) (lines : List Line) → AreFaultless grammar past lines → AreHeldLines lines
         → (end : ℕ) × (past_in grammar past (text_of (lines_for lines)) ≡ at_line end (at_end grammar (all_next grammar past lines) []))
     text_adds past lines none held =
         let all = lines_add 1 past lines none held in
-        (all.0, ap (after_pieces grammar 1 past) (split_text in_line (lines_for lines) refl (lines_free past lines none held)) ∙ all.1)
+        (all.2.0, rw (split_text in_line (lines_for lines) refl all.1) all.2.1)
 
     -- the text of which lines were read is theirs
     pub is_their_text : (past now : Past) (text : List ℕ) (read : AreRead past now (pieces_of line_feed text)) → text ≡ text_of (lines_for read.lines)
     is_their_text past now text read =
-        sym (join_with_byte-slice_split line_feed text) ∙ ap (join_with_byte line_feed) (sym (read.are (all_exact past read.lines read.none))) ∙ join_ended (lines_for read.lines)
+        rw (read.are (lines_add 1 past read.lines read.none read.held).0, join_with_byte-slice_split line_feed text) at (join_ended (lines_for read.lines))

@@ -1,6 +1,6 @@
 -- Numbers in a list of words, one after another.
-use Rattle.text_spec.proofs.Names.{◌≡◌, ◌∷◌, ◌++◌, ℕ, suc, List, [], refl, ap, ◌∙◌, append_assoc, Option, Some, None, option_map, numbers_in, a_number, first_as}
-use Rattle.text_spec.proofs.FrontLemmas.{mapped_some, bind_again}
+use Rattle.text_spec.proofs.Names.{◌≡◌, ◌∷◌, ◌++◌, ℕ, suc, List, [], refl, ap, append_assoc, Option, Some, None, option_map, numbers_in, a_number, first_as}
+use Rattle.text_spec.proofs.FrontLemmas.{mapped_some}
 
 -- numbers that were read, after these
 abbrev pub with_front : List ℕ → Option (List ℕ) → Option (List ℕ)
@@ -17,5 +17,4 @@ pub numbers_more : (k n : ℕ) (rest next : List (List ℕ)) → first_as a_numb
 numbers_more k n [] next h = cc h
 numbers_more k n (piece ∷ pieces) next h =
     let read = mapped_some (λ x. (x, pieces)) (a_number.reading piece) (n, next) h in
-    bind_again (a_number.reading piece) (λ m. option_map (λ ns. m ∷ ns) (numbers_in k pieces)) read.0 read.1
-    ∙ ap (λ (x : ℕ × List (List ℕ)). option_map (λ ns. x.0 ∷ ns) (numbers_in k x.1)) read.2
+    rw (read.1) (ap (λ (x : ℕ × List (List ℕ)). option_map (λ ns. x.0 ∷ ns) (numbers_in k x.1)) read.2)

@@ -1,6 +1,7 @@
 -- Numbers: the reading of a word against the text of a number.
-use Rattle.text_spec.proofs.Names.{◌≡◌, ℕ, ◌+◌, ◌-◌, ◌*◌, ◌/◌, ◌%◌, ◌^◌, ◌<◌, ◌≤◌, ◌==◌, min, not, true, ◌||◌, inl, inr, List, [], ◌∷◌, length, take, get_or, refl, sym, ap, ◌∙◌, append_assoc, ◌++◌, arith, rules, Option, Some, None, option_map, decimal, is_ascii_digit, list_all, digits_value, and_parts, and_from, or_cases, cases_eq, cond-true, cond-false, cases_Bool, leb-true, eqb-true, eq-eqb, ne_eqb, length-append, same_Some, none-some, is_number, number_in, capped, greatest_told}
-use Rattle.std.specs.Int.{IsInRange}
+use Rattle.text_spec.proofs.Names.{◌≡◌, ℕ, ◌+◌, ◌-◌, ◌*◌, ◌/◌, ◌%◌, ◌^◌, ◌<◌, ◌≤◌, min, true, List, [], ◌∷◌, length, take, get_or, refl, sym, ap, ◌∙◌, append_assoc, ◌++◌, arith, rules, Some, option_map, decimal, is_ascii_digit, list_all, digits_value, length-append, is_number, number_in, capped, greatest_told, cond_some}
+use Rattle.text_spec.proofs.FrontLemmas.{mapped_some}
+use Rattle.std.proofs.lemmas.Bool.Decides.{nat_tests}
 use Rattle.std.proofs.lemmas.Fmt.{digits_decimal, digits_value-decimal, decimal-digits_value, first_decimal, decimal_nonempty, decimal_digit, decimal_step, length-decimal-le_wide}
 use Rattle.std.proofs.lemmas.Int.Digits.{digits_value_more}
 use Rattle.std.proofs.lemmas.Str.{digit_value_digit}
@@ -9,14 +10,6 @@ use Rattle.std.proofs.lemmas.Str.Parse.{IsNumeralModel, numerals_by_value}
 -- a word of digits
 abbrev pub Digits : List ℕ → Type 0
 Digits ds = list_all is_ascii_digit ds ≡ true
-
--- a byte that passes is a digit
-in_range : (c : ℕ) → is_ascii_digit c ≡ true → IsInRange 48 57 c
-in_range c h =
-    let parts = and_parts _ _ h in
-    let low = leb-true 48 c parts.0 in
-    let high = leb-true c 57 parts.1 in
-    search (rules, low, high)
 
 -- the words of digits, and their values, in the words of std
 pub own_digits : IsNumeralModel Digits (digits_value 10)
@@ -27,62 +20,34 @@ pub capped_more : (ds : List ℕ) (i v : ℕ) → is_ascii_digit (get_or ds i 0)
     → v ≡ capped (digits_value 10 (take i ds))
     → min (min (v * 10) greatest_told + (get_or ds i 0 - 48)) greatest_told ≡ capped (digits_value 10 (take (i + 1) ds))
 capped_more ds i v is inside was =
-    let more = digits_value_more 10 ds i inside in
-    let digit = digit_value_digit (get_or ds i 0) (in_range (get_or ds i 0) is) in
-    omega (arith, more, digit, was)
+    let digit = digit_value_digit (get_or ds i 0) (grind (arith, is)) in
+    omega (arith, digits_value_more 10 ds i inside, digit, was)
 
 -- a word is a number where it is digits, and nothing follows a zero that stands first
 pub is_number-from : (ds : List ℕ) → Digits ds → 0 < length ds → (get_or ds 0 0 ≡ 48
     → length ds ≡ 1) → is_number ds ≡ true
 is_number-from [] all some first = absurd (omega arith)
-is_number-from (c ∷ cs) all some first = elim (cases_eq c 48) [
-  | inl zero_first ↦
-      let alone : length cs ≡ 0 = omega (arith, first zero_first) in
-      and_from _ _ all (grind (arith, eq-eqb, alone))
-  | inr other ↦ and_from _ _ all (grind (arith, ne_eqb c 48 other))
-]
+is_number-from (c ∷ cs) all some first = grind (arith, nat_tests, all, first)
 
 -- what a word that is a number has
-pub record IsNumber (ds : List ℕ) : Type 0 where
-  pub digits : Digits ds
-  pub some : 0 < length ds
-  pub first : get_or ds 0 0 ≡ 48 → length ds ≡ 1
-
--- a word that is a number has it
-pub number_parts : (ds : List ℕ) → is_number ds ≡ true → IsNumber ds
+pub number_parts : (ds : List ℕ) → is_number ds ≡ true → Digits ds × (0 < length ds) × (get_or ds 0 0 ≡ 48 → length ds ≡ 1)
 number_parts (c ∷ cs) h =
-    let parts = and_parts (list_all is_ascii_digit (c ∷ cs)) (not (c == 48) || length cs == 0) h in
-    record {
-      digits = parts.0;
-      some = omega arith;
-      first = λ e. elim (or_cases (not (c == 48)) (length cs == 0) parts.1) [
-        | inl other ↦ absurd (grind (arith, other, eq-eqb c 48 e))
-        | inr alone ↦ let none = eqb-true (length cs) 0 alone in omega arith
-      ];
-    }
+    grind (arith, nat_tests, h)
 number_parts [] h = cc h
 
 -- the text of a number is read as it
 pub number_in-decimal : (n : ℕ) → n < 2 ^ 64 → number_in (decimal n) ≡ Some n
 number_in-decimal n small =
-    let first : get_or (decimal n) 0 0 ≡ 48 → length (decimal n) ≡ 1 = λ e. elim (cases_eq n 0) [
-      | inl none ↦ rw (none, decimal_digit 0 (omega arith)) refl
-      | inr some ↦ absurd (omega (arith, first_decimal n (omega arith) small))
-    ] in
-    let is = is_number-from (decimal n) (digits_decimal own_digits n small) (decimal_nonempty n small) first in
-    cond-true _ _ _ is ∙ ap Some (digits_value-decimal own_digits n small)
+    let first : get_or (decimal n) 0 0 ≡ 48 → length (decimal n) ≡ 1 = λ e. grind (arith, decimal_digit 0, first_decimal n, e) in
+    rw (is_number-from (decimal n) (digits_decimal own_digits n small) (decimal_nonempty n small) first, digits_value-decimal own_digits n small) refl
 
 -- a word that is read as a number is the number's text
 pub decimal-number_in : (word : List ℕ) (n : ℕ) → number_in word ≡ Some n → n < 2 ^ 64
     → word ≡ decimal n
-decimal-number_in word n read small = elim (cases_Bool (is_number word)) [
-  | inl is ↦
-      let parts = number_parts word is in
-      let value : digits_value 10 word ≡ n = cc (sym (cond-true _ (Some (digits_value 10 word)) None is) ∙ read) in
-      let bound : digits_value 10 word < 2 ^ 64 = omega arith in
-      sym (decimal-digits_value own_digits word parts.digits parts.some parts.first bound) ∙ ap decimal value
-  | inr none ↦ cc (sym (cond-false _ (Some (digits_value 10 word)) None none) ∙ read)
-]
+decimal-number_in word n read small =
+    let is = cond_some (is_number word) (digits_value 10 word) n read in
+    let parts = number_parts word is.0 in
+    rw (← is.1) (sym (decimal-digits_value own_digits word parts.0 parts.1 parts.2 (omega (arith, is.1))))
 
 -- ---- numbers as they are told
 
@@ -90,22 +55,16 @@ decimal-number_in word n read small = elim (cases_Bool (is_number word)) [
 pub told-decimal : (n : ℕ) → n < 2 ^ 64 → option_map capped (number_in (decimal n)) ≡ Some n
 told-decimal n small =
     let same : capped n ≡ n = omega arith in
-    ap (option_map capped) (number_in-decimal n small) ∙ ap Some same
-
--- the number that a word writes, from how it is told
-uncapped : (read : Option ℕ) (n : ℕ) → option_map capped read ≡ Some n → n < greatest_told
-    → read ≡ Some n
-uncapped None n told small = absurd (none-some n told)
-uncapped (Some k) n told small =
-    let cap : capped k ≡ n = same_Some (capped k) n told in
-    ap Some (omega arith)
+    rw (number_in-decimal n small) (ap Some same)
 
 -- a word that is told as a number below the greatest is the number's text
 pub decimal-told : (word : List ℕ) (n : ℕ) → option_map capped (number_in word) ≡ Some n
     → n < greatest_told
     → word ≡ decimal n
 decimal-told word n told small =
-    decimal-number_in word n (uncapped (number_in word) n told small) (omega arith)
+    let read = mapped_some capped (number_in word) n told in
+    let same : read.0 ≡ n = omega (arith, read.2) in
+    decimal-number_in word n (rw same at read.1) (omega arith)
 
 -- ---- digits that are written one by one
 
@@ -150,4 +109,4 @@ length_four n many small =
     ∙ length-append (decimal (n / 10000)) ((48 + n % 10000 / 100 / 10) ∷ (48 + n % 10000 / 100 % 10) ∷ (48 + n % 100 / 10) ∷ (48 + n % 100 % 10) ∷ [])
 
 -- how a number is written
-pub ruleset written = (few_digits, decimal_digit, decimal_two, decimal_pair, decimal_four, length_digit, length_two, length_pair, length_four)
+pub ruleset written = (append_assoc, few_digits, decimal_digit, decimal_two, decimal_pair, decimal_four, length_digit, length_two, length_pair, length_four)

@@ -1,31 +1,27 @@
 -- Rounds in lists: the last one, its tick, and the ticks of all.
-use Rattle.text_spec.proofs.Names.{◌≡◌, ◌<◌, ◌≤◌, ◌^◌, ◌∷◌, ◌++◌, leb-true, nat_le, replicate, KeepUpFrom, last_tick, round_ticks, is_tick, asked_more, begun_round, ended_at, keep_up, last_from, with_last, AreTicks, Asked, ℕ, zero, suc, true, List, [], length, set, get_or, refl, sym, ap, subst, ◌∙◌, append_assoc, arith, AllByRecursion, flat_map, list_all, and_from, and_parts, le-leb}
+use Rattle.text_spec.proofs.Names.{◌≡◌, ◌<◌, ◌≤◌, ◌^◌, ◌∷◌, ◌++◌, leb-true, nat_le, KeepUpFrom, last_tick, round_ticks, is_tick, asked_more, begun_round, ended_at, keep_up, last_from, with_last, AreTicks, Asked, ℕ, zero, suc, true, List, [], length, set, get_or, refl, sym, ap, ◌∙◌, append_assoc, arith, AllByRecursion, flat_map, list_all, le-leb, recursion_from_All, AllPass-from_list_all, list_all-from_AllPass}
+use Rattle.std.proofs.lemmas.List.Elements.{All-append, All-from_recursion, All-set}
+use Rattle.std.specs.Bool.{Decides}
+use Rattle.std.proofs.lemmas.Bool.Decides.{Decides-and}
 use Rattle.history_spec.specs.Rounds.{Round}
 use Rattle.text_spec.proofs.JournalFacts.{flat_map-push}
 
 -- ---- facts of each element
 
 pub all_append : {A : Type 0} (P : A → Type 0) (xs ys : List A) → AllByRecursion P xs → AllByRecursion P ys → AllByRecursion P (xs ++ ys)
-all_append P [] ys one other = other
-all_append P (x ∷ xs) ys one other = (one.0, all_append P xs ys one.1 other)
+all_append P xs ys one other = recursion_from_All P (xs ++ ys) (All-append P xs ys (All-from_recursion P xs one) (All-from_recursion P ys other))
 
 pub all_split : {A : Type 0} (P : A → Type 0) (xs ys : List A) → AllByRecursion P (xs ++ ys) → AllByRecursion P xs × AllByRecursion P ys
 all_split P [] ys all = (tt, all)
 all_split P (x ∷ xs) ys all = let rest = all_split P xs ys all.1 in ((all.0, rest.0), rest.1)
 
 pub all_set : {A : Type 0} (P : A → Type 0) (xs : List A) (i : ℕ) (x : A) → AllByRecursion P xs → P x → AllByRecursion P (set xs i x)
-all_set P [] i x all is = tt
-all_set P (y ∷ ys) zero x all is = (is, all.1)
-all_set P (y ∷ ys) (suc i) x all is = (all.0, all_set P ys i x all.1 is)
+all_set P xs i x all is = recursion_from_All P (set xs i x) (All-set P xs i x is (All-from_recursion P xs all))
 
 pub all_at : {A : Type 0} (P : A → Type 0) (xs : List A) (i : ℕ) (d : A) → AllByRecursion P xs → P d → P (get_or xs i d)
 all_at P [] i d all is = is
 all_at P (y ∷ ys) zero d all is = all.0
 all_at P (y ∷ ys) (suc i) d all is = all_at P ys i d all.1 is
-
-pub all_replicate : {A : Type 0} (P : A → Type 0) (n : ℕ) (x : A) → P x → AllByRecursion P (replicate n x)
-all_replicate P zero x is = tt
-all_replicate P (suc n) x is = (is, all_replicate P n x is)
 
 -- ---- the last round
 
@@ -36,14 +32,12 @@ by_last P each (round ∷ []) some = each [] round
 by_last P each (round ∷ next ∷ rounds) some = by_last (λ rs. P (round ∷ rs)) (λ front last. each (round ∷ front) last) (next ∷ rounds) (omega arith)
 
 pub with_last-push : (change : Round → Round) (done : List Round) (round : Round) → with_last change (done ++ round ∷ []) ≡ done ++ change round ∷ []
-with_last-push change [] round = refl
-with_last-push change (one ∷ []) round = refl
 with_last-push change (one ∷ next ∷ done) round = ap (λ (rs : List Round). one ∷ rs) (with_last-push change (next ∷ done) round)
+with_last-push change done round = refl
 
 pub last_tick-push : (done : List Round) (round : Round) → last_tick (done ++ round ∷ []) ≡ round.after
-last_tick-push [] round = refl
-last_tick-push (one ∷ []) round = refl
 last_tick-push (one ∷ next ∷ done) round = last_tick-push (next ∷ done) round
+last_tick-push done round = refl
 
 pub all_with_last : (P : Round → Type 0) (change : Round → Round) (rounds : List Round) → ((round : Round) → P round → P (change round)) → AllByRecursion P rounds → AllByRecursion P (with_last change rounds)
 all_with_last P change [] keeps all = tt
@@ -60,14 +54,10 @@ ticks_with_last change (one ∷ next ∷ rounds) same = ap (λ ts. round_ticks o
 -- ---- ticks in order
 
 -- the test of ticks that keep up
-pub keep_up-true : (least : ℕ) (ticks : List ℕ) → keep_up least ticks ≡ true → KeepUpFrom least ticks
-keep_up-true least [] is = tt
-keep_up-true least (tick ∷ ticks) is =
-    let parts = and_parts (nat_le least tick) (keep_up tick ticks) is in (leb-true least tick parts.0, keep_up-true tick ticks parts.1)
-
-pub true-keep_up : (least : ℕ) (ticks : List ℕ) → KeepUpFrom least ticks → keep_up least ticks ≡ true
-true-keep_up least [] keeps = refl
-true-keep_up least (tick ∷ ticks) keeps = and_from _ _ (le-leb least tick keeps.0) (true-keep_up tick ticks keeps.1)
+pub keep_up_is : (least : ℕ) (ticks : List ℕ) → Decides (keep_up least ticks) (KeepUpFrom least ticks)
+keep_up_is least [] = (λ _. tt, λ _. refl)
+keep_up_is least (tick ∷ ticks) =
+    Decides-and {P = least ≤ tick} {Q = KeepUpFrom tick ticks} (nat_le least tick) (keep_up tick ticks) (leb-true least tick, le-leb least tick) (keep_up_is tick ticks)
 
 pub keep_append : (least : ℕ) (ticks more : List ℕ) → KeepUpFrom least ticks → KeepUpFrom (last_from least ticks) more → KeepUpFrom least (ticks ++ more)
 keep_append least [] more keeps later = later
@@ -92,29 +82,16 @@ last_of_all (round ∷ rounds) =
     by_last (λ rs. last_from 0 (flat_map round_ticks rs) ≡ last_tick rs)
     (λ front last. ap (last_from 0) (ticks-push front last) ∙ last_from-push 0 (flat_map round_ticks front ++ last.beside) last.after [] ∙ sym (last_tick-push front last)) (round ∷ rounds) (omega arith)
 
--- the ticks of a round, and those of rounds after it
-pub record RoundKeepsUp (least : ℕ) (round : Round) (rounds : List Round) : Type 0 where
-  pub beside : KeepUpFrom least round.beside
-  pub after : last_from least round.beside ≤ round.after
-  pub later : KeepUpFrom round.after (flat_map round_ticks rounds)
-
-pub round_keeps_up : (least : ℕ) (round : Round) (rounds : List Round) → KeepUpFrom least (flat_map round_ticks (round ∷ rounds)) → RoundKeepsUp least round rounds
-round_keeps_up least round rounds keeps =
-    let parts = keep_split least round.beside (round.after ∷ flat_map round_ticks rounds) (subst (KeepUpFrom least) (append_assoc round.beside (round.after ∷ []) (flat_map round_ticks rounds)) keeps) in
-    record { beside = parts.0; after = parts.1.0; later = parts.1.1 }
-
 -- ---- small ticks
 
 abbrev pub IsSmall : ℕ → Type 0
 IsSmall tick = tick ≤ 2 ^ 62
 
 pub all_small : (ticks : List ℕ) → list_all is_tick ticks ≡ true → AllByRecursion IsSmall ticks
-all_small [] all = tt
-all_small (tick ∷ ticks) all = let parts = and_parts (is_tick tick) (list_all is_tick ticks) all in (leb-true tick (2 ^ 62) parts.0, all_small ticks parts.1)
+all_small ticks all = recursion_from_All IsSmall ticks (λ k d within. leb-true _ (2 ^ 62) (AllPass-from_list_all is_tick ticks all k d within))
 
 pub small_all : (ticks : List ℕ) → AllByRecursion IsSmall ticks → list_all is_tick ticks ≡ true
-small_all [] all = refl
-small_all (tick ∷ ticks) all = and_from _ _ (le-leb tick (2 ^ 62) all.0) (small_all ticks all.1)
+small_all ticks all = list_all-from_AllPass is_tick ticks (λ k d within. le-leb _ (2 ^ 62) (All-from_recursion IsSmall ticks all k d within))
 
 -- the last of small ticks is small
 pub small_last : (tick : ℕ) (ticks : List ℕ) → IsSmall tick → AllByRecursion IsSmall ticks → IsSmall (last_from tick ticks)
@@ -138,7 +115,7 @@ ticks_pushed rounds callers beside after are small keeps =
 pub ticks_asked : (rounds : List Round) (caller : ℕ) (asked : Asked) → AreTicks rounds → AreTicks (with_last (asked_more caller asked) rounds)
 ticks_asked rounds caller asked are =
     let same = ticks_with_last (asked_more caller asked) rounds (λ round. refl) in
-    record { small = subst (AllByRecursion IsSmall) (sym same) are.small; keep_up = subst (KeepUpFrom 0) (sym same) are.keep_up }
+    record { small = rw same are.small; keep_up = rw same are.keep_up }
 
 -- the last round ends later
 pub ticks_ended : (rounds : List Round) (tick : ℕ) → AreTicks rounds → last_tick rounds ≤ tick → IsSmall tick → AreTicks (with_last (ended_at tick) rounds)
@@ -156,7 +133,7 @@ ticks_ended (round ∷ rounds) tick are later small =
 
 -- the last tick is small
 pub last_small : (rounds : List Round) → AreTicks rounds → IsSmall (last_tick rounds)
-last_small rounds are = subst IsSmall (last_of_all rounds) (small_last 0 (flat_map round_ticks rounds) (omega arith) are.small)
+last_small rounds are = rw last_of_all at (small_last 0 (flat_map round_ticks rounds) (omega arith) are.small)
 
 -- the ticks of a line that opens a round, after these rounds, and the last of them once more
 pub opening_small : (rounds : List Round) (ticks : List ℕ) → AreTicks rounds → list_all is_tick ticks ≡ true → AllByRecursion IsSmall (ticks ++ last_from (last_tick rounds) ticks ∷ [])
@@ -164,4 +141,4 @@ opening_small rounds ticks are small =
     all_append IsSmall ticks (last_from (last_tick rounds) ticks ∷ []) (all_small ticks small) (small_last (last_tick rounds) ticks (last_small rounds are) (all_small ticks small), tt)
 
 pub opening_keeps_up : (least : ℕ) (ticks : List ℕ) → keep_up least ticks ≡ true → KeepUpFrom least (ticks ++ last_from least ticks ∷ [])
-opening_keeps_up least ticks is = keep_append least ticks (last_from least ticks ∷ []) (keep_up-true least ticks is) (omega arith, tt)
+opening_keeps_up least ticks is = keep_append least ticks (last_from least ticks ∷ []) ((keep_up_is least ticks).0 is) (omega arith, tt)

@@ -1,20 +1,16 @@
 -- All lines of a trace: the text of rounds that fit is read as them, and the rounds that a text tells fit.
-use Rattle.text_spec.proofs.Names.{◌≡◌, ◌+◌, ◌<◌, ◌≤◌, ◌^◌, ◌∷◌, ◌++◌, nat_lt, nat_le, replicate, leb-true, le-leb, lt-ltb, get_or_at, length-replicate, set_at, KeepUpFrom, lines_at, last_tick, round_ticks, is_tick, is_act, has_event, AreFaultless, at_end, act_asked, keep_up, PastRounds, no_rounds, last_from, begun_round, asked_more, ended_at, next_rounds, asked_fault, trace_fault_of, trace_grammar, trace_in, IsHeldAsked, MayAsk, IsAllowedRound, AreRounds, Asked, reports, changes, sets, Round, TraceLine, opens, calls, closes, number_fields, asked_fields, trace_fields, callers_told, round_told, rounds_told, trace_text, ℕ, suc, true, false, List, [], length, map, refl, sym, ap, ◌∙◌, append_assoc, arith, Result, Ok, AllByRecursion, flat_map, list_all, append-nil, length-append, length-set, and_from, and_parts, Parts, AreHeld, AreExact, Grammar, BadLine, at_line, past_in}
-use Rattle.text_spec.specs.Lines.{◌>>=◌}
+use Rattle.text_spec.proofs.Names.{◌≡◌, ◌+◌, ◌<◌, ◌≤◌, ◌^◌, ◌∷◌, ◌++◌, replicate, le-leb, get_or_at, length-replicate, set_at, KeepUpFrom, lines_at, last_tick, round_ticks, is_tick, AreFaultless, PastRounds, no_rounds, last_from, begun_round, asked_more, ended_at, next_rounds, asked_fault, trace_fault_of, trace_grammar, trace_in, MayAsk, IsAllowedRound, AreRounds, Asked, reports, changes, Round, TraceLine, opens, calls, closes, asked_fields, trace_fields, callers_told, round_told, rounds_told, trace_text, ℕ, suc, true, false, List, [], length, map, refl, sym, ap, ◌∙◌, append_assoc, arith, Ok, AllByRecursion, flat_map, append-nil, length-append, length-set, Parts, AreHeld, AreExact, Grammar, past_in, recursion_from_All, AllPass-from_list_all}
+use Rattle.std.proofs.lemmas.List.Elements.{All-replicate}
+use Rattle.std.proofs.lemmas.Bool.Decides.{nat_tests}
 use Rattle.text_spec.proofs.JournalFacts.{sensor_is_there}
 use Rattle.text_spec.proofs.LinesLaws.{AreHeldLines, Leaves, Tells, all_next, bind_ok, leave_more, leave_one, text_adds, text_read}
-use Rattle.text_spec.proofs.TraceFacts.{IsSmall, all_append, all_at, all_replicate, all_set, all_small, all_split, all_with_last, last_tick-push, opening_keeps_up, opening_small, round_keeps_up, small_all, ticks_asked, ticks_ended, ticks_pushed, true-keep_up, with_last-push}
-use Rattle.text_spec.proofs.TraceForms.{held_numbers, trace_line_again, trace_line_lawful, trace_told_is}
+use Rattle.text_spec.proofs.TraceFacts.{IsSmall, all_append, all_at, all_set, all_split, all_with_last, last_tick-push, opening_keeps_up, opening_small, keep_split, keep_up_is, small_all, ticks_asked, ticks_ended, ticks_pushed, with_last-push}
+use Rattle.text_spec.proofs.TraceForms.{numbers_are, trace_line_again, trace_line_lawful, trace_told_is}
 
 -- what is asked for can be held whoever asks for it
 held_by : (one other : ℕ) (asked : Asked) → AreHeld (asked_fields one asked) → AreHeld (asked_fields other asked)
-held_by one other (reports event count stamp bytes) held = held
 held_by one other (changes state) held = held
-held_by one other (sets event mode) held = held
-
-exact_ticks : (ticks : List ℕ) → AllByRecursion IsSmall ticks → AreExact (number_fields ticks)
-exact_ticks [] small = tt
-exact_ticks (tick ∷ ticks) small = (omega (arith, small.0), exact_ticks ticks small.1)
+held_by one other asked held = held
 
 module _ (config : Parts) where
   abbrev grammar : Grammar PastRounds TraceLine
@@ -23,24 +19,22 @@ module _ (config : Parts) where
   -- ---- one line without a fault
 
   module _ (callers : config.callers ≤ 32) (few : length config.events ≤ 256) where
-    exact_asked : (past : PastRounds) (caller : ℕ) (asked : Asked) → asked_fault config past caller asked ≡ Ok tt → AreExact (asked_fields caller asked)
-    exact_asked past caller (reports event count stamp bytes) none =
-        let known : has_event config (act_asked (reports event count stamp bytes)) ≡ true = grind (arith, none) in
-        let there = sensor_is_there config event.0 known in
-        (tt, (grind (arith, callers, none), (omega arith, (grind (arith, none), (tt, (tt, tt))))))
-    exact_asked past caller (changes state) none = (tt, (grind (arith, callers, none), (grind (arith, none), tt)))
-    exact_asked past caller (sets event mode) none = (tt, (grind (arith, callers, none), (grind (arith, few, none), (tt, tt))))
-
     -- it is told as it is
     line_exact : (past : PastRounds) (line : TraceLine) → trace_fault_of config past line ≡ Ok tt → AreExact (trace_fields line)
-    line_exact past (opens ticks) none =
-        let all : list_all is_tick ticks ≡ true = grind (arith, none) in (tt, exact_ticks ticks (all_small ticks all))
-    line_exact past (calls caller asked) none = exact_asked past caller asked none
-    line_exact past (closes tick) none = (tt, (grind (arith, none), tt))
+    line_exact past (opens ticks) none = (
+      tt,
+      (numbers_are ticks).told (recursion_from_All _ ticks (λ k d within.
+          let is = AllPass-from_list_all is_tick ticks (grind (arith, none)) k d within in
+          grind (arith, is))),
+    )
+    line_exact past (calls caller (reports event count stamp bytes)) none =
+        let there = sensor_is_there config event.0 (grind (arith, none)) in
+        (tt, (grind (arith, callers, none), (omega arith, (grind (arith, none), (tt, (tt, tt))))))
+    line_exact past line none = grind (arith, callers, few, none)
 
     -- it is read from its own words alone
     tells : Tells grammar trace_fields
-    tells = record { lawful = λ line. (trace_line_lawful line).0; some = λ line. (trace_line_lawful line).1; exact = line_exact; again = trace_line_again; takes = trace_told_is }
+    tells = record { lawful = trace_line_lawful; exact = line_exact; again = trace_line_again; takes = trace_told_is }
 
   -- ---- the lines of rounds
 
@@ -57,9 +51,7 @@ module _ (config : Parts) where
         → Leaves grammar trace_fields (within done beside tick (front ++ lines ∷ rest)) (map (calls caller) more) (within done beside tick (front ++ (lines ++ more) ∷ rest))
     caller_leaves caller front lines rest [] is there may = record { faultless = tt; held = tt; leaves = rw append-nil refl }
     caller_leaves caller front lines rest (asked ∷ more) is there may =
-        let parts = and_parts (is_act (act_asked asked)) (has_event config (act_asked asked)) may.0.1 in
-        let less : nat_lt caller config.callers ≡ true = lt-ltb caller config.callers there in
-        let none : asked_fault config (within done beside tick (front ++ lines ∷ rest)) caller asked ≡ Ok tt = rw (less, parts.0, parts.1) refl in
+        let none : asked_fault config (within done beside tick (front ++ lines ∷ rest)) caller asked ≡ Ok tt = grind (arith, nat_tests, there, may.0.1) in
         let later = caller_leaves caller front (lines ++ asked ∷ []) rest more is there may.1 in
         leave_one grammar trace_fields _ _ (calls caller asked) (map (calls caller) more) none (held_by 0 caller asked may.0.0)
         (rw (with_last-push, get_or_at front lines rest [] caller is, set_at front lines rest (lines ++ asked ∷ []) caller is) (rw (append_assoc lines (asked ∷ []) more) at later))
@@ -79,14 +71,12 @@ module _ (config : Parts) where
   round_leaves done round allowed small beside after =
       let tick = last_from (last_tick done) round.beside in
       let ticks = all_split IsSmall round.beside (round.after ∷ []) small in
-      let opens_well : trace_fault_of config (ended done) (opens round.beside) ≡ Ok tt = rw (small_all round.beside ticks.0, true-keep_up (last_tick done) round.beside beside) refl in
       let open_round : Round = record { beside = round.beside; lines = round.lines; after = tick } in
-      let not_below : nat_le (last_tick (done ++ open_round ∷ [])) round.after ≡ true = rw (last_tick-push done open_round) (le-leb tick round.after after) in
-      let closes_well : trace_fault_of config (within done round.beside tick round.lines) (closes round.after) ≡ Ok tt = rw (le-leb round.after (2 ^ 62) ticks.1.0, not_below) refl in
+      let closes_well : trace_fault_of config (within done round.beside tick round.lines) (closes round.after) ≡ Ok tt = rw (le-leb round.after (2 ^ 62) ticks.1.0, last_tick-push done open_round, le-leb tick round.after after) refl in
       let closing : Leaves grammar trace_fields (within done round.beside tick round.lines) (closes round.after ∷ []) (ended (done ++ round ∷ [])) =
       record { faultless = (closes_well, tt); held = ((tt, (tt, tt)), tt); leaves = ap ended (with_last-push (ended_at round.after) done open_round) } in
       let callers = callers_leave done round.beside tick 0 [] round.lines refl (omega (arith, allowed.callers)) allowed.asked in
-      leave_one grammar trace_fields _ _ (opens round.beside) (callers_told 0 round.lines ++ closes round.after ∷ []) opens_well (tt, held_numbers round.beside)
+      leave_one grammar trace_fields _ _ (opens round.beside) (callers_told 0 round.lines ++ closes round.after ∷ []) (rw (small_all round.beside ticks.0, (keep_up_is (last_tick done) round.beside).1 beside) refl) (tt, (numbers_are round.beside).held)
       (rw allowed.callers at (leave_more grammar trace_fields _ _ _ (callers_told 0 round.lines) (closes round.after ∷ []) callers closing))
 
   -- the lines of rounds that fit
@@ -94,10 +84,10 @@ module _ (config : Parts) where
       → Leaves grammar trace_fields (ended done) (rounds_told rounds) (ended (done ++ rounds))
   rounds_leave done [] allowed small keeps = record { faultless = tt; held = tt; leaves = ap ended (sym (append-nil done)) }
   rounds_leave done (round ∷ rounds) allowed small keeps =
-      let parts = round_keeps_up (last_tick done) round rounds keeps in
+      let parts = keep_split (last_tick done) round.beside (round.after ∷ flat_map round_ticks rounds) (rw append_assoc at keeps) in
       let smalls = all_split IsSmall (round_ticks round) (flat_map round_ticks rounds) small in
-      let first = round_leaves done round allowed.0 smalls.0 parts.beside parts.after in
-      let later = rounds_leave (done ++ round ∷ []) rounds allowed.1 smalls.1 (rw (last_tick-push done round) parts.later) in
+      let first = round_leaves done round allowed.0 smalls.0 parts.0 parts.1.0 in
+      let later = rounds_leave (done ++ round ∷ []) rounds allowed.1 smalls.1 (rw (last_tick-push done round) parts.1.1) in
       leave_more grammar trace_fields _ _ _ (round_told round) (rounds_told rounds) first (rw (append_assoc done (round ∷ []) rounds) at later)
 
   -- the text of rounds that fit is read as them
@@ -105,22 +95,9 @@ module _ (config : Parts) where
   trace_again rounds callers few fits =
       let leave = rounds_leave [] rounds fits.allowed fits.ticks.small fits.ticks.keep_up in
       let all = text_adds grammar trace_fields (tells callers few) no_rounds (rounds_told rounds) leave.faultless leave.held in
-      ap (λ (r : Result PastRounds BadLine). r >>= λ past. Ok past.rounds) all.1
-      ∙ ap (λ p. at_line all.0 (at_end grammar p []) >>= λ past. Ok past.rounds) leave.leaves
+      rw (all.1, leave.leaves) refl
 
   -- ---- what is read
-
-  -- a round that begins
-  opened_fits : (past : PastRounds) (ticks : List ℕ) → trace_fault_of config past (opens ticks) ≡ Ok tt → AreRounds config past.rounds → AreRounds config (next_rounds config past (opens ticks)).rounds
-  opened_fits past ticks none fits =
-      let small : list_all is_tick ticks ≡ true = grind (arith, none) in
-      let keeps : keep_up (last_tick past.rounds) ticks ≡ true = grind (arith, none) in
-      let tick = last_from (last_tick past.rounds) ticks in
-      record {
-        allowed = all_append (IsAllowedRound config) past.rounds (begun_round config.callers ticks tick ∷ []) fits.allowed
-            (record { callers = length-replicate config.callers []; asked = all_replicate (AllByRecursion (MayAsk config)) config.callers [] tt }, tt);
-        ticks = ticks_pushed past.rounds config.callers ticks tick fits.ticks (opening_small past.rounds ticks fits.ticks small) (opening_keeps_up (last_tick past.rounds) ticks keeps);
-      }
 
   -- a line more of a caller
   asked_allowed : (caller : ℕ) (asked : Asked) → MayAsk config asked → (round : Round) → IsAllowedRound config round → IsAllowedRound config (asked_more caller asked round)
@@ -130,30 +107,22 @@ module _ (config : Parts) where
         (all_append (MayAsk config) (lines_at caller round) (asked ∷ []) (all_at (AllByRecursion (MayAsk config)) round.lines caller [] allowed.asked tt) (may, tt));
   }
 
-  asked_fits : (past : PastRounds) (caller : ℕ) (asked : Asked) → trace_fault_of config past (calls caller asked) ≡ Ok tt → IsHeldAsked asked → AreRounds config past.rounds
-      → AreRounds config (next_rounds config past (calls caller asked)).rounds
-  asked_fits past caller asked none held fits =
-      let acts : is_act (act_asked asked) ≡ true = grind (arith, none) in
-      let known : has_event config (act_asked asked) ≡ true = grind (arith, none) in
-      record {
-        allowed = all_with_last (IsAllowedRound config) (asked_more caller asked) past.rounds (asked_allowed caller asked (held, and_from _ _ acts known)) fits.allowed;
-        ticks = ticks_asked past.rounds caller asked fits.ticks;
-      }
-
-  -- a round that ends
-  closed_fits : (past : PastRounds) (tick : ℕ) → trace_fault_of config past (closes tick) ≡ Ok tt → AreRounds config past.rounds → AreRounds config (next_rounds config past (closes tick)).rounds
-  closed_fits past tick none fits =
-      let small : is_tick tick ≡ true = grind (arith, none) in
-      let later : nat_le (last_tick past.rounds) tick ≡ true = grind (arith, none) in
-      record {
-        allowed = all_with_last (IsAllowedRound config) (ended_at tick) past.rounds (λ round is. record { callers = is.callers; asked = is.asked }) fits.allowed;
-        ticks = ticks_ended past.rounds tick fits.ticks (leb-true (last_tick past.rounds) tick later) (leb-true tick (2 ^ 62) small);
-      }
-
   next_fits : (past : PastRounds) (line : TraceLine) → trace_fault_of config past line ≡ Ok tt → AreHeld (trace_fields line) → AreRounds config past.rounds → AreRounds config (next_rounds config past line).rounds
-  next_fits past (opens ticks) none held fits = opened_fits past ticks none fits
-  next_fits past (calls caller asked) none held fits = asked_fits past caller asked none (held_by caller 0 asked held) fits
-  next_fits past (closes tick) none held fits = closed_fits past tick none fits
+  next_fits past (opens ticks) none held fits =
+      let tick = last_from (last_tick past.rounds) ticks in
+      record {
+        allowed = all_append (IsAllowedRound config) past.rounds (begun_round config.callers ticks tick ∷ []) fits.allowed
+            (record { callers = length-replicate config.callers []; asked = recursion_from_All _ _ (All-replicate (AllByRecursion (MayAsk config)) config.callers [] tt) }, tt);
+        ticks = ticks_pushed past.rounds config.callers ticks tick fits.ticks (opening_small past.rounds ticks fits.ticks (grind (arith, none))) (opening_keeps_up (last_tick past.rounds) ticks (grind (arith, none)));
+      }
+  next_fits past (calls caller asked) none held fits = record {
+    allowed = all_with_last (IsAllowedRound config) (asked_more caller asked) past.rounds (asked_allowed caller asked (held_by caller 0 asked held, grind (arith, none))) fits.allowed;
+    ticks = ticks_asked past.rounds caller asked fits.ticks;
+  }
+  next_fits past (closes tick) none held fits = record {
+    allowed = all_with_last (IsAllowedRound config) (ended_at tick) past.rounds (λ round is. record { callers = is.callers; asked = is.asked }) fits.allowed;
+    ticks = ticks_ended past.rounds tick fits.ticks (grind (arith, none)) (grind (arith, none));
+  }
 
   -- lines without a fault
   lines_fit : (past : PastRounds) (lines : List TraceLine) → AreFaultless grammar past lines → AreHeldLines grammar trace_fields lines → AreRounds config past.rounds → AreRounds config (all_next grammar past lines).rounds

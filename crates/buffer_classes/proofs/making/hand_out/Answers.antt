@@ -1,32 +1,29 @@
-use Rattle.buffer_classes.proofs.Names.{◌<◌, ◌∙◌, [], ap, arith, length, sym, refl, append-nil, length_push, at_index, GetsOne}
+use Rattle.buffer_classes.proofs.Names.{◌≡◌, [], arith, sym, refl, append-nil, at_index, GetsOne, there}
 use Rattle.std.proofs.lemmas.Grind.{common_steps}
+use mathlib.Core.Option.{some}
+use lib.ListN.{get_elem?}
 use Rattle.buffer_classes.proofs.{all_from, last_taken, none_from}
+use Rattle.buffer_classes.proofs.making.hand_out.Goals.{After-index_mut}
 use Rattle.buffer_classes.proofs.making.hand_out.Goals as goal
 
 pub loop-seat-init : goal.loop-seat-init
-loop-seat-init c = (
-  ([], sym (append-nil c.args.seats.items)),
-  none_from (omega (arith, c.requires.as_many)),
-)
+loop-seat-init c = (([], sym (append-nil c.args.seats.items)), none_from (omega (arith, c.requires.as_many)))
+
+-- the claimant whose seat is next
+its : (c : After-index_mut) → get_elem? c.loop-seat.claimants.items c.len.result ≡ some c.index_mut.result.now
+its c = at_index c.loop-seat.claimants.items c.len.result c.index_mut.result.now (grind (arith, common_steps)) c.index_mut.ensures.value
 
 pub push_reserved-requires : goal.push_reserved-requires
 push_reserved-requires c =
-    let left = c.pop.new.self.items in
-    let was = c.loop-seat.invariant in
-    let is = c.in-Some.ensures.items in
-    let low : c.len.result < length c.loop-seat.claimants.items = grind (arith, common_steps) in
-    let there = at_index c.loop-seat.claimants.items c.len.result c.index_mut.result.now low c.index_mut.ensures.value in
-    let same = was.1.rest c.len.result (omega (arith, c.len.ensures, ap length is, length_push left c.in-Some.seat)) in
-    omega (arith, c.requires.room c.len.result c.index_mut.result.now (sym same ∙ there))
+    let old = there c.args.claimants.now.items c.len.result (grind (arith, common_steps, c.requires.as_many)) in
+    let was = c.loop-seat.invariant.1.each c.len.result old.0 _ old.1 (its (goal.at.push_reserved-requires c).After-index_mut) in
+    grind (arith, common_steps, was.1, c.requires.room c.len.result old.0 old.1)
 
 pub loop-seat-preserved : goal.loop-seat-preserved
 loop-seat-preserved c =
-    let left = c.pop.new.self.items in
     let was = c.loop-seat.invariant in
-    let is = c.in-Some.ensures.items in
-    let low : c.len.result < length c.loop-seat.claimants.items = grind (arith, common_steps) in
-    let there = at_index c.loop-seat.claimants.items c.len.result c.index_mut.result.now low c.index_mut.ensures.value in
-    last_taken GetsOne left was.0.0 c.in-Some.seat is was.0.1 c.len.result c.index_mut.result.now _ (omega (arith, c.len.ensures)) there was.1
+    last_taken GetsOne c.pop.new.self.items was.0.0 c.in-Some.seat c.in-Some.ensures.items was.0.1 c.len.result c.index_mut.result.now _
+    (omega (arith, c.len.ensures)) (its (goal.at.loop-seat-preserved c).After-index_mut) was.1
     (c.push_reserved.ensures.items, c.push_reserved.ensures.capacity, refl, refl)
 
 pub returns : goal.returns

@@ -1,11 +1,11 @@
-use Rattle.buffer_classes.proofs.Names.{◌≡◌, ◌++◌, List, length, GetsSeat, ClassSeat}
-use Rattle.buffer_classes.proofs.ByIndexLemmas.{AllFrom}
+use Rattle.buffer_classes.proofs.Names.{◌≡◌, ◌++◌, List, length, GetsSeat, ClassSeat, AllOf}
+use Rattle.buffer_classes.proofs.ByIndexLemmas.{From}
 use Rattle.buffer_classes.proofs.making.hand_out.Given as goal
 
 abbrev pub invariant-loop-seat : goal.invariant-loop-seat
 invariant-loop-seat l =
     ((more : List ClassSeat) × (l.initial.seats.items ≡ l.seats.items ++ more))
-    × AllFrom (GetsSeat l.initial.seats.items) (length l.seats.items) l.initial.claimants.items l.claimants.items
+    × AllOf (From (GetsSeat l.initial.seats.items) (length l.seats.items)) l.initial.claimants.items l.claimants.items
 
 abbrev pub decreases-loop-seat : goal.decreases-loop-seat
 decreases-loop-seat l = length l.seats.items

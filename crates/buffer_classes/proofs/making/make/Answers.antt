@@ -1,24 +1,19 @@
 use Rattle.buffer_classes.proofs.Names.{◌≡◌, ◌+◌, ◌∙◌, arith, length, take, sym, get_or_default, length-take-le, take_more, at_index}
+use Rattle.std.proofs.lemmas.Grind.{common_steps}
 use Rattle.buffer_classes.proofs.MakingLemmas.{as_many, class_made, got_of, rise_taken}
 use Rattle.buffer_classes.proofs.making.make.Goals as goal
 
 pub make_class-requires-clause-spec : goal.make_class-requires-clause-spec
 make_class-requires-clause-spec c =
-    let specs = c.args.specs.now in
-    let i = c.loop-spec.spec-index in
-    c.requires.classes.each i _ (at_index specs i _ c.loop-spec-test.true (get_or_default specs i _ _ c.loop-spec-test.true))
+    let low = c.loop-spec-test.true in
+    c.requires.classes.each c.loop-spec.spec-index _ (at_index c.args.specs.now _ _ low (get_or_default c.args.specs.now _ _ _ low))
 
 pub hand_out-requires-clause-room : goal.hand_out-requires-clause-room
 hand_out-requires-clause-room c = λ j seat at.
-    let was = c.loop-spec.invariant in
-    let done = as_many was.0 ∙ length-take-le c.loop-spec.spec-index c.args.specs.now (omega (arith, c.loop-spec-test.true)) in
-    omega (arith, (was.0.each j seat at).is_claimant.all, done, was.3 j seat at, c.loop-spec-test.true)
+    grind (arith, common_steps, (c.loop-spec.invariant.0.each j seat at).is_claimant.all, as_many c.loop-spec.invariant.0, c.loop-spec.invariant.3 j seat at)
 
 pub push_reserved-requires : goal.push_reserved-requires
-push_reserved-requires c =
-    let was = c.loop-spec.invariant in
-    let done = length-take-le c.loop-spec.spec-index c.args.specs.now (omega (arith, c.loop-spec-test.true)) in
-    omega (arith, was.0.givers_are.all, as_many was.0, done, was.2, c.loop-spec-test.true)
+push_reserved-requires c = grind (arith, common_steps, c.loop-spec.invariant.0.givers_are.all, as_many c.loop-spec.invariant.0)
 
 pub loop-spec-preserved : goal.loop-spec-preserved
 loop-spec-preserved c =
@@ -31,8 +26,7 @@ loop-spec-preserved c =
     let more = take_more specs i (record { size = 0; number = 0 }) low in
     let rise = rw more at (rise_taken 0 (i + 1) specs c.requires.classes.rise) in
     let made = class_made was.0 c.in_ok-new.ensures (omega (arith, c.len.ensures, as_many was.0))
-    (omega (arith, long, low, c.requires.classes.few)) rise
-    (record { classes = c.push_reserved-in-loop-spec.new.self }) (record { givers = c.push_reserved.new.self }) c.hand_out.new.claimants.items
+    (omega (arith, long, low, c.requires.classes.few)) rise (record { classes = c.push_reserved-in-loop-spec.new.self }) (record { givers = c.push_reserved.new.self }) _
     c.push_reserved-in-loop-spec.ensures.items c.push_reserved.ensures.items c.hand_out.ensures in (
       rw more made,
       c.push_reserved-in-loop-spec.ensures.capacity ∙ was.1,

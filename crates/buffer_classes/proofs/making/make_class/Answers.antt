@@ -1,4 +1,4 @@
-use Rattle.buffer_classes.proofs.Names.{◌≤◌, ◌∙◌, [], ap, arith, length, length-replicate}
+use Rattle.buffer_classes.proofs.Names.{◌≤◌, [], arith, length-replicate, ◌∙◌, ap, length}
 use Rattle.std.proofs.Common.{None}
 use Rattle.permit_ring.proofs.{untouched}
 use Rattle.buffer_classes.proofs.GiveLemmas.{admitted_more}
@@ -6,9 +6,7 @@ use Rattle.buffer_classes.proofs.making.make_class.Goals as goal
 
 pub returns : goal.returns
 returns c =
-    let made = c.in_ok-made.ensures in
     let n = c.args.spec.number in
     let is = untouched {N = Unit {0}} n c.args.seats in
-    let back = ap length is.back_is ∙ length-replicate c.args.seats None in
     let fronts = admitted_more (λ front. n ≤ front) [] n is.fronts_are (λ j front e. cc) (omega arith) in
-    grind (arith, made, is, back, fronts, c.in_ok-late.ensures)
+    grind (arith, c.in_ok-made.ensures, is, ap length is.back_is ∙ length-replicate c.args.seats None, fronts, c.in_ok-late.ensures)

@@ -1,6 +1,5 @@
-use Rattle.event_chain.proofs.Names.{◌≡◌, Some, None, refl, sym, ◌∙◌, ap, arith, common_steps, event_at, arrives, alone, item_at, told_by, slots_by, stands_alone}
+use Rattle.event_chain.proofs.Names.{◌≡◌, Some, None, refl, sym, ◌∙◌, ap, arith, common_steps, event_at, arrives, alone, item_at, told_by, carried_room, slots_by, stands_alone}
 use Rattle.event_chain.proofs.CallLemmas.{none_of, flows_with}
-use Rattle.event_chain.proofs.RoomLemmas.{carried_more}
 use Rattle.event_chain.proofs.joining.pass.Goals as goal
 
 pub returns-then-aggregates-clause-flows : goal.returns-then-aggregates-clause-flows
@@ -23,15 +22,14 @@ returns-else-aggregates-clause-flows g c config start calls joined items flows e
 
 pub returns-then-aggregates-clause-sends : goal.returns-then-aggregates-clause-sends
 returns-then-aggregates-clause-sends g c =
-    let further = c.join.ensures.parcels.further in
-    let whole = carried_more g.B.Parcel.held c.args.back.now.items further c.join.new.back.items c.join.ensures.parcels.back in
-    omega (arith, whole)
+    let whole = ap (carried_room g.B.Parcel.held) c.join.ensures.parcels.back in
+    grind (arith, common_steps, whole)
 
 pub returns-then-aggregates-clause-fate : goal.returns-then-aggregates-clause-fate
 returns-then-aggregates-clause-fate g c config start calls joined items flows ends =
-    sym (rw (sym (c.aggregates.ensures.configured config calls flows.stands) ∙ c.if-aggregates.true) refl)
+    rw (← c.aggregates.ensures.configured config calls flows.stands, c.if-aggregates.true) refl
 
 pub returns-else-aggregates-clause-fate : goal.returns-else-aggregates-clause-fate
 returns-else-aggregates-clause-fate g c config start calls joined items flows ends =
-    c.go_on.ensures.fate config start joined items flows.behind ends.joined_end ends.items_end
-    ∙ sym (rw (sym (c.aggregates.ensures.configured config calls flows.stands) ∙ c.if-aggregates.false) refl)
+    rw (← c.aggregates.ensures.configured config calls flows.stands, c.if-aggregates.false)
+    (c.go_on.ensures.fate config start joined items flows.behind ends.joined_end ends.items_end)

@@ -3,6 +3,4 @@ use Rattle.std.proofs.lemmas.Grind.{common_steps}
 use Rattle.text_spec.proofs.hexadecimal.push_hex_at_end.Goals as goal
 
 pub returns-in_err-reserve-clause-full : goal.returns-in_err-reserve-clause-full
-returns-in_err-reserve-clause-full c =
-    let twice = length-encode_with lower_digits c.args.bytes.now in
-    grind (arith, common_steps, twice)
+returns-in_err-reserve-clause-full c = grind (arith, common_steps, length-encode_with lower_digits c.args.bytes.now)

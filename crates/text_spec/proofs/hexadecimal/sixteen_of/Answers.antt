@@ -1,15 +1,13 @@
-use Rattle.text_spec.proofs.Names.{◌<◌, ◌+◌, ◌*◌, length, arith, length-set, ◌∙◌, lower_digits}
+use Rattle.text_spec.proofs.Names.{arith, lower_digits, length-set}
 use Rattle.hex.proofs.Pairs.{encode_step, encode_done}
 use Rattle.text_spec.proofs.hexadecimal.sixteen_of.Goals as goal
 
 pub loop-i-preserved : goal.loop-i-preserved
-loop-i-preserved c =
-    let fits : 2 * c.loop-i.i + 1 < length c.loop-i.digits = omega (arith, c.loop-i.invariant.len, c.loop-i-test.true) in
-    let there : c.loop-i.i < length c.args.bytes.now = omega (arith, c.requires, c.loop-i-test.true) in
-    record {
-      text = encode_step lower_digits c.args.bytes.now c.loop-i.digits c.loop-i.i _ _ there fits c.digit_of.ensures c.digit_of-in-loop-i.ensures c.loop-i.invariant.text;
-      len = length-set _ _ _ ∙ length-set c.loop-i.digits _ _ ∙ c.loop-i.invariant.len;
-    }
+loop-i-preserved c = record {
+  text = encode_step lower_digits c.args.bytes.now c.loop-i.digits c.loop-i.i _ _ (omega (arith, c.requires, c.loop-i-test.true)) (omega (arith, c.loop-i.invariant.len, c.loop-i-test.true))
+      c.digit_of.ensures c.digit_of-in-loop-i.ensures c.loop-i.invariant.text;
+  len = simp length-set c.loop-i.invariant.len;
+}
 
 pub returns : goal.returns
 returns c =

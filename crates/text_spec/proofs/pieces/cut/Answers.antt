@@ -7,5 +7,4 @@ returns-in-None-clause-pieces c = cut_none _ c.args.text.now (sym c.place_of.ens
 
 pub returns-in-Some-clause-pieces : goal.returns-in-Some-clause-pieces
 returns-in-Some-clause-pieces c =
-    let found = cut_some _ c.args.text.now c.in-Some.i (sym c.place_of.ensures ∙ c.in-Some.is) in
-    rw (take_rest c.args.text.now (c.in-Some.i + 1)) found
+    rw (take_rest c.args.text.now (c.in-Some.i + 1)) (cut_some _ c.args.text.now c.in-Some.i (sym c.place_of.ensures ∙ c.in-Some.is))

@@ -1,4 +1,4 @@
-use Rattle.text_spec.proofs.Names.{◌≡◌, ◌==◌, ◌+◌, not, false, get_or, sym, ap, ◌∙◌, Some, None, and_from, both_ways, eq-eqb, false_from_ne_true, ne_eqb, take_rest}
+use Rattle.text_spec.proofs.Names.{◌≡◌, ◌==◌, ◌+◌, false, get_or, sym, ◌∙◌, Some, None, eq-eqb, ne_eqb, take_rest, is_ascii_digit, arith}
 use borrow.Author.Count.{below_more}
 use Rattle.text_spec.proofs.PiecesLemmas.{first_piece, no_number, number_first}
 use Rattle.text_spec.proofs.pieces.number_before.Goals as goal
@@ -6,7 +6,7 @@ use Rattle.text_spec.proofs.pieces.number_before.Goals as goal
 pub returns-then-text-i : goal.returns-then-text-i
 returns-then-text-i c =
     let apart = ne_eqb _ _ c.if-text-i.true in
-    let strange = false_from_ne_true _ (λ digit. both_ways _ c.requires.last (and_from _ _ digit (ap not apart))) in
+    let strange : is_ascii_digit (get_or c.args.text.now c.args.i 0) ≡ false = grind (arith, apart, c.requires.last) in
     sym (no_number c.args.separator c.args.text.now c.args.i c.requires.within
     (below_more (λ k. (get_or c.args.text.now k 0 == c.args.separator) ≡ false) c.args.i c.requires.digits.free apart) strange)
 

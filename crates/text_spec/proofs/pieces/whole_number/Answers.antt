@@ -4,10 +4,8 @@ use Rattle.text_spec.proofs.pieces.whole_number.Goals as goal
 
 pub returns-in_err-number_of : goal.returns-in_err-number_of
 returns-in_err-number_of c =
-    let piece = whole_piece c.args.separator c.args.text.now c.requires.free in
-    rw c.from_residual.ensures (number_first _ _ _ None piece (sym c.in_err-number_of.was ∙ c.number_of.ensures))
+    rw c.from_residual.ensures (number_first _ _ _ None (whole_piece c.args.separator c.args.text.now c.requires.free) (sym c.in_err-number_of.was ∙ c.number_of.ensures))
 
 pub returns : goal.returns
 returns c =
-    let piece = whole_piece c.args.separator c.args.text.now c.requires.free in
-    number_first _ _ _ (Some c.in_ok-number_of.field-0) piece (sym c.in_ok-number_of.was ∙ c.number_of.ensures)
+    number_first _ _ _ (Some c.in_ok-number_of.field-0) (whole_piece c.args.separator c.args.text.now c.requires.free) (sym c.in_ok-number_of.was ∙ c.number_of.ensures)

@@ -1,18 +1,15 @@
-use Rattle.buffer_classes.proofs.Names.{arith, filled_of, keeper_memo, ring_seats, OffersAll, giver_memo}
+use Rattle.buffer_classes.proofs.Names.{arith, filled_of, keeper_memo, ring_seats, OffersAll, giver_memo, at_snoc, AllAdmitted, ◌≤◌}
 use Rattle.permit_ring.proofs.{gave_of}
-use Rattle.buffer_classes.proofs.GiveLemmas.{fronts_on}
 use Rattle.buffer_classes.proofs.giver.Giver.offer.Goals as goal
 
 pub returns-clause-mine : goal.returns-clause-mine
 returns-clause-mine c =
     let did = c.offer.ensures in
     let was = c.requires.mine in
-    let n = c.args.self.now.number in
-    let limit = ring_seats c.args.ring.now in
-    let filled = filled_of c.args.self.now.keeper in
-    let old = giver_memo c.args.self.now in
-    let new = keeper_memo c.offer.new.self in
-    let told : OffersAll n limit filled old new = (λ none. (did.none none).1, λ some. (c.offer.result, omega (arith, did.bound), did.told some)) in
-    let gave = gave_of n limit filled old new told in
-    let fronts = fronts_on n limit filled old new told was.offered_from was.fronts_from in
+    let told : OffersAll c.args.self.now.number (ring_seats c.args.ring.now) (filled_of c.args.self.now.keeper) (giver_memo c.args.self.now)
+    (keeper_memo c.offer.new.self) = (λ none. (did.none none).1, λ some. (c.offer.result, omega (arith, did.bound), did.told some)) in
+    let gave = gave_of _ _ _ _ _ told in
+    let end = at_snoc (giver_memo c.args.self.now).fronts in
+    let fronts : AllAdmitted (λ front. c.args.self.now.number ≤ front) (keeper_memo c.offer.new.self).fronts =
+    grind (arith, gave, was.offered_from, was.fronts_from, end) in
     grind (arith, was, did.mine, did.counts, gave, fronts)

@@ -4,6 +4,5 @@ use Rattle.buffer_classes.proofs.giver.Giver.put.Goals as goal
 
 pub returns-then-len-self-clause-mine : goal.returns-then-len-self-clause-mine
 returns-then-len-self-clause-mine c =
-    let was = c.requires.mine in
-    let all = admitted_more _ c.args.self.now.late.items c.args.buf c.push_reserved.ensures.items was.late_are c.requires.buf in
-    grind (arith, all, was, c.push_reserved.ensures)
+    let all = admitted_more _ c.args.self.now.late.items c.args.buf c.push_reserved.ensures.items c.requires.mine.late_are c.requires.buf in
+    grind (arith, all, c.requires.mine, c.push_reserved.ensures)

@@ -1,4 +1,4 @@
-use Rattle.buffer_classes.proofs.Names.{◌++◌, ◌∷◌, [], ◌∙◌, ap, arith, length, append_assoc, length_push}
+use Rattle.buffer_classes.proofs.Names.{◌∷◌, ◌∙◌, arith, append_assoc, length_push}
 use Rattle.buffer_classes.proofs.GiveLemmas.{admitted_before, admitted_last}
 use Rattle.buffer_classes.proofs.giver.Giver.put_late.Goals as goal
 
@@ -11,14 +11,13 @@ loop-self-preserved c =
     let is = c.in-Some.ensures.items in
     let was = c.loop-self.invariant in
     let did = c.refill.ensures in
-    let long = length_push c.pop.new.self.items c.in-Some.buf in
     let late = admitted_before _ c.pop.new.self.items c.in-Some.buf is was.0.late_are in (
       grind (arith, was.0, late, did, c.pop.ensures),
       record {
         memo_is = did.told ∙ was.1.memo_is;
-        account = omega (arith, did.counts, ap (λ k. k.offered) did.told, ap length is, long, was.1.account);
+        account = grind (arith, did, is, length_push c.pop.new.self.items c.in-Some.buf, was.1.account);
         gone = c.in-Some.buf ∷ was.1.gone;
-        late_is = was.1.late_is ∙ ap (λ l. l ++ was.1.gone) is ∙ append_assoc c.pop.new.self.items (c.in-Some.buf ∷ []) was.1.gone;
+        late_is = rw (is, append_assoc) at was.1.late_is;
         number_is = was.1.number_is;
       },
     )

@@ -1,10 +1,10 @@
 use Rattle.buffer_classes.proofs.Names.{◌≡◌, length, vec_capacity, AllOf, class_sizes, AreBuffersIn, AreGiversOf, Begins, Offers, givers_of}
-use Rattle.buffer_classes.proofs.{AllBelow, PutsSome}
+use Rattle.buffer_classes.proofs.{Below, PutsSome}
 use Rattle.buffer_classes.proofs.givers.Givers.give.Given as goal
 
 -- the classes before this one were begun
 abbrev pub invariant-loop-class : goal.invariant-loop-class
-invariant-loop-class l = AreGiversOf l.classes l.self × AllBelow (λ i. Begins) l.class (givers_of l.initial.self) (givers_of l.self)
+invariant-loop-class l = AreGiversOf l.classes l.self × AllOf (Below (λ i. Begins) l.class) (givers_of l.initial.self) (givers_of l.self)
 
 -- each buffer that is not left was put to those of its class
 abbrev pub invariant-loop-buf : goal.invariant-loop-buf
@@ -19,4 +19,4 @@ decreases-loop-buf l = length l.back.items
 
 -- what the classes before this one have is offered
 abbrev pub invariant-loop-class-2 : goal.invariant-loop-class-2
-invariant-loop-class-2 l = AreGiversOf l.classes l.self × AllBelow (λ i. Offers) l.class (givers_of l.initial.self) (givers_of l.self)
+invariant-loop-class-2 l = AreGiversOf l.classes l.self × AllOf (Below (λ i. Offers) l.class) (givers_of l.initial.self) (givers_of l.self)

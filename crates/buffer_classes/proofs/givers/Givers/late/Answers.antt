@@ -3,5 +3,4 @@ use Rattle.buffer_classes.proofs.givers.Givers.late.Goals as goal
 
 pub returns : goal.returns
 returns c =
-    let there = at_index (givers_of c.args.self.now) c.args.class c.index.result.now c.requires c.index.ensures in
-    rw there (omega (arith, c.len.ensures))
+    rw (at_index (givers_of c.args.self.now) c.args.class c.index.result.now c.requires c.index.ensures) (omega (arith, c.len.ensures))

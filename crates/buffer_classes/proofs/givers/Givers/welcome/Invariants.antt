@@ -1,12 +1,12 @@
-use Rattle.buffer_classes.proofs.Names.{◌≡◌, ◌++◌, List, length, AreGiversOf, Welcomed, givers_of, ClassSeat}
-use Rattle.buffer_classes.proofs.ByIndexLemmas.{AllFrom}
+use Rattle.buffer_classes.proofs.Names.{◌≡◌, ◌++◌, List, length, AreGiversOf, Welcomed, givers_of, ClassSeat, AllOf}
+use Rattle.buffer_classes.proofs.ByIndexLemmas.{From}
 use Rattle.buffer_classes.proofs.givers.Givers.welcome.Given as goal
 
 abbrev pub invariant-loop-its : goal.invariant-loop-its
 invariant-loop-its l =
     AreGiversOf l.classes l.self
     × ((more : List ClassSeat) × (l.initial.seat.seats.items ≡ l.seat.seats.items ++ more))
-    × AllFrom (Welcomed l.initial.seat) (length l.seat.seats.items) (givers_of l.initial.self) (givers_of l.self)
+    × AllOf (From (Welcomed l.initial.seat) (length l.seat.seats.items)) (givers_of l.initial.self) (givers_of l.self)
 
 abbrev pub decreases-loop-its : goal.decreases-loop-its
 decreases-loop-its l = length l.seat.seats.items

@@ -1,4 +1,4 @@
-use Rattle.event_chain.proofs.Names.{Some, None, option_map, option_to_list, refl, sym, ap, subst, ◌∙◌, Qualified, arrives, arrival, aggregated, qualified, passed_fate, Item, item_at, told_by, comes, HandsBack, all_kept, with_context}
+use Rattle.event_chain.proofs.Names.{Some, None, option_map, refl, sym, ap, ◌∙◌, Qualified, arrives, arrival, aggregated, qualified, passed_fate, Item, item_at, told_by, comes, with_context}
 use Rattle.event_chain.proofs.CallLemmas.{behind_call, behind_item, item_kept}
 use Rattle.event_chain.proofs.FateLemmas.{told_coming}
 use Rattle.event_chain.proofs.HandsLemmas.{hands_kept}
@@ -11,8 +11,8 @@ returns-in-Dropped-clause-behind g c config start moments behind =
     let known = c.tell.ensures config moments (comes item) behind.witness
     (told_coming config moments item c.came.ensures (all.fate config moments item refl behind.gate)) in
     behind_item behind (c.gate.ensures.stands config moments item refl behind.gate) known None
-    (ap (option_map arrival) (sym (all.sampled config moments item refl behind.gate)))
-    (sym (all.bypassing config moments item refl behind.gate)) tt behind.flows
+    (ap (option_map arrival) (all.sampled config moments item refl behind.gate))
+    (all.bypassing config moments item refl behind.gate) tt behind.flows
 
 pub returns-in-Bypass-clause-behind : goal.returns-in-Bypass-clause-behind
 returns-in-Bypass-clause-behind g c config start moments behind =
@@ -22,16 +22,15 @@ returns-in-Bypass-clause-behind g c config start moments behind =
     let through = with_context c.in-Bypass.context item in
     let all = c.in-Bypass.ensures in
     let flows = behind.flows in
-    let same = c.lent.ensures ∙ ap (λ (q : Qualified g.row.B.Denot). item_at tick (told_by held q)) c.let_through-item.ensures.item
-    ∙ sym (item_kept held c.in-Bypass.context tick c.args.item) in
-    let outlet = rw same at (c.qualify-answer.ensures.stands config start (qualified config moments) flows.behind.outlet) in
-    let fate = rw same at (c.qualify-answer.ensures.fate config start (qualified config moments) flows.behind.outlet) in
+    let same = c.lent.ensures ∙ rw (c.let_through-item.ensures.item, item_kept held c.in-Bypass.context tick c.args.item) refl in
+    let outlet = rw same at (c.qualify-answer.ensures.stands config start _ flows.behind.outlet) in
+    let fate = rw same at (c.qualify-answer.ensures.fate config start _ flows.behind.outlet) in
     let known = c.tell-in-Bypass.ensures config moments (comes item) behind.witness
     (told_coming config moments item c.came-in-Bypass.ensures
     (all.fate config moments item refl behind.gate ∙ sym (fate behind.ends.items_end))) in
     behind_item behind (c.gate.ensures.stands config moments item refl behind.gate) known (Some through)
-    (ap (option_map arrival) (sym (all.sampled config moments item refl behind.gate)))
-    (sym (all.bypassing config moments item refl behind.gate)) refl
+    (ap (option_map arrival) (all.sampled config moments item refl behind.gate))
+    (all.bypassing config moments item refl behind.gate) refl
     (record { stands = flows.stands; behind = record { thresholds = flows.behind.thresholds; outlet = outlet behind.ends.items_end } })
 
 pub returns-in-Pass-clause-behind : goal.returns-in-Pass-clause-behind
@@ -54,6 +53,4 @@ returns-in-Pass-clause-behind g c config start moments behind =
 pub returns-in-Pass-clause-parcels : goal.returns-in-Pass-clause-parcels
 returns-in-Pass-clause-parcels g c =
     let through = c.let_through-item-in-Pass in
-    hands_kept c.in-Pass.context c.args.item.context {mid = c.let_through-item-in-Pass.new.back.items} through.ensures.back
-    (subst (λ (q : Qualified g.row.B.Denot). HandsBack (option_to_list q.context) (all_kept c.args.self.now.windows)
-    (all_kept c.pass-fate.new.windows) through.new.back.items c.pass-fate.new.back.items) through.ensures.item c.pass-fate.ensures.parcels)
+    hands_kept c.in-Pass.context c.args.item.context through.ensures.back (rw through.ensures.item at c.pass-fate.ensures.parcels)

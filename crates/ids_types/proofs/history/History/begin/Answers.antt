@@ -1,14 +1,12 @@
-use Rattle.std.proofs.Common.{◌≡◌, length, rules}
+use Rattle.std.proofs.Common.{rules}
 use Rattle.ids_types.proofs.HistoryLemmas.{lies_begun}
 use Rattle.ids_types.proofs.history.History.begin.Goals as goal
 
 pub invariant_of-self : goal.invariant_of-self
 invariant_of-self c =
     let h = c.self.inside in
-    let at_end : c.len-place.result ≡ length h.entries.items = search rules in
     record {
-      lies = rw c.push_reserved.ensures.items
-          (lies_begun h.numbers.items h.bytes.items h.entries.items h.rows.items c.args.head.now c.len-place.result at_end
-          c.self.invariant.lies);
+      lies = rw c.push_reserved.ensures.items (lies_begun h.numbers.items h.bytes.items h.entries.items h.rows.items c.args.head.now
+          c.len-place.result (search rules) c.self.invariant.lies);
       memory = search rules;
     }

@@ -1,48 +1,44 @@
-use Rattle.main_function.proofs.Names.{rules, ◌≤◌, refl, ◌∙◌, length, ap, subst, arith, common_steps, TurnHead, turn_by, DeskMemo, desk_memo, MakesTurn, ReapsToEnd, held, item_of, items_of, length-map}
+use Rattle.main_function.proofs.Names.{rules, refl, ap, arith, common_steps, TurnHead, turn_by, DeskMemo, desk_memo, MakesTurn, held, item_of, items_of, length-map, ◌∙◌}
 use Rattle.permit_ring.proofs.{gave_of, only_reaps}
 use Rattle.report_queue.proofs.ClosingLemmas.{taken_on}
-use Rattle.main_function.proofs.ClosingLemmas.{same_back, same_swept}
 use Rattle.main_function.proofs.QuickLemmas.{turn_is_quick}
 use Rattle.main_function.proofs.ReportLemmas.{offered_more, totals_more, turn_adds}
-use Rattle.main_function.proofs.StepLemmas.{can_take, come_back, few_bytes, has_room, has_sent_room, kept_fit, kept_short, taken_fit}
+use Rattle.main_function.proofs.StepLemmas.{can_take, come_back, few_bytes, few_taken, has_room, has_sent_room, kept_fit, kept_short, taken_fit}
 use Rattle.main_function.proofs.TurnedLemmas.{last_within, stands_more}
 use Rattle.main_function.proofs.manager.Manager.step.Goals as goal
 
 pub turn-requires-clause-fits : goal.turn-requires-clause-fits
 turn-requires-clause-fits g c =
-    let few : length c.take_ready.new.items.items ≤ c.args.self.now.positions = omega (arith, c.take_ready.ensures.took.few, c.requires.mine.positions_are) in
-    let bytes = few_bytes g.C.Chain.events g.C.Chain.kept _ _ c.requires.mine _ _ _ c.take_ready.ensures.took in
-    g.met.C.Chain.smaller _ _ _ _ _ few bytes c.requires.fits
+    let took = c.take_ready.ensures.took in
+    g.met.C.Chain.smaller _ _ _ _ _ (few_taken c.requires.mine took) (few_bytes c.requires.mine took) c.requires.fits
 
 pub turn-requires-clause-items : goal.turn-requires-clause-items
-turn-requires-clause-items g c = can_take g.C.Chain.events g.C.Chain.kept _ _ c.requires.mine _ _ _ c.take_ready.ensures.took
+turn-requires-clause-items g c = can_take c.requires.mine c.take_ready.ensures.took
 
 pub turn-requires-clause-kept : goal.turn-requires-clause-kept
-turn-requires-clause-kept g c = kept_short g.C.Chain.events g.C.Chain.kept _ _ c.requires.mine
+turn-requires-clause-kept g c = kept_short c.requires.mine
 
 pub turn-requires-clause-log : goal.turn-requires-clause-log
-turn-requires-clause-log g c = has_room g.C.Chain.events g.C.Chain.kept _ _ c.requires.mine _ _ _ c.take_ready.ensures.took
+turn-requires-clause-log g c = has_room c.requires.mine c.take_ready.ensures.took
 
 pub turn-requires-clause-out : goal.turn-requires-clause-out
 turn-requires-clause-out g c =
-    let events = g.C.Chain.events in
-    let kept = g.C.Chain.kept in
     let mine = c.requires.mine in
-    g.met.C.ParcelChain.within c.args.self.now.chain c.take_ready.new.items.items c.args.self.now.largest _
-    (taken_fit events kept _ _ mine _ _ _ c.take_ready.ensures.took) (kept_fit events kept _ _ mine)
-    (has_sent_room events kept _ _ mine _ _ _ c.take_ready.ensures.took)
+    let took = c.take_ready.ensures.took in
+    g.met.C.ParcelChain.within c.args.self.now.chain c.take_ready.new.items.items c.args.self.now.largest _ (taken_fit mine took) (kept_fit mine)
+    (has_sent_room mine took)
 
 pub with-self-requires-clause-entries : goal.with-self-requires-clause-entries
 with-self-requires-clause-entries g c =
     let taken = c.take_ready.new.items.items in
     let only = only_reaps (items_of taken) (desk_memo c.sweep-lost_events.new.self) in
-    let swept = ap (λ (k : DeskMemo). k.notes) c.sweep-lost_events.ensures.swept.told in
-    let took = ap (λ (k : DeskMemo). k.notes) c.take_ready.ensures.took.run.2 in
+    let swept = c.sweep-lost_events.ensures.swept.told in
+    let took = c.take_ready.ensures.took.run.2 in
     grind (arith, common_steps, c.requires.mine.totals_are, only.notes_are, swept, took, length-map taken item_of, c.take_ready.ensures.within)
 
 pub give_back-requires-clause-back : goal.give_back-requires-clause-back
 give_back-requires-clause-back g c =
-    (come_back g.C.Chain.events g.C.Chain.kept _ _ c.requires.mine _ _ _ c.take_ready.ensures.took _ _ _ c.turn.ensures.parcels c.requires.mine.roomy.no_back).0
+    (come_back c.requires.mine c.take_ready.ensures.took c.turn.ensures.parcels c.requires.mine.roomy.no_back).0
 
 pub returns-clause-turned : goal.returns-clause-turned
 returns-clause-turned g c =
@@ -52,13 +48,12 @@ returns-clause-turned g c =
     let makes : MakesTurn c.args.self.now.positions (desk_memo c.args.self.now.desk) taken (turn_by held head taken) (desk_memo c.give_back.new.self) =
     record {
       took = desk_memo c.take_ready.new.desk;
-      takes = subst (λ (k : DeskMemo). ReapsToEnd (items_of taken) k (desk_memo c.take_ready.new.desk)) c.sweep-lost_events.ensures.swept.told
-          c.take_ready.ensures.took.run;
+      takes = rw (← c.sweep-lost_events.ensures.swept.told) c.take_ready.ensures.took.run;
       gives = rw (mine.positions_are, mine.desk_is.taker.seats_are, ← c.take_ready.ensures.counts) c.give_back.ensures.places.told;
       entries_are = refl;
       few = omega (arith, c.take_ready.ensures.took.few, mine.positions_are);
     } in
-    let out = come_back g.C.Chain.events g.C.Chain.kept _ _ mine _ _ _ c.take_ready.ensures.took _ _ _ c.turn.ensures.parcels mine.roomy.no_back in
+    let out = come_back mine c.take_ready.ensures.took c.turn.ensures.parcels mine.roomy.no_back in
     record {
       turn = turn_by held head taken;
       taken = taken;
@@ -92,8 +87,7 @@ unfolding returns-clause-turned
 returns-clause-mine g c =
     let mine = c.requires.mine in
     let turned = returns-clause-turned g c in
-    let out = come_back g.C.Chain.events g.C.Chain.kept _ _ mine _ _ _ c.take_ready.ensures.took _ _ _ c.turn.ensures.parcels mine.roomy.no_back in
-    let room = mine.roomy in
+    let out = come_back mine c.take_ready.ensures.took c.turn.ensures.parcels mine.roomy.no_back in
     record {
       desk_is = c.give_back.ensures.mine;
       positions_are = mine.positions_are;
@@ -106,41 +100,29 @@ returns-clause-mine g c =
       sizes_given = mine.sizes_given;
       kept_are = out.1;
       tick_within = c.requires.within;
-      roomy = grind (arith, common_steps, room, c.turn.ensures, c.give_back.ensures.empty);
+      roomy = grind (arith, common_steps, mine.roomy, c.turn.ensures, c.give_back.ensures.empty);
     }
 
 pub returns-clause-quick : goal.returns-clause-quick
 unfolding returns-clause-turned
 returns-clause-quick g c =
-    let mine = c.requires.mine in
     let turned = returns-clause-turned g c in
-    turn_is_quick c.args.shared.now c.args.self.now.positions c.args.self.now.desk c.give_back.new.self turned.taken turned.turn turned.buffers.back
-    mine.desk_is mine.positions_are turned.makes turned.buffers.gave
+    turn_is_quick c.requires.mine.desk_is c.requires.mine.positions_are turned.makes turned.buffers.gave
 
 -- no sweep and no take brings a pass back
 pub returns-clause-all_taken : goal.returns-clause-all_taken
 returns-clause-all_taken g c = λ all.
-    let same = ap (λ (k : DeskMemo). k.back) c.sweep-lost_events.ensures.swept.told in
-    taken_on _ _ _ _ _ c.give_back.ensures.places.told
-    (c.take_ready.ensures.all_taken (same_back (desk_memo c.sweep-lost_events.new.self) (desk_memo c.args.self.now.desk) same all))
+    taken_on _ _ _ _ _ c.give_back.ensures.places.told (c.take_ready.ensures.all_taken (rw c.sweep-lost_events.ensures.swept.told all))
 
 -- and nothing is swept after the takes
 pub returns-clause-swept : goal.returns-clause-swept
 returns-clause-swept g c = λ all.
     let swept = c.sweep-lost_events.ensures.swept.all_swept all in
     let only = only_reaps (items_of c.take_ready.new.items.items) (desk_memo c.sweep-lost_events.new.self) in
-    let run = c.take_ready.ensures.took.run in
     let gave = gave_of _ _ _ _ _ c.give_back.ensures.places.told in
-    let events = gave.swept0_is ∙ ap (λ (k : DeskMemo). k.swept0) run.2 ∙ only.swept0_is in
-    let contexts = gave.swept1_is ∙ ap (λ (k : DeskMemo). k.swept1) run.2 ∙ only.swept1_is in
-    let back = gave.back_is ∙ ap (λ (k : DeskMemo). k.back) run.2 ∙ only.back_is in
-    let now = desk_memo c.give_back.new.self in
-    let before = desk_memo c.sweep-lost_events.new.self in
-    (same_swept 0 now before events contexts back swept.0, same_swept 1 now before events contexts back swept.1)
+    grind (arith, swept, only, c.take_ready.ensures.took.run.2, gave.swept0_is, gave.swept1_is, gave.back_is)
 
 pub returns-clause-settled : goal.returns-clause-settled
 returns-clause-settled g c = λ all.
     let only = only_reaps (items_of c.take_ready.new.items.items) (desk_memo c.sweep-lost_events.new.self) in
-    let same = ap (λ (k : DeskMemo). k.back) c.take_ready.ensures.took.run.2 ∙ only.back_is
-    ∙ ap (λ (k : DeskMemo). k.back) c.sweep-lost_events.ensures.swept.told in
-    c.give_back.ensures.settled (same_back (desk_memo c.take_ready.new.desk) (desk_memo c.args.self.now.desk) same all)
+    c.give_back.ensures.settled (rw (c.take_ready.ensures.took.run.2, only.back_is, c.sweep-lost_events.ensures.swept.told) all)

@@ -14,16 +14,14 @@ loop-tries-preserved g c =
     let old = keeper_memo c.loop-tries.self in
     let now = keeper_memo c.try_offer.new.self in
     let missed = c.try_offer.ensures.missed c.loop-tries-test.true in
-    let bound = is.4 in
-    let falls = missed.2 in
-    let other : now.seen ≢ old.seen = λ e. omega (arith, ap (field_of limit) e, falls) in
+    let other : now.seen ≢ old.seen = λ e. omega (arith, ap (field_of limit) e, missed.2) in
     let told : now ≡ misses limit count now.seen old = rw is.1 at missed.0 in (
       c.try_offer.ensures.mine,
       missed.1 ∙ is.1,
       c.try_offer.ensures.vacant ∙ is.2,
       λ more new t. rw (add_assoc c.loop-tries.tries 1 more) (is.3 (1 + more) new
           (one_missed limit count now.seen old other (subst (λ k. TriesTell limit count k (1 + more) new) told t))),
-      omega (arith, bound, falls),
+      omega (arith, is.4, missed.2),
     )
 
 pub returns-clause-told : goal.returns-clause-told

@@ -9,5 +9,5 @@ load-requires g c =
     let next = mine.next_is ∙ ap₂ ◌%◌ mine.reaped_is (sym ring.positions_are) in (
       mine.keeping.at_table,
       omega (arith, ring.words_are, mine.next_is, ring.positions_are, ring.sizes.some_position),
-      see_ready _ _ _ _ _ _ _ mine.keeping.keeps _ (ring.slots_are ∙ sym ring.positions_are) (ap (λ (p : ℕ). p + 3) next),
+      see_ready _ _ _ _ _ _ _ _ mine.keeping.keeps _ (ring.slots_are ∙ sym ring.positions_are) (ap (λ (p : ℕ). p + 3) next),
     )

@@ -16,14 +16,12 @@ pub returns-clause-mine : goal.returns-clause-mine
 returns-clause-mine g c =
     let mine = c.requires.mine in
     let saw = c.read_mark-mark.ensures in
-    let put = c.exchange-old.ensures in
-    let turn = c.turn.ensures in
     let keeper = c.args.self.now in
     let n = c.args.ring.now.positions in
     let reaped = ap (λ keeper. keeper.reaped) saw.same ∙ mine.reaped_is in
     let hit = saw.saw.0 (c.if-mark-self.false ∙ ap (λ (t : ℕ). t + 1) reaped) in
     let account = mine.account in
     let past : (keeper_memo keeper).offered + keeper.filled + keeper.vacant ≡ keeper.reaped + n = omega arith in
-    let hand = hand_reaped mine.in_hand (mine.next_is ∙ sym (add-mod_right keeper.reaped n) ∙ ap (λ (t : ℕ). t % n) (sym past)) in
-    let next = c.after-self.ensures ∙ ap (λ (t : ℕ). (t + 1) % n) (ap (λ keeper. keeper.next) saw.same ∙ mine.next_is) ∙ mod-add-mod keeper.reaped n 1 in
-    grind (arith, mine, hit, put, turn, hand, next, length_push (keeper_memo keeper).notes (g.F.Freight.note hit.0))
+    let hand = hand_reaped mine.in_hand {at = keeper.next} (rw (past, add-mod_right) mine.next_is) in
+    let notes = length_push (keeper_memo keeper).notes (g.F.Freight.note hit.0) in
+    grind (arith, mine, saw.same, hit, c.exchange-old.ensures, c.turn.ensures, hand, c.after-self.ensures, mod-add-mod keeper.reaped n 1, notes)

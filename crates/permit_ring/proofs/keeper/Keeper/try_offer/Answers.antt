@@ -9,7 +9,7 @@ compare_exchange-found-requires g c =
     let mine = c.requires.mine in (
       mine.keeping.at_table,
       search rules,
-      offer_ready f.note f.admits_offered f.admits_note c.args.ring.now.table.shared.key _ _ _ mine.keeping.keeps c.pack-old.result
+      offer_ready f.note f.admits_offered f.admits_note c.args.ring.now.table.shared.key _ _ _ _ mine.keeping.keeps c.pack-old.result
           c.pack-new.result keeper.filled keeper.vacant
           (grind (arith, mine, c.requires.some, c.pack-old.ensures.number, c.pack-new.ensures.number)),
     )

@@ -1,11 +1,11 @@
-use Rattle.permit_ring.proofs.Names.{rules, sym, ◌∙◌, arith, common_steps}
+use Rattle.permit_ring.proofs.Names.{rules, seat_in, sym, ◌∙◌, arith, common_steps}
 use Rattle.permit_ring.proofs.SeatSteps.{look_ready, claim_ready}
 use Rattle.permit_ring.proofs.seat.Seat.claim.Goals as goal
 
 pub load-number-requires : goal.load-number-requires
 load-number-requires g c =
     let mine = c.requires.mine in
-    let ready = look_ready _ _ _ _ _ _ _ mine.sitting.sits (grind (arith, common_steps, c.requires)) (grind (arith, c.requires)) in
+    let ready = look_ready _ _ _ _ _ _ _ _ mine.sitting.sits (grind (arith, common_steps, c.requires)) (grind (arith, c.requires)) in
     (mine.sitting.at_table, search rules, ready)
 
 pub fetch_add-number-requires : goal.fetch_add-number-requires
@@ -16,6 +16,6 @@ fetch_add-number-requires g c =
     let word = c.unpack-seen.ensures.word in (
       looked.0 ∙ sitting.at_table,
       search rules,
-      claim_ready _ _ _ _ _ _ _ (grind (arith, common_steps, sitting, looked)) (ring.slots_are ∙ sym ring.positions_are)
+      claim_ready _ _ _ _ _ _ _ (seat_in c.load-number.new.seat.me.0) (grind (arith, common_steps, sitting, looked)) (ring.slots_are ∙ sym ring.positions_are)
           (grind (arith, common_steps, sitting, looked, word, c.if-seen-eq0.false)),
     )

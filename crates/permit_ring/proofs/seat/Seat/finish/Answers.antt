@@ -13,6 +13,6 @@ store-requires g c =
     let mine = c.requires.mine in
     let put = c.exchange-old.ensures in
     let held = mine.ticket_is ∙ ap machine_ticket c.unwrap-ticket.ensures in
-    let ready = finish_ready _ _ _ _ _ _ c.args.self.now.place.me mine.sitting.sits put.3 c.position_of-position.ensures
+    let ready = finish_ready _ _ _ _ _ _ c.args.self.now.place.me _ mine.sitting.sits put.3 c.position_of-position.ensures
     mine.sitting.ring_is.positions_are held c.requires.admitted in
     (put.0 ∙ mine.sitting.at_table, search rules, ready)
