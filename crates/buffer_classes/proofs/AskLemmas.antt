@@ -1,8 +1,5 @@
 -- What a claim that asks one class after another leaves at each.
-use Rattle.buffer_classes.proofs.Names.{◌≡◌, ℕ, zero, suc, ◌+◌, ◌≤◌, ◌⊎◌, List, [], ◌∷◌, ◌++◌, length, refl, arith, inl, inr, append-nil, Asks, ClaimTells, asked, lost_at, Lost, Got, Outcome, SeatMemo, at_length, if◌then◌else◌, ◌==◌}
-use Rattle.std.proofs.lemmas.Bool.Decides.{nat_tests}
-use mathlib.Core.Option.{some, none}
-use lib.ListN.{get_elem?}
+use Rattle.buffer_classes.proofs.Names.{◌≡◌, ℕ, zero, suc, ◌+◌, ◌≤◌, ◌⊎◌, List, [], ◌∷◌, ◌++◌, length, refl, arith, inl, inr, append-nil, Asks, ClaimTells, asked, lost_at, Lost, Got, Outcome, SeatMemo, at_length, if◌then◌else◌, ◌==◌, nat_tests, some, none, get_elem?}
 use Rattle.buffer_classes.specs.declared.seat.Claim.{Claim}
 use Rattle.buffer_classes.specs.declared.seat.Claim.TheVariants as claims
 

@@ -1,7 +1,5 @@
 -- Lists whose elements are changed one after another.
-use Rattle.buffer_classes.proofs.Names.{◌≡◌, ◌≢◌, ℕ, ◌+◌, ◌<◌, ◌≤◌, List, [], ◌∷◌, ◌++◌, set, length, refl, ◌∙◌, ap, arith, append_assoc, length_push, length-set, at_last, at_longer, at_set, at_length, there}
-use mathlib.Core.Option.{some}
-use lib.ListN.{get_elem?}
+use Rattle.buffer_classes.proofs.Names.{◌≡◌, ◌≢◌, ℕ, ◌+◌, ◌<◌, ◌≤◌, List, [], ◌∷◌, ◌++◌, set, length, refl, ◌∙◌, ap, arith, append_assoc, length_push, length-set, at_last, at_longer, at_set, at_length, there, some, get_elem?}
 use Rattle.buffer_classes.specs.ByIndex.{AllOf}
 
 module _ {A : Type 0} where

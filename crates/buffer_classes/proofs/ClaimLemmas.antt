@@ -1,10 +1,6 @@
 -- A claim from class to class.
-use Rattle.buffer_classes.proofs.Names.{◌≡◌, ◌≢◌, ℕ, ◌+◌, ◌-◌, ◌*◌, ◌<◌, ◌≤◌, ◌^◌, List, [], ◌∷◌, ◌++◌, length, set, get_or, ◌∙◌, arith, inl, inr, All, append-nil, length_push, at_index, at_length, at_map, there, ring_seats, ring_terms, seat_calls, seat_memo, Buffer, IsBufferOf, AllOf, Asks, AsksClass, ClaimTells, asked, lost_at, RiseFrom, class_sizes, first_fitting, Class, ClassSeat, Lost, Got, Outcome, IsClaimSeatOf, IsClassSeat, claimant_of, claims_of, log_of, memo_at, steps_of, Classes, ClaimSeat, refl}
-use Rattle.std.proofs.lemmas.Bool.Decides.{nat_tests}
+use Rattle.buffer_classes.proofs.Names.{◌≡◌, ◌≢◌, ℕ, ◌+◌, ◌-◌, ◌*◌, ◌<◌, ◌≤◌, ◌^◌, List, [], ◌∷◌, ◌++◌, length, set, get_or, ◌∙◌, arith, inl, inr, All, append-nil, length_push, at_index, at_length, at_map, there, ring_seats, ring_terms, seat_calls, seat_memo, Buffer, IsBufferOf, AllOf, Asks, AsksClass, ClaimTells, asked, lost_at, RiseFrom, class_sizes, first_fitting, Class, ClassSeat, Lost, Got, Outcome, IsClaimSeatOf, IsClassSeat, claimant_of, claims_of, log_of, memo_at, steps_of, Classes, ClaimSeat, refl, nat_tests, some, get_elem?, sum_by-set}
 use Rattle.std.proofs.lemmas.List.Elements.{All-push}
-use Rattle.std.proofs.lemmas.List.Sums.{sum_by-set}
-use mathlib.Core.Option.{some}
-use lib.ListN.{get_elem?}
 use Rattle.buffer_classes.specs.Claims.{AreSmall, HoldsSoMany}
 use Rattle.buffer_classes.specs.declared.seat.Claim.{Claim}
 use Rattle.buffer_classes.specs.declared.seat.Claim.TheVariants as answers

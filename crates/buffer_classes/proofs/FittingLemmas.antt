@@ -1,8 +1,5 @@
 -- Which class is the first that fits.
-use Rattle.buffer_classes.proofs.Names.{◌≡◌, ℕ, zero, suc, ◌<◌, ◌≤◌, List, [], ◌∷◌, length, get_or, map, drop, ◌+◌, refl, arith, add-one, at_index, drop_at, RiseFrom, first_fitting, Class, if◌then◌else◌, length-map, class_sizes, Classes}
-use Rattle.std.specs.Prelude.{nat_lt}
-use mathlib.Core.Option.{some}
-use lib.ListN.{get_elem?}
+use Rattle.buffer_classes.proofs.Names.{◌≡◌, ℕ, zero, suc, ◌<◌, ◌≤◌, List, [], ◌∷◌, length, get_or, map, drop, ◌+◌, refl, arith, add-one, at_index, drop_at, RiseFrom, first_fitting, Class, if◌then◌else◌, length-map, class_sizes, Classes, some, nat_lt, get_elem?}
 
 -- each later size is above the ones before it, and a class from the first fitting one on fits
 pub fits_from : (bytes above i size : ℕ) (sizes : List ℕ) → RiseFrom above sizes → get_elem? sizes i ≡ some size

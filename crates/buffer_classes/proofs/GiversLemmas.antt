@@ -1,8 +1,6 @@
 -- What the givers of all classes keep where one of them changes.
-use Rattle.buffer_classes.proofs.Names.{◌≡◌, ℕ, ◌<◌, List, length, get_or, set, arith, length-set, at_index, at_map, at_set, ring_terms, Buffer, IsBufferOf, class_sizes, AreGiversOf, IsBufferIn, givers_of, IsGiverOf, Class, Giver, Givers, Classes, ◌+◌, ap, ◌∙◌, AllOf}
+use Rattle.buffer_classes.proofs.Names.{◌≡◌, ℕ, ◌<◌, List, length, get_or, set, arith, length-set, at_index, at_map, at_set, ring_terms, Buffer, IsBufferOf, class_sizes, AreGiversOf, IsBufferIn, givers_of, IsGiverOf, Class, Giver, Givers, Classes, ◌+◌, ap, ◌∙◌, AllOf, some, get_elem?}
 use Rattle.buffer_classes.proofs.ByIndexLemmas.{Below, below_more}
-use mathlib.Core.Option.{some}
-use lib.ListN.{get_elem?}
 
 module _ {classes : Classes} {givers : Givers} (are : AreGiversOf classes givers) (i : ℕ) (low : i < length (givers_of givers))
     {class : Class} (its : class ≡ get_or classes.classes.items i class) where

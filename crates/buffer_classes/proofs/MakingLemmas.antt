@@ -1,11 +1,8 @@
 -- Classes that are made one after another.
-use Rattle.buffer_classes.proofs.Names.{◌≡◌, ℕ, zero, suc, ◌<◌, List, [], ◌∷◌, ◌++◌, length, take, refl, sym, ◌∙◌, ap, arith, length-map, length_push, map_push, at_end, at_length, there, ClassSpec, IsNewSeat, seat_memo, new_memo, IsBufferOf, AllOf, AreClasses, RiseFrom, class_sizes, givers_of, AreNewClasses, GetsOne, GetsSeat, IsNewClaimant, IsNewClass, spec_sizes, Class, ClassSeat, IsHisSeat, memo_in, Classes, Giver, Givers, ClaimSeat, IsGiverOf}
+use Rattle.buffer_classes.proofs.Names.{◌≡◌, ℕ, zero, suc, ◌<◌, List, [], ◌∷◌, ◌++◌, length, take, refl, sym, ◌∙◌, ap, arith, length-map, length_push, map_push, at_end, at_length, there, ClassSpec, IsNewSeat, seat_memo, new_memo, IsBufferOf, AllOf, AreClasses, RiseFrom, class_sizes, givers_of, AreNewClasses, GetsOne, GetsSeat, IsNewClaimant, IsNewClass, spec_sizes, Class, ClassSeat, IsHisSeat, memo_in, Classes, Giver, Givers, ClaimSeat, IsGiverOf, some, none, new_ordered, get_elem?}
 use Rattle.buffer_classes.specs.{IsNewGiver}
 use Rattle.buffer_classes.proofs.FittingLemmas.{many_sizes}
 use mathlib.Core.Option as maybe
-use mathlib.Core.Option.{some, none}
-use lib.ListN.{get_elem?}
-use Rattle.permit_ring.proofs.{new_ordered}
 
 -- sizes that rise do so up to any place
 pub rise_taken : (above n : ℕ) (specs : List ClassSpec) → RiseFrom above (spec_sizes specs) → RiseFrom above (spec_sizes (take n specs))

@@ -1,7 +1,7 @@
 -- The names of other crates and of this crate's specs that more than one of its proofs stands on.
-pub use Rattle.std.proofs.Common.{◌≡◌, ◌≢◌, ℕ, zero, suc, ◌+◌, ◌<◌, ◌≤◌, ◌==◌, ◌⊎◌, List, [], ◌∷◌, ◌++◌, length, set, refl, sym, ap, subst, ◌∙◌, if◌then◌else◌, arith, inl, inr, get_or, map, eq-zero-or-pos, take, cond, length-append, ◌-◌, ◌*◌, ◌^◌, All, drop, add-one}
+pub use Rattle.std.proofs.Common.{◌≡◌, ◌≢◌, ℕ, zero, suc, ◌+◌, ◌<◌, ◌≤◌, ◌==◌, ◌⊎◌, List, [], ◌∷◌, ◌++◌, length, set, refl, sym, ap, subst, ◌∙◌, if◌then◌else◌, arith, inl, inr, get_or, map, eq-zero-or-pos, take, cond, length-append, ◌-◌, ◌*◌, ◌^◌, All, drop, add-one, None}
 pub use Rattle.std.proofs.lemmas.List.{length-set, append-nil, append_assoc, length_push, length-map, map_push, nil_from_length, get_or_default, length-take-le, take_more, length-replicate}
-pub use Rattle.std.specs.Prelude.{vec_capacity}
+pub use Rattle.std.specs.Prelude.{vec_capacity, nat_lt}
 pub use Rattle.atomic_table.proofs.Lists.{at_set, at_index, at_last, at_longer, at_map, at_snoc, drop_at}
 pub use Rattle.ids_types.specs.declared.class_spec.ClassSpec.{ClassSpec}
 pub use Rattle.permit_ring.proofs.ListLemmas.{at_length, there, at_end}
@@ -11,3 +11,9 @@ pub use Rattle.buffer_classes.specs.Names.{Classes}
 pub use Rattle.buffer_classes.specs.declared.giver.Giver.{Giver}
 pub use Rattle.buffer_classes.specs.declared.givers.Givers.{Givers}
 pub use Rattle.buffer_classes.specs.declared.seat.ClaimSeat.{ClaimSeat}
+pub use Rattle.permit_ring.proofs.{new_ordered, only_reaps, end_steps, gave_of, untouched, reaps_push}
+pub use Rattle.std.proofs.lemmas.Bool.Decides.{nat_tests}
+pub use Rattle.std.proofs.lemmas.Grind.{common_steps}
+pub use Rattle.std.proofs.lemmas.List.Sums.{sum_by_push, sum_by-set}
+pub use lib.ListN.{get_elem?}
+pub use mathlib.Core.Option.{some, none}

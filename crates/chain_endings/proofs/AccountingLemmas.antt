@@ -1,15 +1,9 @@
 -- The accounts of endings, with one ending more.
-use Rattle.std.proofs.Common.{◌≡◌, ℕ, suc, ◌+◌, ◌≤◌, ◌<◌, ◌==◌, Bool, true, false, List, [], ◌∷◌, ◌++◌, length, map, filter, reverse, take, if◌then◌else◌, refl, sym, ◌∙◌, arith, rules}
-use Rattle.std.proofs.lemmas.Grind.{common_steps}
-use Rattle.std.proofs.lemmas.List.{length-map, length-reverse, reverse-reverse, length-take-le}
+use Rattle.chain_endings.proofs.Names.{Parts, Entry, length-map, length-reverse, reverse-reverse, length-take-le, ◌≡◌, ℕ, suc, ◌+◌, ◌≤◌, ◌<◌, ◌==◌, Bool, true, false, List, [], ◌∷◌, ◌++◌, length, map, filter, reverse, take, if◌then◌else◌, refl, sym, ◌∙◌, arith, rules, account_of, tally, with_ending, with_fate, with_one, with_stored, Ending, Fate, at_mode, is_stored, endings, is_of, Moment, common_steps, bare}
 use Rattle.std.proofs.lemmas.List.Elements.{filter-append}
 use Rattle.std.proofs.lemmas.List.Sums.{count_by-le-length, length-filter}
 use Rattle.std.specs.Prelude.{slice_index_or}
-use Rattle.ids_types.specs.declared.entry.Entry.{Entry}
-use Rattle.ids_config.specs.Parts.{Parts}
-use Rattle.chain_spec.specs.{account_of, tally, with_ending, with_fate, with_one, with_stored, Ending, Fate, at_mode, is_stored, endings, is_of, Moment}
 use Rattle.chain_spec.specs.declared.account.Account.{Account}
-use Rattle.event_chain.specs.Fates.{bare}
 use Rattle.chain_endings.specs.{AreOf, CountsMissing, IsAtMost, kept_at, is_missing, told_in}
 
 -- ---- numbers that are small enough

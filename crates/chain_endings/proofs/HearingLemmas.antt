@@ -1,10 +1,6 @@
 -- What is told of moments, with one more, and with those of a turn.
 use Rattle.std.proofs.Common.{◌≡◌, ◌≤◌, arith, List, [], ◌∷◌, ◌++◌, drop, length, map, reverse, Option, Some, None, option_to_list, refl, sym, ap, ◌∙◌, append_assoc, append-nil}
-use Rattle.std.proofs.lemmas.List.{drop-map, drop_at, length-append, length-map, map-append, reverse-append}
-use Rattle.ids_types.specs.Turns.{Turn}
-use Rattle.ids_config.specs.Parts.{Parts}
-use Rattle.chain_spec.specs.{Ending, ending_at, endings, Moment, turn_moments, with_all}
-use Rattle.event_chain.specs.Fates.{bare}
+use Rattle.chain_endings.proofs.Names.{Parts, Turn, drop-map, drop_at, length-append, length-map, map-append, reverse-append, Ending, ending_at, endings, Moment, turn_moments, with_all, bare}
 use Rattle.chain_endings.specs.Hearing.{endings_along, told_in, turn_endings}
 
 -- with what one moment more ends

@@ -1,3 +1,4 @@
 pub mod AccountingLemmas
 pub mod HearingLemmas
+pub mod Names
 pub mod TurnsLemmas

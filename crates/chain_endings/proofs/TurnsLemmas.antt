@@ -1,14 +1,6 @@
 -- The lines of a turn, by the endings that are told of it.
-use Rattle.std.proofs.Common.{◌≡◌, ℕ, ◌+◌, ◌-◌, Bool, List, [], ◌∷◌, ◌++◌, drop, filter, length, map, take, Option, Some, None, is_some, option_to_list, refl, sym, ap, ◌∙◌, append_assoc, arith}
-use Rattle.std.proofs.lemmas.List.{drop-map, drop_at, length-append, length-map, map-append, take-map, take_at}
-use Rattle.ids_types.specs.Turns.{Turn}
+use Rattle.chain_endings.proofs.Names.{Parts, Turn, Report, text_of-append, Entry, drop-map, drop_at, length-append, length-map, map-append, take-map, take_at, ◌≡◌, ℕ, ◌+◌, ◌-◌, Bool, List, [], ◌∷◌, ◌++◌, drop, filter, length, map, take, Option, Some, None, is_some, option_to_list, refl, sym, ap, ◌∙◌, append_assoc, arith, Ending, ending_at, Moment, act_moment, with_all, bare}
 use Rattle.ids_types.specs.declared.entry.Act.{Act}
-use Rattle.ids_types.specs.declared.entry.Act.TheVariants.{Report}
-use Rattle.ids_types.specs.declared.entry.Entry.{Entry}
-use Rattle.ids_config.specs.Parts.{Parts}
-use Rattle.chain_spec.specs.{Ending, ending_at, Moment, act_moment, with_all}
-use Rattle.event_chain.specs.Fates.{bare}
-use Rattle.text_spec.proofs.WordsLemmas.{text_of-append}
 use Rattle.text_spec.specs.{enters, line_for, line_feed, text_of}
 use Rattle.chain_endings.specs.{Pushes, ended_fields, entry_lines, opening, endings_along, entry_moments, is_report, turn_endings}
 use Rattle.chain_endings.proofs.HearingLemmas.{along_append}

@@ -1,2 +1,3 @@
+pub mod Names
 pub mod TellingLemmas
 pub mod TurningLemmas

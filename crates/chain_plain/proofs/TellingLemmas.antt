@@ -1,12 +1,6 @@
 -- What is told of turns, with one turn more.
-use Rattle.std.proofs.Common.{◌≡◌, ℕ, List, [], ◌∷◌, ◌++◌, reverse, sym, ap, ◌∙◌}
-use Rattle.std.proofs.lemmas.Grind.{reverse_onto}
-use Rattle.ids_types.specs.Output.{Output}
-use Rattle.ids_types.specs.Turns.{Turn}
-use Rattle.ids_config.specs.Parts.{Parts}
+use Rattle.chain_plain.proofs.Names.{Parts, Output, ◌≡◌, ℕ, List, [], ◌∷◌, ◌++◌, reverse, sym, ap, ◌∙◌, Turn, newest_first, transcript_more, Sends, handed_of, reverse_onto}
 use Rattle.chain_spec.specs.Chain.{handed, handed_on}
-use Rattle.filter_chain.specs.History.{Sends, handed_of}
-use Rattle.filter_chain.proofs.TranscriptLemmas.{newest_first, transcript_more}
 use Rattle.chain_plain.specs.Telling.{Tallies, Tells, handed_by}
 use Rattle.chain_plain.specs.declared.tally.Tally.{Tally}
 

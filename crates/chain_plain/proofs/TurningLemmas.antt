@@ -1,17 +1,12 @@
 -- The entries of a recorded turn, lent to a chain.
-use Rattle.std.proofs.Common.{◌≡◌, ℕ, ◌*◌, ◌≤◌, List, [], ◌∷◌, length, map, IfSome, subst, sym, ap, ◌∙◌, arith}
-use Rattle.std.specs.List.{All, AllByRecursion}
-use Rattle.std.proofs.lemmas.List.{length-map}
-use Rattle.std.proofs.lemmas.List.Elements.{All-from_recursion, All-map, All-weaker, recursion_from_All}
+use Rattle.chain_plain.proofs.Names.{length-map, parcel_short, All, AllByRecursion, ◌≡◌, ℕ, ◌*◌, ◌≤◌, List, [], ◌∷◌, length, map, IfSome, subst, sym, ap, ◌∙◌, arith, All-from_recursion, All-map, All-weaker, recursion_from_All, act_by, entry_by, act_bytes, kept_bytes}
 use Rattle.std.proofs.lemmas.List.Sums.{sum_by-cons}
-use Rattle.ids_types.specs.{act_by, entry_by, act_bytes, kept_bytes}
 use Rattle.ids_types.specs.declared.entry.Act.{Act}
 use Rattle.ids_types.specs.declared.entry.Act.TheVariants.{Report, State, SetMode}
 use Rattle.ids_types.specs.declared.entry.Carried.TheVariants.{Absent, Kept, Missing}
 use Rattle.ids_types.specs.declared.entry.Entry.{Entry}
 use Rattle.filter_chain.specs.{HandsBack, IsShort, all_parcels, parcel_of, FitsAct, FitsTurn, bytes_in}
 use Rattle.filter_chain.proofs.ParcelLemmas.{parcels_keep}
-use Rattle.filter_chain.proofs.RoomLemmas.{parcel_short}
 
 module _ {B : Type 0} (held : B → List ℕ) (events : ℕ) where
   -- an act fits where what it tells does

@@ -1,7 +1,6 @@
 -- Windows that close: each gives its one item at the first tick of a turn at which it is due.
-use Rattle.chain_spec.proofs.Names.{◌≡◌, ℕ, ◌+◌, ◌<◌, ◌≤◌, ◌==◌, ◌||◌, not, Bool, true, false, List, [], ◌∷◌, ◌++◌, filter, filter_map, Option, Some, None, IfSome, is_some, nat_le, option_to_list, option_and_then, option_map, refl, sym, ap, ◌∙◌, arith, le-leb, ltb-true, ltb-false, option_or, lt-leb, AllByRecursion, list_any, Aggregate, first_from, closed_item, Call, Arrival, closes_due, arrives, arrived, windows_in, is_due, is_open, newest_where, due_item, closing_item, Item, is_of, item_at, where_true, Window, EndBy, covers, with_item, windows_of, cases_Bool, inl, inr, joined}
+use Rattle.chain_spec.proofs.Names.{◌≡◌, ℕ, ◌+◌, ◌<◌, ◌≤◌, ◌==◌, ◌||◌, not, Bool, true, false, List, [], ◌∷◌, ◌++◌, filter, filter_map, Option, Some, None, IfSome, is_some, nat_le, option_to_list, option_and_then, option_map, refl, sym, ap, ◌∙◌, arith, le-leb, ltb-true, ltb-false, option_or, lt-leb, AllByRecursion, list_any, Aggregate, first_from, closed_item, Call, Arrival, closes_due, arrives, arrived, windows_in, is_due, is_open, newest_where, due_item, closing_item, Item, is_of, item_at, where_true, Window, EndBy, covers, with_item, windows_of, cases_Bool, inl, inr, joined, drop}
 use Rattle.chain_spec.proofs.StageLemmas.{cases_Option}
-use Rattle.std.proofs.Common.{drop}
 use Rattle.chain_spec.specs.Openers.{openers}
 use Rattle.chain_spec.proofs.WindowsLemmas.{newest_decides, openers_in_newest}
 

@@ -1,9 +1,6 @@
 -- The aggregated items of one event over its whole lists: one for each window that closes, at the first turn
 -- at which it is due.
-use Rattle.chain_spec.proofs.Names.{◌≡◌, ℕ, zero, suc, ◌+◌, ◌<◌, ◌≤◌, ◌==◌, true, false, List, [], ◌∷◌, ◌++◌, length, map, filter, filter_map, Option, Some, None, IfSome, option_to_list, option_map, refl, sym, ap, ◌∙◌, arith, eq-eqb, eqb-true, ne_eqb, inl, inr, range_with_len, Turn, Report, Act, Parts, event_at, internal_of, Aggregate, tick_of, arrival_of, every, closed_item, closed_items, reaching, closes_due, arrives, arrived, closing_ticks, windows_in, aggregated_at, gated, aggregated, thresholded, arrival, alone, is_nth, arrivals, sampled_at, sampled, Item, is_of, told_of, item_at, Moment, closes, comes, state_is, mode_is, closings, moments, head_moment, act_moment, added, with_all, EndBy, Entry, heads_of, cases_Bool}
-use Rattle.std.proofs.Common.{drop}
-use Rattle.std.proofs.lemmas.Bool.{cases_eq}
-use Rattle.std.proofs.lemmas.List.{map-id}
+use Rattle.chain_spec.proofs.Names.{◌≡◌, ℕ, zero, suc, ◌+◌, ◌<◌, ◌≤◌, ◌==◌, true, false, List, [], ◌∷◌, ◌++◌, length, map, filter, filter_map, Option, Some, None, IfSome, option_to_list, option_map, refl, sym, ap, ◌∙◌, arith, eq-eqb, eqb-true, ne_eqb, inl, inr, range_with_len, Turn, Report, Act, Parts, event_at, internal_of, Aggregate, tick_of, arrival_of, every, closed_item, closed_items, reaching, closes_due, arrives, arrived, closing_ticks, windows_in, aggregated_at, gated, aggregated, thresholded, arrival, alone, is_nth, arrivals, sampled_at, sampled, Item, is_of, told_of, item_at, Moment, closes, comes, state_is, mode_is, closings, moments, head_moment, act_moment, added, with_all, EndBy, Entry, heads_of, cases_Bool, drop, cases_eq, map-id}
 use Rattle.std.proofs.lemmas.Simd.{map-map}
 use Rattle.chain_spec.proofs.AggregationLemmas.{ACall, AnArrival, AWindow, came_at, AreOlderClosed, closing_gives, closed_more, arriving_keeps, arrived_own, windows_own, given_holds}
 use Rattle.chain_spec.proofs.FilterLemmas.{none_either, keeps_own, there_sampled, sampled_every, thresholded_reaching}

@@ -1,6 +1,5 @@
 -- The filters of one event, said over whole lists.
-use Rattle.chain_spec.proofs.Names.{◌≡◌, ℕ, ◌+◌, ◌%◌, ◌==◌, Bool, cases_Bool, eq-eqb, true, false, List, [], ◌∷◌, ◌++◌, length, map, filter, Option, Some, None, option_to_list, option_and_then, IfSome, ◌↔◌, ◌⊎◌, inl, inr, if◌then◌else◌, refl, ap, ◌∙◌, eqb-true, Mode, Brief, Detailed, Parts, event_at, Setting, every, reaching, gated_at, aggregated_at, thresholded_at, filtered_at, qualified_at, counted, thresholded, is_filtered, is_bypassing, is_nth, mode_at, arrival_at, arrivals, sampled, bypassing_at, Item, is_of, Moment, comes, added, behind, where_true, Occurrence, verdict, Stage, sampled_at, item_in}
-use Rattle.std.proofs.Math.Path.{fun_ext}
+use Rattle.chain_spec.proofs.Names.{◌≡◌, ℕ, ◌+◌, ◌%◌, ◌==◌, Bool, cases_Bool, eq-eqb, true, false, List, [], ◌∷◌, ◌++◌, length, map, filter, Option, Some, None, option_to_list, option_and_then, IfSome, ◌↔◌, ◌⊎◌, inl, inr, if◌then◌else◌, refl, ap, ◌∙◌, eqb-true, Mode, Brief, Detailed, Parts, event_at, Setting, every, reaching, gated_at, aggregated_at, thresholded_at, filtered_at, qualified_at, counted, thresholded, is_filtered, is_bypassing, is_nth, mode_at, arrival_at, arrivals, sampled, bypassing_at, Item, is_of, Moment, comes, added, behind, where_true, Occurrence, verdict, Stage, sampled_at, item_in, fun_ext}
 use Rattle.chain_spec.specs.Counting.{among}
 use Rattle.chain_spec.proofs.StageLemmas.{cases_Option, added_behind}
 

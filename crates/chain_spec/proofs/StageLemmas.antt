@@ -1,7 +1,5 @@
 -- Lists by stages: their composition, and how they grow.
-use Rattle.chain_spec.proofs.Names.{◌≡◌, suc, ◌<◌, List, [], ◌∷◌, ◌++◌, length, map, filter, Option, Some, None, Bool, option_to_list, refl, sym, ap, ◌∙◌, append_assoc, arith, map-append, filter-append, AllPairs-cons, EndsWith, Stage, added, behind, with_all, ◌⊎◌, inl, inr}
-use Rattle.std.specs.List.{All}
-use Rattle.std.proofs.lemmas.List.Elements.{All-cons}
+use Rattle.chain_spec.proofs.Names.{◌≡◌, suc, ◌<◌, List, [], ◌∷◌, ◌++◌, length, map, filter, Option, Some, None, Bool, option_to_list, refl, sym, ap, ◌∙◌, append_assoc, arith, map-append, filter-append, AllPairs-cons, EndsWith, Stage, added, behind, with_all, ◌⊎◌, inl, inr, All, All-cons}
 use Rattle.chain_spec.specs.Places.{placed, HaveOwnPlaces}
 
 -- there is nothing, or something

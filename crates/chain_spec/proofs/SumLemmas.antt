@@ -1,9 +1,5 @@
 -- The accounts of all events together.
-use Rattle.chain_spec.proofs.Names.{eq-eqb, ◌≡◌, ℕ, zero, suc, ◌+◌, ◌<◌, ◌==◌, ◌&&◌, not, Bool, true, false, List, [], ◌∷◌, length, map, filter, if◌then◌else◌, refl, sym, ap, ◌∙◌, arith, eqb-true, ne_eqb, inl, inr, ◌≤◌, sum_by, AllByRecursion, range_with_len, plain_event, Turn, Parts, event_at, closes_due, sent, held, handed, handed_on, held_count, aggregated_at, gated, Item, is_of, Moment, closes, comes, sum_by-cons, is_given, Account, tally, account_of, number_of, Fate, Ending, endings, is_qualified, is_limited, is_message, items_with, qualified, cases_Bool}
-use Rattle.std.proofs.Common.{sum}
-use Rattle.std.proofs.lemmas.Bool.{cases_eq, cases_lt}
-use Rattle.std.proofs.Math.Path.{fun_ext}
-use Rattle.std.proofs.lemmas.List.{get_or_past}
+use Rattle.chain_spec.proofs.Names.{eq-eqb, ◌≡◌, ℕ, zero, suc, ◌+◌, ◌<◌, ◌==◌, ◌&&◌, not, Bool, true, false, List, [], ◌∷◌, length, map, filter, if◌then◌else◌, refl, sym, ap, ◌∙◌, arith, eqb-true, ne_eqb, inl, inr, ◌≤◌, sum_by, AllByRecursion, range_with_len, plain_event, Turn, Parts, event_at, closes_due, sent, held, handed, handed_on, held_count, aggregated_at, gated, Item, is_of, Moment, closes, comes, sum_by-cons, is_given, Account, tally, account_of, number_of, Fate, Ending, endings, is_qualified, is_limited, is_message, items_with, qualified, cases_Bool, sum, cases_eq, cases_lt, fun_ext, get_or_past}
 use Rattle.chain_spec.specs.Accounts.{nothing, with_ending}
 use Rattle.chain_spec.specs.Endings.{is_stored}
 use Rattle.chain_spec.specs.{AreConfigured, events_in, limited_events_in, items_stored, stored_of, stored}

@@ -1,7 +1,6 @@
 -- What windows that closed had, with what the open one holds, is what joined one.
-use Rattle.chain_spec.proofs.Names.{◌≡◌, ℕ, ◌+◌, ◌≤◌, ◌==◌, true, false, List, ◌∷◌, ◌++◌, length, filter, Option, Some, None, IfSome, is_some, option_to_list, option_map, if◌then◌else◌, refl, sym, ap, ◌∙◌, arith, eqb-true, Parts, event_at, Aggregate, windows_in, closing_ticks, arrival, arrival_of, arrived, told_of, EndBy, Turn, tick_of, moments, ◌<◌, gated, is_nth, sampled, sampled_at, Item, is_of, Moment, closes, comes, Account, tally, account_of, aggregated_fate, given, endings, cases_Bool, inl, inr, aggregated_at, closes_due}
+use Rattle.chain_spec.proofs.Names.{◌≡◌, ℕ, ◌+◌, ◌≤◌, ◌==◌, true, false, List, ◌∷◌, ◌++◌, length, filter, Option, Some, None, IfSome, is_some, option_to_list, option_map, if◌then◌else◌, refl, sym, ap, ◌∙◌, arith, eqb-true, Parts, event_at, Aggregate, windows_in, closing_ticks, arrival, arrival_of, arrived, told_of, EndBy, Turn, tick_of, moments, ◌<◌, gated, is_nth, sampled, sampled_at, Item, is_of, Moment, closes, comes, Account, tally, account_of, aggregated_fate, given, endings, cases_Bool, inl, inr, aggregated_at, closes_due, length-map}
 use Rattle.chain_spec.specs.{TellsWindows, coming}
-use Rattle.std.proofs.lemmas.List.{length-map}
 use Rattle.chain_spec.proofs.AggregationLemmas.{ACall, AnArrival, came_at, given_holds}
 use Rattle.chain_spec.proofs.OpenWindowLemmas.{holding, closing_holds, arriving_holds, one_for_each, sizes_split}
 use Rattle.chain_spec.proofs.AccountLemmas.{balanced}

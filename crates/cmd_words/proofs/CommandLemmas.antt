@@ -1,9 +1,8 @@
 -- Words and their bytes.
-use Rattle.cmd_words.proofs.Names.{◌≡◌, Bool, true, false, List, [], ◌∷◌, ℕ, map, refl, ap, ◌||◌, list_any}
+use Rattle.cmd_words.proofs.Names.{◌≡◌, Bool, List, [], ◌∷◌, ℕ, map, refl, ap, arith, ◌||◌, list_any}
 use Rattle.std.proofs.Common.{IsTrue, None, Option, Some}
-use Rattle.std.specs.Prelude.{if◌then◌else◌}
 use Rattle.gen_options.specs.{Wanted, words_give}
-use Rattle.cmd_words.specs.Command.{Command, are_read_by_clap, command_of, disk_of, gen, gen_for, gen_of, replay_of, report_of}
+use Rattle.cmd_words.specs.Command.{Command, are_read_by_clap, command_of, disk_of, gen_for, gen_of, replay_of, report_of}
 
 -- a test of mapped elements
 pub any_of_mapped : {A B : Type 0} (p : B → Bool) (f : A → B) (xs : List A) → list_any p (map f xs) ≡ list_any (λ x. p (f x)) xs
@@ -15,13 +14,9 @@ any_of_mapped p f (x ∷ xs) = ap (λ (b : Bool). p (f x) || b) (any_of_mapped p
 abbrev pub AreAlone : Option Command → Type 0
 AreAlone command = (replay_of command ≡ None) × (report_of command ≡ None) × (disk_of command ≡ None)
 
-gen_if : (are : Bool) (wanted : Wanted) → AreAlone (if are then Some (gen wanted) else None)
-gen_if true wanted = (refl, refl, refl)
-gen_if false wanted = (refl, refl, refl)
-
 gen_alone : (gives : Option Wanted) → AreAlone (gen_for gives)
 gen_alone None = (refl, refl, refl)
-gen_alone (Some wanted) = gen_if _ wanted
+gen_alone (Some wanted) = (grind arith, grind arith, grind arith)
 
 pub gen_none : (words : List (List ℕ)) → AreAlone (gen_of words)
 gen_none words = gen_alone (words_give words)

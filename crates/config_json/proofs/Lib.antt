@@ -1,5 +1,4 @@
 pub mod Names
 mod PrintedLemmas
 mod ShapeLemmas
-pub mod TreeLemmas
 mod WorkedTexts

@@ -1,11 +1,7 @@
 -- All filters, after these moments of a turn and those before it.
 use Rattle.std.specs.Prelude.{ℕ, Bool, List, None, if◌then◌else◌}
-use Rattle.ids_types.specs.Output.{Output}
+use Rattle.event_chain.specs.Names.{GateStands, Start, Parts, gated, aggregated, qualified, Moment, Output}
 use Rattle.ids_types.specs.declared.event.Qualified.{Qualified}
-use Rattle.ids_config.specs.Parts.{Parts}
-use Rattle.chain_spec.specs.{gated, aggregated, qualified, Moment}
-use Rattle.filter_gate.specs.Stands.{Stands as GateStands}
-use Rattle.message_sender.specs.Sending.{Start}
 use Rattle.event_chain.specs.declared.filters.Filters.{Filters}
 use Rattle.event_chain.specs.Fates.{Knowing}
 use Rattle.event_chain.specs.Flow.{Flows, EndAt}

@@ -1,9 +1,6 @@
 -- Endings as a chain tells them, and the fates of items after the gate.
 use Rattle.std.specs.Prelude.{ℕ, not, Bool, List, None, map, is_some, if◌then◌else◌}
-use Rattle.ids_config.specs.Parts.{Parts, event_at}
-use Rattle.chain_spec.specs.{Fate, in_window, at_threshold, qualified_fate, Ending, counted, Item, Moment, verdict}
-use Rattle.filter_gate.specs.Stands.{dropped_fate}
-use Rattle.message_sender.specs.Sending.{answered_fate}
+use Rattle.event_chain.specs.Names.{dropped_fate, answered_fate, Parts, event_at, Fate, in_window, at_threshold, qualified_fate, Ending, counted, Item, Moment, verdict}
 use Rattle.event_chain.specs.declared.fate.Ending.{Ending as ToldEnding}
 use Rattle.event_chain.specs.declared.fate.Fate.{Fate as ToldFate}
 use Rattle.event_chain.specs.declared.fate.Fate.TheVariants.{Dropped, Joined, Below, Qualified}

@@ -1,13 +1,7 @@
 -- What flows through the filters in a turn: calls to aggregation, the items after it, and the qualified events.
 -- Each list has its newest element first.
 use Rattle.std.specs.Prelude.{ℕ, List, ◌++◌, map, option_to_list, option_and_then}
-use Rattle.ids_types.specs.Output.{Output}
-use Rattle.ids_config.specs.Parts.{Parts}
-use Rattle.chain_spec.specs.{Call, call_tick, aggregated_at, thresholded_at, counted, Item, EndBy}
-use Rattle.filter_aggregate.specs.{slots_by, Stands as WindowsStand}
-use Rattle.filter_aggregate.specs.declared.slot.Slot.{Slot}
-use Rattle.filter_threshold.specs.Counting.{Stands as ThresholdsStand}
-use Rattle.message_sender.specs.Sending.{Start}
+use Rattle.event_chain.specs.Names.{slots_by, WindowsStand, Start, Parts, Slot, Call, call_tick, aggregated_at, thresholded_at, counted, Item, EndBy, ThresholdsStand, Output}
 use Rattle.event_chain.specs.declared.counting.Counting.{Counting}
 use Rattle.event_chain.specs.Outlets.{OutletStands}
 

@@ -7,13 +7,10 @@ use Rattle.std.proofs.Math.Nat.{add-suc, add-zero, suc-add, suc-lt_of_lt-pred, z
 use Rattle.std.proofs.Math.Numerals.{suc-eq-add-one}
 use Rattle.std.proofs.lemmas.List.{map-append}
 use Rattle.std.proofs.lemmas.List.Sorted.{IsPermutation-refl}
-use Rattle.ids_config.specs.Parts.{Parts, event_at}
+use Rattle.event_chain.specs.Names.{all_kept, kept_in, slot_at, slot_by, slots_by, Stands, kept_window, slot_after, Parts, event_at, Slot, joined, Arrival, Call, open_window, Window}
 use Rattle.ids_config.specs.declared.parts.Aggregate.{Aggregate}
 use Rattle.filter_chain.specs.Kept.{AreAmong, contexts_after, open_context}
-use Rattle.chain_spec.specs.{joined, Arrival, Call, open_window, Window}
-use Rattle.filter_aggregate.specs.{all_kept, kept_in, slot_at, slot_by, slots_by, Stands, kept_window, slot_after}
 use Rattle.filter_aggregate.specs.declared.open.Open.{Open}
-use Rattle.filter_aggregate.specs.declared.slot.Slot.{Slot}
 
 -- the bytes of what a slot keeps
 option_by : {B : Type 0} (held : B → List ℕ) (context : Option B) → map held (option_to_list context) ≡ option_to_list (option_map held context)

@@ -3,6 +3,7 @@ pub mod Chained
 pub mod Fates
 pub mod Flow
 pub mod Kept
+pub mod Names
 pub mod Outlets
 pub mod Ready
 pub mod Room

@@ -1,10 +1,7 @@
 -- Where qualified events go: the event memory, and the sender.
 use Rattle.std.specs.Prelude.{◌≡◌, List}
-use Rattle.ids_types.specs.Output.{Output}
-use Rattle.ids_config.specs.Parts.{Parts}
-use Rattle.chain_spec.specs.{Item, stored}
+use Rattle.event_chain.specs.Names.{Start, IsSending, Parts, Item, stored, Output}
 use Rattle.event_memory.specs.Held.{Stands as MemoryStands}
-use Rattle.message_sender.specs.Sending.{Start, IsSending}
 use Rattle.event_chain.specs.declared.outlet.Outlet.{Outlet}
 
 -- the event memory has stored what is to be stored of these qualified events

@@ -2,10 +2,9 @@
 use Rattle.std.specs.Prelude.{◌≡◌, ℕ, ◌+◌, ◌*◌, ◌<◌, ◌-◌, ◌^◌, ◌≤◌, List, length, filter, Bool, is_some, IfSome}
 use Rattle.std.specs.Bool.{IsFalse}
 use Rattle.std.specs.List.{range_with_len}
-use Rattle.ids_types.specs.Output.{Output, room_of}
+use Rattle.event_chain.specs.Names.{Slot, Output, room_of}
 use Rattle.chain_spec.specs.Items.{Item}
 use Rattle.filter_chain.specs.Turning.{carried_room}
-use Rattle.filter_aggregate.specs.declared.slot.Slot.{Slot}
 use Rattle.filter_aggregate.specs.Slots.{is_due, slot_at}
 use Rattle.message_sender.specs.Sender.{CanQualify}
 use Rattle.event_chain.specs.declared.counting.Counting.{Counting}

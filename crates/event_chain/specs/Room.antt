@@ -6,7 +6,7 @@ use Rattle.std.proofs.Common.{arith}
 use Rattle.std.proofs.lemmas.Grind.{common_steps}
 use Rattle.ids_types.specs.declared.entry.Entry.{Entry}
 use Rattle.filter_aggregate.specs.Account.{all_kept}
-use Rattle.filter_aggregate.specs.declared.slot.Slot.{Slot}
+use Rattle.event_chain.specs.Names.{Slot}
 use Rattle.filter_chain.specs.{IsShort, all_parcels, FitsLargest, FitsTurn, carried_room, most_sent}
 use Rattle.filter_chain.proofs.RoomLemmas.{carried_within, parcels_short, short_fit}
 

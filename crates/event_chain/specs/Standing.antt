@@ -1,13 +1,8 @@
 -- The chain of a configuration after these turns, the newest of which stands first.
 use Rattle.std.specs.Prelude.{◌≡◌, ℕ, List, map, ⊤}
 use Rattle.ids_types.specs.Turns.{Turn}
-use Rattle.ids_config.specs.Parts.{Parts, internal_of}
-use Rattle.chain_spec.specs.{handed_on, counted, gated, aggregated, qualified, Moment, moments}
+use Rattle.event_chain.specs.Names.{slots_by, WindowsStand, GateStands, SenderStands, Parts, internal_of, handed_on, counted, gated, aggregated, qualified, Moment, moments, ThresholdsStand}
 use Rattle.filter_chain.specs.History.{newest_tick}
-use Rattle.filter_aggregate.specs.{slots_by, Stands as WindowsStand}
-use Rattle.filter_gate.specs.Stands.{Stands as GateStands}
-use Rattle.filter_threshold.specs.Counting.{Stands as ThresholdsStand}
-use Rattle.message_sender.specs.Sending.{Stands as SenderStands}
 use Rattle.event_chain.specs.declared.filters.Filters.{Filters}
 use Rattle.event_chain.specs.Chained.{Chained, Watched}
 use Rattle.event_chain.specs.Fates.{Knowing}

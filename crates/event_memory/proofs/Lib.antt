@@ -1,5 +1,5 @@
 pub mod EventsLemmas
 pub mod FirstLemmas
+pub mod Names
 pub mod PlaceLemmas
-pub mod PrintingLemmas
 pub mod StandsLemmas

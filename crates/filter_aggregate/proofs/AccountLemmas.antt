@@ -1,5 +1,5 @@
 -- Parcels, counted, where one slot changes.
-use Rattle.filter_aggregate.proofs.Names.{◌≡◌, ℕ, suc, zero, ◌<◌, Bool, true, false, List, [], ◌∷◌, ◌++◌, length, Option, Some, None, option_to_list, option_and_then, if◌then◌else◌, sym, subst, append_assoc, arith, slice_set, append-nil, Qualified, Aggregate, Open, Slot, fresh_slot, slot_at, held_in, has_passed, item_due, slot_closed, after_closing, keeps_last, kept_of, spare_of, slot_with, after_arrival}
+use Rattle.filter_aggregate.proofs.Names.{◌≡◌, ℕ, suc, zero, ◌<◌, Bool, true, List, [], ◌∷◌, ◌++◌, length, Option, Some, None, option_to_list, option_and_then, if◌then◌else◌, append_assoc, arith, slice_set, append-nil, Qualified, Aggregate, Open, Slot, fresh_slot, slot_at, held_in, item_due, slot_closed, after_closing, keeps_last, kept_of, spare_of, slot_with, after_arrival, option_map, is_due, false}
 use Rattle.std.specs.List.Sorted.{IsPermutation}
 use Rattle.std.proofs.lemmas.List.Sorted.{IsPermutation-refl, IsPermutation-trans, IsPermutation-append_left, IsPermutation-append_right, IsPermutation-append_comm}
 use Rattle.filter_aggregate.specs.Account.{Accounts, kept_in, all_kept}
@@ -8,35 +8,19 @@ module _ {B : Type 0} where
   -- two lists before a third change places
   pub swapped : (xs ys zs : List B) → IsPermutation (xs ++ (ys ++ zs)) (ys ++ (xs ++ zs))
   swapped xs ys zs =
-      subst (λ (l : List B). IsPermutation l (ys ++ (xs ++ zs))) (append_assoc xs ys zs)
-      (subst (λ (l : List B). IsPermutation ((xs ++ ys) ++ zs) l) (append_assoc ys xs zs)
-      (IsPermutation-append_left zs (xs ++ ys) (ys ++ xs) (IsPermutation-append_comm xs ys)))
-
-  -- what stands after both changes nothing
-  account_before : (came before handed now rest : List B) → Accounts came before handed now
-      → Accounts came (before ++ rest) handed (now ++ rest)
-  account_before came before handed now rest same =
-      subst (λ (l : List B). IsPermutation l (handed ++ (now ++ rest))) (append_assoc came before rest)
-      (subst (λ (l : List B). IsPermutation ((came ++ before) ++ rest) l) (append_assoc handed now rest)
-      (IsPermutation-append_left rest (came ++ before) (handed ++ now) same))
-
-  -- nor does what stands before both
-  account_behind : (came before handed now first : List B) → Accounts came before handed now
-      → Accounts came (first ++ before) handed (first ++ now)
-  account_behind came before handed now first same =
-      IsPermutation-trans (came ++ (first ++ before)) (first ++ (came ++ before)) (handed ++ (first ++ now)) (swapped came first before)
-      (IsPermutation-trans (first ++ (came ++ before)) (first ++ (handed ++ now)) (handed ++ (first ++ now))
-      (IsPermutation-append_right first (came ++ before) (handed ++ now) same) (swapped first handed now))
+      rw (← append_assoc xs ys zs, ← append_assoc ys xs zs) (IsPermutation-append_left zs _ _ (IsPermutation-append_comm xs ys))
 
   -- what is true of one slot is true of all
   pub account_set : (came handed : List B) (slots : List (Slot B)) (event : ℕ) (slot : Slot B) → event < length slots
       → Accounts came (kept_in (slot_at slots event)) handed (kept_in slot)
       → Accounts came (all_kept slots) handed (all_kept (slice_set slots event slot))
   account_set came handed [] event slot there same = absurd (omega arith)
-  account_set came handed (one ∷ rest) zero slot there same = account_before came (kept_in one) handed (kept_in slot) (all_kept rest) same
+  account_set came handed (one ∷ rest) zero slot there same =
+      rw (← append_assoc came _ _, ← append_assoc handed _ _) (IsPermutation-append_left (all_kept rest) _ _ same)
   account_set came handed (one ∷ rest) (suc event) slot there same =
-      account_behind came (all_kept rest) handed (all_kept (slice_set rest event slot)) (kept_in one)
-      (account_set came handed rest event slot (omega arith) same)
+      IsPermutation-trans _ _ _ (swapped came (kept_in one) (all_kept rest)) (IsPermutation-trans _ _ _
+      (IsPermutation-append_right (kept_in one) _ _ (account_set came handed rest event slot (omega arith) same))
+      (swapped (kept_in one) handed _))
 
   -- ---- one slot
 
@@ -44,41 +28,27 @@ module _ {B : Type 0} where
   abbrev pub given_in : Option (Qualified B) → List B
   given_in item = option_to_list (option_and_then (λ (i : Qualified B). i.context) item)
 
-  closing_of : (tick : ℕ) (setting : Option Aggregate) (window : Option (Open B))
+  closing_of : (due : Bool) (setting : Option Aggregate) (window : Option (Open B))
       → let slot : Slot B = record { setting = setting; window = window } in
-      Accounts [] (kept_in slot) (given_in (item_due tick slot)) (kept_in (slot_closed tick slot))
-  closing_of tick setting None =
-      elim (has_passed {C = B} tick setting None) as (λ (b : Bool).
-      let slot : Slot B = record { setting = setting; window = None } in
-      Accounts [] (kept_in slot) (given_in (if b then None else None)) (kept_in (if b then fresh_slot setting else slot)))
-      [ true ↦ IsPermutation-refl [] | false ↦ IsPermutation-refl [] ]
-  closing_of tick setting (Some w) =
-      let slot : Slot B = record { setting = setting; window = Some w } in
-      elim (has_passed tick setting (Some w)) as (λ (b : Bool).
-      Accounts [] (kept_in slot) (given_in (if b then Some w.item else None)) (kept_in (if b then fresh_slot setting else slot))) [
-        | true ↦ subst (IsPermutation (kept_in slot)) (sym (append-nil (kept_in slot))) (IsPermutation-refl (kept_in slot))
-        | false ↦ IsPermutation-refl (kept_in slot)
-      ]
+      Accounts [] (kept_in slot) (given_in (if due then option_map (λ w. w.item) window else None))
+      (kept_in (if due then fresh_slot setting else slot))
+  closing_of true setting (Some w) = rw append-nil (IsPermutation-refl _)
+  closing_of due setting window = IsPermutation-refl _
 
   keeping_one : (last : Bool) (held came : Option B)
       → Accounts (option_to_list came) (option_to_list held)
       (option_to_list (spare_of last held came)) (option_to_list (kept_of last held came))
+  keeping_one true (Some h) (Some c) = IsPermutation-append_comm (c ∷ []) (h ∷ [])
   keeping_one true None None = IsPermutation-refl []
   keeping_one false None None = IsPermutation-refl []
-  keeping_one true None (Some c) = IsPermutation-refl (c ∷ [])
-  keeping_one false None (Some c) = IsPermutation-refl (c ∷ [])
-  keeping_one true (Some h) None = IsPermutation-refl (h ∷ [])
   keeping_one false (Some h) None = IsPermutation-refl (h ∷ [])
-  keeping_one true (Some h) (Some c) = IsPermutation-append_comm (c ∷ []) (h ∷ [])
-  keeping_one false (Some h) (Some c) = IsPermutation-refl (c ∷ h ∷ [])
+  keeping_one last held came = IsPermutation-refl _
 
   arriving_of : (tick : ℕ) (item : Qualified B) (setting : Option Aggregate) (window : Option (Open B))
       → let slot : Slot B = record { setting = setting; window = window } in
       Accounts (option_to_list item.context) (kept_in slot) (option_to_list (spare_of (keeps_last setting) (held_in slot) item.context))
       (kept_in (slot_with tick item slot))
-  arriving_of tick item setting None =
-      subst (λ (l : List B). IsPermutation l (option_to_list item.context)) (sym (append-nil (option_to_list item.context)))
-      (IsPermutation-refl (option_to_list item.context))
+  arriving_of tick item setting None = rw append-nil (IsPermutation-refl _)
   arriving_of tick item setting (Some w) = keeping_one (keeps_last setting) w.item.context item.context
 
   -- ---- all slots
@@ -90,7 +60,7 @@ module _ {B : Type 0} where
   account_closing event tick slots now item there is given =
       let slot = slot_at slots event in
       rw (is, given) (account_set [] (given_in (item_due tick slot)) slots event (slot_closed tick slot) there
-      (closing_of tick slot.setting slot.window))
+      (closing_of (is_due tick slot) slot.setting slot.window))
 
   -- an item that arrives brings its parcel, and hands out the one that is not kept
   pub account_arriving : (tick : ℕ) (item : Qualified B) (slots now : List (Slot B)) (back : Option B) → item.event.0 < length slots

@@ -1,10 +1,10 @@
 -- The names of other crates and of this crate's specs that more than one of its proofs stands on.
-pub use Rattle.std.proofs.Common.{◌≡◌, ℕ, suc, zero, ◌<◌, Bool, true, false, List, [], ◌∷◌, ◌++◌, length, Option, Some, None, option_to_list, option_and_then, if◌then◌else◌, sym, subst, append_assoc, arith, ◌≤◌, map, IfSome, option_map, refl, ap, ◌∙◌, ◌==◌, IsSome, eqb-true, ◌+◌, ◌||◌, not, min, nat_le, sum_by, le-leb, ltb-true, ltb-false, rules}
-pub use Rattle.std.proofs.lemmas.Bool.{eqb-false, lt-leb, eq-eqb}
-pub use Rattle.std.proofs.lemmas.List.{append-nil, get_or-map, map-set, get_or-set_same, get_or-set_other, length-set, length-map}
+pub use Rattle.std.proofs.Common.{◌≡◌, ℕ, suc, zero, ◌<◌, Bool, true, false, List, [], ◌∷◌, ◌++◌, length, Option, Some, None, option_to_list, option_and_then, if◌then◌else◌, sym, subst, append_assoc, arith, ◌≤◌, map, IfSome, option_map, refl, ap, ◌∙◌, ◌==◌, IsSome, ◌+◌, not, nat_le, ltb-true, ltb-false, rules, inl, inr, leb-false, ne_eqb}
+pub use Rattle.std.proofs.lemmas.Bool.{lt-leb, eq-eqb, cases_Bool, cases_eq}
+pub use Rattle.std.proofs.lemmas.List.{append-nil, get_or-map, get_or-set_same, get_or-set_other, length-set, length-map}
 pub use Rattle.std.specs.List.{AllByRecursion, list_any, cons_option}
 pub use Rattle.std.specs.Prelude.{slice_set, slice_index_or}
-pub use Rattle.chain_spec.specs.{Call, closes_due, arrives, call_tick, Arrival, arrival_by, arrived, closing_by, closing_ticks, told_by, EndBy, Window, opened, extended, covers, windows_of}
+pub use Rattle.chain_spec.specs.{Call, closes_due, arrives, call_tick, Arrival, arrival_by, arrived, closing_ticks, told_by, EndBy, Window, opened, extended, covers, windows_of}
 pub use Rattle.ids_config.specs.Parts.{Event, Parts, event_at, plain_event}
 pub use Rattle.ids_config.specs.declared.parts.Aggregate.{Aggregate}
 pub use Rattle.ids_types.specs.declared.event.Qualified.{Qualified}

@@ -32,6 +32,7 @@ impl<B: Parcel> Slot<B> {
     pub(crate) fn close_due(&mut self, tick: u64) -> Option<Qualified<B>>
         ensures slot { self.new ≡ slot_closed tick self.old }
         ensures item { result ≡ item_due tick self.old }
+        ensures setting { self.new.setting ≡ self.old.setting }
     {
         if !self.is_due(tick) {
             return None;
@@ -45,6 +46,7 @@ impl<B: Parcel> Slot<B> {
     pub(crate) fn arrive(&mut self, tick: u64, item: Qualified<B>) -> Option<B>
         ensures slot { self.new ≡ slot_with tick item self.old }
         ensures back { result ≡ spare_of (keeps_last self.old.setting) (held_in self.old) item.context }
+        ensures setting { self.new.setting ≡ self.old.setting }
     {
         let last = self.setting.is_some_and(|setting| setting.last);
         let Some(window) = &mut self.window else {

@@ -26,7 +26,6 @@ module _ {B : Type 0} (P : B → Type 0) where
   pub parcels_keep : (items : List (Entry B)) (before now back end : List B) → All (λ e. IfSome (parcel_of e.act) P) items → All P before
       → (hands : HandsBack (all_parcels items) before now back end) → All P hands.further × All P now
   parcels_keep items before now back end came kept hands =
-      let parcels = all_parcels_of items came in
-      let all = All-permutation P _ _ hands.same (All-append P (all_parcels items) before parcels kept) in
+      let all = All-permutation P _ _ hands.same (All-append P (all_parcels items) before (all_parcels_of items came) kept) in
       let parts = both_parts hands.further now (recursion_from_All _ _ all) in
       (All-from_recursion P hands.further parts.0, All-from_recursion P now parts.1)

@@ -5,23 +5,16 @@ use Rattle.std.proofs.Math.Nat.{mul-add, mul_comm, mul-le-mul_left}
 use Rattle.std.proofs.lemmas.List.Elements.{All-weaker}
 use Rattle.std.proofs.lemmas.List.Sums.{sum_by-le}
 use Rattle.ids_types.specs.declared.entry.Act.{Act}
-use Rattle.ids_types.specs.declared.entry.Act.TheVariants.{Report, State, SetMode}
+use Rattle.ids_types.specs.declared.entry.Act.TheVariants.{Report}
 use Rattle.ids_types.specs.declared.entry.Entry.{Entry}
 use Rattle.filter_chain.specs.{IsShort, all_parcels, parcel_of, FitsAct, FitsLargest, FitsTurn, carried_room, context_room, most_sent}
 use Rattle.filter_chain.proofs.ParcelLemmas.{all_parcels_of}
 
--- as many bytes for each of some parcels
-times : (each few many : ℕ) → few ≤ many → few * each ≤ each * many
-times each few many le = let more = mul-le-mul_left each le in rw (mul_comm few each) more
-
 -- a turn of more entries has no less room
 pub most_grows : (largest few many events : ℕ) → few ≤ many → most_sent largest few events ≤ most_sent largest many events
 most_grows largest few many events le =
-    let more = mul-le-mul_left (context_room largest) (le-add le) in
-    omega (arith, le, more)
-  where
-    le-add : few ≤ many → few + events ≤ many + events
-    le-add le = omega (arith, le)
+    let both : few + events ≤ many + events = omega (arith, le) in
+    omega (arith, le, mul-le-mul_left (context_room largest) both)
 
 module _ {B : Type 0} (held : B → List ℕ) where
   -- the parcels of entries and those of events take what a turn has room for
@@ -33,16 +26,15 @@ module _ {B : Type 0} (held : B → List ℕ) where
       let take = λ (parcel : B). 4 + length (held parcel) in
       let first = sum_by-le take each came fit_came in
       let second = sum_by-le take each kept fit_kept in
-      let more_came = times each (length came) entries few_came in
-      let more_kept = times each (length kept) events few_kept in
+      let more_came = mul-le-mul_left each few_came in
+      let more_kept = mul-le-mul_left each few_kept in
       let both = mul-add each entries events in
-      omega (arith, first, second, more_came, more_kept, both, room)
+      omega (arith, first, second, more_came, more_kept, mul_comm (length came) each, mul_comm (length kept) each, both, room)
 
   -- the parcel that an act keeps is short
   pub parcel_short : (events : ℕ) (act : Act B) → FitsAct held events act → IfSome (parcel_of act) (IsShort held)
   parcel_short events (Report event count stamp context) fits = fits.1
-  parcel_short events (State state) fits = tt
-  parcel_short events (SetMode event mode) fits = tt
+  parcel_short events other fits = tt
 
   -- and so are all of a turn
   pub parcels_short : (events : ℕ) (items : List (Entry B)) → FitsTurn held events items → All (IsShort held) (all_parcels items)

@@ -17,29 +17,20 @@ newest_first turns turn = reverse-append turns (turn ∷ [])
 pub last_of : (turns : List Turn) (turn : Turn) → last_tick (turns ++ turn ∷ []) ≡ turn.head.tick
 last_of turns turn = ap newest_tick (newest_first turns turn)
 
--- each message has a byte
+-- there are no more messages than bytes
 spelled_few : (config : Parts) (items : List Item) → length items ≤ length (spelled config items)
 spelled_few config [] = omega arith
 spelled_few config (item ∷ before) =
-    let rest = spelled_few config before in
     let own : 0 < length (spelled config (item ∷ [])) = omega arith in
     let whole : length (spelled config (item ∷ before)) ≡ length (spelled config before) + length (spelled config (item ∷ [])) =
     length-append (spelled config before) (spelled config (item ∷ [])) in
-    omega (arith, rest, own, whole)
-
--- there are no more messages than bytes
-count_few : (config : Parts) (turns : List Turn) → count_of config turns ≤ length (messages_of config turns)
-count_few config turns = spelled_few config (sent config (qualified_of config (reverse turns)))
+    omega (arith, own, whole, spelled_few config before)
 
 -- where turns end, with one turn more
 ends_more : (config : Parts) (turns : List Turn) (turn : Turn)
     → ends_of config (turns ++ turn ∷ []) ≡ ends_of config turns ++ length (messages_of config (turns ++ turn ∷ [])) ∷ []
-ends_more config turns turn =
-    let newest = newest_first turns turn in
-    let before = reverse turns in
-    ap (λ (ts : List Turn). reverse (ends config ts)) newest
-    ∙ reverse_onto (ends config before) (length (messages config (turn ∷ before))) []
-    ∙ ap (λ (ts : List Turn). reverse (ends config before) ++ length (messages config ts) ∷ []) (sym newest)
+ends_more config turns turn = rw (newest_first turns turn)
+    (reverse_onto (ends config (reverse turns)) (length (messages config (turn ∷ reverse turns))) [])
 
 -- it is what these turns and this one send
 pub transcript_more : {config : Parts} {turns : List Turn} {turn : Turn} {old new : Transcript} {out : Output}
@@ -47,7 +38,8 @@ pub transcript_more : {config : Parts} {turns : List Turn} {turn : Turn} {old ne
 transcript_more {config} {turns} {turn} {old} {new} {out} was sends adds =
     let bytes : new.sent.items ≡ messages_of config (turns ++ turn ∷ []) =
     adds.bytes ∙ ap (λ bytes. bytes ++ out.sent) was.sent ∙ sym sends.bytes in
-    let few = count_few config (turns ++ turn ∷ []) in
+    let few : count_of config (turns ++ turn ∷ []) ≤ length (messages_of config (turns ++ turn ∷ [])) =
+    spelled_few config (sent config (qualified_of config (reverse (turns ++ turn ∷ [])))) in
     record {
       sent = bytes;
       ends = adds.end ∙ rw (was.ends, bytes) (sym (ends_more config turns turn));

@@ -1,10 +1,6 @@
 -- A sealed message by its bytes: the plain one, marked in its first byte, and the signature part after it.
-use Rattle.frame_auth.proofs.Names.{◌≡◌, ℕ, zero, suc, IsByte, AreBytes, ◌+◌, ◌*◌, ◌^◌, ◌≤◌, ◌<◌, List, [], ◌∷◌, ◌++◌, length, take, drop, Option, Some, None, refl, sym, ap, subst, ◌∙◌, arith, length-append, w16, w64, to_be_bytes, MessageParts, FitsMessage, BeginsWith, header, spelling, joined, with_signature, bare, hmac, seal_of, sealed, joined_sealed, IsPlain, ArePlain, IsSealedWith, HasNoSeal, HasOtherCounter, Moves, marked, sealed_bytes, CanUnmark, unmarked, rules, common_steps}
-use Rattle.std.proofs.lemmas.List.{take_at, drop_at}
-use Rattle.std.proofs.Common.{◌≢◌, IfSome, Bor, is_some, option_copied, false}
+use Rattle.frame_auth.proofs.Names.{◌≡◌, ℕ, zero, suc, IsByte, AreBytes, ◌+◌, ◌*◌, ◌^◌, ◌≤◌, ◌<◌, List, [], ◌∷◌, ◌++◌, length, take, drop, Option, Some, None, refl, sym, ap, subst, ◌∙◌, arith, length-append, w16, w64, to_be_bytes, MessageParts, FitsMessage, BeginsWith, header, spelling, joined, with_signature, bare, hmac, seal_of, sealed, joined_sealed, IsPlain, ArePlain, IsSealedWith, HasNoSeal, HasOtherCounter, Moves, marked, sealed_bytes, CanUnmark, unmarked, rules, common_steps, sha256, digest_bytes, ◌≢◌, IfSome, Bor, is_some, option_copied, false, take_at, drop_at, All-append}
 use Rattle.ids_frame.proofs.NumberLemmas.{wide32, wide64}
-use Rattle.std.proofs.lemmas.List.Elements.{All-append}
-use Rattle.sha2.specs.Sha256.{sha256, digest_bytes}
 use Rattle.sha2.proofs.Facts256.{length-sha256}
 
 -- a seal has 40 bytes

@@ -1,12 +1,8 @@
 -- Messages of one sealed list: how many are taken, and where the first stands that is out of order.
-use Rattle.frame_auth.proofs.Names.{◌≡◌, ℕ, zero, suc, ◌+◌, ◌*◌, ◌^◌, ◌<◌, ◌≤◌, ◌⊎◌, inl, inr, List, [], ◌∷◌, ◌++◌, length, get_or, take, drop, None, Result, Ok, Err, refl, sym, ap, subst, ◌∙◌, arith, IsByte, MessageParts, FitsMessage, flag, header, spelling, joined, sealed, joined_sealed, AllByRecursion, ArePlain, IsPlain, IsSealedWith, HasOtherCounter, GivesUnsealed, rules}
-use Rattle.std.proofs.Common.{◌↔◌, ◌≢◌, Option, add-one}
+use Rattle.frame_auth.proofs.Names.{◌≡◌, ℕ, zero, suc, ◌+◌, ◌*◌, ◌^◌, ◌<◌, ◌≤◌, ◌⊎◌, inl, inr, List, [], ◌∷◌, ◌++◌, length, get_or, take, drop, None, Result, Ok, Err, refl, sym, ap, subst, ◌∙◌, arith, IsByte, MessageParts, FitsMessage, flag, header, spelling, joined, sealed, joined_sealed, AllByRecursion, ArePlain, IsPlain, IsSealedWith, HasOtherCounter, GivesUnsealed, rules, ◌↔◌, ◌≢◌, Option, add-one, flat_map-append, take-append-drop, take_more, take_more_same, same_from_push, at_drop_more, length-take, length-take-le, get_or_default, All-take, All-from_recursion, recursion_from_All}
 use Rattle.std.specs.Prelude.{Contains, AllPairs}
 use Rattle.std.proofs.lemmas.Bool.{cases_eq}
-use Rattle.std.proofs.lemmas.Grind.{flat_map-append}
-use Rattle.std.proofs.lemmas.List.{take-append-drop, take_more, take_more_same, same_from_push, at_drop_more, length-take, length-take-le, get_or_default}
 use Rattle.std.proofs.Math.Seq.{take-length}
-use Rattle.std.proofs.lemmas.List.Elements.{All-take, All-from_recursion, recursion_from_All}
 use Rattle.frame_auth.specs.{UnsealFault, AreOf, IsOutOfOrder, AnswersInOrder, sealed_from}
 use Rattle.frame_auth.specs.declared.fault.UnsealFault.TheVariants as unseals
 use Rattle.frame_auth.proofs.LayoutLemmas.{sealed_is, sealed_fits, other_counter}

@@ -1,12 +1,9 @@
 -- Tags: masks, and what a difference of bytes is.
-use Rattle.frame_auth.proofs.Names.{◌≡◌, ℕ, ◌+◌, ◌<◌, List, ◌++◌, length, get_or, take, drop, ap, arith, length-append}
+use Rattle.frame_auth.proofs.Names.{◌≡◌, ℕ, ◌+◌, ◌<◌, List, ◌++◌, length, get_or, take, drop, ap, arith, length-append, same_number_lists, get_or_default, length-map, length-take, length-drop, and_le_l, and_le_r, le_or_l, le_or_r}
 use Rattle.std.proofs.Math.ListN.{set}
-use Rattle.std.proofs.lemmas.List.{get_or_default, length-map, length-take, length-drop}
 use Rattle.std.proofs.lemmas.List.Edits.{map_over_more}
 use Rattle.frame_auth.specs.Tags.{masked}
 use Rattle.std.specs.Int.Bits.{bit_xor, bit_or, xor_add_and, xor_self}
-use Rattle.std.proofs.lemmas.Nat.{and_le_l, and_le_r, le_or_l, le_or_r}
-use Rattle.std.proofs.lemmas.Grind.{same_number_lists}
 
 -- one byte more is masked
 pub mask_more : (mask i : ℕ) (bytes block : List ℕ) → i < length block → block ≡ masked mask (take i bytes) ++ drop i bytes

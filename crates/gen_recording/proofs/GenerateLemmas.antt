@@ -1,5 +1,5 @@
 -- What a recorder of the generated trace tells.
-use Rattle.gen_recording.proofs.Names.{◌≡◌, ℕ, List, [], refl, ap, ap₂, sym, ◌∙◌, reverse, length, Parts, count_of, messages_of, rows_of, Options, Traced, digest_of, gen_line, turns_for, config_of, rounds_of, history_of, plans_of, turns_made}
+use Rattle.gen_recording.proofs.Names.{◌≡◌, ℕ, List, refl, ap, ap₂, ◌∙◌, reverse, length, Parts, count_of, messages_of, rows_of, Options, Traced, digest_of, gen_line, turns_for, config_of, rounds_of, history_of, plans_of, turns_made}
 
 -- the same numbers and digest make the same line
 pub same_line : (reports m n k j : ℕ) (d e : List ℕ) → m ≡ n → k ≡ j → d ≡ e → gen_line reports m k d ≡ gen_line reports n j e

@@ -9,7 +9,7 @@ pub mod Recordable
 pub mod Recording
 pub mod Reports
 pub use Rattle.gen_recording.specs.Counted.{AreCalls, AreClaims, AreCounts, HasClassFor, HasClass}
-pub use Rattle.gen_recording.specs.Drawing.{asking, with_lines, OnLast, HasCaller}
+pub use Rattle.gen_recording.specs.Drawing.{asking, with_lines}
 unfoldable pub use Rattle.gen_recording.specs.Drawing.{ramp}
 pub use Rattle.gen_recording.specs.Draws.{next_number, drawn_below, draw}
 unfoldable pub use Rattle.gen_recording.specs.Draws.{number_after}

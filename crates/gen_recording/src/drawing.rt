@@ -4,7 +4,7 @@ ghost use Rattle.std.specs.Prelude.{◌≡◌, ℕ, ◌≤◌, ◌<◌, ◌+◌,
 ghost use Rattle.history_spec.specs.Rounds.{last_tick};
 ghost use Rattle.trace_text.specs.Lines.{line_asked};
 ghost use Rattle.gen_options.specs.Ranges.{IsInRange};
-ghost use Rattle.gen_recording.specs.{HasCaller, ramp as ramp_of, with_lines, draw, number_after, changes_by, draws_before, generated_round, lines_by, rounds_of, tick_after, context_of, report_of, stamp_of};
+ghost use Rattle.gen_recording.specs.{ramp as ramp_of, with_lines, draw, number_after, changes_by, draws_before, generated_round, lines_by, rounds_of, tick_after, context_of, report_of, stamp_of};
 
 use crate::draws::Draws;
 use gen_options::Options;
@@ -103,7 +103,6 @@ fn draw_lines(
     requires round { round < options.now.rounds }
     requires some { 0 < length trace.old.rounds }
     requires caller { caller < trace.old.callers }
-    requires has { HasCaller caller trace.old }
     requires ramp { ramp.now ≡ ramp_of }
     requires number { draws.old.number ≡ number_after options.now.start (draws_before options.now round caller) }
     ensures trace { OnOk result (trace.new ≡ with_lines caller (lines_by options.now round caller) trace.old) }

@@ -1,12 +1,9 @@
 -- What settled logs make of a history.
-use Rattle.history_spec.proofs.Names.{◌≡◌, ℕ, ◌+◌, ◌==◌, Some, List, length, refl, sym, ◌∙◌, subst, eq-eqb, arith, Turn, entries_of, Parts, Act, Entry, too_small, claims_of, IsLegalMiss, Fate, lost, accepted, claims_got, Calls, entries_by, StandsIn, claims_by, AreSettled, AreLegalContexts}
-use mathlib.Core.Option.{some}
-use lib.ListN.{get_elem?}
-use Rattle.ids_types.proofs.FatesLemmas.{fate_within}
+use Rattle.history_spec.proofs.Names.{◌≡◌, ℕ, ◌+◌, ◌==◌, Some, List, length, refl, sym, ◌∙◌, eq-eqb, arith, Turn, entries_of, Parts, Act, Entry, too_small, claims_of, IsLegalMiss, Fate, lost, accepted, claims_got, Calls, entries_by, StandsIn, claims_by, AreSettled, AreLegalContexts, some, get_elem?, fate_within}
 use Rattle.history_spec.proofs.FatesLemmas.{got_rise}
 use Rattle.history_spec.proofs.FollowsLemmas.{Shows, call_was, calls_got, log_shows, shown_in_order}
 use Rattle.history_spec.proofs.PlaceLemmas.{stands_kept, stands_where_counted}
-use Rattle.history_spec.proofs.TotalLemmas.{as_many_claims, each_claim_once}
+use Rattle.history_spec.proofs.TotalLemmas.{counted, each_claim_once}
 
 module _ (config : Parts) (turns : List Turn) (calls : ℕ → Calls) (log : ℕ → ℕ → List Fate) (claimants : ℕ → List ℕ)
     (s : AreSettled config turns calls log claimants) where
@@ -21,9 +18,7 @@ module _ (config : Parts) (turns : List Turn) (calls : ℕ → Calls) (log : ℕ
   its_call : (c : ℕ) (e : Entry (List ℕ)) → StandsIn (entries_of turns) e → e.caller ≡ c → get_elem? (calls c) e.call ≡ some (Some e.act)
   its_call c e stands is =
       let kept = stands_kept (λ x. c == x.caller) (entries_of turns) e stands (eq-eqb c e.caller (sym is)) in
-      let was = call_was (length config.classes) 0 c 0 (calls c) e (subst (λ xs. StandsIn xs e) (s.are_entries c) kept) in
-      let same : was.0 ≡ e.call = omega (arith, was.1) in
-      rw (← same) was.2
+      let was = call_was (length config.classes) 0 c 0 (calls c) e (rw (s.are_entries c) at kept) in grind (arith, was.1, was.2)
 
   legal_miss : (e : Entry (List ℕ)) (i claimed : ℕ) → StandsIn (entries_of turns) e → Shows (length config.classes) i e.act (lost claimed)
       → IsLegalMiss config turns e.caller e.call i claimed
@@ -33,13 +28,12 @@ module _ (config : Parts) (turns : List Turn) (calls : ℕ → Calls) (log : ℕ
       let here = its_call c e stands refl in
       let place = log_shows (length config.classes) i e.call (calls c) (log c i) e.act (lost claimed) (s.follows c i) here shows in
       let within = fate_within 0 (log c i) place.0 (lost claimed) settled.decided.rises place.1 in
-      let long = as_many_claims i (entries_of turns) (claimants i) (kept_are_claims i) in
       let order = λ (j k : ℕ) (act other : Act (List ℕ)) (fate next : Fate).
       shown_in_order (length config.classes) i j k 0 (calls c) (log c i) act other fate next (s.follows c i) settled.decided.rises in
       record {
         all_out = settled.decided.at_front place.0 claimed place.1;
-        by_entries = λ claim less. let once = each_claim_once i (entries_of turns) (claimants i) (kept_are_claims i) claim in
-            stands_where_counted claim (claims_of i (entries_of turns)) (grind (arith, once, within.1, settled.decided.within, long));
+        by_entries = λ claim less. let once = counted i (entries_of turns) (claimants i) (kept_are_claims i) claim in
+            stands_where_counted claim (claims_of i (entries_of turns)) (grind (arith, once, within.1, settled.decided.within));
         earlier = λ other claim at is less kept. let its = its_call c other at is in
             omega (arith, order other.call e.call other.act e.act (accepted claim) (lost claimed) its here less kept shows);
         later = λ other claim at is less kept. let its = its_call c other at is in

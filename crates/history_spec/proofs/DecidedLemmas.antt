@@ -1,11 +1,7 @@
 -- What decided calls make of a history and its losses.
-use Rattle.history_spec.proofs.Names.{◌≡◌, ℕ, zero, suc, ◌+◌, ◌≤◌, ◌==◌, if◌then◌else◌, List, [], ◌∷◌, map, refl, inr, sym, ap, ◌∙◌, subst, eq-eqb, arith, length-map, Turn, entries_of, Entry, Loss, fates_of, AreDecided, tickets_from, tickets_of, IsDecided, losses_from, all_losses, Fate, lost, accepted, end_of, calls_of, losses_by, IsTicket, IsLegalLoss, AreMerged, StandsIn, times, once_below, RiseFrom}
-use mathlib.Core.Option.{some, some-injective}
-use lib.ListN.{get_elem?}
-use Rattle.ids_types.proofs.FatesLemmas.{fate_within, fates_in_order}
+use Rattle.history_spec.proofs.Names.{◌≡◌, ℕ, zero, suc, ◌+◌, ◌≤◌, ◌==◌, List, [], ◌∷◌, map, refl, inr, sym, eq-eqb, arith, Turn, entries_of, Entry, Loss, fates_of, AreDecided, tickets_from, tickets_of, IsDecided, losses_from, all_losses, Fate, lost, accepted, calls_of, losses_by, IsTicket, IsLegalLoss, AreMerged, StandsIn, times, once_below, RiseFrom, length, cond_both, ap, ◌∙◌, some, some-injective, get_elem?, fate_within, fates_in_order}
 use Rattle.history_spec.proofs.LossLemmas.{of_caller, loss_is, givens_keep_up, losses_ordered}
-use Rattle.history_spec.proofs.PlaceLemmas.{stands_either, stands_kept}
-use Rattle.history_spec.proofs.TotalLemmas.{tickets, total_of, once_behind}
+use Rattle.history_spec.proofs.PlaceLemmas.{stands_kept}
 
 -- the calls of a caller's entries are those with tickets
 calls_with_tickets : (c ticket : ℕ) (es : List (Entry (List ℕ))) → calls_of c es ≡ map (λ p. p.0) (tickets_of c ticket es)
@@ -19,12 +15,11 @@ calls_rise least call (lost claimed ∷ fates) le = calls_rise least (suc call) 
 calls_rise least call (accepted ticket ∷ fates) le = (le, calls_rise (suc call) (suc call) fates (omega arith))
 
 -- each call is accepted or lost
-each_decided : (n x c call : ℕ) (fates : List Fate)
-    → times x (map (λ p. p.0) (tickets_from call fates)) + times x (map (λ (loss : Loss). loss.call) (losses_from n c call fates))
-    ≡ total_of (λ y. if y == x then 1 else 0) (tickets call (map end_of fates))
-each_decided n x c call [] = refl
-each_decided n x c call (lost claimed ∷ fates) = omega (arith, each_decided n x c (suc call) fates)
-each_decided n x c call (accepted ticket ∷ fates) = omega (arith, each_decided n x c (suc call) fates)
+each_decided : (n x c call : ℕ) (fates : List Fate) → times x (map (λ p. p.0) (tickets_from call fates))
+    + times x (map (λ (loss : Loss). loss.call) (losses_from n c call fates)) + once_below x call ≡ once_below x (call + length fates)
+each_decided n x c call [] = grind arith
+each_decided n x c call (lost claimed ∷ fates) = let rest = each_decided n x c (suc call) fates in grind (arith, rest)
+each_decided n x c call (accepted ticket ∷ fates) = let rest = each_decided n x c (suc call) fates in grind (arith, rest)
 
 -- an entry's call stands with its ticket
 with_ticket : (c first ticket place : ℕ) (es : List (Entry (List ℕ))) (e : Entry (List ℕ)) → get_elem? es place ≡ some e → c ≡ e.caller
@@ -32,11 +27,11 @@ with_ticket : (c first ticket place : ℕ) (es : List (Entry (List ℕ))) (e : E
 with_ticket c first ticket place [] e at own is = cc
 with_ticket c first ticket zero (x ∷ es) e at own is =
     let here : x ≡ e = some-injective x e at in
-    let same : first ≡ ticket = omega arith in
-    rw (eq-eqb c x.caller (own ∙ ap (λ (y : Entry (List ℕ)). y.caller) (sym here))) (0, cc)
+    let same : first ≡ ticket = omega arith in rw (eq-eqb c x.caller (cc)) (0, cc)
 with_ticket c first ticket (suc place) (x ∷ es) e at own is =
-    stands_either (c == x.caller) (tickets_of c (suc first) es) (x.call, first) (e.call, ticket)
-    (with_ticket c (suc first) ticket place es e at own (omega arith))
+    let rest = with_ticket c (suc first) ticket place es e at own (omega arith) in
+    let others = tickets_of c (suc first) es in
+    cond_both (c == x.caller) ((x.call, first) ∷ others) others (λ ts. StandsIn ts (e.call, ticket)) (λ _. (suc rest.0, rest.1)) (λ _. rest)
 
 -- and is that of an accepted call
 ticket_got : (call : ℕ) (fates : List Fate) (x ticket : ℕ) → StandsIn (tickets_from call fates) (x, ticket)
@@ -55,9 +50,7 @@ module _ (n : ℕ) (turns : List Turn) where
       → IsTicket turns c call ticket → get_elem? fates call ≡ some (accepted ticket)
   its_ticket c calls fates decided call ticket (e, at, by, is) =
       let stands = with_ticket c 0 ticket ticket (entries_of turns) e at (sym by) (omega arith) in
-      let got = ticket_got 0 fates e.call ticket (subst (λ xs. StandsIn xs (e.call, ticket)) (sym decided.are_entries) stands) in
-      let place : got.0 ≡ call = omega (arith, got.1) in
-      rw (← place) got.2
+      let got = ticket_got 0 fates e.call ticket (rw (← decided.are_entries) at stands) in grind (arith, got.1, got.2, is)
 
   legal_loss : (loss : Loss) (calls : ℕ) (fates : List Fate) → IsDecided n turns loss.caller calls fates
       → StandsIn (losses_from n loss.caller 0 fates) loss → IsLegalLoss n turns loss
@@ -82,17 +75,15 @@ module _ (n : ℕ) (turns : List Turn) where
     calls_are c = calls_with_tickets c 0 (entries_of turns) ∙ sym (ap (map (λ p. p.0)) (decided c).are_entries)
 
     own_losses : (c : ℕ) → losses_by c (all_losses n 0 callers) ≡ losses_from n c 0 (fates_of callers c)
-    own_losses c = of_caller n c 0 c callers (omega arith)
+    own_losses c = grind (arith, of_caller n c 0 callers)
 
     pub are_merged : AreMerged n calls turns (all_losses n 0 callers)
     are_merged = record {
-      each_once = λ c call. rw (calls_are c, own_losses c) (each_decided n call c 0 (fates_of callers c)
-          ∙ once_behind call 0 (map end_of (fates_of callers c)) (omega arith)
-          ∙ ap (once_below call) (omega (arith, length-map (fates_of callers c) end_of, (decided c).calls_are)));
+      each_once = λ c call. rw (calls_are c, own_losses c)
+          (let each = each_decided n call c 0 (fates_of callers c) in grind (arith, each, (decided c).calls_are));
       in_order = λ c. rw (calls_are c) (calls_rise 0 0 (fates_of callers c) (omega arith));
       legal = λ loss stands. legal_loss loss (calls loss.caller) (fates_of callers loss.caller) (decided loss.caller)
-          (subst (λ xs. StandsIn xs loss) (own_losses loss.caller)
-          (stands_kept (λ (l : Loss). loss.caller == l.caller) (all_losses n 0 callers) loss stands
+          (rw (own_losses loss.caller) at (stands_kept (λ (l : Loss). loss.caller == l.caller) (all_losses n 0 callers) loss stands
           (eq-eqb loss.caller loss.caller refl)));
       looks_keep_up = λ c. rw (own_losses c) (givens_keep_up n 0 c 0 0 (fates_of callers c) (omega arith) (decided c).decided.rises);
       losses_in_order = losses_ordered n 0 callers 0 0 (inr (refl, omega arith));

@@ -1,7 +1,5 @@
 -- The calls of a caller's log in two parts, and the tickets that they got.
 use Rattle.history_spec.proofs.Names.{◌≡◌, ℕ, zero, suc, ◌+◌, ◌≤◌, List, [], ◌∷◌, ◌++◌, refl, ap, arith, Fate, lost, accepted, end_of, FatesFrom, end_from, claims_got, StandsIn, RiseFrom}
-use mathlib.Core.Option.{some, some-injective}
-use lib.ListN.{get_elem?}
 
 -- a log in two parts
 pub rises_apart : (low : ℕ) (xs ys : List Fate) → FatesFrom low (xs ++ ys) → FatesFrom low xs × FatesFrom (end_from low xs) ys
@@ -24,5 +22,5 @@ got_rise least low (accepted ticket ∷ fates) le rises =
 pub got_stands : (fates : List Fate) (ticket : ℕ) → StandsIn (claims_got fates) ticket → StandsIn fates (accepted ticket)
 got_stands [] ticket (place, at) = cc
 got_stands (lost claimed ∷ fates) ticket stands = let rest = got_stands fates ticket stands in (suc rest.0, rest.1)
-got_stands (accepted its ∷ fates) ticket (zero, at) = (0, ap (λ t. some (accepted t)) (some-injective its ticket at))
+got_stands (accepted its ∷ fates) ticket (zero, at) = (0, cc)
 got_stands (accepted its ∷ fates) ticket (suc place, at) = let rest = got_stands fates ticket (place, at) in (suc rest.0, rest.1)

@@ -1,8 +1,5 @@
 -- What the calls of a caller asked of a class, and its entries.
-use Rattle.history_spec.proofs.Names.{◌≡◌, ℕ, zero, suc, ◌+◌, ◌-◌, ◌<◌, ◌≤◌, Option, Some, None, List, [], ◌∷◌, ◌++◌, length, refl, sym, ap, ap₂, ◌∙◌, append_assoc, subst, arith, append-nil, Carried, Absent, Kept, Missing, Act, Report, State, SetMode, Entry, claim_in, claim_of, claims_of, Misses, Fate, lost, accepted, start_of, end_of, FatesFrom, end_from, claims_got, Calls, Follows, CallAsks, CarriedAsks, lost_number, StandsIn, entries_from}
-use mathlib.Core.Option.{some, some-injective}
-use lib.ListN.{get_elem?}
-use Rattle.ids_types.proofs.FatesLemmas.{fate_within}
+use Rattle.history_spec.proofs.Names.{◌≡◌, ℕ, zero, suc, ◌+◌, ◌-◌, ◌<◌, ◌≤◌, Option, Some, None, List, [], ◌∷◌, ◌++◌, length, refl, sym, ap, ◌∙◌, append_assoc, arith, append-nil, Kept, Missing, Act, Report, Entry, claim_of, claims_of, Misses, Fate, lost, accepted, start_of, end_of, FatesFrom, end_from, claims_got, Calls, Follows, CallAsks, lost_number, StandsIn, entries_from, ap₂, subst, some, some-injective, get_elem?, fate_within}
 use Rattle.history_spec.proofs.FatesLemmas.{rises_apart, claims_got-append, got_stands}
 use Rattle.history_spec.proofs.PlaceLemmas.{stands_left, stands_right}
 
@@ -19,31 +16,20 @@ module _ (classes i : ℕ) where
 
   lost_numbers : (first : ℕ) (numbers : List ℕ) → claims_got (lost_number first numbers i) ≡ []
   lost_numbers first [] = refl
-  lost_numbers first (number ∷ numbers) = let rest = lost_numbers (suc first) numbers in grind (arith, rest)
-
-  carried_got : (context : Carried (List ℕ)) (here : List Fate) → CarriedAsks classes i context here → claim_in i context ≡ claims_got here
-  carried_got Absent here asked = ap claims_got (sym asked)
-  carried_got (Kept class claim bytes) here asked =
-      let got = asked.got in let skipped = asked.skipped in let larger = asked.larger in grind (arith, got, skipped, larger)
-  carried_got (Missing numbers) here asked = sym (ap claims_got asked ∙ lost_numbers (classes - length numbers) numbers)
+  lost_numbers first (number ∷ numbers) = grind (arith, lost_numbers (suc first) numbers)
 
   call_got : (act : Act (List ℕ)) (here : List Fate) → CallAsks classes i (Some act) here → claim_of i act ≡ claims_got here
-  call_got (Report event count stamp context) here asked = carried_got context here asked
-  call_got (State state) here asked = ap claims_got (sym asked)
-  call_got (SetMode event mode) here asked = ap claims_got (sym asked)
-
-  -- a lost call asks nothing
-  skipped : (calls : Calls) (asks : List Fate) → Follows classes i (None ∷ calls) asks → Follows classes i calls asks
-  skipped calls asks follows = subst (Follows classes i calls) (sym (follows.2 ∙ ap (λ h. h ++ follows.1) follows.3)) follows.4
+  call_got (Report event count stamp (Kept class claim bytes)) here asked =
+      let got = asked.got in let skipped = asked.skipped in let larger = asked.larger in grind (arith, got, skipped, larger)
+  call_got (Report event count stamp (Missing numbers)) here asked = rw asked (sym (lost_numbers (classes - length numbers) numbers))
+  call_got act here asked = ap claims_got (sym asked)
 
   pub calls_got : (caller j : ℕ) (calls : Calls) (asks : List Fate) → Follows classes i calls asks
       → claims_of i (entries_from caller j calls) ≡ claims_got asks
   calls_got caller j [] asks follows = ap claims_got (sym follows)
-  calls_got caller j (None ∷ calls) asks follows =
-      calls_got caller (suc j) calls asks (skipped calls asks follows)
-  calls_got caller j (Some act ∷ calls) asks follows =
-      ap₂ ◌++◌ (call_got act follows.0 follows.3) (calls_got caller (suc j) calls follows.1 follows.4)
-      ∙ sym (claims_got-append follows.0 follows.1) ∙ ap claims_got (sym follows.2)
+  calls_got caller j (None ∷ calls) asks (here, later, is, none, follows) = rw (is, none) (calls_got caller (suc j) calls later follows)
+  calls_got caller j (Some act ∷ calls) asks (here, later, is, asked, follows) = rw (is, claims_got-append here later)
+      (ap₂ ◌++◌ (call_got act here asked) (calls_got caller (suc j) calls later follows))
 
   -- ---- what entries show of the log
 
@@ -57,8 +43,7 @@ module _ (classes i : ℕ) where
       → lost_number first numbers i ≡ lost claimed ∷ []
   number_there first [] k claimed at is = cc
   number_there first (number ∷ numbers) zero claimed at is = grind (arith, at)
-  number_there first (number ∷ numbers) (suc k) claimed at is =
-      let rest = number_there (suc first) numbers k claimed at in grind (arith, rest)
+  number_there first (number ∷ numbers) (suc k) claimed at is = grind (arith, number_there (suc first) numbers k claimed at)
 
   -- what an act shows is among what its call asked
   shown : (act : Act (List ℕ)) (fate : Fate) (here : List Fate) → CallAsks classes i (Some act) here → Shows act fate → StandsIn here fate
@@ -73,8 +58,7 @@ module _ (classes i : ℕ) where
   call_was caller j [] e (place, at) = cc
   call_was caller j (None ∷ calls) e stands =
       let rest = call_was caller (suc j) calls e stands in (suc rest.0, omega (arith, rest.1), rest.2)
-  call_was caller j (Some act ∷ calls) e (zero, at) = let same = some-injective _ _ at in
-      (0, omega (arith, ap (λ (x : Entry (List ℕ)). x.call) same), ap (λ (x : Entry (List ℕ)). some (Some x.act)) same)
+  call_was caller j (Some act ∷ calls) e (zero, at) = rw (← some-injective _ e at) (0, omega arith, refl)
   call_was caller j (Some act ∷ calls) e (suc place, at) =
       let rest = call_was caller (suc j) calls e (place, at) in (suc rest.0, omega (arith, rest.1), rest.2)
 
@@ -83,8 +67,7 @@ module _ (classes i : ℕ) where
       → get_elem? calls k ≡ some (Some act) → Shows act fate → StandsIn asks fate
   log_shows k [] asks act fate follows at shows = cc
   log_shows zero (call ∷ calls) asks act fate (here, later, is, asked, follows) at shows =
-      let own = shown act fate here (subst (λ x. CallAsks classes i x here) (some-injective _ _ at) asked) shows in
-      rw is (stands_left here later fate own)
+      rw is (stands_left here later fate (shown act fate here (rw (some-injective _ _ at) at asked) shows))
   log_shows (suc k) (call ∷ calls) asks act fate (here, later, is, asked, follows) at shows =
       rw is (stands_right here later fate (log_shows k calls later act fate follows at shows))
 

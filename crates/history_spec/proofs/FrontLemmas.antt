@@ -1,17 +1,13 @@
 -- What the fronts of a report ring are.
-use Rattle.history_spec.proofs.Names.{◌≡◌, ℕ, zero, suc, ◌+◌, ◌⊎◌, List, [], ◌∷◌, ◌++◌, length, take, inl, inr, sym, ap, arith, length-append, Turn, entries_of, StandsIn}
-use mathlib.Core.Option.{some-injective}
+use Rattle.history_spec.proofs.Names.{◌≡◌, ℕ, zero, suc, ◌+◌, ◌⊎◌, List, [], ◌∷◌, ◌++◌, length, take, inl, inr, sym, arith, length-append, Turn, entries_of, StandsIn, common_steps, some-injective}
 use Rattle.history_spec.specs.Fronts.{and_front, fronts_from, IsFront}
 
 -- the fronts of a turn more
 pub fronts_more : (offered : ℕ) (turns : List Turn) (turn : Turn) (fronts : List ℕ) → fronts_from offered (turns ++ turn ∷ []) fronts
     ≡ and_front (offered + length (entries_of turns)) (length turn.entries) (fronts_from offered turns fronts)
-fronts_more offered [] turn fronts = ap (λ n. and_front n (length turn.entries) fronts) (omega arith)
+fronts_more offered [] turn fronts = grind arith
 fronts_more offered (first ∷ turns) turn fronts =
-    let here = length first.entries in
-    let all : (offered + here) + length (entries_of turns) ≡ offered + length (entries_of (first ∷ turns)) =
-    omega (arith, length-append first.entries (entries_of turns)) in
-    rw (← all) (fronts_more (offered + here) turns turn (and_front offered here fronts))
+    let here = length first.entries in grind (arith, common_steps, fronts_more (offered + here) turns turn (and_front offered here fronts))
 
 -- a front is one of those before, or the last
 old_or_last : (offered more front : ℕ) (fronts : List ℕ) → StandsIn (and_front offered more fronts) front

@@ -1,7 +1,5 @@
 -- The list of all callers' losses.
-use Rattle.history_spec.proofs.Names.{◌≡◌, ℕ, zero, suc, ◌+◌, ◌-◌, ◌<◌, ◌≤◌, ◌⊎◌, ◌==◌, if◌then◌else◌, List, [], ◌∷◌, ◌++◌, map, get_or, refl, inl, inr, sym, ap, arith, append-nil, Loss, losses_from, all_losses, Fate, lost, accepted, FatesFrom, losses_by, StandsIn, KeepUpFrom, LossesFrom}
-use mathlib.Core.Option.{some, some-injective}
-use lib.ListN.{get_elem?}
+use Rattle.history_spec.proofs.Names.{◌≡◌, ℕ, zero, suc, ◌+◌, ◌-◌, ◌<◌, ◌≤◌, ◌⊎◌, ◌==◌, nat_lt, if◌then◌else◌, List, [], ◌∷◌, ◌++◌, map, get_or, refl, inl, inr, arith, append-nil, Loss, losses_from, all_losses, Fate, lost, accepted, FatesFrom, losses_by, StandsIn, KeepUpFrom, LossesFrom, common_steps, some, some-injective, get_elem?}
 
 module _ (n : ℕ) where
   -- ---- the losses of one caller among all
@@ -9,32 +7,21 @@ module _ (n : ℕ) where
   in_two : (c d call : ℕ) (fates : List Fate) (behind : List Loss) → losses_by c (losses_from n d call fates ++ behind)
       ≡ (if c == d then losses_from n d call fates else []) ++ losses_by c behind
   in_two c d call [] behind = grind arith
-  in_two c d call (lost claimed ∷ fates) behind = let rest = in_two c d (suc call) fates behind in grind (arith, rest)
+  in_two c d call (lost claimed ∷ fates) behind = grind (arith, in_two c d (suc call) fates behind)
   in_two c d call (accepted ticket ∷ fates) behind = in_two c d (suc call) fates behind
 
-  none_earlier : (c d : ℕ) (callers : List (List Fate)) → c < d → losses_by c (all_losses n d callers) ≡ []
-  none_earlier c d [] less = refl
-  none_earlier c d (fates ∷ callers) less =
-      let rest = none_earlier c (suc d) callers in
-      let both = in_two c d 0 fates (all_losses n (suc d) callers) in grind (arith, rest, both)
-
-  pub of_caller : (c d k : ℕ) (callers : List (List Fate)) → c ≡ d + k
-      → losses_by c (all_losses n d callers) ≡ losses_from n c 0 (get_or callers k [])
-  of_caller c d k [] is = refl
-  of_caller c d zero (fates ∷ callers) is =
-      let none = none_earlier c (suc d) callers in let both = in_two c d 0 fates (all_losses n (suc d) callers) in
-      grind (arith, none, both, append-nil)
-  of_caller c d (suc k) (fates ∷ callers) is =
-      let rest = of_caller c (suc d) k callers in
-      let both = in_two c d 0 fates (all_losses n (suc d) callers) in grind (arith, rest, both)
+  pub of_caller : (c d : ℕ) (callers : List (List Fate)) → losses_by c (all_losses n d callers)
+      ≡ (if nat_lt c d then [] else losses_from n c 0 (get_or callers (c - d) []))
+  of_caller c d [] = grind arith
+  of_caller c d (fates ∷ callers) =
+      let both = in_two c d 0 fates (all_losses n (suc d) callers) in
+      grind (arith, common_steps, of_caller c (suc d) callers, both, append-nil)
 
   -- a loss is a lost call
   pub loss_is : (c call : ℕ) (fates : List Fate) (loss : Loss) → StandsIn (losses_from n c call fates) loss → (place : ℕ) × (claimed : ℕ)
       × (get_elem? fates place ≡ some (lost claimed)) × (loss.call ≡ call + place) × (loss.given ≡ claimed - n)
   loss_is c call [] loss (place, at) = cc
-  loss_is c call (lost claimed ∷ fates) loss (zero, at) =
-      let is = some-injective _ _ at in
-      (0, claimed, refl, omega (arith, ap (λ (l : Loss). l.call) is), sym (ap (λ (l : Loss). l.given) is))
+  loss_is c call (lost claimed ∷ fates) loss (zero, at) = rw (← some-injective _ loss at) (0, claimed, refl, omega arith, refl)
   loss_is c call (lost claimed ∷ fates) loss (suc place, at) =
       let rest = loss_is c (suc call) fates loss (place, at) in (suc rest.0, rest.1, rest.2, omega (arith, rest.3), rest.4)
   loss_is c call (accepted ticket ∷ fates) loss stands =
@@ -57,8 +44,8 @@ module _ (n : ℕ) where
   caller_first d behind later c call from [] before = later c call (omega (arith, before))
   caller_first d behind later c call from (lost claimed ∷ fates) before =
       (before, caller_first d behind later d (suc from) (suc from) fates (inr (refl, omega arith)))
-  caller_first d behind later c call from (accepted ticket ∷ fates) before = caller_first d behind later c call (suc from) fates
-      (elim before [ inl less ↦ inl less | inr same ↦ inr (same.0, omega (arith, same.1)) ])
+  caller_first d behind later c call from (accepted ticket ∷ fates) before =
+      caller_first d behind later c call (suc from) fates (grind (arith, before))
 
   pub losses_ordered : (d : ℕ) (callers : List (List Fate)) (c call : ℕ) → (c < d) ⊎ ((c ≡ d) × (call ≤ 0))
       → LossesFrom c call (all_losses n d callers)

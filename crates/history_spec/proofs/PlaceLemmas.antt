@@ -1,6 +1,5 @@
 -- What stands in a list.
-use Rattle.history_spec.proofs.Names.{◌≡◌, ℕ, zero, suc, ◌<◌, Bool, true, false, cond, List, [], ◌∷◌, ◌++◌, filter, inl, inr, ap, arith, cases_eq, StandsIn, times}
-use mathlib.Core.Option.{some, some-injective}
+use Rattle.history_spec.proofs.Names.{◌≡◌, ℕ, zero, suc, ◌<◌, Bool, true, List, [], ◌∷◌, ◌++◌, filter, inl, inr, ap, arith, cases_eq, StandsIn, times, cond_both, some, some-injective}
 
 module _ {A : Type 0} where
   -- it stands in a longer list
@@ -13,16 +12,13 @@ module _ {A : Type 0} where
   stands_right [] ys x stands = stands
   stands_right (y ∷ xs) ys x stands = let rest = stands_right xs ys x stands in (suc rest.0, rest.1)
 
-  pub stands_either : (b : Bool) (xs : List A) (y x : A) → StandsIn xs x → StandsIn (cond b (y ∷ xs) xs) x
-  stands_either true xs y x stands = (suc stands.0, stands.1)
-  stands_either false xs y x stands = stands
-
   -- and among what a test keeps
   pub stands_kept : (test : A → Bool) (xs : List A) (x : A) → StandsIn xs x → test x ≡ true → StandsIn (filter test xs) x
   stands_kept test [] x (place, at) passes = cc
   stands_kept test (y ∷ xs) x (zero, at) passes = rw (ap test (some-injective y x at), passes) (0, at)
   stands_kept test (y ∷ xs) x (suc place, at) passes =
-      stands_either (test y) (filter test xs) y x (stands_kept test xs x (place, at) passes)
+      let rest = stands_kept test xs x (place, at) passes in
+      cond_both (test y) (y ∷ filter test xs) (filter test xs) (λ zs. StandsIn zs x) (λ _. (suc rest.0, rest.1)) (λ _. rest)
 
 -- a number that is counted stands there
 pub stands_where_counted : (x : ℕ) (xs : List ℕ) → 0 < times x xs → StandsIn xs x

@@ -1,95 +1,62 @@
--- Lists of numbers by owners: where each owner has the same numbers, all numbers are the same in another order.
-use Rattle.history_spec.proofs.Names.{◌≡◌, ℕ, suc, ◌+◌, ◌≤◌, ◌<◌, ◌==◌, if◌then◌else◌, List, [], ◌∷◌, ◌++◌, length, refl, inl, inr, sym, ap, ◌∙◌, ne_eqb, arith, cases_eq, append_cancel_left, Entry, claim_of, claims_of, entries_by, times, once_below, claims_by}
-use Rattle.std.proofs.lemmas.List.Recursion.{same_from_clauses}
+-- Tickets by owners: where each owner has the tickets that are its own, each ticket is had once.
+use Rattle.history_spec.proofs.Names.{◌≡◌, ℕ, zero, suc, ◌+◌, ◌-◌, ◌≤◌, ◌<◌, ◌==◌, ◌≢◌, nat_lt, if◌then◌else◌, List, [], ◌∷◌, ◌++◌, length, get_or, refl, ◌∙◌, arith, Entry, claims_of, entries_by, times, once_below, claims_by, common_steps}
 
--- the numbers of an owner
-abbrev numbers : ℕ → List (ℕ × ℕ) → List ℕ
-numbers owner [] = []
-numbers owner (p ∷ ps) = if owner == p.0 then p.1 ∷ numbers owner ps else numbers owner ps
+-- a ticket is its claimant's, once
+claimed : (x owner ticket : ℕ) (claimants : List ℕ) → times x (claims_by owner ticket claimants)
+    ≡ (if nat_lt x ticket then 0 else if owner == get_or claimants (x - ticket) 0 then once_below x (ticket + length claimants) else 0)
+claimed x owner ticket [] = grind (arith, common_steps)
+claimed x owner ticket (c ∷ claimants) = grind (arith, common_steps, claimed x owner (suc ticket) claimants)
 
--- the claimants with their tickets
-abbrev pub tickets : ℕ → List ℕ → List (ℕ × ℕ)
-tickets ticket [] = []
-tickets ticket (claimant ∷ claimants) = (claimant, ticket) ∷ tickets (suc ticket) claimants
+times-append : (x : ℕ) (xs ys : List ℕ) → times x (xs ++ ys) ≡ times x xs + times x ys
+times-append x [] ys = omega arith
+times-append x (y ∷ xs) ys = omega (arith, times-append x xs ys)
 
-numbers_tickets : (owner ticket : ℕ) (claimants : List ℕ) → numbers owner (tickets ticket claimants) ≡ claims_by owner ticket claimants
-numbers_tickets owner ticket [] = refl
-numbers_tickets owner ticket (claimant ∷ claimants) = rw (numbers_tickets owner (suc ticket) claimants) refl
+-- a claim that one owner alone may have
+of_one : (i x owner : ℕ) (es : List (Entry (List ℕ))) → ((o : ℕ) → o ≢ owner → times x (claims_of i (entries_by o es)) ≡ 0)
+    → times x (claims_of i es) ≡ times x (claims_of i (entries_by owner es))
+of_one i x owner [] none = refl
+of_one i x owner (e ∷ es) none =
+    let rest = of_one i x owner es (λ o other. let at = none o other in grind (arith, times-append, at)) in
+    let own = none e.caller in grind (arith, times-append, rest, own)
 
-module _ (f : ℕ → ℕ) where
-  abbrev total : List ℕ → ℕ
-  total [] = 0
-  total (x ∷ xs) = f x + total xs
+-- how many of the numbers are below another one
+abbrev below : ℕ → List ℕ → ℕ
+below n [] = 0
+below n (x ∷ xs) = once_below x n + below n xs
 
-  abbrev pub total_of : List (ℕ × ℕ) → ℕ
-  total_of [] = 0
-  total_of (p ∷ ps) = f p.1 + total_of ps
+below_more : (n : ℕ) (xs : List ℕ) → below (suc n) xs ≡ times n xs + below n xs
+below_more n [] = refl
+below_more n (x ∷ xs) = let rest = below_more n xs in grind (arith, rest)
 
-  total-append : (xs ys : List ℕ) → total (xs ++ ys) ≡ total xs + total ys
-  total-append [] ys = omega arith
-  total-append (x ∷ xs) ys = omega (arith, total-append xs ys)
+none_below : (xs : List ℕ) → below 0 xs ≡ 0
+none_below [] = refl
+none_below (x ∷ xs) = grind (arith, none_below xs)
 
-  -- numbers that an owner has in front of others, taken out
-  abbrev Without : List (ℕ × ℕ) → ℕ → List ℕ → List (ℕ × ℕ) → Type 0
-  Without ps owner xs rest =
-      ((o : ℕ) → numbers o ps ≡ (if o == owner then xs ++ numbers o rest else numbers o rest)) × (total_of ps ≡ total xs + total_of rest)
+each_below : (n : ℕ) (xs : List ℕ) → ((x : ℕ) → x < n → times x xs ≡ 1) → below n xs ≡ n
+each_below zero xs each = none_below xs
+each_below (suc n) xs each =
+    omega (arith, below_more n xs, each n (omega arith), each_below n xs (λ x less. each x (omega arith)))
 
-  take_one : (owner x : ℕ) (xs : List ℕ) (ps : List (ℕ × ℕ)) → numbers owner ps ≡ x ∷ xs
-      → (rest : List (ℕ × ℕ)) × Without ps owner (x ∷ []) rest
-  take_one owner x xs [] e = cc
-  take_one owner x xs (p ∷ ps) e = elim (cases_eq owner p.0) [
-    | inl is ↦ (ps, (λ o. grind (arith, is, e), grind (arith, is, e)))
-    | inr other ↦
-        let r = take_one owner x xs ps (rw (ne_eqb owner p.0 other) at e) in
-        (p ∷ r.0, (λ o. let at = r.1.0 o in grind (arith, at, other), omega (arith, r.1.1)))
-  ]
-
-  take_all : (owner : ℕ) (xs ys : List ℕ) (ps : List (ℕ × ℕ)) → numbers owner ps ≡ xs ++ ys
-      → (rest : List (ℕ × ℕ)) × Without ps owner xs rest
-  take_all owner [] ys ps e = (ps, (λ o. grind arith, omega arith))
-  take_all owner (x ∷ xs) ys ps e =
-      let first = take_one owner x (xs ++ ys) ps e in
-      let more = take_all owner xs ys first.0 (let its = first.1.0 owner in grind (arith, its, e)) in
-      (more.0, (λ o. let a = first.1.0 o in let b = more.1.0 o in grind arith, omega (arith, first.1.1, more.1.1)))
-
-  same_total : (i : ℕ) (es : List (Entry (List ℕ))) (ps : List (ℕ × ℕ)) → ((c : ℕ) → claims_of i (entries_by c es) ≡ numbers c ps)
-      → total (claims_of i es) ≡ total_of ps
-  same_total i [] [] same = refl
-  same_total i [] (p ∷ ps) same = let at = same p.0 in grind arith
-  same_total i (e ∷ es) ps same =
-      let own = same e.caller in
-      let r = take_all e.caller (claim_of i e.act) (claims_of i (entries_by e.caller es)) ps (grind (arith, own)) in
-      let rest = same_total i es r.0 (λ c. let at = same c in let left = r.1.0 c in grind (arith, at, left, append_cancel_left)) in
-      omega (arith, total-append (claim_of i e.act) (claims_of i es), r.1.1, rest)
-
--- numbers from a ticket on, each once
-none_before : (x ticket : ℕ) (claimants : List ℕ) → x < ticket → total_of (λ y. if y == x then 1 else 0) (tickets ticket claimants) ≡ 0
-none_before x ticket [] less = refl
-none_before x ticket (c ∷ claimants) less = let rest = none_before x (suc ticket) claimants in grind (arith, rest)
-
-pub once_behind : (x ticket : ℕ) (claimants : List ℕ) → ticket ≤ x
-    → total_of (λ y. if y == x then 1 else 0) (tickets ticket claimants) ≡ once_below x (ticket + length claimants)
-once_behind x ticket [] least = grind arith
-once_behind x ticket (c ∷ claimants) least =
-    let none = none_before x (suc ticket) claimants in let rest = once_behind x (suc ticket) claimants in grind (arith, none, rest)
-
-long_behind : (ticket : ℕ) (claimants : List ℕ) → total_of (λ y. 1) (tickets ticket claimants) ≡ length claimants
-long_behind ticket [] = refl
-long_behind ticket (c ∷ claimants) = omega (arith, long_behind (suc ticket) claimants)
+all_below : (n : ℕ) (xs : List ℕ) → ((x : ℕ) → times x xs ≤ once_below x n) → below n xs ≡ length xs
+all_below n [] few = refl
+all_below n (x ∷ xs) few =
+    let rest = all_below n xs (λ y. omega (arith, few y)) in let here = few x in grind (arith, rest, here)
 
 module _ (i : ℕ) (es : List (Entry (List ℕ))) (claimants : List ℕ)
     (same : (c : ℕ) → claims_of i (entries_by c es) ≡ claims_by c 0 claimants) where
-  same_of : (f : ℕ → ℕ) → total f (claims_of i es) ≡ total_of f (tickets 0 claimants)
-  same_of f = same_total f i es (tickets 0 claimants) (λ c. same c ∙ sym (numbers_tickets c 0 claimants))
+  -- each number below how many claimants there are is a claim, once
+  pub counted : (x : ℕ) → times x (claims_of i es) ≡ once_below x (length claimants)
+  counted x =
+      let owner = get_or claimants (x - 0) 0 in
+      of_one i x owner es (λ o other. let its = claimed x o 0 claimants in rw (same o) (grind (arith, its, other)))
+      ∙ rw (same owner) (let its = claimed x owner 0 claimants in grind (arith, its))
 
-  -- there are as many claims as claimants
-  pub as_many_claims : length (claims_of i es) ≡ length claimants
-  as_many_claims = same_from_clauses length (total (λ y. 1)) (λ x n. suc n) refl (λ x xs. refl) (λ x xs. omega arith) (claims_of i es)
-      ∙ same_of (λ y. 1) ∙ long_behind 0 claimants
+  as_many_claims : length (claims_of i es) ≡ length claimants
+  as_many_claims =
+      let all = all_below (length claimants) (claims_of i es) (λ x. omega (arith, counted x)) in
+      let each = each_below (length claimants) (claims_of i es) (λ x less. let its = counted x in grind (arith, its, less)) in
+      omega (arith, all, each)
 
-  -- and each number below is one of them, once
+  -- and each number below how many claims there are
   pub each_claim_once : (x : ℕ) → times x (claims_of i es) ≡ once_below x (length (claims_of i es))
-  each_claim_once x =
-      let is_x : ℕ → ℕ = λ y. if y == x then 1 else 0 in
-      rw as_many_claims (same_from_clauses (times x) (total is_x) (λ y n. is_x y + n) refl (λ y ys. refl) (λ y ys. refl) (claims_of i es)
-      ∙ same_of is_x ∙ once_behind x 0 claimants (omega arith) ∙ ap (once_below x) (omega arith))
+  each_claim_once x = rw as_many_claims (counted x)

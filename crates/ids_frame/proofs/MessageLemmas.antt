@@ -1,10 +1,12 @@
 -- What bytes begin with is what is read of them.
-use Rattle.ids_frame.proofs.Names.{◌≡◌, ℕ, ◌+◌, ◌*◌, ◌/◌, ◌%◌, ◌^◌, ◌<◌, ◌≤◌, ◌⊎◌, false, List, [], ◌∷◌, ◌++◌, length, drop, Option, Some, None, Ok, Err, refl, sym, ap, subst, ◌∙◌, append_assoc, arith, inl, inr, IfSome, is_some, ok_or, ◌↔◌, result_ok, w16, cases_lt, le-leb, lt-leb, eqb-true, eqb-false, append-nil, length-append, All-tail, IsByte, AreBytes, FitsContext, MessageParts, FitsMessage, IsKnown, last_version, flag, header, stamp_part, context_part, signature_part, spelling, has_layout, has, message_of, Begun, IsCut, StrangeVersion, StrangePart, Begins}
+use Rattle.ids_frame.proofs.Names.{◌≡◌, ℕ, ◌+◌, ◌*◌, ◌/◌, ◌%◌, ◌^◌, ◌<◌, ◌≤◌, List, [], ◌∷◌, ◌++◌, length, drop, Option, Some, None, Ok, Err, refl, sym, ap, subst, ◌∙◌, append_assoc, arith, inl, inr, IfSome, is_some, ok_or, ◌↔◌, result_ok, w16, le-leb, eqb-true, eqb-false, append-nil, length-append, All-tail, IsByte, AreBytes, MessageParts, FitsMessage, IsKnown, flag, header, stamp_part, context_part, signature_part, spelling, Read, has_layout, has, message_of, Begun, IsCut, StrangeVersion, StrangePart, Begins}
+use Rattle.std.proofs.lemmas.Bool.{cases_Bool, and_parts, leb-true, false_from_ne_true}
+use Rattle.std.specs.Prelude.{true, nat_le}
 use Rattle.ids_frame.specs.declared.fault.FrameFault.TheVariants.{Short, UnknownVersion, UnknownPart}
 use Rattle.ids_frame.specs.Reading.{parts_at, message_at}
-use Rattle.ids_frame.proofs.PartLemmas.{one_answer, IsPart, Parts, Values, AllCan, made, part, SpelledAs, Makes, parts_are_part, IsThere, optional_is_part}
+use Rattle.ids_frame.proofs.PartLemmas.{one_answer, IsPart, Tells, tells, Parts, Values, AllCan, made, part, SpelledAs, Makes, parts_are_part, optional_is_part}
 use Rattle.ids_frame.proofs.NumberLemmas.{wide16, number_is_part, byte_is_part}
-use Rattle.ids_frame.proofs.FieldLemmas.{stamp_is_part, context_is_part, FitsSignature, signature_is_part}
+use Rattle.ids_frame.proofs.FieldLemmas.{stamp_is_part, context_is_part, signature_is_part}
 
 -- ---- the first byte
 
@@ -17,22 +19,6 @@ flag_small (Some x) = omega arith
 flag_is : {A : Type 0} (bit first : ℕ) (part : Option A) → (has bit first ≡ is_some part) ↔ (first / bit % 2 ≡ flag part)
 flag_is bit first None = (λ e. omega (arith, eqb-false (first / bit % 2) 1 e), λ e. rw e refl)
 flag_is bit first (Some x) = (λ e. eqb-true _ _ e, λ e. rw e refl)
-
--- what the first byte of a message is made of
-record IsFirstOf (m : MessageParts) (first : ℕ) : Type 0 where
-  version : first / 16 ≡ m.version
-  few : first / 8 % 2 ≡ 0
-  stamp : first / 2 % 2 ≡ flag m.stamp
-  context : first / 1 % 2 ≡ flag m.context
-  signature : first / 4 % 2 ≡ flag m.signature
-
--- the first byte of a message is made so
-first_of : (m : MessageParts) (first : ℕ) → first ≡ m.version * 16 + header m → IsFirstOf m first
-first_of m first e =
-    let stamp = flag_small m.stamp in
-    let context = flag_small m.context in
-    let signature = flag_small m.signature in
-    record { version = omega arith; few = omega arith; stamp = omega arith; context = omega arith; signature = omega arith }
 
 -- a first byte of a known layout, with no unknown part
 record IsPlain (first : ℕ) : Type 0 where
@@ -61,9 +47,10 @@ abbrev behind_first : MessageParts → List ℕ
 behind_first m = drop 1 (spelling m)
 
 -- what is said of a signature is said at once
-signed : (s : Option (List ℕ)) → IfSome s FitsSignature ↔ (IfSome s (λ bytes. length bytes ≤ 65535) × IfSome s AreBytes)
+signed : (s : Option (List ℕ))
+    → IfSome s (λ bytes. (length bytes ≤ 65535) × AreBytes bytes) ↔ (IfSome s (λ bytes. length bytes ≤ 65535) × IfSome s AreBytes)
 signed None = (λ fits. (tt, tt), λ fits. tt)
-signed (Some s) = (λ fits. (fits.short, fits.are_bytes), λ fits. record { short = fits.0; are_bytes = fits.1 })
+signed (Some s) = (λ fits. fits, λ fits. fits)
 
 -- the parts are spelled as the message
 spelled : (first : ℕ) → IsPlain first → (v : Values (message_parts first)) → AllCan (message_parts first) v
@@ -76,20 +63,12 @@ spelled first plain v can =
     let signature = (flag_is 4 first w.1.1.0).0 c.1.1.0.0 in
     let held = (signed w.1.1.0).0 c.1.1.0.1 in
     let place : v.0 / 64 * 64 + v.0 % 64 ≡ v.0 = omega arith in
+    let room : (v.0 / 64 ≤ 1023) × (v.0 % 64 ≤ 63) = omega (arith, can.0) in
     let last = signature_part w.1.1.0 in
     record {
       text = rw (place, append_assoc (stamp_part w.0) (context_part w.1.0) last, append-nil last) refl;
       can = record {
-        fits = record {
-          known = plain.known;
-          room = record { ten_bits = omega (arith, can.0); six_bits = omega arith; two_bytes = held.0 };
-          event = can.1.0;
-          count = can.1.1.0;
-          reserved = can.1.1.1.0;
-          stamp = c.0.1;
-          context = c.1.0.1;
-          signature = held.1;
-        };
+        fits = assumption (plain.known, held, room, can);
         is = omega (arith, plain.few, stamp, context, signature);
       };
     }
@@ -97,20 +76,22 @@ spelled first plain v can =
 -- a message is made of its parts
 makes_message : (first : ℕ) (m : MessageParts) → CanFollow first m → Makes (message_parts first) m
 makes_message first m can =
-    let bits = first_of m first can.is in
+    let first_is = can.is in
     let fits = can.fits in
+    let room = fits.room in
     let place = m.instance * 64 + m.sensor in
-    let high : place / 64 ≡ m.instance = omega (arith, fits.room.six_bits) in
-    let low : place % 64 ≡ m.sensor = omega (arith, fits.room.six_bits) in
-    let below : place < 2 ^ 16 = omega (arith, fits.room.ten_bits, fits.room.six_bits) in
-    let stamp : IsThere (has 2 first) (λ s. s.0 < 2 ^ 64) m.stamp = ((flag_is 2 first m.stamp).1 bits.stamp, fits.stamp) in
-    let context : IsThere (has 1 first) FitsContext m.context = ((flag_is 1 first m.context).1 bits.context, fits.context) in
-    let signature : IsThere (has 4 first) FitsSignature m.signature =
-    ((flag_is 4 first m.signature).1 bits.signature, (signed m.signature).1 (fits.room.two_bytes, fits.signature)) in
+    let small_stamp = flag_small m.stamp in
+    let small_context = flag_small m.context in
+    let small_signature = flag_small m.signature in
+    let is : (first / 16 ≡ m.version) × (place / 64 ≡ m.instance) × (place % 64 ≡ m.sensor) × (place < 2 ^ 16) = omega arith in
+    let stamp = (flag_is 2 first m.stamp).1 (omega arith) in
+    let context = (flag_is 1 first m.context).1 (omega arith) in
+    let signature = (flag_is 4 first m.signature).1 (omega arith) in
+    let held = (signed m.signature).1 (room.two_bytes, fits.signature) in
     record {
       values = (place, (m.event, (m.count, (m.reserved, (m.stamp, (m.context, (m.signature, tt)))))));
-      can = (below, (fits.event, (fits.count, (fits.reserved, (stamp, (context, (signature, tt)))))));
-      is = rw (bits.version, high, low) refl;
+      can = (is.3, (fits.event, (fits.count, (fits.reserved, ((stamp, fits.stamp), ((context, fits.context), ((signature, held), tt)))))));
+      is = rw (is.0, is.1, is.2) refl;
     }
 
 -- after a plain first byte a message is a part
@@ -121,44 +102,34 @@ message_is_part first plain =
 
 -- ---- what is read where bytes begin so
 
--- there is a layout of a version, or there is none
-layout : (version : ℕ) → IsKnown version ⊎ ((has_layout version ≡ false) × (IsKnown version → ⊥))
-layout version = elim (cases_lt version 1) [
-  | inl lt ↦ inr (rw (lt-leb _ _ lt) refl, λ known. omega (arith, known.0))
-  | inr one ↦ elim (cases_lt last_version version) [
-    | inl lt ↦ inr (rw (le-leb _ _ one, lt-leb _ _ lt) refl, λ known. omega (arith, known.1))
-    | inr le ↦ inl (one, le)
-  ]
-]
+-- there is a layout of a version where it is known
+layout : (version : ℕ) → (has_layout version ≡ true) ↔ IsKnown version
+layout version = (
+  λ e. let both = and_parts (nat_le 1 version) (nat_le version 2) e in (leb-true 1 version both.0, leb-true version 2 both.1),
+  λ known. rw (le-leb _ _ known.0, le-leb _ _ known.1) refl,
+)
 
--- a version that is not known is the fault
-at_version : (bytes : List ℕ) → StrangeVersion bytes → message_at bytes ≡ Err UnknownVersion
+-- a version that is not known is the fault, whatever follows
+at_version : (bytes more : List ℕ) → StrangeVersion bytes → message_at (bytes ++ more) ≡ Err UnknownVersion
 unfolding message_at
-at_version [] strange = absurd strange
-at_version (first ∷ bytes) strange = elim (layout (first / 16)) [
-  | inl known ↦ absurd (strange known)
-  | inr not ↦ rw not.0 refl
-]
+at_version [] more strange = absurd strange
+at_version (first ∷ bytes) more strange =
+    rw (false_from_ne_true (has_layout (first / 16)) (λ e. strange ((layout (first / 16)).0 e))) refl
 
 -- a part that is not known is
-at_part : (bytes : List ℕ) → StrangePart bytes → message_at bytes ≡ Err UnknownPart
+at_part : (bytes more : List ℕ) → StrangePart bytes → message_at (bytes ++ more) ≡ Err UnknownPart
 unfolding message_at
-at_part [] strange = absurd strange
-at_part (first ∷ bytes) strange = rw (le-leb _ _ strange.0.0, le-leb _ _ strange.0.1, strange.1) refl
-
--- after another first byte the parts are read
-at_plain : (first : ℕ) (bytes : List ℕ) → IsPlain first → message_at (first ∷ bytes) ≡ ok_or (parts_at first bytes) Short
-unfolding message_at
-at_plain first bytes plain = rw (le-leb _ _ plain.known.0, le-leb _ _ plain.known.1, plain.few) refl
+at_part [] more strange = absurd strange
+at_part (first ∷ bytes) more strange = rw (le-leb _ _ strange.0.0, le-leb _ _ strange.0.1, strange.1) refl
 
 -- a message that stands at the front is read
 pub again : (m : MessageParts) (rest : List ℕ) → FitsMessage m → message_at (spelling m ++ rest) ≡ Ok (m, rest)
+unfolding message_at
 again m rest fits =
     let first = m.version * 16 + header m in
-    let bits = first_of m first refl in
-    let plain : IsPlain first = record { known = rw bits.version fits.known; few = bits.few } in
-    at_plain first (behind_first m ++ rest) plain
-    ∙ ap (λ r. ok_or r Short) ((message_is_part first plain).again m rest (record { fits = fits; is = refl }))
+    let plain : IsPlain first = omega (arith, fits.known, flag_small m.stamp, flag_small m.context, flag_small m.signature) in
+    rw (le-leb _ _ plain.known.0, le-leb _ _ plain.known.1, plain.few)
+    (ap (λ r. ok_or r Short) ((message_is_part first plain).again m rest (record { fits = fits; is = refl })))
 
 -- no spelling begins another: what begins with two spellings begins with one message
 pub one_message_lem : (m n : MessageParts) (a b : List ℕ) → FitsMessage m → FitsMessage n
@@ -169,13 +140,11 @@ one_message_lem m n a b fits_m fits_n same =
 -- ---- what is read tells what bytes begin with
 
 -- after a plain first byte
-told_behind : (first : ℕ) (bytes : List ℕ) → IsPlain first → AreBytes bytes
-    → (read : Option (MessageParts × List ℕ)) → parts_at first bytes ≡ read → Begins (first ∷ bytes) (ok_or read Short)
-told_behind first bytes plain fits (Some x) e =
-    let t = (message_is_part first plain).takes bytes x.0 x.1 fits e in
+told_behind : (first : ℕ) (bytes : List ℕ) (read : Read MessageParts) → Tells behind_first (CanFollow first) bytes read
+    → Begins (first ∷ bytes) (ok_or read Short)
+told_behind first bytes (Some x) t =
     record { fits = t.1.fits; whole = ap (λ l. first ∷ l) t.0 ∙ ap (λ b. b ∷ (behind_first x.0 ++ x.1)) t.1.is }
-told_behind first bytes plain fits None e =
-    let r = (message_is_part first plain).cut bytes fits e in
+told_behind first bytes None r =
     let whole = ap (λ l. first ∷ l) r.whole ∙ ap (λ b. b ∷ behind_first r.value) r.fits.is in
     record { message = r.value; fits = r.fits.fits; next = r.next; more = r.more; whole = whole }
 
@@ -183,21 +152,21 @@ told_behind first bytes plain fits None e =
 pub told : (bytes : List ℕ) → AreBytes bytes → Begins bytes (message_at bytes)
 unfolding message_at
 told [] fits =
-    let plain : IsPlain 16 = record { known = (omega arith, omega arith); few = refl } in
+    let plain : IsPlain 16 = omega arith in
     let some = (message_is_part 16 plain).one in
     let next = some.0.version * 16 + header some.0 in
     record { message = some.0; fits = some.1.fits; next = next; more = behind_first some.0; whole = refl }
-told (first ∷ bytes) fits = elim (layout (first / 16)) [
-  | inr not ↦ subst (Begins (first ∷ bytes)) (sym (at_version (first ∷ bytes) not.1)) not.1
-  | inl known ↦ elim (cases_lt (first / 8 % 2) 1) [
-    | inr le ↦
-        let strange : StrangePart (first ∷ bytes) = (known, omega (arith, le)) in
-        subst (Begins (first ∷ bytes)) (sym (at_part (first ∷ bytes) strange)) strange
-    | inl lt ↦
-        let plain : IsPlain first = record { known = known; few = omega (arith, lt) } in
-        let begins = told_behind first bytes plain (All-tail IsByte first bytes fits) (parts_at first bytes) refl in
-        subst (Begins (first ∷ bytes)) (sym (at_plain first bytes plain)) begins
-  ]
+told (first ∷ bytes) fits = elim (cases_Bool (has_layout (first / 16))) [
+  | inr unknown ↦ rw unknown (λ known. cc (unknown, (layout (first / 16)).1 known))
+  | inl there ↦
+      let known = (layout (first / 16)).0 there in
+      elim (cases_Bool (has 8 first)) [
+        | inl is ↦ rw (there, is) (known, eqb-true _ _ is)
+        | inr not ↦
+            let plain : IsPlain first = record { known = known; few = omega (arith, eqb-false (first / 8 % 2) 1 not) } in
+            let t = tells (message_is_part first plain) bytes (All-tail IsByte first bytes fits) (parts_at first bytes) refl in
+            rw (there, not) (told_behind first bytes (parts_at first bytes) t)
+      ]
 ]
 
 -- the spelling that a cut one is a prefix of is read
@@ -212,19 +181,15 @@ short_if_cut bytes cut (Ok x) b =
     let none = (one_answer (ap result_ok (sym here ∙ longer bytes cut))).1 in
     absurd (omega (arith, ap (λ l. length l) none, length-append x.1 more))
 short_if_cut bytes cut (Err Short) b = refl
-short_if_cut [] cut (Err UnknownVersion) b = absurd b
-short_if_cut (first ∷ bytes) cut (Err UnknownVersion) b =
-    absurd (cc (longer (first ∷ bytes) cut, at_version (first ∷ (bytes ++ cut.next ∷ cut.more)) b))
-short_if_cut [] cut (Err UnknownPart) b = absurd b
-short_if_cut (first ∷ bytes) cut (Err UnknownPart) b =
-    absurd (cc (longer (first ∷ bytes) cut, at_part (first ∷ (bytes ++ cut.next ∷ cut.more)) b))
+short_if_cut bytes cut (Err UnknownVersion) b = absurd (cc (longer bytes cut, at_version bytes (cut.next ∷ cut.more) b))
+short_if_cut bytes cut (Err UnknownPart) b = absurd (cc (longer bytes cut, at_part bytes (cut.next ∷ cut.more) b))
 
 -- what bytes begin with is what is read
 pub read_of : (bytes : List ℕ) (read : Begun) → AreBytes bytes → Begins bytes read → message_at bytes ≡ read
 read_of bytes (Ok x) fits begins = ap message_at begins.whole ∙ again x.0 x.1 begins.fits
 read_of bytes (Err Short) fits cut = short_if_cut bytes cut (message_at bytes) (told bytes fits)
-read_of bytes (Err UnknownVersion) fits strange = at_version bytes strange
-read_of bytes (Err UnknownPart) fits strange = at_part bytes strange
+read_of bytes (Err UnknownVersion) fits strange = ap message_at (sym (append-nil bytes)) ∙ at_version bytes [] strange
+read_of bytes (Err UnknownPart) fits strange = ap message_at (sym (append-nil bytes)) ∙ at_part bytes [] strange
 
 -- bytes begin exactly with what is read of them
 pub read_is_begun : (bytes : List ℕ) (read : Begun) → AreBytes bytes → (message_at bytes ≡ read) ↔ Begins bytes read

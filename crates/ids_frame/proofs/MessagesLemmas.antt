@@ -2,6 +2,7 @@
 use Rattle.ids_frame.proofs.Names.{◌≡◌, ℕ, zero, suc, ◌-◌, ◌<◌, ◌≤◌, ◌==◌, true, false, List, [], ◌∷◌, ◌++◌, length, drop, Ok, Err, refl, sym, ap, subst, ◌∙◌, append_assoc, arith, ◌↔◌, result_ok, eqb-true, append-nil, length-append, AreBytes, MessageParts, FitsMessage, spelling, Begun, BeginsWith, Begins}
 use Rattle.std.proofs.Math.Dec.{eqb-suc-zero}
 use Rattle.std.proofs.lemmas.Grind.{flat_map-append}
+use Rattle.std.proofs.lemmas.List.Elements.{All-push, All-from_recursion, recursion_from_All}
 use Rattle.ids_frame.specs.{FrameFault, message_at, joined, AreMessages, IsJoined, HasMessages, Held, Holds, before, held_in, messages_read, messages_of}
 use Rattle.ids_frame.proofs.PartLemmas.{behind_bytes, one_answer}
 use Rattle.ids_frame.proofs.MessageLemmas.{again, told, read_of}
@@ -56,35 +57,22 @@ pub record IsLeft (bytes rest : List ℕ) : Type 0 where
 pub all_left : (bytes : List ℕ) → AreBytes bytes → IsLeft bytes bytes
 all_left bytes fits = record { front = []; fit = tt; whole = refl; are_bytes = fits }
 
--- one message more
-fit_more : (front : List MessageParts) (m : MessageParts) → AreMessages front → FitsMessage m → AreMessages (front ++ m ∷ [])
-fit_more [] m fit fits = (fits, tt)
-fit_more (x ∷ front) m fit fits = (fit.0, fit_more front m fit.1 fits)
-
--- a message that was read stands at the front
-begins_of : (bytes : List ℕ) (m : MessageParts) (rest : List ℕ) → AreBytes bytes → message_at bytes ≡ Ok (m, rest) → BeginsWith bytes m rest
-begins_of bytes m rest fits e = subst (Begins bytes) e (told bytes fits)
-
--- one message fewer is left
+-- one message fewer is left, and fewer bytes
 pub left_behind : (bytes rest : List ℕ) (m : MessageParts) (behind : List ℕ) → IsLeft bytes rest → message_at rest ≡ Ok (m, behind)
-    → IsLeft bytes behind
+    → IsLeft bytes behind × (length behind < length rest)
 left_behind bytes rest m behind left e =
-    let begins = begins_of rest m behind left.are_bytes e in
+    let begins : BeginsWith rest m behind = subst (Begins rest) e (told rest left.are_bytes) in
     let grouped : joined left.front ++ (spelling m ++ behind) ≡ joined (left.front ++ m ∷ []) ++ behind =
-    simp (flat_map-append, append-nil, append_assoc) in
-    record {
-      front = left.front ++ m ∷ [];
-      fit = fit_more left.front m left.fit begins.fits;
-      whole = left.whole ∙ ap (λ l. joined left.front ++ l) begins.whole ∙ grouped;
-      are_bytes = behind_bytes (spelling m) behind (subst AreBytes begins.whole left.are_bytes);
-    }
-
--- and fewer bytes
-pub fewer_bytes : (bytes rest : List ℕ) (m : MessageParts) (behind : List ℕ) → IsLeft bytes rest → message_at rest ≡ Ok (m, behind)
-    → length behind < length rest
-fewer_bytes bytes rest m behind left e =
-    let whole = ap (λ l. length l) (begins_of rest m behind left.are_bytes e).whole in
-    omega (arith, whole, length-append (drop 1 (spelling m)) behind)
+    simp (flat_map-append, append-nil, append_assoc) in (
+      record {
+        front = left.front ++ m ∷ [];
+        fit = recursion_from_All FitsMessage (left.front ++ m ∷ [])
+            (All-push FitsMessage left.front m (All-from_recursion FitsMessage left.front left.fit) begins.fits);
+        whole = left.whole ∙ ap (λ l. joined left.front ++ l) begins.whole ∙ grouped;
+        are_bytes = behind_bytes (spelling m) behind (subst AreBytes begins.whole left.are_bytes);
+      },
+      omega (arith, ap (λ l. length l) begins.whole, length-append (drop 1 (spelling m)) behind),
+    )
 
 -- the messages stop where none can be read
 pub stops : (bytes rest : List ℕ) (fault : FrameFault) → IsLeft bytes rest → (length rest == 0) ≡ false → message_at rest ≡ Err fault
@@ -94,48 +82,41 @@ stops bytes [] fault left some e = absurd (cc some)
 stops bytes (next ∷ rest) fault left some e =
     ap (held_in (length bytes) 0) left.whole ∙ fault_held (length bytes) left.front next rest fault left.fit e
 
--- where nothing is left all are messages
-pub all_read : (bytes rest : List ℕ) → IsLeft bytes rest → (length rest == 0) ≡ true → HasMessages bytes
-all_read bytes [] left none = (left.front, record { fit = left.fit; whole = left.whole ∙ append-nil (joined left.front) })
+-- where nothing is left all are messages, and they are those that are read
+pub all_read : (bytes rest : List ℕ) → IsLeft bytes rest → (length rest == 0) ≡ true
+    → HasMessages bytes × (Ok (messages_of bytes) ≡ messages_read bytes)
+all_read bytes [] left none =
+    let joins : IsJoined bytes left.front = record { fit = left.fit; whole = left.whole ∙ append-nil (joined left.front) } in
+    ((left.front, joins), rw (joined_read bytes left.front joins) refl)
 all_read bytes (next ∷ rest) left none = absurd (omega (arith, eqb-true _ _ none))
-
--- they are those that are read
-pub read_all : (bytes rest : List ℕ) → IsLeft bytes rest → (length rest == 0) ≡ true → Ok (messages_of bytes) ≡ messages_read bytes
-read_all bytes rest left none =
-    let has = all_read bytes rest left none in
-    rw (joined_read bytes has.0 has.1) refl
 
 -- what the steps of going over the messages need
 pub ruleset going_over = (all_left, left_behind, stops, all_read)
 
 -- ---- what a file holds
 
--- by what is read where bytes are left, if all that may be left after it tells what the file holds
-held_by_left : (bytes : List ℕ) (next : ℕ) (rest : List ℕ) (read : Begun) → IsLeft bytes (next ∷ rest) → message_at (next ∷ rest) ≡ read
-    → ((behind : List ℕ) → IsLeft bytes behind → length behind < length (next ∷ rest) → Holds bytes (messages_read bytes))
-    → Holds bytes (messages_read bytes)
-held_by_left bytes next rest (Ok x) left e others =
-    others x.1 (left_behind bytes (next ∷ rest) x.0 x.1 left e) (fewer_bytes bytes (next ∷ rest) x.0 x.1 left e)
-held_by_left bytes next rest (Err fault) left e others =
-    let size = ap (λ l. length l) left.whole in
-    subst (Holds bytes) (sym (stops bytes (next ∷ rest) fault left (eqb-suc-zero _) e)) (record {
-      front = left.front;
-      fit = left.fit;
-      next = next;
-      rest = rest;
-      whole = left.whole;
-      place = omega (arith, size, length-append (joined left.front) (next ∷ rest));
-      cause = subst (Begins (next ∷ rest)) e (told (next ∷ rest) left.are_bytes);
-    })
-
 -- a file holds what is read of it
 holds : (most : ℕ) (bytes rest : List ℕ) → IsLeft bytes rest → length rest ≤ most → Holds bytes (messages_read bytes)
 holds most bytes [] left le =
-    let has = all_read bytes [] left refl in
+    let has = (all_read bytes [] left refl).0 in
     subst (Holds bytes) (sym (joined_read bytes has.0 has.1)) has.1
 holds zero bytes (next ∷ rest) left le = absurd (omega arith)
 holds (suc most) bytes (next ∷ rest) left le =
-    held_by_left bytes next rest (message_at (next ∷ rest)) left refl (λ behind left' lt. holds most bytes behind left' (omega arith))
+    (elim (message_at (next ∷ rest)) as (λ (r : Begun). message_at (next ∷ rest) ≡ r → Holds bytes (messages_read bytes)) [
+      | Ok x ↦ λ e.
+          let step = left_behind bytes (next ∷ rest) x.0 x.1 left e in
+          holds most bytes x.1 step.0 (omega (arith, step.1))
+      | Err fault ↦ λ e.
+          subst (Holds bytes) (sym (stops bytes (next ∷ rest) fault left (eqb-suc-zero _) e)) (record {
+            front = left.front;
+            fit = left.fit;
+            next = next;
+            rest = rest;
+            whole = left.whole;
+            place = omega (arith, ap (λ l. length l) left.whole, length-append (joined left.front) (next ∷ rest));
+            cause = subst (Begins (next ∷ rest)) e (told (next ∷ rest) left.are_bytes);
+          })
+    ]) refl
 
 -- what it holds is read of it
 read_if_held : (bytes : List ℕ) (held : Held) → AreBytes bytes → Holds bytes held → messages_read bytes ≡ held
@@ -157,20 +138,15 @@ read_is_held bytes held fits =
 
 -- ---- taking messages out
 
--- the first message and the others
-pub record Pops (bytes : List ℕ) (m : MessageParts) (rest : List ℕ) : Type 0 where
-  pub first : messages_of bytes ≡ m ∷ messages_of rest
-  pub others : HasMessages rest
-
--- the message that is read is the first
+-- the message that is read is the first, and messages follow
 pub pops : (bytes : List ℕ) (m : MessageParts) (rest : List ℕ) (messages : List MessageParts) → IsJoined bytes messages
-    → message_at bytes ≡ Ok (m, rest) → Pops bytes m rest
+    → message_at bytes ≡ Ok (m, rest) → (messages_of bytes ≡ m ∷ messages_of rest) × HasMessages rest
 unfolding message_at
 pops bytes m rest [] joins read = absurd (cc (read, ap message_at joins.whole))
 pops bytes m rest (x ∷ xs) joins read =
     let same = one_answer (ap result_ok (sym (again x (joined xs) joins.fit.0) ∙ ap message_at (sym joins.whole) ∙ read)) in
     let others : IsJoined rest xs = record { fit = joins.fit.1; whole = sym same.1 } in
-    record { first = rw (joined_read bytes (x ∷ xs) joins, joined_read rest xs others) (ap (λ y. y ∷ xs) same.0); others = (xs, others) }
+    (rw (joined_read bytes (x ∷ xs) joins, joined_read rest xs others) (ap (λ y. y ∷ xs) same.0), (xs, others))
 
 -- where no message is read there is none
 pub none_left : (bytes : List ℕ) (fault : FrameFault) → message_at bytes ≡ Err fault → messages_of bytes ≡ []

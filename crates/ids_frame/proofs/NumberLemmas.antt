@@ -1,103 +1,57 @@
 -- Reading bytes and numbers.
-use Rattle.ids_frame.proofs.Names.{◌≡◌, ℕ, suc, ◌-◌, ◌%◌, ◌^◌, ◌<◌, ◌≤◌, List, [], ◌∷◌, ◌++◌, length, get_or, take, drop, replicate, Some, None, refl, sym, ap, subst, ◌∙◌, arith, inl, inr, Width, w16, w32, w64, byte_len, from_be_bytes, to_be_bytes, cases_lt, lt-ltb, le-ltb, append-nil, take_at, drop_at, take-append-drop, length-append, length-take, length-replicate, get_or_past, All-append, All-head, All-take, All-replicate, All-from_recursion, IsByte, AreBytes, bytes_at, byte_at, number_at}
+use Rattle.ids_frame.proofs.Names.{◌≡◌, ℕ, suc, ◌-◌, ◌^◌, ◌<◌, ◌≤◌, List, [], ◌∷◌, ◌++◌, length, get_or, replicate, refl, sym, ◌∙◌, arith, inl, inr, Width, w16, w32, w64, byte_len, from_be_bytes, to_be_bytes, cases_lt, lt-ltb, le-ltb, append-nil, take_at, drop_at, take-append-drop, length-append, length-take, length-replicate, get_or_past, All-append, All-head, All-take, All-replicate, All-from_recursion, IsByte, AreBytes, bytes_at, byte_at, number_at}
 use Rattle.std.proofs.lemmas.Nat.{be_bytes_2, be_bytes_4, be_bytes_8, from_be_bytes-to_be_bytes_2, from_be_bytes-to_be_bytes_4, from_be_bytes-to_be_bytes_8}
-use Rattle.ids_frame.proofs.PartLemmas.{one_answer, RunsOut, IsPart, made, part, parts_are_part}
+use Rattle.ids_frame.proofs.PartLemmas.{IsPart, Tells, told_part, made, part, parts_are_part}
 
 -- ---- bytes
 
 -- bytes, and zeros past their end
 each_byte : (bytes : List ℕ) → AreBytes bytes → (i : ℕ) → get_or bytes i 0 < 256
-each_byte bytes fits i =
-    elim (cases_lt i (length bytes)) [
-      | inl lt ↦ fits i 0 lt
-      | inr le ↦ rw (get_or_past bytes i 0 le) (omega arith)
-    ]
+each_byte bytes fits i = grind (arith, get_or_past bytes i 0, fits i 0)
 
 -- a byte is a part
 pub byte_is_part : IsPart byte_at (λ b. b ∷ []) (λ b. b < 256)
-byte_is_part = record {
-  takes = byte_takes;
-  again = λ b rest lt. refl;
-  cut = byte_cut;
-  one = (0, omega arith);
-}
+byte_is_part = told_part byte_tells (λ b rest lt. refl) (0, omega arith)
   where
-    byte_takes : (bytes : List ℕ) (b : ℕ) (rest : List ℕ) → AreBytes bytes → byte_at bytes ≡ Some (b, rest)
-        → (bytes ≡ b ∷ rest) × IsByte b
-    byte_takes [] b rest fits e = absurd cc
-    byte_takes (a ∷ bytes) b rest fits e =
-        let same = one_answer e in
-        (cc (same.0, same.1), subst IsByte same.0 (All-head IsByte a bytes fits))
-
-    byte_cut : (bytes : List ℕ) → AreBytes bytes → byte_at bytes ≡ None → RunsOut (λ b. b ∷ []) IsByte bytes
-    byte_cut [] fits e = record { value = 0; fits = omega arith; next = 0; more = []; whole = refl }
-    byte_cut (a ∷ bytes) fits e = absurd cc
+    byte_tells : (bytes : List ℕ) → AreBytes bytes → Tells (λ b. b ∷ []) IsByte bytes (byte_at bytes)
+    byte_tells [] fits = record { value = 0; fits = omega arith; next = 0; more = []; whole = refl }
+    byte_tells (b ∷ bytes) fits = (refl, All-head IsByte b bytes fits)
 
 -- so many bytes
 pub record AreMany (count : ℕ) (bytes : List ℕ) : Type 0 where
   pub len : length bytes ≡ count
   pub are_bytes : AreBytes bytes
 
--- too few bytes are not read
-too_few : (count : ℕ) (bytes : List ℕ) → length bytes < count → bytes_at count bytes ≡ None
-too_few count bytes lt = rw (lt-ltb _ _ lt) refl
-
--- the first of enough bytes are
-enough : (count : ℕ) (bytes : List ℕ) → count ≤ length bytes → bytes_at count bytes ≡ Some (take count bytes, drop count bytes)
-enough count bytes le = rw (le-ltb _ _ le) refl
-
--- bytes are spelled as they are
-bytes_take : (count : ℕ) (bytes x rest : List ℕ) → AreBytes bytes → bytes_at count bytes ≡ Some (x, rest)
-    → (bytes ≡ x ++ rest) × AreMany count x
-bytes_take count bytes x rest fits e =
+-- the first of enough bytes are read as they are, and zeros complete bytes that are too few
+bytes_tell : (count : ℕ) (bytes : List ℕ) → AreBytes bytes → Tells (λ x. x) (AreMany count) bytes (bytes_at count bytes)
+bytes_tell count bytes fits =
     elim (cases_lt (length bytes) count) [
-      | inl lt ↦ absurd (cc (too_few count bytes lt))
-      | inr le ↦
-          let same = one_answer (sym (enough count bytes le) ∙ e) in (
-            cc (take-append-drop count bytes, same.0, same.1),
-            record {
-              len = omega (arith, length-take count bytes, ap (λ l. length l) same.0);
-              are_bytes = subst AreBytes same.0 (All-take IsByte count bytes fits);
-            },
-          )
-    ]
-
--- so many bytes are read whatever follows them
-bytes_again : (count : ℕ) (x rest : List ℕ) → AreMany count x → bytes_at count (x ++ rest) ≡ Some (x, rest)
-bytes_again count x rest many =
-    let le : count ≤ length (x ++ rest) = omega (arith, many.len, length-append x rest) in
-    rw (enough count (x ++ rest) le, take_at x rest count many.len, drop_at x rest count many.len) refl
-
--- zeros complete bytes that are too few
-bytes_cut : (count : ℕ) (bytes : List ℕ) → AreBytes bytes → bytes_at count bytes ≡ None → RunsOut (λ x. x) (AreMany count) bytes
-bytes_cut count bytes fits e =
-    let more = count - suc (length bytes) in
-    let zeros : List ℕ = replicate more 0 in
-    elim (cases_lt (length bytes) count) [
-      | inl lt ↦ record {
-        value = bytes ++ 0 ∷ zeros;
-        fits = record {
-          len = omega (arith, length-append bytes (0 ∷ zeros), length-replicate {A = ℕ} more 0);
-          are_bytes = All-append IsByte bytes (0 ∷ zeros) fits (All-replicate IsByte (suc more) 0 (omega arith));
-        };
-        next = 0;
-        more = zeros;
-        whole = refl;
-      }
-      | inr le ↦ absurd (cc (enough count bytes le))
+      | inl lt ↦
+          let more = count - suc (length bytes) in
+          let zeros : List ℕ = replicate more 0 in
+          rw (lt-ltb _ _ lt) record {
+            value = bytes ++ 0 ∷ zeros;
+            fits = record {
+              len = omega (arith, length-append bytes (0 ∷ zeros), length-replicate {A = ℕ} more 0);
+              are_bytes = All-append IsByte bytes (0 ∷ zeros) fits (All-replicate IsByte (suc more) 0 (omega arith));
+            };
+            next = 0;
+            more = zeros;
+            whole = refl;
+          }
+      | inr le ↦ rw (le-ltb _ _ le) (
+        sym (take-append-drop count bytes),
+        record { len = omega (arith, length-take count bytes); are_bytes = All-take IsByte count bytes fits },
+      )
     ]
 
 -- so many bytes are a part
 pub bytes_are_part : (count : ℕ) → IsPart (bytes_at count) (λ x. x) (AreMany count)
-bytes_are_part count = record {
-  takes = bytes_take count;
-  again = bytes_again count;
-  cut = bytes_cut count;
-  one = (
-    replicate count 0,
-    record { len = length-replicate {A = ℕ} count 0; are_bytes = All-replicate IsByte count 0 (omega arith) },
-  );
-}
+bytes_are_part count = told_part (bytes_tell count)
+    (λ x rest many.
+    let le : count ≤ length (x ++ rest) = omega (arith, many.len, length-append x rest) in
+    rw (le-ltb _ _ le, take_at x rest count many.len, drop_at x rest count many.len) refl)
+    (replicate count 0, record { len = length-replicate {A = ℕ} count 0; are_bytes = All-replicate IsByte count 0 (omega arith) })
 
 -- ---- numbers
 
@@ -108,14 +62,10 @@ pub record IsWide (w : Width) (limit : ℕ) : Type 0 where
   pub again : (n : ℕ) → n < limit → from_be_bytes w (to_be_bytes w n) ≡ n
   pub below : (bytes : List ℕ) → AreBytes bytes → from_be_bytes w bytes < limit
 
--- the rest by 256 is a byte
-digit : (n : ℕ) → IsByte (n % 256)
-digit n = omega arith
-
 -- numbers of two bytes are read back
 pub wide16 : IsWide w16 (2 ^ 16)
 wide16 = record {
-  many = λ n. record { len = refl; are_bytes = All-from_recursion IsByte (to_be_bytes w16 n) (digit _, (digit _, tt)) };
+  many = λ n. record { len = refl; are_bytes = All-from_recursion IsByte (to_be_bytes w16 n) (omega arith) };
   back = λ bytes many. be_bytes_2 bytes _ many.len (each_byte bytes many.are_bytes) refl;
   again = λ n lt. from_be_bytes-to_be_bytes_2 n lt;
   below = λ bytes fits. let b = each_byte bytes fits in omega (arith, b 0, b 1);
@@ -124,10 +74,7 @@ wide16 = record {
 -- the same of four bytes
 pub wide32 : IsWide w32 (2 ^ 32)
 wide32 = record {
-  many = λ n. record {
-    len = refl;
-    are_bytes = All-from_recursion IsByte (to_be_bytes w32 n) (digit _, (digit _, (digit _, (digit _, tt))));
-  };
+  many = λ n. record { len = refl; are_bytes = All-from_recursion IsByte (to_be_bytes w32 n) (omega arith) };
   back = λ bytes many. be_bytes_4 bytes _ many.len (each_byte bytes many.are_bytes) refl;
   again = λ n lt. from_be_bytes-to_be_bytes_4 n lt;
   below = λ bytes fits. let b = each_byte bytes fits in omega (arith, b 0, b 1, b 2, b 3);
@@ -136,11 +83,7 @@ wide32 = record {
 -- and of eight
 pub wide64 : IsWide w64 (2 ^ 64)
 wide64 = record {
-  many = λ n. record {
-    len = refl;
-    are_bytes = All-from_recursion IsByte (to_be_bytes w64 n)
-        (digit _, (digit _, (digit _, (digit _, (digit _, (digit _, (digit _, (digit _, tt))))))));
-  };
+  many = λ n. record { len = refl; are_bytes = All-from_recursion IsByte (to_be_bytes w64 n) (omega arith) };
   back = λ bytes many. be_bytes_8 bytes _ many.len (each_byte bytes many.are_bytes) refl;
   again = λ n lt. from_be_bytes-to_be_bytes_8 n lt;
   below = λ bytes fits. let b = each_byte bytes fits in omega (arith, b 0, b 1, b 2, b 3, b 4, b 5, b 6, b 7);

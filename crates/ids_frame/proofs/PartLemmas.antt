@@ -1,26 +1,10 @@
 -- What a reader of a part and the part's spelling have to do with each other, for one part and for
 -- several, one after the other.
-use Rattle.ids_frame.proofs.Names.{◌≡◌, ℕ, ◌⊎◌, Bool, true, false, List, [], ◌∷◌, ◌++◌, length, Some, None, refl, sym, ap, subst, ◌∙◌, append_assoc, inl, inr, Option, IfSome, is_some, append-nil, drop_at, All-drop, IsByte, AreBytes, Read, ◌>>=◌, optional}
-
--- ---- steps of a reader
-
--- the value of a step that found its part
-pub bind_some : {A B : Type 0} (r : Option A) (f : A → Option B) (y : B) → (r >>= f) ≡ Some y
-    → (x : A) × (r ≡ Some x) × (f x ≡ Some y)
-bind_some (Some x) f y e = (x, refl, e)
-bind_some None f y e = absurd cc
-
--- the step that did not
-pub bind_none : {A B : Type 0} (r : Option A) (f : A → Option B) → (r >>= f) ≡ None
-    → (r ≡ None) ⊎ ((x : A) × (r ≡ Some x) × (f x ≡ None))
-bind_none (Some x) f e = inr (x, refl, e)
-bind_none None f e = inl refl
+use Rattle.ids_frame.proofs.Names.{◌≡◌, ℕ, Bool, true, false, List, [], ◌∷◌, ◌++◌, length, Some, None, refl, sym, ap, subst, ◌∙◌, append_assoc, Option, IfSome, is_some, append-nil, drop_at, All-drop, IsByte, AreBytes, Read, ◌>>=◌, optional}
 
 -- two answers that are the same have one value, and the same bytes after it
 pub one_answer : {A : Type 0} {p q : A × List ℕ} → Some p ≡ Some q → (p.0 ≡ q.0) × (p.1 ≡ q.1)
-one_answer {A} {p} {q} e =
-    let same : p ≡ q = cc in
-    (ap (λ r. r.0) same, ap (λ r. r.1) same)
+one_answer e = (cc e, cc e)
 
 -- ---- a part
 
@@ -45,6 +29,28 @@ pub record IsPart {A : Type 0} (read : List ℕ → Read A) (write : A → List 
   pub again : (x : A) (rest : List ℕ) → Can x → read (write x ++ rest) ≡ Some (x, rest)
   pub cut : (bytes : List ℕ) → AreBytes bytes → read bytes ≡ None → RunsOut write Can bytes
   pub one : (x : A) × Can x
+
+-- what is told of bytes by what is read of them
+abbrev pub Tells : {A : Type 0} → (A → List ℕ) → (A → Type 0) → List ℕ → Read A → Type 0
+Tells write Can bytes (Some x) = (bytes ≡ write x.0 ++ x.1) × Can x.0
+Tells write Can bytes None = RunsOut write Can bytes
+
+-- a part tells so
+pub tells : {A : Type 0} {read : List ℕ → Read A} {write : A → List ℕ} {Can : A → Type 0} → IsPart read write Can
+    → (bytes : List ℕ) → AreBytes bytes → (r : Read A) → read bytes ≡ r → Tells write Can bytes r
+tells p bytes fits (Some x) e = p.takes bytes x.0 x.1 fits e
+tells p bytes fits None e = p.cut bytes fits e
+
+-- and what tells so is a part
+pub told_part : {A : Type 0} {read : List ℕ → Read A} {write : A → List ℕ} {Can : A → Type 0}
+    → ((bytes : List ℕ) → AreBytes bytes → Tells write Can bytes (read bytes))
+    → ((x : A) (rest : List ℕ) → Can x → read (write x ++ rest) ≡ Some (x, rest)) → ((x : A) × Can x) → IsPart read write Can
+told_part {A} {read} {write} {Can} told again one = record {
+  takes = λ bytes x rest fits e. subst (Tells write Can bytes) e (told bytes fits);
+  again = again;
+  cut = λ bytes fits e. subst (Tells write Can bytes) e (told bytes fits);
+  one = one;
+}
 
 -- ---- parts one after the other
 
@@ -85,21 +91,6 @@ pub record Makes {A : Type 0} (parts : Parts A) (x : A) : Type 0 where
   pub can : AllCan parts values
   pub is : value parts values ≡ x
 
--- what is read is spelled so
-all_take : {A : Type 0} (parts : Parts A) (bytes : List ℕ) (x : A) (rest : List ℕ) → AreBytes bytes
-    → reads parts bytes ≡ Some (x, rest) → (m : Makes parts x) × (bytes ≡ texts parts m.values ++ rest)
-all_take (made y) bytes x rest fits e =
-    let same = one_answer e in
-    (record { values = tt; can = tt; is = same.0 }, same.1)
-all_take (part {B} {read} {write} p more) bytes x rest fits e =
-    let b = bind_some (read bytes) (λ y. reads (more y.0) y.1) (x, rest) e in
-    let t = p.takes bytes b.0.0 b.0.1 fits b.1 in
-    let front = write b.0.0 in
-    let f = all_take (more b.0.0) b.0.1 x rest (behind_bytes front b.0.1 (subst AreBytes t.0 fits)) b.2 in (
-      record { values = (b.0.0, f.0.values); can = (t.1, f.0.can); is = f.0.is },
-      t.0 ∙ ap (λ r. front ++ r) f.1 ∙ sym (append_assoc front (texts (more b.0.0) f.0.values) rest),
-    )
-
 -- what is spelled so is read
 all_again : {A : Type 0} (parts : Parts A) (v : Values parts) (rest : List ℕ) → AllCan parts v
     → reads parts (texts parts v ++ rest) ≡ Some (value parts v, rest)
@@ -115,36 +106,32 @@ some_values (part p more) =
     let behind = some_values (more p.one.0) in
     ((p.one.0, behind.0), (p.one.1, behind.1))
 
--- where a part runs out, any later parts complete it
-all_cut : {A : Type 0} (parts : Parts A) (bytes : List ℕ) → AreBytes bytes → reads parts bytes ≡ None
-    → RunsOut (texts parts) (AllCan parts) bytes
-all_cut (made x) bytes fits e = absurd cc
-all_cut (part {B} {read} {write} p more) bytes fits e =
-    elim (bind_none (read bytes) (λ y. reads (more y.0) y.1) e) [
-      | inl out ↦
-          let r = p.cut bytes fits out in
+-- what is told of bytes by what parts read of them, behind others; where a part runs out, any later parts complete it
+all_tell : {A : Type 0} (parts : Parts A) (front bytes : List ℕ) (spell : A → List ℕ) (May : A → Type 0) → AreBytes bytes
+    → ((v : Values parts) → AllCan parts v → (front ++ texts parts v ≡ spell (value parts v)) × May (value parts v))
+    → Tells spell May (front ++ bytes) (reads parts bytes)
+all_tell (made x) front bytes spell May fits spelled =
+    let s = spelled tt tt in
+    (ap (λ l. l ++ bytes) (sym (append-nil front) ∙ s.0), s.1)
+all_tell (part {B} {read} {write} {Can} p more) front bytes spell May fits spelled =
+    (elim (read bytes) as (λ (r : Read B). Tells write Can bytes r → Tells spell May (front ++ bytes) (r >>= λ y. reads (more y.0) y.1)) [
+      | Some y ↦ λ t.
+          let told = all_tell (more y.0) (front ++ write y.0) y.1 spell May (behind_bytes (write y.0) y.1 (subst AreBytes t.0 fits))
+          (λ v can. let s = spelled (y.0, v) (t.1, can) in (append_assoc front (write y.0) (texts (more y.0) v) ∙ s.0, s.1)) in
+          subst (λ l. Tells spell May l (reads (more y.0) y.1)) (append_assoc front (write y.0) y.1 ∙ ap (λ l. front ++ l) (sym t.0)) told
+      | None ↦ λ r.
           let behind = some_values (more r.value) in
-          let text = texts (more r.value) behind.0 in
+          let last = texts (more r.value) behind.0 in
+          let s = spelled (r.value, behind.0) (r.fits, behind.1) in
+          let whole = sym (append_assoc bytes (r.next ∷ r.more) last) ∙ ap (λ l. l ++ last) r.whole in
           record {
-            value = (r.value, behind.0);
-            fits = (r.fits, behind.1);
+            value = value (more r.value) behind.0;
+            fits = s.1;
             next = r.next;
-            more = r.more ++ text;
-            whole = sym (append_assoc bytes (r.next ∷ r.more) text) ∙ ap (λ t. t ++ text) r.whole;
+            more = r.more ++ last;
+            whole = append_assoc front bytes (r.next ∷ (r.more ++ last)) ∙ ap (λ l. front ++ l) whole ∙ s.0;
           }
-      | inr b ↦
-          let t = p.takes bytes b.0.0 b.0.1 fits b.1 in
-          let front = write b.0.0 in
-          let r = all_cut (more b.0.0) b.0.1 (behind_bytes front b.0.1 (subst AreBytes t.0 fits)) b.2 in
-          let left : List ℕ = r.next ∷ r.more in
-          record {
-            value = (b.0.0, r.value);
-            fits = (t.1, r.fits);
-            next = r.next;
-            more = r.more;
-            whole = ap (λ t. t ++ left) t.0 ∙ append_assoc front b.0.1 left ∙ ap (λ t. front ++ t) r.whole;
-          }
-    ]
+    ]) (tells p bytes fits (read bytes) refl)
 
 -- what parts make is spelled as they are
 pub record SpelledAs {A : Type 0} (parts : Parts A) (write : A → List ℕ) (Can : A → Type 0) (v : Values parts) : Type 0 where
@@ -155,23 +142,14 @@ pub record SpelledAs {A : Type 0} (parts : Parts A) (write : A → List ℕ) (Ca
 pub parts_are_part : {A : Type 0} (parts : Parts A) (write : A → List ℕ) (Can : A → Type 0)
     → ((v : Values parts) → AllCan parts v → SpelledAs parts write Can v) → ((x : A) → Can x → Makes parts x)
     → IsPart (reads parts) write Can
-parts_are_part {A} parts write Can spelled makes = record {
-  takes = λ bytes x rest fits e.
-      let f = all_take parts bytes x rest fits e in
-      let s = spelled f.0.values f.0.can in
-      (f.1 ∙ ap (λ t. t ++ rest) (s.text ∙ ap write f.0.is), subst Can f.0.is s.can);
-  again = λ x rest can.
-      let m = makes x can in
-      let text : write x ≡ texts parts m.values = ap write (sym m.is) ∙ sym (spelled m.values m.can).text in
-      rw text (all_again parts m.values rest m.can ∙ ap (λ y. Some (y, rest)) m.is);
-  cut = λ bytes fits e.
-      let r = all_cut parts bytes fits e in
-      let s = spelled r.value r.fits in
-      record { value = value parts r.value; fits = s.can; next = r.next; more = r.more; whole = r.whole ∙ s.text };
-  one =
-      let some = some_values parts in
-      (value parts some.0, (spelled some.0 some.1).can);
-}
+parts_are_part {A} parts write Can spelled makes =
+    told_part
+    (λ bytes fits. all_tell parts [] bytes write Can fits (λ v can. let s = spelled v can in (s.text, s.can)))
+    (λ x rest can.
+    let m = makes x can in
+    let text : write x ≡ texts parts m.values = ap write (sym m.is) ∙ sym (spelled m.values m.can).text in
+    rw text (all_again parts m.values rest m.can ∙ ap (λ y. Some (y, rest)) m.is))
+    (let some = some_values parts in (value parts some.0, (spelled some.0 some.1).can))
 
 -- ---- a part that is there or not
 
@@ -179,23 +157,14 @@ parts_are_part {A} parts write Can spelled makes = record {
 abbrev pub IsThere : {A : Type 0} → Bool → (A → Type 0) → Option A → Type 0
 IsThere present Can o = (present ≡ is_some o) × IfSome o Can
 
--- no part makes no value
-makes_none : {A : Type 0} (Can : A → Type 0) (o : Option A) → IsThere false Can o → Makes {A = Option A} (made None) o
-makes_none Can None there = record { values = tt; can = tt; is = refl }
-makes_none Can (Some x) there = absurd (cc there.0)
-
--- a part makes its value
-makes_some : {A : Type 0} {read : List ℕ → Read A} {write : A → List ℕ} {Can : A → Type 0} (p : IsPart read write Can) (o : Option A)
-    → IsThere true Can o → Makes (part p (λ x. made (Some x))) o
-makes_some p None there = absurd (cc there.0)
-makes_some p (Some x) there = record { values = (x, tt); can = (there.1, tt); is = refl }
-
 -- a part that is there or not is a part
 pub optional_is_part : {A : Type 0} {read : List ℕ → Read A} (write : Option A → List ℕ) {Can : A → Type 0}
     → write None ≡ [] → IsPart read (λ x. write (Some x)) Can
     → (present : Bool) → IsPart (optional present read) write (IsThere present Can)
 optional_is_part write {Can} none p false =
-    parts_are_part (made None) write _ (λ v can. record { text = sym none; can = (refl, tt) }) (makes_none Can)
-optional_is_part write none p true =
-    parts_are_part (part p (λ x. made (Some x))) write _
-    (λ v can. record { text = append-nil _; can = (refl, can.0) }) (makes_some p)
+    parts_are_part (made None) write (IsThere false Can) (λ v can. record { text = sym none; can = (refl, tt) })
+    (elim [ None ↦ λ there. record { values = tt; can = tt; is = refl } | Some x ↦ λ there. absurd (cc there.0) ])
+optional_is_part write {Can} none p true =
+    parts_are_part (part p (λ x. made (Some x))) write (IsThere true Can)
+    (λ v can. record { text = append-nil _; can = (refl, can.0) })
+    (elim [ None ↦ λ there. absurd (cc there.0) | Some x ↦ λ there. record { values = (x, tt); can = (there.1, tt); is = refl } ])

@@ -1,20 +1,13 @@
 -- What a caller's calls did, from what its pass did.
-use Rattle.idsm_api.proofs.Names.{◌≡◌, ℕ, ◌+◌, ◌∙◌, List, [], ◌∷◌, length, map, refl, ap, arith, arc_value, length-map, Caller, IsFitCaller, caller_shares, Shared}
-use Rattle.std.proofs.Common.{◌++◌, is_some}
-use Rattle.std.proofs.lemmas.List.{map_push}
+use Rattle.idsm_api.proofs.Names.{◌≡◌, ℕ, ◌+◌, ◌∙◌, List, [], ◌∷◌, length, map, refl, ap, arith, arc_value, length-map, Caller, IsFitCaller, caller_shares, Shared, Buffer, ticket_of, accepted_in, CarriesAll, ControlTells, Given, ModeTells, ReportTells, act_with, IsPassOf, calls_in, call_of, lost_contexts, lost_events, missing_in, pass_memo, sizes_of, ◌++◌, is_some, Pass, map_push}
 use Rattle.permit_ring.specs.{got_of, machine_ticket}
-use Rattle.report_queue.specs.Parts.{ticket_of}
-use Rattle.buffer_classes.specs.Buffers.{Buffer}
 use Rattle.ids_types.specs.Carries.{carried_by}
 use Rattle.report_api.proofs.{OneCall, lost_call, lost_event, put_call, put_without}
-use Rattle.report_api.specs.{CarriesAll, ControlTells, Given, ModeTells, ReportTells, act_with, IsPassOf, calls_in, call_of, lost_contexts, lost_events, missing_in, pass_memo, sizes_of}
 use Rattle.report_api.specs.Names.{Act, Carried, Absent, Kept, Missing, SetMode, Got, Lost, Outcome, PassMemo}
-use Rattle.report_api.specs.declared.pass.Pass.{Pass}
 use Rattle.report_api.specs.declared.answer.Control.{Control}
 use Rattle.report_api.specs.declared.answer.Control.TheVariants as controls
 use Rattle.report_api.specs.declared.answer.Report.{Report as ReportAnswer}
 use Rattle.report_api.specs.declared.answer.Report.TheVariants as reports
-use Rattle.law_closing.specs.Calls.{accepted_in}
 use Rattle.idsm_api.specs.{report_answer, HasAll, IsSameCaller, ReportDoes, ReportLogs, log_in, log_of, Reports, Sets, asked_mode, asked_state}
 
 -- how many tickets an outcome got

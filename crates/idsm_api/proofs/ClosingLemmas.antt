@@ -1,18 +1,7 @@
 -- All callers of a manager, and how they come back to it.
-use Rattle.idsm_api.proofs.Names.{◌≡◌, ℕ, ◌+◌, ◌∙◌, List, [], ◌∷◌, length, map, refl, sym, ap, subst, arith, length-map, Pass, Shared, Caller, Manager, IsFitCaller, caller_shares, chain_events, manager_shares}
-use Rattle.std.proofs.Common.{◌<◌, ◌++◌, reverse, slice_index_or, sum_by}
-use Rattle.std.proofs.lemmas.List.{append_assoc, map_push, reverse-append}
+use Rattle.idsm_api.proofs.Names.{◌≡◌, ℕ, ◌+◌, ◌∙◌, List, [], ◌∷◌, length, map, refl, sym, ap, subst, arith, length-map, Pass, Shared, Caller, Manager, IsFitCaller, caller_shares, chain_events, manager_shares, at_length, there, queue_positions, accepted_in, some, some-injective, desk_memo, PassMemo, IsPassOf, lost_events, missing_in, pass_memo, sizes_of, room_of, at_map, ◌<◌, ◌++◌, reverse, slice_index_or, sum_by, most_sent, AreCountsOf, AreAllPasses, largest_size, append_assoc, map_push, reverse-append}
 use Rattle.std.proofs.lemmas.List.Sums.{sum_by-cons}
-use mathlib.Core.Option.{some, some-injective}
-use Rattle.atomic_table.proofs.Lists.{at_map}
-use Rattle.filter_chain.specs.Turning.{most_sent}
-use Rattle.ids_types.specs.Output.{room_of}
-use Rattle.report_queue.specs.Parts.{queue_positions}
 use Rattle.law_closing.proofs.{or_at}
-use Rattle.law_closing.specs.Calls.{accepted_in}
-use Rattle.permit_ring.proofs.ListLemmas.{at_length, there}
-use Rattle.report_api.specs.{desk_memo, PassMemo, IsPassOf, lost_events, missing_in, pass_memo, sizes_of}
-use Rattle.main_function.specs.{AreCountsOf, AreAllPasses, largest_size}
 use Rattle.main_function.specs.declared.rest.Totals.{Totals}
 use Rattle.idsm_api.specs.{AreAllCallers, AreCounted, IsSameCaller, number_of, passes_of, IsFitManager, TurnMade}
 

@@ -1,19 +1,10 @@
 -- What is made is fit.
-use Rattle.idsm_api.proofs.Names.{◌≡◌, ℕ, ◌≤◌, ◌∙◌, List, length, map, sym, ap, subst, length-map, All, Parts, Pass, Shared, Caller, Manager as IdsManager, IsFitCaller, caller_shares, chain_events, chain_kept, chain_stands, manager_shares}
-use Rattle.std.proofs.Common.{vec_capacity}
-use mathlib.Core.Option.{some}
+use Rattle.idsm_api.proofs.Names.{◌≡◌, ℕ, ◌≤◌, ◌∙◌, List, length, map, sym, ap, subst, length-map, All, Parts, Pass, Shared, Caller, Manager as IdsManager, IsFitCaller, caller_shares, chain_events, chain_kept, chain_stands, manager_shares, at_length, there, Buffer, queue_positions, queue_seats, some, IsPassOf, sizes_of, PassMemo, at_map, vec_capacity, most_sent, IsNewManager, largest_size}
 use lib.ListN.{get_elem?}
-use Rattle.atomic_table.proofs.Lists.{at_map}
-use Rattle.permit_ring.proofs.ListLemmas.{at_length, there}
 use Rattle.law_closing.proofs.PlaceLemmas.{or_at}
-use Rattle.report_api.specs.{IsPassOf, sizes_of, PassMemo}
-use Rattle.main_function.specs.{IsNewManager, largest_size}
 use Rattle.main_function.specs.declared.manager.Manager.{Manager}
-use Rattle.buffer_classes.specs.Buffers.{Buffer}
 use Rattle.event_chain.specs.Chained.{Chained}
 use Rattle.ids_types.specs.declared.class_spec.ClassSpec.{ClassSpec}
-use Rattle.filter_chain.specs.Turning.{most_sent}
-use Rattle.report_queue.specs.Parts.{queue_positions, queue_seats}
 use Rattle.idsm_api.specs.{AreAllCallers, log_in, log_of, no_calls, passes_of, most_bytes}
 
 module _ (config : Parts) (shared : Shared) (passes : List Pass) (m : Manager (Chained Buffer))

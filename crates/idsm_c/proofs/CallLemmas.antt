@@ -1,8 +1,6 @@
 -- What a call answers on a handle that has a role, which the call sees in its box.
-use Rattle.idsm_c.proofs.Names.{◌≡◌, ℕ, List, subst, ◌∙◌, ap, Option, Some}
-use Rattle.idsm_api.specs.{code_of, RoleTurns}
+use Rattle.idsm_c.proofs.Names.{◌≡◌, ℕ, List, subst, ◌∙◌, ap, Option, Some, Role, code_of, RoleTurns}
 use Rattle.idsm_api.specs.declared.answer.Answer.{Answer}
-use Rattle.idsm_api.specs.declared.role.Role.{Role}
 use Rattle.idsm_api.specs.declared.turning.TurnAnswer.{TurnAnswer}
 use Rattle.idsm_c.specs.Calls.{Handles}
 use Rattle.idsm_c.specs.Turning.{HandleTurns, sent_of}

@@ -1,29 +1,13 @@
 -- The machine values of a `Loose` and of a `Handle`. Assumes `Logic`.
-use Rattle.idsm_c.proofs.Names.{◌≡◌, ℕ, List, [], ◌∷◌, ◌++◌, refl, subst, dnil, Val, vptr, vstruct, vcons, vnil, of_list, full_share, ftrue, SProp, ent, never, fst∗, sem, use1, ‵, ◌$◌, move, fsplit, fjoin, fpick, feq_i, feq_l, RattleType, RawPtr, plain, lone, Ptr, block_ptr, null_ptr, ptr_val, in_a_block, nothing, layout, shape, handle_tells, Good, box_owns, and_tt, held, IsFit, Option, Some, None, Global}
-use Rattle.std.proofs.Common.{zero, suc}
+use Rattle.idsm_c.proofs.Names.{◌≡◌, ℕ, List, [], ◌∷◌, ◌++◌, refl, subst, dnil, Val, vptr, vstruct, vcons, vnil, of_list, full_share, ftrue, SProp, ent, never, fst∗, sem, use1, ‵, ◌$◌, move, fsplit, fjoin, fpick, feq_i, feq_l, RattleType, RawPtr, plain, lone, Ptr, block_ptr, null_ptr, ptr_val, in_a_block, nothing, layout, shape, handle_tells, Good, box_owns, and_tt, held, IsFit, Option, Some, None, Global, lies_at, Testable, Al, Logic, zero, suc, fact_use, Laws, guard, guard_i, snd∗, via, impl, tnil, ghosts, unit, given, learn, Item, Goal, Seq, Step, step, drop, fpack, within, Slot, bare, has_ty, WT, Valss}
 use mathlib.Core.Bool.{true, ◌&&◌}
 use lib.Dec.{T}
 use seplogic.Ra.Ura.{Ura}
-use mir.Syntax.{impl, tnil}
-use mir.Raw.{raw as bare}
-use mir.Val.{has_ty, WT}
-use base.Logic.{guard, guard_i, snd∗, via}
-use types.Logic.{Logic}
-use types.Kit.{given, learn, Item, Goal, Seq, Step, step, drop, fpack}
-use denote.RattleType.{Valss}
-use denote.Builtin.{unit}
-use denote.Signature.{Slot}
-use contract.Monad.{fact_use}
-use denote.RawPtr.{lies_at, Testable}
-use denote.Param.Laws.{Laws}
-use denote.Struct.Struct.{within}
 use Rattle.core.specs.declared.alloc.Allocator.{Ghosts}
-use Rattle.core.proofs.alloc.Calls.{Al}
 use Rattle.idsm_c.specs.contracts.loose.Loose as loose
 use Rattle.idsm_api.specs.contracts.role.Role as role
 use Rattle.idsm_c.specs.contracts.handle.Handle as handle
 use Rattle.idsm_c.specs.Held.{boxed, filled}
-use Rattle.std.specs.contracts.impls.GlobalAllocator.TheImpl.{ghosts}
 use Rattle.std.proofs.GlobalToken.{dealloc_token-Testable}
 
 -- parameter k of a signature

@@ -1,17 +1,14 @@
 -- Which handles have something, and how they are filled, one by one.
-use Rattle.idsm_c.proofs.Names.{◌≡◌, ℕ, ◌+◌, ◌≤◌, ◌∙◌, List, [], ◌∷◌, ◌++◌, length, take, false, sym, ap, arith, Option, Some, All, Global, IsFit, caller_roles, contents_of, is_taken, roles_in, Roles}
+use Rattle.idsm_c.proofs.Names.{◌≡◌, ℕ, ◌+◌, ◌≤◌, ◌∙◌, List, [], ◌∷◌, ◌++◌, length, take, false, sym, ap, arith, Option, Some, All, Global, IsFit, caller_roles, contents_of, is_taken, roles_in, Roles, All-map, Role, is_some, Result, Ok, Err}
 use Rattle.std.proofs.Common.{◌<◌, map, drop, set, get_or, true, ◌||◌, append_assoc}
-use Rattle.std.specs.Prelude.{is_some, Result, Ok, Err}
 use Rattle.std.specs.declared.boxed.Box.{Box}
 use Rattle.std.proofs.Math.Seq.{map-set_same}
 use Rattle.std.proofs.lemmas.List.{drop-set, get_or-map, length-map, length-set, length-append, map-append, map-set}
-use Rattle.std.proofs.lemmas.List.Elements.{All-map}
 use Rattle.std.proofs.lemmas.List.Folds.{list_any_at, list_any_more}
 use Rattle.ids_config.specs.Parts.{Parts}
 use Rattle.ids_config.specs.declared.fault.ConfigFault.{ConfigFault}
 use Rattle.idsm_api.specs.Making.{MakesSetup}
 use Rattle.idsm_api.specs.declared.making.Setup.{Setup}
-use Rattle.idsm_api.specs.declared.role.Role.{Role}
 use Rattle.idsm_api.specs.declared.role.Role.TheVariants.{Calls, Turns}
 use Rattle.idsm_c.specs.Making.{AreFit, AreNew, IsMade}
 use Rattle.idsm_c.specs.declared.handle.Handle.{Handle}

@@ -8,7 +8,6 @@ pub use Rattle.std.specs.Ordering.{nat_cmp}
 pub use Rattle.std.specs.Prelude.{Option, Some, decimal, Result, Ok, Err, IfOk, IfErr, option_map, slice_get}
 pub use Rattle.ids_types.specs.Turns.{Turn, turn_at, begun}
 pub use Rattle.text_spec.proofs.JournalFacts.{flat_map-push, entry_passes}
-pub use Rattle.text_spec.proofs.FrontLemmas.{bind_again}
 pub use Rattle.text_spec.proofs.LastLemmas.{last_context, last_hex}
 pub use Rattle.text_spec.proofs.NumberLists.{with_front, front_more, numbers_more}
 pub use Rattle.text_spec.proofs.WordsLemmas.{text_of-map, one_more}

@@ -1,10 +1,6 @@
 -- The logs of rings as plain data.
-use Rattle.std.proofs.Common.{◌≡◌, ◌≢◌, ℕ, suc, ◌≤◌, Some, List, [], ◌∷◌, map, refl, sym, ap, subst, ◌∙◌, ne_eqb, arith}
-use mathlib.Core.Option.{some}
-use lib.ListN.{get_elem?}
+use Rattle.law_closing.proofs.Names.{some, decided_on, get_elem?, length-map, ◌≡◌, ◌≢◌, ℕ, suc, ◌≤◌, Some, List, [], ◌∷◌, map, refl, sym, ap, subst, ◌∙◌, ne_eqb, arith}
 use Rattle.ids_types.specs.Fates.{AreAllDecided, claims_got}
-use Rattle.ids_types.proofs.FatesLemmas.{decided_on}
-use Rattle.std.proofs.lemmas.List.{length-map}
 use Rattle.history_spec.specs.Settled.{IsSettledLog, claims_by}
 use Rattle.permit_ring.specs.{IsWholeLog, fate_of, got_of, taken_by}
 use Rattle.permit_ring.specs.declared.memo.Outcome.{Outcome}
@@ -16,7 +12,7 @@ module _ {N : Type 0} where
   pub got_as : (log : List (Outcome N)) → claims_got (map fate_of log) ≡ map (λ x. x.0) (got_of log)
   got_as [] = refl
   got_as (Lost g ∷ log) = got_as log
-  got_as (Got t x ∷ log) = ap (λ ts. t ∷ ts) (got_as log)
+  got_as (Got t x ∷ log) = cc (got_as log)
 
 -- the seats of the tickets that were taken are the claimants
 pub claimed_as : (i t : ℕ) (taken : List (ℕ × Unit {0}))

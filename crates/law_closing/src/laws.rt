@@ -21,6 +21,7 @@ pub fn closed_desks_have_all_calls()
 {}
 
 /// What was taken is as many items as calls of the passes were accepted.
+#[tactic(auto, using(crate::proofs::CountLemmas::all_accepted))]
 pub fn as_many_items_as_accepted_calls()
     ensures { (desk : DeskMemo) (passes : List PassMemo) → IsAllTaken desk → desk.back ≡ map came passes →
         length desk.notes ≡ sum_by accepted_in passes }

@@ -1,8 +1,6 @@
 -- What a close leaves.
-use Rattle.main_function.proofs.Names.{◌≡◌, ℕ, zero, suc, true, is_some, Option, List, [], ◌∷◌, ◌++◌, length, map, refl, sym, ◌∙◌, sum_by, arith, length-map, sum_by-cons, Turn, Parts, Buffer, AllOf, givers_of, AreAllBack, AreAllSwept, IsAllTaken, EachSettled, IsDeskOf, desk_memo, to_give_back, PassMemo, lost_contexts, lost_events, missing_in, Desk, Shared, all_calls, all_accepted, Closed, OnlyWelcomes, all_back, came, plain_item, IsManagerOf, Stands, Turned, Manager}
-use mathlib.Core.Option.{some}
+use Rattle.main_function.proofs.Names.{◌≡◌, ℕ, zero, suc, true, is_some, Option, List, [], ◌∷◌, ◌++◌, length, map, refl, sym, ◌∙◌, sum_by, arith, length-map, sum_by-cons, Turn, Parts, Buffer, AllOf, givers_of, AreAllBack, AreAllSwept, IsAllTaken, EachSettled, IsDeskOf, desk_memo, to_give_back, PassMemo, lost_contexts, lost_events, missing_in, Desk, Shared, all_calls, all_accepted, Closed, OnlyWelcomes, all_back, came, plain_item, IsManagerOf, Stands, Turned, Manager, get_elem?, some}
 use Rattle.atomic_table.proofs.Lists.{at_map}
-use lib.ListN.{get_elem?}
 use Rattle.permit_ring.specs.{ended, marks_back}
 use Rattle.main_function.proofs.WelcomeLemmas.{only_back}
 

@@ -1,12 +1,5 @@
 -- The largest of some sizes.
-use Rattle.main_function.proofs.Names.{◌≡◌, ℕ, zero, suc, ◌+◌, ◌≤◌, ◌<◌, max, List, [], ◌∷◌, get_or, length, map, take, arith, take_more, AllAdmitted, class_of, spec_sizes, largest_size, refl, IsSpec}
-use Rattle.ids_types.specs.declared.class_spec.ClassSpec.{ClassSpec}
-use lib.ListN.{get_elem?}
-use mathlib.Core.Option.{some}
-use Rattle.std.proofs.lemmas.List.{map_push}
-use Rattle.std.proofs.lemmas.List.Sums.{fold_push}
-use Rattle.std.specs.List.{fold}
-use Rattle.buffer_classes.specs.Classes.{RiseFrom}
+use Rattle.main_function.proofs.Names.{◌≡◌, ℕ, zero, suc, ◌+◌, ◌≤◌, ◌<◌, max, List, [], ◌∷◌, get_or, length, map, take, arith, take_more, AllAdmitted, class_of, spec_sizes, largest_size, refl, IsSpec, map_push, fold, ClassSpec, fold_push, get_elem?, RiseFrom, some}
 
 -- what a largest begins with is not larger, and no size is
 begun_with : (first : ℕ) (sizes : List ℕ) → first ≤ fold max first sizes

@@ -1,8 +1,6 @@
 -- A manager that has just been made.
-use Rattle.main_function.proofs.Names.{◌≡◌, ℕ, ◌≤◌, None, List, [], length, sym, ap, ◌∙◌, arith, common_steps, length-map, length-replicate, All-nil, Turn, Parts, AllAdmitted, Buffer, spec_sizes, givers_of, IsHeld, IsBuilt, IsNewManager, largest_size, to_give_back, IsNewMaking, sizes_of, Desk, Pass, Shared, at_length, there, rings_have, or_at, Manager}
+use Rattle.main_function.proofs.Names.{◌≡◌, ℕ, ◌≤◌, None, List, [], length, sym, ap, ◌∙◌, arith, common_steps, length-map, length-replicate, All-nil, Turn, Parts, AllAdmitted, Buffer, spec_sizes, givers_of, IsHeld, IsBuilt, IsNewManager, largest_size, to_give_back, IsNewMaking, sizes_of, Desk, Pass, Shared, at_length, there, rings_have, or_at, Manager, ClassSpec, RiseFrom}
 use Rattle.main_function.proofs.LargestLemmas.{rise_above}
-use Rattle.buffer_classes.specs.Classes.{RiseFrom}
-use Rattle.ids_types.specs.declared.class_spec.ClassSpec.{ClassSpec}
 use Rattle.buffer_classes.specs.declared.class.Class.{Class}
 
 module _ {C : Type 0} (stands : C → Parts → List Turn → Type 0) (events : C → ℕ) (kept : C → List Buffer) (config : Parts) (shared : Shared)

@@ -1,11 +1,11 @@
 -- The names of other crates and of this crate's specs that more than one of its proofs stands on.
 pub use Rattle.std.proofs.Common.{◌≡◌, ℕ, zero, suc, ◌+◌, ◌<◌, true, is_some, Option, List, [], ◌∷◌, ◌++◌, length, map, refl, sym, subst, ap, ◌∙◌, sum, sum_by, arith, ◌*◌, ◌≤◌, IfSome, rules, max, None, get_or, take, ◌^◌, Ok, Err, slice_set, ◌-◌, vec_capacity}
 pub use Rattle.std.proofs.lemmas.Grind.{common_steps, flat_map-append}
-pub use Rattle.std.proofs.lemmas.List.{length-map, length-replicate, map-append, take_more, append-nil, append_assoc}
+pub use Rattle.std.proofs.lemmas.List.{length-map, length-replicate, map-append, take_more, append-nil, append_assoc, length-take-le, set-append_left, take_all, map_push, nil_from_length}
 pub use Rattle.std.proofs.lemmas.List.Elements.{All-from_recursion, All-weaker, recursion_from_All, All-nil, All-push}
-pub use Rattle.std.proofs.lemmas.List.Sums.{sum_by-cons, sum_by_push}
-pub use Rattle.std.specs.List.{All, AllByRecursion}
-pub use Rattle.buffer_classes.specs.{Buffer, AllOf, givers_of, AreBuffersIn, IsSpec, Welcomed, AreGiversOf, late_of, spec_sizes, AreSpecs}
+pub use Rattle.std.proofs.lemmas.List.Sums.{sum_by-cons, sum_by_push, fold_push}
+pub use Rattle.std.specs.List.{All, AllByRecursion, fold}
+pub use Rattle.buffer_classes.specs.{Buffer, AllOf, givers_of, AreBuffersIn, IsSpec, Welcomed, AreGiversOf, late_of, spec_sizes, AreSpecs, GaveBack}
 pub use Rattle.filter_chain.specs.{HandsBack, IsShort, all_parcels, parcel_of, FitsAct, FitsLargest, FitsTurn, bytes_in, turn_by, HasLogRoom, most_sent}
 pub use Rattle.law_closing.proofs.{all_calls, all_accepted, rings_have, or_at}
 pub use Rattle.law_closing.specs.Closed.{came, plain_item}
@@ -24,3 +24,8 @@ pub use Rattle.report_queue.specs.{AreAllBack, AreAllSwept, IsAllTaken, ReapTell
 pub use Rattle.main_function.specs.{Closed, IsQuick, OnlyWelcomes, all_back, ShowsHistory, AreTotals, IsManagerOf, Stands, Turned, IsHeld, held, items_of, MakesTurn, Took, item_of, largest_size, sweeps_for, IsBuilt, IsNewManager}
 pub use Rattle.main_function.specs.declared.manager.Manager.{Manager}
 pub use Rattle.main_function.specs.declared.rest.Totals.{Totals}
+pub use Rattle.buffer_classes.specs.Classes.{RiseFrom}
+pub use Rattle.ids_types.specs.declared.class_spec.ClassSpec.{ClassSpec}
+pub use Rattle.permit_ring.proofs.{end_steps, gave_of, only_reaps, reaps_push}
+pub use lib.ListN.{get_elem?}
+pub use mathlib.Core.Option.{some}

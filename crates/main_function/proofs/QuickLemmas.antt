@@ -1,7 +1,5 @@
 -- How many steps a turn and a close make.
-use Rattle.main_function.proofs.Names.{◌≡◌, ℕ, ◌+◌, ◌<◌, List, length, sym, subst, arith, Entry, Turn, Buffer, AllOf, givers_of, at_length, there, IsDeskOf, desk_memo, Desk, Shared, IsQuick, MakesTurn, OnlyWelcomes}
-use Rattle.buffer_classes.specs.{GaveBack}
-use Rattle.report_queue.specs.{queue_positions}
+use Rattle.main_function.proofs.Names.{◌≡◌, ℕ, ◌+◌, ◌<◌, List, length, sym, subst, arith, Entry, Turn, Buffer, AllOf, givers_of, at_length, there, IsDeskOf, desk_memo, Desk, Shared, IsQuick, MakesTurn, OnlyWelcomes, queue_positions, GaveBack}
 use Rattle.main_function.proofs.ReportLemmas.{turn_adds}
 
 -- a turn, which is made of so many places and gives these buffers back

@@ -1,6 +1,5 @@
 -- A run of takes, one more at a time.
-use Rattle.main_function.proofs.Names.{◌≡◌, ℕ, ◌≤◌, ◌<◌, List, [], ◌∷◌, ◌++◌, length, Ok, Err, arith, All, common_steps, map-append, All-push, Entry, Buffer, AdmitsItem, DeskMemo, ReapTells, Act, item_note, reaps_all, ReportTerms, Took, item_of, items_of}
-use Rattle.permit_ring.proofs.{reaps_push}
+use Rattle.main_function.proofs.Names.{◌≡◌, ℕ, ◌≤◌, ◌<◌, List, [], ◌∷◌, ◌++◌, length, Ok, Err, arith, All, common_steps, map-append, All-push, Entry, Buffer, AdmitsItem, DeskMemo, ReapTells, Act, item_note, reaps_all, ReportTerms, Took, item_of, items_of, reaps_push}
 use Rattle.permit_ring.specs.declared.answer.Unready.{Unready}
 
 -- so far each take had an item

@@ -3,8 +3,7 @@ use Rattle.std.specs.Prelude.{◌≡◌, ℕ, ◌≤◌, List, ◌++◌, length}
 use mathlib.Core.Option.{some}
 use lib.ListN.{get_elem?}
 use Rattle.std.specs.List.Sorted.{IsPermutation}
-use Rattle.buffer_classes.specs.{Buffer, AllOf, GaveBack}
-use Rattle.buffer_classes.specs.declared.giver.Giver.{Giver}
+use Rattle.main_function.specs.Names.{Buffer, AllOf, GaveBack, Giver}
 
 -- the buffer is of one of the classes of these sizes, and holds no more than it can
 pub record IsHeld (sizes : List ℕ) (buf : Buffer) : Type 0 where

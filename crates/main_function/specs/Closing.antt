@@ -1,14 +1,8 @@
 -- The close: all passes come back, and a last turn takes what is left.
 use Rattle.std.specs.Borrow.{Bor}
 use Rattle.std.specs.Prelude.{◌≡◌, ℕ, ◌+◌, List, [], ◌∷◌, ◌++◌, length, map, sum, sum_by, Result, Ok, Err}
-use Rattle.ids_types.specs.Output.{Output}
+use Rattle.main_function.specs.Names.{Output, Shared, Parts, welcomes, Buffer, AllOf, givers_of, filled_count, giver_memo, vacant_count, DeskMemo, PassMemo, desk_memo, lost_events, missing_in, Giver}
 use Rattle.ids_types.specs.Turns.{Turn, entries_of}
-use Rattle.ids_config.specs.Parts.{Parts}
-use Rattle.buffer_classes.specs.{Buffer, AllOf, givers_of, filled_count, giver_memo, vacant_count}
-use Rattle.buffer_classes.specs.declared.giver.Giver.{Giver}
-use Rattle.report_queue.specs.{welcomes}
-use Rattle.report_api.specs.{DeskMemo, PassMemo, desk_memo, lost_events, missing_in}
-use Rattle.report_api.specs.declared.shared.Shared.{Shared}
 use Rattle.law_closing.specs.{HaveAllCalls, accepted_in, came, IsMadeFor}
 use Rattle.main_function.specs.Standing.{IsManagerOf, Stands}
 use Rattle.main_function.specs.Turning.{IsQuick, Turned}

@@ -1,6 +1,7 @@
 pub mod Buffers
 pub mod Closing
 pub mod Making
+pub mod Names
 pub mod Reports
 pub mod Rests
 pub mod Standing

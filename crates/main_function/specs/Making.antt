@@ -1,13 +1,6 @@
 -- A manager that has just been made.
 use Rattle.std.specs.Prelude.{◌≡◌, ℕ, ◌+◌, ◌*◌, ◌≤◌, List, [], vec_capacity}
-use Rattle.ids_types.specs.Turns.{Turn}
-use Rattle.ids_config.specs.Parts.{Parts}
-use Rattle.buffer_classes.specs.{Buffer, spec_sizes}
-use Rattle.report_api.specs.{desk_memo, IsNewMaking}
-use Rattle.report_api.specs.declared.desk.Desk.{Desk}
-use Rattle.report_api.specs.declared.pass.Pass.{Pass}
-use Rattle.report_api.specs.declared.shared.Shared.{Shared}
-use Rattle.law_closing.specs.Closed.{IsMadeFor}
+use Rattle.main_function.specs.Names.{IsMadeFor, Shared, Parts, Buffer, spec_sizes, Desk, Pass, Turn, desk_memo, IsNewMaking}
 use Rattle.main_function.specs.Rests.{no_rests}
 use Rattle.main_function.specs.Standing.{AreAllPasses, HasRoomFor, IsManagerOf, Stands, largest_size, rests_of}
 use Rattle.main_function.specs.declared.manager.Manager.{Manager}

@@ -1,12 +1,10 @@
 -- What the desk shows of a history, and what one more turn does to it.
 use Rattle.std.specs.Prelude.{◌≡◌, ℕ, ◌≤◌, List, [], ◌∷◌, length, map}
 use Rattle.ids_types.specs.{entry_by, Turn, entries_of}
-use Rattle.ids_types.specs.declared.entry.Entry.{Entry}
+use Rattle.main_function.specs.Names.{plain_item, OffersAll, ReapsToEnd, sweeps, Entry}
 use Rattle.buffer_classes.specs.Buffers.{Buffer}
 use Rattle.history_spec.specs.Fronts.{fronts_from}
-use Rattle.report_queue.specs.{OffersAll, ReapsToEnd, sweeps}
 use Rattle.report_api.specs.Names.{DeskMemo}
-use Rattle.law_closing.specs.Closed.{plain_item}
 use Rattle.main_function.specs.Taking.{items_of}
 
 -- the bytes that a buffer holds

@@ -1,7 +1,7 @@
 -- The rests of a manager: when no call was under way, how many turns there were, and how many calls of each pass.
 use Rattle.std.specs.Prelude.{ℕ, List, [], ◌∷◌, ◌++◌, map}
 use Rattle.report_queue.specs.Parts.{calls_of}
-use Rattle.report_api.specs.declared.pass.Pass.{Pass}
+use Rattle.main_function.specs.Names.{Pass}
 use Rattle.main_function.specs.declared.rest.RestLog.{RestLog}
 
 -- what is told of rests: how many turns there were at each, and how many calls of each pass, rest by rest

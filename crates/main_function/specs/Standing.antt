@@ -3,16 +3,9 @@ use Rattle.std.specs.Prelude.{◌≡◌, ℕ, ◌+◌, ◌*◌, ◌≤◌, ◌^�
 use mathlib.Core.Option.{some}
 use lib.ListN.{get_elem?}
 use Rattle.std.specs.List.{All}
-use Rattle.ids_types.specs.Output.{Output, room_of}
-use Rattle.ids_types.specs.Turns.{Turn}
-use Rattle.ids_config.specs.Parts.{Parts}
-use Rattle.filter_chain.specs.{last_tick, most_sent}
+use Rattle.main_function.specs.Names.{Output, room_of, Shared, Parts, queue_positions, last_tick, most_sent, Pass, Turn, DeskMemo, IsDeskOf, desk_memo, to_give_back, IsPassOf, pass_memo, sizes_of}
 use Rattle.permit_ring.specs.Hands.{AllAdmitted}
 use Rattle.buffer_classes.specs.Buffers.{Buffer}
-use Rattle.report_queue.specs.{queue_positions}
-use Rattle.report_api.specs.{DeskMemo, IsDeskOf, desk_memo, to_give_back, IsPassOf, pass_memo, sizes_of}
-use Rattle.report_api.specs.declared.pass.Pass.{Pass}
-use Rattle.report_api.specs.declared.shared.Shared.{Shared}
 use Rattle.main_function.specs.Buffers.{IsHeld}
 use Rattle.main_function.specs.Reports.{ShowsHistory}
 use Rattle.main_function.specs.Rests.{RestsTold, rests_told}

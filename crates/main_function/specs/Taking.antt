@@ -1,11 +1,9 @@
 -- What a turn takes from the desk.
 use Rattle.std.specs.Prelude.{ℕ, ◌≤◌, List, length, map}
 use Rattle.std.specs.List.{All}
-use Rattle.ids_types.specs.declared.entry.Entry.{Entry}
+use Rattle.main_function.specs.Names.{ReapsToEnd, Entry, Act, AdmitsItem, DeskMemo}
 use Rattle.buffer_classes.specs.Buffers.{Buffer}
-use Rattle.report_queue.specs.{ReapsToEnd}
 use Rattle.report_queue.specs.declared.cargo.Item.{Item}
-use Rattle.report_api.specs.{Act, AdmitsItem, DeskMemo}
 use Rattle.report_api.specs.declared.terms.ReportTerms.{ReportTerms}
 
 -- the item that an entry was

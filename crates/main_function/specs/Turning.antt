@@ -3,19 +3,9 @@ use Rattle.std.specs.Borrow.{Bor}
 use mathlib.Core.Option.{some}
 use lib.ListN.{get_elem?}
 use Rattle.std.specs.Prelude.{◌≡◌, ℕ, ◌+◌, ◌*◌, ◌≤◌, ◌<◌, ◌^◌, List, [], ◌∷◌, ◌++◌, length, Result, Ok, Err}
-use Rattle.ids_types.specs.declared.entry.Entry.{Entry}
+use Rattle.main_function.specs.Names.{Output, room_of, IsMadeFor, Shared, Parts, Entry, Sends, handed_of, all_parcels, Buffer, giver_memo, givers_of, Desk, Turn, DeskMemo, desk_memo, Giver}
 use Rattle.ids_types.specs.declared.entry.TurnHead.{TurnHead}
-use Rattle.ids_types.specs.Output.{Output, room_of}
-use Rattle.ids_types.specs.Turns.{Turn}
-use Rattle.ids_config.specs.Parts.{Parts}
-use Rattle.filter_chain.specs.{Sends, handed_of, all_parcels}
-use Rattle.buffer_classes.specs.{Buffer, giver_memo, givers_of}
-use Rattle.buffer_classes.specs.declared.giver.Giver.{Giver}
 use Rattle.history_spec.specs.Contexts.{class_at}
-use Rattle.report_api.specs.{DeskMemo, desk_memo}
-use Rattle.report_api.specs.declared.desk.Desk.{Desk}
-use Rattle.report_api.specs.declared.shared.Shared.{Shared}
-use Rattle.law_closing.specs.Closed.{IsMadeFor}
 use Rattle.main_function.specs.Buffers.{ReturnsBuffers}
 use Rattle.main_function.specs.Reports.{MakesTurn}
 use Rattle.main_function.specs.Standing.{IsManagerOf, Stands}

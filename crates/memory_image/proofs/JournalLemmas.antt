@@ -1,9 +1,6 @@
 -- What a fitting journal tells can be kept: the moments of its first turns, and the records after them.
-use Rattle.memory_image.proofs.Names.{◌≡◌, ℕ, suc, ◌^◌, ◌≤◌, ◌==◌, Bool, true, false, List, [], ◌∷◌, ◌++◌, length, map, min, take, reverse, flat_map, Option, Some, None, IfSome, if◌then◌else◌, option_map, refl, sym, subst, arith, append_assoc, ltb-true, eqb-false, AllByRecursion, Parts, internal_of, Moment, closes, kept_parcel, AreKeepable}
+use Rattle.memory_image.proofs.Names.{◌≡◌, ℕ, suc, ◌^◌, ◌≤◌, ◌==◌, Bool, true, false, List, [], ◌∷◌, ◌++◌, length, map, min, take, reverse, flat_map, Option, Some, None, IfSome, if◌then◌else◌, option_map, refl, sym, subst, arith, append_assoc, ltb-true, eqb-false, AllByRecursion, Parts, internal_of, Moment, closes, kept_parcel, AreKeepable, range_with_len, All-map, recursion_from_All, head_for, heads_of, head_moment, act_moment, turn_moments, moments, qualified, get_or_default, map-append}
 use mathlib.Core.List.{reverse_aux}
-use Rattle.std.specs.List.{range_with_len}
-use Rattle.std.proofs.lemmas.List.{get_or_default, map-append}
-use Rattle.std.proofs.lemmas.List.Elements.{All-map, recursion_from_All}
 use Rattle.ids_types.specs.Turns.{Turn}
 use Rattle.ids_types.specs.declared.entry.Act.{Act}
 use Rattle.ids_types.specs.declared.entry.Act.TheVariants.{Report}
@@ -13,7 +10,6 @@ use Rattle.ids_types.specs.declared.entry.Entry.{Entry}
 use Rattle.ids_types.specs.declared.entry.TurnHead.{TurnHead}
 use Rattle.ids_config.specs.{index_of, IsValid, is_within}
 use Rattle.filter_chain.specs.History.{rows_of}
-use Rattle.chain_spec.specs.{head_for, heads_of, head_moment, act_moment, turn_moments, moments, qualified}
 use Rattle.text_spec.specs.{IsContext, AreHeld, Past, is_act, is_context, has_event, next, start, Fits, IsHeld, journal_grammar, Told, Line, begins, enters, loses, act_fields, turn_told, AreFaultless}
 use Rattle.text_spec.proofs.JournalFacts.{entry_passes, sensor_is_there}
 use Rattle.text_spec.proofs.TraceFacts.{all_append}

@@ -1,8 +1,8 @@
 -- The names of other crates and of this crate's specs that its proofs stand on.
 pub use Rattle.std.proofs.Common.{◌≡◌, ℕ, suc, ◌+◌, ◌-◌, ◌*◌, ◌^◌, ◌<◌, ◌≤◌, ◌⊎◌, ◌==◌, Bool, true, false, nat_lt, List, [], ◌∷◌, ◌++◌, length, reverse, take, get_or, Option, Some, None, IfSome, refl, sym, ap, ap₂, subst, ◌∙◌, inl, inr, arith, rules, append_assoc, Fits, w8, map, min, eq-eqb, lt-ltb, vec_capacity, ◌≢◌, ◌||◌, filter, flat_map, sum_by, if◌then◌else◌, option_to_list, option_and_then, option_map, unwrap_or, eqb-true, ltb-true}
 pub use Rattle.std.proofs.lemmas.Bool.{cases_lt, eqb-false, eqb-true}
-pub use Rattle.std.proofs.lemmas.List.{append-nil, length-append, length-reverse, length-take, take_all, get_or_default, get_or-reverse, get_or_append_left, get_or_at, length-map, nil_from_length, reverse-append}
-pub use Rattle.std.specs.List.{All, AllPairs, position, position_or_len, AllByRecursion, cons_option, list_any}
+pub use Rattle.std.proofs.lemmas.List.{append-nil, length-append, length-reverse, length-take, take_all, get_or_default, get_or-reverse, get_or_append_left, get_or_at, length-map, nil_from_length, reverse-append, map-append, get_or-map, get_or-take}
+pub use Rattle.std.specs.List.{All, AllPairs, position, position_or_len, AllByRecursion, cons_option, list_any, range_with_len}
 pub use Rattle.ids_frame.specs.Bytes.{AreBytes}
 pub use Rattle.ids_types.specs.MemoryRow.{Row}
 pub use Rattle.memory_image.specs.Images.{AreKeepable, Differ, Fields, IsImageOf, fields, IsKeepable, fields_bytes, fields_of, flag_of, joined, number_of, row_bytes}
@@ -15,11 +15,11 @@ pub use Rattle.std.proofs.Math.Seq.{take-nil}
 pub use Rattle.std.proofs.lemmas.Bool.Decides.{nat_tests}
 pub use Rattle.std.proofs.lemmas.List.Concat.{flat_map-append, length-flat_map}
 pub use Rattle.std.proofs.lemmas.List.Edits.{length-remove}
-pub use Rattle.std.proofs.lemmas.List.Elements.{All-head, All-push, All-tail}
+pub use Rattle.std.proofs.lemmas.List.Elements.{All-head, All-push, All-tail, All-map, recursion_from_All, All-from_recursion, All-weaker, filter_passes}
 pub use Rattle.std.proofs.lemmas.List.Sorted.{All-permutation, IsPermutation-reverse, IsPermutation-sym}
 pub use Rattle.std.proofs.lemmas.List.Quantifiers.{all_pairs_push, position-Some}
-pub use Rattle.std.proofs.lemmas.List.Sums.{fails_before_first, sum_by-le, sum_by-take-le, sum_by_more}
-pub use Rattle.chain_spec.specs.{Stored, event_of, newest_rows, row_of, Item, item_at, kept_parcel, told_of, Moment, closes, comes, mode_is, state_is, Stage, added, behind, where_true, with_all}
+pub use Rattle.std.proofs.lemmas.List.Sums.{fails_before_first, sum_by-le, sum_by-take-le, sum_by_more, sum_by-cons}
+pub use Rattle.chain_spec.specs.{Stored, event_of, newest_rows, row_of, Item, item_at, kept_parcel, told_of, Moment, closes, comes, mode_is, state_is, Stage, added, behind, where_true, with_all, head_for, heads_of, head_moment, act_moment, turn_moments, moments, qualified}
 pub use Rattle.event_memory.specs.Held.{Held, Stands, after_storing, after_storing_at, begun, is_of, stored, no_row}
 pub use Rattle.event_memory.proofs.StandsLemmas.{stands_after}
 pub use Rattle.memory_image.specs.Restoring.{HasPlace}
@@ -28,3 +28,4 @@ unfoldable pub use Rattle.memory_image.specs.Reading.{fields_at}
 pub use Rattle.std.specs.Option.{option_or}
 pub use Rattle.std.specs.Prelude.{⊤}
 pub use Rattle.ids_config.specs.Parts.{Parts, event_at, internal_of}
+pub use Rattle.std.proofs.lemmas.List.Folds.{list_any_at, length-flat_map-take}

@@ -1,14 +1,8 @@
 -- The records of stored items can be kept, where each item could be kept in a record of its own and ticks do not fall.
-use Rattle.memory_image.proofs.Names.{◌≡◌, ◌≢◌, ℕ, ◌^◌, ◌<◌, ◌≤◌, ◌==◌, ◌||◌, Bool, true, false, List, [], ◌∷◌, length, take, reverse, filter, get_or, Option, Some, None, IfSome, if◌then◌else◌, unwrap_or, refl, sym, ◌∙◌, arith, eq-eqb, eqb-true, AllPairs, Differ, All-permutation, IsPermutation-reverse, Parts, event_at, Item, AreKeepable}
-use Rattle.std.proofs.lemmas.List.{get_or-map, get_or-reverse, get_or-take, length-map, length-reverse, length-take}
-use Rattle.std.proofs.lemmas.List.Elements.{All-from_recursion, All-weaker, filter_passes}
-use Rattle.std.proofs.lemmas.List.Folds.{list_any_at}
+use Rattle.memory_image.proofs.Names.{◌≡◌, ◌≢◌, ℕ, ◌^◌, ◌<◌, ◌≤◌, ◌==◌, ◌||◌, Bool, true, false, List, [], ◌∷◌, length, take, reverse, filter, get_or, Option, Some, None, IfSome, if◌then◌else◌, unwrap_or, refl, sym, ◌∙◌, arith, eq-eqb, eqb-true, AllPairs, Differ, All-permutation, IsPermutation-reverse, Parts, event_at, Item, AreKeepable, All-from_recursion, All-weaker, filter_passes, Row, list_any_at, begun, get_or-map, get_or-reverse, get_or-take, length-map, length-reverse, length-take, sum_by-cons}
 use Rattle.std.proofs.lemmas.List.Kept.{AllPairs-cons, AllPairs-filter}
-use Rattle.std.proofs.lemmas.List.Sums.{sum_by-cons}
-use Rattle.ids_types.specs.MemoryRow.{Row}
 use Rattle.ids_config.specs.Valid.{IsValid, IsEvent}
 use Rattle.chain_spec.specs.{Stored, event_of, events_of, has_event, renews, run_of, oldest_tick, row_over, row_of, newest_rows, memory_of, stored, stored_of}
-use Rattle.event_memory.specs.Held.{begun}
 use Rattle.event_memory.proofs.EventsLemmas.{is, is_not, any-of-take}
 use Rattle.memory_image.specs.Images.{IsKeepable}
 use Rattle.memory_image.proofs.ChainLemmas.{IsItem, IsShort}

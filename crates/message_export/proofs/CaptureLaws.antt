@@ -1,11 +1,6 @@
 -- What a capture tells of its messages.
-use Rattle.std.proofs.Common.{◌≡◌, ◌<◌, ◌≤◌, ◌^◌, ◌++◌, ◌∷◌, [], ℕ, List, length, map, take, drop, min, refl, sym, ap, ◌∙◌, arith}
-use Rattle.std.specs.Int.{w32, from_be_bytes, to_be_bytes}
-use Rattle.std.specs.List.{AllByRecursion}
-use Rattle.std.proofs.lemmas.List.{append_cancel_left, drop_at, length-take, take_all, take_at}
-use Rattle.std.proofs.lemmas.Grind.{common_steps}
+use Rattle.message_export.proofs.Names.{◌≡◌, ◌<◌, ◌≤◌, ◌^◌, ◌++◌, ◌∷◌, [], ℕ, List, length, map, take, drop, min, refl, sym, ap, ◌∙◌, arith, MessageParts, FitsMessage, AreMessages, spelling, w32, from_be_bytes, to_be_bytes, AllByRecursion, common_steps, append_cancel_left, drop_at, length-take, take_all, take_at}
 use Rattle.std.proofs.lemmas.Nat.{from_be_bytes-to_be_bytes_4}
-use Rattle.ids_frame.specs.{MessageParts, FitsMessage, AreMessages, spelling}
 use Rattle.ids_frame.proofs.MessageLemmas.{one_message_lem}
 use Rattle.message_export.specs.Capture.{Told, capture_front, exported_pcap, kept, no_time, packet, packets, time_after, told_of}
 use Rattle.message_export.specs.declared.capture.Time.{Time}

@@ -1,14 +1,9 @@
 -- Messages are exported one by one: those in front were, and the others are left.
-use Rattle.std.proofs.Common.{◌≡◌, ◌+◌, ◌-◌, ◌<◌, ◌==◌, ◌∷◌, ◌++◌, ℕ, List, [], Ok, Err, arith, false, true, length, drop, refl, sym, ap, ◌∙◌, append_assoc}
-use Rattle.std.proofs.lemmas.Grind.{common_steps}
-use Rattle.std.proofs.lemmas.List.{append-nil, length-append, nil_from_length}
+use Rattle.message_export.proofs.Names.{◌≡◌, ◌+◌, ◌-◌, ◌<◌, ◌==◌, ◌∷◌, ◌++◌, ℕ, List, [], Ok, Err, arith, false, true, length, drop, refl, sym, ap, ◌∙◌, append_assoc, IsByte, AreBytes, MessageParts, IsJoined, joined, AreMessages, messages_read, spelling, CauseOf, line_feed, common_steps, append-nil, length-append, nil_from_length, Front}
 use Rattle.std.proofs.lemmas.List.Elements.{All-drop}
-use Rattle.ids_frame.specs.{IsByte, AreBytes, MessageParts, IsJoined, joined, AreMessages, messages_read, spelling, CauseOf}
 use Rattle.ids_frame.specs.declared.fault.BadMessage.{BadMessage}
 use Rattle.ids_frame.specs.declared.fault.FrameFault.{FrameFault}
-use Rattle.ids_frame.proofs.DecodeLemmas.{Front}
 use Rattle.ids_frame.proofs.MessagesLemmas.{read_is_held}
-use Rattle.text_spec.specs.Words.{line_feed}
 use Rattle.message_export.specs.Capture.{capture_front, no_time, packet, packets, time_after}
 use Rattle.message_export.specs.Exported.{exported, front_of, piece}
 use Rattle.message_export.specs.JsonLines.{json_line, json_lines}

@@ -1,10 +1,5 @@
 -- Pieces of a line that are put one after another.
-use Rattle.std.proofs.Common.{◌≡◌, ◌++◌, ◌∷◌, [], ℕ, List, sym, ap, ◌∙◌, append_assoc, arith}
-use Rattle.std.specs.Prelude.{codes, decimal}
-use Rattle.std.specs.List.{join_with_byte}
-use Rattle.std.proofs.lemmas.Grind.{common_steps, flat_map-append}
-use Rattle.std.proofs.lemmas.List.{append-nil}
-use Rattle.text_spec.specs.Words.{line_feed}
+use Rattle.message_export.proofs.Names.{◌≡◌, ◌++◌, ◌∷◌, [], ℕ, List, sym, ap, ◌∙◌, append_assoc, arith, line_feed, join_with_byte, common_steps, flat_map-append, append-nil, codes, decimal}
 use Rattle.message_export.specs.JsonLines.{comma, continued, object, quoted}
 
 -- a piece, and one after it

@@ -2,3 +2,4 @@ pub mod CaptureLaws
 pub mod ExportLemmas
 pub mod JsonLemmas
 pub mod LineLaws
+pub mod Names

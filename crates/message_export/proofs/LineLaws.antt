@@ -1,19 +1,13 @@
 -- What a line of JSON tells: its members are what stands between its commas.
-use Rattle.std.proofs.Common.{◌≡◌, ◌+◌, ◌<◌, ◌^◌, ◌==◌, ◌∷◌, [], ℕ, Bool, true, not, List, Option, Some, None, drop, get_or, inl, inr, length, refl, sym, ap, ◌∙◌, arith}
-use Rattle.std.specs.Prelude.{IfSome, decimal, codes, if◌then◌else◌}
+use Rattle.message_export.proofs.Names.{◌≡◌, ◌+◌, ◌<◌, ◌^◌, ◌==◌, ◌∷◌, [], ℕ, Bool, true, not, List, Option, Some, None, drop, get_or, inl, inr, length, refl, sym, ap, ◌∙◌, arith, AreBytes, ContextPart, FitsContext, MessageParts, FitsMessage, w64, to_be_bytes, join_with_byte, list_all, slice_split, common_steps, append_cancel_right, get_or_past, IfSome, decimal, codes, if◌then◌else◌}
 use Rattle.std.specs.Char.{is_ascii_digit}
-use Rattle.std.specs.Int.{w64, to_be_bytes}
-use Rattle.std.specs.List.{join_with_byte, list_all, slice_split}
 use Rattle.std.proofs.lemmas.Bool.{and_from, cases_lt}
-use Rattle.std.proofs.lemmas.Grind.{common_steps}
 use Rattle.std.proofs.lemmas.Fmt.{decimal_injective, digits_decimal}
-use Rattle.std.proofs.lemmas.List.{append_cancel_right, get_or_past}
 use Rattle.std.proofs.lemmas.List.Folds.{list_all-append}
 use Rattle.std.proofs.lemmas.Option.{same_Some}
 use Rattle.ids_types.specs.declared.names.Stamp.{Stamp}
 use Rattle.ids_frame.specs.declared.context.Form.{Form}
 use Rattle.ids_frame.specs.declared.context.Form.TheVariants.{Short, Long}
-use Rattle.ids_frame.specs.{AreBytes, ContextPart, FitsContext, MessageParts, FitsMessage}
 use Rattle.text_spec.specs.Below.{IsBytes, encode_lower}
 use Rattle.text_spec.specs.{hex_in, is_lower_digit, stamp_in}
 use Rattle.text_spec.proofs.HexadecimalLemmas.{hex_in-encode_lower, lower_text}

@@ -1,6 +1,5 @@
 -- The slots in the keeper's hand, as one is reaped, filled or offered.
-use Rattle.permit_ring.proofs.Names.{◌≡◌, ℕ, zero, suc, ◌+◌, ◌-◌, ◌%◌, ◌<◌, ◌≤◌, List, [], ◌∷◌, ◌++◌, map, length, replicate, take, drop, get_or, refl, sym, ◌∙◌, ap, ap₂, ⊎_elim, arith, append_assoc, length-map, length-append, length-replicate, replicate_more, map_push, take_at, drop_at, take_more, drop_more, length_push, turned, rest, Slot, Empty, Offered, hand_from, filled_then, ready, KeepsInHand, at_snoc}
-use mathlib.Core.Option.{some-ne-none}
+use Rattle.permit_ring.proofs.Names.{◌≡◌, ℕ, zero, suc, ◌+◌, ◌-◌, ◌%◌, ◌<◌, ◌≤◌, List, [], ◌∷◌, ◌++◌, map, length, replicate, take, drop, get_or, refl, sym, ◌∙◌, ap, ap₂, ⊎_elim, arith, append_assoc, length-map, length-append, length-replicate, replicate_more, map_push, take_at, drop_at, take_more, drop_more, length_push, turned, rest, Slot, Empty, Offered, hand_from, filled_then, ready, KeepsInHand, at_snoc, some-ne-none}
 
 -- a hand that is turned by one more
 pub turned_more : {A : Type 0} (hand : List (ℕ × A)) (i : ℕ) → i < length hand

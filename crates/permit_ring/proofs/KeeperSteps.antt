@@ -1,9 +1,6 @@
 -- Each step of the keeper keeps the rule: no seat changes, and no claim.
-use Rattle.permit_ring.proofs.Names.{◌≡◌, ◌≢◌, ℕ, zero, suc, ◌+◌, ◌%◌, ◌^◌, ◌<◌, ◌≤◌, true, false, eqb, List, [], ◌∷◌, set, length, drop, slice_index, sum, Option, Some, refl, sym, ◌∙◌, ap, ap₂, inl, inr, le_refl, mod-lt, arith, ⊎_elim, cases_eq, length-set, length_push, set-get_or, fold_push, at_set, at_longer, set_here, set_else, State, Act, Valid, step, keeps, takes, gives, chain, put_back, rest, carried_after, homes_after, Allows, SeatView, Step, See, Read, Offer, Sweep, Key, KeeperMemo, SeatMemo, Move, Slot, Offered, Finished, View, Keeps, hand_from, filled_then, AllAdmitted, found_at, is_of_seat, is_of_keeper, by_seat, KeepsInHand, Known, IsWord, ready, saw_mark, read_word, tried_offer, swept_loss, words_of, StandsIn, AreSlots, Counts, IsSeatMemo, Runs, and_move, waits, reaps, reads, offers_all, misses, sweeps, Machine, HasSizes, opening, seat_at, mark_at, next, offered_to, IsRing, packed, small, see_takes_next, see_waits_next, read_next, sweep_next, offer_takes_next, offer_misses_next, word_packs, seen_packs, missed_field_falls, next_keeps, same_position, other_word, packed_apart, eq-eqb, ne_eqb, PermitWord, ◌++◌}
-use mathlib.Core.Option.{some, none}
+use Rattle.permit_ring.proofs.Names.{◌≡◌, ◌≢◌, ℕ, zero, suc, ◌+◌, ◌%◌, ◌^◌, ◌<◌, ◌≤◌, true, false, eqb, List, [], ◌∷◌, set, length, drop, slice_index, sum, Option, Some, refl, sym, ◌∙◌, ap, ap₂, inl, inr, le_refl, mod-lt, arith, ⊎_elim, cases_eq, length-set, length_push, set-get_or, fold_push, at_set, at_longer, set_here, set_else, State, Act, Valid, step, keeps, takes, gives, chain, put_back, rest, carried_after, homes_after, Allows, SeatView, Step, See, Read, Offer, Sweep, Key, KeeperMemo, SeatMemo, Move, Slot, Offered, Finished, View, Keeps, hand_from, filled_then, AllAdmitted, found_at, is_of_seat, is_of_keeper, by_seat, KeepsInHand, Known, IsWord, ready, saw_mark, read_word, tried_offer, swept_loss, words_of, StandsIn, AreSlots, Counts, IsSeatMemo, Runs, and_move, waits, reaps, reads, offers_all, misses, sweeps, Machine, HasSizes, opening, seat_at, mark_at, next, offered_to, IsRing, packed, small, see_takes_next, see_waits_next, read_next, sweep_next, offer_takes_next, offer_misses_next, word_packs, seen_packs, missed_field_falls, next_keeps, same_position, other_word, packed_apart, eq-eqb, ne_eqb, PermitWord, ◌++◌, get_elem?, some, none, add-mod_right}
 use mathlib.Core.Option as maybe
-use native.Mathlib.Nat.{add-mod_right}
-use lib.ListN.{get_elem?}
 use prog.Atomic.{either}
 use Rattle.permit_ring.proofs.HandLemmas.{ready_is}
 use Rattle.permit_ring.proofs.ListLemmas.{at_end, at_length}

@@ -1,7 +1,5 @@
 -- Elements of a list by their place.
-use Rattle.permit_ring.proofs.Names.{◌≡◌, ℕ, zero, suc, ◌<◌, ◌⊎◌, List, [], ◌∷◌, ◌++◌, length, refl, ap, inl, inr, arith, ⊎_elim}
-use mathlib.Core.Option.{some}
-use lib.ListN.{get_elem?}
+use Rattle.permit_ring.proofs.Names.{◌≡◌, ℕ, zero, suc, ◌<◌, ◌⊎◌, List, [], ◌∷◌, ◌++◌, length, refl, ap, inl, inr, arith, ⊎_elim, get_elem?, some}
 
 module _ {A : Type 0} where
   -- a place with an element is one of the list

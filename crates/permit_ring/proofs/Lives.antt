@@ -1,7 +1,5 @@
 -- Splits and joins keep the rule: the keeper makes one more seat, or takes one back.
-use Rattle.permit_ring.proofs.Names.{◌≡◌, ◌≢◌, ℕ, ◌+◌, ◌<◌, true, false, cond, eqb, List, [], ◌∷◌, ◌++◌, set, length, Some, None, refl, sym, ◌∙◌, ap, inl, inr, le_refl, eq-eqb, ne_eqb, arith, ⊎_elim, common_steps, length-append, length-set, State, Joins, Splits, at_set, set_here, set_else, at_longer, at_last, Machine, opening, new_seat, after, seat_at, is_idle, with_seat, split_next, join_next, SameHolders, holders_stay_push, live_is_made, holders_stay, seat_at-here, seat_at-else, SeatView, Split, Join, Key, KeeperMemo, Move, SeatMemo, Slot, View, Sits, Keeps, Spent, Leads, by_seat, by_keeper, join_both, join_spent, split_left, split_right, IsSeatMemo, Runs, and_move, ended, new_memo, makes, welcomes}
-use mathlib.Core.Option.{some}
-use lib.ListN.{get_elem?}
+use Rattle.permit_ring.proofs.Names.{◌≡◌, ◌≢◌, ℕ, ◌+◌, ◌<◌, true, false, cond, eqb, List, [], ◌∷◌, ◌++◌, set, length, Some, None, refl, sym, ◌∙◌, ap, inl, inr, le_refl, eq-eqb, ne_eqb, arith, ⊎_elim, common_steps, length-append, length-set, State, Joins, Splits, at_set, set_here, set_else, at_longer, at_last, Machine, opening, new_seat, after, seat_at, is_idle, with_seat, split_next, join_next, SameHolders, holders_stay_push, live_is_made, holders_stay, seat_at-here, seat_at-else, SeatView, Split, Join, Key, KeeperMemo, Move, SeatMemo, Slot, View, Sits, Keeps, Spent, Leads, by_seat, by_keeper, join_both, join_spent, split_left, split_right, IsSeatMemo, Runs, and_move, ended, new_memo, makes, welcomes, get_elem?, some}
 use Rattle.permit_ring.proofs.LogLemmas.{taken_none}
 use Rattle.permit_ring.proofs.ListLemmas.{at_end, at_length}
 use Rattle.permit_ring.proofs.MoveLemmas.{leads_on, by_seat-else, by_keeper-own}

@@ -1,9 +1,5 @@
 -- The log of a seat and what became of tickets, with one call or one ticket more.
-use Rattle.permit_ring.proofs.Names.{◌≡◌, ◌≢◌, ℕ, zero, suc, ◌+◌, ◌<◌, ◌≤◌, ◌⊎◌, Bool, true, false, cond, List, [], ◌∷◌, ◌++◌, set, Option, Some, None, refl, sym, ◌∙◌, ap, inl, inr, eqb, eq-eqb, ne_eqb, eqb-true, arith, lt-ltb, le-ltb, common_steps, at_map, map, PermitWord, Outcome, Lost, Got, start_of, end_of, RisesFrom, end_from, got_of, taken_by, and_lost}
-use mathlib.Core.Option.{some}
-use lib.ListN.{get_elem?}
-use Rattle.ids_types.specs.Fates.{lost}
-use Rattle.ids_types.proofs.FatesLemmas.{fate_within}
+use Rattle.permit_ring.proofs.Names.{◌≡◌, ◌≢◌, ℕ, zero, suc, ◌+◌, ◌<◌, ◌≤◌, ◌⊎◌, Bool, true, false, cond, List, [], ◌∷◌, ◌++◌, set, Option, Some, None, refl, sym, ◌∙◌, ap, inl, inr, eqb, eq-eqb, ne_eqb, eqb-true, arith, lt-ltb, le-ltb, common_steps, at_map, map, PermitWord, Outcome, Lost, Got, start_of, end_of, RisesFrom, end_from, got_of, taken_by, and_lost, get_elem?, some, fate_within, lost}
 use Rattle.permit_ring.specs.Logs.{fate_of}
 
 module _ {N : Type 0} where

@@ -1,8 +1,6 @@
 -- A ring that has just been made: it keeps the rule, and its keeper and seats stand.
-use Rattle.permit_ring.proofs.Names.{◌≡◌, ℕ, zero, suc, ◌+◌, ◌%◌, ◌<◌, List, [], ◌∷◌, ◌++◌, length, refl, sym, ◌∙◌, ap, mod-eq_of_lt, arith, ⊎_elim, map, replicate, length_push, length-map, all_free, opening, packed, Slot, Ring, Seat, Key, Offered, IsOrdered, made_memo, IsNewSeat, AreNewSeats, new_memo, IsUntouched, SeatMemo, Option, None, replicate_more, first_memo, AllAdmitted, HasOffered, IsKey, first_view, Runs, at_map}
-use mathlib.Core.Option.{some-ne-none, some}
+use Rattle.permit_ring.proofs.Names.{◌≡◌, ℕ, zero, suc, ◌+◌, ◌%◌, ◌<◌, List, [], ◌∷◌, ◌++◌, length, refl, sym, ◌∙◌, ap, mod-eq_of_lt, arith, ⊎_elim, map, replicate, length_push, length-map, all_free, opening, packed, Slot, Ring, Seat, Key, Offered, IsOrdered, made_memo, IsNewSeat, AreNewSeats, new_memo, IsUntouched, SeatMemo, Option, None, replicate_more, first_memo, AllAdmitted, HasOffered, IsKey, first_view, Runs, at_map, get_elem?, some-ne-none, some}
 use Rattle.permit_ring.proofs.ListLemmas.{at_end, there}
-use lib.ListN.{get_elem?}
 use Rattle.atomic_table.specs.Table as table
 use Rattle.ring_core.proofs.Opens.{opens}
 

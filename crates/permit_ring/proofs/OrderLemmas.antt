@@ -1,7 +1,5 @@
 -- Tickets are got in the order of all moves.
-use Rattle.permit_ring.proofs.Names.{◌≡◌, ℕ, zero, suc, ◌+◌, ◌<◌, ◌≤◌, true, false, List, [], ◌∷◌, take, arith, common_steps, Machine, IsRing, after, word_packs, unpacked-packed, after_keeps, after_sizes, opening, opens, length, State, Key, Slot, View, Runs, Move, found_at, Leads}
-use mathlib.Core.Option.{some}
-use lib.ListN.{get_elem?}
+use Rattle.permit_ring.proofs.Names.{◌≡◌, ℕ, zero, suc, ◌+◌, ◌<◌, ◌≤◌, true, false, List, [], ◌∷◌, take, arith, common_steps, Machine, IsRing, after, word_packs, unpacked-packed, after_keeps, after_sizes, opening, opens, length, State, Key, Slot, View, Runs, Move, found_at, Leads, get_elem?, some}
 use Rattle.permit_ring.proofs.ListLemmas.{at_length}
 use Rattle.permit_ring.specs.Order.{gets_ticket, ticket_at, tickets_got, AreCounted, AreInOrder}
 

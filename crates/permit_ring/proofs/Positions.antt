@@ -1,7 +1,5 @@
 -- A ticket's position by a mask.
-use Rattle.permit_ring.proofs.Names.{◌≡◌, ℕ, zero, suc, ◌-◌, ◌%◌, ◌^◌, ◌≤◌, sym, ◌∙◌, ap, arith, cases_eq}
-use Rattle.std.proofs.Common.{◌/◌, ⊎_elim}
-use Rattle.std.specs.Prelude.{count_ones}
+use Rattle.permit_ring.proofs.Names.{◌≡◌, ℕ, zero, suc, ◌-◌, ◌%◌, ◌^◌, ◌≤◌, sym, ◌∙◌, ap, arith, cases_eq, count_ones, ◌/◌, ⊎_elim}
 use Rattle.std.proofs.lemmas.Nat.{and_mask, ones_le_self, zero_from_ones}
 use lib.Bits.{bit_and}
 use lib.Count.{ones_step}

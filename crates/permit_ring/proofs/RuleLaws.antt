@@ -1,15 +1,11 @@
 -- What the rule says of a ring: of its tickets, its logs, its slots and its words.
-use Rattle.permit_ring.proofs.Names.{◌≡◌, ℕ, zero, suc, ◌+◌, ◌%◌, ◌<◌, ◌≤◌, false, is_some, Option, Some, None, refl, sym, ◌∙◌, ap, inl, inr, mod-eq_of_lt, arith, ⊎_elim, map, at_map, cases_eq, common_steps, State, seat_at, Holds, Key, Lost, Got, SeatMemo, Slot, View, Sits, SitsThere, CameBack, IsMemoThere, IsHeldOnce, HasOnePlace, IsNotedAs, IsInOrder, IsAdmittedSlot, IsOneSeats, Home, IsSlot, IsSeatMemo, IsSomewhere, Runs}
-use native.Mathlib.Nat.{add-mod_right}
-use mathlib.Core.Option.{some}
+use Rattle.permit_ring.proofs.Names.{◌≡◌, ℕ, zero, suc, ◌+◌, ◌%◌, ◌<◌, ◌≤◌, false, is_some, Option, Some, None, refl, sym, ◌∙◌, ap, inl, inr, mod-eq_of_lt, arith, ⊎_elim, map, at_map, cases_eq, common_steps, State, seat_at, Holds, Key, Lost, Got, SeatMemo, Slot, View, Sits, SitsThere, CameBack, IsMemoThere, IsHeldOnce, HasOnePlace, IsNotedAs, IsInOrder, IsAdmittedSlot, IsOneSeats, Home, IsSlot, IsSeatMemo, IsSomewhere, Runs, get_elem?, some, add-mod_right, fates_in_order}
 use mathlib.Core.Option as maybe
-use lib.ListN.{get_elem?}
 use Rattle.ring_core.proofs.SeatLemmas.{live_is_made}
 use Rattle.permit_ring.proofs.States.{ring_of, one_turn_ahead, keeper_port, seated}
 use Rattle.permit_ring.proofs.ListLemmas.{at_length, there}
 use Rattle.permit_ring.proofs.LogLemmas.{got_in, got_from, taken_in, taken_from, within_end}
 use Rattle.permit_ring.specs.Logs as logs
-use Rattle.ids_types.proofs.FatesLemmas.{fates_in_order}
 
 -- each place of a turn is that of a ticket in it
 in_turn : (n from p : ℕ) → p < n → (t : ℕ) × (from ≤ t) × (t < from + n) × (t % n ≡ p)

@@ -1,8 +1,6 @@
 -- Each step of a seat keeps the rule.
-use Rattle.permit_ring.proofs.Names.{◌≡◌, ◌≢◌, ℕ, suc, ◌+◌, ◌%◌, ◌^◌, ◌<◌, ◌≤◌, ◌==◌, true, false, List, [], ◌∷◌, ◌++◌, set, length, Option, Some, None, refl, sym, ◌∙◌, ap, slice_index, arith, ⊎_elim, le_refl, eq-eqb, ne_eqb, cases_lt, lt-ltb, le-ltb, length-set, length_push, at_last, at_longer, at_set, at_snoc, set_else, set_here, State, step, keeps, takes, gives, Allows, SeatView, Step, Look, Claim, Finish, Mark, Key, Move, Lost, Got, SeatMemo, Slot, Offered, Finished, View, Sits, IsOrdered, end_from, got_of, taken_by, found_at, is_of_seat, is_of_keeper, Known, saw_word, claimed_word, marked_loss, finished_value, words_of, StandsIn, AreFates, AreSlots, Counts, IsSeatMemo, Runs, Outcome, RisesFrom, append-nil, and_move, and_lost, looks, claims, adds_mark, finishes, Machine, opening, possible, after, served, is_idle, looked, seat_at, marks_of, marked, Holds, packed, unpacked, IsPackable, IsReadable, small, word_packs, all_claimed, armed_leaves_field, after_keeps, next_of_possible, idle_parts, live_is_made, seat_at-here, seat_at-else, holders_stay, unpacked-packed, packed-claimed}
-use mathlib.Core.Option.{some, none}
+use Rattle.permit_ring.proofs.Names.{◌≡◌, ◌≢◌, ℕ, suc, ◌+◌, ◌%◌, ◌^◌, ◌<◌, ◌≤◌, ◌==◌, true, false, List, [], ◌∷◌, ◌++◌, set, length, Option, Some, None, refl, sym, ◌∙◌, ap, slice_index, arith, ⊎_elim, le_refl, eq-eqb, ne_eqb, cases_lt, lt-ltb, le-ltb, length-set, length_push, at_last, at_longer, at_set, at_snoc, set_else, set_here, State, step, keeps, takes, gives, Allows, SeatView, Step, Look, Claim, Finish, Mark, Key, Move, Lost, Got, SeatMemo, Slot, Offered, Finished, View, Sits, IsOrdered, end_from, got_of, taken_by, found_at, is_of_seat, is_of_keeper, Known, saw_word, claimed_word, marked_loss, finished_value, words_of, StandsIn, AreFates, AreSlots, Counts, IsSeatMemo, Runs, Outcome, RisesFrom, append-nil, and_move, and_lost, looks, claims, adds_mark, finishes, Machine, opening, possible, after, served, is_idle, looked, seat_at, marks_of, marked, Holds, packed, unpacked, IsPackable, IsReadable, small, word_packs, all_claimed, armed_leaves_field, after_keeps, next_of_possible, idle_parts, live_is_made, seat_at-here, seat_at-else, holders_stay, unpacked-packed, packed-claimed, get_elem?, some, none}
 use mathlib.Core.Option as maybe
-use lib.ListN.{get_elem?}
 use Rattle.permit_ring.proofs.LogLemmas.{taken-open, taken-else, taken-own, rises_on, end_on, got_of-append}
 use Rattle.permit_ring.proofs.ListLemmas.{at_end, at_length}
 use Rattle.permit_ring.proofs.MoveLemmas.{leads_on, by_seat-own, by_seat-else, by_keeper-else}

@@ -1,9 +1,5 @@
 -- What is left once all seats are back, and that what is settled stays so.
-use Rattle.permit_ring.proofs.Names.{◌≡◌, ◌≢◌, ℕ, zero, suc, ◌+◌, ◌-◌, ◌%◌, ◌<◌, is_some, List, [], ◌∷◌, ◌++◌, map, length, get_or, sum_by, Option, Some, None, refl, sym, ◌∙◌, ap, subst, inl, inr, mod-lt, arith, cases_lt, false≢true, common_steps, length-map, nil_from_length, sum_by-cons, at_longer, at_map, State, SeatView, Key, KeeperMemo, Got, SeatMemo, Slot, View, OfferTells, AreAllBack, IsAllReaped, IsSettled, IsWholeLog, marks_back, StandsIn, Runs, Machine, marks_of, new_seat, nobody, mark_at, seat_at, Holds, IsRing, all_but_a_turn_reaped, live_is_made, one_turn}
-use mathlib.Core.Option.{some}
-use lib.ListN.{get_elem?}
-use Rattle.ids_types.specs.Fates.{lost}
-use Rattle.ids_types.proofs.FatesLemmas.{decided_on}
+use Rattle.permit_ring.proofs.Names.{◌≡◌, ◌≢◌, ℕ, zero, suc, ◌+◌, ◌-◌, ◌%◌, ◌<◌, is_some, List, [], ◌∷◌, ◌++◌, map, length, get_or, sum_by, Option, Some, None, refl, sym, ◌∙◌, ap, subst, inl, inr, mod-lt, arith, cases_lt, false≢true, common_steps, length-map, nil_from_length, sum_by-cons, at_longer, at_map, State, SeatView, Key, KeeperMemo, Got, SeatMemo, Slot, View, OfferTells, AreAllBack, IsAllReaped, IsSettled, IsWholeLog, marks_back, StandsIn, Runs, Machine, marks_of, new_seat, nobody, mark_at, seat_at, Holds, IsRing, all_but_a_turn_reaped, live_is_made, one_turn, get_elem?, some, decided_on, lost}
 use Rattle.permit_ring.specs.Logs.{fate_of}
 use Rattle.permit_ring.proofs.LogLemmas.{got_from, lost_in, taken_in, within_end}
 use Rattle.permit_ring.proofs.States.{ring_of}

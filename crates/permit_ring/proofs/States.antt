@@ -1,8 +1,6 @@
 -- What stays of the rule where one view changes.
-use Rattle.permit_ring.proofs.Names.{◌≡◌, ◌≢◌, ℕ, ◌+◌, ◌%◌, ◌<◌, ◌≤◌, true, List, set, Option, ◌∙◌, inl, inr, mod-lt, arith, cases_eq, common_steps, length-set, set_here, set_else, State, Machine, HasSizes, opening, IsRing, SameHolders, same_position, opens, Key, KeeperMemo, SeatMemo, Slot, View, Sits, Keeps, AreFates, Home, IsSlot, AreSlots, IsSeatMemo, Runs}
-use mathlib.Core.Option.{some}
+use Rattle.permit_ring.proofs.Names.{◌≡◌, ◌≢◌, ℕ, ◌+◌, ◌%◌, ◌<◌, ◌≤◌, true, List, set, Option, ◌∙◌, inl, inr, mod-lt, arith, cases_eq, common_steps, length-set, set_here, set_else, State, Machine, HasSizes, opening, IsRing, SameHolders, same_position, opens, Key, KeeperMemo, SeatMemo, Slot, View, Sits, Keeps, AreFates, Home, IsSlot, AreSlots, IsSeatMemo, Runs, get_elem?, some}
 use mathlib.Core.Option as maybe
-use lib.ListN.{get_elem?}
 use Rattle.permit_ring.proofs.MoveLemmas.{led_ring, led_sizes}
 
 module _ {N : Type 0} {m now : Machine} {fates : List (Option (ℕ × N))} where

@@ -2,9 +2,7 @@
 use Rattle.std.specs.Prelude.{◌≡◌, ℕ, zero, suc, ◌<◌, ◌≤◌, List, map, length, sum, sum_by, is_some, true, Option, Some, None}
 use mathlib.Core.Option.{some}
 use lib.ListN.{get_elem?}
-use Rattle.ring_core.specs.Machine.{marks_of}
-use Rattle.ids_types.specs.Fates.{AreAllDecided}
-use Rattle.permit_ring.specs.Names.{KeeperMemo, SeatMemo}
+use Rattle.permit_ring.specs.Names.{KeeperMemo, SeatMemo, marks_of, AreAllDecided}
 use Rattle.permit_ring.specs.Logs.{end_from, fate_of, got_of, taken_by}
 use Rattle.permit_ring.specs.Rule.{StandsIn}
 

@@ -1,9 +1,8 @@
 -- What became of the calls of a seat, and of the tickets of a ring.
 use Rattle.std.specs.Prelude.{◌≡◌, ℕ, suc, ◌+◌, ◌≤◌, ◌==◌, ◌||◌, is_some, if◌then◌else◌, List, [], ◌∷◌, map, length, Option, Some, None}
 use Rattle.ids_types.specs.Fates as fates
-use Rattle.ids_types.specs.Fates.{Fate, lost, accepted, FatesFrom}
+use Rattle.permit_ring.specs.Names.{SeatView, Outcome, Lost, Got, SeatMemo, Fate, lost, accepted, FatesFrom}
 use Rattle.ring_core.specs.Sound.{Holds}
-use Rattle.permit_ring.specs.Names.{SeatView, Outcome, Lost, Got, SeatMemo}
 
 module _ {N : Type 0} where
   -- what became of a call, without its note

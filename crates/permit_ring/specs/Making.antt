@@ -2,8 +2,7 @@
 use Rattle.std.specs.Prelude.{◌≡◌, ℕ, zero, suc, List, [], ◌∷◌, length, replicate, None}
 use mathlib.Core.Option.{some}
 use lib.ListN.{get_elem?}
-use Rattle.ring_core.specs.{all_free}
-use Rattle.permit_ring.specs.Names.{Keeper, KeeperMemo, Ring, Seat}
+use Rattle.permit_ring.specs.Names.{Keeper, KeeperMemo, Ring, Seat, all_free}
 use Rattle.permit_ring.specs.Seats.{IsSeatOf, IsKeeperOf, seat_memo, seat_number, seat_calls, seat_ticket, keeper_memo, ring_positions, ring_seats, ring_terms, vacant_of, filled_of}
 use Rattle.permit_ring.specs.Steps.{new_memo, first_memo, makes}
 

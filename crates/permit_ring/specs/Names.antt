@@ -18,3 +18,7 @@ pub use Rattle.permit_ring.specs.declared.memo.View.{View}
 pub use Rattle.permit_ring.specs.declared.memo.View.TheVariants.{Sits, Keeps, Spent}
 pub use Rattle.permit_ring.specs.declared.ring.Ring.{Ring}
 pub use Rattle.permit_ring.specs.declared.seat.Seat.{Seat}
+pub use Rattle.ids_types.specs.Fates.{Fate, lost, accepted, FatesFrom, AreAllDecided}
+pub use Rattle.ids_types.specs.declared.names.Ticket.{Ticket}
+pub use Rattle.ring_core.specs.{possible, after, mark_at, loss_at, packed, opening, new_seat, seat_at, Holds, offered_to, unpacked, field_of, IsPackable, IsReadable, all_free, IsRing, looked, served, marked}
+pub use Rattle.ring_core.specs.Machine.{Machine, marks_of}

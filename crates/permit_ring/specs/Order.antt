@@ -2,8 +2,7 @@
 use Rattle.std.specs.Prelude.{◌≡◌, ℕ, ◌+◌, ◌<◌, Bool, true, false, ◌&&◌, nat_lt, if◌then◌else◌, List, [], ◌∷◌, take}
 use mathlib.Core.Option.{some}
 use lib.ListN.{get_elem?}
-use Rattle.ring_core.specs.{unpacked}
-use Rattle.permit_ring.specs.Names.{Step, Claim, Move}
+use Rattle.permit_ring.specs.Names.{Step, Claim, Move, unpacked}
 
 -- the step is a claim
 abbrev pub is_claim : Step → Bool

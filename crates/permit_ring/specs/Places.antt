@@ -2,9 +2,7 @@
 use Rattle.std.specs.Prelude.{◌≡◌, ◌≢◌, ℕ, ◌<◌, ◌≤◌, ◌⊎◌, true, List, Some}
 use mathlib.Core.Option.{some}
 use lib.ListN.{get_elem?}
-use Rattle.ring_core.specs.Machine.{Machine}
-use Rattle.ring_core.specs.{opening, Holds, IsRing}
-use Rattle.permit_ring.specs.Names.{Key, KeeperMemo, Move, Outcome, Lost, Got, SeatMemo, Slot, Empty, Offered, Finished, View, Sits, Keeps}
+use Rattle.permit_ring.specs.Names.{Key, KeeperMemo, Move, Outcome, Lost, Got, SeatMemo, Slot, Empty, Offered, Finished, View, Sits, Keeps, Machine, opening, Holds, IsRing}
 use Rattle.permit_ring.specs.Logs.{start_of, end_of}
 use Rattle.permit_ring.specs.Moves.{Leads}
 use Rattle.permit_ring.specs.Rule.{words_of}

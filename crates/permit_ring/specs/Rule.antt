@@ -4,9 +4,7 @@ use mathlib.Core.Option.{some, none}
 use mathlib.Core.Option as maybe
 use lib.ListN.{get_elem?}
 use Rattle.atomic_table.specs.Table.{State}
-use Rattle.ring_core.specs.Machine.{Machine}
-use Rattle.ring_core.specs.{opening, new_seat, seat_at, Holds, packed}
-use Rattle.permit_ring.specs.Names.{PermitWord, Key, KeeperMemo, Move, Lost, SeatMemo, Slot, Offered, Finished, View, Sits, Keeps, Spent}
+use Rattle.permit_ring.specs.Names.{PermitWord, Key, KeeperMemo, Move, Lost, SeatMemo, Slot, Offered, Finished, View, Sits, Keeps, Spent, Machine, opening, new_seat, seat_at, Holds, packed}
 use Rattle.permit_ring.specs.Logs.{IsOrdered, end_from, got_of, taken_by}
 use Rattle.permit_ring.specs.Moves.{Leads, by_seat, by_keeper}
 use Rattle.permit_ring.specs.Steps.{first_memo}

@@ -1,8 +1,7 @@
 -- What each atomic step tells its seat or the keeper: of the step, what was known and held before, the number found, and what is known and held after.
 use Rattle.std.specs.Prelude.{◌≡◌, ◌≢◌, ℕ, ◌+◌, ◌-◌, ◌%◌, ◌^◌, ◌<◌, ◌≤◌, List, [], ◌∷◌, length, drop, sum, suc}
 use Rattle.atomic_table.specs.Table.{Me, Step, rest}
-use Rattle.ring_core.specs.{offered_to, unpacked, field_of, IsPackable, IsReadable}
-use Rattle.permit_ring.specs.Names.{PermitWord, KeeperMemo, SeatMemo, Slot, Empty, Offered, Finished, View, Sits, Keeps, Spent}
+use Rattle.permit_ring.specs.Names.{PermitWord, KeeperMemo, SeatMemo, Slot, Empty, Offered, Finished, View, Sits, Keeps, Spent, offered_to, unpacked, field_of, IsPackable, IsReadable}
 use Rattle.permit_ring.specs.Closing.{AreAllBack, IsAllReaped, IsSettled, AreAllSwept, swept_of}
 use Rattle.permit_ring.specs.Logs.{IsOrdered}
 use Rattle.permit_ring.specs.Steps.{new_memo, first_memo, looks, claims, finishes, adds_mark, waits, reaps, reads, offers_all, misses, sweeps, makes, welcomes}

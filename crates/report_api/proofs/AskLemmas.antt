@@ -1,5 +1,5 @@
 -- What a claim asked of a class, as plain data.
-use Rattle.report_api.proofs.Names.{◌≡◌, ℕ, suc, ◌+◌, ◌-◌, ◌==◌, if◌then◌else◌, List, [], ◌∷◌, length, map, refl, ap, ◌∙◌, inl, arith, eq-eqb, ne_eqb, KeptAsks, LostAtMost, lost_number, Buffer, filled_with, lost_at, lost_past, Got, fate_of}
+use Rattle.report_api.proofs.Names.{◌≡◌, ℕ, suc, ◌+◌, ◌-◌, ◌==◌, if◌then◌else◌, List, [], ◌∷◌, length, map, refl, inl, arith, eq-eqb, ne_eqb, KeptAsks, LostAtMost, lost_number, Buffer, filled_with, lost_at, lost_past, Got, fate_of}
 
 -- looks are asks that were lost
 looks_lost : (first i : ℕ) (looks : List ℕ) → map fate_of (lost_at first looks i) ≡ lost_number first looks i
@@ -17,7 +17,6 @@ kept_asks first i looks bytes buf filled same many =
     grind (arith, same, many, eq-eqb i buf.class, ne_eqb i buf.class, at_most first i looks, lost_past first i looks)
 
 -- a claim that found none free
-pub missing_asks : (first i classes : ℕ) (looks numbers : List ℕ) → numbers ≡ looks → first + length looks ≡ classes
-    → map fate_of (lost_at first looks i) ≡ lost_number (classes - length numbers) numbers i
-missing_asks first i classes looks numbers same many = rw same
-    (looks_lost first i looks ∙ ap (λ (k : ℕ). lost_number k looks i) (omega (arith, many)))
+pub missing_asks : (first i classes : ℕ) (looks : List ℕ) → first + length looks ≡ classes
+    → map fate_of (lost_at first looks i) ≡ lost_number (classes - length looks) looks i
+missing_asks first i classes looks many = let start : classes - length looks ≡ first = omega arith in rw start (looks_lost first i looks)

@@ -1,10 +1,7 @@
 -- How a caller stands after each of its calls.
-use Rattle.std.proofs.Common.{◌≡◌, ℕ, ◌+◌, ◌≤◌, ◌^◌, List, [], ◌∷◌, ◌++◌, length, Option, Some, Result, Ok, Err, ◌∙◌, subst, inl, inr, arith}
+use Rattle.report_queue.proofs.Names.{at_end, kept_log, lost_log, ◌≡◌, ℕ, ◌+◌, ◌≤◌, ◌^◌, List, [], ◌∷◌, ◌++◌, length, Option, Some, Result, Ok, Err, ◌∙◌, subst, inl, inr, arith, common_steps, HasInHand, ring_terms, and_lost, ticket_in}
 use Rattle.report_queue.specs.{Ticket, Outcome, Lost, Got, SeatMemo, Item, Queue, QueueSeat, ClaimTells, admits_all, IsCallerOf, ticket_of, NamesItsCalls}
 use Rattle.permit_ring.specs.declared.answer.Look.{Look}
-use Rattle.std.proofs.lemmas.Grind.{common_steps}
-use Rattle.permit_ring.specs.{HasInHand, ring_terms, and_lost, ticket_in}
-use Rattle.permit_ring.proofs.{at_end, kept_log, lost_log}
 
 module _ {N : Type 0} (i : ℕ) (log : List (Outcome (Item N))) (names : NamesItsCalls i log) where
   -- with a lost call more

@@ -1,14 +1,8 @@
 -- What was taken once all callers are back, from what the ring's keeper knows.
-use Rattle.std.proofs.Common.{◌≡◌, ℕ, zero, suc, ◌+◌, ◌<◌, ◌==◌, if◌then◌else◌, true, is_some, List, [], ◌∷◌, map, length, Option, Some, None, refl, sym, ap, ap₂, ◌∙◌, subst, true≢false, inl, inr, eq-zero-or-pos, arith}
-use Rattle.std.proofs.lemmas.List.{length-map}
-use mathlib.Core.Option.{some, some-injective, some-ne-none}
-use lib.ListN.{get_elem?}
-use Rattle.atomic_table.proofs.Lists.{at_map}
+use Rattle.report_queue.proofs.Names.{there, got_from, taken_in, more_fronts, offer_keeps_back, length-map, some, some-injective, some-ne-none, ◌≡◌, ℕ, zero, suc, ◌+◌, ◌<◌, ◌==◌, if◌then◌else◌, true, is_some, List, [], ◌∷◌, map, length, Option, Some, None, refl, sym, ap, ap₂, ◌∙◌, subst, true≢false, inl, inr, eq-zero-or-pos, arith, at_map, get_elem?, IsSettled, StandsIn, fate_of, taken_by, waits}
 use Rattle.report_queue.specs.{KeeperMemo, SeatMemo, Item, AreAllBack, OffersAll, IsAllTaken, IsWholeCaller, NamesItsCalls, items_of}
 use Rattle.ids_types.specs.Fates.{AreAllDecided}
 use Rattle.ids_types.proofs.FatesLemmas.{decided_on}
-use Rattle.permit_ring.specs.{IsSettled, StandsIn, fate_of, taken_by, waits}
-use Rattle.permit_ring.proofs.{there, got_from, taken_in, more_fronts, offer_keeps_back}
 use Rattle.report_queue.proofs.TakerLemmas.{NameTheirs}
 
 -- an element of a mapped list is that of the list, mapped

@@ -1,14 +1,8 @@
 -- A queue that has just been made, from its ring.
-use Rattle.std.proofs.Common.{◌≡◌, ℕ, zero, suc, ◌<◌, ◌≤◌, List, length, replicate, Option, Some, None, sym, ap, ◌∙◌, subst, arith, All, slice_index_or}
-use Rattle.std.proofs.lemmas.List.{get_or_default, length-map, length-replicate}
-use mathlib.Core.Option.{some}
-use lib.ListN.{get_elem?}
-use Rattle.atomic_table.proofs.Lists.{at_index}
+use Rattle.report_queue.proofs.Names.{at_length, new_ordered, untouched, get_or_default, length-map, length-replicate, seat_number, some, ◌≡◌, ℕ, zero, suc, ◌<◌, ◌≤◌, List, length, replicate, Option, Some, None, sym, ap, ◌∙◌, subst, arith, All, slice_index_or, at_index, get_elem?}
 use Rattle.report_queue.specs.{SeatMemo, Item, Queue, QueueSeat, Taker, admits_all, IsNewQueue, IsUnused, as_callers, IsTakerOf, caller_number}
 use Rattle.permit_ring.specs.declared.seat.Seat.{Seat}
 use Rattle.permit_ring.specs.Making as ring
-use Rattle.permit_ring.specs.Seats.{seat_number}
-use Rattle.permit_ring.proofs.{at_length, new_ordered, untouched}
 use Rattle.report_queue.specs.declared.cargo.Items.{Items}
 use Rattle.report_queue.proofs.ClosingLemmas.{at_map_back}
 

@@ -1,10 +1,6 @@
 -- How the taker stands after each of its calls.
-use Rattle.std.proofs.Common.{◌≡◌, ℕ, List, set, Option, Some, arith}
-use mathlib.Core.Option.{some}
-use lib.ListN.{get_elem?}
-use Rattle.atomic_table.proofs.Lists.{at_set}
+use Rattle.report_queue.proofs.Names.{some, ◌≡◌, ℕ, List, set, Option, Some, arith, at_set, get_elem?, IsAllReaped, ended}
 use Rattle.report_queue.specs.{KeeperMemo, SeatMemo, Item, IsAllTaken, NamesItsCalls}
-use Rattle.permit_ring.specs.{IsAllReaped, ended}
 
 -- the memos that came back name their calls
 abbrev pub NameTheirs : {N : Type 0} → List (Option (SeatMemo (Item N))) → Type 0

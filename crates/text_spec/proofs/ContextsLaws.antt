@@ -1,6 +1,5 @@
 -- The fields of the texts keep the laws of a field.
-use Rattle.text_spec.proofs.Names.{◌≡◌, ◌<◌, ◌≤◌, ◌==◌, ◌∷◌, ◌^◌, if◌then◌else◌, is_ascii_digit, digits_value, any_bytes, bytes_in, bytes_word, is_number, capped, ℕ, zero, suc, true, false, inl, inr, List, [], length, map, refl, sym, ap, subst, ◌∙◌, arith, Option, Some, None, IfSome, option_map, decimal, bytes_eq, ⊤, w64, to_be_bytes, AllByRecursion, slice_split, join_with_byte, list_all, and_parts, cond-true, eqb-true, join_with_byte-slice_split, same_Some, none-some, cond_some, bytes_eq-Decides, IsBytes, encode_lower, Carried, Absent, Kept, Missing, Stamp, colon, point, mark, kept_fields, kept_places, context_word, IsContextWord, IsContext, IsExactContext, kept_in, numbers_in, claims_in, context_in, a_context, the, a_number, a_stamp, a_mode, hex_bytes, words_of_fields, AreWritten, is_lower_digit, some_hex, mode_name, mode_named, all_modes, stamp_in, stamp_text, absent, rules}
-use Rattle.std.proofs.lemmas.Bool.Decides.{nat_tests}
+use Rattle.text_spec.proofs.Names.{◌≡◌, ◌<◌, ◌≤◌, ◌==◌, ◌∷◌, ◌^◌, if◌then◌else◌, is_ascii_digit, digits_value, any_bytes, bytes_in, bytes_word, is_number, capped, ℕ, zero, suc, true, false, inl, inr, List, [], length, map, refl, sym, ap, subst, ◌∙◌, arith, Option, Some, None, IfSome, option_map, decimal, bytes_eq, ⊤, w64, to_be_bytes, AllByRecursion, slice_split, join_with_byte, list_all, and_parts, cond-true, eqb-true, join_with_byte-slice_split, same_Some, none-some, cond_some, bytes_eq-Decides, IsBytes, encode_lower, Carried, Absent, Kept, Missing, Stamp, colon, point, mark, kept_fields, kept_places, context_word, IsContextWord, IsContext, IsExactContext, kept_in, numbers_in, claims_in, context_in, a_context, the, a_number, a_stamp, a_mode, hex_bytes, words_of_fields, AreWritten, is_lower_digit, some_hex, mode_name, mode_named, all_modes, stamp_in, stamp_text, absent, rules, nat_tests}
 use Rattle.text_spec.proofs.FieldsLaws.{Told, IsReading, Lawful, AreLawful, in_word, lawful, simple_lawful, AreReading, reads, fields_are, fields_again, fields_pass}
 use Rattle.text_spec.proofs.FrontLemmas.{bind_again, bind_some, chosen, is_some, mapped_some}
 use Rattle.text_spec.proofs.HexadecimalLemmas.{hex_in-encode_lower, hex_not_absent, lower_text, some_hex_takes, some_hex_again}

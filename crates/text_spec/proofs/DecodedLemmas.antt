@@ -1,6 +1,5 @@
 -- The line of a decoded message.
-use Rattle.text_spec.proofs.Names.{◌≡◌, ◌+◌, ◌<◌, ◌≤◌, ◌++◌, ℕ, List, Option, Some, None, Stamp, w64, to_be_bytes, append_assoc, length, length-append, arith, decimal, layout_word, message_line, shown_context, shown_signature, stamp_text}
-use Rattle.std.proofs.lemmas.Grind.{common_steps}
+use Rattle.text_spec.proofs.Names.{◌≡◌, ◌+◌, ◌<◌, ◌≤◌, ◌++◌, ℕ, List, Option, Some, None, Stamp, w64, to_be_bytes, append_assoc, length, length-append, arith, decimal, layout_word, message_line, shown_context, shown_signature, stamp_text, common_steps}
 use Rattle.ids_frame.specs.Message.{MessageParts, FitsMessage}
 use Rattle.text_spec.proofs.HexadecimalLemmas.{length_hex}
 use Rattle.text_spec.proofs.NumbersLemmas.{few_digits}

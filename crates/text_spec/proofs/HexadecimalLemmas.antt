@@ -1,11 +1,5 @@
 -- Hexadecimal: the readings of a word against the text of some bytes, into a room and byte by byte.
-use Rattle.text_spec.proofs.Names.{◌≡◌, ◌+◌, ◌*◌, ◌-◌, ◌/◌, ◌%◌, ◌<◌, ◌≤◌, ◌∷◌, ◌++◌, take_more, length-encode_with, decode_of-encode_lower, decode_of-odd, ℕ, zero, suc, true, false, inl, inr, List, [], append_assoc, length, slice_index, take, refl, sym, ap, ◌∙◌, arith, Option, Some, None, is_in_range, list_all, agree_below_at, and_parts, cases_Bool, or_cases, IsBytes, encode_lower, lower_digits, hex_in, is_lower_digit, some_bytes, some_hex, bytes_of, IsWritten, ◌>>=◌, set, same_Some, bytes_eq, absent, false_from_ne_true, bytes_eq-Decides}
-use Rattle.std.proofs.Common.{drop}
-use Rattle.std.proofs.lemmas.List.Folds.{drop_split}
-use Rattle.hex.specs.Hex.{decode_pairs, encode_with}
-use Rattle.std.proofs.lemmas.Grind.{common_steps}
-use Rattle.std.proofs.lemmas.List.{take_more_set}
-use Rattle.std.specs.Prelude.{slice_range}
+use Rattle.text_spec.proofs.Names.{◌≡◌, ◌+◌, ◌*◌, ◌-◌, ◌/◌, ◌%◌, ◌<◌, ◌≤◌, ◌∷◌, ◌++◌, take_more, length-encode_with, decode_of-encode_lower, decode_of-odd, ℕ, zero, suc, true, false, inl, inr, List, [], append_assoc, length, slice_index, take, refl, sym, ap, ◌∙◌, arith, Option, Some, None, is_in_range, list_all, agree_below_at, and_parts, cases_Bool, or_cases, IsBytes, encode_lower, lower_digits, hex_in, is_lower_digit, some_bytes, some_hex, bytes_of, IsWritten, ◌>>=◌, set, same_Some, bytes_eq, absent, false_from_ne_true, bytes_eq-Decides, common_steps, drop_split, decode_pairs, encode_with, slice_range, take_more_set, drop}
 
 -- the text of bytes is twice as long
 pub length_hex : (bytes : List ℕ) → length (encode_lower bytes) ≡ 2 * length bytes

@@ -1,6 +1,5 @@
 -- What turns and losses that fit a configuration keep.
-use Rattle.text_spec.proofs.Names.{◌≡◌, ◌+◌, ◌<◌, ◌≤◌, ◌||◌, ◌∷◌, ◌++◌, ℕ, true, false, List, [], length, map, get_or, length-set, get_or-set_same, set, refl, ap, ◌∙◌, append_assoc, arith, Ok, AllByRecursion, flat_map, list_any, both_ways, eq-eqb, append-nil, length-append, list_any-append, Parts, Turn, begun, with_entry, entries_of, Past, is_in_ranges, fault_of, next, is_pair, has_pair, pair_of, AreFaultless, journal_grammar, Follows, Entry, Line, begins, enters, loses, turn_told}
-use Rattle.std.proofs.lemmas.Grind.{common_steps}
+use Rattle.text_spec.proofs.Names.{◌≡◌, ◌+◌, ◌<◌, ◌≤◌, ◌||◌, ◌∷◌, ◌++◌, ℕ, true, false, List, [], length, map, get_or, length-set, get_or-set_same, set, refl, ap, ◌∙◌, append_assoc, arith, Ok, AllByRecursion, flat_map, list_any, both_ways, eq-eqb, append-nil, length-append, list_any-append, Parts, Turn, begun, with_entry, entries_of, Past, is_in_ranges, fault_of, next, is_pair, has_pair, pair_of, AreFaultless, journal_grammar, Follows, Entry, Line, begins, enters, loses, turn_told, common_steps}
 use Rattle.text_spec.proofs.JournalFacts.{entry_passes, flat_map-push, flat_map-with_entry}
 
 -- what the lines so far keep of one of them

@@ -1,7 +1,5 @@
 -- The first piece of a text that is cut at a separator, and the number that it writes.
-use Rattle.text_spec.proofs.Names.{◌≡◌, ℕ, ◌+◌, ◌==◌, Bool, true, false, ◌<◌, List, [], ◌∷◌, length, take, drop, get_or, Some, None, sym, ap, ◌∙◌, arith, inl, inr, Option, nat_lt, position, option_map, is_ascii_digit, slice_split, position_or_len, list_all, false_from_ne_true, ltb-true, ne_eqb, cond_some, take_all, length-take, get_or-take, All-from_get_or, list_all_at, slice_split_first, slice_split_none, length-slice_split, fails_before_first, passes_at_first, position_or_len_is, a_number, first_as, AllPass-from_list_all, ◌≤◌, refl}
-use Rattle.std.proofs.lemmas.Bool.{cases_lt}
-use Rattle.std.proofs.lemmas.Bool.Decides.{nat_tests}
+use Rattle.text_spec.proofs.Names.{◌≡◌, ℕ, ◌+◌, ◌==◌, Bool, true, false, ◌<◌, List, [], ◌∷◌, length, take, drop, get_or, Some, None, sym, ap, ◌∙◌, arith, inl, inr, Option, nat_lt, position, option_map, is_ascii_digit, slice_split, position_or_len, list_all, false_from_ne_true, ltb-true, ne_eqb, cond_some, take_all, length-take, get_or-take, All-from_get_or, list_all_at, slice_split_first, slice_split_none, length-slice_split, fails_before_first, passes_at_first, position_or_len_is, a_number, first_as, AllPass-from_list_all, ◌≤◌, refl, cases_lt, nat_tests}
 use Rattle.text_spec.specs.Words.{differs}
 use Rattle.memchr.specs.Find.{IsFirstByte, is_byte}
 

@@ -1,7 +1,6 @@
 -- Words and lines: the tests that their bytes pass, and the readings of a line and of a text against
 -- their texts.
-use Rattle.text_spec.proofs.Names.{◌≡◌, ◌+◌, ◌<◌, ◌==◌, ◌∷◌, ◌++◌, take_more, AllPass-from_list_all, list_all-from_AllPass, ℕ, Bool, true, false, List, [], length, map, take, get_or, refl, sym, ap, ◌∙◌, append_assoc, arith, All, list_all, AllByRecursion, slice_split, join_with_byte, eq-eqb, ne_eqb, both_ways, list_all-append, slice_split_none, slice_split_at, length-take-le, map-append, line_feed, text_of, recursion_from_All}
-use Rattle.std.proofs.lemmas.List.Elements.{All-from_recursion, All-weaker}
+use Rattle.text_spec.proofs.Names.{◌≡◌, ◌+◌, ◌<◌, ◌==◌, ◌∷◌, ◌++◌, take_more, AllPass-from_list_all, list_all-from_AllPass, ℕ, Bool, true, false, List, [], length, map, take, get_or, refl, sym, ap, ◌∙◌, append_assoc, arith, All, list_all, AllByRecursion, slice_split, join_with_byte, eq-eqb, ne_eqb, both_ways, list_all-append, slice_split_none, slice_split_at, length-take-le, map-append, line_feed, text_of, recursion_from_All, All-from_recursion, All-weaker}
 
 -- all bytes of each of these words pass a test
 abbrev pub Pass : (ℕ → Bool) → List (List ℕ) → Type 0

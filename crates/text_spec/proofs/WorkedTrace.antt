@@ -1,9 +1,8 @@
 -- A small trace, and its text as it stands in a file.
-use Rattle.text_spec.proofs.Names.{◌≡◌, ◌∷◌, Off, trace_in, Round, reports, changes, sets, trace_text, List, [], refl, Ok, Err, codes, None}
+use Rattle.text_spec.proofs.Names.{◌≡◌, ◌∷◌, Off, trace_in, Round, reports, changes, sets, trace_text, List, [], refl, Ok, Err, codes, None, decode_pairs, encode_with}
 use Rattle.ids_config.specs.Parts.{Parts, plain_event}
 use Rattle.ids_config.proofs.Plain.{instance_18}
 use Rattle.std.specs.Fmt.{digits}
-use Rattle.hex.specs.Hex.{decode_pairs, encode_with}
 use Rattle.text_spec.specs.Lines.{after_pieces}
 
 -- two callers, and one event that a sensor reports

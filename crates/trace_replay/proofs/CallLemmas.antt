@@ -1,6 +1,5 @@
 -- What the answers of a pass's calls tell of what was asked for.
-use Rattle.std.proofs.Common.{Option}
-use Rattle.trace_replay.proofs.Names.{◌≡◌, ℕ, ◌<◌, ◌^◌, List, refl, arith, Outcome, Asked, reports, Act, Lost, Got, PassMemo, sizes_of, Shared, AsksOnce, IsAsked, control_look, lost_report}
+use Rattle.trace_replay.proofs.Names.{◌≡◌, ℕ, ◌<◌, ◌^◌, List, refl, arith, Outcome, Asked, reports, Act, Lost, Got, PassMemo, sizes_of, Shared, AsksOnce, IsAsked, control_look, lost_report, Option}
 use Rattle.report_api.proofs.{OneCall, lost_call, put_call}
 use Rattle.report_api.specs.Answers.{ControlTells}
 use Rattle.report_api.specs.declared.answer.Control.{Control}

@@ -1,15 +1,11 @@
 -- The end of a replay: from where its callers and its manager stand to what it gives.
-use Rattle.trace_replay.proofs.Names.{◌≡◌, ℕ, suc, ◌+◌, ◌≤◌, ◌<◌, ◌⊎◌, ⊎_elim, List, [], ◌∷◌, length, map, take, refl, sym, ap, ◌∙◌, arith, AllByRecursion, length-map, map-append, take_all, flat_map-cons, Turn, Parts, IsValid, all_losses, losses_from, IsMerge, last_tick, lines_of, ticks_of, AreRounds, IsAllowedRound, Buffer, desk_memo, PassMemo, pass_memo, Shared, HaveAllCalls, fates_in, losses_in, Traced, HavePlayed, sizes_in, Closes, IsRecordOf, IsSmallTurn, tick_of, turns_in, IsBetween, all_rests, as_told, AreFew, HasListed, losses_by, passes_of, told, Caller, Recorder}
-use mathlib.Core.Option.{some}
-use lib.ListN.{get_elem?}
+use Rattle.trace_replay.proofs.Names.{◌≡◌, ℕ, suc, ◌+◌, ◌≤◌, ◌<◌, ◌⊎◌, ⊎_elim, List, [], ◌∷◌, length, map, take, refl, sym, ap, ◌∙◌, arith, AllByRecursion, length-map, map-append, take_all, flat_map-cons, Turn, Parts, IsValid, all_losses, losses_from, IsMerge, last_tick, lines_of, ticks_of, AreRounds, IsAllowedRound, Buffer, desk_memo, PassMemo, pass_memo, Shared, HaveAllCalls, fates_in, losses_in, Traced, HavePlayed, sizes_in, Closes, IsRecordOf, IsSmallTurn, tick_of, turns_in, IsBetween, all_rests, as_told, AreFew, HasListed, losses_by, passes_of, told, Caller, Recorder, at_map_back, some, all_append, get_elem?}
 use Rattle.trace_text.specs.Small.{AreSmall}
 use Rattle.trace_text.proofs.JournalLemmas.{merge_fits}
 use Rattle.law_closing.specs.Closed.{IsMadeFor, plain_item}
 use Rattle.trace_replay.specs.Replayed.{IsReplayOver, given}
 use Rattle.trace_replay.proofs.MergeLemmas.{merged, no_lines}
-use Rattle.text_spec.proofs.TraceFacts.{all_append}
 use Rattle.trace_replay.proofs.RoundLemmas.{at_rest}
-use Rattle.report_queue.proofs.ClosingLemmas.{at_map_back}
 
 -- what the passes of callers show
 abbrev pub views_of : List Caller → List PassMemo

@@ -1,6 +1,5 @@
 -- Callers that are handed over, one by one, and come back.
-use Rattle.trace_replay.proofs.Names.{◌≡◌, ℕ, List, [], ◌∷◌, ◌++◌, length, true, refl, sym, subst, arith, inl, inr, cases_lt, length_push, lines_at, round_at, Shared, Traced, Round, IsAtRest, AreAtRest, lines_before, HasRoom, Caller}
-use Rattle.std.proofs.lemmas.List.{get_or_append_left, get_or_push}
+use Rattle.trace_replay.proofs.Names.{◌≡◌, ℕ, List, [], ◌∷◌, ◌++◌, length, true, refl, sym, subst, arith, inl, inr, cases_lt, length_push, lines_at, round_at, Shared, Traced, Round, IsAtRest, AreAtRest, lines_before, HasRoom, Caller, get_or_append_left, get_or_push}
 use Rattle.trace_replay.specs.{StandsAt, IsPlaceOf}
 use Rattle.trace_replay.specs.declared.place.Place.{Place}
 

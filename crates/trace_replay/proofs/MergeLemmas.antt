@@ -1,20 +1,13 @@
 -- What the passes of a replay did is a merge of their callers' lines.
-use Rattle.trace_replay.proofs.Names.{◌≡◌, ℕ, zero, suc, ◌+◌, ◌<◌, ◌≤◌, ◌==◌, if◌then◌else◌, nat_lt, Some, Bool, List, [], ◌∷◌, length, map, filter, sum_by, refl, sym, ap, subst, ◌∙◌, arith, eq-eqb, inl, inr, le-ltb, length-append, AllByRecursion, AllZip, cases_lt, get_or_past, length-map, filter-append, sum_by-cons, Turn, entries_of, Parts, class_of, AreClasses, IsValid, there, all_losses, losses_from, AreMerged, IsAsAsked, IsItsLine, IsMerge, StandsIn, Asked, reports, changes, sets, Round, is_lost_report, is_report, lines_of, ticks_of, Act, Report, State, SetMode, Absent, Kept, Missing, Outcome, Lost, Got, PassMemo, lost_events, call_of, calls_in, fate_of, missing_in, plain_act, missed_by, HaveAllCalls, calls_by, fates_in, losses_in, or_at, Answers, IsAsked, lost_report, lost_reports, HavePlayed, sizes_in, HasPlayed}
+use Rattle.trace_replay.proofs.Names.{◌≡◌, ℕ, zero, suc, ◌+◌, ◌<◌, ◌≤◌, ◌==◌, if◌then◌else◌, nat_lt, Some, Bool, List, [], ◌∷◌, length, map, filter, sum_by, refl, sym, ap, subst, ◌∙◌, arith, eq-eqb, inl, inr, le-ltb, length-append, AllByRecursion, AllZip, cases_lt, get_or_past, length-map, filter-append, sum_by-cons, Turn, entries_of, Parts, class_of, AreClasses, IsValid, there, all_losses, losses_from, AreMerged, IsAsAsked, IsItsLine, IsMerge, StandsIn, Asked, reports, changes, sets, Round, is_lost_report, is_report, lines_of, ticks_of, Act, Report, State, SetMode, Absent, Kept, Missing, Outcome, Lost, Got, PassMemo, lost_events, call_of, calls_in, fate_of, missing_in, plain_act, missed_by, HaveAllCalls, calls_by, fates_in, losses_in, or_at, Answers, IsAsked, lost_report, lost_reports, HavePlayed, sizes_in, HasPlayed, at_map_back, some, AllZip-long, at_map, at_length, Misses, misses_context, Calls, entries_by, AreLegalContexts, entries_from, get_elem?}
 use Rattle.std.proofs.Math.Path.{fun_ext}
 use Rattle.std.specs.Prelude.{sum}
-use mathlib.Core.Option.{some}
-use lib.ListN.{get_elem?}
 use Rattle.ids_types.specs.declared.class_spec.ClassSpec.{ClassSpec}
 use Rattle.buffer_classes.specs.Classes.{first_fitting}
-use Rattle.history_spec.specs.{Misses, misses_context, Calls, entries_by, AreLegalContexts, entries_from}
 use Rattle.history_spec.specs.Names.{Entry}
 use Rattle.history_spec.proofs.FollowsLemmas.{call_was}
 use Rattle.history_spec.proofs.PlaceLemmas.{stands_kept}
 use Rattle.trace_replay.proofs.CallLemmas.{got_none}
-use Rattle.std.proofs.lemmas.Slice.Zip.{AllZip-long}
-use Rattle.atomic_table.proofs.Lists.{at_map}
-use Rattle.report_queue.proofs.ClosingLemmas.{at_map_back}
-use Rattle.permit_ring.proofs.ListLemmas.{at_length}
 
 -- ---- lists
 

@@ -1,7 +1,7 @@
 -- The names of other crates and of this crate's specs that more than one of its proofs stands on.
-pub use Rattle.std.proofs.Common.{◌≡◌, ℕ, ◌<◌, ◌^◌, refl, sym, ◌∙◌, arith, suc, ◌+◌, ◌≤◌, ◌⊎◌, ⊎_elim, List, [], ◌∷◌, ◌++◌, length, map, take, ap, subst, length-append, zero, ◌==◌, if◌then◌else◌, nat_lt, Some, Bool, filter, sum_by, eq-eqb, inl, inr, le-ltb, ◌-◌, append_assoc, get_or, append-nil, drop, true, nat_le, ◌&&◌, leb-true, ltb-true, vec_len, vec_capacity, rules, ◌*◌}
+pub use Rattle.std.proofs.Common.{◌≡◌, ℕ, ◌<◌, ◌^◌, refl, sym, ◌∙◌, arith, suc, ◌+◌, ◌≤◌, ◌⊎◌, ⊎_elim, List, [], ◌∷◌, ◌++◌, length, map, take, ap, subst, length-append, zero, ◌==◌, if◌then◌else◌, nat_lt, Some, Bool, filter, sum_by, eq-eqb, inl, inr, le-ltb, ◌-◌, append_assoc, get_or, append-nil, drop, true, nat_le, ◌&&◌, leb-true, ltb-true, vec_len, vec_capacity, rules, ◌*◌, Option, add-one}
 pub use Rattle.std.proofs.lemmas.Bool.{cases_lt, and_parts}
-pub use Rattle.std.proofs.lemmas.List.{length-map, map-append, take_all, take_more, get_or_past, length_push, length-take-le, take-append-drop}
+pub use Rattle.std.proofs.lemmas.List.{length-map, map-append, take_all, take_more, get_or_past, length_push, length-take-le, take-append-drop, nil_from_length, get_or_append_left, get_or_push}
 pub use Rattle.std.proofs.lemmas.List.Concat.{flat_map-cons}
 pub use Rattle.std.proofs.lemmas.List.Elements.{filter-append, All-from_recursion}
 pub use Rattle.std.proofs.lemmas.List.Folds.{length-flat_map-take}
@@ -16,7 +16,7 @@ pub use Rattle.ids_types.specs.Output.{Output}
 pub use Rattle.ids_types.specs.{kept_bytes, Turn, entry_at, entries_of, Room, turn_at}
 pub use Rattle.main_function.specs.{Closed, all_back, CloseLeaves, IsManagerOf, AreAllPasses, StaysSo, last_of, turns_of, rests_told, with_rest, Turned, TurnLeaves}
 pub use Rattle.main_function.specs.declared.manager.Manager.{Manager}
-pub use Rattle.history_spec.specs.{all_losses, losses_from, IsMerge, AreMerged, IsAsAsked, IsItsLine, StandsIn, KeepUpFrom, Asked, reports, changes, sets, last_tick, lines_of, ticks_of, Round, is_lost_report, is_report, lines_at, round_ticks}
+pub use Rattle.history_spec.specs.{all_losses, losses_from, IsMerge, AreMerged, IsAsAsked, IsItsLine, StandsIn, KeepUpFrom, Asked, reports, changes, sets, last_tick, lines_of, ticks_of, Round, is_lost_report, is_report, lines_at, round_ticks, Misses, misses_context, Calls, entries_by, AreLegalContexts, entries_from}
 pub use Rattle.permit_ring.proofs.ListLemmas.{there, at_length}
 pub use Rattle.report_queue.specs.Parts.{calls_of}
 pub use Rattle.report_api.specs.{desk_memo, sizes_of, lost_events, pass_memo, call_of, calls_in, missing_in, plain_act, misses_context as missed_by}
@@ -25,7 +25,7 @@ pub use Rattle.permit_ring.specs.Logs.{fate_of}
 pub use Rattle.report_api.specs.declared.pass.Pass.{Pass}
 pub use Rattle.report_api.specs.declared.shared.Shared.{Shared}
 pub use Rattle.text_spec.proofs.JournalFacts.{flat_map-push}
-pub use Rattle.text_spec.proofs.TraceFacts.{keep_split, last_from-push, last_of_all, last_small}
+pub use Rattle.text_spec.proofs.TraceFacts.{keep_split, last_from-push, last_of_all, last_small, all_append}
 pub use Rattle.text_spec.specs.{begun_round, last_from, act_asked, is_allowed, AreRounds, IsAllowedRound, AreTicks, MayAsk}
 pub use Rattle.trace_text.specs.{line_at, Traced, round_at}
 pub use Rattle.trace_replay.specs.Calls.{AsksOnce, IsAsked, control_look, lost_report, Answers, lost_reports, CallsOnce, Told, loss_of, MayBeAsked}
@@ -34,3 +34,11 @@ pub use Rattle.trace_replay.specs.{Closes, IsRecordOf, IsSmallTurn, tick_of, tur
 pub use Rattle.trace_replay.specs.declared.caller.Caller.{Caller}
 pub use Rattle.trace_replay.specs.declared.gathered.Gathered.{Gathered}
 pub use Rattle.trace_replay.specs.declared.recorder.Recorder.{Recorder}
+pub use Rattle.atomic_table.proofs.Lists.{at_map, at_longer}
+pub use Rattle.report_queue.proofs.ClosingLemmas.{at_map_back}
+pub use Rattle.std.proofs.lemmas.Grind.{flat_map-append}
+pub use Rattle.std.proofs.lemmas.Slice.Zip.{AllZip-long, all_zipped_more}
+pub use denote.Param.Send.{IsSend, IsSync, sendable, whole-keyless, struct_sync, recorded_sync, shr_sync, shr_send, Quiet-if}
+pub use lib.ListN.{get_elem?}
+pub use mathlib.Core.Option.{some}
+pub use mir.Syntax.{named, of_param}

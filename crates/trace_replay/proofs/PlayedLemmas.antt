@@ -1,6 +1,5 @@
 -- A caller with one call more, and with those of one round more.
-use Rattle.trace_replay.proofs.Names.{◌≡◌, ℕ, suc, ◌+◌, ◌-◌, ◌≤◌, ◌<◌, ◌^◌, List, [], ◌∷◌, ◌++◌, length, map, take, refl, sym, ap, ◌∙◌, arith, append_assoc, length-append, length_push, length-take-le, take_more, length-flat_map-take, losses_from, Asked, Round, changes, lines_at, lines_of, begun_round, line_at, round_at, Outcome, Lost, Got, PassMemo, fate_of, Answers, CallsOnce, Told, loss_of, lost_report, lost_reports, HasListed, HasPlayed, lines_before}
-use Rattle.std.proofs.lemmas.Slice.Zip.{AllZip-long, all_zipped_more}
+use Rattle.trace_replay.proofs.Names.{◌≡◌, ℕ, suc, ◌+◌, ◌-◌, ◌≤◌, ◌<◌, ◌^◌, List, [], ◌∷◌, ◌++◌, length, map, take, refl, sym, ap, ◌∙◌, arith, append_assoc, length-append, length_push, length-take-le, take_more, length-flat_map-take, losses_from, Asked, Round, changes, lines_at, lines_of, begun_round, line_at, round_at, Outcome, Lost, Got, PassMemo, fate_of, Answers, CallsOnce, Told, loss_of, lost_report, lost_reports, HasListed, HasPlayed, lines_before, AllZip-long, all_zipped_more}
 
 -- the lost reports, with one call more
 lost_push : (lines : List Asked) (log : List Outcome) (asked : Asked) (outcome : Outcome) → length lines ≡ length log

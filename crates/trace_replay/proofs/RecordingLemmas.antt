@@ -1,11 +1,10 @@
 -- What was gathered, with one turn more, and with those of one list of ticks after those of another.
-use Rattle.trace_replay.proofs.Names.{◌≡◌, ℕ, zero, suc, ◌≤◌, ◌<◌, List, [], ◌∷◌, ◌++◌, length, take, get_or, refl, sym, ap, ◌∙◌, arith, append_assoc, append-nil, length-append, length-map, map-append, Turn, Parts, KeepUpFrom, last_from, Buffer, DeskMemo, desk_memo, PassMemo, Shared, Closed, all_back, IsManagerOf, rests_told, Turned, Manager, Advances, Closes, Continues, StaysSame, tick_of, turns_in, Gathered, Recorder}
+use Rattle.trace_replay.proofs.Names.{◌≡◌, ℕ, zero, suc, ◌≤◌, ◌<◌, List, [], ◌∷◌, ◌++◌, length, take, get_or, refl, sym, ap, ◌∙◌, arith, append_assoc, append-nil, length-append, length-map, map-append, Turn, Parts, KeepUpFrom, last_from, Buffer, DeskMemo, desk_memo, PassMemo, Shared, Closed, all_back, IsManagerOf, rests_told, Turned, Manager, Advances, Closes, Continues, StaysSame, tick_of, turns_in, Gathered, Recorder, all_append}
 use Rattle.ids_types.specs.Carries.{entry_by}
 use Rattle.filter_chain.proofs.TranscriptLemmas.{newest_first, transcript_more}
 use Rattle.trace_replay.specs.Recording.{Gathers}
 use Rattle.buffer_classes.specs.declared.giver.Giver.{Giver}
 use Rattle.main_function.specs.Reports.{held}
-use Rattle.text_spec.proofs.TraceFacts.{all_append}
 
 pub last_on : (low : ℕ) (ticks more : List ℕ) → last_from low (ticks ++ more) ≡ last_from (last_from low ticks) more
 last_on low [] more = refl

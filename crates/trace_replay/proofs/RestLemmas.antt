@@ -1,11 +1,6 @@
 -- What the rests of a replay tell, round by round and caller by caller.
-use Rattle.trace_replay.proofs.Names.{◌≡◌, ℕ, zero, suc, ◌+◌, ◌-◌, ◌*◌, ◌≤◌, ◌<◌, List, [], ◌∷◌, ◌++◌, length, take, refl, ap, ◌∙◌, arith, length-append, append-nil, append_assoc, map-append, Round, lines_of, calls_of, with_rest, calls_of_each, lines_before, Caller}
-use Rattle.std.proofs.lemmas.Grind.{flat_map-append}
-use mathlib.Core.Option.{some}
-use lib.ListN.{get_elem?}
+use Rattle.trace_replay.proofs.Names.{◌≡◌, ℕ, zero, suc, ◌+◌, ◌-◌, ◌*◌, ◌≤◌, ◌<◌, List, [], ◌∷◌, ◌++◌, length, take, refl, ap, ◌∙◌, arith, length-append, append-nil, append_assoc, map-append, Round, lines_of, calls_of, with_rest, calls_of_each, lines_before, Caller, add-one, some, at_longer, flat_map-append, get_elem?}
 use Rattle.trace_replay.specs.Rests.{as_told, CallerRest, LiesInItsRound, TellsCalls, lines_from, rests_before, ticks_before}
-use Rattle.atomic_table.proofs.Lists.{at_longer}
-use Rattle.std.proofs.Common.{add-one}
 
 -- ---- callers
 

@@ -1,13 +1,7 @@
 -- One round more.
-use Rattle.trace_replay.proofs.Names.{◌≡◌, ℕ, ◌+◌, ◌≤◌, ◌<◌, ◌^◌, List, [], ◌∷◌, ◌++◌, length, take, drop, refl, sym, ap, subst, ◌∙◌, arith, append_assoc, length-append, ◌-◌, All, AllByRecursion, flat_map, length-map, length_push, map-append, take_more, take-append-drop, All-from_recursion, Turn, Parts, KeepUpFrom, Round, lines_of, round_ticks, begun_round, last_from, AreTicks, flat_map-push, keep_split, last_from-push, Buffer, at_length, DeskMemo, desk_memo, Shared, or_at, AreAllPasses, turns_of, Traced, round_at, Continues, StaysSame, StaysSo, StillRecords, tick_of, turns_in, CanPlay, EndsRound, IsBetween, Plays, calls_of_each, with_rest, lines_from, rests_before, ticks_before, AreAtRest, IsAtRest, passes_of, Caller, Recorder}
-use Rattle.std.proofs.lemmas.Grind.{flat_map-append}
-use mathlib.Core.Option.{some}
-use lib.ListN.{get_elem?}
+use Rattle.trace_replay.proofs.Names.{◌≡◌, ℕ, ◌+◌, ◌≤◌, ◌<◌, ◌^◌, List, [], ◌∷◌, ◌++◌, length, take, drop, refl, sym, ap, subst, ◌∙◌, arith, append_assoc, length-append, ◌-◌, All, AllByRecursion, flat_map, length-map, length_push, map-append, take_more, take-append-drop, All-from_recursion, Turn, Parts, KeepUpFrom, Round, lines_of, round_ticks, begun_round, last_from, AreTicks, flat_map-push, keep_split, last_from-push, Buffer, at_length, DeskMemo, desk_memo, Shared, or_at, AreAllPasses, turns_of, Traced, round_at, Continues, StaysSame, StaysSo, StillRecords, tick_of, turns_in, CanPlay, EndsRound, IsBetween, Plays, calls_of_each, with_rest, lines_from, rests_before, ticks_before, AreAtRest, IsAtRest, passes_of, Caller, Recorder, add-one, at_map_back, some, all_append, flat_map-append, get_elem?}
 use Rattle.trace_replay.proofs.RecordingLemmas.{last_on}
 use Rattle.trace_replay.proofs.RestLemmas.{each_made, two_told}
-use Rattle.report_queue.proofs.ClosingLemmas.{at_map_back}
-use Rattle.text_spec.proofs.TraceFacts.{all_append}
-use Rattle.std.proofs.Common.{add-one}
 
 -- ---- lists
 

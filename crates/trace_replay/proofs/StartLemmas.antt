@@ -1,13 +1,9 @@
 -- The start of a replay: what may be asked, and where callers and manager stand before the first round.
-use Rattle.trace_replay.proofs.Names.{◌≡◌, ℕ, ◌≤◌, ◌<◌, ◌⊎◌, ⊎_elim, true, nat_le, nat_lt, ◌&&◌, List, [], length, map, refl, sym, ap, subst, ◌∙◌, arith, leb-true, ltb-true, AllByRecursion, and_parts, get_or_past, length-map, length-flat_map-take, All-from_recursion, Turn, Parts, is_sensor, Asked, Round, reports, changes, sets, lines_at, act_asked, begun_round, is_allowed, IsAllowedRound, MayAsk, Buffer, there, Pass, Shared, or_at, line_at, Traced, round_at, MayBeAsked, IsRecordOf, tick_of, IsBetween, AreAtRest, MayAllBeAsked, losses_by, passes_of, Caller, Recorder}
-use mathlib.Core.Option.{some}
-use lib.ListN.{get_elem?}
+use Rattle.trace_replay.proofs.Names.{◌≡◌, ℕ, ◌≤◌, ◌<◌, ◌⊎◌, ⊎_elim, true, nat_le, nat_lt, ◌&&◌, List, [], length, map, refl, sym, ap, subst, ◌∙◌, arith, leb-true, ltb-true, AllByRecursion, and_parts, get_or_past, length-map, length-flat_map-take, All-from_recursion, Turn, Parts, is_sensor, Asked, Round, reports, changes, sets, lines_at, act_asked, begun_round, is_allowed, IsAllowedRound, MayAsk, Buffer, there, Pass, Shared, or_at, line_at, Traced, round_at, MayBeAsked, IsRecordOf, tick_of, IsBetween, AreAtRest, MayAllBeAsked, losses_by, passes_of, Caller, Recorder, some, nil_from_length, at_map, get_elem?}
 use Rattle.text_spec.specs.JournalFaults.{is_act}
 use Rattle.report_api.specs.Making.{IsOfConfig}
 use Rattle.report_api.specs.declared.terms.ReportTerms.{ReportTerms}
 use Rattle.trace_replay.specs.Recording.{IsNewRecorder}
-use Rattle.atomic_table.proofs.Lists.{at_map}
-use Rattle.std.proofs.lemmas.List.{nil_from_length}
 
 module _ (config : Parts) (terms : ReportTerms) (is : IsOfConfig config terms) where
   may_be_asked : (asked : Asked) → is_allowed config asked ≡ true → MayBeAsked terms asked

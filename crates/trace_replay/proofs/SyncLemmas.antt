@@ -1,7 +1,7 @@
 -- A seat may be seen by several threads, as it may go from one to another: whoever sees it has a part of the whole.
 use denote.RattleType.{RattleType}
 use denote.Ref.{NamedLft}
-use denote.Param.Send.{IsSend, IsSync, sendable, whole-keyless, struct_sync, recorded_sync, shr_sync}
+use Rattle.trace_replay.proofs.Names.{IsSend, IsSync, sendable, whole-keyless, struct_sync, recorded_sync, shr_sync}
 use denote.Struct.Declared.{shape}
 use Rattle.atomic_table.specs.contracts.shared.Seat as seat
 use Rattle.atomic_table.proofs.shared.Seat.TheSendSync as seats

@@ -1,16 +1,13 @@
 -- What became of the calls that the lines of a trace ask for.
 use Rattle.std.specs.Prelude.{◌≡◌, ℕ, ◌+◌, ◌-◌, ◌<◌, Option, Some, None, List, [], ◌∷◌, ◌++◌, length, ⊤}
-use Rattle.ids_types.specs.declared.loss.Loss.{Loss}
-use Rattle.history_spec.specs.Rounds.{Asked, reports, changes, sets}
+use Rattle.trace_replay.specs.Names.{Loss, ReportTerms, Asked, reports, changes, sets, CarriesAll, lost_events, IsReported}
 use Rattle.buffer_classes.specs.{Buffer, first_fitting}
 use Rattle.permit_ring.specs.declared.answer.Look.{Look}
-use Rattle.report_api.specs.{CarriesAll, lost_events, IsReported}
 use Rattle.report_api.specs.Names.{Act, Report, State, SetMode, Carried, Missing, Outcome, Lost, Got, PassMemo}
 use Rattle.report_api.specs.declared.answer.Control.{Control}
 use Rattle.report_api.specs.declared.answer.Control.TheVariants as controls
 use Rattle.report_api.specs.declared.answer.Report.{Report as ReportAnswer}
 use Rattle.report_api.specs.declared.answer.Report.TheVariants as answers
-use Rattle.report_api.specs.declared.terms.ReportTerms.{ReportTerms}
 
 -- a call that asks for this is not refused by number
 abbrev pub MayBeAsked : ReportTerms → Asked → Type 0

@@ -1,8 +1,6 @@
 -- Where a caller stands at the place at which it is handed over.
 use Rattle.std.specs.Prelude.{◌≡◌, ℕ, true, length}
-use Rattle.history_spec.specs.Rounds.{lines_at}
-use Rattle.report_api.specs.declared.shared.Shared.{Shared}
-use Rattle.trace_text.specs.TraceView.{Traced, round_at}
+use Rattle.trace_replay.specs.Names.{Traced, round_at, lines_at, Shared}
 use Rattle.trace_replay.specs.Standing.{HasRoom, IsAtRest, lines_before}
 use Rattle.trace_replay.specs.declared.place.Hand.{Hand}
 

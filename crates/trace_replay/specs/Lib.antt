@@ -1,5 +1,6 @@
 pub mod Calls
 pub mod Hands
+pub mod Names
 pub mod Places
 pub mod Played
 pub mod Recording

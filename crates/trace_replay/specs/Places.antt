@@ -1,7 +1,6 @@
 -- The places at which the callers of a replay are handed over.
 use Rattle.std.specs.Prelude.{◌≡◌, ℕ, ◌<◌, List, length, slice_index_or}
-use Rattle.report_api.specs.declared.shared.Shared.{Shared}
-use Rattle.trace_text.specs.TraceView.{Traced}
+use Rattle.trace_replay.specs.Names.{Traced, Shared}
 use Rattle.trace_replay.specs.declared.place.Place.{Place}
 
 -- the place is caller i's in a replay of this trace

@@ -3,8 +3,7 @@ use Rattle.std.specs.Prelude.{◌≡◌, ℕ, List, length, map}
 use mathlib.Core.Option.{some}
 use lib.ListN.{get_elem?}
 use Rattle.ids_types.specs.declared.class_spec.ClassSpec.{ClassSpec}
-use Rattle.ids_config.specs.Parts.{Parts}
-use Rattle.history_spec.specs.Rounds.{Round, lines_of}
+use Rattle.trace_replay.specs.Names.{Round, lines_of, Parts}
 use Rattle.report_api.specs.Names.{PassMemo}
 use Rattle.trace_replay.specs.Standing.{HasPlayed}
 

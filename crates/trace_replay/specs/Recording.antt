@@ -2,19 +2,9 @@
 use Rattle.std.specs.Prelude.{◌≡◌, ℕ, ◌+◌, ◌≤◌, ◌<◌, ◌^◌, Bool, true, List, [], ◌∷◌, ◌++◌, length, map, reverse}
 use Rattle.std.specs.List.{AllByRecursion}
 use Rattle.ids_types.specs.Output.{Output}
-use Rattle.ids_types.specs.Turns.{Turn}
-use Rattle.ids_config.specs.Parts.{Parts}
+use Rattle.trace_replay.specs.Names.{AreCountsOf, AreSumsOf, IsNewManager, IsManagerOf, Stands, StaysSo, fits_turn, last_of, rests_of, turns_of, IsSmallHead, Buffer, IsCausal, Parts, Turn, desk_memo, PassMemo, Pass, HaveAllCalls, IsMadeFor, came, queue_positions, Shared, Manager}
 use Rattle.text_spec.specs.TraceFaults.{last_from}
 use Rattle.filter_chain.specs.Transcripts.{Adds, IsEmpty, IsTranscript}
-use Rattle.chain_spec.specs.Chain.{IsCausal}
-use Rattle.buffer_classes.specs.Buffers.{Buffer}
-use Rattle.report_queue.specs.Parts.{queue_positions}
-use Rattle.report_api.specs.{desk_memo, PassMemo}
-use Rattle.report_api.specs.declared.pass.Pass.{Pass}
-use Rattle.report_api.specs.declared.shared.Shared.{Shared}
-use Rattle.law_closing.specs.{HaveAllCalls, IsMadeFor, came}
-use Rattle.main_function.specs.{AreCountsOf, AreSumsOf, IsNewManager, IsManagerOf, Stands, StaysSo, fits_turn, last_of, rests_of, turns_of, IsSmallHead}
-use Rattle.main_function.specs.declared.manager.Manager.{Manager}
 use Rattle.trace_replay.specs.declared.gathered.Gathered.{Gathered}
 use Rattle.trace_replay.specs.declared.recorder.Recorder.{Recorder}
 

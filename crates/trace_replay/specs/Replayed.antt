@@ -1,22 +1,14 @@
 -- What a replay of a trace gives, for whatever order the steps of its threads had.
 use Rattle.std.specs.Prelude.{◌≡◌, ℕ, List, length, map, reverse}
-use Rattle.ids_types.specs.Turns.{Turn}
-use Rattle.ids_types.specs.declared.loss.Loss.{Loss}
-use Rattle.ids_config.specs.Parts.{Parts}
+use Rattle.trace_replay.specs.Names.{Loss, Buffer, IsCausal, Parts, Turn, desk_memo, PassMemo, HaveAllCalls, losses_in, IsMadeFor, came, Shared, Manager}
 use Rattle.history_spec.specs.{IsMerge, Round}
 use Rattle.text_spec.specs.JournalReading.{Fits}
 use Rattle.filter_chain.specs.History.{count_of, messages_of}
 use Rattle.chain_plain.specs.Telling.{ends_of}
-use Rattle.chain_spec.specs.Chain.{IsCausal}
-use Rattle.buffer_classes.specs.Buffers.{Buffer}
 use Rattle.filter_aggregate.specs.Account.{all_kept}
 use Rattle.event_chain.specs.Chained.{Chained}
 use Rattle.event_chain.specs.Standing.{Stands as ChainStands}
-use Rattle.report_api.specs.{desk_memo, PassMemo}
-use Rattle.report_api.specs.declared.shared.Shared.{Shared}
-use Rattle.law_closing.specs.{HaveAllCalls, losses_in, IsMadeFor, came}
 use Rattle.main_function.specs.Standing.{IsManagerOf, Stands, rests_of}
-use Rattle.main_function.specs.declared.manager.Manager.{Manager}
 use Rattle.trace_replay.specs.Played.{HavePlayed}
 use Rattle.trace_replay.specs.Rests.{all_rests, as_told}
 use Rattle.trace_replay.specs.declared.recorder.Recorder.{Recorder}

@@ -3,8 +3,7 @@ use Rattle.std.specs.Prelude.{◌≡◌, ℕ, zero, suc, ◌+◌, ◌*◌, ◌-�
 use mathlib.Core.Option.{some}
 use lib.ListN.{get_elem?}
 use Rattle.std.specs.List.{flat_map}
-use Rattle.history_spec.specs.Rounds.{Round, lines_of, round_ticks}
-use Rattle.main_function.specs.Rests.{RestsTold}
+use Rattle.trace_replay.specs.Names.{Round, lines_of, round_ticks, RestsTold}
 
 -- the ticks of the turns of the first k rounds
 abbrev pub ticks_before : List Round → ℕ → List ℕ

@@ -1,15 +1,9 @@
 -- What stands between two rounds of a replay.
 use Rattle.std.specs.Prelude.{◌≡◌, ℕ, ◌≤◌, List, [], ◌∷◌, length, map}
 use Rattle.std.specs.List.{AllByRecursion}
-use Rattle.ids_types.specs.Turns.{Turn}
-use Rattle.ids_config.specs.Parts.{Parts}
+use Rattle.trace_replay.specs.Names.{Traced, IsManagerOf, StaysSo, last_of, rests_of, turns_of, with_rest, Buffer, Parts, Turn, queue_positions, Shared}
 use Rattle.text_spec.specs.{last_from, AreTicks}
-use Rattle.buffer_classes.specs.Buffers.{Buffer}
-use Rattle.report_queue.specs.Parts.{queue_positions}
 use Rattle.report_api.specs.Desks.{desk_memo}
-use Rattle.report_api.specs.declared.shared.Shared.{Shared}
-use Rattle.main_function.specs.{IsManagerOf, StaysSo, last_of, rests_of, turns_of, with_rest}
-use Rattle.trace_text.specs.TraceView.{Traced}
 use Rattle.trace_replay.specs.Recording.{Continues, IsSmallTurn, StillRecords, tick_of, turns_in}
 use Rattle.trace_replay.specs.Rests.{as_told, rests_before, ticks_before}
 use Rattle.trace_replay.specs.Standing.{AreAtRest, AreFew, MayAllBeAsked, calls_of_each}

@@ -1,15 +1,9 @@
 -- Where the callers of a replay stand between two rounds.
 use Rattle.std.specs.Prelude.{◌≡◌, ℕ, ◌+◌, ◌<◌, ◌≤◌, ◌^◌, List, length, map, take, slice_index_or, vec_len, vec_capacity}
 use Rattle.std.specs.List.{AllZip, flat_map}
-use Rattle.ids_types.specs.declared.loss.Loss.{Loss}
+use Rattle.trace_replay.specs.Names.{Loss, ReportTerms, calls_by, PassMemo, IsPassOf, lost_events, pass_memo, sizes_of, Pass, queue_positions, Shared}
 use Rattle.history_spec.specs.{losses_from, Asked, Round, lines_at, lines_of}
 use Rattle.law_closing.specs.Calls.{fates_in}
-use Rattle.report_queue.specs.Parts.{queue_positions}
-use Rattle.report_api.specs.{PassMemo, IsPassOf, lost_events, pass_memo, sizes_of}
-use Rattle.report_api.specs.declared.pass.Pass.{Pass}
-use Rattle.report_api.specs.declared.shared.Shared.{Shared}
-use Rattle.report_api.specs.declared.terms.ReportTerms.{ReportTerms}
-use Rattle.main_function.specs.Rests.{calls_by}
 use Rattle.trace_text.specs.{line_at, round_at}
 use Rattle.trace_replay.specs.Calls.{Answers, MayBeAsked, Told, lost_reports}
 use Rattle.trace_replay.specs.declared.caller.Caller.{Caller}

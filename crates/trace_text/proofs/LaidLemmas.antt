@@ -1,8 +1,5 @@
 -- Rounds as they lie in memory, one after the other: each is read from its places, and what a change leaves.
-use Rattle.trace_text.proofs.Names.{◌≡◌, ℕ, suc, ◌+◌, ◌-◌, ◌<◌, ◌≤◌, ◌^◌, List, [], ◌∷◌, ◌++◌, length, take, drop, set, get_or, refl, sym, ap, subst, ◌∙◌, inl, inr, arith, length-append, length-set, get_or-set_same, get_or-set_other, drop-cons, flat_map, replicate, slice_index, slice_range, drop_at, get_or_append_left, get_or_push, length-replicate, take-append-drop, take-append-le, take_all, take_at, take_more, lines_at, lines_of, last_tick, flat_map-push, all_append, all_split, by_last, last_tick-push, with_last-push, asked_more, begun_round, ended_at, with_last, AreTicks, Asked, Round, RoundEnd, IsEnd, Laid, Lie, Traced, at_start, end_at, lines_between, round_at, round_between, rounds_laid, laid_of}
-use Rattle.std.proofs.lemmas.Bool.{cases_lt}
-use Rattle.std.proofs.lemmas.Grind.{common_steps}
-use Rattle.std.proofs.lemmas.List.Elements.{All-from_recursion}
+use Rattle.trace_text.proofs.Names.{◌≡◌, ℕ, suc, ◌+◌, ◌-◌, ◌<◌, ◌≤◌, ◌^◌, List, [], ◌∷◌, ◌++◌, length, take, drop, set, get_or, refl, sym, ap, subst, ◌∙◌, inl, inr, arith, length-append, length-set, get_or-set_same, get_or-set_other, drop-cons, flat_map, replicate, slice_index, slice_range, drop_at, get_or_append_left, get_or_push, length-replicate, take-append-drop, take-append-le, take_all, take_at, take_more, lines_at, lines_of, last_tick, flat_map-push, all_append, all_split, by_last, last_tick-push, with_last-push, asked_more, begun_round, ended_at, with_last, AreTicks, Asked, Round, RoundEnd, IsEnd, Laid, Lie, Traced, at_start, end_at, lines_between, round_at, round_between, rounds_laid, laid_of, cases_lt, common_steps, All-from_recursion}
 use Rattle.std.proofs.lemmas.List.FromFn.{fill_by_all}
 use Rattle.trace_text.specs.declared.trace.Trace.TheInside.{Inside}
 use Rattle.trace_text.specs.TraceView.{IsSound, traced}

@@ -1,10 +1,8 @@
 -- Each turn, entry and loss of a merge by itself: what its line tells can be held, its numbers are in range, and its
 -- event may stand there.
-use Rattle.trace_text.proofs.Names.{◌≡◌, ℕ, zero, suc, ◌-◌, ◌<◌, ◌≤◌, ◌^◌, true, false, List, [], ◌∷◌, length, length-append, refl, sym, ap, subst, arith, ◌==◌, slice_index_or, AllByRecursion, flat_map, list_any, eq-eqb, eqb-true, false_from_ne_true, le-leb, get_or_past, Turn, entries_of, Parts, class_of, AreClasses, IsValid, ClassSpec, Carried, Absent, Kept, Missing, Act, Report, State, SetMode, Entry, Loss, calls_of, lost_calls_of, CarriesAsAsked, IsAsAsked, IsMerge, StandsIn, Asked, reports, changes, sets, Round, last_tick, lines_at, lines_of, round_ticks, ticks_of, stands_kept, is_act, is_call, is_claim, is_context, is_head, has_event, is_pair, pair_of, act_fields, AreRounds, IsAllowedRound, MayAsk, IsSmall, all_append, all_at, last_small, AreSmall, IsSmallHead}
+use Rattle.trace_text.proofs.Names.{◌≡◌, ℕ, zero, suc, ◌-◌, ◌<◌, ◌≤◌, ◌^◌, true, false, List, [], ◌∷◌, length, length-append, refl, sym, ap, subst, arith, ◌==◌, slice_index_or, AllByRecursion, flat_map, list_any, eq-eqb, eqb-true, false_from_ne_true, le-leb, get_or_past, Turn, entries_of, Parts, class_of, AreClasses, IsValid, ClassSpec, Carried, Absent, Kept, Missing, Act, Report, State, SetMode, Entry, Loss, calls_of, lost_calls_of, CarriesAsAsked, IsAsAsked, IsMerge, StandsIn, Asked, reports, changes, sets, Round, last_tick, lines_at, lines_of, round_ticks, ticks_of, stands_kept, is_act, is_call, is_claim, is_context, is_head, has_event, is_pair, pair_of, act_fields, AreRounds, IsAllowedRound, MayAsk, IsSmall, all_append, all_at, last_small, AreSmall, IsSmallHead, IsContext, AreHeld, All-from_recursion}
 use Rattle.history_spec.specs.Contexts.{claim_in, claim_of, claims_of, IsLegalMiss}
 use Rattle.text_spec.specs.Below.{IsBytes}
-use Rattle.text_spec.specs.{IsContext, AreHeld}
-use Rattle.std.proofs.lemmas.List.Elements.{All-from_recursion}
 use Rattle.std.proofs.lemmas.List.Folds.{list_any_none}
 use Rattle.std.proofs.lemmas.List.Sums.{list_all-from_AllPass}
 use Rattle.trace_text.proofs.StandsLemmas.{all_stands, once_there, stands_all, stands_at, stands_counted, stands_flat_map, stands_map}

@@ -1,7 +1,6 @@
 -- What a line tells, by its first word.
-use Rattle.trace_text.proofs.Names.{◌≡◌, ℕ, false, List, [], ◌∷◌, length, refl, ap, Option, Some, None, bytes_eq, codes, option_map, if◌then◌else◌, Parts, numbers_in, told_in_one, first_of, or_else, ◌>>=◌, PastRounds, opening_in, trace_forms, trace_grammar, TraceLine, opens, words_of}
+use Rattle.trace_text.proofs.Names.{◌≡◌, ℕ, false, List, [], ◌∷◌, length, refl, ap, Option, Some, None, bytes_eq, codes, option_map, if◌then◌else◌, Parts, numbers_in, told_in_one, first_of, or_else, ◌>>=◌, PastRounds, opening_in, trace_forms, trace_grammar, TraceLine, opens, words_of, after_line, past_with}
 use Rattle.std.proofs.lemmas.Option.{same_Some}
-use Rattle.text_spec.specs.Lines.{after_line, past_with}
 
 or_none : (o : Option TraceLine) → or_else o None ≡ o
 or_none None = refl

@@ -1,9 +1,6 @@
 -- A row more among those of a caller, and bytes more after those of all lines.
-use Rattle.trace_text.proofs.Names.{◌≡◌, ℕ, ◌<◌, ◌≤◌, List, [], ◌∷◌, ◌++◌, length, map, set, get_or, refl, ap, ap₂, ◌∙◌, subst, sym, arith, Vec, get_or-map, length-append, length-map, map-append, map-set, all_append, AllByRecursion, Asked, reports, callers_asked, row_asked}
+use Rattle.trace_text.proofs.Names.{◌≡◌, ℕ, ◌<◌, ◌≤◌, List, [], ◌∷◌, ◌++◌, length, map, set, get_or, refl, ap, ap₂, ◌∙◌, subst, sym, arith, Vec, get_or-map, length-append, length-map, map-append, map-set, all_append, AllByRecursion, Asked, reports, callers_asked, row_asked, range_of_front, All-from_recursion, All-weaker, recursion_from_All, all_set}
 use Rattle.std.specs.declared.alloc.Global.{Global}
-use Rattle.std.proofs.lemmas.List.Elements.{All-from_recursion, All-weaker, recursion_from_All}
-use Rattle.ids_types.proofs.HistoryLemmas.{range_of_front}
-use Rattle.text_spec.proofs.TraceFacts.{all_set}
 use Rattle.trace_text.specs.Lines.{AreWithin, IsRowWithin}
 use Rattle.trace_text.specs.declared.row.Row.{Row}
 use Rattle.trace_text.specs.declared.row.Row.TheVariants as rows

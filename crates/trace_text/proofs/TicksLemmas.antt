@@ -1,6 +1,5 @@
 -- Ticks in a list, one after another.
-use Rattle.trace_text.proofs.Names.{◌≡◌, ℕ, ◌-◌, ◌<◌, List, [], ◌∷◌, length, get_or, refl, arith, last_from}
-use Rattle.std.proofs.lemmas.Grind.{common_steps}
+use Rattle.trace_text.proofs.Names.{◌≡◌, ℕ, ◌-◌, ◌<◌, List, [], ◌∷◌, length, get_or, refl, arith, last_from, common_steps}
 
 -- the last of some ticks by its place
 pub last_from_at : (tick : ℕ) (ticks : List ℕ) (d : ℕ) → 0 < length ticks → get_or ticks (length ticks - 1) d ≡ last_from tick ticks

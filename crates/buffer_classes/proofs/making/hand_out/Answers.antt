@@ -1,7 +1,4 @@
-use Rattle.buffer_classes.proofs.Names.{◌≡◌, [], arith, sym, refl, append-nil, at_index, GetsOne, there}
-use Rattle.std.proofs.lemmas.Grind.{common_steps}
-use mathlib.Core.Option.{some}
-use lib.ListN.{get_elem?}
+use Rattle.buffer_classes.proofs.Names.{◌≡◌, [], arith, sym, refl, append-nil, at_index, GetsOne, there, some, common_steps, get_elem?}
 use Rattle.buffer_classes.proofs.{all_from, last_taken, none_from}
 use Rattle.buffer_classes.proofs.making.hand_out.Goals.{After-index_mut}
 use Rattle.buffer_classes.proofs.making.hand_out.Goals as goal

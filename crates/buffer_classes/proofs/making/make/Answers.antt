@@ -1,5 +1,4 @@
-use Rattle.buffer_classes.proofs.Names.{◌≡◌, ◌+◌, ◌∙◌, arith, length, take, sym, get_or_default, length-take-le, take_more, at_index}
-use Rattle.std.proofs.lemmas.Grind.{common_steps}
+use Rattle.buffer_classes.proofs.Names.{◌≡◌, ◌+◌, ◌∙◌, arith, length, take, sym, get_or_default, length-take-le, take_more, at_index, common_steps}
 use Rattle.buffer_classes.proofs.MakingLemmas.{as_many, class_made, got_of, rise_taken}
 use Rattle.buffer_classes.proofs.making.make.Goals as goal
 

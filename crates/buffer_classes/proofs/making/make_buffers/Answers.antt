@@ -1,5 +1,4 @@
-use Rattle.buffer_classes.proofs.Names.{refl, arith, IsBufferOf, class_terms}
-use Rattle.std.proofs.lemmas.Grind.{common_steps}
+use Rattle.buffer_classes.proofs.Names.{refl, arith, IsBufferOf, class_terms, common_steps}
 use Rattle.buffer_classes.proofs.GiveLemmas.{admitted_more}
 use Rattle.buffer_classes.proofs.making.make_buffers.Goals as goal
 

@@ -1,6 +1,4 @@
-use Rattle.buffer_classes.proofs.Names.{◌≤◌, [], arith, length-replicate, ◌∙◌, ap, length}
-use Rattle.std.proofs.Common.{None}
-use Rattle.permit_ring.proofs.{untouched}
+use Rattle.buffer_classes.proofs.Names.{◌≤◌, [], arith, length-replicate, ◌∙◌, ap, length, None, untouched}
 use Rattle.buffer_classes.proofs.GiveLemmas.{admitted_more}
 use Rattle.buffer_classes.proofs.making.make_class.Goals as goal
 

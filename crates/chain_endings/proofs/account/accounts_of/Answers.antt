@@ -1,7 +1,4 @@
-use Rattle.std.proofs.Common.{◌<◌, length, map, reverse, get_or, take, sym, ap, subst, ◌∙◌, arith, rules}
-use Rattle.event_chain.specs.Fates.{ending_of}
-use Rattle.std.proofs.lemmas.List.{get_or-replicate, length-replicate, map_more, reverse-append}
-use Rattle.chain_spec.specs.Accounts.{nothing}
+use Rattle.chain_endings.proofs.Names.{nothing, get_or-replicate, length-replicate, map_more, reverse-append, ◌<◌, length, map, reverse, get_or, take, sym, ap, subst, ◌∙◌, arith, rules, ending_of}
 use Rattle.chain_endings.specs.Accounting.{AreOf}
 use Rattle.chain_endings.proofs.AccountingLemmas.{accounts_few, accounts_more}
 use Rattle.chain_endings.proofs.account.accounts_of.Goals as goal

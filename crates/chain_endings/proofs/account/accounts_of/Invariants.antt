@@ -1,5 +1,4 @@
-use Rattle.std.proofs.Common.{map, reverse, take}
-use Rattle.event_chain.specs.Fates.{ending_of}
+use Rattle.chain_endings.proofs.Names.{map, reverse, take, ending_of}
 use Rattle.chain_endings.specs.Accounting.{AreOf}
 use Rattle.chain_endings.proofs.account.accounts_of.Given as goal
 

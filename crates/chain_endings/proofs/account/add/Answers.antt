@@ -1,5 +1,4 @@
-use Rattle.std.proofs.Common.{suc, arith}
-use Rattle.event_chain.specs.Fates.{fate_of}
+use Rattle.chain_endings.proofs.Names.{suc, arith, fate_of}
 use Rattle.chain_endings.proofs.AccountingLemmas.{fate_few, one_few}
 use Rattle.chain_endings.proofs.account.add.Goals as goal
 

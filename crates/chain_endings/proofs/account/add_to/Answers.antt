@@ -1,7 +1,4 @@
-use Rattle.std.proofs.Common.{◌<◌, length, ◌∙◌, arith}
-use Rattle.std.proofs.lemmas.Grind.{common_steps, elements}
-use Rattle.std.proofs.lemmas.List.{get_or_default}
-use Rattle.chain_spec.specs.Accounts.{nothing}
+use Rattle.chain_endings.proofs.Names.{nothing, get_or_default, ◌<◌, length, ◌∙◌, arith, common_steps, elements}
 use Rattle.chain_endings.proofs.account.add_to.Goals as goal
 
 pub add-requires : goal.add-requires

@@ -1,8 +1,5 @@
-use Rattle.std.proofs.Common.{◌≡◌, ℕ, List, [], ◌∷◌, ◌++◌, length, refl, sym, ap, ◌∙◌, arith, append_assoc}
-use Rattle.std.proofs.lemmas.Grind.{common_steps}
-use Rattle.std.proofs.lemmas.List.{append-nil, length-append}
+use Rattle.chain_endings.proofs.Names.{Entry, append-nil, length-append, ◌≡◌, ℕ, List, [], ◌∷◌, ◌++◌, length, refl, sym, ap, ◌∙◌, arith, append_assoc, common_steps}
 use Rattle.ids_types.specs.Plain.{plain_entry}
-use Rattle.ids_types.specs.declared.entry.Entry.{Entry}
 use Rattle.chain_endings.specs.ExplainedText.{is_missing}
 use Rattle.chain_endings.proofs.AccountingLemmas.{filter_few, missing_more}
 use Rattle.chain_endings.proofs.accounts.count_all.Goals as goal

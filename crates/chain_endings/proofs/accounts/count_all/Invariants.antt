@@ -1,5 +1,4 @@
-use Rattle.std.proofs.Common.{◌≡◌, ℕ, ◌++◌, List, length}
-use Rattle.ids_types.specs.declared.entry.Entry.{Entry}
+use Rattle.chain_endings.proofs.Names.{Entry, ◌≡◌, ℕ, ◌++◌, List, length}
 use Rattle.chain_endings.specs.Accounting.{CountsMissing}
 use Rattle.chain_endings.proofs.accounts.count_all.Given as goal
 

@@ -1,7 +1,4 @@
-use Rattle.std.proofs.Common.{◌≡◌, [], ◌∷◌, ◌++◌, length, ap, ◌∙◌, arith, append_assoc}
-use Rattle.std.proofs.lemmas.Grind.{common_steps}
-use Rattle.std.proofs.lemmas.List.{append-nil, length-append}
-use Rattle.ids_types.specs.Turns.{entries_of}
+use Rattle.chain_endings.proofs.Names.{entries_of, append-nil, length-append, ◌≡◌, [], ◌∷◌, ◌++◌, length, ap, ◌∙◌, arith, append_assoc, common_steps}
 use Rattle.chain_plain.specs.Recorded.{turn_with}
 use Rattle.chain_endings.proofs.accounts.missing_in.Goals as goal
 

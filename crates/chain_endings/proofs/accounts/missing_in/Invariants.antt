@@ -1,6 +1,4 @@
-use Rattle.std.proofs.Common.{◌≡◌, ℕ, ◌++◌, List, length}
-use Rattle.ids_types.specs.Turns.{entries_of}
-use Rattle.ids_types.specs.declared.entry.Entry.{Entry}
+use Rattle.chain_endings.proofs.Names.{entries_of, Entry, ◌≡◌, ℕ, ◌++◌, List, length}
 use Rattle.chain_endings.specs.Accounting.{CountsMissing}
 use Rattle.chain_endings.proofs.accounts.missing_in.Given as goal
 

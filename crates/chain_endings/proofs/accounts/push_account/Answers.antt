@@ -1,4 +1,4 @@
-use Rattle.std.proofs.Common.{append_assoc, refl}
+use Rattle.chain_endings.proofs.Names.{append_assoc, refl}
 use Rattle.chain_endings.proofs.accounts.push_account.Goals as goal
 
 pub returns : goal.returns

@@ -1,12 +1,8 @@
-use Rattle.std.proofs.Common.{◌≡◌, ◌<◌, length, reverse, refl, ap, ◌∙◌, append_assoc, arith}
-use Rattle.std.proofs.lemmas.List.{get_or_default}
+use Rattle.chain_endings.proofs.Names.{Parts, event_at, plain_event, text_of-append, get_or_default, ◌≡◌, ◌<◌, length, reverse, refl, ap, ◌∙◌, append_assoc, arith, common_steps}
 use Rattle.std.proofs.lemmas.List.FromFn.{map-range_with_len_more}
-use Rattle.std.proofs.lemmas.Grind.{common_steps}
-use Rattle.ids_config.specs.Parts.{Parts, event_at, plain_event}
 use Rattle.chain_spec.specs.{nothing, moments}
 use Rattle.chain_endings.specs.ExplainedText.{account_line}
 use Rattle.chain_endings.proofs.AccountingLemmas.{told_account}
-use Rattle.text_spec.proofs.WordsLemmas.{text_of-append}
 use Rattle.chain_endings.proofs.accounts.push_accounts.Goals as goal
 
 pub loop-event-preserved : goal.loop-event-preserved

@@ -1,6 +1,4 @@
-use Rattle.std.proofs.Common.{◌≡◌, ◌++◌, map}
-use Rattle.std.specs.List.{range_with_len}
-use Rattle.text_spec.specs.Words.{text_of}
+use Rattle.chain_endings.proofs.Names.{◌≡◌, ◌++◌, map, range_with_len, text_of}
 use Rattle.chain_endings.specs.ExplainedText.{account_line}
 use Rattle.chain_endings.proofs.accounts.push_accounts.Given as goal
 

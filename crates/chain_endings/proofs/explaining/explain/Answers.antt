@@ -1,7 +1,5 @@
-use Rattle.std.proofs.Common.{◌++◌, ◌∷◌, [], List, ℕ, map, refl, arith}
-use Rattle.std.proofs.lemmas.List.{take_all}
+use Rattle.chain_endings.proofs.Names.{one_more, text_of-append, text_of-map, take_all, ◌++◌, ◌∷◌, [], List, ℕ, map, refl, arith}
 use Rattle.ids_types.specs.declared.loss.Loss.{Loss}
-use Rattle.text_spec.proofs.WordsLemmas.{one_more, text_of-append, text_of-map}
 use Rattle.text_spec.specs.{line_for, loses, line_feed, text_of}
 use Rattle.chain_endings.specs.ExplainedText.{turns_lines}
 use Rattle.chain_endings.proofs.explaining.explain.Goals as goal

@@ -1,4 +1,4 @@
-use Rattle.std.proofs.Common.{◌≡◌, ◌++◌, [], map, take}
+use Rattle.chain_endings.proofs.Names.{◌≡◌, ◌++◌, [], map, take}
 use Rattle.text_spec.specs.{line_for, loses, text_of}
 use Rattle.chain_endings.specs.ExplainedText.{turns_lines}
 use Rattle.chain_endings.proofs.explaining.explain.Given as goal

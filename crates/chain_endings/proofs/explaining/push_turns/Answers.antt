@@ -1,15 +1,8 @@
-use Rattle.std.proofs.Common.{◌≡◌, ◌<◌, ◌≤◌, [], ◌∷◌, ◌++◌, drop, length, map, reverse, refl, ap, ◌∙◌, arith, append_assoc, rules}
-use Rattle.std.proofs.lemmas.Grind.{common_steps}
-use Rattle.std.proofs.lemmas.List.{append-nil, length-append}
+use Rattle.chain_endings.proofs.Names.{RiseFrom, turn_with, Parts, Turn, turn_at, append-nil, length-append, ◌≡◌, ◌<◌, ◌≤◌, [], ◌∷◌, ◌++◌, drop, length, map, reverse, refl, ap, ◌∙◌, arith, append_assoc, rules, common_steps, bare, ending_of, text_of}
 use Rattle.std.proofs.Math.Seq.{get_or-append_seam}
-use Rattle.ids_types.specs.Turns.{Turn, turn_at}
-use Rattle.ids_config.specs.Parts.{Parts}
 use Rattle.filter_chain.specs.History.{last_tick}
 use Rattle.filter_chain.proofs.TranscriptLemmas.{last_of, newest_first}
-use Rattle.chain_plain.specs.{RiseFrom, turn_with}
 use Rattle.chain_spec.specs.Moments.{moments}
-use Rattle.event_chain.specs.Fates.{bare, ending_of}
-use Rattle.text_spec.specs.Words.{text_of}
 use Rattle.chain_endings.specs.{turn_lines, turns_lines, turn_endings}
 use Rattle.chain_endings.proofs.HearingLemmas.{heard_since}
 use Rattle.chain_endings.proofs.TurnsLemmas.{text_more}

@@ -1,11 +1,7 @@
-use Rattle.std.proofs.Common.{◌≡◌, ◌++◌, [], List, length, reverse}
-use Rattle.std.specs.List.{All, AllByRecursion}
-use Rattle.ids_types.specs.Turns.{Turn}
+use Rattle.chain_endings.proofs.Names.{CanTake, RiseFrom, IsReady, Turn, ◌≡◌, ◌++◌, [], List, length, reverse, All, AllByRecursion, text_of}
 use Rattle.filter_chain.specs.{last_tick, IsShort}
-use Rattle.chain_plain.specs.{CanTake, RiseFrom, IsReady}
 use Rattle.event_chain.specs.Standing.{StandsWatched}
 use Rattle.filter_aggregate.specs.Account.{all_kept}
-use Rattle.text_spec.specs.Words.{text_of}
 use Rattle.chain_endings.specs.{turns_lines, Hears}
 use Rattle.chain_endings.proofs.explaining.push_turns.Given as goal
 

@@ -1,4 +1,4 @@
-use Rattle.std.proofs.Common.{append_assoc}
+use Rattle.chain_endings.proofs.Names.{append_assoc}
 use Rattle.chain_endings.proofs.lines.push_named.Goals as goal
 
 pub returns : goal.returns

@@ -1,7 +1,4 @@
-use Rattle.std.proofs.Common.{◌<◌, ◌≤◌, length, refl, arith}
-use Rattle.std.proofs.lemmas.List.{append-nil, drop_all, drop_more}
-use Rattle.ids_types.specs.Turns.{turn_at}
-use Rattle.ids_types.specs.declared.entry.Act.TheVariants.{State}
+use Rattle.chain_endings.proofs.Names.{turn_at, State, append-nil, drop_all, drop_more, ◌<◌, ◌≤◌, length, refl, arith}
 use Rattle.chain_endings.proofs.TurnsLemmas.{left_next}
 use Rattle.chain_endings.proofs.turns.push_entries.Goals as goal
 

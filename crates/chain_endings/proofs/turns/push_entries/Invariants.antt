@@ -1,8 +1,5 @@
-use Rattle.std.proofs.Common.{◌≡◌, ◌++◌, List, drop, map}
-use Rattle.ids_types.specs.Turns.{turn_at}
+use Rattle.chain_endings.proofs.Names.{turn_at, ◌≡◌, ◌++◌, List, drop, map, bare, ending_of, text_of}
 use Rattle.chain_spec.specs.Moments.{Moment}
-use Rattle.event_chain.specs.Fates.{bare, ending_of}
-use Rattle.text_spec.specs.Words.{text_of}
 use Rattle.chain_endings.specs.{entry_lines, endings_along, entry_moments}
 use Rattle.chain_endings.proofs.TurnsLemmas.{Left}
 use Rattle.chain_endings.proofs.turns.push_entries.Given as goal

@@ -1,7 +1,4 @@
-use Rattle.std.proofs.Common.{◌++◌, ◌∷◌, [], map, refl}
-use Rattle.std.proofs.lemmas.List.{map_push}
-use Rattle.event_chain.specs.Fates.{ending_of}
-use Rattle.text_spec.proofs.WordsLemmas.{one_more, text_of-map}
+use Rattle.chain_endings.proofs.Names.{one_more, text_of-map, map_push, ◌++◌, ◌∷◌, [], map, refl, ending_of}
 use Rattle.text_spec.specs.Words.{line_feed, text_of}
 use Rattle.chain_endings.specs.ExplainedText.{given_line}
 use Rattle.chain_endings.proofs.turns.push_opening.Goals as goal

@@ -1,6 +1,4 @@
-use Rattle.std.proofs.Common.{◌≡◌, ◌++◌, map, take}
-use Rattle.event_chain.specs.Fates.{ending_of}
-use Rattle.text_spec.specs.Words.{text_of}
+use Rattle.chain_endings.proofs.Names.{◌≡◌, ◌++◌, map, take, ending_of, text_of}
 use Rattle.chain_endings.specs.ExplainedText.{given_line}
 use Rattle.chain_endings.proofs.turns.push_opening.Given as goal
 

@@ -1,8 +1,5 @@
-use Rattle.std.proofs.Common.{◌∷◌, [], ◌++◌, map, refl, ◌∙◌}
+use Rattle.chain_endings.proofs.Names.{turn_at, ◌∷◌, [], ◌++◌, map, refl, ◌∙◌, with_all, bare, ending_of}
 use Rattle.std.proofs.lemmas.Simd.{map-map}
-use Rattle.ids_types.specs.Turns.{turn_at}
-use Rattle.chain_spec.specs.{with_all}
-use Rattle.event_chain.specs.Fates.{bare, ending_of}
 use Rattle.text_spec.specs.{begins, line_for}
 use Rattle.chain_endings.specs.{endings_along, entry_lines, given_line, opening}
 use Rattle.chain_endings.proofs.TurnsLemmas.{text_more, turn_parts}

@@ -1,6 +1,4 @@
-use Rattle.std.proofs.Common.{List, ℕ, arith}
-use Rattle.std.proofs.lemmas.List.{length-take}
-use Rattle.ids_types.specs.declared.entry.Entry.{Entry}
+use Rattle.chain_endings.proofs.Names.{Entry, length-take, List, ℕ, arith}
 use Rattle.chain_endings.proofs.AccountingLemmas.{filter_few}
 use Rattle.chain_endings.proofs.turns.reports_in.Goals as goal
 

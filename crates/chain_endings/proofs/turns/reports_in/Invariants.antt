@@ -1,5 +1,4 @@
-use Rattle.std.proofs.Common.{◌≡◌, filter, length, take}
-use Rattle.ids_types.specs.Turns.{turn_at}
+use Rattle.chain_endings.proofs.Names.{turn_at, ◌≡◌, filter, length, take}
 use Rattle.chain_endings.specs.Hearing.{is_report}
 use Rattle.chain_endings.proofs.turns.reports_in.Given as goal
 

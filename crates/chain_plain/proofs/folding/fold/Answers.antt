@@ -1,9 +1,5 @@
-use Rattle.std.proofs.Common.{◌≡◌, ℕ, [], ◌∷◌, ◌++◌, length, subst, sym, arith, append_assoc, ◌∙◌, ap}
-use Rattle.std.specs.List.{AllByRecursion}
-use Rattle.std.proofs.lemmas.Grind.{common_steps}
-use Rattle.filter_chain.specs.History.{last_tick}
+use Rattle.chain_plain.proofs.Names.{AllByRecursion, ◌≡◌, ℕ, [], ◌∷◌, ◌++◌, length, subst, sym, arith, append_assoc, ◌∙◌, ap, last_of, last_tick, common_steps}
 use Rattle.chain_plain.specs.{CanTake, RiseFrom, turn_with, IsReady}
-use Rattle.filter_chain.proofs.TranscriptLemmas.{last_of}
 use Rattle.chain_plain.proofs.TellingLemmas.{tells_more}
 use Rattle.chain_plain.proofs.folding.fold.Goals as goal
 

@@ -1,6 +1,4 @@
-use Rattle.std.proofs.Common.{◌≡◌, ◌++◌, List, length}
-use Rattle.std.specs.List.{All, AllByRecursion}
-use Rattle.ids_types.specs.Turns.{Turn}
+use Rattle.chain_plain.proofs.Names.{All, AllByRecursion, ◌≡◌, ◌++◌, List, length, Turn}
 use Rattle.filter_chain.specs.{last_tick, IsShort}
 use Rattle.chain_plain.specs.{CanTake, RiseFrom, IsReady, Tells}
 use Rattle.chain_plain.proofs.folding.fold.Given as goal

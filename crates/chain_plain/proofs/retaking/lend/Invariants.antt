@@ -1,5 +1,4 @@
-use Rattle.std.proofs.Common.{◌≡◌, map, take, vec_capacity, vec_len}
-use Rattle.ids_types.specs.{entry_by, plain_entry}
+use Rattle.chain_plain.proofs.Names.{◌≡◌, map, take, vec_capacity, vec_len, entry_by, plain_entry}
 use Rattle.chain_plain.proofs.retaking.lend.Given as goal
 
 -- the first items are lent

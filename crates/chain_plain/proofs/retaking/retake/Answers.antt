@@ -1,13 +1,6 @@
-use Rattle.std.proofs.Common.{◌≡◌, ℕ, ◌≤◌, length, rules, List, [], ◌∷◌, ◌++◌, reverse, refl, subst, sym, ap, ◌∙◌, arith, append_assoc}
-use Rattle.std.specs.List.{AllByRecursion}
-use Rattle.std.proofs.lemmas.Grind.{common_steps}
-use Rattle.std.proofs.lemmas.List.{append-nil}
-use Rattle.std.proofs.lemmas.List.Elements.{recursion_from_All}
-use Rattle.ids_types.specs.declared.parcel.Plain.{Plain}
+use Rattle.chain_plain.proofs.Names.{append-nil, AllByRecursion, room_of, Plain, ◌≡◌, ℕ, ◌≤◌, length, rules, List, [], ◌∷◌, ◌++◌, reverse, refl, subst, sym, ap, ◌∙◌, arith, append_assoc, newest_first, common_steps, recursion_from_All}
 use Rattle.filter_chain.specs.{Sends, FitsTurn, most_sent}
-use Rattle.ids_types.specs.Output.{room_of}
 use Rattle.chain_plain.specs.{AreInOrder, CanTake, turn_with, IsReady}
-use Rattle.filter_chain.proofs.TranscriptLemmas.{newest_first}
 use Rattle.chain_plain.proofs.TurningLemmas.{items_fit, told_fits}
 use Rattle.chain_plain.proofs.retaking.retake.Goals as goal
 

@@ -1,7 +1,4 @@
-use Rattle.std.proofs.Common.{◌≡◌, ◌++◌, [], List, length, reverse}
-use Rattle.std.specs.List.{All, AllByRecursion}
-use Rattle.ids_types.specs.Turns.{Turn}
-use Rattle.ids_config.specs.Parts.{Parts}
+use Rattle.chain_plain.proofs.Names.{Parts, All, AllByRecursion, ◌≡◌, ◌++◌, [], List, length, reverse, Turn}
 use Rattle.filter_chain.specs.Parcels.{IsShort}
 use Rattle.chain_plain.specs.{AreInOrder, CanTake, IsReady}
 use Rattle.chain_plain.proofs.retaking.retake.Given as goal

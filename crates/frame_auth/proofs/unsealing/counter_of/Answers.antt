@@ -1,5 +1,4 @@
-use Rattle.frame_auth.proofs.Names.{common_steps, arith}
-use Rattle.std.proofs.lemmas.Nat.{be_bytes_8}
+use Rattle.frame_auth.proofs.Names.{common_steps, arith, be_bytes_8}
 use Rattle.frame_auth.proofs.LayoutLemmas.{seal_parts, seal_made}
 use Rattle.frame_auth.proofs.unsealing.counter_of.Goals as goal
 

@@ -1,6 +1,4 @@
-use Rattle.frame_auth.proofs.Names.{◌≡◌, ◌+◌, ◌++◌, length, Some, sym, ap, ◌∙◌}
-use Rattle.std.proofs.Common.{option_copied}
-use Rattle.std.proofs.lemmas.List.{take-append-drop}
+use Rattle.frame_auth.proofs.Names.{◌≡◌, ◌+◌, ◌++◌, length, Some, sym, ap, ◌∙◌, option_copied, take-append-drop}
 use Rattle.frame_auth.proofs.unsealing.seal_in.Goals as goal
 
 pub returns-clause-some : goal.returns-clause-some

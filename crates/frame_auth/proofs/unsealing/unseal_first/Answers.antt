@@ -1,5 +1,4 @@
-use Rattle.frame_auth.proofs.Names.{◌≡◌, ◌++◌, Some, refl, sym, ap, ◌∙◌, arith, inr, seal_of, common_steps}
-use Rattle.std.proofs.Common.{option_copied}
+use Rattle.frame_auth.proofs.Names.{◌≡◌, ◌++◌, Some, refl, sym, ap, ◌∙◌, arith, inr, seal_of, common_steps, option_copied}
 use Rattle.frame_auth.proofs.WalkLemmas.{begins_so}
 use Rattle.frame_auth.proofs.LayoutLemmas.{unsealed_layout, no_seal, no_counter, sealed_with, other_counter, added_bare, moved}
 use Rattle.frame_auth.proofs.unsealing.unseal_first.Goals as goal

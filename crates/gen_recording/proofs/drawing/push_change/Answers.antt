@@ -6,4 +6,4 @@ pub returns-then-not-begins_with_change : goal.returns-then-not-begins_with_chan
 returns-then-not-begins_with_change c =
     let no : (c.args.caller == 0 && c.args.round % 100 == 99) ≡ false =
     sym c.begins_with_change.ensures ∙ c.if-not-begins_with_change.true in
-    rw no (sym (lines_none c.args.caller c.args.trace.now))
+    rw no (sym (lines_none c.args.caller c.args.trace.now c.requires.some))

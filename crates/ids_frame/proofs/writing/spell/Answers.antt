@@ -14,12 +14,5 @@ returns g c =
       put = subst (λ xs. g.R.Room.extends c.args.room.now xs c.put_signature.new.room) whole
           (both _ _ _ _ _ (both _ _ _ _ _ (both _ _ _ _ _ c.put.ensures.put c.put_stamp.ensures.put) c.put_context.ensures.put)
           c.put_signature.ensures.put);
-      less = grind (
-        arith,
-        common_steps,
-        c.put.ensures.less,
-        c.put_stamp.ensures.less,
-        c.put_context.ensures.less,
-        c.put_signature.ensures.less,
-      );
+      less = grind (arith, common_steps);
     }

@@ -1,6 +1,4 @@
-use Rattle.idsm_api.proofs.Names.{◌≡◌, ◌∷◌, [], arith, subst}
-use Rattle.std.proofs.Common.{◌++◌, reverse}
-use Rattle.std.proofs.lemmas.Grind.{common_steps}
+use Rattle.idsm_api.proofs.Names.{◌≡◌, ◌∷◌, [], arith, subst, common_steps, ◌++◌, reverse}
 use Rattle.idsm_api.specs.Making.{passes_of}
 use Rattle.idsm_api.proofs.ClosingLemmas.{taken_more}
 use Rattle.idsm_api.proofs.closing.take_passes.Goals as goal

@@ -1,5 +1,4 @@
-use Rattle.idsm_api.proofs.Names.{◌≡◌, ◌+◌, ◌≤◌, length}
-use Rattle.std.proofs.Common.{◌++◌, reverse, vec_capacity}
+use Rattle.idsm_api.proofs.Names.{◌≡◌, ◌+◌, ◌≤◌, length, ◌++◌, reverse, vec_capacity}
 use Rattle.idsm_api.specs.Making.{passes_of}
 use Rattle.idsm_api.proofs.closing.take_passes.Given as goal
 

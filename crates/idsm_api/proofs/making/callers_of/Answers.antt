@@ -1,5 +1,4 @@
-use Rattle.idsm_api.proofs.Names.{◌≡◌, arith, arc_value, Caller, caller_shares}
-use Rattle.std.proofs.lemmas.Grind.{common_steps}
+use Rattle.idsm_api.proofs.Names.{◌≡◌, arith, arc_value, Caller, caller_shares, common_steps}
 use Rattle.std.proofs.lemmas.List.Elements.{All-push}
 use Rattle.idsm_api.proofs.making.callers_of.Goals as goal
 

@@ -1,5 +1,4 @@
-use Rattle.idsm_api.proofs.Names.{◌≡◌, ◌+◌, ◌≤◌, length, arc_value, All, Caller, caller_shares}
-use Rattle.std.proofs.Common.{◌++◌, vec_len, vec_capacity}
+use Rattle.idsm_api.proofs.Names.{◌≡◌, ◌+◌, ◌≤◌, length, arc_value, All, Caller, caller_shares, ◌++◌, vec_len, vec_capacity}
 use Rattle.idsm_api.specs.Making.{passes_of}
 use Rattle.idsm_api.proofs.making.callers_of.Given as goal
 

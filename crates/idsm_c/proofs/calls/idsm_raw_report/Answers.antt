@@ -1,7 +1,6 @@
-use Rattle.idsm_c.proofs.Names.{Option, rules, subst}
+use Rattle.idsm_c.proofs.Names.{Option, rules, subst, RoleReports}
 use Rattle.ids_types.specs.declared.names.Stamp.{Stamp}
 use Rattle.report_api.specs.Answers.{given}
-use Rattle.idsm_api.specs.Handled.{RoleReports}
 use Rattle.idsm_c.specs.Calls.{event_of, stamp_given}
 use Rattle.idsm_c.proofs.CallLemmas.{handled}
 use Rattle.idsm_c.proofs.calls.idsm_raw_report.Goals as goal

@@ -1,6 +1,5 @@
-use Rattle.idsm_c.proofs.Names.{Option, rules, subst}
+use Rattle.idsm_c.proofs.Names.{Option, rules, subst, asked_mode, RoleSets}
 use Rattle.ids_types.specs.declared.mode.Mode.{Mode}
-use Rattle.idsm_api.specs.{asked_mode, RoleSets}
 use Rattle.idsm_c.specs.Calls.{SetsMode, event_of}
 use Rattle.idsm_c.proofs.CallLemmas.{handled}
 use Rattle.idsm_c.proofs.calls.idsm_raw_set_mode.Goals as goal

@@ -1,5 +1,4 @@
-use Rattle.idsm_c.proofs.Names.{rules}
-use Rattle.idsm_api.specs.{asked_state, RoleSets}
+use Rattle.idsm_c.proofs.Names.{rules, asked_state, RoleSets}
 use Rattle.idsm_c.proofs.CallLemmas.{handled}
 use Rattle.idsm_c.proofs.calls.idsm_raw_set_state.Goals as goal
 

@@ -1,5 +1,4 @@
-use Rattle.idsm_c.proofs.Names.{◌≡◌, ◌+◌, ◌≤◌, ◌++◌, length, caller_roles, roles_in}
-use Rattle.std.proofs.Common.{vec_len, vec_capacity}
+use Rattle.idsm_c.proofs.Names.{◌≡◌, ◌+◌, ◌≤◌, ◌++◌, length, caller_roles, roles_in, vec_len, vec_capacity}
 use Rattle.idsm_c.proofs.making.boxed_callers.Given as goal
 
 -- the first callers are boxed, and there is room for the others

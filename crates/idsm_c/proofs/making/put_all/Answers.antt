@@ -1,5 +1,4 @@
-use Rattle.idsm_c.proofs.Names.{◌≡◌, ◌∷◌, ◌++◌, [], length, rules, Some, IsFit, roles_in}
-use Rattle.std.proofs.lemmas.List.Elements.{All-pop}
+use Rattle.idsm_c.proofs.Names.{◌≡◌, ◌∷◌, ◌++◌, [], length, rules, Some, IsFit, roles_in, All-pop}
 use Rattle.idsm_c.proofs.MakingLemmas.{fills_one, roles_left}
 use Rattle.idsm_c.proofs.making.put_all.Goals as goal
 

@@ -1,7 +1,6 @@
-use Rattle.main_function.proofs.Names.{◌≡◌, ◌+◌, ◌∙◌, ◌++◌, ◌∷◌, [], ap, arith, common_steps, desk_memo, items_of}
+use Rattle.main_function.proofs.Names.{◌≡◌, ◌+◌, ◌∙◌, ◌++◌, ◌∷◌, [], ap, arith, common_steps, desk_memo, items_of, only_reaps}
 use Rattle.report_queue.specs.Parts.{queue_positions}
 use Rattle.main_function.proofs.TakingLemmas.{took_one}
-use Rattle.permit_ring.proofs.{only_reaps}
 use Rattle.main_function.proofs.taking.take_ready.Goals as goal
 
 -- one item more, for which there is a place

@@ -1,5 +1,4 @@
-use Rattle.memory_image.proofs.Names.{◌<◌, length, reverse, ap, arith, length-append, length-reverse, no_row, row_bytes}
-use Rattle.std.proofs.lemmas.List.Folds.{length-flat_map-take}
+use Rattle.memory_image.proofs.Names.{◌<◌, length, reverse, ap, arith, length-append, length-reverse, no_row, row_bytes, length-flat_map-take}
 use Rattle.memory_image.proofs.image.put_image.Goals as goal
 
 pub put_row-requires-clause-room : goal.put_row-requires-clause-room

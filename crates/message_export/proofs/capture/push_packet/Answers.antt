@@ -1,7 +1,4 @@
-use Rattle.std.proofs.Common.{◌≡◌, ◌++◌, ℕ, List, ap, arith, length, min, refl, take, ◌∙◌}
-use Rattle.std.specs.Int.{w32, to_be_bytes}
-use Rattle.std.proofs.lemmas.Grind.{common_steps}
-use Rattle.std.proofs.lemmas.Result.{IfOk-equal}
+use Rattle.message_export.proofs.Names.{◌≡◌, ◌++◌, ℕ, List, ap, arith, length, min, refl, take, ◌∙◌, w32, to_be_bytes, IfOk-equal, common_steps}
 use Rattle.message_export.specs.Capture.{kept, packet}
 use Rattle.message_export.proofs.JsonLemmas.{and_put}
 use Rattle.message_export.proofs.capture.push_packet.Goals as goal

@@ -1,6 +1,5 @@
-use Rattle.std.proofs.Common.{Ok, Err, inr, refl, sym, ap, ◌∙◌}
+use Rattle.message_export.proofs.Names.{Ok, Err, inr, refl, sym, ap, ◌∙◌, are_bytes, decode_tells}
 use Rattle.message_export.specs.Capture.{time_after}
-use Rattle.ids_frame.proofs.DecodeLemmas.{are_bytes, decode_tells}
 use Rattle.message_export.proofs.ExportLemmas.{all_put, fewer_left, more_put, none_put, putting_stops}
 use Rattle.message_export.proofs.exporting.export.Goals as goal
 

@@ -1,4 +1,4 @@
-use Rattle.std.proofs.Common.{length}
+use Rattle.message_export.proofs.Names.{length}
 use Rattle.message_export.proofs.ExportLemmas.{ArePut}
 use Rattle.message_export.proofs.exporting.export.Given as goal
 

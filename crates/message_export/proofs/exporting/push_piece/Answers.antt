@@ -1,5 +1,4 @@
-use Rattle.std.proofs.Common.{◌++◌, ap}
-use Rattle.std.proofs.lemmas.Result.{IfOk-equal}
+use Rattle.message_export.proofs.Names.{◌++◌, ap, IfOk-equal}
 use Rattle.ids_frame.specs.Spelling.{spelling}
 use Rattle.message_export.specs.Capture.{packet}
 use Rattle.message_export.proofs.CaptureLaws.{fits_32}

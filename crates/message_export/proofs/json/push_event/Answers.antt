@@ -1,6 +1,4 @@
-use Rattle.std.proofs.Common.{◌++◌, ap, refl, ◌∙◌}
-use Rattle.std.specs.Prelude.{codes, decimal}
-use Rattle.std.proofs.lemmas.Result.{IfOk-equal}
+use Rattle.message_export.proofs.Names.{◌++◌, ap, refl, ◌∙◌, IfOk-equal, codes, decimal}
 use Rattle.message_export.specs.JsonLines.{continued, event_members}
 use Rattle.message_export.proofs.JsonLemmas.{and_put, five_put, lead, numbered}
 use Rattle.message_export.proofs.json.push_event.Goals as goal

@@ -1,7 +1,4 @@
-use Rattle.std.proofs.Common.{◌++◌, ◌∷◌, [], ap, refl, ◌∙◌}
-use Rattle.std.specs.Prelude.{codes}
-use Rattle.std.proofs.lemmas.Result.{IfOk-equal}
-use Rattle.text_spec.specs.Words.{line_feed}
+use Rattle.message_export.proofs.Names.{◌++◌, ◌∷◌, [], ap, refl, ◌∙◌, line_feed, IfOk-equal, codes}
 use Rattle.message_export.specs.JsonLines.{byte_members, context_members, continued, event_members, json_line, number, signature_members, stamp_members}
 use Rattle.message_export.proofs.JsonLemmas.{and_put, object_put}
 use Rattle.message_export.proofs.json.push_line.Goals as goal

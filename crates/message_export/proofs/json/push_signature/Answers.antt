@@ -1,7 +1,4 @@
-use Rattle.std.proofs.Common.{◌++◌, Some}
-use Rattle.std.specs.Prelude.{codes}
-use Rattle.std.proofs.lemmas.List.{append-nil}
-use Rattle.std.proofs.lemmas.Result.{IfOk-equal}
+use Rattle.message_export.proofs.Names.{◌++◌, Some, IfOk-equal, append-nil, codes}
 use Rattle.message_export.specs.JsonLines.{continued, hexadecimal, signature_members}
 use Rattle.message_export.proofs.JsonLemmas.{lead}
 use Rattle.message_export.proofs.json.push_signature.Goals as goal

@@ -1,7 +1,4 @@
-use Rattle.std.proofs.Common.{◌++◌, Some, append_assoc}
-use Rattle.std.specs.Prelude.{codes, decimal}
-use Rattle.std.proofs.lemmas.List.{append-nil}
-use Rattle.std.proofs.lemmas.Result.{IfOk-equal}
+use Rattle.message_export.proofs.Names.{◌++◌, Some, append_assoc, IfOk-equal, append-nil, codes, decimal}
 use Rattle.message_export.specs.JsonLines.{continued, stamp_members}
 use Rattle.message_export.proofs.JsonLemmas.{lead}
 use Rattle.message_export.proofs.json.push_stamp.Goals as goal

@@ -1,5 +1,4 @@
-use Rattle.permit_ring.proofs.Names.{◌≡◌, ◌+◌, ◌≤◌, ◌-◌, [], Keeps, AreNewSeats, made_memo, IsKeeping}
-use Rattle.std.specs.Prelude.{vec_capacity}
+use Rattle.permit_ring.proofs.Names.{◌≡◌, ◌+◌, ◌≤◌, ◌-◌, [], Keeps, AreNewSeats, made_memo, IsKeeping, vec_capacity}
 use Rattle.permit_ring.proofs.making.make_seats.Given as goal
 
 abbrev pub invariant-loop-number : goal.invariant-loop-number

@@ -1,5 +1,4 @@
-use Rattle.report_api.proofs.Names.{◌≡◌, length}
-use Rattle.std.specs.Prelude.{vec_capacity}
+use Rattle.report_api.proofs.Names.{◌≡◌, length, vec_capacity}
 use Rattle.report_api.proofs.making.boxes.Given as goal
 
 abbrev pub invariant-loop : goal.invariant-loop

@@ -1,5 +1,4 @@
-use Rattle.report_api.proofs.Names.{◌≡◌, length, map, take, class_of}
-use Rattle.std.specs.Prelude.{vec_capacity}
+use Rattle.report_api.proofs.Names.{◌≡◌, length, map, take, class_of, vec_capacity}
 use Rattle.report_api.proofs.making.specs_of.Given as goal
 
 abbrev pub invariant-loop-class : goal.invariant-loop-class

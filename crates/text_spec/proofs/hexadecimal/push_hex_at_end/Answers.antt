@@ -1,5 +1,4 @@
-use Rattle.text_spec.proofs.Names.{arith, lower_digits, length-encode_with}
-use Rattle.std.proofs.lemmas.Grind.{common_steps}
+use Rattle.text_spec.proofs.Names.{arith, lower_digits, length-encode_with, common_steps}
 use Rattle.text_spec.proofs.hexadecimal.push_hex_at_end.Goals as goal
 
 pub returns-in_err-reserve-clause-full : goal.returns-in_err-reserve-clause-full

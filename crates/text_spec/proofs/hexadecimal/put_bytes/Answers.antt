@@ -1,5 +1,4 @@
-use Rattle.text_spec.proofs.Names.{◌≡◌, ◌*◌, ◌/◌, length, take, arith, take_all, ◌∙◌}
-use Rattle.std.proofs.lemmas.Grind.{common_steps}
+use Rattle.text_spec.proofs.Names.{◌≡◌, ◌*◌, ◌/◌, length, take, arith, take_all, ◌∙◌, common_steps}
 use Rattle.text_spec.proofs.HexadecimalLemmas.{bytes_taken, encode_none, hex_in-text, pair_more}
 use Rattle.text_spec.proofs.hexadecimal.put_bytes.Goals as goal
 

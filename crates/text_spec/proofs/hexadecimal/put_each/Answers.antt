@@ -1,6 +1,4 @@
-use Rattle.text_spec.proofs.Names.{arith, lower_digits}
-use Rattle.hex.proofs.Pairs.{encode_with-drop}
-use Rattle.std.proofs.lemmas.Grind.{common_steps}
+use Rattle.text_spec.proofs.Names.{arith, lower_digits, common_steps, encode_with-drop}
 use Rattle.text_spec.proofs.HexadecimalLemmas.{encode_none}
 use Rattle.text_spec.proofs.hexadecimal.put_each.Goals as goal
 

@@ -1,5 +1,4 @@
-use Rattle.text_spec.proofs.Names.{◌≡◌, ◌+◌, ◌*◌, ◌/◌, length, arith, take_rest}
-use Rattle.std.proofs.lemmas.Grind.{common_steps}
+use Rattle.text_spec.proofs.Names.{◌≡◌, ◌+◌, ◌*◌, ◌/◌, length, arith, take_rest, common_steps}
 use Rattle.text_spec.proofs.HexadecimalLemmas.{encode_on}
 use Rattle.text_spec.proofs.hexadecimal.put_hex.Goals as goal
 

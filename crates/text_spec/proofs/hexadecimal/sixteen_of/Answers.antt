@@ -1,5 +1,4 @@
-use Rattle.text_spec.proofs.Names.{arith, lower_digits, length-set}
-use Rattle.hex.proofs.Pairs.{encode_step, encode_done}
+use Rattle.text_spec.proofs.Names.{arith, lower_digits, length-set, encode_step, encode_done}
 use Rattle.text_spec.proofs.hexadecimal.sixteen_of.Goals as goal
 
 pub loop-i-preserved : goal.loop-i-preserved

@@ -1,5 +1,4 @@
-use Rattle.text_spec.proofs.Names.{◌≡◌, ◌==◌, ◌<◌, true, false, length, get_or, sym, ◌∙◌, arith, is_ascii_digit, and_from, ne_eqb, list_all_more}
-use borrow.Author.Count.{below_more}
+use Rattle.text_spec.proofs.Names.{◌≡◌, ◌==◌, ◌<◌, true, false, length, get_or, sym, ◌∙◌, arith, is_ascii_digit, and_from, ne_eqb, list_all_more, below_more}
 use Rattle.text_spec.proofs.NumbersLemmas.{capped_more}
 use Rattle.text_spec.proofs.pieces.next_digit.Goals as goal
 

@@ -1,5 +1,4 @@
-use Rattle.text_spec.proofs.Names.{◌≡◌, ◌==◌, ◌+◌, false, get_or, sym, ◌∙◌, Some, None, eq-eqb, ne_eqb, take_rest, is_ascii_digit, arith}
-use borrow.Author.Count.{below_more}
+use Rattle.text_spec.proofs.Names.{◌≡◌, ◌==◌, ◌+◌, false, get_or, sym, ◌∙◌, Some, None, eq-eqb, ne_eqb, take_rest, is_ascii_digit, arith, below_more}
 use Rattle.text_spec.proofs.PiecesLemmas.{first_piece, no_number, number_first}
 use Rattle.text_spec.proofs.pieces.number_before.Goals as goal
 

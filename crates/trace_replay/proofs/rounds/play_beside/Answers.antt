@@ -1,5 +1,4 @@
-use mir.Syntax.{named, of_param}
-use denote.Param.Send.{shr_send, Quiet-if}
+use Rattle.trace_replay.proofs.Names.{named, of_param, shr_send, Quiet-if}
 use Rattle.trace_replay.proofs.SyncLemmas.{stage_sync}
 use Rattle.trace_replay.proofs.rounds.play_beside.Goals as goal
 

@@ -1,5 +1,4 @@
-use mir.Syntax.{named}
-use denote.Param.Send.{shr_sync}
+use Rattle.trace_replay.proofs.Names.{named, shr_sync}
 use Rattle.trace_replay.proofs.SyncLemmas.{stage_sync}
 use Rattle.trace_replay.proofs.serving.serve_all.Goals as goal
 

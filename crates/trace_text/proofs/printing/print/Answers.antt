@@ -1,5 +1,4 @@
-use Rattle.trace_text.proofs.Names.{ap, ◌∙◌, trace_in, trace_again}
-use Rattle.std.proofs.lemmas.Result.{IfOk-weaker}
+use Rattle.trace_text.proofs.Names.{ap, ◌∙◌, trace_in, trace_again, IfOk-weaker}
 use Rattle.trace_text.proofs.PrintingLemmas.{all_allowed}
 use Rattle.trace_text.proofs.printing.print.Goals as goal
 

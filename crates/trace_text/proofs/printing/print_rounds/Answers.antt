@@ -1,5 +1,4 @@
-use Rattle.trace_text.proofs.Names.{arith}
-use Rattle.std.proofs.lemmas.Grind.{common_steps}
+use Rattle.trace_text.proofs.Names.{arith, common_steps}
 use Rattle.trace_text.proofs.PrintingLemmas.{rounds_text-push}
 use Rattle.trace_text.proofs.printing.print_rounds.Goals as goal
 

@@ -1,6 +1,4 @@
-use Rattle.trace_text.proofs.Names.{◌≡◌, ◌++◌, length, rules, arith, ap, ◌∙◌, ended_line, closes, opens, trace_fields, round_at}
-use Rattle.std.proofs.lemmas.Grind.{common_steps}
-use Rattle.std.proofs.lemmas.Result.{on_ok_weaker}
+use Rattle.trace_text.proofs.Names.{◌≡◌, ◌++◌, length, rules, arith, ap, ◌∙◌, ended_line, closes, opens, trace_fields, round_at, on_ok_weaker, common_steps}
 use Rattle.trace_text.proofs.PrintingLemmas.{callers_text-push, round_printed}
 use Rattle.trace_text.proofs.printing.push_round.Goals as goal
 

@@ -1,5 +1,4 @@
-use Rattle.buffer_classes.proofs.Names.{arith, filled_of, keeper_memo, ring_seats, OffersAll, giver_memo, at_snoc, AllAdmitted, ◌≤◌}
-use Rattle.permit_ring.proofs.{gave_of}
+use Rattle.buffer_classes.proofs.Names.{arith, filled_of, keeper_memo, ring_seats, OffersAll, giver_memo, at_snoc, AllAdmitted, ◌≤◌, gave_of}
 use Rattle.buffer_classes.proofs.giver.Giver.offer.Goals as goal
 
 pub returns-clause-mine : goal.returns-clause-mine

@@ -1,5 +1,4 @@
-use Rattle.buffer_classes.proofs.Names.{◌++◌, ◌∷◌, ◌∙◌, [], arith, length_push, giver_memo}
-use Rattle.permit_ring.proofs.{only_reaps, reaps_push}
+use Rattle.buffer_classes.proofs.Names.{◌++◌, ◌∷◌, ◌∙◌, [], arith, length_push, giver_memo, only_reaps, reaps_push}
 use Rattle.buffer_classes.proofs.giver.Giver.reap_all.Goals as goal
 
 pub loop-unready-init : goal.loop-unready-init

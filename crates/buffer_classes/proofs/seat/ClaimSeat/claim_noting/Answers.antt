@@ -1,5 +1,4 @@
-use Rattle.buffer_classes.proofs.Names.{refl, arith, class_sizes}
-use Rattle.std.proofs.lemmas.Grind.{common_steps}
+use Rattle.buffer_classes.proofs.Names.{refl, arith, class_sizes, common_steps}
 use Rattle.buffer_classes.specs.declared.seat.Claim.TheVariants as claims
 use Rattle.buffer_classes.proofs.{asked_none, first_within, got, in_vain, leaves, seat_ready, many_sizes}
 use Rattle.buffer_classes.proofs.seat.ClaimSeat.claim_noting.Goals as goal

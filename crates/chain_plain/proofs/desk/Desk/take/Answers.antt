@@ -1,6 +1,4 @@
-use Rattle.std.proofs.Common.{◌≡◌, ℕ, ◌≤◌, List, map, vec_capacity, refl, arith}
-use Rattle.std.proofs.lemmas.Grind.{common_steps}
-use Rattle.ids_types.specs.declared.parcel.Plain.{Plain}
+use Rattle.chain_plain.proofs.Names.{Plain, ◌≡◌, ℕ, ◌≤◌, List, map, vec_capacity, refl, arith, common_steps}
 use Rattle.ids_types.specs.Plain.{plain_entry}
 use Rattle.chain_plain.proofs.TurningLemmas.{items_fit}
 use Rattle.chain_plain.proofs.desk.Desk.take.Goals as goal

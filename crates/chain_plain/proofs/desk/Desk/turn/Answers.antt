@@ -1,8 +1,5 @@
-use Rattle.std.proofs.Common.{ℕ, ◌≤◌, List, arith, length, rules}
-use Rattle.ids_types.specs.declared.parcel.Plain.{Plain}
-use Rattle.ids_types.specs.Output.{room_of}
+use Rattle.chain_plain.proofs.Names.{most_grows, room_of, Plain, ℕ, ◌≤◌, List, arith, length, rules}
 use Rattle.filter_chain.specs.Turning.{most_sent}
-use Rattle.filter_chain.proofs.RoomLemmas.{most_grows}
 use Rattle.chain_plain.proofs.TurningLemmas.{bytes_few, kept_short}
 use Rattle.chain_plain.proofs.desk.Desk.turn.Goals as goal
 

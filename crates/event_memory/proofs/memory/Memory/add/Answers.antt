@@ -1,6 +1,5 @@
-use Rattle.std.proofs.Common.{◌≡◌, ◌≤◌, ◌<◌, ◌∷◌, get_or, length, rules}
+use Rattle.event_memory.proofs.Names.{remove, ◌≡◌, ◌≤◌, ◌<◌, ◌∷◌, get_or, length, rules}
 use Rattle.std.specs.Prelude.{vec_len}
-use Rattle.std.specs.List.{remove}
 use Rattle.event_memory.specs.{no_row, plain_item}
 use Rattle.event_memory.proofs.PlaceLemmas.{added_held}
 use Rattle.event_memory.proofs.memory.Memory.add.Goals as goal

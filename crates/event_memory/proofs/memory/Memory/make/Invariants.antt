@@ -1,4 +1,4 @@
-use Rattle.std.proofs.Common.{◌≡◌, length}
+use Rattle.event_memory.proofs.Names.{◌≡◌, length}
 use Rattle.event_memory.proofs.memory.Memory.make.Given as goal
 
 -- as many slots as there were rounds

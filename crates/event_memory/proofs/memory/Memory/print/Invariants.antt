@@ -1,4 +1,4 @@
-use Rattle.std.proofs.Common.{◌≡◌, take, reverse}
+use Rattle.event_memory.proofs.Names.{◌≡◌, take, reverse}
 use Rattle.text_spec.specs.MemoryText.{memory_text}
 use Rattle.event_memory.proofs.memory.Memory.print.Given as goal
 

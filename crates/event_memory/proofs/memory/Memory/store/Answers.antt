@@ -1,4 +1,4 @@
-use Rattle.std.proofs.Common.{arith}
+use Rattle.event_memory.proofs.Names.{arith}
 use Rattle.event_memory.specs.Held.{stored}
 use Rattle.event_memory.proofs.StandsLemmas.{stands_after}
 use Rattle.event_memory.proofs.memory.Memory.store.Goals as goal

@@ -1,5 +1,4 @@
-use Rattle.frame_auth.proofs.Names.{◌++◌, length, ap, ◌∙◌}
-use Rattle.std.proofs.lemmas.List.{drop-replicate}
+use Rattle.frame_auth.proofs.Names.{◌++◌, length, ap, ◌∙◌, drop-replicate}
 use Rattle.frame_auth.proofs.key.Key.make.Goals as goal
 
 pub returns-clause-made : goal.returns-clause-made

@@ -5,13 +5,14 @@ use Rattle.chain_plain.specs.Telling.{HasDeskRoom, Tells}
 use Rattle.chain_plain.proofs.TellingLemmas.{tells_more}
 use Rattle.filter_chain.proofs.TranscriptLemmas.{last_of}
 use Rattle.journal.specs.Printing.{lines_text}
-use Rattle.text_spec.specs.JournalText.{turn_told}
+use Rattle.journal.specs.Answers.{told}
+use Rattle.text_spec.specs.JournalText.{journal_text, turn_told}
 use Rattle.gen_recording.proofs.RecordingLemmas.{journal_more, turn_is}
 use Rattle.gen_recording.proofs.recorder.Recorder.turn.Goals as goal
 
 -- the turn that was planned was made
 pub returns-clause-at : goal.returns-clause-at
-returns-clause-at c = on_ok_weaker c.add.result (λ told before calls at.
+returns-clause-at c = on_ok_weaker c.add.result (λ tallies before calls at.
     let config = c.args.config.now in
     let history = turns_made config before in
     let head : TurnHead = record { tick = c.args.tick; lost_events = 0; lost_contexts = 0; limited = c.limited.result } in
@@ -31,12 +32,12 @@ returns-clause-at c = on_ok_weaker c.add.result (λ told before calls at.
     let now = c.turn.ensures.stands config history stands later in
     let sends = c.turn.ensures.sends config history stands later in
     let handed = c.limited-2.ensures.value config (history ++ turn ∷ []) now in
-    let tells = tells_more handed at.tells sends told in
+    let tells = tells_more handed at.tells sends tallies in
     let old = c.args.self.now.journal.items in
     let more : c.push_turn.new.out.items ≡ old ++ lines_text (turn_told turn) =
     c.in_ok-push_turn.ensures ∙ ap (λ items. old ++ lines_text (turn_told (turn_by held head items))) c.deref.ensures.value in
     record {
-      journal = journal_more history turn old _ _ at.journal more made;
+      journal = journal_more history turn old _ at.journal more ∙ ap (λ turns. journal_text (told turns [])) made;
       tick = sym (ap last_tick (sym made) ∙ last_of history turn);
       stands = subst (λ ts. Stands held config ts c.turn.new.chain) newest now;
       tells = subst (λ ts. Tells config ts c.add.new.self) made tells;

@@ -1,5 +1,4 @@
-use Rattle.idsm_api.proofs.Names.{rules}
-use Rattle.report_api.specs.Answers.{given}
+use Rattle.idsm_api.proofs.Names.{rules, given}
 use Rattle.idsm_api.specs.{Reports, Caller}
 use Rattle.idsm_api.proofs.CallerLemmas.{report_does}
 use Rattle.idsm_api.proofs.caller.Caller.report.Goals as goal

@@ -1,6 +1,4 @@
-use Rattle.idsm_api.proofs.Names.{◌≡◌, ◌+◌, ◌∙◌, List, length, map, rules, refl, sym, ap, subst, arith, length-map, arc_value, Output, Pass, Shared, Caller, IsManagerOf, chain_events, chain_kept, chain_stands}
-use Rattle.report_api.specs.{desk_memo, pass_memo}
-use Rattle.main_function.specs.{AreCountsOf, CloseLeaves, Closed, AreAllPasses, IsQuick}
+use Rattle.idsm_api.proofs.Names.{◌≡◌, ◌+◌, ◌∙◌, List, length, map, rules, refl, sym, ap, subst, arith, length-map, arc_value, Output, Pass, Shared, Caller, IsManagerOf, chain_events, chain_kept, chain_stands, desk_memo, pass_memo, AreCountsOf, CloseLeaves, Closed, AreAllPasses, IsQuick}
 use Rattle.idsm_api.specs.{passes_of, told_in, IsWritten}
 use Rattle.idsm_api.proofs.ClosingLemmas.{all_passes, counted, room_is}
 use Rattle.idsm_api.proofs.manager.Manager.finish.Goals as goal

@@ -1,6 +1,5 @@
-use Rattle.idsm_api.proofs.Names.{◌≡◌, ℕ, refl, ◌∙◌, List, length, ap, rules, sym, subst, length-map, arc_value, Parts, Pass, Shared, chain_events, chain_kept, chain_stands}
+use Rattle.idsm_api.proofs.Names.{◌≡◌, ℕ, refl, ◌∙◌, List, length, ap, rules, sym, subst, length-map, arc_value, Parts, Pass, Shared, chain_events, chain_kept, chain_stands, most_sent}
 use Rattle.ids_config.specs.{class_of, parts_of}
-use Rattle.filter_chain.specs.Turning.{most_sent}
 use Rattle.main_function.specs.Making.{IsNewManager}
 use Rattle.idsm_api.proofs.MakingLemmas.{all_callers, callers_fit, classes_made, most_made, none_called}
 use Rattle.idsm_api.proofs.manager.Manager.make_for.Goals as goal

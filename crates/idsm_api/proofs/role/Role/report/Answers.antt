@@ -1,5 +1,4 @@
-use Rattle.idsm_api.proofs.Names.{refl, sym, subst}
-use Rattle.report_api.specs.Answers.{given}
+use Rattle.idsm_api.proofs.Names.{refl, sym, subst, given}
 use Rattle.idsm_api.specs.{Role, RoleReports}
 use Rattle.idsm_api.specs.declared.role.Role.TheVariants.{Calls}
 use Rattle.idsm_api.proofs.role.Role.report.Goals as goal

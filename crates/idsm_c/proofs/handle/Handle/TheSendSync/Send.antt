@@ -1,10 +1,8 @@
 -- What a handle has may go to another thread, as a box of a role may.
-use Rattle.idsm_c.proofs.Names.{full_share, lone, Ptr, block_ptr, null_ptr, shape, IsFit, held}
+use Rattle.idsm_c.proofs.Names.{full_share, lone, Ptr, block_ptr, null_ptr, shape, IsFit, held, fields, to, exits_of}
 use mir.Raw.{raw}
 use base.Shift.{Keyless}
 use denote.Param.Send.{IsSend, AllSend, owning_send, part_keyless, struct_send, sendable}
-use denote.Struct.Struct.{exits_of}
-use denote.Struct.Owning.{fields, to}
 use Rattle.std.proofs.Crossing.{frees}
 use Rattle.std_alloc.proofs.SendSync.{quiet}
 use Rattle.idsm_api.specs.contracts.role.Role as role

@@ -1,9 +1,7 @@
 -- `close` keeps the pointer, and what the loose box owned goes with it. Assumes `Logic`.
-use Rattle.idsm_c.proofs.Names.{◌≡◌, List, [], ◌∷◌, ◌++◌, refl, sym, subst, Some, Val, vptr, SProp, ent, emp, id⊢, WpFn, ‵, ◌⊛◌, ◌$◌, ◌∵◌, !, qed, by, move, keep, split, fsplit, fjoin, suffices, use0, stop, fld, of_opd, no_more, and_then, returns, enter, alloc_all, pass_all, free_all, look_at, get, get_in, sets, agg, sub, whole, fact, fact_i, tables, owns, block_ptr, types_at, nothing, heard, alive, Stays, stay_dropped, walk_of, Goes-blank, proved_at, leaves, IsFit}
-use types.Kit.{raw}
+use Rattle.idsm_c.proofs.Names.{◌≡◌, List, [], ◌∷◌, ◌++◌, refl, sym, subst, Some, Val, vptr, SProp, ent, emp, id⊢, WpFn, ‵, ◌⊛◌, ◌$◌, ◌∵◌, !, qed, by, move, keep, split, fsplit, fjoin, suffices, use0, stop, fld, of_opd, no_more, and_then, returns, enter, alloc_all, pass_all, free_all, look_at, get, get_in, sets, agg, sub, whole, fact, fact_i, tables, owns, block_ptr, types_at, nothing, heard, alive, Stays, stay_dropped, walk_of, Goes-blank, proved_at, leaves, IsFit, ghosts, raw}
 use Rattle.std.specs.contracts.alloc.Global as heap
 use Rattle.std.proofs.alloc.Global.TheLaws as heap_laws
-use Rattle.std.specs.contracts.impls.GlobalAllocator.TheImpl.{ghosts}
 use Rattle.idsm_api.specs.contracts.role.Role as role
 use Rattle.idsm_c.proofs.Handles.{Content, both, handle_val, handle_in, box_held, loose_good, loose_out, slot_at}
 use Rattle.idsm_c.specs.contracts.handle.Handle.close.{ended, clauses}

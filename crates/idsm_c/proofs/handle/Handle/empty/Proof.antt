@@ -1,7 +1,5 @@
 -- `empty` makes the null handle. Assumes `Logic`.
-use Rattle.idsm_c.proofs.Names.{◌≡◌, [], ◌∷◌, refl, lit<, None, Val, SProp, emp, ftrue, ‵, ◌⊛◌, ◌$◌, ◌∵◌, !, qed, by, keep, split, use0, feq_i, lit, no_more, and_then, returns, enter, alloc_all, pass_all, free_all, look_at, sets, agg, fact, fact_i, tables, null_ptr, nothing, alive, walk_of, leaves}
-use types.Kit.{raw}
-use Rattle.std.proofs.raw_atomic.Walks.{proved}
+use Rattle.idsm_c.proofs.Names.{◌≡◌, [], ◌∷◌, refl, lit<, None, Val, SProp, emp, ftrue, ‵, ◌⊛◌, ◌$◌, ◌∵◌, !, qed, by, keep, split, use0, feq_i, lit, no_more, and_then, returns, enter, alloc_all, pass_all, free_all, look_at, sets, agg, fact, fact_i, tables, null_ptr, nothing, alive, walk_of, leaves, proved, raw}
 use Rattle.idsm_c.proofs.Handles.{Content, handle_val, handle_in}
 use Rattle.idsm_c.specs.contracts.handle.Handle.empty.{ended, clauses}
 use Rattle.idsm_c.specs.contracts.handle.Handle.empty.Key.{name as #self}

@@ -1,18 +1,9 @@
 -- `open` tests the pointer, and gives what the handle owned with it. Assumes `Logic`.
-use Rattle.idsm_c.proofs.Names.{◌≡◌, List, [], ◌∷◌, ◌++◌, refl, sym, ap, ◌∙◌, subst, lit<, Some, None, Val, vptr, vcons, vnil, SProp, ent, emp, id⊢, WpFn, ‵, ◌⊛◌, at_ret, ◌$◌, ◌∵◌, !, qed, by, move, keep, split, fsplit, fjoin, suffices, use0, use1, rewrite, stop, fld, lit, of_opd, no_more, and_then, first, exec, returns, enter, alloc_all, pass_all, free_all, look_at, get, get_in, sets, env, agg, sub, whole, fact, fact_i, tables, RattleType, owns, Ptr, block_ptr, null_ptr, types_at, nothing, layout, alive, Stays, stay_dropped, walk_of, Goes-blank, after, Good, and_tt, proved_at, leaves, IsFit}
-use Rattle.std.specs.Prelude.{IfSome}
-use types.Kit.{raw}
-use types.Run.{bin, branches}
-use types.ByLocal.{sets_last}
+use Rattle.idsm_c.proofs.Names.{◌≡◌, List, [], ◌∷◌, ◌++◌, refl, sym, ap, ◌∙◌, subst, lit<, Some, None, Val, vptr, vcons, vnil, SProp, ent, emp, id⊢, WpFn, ‵, ◌⊛◌, at_ret, ◌$◌, ◌∵◌, !, qed, by, move, keep, split, fsplit, fjoin, suffices, use0, use1, rewrite, stop, fld, lit, of_opd, no_more, and_then, first, exec, returns, enter, alloc_all, pass_all, free_all, look_at, get, get_in, sets, env, agg, sub, whole, fact, fact_i, tables, RattleType, owns, Ptr, block_ptr, null_ptr, types_at, nothing, layout, alive, Stays, stay_dropped, walk_of, Goes-blank, after, Good, and_tt, proved_at, leaves, IsFit, tests_null, sets_last, ghosts, raw, bin, branches, Goes-dropped, type_at, one, IfSome}
 use types.Match.{live}
-use denote.RawPtr.{tests_null}
-use denote.Signature.{type_at}
-use denote.Triple.Walked.{Goes-dropped}
-use Rattle.core.proofs.cell.Inside.{one}
 use Rattle.core.proofs.option.Made.{Some-of, none_of}
 use Rattle.std.specs.contracts.alloc.Global as heap
 use Rattle.std.proofs.alloc.Global.TheLaws as heap_laws
-use Rattle.std.specs.contracts.impls.GlobalAllocator.TheImpl.{ghosts}
 use Rattle.idsm_c.specs.Opened.{as_open}
 use Rattle.idsm_api.specs.contracts.role.Role as role
 use Rattle.idsm_c.proofs.Handles.{Loose, both, handle_val, handle_out, either_held, loose_good, loose_in, slot_at}

@@ -1,5 +1,4 @@
-use Rattle.main_function.proofs.Names.{rules, refl, ap, arith, common_steps, TurnHead, turn_by, DeskMemo, desk_memo, MakesTurn, held, item_of, items_of, length-map, ◌∙◌}
-use Rattle.permit_ring.proofs.{gave_of, only_reaps}
+use Rattle.main_function.proofs.Names.{rules, refl, ap, arith, common_steps, TurnHead, turn_by, DeskMemo, desk_memo, MakesTurn, held, item_of, items_of, length-map, ◌∙◌, gave_of, only_reaps}
 use Rattle.report_queue.proofs.ClosingLemmas.{taken_on}
 use Rattle.main_function.proofs.QuickLemmas.{turn_is_quick}
 use Rattle.main_function.proofs.ReportLemmas.{offered_more, totals_more, turn_adds}

@@ -1,4 +1,4 @@
-use Rattle.std.proofs.Common.{arith}
+use Rattle.permit_ring.proofs.Names.{arith}
 use Rattle.permit_ring.proofs.Positions.{masked}
 use Rattle.permit_ring.proofs.ring.Ring.position_of.Goals as goal
 

@@ -1,37 +1,28 @@
-use Rattle.report_api.proofs.Names.{[], rules, length, Ok, refl, subst, arith, Ticket, ClaimTells, caller_memo, queue_seats, ticket_of, Lost, sizes_of, Pass}
-use Rattle.report_api.proofs.{call_adds, control_asks, control_misses, lost_call, pass_after, put_call, same_logs, same_ticket}
+use Rattle.report_api.proofs.Names.{length, sizes_of, rules, refl, arith, queue_seats, ticket_of, caller_memo, item_by, Got, Lost}
+use Rattle.report_api.proofs.{claim_of_held, control_asks, control_misses, lost_call, plain_after, put_call}
 use Rattle.report_api.proofs.pass.Pass.control.Goals as goal
 
 pub returns-in-Ok : goal.returns-in-Ok
 returns-in-Ok c =
-    let shared = c.args.shared.now in
-    let now : Pass = record { seat = c.put.new.seat; claimant = c.args.self.now.claimant; spare = c.put.new.spare } in
-    let same = same_ticket (ticket_of c.claim.new.self) c.in-Ok.field-0 c.put.result c.in-Ok.ensures.held c.put.ensures.ticket in
-    let claims = subst (λ (t : Ticket). ClaimTells (queue_seats shared.queue) (caller_memo c.args.self.now.seat) (Ok t) (caller_memo c.claim.new.self)) same
-    c.in-Ok.ensures.told in
-    let call = put_call (queue_seats shared.queue) _ _ c.put.result claims c.args.act _ c.put.ensures.told in
+    let limit = queue_seats c.args.shared.now.queue in
+    let old = caller_memo c.args.self.now.seat in
+    let mid = caller_memo c.claim.new.self in
+    let claims = claim_of_held limit old mid (ticket_of c.claim.new.self) c.in-Ok.field-0 c.put.result c.in-Ok.ensures.told c.in-Ok.ensures.held c.put.ensures.ticket in
+    let call = put_call limit old mid c.put.result claims c.args.act (caller_memo c.put.new.seat) c.put.ensures.told in
     record {
-      mine = record {
-        at = pass_after c.requires.mine.at now c.put.ensures.mine c.requires.mine.at.claimant c.put.ensures.spare refl (omega arith) _ (λ i. []) (same_logs now)
-            (λ i. control_asks (length (sizes_of shared)) i c.args.act c.requires.control)
-            (call_adds (omega arith) (omega (arith, control_misses c.args.act c.requires.control)) call);
-        is_idle = c.put.ensures.held;
-      };
-      told = (search rules, (_, claims, c.put.ensures.told));
+      mine = plain_after c.requires.mine.at _ c.put.ensures.mine c.put.ensures.held c.put.ensures.spare (Got c.put.result.0 (item_by mid c.args.act))
+          (grind (arith, call, control_misses c.args.act c.requires.control)) refl
+          (λ i. control_asks (length (sizes_of c.args.shared.now)) i c.args.act c.requires.control);
+      told = (search rules, (mid, claims, c.put.ensures.told));
       claimant_is = refl;
       steps = omega (arith, call.few_moves);
     }
 
 pub returns-in-Err : goal.returns-in-Err
 returns-in-Err c =
-    let now : Pass = record { seat = c.claim.new.self; claimant = c.args.self.now.claimant; spare = c.args.self.now.spare } in
-    let call = lost_call (queue_seats c.args.shared.now.queue) _ _ c.in-Err.look c.in-Err.ensures.told in
+    let call = lost_call (queue_seats c.args.shared.now.queue) (caller_memo c.args.self.now.seat) (caller_memo c.claim.new.self) c.in-Err.look c.in-Err.ensures.told in
     record {
-      mine = record {
-        at = pass_after c.requires.mine.at now c.in-Err.ensures.mine c.requires.mine.at.claimant c.requires.mine.at.has_spare refl (omega arith) (Lost c.in-Err.look.claimed) (λ i. [])
-            (same_logs now) (λ i. refl) (call_adds (omega arith) refl call);
-        is_idle = c.in-Err.ensures.held;
-      };
+      mine = plain_after c.requires.mine.at _ c.in-Err.ensures.mine c.in-Err.ensures.held c.requires.mine.at.has_spare (Lost c.in-Err.look.claimed) (grind (arith, call)) refl (λ i. refl);
       told = (search rules, c.in-Err.ensures.told);
       claimant_is = refl;
       steps = omega (arith, call.few_moves);

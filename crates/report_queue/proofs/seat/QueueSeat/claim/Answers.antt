@@ -1,4 +1,4 @@
-use Rattle.std.proofs.Common.{arith}
+use Rattle.report_queue.proofs.Names.{arith}
 use Rattle.report_queue.specs.Parts.{caller_memo, caller_number}
 use Rattle.report_queue.proofs.CallerLemmas.{claimed, names-claim}
 use Rattle.report_queue.proofs.seat.QueueSeat.claim.Goals as goal

@@ -1,5 +1,4 @@
-use Rattle.std.proofs.Common.{◌≡◌, arith, length, sym, ◌∙◌}
-use Rattle.std.proofs.lemmas.Grind.{common_steps}
+use Rattle.report_queue.proofs.Names.{◌≡◌, arith, length, sym, ◌∙◌, common_steps}
 use Rattle.permit_ring.specs.Steps.{ticket_in}
 use Rattle.report_queue.specs.{caller_memo, caller_number, item_by}
 use Rattle.report_queue.proofs.CallerLemmas.{held_is_small, names-got}

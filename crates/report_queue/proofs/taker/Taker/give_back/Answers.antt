@@ -1,4 +1,4 @@
-use Rattle.std.proofs.Common.{arith, inl, inr, eq-zero-or-pos}
+use Rattle.report_queue.proofs.Names.{arith, inl, inr, eq-zero-or-pos}
 use Rattle.report_queue.specs.{to_give_back}
 use Rattle.report_queue.proofs.taker.Taker.give_back.Goals as goal
 

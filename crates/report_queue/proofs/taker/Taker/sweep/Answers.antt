@@ -1,5 +1,4 @@
-use Rattle.std.proofs.Common.{arith, ap, sym, subst, ◌∙◌}
-use Rattle.permit_ring.specs.{AreAllBack, sweeps}
+use Rattle.report_queue.proofs.Names.{arith, ap, sym, subst, ◌∙◌, AreAllBack, sweeps}
 use Rattle.report_queue.proofs.taker.Taker.sweep.Goals as goal
 
 pub returns : goal.returns

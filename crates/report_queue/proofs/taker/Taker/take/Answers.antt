@@ -1,5 +1,4 @@
-use Rattle.std.proofs.Common.{rules, ◌≤◌, ◌^◌, arith, length, sym, subst}
-use Rattle.permit_ring.specs.Seats.{keeper_memo}
+use Rattle.report_queue.proofs.Names.{keeper_memo, rules, ◌≤◌, ◌^◌, arith, length, sym, subst}
 use Rattle.report_queue.specs.Parts.{taker_memo}
 use Rattle.report_queue.proofs.{taken_by_then, taken_is_reaped}
 use Rattle.report_queue.proofs.taker.Taker.take.Goals as goal

@@ -1,5 +1,4 @@
-use Rattle.std.proofs.Common.{Some, arith}
-use Rattle.std.proofs.lemmas.List.{length-set}
+use Rattle.report_queue.proofs.Names.{length-set, Some, arith}
 use Rattle.permit_ring.specs.Steps.{ended}
 use Rattle.report_queue.specs.{caller_memo, taker_memo}
 use Rattle.report_queue.proofs.TakerLemmas.{names-welcome}
