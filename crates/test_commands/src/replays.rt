@@ -1,7 +1,6 @@
 //! Replays by calls of trace_replay.
 
-mod floods;
 mod gates;
 pub(crate) mod meeting;
-mod rows;
+mod rounds;
 mod told;

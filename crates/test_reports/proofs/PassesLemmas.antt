@@ -1,15 +1,14 @@
 -- Passes that tests keep, one by one.
 use Rattle.std.proofs.Common.{◌≡◌, ℕ, ◌<◌, ⊎_elim, inl, inr, List, length, set, slice_index_or, subst, sym, ap, ◌∙◌, arith}
 use Rattle.std.proofs.lemmas.List.{get_or_default, length-set}
-use mathlib.Core.Option.{some, some-injective}
+use mathlib.Core.Option.{some}
 use lib.ListN.{get_elem?}
 use Rattle.atomic_table.proofs.Lists.{at_index, at_set}
-use Rattle.permit_ring.proofs.ListLemmas.{at_length}
 use Rattle.report_api.specs.{DeskMemo, IsPassOf, pass_memo}
 use Rattle.report_api.specs.declared.pass.Pass.{Pass}
 use Rattle.report_api.specs.declared.shared.Shared.{Shared}
 use Rattle.main_function.specs.Standing.{AreAllPasses}
-use Rattle.test_reports.specs.Running.{ArePassesLeft, AreSamePasses, IsSamePass}
+use Rattle.test_reports.specs.Running.{ArePassesLeft, IsSamePass}
 
 -- the element at a place of the list
 at_place : {A : Type 0} (xs : List A) (i : ℕ) (d : A) → i < length xs → get_elem? xs i ≡ some (slice_index_or xs i d)
@@ -39,17 +38,4 @@ module _ {shared : Shared} {desk : DeskMemo} {passes : List Pass} where
         (same.is_pass, same.same ∙ ((are.each i _ (at_place passes i d low)).1 ∙ sym here.0)))
         (λ else. are.each j other else.1)
         (at_set passes i j pass other at);
-  }
-
-  -- all of them made calls, and none came back meanwhile
-  pub all_called : AreAllPasses shared desk passes → (now : DeskMemo) (news : List Pass) → now.back ≡ desk.back
-      → AreSamePasses shared passes news → AreAllPasses shared now news
-  all_called are now news back same = record {
-    all = same.as_many ∙ (are.all ∙ ap length (sym back));
-    each = λ i pass at.
-        let low = at_length news i pass at in
-        let here = same.each i pass low in
-        let is : slice_index_or news i pass ≡ pass = some-injective _ _ (sym (at_place news i pass low) ∙ at) in
-        let was = are.each i _ (at_place passes i pass (subst (λ (n : ℕ). i < n) same.as_many low)) in
-        subst (λ (p : Pass). IsPassOf shared p × ((pass_memo p).number ≡ i)) is (here.is_pass, here.same ∙ was.1);
   }

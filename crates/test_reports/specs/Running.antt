@@ -1,22 +1,16 @@
 -- What tests keep from one step to the next.
-use Rattle.std.specs.Prelude.{◌≡◌, ℕ, ◌<◌, ◌⊎◌, List, [], length, slice_index_or}
+use Rattle.std.specs.Prelude.{◌≡◌, ℕ, ◌⊎◌, List, [], length}
 use Rattle.buffer_classes.specs.Buffers.{Buffer}
 use Rattle.report_api.specs.{desk_memo, DeskMemo, IsPassOf, pass_memo, sizes_of}
 use Rattle.report_api.specs.declared.pass.Pass.{Pass}
 use Rattle.report_api.specs.declared.shared.Shared.{Shared}
 use Rattle.main_function.specs.Standing.{AreAllPasses, IsManagerOf}
 use Rattle.main_function.specs.declared.making.Made.{Made}
-use Rattle.main_function.specs.declared.manager.Manager.{Manager}
 
 -- the pass is of the making, and of the same caller
 pub record IsSamePass (shared : Shared) (old new : Pass) : Type 0 where
   pub is_pass : IsPassOf shared new
   pub same : (pass_memo new).number ≡ (pass_memo old).number
-
--- these passes are of the making, and one by one of the same callers
-pub record AreSamePasses (shared : Shared) (old new : List Pass) : Type 0 where
-  pub as_many : length new ≡ length old
-  pub each : (i : ℕ) (d : Pass) → i < length new → IsSamePass shared (slice_index_or old i d) (slice_index_or new i d)
 
 -- these are all passes of the making, or none, since the manager took them back
 abbrev pub ArePassesLeft : Shared → DeskMemo → List Pass → Type 0
@@ -28,8 +22,3 @@ module _ {C : Type 0} (events : C → ℕ) (kept : C → List Buffer) where
     pub manager_is : IsManagerOf events kept made.shared made.manager
     pub classes_are : classes ≡ length (sizes_of made.shared)
     pub passes_are : ArePassesLeft made.shared (desk_memo made.manager.desk) made.passes.items
-
-  -- it is that still, and took no pass back meanwhile
-  pub record IsSameManager (shared : Shared) (old new : Manager C) : Type 0 where
-    pub manager_is : IsManagerOf events kept shared new
-    pub none_back : (desk_memo new.desk).back ≡ (desk_memo old.desk).back

@@ -2,26 +2,15 @@
 //!
 //! Layer 12, tests and times. Over `report_api`, `main_function`, `event_chain`, `idsm_api` and the crates below
 //! them. They show what no contract says. Reports are accepted while buffers are free, and a turn takes what is
-//! there. Examples have the answers and messages that were worked out by hand. Callers in threads of their own put
-//! beside the taker of a queue and report beside turns. Limits stand here as numbers.
+//! there. Examples have the answers and messages that were worked out by hand. Limits stand here as numbers.
 #![tactic(auto)]
 
 #[cfg(test)]
 mod api;
 #[cfg(test)]
-mod beside_manager;
-#[cfg(test)]
-mod beside_taker;
-#[cfg(test)]
-mod callers;
-#[cfg(test)]
 mod calls;
 #[cfg(test)]
 mod closing;
-#[cfg(test)]
-mod numbers;
-#[cfg(test)]
-mod order;
 #[cfg(test)]
 mod queue;
 #[cfg(test)]

@@ -1,87 +1,92 @@
-//! What the callers and the taker of a queue answer, one step after another.
-ghost use Rattle.std.specs.Prelude.{◌≡◌, ◌+◌, ◌<◌, ◌≤◌, ◌^◌, None};
-ghost use Rattle.report_queue.specs.{IsUnused, IsCallerOf, IsIdle, IsTakerOf, calls_of, ticket_of};
+//! What two callers and the taker of a queue answer, one step after another.
+ghost use Rattle.std.specs.Prelude.{◌≡◌, ◌+◌, ◌<◌, All, IfSome};
+ghost use Rattle.report_queue.specs.{IsUnused, IsCallerOf, IsIdle, IsTakerOf, calls_of};
 
-use crate::numbers::{Numbers, Told, fill, last_of, put, take};
-use report_queue::{MadeQueue, Queue, QueueSeat, Taker, make};
+use report_queue::{Cargo, MadeQueue, Queue, QueueSeat, Taker, make};
 use std::alloc::Global;
 use std::test::*;
 
-// A caller puts three items, and marks the last one as lost.
-fn fill_up(
-    queue: &Queue<Numbers>,
-    taker: &mut Taker<Numbers>,
-    seat: &mut QueueSeat<Numbers>,
-) -> [Told; 4]
-    requires taker { IsTakerOf queue.now taker.old }
-    requires seat { IsUnused queue.now seat.old }
-{
-    let first = put(queue, seat, 10);
-    let second = put(queue, seat, 11);
-    let third = put(queue, seat, 12);
-    seat.mark_lost_event(queue);
-    let (events, contexts) = taker.sweep(queue);
-    [first, second, third, Told::Lost(events, contexts)]
+// Items that carry a number, each of which is admitted.
+struct Numbers;
+
+impl Cargo for Numbers {
+    type Load = u64;
+
+    type Terms = ();
+
+    type Note = u64;
+
+    ghost note = { λ x. x };
+
+    ghost admits_note = { λ _ _. Unit {0} };
 }
 
-// It does so at a queue of two positions.
-fn filled_up(alloc: Global) -> Result<[Told; 4], Fail> {
-    let MadeQueue {
-        queue,
-        mut taker,
-        mut seats,
-    } = make::<Numbers>(alloc, 2, 1, (), Vec::from_elem(alloc, 0, 2)?)?;
-    match last_of(&queue, &mut seats) {
-        Some(mut seat) => Ok(fill_up(&queue, &mut taker, &mut seat)),
-        None => Err("a caller".into()),
-    }
+/// What a step answers. It is a ticket, or that the caller holds none. It is how many claims a look showed, and how
+/// many free positions. It is an item by its caller, its call and its number, or the mark of the next position, whose
+/// item is not ready.
+#[derive(Clone, Copy, PartialEq)]
+enum Told {
+    Got(u64),
+    Idle,
+    Saw(u64, u16),
+    Took(u8, u64, u64),
+    Unready(u64),
 }
 
-#[test]
-fn a_full_queue_answers_a_look(rt: HostRuntime) -> Result<(), Fail> {
-    let told = filled_up(rt.alloc())?;
-    assert!(rt;
-        told == [
-            Told::Got(0),
-            Told::Got(1),
-            Told::Saw(2, 0),
-            Told::Lost(1, 0)
-        ]
-    );
-    Ok(())
-}
-
-// The number that a claim answers, which a journal's range of numbers has room for.
-fn claim_number(queue: &Queue<Numbers>, seat: &mut QueueSeat<Numbers>) -> u64
-    requires mine { IsCallerOf queue.now seat.old }
-    requires idle { ticket_of seat.old ≡ None }
-    requires few { calls_of seat.old < 2 ^ 40 }
-    ensures { result ≤ 2 ^ 46 }
+// Claims a position.
+fn claim(queue: &Queue<Numbers>, seat: &mut QueueSeat<Numbers>) -> Told
+    requires { IsUnused queue.now seat.old }
+    ensures { IsCallerOf queue.now seat.new }
 {
     match seat.claim(queue) {
-        Ok(ticket) => ticket.0,
-        Err(look) => look.claimed,
+        Ok(ticket) => Told::Got(ticket.0),
+        Err(look) => Told::Saw(look.claimed, look.free),
     }
 }
 
-// That of the first claim.
-fn first_number(alloc: Global) -> Result<u64, Fail> {
-    let MadeQueue {
-        queue,
-        mut seats,
-        ..
-    } = make::<Numbers>(alloc, 2, 1, (), Vec::from_elem(alloc, 0, 2)?)?;
-    match last_of(&queue, &mut seats) {
-        Some(mut seat) => Ok(claim_number(&queue, &mut seat)),
-        None => Err("a caller".into()),
+// The last caller of a list of those that made no call.
+fn last_of(
+    queue: &Queue<Numbers>,
+    seats: &mut Vec<QueueSeat<Numbers>>,
+) -> Option<QueueSeat<Numbers>>
+    requires { All (IsUnused queue.now) seats.old.items }
+    ensures rest { All (IsUnused queue.now) seats.new.items }
+    ensures last { IfSome result (IsUnused queue.now) }
+{
+    seats.pop()
+}
+
+// Claims a position and fills it.
+fn put(queue: &Queue<Numbers>, seat: &mut QueueSeat<Numbers>, payload: u64) -> Told
+    requires seat { IsIdle queue.now seat.old × (calls_of seat.old < 1000) }
+    ensures seat { IsIdle queue.now seat.new × (calls_of seat.new ≡ calls_of seat.old + 1) }
+{
+    match seat.claim(queue) {
+        Ok(_) => Told::Got(seat.fill(queue, payload).0.0),
+        Err(look) => Told::Saw(look.claimed, look.free),
     }
 }
 
-#[test]
-fn a_claim_number_is_small(rt: HostRuntime) -> Result<(), Fail> {
-    let number = first_number(rt.alloc())?;
-    assert_eq!(rt; number, 0);
-    Ok(())
+// Fills the position that the caller claimed.
+fn fill(queue: &Queue<Numbers>, seat: &mut QueueSeat<Numbers>, payload: u64) -> Told
+    requires { IsCallerOf queue.now seat.old }
+    ensures { IsCallerOf queue.now seat.new }
+{
+    if seat.is_idle() {
+        return Told::Idle;
+    }
+    Told::Got(seat.fill(queue, payload).0.0)
+}
+
+// Takes the next item.
+fn take(queue: &Queue<Numbers>, taker: &mut Taker<Numbers>) -> Told
+    requires { IsTakerOf queue.now taker.old }
+    ensures { IsTakerOf queue.now taker.new }
+{
+    match taker.take(queue, &mut Some(0)) {
+        Ok(item) => Told::Took(item.caller, item.call, item.payload),
+        Err(unready) => Told::Unready(unready.mark),
+    }
 }
 
 // The taker gives back what it took, and then a caller puts an item.
@@ -112,7 +117,7 @@ fn stall(
     requires second { IsUnused queue.now second.old }
 {
     [
-        Told::of(first.claim(queue)),
+        claim(queue, first),
         put(queue, second, 10),
         put(queue, second, 11),
         put(queue, second, 12),

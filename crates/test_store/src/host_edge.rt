@@ -1,15 +1,29 @@
 //! The host's disk, its shelf and its standard output, over a host that notes their calls. Each byte is handed on
 //! once and in order, each write of a save is synced before the next, and each call that fails is a fault.
 
-use crate::disks::{NEVER, memory, save};
+ghost use Rattle.std.specs.Prelude.{IfOk, reverse};
+ghost use Rattle.memory_image.specs.Images.{AreKeepable};
+
 use crate::host_calls::{Host, Noted};
-use crate::saving::holds_first;
+use event_memory::Memory;
 use ids_outside::{HostShelf, HostSink, Shelf, Sink};
 use memory_disk::HostDisk;
+use memory_image::restore;
+use memory_store::{BeginFault, SaveFault, Store};
 use std::alloc::Global;
 use std::cell::RefCell;
 use std::rc::Rc;
 use std::test::*;
+
+/// No call has this number.
+const NEVER: u64 = 99;
+
+/// Two records, `S 0 42 3 2 5 6 - -` and `S 1 7 0 2 9 9 8000000100000a00 a1b2`, as the 70 bytes of an image.
+const IMAGE: &str =
+    "0000002a0300020000000000000005000000000000000600000000000000000000000001000700000200000000000000090000000000000009018000000100000a000002a1b2";
+
+/// The gate, the sequence and the length of the first save of them.
+const FIRST_HEAD: [u8; 13] = [1, 0, 0, 0, 0, 0, 0, 0, 1, 0, 0, 0, 70];
 
 /// What is run over a host.
 #[derive(Clone, Copy)]
@@ -19,11 +33,48 @@ enum Edge {
     Sink,
 }
 
-/// Begins a disk that keeps nothing, and saves two records.
+/// A memory of the two records.
+fn memory(alloc: Global) -> Result<Memory, Fail>
+    ensures { IfOk result (λ memory. AreKeepable (reverse memory.rows)) }
+{
+    let mut memory = Memory::make(alloc, 256)?;
+    if !restore(&mut memory, &hex::decode(alloc, IMAGE)?) {
+        return Err("an image".into());
+    }
+    Ok(memory)
+}
+
+/// Begins a disk that keeps nothing, and saves the records.
 fn saves(alloc: Global, host: Host) -> Result<bool, Fail> {
+    let memory = memory(alloc)?;
     let disk = HostDisk::new(host, String::from_str(alloc, "d")?);
-    let (_, is_saved) = save(alloc, disk, &memory(alloc, 2)?);
-    Ok(is_saved)
+    let store = match Store::begin(alloc, disk) {
+        Ok((store, _)) => store,
+        Err(
+            BeginFault::Failed(_)
+            | BeginFault::NoMemory(_)
+            | BeginFault::Damaged { slot: _, disk: _ },
+        ) => return Ok(false),
+    };
+    match store.save(&memory) {
+        Ok(store) => {
+            store.finish();
+            Ok(true)
+        }
+        Err(SaveFault::Failed(_)) => Ok(false),
+        Err(SaveFault::Worn(store)) => {
+            store.finish();
+            Ok(false)
+        }
+    }
+}
+
+/// Whether the bytes of a disk hold a first save of the records in the first slot, and zeros elsewhere.
+fn holds_first(alloc: Global, bytes: &[u8]) -> Result<bool, Fail> {
+    let rest = bytes.strip_prefix(&FIRST_HEAD).ok_or("a head")?;
+    let image = hex::decode(alloc, IMAGE)?;
+    let rest = rest.strip_prefix(image.as_slice()).ok_or("an image")?;
+    Ok(rest.iter().all(|byte| *byte == 0))
 }
 
 /// Makes a file of two pieces, reads it, and appends to another.

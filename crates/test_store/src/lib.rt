@@ -1,18 +1,10 @@
-//! The tests of the event memory on a disk, over public names: saved, begun again, and through failures and crashes.
+//! The test of the host's disk, shelf and standard output, over a host that notes its calls.
 //!
-//! Layer 12, tests and times. Over `memory_store` and `memory_disk`. They show what no contract says: that the calls
-//! answer with ample memory, and bytes and texts that were worked out by hand.
+//! Layer 12, tests and times. Over `memory_store` and `ids_outside`. It shows what no contract says: which calls of the
+//! host are made, each in its place. What a save writes was worked out by hand.
 #![tactic(auto)]
 
-#[cfg(test)]
-mod disks;
-#[cfg(test)]
-mod failing;
-#[cfg(test)]
-mod host;
 #[cfg(test)]
 mod host_calls;
 #[cfg(test)]
 mod host_edge;
-#[cfg(test)]
-mod saving;

@@ -1,14 +1,12 @@
 //! The tests of the crates below, over their public names alone.
 //!
-//! Layer 12, tests and times. Each module tests what no contract says: that calls succeed with ample memory, what the
-//! host keeps, published tags, and that the definitions say what the documents do, by worked examples that were found by
-//! hand.
+//! Layer 12, tests and times. Each module tests what no contract says and no command shows: that calls succeed with ample
+//! memory, published tags, streams of units, and that the definitions say what the documents do, by worked examples that
+//! were found by hand.
 //! Statuses, limits and ranges stand here as numbers. What needs threads or private names is tested in its
 //! own crate.
 #![tactic(auto)]
 
-#[cfg(test)]
-mod host_outside;
 #[cfg(test)]
 mod messages;
 #[cfg(test)]
@@ -19,5 +17,3 @@ mod ring_machine;
 mod sealing;
 #[cfg(test)]
 mod shared_ring;
-#[cfg(test)]
-mod stored_events;

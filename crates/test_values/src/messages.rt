@@ -1,14 +1,8 @@
-//! Messages: the bytes of some, and the faults of bytes that are none, worked out by hand from the layout.
+//! Messages: the bytes of some, worked out by hand from the layout, and the text of a fault.
 
 use arrayvec::ArrayVec;
-use ids_frame::{BadMessage, Context, Form, FrameFault, Message, decode, encode};
+use ids_frame::{BadMessage, Context, FrameFault, Message, encode};
 use std::test::Fail;
-
-/// Event 42 of sensor 3 in instance 18, counted once, with the context a1 b2.
-const FIRST: [u8; 11] = *b"\x11\x04\x83\x00\x2a\x00\x01\x00\x02\xa1\xb2";
-
-/// The same with a timestamp, and no context.
-const STAMPED: [u8; 16] = *b"\x12\x04\x83\x00\x2a\x00\x01\x00\x80\x00\x00\x01\x00\x00\x0a\x00";
 
 /// Whether the manager's message with this context of at most 1,089 bytes is spelled in so many bytes, the first of which
 /// are these.
@@ -40,49 +34,6 @@ fn a_message_has_at_most_1100_bytes(rt: HostRuntime) {
     let front = b"\x11\x04\x83\x00\x2a\x00\x01\x00\x80\x00\x04\x40\x07";
     assert!(rt; is_spelled(&bytes[..1088], front, 1100));
     assert!(rt; !is_spelled(&bytes, b"", 1101));
-}
-
-/// Whether `encode` gives the bytes that were read, where a message was.
-fn is_faithful(bytes: &[u8]) -> bool {
-    let Ok((message, size)) = decode(bytes) else {
-        return true;
-    };
-    let mut out = ArrayVec::new();
-    let written = encode(&message, &mut out).is_ok();
-    written && out.len() == size && bytes.starts_with(out.as_slice())
-}
-
-#[test]
-fn a_long_form_of_two_bytes_stays_long(rt: HostRuntime) -> Result<(), Fail> {
-    let bytes = b"\x11\x04\x83\x00\x2a\x00\x01\x00\x80\x00\x00\x02\xa1\xb2";
-    let (message, size) = decode(bytes).ok().ok_or("a message")?;
-    let context = message.context().ok_or("a context")?;
-    assert_eq!(rt; (size, context.form()), (14, Form::Long));
-    assert_eq!(rt; context.bytes(), b"\xa1\xb2".as_slice());
-    assert!(rt; is_faithful(bytes));
-    Ok(())
-}
-
-#[test]
-fn what_is_read_is_spelled_so(rt: HostRuntime) {
-    assert!(rt; decode(&STAMPED).is_ok());
-    for place in 0..16 {
-        for byte in 0..=255 {
-            let mut bytes = STAMPED;
-            bytes[place] = byte;
-            assert!(rt; is_faithful(&bytes));
-        }
-        assert!(rt; is_faithful(&STAMPED[..place]));
-    }
-}
-
-#[test]
-fn each_fault_has_its_bytes(rt: HostRuntime) {
-    for count in 0..11 {
-        assert_eq!(rt; decode(&FIRST[..count]).err(), Some(FrameFault::Short));
-    }
-    assert_eq!(rt; decode(b"\x31").err(), Some(FrameFault::UnknownVersion));
-    assert_eq!(rt; decode(b"\x19").err(), Some(FrameFault::UnknownPart));
 }
 
 #[test]

@@ -9,18 +9,15 @@ use std::thread::Threads;
 use trace_replay::{Gate, Replayed, replay};
 use trace_text::read as read_trace;
 
-/// What was told of a replay: its journal and its messages, the calls of each turn, how many turns, entries, losses and
-/// ends it had, and the turns and the calls of each caller at the rests.
+/// What was told of a replay: the calls of each turn, how many turns, entries and losses it had, and the turns and the
+/// calls of each caller at the rests.
 #[derive(Drop)]
 pub struct Told {
-    pub journal: Vec<u8>,
-    pub sent: Vec<u8>,
     /// A line for each turn: its tick, and caller and call of each entry, by caller and then by call.
     pub calls: String,
     pub turns: u64,
     pub entries: u64,
     pub losses: usize,
-    pub ends: usize,
     pub rests: Vec<u64>,
     pub at_rests: Vec<u64>,
 }
@@ -50,15 +47,12 @@ fn tell(alloc: Global, replayed: Replayed) -> Result<Told, Fail> {
         calls.push_str(turn_line(alloc, &replayed.history, turn)?.as_str())?;
     }
     Ok(Told {
-        journal: journal::print(alloc, &replayed.history, &replayed.losses)?,
         calls,
         turns: replayed.history.turns(),
         entries: replayed.history.total_entries(),
         losses: replayed.losses.len(),
-        ends: replayed.ends.len(),
         rests: Vec::from_slice(alloc, &replayed.manager.rests().turns)?,
         at_rests: Vec::from_slice(alloc, &replayed.manager.rests().calls)?,
-        sent: replayed.sent,
     })
 }
 

@@ -1,5 +1,0 @@
-use Rattle.report_queue.proofs.MakingLemmas.{all_unused}
-use Rattle.test_reports.proofs.queue.first_number.Goals as goal
-
-pub last_of-requires : goal.last_of-requires
-last_of-requires c = all_unused c.in_ok-queue.ensures
