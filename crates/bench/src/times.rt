@@ -45,8 +45,7 @@ impl Times {
     {
         self.items = self.items.wrapping_add(items);
         if items == self.batch {
-            let nanos = u64::try_from(nanos).unwrap_or(u64::MAX);
-            self.nanos.push(nanos)?;
+            self.nanos.push(u64::try_from(nanos).unwrap_or(u64::MAX))?;
         }
         Ok(())
     }
@@ -69,7 +68,7 @@ impl Times {
         self.nanos.sort_unstable();
         let middle = self.nanos.len() / 2;
         Told {
-            fastest: self.nanos.first().copied().unwrap_or(0),
+            fastest: self.nanos.iter().copied().min().unwrap_or(0),
             middle: self.nanos.get(middle).copied().unwrap_or(0),
             items: self.items,
             batch: self.batch,

@@ -1,7 +1,6 @@
-use Rattle.std.proofs.Common.{◌≡◌}
 use Rattle.buffer_classes.specs.Givers.{AreBuffersIn}
 use Rattle.report_api.specs.{IsDeskOf, sizes_of}
 use Rattle.bench.proofs.reports.ReportingRing.take.Given as goal
 
-abbrev pub invariant-loop-number : goal.invariant-loop-number
-invariant-loop-number l = IsDeskOf l.self.shared l.desk × AreBuffersIn (sizes_of l.self.shared) l.back.items × (l.count ≡ l.number)
+abbrev pub invariant-loop : goal.invariant-loop
+invariant-loop l = IsDeskOf l.self.shared l.desk × AreBuffersIn (sizes_of l.self.shared) l.back.items

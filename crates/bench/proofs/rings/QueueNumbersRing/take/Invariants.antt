@@ -1,9 +1,5 @@
-use Rattle.std.proofs.Common.{◌≡◌, ◌+◌, length}
-use Rattle.report_queue.specs.Parts.{IsTakerOf, taker_memo}
+use Rattle.report_queue.specs.Parts.{IsTakerOf}
 use Rattle.bench.proofs.rings.QueueNumbersRing.take.Given as goal
 
-abbrev pub invariant-loop-number : goal.invariant-loop-number
-invariant-loop-number l =
-    IsTakerOf l.self l.taker
-    × (length (taker_memo l.taker).notes ≡ length (taker_memo l.fn.taker).notes + l.count)
-    × (l.count ≡ l.number)
+abbrev pub invariant-loop : goal.invariant-loop
+invariant-loop l = IsTakerOf l.self l.taker
