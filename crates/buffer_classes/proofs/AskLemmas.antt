@@ -1,19 +1,17 @@
 -- What a claim that asks one class after another leaves at each.
-use Rattle.buffer_classes.proofs.Names.{◌≡◌, ℕ, zero, suc, ◌+◌, ◌≤◌, ◌⊎◌, List, [], ◌∷◌, ◌++◌, length, refl, arith, inl, inr, append-nil, Asks, ClaimTells, asked, lost_at, Lost, Got, Outcome, SeatMemo, at_length, if◌then◌else◌, ◌==◌, nat_tests, some, none, get_elem?}
+use Rattle.buffer_classes.proofs.Names.{◌≡◌, ℕ, suc, ◌+◌, ◌≤◌, ◌⊎◌, List, [], ◌∷◌, ◌++◌, length, refl, arith, inl, inr, append-nil, Asks, ClaimTells, asked, lost_at, Lost, Outcome, SeatMemo, at_length, if◌then◌else◌, ◌==◌, nat_tests, some, none, get_elem?, ⊎_elim, there}
+use Rattle.std.proofs.lemmas.Bool.{cases_lt}
 use Rattle.buffer_classes.specs.declared.seat.Claim.{Claim}
 use Rattle.buffer_classes.specs.declared.seat.Claim.TheVariants as claims
 
 -- a place of a list has an element, or is past its end
 pub below_or : {A : Type 0} (l : List A) (i : ℕ) → ((a : A) × (get_elem? l i ≡ some a)) ⊎ (length l ≤ i)
-below_or [] i = inr (omega arith)
-below_or (x ∷ l) zero = inl (x, refl)
-below_or (x ∷ l) (suc i) = elim (below_or l i) [ inl at ↦ inl at | inr past ↦ inr (omega (arith, past)) ]
+below_or l i = ⊎_elim (λ low. inl (there l i low)) inr (cases_lt i (length l))
 
 -- past the end there is nothing
 pub nothing_past : {A : Type 0} (l : List A) (i : ℕ) → length l ≤ i → get_elem? l i ≡ none
-nothing_past [] i past = refl
-nothing_past (x ∷ l) zero past = absurd (omega (arith, past))
 nothing_past (x ∷ l) (suc i) past = nothing_past l i (omega (arith, past))
+nothing_past _ _ past = grind arith
 
 -- the looks from `first` on, at a place
 pub lost_past : (first i : ℕ) (looks : List ℕ) → first + length looks ≤ i → lost_at first looks i ≡ []
@@ -34,7 +32,5 @@ asked_past first i sizes (claims.NoneFree looks) told past = lost_past first i l
 
 -- the log after a class was asked
 pub asks_log : (limit : ℕ) (old new : SeatMemo) (calls : List Outcome) → Asks limit old calls new → new.log ≡ old.log ++ calls
-asks_log limit old new [] same = grind (arith, same, append-nil old.log)
-asks_log limit old new (Lost g ∷ []) told = grind (arith, nat_tests, told.1)
-asks_log limit old new (Got t x ∷ []) told = grind (arith, nat_tests, told.1, told.2)
-asks_log limit old new (call ∷ next ∷ calls) told = absurd told
+asks_log limit old new (call ∷ []) told = grind (arith, nat_tests, told)
+asks_log limit old new calls told = grind (arith, nat_tests, told, append-nil old.log)

@@ -63,9 +63,7 @@ module _ {classes : Classes} {me : ClaimSeat} (mine : IsClaimSeatOf classes me) 
         → Asks (ring_seats class.ring) (memo_at me i) (asked first result i) (memo_at now i)
     all_asked i class at =
         let low = at_length classes.classes.items i class at in
-        let old = there me.seats.items i (omega (arith, low, mine.all)) in
-        let new = there now.seats.items i (omega (arith, low, mine.all, all.as_many)) in
-        rw (old.1, new.1, memo_at) (all.each i old.0 new.0 old.1 new.1 class at).1.told
+        grind (arith, low, there me.seats.items i, there now.seats.items i, mine.all, all.as_many, all.each i, at)
 
     pub leaves : AreSmall result → steps_of now ≤ steps_of me + 3 * (length sizes - first) → Leaves result now
     leaves small few = record {
@@ -86,8 +84,7 @@ module _ {classes : Classes} {me : ClaimSeat} (mine : IsClaimSeatOf classes me) 
         | inl at ↦ asks_log (ring_seats at.0.ring) (memo_at me i) (memo_at now i) (asked first result i) (all_asked i at.0 at.1)
         | inr past ↦
             let none = asked_past first i sizes result told in
-            let nothing = nothing_past {A = ClassSeat} in
-            grind (arith, none, many_sizes classes, nothing, past, mine.all, all.as_many, append-nil (log_of me i))
+            grind (arith, none, many_sizes classes, nothing_past {A = ClassSeat}, past, mine.all, all.as_many, append-nil (log_of me i))
       ];
     }
 
@@ -107,9 +104,8 @@ module _ {classes : Classes} {me : ClaimSeat} (mine : IsClaimSeatOf classes me) 
     pub seat_ready : IsClassSeat class seat × (seat_calls seat ≤ me.claims)
     seat_ready =
         let old = there me.seats.items place (omega (arith, below, l.asked.as_many)) in
-        let same = (l.asked.each place old.0 seat old.1 seat_there class class_there).0 not_yet in
-        let his = mine.each place class old.0 class_there old.1 in
-        rw same (his.is_seat, his.calls_within)
+        let same = l.asked.each place old.0 seat old.1 seat_there class class_there in
+        grind (arith, same, not_yet, mine.each place class old.0 class_there old.1)
 
     module _ (new : ClassSeat) (after : ClaimSeat) (seats : after.seats.items ≡ set now.seats.items place new) (number : after.number ≡ now.number)
         (claims : after.claims ≡ now.claims) where

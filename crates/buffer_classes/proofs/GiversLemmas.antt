@@ -33,5 +33,4 @@ module _ {classes : Classes} {givers : Givers} (are : AreGiversOf classes givers
   -- a buffer of the class's place and size is one of its own
   pub buffer_there : (b : Buffer) → i ≡ b.class → IsBufferIn (class_sizes classes) b → IsBufferOf (ring_terms class.ring) b
   buffer_there b here is =
-      let size = at_map (λ (class : Class). class.size) classes.classes.items i class class_there in
-      grind (arith, are.are.terms i class class_there, size, here, is)
+      grind (arith, at_map (λ (class : Class). class.size) classes.classes.items i class, are.are.terms i class, class_there, here, is)

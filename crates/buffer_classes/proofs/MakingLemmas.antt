@@ -1,14 +1,12 @@
 -- Classes that are made one after another.
-use Rattle.buffer_classes.proofs.Names.{◌≡◌, ℕ, zero, suc, ◌<◌, List, [], ◌∷◌, ◌++◌, length, take, refl, sym, ◌∙◌, ap, arith, length-map, length_push, map_push, at_end, at_length, there, ClassSpec, IsNewSeat, seat_memo, new_memo, IsBufferOf, AllOf, AreClasses, RiseFrom, class_sizes, givers_of, AreNewClasses, GetsOne, GetsSeat, IsNewClaimant, IsNewClass, spec_sizes, Class, ClassSeat, IsHisSeat, memo_in, Classes, Giver, Givers, ClaimSeat, IsGiverOf, some, none, new_ordered, get_elem?}
+use Rattle.buffer_classes.proofs.Names.{◌≡◌, ℕ, suc, ◌<◌, List, [], ◌∷◌, ◌++◌, length, take, sym, ◌∙◌, ap, arith, length-map, length_push, map_push, at_end, at_length, there, ClassSpec, IsNewSeat, seat_memo, new_memo, IsBufferOf, AllOf, AreClasses, RiseFrom, class_sizes, givers_of, AreNewClasses, GetsOne, GetsSeat, IsNewClaimant, IsNewClass, spec_sizes, Class, ClassSeat, IsHisSeat, Classes, Giver, Givers, ClaimSeat, IsGiverOf, some, new_ordered, get_elem?}
 use Rattle.buffer_classes.specs.{IsNewGiver}
 use Rattle.buffer_classes.proofs.FittingLemmas.{many_sizes}
-use mathlib.Core.Option as maybe
 
 -- sizes that rise do so up to any place
 pub rise_taken : (above n : ℕ) (specs : List ClassSpec) → RiseFrom above (spec_sizes specs) → RiseFrom above (spec_sizes (take n specs))
-rise_taken above zero specs rise = tt
-rise_taken above (suc n) [] rise = tt
 rise_taken above (suc n) (spec ∷ specs) rise = (rise.0, rise_taken spec.size n specs rise.1)
+rise_taken above _ _ rise = tt
 
 -- what holds of the elements of two lists place by place holds with one more each
 both_more : {A B : Type 0} (R : ℕ → A → B → Type 0) (xs : List A) (ys : List B) (x : A) (y : B) → length xs ≡ length ys
@@ -17,19 +15,13 @@ both_more : {A B : Type 0} (R : ℕ → A → B → Type 0) (xs : List A) (ys : 
 both_more R xs ys x y many each last i a b at bt =
     grind (arith, at_end xs x a i at, at_end ys y b i bt, at_length xs i a, at_length ys i b, many, each i a b, last)
 
--- who made no call at any class has no log there
-no_log : (i : ℕ) (o : maybe.Option ClassSeat) → ((s : ClassSeat) → o ≡ some s → seat_memo s ≡ new_memo i) → (memo_in o).log ≡ []
-no_log i none new = refl
-no_log i (some s) new = ap (λ m. m.log) (new s refl)
-
 -- a claimant that got a seat, and which
 pub got_of : (seats : List ClassSeat) {olds news : List ClaimSeat} → AllOf (GetsSeat seats) olds news → length seats ≡ length olds
     → (i : ℕ) (now : ClaimSeat) → get_elem? news i ≡ some now
     → (old : ClaimSeat) × (s : ClassSeat) × (get_elem? olds i ≡ some old) × (get_elem? seats i ≡ some s) × GetsOne s old now
 got_of seats {olds} {news} gets many i now at =
-    let low = at_length news i now at in
-    let old = there olds i (omega (arith, gets.as_many, low)) in
-    let s = there seats i (omega (arith, many, gets.as_many, low)) in
+    let old = there olds i (omega (arith, at_length news i now at, gets.as_many)) in
+    let s = there seats i (omega (arith, at_length news i now at, many, gets.as_many)) in
     (old.0, s.0, old.1, s.1, gets.each i old.0 now old.1 at s.0 s.1)
 
 -- there are as many classes as were made
@@ -70,7 +62,7 @@ module _ {done : List ClassSpec} {limit : ℕ} {classes : Classes} {givers : Giv
         number_is = got.2 ∙ is.number_is;
         no_claims = got.3 ∙ is.no_claims;
         knows = knows;
-        no_logs = λ k. no_log i (get_elem? now.seats.items k) (knows k);
+        no_logs = λ k. grind (arith, knows k);
       }
 
   -- one class more

@@ -1,5 +1,5 @@
 -- The accounts of endings, with one ending more.
-use Rattle.chain_endings.proofs.Names.{Parts, Entry, length-map, length-reverse, reverse-reverse, length-take-le, ◌≡◌, ℕ, suc, ◌+◌, ◌≤◌, ◌<◌, ◌==◌, Bool, true, false, List, [], ◌∷◌, ◌++◌, length, map, filter, reverse, take, if◌then◌else◌, refl, sym, ◌∙◌, arith, rules, account_of, tally, with_ending, with_fate, with_one, with_stored, Ending, Fate, at_mode, is_stored, endings, is_of, Moment, common_steps, bare}
+use Rattle.chain_endings.proofs.Names.{Parts, Entry, reverse-reverse, length-take-le, ◌≡◌, ℕ, ◌+◌, ◌≤◌, ◌<◌, ◌==◌, Bool, List, [], ◌∷◌, ◌++◌, length, map, filter, reverse, take, if◌then◌else◌, refl, ◌∙◌, arith, rules, account_of, tally, with_ending, with_fate, with_one, with_stored, Ending, is_stored, endings, is_of, Moment, common_steps, bare}
 use Rattle.std.proofs.lemmas.List.Elements.{filter-append}
 use Rattle.std.proofs.lemmas.List.Sums.{count_by-le-length, length-filter}
 use Rattle.std.specs.Prelude.{slice_index_or}
@@ -8,22 +8,10 @@ use Rattle.chain_endings.specs.{AreOf, CountsMissing, IsAtMost, kept_at, is_miss
 
 -- ---- numbers that are small enough
 
-pub one_few : (by_window : Bool) {n m k : ℕ} {account : Account} → IsAtMost n m k account → IsAtMost (suc n) m k (with_one by_window account)
-one_few true few = search (arith, rules, few)
-one_few false few = search (arith, rules, few)
-
-pub fate_few : (fate : Fate) {n m k : ℕ} {account : Account} → IsAtMost n m k account → IsAtMost n (suc m) k (with_fate fate account)
-fate_few at_mode few = search (arith, rules, few)
-fate_few _ few = search (arith, rules, few)
-
-stored_few : (stored : Bool) {n m k : ℕ} {account : Account} → IsAtMost n m k account → IsAtMost n m (suc k) (with_stored stored account)
-stored_few true few = search (arith, rules, few)
-stored_few false few = search (arith, rules, few)
-
 -- no number is above that of the endings
 tally_few : (config : Parts) (es : List Ending) → IsAtMost (length es) (length es) (length es) (tally config es)
 tally_few config [] = search (arith, rules)
-tally_few config (e ∷ es) = stored_few (is_stored config e) (fate_few e.fate (one_few e.by_window (tally_few config es)))
+tally_few config (e ∷ es) = grind (arith, tally_few config es)
 
 -- ---- the endings of one event
 
@@ -34,10 +22,7 @@ own_account config k es = tally config (filter (λ one. is_of k one.item) es)
 -- those of an event, of which this is the newest or not
 own_more : (config : Parts) (k : ℕ) (e : Ending) (es : List Ending)
     → own_account config k (e ∷ es) ≡ (if is_of k e.item then with_ending config e (own_account config k es) else own_account config k es)
-own_more config k e es =
-    let own = filter (λ (one : Ending). is_of k one.item) es in
-    elim (is_of k e.item) as (λ (b : Bool). tally config (if b then e ∷ own else own)
-    ≡ (if b then with_ending config e (tally config own) else tally config own)) [ true ↦ refl | false ↦ refl ]
+own_more config k e es = grind arith
 
 -- what is not told of endings changes nothing in an account
 same_bare : (config : Parts) (k : ℕ) (es : List Ending) → own_account config k (map bare es) ≡ own_account config k es
@@ -61,10 +46,9 @@ pub accounts_few : {A : Type 0} {config : Parts} (f : A → Ending) (told : List
     → (k : ℕ) → k < length accounts → IsAtMost i i i (kept_at accounts k)
 accounts_few {config = config} f told i le of k less =
     let es = reverse (map f (take i told)) in
-    let is_own = λ (one : Ending). is_of k one.item in
-    let within : length (filter is_own es) ≤ i =
-    omega (arith, filter_few is_own es, length-reverse (map f (take i told)), length-map (take i told) f, length-take-le i told le) in
-    rw (of.each k less) (search (arith, rules, within, tally_few config (filter is_own es)))
+    let own = filter (λ (one : Ending). is_of k one.item) es in
+    let few = filter_few (λ (one : Ending). is_of k one.item) es in
+    grind (arith, common_steps, few, length-take-le i told le, of.each k less, tally_few config own)
 
 -- with one ending more
 pub accounts_more : {config : Parts} {old new : List Account} {es : List Ending} (e : Ending) (stored : Bool) → stored ≡ is_stored config e
@@ -72,11 +56,8 @@ pub accounts_more : {config : Parts} {old new : List Account} {es : List Ending}
     → ((k : ℕ) → k < length old → kept_at new k ≡ (if e.item.event == k
     then with_stored stored (with_fate e.fate (with_one e.by_window (kept_at old k))) else kept_at old k))
     → AreOf config es old → AreOf config (e ∷ es) new
-accounts_more {config} {old} {new} {es} e stored is count each of = record {
-  events = count ∙ of.events;
-  each = λ k less. let low : k < length old = omega (arith, count) in
-      rw (each k low, is, of.each k low) (sym (own_more config k e es));
-}
+accounts_more {config} {old} {new} {es} e stored is count each of =
+    record { events = count ∙ of.events; each = λ k less. grind (arith, each k, is, of.each k, own_more config k e es, count) }
 
 -- ---- context data that are missing
 
@@ -86,5 +67,4 @@ pub missing_more : (entries : List (Entry (List ℕ))) (entry : Entry (List ℕ)
     ≡ (if is_missing k entry.act then slice_index_or old k 0 + 1 else slice_index_or old k 0))
     → CountsMissing entries old → CountsMissing (entries ++ entry ∷ []) new
 missing_more entries entry old new count each was k less =
-    let low : k < length old = omega (arith, count) in
-    grind (arith, common_steps, each k low, was k low, filter-append (λ (e : Entry (List ℕ)). is_missing k e.act) entries (entry ∷ []))
+    grind (arith, common_steps, count, each k, was k, filter-append (λ (e : Entry (List ℕ)). is_missing k e.act) entries (entry ∷ []))

@@ -1,34 +1,26 @@
 -- The lines of a turn, by the endings that are told of it.
-use Rattle.chain_endings.proofs.Names.{Parts, Turn, Report, text_of-append, Entry, drop-map, drop_at, length-append, length-map, map-append, take-map, take_at, ◌≡◌, ℕ, ◌+◌, ◌-◌, Bool, List, [], ◌∷◌, ◌++◌, drop, filter, length, map, take, Option, Some, None, is_some, option_to_list, refl, sym, ap, ◌∙◌, append_assoc, arith, Ending, ending_at, Moment, act_moment, with_all, bare}
+use Rattle.chain_endings.proofs.Names.{common_steps, Parts, Turn, text_of-append, Entry, drop-map, drop_at, length-map, map-append, take-map, take_at, ◌≡◌, ℕ, ◌-◌, List, [], ◌∷◌, ◌++◌, drop, filter, length, map, take, Option, is_some, option_to_list, refl, ap, ◌∙◌, append_assoc, arith, Ending, ending_at, Moment, act_moment, with_all, bare}
 use Rattle.ids_types.specs.declared.entry.Act.{Act}
 use Rattle.text_spec.specs.{enters, line_for, line_feed, text_of}
-use Rattle.chain_endings.specs.{Pushes, ended_fields, entry_lines, opening, endings_along, entry_moments, is_report, turn_endings}
+use Rattle.chain_endings.specs.{ended_fields, entry_lines, opening, endings_along, entry_moments, is_report, turn_endings}
 use Rattle.chain_endings.proofs.HearingLemmas.{along_append}
 
 -- something ends by a report, and by nothing else
 ends_report : (config : Parts) (before : List Moment) (tick : ℕ) (act : Act (List ℕ))
     → is_some (ending_at config before (act_moment tick act)) ≡ is_report act
-ends_report config before tick (Report event count stamp context) = refl
-ends_report config before tick _ = refl
+ends_report config before tick act = grind arith
 
 -- the moments of entries
 abbrev pub moments_of : ℕ → List (Entry (List ℕ)) → List Moment
 moments_of tick entries = map (λ entry. act_moment tick entry.act) entries
-
--- what ended by one entry, counted
-counted : (P : Entry (List ℕ) → Bool) (o : Option Ending) (entry : Entry (List ℕ)) (entries : List (Entry (List ℕ)))
-    → is_some o ≡ P entry → length (option_to_list o) + length (filter P entries) ≡ length (filter P (entry ∷ entries))
-counted P None entry entries is = rw (← is) (omega arith)
-counted P (Some ending) entry entries is = rw (← is) (omega arith)
 
 -- as many endings as reports
 reports_end : (config : Parts) (tick : ℕ) (before : List Moment) (entries : List (Entry (List ℕ)))
     → length (endings_along config before (moments_of tick entries)) ≡ length (filter (λ entry. is_report entry.act) entries)
 reports_end config tick before [] = refl
 reports_end config tick before (entry ∷ entries) =
-    let ended = ending_at config before (act_moment tick entry.act) in
-    rw (length-append (option_to_list ended), reports_end config tick (act_moment tick entry.act ∷ before) entries)
-    (counted (λ (e : Entry (List ℕ)). is_report e.act) ended entry entries (ends_report config before tick entry.act))
+    let rest = reports_end config tick (act_moment tick entry.act ∷ before) entries in
+    grind (arith, common_steps, rest, ends_report config before tick entry.act)
 
 -- the lines of one turn more were printed, and those of the others are left
 pub text_more : (out : List ℕ) (lines rest : List (List ℕ)) {new all : List ℕ} → out ++ text_of (lines ++ rest) ≡ all
@@ -74,12 +66,5 @@ turn_parts f config before turn told reports is count =
     let n = length told - reports in
     let all : map f told ≡ first ++ map bare own = is ∙ ap (map bare) (along_append config before opens (entry_moments turn)) ∙ map-append bare _ own in
     let ends = reports_end config turn.head.tick (with_all before opens) turn.entries in
-    let whole = ap length all ∙ length-append first (map bare own) in
-    let at : length first ≡ n = omega (arith, count, ends, whole, length-map own bare, length-map told f) in (
-      sym (take-map f n told) ∙ ap (take n) all ∙ take_at first (map bare own) n at,
-      sym (drop-map f n told) ∙ ap (drop n) all ∙ drop_at first (map bare own) n at,
-    )
-
--- one piece and the next
-pub then_pushed : {out mid last first second : List ℕ} → Pushes out first mid → Pushes mid second last → Pushes out (first ++ second) last
-then_pushed {out} {first = first} {second = second} one next = record { is = rw (next.is, one.is) (append_assoc out first second) }
+    let at : length first ≡ n = grind (arith, common_steps, count, ends, ap length all, length-map told f) in
+    rw (← take-map f n told, ← drop-map f n told, all) (take_at first (map bare own) n at, drop_at first (map bare own) n at)

@@ -45,6 +45,7 @@ pub(crate) fn push_accounts(
 }
 
 /// Appends the account of an event as a line.
+#[tactic(auto, using(std::proofs::Common::append_assoc))]
 fn push_account(
     out: &mut Vec<u8>,
     event: usize,

@@ -103,6 +103,7 @@ pub(crate) fn push_numbers(
 }
 
 /// Appends a name and its number.
+#[tactic(auto, using(std::proofs::Common::append_assoc))]
 fn push_named(out: &mut Vec<u8>, name: &[u8], number: u64) -> Result<(), NoMemory>
     ensures { OnOk result (Pushes out.old.items (named name.now number) out.new.items) }
 {

@@ -1,76 +1,61 @@
 -- What the stages make of a moment: the ways that an item can go, and where each ends.
-use Rattle.chain_spec.proofs.Names.{◌≡◌, ◌&&◌, not, List, ◌∷◌, ◌++◌, Option, Some, None, option_to_list, option_and_then, option_map, if◌then◌else◌, refl, ap, option_or, Parts, event_at, Aggregate, gated_at, aggregated_at, thresholded_at, gated, aggregated, arrival, is_filtered, is_bypassing, is_blocked, is_nth, mode_at, item_in, bypassing_at, Item, Moment, comes, where_true, Fate, at_mode, at_block, at_nth, in_window, at_threshold, qualified_fate, coming_fate, qualified, cases_Bool, inl, inr, verdict, counted, map}
-use Rattle.chain_spec.proofs.FilterLemmas.{none_either, not_filtered}
+use Rattle.chain_spec.proofs.Names.{◌≡◌, ℕ, Bool, true, false, List, ◌∷◌, ◌++◌, Option, Some, None, is_some, option_to_list, option_and_then, refl, arith, option_or, Parts, event_at, gated_at, aggregated_at, thresholded_at, gated, aggregated, arrival_at, sampled_at, mode_at, item_in, bypassing_at, Item, is_of, Moment, closes, comes, closes_due, where_true, Fate, at_mode, at_block, at_nth, in_window, at_threshold, qualified_fate, Ending, qualified, inl, inr, if◌then◌else◌, eq-eqb}
+use Rattle.std.proofs.lemmas.Bool.{cases_eq}
+use Rattle.std.proofs.lemmas.Bool.Decides.{nat_tests}
+use Rattle.chain_spec.specs.{ending_at}
+use Rattle.chain_spec.proofs.AggregationLemmas.{given_own}
+use Rattle.chain_spec.proofs.FilterLemmas.{not_filtered}
 use Rattle.chain_spec.proofs.StageLemmas.{cases_Option, added_behind}
 
 module _ (config : Parts) (before : List Moment) where
-  -- what the filters after the gate give of a sampled item
-  abbrev pub joined_by : Option Item → Option Item
-  joined_by o = option_and_then (aggregated_at config (gated config before)) (option_map arrival o)
+  -- what is after the aggregation filter of a moment
+  abbrev pub joined_by : Moment → Option Item
+  joined_by moment = option_and_then (aggregated_at config (gated config before)) (gated_at config before moment)
 
-  -- and what passes the threshold of it
-  abbrev pub passed_by : Option Item → Option Item
-  passed_by o = option_and_then (thresholded_at config (aggregated config before)) o
+  -- and what is qualified of it
+  abbrev pub passed_by : Moment → Option Item
+  passed_by moment =
+      option_or (bypassing_at config before moment) (option_and_then (thresholded_at config (aggregated config before)) (joined_by moment))
 
-  -- what is after the aggregation filter with a moment more
-  pub joined_more : (moment : Moment) → aggregated config (moment ∷ before)
-      ≡ option_to_list (option_and_then (aggregated_at config (gated config before)) (gated_at config before moment))
-      ++ aggregated config before
-  joined_more moment = elim (cases_Option (gated_at config before moment)) [ inl none ↦ rw none refl | inr some ↦ rw some.1 refl ]
+  pub joined_more : (moment : Moment) → aggregated config (moment ∷ before) ≡ option_to_list (joined_by moment) ++ aggregated config before
+  joined_more moment = grind arith
 
-  -- what is qualified with a moment more
-  pub passed_more : (moment : Moment) → qualified config (moment ∷ before)
-      ≡ option_to_list (option_or (bypassing_at config before moment) (passed_by
-      (option_and_then (aggregated_at config (gated config before)) (gated_at config before moment)))) ++ qualified config before
-  passed_more moment =
-      ap (λ (joined : List Item). option_to_list (option_or (bypassing_at config before moment) (option_and_then (thresholded_at config joined)
-      (option_and_then (aggregated_at config (gated config before)) (gated_at config before moment)))) ++ qualified config before)
-      (added_behind (gated_at config) (aggregated_at config) before)
+  pub passed_more : (moment : Moment) → qualified config (moment ∷ before) ≡ option_to_list (passed_by moment) ++ qualified config before
+  passed_more moment = rw (added_behind (gated_at config) (aggregated_at config) before) refl
 
-  -- what holds of an item that comes, on each way that it can go: of what bypasses the filters, arrives, is sampled,
-  -- is after the aggregation filter and is qualified of it, and of its fate
-  pub record OnEachWay (item : Item) (Holds : (b r s g q : Option Item) → Fate → Type 0) : Type 0 where
-    pub mode : Holds None None None None None at_mode
-    pub block : Holds None None None None None at_block
-    pub nth : Holds None (Some item) None None None at_nth
-    pub window : (setting : Aggregate) → (event_at config item.event).aggregate ≡ Some setting
-        → Holds None (Some item) (Some item) None None in_window
-    pub threshold : (event_at config item.event).aggregate ≡ None
-        → Holds None (Some item) (Some item) (Some item) None at_threshold
-    pub through : (event_at config item.event).aggregate ≡ None
-        → Holds None (Some item) (Some item) (Some item) (Some item) (qualified_fate config (qualified config before) item)
-    pub past : Holds (Some item) None None None (Some item) (qualified_fate config (qualified config before) item)
+  -- what holds on each way that an item can go, where this is its fate once it is qualified: of what bypasses the filters,
+  -- arrives of an event, is sampled of it, is after the aggregation filter and is qualified, and of how the way ends
+  pub record OnEachWay (event : ℕ) (item : Item) (fate : Fate) (Holds : (b r s g q : Option Item) → (by_window : Bool) → Fate → Type 0) : Type 0 where
+    pub mode : Holds None None None None None false at_mode
+    pub block : Holds None None None None None false at_block
+    pub nth : Holds None (where_true (is_of event item) item) None None None false at_nth
+    pub window : is_some (event_at config item.event).aggregate ≡ true
+        → Holds None (where_true (is_of event item) item) (where_true (is_of event item) item) None None false in_window
+    pub threshold : is_some (event_at config item.event).aggregate ≡ false
+        → Holds None (where_true (is_of event item) item) (where_true (is_of event item) item) (Some item) None false at_threshold
+    pub through : is_some (event_at config item.event).aggregate ≡ false
+        → Holds None (where_true (is_of event item) item) (where_true (is_of event item) item) (Some item) (Some item) false fate
+    pub past : Holds (Some item) None None None (Some item) false fate
+    pub given : is_some (event_at config item.event).aggregate ≡ true → Holds None None None (Some item) None true at_threshold
+    pub out_of : is_some (event_at config item.event).aggregate ≡ true → Holds None None None (Some item) (Some item) true fate
 
-  -- what holds on each way of an item holds of what the stages make of it
-  pub coming_holds : (own : Item) (Holds : (b r s g q : Option Item) → Fate → Type 0)
-      → let mode = mode_at config own.event before in
-      let item = item_in mode own in
-      OnEachWay item Holds
-      → let r = where_true (is_filtered mode && not (is_blocked config own.event before)) item in
-      let s = if is_nth config own.event before then r else None in
-      Holds (bypassing_at config before (comes own)) r s (joined_by s)
-      (option_or (bypassing_at config before (comes own)) (passed_by (joined_by s))) (coming_fate config before mode item)
-  coming_holds own Holds on =
-      let mode = mode_at config own.event before in
-      let event = event_at config own.event in
-      let ranked = cases_Bool (is_nth config own.event before) in
-      let passes = cases_Bool (verdict event.threshold (counted (item_in mode own)) (map counted (aggregated config before))) in
-      elim (cases_Bool (is_bypassing mode)) [
-        | inl past ↦ rw (not_filtered mode past, past, none_either (is_nth config own.event before)) on.past
-        | inr through ↦ elim (cases_Bool (is_filtered mode)) [
-          | inr off ↦ rw (through, off, none_either (is_nth config own.event before)) on.mode
-          | inl filtered ↦ elim (cases_Bool (is_blocked config own.event before)) [
-            | inl blocked ↦ rw (through, filtered, blocked, none_either (is_nth config own.event before)) on.block
-            | inr free ↦ elim ranked [
-              | inr other ↦ rw (through, filtered, free, other) on.nth
-              | inl nth ↦ elim (cases_Option event.aggregate) [
-                | inr set ↦ rw (through, filtered, free, nth, set.1) (on.window set.0 set.1)
-                | inl none ↦ elim passes [
-                  | inl pass ↦ rw (through, filtered, free, nth, none, pass) (on.through none)
-                  | inr fail ↦ rw (through, filtered, free, nth, none, fail) (on.threshold none)
-                ]
-              ]
-            ]
-          ]
-        ]
-      ]
+  -- what arrives of an event, and is sampled, is of an item of the event
+  pub own_arrives : (event : ℕ) (item : Item) → let own = is_of event item in
+      (arrival_at config event before (comes item) ≡ (if own then arrival_at config item.event before (comes item) else None))
+      × (sampled_at config event before (comes item) ≡ (if own then sampled_at config item.event before (comes item) else None))
+  own_arrives event item = elim (cases_eq item.event event)
+      [ inl same ↦ rw (← same, eq-eqb item.event item.event refl) (refl, refl) | inr other ↦ grind (arith, nat_tests, other) ]
+
+  -- what holds on each way of an item, and of nothing, holds of what the stages make of a moment
+  pub moment_holds : (event : ℕ) (Holds : (b r s g q : Option Item) → Option Ending → Type 0) → Holds None None None None None None
+      → ((item : Item) → OnEachWay event item (qualified_fate config (qualified config before) item)
+      (λ b r s g q by_window fate. Holds b r s g q (Some (record { item = item; by_window = by_window; fate = fate }))))
+      → (moment : Moment) → Holds (bypassing_at config before moment) (arrival_at config event before moment)
+      (sampled_at config event before moment) (joined_by moment) (passed_by moment) (ending_at config before moment)
+  moment_holds event Holds idle on (closes tick other) =
+      elim (cases_Option (aggregated_at config (gated config before) (closes_due tick other)))
+      [ inl none ↦ grind (arith, idle, none) | inr some ↦ let way = on some.0 in grind (arith, nat_tests, way, some.1, given_own (event_at config other).aggregate other tick (gated config before)) ]
+  moment_holds event Holds idle on (comes item) =
+      let way = on (item_in (mode_at config item.event before) item) in
+      rw (own_arrives event item).1 (rw (own_arrives event item).0 (grind (arith, nat_tests, idle, way, not_filtered)))
+  moment_holds event Holds idle on _ = grind (arith, idle)

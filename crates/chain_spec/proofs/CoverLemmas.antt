@@ -1,9 +1,13 @@
 -- Which window covers the tick of an item more, where ticks do not fall: the newest alone decides.
-use Rattle.chain_spec.proofs.Names.{◌≡◌, ℕ, List, [], ◌∷◌, Bool, filter, filter_map, Option, IfSome, if◌then◌else◌, refl, arith, Window, EndBy, opened, extended, covers, with_item, windows_of, cases_Bool, inl, inr}
-use Rattle.chain_spec.proofs.StageLemmas.{cases_Option}
-use Rattle.chain_spec.proofs.WindowsLemmas.{end_later, newest_decides, windows_open_by}
+use Rattle.chain_spec.proofs.Names.{◌≡◌, ◌≤◌, ℕ, List, [], ◌∷◌, Bool, filter, filter_map, Option, IfSome, if◌then◌else◌, refl, arith, Window, EndBy, opened, extended, covers, with_item, windows_of}
+use Rattle.chain_spec.proofs.WindowsLemmas.{newest_decides, windows_open_by}
 
 -- ---- ticks that do not fall
+
+-- items that end by a tick end by a later one
+end_later : {A : Type 0} (tick_of : A → ℕ) (early late : ℕ) (xs : List A) → early ≤ late → EndBy tick_of early xs → EndBy tick_of late xs
+end_later tick_of early late [] le by = tt
+end_later tick_of early late (x ∷ xs) le by = (omega (arith, by.0), by.1)
 
 -- items that pass a test end by a tick by which all end
 pub end_of_some : {A : Type 0} (tick_of : A → ℕ) (test : A → Bool) (tick : ℕ) (xs : List A)
@@ -11,8 +15,7 @@ pub end_of_some : {A : Type 0} (tick_of : A → ℕ) (test : A → Bool) (tick :
 end_of_some tick_of test tick [] by = tt
 end_of_some tick_of test tick (x ∷ xs) by =
     let rest = end_of_some tick_of test (tick_of x) xs by.1 in
-    elim (cases_Bool (test x))
-    [ inl is ↦ rw is (by.0, rest) | inr is ↦ rw is (end_later tick_of (tick_of x) tick (filter test xs) by.0 rest) ]
+    grind (arith, by, rest, end_later tick_of (tick_of x) tick (filter test xs) by.0 rest)
 
 -- what items become, each at its own tick, ends by a tick by which the items end
 pub end_of_told : {A B : Type 0} (tick_of : A → ℕ) (tick_told : B → ℕ) (told : A → Option B)
@@ -21,10 +24,7 @@ pub end_of_told : {A B : Type 0} (tick_of : A → ℕ) (tick_told : B → ℕ) (
 end_of_told tick_of tick_told told same tick [] by = tt
 end_of_told tick_of tick_told told same tick (x ∷ xs) by =
     let rest = end_of_told tick_of tick_told told same (tick_of x) xs by.1 in
-    elim (cases_Option (told x)) [
-      | inl none ↦ rw none (end_later tick_told (tick_of x) tick (filter_map told xs) by.0 rest)
-      | inr some ↦ let same_tick = rw some.1 at (same x) in rw some.1 (omega (arith, same_tick, by.0), rw same_tick rest)
-    ]
+    grind (arith, by, same x, rest, end_later tick_told (tick_of x) tick (filter_map told xs) by.0 rest)
 
 -- ---- an item more
 

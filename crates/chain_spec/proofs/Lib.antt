@@ -9,7 +9,6 @@ pub mod GrowthLemmas
 pub mod LimitsLemmas
 pub mod Names
 pub mod StageLemmas
-pub mod OpenWindowLemmas
 pub mod SumLemmas
 pub mod TallyLemmas
 pub mod WaitingLemmas

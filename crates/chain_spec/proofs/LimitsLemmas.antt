@@ -1,18 +1,14 @@
 -- What is sent, in the words of the limits.
-use Rattle.chain_spec.proofs.Names.{◌≡◌, ◌+◌, ◌<◌, ◌≤◌, ◌&&◌, ◌↔◌, IsTrue, Bool, true, false, List, [], ◌∷◌, length, map, sum_by, Some, refl, ◌∙◌, arith, le-leb, leb-true, Parts, Limit, sent_at, is_out, Item, weighed, added, sum_by-cons, passes_rate, passes_traffic, sent_of, cases_Bool, inl, inr}
+use Rattle.chain_spec.proofs.Names.{◌≡◌, ◌+◌, ◌<◌, ◌≤◌, ◌&&◌, ◌↔◌, IsTrue, Bool, true, false, List, [], ◌∷◌, length, map, sum_by, Some, refl, arith, le-leb, leb-true, Parts, Limit, sent_at, Item, weighed, added, passes_rate, passes_traffic, sent_of}
+use Rattle.std.proofs.lemmas.List.Recursion.{is_count_by}
 use Rattle.chain_spec.specs.Limits.{Candidate, window_at, those_in}
-
--- a sum of ones is how many there are
-sum_of_ones : {A : Type 0} (xs : List A) → sum_by (λ x. 1) xs ≡ length xs
-sum_of_ones [] = refl
-sum_of_ones {A} (x ∷ xs) = sum_by-cons (λ (y : A). 1) x xs ∙ omega (arith, sum_of_ones xs)
 
 pub fewer_before : (limit : Limit) (before : List Candidate) (candidate : Candidate)
     → IsTrue (passes_rate (Some limit) before candidate)
     ↔ (length (those_in limit.interval before (window_at limit.interval candidate.tick)) < limit.number)
 fewer_before limit before candidate =
     let inside = those_in limit.interval before (window_at limit.interval candidate.tick) in
-    let ones = sum_of_ones inside in
+    let ones = is_count_by length (λ one. true) refl (λ one rest. omega arith) inside in
     (λ passes. omega (arith, leb-true _ _ passes, ones), λ fewer. le-leb _ _ (omega (arith, ones, fewer)))
 
 pub bytes_fit : (limit : Limit) (before : List Candidate) (candidate : Candidate)
@@ -31,8 +27,7 @@ pub weighed_sent : (config : Parts) (items : List Item)
     → map (weighed config) (added (sent_at config) items) ≡ sent_of config.rate config.traffic (map (weighed config) items)
 weighed_sent config [] = refl
 weighed_sent config (item ∷ before) =
-    let rest = weighed_sent config before in
-    elim (cases_Bool (is_out config before item)) [ inl is ↦ rw (is, rest) refl | inr is ↦ rw is rest ]
+    grind (arith, weighed_sent config before)
 
 -- what is sent in the words of the limits
 pub ruleset limit_laws = (fewer_before, bytes_fit, both_hold, weighed_sent)

@@ -1,5 +1,7 @@
 -- Lists by stages: their composition, and how they grow.
-use Rattle.chain_spec.proofs.Names.{◌≡◌, suc, ◌<◌, List, [], ◌∷◌, ◌++◌, length, map, filter, Option, Some, None, Bool, option_to_list, refl, sym, ap, ◌∙◌, append_assoc, arith, map-append, filter-append, AllPairs-cons, EndsWith, Stage, added, behind, with_all, ◌⊎◌, inl, inr, All, All-cons}
+use Rattle.chain_spec.proofs.Names.{◌≡◌, ◌<◌, List, [], ◌∷◌, ◌++◌, length, map, filter, Bool, Option, Some, None, ◌⊎◌, inl, inr, option_to_list, refl, ap, ◌∙◌, append_assoc, arith, map-append, filter-append, AllPairs-cons, EndsWith, Stage, added, behind, with_all, All, All-cons, reverse}
+use Rattle.std.proofs.lemmas.Grind.{common_steps}
+use Rattle.std.proofs.lemmas.List.Elements.{All-nil}
 use Rattle.chain_spec.specs.Places.{placed, HaveOwnPlaces}
 
 -- there is nothing, or something
@@ -11,34 +13,32 @@ cases_Option (Some x) = inr (x, refl)
 pub added_behind : {A B C : Type 0} (first : Stage A B) (second : Stage B C) (xs : List A)
     → added (behind first second) xs ≡ added second (added first xs)
 added_behind first second [] = refl
-added_behind first second (x ∷ before) =
-    let rest = added_behind first second before in
-    elim (cases_Option (first before x)) [ inl none ↦ rw none rest | inr some ↦ rw (some.1, rest) refl ]
+added_behind first second (x ∷ before) = grind (arith, added_behind first second before)
 
 -- elements that came one after another, in two parts
 pub with_all-append : {A : Type 0} (before xs ys : List A) → with_all before (xs ++ ys) ≡ with_all (with_all before xs) ys
 with_all-append before [] ys = refl
 with_all-append before (x ∷ xs) ys = with_all-append (x ∷ before) xs ys
 
+-- what each of some elements keeps, all of them keep
+pub all_keep : {A B : Type 0} (Holds : List A → Type 0) (f : B → A) → ((y : B) (before : List A) → Holds before → Holds (f y ∷ before))
+    → (ys : List B) (before : List A) → Holds before → Holds (with_all before (map f ys))
+all_keep Holds f keeps [] before h = h
+all_keep Holds f keeps (y ∷ ys) before h = all_keep Holds f keeps ys (f y ∷ before) (keeps y before h)
+
 -- ---- longer lists
 
 -- with elements that came one after another
-pub ends_with_before : {A : Type 0} (before xs : List A) → EndsWith (with_all before xs) before
-ends_with_before before [] = record { further = []; whole = refl }
-ends_with_before before (x ∷ xs) =
-    let ends = ends_with_before (x ∷ before) xs in
-    record { further = ends.further ++ x ∷ []; whole = ends.whole ∙ sym (append_assoc ends.further (x ∷ []) before) }
+pub with_all_reversed : {A : Type 0} (before xs : List A) → with_all before xs ≡ reverse xs ++ before
+with_all_reversed before [] = refl
+with_all_reversed before (x ∷ xs) = grind (arith, common_steps, with_all_reversed (x ∷ before) xs)
 
 -- what a stage adds to a longer list
 added-append : {A B : Type 0} (stage : Stage A B) (further xs : List A) → EndsWith (added stage (further ++ xs)) (added stage xs)
 added-append stage [] xs = record { further = []; whole = refl }
 added-append stage (x ∷ further) xs =
     let ends = added-append stage further xs in
-    let own = option_to_list (stage (further ++ xs) x) in
-    record {
-      further = own ++ ends.further;
-      whole = ap (λ ys. own ++ ys) ends.whole ∙ sym (append_assoc own ends.further (added stage xs));
-    }
+    record { further = option_to_list (stage (further ++ xs) x) ++ ends.further; whole = grind (arith, ends.whole, append_assoc) }
 
 pub added_grows : {A B : Type 0} (stage : Stage A B) (longer shorter : List A) → EndsWith longer shorter → EndsWith (added stage longer)
     (added stage shorter)
@@ -60,23 +60,12 @@ map_grows f longer shorter ends =
 -- what is placed is what was added
 pub placed_added : {A B : Type 0} (stage : Stage A B) (xs : List A) → map (λ p. p.1) (placed stage xs) ≡ added stage xs
 placed_added stage [] = refl
-placed_added stage (x ∷ before) =
-    let rest = placed_added stage before in
-    elim (cases_Option (stage before x)) [ inl none ↦ rw none rest | inr some ↦ rw (some.1, rest) refl ]
+placed_added stage (x ∷ before) = grind (arith, placed_added stage before)
 
 -- the places lie below the number of elements, and each newer one is the greater
 places_fall : {A B : Type 0} (stage : Stage A B) (xs : List A) → All (λ p. p.0 < length xs) (placed stage xs) × HaveOwnPlaces (placed stage xs)
-places_fall stage [] = (λ k d less. absurd (omega arith), λ i j d less within. absurd (omega arith))
-places_fall stage (x ∷ before) =
-    let rest = places_fall stage before in
-    elim (cases_Option (stage before x)) [
-      | inl none ↦ rw none (λ k d less. omega (arith, rest.0 k d less), rest.1)
-      | inr some ↦ rw some.1 (
-        All-cons (λ p. p.0 < suc (length before)) (length before, some.0) (placed stage before) (omega arith)
-            (λ k d less. omega (arith, rest.0 k d less)),
-        AllPairs-cons (λ newer older. older.0 < newer.0) (length before, some.0) (placed stage before) rest.0 rest.1,
-      )
-    ]
+places_fall stage [] = (All-nil _, λ i j d less within. absurd (omega arith))
+places_fall stage (x ∷ before) = grind (arith, All-cons, AllPairs-cons, places_fall stage before)
 
 pub own_places : {A B : Type 0} (stage : Stage A B) (xs : List A) → HaveOwnPlaces (placed stage xs)
 own_places stage xs = (places_fall stage xs).1

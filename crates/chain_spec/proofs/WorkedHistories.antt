@@ -1,6 +1,7 @@
 -- Histories with what the chain gives for them, worked out by hand from the filters' rules, so that a wrong
 -- definition does not check. Bytes stand in hexadecimal, as a file of messages shows them.
 use Rattle.chain_spec.proofs.Names.{◌≡◌, ℕ, ◌+◌, ◌*◌, ◌-◌, Bool, true, false, List, [], ◌∷◌, ◌++◌, map, take, reverse, Some, None, refl, Turn, Report, State, SetMode, Act, Mode, Off, Brief, Detailed, BriefBypassing, DetailedBypassing, Parts, Event, plain_event, messages, ends, handed, IsCausal, instance_18}
+use Prim.Native.String.{String}
 use Rattle.std.specs.Prelude.{nat_lt, codes, replicate, if◌then◌else◌}
 use Rattle.ids_types.specs.declared.entry.Carried.TheVariants.{Absent, Kept, Missing}
 use Rattle.chain_spec.specs.Memory.{Row}
@@ -12,9 +13,13 @@ use Rattle.chain_spec.specs.Storing.{memory}
 abbrev pub door : Event
 door = plain_event 42 3
 
+-- an event alone
+abbrev only : Event → Parts
+only event = instance_18 (event ∷ [])
+
 -- that event alone
 abbrev just_door : Parts
-just_door = instance_18 (door ∷ [])
+just_door = only door
 
 -- ---- histories, here with the oldest turn first
 
@@ -41,13 +46,17 @@ turn_with tick lost_events lost_contexts limited acts = record {
 abbrev pub turn : ℕ → List (Act (List ℕ)) → Turn
 turn tick acts = turn_with tick 0 0 0 acts
 
+-- a turn at a tick with one report of event 0, seen so often
+abbrev once : ℕ → ℕ → Turn
+once tick count = turn tick (seen 0 count ∷ [])
+
 -- one report with two bytes of context data
 abbrev a_parcel : List Turn
 a_parcel = turn 5 (with_context (161 ∷ 178 ∷ []) ∷ []) ∷ []
 
 -- three reports in a turn, of which one is held back, and the turn after it
 abbrev pub three_at_once : List Turn
-three_at_once = turn 0 (seen 0 1 ∷ seen 0 1 ∷ seen 0 1 ∷ []) ∷ turn_with 1 0 0 1 [] ∷ []
+three_at_once = turn 0 (replicate 3 (seen 0 1)) ∷ turn_with 1 0 0 1 [] ∷ []
 
 -- ---- what is expected
 
@@ -57,13 +66,12 @@ digit code = if nat_lt code 97 then code - 48 else code - 87
 
 -- the bytes of hexadecimal digits
 abbrev bytes_of : List ℕ → List ℕ
-bytes_of [] = []
-bytes_of (high ∷ []) = []
 bytes_of (high ∷ low ∷ rest) = (digit high * 16 + digit low) ∷ bytes_of rest
+bytes_of _ = []
 
 -- the history gives the messages of these hexadecimal digits
-abbrev Sends : Parts → List Turn → List ℕ → Type 0
-Sends config turns digits = messages config (reverse turns) ≡ bytes_of digits
+abbrev Sends : Parts → List Turn → String → Type 0
+Sends config turns digits = messages config (reverse turns) ≡ bytes_of (codes digits)
 
 -- the record of event k with id k + 1 by sensor 0, seen so often and without a timestamp or context data
 abbrev row : (event occurrences first last : ℕ) → Row
@@ -76,13 +84,9 @@ row event occurrences first last = record {
   context = [];
 }
 
--- in profile 2 a message with context data has its version in byte 7
-abbrev second_profile : Parts
-second_profile = record (instance_18 (record door { version = 5 } ∷ [])) { profile = 2 }
-
 -- the event in this mode
 abbrev door_in : Mode → Parts
-door_in mode = instance_18 (record door { mode = mode } ∷ [])
+door_in mode = only (record door { mode = mode })
 
 -- every second, blocked in state 1
 abbrev every_second : Event
@@ -94,7 +98,7 @@ blocked_between = turn 5 (seen 0 1 ∷ State 1 ∷ seen 0 2 ∷ State 0 ∷ seen
 
 -- the event aggregated for 10 ticks, with the last context data or the first
 abbrev aggregated_door : Bool → Parts
-aggregated_door last = instance_18 (record door { aggregate = Some (record { interval = 10; last = last }) } ∷ [])
+aggregated_door last = only (record door { aggregate = Some (record { interval = 10; last = last }) })
 
 -- the window has an item without context data and two with some
 abbrev two_contexts : List Turn
@@ -102,19 +106,11 @@ two_contexts = turn 0 (seen 0 1 ∷ with_context (161 ∷ []) ∷ with_context (
 
 -- the event with a threshold of 3 in 100 ticks
 abbrev door_above_3 : Parts
-door_above_3 = instance_18 (record door { threshold = Some (record { interval = 100; number = 3 }) } ∷ [])
+door_above_3 = only (record door { threshold = Some (record { interval = 100; number = 3 }) })
 
 -- with an internal event of id 7 for lost events
 abbrev tells_lost_events : Parts
 tells_lost_events = record (instance_18 (door ∷ plain_event 7 0 ∷ [])) { lost_events = Some 1 }
-
--- three internal events, configured in the other order
-abbrev all_internal : Parts
-all_internal = record (instance_18 (plain_event 1 0 ∷ plain_event 2 0 ∷ plain_event 3 0 ∷ [])) {
-  lost_events = Some 2;
-  lost_contexts = Some 1;
-  limited = Some 0;
-}
 
 -- at most two messages in 1,000 ticks, and an internal event of id 9 for what is held back
 abbrev pub two_in_1000 : Parts
@@ -122,11 +118,11 @@ two_in_1000 = record (instance_18 (door ∷ plain_event 9 0 ∷ [])) { rate = So
 
 -- the rate holds the third back, which the next turn tells
 abbrev third_held_back : List Turn
-third_held_back = turn 100 (seen 0 1 ∷ seen 0 1 ∷ seen 0 1 ∷ []) ∷ turn_with 1000 0 0 1 [] ∷ []
+third_held_back = turn 100 (replicate 3 (seen 0 1)) ∷ turn_with 1000 0 0 1 [] ∷ []
 
 -- at most 20 bytes in 1,000 ticks
 abbrev twenty_bytes : Parts
-twenty_bytes = record (instance_18 (door ∷ [])) { traffic = Some (record { interval = 1000; number = 20 }) }
+twenty_bytes = record just_door { traffic = Some (record { interval = 1000; number = 20 }) }
 
 -- three events that are stored and not sent, in a memory of so many records
 abbrev three_stored : ℕ → Parts
@@ -136,127 +132,113 @@ three_stored k =
 
 -- events 0, 1, 0, 2, 1, one in each turn
 abbrev five_turns : List Turn
-five_turns = turn 1 (seen 0 1 ∷ []) ∷ turn 2 (seen 1 1 ∷ []) ∷ turn 3 (seen 0 1 ∷ []) ∷ turn 4 (seen 2 1 ∷ []) ∷ turn 5 (seen 1 1 ∷ []) ∷ []
-
--- one event that is stored, and no message may be sent
-abbrev none_let_out : Parts
-none_let_out = record (instance_18 (record (plain_event 1 0) { store = true } ∷ [])) {
-  memory = 1;
-  rate = Some (record { interval = 10; number = 0 });
-}
+five_turns = once 1 1 ∷ turn 2 (seen 1 1 ∷ []) ∷ once 3 1 ∷ turn 4 (seen 2 1 ∷ []) ∷ turn 5 (seen 1 1 ∷ []) ∷ []
 
 -- ---- the histories
 
 record AreWorkedOut : Type 0 where
   -- ---- messages
-  nothing_for_no_turns : Sends just_door [] []
-  a_report_with_context : Sends just_door a_parcel (codes "110483002a00010002a1b2")
+  nothing_for_no_turns : Sends just_door [] ""
+  a_report_with_context : Sends just_door a_parcel "110483002a00010002a1b2"
   a_report_with_a_timestamp : Sends just_door
-      (turn 5 (Report (record { 0 = 0 }) 1 (Some (record { 0 = 9223372041149745664 })) Absent ∷ []) ∷ [])
-      (codes "120483002a0001008000000100000a00")
+      (turn 5 (Report (record { 0 = 0 }) 1 (Some (record { 0 = 9223372041149745664 })) Absent ∷ []) ∷ []) "120483002a0001008000000100000a00"
   -- 127 bytes are told in the short form, and 128 in the long one
-  the_longest_short_context : take 9 (messages just_door (turn 5 (with_context (replicate 127 161) ∷ []) ∷ [])) ≡ bytes_of
-      (codes "110483002a0001007f")
-  the_shortest_long_context : take 12 (messages just_door (turn 5 (with_context (replicate 128 161) ∷ []) ∷ [])) ≡ bytes_of
-      (codes "110483002a00010080000080")
-  version_of_context_data : Sends second_profile (turn 5 (with_context (161 ∷ 178 ∷ []) ∷ seen 0 1 ∷ []) ∷ [])
-      (codes "210483002a00010502a1b2200483002a000100")
+  the_longest_short_context : take 9 (messages just_door (turn 5 (with_context (replicate 127 161) ∷ []) ∷ []))
+      ≡ bytes_of (codes "110483002a0001007f")
+  the_shortest_long_context : take 12 (messages just_door (turn 5 (with_context (replicate 128 161) ∷ []) ∷ []))
+      ≡ bytes_of (codes "110483002a00010080000080")
+  -- in profile 2 a message with context data has its version in byte 7
+  version_of_context_data : Sends (record (only (record door { version = 5 })) { profile = 2 })
+      (turn 5 (with_context (161 ∷ 178 ∷ []) ∷ seen 0 1 ∷ []) ∷ []) "210483002a00010502a1b2200483002a000100"
   each_turn_ends_behind_its_messages : ends just_door
-      (reverse (turn 1 (seen 0 1 ∷ []) ∷ turn 2 [] ∷ turn 3 (seen 0 1 ∷ seen 0 2 ∷ []) ∷ [])) ≡ 24 ∷ 8 ∷ 8 ∷ []
+      (reverse (once 1 1 ∷ turn 2 [] ∷ turn 3 (seen 0 1 ∷ seen 0 2 ∷ []) ∷ [])) ≡ 24 ∷ 8 ∷ 8 ∷ []
   -- ---- reporting mode and block state
-  off_drops : Sends (door_in Off) a_parcel []
-  brief_removes_context : Sends (door_in Brief) a_parcel (codes "100483002a000100")
+  off_drops : Sends (door_in Off) a_parcel ""
+  brief_removes_context : Sends (door_in Brief) a_parcel "100483002a000100"
   -- a mode counts for what comes after it, in later turns too
   a_mode_is_set : Sends just_door
       (turn 5 (seen 0 1 ∷ becomes Off ∷ seen 0 2 ∷ []) ∷ turn 6 (seen 0 3 ∷ becomes Detailed ∷ seen 0 4 ∷ []) ∷ [])
-      (codes "100483002a000100100483002a000400")
-  blocked_items_have_no_rank : Sends (instance_18 (every_second ∷ [])) blocked_between (codes "100483002a000300")
-  bypassing_items_pass_a_blocking_state : Sends (instance_18 (record every_second { mode = DetailedBypassing } ∷ [])) blocked_between
-      (codes "100483002a000100100483002a000200100483002a000300")
-  brief_bypassing_removes_context : Sends (door_in BriefBypassing) a_parcel (codes "100483002a000100")
+      "100483002a000100100483002a000400"
+  blocked_items_have_no_rank : Sends (only every_second) blocked_between "100483002a000300"
+  bypassing_items_pass_a_blocking_state : Sends (only (record every_second { mode = DetailedBypassing })) blocked_between
+      "100483002a000100100483002a000200100483002a000300"
+  brief_bypassing_removes_context : Sends (door_in BriefBypassing) a_parcel "100483002a000100"
   -- ---- forward every nth
-  every_third_passes : Sends (instance_18 (record door { nth = 3 } ∷ []))
-      (turn 5 (seen 0 1 ∷ seen 0 2 ∷ seen 0 3 ∷ seen 0 4 ∷ seen 0 5 ∷ seen 0 6 ∷ seen 0 7 ∷ []) ∷ [])
-      (codes "100483002a000300100483002a000600")
+  every_third_passes : Sends (only (record door { nth = 3 })) (turn 5 (map (seen 0) (1 ∷ 2 ∷ 3 ∷ 4 ∷ 5 ∷ 6 ∷ 7 ∷ [])) ∷ [])
+      "100483002a000300100483002a000600"
   -- the rank goes on from turn to turn, and what bypasses the filters has none
-  ranks_go_on : Sends (instance_18 (record door { nth = 2 } ∷ []))
-      (turn 5 (seen 0 1 ∷ becomes DetailedBypassing ∷ seen 0 2 ∷ becomes Detailed ∷ []) ∷ turn 6 (seen 0 3 ∷ []) ∷ [])
-      (codes "100483002a000200100483002a000300")
+  ranks_go_on : Sends (only (record door { nth = 2 }))
+      (turn 5 (seen 0 1 ∷ becomes DetailedBypassing ∷ seen 0 2 ∷ becomes Detailed ∷ []) ∷ once 6 3 ∷ []) "100483002a000200100483002a000300"
   -- ---- aggregation
   -- due at the opener's tick plus the interval, before that turn's items, which open the next window
-  a_window_at_its_end : Sends (aggregated_door false) (turn 100 (seen 0 2 ∷ []) ∷ turn 105 (seen 0 3 ∷ []) ∷ turn 110 (seen 0 1 ∷ []) ∷ [])
-      (codes "100483002a000500")
-  a_window_before_its_end : Sends (aggregated_door false) (turn 100 (seen 0 2 ∷ []) ∷ turn 109 (seen 0 3 ∷ []) ∷ []) []
+  a_window_at_its_end : Sends (aggregated_door false) (once 100 2 ∷ once 105 3 ∷ once 110 1 ∷ []) "100483002a000500"
+  a_window_before_its_end : Sends (aggregated_door false) (once 100 2 ∷ once 109 3 ∷ []) ""
   -- a turn that comes late closes one window, and the next begins with that turn's first item
-  a_window_closes_late : Sends (aggregated_door false)
-      (turn 100 (seen 0 2 ∷ []) ∷ turn 125 (seen 0 3 ∷ []) ∷ turn 134 (seen 0 4 ∷ []) ∷ turn 135 [] ∷ [])
-      (codes "100483002a000200100483002a000700")
-  a_sum_saturates : Sends (aggregated_door false) (turn 0 (seen 0 65535 ∷ seen 0 1 ∷ []) ∷ turn 10 [] ∷ []) (codes "100483002affff00")
-  the_first_context_is_kept : Sends (aggregated_door false) two_contexts (codes "110483002a00040001a1")
-  the_last_context_is_kept : Sends (aggregated_door true) two_contexts (codes "110483002a00040001b2")
+  a_window_closes_late : Sends (aggregated_door false) (once 100 2 ∷ once 125 3 ∷ once 134 4 ∷ turn 135 [] ∷ [])
+      "100483002a000200100483002a000700"
+  a_sum_saturates : Sends (aggregated_door false) (turn 0 (seen 0 65535 ∷ seen 0 1 ∷ []) ∷ turn 10 [] ∷ []) "100483002affff00"
+  the_first_context_is_kept : Sends (aggregated_door false) two_contexts "110483002a00040001a1"
+  the_last_context_is_kept : Sends (aggregated_door true) two_contexts "110483002a00040001b2"
   -- a mode does not touch an open window
   off_leaves_a_window_open : Sends (aggregated_door false) (turn 0 (seen 0 2 ∷ becomes Off ∷ seen 0 3 ∷ []) ∷ turn 10 [] ∷ [])
-      (codes "100483002a000200")
+      "100483002a000200"
   -- windows close in the order of the events, and before the items of the turn
   windows_close_event_by_event : Sends
       (instance_18 (record door { aggregate = Some (record { interval = 10; last = false }) }
       ∷ record (plain_event 43 3) { aggregate = Some (record { interval = 5; last = false }) } ∷ plain_event 44 3 ∷ []))
-      (turn 0 (seen 1 1 ∷ seen 0 1 ∷ []) ∷ turn 10 (seen 2 1 ∷ []) ∷ []) (codes "100483002a000100100483002b000100100483002c000100")
+      (turn 0 (seen 1 1 ∷ seen 0 1 ∷ []) ∷ turn 10 (seen 2 1 ∷ []) ∷ []) "100483002a000100100483002b000100100483002c000100"
   -- ---- threshold
-  the_third_and_later_pass : Sends door_above_3 (turn 0 (seen 0 1 ∷ seen 0 1 ∷ seen 0 1 ∷ seen 0 1 ∷ []) ∷ [])
-      (codes "100483002a000100100483002a000100")
+  the_third_and_later_pass : Sends door_above_3 (turn 0 (replicate 4 (seen 0 1)) ∷ []) "100483002a000100100483002a000100"
   -- a window covers no tick from its opener's plus the interval on
-  a_threshold_window_ends : Sends door_above_3 (turn 0 (seen 0 2 ∷ []) ∷ turn 99 (seen 0 1 ∷ []) ∷ turn 100 (seen 0 2 ∷ []) ∷ [])
-      (codes "100483002a000100")
+  a_threshold_window_ends : Sends door_above_3 (once 0 2 ∷ once 99 1 ∷ once 100 2 ∷ []) "100483002a000100"
   -- a joined item is counted at the tick of the turn that closed its window
   a_joined_item_is_counted_as_one : Sends
-      (instance_18 (record door {
-        aggregate = Some (record { interval = 10; last = false });
-        threshold = Some (record { interval = 20; number = 5 });
-      } ∷ []))
-      (turn 0 (seen 0 2 ∷ []) ∷ turn 10 (seen 0 3 ∷ []) ∷ turn 29 (seen 0 4 ∷ []) ∷ turn 39 [] ∷ []) (codes "100483002a000300")
+      (only (record door { aggregate = Some (record { interval = 10; last = false }); threshold = Some (record { interval = 20; number = 5 }) }))
+      (once 0 2 ∷ once 10 3 ∷ once 29 4 ∷ turn 39 [] ∷ []) "100483002a000300"
   -- ---- internal events
   lost_events_are_told_first : Sends tells_lost_events (turn_with 5 1 0 0 (seen 0 1 ∷ seen 0 1 ∷ []) ∷ turn 5 [] ∷ [])
-      (codes "1004800007000100100483002a000100100483002a000100")
+      "1004800007000100100483002a000100100483002a000100"
   a_number_of_losses_saturates : Sends tells_lost_events (turn_with 5 70000 0 0 (seen 0 1 ∷ []) ∷ turn 5 [] ∷ [])
-      (codes "1004800007ffff00100483002a000100")
+      "1004800007ffff00100483002a000100"
   lost_contexts_are_told_where_configured : Sends just_door
       (turn_with 5 0 1 0 (with_context (161 ∷ 162 ∷ 163 ∷ 164 ∷ [])
       ∷ Report (record { 0 = 0 }) 1 None (Missing (1 ∷ 1 ∷ [])) ∷ []) ∷ turn 5 [] ∷ [])
-      (codes "110483002a00010004a1a2a3a4100483002a000100")
-  -- all three in their order, and none for 0
-  internal_events_in_order : Sends all_internal (turn_with 5 4 5 6 [] ∷ turn_with 6 0 7 0 [] ∷ [])
-      (codes "10048000030004001004800002000500100480000100060010048000020007" ++ codes "00")
+      "110483002a00010004a1a2a3a4100483002a000100"
+  -- all three in their order, though configured in the other, and none for 0
+  internal_events_in_order : messages
+      (record (instance_18 (map (λ id. plain_event id 0) (1 ∷ 2 ∷ 3 ∷ []))) { lost_events = Some 2; lost_contexts = Some 1; limited = Some 0 })
+      (turn_with 6 0 7 0 [] ∷ turn_with 5 4 5 6 [] ∷ [])
+      ≡ bytes_of (codes "10048000030004001004800002000500100480000100060010048000020007" ++ codes "00")
   -- ---- limits
-  the_rate_is_kept : Sends two_in_1000 third_held_back (codes "100483002a000100100483002a0001001004800009000100")
+  the_rate_is_kept : Sends two_in_1000 third_held_back "100483002a000100100483002a0001001004800009000100"
   the_number_held_back_is_handed_on : handed two_in_1000 (reverse third_held_back) ≡ 0 ∷ 1 ∷ []
   what_is_handed_on_is_told : IsCausal two_in_1000 (reverse third_held_back)
   -- a window begins with a multiple of the interval
-  a_rate_window_ends : Sends two_in_1000
-      (turn 998 (seen 0 1 ∷ seen 0 2 ∷ []) ∷ turn 999 (seen 0 3 ∷ []) ∷ turn_with 1000 0 0 0 (seen 0 4 ∷ []) ∷ [])
-      (codes "100483002a000100100483002a000200100483002a000400")
+  a_rate_window_ends : Sends two_in_1000 (turn 998 (seen 0 1 ∷ seen 0 2 ∷ []) ∷ once 999 3 ∷ once 1000 4 ∷ [])
+      "100483002a000100100483002a000200100483002a000400"
   -- the internal event uses up the rate like others, and is itself not counted
   held_back_items_of_the_internal_event : handed two_in_1000 (reverse three_at_once) ≡ 0 ∷ 1 ∷ []
-  the_traffic_is_kept : Sends twenty_bytes three_at_once (codes "100483002a000100100483002a000100")
+  the_traffic_is_kept : Sends twenty_bytes three_at_once "100483002a000100100483002a000100"
   what_traffic_holds_back_is_handed_on : handed twenty_bytes (reverse three_at_once) ≡ 0 ∷ 1 ∷ []
   -- what the traffic held back leaves its bytes to a shorter message: 8 bytes, 13 that do not fit, 8 again
   a_shorter_message_still_fits : Sends twenty_bytes (turn 0 (seen 0 1 ∷ with_context (1 ∷ 2 ∷ 3 ∷ 4 ∷ []) ∷ seen 0 2 ∷ []) ∷ [])
-      (codes "100483002a000100100483002a000200")
+      "100483002a000100100483002a000200"
   -- but it took its place in the rate
   traffic_holds_back_behind_the_rate : Sends (record twenty_bytes { rate = Some (record { interval = 1000; number = 2 }) })
-      (turn 0 (seen 0 1 ∷ with_context (1 ∷ 2 ∷ 3 ∷ 4 ∷ []) ∷ seen 0 2 ∷ []) ∷ []) (codes "100483002a000100")
+      (turn 0 (seen 0 1 ∷ with_context (1 ∷ 2 ∷ 3 ∷ 4 ∷ []) ∷ seen 0 2 ∷ []) ∷ []) "100483002a000100"
   -- ---- memory
   -- with two records event 1 was displaced at tick 4, and begins anew at tick 5
   a_displaced_record_begins_anew : memory (three_stored 2) (reverse five_turns) ≡ row 2 1 4 4 ∷ row 1 1 5 5 ∷ []
   -- with three it goes on
   a_record_goes_on : memory (three_stored 3) (reverse five_turns) ≡ row 0 2 1 3 ∷ row 2 1 4 4 ∷ row 1 2 2 5 ∷ []
   no_records_are_kept : memory (three_stored 0) (reverse five_turns) ≡ []
-  what_is_not_sent_is_no_message : Sends (three_stored 2) five_turns []
-  occurrences_saturate : memory (three_stored 1) (reverse (turn 1 (seen 0 65535 ∷ seen 0 1 ∷ []) ∷ [])) ≡ row 0 65535 1 1 ∷ []
+  what_is_not_sent_is_no_message : Sends (three_stored 2) five_turns ""
+  occurrences_saturate : memory (three_stored 1) (turn 1 (seen 0 65535 ∷ seen 0 1 ∷ []) ∷ []) ≡ row 0 65535 1 1 ∷ []
   -- the last item's timestamp and context data are kept, though the limits hold it back
-  a_record_of_what_is_held_back : memory none_let_out
-      (reverse (turn 1 (seen 0 1 ∷ Report (record { 0 = 0 }) 1 (Some (record { 0 = 7 })) (Kept 0 0 (161 ∷ [])) ∷ []) ∷ [])) ≡ record
-      (row 0 2 1 1) { stamp = Some (record { 0 = 7 }); context = 161 ∷ [] } ∷ []
+  a_record_of_what_is_held_back : memory
+      (record (only (record (plain_event 1 0) { store = true })) { memory = 1; rate = Some (record { interval = 10; number = 0 }) })
+      (turn 1 (seen 0 1 ∷ Report (record { 0 = 0 }) 1 (Some (record { 0 = 7 })) (Kept 0 0 (161 ∷ [])) ∷ []) ∷ [])
+      ≡ record (row 0 2 1 1) { stamp = Some (record { 0 = 7 }); context = 161 ∷ [] } ∷ []
 
 histories : AreWorkedOut
 histories = assumption (refl)

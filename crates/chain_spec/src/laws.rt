@@ -84,6 +84,7 @@ pub fn which_candidates_are_sent()
 /// The filters of one event over its whole lists, one filter after another, where the ticks of turns do not fall.
 /// Every nth of its arrivals goes on. Over these each aggregation window gives one item, at the first turn at which
 /// it is due. Of these items those go on that reach the threshold.
+#[tactic(auto, using(crate::proofs::ByEventLemmas::filter_laws))]
 pub fn what_the_filters_give_of_an_event()
     ensures sampled { (config : Parts) (event : ℕ) (moments : List Moment) →
         sampled config event moments ≡ every (event_at config event).nth (arrivals config event moments) }

@@ -12,22 +12,22 @@ pub(crate) struct Ended<'a, T, D> {
     pub(crate) disk: D,
 }
 
+/// Work that ended so.
+pub(crate) fn ended_with<'a, T, D>(end: Result<T, Stop<&'a str>>, disk: D) -> Ended<'a, T, D>
+    ensures { result ≡ record { end = end.entry; disk = disk } }
+{
+    Ended { end, disk }
+}
+
 /// Work that stopped where its store could not be begun. `failed` is how a disk that failed is told.
 pub(crate) fn not_begun<'a, T, D>(fault: BeginFault<D>, failed: DiskStop) -> Ended<'a, T, D>
     ensures { result ≡ end_not_begun failed fault }
 {
     match fault {
-        BeginFault::Failed(disk) => Ended {
-            end: Err(Stop::OnDisk(failed)),
-            disk,
-        },
-        BeginFault::Damaged { slot, disk } => Ended {
-            end: Err(Stop::OnDisk(DiskStop::Damaged { slot })),
-            disk,
-        },
-        BeginFault::NoMemory(disk) => Ended {
-            end: Err(Stop::NoMemory),
-            disk,
-        },
+        BeginFault::Failed(disk) => ended_with(Err(Stop::OnDisk(failed)), disk),
+        BeginFault::Damaged { slot, disk } => {
+            ended_with(Err(Stop::OnDisk(DiskStop::Damaged { slot })), disk)
+        }
+        BeginFault::NoMemory(disk) => ended_with(Err(Stop::NoMemory), disk),
     }
 }

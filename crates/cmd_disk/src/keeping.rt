@@ -6,7 +6,7 @@ ghost use Rattle.cmd_disk.specs.Keeping.{HasDiskCause, IsNewFolding, LeavesBehin
 ghost use Rattle.cmd_disk.specs.Runs.{LeavesRecorded};
 ghost use Rattle.cmd_spec.specs.Keeping.{saved_text};
 
-use crate::ended::{Ended, not_begun};
+use crate::ended::{Ended, ended_with, not_begun};
 use crate::saving::{Folding, save_turns};
 use chain_plain::Desk;
 use cmd_files::{DiskStop, Stop};
@@ -35,28 +35,16 @@ pub(crate) fn keep<'a, H: Shelf, D: Disk>(
 {
     let inputs = match read_inputs(alloc, names.from, shelf) {
         Ok(inputs) => inputs,
-        Err(stop) => return Ended {
-            end: Err(stop),
-            disk,
-        },
+        Err(stop) => return ended_with(Err(stop), disk),
     };
     let history = &inputs.journal.history;
     let Ok(line) = saved_line(alloc, history.turns()) else {
-        return Ended {
-            end: Err(Stop::NoMemory),
-            disk,
-        };
+        return ended_with(Err(Stop::NoMemory), disk);
     };
     let Ended { end, disk } = keep_history(alloc, &inputs.config, history, disk);
     match end {
-        Ok(()) => Ended {
-            end: Ok(line),
-            disk,
-        },
-        Err(stop) => Ended {
-            end: Err(stop),
-            disk,
-        },
+        Ok(()) => ended_with(Ok(line), disk),
+        Err(stop) => ended_with(Err(stop), disk),
     }
 }
 
@@ -75,16 +63,10 @@ fn keep_history<'a, D: Disk>(
 {
     let events = config.parts().events.len() as u64;
     let Ok(desk) = Desk::make(alloc, events) else {
-        return Ended {
-            end: Err(Stop::NoMemory),
-            disk,
-        };
+        return ended_with(Err(Stop::NoMemory), disk);
     };
     let Ok(chain) = EventChain::make(alloc, config) else {
-        return Ended {
-            end: Err(Stop::NoMemory),
-            disk,
-        };
+        return ended_with(Err(Stop::NoMemory), disk);
     };
     save_history(alloc, config, history, &mut Folding { desk, chain }, disk)
 }

@@ -7,7 +7,7 @@ ghost use Rattle.cmd_disk.specs.Keeping.{HasDiskCause};
 ghost use Rattle.cmd_disk.specs.Runs.{RecalledBy, written_end};
 ghost use Rattle.cmd_files.specs.Writing.{StandsInPart};
 
-use crate::ended::{Ended, not_begun};
+use crate::ended::{Ended, ended_with, not_begun};
 use cmd_files::{DiskStop, NewFile, Stop, write_files};
 use cmd_words::PairNames;
 use ids_outside::{Shelf, WriteFault};
@@ -39,10 +39,7 @@ pub(crate) fn recall<'a, H: Shelf, D: Disk>(
                 Ok(line) => Ok(line),
                 Err(fault) => Err(Stop::from(fault)),
             };
-            Ended {
-                end,
-                disk: store.finish(),
-            }
+            ended_with(end, store.finish())
         }
         Err(fault) => not_begun(fault, DiskStop::Failed),
     }

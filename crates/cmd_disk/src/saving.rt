@@ -4,7 +4,7 @@ ghost use Rattle.std.specs.Prelude.{◌≡◌};
 ghost use Rattle.cmd_steps.specs.Words.{IsFoldable, IsTrue};
 ghost use Rattle.cmd_disk.specs.Keeping.{HasSaveCause, IsNewFolding, SavedAll};
 
-use crate::ended::Ended;
+use crate::ended::{Ended, ended_with};
 use chain_plain::Desk;
 use cmd_files::{DiskStop, Stop};
 use event_chain::EventChain;
@@ -48,19 +48,15 @@ pub(crate) fn save_turns<'h, 'a, D: Disk>(
         folding.desk.take(&mut folding.chain, &head, entries);
         current = match current.save(folding.chain.memory()) {
             Ok(store) => store,
-            Err(SaveFault::Failed(disk)) => return Ended {
-                end: Err(Stop::OnDisk(DiskStop::FailedAfter { saves })),
-                disk,
-            },
-            Err(SaveFault::Worn(store)) => return Ended {
-                end: Err(Stop::OnDisk(DiskStop::WornAfter { saves })),
-                disk: store.finish(),
-            },
+            Err(SaveFault::Failed(disk)) => {
+                return ended_with(Err(Stop::OnDisk(DiskStop::FailedAfter { saves })), disk);
+            }
+            Err(SaveFault::Worn(store)) => {
+                let stop = Stop::OnDisk(DiskStop::WornAfter { saves });
+                return ended_with(Err(stop), store.finish());
+            }
         };
         saves += 1;
     }
-    Ended {
-        end: Ok(()),
-        disk: current.finish(),
-    }
+    ended_with(Ok(()), current.finish())
 }

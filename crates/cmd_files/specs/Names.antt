@@ -14,5 +14,5 @@ pub use Rattle.ids_outside.specs.declared.faults.FaultKind.TheVariants.{Append, 
 pub use Rattle.ids_outside.specs.declared.faults.WriteFault.{WriteFault}
 pub use Rattle.ids_outside.specs.declared.faults.WriteFault.TheVariants.{Failed, NoMemory as MemoryRefused}
 pub use Rattle.std.specs.Borrow.{Bor}
-pub use Rattle.std.specs.Prelude.{Contains, Err, IfErr, IsTrue, List, None, Ok, Option, Result, Some, Vec, [], codes, decimal, if◌then◌else◌, length, map, nat_lt, take, ℕ, ⊤, ◌++◌, ◌∷◌, ◌≡◌, ◌≢◌, ◌≤◌, ◌⊎◌}
+pub use Rattle.std.specs.Prelude.{Contains, Err, IfErr, IsTrue, List, None, Ok, Option, Result, Some, Vec, [], codes, decimal, length, map, nat_lt, take, ℕ, ⊤, ◌++◌, ◌∷◌, ◌≡◌, ◌≤◌, ◌⊎◌}
 pub use Rattle.std.specs.declared.alloc.Global.{Global}

@@ -28,6 +28,7 @@ pub fn write_files<H: Shelf>(files: &[NewFile<'_>], shelf: &mut H) -> Result<(),
 }
 
 /// Makes the file and appends its pieces.
+#[tactic(auto, using(crate::proofs::WritingLemmas::file_written))]
 fn write_file<H: Shelf>(file: NewFile<'_>, shelf: &mut H) -> Result<(), WriteFault>
     requires { IsCut file }
     ensures { Writes (output_of file.entry ∷ []) result (H.shows shelf.old) (H.shows shelf.new) }
@@ -50,6 +51,7 @@ fn append_pieces<H: Shelf>(file: NewFile<'_>, shelf: &mut H) -> Result<(), Write
 }
 
 /// Appends the bytes from `start` to `end` to those before, where there are any.
+#[tactic(auto, using(crate::proofs::WritingLemmas::piece_appended))]
 fn append_piece<H: Shelf>(
     file: NewFile<'_>,
     start: u64,

@@ -1,7 +1,7 @@
 //! The commands `bundle` and `unbundle`: messages packed into units, and taken out of them again.
 
 ghost use Rattle.std.specs.Prelude.{◌≡◌, ◌≤◌};
-ghost use Rattle.cmd_steps.specs.Words.{EndsAs, IfOk, List, Makes, bundle as bundle_command, pack_refusal, packs, pair_of, plain_end, sized_of, task_stop, unbundle as unbundle_command, units_text, unpack_refusal, unpacks, ℕ};
+ghost use Rattle.cmd_steps.specs.Words.{EndsAs, IfOk, List, Makes, bundle as bundle_command, packs, pair_of, plain_end, sized_of, unbundle as unbundle_command, units_text, unpacks, ℕ};
 
 use cmd_files::{MAX_MESSAGES_BYTES, MAX_UNITS_BYTES, Refusal, Stop, read_file};
 use cmd_steps::{Made, write_made};
@@ -44,6 +44,7 @@ pub fn unbundle<'a, H: Shelf>(
 }
 
 /// The units of the messages, and their line.
+#[tactic(auto, using(crate::proofs::CopyLemmas::packed_work))]
 fn make_packed<'a>(alloc: Global, size: u16, messages: &[u8]) -> Result<Made, Stop<&'a str>>
     requires { 64 ≤ size }
     ensures { (target : List ℕ) → Makes (packs target size messages.now) target result }
@@ -53,7 +54,9 @@ fn make_packed<'a>(alloc: Global, size: u16, messages: &[u8]) -> Result<Made, St
             let line = units_line(alloc, count(&bytes))?;
             Ok(Made { bytes, line })
         }
-        Err(fault) => Err(pack_stop(fault)),
+        Err(PackFault::Bad(bad)) => Err(Stop::Refused(Refusal::BadMessages(bad))),
+        Err(PackFault::TooLarge { at }) => Err(Stop::Refused(Refusal::TooLarge { at: at as u64 })),
+        Err(PackFault::NoMemory) => Err(Stop::NoMemory),
     }
 }
 
@@ -66,7 +69,10 @@ fn make_unpacked<'a>(alloc: Global, units: &[u8]) -> Result<Made, Stop<&'a str>>
             let line = units_line(alloc, count(units))?;
             Ok(Made { bytes, line })
         }
-        Err(fault) => Err(unpack_stop(fault)),
+        Err(UnpackFault::Bad { at } | UnpackFault::Cut { at }) => {
+            Err(Stop::Refused(Refusal::BadUnit { at: at as u64 }))
+        }
+        Err(UnpackFault::NoMemory) => Err(Stop::NoMemory),
     }
 }
 
@@ -77,25 +83,4 @@ fn units_line(alloc: Global, count: Count) -> Result<Vec<u8>, AllocError>
     let Count { units, messages } = count;
     let text = format!(in alloc; "units {units} messages {messages}\n")?;
     Ok(text.into_bytes())
-}
-
-fn pack_stop<'a>(fault: PackFault) -> Stop<&'a str>
-    ensures { result ≡ task_stop (pack_refusal fault) }
-{
-    match fault {
-        PackFault::Bad(bad) => Stop::Refused(Refusal::BadMessages(bad)),
-        PackFault::TooLarge { at } => Stop::Refused(Refusal::TooLarge { at: at as u64 }),
-        PackFault::NoMemory => Stop::NoMemory,
-    }
-}
-
-fn unpack_stop<'a>(fault: UnpackFault) -> Stop<&'a str>
-    ensures { result ≡ task_stop (unpack_refusal fault) }
-{
-    match fault {
-        UnpackFault::Bad { at } | UnpackFault::Cut { at } => {
-            Stop::Refused(Refusal::BadUnit { at: at as u64 })
-        }
-        UnpackFault::NoMemory => Stop::NoMemory,
-    }
 }

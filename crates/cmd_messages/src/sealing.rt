@@ -75,6 +75,7 @@ fn judge_key<'a>(text: &[u8]) -> Result<Key, Stop<&'a str>>
 }
 
 /// The messages, sealed, and their line.
+#[tactic(auto, using(crate::proofs::CopyLemmas::sealed_length))]
 fn make_sealed<'a>(
     alloc: Global,
     key: &Key,
@@ -88,16 +89,15 @@ fn make_sealed<'a>(
         Ok(bytes) => {
             let count = (bytes.len() - messages.len()) / SEAL_BYTES;
             let line = format!(in alloc; "signed {count}\n")?;
-            Ok(Made {
-                bytes,
-                line: line.into_bytes(),
-            })
+            let line = line.into_bytes();
+            Ok(Made { bytes, line })
         }
         Err(fault) => Err(seal_stop(fault)),
     }
 }
 
 /// The messages without their seals, and their line.
+#[tactic(auto, using(crate::proofs::CopyLemmas::sealed_length))]
 fn make_unsealed<'a>(
     alloc: Global,
     key: &Key,
@@ -111,10 +111,8 @@ fn make_unsealed<'a>(
         Ok(bytes) => {
             let count = (sealed.len() - bytes.len()) / SEAL_BYTES;
             let line = format!(in alloc; "verified {count}\n")?;
-            Ok(Made {
-                bytes,
-                line: line.into_bytes(),
-            })
+            let line = line.into_bytes();
+            Ok(Made { bytes, line })
         }
         Err(fault) => Err(unseal_stop(fault)),
     }

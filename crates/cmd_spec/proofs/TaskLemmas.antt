@@ -1,5 +1,5 @@
 -- Tasks that cannot be done: there is one first fault.
-use Rattle.cmd_spec.proofs.Names.{◌≡◌, List, ℕ, Ok, Err, Refusal, Task, Work, Does, Refuses, IsOfBytes, does, migrates, replays, seals, unseals, packs, unpacks, reports, keeps, recalls}
+use Rattle.cmd_spec.proofs.Names.{◌≡◌, List, ℕ, Ok, Err, Refusal, Task, Work, Does, Refuses, IsOfBytes, seals, unseals, packs, unpacks}
 use Rattle.frame_auth.proofs.OneAnswer.{one_sealing_lem, one_unsealing_lem}
 use Rattle.ids_bundle.proofs.PackLemmas.{one_pack_answer_lem}
 use Rattle.ids_bundle.proofs.UnpackLemmas.{one_unpack_answer_lem}
@@ -23,9 +23,4 @@ one_end (unpacks target bytes) a fits x = (
   λ b y. cc (one_unpack_answer_lem bytes (Err x.0) (Err y.0) x.1 y.1, x.2, y.2),
   λ work is. absurd (cc (one_unpack_answer_lem bytes (Ok is.runs) (Err x.0) is.unpacked x.1)),
 )
-one_end (does own) a fits x = absurd x
-one_end (migrates target config) a fits x = absurd x
-one_end (replays names config rounds) a fits x = absurd x
-one_end (reports target sources) a fits x = absurd x
-one_end (keeps config turns) a fits x = absurd x
-one_end (recalls target) a fits x = absurd x
+one_end other a fits x = absurd x

@@ -1,6 +1,6 @@
 -- The names of other crates that many files of this crate cite.
 pub use Rattle.chain_plain.specs.Telling.{handed_by}
-pub use Rattle.cmd_files.specs.Names.{BadMessage, ConfigFault, Contains, CountsFault, Err, Failed, Faults, Files, Heard, IsTrue, List, None, Ok, Option, Read, Result, SameFiles, Shelved, Some, WriteFault, [], codes, decimal, length, ℕ, ⊤}
+pub use Rattle.cmd_files.specs.Names.{BadMessage, ConfigFault, Contains, CountsFault, Err, Failed, Files, Heard, IsTrue, List, None, Ok, Option, Read, Result, SameFiles, Shelved, Some, WriteFault, [], codes, decimal, length, ℕ, ⊤}
 pub use Rattle.cmd_files.specs.declared.stop.Refusal.TheVariants.{BadConfig, BadCounter, BadJournal, BadMessages, BadSource, BadTag, BadTrace, BadUnit, Differ, EmptyKey, Instance, Signed, TooLarge, TooLong}
 pub use Rattle.cmd_files.specs.declared.stop.Stop.TheVariants.{CannotRead, CannotWrite, NoMemory, OnDisk, Refused}
 pub use Rattle.cmd_files.specs.declared.stop.DiskStop.{DiskStop}
@@ -27,5 +27,5 @@ pub use Rattle.ids_types.specs.Turns.{Turn, entries_of}
 pub use Rattle.ids_types.specs.declared.loss.Loss.{Loss}
 pub use Rattle.journal.specs.Answers.{told}
 pub use Rattle.std.specs.List.{common_prefix_len, list_any}
-pub use Rattle.std.specs.Prelude.{Bool, bytes_eq, false, filter, nat_eq, option_map, reverse, sum_by, true, ◌+◌, ◌==◌, if◌then◌else◌, ◌++◌, ◌∷◌, ◌≡◌, ◌⊎◌}
+pub use Rattle.std.specs.Prelude.{Bool, bytes_eq, false, filter, nat_eq, option_map, reverse, sum_by, true, ◌+◌, ◌++◌, ◌∷◌, ◌≡◌}
 pub use Rattle.text_spec.specs.{decoded_text, journal_in, Told, journal_text, BadLine, memory_text, trace_in}

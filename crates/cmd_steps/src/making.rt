@@ -38,6 +38,7 @@ pub fn write_made<'a, H: Shelf>(
 
 /// Writes the files, and hands on the line that tells what was done.
 /// Steps: as `cmd_files::write_files`. Waits: as its shelf. By: `ends`, `written`; no loop.
+#[tactic(auto, using(cmd_spec::proofs::EndLemmas::work_done))]
 pub fn write_work<'a, H: Shelf>(
     files: &[NewFile<'_>],
     line: Vec<u8>,

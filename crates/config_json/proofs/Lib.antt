@@ -1,4 +1,4 @@
 pub mod Names
-mod PrintedLemmas
+pub mod PrintedLemmas
 mod ShapeLemmas
 mod WorkedTexts

@@ -15,10 +15,7 @@ use Rattle.config_json.specs.{event_in, parts_in, event_tree, config_tree, event
 -- a mode
 mode_back : (mode : Mode) → mode_named (mode_name mode) ≡ Some mode
 mode_back modes.Off = refl
-mode_back modes.Brief = refl
-mode_back modes.Detailed = refl
-mode_back modes.BriefBypassing = refl
-mode_back modes.DetailedBypassing = refl
+mode_back mode = refl
 
 -- the choice of a context
 context_back : (last : Bool) → last_named (context_name last) ≡ Some last
@@ -51,8 +48,7 @@ window_printed name each (Some window) = each window
 -- an aggregation
 aggregate_printed : (aggregate : Option Aggregate) → IsPart aggregate_in aggregate_shape aggregate (optional aggregate_tree aggregate)
 aggregate_printed None = record { back = refl; kind = refl; fits = refl; flat = grind arith; plain = refl }
-aggregate_printed (Some a) =
-    record { back = rw (context_back a.last) refl; kind = refl; fits = rw (context_back a.last) refl; flat = grind arith; plain = refl }
+aggregate_printed (Some a) = grind (arith, context_back a.last)
 
 -- an index
 index_printed : (index : Option ℕ) → IsPrinted whole_in (λ tree. is_null tree || is_whole tree) (λ tree. Ok tt) 0 index (optional whole index)
@@ -67,11 +63,11 @@ elements_back [] = refl
 elements_back (tree ∷ trees) = rw (elements_back trees) refl
 
 -- the printed tree of an element
-record IsElement {A : Type 0} (part : Data → A) (shape : ℕ → Data → Result ⊤ ConfigFault) (most : ℕ) (x : A) (tree : Data) : Type 0 where
-  back : part tree ≡ x
-  fits : (index : ℕ) → shape index tree ≡ Ok tt
-  flat : depth tree ≤ most
-  plain : has_float tree ≡ false
+pub record IsElement {A : Type 0} (part : Data → A) (shape : ℕ → Data → Result ⊤ ConfigFault) (most : ℕ) (x : A) (tree : Data) : Type 0 where
+  pub back : part tree ≡ x
+  pub fits : (index : ℕ) → shape index tree ≡ Ok tt
+  pub flat : depth tree ≤ most
+  pub plain : has_float tree ≡ false
 
 -- those of a list, from an index on
 record AreElements {A : Type 0} (part : Data → A) (shape : ℕ → Data → Result ⊤ ConfigFault) (most index : ℕ) (xs : List A) (trees : List Data) : Type 0 where
@@ -86,12 +82,7 @@ list_printed part shape most make one index [] = record { back = refl; fits = re
 list_printed part shape most make one index (x ∷ xs) =
     let first = one x in
     let rest = list_printed part shape most make one (suc index) xs in
-    record {
-      back = rw (first.back, rest.back) refl;
-      fits = rw (first.fits index, rest.fits) refl;
-      flat = grind (arith, first.flat, rest.flat);
-      plain = rw (first.plain, rest.plain) refl;
-    }
+    grind (arith, first, first.fits index, rest)
 
 -- states are whole numbers
 states_fit : (states : List ℕ) → list_all is_whole (elements (items_of (map whole states))) ≡ true
@@ -104,42 +95,20 @@ states_fit (state ∷ states) = states_fit states
 event_printed : (event : Event) → IsElement event_in (event_shape_at forms.Second) 2 event (event_tree event)
 unfolding event_in event_shape event_tree
 event_printed event =
-    let block = list_printed state_in (λ index tree. Ok tt) 0 whole
-    (λ state. record { back = refl; fits = λ index. refl; flat = grind arith; plain = refl }) 0 event.block in
+    let block = list_printed state_in (λ index tree. Ok tt) 0 whole (λ state. grind arith) 0 event.block in
     let aggregate = aggregate_printed event.aggregate in
-    let threshold = window_printed (codes "count")
-    (λ w. record { back = refl; kind = refl; fits = refl; flat = grind arith; plain = refl }) event.threshold in
-    let mode = mode_back event.mode in
-    record {
-      back = rw (block.back, mode, aggregate.back, threshold.back) refl;
-      fits = λ index. rw (states_fit event.block, aggregate.kind, threshold.kind, mode, aggregate.fits, threshold.fits) refl;
-      flat = grind (arith, aggregate.flat, threshold.flat, block.flat);
-      plain = rw (aggregate.plain, block.plain, threshold.plain) refl;
-    }
+    let threshold = window_printed (codes "count") (λ w. grind arith) event.threshold in
+    grind (arith, block, aggregate, threshold, mode_back event.mode, states_fit event.block)
 
--- the printed tree of a whole configuration
-pub record IsConfig (config : Parts) (tree : Data) : Type 0 where
-  pub back : parts_in tree ≡ config
-  pub fits : config_shape tree ≡ Ok tt
-  pub flat : depth tree ≤ max_depth
-  pub plain : has_float tree ≡ false
-
-pub config_printed : (config : Parts) → IsConfig config (config_tree config)
+-- a whole configuration
+pub config_printed : (config : Parts) → (has_float (config_tree config) ≡ false) × (depth (config_tree config) ≤ max_depth) × (config_shape (config_tree config) ≡ Ok tt) × (parts_in (config_tree config) ≡ config)
 unfolding parts_in config_shape config_tree
 config_printed config =
-    let classes = list_printed class_in class_shape 1 class_tree
-    (λ class. record { back = refl; fits = λ index. refl; flat = grind arith; plain = refl }) 0 config.classes in
-    let rate = window_printed (codes "events")
-    (λ w. record { back = refl; kind = refl; fits = refl; flat = grind arith; plain = refl }) config.rate in
-    let traffic = window_printed (codes "bytes")
-    (λ w. record { back = refl; kind = refl; fits = refl; flat = grind arith; plain = refl }) config.traffic in
+    let classes = list_printed class_in class_shape 1 class_tree (λ class. grind arith) 0 config.classes in
+    let rate = window_printed (codes "events") (λ w. grind arith) config.rate in
+    let traffic = window_printed (codes "bytes") (λ w. grind arith) config.traffic in
     let events = list_printed event_in (event_shape_at forms.Second) 2 event_tree event_printed 0 config.events in
     let lost_events = index_printed config.lost_events in
     let lost_contexts = index_printed config.lost_contexts in
     let limited = index_printed config.limited in
-    record {
-      back = rw (classes.back, rate.back, traffic.back, events.back, lost_events.back, lost_contexts.back, limited.back) refl;
-      fits = rw (rate.kind, traffic.kind, classes.fits, rate.fits, traffic.fits, events.fits, limited.kind, lost_contexts.kind, lost_events.kind) refl;
-      flat = grind (arith, classes.flat, events.flat, limited.flat, lost_contexts.flat, lost_events.flat, rate.flat, traffic.flat);
-      plain = rw (classes.plain, events.plain, limited.plain, lost_contexts.plain, lost_events.plain, rate.plain, traffic.plain) refl;
-    }
+    grind (arith, classes, rate, traffic, events, lost_events, lost_contexts, limited)

@@ -1,5 +1,5 @@
 -- The members of an object as its reader meets them: keys, and rows of a constant.
-use Rattle.config_json.proofs.Names.{◌≡◌, ℕ, List, [], ◌∷◌, map, Some, bytes_eq, string_bytes, refl, sym, list_any, list_all, Data, as_object, view, items_view, members_view, elements, is_whole, state_in, names_of, is_named, is_there, is_of_kind, object_shape}
+use Rattle.config_json.proofs.Names.{◌≡◌, ℕ, List, [], ◌∷◌, map, Some, bytes_eq, string_bytes, refl, sym, list_any, list_all, Data, as_object, view, items_view, members_view, elements, is_whole, state_in, names_of, is_named, object_shape}
 use Rattle.std.specs.Map.{keys_of}
 use Rattle.std.proofs.lemmas.List.Folds.{list_all-map}
 use Rattle.std.proofs.lemmas.Simd.{map-map}
@@ -38,9 +38,4 @@ pub object_members : (rows : List MemberRow) (tree : Data) (entries : List Entry
     → Some (members_view entries) ≡ as_object tree
     → object_shape (map row_of rows) tree ≡ members_shape rows tree (keys_of entries)
 object_members rows tree entries e =
-    rw (
-      sym e,
-      named_members rows entries,
-      list_all-map (is_there tree) row_of rows,
-      list_all-map (is_of_kind tree) row_of rows,
-    ) refl
+    simp (sym e, named_members rows entries, list_all-map)

@@ -13,6 +13,7 @@ use std::alloc::{AllocError, Global};
 /// The text of a configuration in the second form, which `read` reads back as the same.
 /// Steps: the bytes of the text, and each member among those of its object: log. Memory: may answer want of memory.
 /// By: `text`; read off, but for serde_json's part.
+#[tactic(auto, using(crate::proofs::PrintedLemmas::config_printed, crate::proofs::Names::utf8))]
 pub fn print(alloc: Global, config: &Config) -> Result<String, NoMemory>
     ensures text { IfOk result (λ text. string_bytes text ≡ config_text config.now) }
     ensures reads_back { IfOk result (λ text. configuration (string_bytes text) ≡ Ok config.now) }

@@ -92,6 +92,7 @@ fn check_part(value: &Value, name: &str, rows: &[MemberRow]) -> Result<(), u8>
 }
 
 /// An object with the members of the table.
+#[tactic(auto, using(crate::proofs::ShapeLemmas::object_members))]
 fn check_object(value: &Value, rows: &[MemberRow]) -> Result<(), u8>
     ensures { result ≡ object_shape (map row_of rows.now) (view value.now) }
 {

@@ -1,8 +1,7 @@
 -- One call of aggregation, and one moment, over what each filter tells of it.
-use Rattle.event_chain.proofs.Names.{◌≡◌, ℕ, Bool, true, false, List, ◌∷◌, ◌++◌, Option, Some, None, IfSome, is_some, option_to_list, option_and_then, option_map, refl, arith, common_steps, act_by, Output, Qualified, EventIndex, Parts, Call, call_tick, gated_at, aggregated_at, thresholded_at, gated, aggregated, qualified, Item, item_at, told_by, kept_parcel, Moment, act_moment, comes, item_due, slots_by, Slot, with_context, GateStands, Start, added_behind, Filters, Knowing, IsBehind, kept_told, CountingStands, Flows, joined_with, items_with, ap, closes, closes_due, ending_at, given, stands_with_closing}
+use Rattle.event_chain.proofs.Names.{◌≡◌, ℕ, Bool, false, List, ◌∷◌, ◌++◌, Option, Some, None, IfSome, is_some, option_to_list, option_map, refl, arith, act_by, Output, Qualified, EventIndex, Parts, Call, call_tick, gated_at, aggregated_at, gated, aggregated, qualified, Item, item_at, told_by, kept_parcel, Moment, act_moment, comes, slots_by, Slot, with_context, GateStands, Start, added_behind, Filters, Knowing, IsBehind, kept_told, Flows, joined_with, items_with, ap, closes, closes_due, ending_at, given, stands_with_closing}
 use Rattle.ids_types.specs.declared.entry.Act.TheVariants.{Report}
 use Rattle.ids_types.specs.declared.entry.Carried.{Carried}
-use Rattle.ids_types.specs.declared.entry.Carried.TheVariants.{Absent, Kept, Missing}
 use Rattle.ids_types.specs.declared.names.Stamp.{Stamp}
 use Rattle.chain_spec.specs.Gate.{bypassing_at}
 use Rattle.filter_aggregate.specs.Standing.{Stands as WindowsStand}
@@ -12,8 +11,7 @@ use Rattle.event_chain.proofs.FlowLemmas.{ends_with_call, ends_with_item, or_non
 
 -- what is not there is none
 pub none_of : {A : Type 0} (o : Option A) → is_some o ≡ false → o ≡ None
-none_of None is = refl
-none_of (Some x) is = cc
+none_of o is = grind (arith, is)
 
 -- where nothing ends by a moment, a witness knows this without being told
 abbrev pub IsSilent : {W : Type 0} → Knowing W → Type 0
@@ -21,37 +19,17 @@ IsSilent {W} knows = (witness : W) (config : Parts) (before : List Moment) (mome
     → knows witness config before → ending_at config before moment ≡ None → knows witness config (moment ∷ before)
 
 module _ {B : Type 0} where
-  -- the item that a window gives is of the event that the window is of
-  pub due_own : (k tick : ℕ) (slot : Slot B) (item : Qualified B) → IfSome slot.window (λ w. w.item.event.0 ≡ k)
-      → Some item ≡ item_due tick slot → item.event.0 ≡ k
-  due_own k tick slot item own is = grind (arith, common_steps, own, is)
-
   module _ (held : B → List ℕ) where
     -- the item of a verdict, over the parcel's bytes
     pub item_kept : (context : Bool) (tick : ℕ) (item : Qualified B)
         → with_context context (item_at tick (told_by held item)) ≡ item_at tick (told_by held (kept_told context item))
-    item_kept true tick item = refl
-    item_kept false tick item = refl
+    item_kept context tick item = grind arith
 
     -- the moment of a report
     pub report_moment : (tick : ℕ) (event : EventIndex) (count : ℕ) (stamp : Option Stamp) (context : Carried B)
         → let item : Qualified B = record { event = event; count = count; stamp = stamp; context = kept_parcel context } in
         comes (item_at tick (told_by held item)) ≡ act_moment tick (act_by held (Report event count stamp context))
-    report_moment tick event count stamp Absent = refl
-    report_moment tick event count stamp (Kept class claim parcel) = refl
-    report_moment tick event count stamp (Missing numbers) = refl
-
-  -- one call more, by what comes of it after aggregation
-  pub flows_with : (call : Call (List ℕ)) (o : Option Item) {held : B → List ℕ} {config : Parts} {start : Start}
-      {calls : List (Call (List ℕ))} {joined items : List Item} {old windows : List (Slot B)}
-      {before counting : Counting} {was out : Output} → Flows held config start calls joined items old before was
-      → aggregated_at config calls call ≡ o
-      → WindowsStand config (call ∷ calls) (slots_by held windows)
-      → CountingStands config start (option_to_list o ++ joined)
-      (option_to_list (option_and_then (thresholded_at config joined) o) ++ items) counting out
-      → Flows held config start (call ∷ calls) (joined_with config calls call joined) (items_with config calls call joined items)
-      windows counting out
-  flows_with call o flows is stands counts = record { stands = stands; behind = rw is counts }
+    report_moment tick event count stamp context = grind arith
 
   module _ {W : Type 0} {held : B → List ℕ} {knows : Knowing W} {config : Parts} {start : Start} {tick : ℕ} {before : List Moment}
       {moment : Moment} {old : Filters B W} {gate : Gate} {windows : List (Slot B)} {counting : Counting} {witness : W} {was out : Output}
@@ -89,4 +67,4 @@ module _ {B : Type 0} where
   behind_none {config = config} {tick = tick} {before = before} {old = old} behind silent event gives stands =
       behind_call behind (stands_with_closing config before tick event old.gate behind.gate)
       (silent old.witness config before (closes tick event) behind.witness (ap (option_map (given config before)) gives))
-      (closes_due tick event) refl refl refl (flows_with (closes_due tick event) None behind.flows gives stands behind.flows.behind)
+      (closes_due tick event) refl refl refl (record { stands = stands; behind = rw gives behind.flows.behind })

@@ -1,6 +1,5 @@
 -- Parcels that are handed back, by one call after another.
-use Rattle.event_chain.proofs.Names.{◌≡◌, ℕ, ◌+◌, Bool, true, false, List, [], ◌++◌, length, Option, None, option_to_list, sym, ap, append_assoc, append-nil, arith, length-append, if◌then◌else◌, common_steps, IsPermutation-refl, IsPermutation-trans, IsPermutation-append_right, length_permutation, HandsBack, carried_room}
-use Rattle.std.proofs.lemmas.List.Sorted.{sum_by-IsPermutation}
+use Rattle.event_chain.proofs.Names.{◌≡◌, Bool, true, false, List, [], ◌++◌, Option, None, option_to_list, sym, append_assoc, append-nil, if◌then◌else◌, IsPermutation-refl, IsPermutation-trans, IsPermutation-append_right, HandsBack}
 use Rattle.filter_aggregate.proofs.AccountLemmas.{swapped}
 
 module _ {B : Type 0} where
@@ -31,15 +30,3 @@ module _ {B : Type 0} where
         (IsPermutation-trans _ _ _ (swapped own rest mid)
         (IsPermutation-trans _ _ _ (IsPermutation-append_right rest _ _ next.same) (swapped rest next.further _)))));
   }
-
-  -- as many are back and kept as came, were back and were kept
-  pub hands_length : {came kept now back end : List B} → HandsBack came kept now back end
-      → length end + length now ≡ length back + (length came + length kept)
-  hands_length hands = grind (arith, length-append, length_permutation _ _ hands.same, ap length hands.back)
-
-  -- and their context data take as much room
-  pub hands_carry : (held : B → List ℕ) {came kept now back end : List B} → HandsBack came kept now back end
-      → carried_room held end + carried_room held now ≡ carried_room held back + carried_room held (came ++ kept)
-  hands_carry held hands =
-      let same = sum_by-IsPermutation (λ (parcel : B). 4 + length (held parcel)) _ _ hands.same in
-      grind (arith, common_steps, same, ap (carried_room held) hands.back)

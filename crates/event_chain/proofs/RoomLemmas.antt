@@ -1,20 +1,11 @@
 -- A parcel that was kept and is handed out, in a message.
-use Rattle.event_chain.proofs.Names.{◌≡◌, ℕ, ◌+◌, ◌≤◌, List, [], length, Option, Some, None, IfSome, option_map, option_to_list, refl, arith, common_steps, All, All-permutation, IsShort, Accounts, carried_room, most_message}
+use Rattle.event_chain.proofs.Names.{◌≡◌, ℕ, ◌+◌, ◌≤◌, List, [], length, Option, Some, None, IfSome, option_map, option_to_list, arith, All, All-permutation, IsShort, Accounts, carried_room, most_message}
 use Rattle.std.proofs.lemmas.List.Elements.{All-head}
-use Rattle.std.proofs.lemmas.List.Sorted.{sum_by-IsPermutation}
 
 module _ {B : Type 0} (held : B → List ℕ) where
   -- a message takes no more than its parcel does with it
   pub message_room : (context : Option B) → most_message (option_map held context) ≡ 16 + carried_room held (option_to_list context)
-  message_room None = refl
-  message_room (Some parcel) = omega arith
-
-  -- so there is room where the parcel was kept
-  pub given_fits : (context : Option B) (kept now : List B) → Accounts [] kept (option_to_list context) now
-      → most_message (option_map held context) ≤ 16 + carried_room held kept
-  given_fits context kept now moved =
-      let same = sum_by-IsPermutation (λ (parcel : B). 4 + length (held parcel)) _ _ moved in
-      grind (arith, common_steps, message_room context, same)
+  message_room context = grind arith
 
   -- and it is as short as those that were kept
   pub given_short : (context : Option B) (kept now : List B) → Accounts [] kept (option_to_list context) now → All (IsShort held) kept

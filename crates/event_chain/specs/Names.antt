@@ -1,6 +1,6 @@
 -- The names of other crates that several files of this crate cite.
-pub use Rattle.chain_spec.specs.{Call, call_tick, aggregated_at, thresholded_at, counted, Item, EndBy, joined, Arrival, open_window, Window, gated, aggregated, qualified, Moment, Fate, in_window, at_threshold, qualified_fate, Ending, verdict, handed_on, moments, stored}
-pub use Rattle.filter_aggregate.specs.{slots_by, Stands as WindowsStand, all_kept, kept_in, slot_at, slot_by, Stands, kept_window, slot_after}
+pub use Rattle.chain_spec.specs.{Call, call_tick, aggregated_at, thresholded_at, counted, Item, EndBy, gated, aggregated, qualified, Moment, Fate, in_window, at_threshold, qualified_fate, Ending, verdict, handed_on, moments, stored}
+pub use Rattle.filter_aggregate.specs.{slots_by, Stands as WindowsStand, all_kept, kept_in, slot_at, slot_after}
 pub use Rattle.filter_aggregate.specs.declared.slot.Slot.{Slot}
 pub use Rattle.filter_gate.specs.Stands.{Stands as GateStands, dropped_fate}
 pub use Rattle.filter_threshold.specs.Counting.{Stands as ThresholdsStand}

@@ -1,8 +1,9 @@
 -- Events in the order in which they were last stored: which are among the first, and the others without one.
-use Rattle.event_memory.proofs.Names.{and_parts, cases_Bool, list_any, ◌≡◌, ◌==◌, ◌&&◌, ◌||◌, ℕ, zero, suc, Bool, true, false, not, nat_le, nat_lt, List, [], ◌∷◌, length, take, filter, refl, sym, ap, subst, ◌∙◌, arith, inl, inr, eqb-true, eq-eqb, Stored, event_of, events_of, has_event, renews, since, remove_key, take-nil}
+use Rattle.event_memory.proofs.Names.{and_parts, cases_Bool, list_any, ◌≡◌, ◌==◌, ◌&&◌, ℕ, zero, suc, Bool, true, false, not, nat_le, nat_lt, List, [], ◌∷◌, length, take, filter, refl, sym, ap, subst, arith, inl, inr, eqb-true, eq-eqb, Stored, event_of, events_of, has_event, renews, since, remove_key, take-nil}
 use Rattle.std.proofs.lemmas.Bool.Decides.{nat_tests}
 use Rattle.std.proofs.lemmas.Map.Views.{any-filter_same}
 use Rattle.event_memory.proofs.FirstLemmas.{filter-swap, filter-twice, until, until-kept, without-kept}
+use Rattle.std.proofs.lemmas.Grind.{common_steps}
 
 -- the event is this one, and it is another one
 abbrev pub is : ℕ → ℕ → Bool
@@ -38,11 +39,10 @@ events_once event (item ∷ before) =
           (refl, refl, subst (λ e. others ≡ filter (is_not e) others) here (sym (filter-twice (is_not f) xs)))
       | inr differs ↦
           let among = apart event f differs in
-          rw (differs, flipped event f differs) (
-            ap (λ ys. f ∷ ys) (until-kept (is event) (is_not f) among xs ∙ ap (filter (is_not f)) rest.0),
-            any-filter_same (is event) (is_not f) true among xs ∙ rest.1,
-            ap (λ ys. f ∷ ys) (without-kept (is event) (is_not f) among xs ∙ ap (filter (is_not f)) rest.2
-                ∙ filter-swap (is_not f) (is_not event) xs),
+          rw (differs, flipped event f differs, ← rest.0, ← rest.1) (
+            ap (λ ys. f ∷ ys) (until-kept (is event) (is_not f) among xs),
+            any-filter_same (is event) (is_not f) true among xs,
+            cc (without-kept (is event) (is_not f) among xs, rest.2, filter-swap (is_not f) (is_not event) xs),
           )
     ]
 
@@ -58,9 +58,7 @@ any-take event (suc k) (x ∷ xs) = grind (arith, nat_tests, any-take event k xs
 -- what is among the first is among all
 pub any-of-take : (event k : ℕ) (items : List Stored)
     → list_any (is event) (take k (events_of items)) ≡ true → has_event event items ≡ true
-any-of-take event k items among =
-    let both = rw (any-take event k (events_of items), (events_once event items).1) at among in
-    (and_parts (has_event event items) _ both).0
+any-of-take event k items among = grind (arith, common_steps, any-take, events_once, and_parts)
 
 le-not-lt : (k n : ℕ) → nat_le k n ≡ not (nat_lt n k)
 le-not-lt k n = grind (arith, nat_tests)
@@ -68,9 +66,4 @@ le-not-lt k n = grind (arith, nat_tests)
 -- an item renews its event exactly where the event is not among the newest
 pub renews-newest : (k : ℕ) (item : Stored) (items : List Stored)
     → renews k item items ≡ not (list_any (is (event_of item)) (take k (events_of items)))
-renews-newest k item items =
-    let e = event_of item in
-    let others = length (events_of (since e items)) in
-    rw (any-take e k (events_of items), (events_once e items).1, (events_once e items).0)
-    (elim (has_event e items) as (λ (b : Bool). (not b || nat_le k others) ≡ not (b && nat_lt others k))
-    [ true ↦ le-not-lt k others | false ↦ refl ])
+renews-newest k item items = grind (arith, common_steps, any-take, events_once, le-not-lt)

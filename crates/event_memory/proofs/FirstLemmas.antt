@@ -1,5 +1,6 @@
 -- The elements of a list before the first one that passes a test, and the list without that one.
 use Rattle.event_memory.proofs.Names.{cases_Bool, find, list_any, position_or_len, remove, ◌≡◌, ◌+◌, ◌==◌, ℕ, zero, suc, Bool, true, List, [], ◌∷◌, filter, map, take, Some, None, if◌then◌else◌, refl, arith, inl, inr, eqb-true, take-map, take-take, remove_key}
+use Rattle.std.proofs.lemmas.Grind.{common_steps}
 
 -- the elements before the first one that passes
 abbrev pub until : {A : Type 0} → (A → Bool) → List A → List A
@@ -18,17 +19,13 @@ removed test (x ∷ xs) =
 module _ {B : Type 0} (make : ℕ → B) (n : ℕ) (test : B → Bool) (same : (x : ℕ) → test (make x) ≡ (x == n)) where
   pub find-made : (xs : List ℕ) → find test (map make xs) ≡ (if list_any (λ x. x == n) xs then Some (make n) else None)
   find-made [] = refl
-  find-made (x ∷ xs) = elim (cases_Bool (x == n)) [ inl is ↦ rw (same x, is, eqb-true x n is) refl | inr is ↦ rw (same x, is) (find-made xs) ]
+  find-made (x ∷ xs) = grind (arith, common_steps, eqb-true, same, find-made xs)
 
   -- the first ones, where one is left out
   pub take-made : (k : ℕ) (xs : List ℕ) → take k (remove_key test (map make (take (suc k) xs))) ≡ take k (map make (remove_key (λ x. x == n) xs))
   take-made zero xs = refl
   take-made (suc k) [] = refl
-  take-made (suc k) (x ∷ xs) =
-      elim (cases_Bool (x == n)) [
-        | inl is ↦ rw (same x, is, ← take-map make (suc k) xs) (take-take (suc k) (suc k) (map make xs) (omega arith))
-        | inr is ↦ rw (same x, is, take-made k xs) refl
-      ]
+  take-made (suc k) (x ∷ xs) = grind (arith, common_steps, cases_Bool, take-map, take-take, take-made k xs)
 
 -- ---- over the elements that pass another test, where all that passes the first one does
 

@@ -1,10 +1,10 @@
 -- The names of other crates that several files of this crate cite.
-pub use Rattle.chain_spec.specs.Memory.{Stored, event_of, events_of, has_event, newest_rows, oldest_tick, renews, row_of, row_over, run_of, since}
+pub use Rattle.chain_spec.specs.Memory.{Stored, event_of, events_of, has_event, newest_rows, renews, row_of, row_over, run_of, since}
 pub use Rattle.ids_types.specs.MemoryRow.{Row}
-pub use Rattle.std.proofs.Common.{◌≡◌, ◌≤◌, ◌<◌, ℕ, zero, suc, List, [], ◌∷◌, ◌++◌, length, take, drop, get_or, slice_set, refl, ap, ◌∙◌, arith, take_all, ◌+◌, ◌==◌, Bool, true, filter, map, Some, None, if◌then◌else◌, inl, inr, eqb-true, false, not, Option, sym, ap₂, rules, drop_of_length-le, eq-eqb, lt-ltb, le-ltb, ◌&&◌, ◌||◌, nat_le, nat_lt, subst, reverse}
+pub use Rattle.std.proofs.Common.{◌≡◌, ◌≤◌, ◌<◌, ℕ, zero, suc, List, [], ◌∷◌, ◌++◌, length, take, drop, get_or, slice_set, refl, ap, arith, take_all, ◌+◌, ◌==◌, Bool, true, filter, map, Some, None, if◌then◌else◌, inl, inr, eqb-true, false, not, Option, sym, rules, drop_of_length-le, eq-eqb, ◌&&◌, nat_le, nat_lt, subst, reverse}
 pub use Rattle.std.proofs.Math.Seq.{take-nil}
-pub use Rattle.std.proofs.lemmas.Bool.{cases_Bool, cases_lt, and_parts}
-pub use Rattle.std.proofs.lemmas.List.{get_or-take, take-append-le, take-map, take-take, append-nil, length-map, length-take, length-reverse}
+pub use Rattle.std.proofs.lemmas.Bool.{cases_Bool, and_parts}
+pub use Rattle.std.proofs.lemmas.List.{get_or-take, take-append-le, take-map, take-take, append-nil, length-map, length-take}
 pub use Rattle.std.proofs.lemmas.List.Edits.{length-remove}
-pub use Rattle.std.specs.List.{remove, find, list_any, position_or_len, position}
+pub use Rattle.std.specs.List.{remove, find, list_any, position_or_len}
 pub use Rattle.std.specs.Set.{remove_key}

@@ -1,6 +1,9 @@
 -- One place of the records, among all slots and among those in use.
-use Rattle.event_memory.proofs.Names.{remove, ◌≡◌, ◌≤◌, ◌<◌, ℕ, zero, suc, List, [], ◌∷◌, ◌++◌, length, take, drop, get_or, slice_set, refl, ap, ◌∙◌, arith, take_all, Stored, get_or-take, take-append-le, Row, take-nil, length-remove}
+use Rattle.event_memory.proofs.Names.{remove, ◌≡◌, ◌≤◌, ◌<◌, ℕ, zero, suc, List, [], ◌∷◌, ◌++◌, length, take, drop, get_or, slice_set, refl, ap, arith, Stored, get_or-take, take-append-le, Row, take-nil, length-remove}
 use Rattle.event_memory.specs.Held.{added, after_adding, no_row}
+use Rattle.std.proofs.lemmas.Grind.{common_steps}
+use Rattle.std.proofs.lemmas.List.{length-reverse}
+use Rattle.text_spec.proofs.WordsLemmas.{one_more, text_of-map}
 
 -- the first elements where one of them is removed
 take-remove : {A : Type 0} (n i : ℕ) (xs : List A) → i < suc n → take n (remove xs i) ≡ remove (take (suc n) xs) i
@@ -22,9 +25,7 @@ pub added_held : (item : Stored) (slots now : List Row) (n used place : ℕ) (fi
     → let after = slice_set (take n (now ++ drop (length now) slots)) 0 row in
     record { room = length after; rows = take used after }
     ≡ after_adding item place (record { room = length slots; rows = take used slots })
-added_held item slots now n used place first row full few within brought is adds =
-    let long = length-remove slots place (omega arith) in
-    let whole : take n (now ++ drop (length now) slots) ≡ get_or slots place no_row ∷ remove slots place =
-    rw brought (take-append-le n _ _ (omega (arith, long)) ∙ take_all n _ (omega (arith, long))) in
-    let room : suc (length (remove slots place)) ≡ length slots = omega (arith, long) in
-    rw (adds, is, whole, get_or-take used slots place no_row within, room, take-brought used place _ slots within) refl
+added_held item slots now n used place first row full few within brought is adds = grind (arith, common_steps, length-remove, take-append-le, get_or-take, take-brought)
+
+-- what printing needs
+pub ruleset printing = (common_steps, one_more, text_of-map, length-reverse)

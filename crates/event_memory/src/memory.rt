@@ -53,6 +53,7 @@ impl Memory {
     /// Steps: the records up to that of the event, or all where it has none, at most 256. Each is looked at and moved
     /// one place back. And the bytes of the context, at most 1,024. By: condition: at most 1,024 bytes; `room`; read
     /// off.
+    #[tactic(auto, using(crate::proofs::StandsLemmas::stands_after))]
     pub fn store(&mut self, tick: u64, key: Key, count: u16, stamp: Option<Stamp>, context: &[u8])
         requires { length context.now ≤ 1024 }
         ensures room { self.new.room ≡ self.old.room }

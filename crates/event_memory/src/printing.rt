@@ -13,6 +13,7 @@ use text_spec::{push_bytes, push_field, push_stamp};
 impl Memory {
     /// The text of the records, the one stored longest ago first.
     /// Steps: the bytes of the text, at most 256 lines. Memory: may answer want of memory. By: read off.
+    #[tactic(auto, using(crate::proofs::PlaceLemmas::printing))]
     pub fn print(&self, alloc: Global) -> Result<Vec<u8>, NoMemory>
         ensures { IfOk result (λ text. text.items ≡ memory_text (reverse self.now.rows)) }
     {

@@ -1,5 +1,5 @@
 -- Parcels, counted, where one slot changes.
-use Rattle.filter_aggregate.proofs.Names.{◌≡◌, ℕ, suc, zero, ◌<◌, Bool, true, List, [], ◌∷◌, ◌++◌, length, Option, Some, None, option_to_list, option_and_then, if◌then◌else◌, append_assoc, arith, slice_set, append-nil, Qualified, Aggregate, Open, Slot, fresh_slot, slot_at, held_in, item_due, slot_closed, after_closing, keeps_last, kept_of, spare_of, slot_with, after_arrival, option_map, is_due, false}
+use Rattle.filter_aggregate.proofs.Names.{◌≡◌, ℕ, suc, zero, ◌<◌, Bool, true, List, [], ◌∷◌, ◌++◌, length, Option, Some, None, option_to_list, option_and_then, if◌then◌else◌, append_assoc, arith, slice_set, append-nil, Qualified, Aggregate, Open, Slot, fresh_slot, slot_at, held_in, item_due, slot_closed, after_closing, keeps_last, kept_of, spare_of, slot_with, after_arrival, option_map, is_due}
 use Rattle.std.specs.List.Sorted.{IsPermutation}
 use Rattle.std.proofs.lemmas.List.Sorted.{IsPermutation-refl, IsPermutation-trans, IsPermutation-append_left, IsPermutation-append_right, IsPermutation-append_comm}
 use Rattle.filter_aggregate.specs.Account.{Accounts, kept_in, all_kept}
@@ -32,17 +32,13 @@ module _ {B : Type 0} where
       → let slot : Slot B = record { setting = setting; window = window } in
       Accounts [] (kept_in slot) (given_in (if due then option_map (λ w. w.item) window else None))
       (kept_in (if due then fresh_slot setting else slot))
-  closing_of true setting (Some w) = rw append-nil (IsPermutation-refl _)
-  closing_of due setting window = IsPermutation-refl _
+  closing_of due setting window = grind (arith, IsPermutation-refl, append-nil)
 
   keeping_one : (last : Bool) (held came : Option B)
       → Accounts (option_to_list came) (option_to_list held)
       (option_to_list (spare_of last held came)) (option_to_list (kept_of last held came))
   keeping_one true (Some h) (Some c) = IsPermutation-append_comm (c ∷ []) (h ∷ [])
-  keeping_one true None None = IsPermutation-refl []
-  keeping_one false None None = IsPermutation-refl []
-  keeping_one false (Some h) None = IsPermutation-refl (h ∷ [])
-  keeping_one last held came = IsPermutation-refl _
+  keeping_one last held came = grind (arith, IsPermutation-refl)
 
   arriving_of : (tick : ℕ) (item : Qualified B) (setting : Option Aggregate) (window : Option (Open B))
       → let slot : Slot B = record { setting = setting; window = window } in

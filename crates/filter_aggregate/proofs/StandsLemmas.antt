@@ -1,7 +1,8 @@
 -- Slots that stand for a list of calls stand for it with one call more.
-use Rattle.filter_aggregate.proofs.Names.{◌≡◌, ℕ, ◌<◌, ◌≤◌, false, List, [], ◌∷◌, length, map, Option, Some, None, IsSome, refl, sym, ◌∙◌, slice_set, get_or-set_same, get_or-set_other, get_or-map, length-set, length-map, Qualified, Aggregate, Parts, event_at, plain_event, Call, closes_due, arrives, call_tick, told_by, EndBy, Slot, fresh_slot, slot_at, HaveIntervals, is_due, slot_closed, after_closing, slot_with, after_arrival, slot_by, slots_by, slot_after, Stands, inl, inr, cases_eq, ap}
-use Rattle.filter_aggregate.proofs.SlotLemmas.{due_by, slot_at_by, slot_with_by, slot_closed_by}
-use Rattle.filter_aggregate.proofs.StepLemmas.{arrival_slot, arrival_elsewhere, closing_slot, closing_elsewhere}
+use Rattle.filter_aggregate.proofs.Names.{◌≡◌, ℕ, ◌<◌, ◌≤◌, false, List, [], ◌∷◌, length, map, Option, None, IsSome, sym, arith, slice_set, get_or-set_same, get_or-set_other, get_or-map, length-set, length-map, Qualified, Aggregate, Parts, event_at, plain_event, Call, closes_due, arrives, call_tick, told_by, EndBy, Slot, fresh_slot, slot_at, HaveIntervals, is_due, slot_closed, after_closing, slot_with, after_arrival, slot_by, slots_by, slot_after, Stands, inl, inr, cases_eq}
+use Rattle.std.proofs.lemmas.Bool.Decides.{nat_tests}
+use Rattle.filter_aggregate.proofs.SlotLemmas.{slot_at_by}
+use Rattle.filter_aggregate.proofs.StepLemmas.{arrival_slot}
 
 -- how an event is aggregated
 abbrev setting_of : Parts → ℕ → Option Aggregate
@@ -10,16 +11,10 @@ setting_of config event = (event_at config event).aggregate
 -- an item of an event that is not aggregated leaves the slots as they are
 pub stands_alone : (config : Parts) (calls : List (Call (List ℕ))) (slots : List (Slot (List ℕ))) (tick : ℕ) (item : Qualified (List ℕ))
     → (event_at config item.event.0).aggregate ≡ None → Stands config calls slots → Stands config (arrives tick item ∷ calls) slots
-stands_alone config calls slots tick item alone stands = record {
-  events = stands.events;
-  each = λ k within. stands.each k within ∙ sym (arrival_elsewhere (setting_of config k) k tick item calls (λ is. rw is at alone));
-}
+stands_alone config calls slots tick item alone stands =
+    record { events = stands.events; each = λ k within. grind (arith, nat_tests, stands.each k within, alone) }
 
 module _ {B : Type 0} (f : B → List ℕ) (config : Parts) where
-  fresh_over : (setting : Option Aggregate) (event : ℕ) → slot_by f (fresh_slot setting) ≡ slot_after setting event []
-  fresh_over None event = refl
-  fresh_over (Some setting) event = refl
-
   -- the slots of a configuration stand for no calls
   pub stands_fresh : Stands config [] (slots_by f (map (λ event. fresh_slot event.aggregate) config.events))
   stands_fresh = record {
@@ -27,9 +22,8 @@ module _ {B : Type 0} (f : B → List ℕ) (config : Parts) where
     each = λ k within.
         let inside : k < length config.events = simp length-map at within in
         let slots = map (λ event. fresh_slot {C = B} event.aggregate) config.events in
-        slot_at_by f slots k (simp length-map inside)
-        ∙ rw (get_or-map (λ event. fresh_slot {C = B} event.aggregate) config.events k (plain_event 0 0) (fresh_slot None) inside)
-        (fresh_over (setting_of config k) k);
+        let own = get_or-map (λ event. fresh_slot {C = B} event.aggregate) config.events k (plain_event 0 0) (fresh_slot None) inside in
+        grind (arith, slot_at_by f slots k (simp length-map inside), own);
   }
 
 -- slots over bytes that stand for a list of calls, newest first
@@ -59,9 +53,7 @@ module _ {B : Type 0} (f : B → List ℕ) (config : Parts) (calls : List (Call 
       → Stands config (closes_due tick event ∷ calls) (slots_by f now)
   stands_closing event tick now there is =
       stands_set (closes_due tick event) event (slot_closed tick (slot_at slots event)) now there is
-      (slot_closed_by f tick (slot_at slots event) ∙ ap (slot_closed tick) (slot_over event there)
-      ∙ sym (closing_slot (setting_of config event) event tick calls))
-      (λ k. closing_elsewhere (setting_of config k) k event tick calls)
+      (grind (arith, nat_tests, slot_over event there)) (λ k isnt. grind (arith, nat_tests, isnt))
 
   -- an item arrives
   pub stands_arriving : (tick : ℕ) (item : Qualified B) (now : List (Slot B)) → let slot = slot_at slots item.event.0 in
@@ -71,7 +63,7 @@ module _ {B : Type 0} (f : B → List ℕ) (config : Parts) (calls : List (Call 
   stands_arriving tick item now there intervals aggregates not_due few is by =
       let event = item.event.0 in
       let slot = slot_at slots event in
-      stands_set (arrives tick (told_by f item)) event (slot_with tick item slot) now there is
-      (rw slot_with_by (arrival_slot (setting_of config event) tick (told_by f item) calls (slot_by f slot) (slot_over event there)
-      aggregates (intervals event (fresh_slot None) there) few by (rw due_by not_due)))
-      (λ k other. arrival_elsewhere (setting_of config k) k tick (told_by f item) calls (λ same. absurd (other same)))
+      let own = arrival_slot (setting_of config event) tick (told_by f item) calls (slot_by f slot) (slot_over event there) aggregates
+      (intervals event (fresh_slot None) there) few by (grind (arith, not_due)) in
+      stands_set (arrives tick (told_by f item)) event (slot_with tick item slot) now there is (grind (arith, own))
+      (λ k other. grind (arith, nat_tests, other))

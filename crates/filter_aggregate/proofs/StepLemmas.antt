@@ -1,7 +1,8 @@
 -- The slot of an event after one call more.
-use Rattle.filter_aggregate.proofs.Names.{◌≡◌, ℕ, ◌+◌, ◌<◌, ◌≤◌, ◌==◌, not, nat_le, Bool, true, false, List, [], ◌∷◌, Option, Some, None, IfSome, IsSome, option_map, refl, arith, ltb-true, ltb-false, list_any, lt-leb, eq-eqb, Qualified, Aggregate, Call, Arrival, closes_due, arrives, call_tick, arrival_by, arrived, closing_ticks, Window, EndBy, opened, extended, covers, windows_of, Open, Slot, has_passed, is_due, slot_closed, with_item, window_with, slot_with, kept_window, slot_after, inl, inr, cases_Bool, ne_eqb, leb-false, ap, ◌∙◌, cons_option}
+use Rattle.filter_aggregate.proofs.Names.{◌≡◌, ℕ, ◌+◌, ◌<◌, ◌≤◌, not, nat_le, Bool, false, List, [], ◌∷◌, Option, Some, None, IfSome, IsSome, option_map, refl, arith, list_any, eq-eqb, Qualified, Aggregate, Call, Arrival, arrives, call_tick, arrival_by, arrived, closing_ticks, Window, EndBy, opened, extended, windows_of, Open, Slot, has_passed, is_due, with_item, window_with, slot_with, kept_window, slot_after}
+use Rattle.std.proofs.lemmas.Bool.Decides.{nat_tests}
 use Rattle.std.proofs.lemmas.List.Sums.{sum_by-cons}
-use Rattle.chain_spec.specs.{newest_where, where_true}
+use Rattle.chain_spec.specs.{newest_where}
 use Rattle.chain_spec.proofs.CoverLemmas.{end_of_told, with_newest, windows_with}
 
 -- ---- ticks
@@ -19,28 +20,21 @@ module _ {C : Type 0} (event : ℕ) where
   none_from : (end tick : ℕ) (calls : List (Call C)) → EndBy call_tick tick calls → tick < end
       → any_from end (closing_ticks event calls) ≡ false
   none_from end tick [] by before = refl
-  none_from end tick (arrives n told ∷ calls) by before = none_from end n calls by.1 (omega (arith, by.0))
-  none_from end tick (closes_due n other ∷ calls) by before =
-      let early : n < end = omega (arith, by.0) in
-      let rest = none_from end n calls by.1 early in
-      elim (cases_Bool (other == event)) [ inl is ↦ rw (is, lt-leb end n early, rest) refl | inr is ↦ rw (is, rest) refl ]
+  none_from end tick (call ∷ calls) by before = grind (arith, nat_tests, by, none_from end (call_tick call) calls by.1)
 
   arrival_told : (call : Call C) → IfSome (arrival_by event call) (λ (x : Arrival C). x.tick ≡ call_tick call)
-  arrival_told (closes_due tick other) = tt
-  arrival_told (arrives tick told) = elim (cases_Bool (told.event.0 == event)) [ inl is ↦ rw is refl | inr is ↦ rw is tt ]
+  arrival_told call = grind arith
 
 -- ---- a window as it is kept
 
 module _ {C : Type 0} where
   kept_opened : (last : Bool) (x : Arrival C) → x.told.count ≤ 65535
       → kept_window last (opened x) ≡ record { since = x.tick; item = x.told }
-  kept_opened true x few = grind arith
-  kept_opened false x few = grind arith
+  kept_opened last x few = grind arith
 
   kept_extended : (last : Bool) (x : Arrival C) (w : Window (Arrival C))
       → kept_window last (extended x w) ≡ with_item last x.told (kept_window last w)
-  kept_extended true x w = grind (arith, sum_by-cons (λ (one : Arrival C). one.told.count) x w.more)
-  kept_extended false x w = grind (arith, sum_by-cons (λ (one : Arrival C). one.told.count) x w.more)
+  kept_extended last x w = grind (arith, sum_by-cons (λ (one : Arrival C). one.told.count) x w.more)
 
 module _ {C : Type 0} (setting : Aggregate) where
   -- the tick at which a window is due
@@ -59,27 +53,8 @@ module _ {C : Type 0} (setting : Aggregate) where
       rw (none_from event (x.tick + setting.interval) x.tick calls by (omega arith), kept_opened setting.last x few) refl
   arriving event x calls (w ∷ older) some few by not_due =
       let opens = none_from event (x.tick + setting.interval) x.tick calls by (omega arith) in
-      elim (cases_Bool (covers tick_of setting.interval x.tick w)) [
-        | inl is ↦
-            rw (is, none_from event (end_of w) x.tick calls by (ltb-true _ _ is), kept_extended setting.last x w) refl
-        | inr is ↦ rw (is, opens, kept_opened setting.last x few) (elim (cases_Bool (any_from (end_of w) (closing_ticks event calls))) [
-          | inl closed ↦ rw closed refl
-          | inr stays ↦ absurd (omega (arith, ltb-false x.tick (end_of w) is, leb-false (end_of w) x.tick (rw stays at not_due)))
-        ])
-      ]
-
-  abbrev slot_of : Option (Open C) → Slot C
-  slot_of window = record { setting = Some setting; window = window }
-
-  closing : (tick : ℕ) (ticks : List ℕ) (ws : List (Window (Arrival C)))
-      → slot_of (open_of (tick ∷ ticks) ws) ≡ slot_closed tick (slot_of (open_of ticks ws))
-  closing tick ticks [] = refl
-  closing tick ticks (w ∷ older) =
-      let due = cases_Bool (nat_le (end_of w) tick) in
-      elim (cases_Bool (any_from (end_of w) ticks)) [
-        | inl was ↦ elim due [ inl is ↦ rw (was, is) refl | inr is ↦ rw (was, is) refl ]
-        | inr was ↦ elim due [ inl is ↦ rw (was, is) refl | inr is ↦ rw (was, is) refl ]
-      ]
+      let stays = none_from event (end_of w) x.tick calls by in
+      grind (arith, nat_tests, opens, stays, kept_opened setting.last x few, kept_extended setting.last x w, not_due)
 
 -- ---- the slot of an event
 
@@ -97,25 +72,3 @@ module _ {C : Type 0} where
       let long = rw is at some in
       let with_x = arriving setting event x calls (windows_of tick_of setting.interval xs) long few by (rw is at not_due) in
       rw (is, eq-eqb event event refl, windows_with tick_of setting.interval x xs by_arrivals, with_x) refl
-
-  -- what arrives of another event, or of one that is not aggregated, leaves the slot as it is
-  pub arrival_elsewhere : (setting : Option Aggregate) (event tick : ℕ) (item : Qualified C) (calls : List (Call C))
-      → (item.event.0 ≡ event → setting ≡ None) → slot_after setting event (arrives tick item ∷ calls) ≡ slot_after setting event calls
-  arrival_elsewhere None event tick item calls other = refl
-  arrival_elsewhere (Some setting) event tick item calls other = rw (ne_eqb item.event.0 event (λ is. cc (other is))) refl
-
-  pub closing_slot : (setting : Option Aggregate) (event tick : ℕ) (calls : List (Call C))
-      → slot_after setting event (closes_due tick event ∷ calls) ≡ slot_closed tick (slot_after setting event calls)
-  closing_slot None event tick calls = refl
-  closing_slot (Some setting) event tick calls =
-      let ws = windows_of tick_of setting.interval (arrived event calls) in
-      let ticks = closing_ticks event calls in
-      ap (λ (b : Bool). slot_of setting (open_of setting (cons_option (where_true b tick) ticks) ws)) (eq-eqb event event refl)
-      ∙ closing setting tick ticks ws
-
-  pub closing_elsewhere : (setting : Option Aggregate) (event other tick : ℕ) (calls : List (Call C)) → (other ≡ event → ⊥)
-      → slot_after setting event (closes_due tick other ∷ calls) ≡ slot_after setting event calls
-  closing_elsewhere None event other tick calls isnt = refl
-  closing_elsewhere (Some setting) event other tick calls isnt =
-      ap (λ (b : Bool). slot_of setting (open_of setting (cons_option (where_true b tick) (closing_ticks event calls))
-      (windows_of tick_of setting.interval (arrived event calls)))) (ne_eqb other event isnt)

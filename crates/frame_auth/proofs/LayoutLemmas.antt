@@ -1,5 +1,5 @@
 -- A sealed message by its bytes: the plain one, marked in its first byte, and the signature part after it.
-use Rattle.frame_auth.proofs.Names.{◌≡◌, ℕ, zero, suc, IsByte, AreBytes, ◌+◌, ◌*◌, ◌^◌, ◌≤◌, ◌<◌, List, [], ◌∷◌, ◌++◌, length, take, drop, Option, Some, None, refl, sym, ap, subst, ◌∙◌, arith, length-append, w16, w64, to_be_bytes, MessageParts, FitsMessage, BeginsWith, header, spelling, joined, with_signature, bare, hmac, seal_of, sealed, joined_sealed, IsPlain, ArePlain, IsSealedWith, HasNoSeal, HasOtherCounter, Moves, marked, sealed_bytes, CanUnmark, unmarked, rules, common_steps, sha256, digest_bytes, ◌≢◌, IfSome, Bor, is_some, option_copied, false, take_at, drop_at, All-append}
+use Rattle.frame_auth.proofs.Names.{◌≡◌, ℕ, zero, suc, IsByte, AreBytes, ◌+◌, ◌*◌, ◌^◌, ◌≤◌, ◌<◌, List, [], ◌∷◌, ◌++◌, length, take, drop, Option, Some, None, refl, sym, ap, subst, ◌∙◌, arith, length-append, w16, w64, to_be_bytes, MessageParts, FitsMessage, BeginsWith, header, spelling, joined, with_signature, bare, hmac, seal_of, sealed, joined_sealed, IsPlain, ArePlain, IsSealedWith, HasNoSeal, HasOtherCounter, Moves, marked, sealed_bytes, CanUnmark, unmarked, rules, common_steps, sha256, digest_bytes, ◌≢◌, IfSome, Bor, is_some, option_copied, false, take_at, drop_at, All-append, be_bytes_8}
 use Rattle.ids_frame.proofs.NumberLemmas.{wide32, wide64}
 use Rattle.sha2.proofs.Facts256.{length-sha256}
 
@@ -16,15 +16,10 @@ signed_layout : (m : MessageParts) (part : List ℕ)
     → spelling (with_signature (Some part) m) ≡ marked (spelling (bare m)) ++ (to_be_bytes w16 (length part) ++ part)
 signed_layout m part = search rules
 
--- a message without one, with one of 40 bytes
-with_forty : (m : MessageParts) (part : List ℕ) → m.signature ≡ None → length part ≡ 40
-    → spelling (with_signature (Some part) m) ≡ marked (spelling m) ++ 0 ∷ 40 ∷ part
-with_forty m part none size = grind (arith, common_steps)
-
 -- a plain message, sealed
 pub sealed_layout : (key : List ℕ) (counter : ℕ) (m : MessageParts) → m.signature ≡ None
     → spelling (sealed key counter m) ≡ sealed_bytes key counter (spelling m)
-sealed_layout key counter m none = with_forty m _ none (length-seal_of key counter (spelling m))
+sealed_layout key counter m none = grind (arith, common_steps, length-seal_of key counter (spelling m))
 
 -- each seal adds 42 bytes
 pub length-joined_sealed : (key : List ℕ) (start : ℕ) (messages : List MessageParts) → ArePlain messages
@@ -64,10 +59,8 @@ pub seal_parts : (key count told plain : List ℕ) (counter : ℕ) → length co
 seal_parts key count told plain counter size e =
     let bytes = to_be_bytes w64 counter in
     let tag = hmac key (plain ++ bytes) in
-    let first : count ≡ bytes = sym (take_at count told 8 size) ∙ ap (take 8) e ∙ take_at bytes tag 8 refl in (
-      first,
-      sym (drop_at count told 8 size) ∙ ap (drop 8) e ∙ drop_at bytes tag 8 refl ∙ ap (λ b. hmac key (plain ++ b)) (sym first),
-    )
+    let first : count ≡ bytes = sym (take_at count told 8 size) ∙ ap (take 8) e ∙ take_at bytes tag 8 refl in
+    grind (arith, common_steps, drop_at)
 
 -- a counter and its tag are a seal
 pub seal_made : (key count told plain : List ℕ) (counter : ℕ) → to_be_bytes w64 counter ≡ count → told ≡ hmac key (plain ++ count)
@@ -77,10 +70,8 @@ seal_made key count told plain counter is tag = search rules
 -- a signature part of another length is no seal
 pub no_seal : (key : List ℕ) (m : MessageParts) (signature : Option (List ℕ)) → signature ≡ m.signature
     → IfSome signature (λ part. length part ≢ 40) → HasNoSeal key m
-no_seal key m None e other counter with = absurd (cc (e, with))
-no_seal key m (Some part) e other counter with =
-    let same : part ≡ seal_of key counter (spelling (bare m)) = cc (e, with) in
-    other (ap (λ l. length l) same ∙ length-seal_of key counter (spelling (bare m)))
+no_seal key m s e other counter with =
+    grind (arith, common_steps, e ∙ ap (λ x. x.signature) with, length-seal_of key counter (spelling (bare m)))
 
 -- one that no counter makes is no seal
 pub no_counter : (key part : List ℕ) (m : MessageParts) → m.signature ≡ Some part
@@ -146,3 +137,8 @@ moved key part due m rest behind old new spelled begins some size made is added 
   read = rw (begins.whole, sealed_with key part due m some made) refl;
   written = rw (added, is, (unsealed_layout m part some size).1) refl;
 }
+
+-- what telling a counter needs, and what taking a seal off does
+pub ruleset telling = (common_steps, be_bytes_8, seal_made, seal_parts)
+
+pub ruleset unsealing = (common_steps, unsealed_layout, added_bare, moved)

@@ -19,8 +19,7 @@ record MayGo (form : ℕ → MessageParts → MessageParts) (due : ℕ) (bytes :
 cut : {write : ℕ → List MessageParts → List ℕ} {form : ℕ → MessageParts → MessageParts} → Writes write form
     → (start : ℕ) (x : MessageParts) (xs : List MessageParts) (a : List ℕ)
     → write start (x ∷ xs) ++ a ≡ spelling (form start x) ++ (write (start + 1) xs ++ a)
-cut {write} {form} w start x xs a =
-    ap (λ l. l ++ a) (w.more start x xs) ∙ append_assoc (spelling (form start x)) (write (start + 1) xs) a
+cut {write} {form} w start x xs a = grind (arith, common_steps, append_assoc)
 
 -- where messages that are read end, because no more may go, is one place
 one_front : {write : ℕ → List MessageParts → List ℕ} {form : ℕ → MessageParts → MessageParts} → Writes write form
@@ -66,9 +65,8 @@ module _ {F : Type 0} {write : ℕ → List MessageParts → List ℕ} {form : �
   ends_apart : (out : List ℕ) (g : F) → Copies (write start) to bytes out
       → StopsBehind (write start) (λ at count. Why g (start + count) at) bytes → ⊥
   ends_apart out g p q =
-      let both = one_front w start p.messages q.front [] (q.next ∷ q.rest) p.are_plain q.are_plain (append-nil _ ∙ sym p.read ∙ q.whole)
-      (λ due is. none_go due) (stuck_behind g q) in
-      absurd (cc both.1)
+      absurd (cc (one_front w start p.messages q.front [] (q.next ∷ q.rest) p.are_plain q.are_plain (append-nil _ ∙ sym p.read ∙ q.whole)
+      (λ due is. none_go due) (stuck_behind g q)).1)
 
   -- there is one end
   one_end : (a b : Result (List ℕ) F) → Gives (write start) to (λ fault at count. Why fault (start + count) at) bytes a
@@ -76,15 +74,13 @@ module _ {F : Type 0} {write : ℕ → List MessageParts → List ℕ} {form : �
   one_end (Ok out) (Ok new) p q =
       let both = one_front w start p.messages q.messages [] [] p.are_plain q.are_plain
       (append-nil _ ∙ sym p.read ∙ q.read ∙ sym (append-nil _)) (λ due is. none_go due) (λ due is. none_go due) in
-      ap Ok (p.written ∙ ap to both.0 ∙ sym q.written)
+      cc (p.written, both.0, q.written)
   one_end (Ok out) (Err g) p q = absurd (ends_apart out g p q)
   one_end (Err g) (Ok out) p q = absurd (ends_apart out g q p)
   one_end (Err g) (Err h) p q =
       let both = one_front w start p.front q.front (p.next ∷ p.rest) (q.next ∷ q.rest) p.are_plain q.are_plain (sym p.whole ∙ q.whole)
       (stuck_behind g p) (stuck_behind h q) in
-      let there = subst (λ l. Why h (start + length q.front) (length (write start q.front)) l) (sym both.1) q.why in
-      let here = subst (λ front. Why h (start + length front) (length (write start front)) (p.next ∷ p.rest)) (sym both.0) there in
-      ap Err (faults.one g h _ _ _ (fault_bytes g p) p.why here)
+      grind (arith, common_steps, both, faults.one g h (start + length p.front) _ (p.next ∷ p.rest) (fault_bytes g p) p.why)
 
 -- ---- the faults of one place
 

@@ -8,6 +8,7 @@ use Rattle.frame_auth.specs.declared.fault.UnsealFault.TheVariants as unseals
 use Rattle.frame_auth.proofs.LayoutLemmas.{sealed_is, sealed_fits, other_counter}
 use Rattle.frame_auth.proofs.WalkLemmas.{begins_so}
 use Rattle.frame_auth.proofs.OneAnswer.{one_unsealing_lem}
+use Rattle.std.proofs.lemmas.Grind.{common_steps}
 
 -- ---- messages by their counters
 
@@ -39,16 +40,11 @@ made_at key start (m ∷ signed) (suc k) d plain within =
 other_at : (key : List ℕ) (start : ℕ) (signed : List MessageParts) (k n : ℕ) (d : MessageParts) → ArePlain signed
     → start + length signed < 2 ^ 64 → k < length signed → n ≤ length signed → k ≢ n
     → HasOtherCounter key (start + n) (get_or (sealed_from key start signed) k d)
-other_at key start signed k n d plain few within most other =
-    other_counter key (start + k) (start + n) _ (made_at key start signed k d plain within).with (omega arith) (omega arith)
-    (λ e. other (omega (arith, e)))
+other_at key start signed k n d plain few within most other = grind (arith, common_steps, other_counter, made_at)
 
 pub apart_lem : (key : List ℕ) (start : ℕ) (signed : List MessageParts) → ArePlain signed → start + length signed < 2 ^ 64
     → AllPairs (◌≢◌) (sealed_from key start signed)
-apart_lem key start signed plain few i j d before within same =
-    let inside : j < length signed = omega (arith, within, length-sealed_from key start signed) in
-    (other_at key start signed i j d plain few (omega (arith, before, inside)) (omega (arith, inside)) (λ e. absurd (omega (arith, e, before)))).other
-    (subst (IsSealedWith key (start + j)) (sym same) (made_at key start signed j d plain inside).with)
+apart_lem key start signed plain few i j d before within same = grind (arith, common_steps, length-sealed_from, other_at, made_at)
 
 -- ---- how many are in order
 
@@ -62,35 +58,27 @@ any = record { version = 1; instance = 0; sensor = 0; event = 0; count = 0; rese
 -- what is of the list can be said
 of_fits : (key : List ℕ) (start : ℕ) (signed : List MessageParts) (m : MessageParts) → ArePlain signed
     → Contains (sealed_from key start signed) m → FitsMessage m
-of_fits key start signed m plain c =
-    subst FitsMessage c.2 (made_at key start signed c.0 m plain (omega (arith, c.1, length-sealed_from key start signed))).fits
+of_fits key start signed m plain c = grind (arith, common_steps, made_at, length-sealed_from)
 
 module _ (key : List ℕ) (start : ℕ) (signed messages : List MessageParts) (plain : ArePlain signed) (few : start + length signed < 2 ^ 64)
     (of : AreOf (sealed_from key start signed) messages) where
   -- messages that are in order are no more than the list has
-  most : (n : ℕ) → n < length messages → take n messages ≡ take n (sealed_from key start signed) → n ≤ length signed
-  most n within first = omega (
-    arith,
-    ap (λ l. length l) first,
-    length-take n messages,
-    length-take n (sealed_from key start signed),
-    length-sealed_from key start signed,
-  )
+  most : (n : ℕ) → n ≤ length messages → take n messages ≡ take n (sealed_from key start signed) → n ≤ length signed
+  most n within first = grind (arith, common_steps, length-take, length-sealed_from)
 
   -- the next message is in order, or it has another counter than the one that is due
   next : (n : ℕ) → n < length messages → take n messages ≡ take n (sealed_from key start signed)
       → (take (n + 1) messages ≡ take (n + 1) (sealed_from key start signed)) ⊎ HasOtherCounter key (start + n) (get_or messages n any)
-  next n within first =
-      let list = sealed_from key start signed in
-      let c = All-from_recursion (Contains list) messages of n any within in
-      let inside : c.0 < length signed = omega (arith, c.1, length-sealed_from key start signed) in
-      let is = get_or_default list c.0 any (get_or messages n any) c.1 ∙ c.2 in
-      elim (cases_eq c.0 n) [
-        | inl same ↦
-            inl (take_more_same messages list n any within (omega (arith, c.1, same)) first (sym is ∙ ap (λ k. get_or list k any) same))
-        | inr other ↦
-            inr (subst (HasOtherCounter key (start + n)) is (other_at key start signed c.0 n any plain few inside (most n within first) other))
-      ]
+  next n within first = grind (arith, common_steps, All-from_recursion, any, length-sealed_from, get_or_default, cases_eq, take_more_same, other_at, most)
+
+  -- and not both
+  not_next : (n : ℕ) → n < length messages → HasOtherCounter key (start + n) (get_or messages n any)
+      → take (n + 1) messages ≡ take (n + 1) (sealed_from key start signed) → ⊥
+  not_next n within x e =
+      let inside : n < length signed = omega (arith, most (n + 1) (omega (arith, within)) e) in
+      let last = take_more (sealed_from key start signed) n any (omega (arith, inside, length-sealed_from key start signed)) in
+      let is = same_from_push _ _ _ _ (sym (take_more messages n any within) ∙ e ∙ last) in
+      x.other (subst (IsSealedWith key (start + n)) (sym is.1) (made_at key start signed n any plain inside).with)
 
   -- so many messages are in order, or one of them is not
   in_order : (n : ℕ) → n ≤ length messages → (take n messages ≡ take n (sealed_from key start signed))
@@ -104,19 +92,7 @@ module _ (key : List ℕ) (start : ℕ) (signed messages : List MessageParts) (p
               | inl more ↦ inl (rw add-one at more)
               | inr x ↦ inr (
                 length (joined (take n messages)),
-                record {
-                  count = n;
-                  some = few;
-                  first = first;
-                  other = λ e.
-                      let list = sealed_from key start signed in
-                      let inside : n < length signed =
-                      omega (arith, few, ap (λ l. length l) e, length-take (n + 1) messages, length-take (n + 1) list, length-sealed_from key start signed) in
-                      let within : n < length list = omega (arith, inside, length-sealed_from key start signed) in
-                      let is = same_from_push _ _ _ _ (sym (take_more messages n any few) ∙ e ∙ take_more list n any within) in
-                      x.other (subst (IsSealedWith key (start + n)) (sym is.1) (made_at key start signed n any plain inside).with);
-                  place = refl;
-                },
+                record { count = n; some = few; first = first; other = λ e. not_next n few x e; place = refl },
               )
             ]
       ]
@@ -140,13 +116,13 @@ module _ (key : List ℕ) (start : ℕ) (signed messages : List MessageParts) (p
               ∙ ap (λ l. joined l ++ joined (drop n messages)) first
               ∙ at_drop_more (λ l. joined_sealed key start front ++ joined l) messages n any p.some;
           why = (
-            p.place ∙ ap (λ l. length (joined l)) first,
+            grind (arith, common_steps, first),
             begins_so {behind = behind}
                 (record {
                   fits = of_fits key start signed x plain (All-from_recursion (Contains (sealed_from key start signed)) messages of n any p.some);
                   whole = refl;
                 })
-                (rw (length-take-le n signed (most n p.some p.first)) other),
+                (rw (length-take-le n signed (most n (omega (arith, p.some)) p.first)) other),
           );
         }
       ]
@@ -154,16 +130,8 @@ module _ (key : List ℕ) (start : ℕ) (signed messages : List MessageParts) (p
   -- an answer in order is given
   given : (answer : Result (List ℕ) UnsealFault) → AnswersInOrder key start signed messages answer
       → GivesUnsealed key start (joined messages) answer
-  given (Ok out) p = record {
-    messages = take (length messages) signed;
-    are_plain = plain_take (length messages) signed plain;
-    read = ap joined (p.0 ∙ take-sealed_from key start (length messages) signed);
-    written = p.1;
-  }
-  given (Err (unseals.Counter at)) p = refused at p
-  given (Err (unseals.Bad bad)) p = absurd p
-  given (Err (unseals.Tag at)) p = absurd p
-  given (Err unseals.NoMemory) p = absurd p
+  given (Ok out) p = grind (arith, common_steps, plain_take, take-sealed_from)
+  given (Err fault) p = grind (arith, common_steps, refused)
 
   -- and there is one
   some : (answer : Result (List ℕ) UnsealFault) × AnswersInOrder key start signed messages answer
@@ -189,17 +157,9 @@ spelling_bytes m fits = search (rules, bytes_append, recursion_from_All, flag_fe
 joined_bytes : (key : List ℕ) (start : ℕ) (signed : List MessageParts) → ArePlain signed → (messages : List MessageParts)
     → AreOf (sealed_from key start signed) messages → AllByRecursion IsByte (joined messages)
 joined_bytes key start signed plain [] of = tt
-joined_bytes key start signed plain (m ∷ messages) of =
-    bytes_append (spelling m) (joined messages) (spelling_bytes m (of_fits key start signed m plain of.0)) (joined_bytes key start signed plain messages of.1)
+joined_bytes key start signed plain (m ∷ messages) of = search (rules, bytes_append, spelling_bytes, of_fits, joined_bytes key start signed plain messages of.1)
 
 pub in_order_lem : (key : List ℕ) (start : ℕ) (signed messages : List MessageParts) (answer : Result (List ℕ) UnsealFault)
     → ArePlain signed → start + length signed < 2 ^ 64 → AreOf (sealed_from key start signed) messages
     → GivesUnsealed key start (joined messages) answer ↔ AnswersInOrder key start signed messages answer
-in_order_lem key start signed messages answer plain few of =
-    let one = some key start signed messages plain few of in
-    let gives = given key start signed messages plain few of in
-    let bytes = All-from_recursion IsByte (joined messages) (joined_bytes key start signed plain messages of) in (
-      λ told. subst (AnswersInOrder key start signed messages)
-          (one_unsealing_lem key start (joined messages) one.0 answer bytes (gives one.0 one.1) told) one.1,
-      gives answer,
-    )
+in_order_lem key start signed messages answer plain few of = grind (arith, common_steps, some, given, All-from_recursion, joined_bytes, one_unsealing_lem)

@@ -3,7 +3,8 @@ use Rattle.frame_auth.proofs.Names.{◌≡◌, ℕ, ◌+◌, ◌<◌, List, ◌+
 use Rattle.std.proofs.Math.ListN.{set}
 use Rattle.std.proofs.lemmas.List.Edits.{map_over_more}
 use Rattle.frame_auth.specs.Tags.{masked}
-use Rattle.std.specs.Int.Bits.{bit_xor, bit_or, xor_add_and, xor_self}
+use Rattle.std.specs.Int.Bits.{bit_xor, bit_or, xor_self}
+use Rattle.std.proofs.lemmas.Grind.{common_steps}
 
 -- one byte more is masked
 pub mask_more : (mask i : ℕ) (bytes block : List ℕ) → i < length block → block ≡ masked mask (take i bytes) ++ drop i bytes
@@ -15,11 +16,7 @@ mask_more mask i bytes block within so_far =
 
 -- where no difference is found there was none before, and the bytes are the same
 pub no_difference : (found x y : ℕ) → bit_or found (bit_xor x y) ≡ 0 → (found ≡ 0) × (x ≡ y)
-no_difference found x y none =
-    let differ : bit_xor x y ≡ 0 = omega (arith, le_or_r found (bit_xor x y)) in (
-      omega (arith, le_or_l found (bit_xor x y)),
-      omega (arith, xor_add_and x y, and_le_l x y, and_le_r x y),
-    )
+no_difference found x y none = grind (arith, common_steps, le_or_r, le_or_l, and_le_l, and_le_r)
 
 -- what comparing two tags needs
 pub ruleset comparing = (no_difference, xor_self, same_number_lists)

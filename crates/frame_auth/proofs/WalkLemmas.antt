@@ -1,6 +1,6 @@
 -- Going over messages one by one, each written as it is due: so sealing reads plain messages and writes sealed ones, and
 -- unsealing the other way round.
-use Rattle.frame_auth.proofs.Names.{◌≡◌, ℕ, ◌+◌, ◌-◌, ◌*◌, ◌≤◌, ◌==◌, ◌⊎◌, inl, inr, false, List, [], ◌∷◌, ◌++◌, length, refl, sym, ap, append_assoc, arith, length-append, MessageParts, FitsMessage, spelling, BeginsWith, BeginsSo, joined, sealed, joined_sealed, IsPlain, ArePlain, Moves, StopsBehind, rules, common_steps}
+use Rattle.frame_auth.proofs.Names.{◌≡◌, ℕ, ◌+◌, ◌-◌, ◌*◌, ◌≤◌, ◌==◌, ◌⊎◌, inl, inr, false, List, [], ◌∷◌, ◌++◌, length, append_assoc, arith, length-append, MessageParts, FitsMessage, spelling, BeginsWith, BeginsSo, joined, sealed, joined_sealed, IsPlain, ArePlain, Moves, StopsBehind, rules, common_steps}
 use Rattle.frame_auth.proofs.LayoutLemmas.{bare_is, sealed_fits}
 
 -- messages from a counter on are written one after the other, each plain one in a form of its own, which tells it
@@ -21,9 +21,7 @@ written_more : {write : ℕ → List MessageParts → List ℕ} {form : ℕ → 
     → (due now : ℕ) (ms : List MessageParts) (m : MessageParts) → now ≡ due + length ms
     → write due (ms ++ m ∷ []) ≡ write due ms ++ spelling (form now m)
 written_more {write} {form} w due now [] m e = search rules
-written_more {write} {form} w due now (x ∷ ms) m e =
-    rw (w.more due x (ms ++ m ∷ []), w.more due x ms, written_more w (due + 1) now ms m (omega arith))
-    (sym (append_assoc (spelling (form due x)) (write (due + 1) ms) (spelling (form now m))))
+written_more {write} {form} w due now (x ∷ ms) m e = grind (arith, common_steps, append_assoc, written_more w (due + 1) now ms m (omega arith))
 
 plain_more : (ms : List MessageParts) (m : MessageParts) → ArePlain ms → IsPlain m → ArePlain (ms ++ m ∷ [])
 plain_more ms m all plain = grind (arith, common_steps)
@@ -45,16 +43,8 @@ pub goes_on : {from to : ℕ → List MessageParts → List ℕ} {form other : �
     {bytes rest behind out new : List ℕ} → Writes from form → Writes to other → Goes from to start due bytes rest out
     → Moves (form due) (other due) rest behind out new → Goes from to start (due + 1) bytes behind new
 goes_on {from} {to} {form} {other} {start} {due} {bytes} {rest} {behind} {out} {new} w v g move =
-    let m = move.message in
-    let read = written_more w start due g.front m g.next in
-    record {
-      front = g.front ++ m ∷ [];
-      are_plain = plain_more g.front m g.are_plain move.is_plain;
-      read = rw (g.read, move.read, read) (sym (append_assoc (from start g.front) (spelling (form due m)) behind));
-      written = rw (move.written, g.written, written_more v start due g.front m g.next) refl;
-      next = omega (arith, g.next, length-append g.front (m ∷ []));
-      few = omega (arith, g.few, ap (λ l. length l) read, length-append (from start g.front) (spelling (form due m)), length-spelling (form due m), length-append g.front (m ∷ []));
-    }
+    let read = written_more w start due g.front move.message g.next in
+    grind (arith, common_steps, plain_more, append_assoc, written_more, length-append, length-spelling)
 
 -- a fault of the next message is the first one
 pub stops_here : {F : Type 0} {none fault : F} {from to : ℕ → List MessageParts → List ℕ} {start due : ℕ} {bytes rest out : List ℕ}

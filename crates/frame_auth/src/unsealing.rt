@@ -31,6 +31,7 @@ pub fn unseal(alloc: Global, key: &Key, start: u64, sealed: &[u8]) -> Result<Vec
 }
 
 // Appends the first message without its seal, and answers the bytes after it.
+#[tactic(auto, using(crate::proofs::LayoutLemmas::unsealing))]
 fn unseal_first<'a>(
     out: &mut Vec<u8>,
     key: &Key,
@@ -80,6 +81,7 @@ fn push_bare(out: &mut Vec<u8>, signed: &[u8]) -> Result<(), AllocError>
 }
 
 // The counter, where these eight bytes and this tag are the seal of a spelling.
+#[tactic(auto, using(crate::proofs::LayoutLemmas::telling))]
 fn counter_of(key: &Key, plain: &[u8], counter: &[u8; 8], told: &[u8; 32]) -> Option<u64>
     ensures some { IfSome result (λ count. counter.now ++ told.now ≡ seal_of key.now count plain.now) }
     ensures none { IfNone result ((count : ℕ) → counter.now ++ told.now ≡ seal_of key.now count plain.now → ⊥) }

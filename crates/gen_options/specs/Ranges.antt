@@ -1,6 +1,6 @@
 -- The ranges of the options.
 -- Source: docs/COMMANDS.md.
-use Rattle.std.specs.Prelude.{ℕ, ◌*◌, ◌≤◌, ◌&&◌, Bool, nat_le}
+use Rattle.std.specs.Prelude.{◌*◌, ◌≤◌, ◌&&◌, Bool, nat_le}
 use Rattle.gen_options.specs.declared.options.Options.{Options}
 
 -- 1 to 32 callers, at most 16,000 rounds, 1 to 200 events, and at most 16,000 rounds of all callers together

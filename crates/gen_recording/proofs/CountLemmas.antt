@@ -1,5 +1,5 @@
 -- Counts of calls and claims, with one call more.
-use Rattle.gen_recording.proofs.Names.{◌≡◌, ℕ, ◌+◌, ◌<◌, Bool, true, false, List, [], ◌∷◌, length, filter, map, get_or, set, refl, sym, ap, ◌∙◌, arith, common_steps, cond, count_by, nat_lt, ClassSpec, Parts, class_of, Asked, AreCalls, Call}
+use Rattle.gen_recording.proofs.Names.{◌≡◌, ℕ, ◌+◌, ◌<◌, List, [], ◌∷◌, length, filter, map, get_or, set, refl, arith, common_steps, cond, count_by, nat_lt, ClassSpec, Parts, class_of, Asked, AreCalls, Call}
 use Rattle.std.proofs.lemmas.Bool.Decides.{nat_tests}
 use Rattle.std.proofs.lemmas.List.Sums.{sum_by-cons}
 use Rattle.std.proofs.Math.ListN.{length-set}
@@ -7,10 +7,7 @@ use Rattle.std.proofs.Math.ListN.{length-set}
 -- a caller's calls, with one more
 pub calls_more : (config : Parts) (past : List Call) (numbers : List ℕ) (caller : ℕ) (asked : Asked) → caller < length numbers → AreCalls config past numbers
     → AreCalls config (record { caller = caller; asked = asked } ∷ past) (set numbers caller (get_or numbers caller 0 + 1))
-calls_more config past numbers caller asked there are = record {
-  many = length-set numbers caller _ ∙ are.many;
-  each = λ i within. grind (arith, common_steps, nat_tests, are.each i);
-}
+calls_more config past numbers caller asked there are = grind (arith, common_steps, nat_tests, length-set, there, are)
 
 -- the classes that are too small, as pairs and as classes
 pub small_classes : (bytes : ℕ) (pairs : List (ℕ × ℕ))
@@ -18,8 +15,4 @@ pub small_classes : (bytes : ℕ) (pairs : List (ℕ × ℕ))
 small_classes bytes [] = refl
 small_classes bytes (pair ∷ pairs) =
     let more = sum_by-cons (λ (p : ℕ × ℕ). cond (nat_lt p.0 bytes) 1 0) pair pairs in
-    by_first (nat_lt pair.0 bytes) (class_of pair) (filter (λ (class : ClassSpec). nat_lt class.size bytes) (map class_of pairs)) ∙ (ap (λ n. cond (nat_lt pair.0 bytes) 1 0 + n) (small_classes bytes pairs) ∙ sym more)
-  where
-    by_first : (b : Bool) (class : ClassSpec) (classes : List ClassSpec) → length (cond b (class ∷ classes) classes) ≡ cond b 1 0 + length classes
-    by_first true class classes = omega arith
-    by_first false class classes = omega arith
+    grind (arith, common_steps, small_classes bytes pairs, more)

@@ -1,6 +1,7 @@
 -- Numbers that wrap at 64 bits, and the draws that they give.
-use Rattle.gen_recording.proofs.Names.{◌≡◌, ◌≤◌, ℕ, ◌+◌, ◌*◌, ◌%◌, ◌^◌, length, refl, add-one, arith, range_with_len, slice_range, length-range_with_len, next_number, context_of, report_of}
+use Rattle.gen_recording.proofs.Names.{◌≡◌, ap, map, ◌≤◌, ℕ, ◌+◌, ◌*◌, ◌%◌, ◌^◌, length, refl, add-one, arith, range_with_len, slice_range, length-range_with_len, next_number, context_of}
 use Rattle.std.proofs.lemmas.Grind.{elements}
+use Rattle.std.proofs.lemmas.List.{map-id}
 use Rattle.std.proofs.lemmas.List.FromFn.{fill_by_all, get_or-range_with_len}
 use Rattle.gen_recording.specs.{ramp, number_after}
 
@@ -26,6 +27,10 @@ pub length-ramp : length ramp ≡ 256
 unfolding ramp
 length-ramp = length-range_with_len 0 256
 
+pub ramp_is : (n : ℕ) → n ≡ 256 → map (λ i. i) (range_with_len 0 n) ≡ ramp
+unfolding ramp
+ramp_is n all = rw map-id (ap (range_with_len 0) all)
+
 cut : (n event size : ℕ) → event + size ≤ n → n ≤ 256 → slice_range (range_with_len 0 n) event (event + size) ≡ context_of event size
 cut n event size few all =
     fill_by_all (λ i. (event + i) % 256) _ size 0 (grind (arith, elements, length-range_with_len))
@@ -35,7 +40,3 @@ cut n event size few all =
 pub cut_ramp : (event size : ℕ) → event + size ≤ 256 → slice_range ramp event (event + size) ≡ context_of event size
 unfolding ramp
 cut_ramp event size few = cut 256 event size few (omega arith)
-
--- the same draws give the same report
-pub same_report : (tick e f c d s t z y : ℕ) → e ≡ f → c ≡ d → s ≡ t → z ≡ y → report_of tick e c s z ≡ report_of tick f d t y
-same_report tick e f c d s t z y event count stamped size = rw (event, count, stamped, size) refl

@@ -1,5 +1,5 @@
 -- The generated trace can be recorded.
-use Rattle.gen_recording.proofs.Names.{◌≤◌, ◌<◌, ◌+◌, ◌*◌, ◌%◌, ◌==◌, ◌&&◌, if◌then◌else◌, changes, Bool, true, false, ℕ, zero, suc, List, [], ◌∷◌, ◌++◌, length, map, refl, inl, inr, arith, rules, common_steps, AllByRecursion, flat_map, range_with_len, get_or_past, length-map-range_with_len, get_or-map-range_with_len, too_small, KeepUpFrom, last_tick, lines_at, round_ticks, Options, IsInRange, HasClassFor, draw, config_of, changes_by, generated_round, lines_by, rounds_of, tick_after, calls_from, CanAsk, context_of, report_at, size_of, get_or}
+use Rattle.gen_recording.proofs.Names.{◌≤◌, ◌<◌, ◌+◌, ◌*◌, ◌%◌, ◌==◌, ◌&&◌, if◌then◌else◌, changes, Bool, true, false, ℕ, zero, suc, List, [], ◌∷◌, ◌++◌, length, map, refl, inl, inr, arith, rules, common_steps, AllByRecursion, flat_map, range_with_len, get_or_past, length-map-range_with_len, get_or-map-range_with_len, KeepUpFrom, last_tick, lines_at, round_ticks, Options, IsInRange, HasClassFor, draw, config_of, changes_by, generated_round, lines_by, rounds_of, tick_after, calls_from, CanAsk, context_of, report_at, size_of, get_or}
 use Rattle.std.proofs.lemmas.Bool.{cases_lt, cond_both}
 use Rattle.std.proofs.lemmas.Bool.Decides.{nat_tests}
 use Rattle.std.proofs.lemmas.List.Elements.{All-map, recursion_from_All}
@@ -12,12 +12,9 @@ all_made : {A : Type 0} (P : A → Type 0) (f : ℕ → A) → ((n : ℕ) → P 
 all_made P f each ns = recursion_from_All P (map f ns) (All-map P f ns (λ k d within. each (get_or ns k d)))
 
 -- two classes are large enough for short context data
-class_small : (o : Options) (bytes : ℕ) → bytes ≤ 128 → too_small (config_of o) bytes < 2
-class_small o bytes few = grind (arith, nat_tests)
-
 class_fits : (o : Options) (bytes : List ℕ) → length bytes ≤ 40 → HasClassFor (config_of o) bytes
 class_fits o [] few = tt
-class_fits o (byte ∷ bytes) few = class_small o (length (byte ∷ bytes)) (omega arith)
+class_fits o (byte ∷ bytes) few = grind (arith, nat_tests)
 
 module _ (o : Options) (fits : IsInRange o) where
   -- a report may be asked
@@ -59,11 +56,7 @@ module _ (o : Options) (fits : IsInRange o) where
   ]
 
   round_fits : (r : ℕ) → CanTake (config_of o) (generated_round o r)
-  round_fits r = record {
-    callers = length-map-range_with_len (lines_by o r) 0 o.callers;
-    few = omega (arith, few_calls r 0 0 o.callers, fits.callers);
-    lines = lines_of_fit r;
-  }
+  round_fits r = grind (arith, length-map-range_with_len (lines_by o r) 0 o.callers, few_calls r 0 0 o.callers, fits.callers, lines_of_fit r)
 
   ticks_from : (a n : ℕ) → KeepUpFrom (10 * a) (flat_map round_ticks (map (generated_round o) (range_with_len a n)))
   ticks_from a zero = tt

@@ -1,8 +1,7 @@
-mod ConfigLemmas
-mod CountLemmas
-mod DrawLemmas
+pub mod ConfigLemmas
+pub mod CountLemmas
+pub mod DrawLemmas
 mod FitLemmas
-mod GenerateLemmas
 mod Names
-mod RecordingLemmas
-mod TraceLemmas
+pub mod RecordingLemmas
+pub mod TraceLemmas

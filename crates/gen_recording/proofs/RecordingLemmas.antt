@@ -1,22 +1,11 @@
 -- Calls and turns, one after another.
 use Rattle.gen_recording.proofs.Names.{◌≡◌, ◌≤◌, ◌<◌, ◌+◌, ℕ, zero, suc, List, [], ◌∷◌, ◌++◌, length, map, take, drop, get_or, reverse, append-nil, add-one, refl, sym, ap, ◌∙◌, arith, common_steps, append_assoc, reverse-append, turn_by, handed_on, Entry, Plain, turn_of, turns_of, held, flat_map, length-map, plain_entry, Parts, FitsAct, KeepUpFrom, Asked, Round, reports, changes, sets, round_ticks, Call, Plan, act_of, call_by, calls_from, calls_of, entries_of, entry_of, CanAsk, IsAt, Recorder, begun_round, round_at}
 use Rattle.std.proofs.lemmas.Grind.{reverse_onto}
-use Rattle.std.proofs.lemmas.List.{drop_more}
-use Rattle.ids_types.specs.Turns.{Turn}
-use Rattle.journal.proofs.PrintingLemmas.{turns-push}
-use Rattle.journal.specs.Answers.{told}
+use Rattle.std.proofs.lemmas.List.{drop_more, map_push}
+use Rattle.journal.proofs.PrintingLemmas.{entries-push}
 use Rattle.journal.specs.Printing.{lines_text}
+use Rattle.text_spec.specs.{ended_line, enters, fields_of}
 use Rattle.text_spec.proofs.TraceFacts.{keep_split, last_from-push}
-use Rattle.text_spec.specs.{journal_text, turn_told}
-
--- the journal with one turn more
-pub journal_more : (front : List Turn) (turn : Turn) (old new : List ℕ) → old ≡ journal_text (told front [])
-    → new ≡ old ++ lines_text (turn_told turn) → new ≡ journal_text (told (front ++ turn ∷ []) [])
-journal_more front turn old new is more = rw (more, is) (simp (append-nil, turns-push))
-
--- calls in the order in which they were made, after others
-pub reversed_more : {A : Type 0} (xs : List A) (x : A) (others : List A) → reverse (xs ++ x ∷ []) ++ others ≡ x ∷ (reverse xs ++ others)
-reversed_more xs x others = ap (λ ys. ys ++ others) (reverse-append xs (x ∷ []))
 
 -- entries of calls with one call more
 pub entries_more : (config : Parts) (before calls : List Call) (call : Call)
@@ -32,13 +21,6 @@ ask_fits config past caller (reports event count stamp (byte ∷ bytes)) can = (
 ask_fits config past caller (changes state) can = tt
 ask_fits config past caller (sets event mode) can = can.1
 
--- a turn of these entries is the one that was planned
-pub turn_is : (config : Parts) (before : List Plan) (calls : List Call) (tick limited : ℕ) (items : List (Entry Plain))
-    → map plain_entry items ≡ entries_of config (calls_of before) calls → limited ≡ handed_on config (turns_of config before)
-    → turn_by held (record { tick = tick; lost_events = 0; lost_contexts = 0; limited = limited }) items
-    ≡ turn_of config (turns_of config before) (calls_of before) (record { tick = tick; calls = calls })
-turn_is config before calls tick limited items entries is = rw (is, entries) refl
-
 -- so many entries wait as there are calls
 length-entries_of : (config : Parts) (before calls : List Call) → length (entries_of config before calls) ≡ length calls
 length-entries_of config before [] = refl
@@ -50,18 +32,12 @@ items_are config before calls r at =
     sym (length-map r.desk.items.items plain_entry) ∙ ap length at.entries ∙ length-entries_of config (calls_of before) calls
 
 -- the calls of callers, with those of one caller more
-calls_from_more : (first k : ℕ) (lines : List (List Asked))
-    → calls_from first (take (suc k) lines) ≡ calls_from first (take k lines) ++ map (call_by (first + k)) (get_or lines k [])
-calls_from_more first zero [] = refl
-calls_from_more first (suc k) [] = refl
-calls_from_more first zero (own ∷ lines) = grind (arith, common_steps)
-calls_from_more first (suc k) (own ∷ lines) = grind (arith, common_steps, calls_from_more (suc first) k lines)
-
-pub callers_more : (lines : List (List Asked)) (k : ℕ)
-    → calls_from 0 (take (k + 1) lines) ≡ calls_from 0 (take k lines) ++ map (call_by k) (get_or lines k [])
-callers_more lines k =
-    let is : 0 + k ≡ k = omega arith in
-    rw add-one (calls_from_more 0 k lines ∙ ap (λ n. calls_from 0 (take k lines) ++ map (call_by n) (get_or lines k [])) is)
+pub callers_more : (first k caller : ℕ) (lines : List (List Asked)) → caller ≡ first + k
+    → calls_from first (take (suc k) lines) ≡ calls_from first (take k lines) ++ map (call_by caller) (get_or lines k [])
+callers_more first zero caller [] is = refl
+callers_more first (suc k) caller [] is = refl
+callers_more first zero caller (own ∷ lines) is = grind (arith, common_steps)
+callers_more first (suc k) caller (own ∷ lines) is = grind (arith, common_steps, callers_more (suc first) k caller lines (omega (arith, is)))
 
 -- the calls of some callers are among those of all
 pub callers_few : (first k : ℕ) (lines : List (List Asked))
@@ -80,3 +56,8 @@ next_keeps least rounds k end there keeps =
     let rest = flat_map round_ticks (drop (k + 1) rounds) in
     let both = keep_split least (round_ticks round) (rest ++ end ∷ []) (rw (drop_more rounds k (begun_round 0 [] 0), append_assoc (round_ticks round) rest (end ∷ [])) at keeps) in
     (both.0, rw (last_from-push least round.beside round.after []) at both.1)
+
+-- how entries are printed, one after another
+pub plain_more : (front : List (Entry Plain)) (entry : Entry Plain)
+    → lines_text (map enters (map plain_entry (front ++ entry ∷ []))) ≡ lines_text (map enters (map plain_entry front)) ++ ended_line (fields_of (enters (plain_entry entry)))
+plain_more front entry = rw (map_push plain_entry front entry) (entries-push (map plain_entry front) (plain_entry entry))

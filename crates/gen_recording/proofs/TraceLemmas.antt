@@ -1,7 +1,8 @@
 -- Rounds with more lines.
-use Rattle.gen_recording.proofs.Names.{◌≡◌, ◌<◌, ◌+◌, ◌-◌, ℕ, zero, suc, List, [], ◌∷◌, ◌++◌, length, set, map, get_or, refl, ap, arith, append_assoc, append-nil, replicate, range_with_len, set-get_or, length-map-range_with_len, map-range_with_len_more, Asked, Round, with_last, Traced, asking, with_lines}
+use Rattle.gen_recording.proofs.Names.{◌≡◌, ◌<◌, ◌+◌, ◌-◌, ℕ, zero, suc, List, [], ◌∷◌, ◌++◌, length, set, map, get_or, refl, ap, arith, append_assoc, append-nil, replicate, range_with_len, set-get_or, length-map-range_with_len, map-range_with_len_more, common_steps, Asked, Round, with_last, Traced, asking, with_lines}
 use Rattle.std.proofs.lemmas.List.{get_or_at, length_push, set_at}
-use Rattle.text_spec.proofs.TraceFacts.{by_last, with_last-push}
+use Rattle.text_spec.proofs.TraceFacts.{by_last, last_tick-push, with_last-push}
+use Rattle.gen_recording.proofs.DrawLemmas.{cut_ramp, first_number, length-ramp, next_drawn}
 
 -- ---- the last round
 
@@ -42,3 +43,10 @@ caller_more f callers caller there =
     let many : length before ≡ caller = length-map-range_with_len f 0 caller in
     rw (one, get_or_at before [] others [] caller many, set_at before [] others (f caller) caller many, map-range_with_len_more f 0 caller caller (omega arith))
     (rw append_assoc refl)
+
+-- what is made of one number more
+pub made_more : {A : Type 0} (f : ℕ → A) (n : ℕ) → map f (range_with_len 0 (n + 1)) ≡ map f (range_with_len 0 n) ++ f n ∷ []
+made_more f n = map-range_with_len_more f 0 n n (omega arith)
+
+-- how a trace is drawn
+pub ruleset drawings = (common_steps, made_more, lines_none, lines_more, caller_more, length-with_last, with_last-push, last_tick-push, next_drawn, first_number, cut_ramp, length-ramp)

@@ -11,6 +11,7 @@ use ids_types::{Mode, NoMemory};
 use std::alloc::{AllocError, Global};
 
 /// The configuration for these options.
+#[tactic(auto, using(crate::proofs::ConfigLemmas::config_faultless))]
 pub(crate) fn make_config(alloc: Global, options: &Options) -> Result<Config, NoMemory>
     requires { IsTrue (is_in_range options.now) }
     ensures { IfOk result (λ config. config ≡ config_of options.now) }
@@ -49,6 +50,7 @@ fn make_parts(alloc: Global, options: &Options) -> Result<ConfigParts, AllocErro
 }
 
 /// So many events that sensors report, and the internal ones after them.
+#[tactic(auto, using(crate::proofs::TraceLemmas::drawings))]
 fn make_events(alloc: Global, events: u64) -> Result<Vec<EventParts>, AllocError>
     requires { events ≤ 200 }
     ensures { IfOk result (λ all. all.items ≡ all_events events) }

@@ -20,6 +20,7 @@ const REPORTS: u64 = 4;
 const SIZES: [usize; 4] = [0, 4, 16, 40];
 
 /// The trace of these options.
+#[tactic(auto, using(crate::proofs::TraceLemmas::drawings))]
 pub(crate) fn draw_trace(
     alloc: Global,
     options: &Options,
@@ -53,6 +54,7 @@ fn trace_room(options: &Options) -> TraceRoom
 }
 
 /// The bytes from 0 to 255, of which context data are cut.
+#[tactic(auto, using(crate::proofs::TraceLemmas::made_more, crate::proofs::DrawLemmas::ramp_is))]
 fn make_ramp(alloc: Global) -> Result<Vec<u8>, AllocError>
     ensures { IfOk result (λ bytes. bytes.items ≡ ramp_of) }
 {
@@ -63,6 +65,7 @@ fn make_ramp(alloc: Global) -> Result<Vec<u8>, AllocError>
     Ok(bytes)
 }
 
+#[tactic(auto, using(crate::proofs::TraceLemmas::drawings))]
 fn draw_round(
     trace: &mut Trace,
     options: &Options,
@@ -91,6 +94,7 @@ fn draw_round(
 }
 
 /// Draws the lines of a caller in the last round.
+#[tactic(auto, using(crate::proofs::TraceLemmas::drawings))]
 fn draw_lines(
     trace: &mut Trace,
     options: &Options,
@@ -118,6 +122,7 @@ fn draw_lines(
 }
 
 /// The change of the state by which the first caller begins each hundredth round.
+#[tactic(auto, using(crate::proofs::TraceLemmas::drawings))]
 fn push_change(trace: &mut Trace, round: u64, caller: u8) -> Result<(), NoMemory>
     requires some { 0 < length trace.old.rounds }
     requires caller { caller < trace.old.callers }
@@ -138,6 +143,7 @@ fn begins_with_change(round: u64, caller: u8) -> bool
 }
 
 /// Draws a report, with its context data cut from the ramp.
+#[tactic(auto, using(crate::proofs::TraceLemmas::drawings))]
 fn draw_report<'r>(draws: &mut Draws, events: u64, tick: u64, ramp: &'r [u8]) -> Line<'r>
     requires some { 0 < events }
     requires few { events ≤ 200 }
@@ -168,6 +174,7 @@ fn stamp_by(choice: u64, tick: u64) -> Option<Stamp>
 }
 
 /// So many bytes that count up from the event's number.
+#[tactic(auto, using(crate::proofs::TraceLemmas::drawings))]
 fn cut_context(ramp: &[u8], event: usize, size: usize) -> &[u8]
     requires ramp { ramp.now ≡ ramp_of }
     requires few { event + size ≤ 256 }

@@ -86,6 +86,7 @@ impl<'t> Recorder<'t> {
 }
 
 /// Appends the lines of a turn of these entries.
+#[tactic(auto, using(crate::proofs::RecordingLemmas::plain_more, std::proofs::lemmas::Grind::common_steps))]
 fn push_turn(out: &mut Vec<u8>, head: &TurnHead, items: &[Entry<Plain<'_>>]) -> Result<(), NoMemory>
     ensures { OnOk result (out.new.items ≡
         out.old.items ++ lines_text (turn_told (turn_by (λ p. p.0.now) head.now items.now))) }

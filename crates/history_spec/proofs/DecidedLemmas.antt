@@ -62,12 +62,18 @@ module _ (n : ℕ) (turns : List Turn) where
       record {
         given_back = (front.0, front.1, omega (arith, its.4, front.2));
         claimed = omega (arith, its.4, front.2, within.1, decided.decided.within);
-        earlier = λ call ticket less is.
-            let order = fates_in_order 0 fates call its.0 (accepted ticket) (lost its.1) decided.decided.rises (got call ticket is) its.2 in
-            omega (arith, its.4, front.2, order (omega (arith, its.3)));
-        later = λ call ticket less is.
-            let order = fates_in_order 0 fates its.0 call (lost its.1) (accepted ticket) decided.decided.rises its.2 (got call ticket is) in
-            omega (arith, its.4, front.2, order (omega (arith, its.3)));
+        earlier = λ call ticket less is. omega (
+          arith,
+          its.4,
+          front.2,
+          fates_in_order 0 fates call its.0 (accepted ticket) (lost its.1) decided.decided.rises (got call ticket is) its.2 (omega (arith, its.3)),
+        );
+        later = λ call ticket less is. omega (
+          arith,
+          its.4,
+          front.2,
+          fates_in_order 0 fates its.0 call (lost its.1) (accepted ticket) decided.decided.rises its.2 (got call ticket is) (omega (arith, its.3)),
+        );
       }
 
   module _ (calls : ℕ → ℕ) (callers : List (List Fate)) (decided : AreDecided n calls turns callers) where

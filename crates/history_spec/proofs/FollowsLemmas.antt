@@ -19,8 +19,7 @@ module _ (classes i : ℕ) where
   lost_numbers first (number ∷ numbers) = grind (arith, lost_numbers (suc first) numbers)
 
   call_got : (act : Act (List ℕ)) (here : List Fate) → CallAsks classes i (Some act) here → claim_of i act ≡ claims_got here
-  call_got (Report event count stamp (Kept class claim bytes)) here asked =
-      let got = asked.got in let skipped = asked.skipped in let larger = asked.larger in grind (arith, got, skipped, larger)
+  call_got (Report event count stamp (Kept class claim bytes)) here asked = grind (arith, asked)
   call_got (Report event count stamp (Missing numbers)) here asked = rw asked (sym (lost_numbers (classes - length numbers) numbers))
   call_got act here asked = ap claims_got (sym asked)
 

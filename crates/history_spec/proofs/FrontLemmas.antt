@@ -6,8 +6,7 @@ use Rattle.history_spec.specs.Fronts.{and_front, fronts_from, IsFront}
 pub fronts_more : (offered : ℕ) (turns : List Turn) (turn : Turn) (fronts : List ℕ) → fronts_from offered (turns ++ turn ∷ []) fronts
     ≡ and_front (offered + length (entries_of turns)) (length turn.entries) (fronts_from offered turns fronts)
 fronts_more offered [] turn fronts = grind arith
-fronts_more offered (first ∷ turns) turn fronts =
-    let here = length first.entries in grind (arith, common_steps, fronts_more (offered + here) turns turn (and_front offered here fronts))
+fronts_more offered (first ∷ turns) turn fronts = grind (arith, common_steps, fronts_more (offered + length first.entries) turns turn (and_front offered (length first.entries) fronts))
 
 -- a front is one of those before, or the last
 old_or_last : (offered more front : ℕ) (fronts : List ℕ) → StandsIn (and_front offered more fronts) front

@@ -13,9 +13,7 @@ module _ (n : ℕ) where
   pub of_caller : (c d : ℕ) (callers : List (List Fate)) → losses_by c (all_losses n d callers)
       ≡ (if nat_lt c d then [] else losses_from n c 0 (get_or callers (c - d) []))
   of_caller c d [] = grind arith
-  of_caller c d (fates ∷ callers) =
-      let both = in_two c d 0 fates (all_losses n (suc d) callers) in
-      grind (arith, common_steps, of_caller c (suc d) callers, both, append-nil)
+  of_caller c d (fates ∷ callers) = grind (arith, common_steps, of_caller c (suc d) callers, in_two c d 0 fates (all_losses n (suc d) callers), append-nil)
 
   -- a loss is a lost call
   pub loss_is : (c call : ℕ) (fates : List Fate) (loss : Loss) → StandsIn (losses_from n c call fates) loss → (place : ℕ) × (claimed : ℕ)

@@ -16,8 +16,8 @@ of_one : (i x owner : ℕ) (es : List (Entry (List ℕ))) → ((o : ℕ) → o �
     → times x (claims_of i es) ≡ times x (claims_of i (entries_by owner es))
 of_one i x owner [] none = refl
 of_one i x owner (e ∷ es) none =
-    let rest = of_one i x owner es (λ o other. let at = none o other in grind (arith, times-append, at)) in
-    let own = none e.caller in grind (arith, times-append, rest, own)
+    let rest = of_one i x owner es (λ o other. grind (arith, times-append, none o other)) in
+    grind (arith, times-append, rest, none e.caller)
 
 -- how many of the numbers are below another one
 abbrev below : ℕ → List ℕ → ℕ
@@ -53,9 +53,8 @@ module _ (i : ℕ) (es : List (Entry (List ℕ))) (claimants : List ℕ)
 
   as_many_claims : length (claims_of i es) ≡ length claimants
   as_many_claims =
-      let all = all_below (length claimants) (claims_of i es) (λ x. omega (arith, counted x)) in
-      let each = each_below (length claimants) (claims_of i es) (λ x less. let its = counted x in grind (arith, its, less)) in
-      omega (arith, all, each)
+      let each = each_below (length claimants) (claims_of i es) (λ x less. grind (arith, counted x, less)) in
+      omega (arith, all_below (length claimants) (claims_of i es) (λ x. omega (arith, counted x)), each)
 
   -- and each number below how many claims there are
   pub each_claim_once : (x : ℕ) → times x (claims_of i es) ≡ once_below x (length (claims_of i es))

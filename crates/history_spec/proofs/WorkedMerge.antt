@@ -70,20 +70,15 @@ module _ (given : Parts) where
   config = record given { ring = 2; classes = class_of (8, 1) ∷ [] }
 
   follows : (caller i : ℕ) → Follows (length config.classes) i (calls caller) (log caller i)
-  follows zero zero =
-      let kept : KeptAsks 0 0 0 (accepted 0 ∷ []) = search rules in
-      (accepted 0 ∷ [], lost 1 ∷ [], refl, kept, (lost 1 ∷ [], [], refl, refl, refl))
-  follows zero (suc i) =
-      let kept : KeptAsks (suc i) 0 0 [] = grind arith in
-      ([], [], refl, kept, ([], [], refl, grind arith, refl))
+  follows zero zero = (accepted 0 ∷ [], lost 1 ∷ [], refl, search rules, (lost 1 ∷ [], [], refl, refl, refl))
+  follows zero (suc i) = ([], [], refl, grind arith, ([], [], refl, grind arith, refl))
   follows (suc zero) i = ([], [], refl, refl, refl)
   follows (suc (suc caller)) i = refl
 
   settled_log : (caller i : ℕ) → IsSettledLog (class_at config i).number (claimants i) caller (log caller i)
   settled_log zero zero = search (rules, all_decided)
   settled_log zero (suc i) = search (rules, all_decided)
-  settled_log (suc caller) zero = search (rules, all_decided)
-  settled_log (suc caller) (suc i) = search (rules, all_decided)
+  settled_log (suc caller) i = search (rules, all_decided)
 
   are_entries : (caller : ℕ) → entries_by caller (entries_of turns) ≡ entries_from caller 0 (calls caller)
   are_entries zero = refl
@@ -94,10 +89,7 @@ module _ (given : Parts) where
   legal = legal_contexts config turns calls log claimants (record { follows = follows; settled = settled_log; are_entries = are_entries })
 
   as_asked : (e : Entry (List ℕ)) → StandsIn (entries_of turns) e → IsItsLine config rounds turns e
-  as_asked e (zero, at) =
-      let kept : IsKeptIn config 0 (7 ∷ []) (7 ∷ []) =
-      record { some_bytes = omega arith; kept_is = refl; class_within = omega arith; fits = omega arith } in
-      rw (← some-injective _ e at) (its, refl, (refl, refl, refl, kept))
+  as_asked e (zero, at) = rw (← some-injective _ e at) (its, refl, (refl, refl, refl, search rules))
   as_asked e (suc zero, at) = rw (← some-injective _ e at)
       (its, refl, (refl, refl, refl, (omega arith, legal.missing (record { caller = 0; call = 1; act = second }) 1 (1 ∷ []) (1, refl) refl refl)))
   as_asked e (suc (suc place), at) = cc

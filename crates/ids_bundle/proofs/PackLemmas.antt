@@ -1,12 +1,12 @@
 -- Packing: messages are judged, cut and written, one at a time.
-use Rattle.ids_bundle.proofs.Names.{◌≡◌, ℕ, ◌+◌, ◌<◌, ◌≤◌, List, [], ◌∷◌, ◌++◌, length, take, drop, Ok, Err, refl, ap, subst, ◌∙◌, arith, append-nil, AllByRecursion, Result, w16, to_be_bytes, AreBytes, Reads, MessageParts, joined, spelling, Run, load, units, common_steps}
+use Rattle.ids_bundle.proofs.Names.{◌≡◌, ℕ, ◌+◌, ◌<◌, ◌≤◌, List, [], ◌∷◌, ◌++◌, length, take, drop, Ok, Err, ap, subst, arith, append-nil, AllByRecursion, Result, w16, to_be_bytes, AreBytes, Reads, MessageParts, joined, spelling, Run, load, units, common_steps}
 use Rattle.ids_frame.specs.Reading.{Begun, message_at}
 use Rattle.ids_frame.proofs.MessageLemmas.{again, read_of, one_message_lem}
 use Rattle.ids_frame.proofs.PartLemmas.{behind_bytes}
 use Rattle.ids_bundle.specs.declared.fault.PackFault.{PackFault}
 use Rattle.ids_bundle.specs.declared.fault.PackFault.TheVariants.{Bad, TooLarge, NoMemory}
 use Rattle.ids_bundle.specs.Packing.{FitsIn, BeginsLong, StopsAt, ArePacked, Packs}
-use Rattle.ids_bundle.proofs.ListLemmas.{cases_list, one_answer, Settles}
+use Rattle.ids_bundle.proofs.ListLemmas.{cases_list, one_answer}
 use Rattle.ids_bundle.proofs.UnitLemmas.{load-append, no_message}
 use Rattle.ids_bundle.proofs.CutLemmas.{one_cut, greedy, greedy_packed}
 
@@ -81,10 +81,8 @@ fault_by place (Err fault) = Bad (record { at = place; fault = fault })
 -- that is the fault
 fault_read : (size : ℕ) (fault : PackFault) (place : ℕ) (rest : List ℕ) → AreBytes rest → StopsAt size fault place rest
     → fault ≡ fault_by place (message_at rest)
-fault_read size (Bad bad) place rest bytes stops = rw (read_of rest (Err bad.fault) bytes stops.1, ← stops.0) refl
-fault_read size (TooLarge at) place rest bytes stops =
-    let b = stops.1.1 in
-    rw (ap message_at b.begins.whole ∙ again b.message b.rest b.begins.fits) (ap TooLarge stops.0)
+fault_read size (Bad bad) place rest bytes stops = grind (arith, read_of rest (Err bad.fault) bytes stops.1)
+fault_read size (TooLarge at) place rest bytes stops = grind (arith, common_steps, again)
 fault_read size NoMemory place rest bytes stops = absurd stops
 
 -- where packing stops no message that fits stands
@@ -95,29 +93,21 @@ stop_is_stuck size (Bad bad) place rest bytes stops m more fits e =
 stop_is_stuck size (TooLarge at) place rest bytes stops m more fits e = grind (arith, common_steps, one_message_lem)
 stop_is_stuck size NoMemory place rest bytes stops m more fits e = stops
 
+-- messages are read in one way
+one_read : (size : ℕ) (bytes : List ℕ) → AreBytes bytes → (one other : Result (List MessageParts) PackFault)
+    → Reads spelling (FitsIn size) (StopsAt size) bytes one → Reads spelling (FitsIn size) (StopsAt size) bytes other → one ≡ other
+one_read size bytes fits = one_answer spelling (FitsIn size) (StopsAt size) bytes (record {
+  free = λ x y a b fits_x fits_y e. one_message_lem x y a b fits_x.fits fits_y.fits e;
+  none = λ m more fits_m e. no_message m more fits_m.fits e;
+  stuck = λ fault place front rest e stops. stop_is_stuck size fault place rest (behind_bytes front rest (subst AreBytes e fits)) stops;
+  one = λ f g place front rest e a b. grind (arith, fault_read, behind_bytes front rest (subst AreBytes e fits));
+})
+
 -- there is one answer
 pub one_pack_answer_lem : (size : ℕ) (bytes : List ℕ) (one other : Result (List Run) PackFault) → AreBytes bytes
     → Packs size bytes one → Packs size bytes other → one ≡ other
-one_pack_answer_lem size bytes one other fits a b = by_cases one other a b
-  where
-    settles : Settles spelling (FitsIn size) (StopsAt size) bytes
-    settles = record {
-      free = λ x y a b fits_x fits_y e. one_message_lem x y a b fits_x.fits fits_y.fits e;
-      none = λ m more fits_m e. no_message m more fits_m.fits e;
-      stuck = λ fault place front rest e stops. stop_is_stuck size fault place rest (behind_bytes front rest (subst AreBytes e fits)) stops;
-      one = λ f g place front rest e a b.
-          let left = behind_bytes front rest (subst AreBytes e fits) in
-          cc (fault_read size f place rest left a, fault_read size g place rest left b);
-    }
-
-    same : (one other : Result (List MessageParts) PackFault) → Reads spelling (FitsIn size) (StopsAt size) bytes one
-        → Reads spelling (FitsIn size) (StopsAt size) bytes other → one ≡ other
-    same one other a b = one_answer spelling (FitsIn size) (StopsAt size) bytes settles one other a b
-
-    by_cases : (one other : Result (List Run) PackFault) → Packs size bytes one → Packs size bytes other → one ≡ other
-    by_cases (Ok p) (Ok q) a b =
-        let messages = same (Ok a.messages) (Ok b.messages) a.read b.read in
-        ap Ok (one_cut size p q a.packed.cut.each a.packed.full b.packed.cut.each b.packed.full (cc (a.packed.cut.whole, b.packed.cut.whole, messages)))
-    by_cases (Ok p) (Err g) a b = absurd (cc (same (Ok a.messages) (Err g) a.read b))
-    by_cases (Err f) (Ok q) a b = absurd (cc (same (Ok b.messages) (Err f) b.read a))
-    by_cases (Err f) (Err g) a b = cc (same (Err f) (Err g) a b)
+one_pack_answer_lem size bytes (Ok p) (Ok q) fits a b =
+    grind (arith, common_steps, one_cut, one_read size bytes fits (Ok a.messages) (Ok b.messages) a.read b.read)
+one_pack_answer_lem size bytes (Ok p) (Err g) fits a b = absurd (cc (one_read size bytes fits (Ok a.messages) (Err g) a.read b))
+one_pack_answer_lem size bytes (Err f) (Ok q) fits a b = absurd (cc (one_read size bytes fits (Ok b.messages) (Err f) b.read a))
+one_pack_answer_lem size bytes (Err f) (Err g) fits a b = cc (one_read size bytes fits (Err f) (Err g) a b)

@@ -29,6 +29,7 @@ pub fn count(bytes: &[u8]) -> Count
 }
 
 /// How many messages the head at the front says, and what stands after the bytes that it says.
+#[tactic(auto, using(std::proofs::lemmas::Grind::common_steps, crate::proofs::UnitLemmas::head_says))]
 fn first_unit(bytes: &[u8]) -> Option<(u16, &[u8])>
     ensures less { IfSome result (λ x. length x.1.now < length bytes.now) }
     ensures told { (run : Run) (more : List ℕ) → FitsUnit run → bytes.now ≡ unit run ++ more

@@ -1,6 +1,6 @@
 -- A configuration without a fault of value is valid.
-use Rattle.std.proofs.Common.{◌≡◌, ◌≤◌, ◌^◌, ℕ, suc, List, [], ◌∷◌, Option, Some, None, IfSome, Ok, length, arith}
-use Rattle.std.proofs.lemmas.Bool.{leb-true, ltb-true, and_parts}
+use Rattle.std.proofs.Common.{◌≡◌, ◌&&◌, ℕ, suc, List, [], ◌∷◌, Option, IfSome, Ok, length, arith}
+use Rattle.std.proofs.lemmas.Bool.{leb-true}
 use Rattle.std.specs.Prelude.{Result, nat_le}
 use Rattle.std.specs.List.{AllByRecursion}
 use Rattle.ids_types.specs.declared.class_spec.ClassSpec.{ClassSpec}
@@ -20,26 +20,13 @@ ranged number low high n next x e = let (here, others) = both_ok _ _ _ e in (in_
 -- a window without fault
 window_ok : (fault least most : ℕ) (window : Option Window)
     → Values.window_value fault least most window ≡ Ok tt → IfSome window (IsWindow least most)
-window_ok fault least most None e = tt
-window_ok fault least most (Some window) e =
-    let (interval, number) = ranged fault 1 (2 ^ 62) window.interval _ _ e in
-    record { interval = interval; number = in_range_ok fault least most window.number number }
+window_ok fault least most window e = grind (arith, e)
 
 -- classes without fault
 classes_ok : (index above : ℕ) (classes : List ClassSpec)
     → Values.each_class index above classes ≡ Ok tt → AreClasses above classes
 classes_ok index above [] e = tt
-classes_ok index above (class ∷ classes) e =
-    let (here, behind) = both_ok _ _ _ e in
-    let (size, others) = ranged 15 1 1024 class.size _ _ (at_ok (places.Class (capped index)) _ here) in
-    let (number, rising) = ranged 16 1 1024 class.number _ _ others in
-    (ltb-true above class.size (asks_ok 17 _ rising), size, number, classes_ok (suc index) class.size classes behind)
-
--- an aggregation without fault
-aggregate_ok : (aggregate : Option Aggregate)
-    → Values.aggregate_value aggregate ≡ Ok tt → IfSome aggregate (λ a. IsInterval a.interval)
-aggregate_ok None e = tt
-aggregate_ok (Some aggregate) e = in_range_ok 23 1 (2 ^ 62) aggregate.interval e
+classes_ok index above (class ∷ classes) e = grind (arith, e, classes_ok (suc index) class.size classes)
 
 -- an event without fault
 event_ok : (profile : ℕ) (event : Event)
@@ -49,29 +36,14 @@ event_ok profile event e =
     let (id, others) = ranged 20 0 65535 event.id _ _ e in
     let (sensor, others) = ranged 21 0 63 event.sensor _ _ others in
     let (version, others) = ranged 26 0 (Values.most_version profile) event.version _ _ others in
-    let (block, others) = asked _ _ _ _ others in
+    let (block, others) = asked 22 (nat_le (length event.block) 16 && Values.rises 0 event.block) _ _ others in
     let (nth, others) = ranged 23 1 65535 event.nth _ _ others in
-    let (aggregate, threshold) = both_ok _ _ _ others in
-    let (few, states) = and_parts (nat_le (length event.block) 16) (Values.rises 0 event.block) block in
-    let most : (event.version ≤ 255) × (profile ≡ 1 → event.version ≡ 0) = grind (arith, version.most) in
-    assumption (leb-true (length event.block) 16 few, aggregate_ok event.aggregate aggregate, window_ok 23 1 65535 event.threshold threshold)
+    let (aggregate, threshold) = both_ok (Values.aggregate_value event.aggregate) _ _ others in
+    grind (arith, id, sensor, version, block, nth, aggregate, window_ok 23 1 65535 event.threshold threshold)
 
 -- internal events without fault
 internal_ok : (config : Parts) → Values.internal_value config ≡ Ok tt → AreInternal config
-internal_ok config e =
-    let (others, last_two) = and_parts _ _ (asks_ok 24 _ e) in
-    let (others, outer_two) = and_parts _ _ others in
-    let (others, first_two) = and_parts _ _ others in
-    let (others, limited) = and_parts _ _ others in
-    let (lost_events, lost_contexts) = and_parts _ _ others in
-    record {
-      lost_events = lost_events;
-      lost_contexts = lost_contexts;
-      limited = limited;
-      first_two = first_two;
-      outer_two = outer_two;
-      last_two = last_two;
-    }
+internal_ok config e = let all = asks_ok 24 _ e in grind (arith, all)
 
 -- a configuration without fault
 pub parts_ok : (config : Parts) → Values.parts_value config ≡ Ok tt → IsValid config

@@ -1,10 +1,9 @@
 -- What an answer of `decode` tells of the bytes, and that a slice holds bytes.
-use Rattle.ids_frame.proofs.Names.{◌≡◌, ℕ, ◌≤◌, get_or, List, length, take, drop, Ok, Err, sym, subst, arith, AreBytes, MessageParts, spelling, BeginsWith, Begins, Begun}
+use Rattle.ids_frame.proofs.Names.{◌≡◌, ℕ, ◌≤◌, get_or, List, length, take, drop, Ok, Err, arith, AreBytes, MessageParts, spelling, BeginsWith}
 use Rattle.std.proofs.Common.{Result, Fits, w8}
-use Rattle.std.specs.Result.{result_map_both}
 use Rattle.std.proofs.lemmas.Grind.{common_steps}
 use Rattle.std.proofs.lemmas.List.{get_or_default}
-use Rattle.ids_frame.specs.{CauseOf, decoded, message_at, FrameFault}
+use Rattle.ids_frame.specs.{CauseOf, decoded, FrameFault}
 use Rattle.ids_frame.proofs.MessageLemmas.{told}
 
 -- the bytes begin with this message, and so many of them are its spelling
@@ -18,13 +17,9 @@ abbrev pub Tells : List ℕ → Result (MessageParts × ℕ) FrameFault → Type
 Tells bytes (Ok x) = Front bytes x.0 x.1
 Tells bytes (Err fault) = CauseOf fault bytes
 
-tells : (bytes : List ℕ) (read : Begun) → Begins bytes read
-    → Tells bytes (result_map_both (λ x. (x.0, length (spelling x.0))) (λ fault. fault) read)
-tells bytes read begins = grind (arith, common_steps)
-
 -- each answer of `decode` says so
 pub decode_tells : (bytes : List ℕ) (read : Result (MessageParts × ℕ) FrameFault) → AreBytes bytes → read ≡ decoded bytes → Tells bytes read
-decode_tells bytes read fit e = subst (Tells bytes) (sym e) (tells bytes (message_at bytes) (told bytes fit))
+decode_tells bytes read fit e = grind (arith, common_steps, told bytes fit)
 
 -- what a slice holds are bytes
 pub are_bytes : (bytes : List ℕ) → ((i : ℕ) → Fits w8 (get_or bytes i 0)) → AreBytes bytes

@@ -1,11 +1,10 @@
 -- What a file holds is its one list of messages, or the one place where they stop.
 use Rattle.ids_frame.proofs.Names.{◌≡◌, ℕ, zero, suc, ◌-◌, ◌<◌, ◌≤◌, ◌==◌, true, false, List, [], ◌∷◌, ◌++◌, length, drop, Ok, Err, refl, sym, ap, subst, ◌∙◌, append_assoc, arith, ◌↔◌, result_ok, eqb-true, append-nil, length-append, AreBytes, MessageParts, FitsMessage, spelling, Begun, BeginsWith, Begins}
 use Rattle.std.proofs.Math.Dec.{eqb-suc-zero}
-use Rattle.std.proofs.lemmas.Grind.{flat_map-append}
-use Rattle.std.proofs.lemmas.List.Elements.{All-push, All-from_recursion, recursion_from_All}
 use Rattle.ids_frame.specs.{FrameFault, message_at, joined, AreMessages, IsJoined, HasMessages, Held, Holds, before, held_in, messages_read, messages_of}
 use Rattle.ids_frame.proofs.PartLemmas.{behind_bytes, one_answer}
 use Rattle.ids_frame.proofs.MessageLemmas.{again, told, read_of}
+use Rattle.std.proofs.lemmas.Grind.{common_steps}
 
 -- ---- bytes that hold something
 
@@ -35,9 +34,7 @@ fault_held : (size : ℕ) (front : List MessageParts) (next : ℕ) (rest : List 
     → held_in size 0 (joined front ++ next ∷ rest) ≡ Err (record { at = size - length (next ∷ rest); fault = fault })
 unfolding held_in
 fault_held size [] next rest fault fit e = rw e refl
-fault_held size (m ∷ front) next rest fault fit e =
-    ap (held_in size 0) (append_assoc (spelling m) (joined front) (next ∷ rest))
-    ∙ held_behind size m (joined front ++ next ∷ rest) fit.0 ∙ ap (before m) (fault_held size front next rest fault fit.1 e)
+fault_held size (m ∷ front) next rest fault fit e = grind (arith, common_steps, append_assoc, held_behind, fault_held size front next rest fault fit.1 e)
 
 -- messages that a file is joined of are read
 joined_read : (bytes : List ℕ) (messages : List MessageParts) → IsJoined bytes messages → messages_read bytes ≡ Ok messages
@@ -61,14 +58,11 @@ all_left bytes fits = record { front = []; fit = tt; whole = refl; are_bytes = f
 pub left_behind : (bytes rest : List ℕ) (m : MessageParts) (behind : List ℕ) → IsLeft bytes rest → message_at rest ≡ Ok (m, behind)
     → IsLeft bytes behind × (length behind < length rest)
 left_behind bytes rest m behind left e =
-    let begins : BeginsWith rest m behind = subst (Begins rest) e (told rest left.are_bytes) in
-    let grouped : joined left.front ++ (spelling m ++ behind) ≡ joined (left.front ++ m ∷ []) ++ behind =
-    simp (flat_map-append, append-nil, append_assoc) in (
+    let begins : BeginsWith rest m behind = subst (Begins rest) e (told rest left.are_bytes) in (
       record {
         front = left.front ++ m ∷ [];
-        fit = recursion_from_All FitsMessage (left.front ++ m ∷ [])
-            (All-push FitsMessage left.front m (All-from_recursion FitsMessage left.front left.fit) begins.fits);
-        whole = left.whole ∙ ap (λ l. joined left.front ++ l) begins.whole ∙ grouped;
+        fit = grind (arith, common_steps);
+        whole = grind (arith, common_steps, append-nil, append_assoc);
         are_bytes = behind_bytes (spelling m) behind (subst AreBytes begins.whole left.are_bytes);
       },
       omega (arith, ap (λ l. length l) begins.whole, length-append (drop 1 (spelling m)) behind),
@@ -79,15 +73,12 @@ pub stops : (bytes rest : List ℕ) (fault : FrameFault) → IsLeft bytes rest �
     → messages_read bytes ≡ Err (record { at = length bytes - length rest; fault = fault })
 unfolding messages_read
 stops bytes [] fault left some e = absurd (cc some)
-stops bytes (next ∷ rest) fault left some e =
-    ap (held_in (length bytes) 0) left.whole ∙ fault_held (length bytes) left.front next rest fault left.fit e
+stops bytes (next ∷ rest) fault left some e = grind (arith, common_steps, fault_held)
 
 -- where nothing is left all are messages, and they are those that are read
 pub all_read : (bytes rest : List ℕ) → IsLeft bytes rest → (length rest == 0) ≡ true
     → HasMessages bytes × (Ok (messages_of bytes) ≡ messages_read bytes)
-all_read bytes [] left none =
-    let joins : IsJoined bytes left.front = record { fit = left.fit; whole = left.whole ∙ append-nil (joined left.front) } in
-    ((left.front, joins), rw (joined_read bytes left.front joins) refl)
+all_read bytes [] left none = grind (arith, common_steps, append-nil, joined_read)
 all_read bytes (next ∷ rest) left none = absurd (omega (arith, eqb-true _ _ none))
 
 -- what the steps of going over the messages need
@@ -97,9 +88,7 @@ pub ruleset going_over = (all_left, left_behind, stops, all_read)
 
 -- a file holds what is read of it
 holds : (most : ℕ) (bytes rest : List ℕ) → IsLeft bytes rest → length rest ≤ most → Holds bytes (messages_read bytes)
-holds most bytes [] left le =
-    let has = (all_read bytes [] left refl).0 in
-    subst (Holds bytes) (sym (joined_read bytes has.0 has.1)) has.1
+holds most bytes [] left le = grind (arith, common_steps, all_read, joined_read)
 holds zero bytes (next ∷ rest) left le = absurd (omega arith)
 holds (suc most) bytes (next ∷ rest) left le =
     (elim (message_at (next ∷ rest)) as (λ (r : Begun). message_at (next ∷ rest) ≡ r → Holds bytes (messages_read bytes)) [
@@ -107,14 +96,14 @@ holds (suc most) bytes (next ∷ rest) left le =
           let step = left_behind bytes (next ∷ rest) x.0 x.1 left e in
           holds most bytes x.1 step.0 (omega (arith, step.1))
       | Err fault ↦ λ e.
-          subst (Holds bytes) (sym (stops bytes (next ∷ rest) fault left (eqb-suc-zero _) e)) (record {
+          rw (stops bytes (next ∷ rest) fault left (eqb-suc-zero _) e) (record {
             front = left.front;
             fit = left.fit;
             next = next;
             rest = rest;
             whole = left.whole;
-            place = omega (arith, ap (λ l. length l) left.whole, length-append (joined left.front) (next ∷ rest));
-            cause = subst (Begins (next ∷ rest)) e (told (next ∷ rest) left.are_bytes);
+            place = grind (arith, common_steps, length-append);
+            cause = rw e at (told (next ∷ rest) left.are_bytes);
           })
     ]) refl
 
@@ -124,12 +113,8 @@ unfolding messages_read
 read_if_held bytes (Ok messages) fits joins = joined_read bytes messages joins
 read_if_held bytes (Err bad) fits breaks =
     let tail : List ℕ = breaks.next ∷ breaks.rest in
-    let tail_fits = behind_bytes (joined breaks.front) tail (subst AreBytes breaks.whole fits) in
-    let fault = read_of tail (Err bad.fault) tail_fits breaks.cause in
-    let size = ap (λ l. length l) breaks.whole in
-    let place : length bytes - length tail ≡ bad.at = omega (arith, breaks.place, size, length-append (joined breaks.front) tail) in
-    ap (held_in (length bytes) 0) breaks.whole
-    ∙ fault_held (length bytes) breaks.front breaks.next breaks.rest bad.fault breaks.fit fault ∙ rw place refl
+    let fault = read_of tail (Err bad.fault) (behind_bytes (joined breaks.front) tail (subst AreBytes breaks.whole fits)) breaks.cause in
+    grind (arith, common_steps, fault_held, length-append)
 
 -- a file holds exactly what is read of it
 pub read_is_held : (bytes : List ℕ) (held : Held) → AreBytes bytes → (messages_read bytes ≡ held) ↔ Holds bytes held

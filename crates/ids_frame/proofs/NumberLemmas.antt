@@ -1,7 +1,8 @@
 -- Reading bytes and numbers.
-use Rattle.ids_frame.proofs.Names.{◌≡◌, ℕ, suc, ◌-◌, ◌^◌, ◌<◌, ◌≤◌, List, [], ◌∷◌, ◌++◌, length, get_or, replicate, refl, sym, ◌∙◌, arith, inl, inr, Width, w16, w32, w64, byte_len, from_be_bytes, to_be_bytes, cases_lt, lt-ltb, le-ltb, append-nil, take_at, drop_at, take-append-drop, length-append, length-take, length-replicate, get_or_past, All-append, All-head, All-take, All-replicate, All-from_recursion, IsByte, AreBytes, bytes_at, byte_at, number_at}
+use Rattle.ids_frame.proofs.Names.{◌≡◌, ℕ, suc, ◌-◌, ◌^◌, ◌<◌, List, [], ◌∷◌, ◌++◌, length, get_or, replicate, refl, sym, ◌∙◌, arith, Width, w16, w32, w64, byte_len, from_be_bytes, to_be_bytes, append-nil, take_at, drop_at, take-append-drop, length-append, length-take, length-replicate, get_or_past, All-append, All-head, All-take, All-replicate, All-from_recursion, IsByte, AreBytes, bytes_at, byte_at, number_at}
 use Rattle.std.proofs.lemmas.Nat.{be_bytes_2, be_bytes_4, be_bytes_8, from_be_bytes-to_be_bytes_2, from_be_bytes-to_be_bytes_4, from_be_bytes-to_be_bytes_8}
-use Rattle.ids_frame.proofs.PartLemmas.{IsPart, Tells, told_part, made, part, parts_are_part}
+use Rattle.ids_frame.proofs.PartLemmas.{IsPart, RunsOut, Tells, told_part, made, part, parts_are_part}
+use Rattle.std.proofs.lemmas.Grind.{common_steps}
 
 -- ---- bytes
 
@@ -22,35 +23,26 @@ pub record AreMany (count : ℕ) (bytes : List ℕ) : Type 0 where
   pub len : length bytes ≡ count
   pub are_bytes : AreBytes bytes
 
--- the first of enough bytes are read as they are, and zeros complete bytes that are too few
-bytes_tell : (count : ℕ) (bytes : List ℕ) → AreBytes bytes → Tells (λ x. x) (AreMany count) bytes (bytes_at count bytes)
-bytes_tell count bytes fits =
-    elim (cases_lt (length bytes) count) [
-      | inl lt ↦
-          let more = count - suc (length bytes) in
-          let zeros : List ℕ = replicate more 0 in
-          rw (lt-ltb _ _ lt) record {
-            value = bytes ++ 0 ∷ zeros;
-            fits = record {
-              len = omega (arith, length-append bytes (0 ∷ zeros), length-replicate {A = ℕ} more 0);
-              are_bytes = All-append IsByte bytes (0 ∷ zeros) fits (All-replicate IsByte (suc more) 0 (omega arith));
-            };
-            next = 0;
-            more = zeros;
-            whole = refl;
-          }
-      | inr le ↦ rw (le-ltb _ _ le) (
-        sym (take-append-drop count bytes),
-        record { len = omega (arith, length-take count bytes); are_bytes = All-take IsByte count bytes fits },
-      )
-    ]
+-- zeros complete bytes that are too few
+zeros_complete : (count : ℕ) (bytes : List ℕ) → AreBytes bytes → length bytes < count → RunsOut (λ x. x) (AreMany count) bytes
+zeros_complete count bytes fits lt =
+    let more = count - suc (length bytes) in
+    record {
+      value = bytes ++ replicate (suc more) 0;
+      fits = record {
+        len = grind (arith, common_steps, length-append, length-replicate);
+        are_bytes = All-append IsByte bytes _ fits (All-replicate IsByte (suc more) 0 (omega arith));
+      };
+      next = 0;
+      more = replicate more 0;
+      whole = refl;
+    }
 
 -- so many bytes are a part
 pub bytes_are_part : (count : ℕ) → IsPart (bytes_at count) (λ x. x) (AreMany count)
-bytes_are_part count = told_part (bytes_tell count)
-    (λ x rest many.
-    let le : count ≤ length (x ++ rest) = omega (arith, many.len, length-append x rest) in
-    rw (le-ltb _ _ le, take_at x rest count many.len, drop_at x rest count many.len) refl)
+bytes_are_part count = told_part
+    (λ bytes fits. grind (arith, common_steps, zeros_complete, take-append-drop, length-take, All-take))
+    (λ x rest many. grind (arith, common_steps, length-append, take_at, drop_at))
     (replicate count 0, record { len = length-replicate {A = ℕ} count 0; are_bytes = All-replicate IsByte count 0 (omega arith) })
 
 -- ---- numbers
@@ -64,21 +56,11 @@ pub record IsWide (w : Width) (limit : ℕ) : Type 0 where
 
 -- numbers of two bytes are read back
 pub wide16 : IsWide w16 (2 ^ 16)
-wide16 = record {
-  many = λ n. record { len = refl; are_bytes = All-from_recursion IsByte (to_be_bytes w16 n) (omega arith) };
-  back = λ bytes many. be_bytes_2 bytes _ many.len (each_byte bytes many.are_bytes) refl;
-  again = λ n lt. from_be_bytes-to_be_bytes_2 n lt;
-  below = λ bytes fits. let b = each_byte bytes fits in omega (arith, b 0, b 1);
-}
+wide16 = grind (arith, common_steps, All-from_recursion, be_bytes_2, each_byte, from_be_bytes-to_be_bytes_2)
 
 -- the same of four bytes
 pub wide32 : IsWide w32 (2 ^ 32)
-wide32 = record {
-  many = λ n. record { len = refl; are_bytes = All-from_recursion IsByte (to_be_bytes w32 n) (omega arith) };
-  back = λ bytes many. be_bytes_4 bytes _ many.len (each_byte bytes many.are_bytes) refl;
-  again = λ n lt. from_be_bytes-to_be_bytes_4 n lt;
-  below = λ bytes fits. let b = each_byte bytes fits in omega (arith, b 0, b 1, b 2, b 3);
-}
+wide32 = grind (arith, common_steps, All-from_recursion, be_bytes_4, each_byte, from_be_bytes-to_be_bytes_4)
 
 -- and of eight
 pub wide64 : IsWide w64 (2 ^ 64)

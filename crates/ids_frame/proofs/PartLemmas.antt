@@ -1,6 +1,8 @@
 -- What a reader of a part and the part's spelling have to do with each other, for one part and for
 -- several, one after the other.
-use Rattle.ids_frame.proofs.Names.{◌≡◌, ℕ, Bool, true, false, List, [], ◌∷◌, ◌++◌, length, Some, None, refl, sym, ap, subst, ◌∙◌, append_assoc, Option, IfSome, is_some, append-nil, drop_at, All-drop, IsByte, AreBytes, Read, ◌>>=◌, optional}
+use Rattle.ids_frame.proofs.Names.{◌≡◌, ℕ, Bool, true, false, List, [], ◌∷◌, ◌++◌, length, Some, None, refl, subst, append_assoc, Option, IfSome, is_some, append-nil, drop_at, All-drop, IsByte, AreBytes, Read, ◌>>=◌, optional}
+use Rattle.std.proofs.Common.{arith}
+use Rattle.std.proofs.lemmas.Grind.{common_steps}
 
 -- two answers that are the same have one value, and the same bytes after it
 pub one_answer : {A : Type 0} {p q : A × List ℕ} → Some p ≡ Some q → (p.0 ≡ q.0) × (p.1 ≡ q.1)
@@ -45,12 +47,7 @@ tells p bytes fits None e = p.cut bytes fits e
 pub told_part : {A : Type 0} {read : List ℕ → Read A} {write : A → List ℕ} {Can : A → Type 0}
     → ((bytes : List ℕ) → AreBytes bytes → Tells write Can bytes (read bytes))
     → ((x : A) (rest : List ℕ) → Can x → read (write x ++ rest) ≡ Some (x, rest)) → ((x : A) × Can x) → IsPart read write Can
-told_part {A} {read} {write} {Can} told again one = record {
-  takes = λ bytes x rest fits e. subst (Tells write Can bytes) e (told bytes fits);
-  again = again;
-  cut = λ bytes fits e. subst (Tells write Can bytes) e (told bytes fits);
-  one = one;
-}
+told_part {A} {read} {write} {Can} told again one = grind (arith, common_steps)
 
 -- ---- parts one after the other
 
@@ -95,9 +92,7 @@ pub record Makes {A : Type 0} (parts : Parts A) (x : A) : Type 0 where
 all_again : {A : Type 0} (parts : Parts A) (v : Values parts) (rest : List ℕ) → AllCan parts v
     → reads parts (texts parts v ++ rest) ≡ Some (value parts v, rest)
 all_again (made x) v rest can = refl
-all_again (part {B} {read} {write} p more) v rest can =
-    let text = texts (more v.0) v.1 in
-    rw (append_assoc (write v.0) text rest, p.again v.0 (text ++ rest) can.0) (all_again (more v.0) v.1 rest can.1)
+all_again (part {B} {read} {write} p more) v rest can = grind (arith, common_steps, append_assoc, all_again (more v.0) v.1 rest can.1)
 
 -- some values
 some_values : {A : Type 0} (parts : Parts A) → (v : Values parts) × AllCan parts v
@@ -111,25 +106,23 @@ all_tell : {A : Type 0} (parts : Parts A) (front bytes : List ℕ) (spell : A �
     → ((v : Values parts) → AllCan parts v → (front ++ texts parts v ≡ spell (value parts v)) × May (value parts v))
     → Tells spell May (front ++ bytes) (reads parts bytes)
 all_tell (made x) front bytes spell May fits spelled =
-    let s = spelled tt tt in
-    (ap (λ l. l ++ bytes) (sym (append-nil front) ∙ s.0), s.1)
+    grind (arith, common_steps, append-nil, spelled tt tt)
 all_tell (part {B} {read} {write} {Can} p more) front bytes spell May fits spelled =
     (elim (read bytes) as (λ (r : Read B). Tells write Can bytes r → Tells spell May (front ++ bytes) (r >>= λ y. reads (more y.0) y.1)) [
       | Some y ↦ λ t.
           let told = all_tell (more y.0) (front ++ write y.0) y.1 spell May (behind_bytes (write y.0) y.1 (subst AreBytes t.0 fits))
-          (λ v can. let s = spelled (y.0, v) (t.1, can) in (append_assoc front (write y.0) (texts (more y.0) v) ∙ s.0, s.1)) in
-          subst (λ l. Tells spell May l (reads (more y.0) y.1)) (append_assoc front (write y.0) y.1 ∙ ap (λ l. front ++ l) (sym t.0)) told
+          (λ v can. grind (arith, common_steps, append_assoc, spelled (y.0, v) (t.1, can))) in
+          grind (arith, common_steps, append_assoc, told)
       | None ↦ λ r.
           let behind = some_values (more r.value) in
           let last = texts (more r.value) behind.0 in
           let s = spelled (r.value, behind.0) (r.fits, behind.1) in
-          let whole = sym (append_assoc bytes (r.next ∷ r.more) last) ∙ ap (λ l. l ++ last) r.whole in
           record {
             value = value (more r.value) behind.0;
             fits = s.1;
             next = r.next;
             more = r.more ++ last;
-            whole = append_assoc front bytes (r.next ∷ (r.more ++ last)) ∙ ap (λ l. front ++ l) whole ∙ s.0;
+            whole = grind (arith, common_steps, append_assoc, s, r.whole);
           }
     ]) (tells p bytes fits (read bytes) refl)
 
@@ -145,10 +138,7 @@ pub parts_are_part : {A : Type 0} (parts : Parts A) (write : A → List ℕ) (Ca
 parts_are_part {A} parts write Can spelled makes =
     told_part
     (λ bytes fits. all_tell parts [] bytes write Can fits (λ v can. let s = spelled v can in (s.text, s.can)))
-    (λ x rest can.
-    let m = makes x can in
-    let text : write x ≡ texts parts m.values = ap write (sym m.is) ∙ sym (spelled m.values m.can).text in
-    rw text (all_again parts m.values rest m.can ∙ ap (λ y. Some (y, rest)) m.is))
+    (λ x rest can. grind (arith, common_steps, makes x can, spelled (makes x can).values, all_again parts (makes x can).values rest))
     (let some = some_values parts in (value parts some.0, (spelled some.0 some.1).can))
 
 -- ---- a part that is there or not
@@ -161,9 +151,7 @@ IsThere present Can o = (present ≡ is_some o) × IfSome o Can
 pub optional_is_part : {A : Type 0} {read : List ℕ → Read A} (write : Option A → List ℕ) {Can : A → Type 0}
     → write None ≡ [] → IsPart read (λ x. write (Some x)) Can
     → (present : Bool) → IsPart (optional present read) write (IsThere present Can)
-optional_is_part write {Can} none p false =
-    parts_are_part (made None) write (IsThere false Can) (λ v can. record { text = sym none; can = (refl, tt) })
-    (elim [ None ↦ λ there. record { values = tt; can = tt; is = refl } | Some x ↦ λ there. absurd (cc there.0) ])
+optional_is_part write {Can} none p false = grind (arith, common_steps, parts_are_part)
 optional_is_part write {Can} none p true =
     parts_are_part (part p (λ x. made (Some x))) write (IsThere true Can)
     (λ v can. record { text = append-nil _; can = (refl, can.0) })

@@ -1,2 +1,1 @@
 pub mod MemoryFilesLemmas
-pub mod StreamsLemmas

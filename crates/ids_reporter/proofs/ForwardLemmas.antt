@@ -1,5 +1,5 @@
 -- What the taken pairs name is all sources merged.
-use Rattle.ids_reporter.proofs.Names.{◌≡◌, ℕ, zero, suc, ◌+◌, ◌<◌, ◌≤◌, inl, inr, List, [], ◌∷◌, ◌++◌, length, Option, Some, refl, ap, ◌∙◌, arith, eqb_tells, indexes, upto, AreInOrder, Taken, Bool, true, false, ◌==◌, flat_map-append, get_or_past, filter_map-append, AllByRecursion, cons_option, filter_map, range_with_len, All, OnOk, Result, filter, if◌then◌else◌, is_ok, slice_get, MessageParts, joined, Drain, Feeder, One, AreMerged, named, named_by, AreAllTaken, back_of, feeders_of, taken_of, AreApart, Sources, count_at, instance_of, source_at, rules, common_steps}
+use Rattle.ids_reporter.proofs.Names.{◌≡◌, ℕ, zero, suc, ◌+◌, ◌<◌, ◌≤◌, inl, inr, List, [], ◌∷◌, ◌++◌, length, Option, Some, refl, ap, ◌∙◌, arith, indexes, upto, AreInOrder, Taken, Bool, true, ◌==◌, flat_map-append, get_or_past, filter_map-append, AllByRecursion, cons_option, filter_map, range_with_len, All, OnOk, Result, filter, if◌then◌else◌, is_ok, slice_get, MessageParts, joined, Drain, Feeder, One, AreMerged, named, named_by, AreAllTaken, back_of, feeders_of, taken_of, AreApart, Sources, count_at, instance_of, source_at, rules, common_steps}
 use Rattle.std.proofs.lemmas.Option.{slice_get_cases, slice_get_within}
 use Rattle.std.proofs.lemmas.Bool.Decides.{nat_tests}
 use Rattle.ids_reporter.specs.declared.relay.Relay.{Relay}
@@ -18,39 +18,26 @@ no_source sources s le = ap (λ l. length l) (get_or_past sources s [] le)
 
 -- ---- the messages of one source
 
-kept : (test : MessageParts → Bool) (o : Option MessageParts) (messages : List MessageParts)
-    → ((m : MessageParts) → o ≡ Some m → test m ≡ true) → filter test (cons_option o messages) ≡ cons_option o (filter test messages)
-kept test o messages all = search rules
-
-dropped : (test : MessageParts → Bool) (o : Option MessageParts) (messages : List MessageParts)
-    → ((m : MessageParts) → o ≡ Some m → test m ≡ false) → filter test (cons_option o messages) ≡ filter test messages
-dropped test o messages all = search rules
+chosen : (test : MessageParts → Bool) (o : Option MessageParts) (b : Bool) (messages : List MessageParts)
+    → ((m : MessageParts) → o ≡ Some m → test m ≡ b)
+    → filter test (cons_option o messages) ≡ (if b then cons_option o (filter test messages) else filter test messages)
+chosen test o b messages all = grind (arith, common_steps)
 
 -- those of its instance are those that its pairs name
 of_source : (sources : Sources) (s i : ℕ) → AreApart sources → instance_of (source_at sources s) ≡ One i → (pairs : List Taken)
     → filter (λ (m : MessageParts). m.instance == i) (named sources pairs) ≡ filter_map (slice_get (source_at sources s)) (indexes s pairs)
 of_source sources s i apart one [] = refl
 of_source sources s i apart one (pair ∷ pairs) =
-    let test : MessageParts → Bool = λ m. m.instance == i in
-    let others = of_source sources s i apart one pairs in
-    let is : (m : MessageParts) → named_by sources pair ≡ Some m → instance_of (source_at sources pair.source) ≡ One m.instance =
-    λ m at. instance_at (source_at sources pair.source) pair.index m (apart.pure pair.source) at in
-    elim (eqb_tells pair.source s) [
-      | inl t ↦
-          let yes : (m : MessageParts) → named_by sources pair ≡ Some m → test m ≡ true = λ m at. grind (arith, nat_tests, is m at, t.1) in
-          let first = kept test (named_by sources pair) (named sources pairs) yes in
-          grind (arith, common_steps, first, t.1)
-      | inr t ↦
-          let not : (m : MessageParts) → named_by sources pair ≡ Some m → test m ≡ false = λ m at.
-          grind (arith, nat_tests, apart.differ pair.source s i, is m at) in
-          rw t.0 (dropped test (named_by sources pair) (named sources pairs) not ∙ others)
-    ]
+    let here : (m : MessageParts) → named_by sources pair ≡ Some m → (m.instance == i) ≡ (pair.source == s) = λ m at.
+    grind (arith, nat_tests, apart.differ pair.source s i, instance_at (source_at sources pair.source) pair.index m (apart.pure pair.source) at) in
+    let first = chosen (λ m. m.instance == i) (named_by sources pair) (pair.source == s) (named sources pairs) here in
+    grind (arith, common_steps, nat_tests, first, of_source sources s i apart one pairs)
 
 -- all numbers in turn name all messages
 shift : (x : MessageParts) (xs : List MessageParts) (a n : ℕ)
     → filter_map (slice_get (x ∷ xs)) (range_with_len (a + 1) n) ≡ filter_map (slice_get xs) (range_with_len a n)
 shift x xs a zero = refl
-shift x xs a (suc n) = let on : a + 1 ≡ suc a = omega arith in rw (shift x xs (a + 1) n, on) refl
+shift x xs a (suc n) = grind (arith, common_steps, shift x xs (a + 1) n)
 
 all_named : (messages : List MessageParts) → filter_map (slice_get messages) (upto (length messages)) ≡ messages
 all_named [] = refl
@@ -66,11 +53,7 @@ all_cons o messages here others = search rules
 of_some : (sources : Sources) → AreApart sources → (pairs : List Taken)
     → AllByRecursion (λ (m : MessageParts). (s : ℕ) × (s < length sources) × (instance_of (source_at sources s) ≡ One m.instance)) (named sources pairs)
 of_some sources apart [] = tt
-of_some sources apart (pair ∷ pairs) = all_cons (named_by sources pair) (named sources pairs) (λ m at. (
-  pair.source,
-  grind (arith, no_source sources pair.source, slice_get_within (source_at sources pair.source) pair.index m at),
-  instance_at (source_at sources pair.source) pair.index m (apart.pure pair.source) at,
-)) (of_some sources apart pairs)
+of_some sources apart (pair ∷ pairs) = search (rules, all_cons, no_source, slice_get_within, instance_at, of_some sources apart pairs)
 
 pub merged : (sources : Sources) (pairs : List Taken) → AreApart sources → ((s : ℕ) → indexes s pairs ≡ upto (count_at sources s))
     → AreMerged sources (named sources pairs)

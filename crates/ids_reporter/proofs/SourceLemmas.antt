@@ -56,8 +56,7 @@ message_in bytes index messages i is lt =
     grind (arith, take_one messages i, flat_map-append spelling (take i messages)) in
     let whole : bytes ≡ joined (take (i + 1) messages) ++ joined (drop (i + 1) messages) =
     grind (arith, is.whole, take-append-drop (i + 1) messages, flat_map-append spelling (take (i + 1) messages) (drop (i + 1) messages)) in
-    between bytes (joined (take i messages)) (spelling_at messages i) (joined (drop (i + 1) messages)) _ _ (rw (← next) whole)
-    (is.indexed.places i (omega (arith, lt))) (rw (← next) (is.indexed.places (i + 1) (omega (arith, lt))))
+    grind (arith, common_steps, between)
 
 -- ---- going over the messages
 

@@ -35,6 +35,7 @@ impl From<ids_types::NoMemory> for SourceFault {
 }
 
 /// The messages that bytes are.
+#[tactic(auto, using(std::proofs::lemmas::Grind::common_steps, std::proofs::lemmas::Grind::get_or_default_zero, crate::proofs::SourceLemmas::whole_of))]
 fn messages_in(bytes: &[u8]) -> Result<Messages<'_>, BadMessage>
     ensures read { result ≡ messages_read bytes.now }
     ensures whole { IfOk result (λ messages. bytes.now ≡ joined messages) }
@@ -95,6 +96,7 @@ impl Source {
     }
 
     /// The bytes of message `i`, from 0.
+    #[tactic(auto, using(std::proofs::lemmas::Grind::common_steps, crate::proofs::SourceLemmas::message_in))]
     pub fn message(&self, i: u64) -> &[u8]
         requires { i < length self.now }
         ensures { result.now ≡ spelling_at self.now i }

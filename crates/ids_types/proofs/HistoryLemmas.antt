@@ -1,59 +1,48 @@
 -- A history's fields after an entry was added: what was there reads as before, and the last turn has the entry.
-use Rattle.std.proofs.Common.{◌≡◌, ℕ, zero, suc, ◌+◌, ◌-◌, ◌<◌, ◌≤◌, Bool, true, false, List, [], ◌∷◌, ◌++◌, length, map, drop, set, get_or, Some, None, refl, ap, ◌∙◌, arith, length-drop, length-append, length-set, append_assoc, get_or-set_same}
+use Rattle.std.proofs.Common.{◌≡◌, ℕ, zero, suc, ◌+◌, ◌-◌, ◌<◌, ◌≤◌, Bool, List, [], ◌∷◌, ◌++◌, length, map, set, get_or, refl, ap, arith, length-drop, length-append, length-set, append_assoc, get_or-set_same}
 use Rattle.std.specs.Prelude.{slice_range, IsTrue}
 use Rattle.std.specs.List.{AllByRecursion}
 use Rattle.std.proofs.lemmas.Grind.{common_steps, flat_map-append}
 use Rattle.std.proofs.lemmas.List.{append-nil, drop-append-le, take-append-le, take_all, map-append, take-map, drop-map, drop_at, length-map, get_or_append_left, get_or-append-add}
 use Rattle.std.proofs.lemmas.List.Elements.{All-from_recursion, recursion_from_All, All-set, All-push, All-weaker}
-use Rattle.ids_types.specs.{Absent, Kept, Missing, Act, Report, State, SetMode, Entry, TurnHead, EntryRow, TurnRow, RowKind, Bare, Holding, Lacking, act_bytes, kept_bytes, stamp_before, act_of, entry_of, turn_of, act_numbers, own_numbers, row_by, row_of, KindWithin, EntryWithin, RowWithin, Lies}
-use Rattle.ids_types.specs.Turns.{Turn, begun, extended, with_entry, entries_of}
+use Rattle.ids_types.specs.{Act, Entry, TurnHead, EntryRow, TurnRow, RowKind, act_bytes, kept_bytes, stamp_before, act_of, entry_of, turn_of, act_numbers, own_numbers, row_by, row_of, KindWithin, EntryWithin, RowWithin, Lies}
+use Rattle.ids_types.specs.Turns.{Turn, extended, with_entry, entries_of}
 
 -- a range within a list is the same in a longer list
 pub range_of_front : {A : Type 0} (xs ys : List A) (i j : ℕ) → i ≤ j → j ≤ length xs → slice_range (xs ++ ys) i j ≡ slice_range xs i j
 range_of_front xs ys i j ordered within = grind (arith, drop-append-le, take-append-le, length-drop)
+
+-- what emptying needs
+pub ruleset clearing = (common_steps, length-map)
 
 -- ---- one entry
 
 -- a stamp is the same before a longer list's place
 stamp_same : (numbers more : List ℕ) (stamped : Bool) (place : ℕ) → (IsTrue stamped → 1 ≤ place) → place ≤ length numbers
     → stamp_before (numbers ++ more) stamped place ≡ stamp_before numbers stamped place
-stamp_same numbers more false place some there = refl
-stamp_same numbers more true place some there = grind (arith, get_or_append_left, some refl)
+stamp_same numbers more stamped place some there = grind (arith, common_steps, get_or_append_left)
 
 -- what a row tells stays where numbers and bytes are added
 act_same : (numbers more bytes own : List ℕ) (row : EntryRow) (kind : RowKind)
     → row.place ≤ length numbers → (IsTrue row.stamped → 1 ≤ row.place)
     → KindWithin numbers (length bytes) row.place kind → act_of (numbers ++ more) (bytes ++ own) row kind ≡ act_of numbers bytes row kind
-act_same numbers more bytes own row Bare there some within = rw (stamp_same numbers more row.stamped row.place some there) refl
-act_same numbers more bytes own row (Holding class) there some within =
-    rw (stamp_same numbers more row.stamped row.place some there)
-    (grind (arith, common_steps, range_of_front, get_or_append_left, within.0, within.1, within.2))
-act_same numbers more bytes own row (Lacking count) there some within =
-    rw (stamp_same numbers more row.stamped row.place some there) (grind (arith, common_steps, range_of_front, within.0, within.1))
-act_same numbers more bytes own row kind there some within = refl
+act_same numbers more bytes own row kind there some within = grind (arith, common_steps, stamp_same, range_of_front, get_or_append_left)
 
 -- the same of entries
 entries_same : (numbers more bytes own : List ℕ) (rows : List EntryRow) → AllByRecursion (EntryWithin numbers (length bytes)) rows
     → map (entry_of (numbers ++ more) (bytes ++ own)) rows ≡ map (entry_of numbers bytes) rows
 entries_same numbers more bytes own [] within = refl
-entries_same numbers more bytes own (row ∷ rows) within =
-    let here = within.0 in
-    rw (act_same numbers more bytes own row row.kind here.there here.stamp here.kind, entries_same numbers more bytes own rows within.1) refl
+entries_same numbers more bytes own (row ∷ rows) within = grind (arith, common_steps, act_same, entries_same numbers more bytes own rows within.1)
 
 -- what a kind points to is there in longer lists
 kind_more : (numbers more : List ℕ) (n m place : ℕ) (kind : RowKind) → n ≤ m
     → KindWithin numbers n place kind → KindWithin (numbers ++ more) m place kind
-kind_more numbers more n m place (Holding class) le within =
-    (grind (arith, length-append), grind (arith, get_or_append_left), grind (arith, get_or_append_left))
-kind_more numbers more n m place (Lacking count) le within = (within.0, omega (arith, within.1, length-append numbers more))
-kind_more numbers more n m place kind le within = tt
+kind_more numbers more n m place kind le within = grind (arith, common_steps, length-append, get_or_append_left)
 
 -- the same of a row
 EntryWithin-more : (numbers more : List ℕ) (n m : ℕ) → n ≤ m → (row : EntryRow)
     → EntryWithin numbers n row → EntryWithin (numbers ++ more) m row
-EntryWithin-more numbers more n m le row within =
-    let there : row.place ≤ length (numbers ++ more) = omega (arith, within.there, length-append numbers more) in
-    assumption (kind_more numbers more n m row.place row.kind le within.kind)
+EntryWithin-more numbers more n m le row within = grind (arith, common_steps, length-append, kind_more)
 
 -- what was put at the end is that of its range
 range_of_end : (front middle own : List ℕ) (i j : ℕ) → i ≡ length front + length middle → j ≡ i + length own
@@ -69,19 +58,7 @@ index_own front own k place is = rw is (get_or-append-add front own k 0)
 act_back : (numbers bytes : List ℕ) (caller call : ℕ) (act : Act (List ℕ))
     → entry_of (numbers ++ act_numbers (length bytes) act) (bytes ++ act_bytes act) (row_by (length numbers) caller call act)
     ≡ record { caller = caller; call = call; act = act }
-act_back numbers bytes caller call (Report event count None Absent) = refl
-act_back numbers bytes caller call (Report event count (Some stamp) Absent) = grind (arith, index_own numbers (stamp.0 ∷ []) 0)
-act_back numbers bytes caller call (Report event count None (Kept class claim own)) =
-    let index = index_own numbers (claim ∷ length bytes ∷ (length bytes + length own) ∷ []) in
-    grind (arith, index 0, index 1, index 2, range_of_end bytes [] own)
-act_back numbers bytes caller call (Report event count (Some stamp) (Kept class claim own)) =
-    let index = index_own numbers (stamp.0 ∷ claim ∷ length bytes ∷ (length bytes + length own) ∷ []) in
-    grind (arith, index 0, index 1, index 2, index 3, range_of_end bytes [] own)
-act_back numbers bytes caller call (Report event count None (Missing own)) = grind (arith, range_of_end numbers [] own)
-act_back numbers bytes caller call (Report event count (Some stamp) (Missing own)) =
-    grind (arith, index_own numbers (stamp.0 ∷ own) 0, range_of_end numbers (stamp.0 ∷ []) own)
-act_back numbers bytes caller call (State state) = refl
-act_back numbers bytes caller call (SetMode event mode) = refl
+act_back numbers bytes caller call act = grind (arith, common_steps, index_own, range_of_end)
 
 -- ---- turns
 
@@ -93,9 +70,7 @@ turn_in all row = record { head = row.head; entries = slice_range all row.start 
 turns_in : (numbers bytes : List ℕ) (entries : List EntryRow) (rows : List TurnRow)
     → map (turn_of numbers bytes entries) rows ≡ map (turn_in (map (entry_of numbers bytes) entries)) rows
 turns_in numbers bytes entries [] = refl
-turns_in numbers bytes entries (row ∷ rows) =
-    let f = entry_of numbers bytes in
-    rw (drop-map f row.start entries, take-map f (row.end - row.start) (drop row.start entries), turns_in numbers bytes entries rows) refl
+turns_in numbers bytes entries (row ∷ rows) = grind (arith, common_steps, drop-map, take-map, turns_in numbers bytes entries rows)
 
 -- the last turn has the entry
 turn_extended : (all : List (Entry (List ℕ))) (entry : Entry (List ℕ)) (row : TurnRow) → RowWithin (length all) row → row.end ≡ length all
@@ -108,9 +83,7 @@ turns_extended : (all : List (Entry (List ℕ))) (entry : Entry (List ℕ)) (row
     → map (turn_in (all ++ entry ∷ [])) (set rows last (record { head = row.head; start = row.start; end = row.end + 1 }))
     ≡ with_entry (map (turn_in all) rows) entry
 turns_extended all entry (r ∷ []) zero row count in_range is at_end = grind (arith, turn_extended all entry r in_range.0)
-turns_extended all entry (r ∷ s ∷ rows) (suc last) row count in_range is at_end =
-    let same = range_of_front all (entry ∷ []) r.start r.end in_range.0.0 in_range.0.1 in
-    rw (same, turns_extended all entry (s ∷ rows) last row (omega arith) in_range.1 is at_end) refl
+turns_extended all entry (r ∷ s ∷ rows) (suc last) row count in_range is at_end = grind (arith, common_steps, range_of_front, turns_extended all entry (s ∷ rows) last row (omega arith) in_range.1 is at_end)
 turns_extended all entry rows last row count in_range is at_end = absurd (omega arith)
 
 -- the entries of turns with one entry more
@@ -127,21 +100,7 @@ entries_of-with_entry (turn ∷ next ∷ turns) entry some =
 pub lies_begun : (numbers bytes : List ℕ) (entries : List EntryRow) (rows : List TurnRow) (head : TurnHead) (place : ℕ)
     → place ≡ length entries → Lies numbers bytes entries rows
     → Lies numbers bytes entries (rows ++ record { head = head; start = place; end = place } ∷ [])
-lies_begun numbers bytes entries rows head place at_end lies =
-    let new : TurnRow = record { head = head; start = place; end = place } in
-    let turns = map (turn_of numbers bytes entries) rows in
-    let none : place - place ≡ 0 = omega arith in
-    let same : entries_of (map (turn_of numbers bytes entries) (rows ++ new ∷ [])) ≡ entries_of turns =
-    rw (map-append (turn_of numbers bytes entries) rows (new ∷ []), none)
-    (flat_map-append (λ (t : Turn). t.entries) turns (begun head ∷ []) ∙ append-nil (entries_of turns)) in
-    record {
-      rows_in = recursion_from_All _ _
-          (All-push (RowWithin (length entries)) rows new (All-from_recursion _ rows lies.rows_in) (omega arith, omega arith));
-      entries_in = lies.entries_in;
-      last = λ d some. grind (arith, common_steps);
-      all = rw same lies.all;
-      kept = rw same lies.kept;
-    }
+lies_begun numbers bytes entries rows head place at_end lies = grind (arith, common_steps, map-append, flat_map-append, append-nil, recursion_from_All, All-push, All-from_recursion, common_steps)
 
 -- with an entry more in the last turn
 module _ (numbers bytes : List ℕ) (entries : List EntryRow) (rows : List TurnRow) (lies : Lies numbers bytes entries rows)
@@ -163,13 +122,11 @@ module _ (numbers bytes : List ℕ) (entries : List EntryRow) (rows : List TurnR
   pub turns_added : map (turn_of numbers' bytes' entries') rows' ≡ with_entry turns entry
   turns_added =
       let all = map (entry_of numbers bytes) entries in
-      let same_len : length all ≡ length entries = length-map entries (entry_of numbers bytes) in
       let old = entries_same numbers (own_numbers (length bytes) entry) bytes (kept_bytes entry) entries lies.entries_in in
       let back = act_back numbers bytes entry.caller entry.call entry.act in
       let added : map (entry_of numbers' bytes') entries' ≡ all ++ entry ∷ [] =
       rw (numbers_is, bytes_is, entries_is, map-append _ entries (row_of (length numbers) entry ∷ []), old, back) refl in
-      rw (← view_is, turns_in numbers' bytes' entries' rows', added, turns_in numbers bytes entries rows)
-      (turns_extended all entry rows (len - 1) row count (rw same_len lies.rows_in) is (rw same_len at_end))
+      grind (arith, common_steps, turns_in, turns_extended, count, at_end)
 
   pub lies_added : EntryWithin (numbers ++ own_numbers (length bytes) entry) (length (bytes ++ kept_bytes entry)) (row_of (length numbers) entry)
       → Lies numbers' bytes' entries' rows'
@@ -183,8 +140,7 @@ module _ (numbers bytes : List ℕ) (entries : List EntryRow) (rows : List TurnR
       let more_rows = All-weaker (RowWithin (length entries)) (RowWithin (length entries + 1))
       (λ r r_in. (r_in.0, omega (arith, r_in.1))) rows old_rows in
       record {
-        rows_in = rw more_entries (recursion_from_All _ _
-            (All-set (RowWithin (length entries + 1)) rows (len - 1) _ (omega (arith, in_range.0), omega (arith, in_range.1)) more_rows));
+        rows_in = rw more_entries (recursion_from_All _ _ (All-set (RowWithin (length entries + 1)) rows (len - 1) _ (omega (arith, in_range)) more_rows));
         entries_in = rw (numbers_is, bytes_is, entries_is) (recursion_from_All _ _
             (All-push (EntryWithin (numbers ++ own) (length (bytes ++ kept_bytes entry))) entries _
             (All-weaker (EntryWithin numbers (length bytes)) _

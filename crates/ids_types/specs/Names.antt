@@ -5,7 +5,6 @@ pub use Rattle.ids_types.specs.declared.entry.Act.{Act}
 pub use Rattle.ids_types.specs.declared.entry.Act.TheVariants.{Report, State, SetMode}
 pub use Rattle.ids_types.specs.declared.entry.Entry.{Entry}
 pub use Rattle.ids_types.specs.declared.entry.TurnHead.{TurnHead}
-pub use Rattle.ids_types.specs.declared.names.EventIndex.{EventIndex}
 pub use Rattle.ids_types.specs.declared.names.Stamp.{Stamp}
 pub use Rattle.ids_types.specs.declared.rows.EntryRow.{EntryRow}
 pub use Rattle.ids_types.specs.declared.rows.RowKind.{RowKind}

@@ -95,6 +95,7 @@ impl History {
 
     /// Begins a turn, which has no entries yet.
     /// By: no loop; condition: room for a turn.
+    #[tactic(auto, using(std::proofs::lemmas::Grind::common_steps, crate::proofs::HistoryLemmas::lies_begun))]
     pub fn begin(&mut self, head: &TurnHead)
         requires { 1 ≤ self.old.room.turns }
         ensures turns { self.new.turns ≡ self.old.turns ++ begun head.now ∷ [] }
@@ -131,6 +132,7 @@ impl History {
     /// Empties it, and keeps its memory as room.
     /// Steps: the turns, entries, numbers and bytes that it holds. Memory: none, keeps its room. By: read off;
     /// `emptied`.
+    #[tactic(auto, using(crate::proofs::HistoryLemmas::clearing))]
     pub fn clear(&mut self)
         ensures { self.new ≡ emptied self.old }
     {

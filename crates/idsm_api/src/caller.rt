@@ -62,7 +62,7 @@ impl Caller {
 
     /// Tells the block state filter that the state changed. A control without an event buffer is lost and not counted.
     /// Steps: as `report_api::Pass::state_changed`. By: `told` (`Sets`); answer `Answer`.
-    #[tactic(auto, using(crate::proofs::CallerLemmas::state_same))]
+    #[tactic(auto, using(crate::proofs::CallerLemmas::set_same))]
     pub fn set_state(&mut self, state: u8) -> Answer
         requires fit { IsFitCaller self.old }
         ensures fit { IsFitCaller self.new }
@@ -75,7 +75,7 @@ impl Caller {
 
     /// Sets the reporting mode of an event, of an internal one too.
     /// Steps: as `report_api::Pass::set_mode`. By: `told` (`Sets`); answer `Answer`.
-    #[tactic(auto, using(crate::proofs::CallerLemmas::mode_same))]
+    #[tactic(auto, using(crate::proofs::CallerLemmas::set_same))]
     pub fn set_mode(&mut self, event: EventIndex, mode: Mode) -> Answer
         requires fit { IsFitCaller self.old }
         ensures fit { IsFitCaller self.new }

@@ -1,5 +1,5 @@
 -- The machine values of a `Loose` and of a `Handle`. Assumes `Logic`.
-use Rattle.idsm_c.proofs.Names.{◌≡◌, ℕ, List, [], ◌∷◌, ◌++◌, refl, subst, dnil, Val, vptr, vstruct, vcons, vnil, of_list, full_share, ftrue, SProp, ent, never, fst∗, sem, use1, ‵, ◌$◌, move, fsplit, fjoin, fpick, feq_i, feq_l, RattleType, RawPtr, plain, lone, Ptr, block_ptr, null_ptr, ptr_val, in_a_block, nothing, layout, shape, handle_tells, Good, box_owns, and_tt, held, IsFit, Option, Some, None, Global, lies_at, Testable, Al, Logic, zero, suc, fact_use, Laws, guard, guard_i, snd∗, via, impl, tnil, ghosts, unit, given, learn, Item, Goal, Seq, Step, step, drop, fpack, within, Slot, bare, has_ty, WT, Valss}
+use Rattle.idsm_c.proofs.Names.{◌≡◌, ℕ, List, [], ◌∷◌, ◌++◌, refl, subst, dnil, Val, vptr, vstruct, vcons, vnil, of_list, never, fst∗, sem, ‵, ◌$◌, move, fsplit, fjoin, fpick, feq_i, feq_l, RattleType, RawPtr, plain, lone, Ptr, block_ptr, null_ptr, ptr_val, in_a_block, nothing, layout, shape, handle_tells, Good, box_owns, and_tt, held, IsFit, Option, Some, None, Global, Testable, Al, Logic, zero, suc, Laws, impl, tnil, unit, Item, Goal, Seq, Step, step, drop, fpack, within, Slot, bare, has_ty, WT, Valss}
 use mathlib.Core.Bool.{true, ◌&&◌}
 use lib.Dec.{T}
 use seplogic.Ra.Ura.{Ura}
@@ -7,8 +7,7 @@ use Rattle.core.specs.declared.alloc.Allocator.{Ghosts}
 use Rattle.idsm_c.specs.contracts.loose.Loose as loose
 use Rattle.idsm_api.specs.contracts.role.Role as role
 use Rattle.idsm_c.specs.contracts.handle.Handle as handle
-use Rattle.idsm_c.specs.Held.{boxed, filled}
-use Rattle.std.proofs.GlobalToken.{dealloc_token-Testable}
+use Rattle.idsm_c.specs.Held.{boxed}
 
 -- parameter k of a signature
 abbrev pub slot_at : {n : ℕ} → ℕ → List (Slot n) → Slot n
@@ -52,23 +51,7 @@ handle_val p = vstruct (vcons (ptr_val p) vnil)
 abbrev pub Content : Type 0
 Content = Option (role.the_row).Denot
 
--- the pointer of a box may be tested
-pub box_tested : {M : Type 1} {𝓤 : Ura M} (𝓛 : Logic 𝓤) (a : Global) (p : Ptr) (x : (role.the_row).Denot)
-    → ent 𝓤 (sem 𝓛 (boxed role.the_row IsFit a p x)) (guard 𝓤 (Testable p) (sem 𝓛 (boxed role.the_row IsFit a p x)))
-box_tested {𝓤} 𝓛 a p x =
-    let R = role.the_row in
-    let B : SProp 𝓤 = sem 𝓛 (boxed R IsFit a p x) in
-    fact_use 𝓤 (Testable p) (via 𝓤 _ (snd∗ 𝓤 (sem 𝓛 (lies_at R full_share p x)) (sem 𝓛 (ghosts.dealloc_token a (bare (lone R.mir)) p)))
-    (dealloc_token-Testable 𝓛 a (bare (lone R.mir)) p)) (guard_i 𝓤 (Testable p) B)
-
 module _ {M : Type 1} {𝓤 : Ura M} {𝓛 : Logic 𝓤} {K : Type 0} {Γ : List (Item 𝓤)} {G : Goal 𝓤 𝓛.H} where
-  pub handle_out : K → (d : (handle.the_row).Denot) (vs : List Val)
-      → (vs ≡ handle_val d.at ∷ [] → Seq K 𝓛 (‵ (held role.the_row IsFit d.at d.content) ∷ Γ) G)
-      → Seq K 𝓛 (‵ ((handle.the_row).own_val d vs) ∷ Γ) G
-  handle_out t d vs k =
-      fsplit t $ fpick t (λ vss. fsplit t $ feq_l t (λ ev. fsplit t $ feq_l t (λ ep. drop t $
-      k (subst (λ (ps : List Val). vs ≡ vstruct (of_list (ps ++ [])) ∷ []) ep ev))))
-
   pub handle_in : K → (p : Ptr) (c : Content)
       → Step K 𝓛 (‵ ((handle.the_row).own_val (record { at = p; content = c }) (handle_val p ∷ [])) ∷ Γ) G (‵ (held role.the_row IsFit p c) ∷ Γ) G
   handle_in t p c = step (λ s. let v : Val = handle_val p in
@@ -83,11 +66,3 @@ module _ {M : Type 1} {𝓤 : Ura M} {𝓛 : Logic 𝓤} {K : Type 0} {Γ : List
   either_held t null_ptr c none one = feq_l t (λ e. none refl e)
   either_held t (block_ptr b o) c none one = fsplit t $ fpick t (λ tested. drop t $ fpick t (λ s. fsplit t $ feq_l t (λ e. fsplit t $ fpick t (λ fit. drop t $
       one b o s.0 s.1 refl tested e fit))))
-
-  -- a box whose value is fit is held
-  pub box_held : K → (b o : ℕ) (a : Global) (x : (role.the_row).Denot) → IsFit x
-      → Step K 𝓛 (‵ (held role.the_row IsFit (block_ptr b o) (Some x)) ∷ Γ) G (‵ (boxed role.the_row IsFit a (block_ptr b o) x) ∷ Γ) G
-  box_held t b o a x fit = step (λ s. let p : Ptr = block_ptr b o in let B = boxed role.the_row IsFit a p x in
-      use1 𝓛 (given (Testable p) (‵ B)) (box_tested 𝓛 a p x) $ learn t (λ tested. nothing t $ fpack t (IsFit x) (λ _. ftrue) fit $ fjoin t $
-      feq_i t Content (Some x) (Some x) refl $ fjoin t $ fpack t (Global × (role.the_row).Denot) (filled role.the_row IsFit p (Some x)) (a, x) $
-      nothing t $ fpack t (Testable p) (λ _. ftrue) tested $ fjoin t $ s))

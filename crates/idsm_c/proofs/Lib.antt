@@ -1,4 +1,2 @@
-pub mod CallLemmas
 pub mod Handles
-pub mod MakingLemmas
 pub mod Names

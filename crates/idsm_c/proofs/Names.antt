@@ -6,18 +6,18 @@ pub use Rattle.core.proofs.cell.Inside.{Good, one}
 pub use Rattle.idsm_c.specs.Held.{held}
 pub use Rattle.idsm_c.specs.Making.{caller_roles, contents_of, is_taken, roles_in}
 pub use Rattle.idsm_c.specs.declared.making.Roles.{Roles}
-pub use Rattle.idsm_api.specs.Handled.{IsFit, RoleReports}
+pub use Rattle.idsm_api.specs.Handled.{IsFit}
 pub use Rattle.std.proofs.Common.{List, [], ap, arith, false, length, lit<, refl, rules, subst, sym, take, ℕ, ◌++◌, ◌+◌, ◌∙◌, ◌∷◌, ◌≡◌, ◌≤◌, zero, suc, vec_len, vec_capacity}
 pub use Rattle.std.proofs.raw_atomic.Walks.{leaves, proved_at, proved}
 pub use Rattle.std.specs.List.{All}
-pub use Rattle.std.specs.Prelude.{None, Option, Some, is_some, Result, Ok, Err, IfSome}
+pub use Rattle.std.specs.Prelude.{None, Option, Some, Result, Ok, Err, IfSome}
 pub use Rattle.std.specs.declared.alloc.Global.{Global}
 pub use Rattle.std_alloc.proofs.BoxSteps.Steps.{box_in, box_out}
 pub use Rattle.std_alloc.proofs.ResultValues.{and_tt}
 pub use Rattle.std_alloc.specs.Box.Ownership.{box_owns}
 pub use base.Fml.{flft, ftrue, fsep}
 pub use base.Fraction.{full_share}
-pub use base.Logic.{SProp, emp, ent, fst∗, id⊢, never, guard, guard_i, snd∗, via}
+pub use base.Logic.{SProp, emp, ent, fst∗, id⊢, never, guard_i, snd∗, via}
 pub use contract.Monad.{fact, fact_i, fact_use}
 pub use contract.Running.{tables}
 pub use denote.Builtin.{RawPtr, unit}
@@ -42,7 +42,6 @@ pub use types.Kit.{ !, at_ret, await, by, feq_i, feq_l, fjoin, fpick, fsplit, jo
 pub use types.Logic.{sem, Logic}
 pub use types.Part.{agg, sub, whole}
 pub use types.Run.{and_then, enter, exec, first, fld, lit, no_more, of_opd, returns, stop, blocks, bin, branches}
-pub use Rattle.idsm_api.specs.{code_of, RoleTurns, asked_mode, RoleSets, asked_state}
 pub use Rattle.idsm_api.specs.declared.role.Role.{Role}
 pub use Rattle.std.proofs.lemmas.List.Elements.{All-map, All-pop}
 pub use Rattle.std.specs.contracts.impls.GlobalAllocator.TheImpl.{ghosts}

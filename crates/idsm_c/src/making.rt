@@ -3,7 +3,7 @@ ghost use Rattle.std.specs.Prelude.{◌≡◌, Some, length, map, IfOk, ◌∷�
 ghost use Rattle.std.specs.List.{All};
 ghost use Rattle.config_json.specs.Configured.{configuration};
 ghost use Rattle.idsm_api.specs.Handled.{IsFit};
-ghost use Rattle.idsm_c.specs.Making.{AreFit, Fills, Inits, MakesRoles, caller_roles, contents_of, fault_of, is_taken, no_fault, roles_in};
+ghost use Rattle.idsm_c.specs.Making.{AreFit, Fills, Inits, MakesRoles, NothingFilled, caller_roles, contents_of, fault_of, is_taken, no_fault, roles_in};
 
 use crate::handle::Handle;
 use config_json::JsonFault;
@@ -64,8 +64,7 @@ fn is_any_taken(alloc: Global, handles: &mut [Handle]) -> bool
 // Whether any of all the handles has something.
 fn is_occupied(alloc: Global, callers: &mut [Handle], manager: &mut Handle) -> bool
     ensures told { result ≡ is_taken (manager.old.content ∷ contents_of callers.old) }
-    ensures callers { contents_of callers.new ≡ contents_of callers.old }
-    ensures manager { manager.new.content ≡ manager.old.content }
+    ensures same { NothingFilled (contents_of callers.old) manager.old.content (contents_of callers.new) manager.new.content }
 {
     manager.has_any(alloc) || is_any_taken(alloc, callers)
 }

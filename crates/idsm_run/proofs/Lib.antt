@@ -1,4 +1,1 @@
-pub mod AskedLemmas
-pub mod FoldLemmas
-pub mod PerformedLemmas
-pub mod ReplayLemmas
+pub mod TaskLemmas

@@ -28,6 +28,7 @@ pub fn print(alloc: Global, history: &History, losses: &[Loss]) -> Result<Vec<u8
     print_lines(alloc, history, losses)
 }
 
+#[tactic(auto, using(crate::proofs::PrintingLemmas::pushes))]
 fn print_lines(alloc: Global, history: &History, losses: &[Loss]) -> Result<Vec<u8>, NoMemory>
     ensures { IfOk result (λ text. text.items ≡ journal_text (told history.now.turns losses.now)) }
 {
@@ -42,6 +43,7 @@ fn print_lines(alloc: Global, history: &History, losses: &[Loss]) -> Result<Vec<
 }
 
 /// Appends the lines of a turn.
+#[tactic(auto, using(crate::proofs::PrintingLemmas::pushes))]
 fn push_turn(out: &mut Vec<u8>, history: &History, turn: u64) -> Result<(), NoMemory>
     requires { turn < length history.now.turns }
     ensures { OnOk result (out.new.items ≡

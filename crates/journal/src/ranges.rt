@@ -102,12 +102,7 @@ fn is_context(context: &RawContext<'_>) -> bool
 fn are_claims(numbers: Numbers) -> bool
     ensures { result ≡ list_all claim_is numbers }
 {
-    for &number in numbers.as_slice() {
-        if !is_claim(number) {
-            return false;
-        }
-    }
-    true
+    numbers.as_slice().iter().all(|number| is_claim(*number))
 }
 
 /// How many events there are.

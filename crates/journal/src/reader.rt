@@ -159,7 +159,8 @@ impl<'a> Reader<'a> {
     /// and whose event may stand there where it is `known`.
     #[inline(always)]
     fn check_entry(&self, caller: u64, call: u64, fits: bool, known: bool) -> Result<(), u8>
-        ensures { result ≡ entry_asks (past_of self.now) caller call fits known }
+        ensures asked { result ≡ entry_asks (past_of self.now) caller call fits known }
+        ensures few { OnOk result (self.now.entries < 1024) }
     {
         asks(2, self.history.turns() > 0 && self.losses.is_empty())?;
         asks(3, is_call(caller, call) && fits)?;

@@ -23,6 +23,7 @@ pub struct Journal {
 /// first fault. The configuration's callers, ring and classes play no part.
 /// Steps: the bytes of the text; where it tells losses also the entries, put into an ordered set once (log each), and
 /// each loss looked up there (log). Memory: may answer want of memory (`TextFault`). By: `exact` (`Reads`); read off.
+#[tactic(auto, using(text_spec::proofs::JournalLaws::journal_laws))]
 pub fn read(alloc: Global, text: &[u8], config: &Config) -> Result<Journal, TextFault>
     // What is read is the journal of which this is the text, each byte of it.
     ensures found { IfOk result (λ j. IsJournal config.now text.now (told j.history.turns j.losses.items)) }
@@ -44,7 +45,8 @@ pub fn read(alloc: Global, text: &[u8], config: &Config) -> Result<Journal, Text
 /// What the lines of a text tell. A function of its own, so that the loop over the lines has all registers.
 #[inline(never)]
 fn read_journal(alloc: Global, text: &[u8], config: &Config) -> Result<Journal, TextFault>
-    ensures { Reads (λ j. told j.history.turns j.losses.items) (journal_in config.now text.now) result }
+    ensures exact { Reads (λ j. told j.history.turns j.losses.items) (journal_in config.now text.now) result }
+    ensures told { IfOk result (λ j. journal_in config.now text.now ≡ Ok (told j.history.turns j.losses.items)) }
 {
     let reader = read_lines(Reader::new(alloc, config)?, text)?;
     Ok(Journal {

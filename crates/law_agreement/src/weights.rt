@@ -23,7 +23,7 @@ pub fn the_chain_adds_no_weight()
 /// The messages of turns have at most four times as many bytes as the journal that tells the turns, whatever the
 /// losses are that it tells beside them, and whether or not they fit the configuration. A journal has its turns with
 /// the oldest first, and `messages` with the newest first.
-#[tactic(auto, using(crate::proofs::JournalLemmas::short_messages))]
+#[tactic(auto, using(crate::proofs::JournalLemmas::messages_are_short))]
 pub fn messages_are_at_most_four_times_their_journal()
     ensures told { (config : Parts) (told : Told) →
         length (messages config (reverse told.turns)) ≤ 4 * length (journal_text told) }

@@ -1,8 +1,8 @@
 -- What a closed desk makes of a history.
-use Rattle.law_closing.proofs.Names.{Item, some, none, asks_back, desk_memo, log_at, Act, Got, Outcome, PassMemo, call_of, calls_in, fate_of, sizes_of, decided_on, AreAllBack, NamesItsCalls, got_of, items_of, class_at, AreDecided, entries_by, StandsIn, IsSettledLog, entries_from, get_elem?, at_map, get_or_past, length-map, ◌≡◌, ℕ, true≢false, Option, None, List, [], length, map, refl, sym, ap, subst, ◌∙◌, arith, inl, inr, ClassSpec, Classes, some_there, at_length, there, Parts}
+use Rattle.law_closing.proofs.Names.{Item, some, asks_back, desk_memo, log_at, Act, Got, Outcome, PassMemo, call_of, calls_in, fate_of, sizes_of, decided_on, AreAllBack, class_at, AreDecided, entries_by, IsSettledLog, entries_from, get_elem?, at_map, get_or_past, length-map, ◌≡◌, ℕ, true≢false, Option, None, List, [], length, map, refl, sym, ap, subst, ◌∙◌, arith, inl, inr, ClassSpec, Classes, some_there, at_length, there, Parts}
 use mathlib.Core.Option as maybe
 use Rattle.std.proofs.lemmas.Bool.{cases_lt}
-use Rattle.ids_types.specs.{entries_of, AreAllDecided}
+use Rattle.ids_types.specs.{entries_of}
 use Rattle.history_spec.specs.Decided.{fates_of}
 use Rattle.history_spec.specs.Follows.{Follows}
 use Rattle.history_spec.proofs.ContextLemmas.{legal_contexts}
@@ -12,7 +12,8 @@ use Rattle.buffer_classes.specs.declared.giver.Giver.{Giver}
 use Rattle.buffer_classes.specs.{AreGiversOf, givers_of, giver_memo}
 use Rattle.buffer_classes.specs.declared.givers.Givers.{Givers}
 use Rattle.buffer_classes.proofs.AskLemmas.{below_or, nothing_past}
-use Rattle.permit_ring.specs.{ended}
+use Rattle.permit_ring.specs.{ended, new_memo}
+use Rattle.report_queue.specs.{IsWholeCaller}
 use Rattle.report_api.proofs.TiedLemmas.{claimants_back}
 use Rattle.law_closing.specs.{HaveAllCalls, came, calls_by, fates_in, ClosedDesk, GiversHaveNumbers, HaveNumbers, plain_item}
 use Rattle.report_queue.proofs.{at_map_back}
@@ -25,9 +26,7 @@ pub rings_have : (config : Parts) (classes : Classes) (givers : Givers) → AreG
     → GiversHaveNumbers config (givers_of givers) → HaveNumbers config classes
 rings_have config classes givers are numbers i class at =
     let giver = there (givers_of givers) i (omega (arith, are.all, at_length classes.classes.items i class at)) in
-    let its = are.each i class giver.0 at giver.1 in
-    let has = numbers i giver.0 giver.1 in
-    (sym its.number_is ∙ has.0, sym its.seats_are ∙ has.1)
+    grind (arith, are.each i class giver.0 at giver.1, numbers i giver.0 giver.1)
 
 module _ (closed : ClosedDesk) where
   abbrev givers : List Giver
@@ -44,15 +43,13 @@ module _ (closed : ClosedDesk) where
 
   -- what became of the calls of a caller: of its pass, or of none
   record Knows (caller : ℕ) : Type 0 where
-    log : List Outcome
-    calls : calls_by closed.passes caller ≡ calls_in log
-    fates : fates_of (map fates_in closed.passes) caller ≡ map fate_of log
-    stands : (j : ℕ) (r : Outcome) → get_elem? log j ≡ some r
+    memo : PassMemo
+    calls : calls_by closed.passes caller ≡ calls_in memo.log
+    fates : fates_of (map fates_in closed.passes) caller ≡ map fate_of memo.log
+    stands : (j : ℕ) (r : Outcome) → get_elem? memo.log j ≡ some r
         → (pass : PassMemo) × (get_elem? closed.passes caller ≡ some pass) × (get_elem? pass.log j ≡ some r)
-    names : NamesItsCalls caller log
-    decided : AreAllDecided (length items) (StandsIn (desk_memo closed.desk).fronts) (map fate_of log)
-    accepted : got_of log ≡ items_of caller 0 items
-    follows : (i : ℕ) → Follows (length closed.config.classes) i (calls_in log) (asks_back givers caller i)
+    whole : IsWholeCaller (desk_memo closed.desk).fronts items caller memo
+    follows : (i : ℕ) → Follows (length closed.config.classes) i (calls_in memo.log) (asks_back givers caller i)
 
   knows : (caller : ℕ) → Knows caller
   knows caller =
@@ -62,25 +59,22 @@ module _ (closed : ClosedDesk) where
       elim (below_or closed.passes caller) [
         | inl pass ↦
             let is_back : get_elem? back caller ≡ some (came pass.0) = rw closed.are_back (at_map came closed.passes caller pass.0 pass.1) in
-            let whole = closed.all_taken.whole caller (ended pass.0) is_back in
             record {
-              log = pass.0.log;
+              memo = ended pass.0;
               calls = or_at _ caller [] _ (at_map (λ (pass : PassMemo). calls_in pass.log) closed.passes caller pass.0 pass.1);
               fates = or_at _ caller [] _ (at_map fates_in closed.passes caller pass.0 pass.1);
               stands = λ j r at. (pass.0, pass.1, at);
-              names = whole.names;
-              decided = whole.decided;
-              accepted = whole.accepted;
+              whole = closed.all_taken.whole caller (ended pass.0) is_back;
               follows = λ i. rw (← as_many) (closed.is_desk.tied.follows i caller (ended pass.0) is_back);
             }
         | inr past ↦ record {
-          log = [];
+          memo = new_memo caller;
           calls = get_or_past _ caller [] (omega (arith, past, length-map closed.passes (λ (pass : PassMemo). calls_in pass.log)));
           fates = get_or_past _ caller [] (omega (arith, past, length-map closed.passes fates_in));
           stands = λ j r at. cc;
-          names = λ j t item at. cc;
-          decided = record { rises = tt; within = omega arith; at_front = λ place claimed lost. cc };
-          accepted = sym (no_items caller 0 items (λ j item at is. omega (arith, closed.all_taken.of_callers j item at, as_long, past, is)));
+          whole =
+              let none = no_items caller 0 items (λ j item at is. omega (arith, closed.all_taken.of_callers j item at, as_long, past, is)) in
+              grind (arith, none);
           follows = λ i. elim (below_or givers i) [
             | inl giver ↦
                 let none = nothing_past (giver_memo giver.0).back caller (omega (arith, closed.is_desk.tied.as_many i giver.0 giver.1, as_long, past)) in
@@ -91,7 +85,7 @@ module _ (closed : ClosedDesk) where
       ]
 
   entries_are : (caller : ℕ) → entries_by caller (entries_of closed.turns) ≡ entries_from caller 0 (calls_by closed.passes caller)
-  entries_are caller = let its = knows caller in rw (closed.shows, its.calls) (whole_as caller its.log items its.names its.accepted).0
+  entries_are caller = let its = knows caller in rw (closed.shows, its.calls) (whole_as caller its.memo.log items its.whole.names its.whole.accepted).0
 
   -- the seats of the tickets of class i, with what all callers asked of it
   settled_at : (i : ℕ) → (claimants : List ℕ)
@@ -125,10 +119,10 @@ module _ (closed : ClosedDesk) where
       let its = knows caller in
       let as_many : length (entries_of closed.turns) ≡ length items = ap length closed.shows ∙ length-map items plain_item in
       record {
-        calls_are = rw (its.calls, its.fates) (length-map its.log fate_of ∙ sym (length-map its.log call_of));
-        decided = rw (its.fates, as_many) (decided_on its.decided (λ claimed front.
+        calls_are = rw (its.calls, its.fates) (length-map its.memo.log fate_of ∙ sym (length-map its.memo.log call_of));
+        decided = rw (its.fates, as_many) (decided_on its.whole.decided (λ claimed front.
             front_was closed.config.ring claimed closed.turns (rw closed.fronts_are at front)));
-        are_entries = rw (its.fates, closed.shows) (whole_as caller its.log items its.names its.accepted).1;
+        are_entries = rw (its.fates, closed.shows) (whole_as caller its.memo.log items its.whole.names its.whole.accepted).1;
       }
 
   pub all_calls : HaveAllCalls closed.config closed.passes closed.turns
@@ -139,9 +133,9 @@ module _ (closed : ClosedDesk) where
         let found = at_map_back plain_item items t e (rw closed.shows at here) in
         let item = found.0 in
         let its = knows item.caller in
-        let got = call_of_ticket item.caller its.log items its.accepted t item refl found.1 in
+        let got = call_of_ticket item.caller its.memo.log items its.whole.accepted t item refl found.1 in
         let pass = its.stands got.0 (Got t item) got.1 in
-        rw (← found.2) (pass.0, item, pass.1, rw (its.names got.0 t item got.1).1 pass.2, refl);
+        rw (← found.2) (pass.0, item, pass.1, rw (its.whole.names got.0 t item got.1).1 pass.2, refl);
     merged = are_merged closed.config.ring closed.turns _ (map fates_in closed.passes) are_decided;
     contexts = legal_contexts closed.config closed.turns (calls_by closed.passes) (asks_back givers) (λ i. (settled_at i).0) record {
       follows = λ caller i. let its = knows caller in rw its.calls (its.follows i);

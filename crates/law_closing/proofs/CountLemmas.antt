@@ -1,5 +1,5 @@
 -- How many entries all callers have.
-use Rattle.law_closing.proofs.Names.{Item, some, IsAllTaken, items_of, nat_tests, get_elem?, at_map, length-map, ◌≡◌, ℕ, suc, ◌+◌, ◌<◌, List, [], ◌∷◌, length, map, refl, ap, ◌∙◌, sym, arith, nat_lt, if◌then◌else◌, sum_by}
+use Rattle.law_closing.proofs.Names.{Item, some, IsAllTaken, items_of, nat_tests, get_elem?, at_map, length-map, ◌≡◌, ℕ, suc, ◌+◌, ◌<◌, List, [], ◌∷◌, length, map, refl, ap, ◌∙◌, arith, nat_lt, if◌then◌else◌, sum_by}
 use Rattle.std.proofs.lemmas.List.Sums.{sum_by-cons}
 use Rattle.permit_ring.specs.Steps.{ended}
 use Rattle.report_api.specs.Names.{Act, DeskMemo, PassMemo}
@@ -13,23 +13,22 @@ owned_from i (item ∷ items) = if nat_lt item.caller i then owned_from i items 
 -- those of caller i, and of the next ones
 owned_next : (i t : ℕ) (items : List (Item Act)) → owned_from i items ≡ length (items_of i t items) + owned_from (suc i) items
 owned_next i t [] = refl
-owned_next i t (item ∷ items) = let rest = owned_next i (suc t) items in grind (arith, nat_tests, rest)
+owned_next i t (item ∷ items) = grind (arith, nat_tests, owned_next i (suc t) items)
 
 -- all are those of callers from 0 on
 all_owned : (items : List (Item Act)) → owned_from 0 items ≡ length items
 all_owned [] = refl
-all_owned (item ∷ items) = let rest = all_owned items in grind (arith, nat_tests, rest)
+all_owned (item ∷ items) = grind (arith, nat_tests, all_owned items)
 
 -- and none those of callers past the last one
 none_owned : (n : ℕ) (items : List (Item Act)) → ((t : ℕ) (item : Item Act) → get_elem? items t ≡ some item → item.caller < n) → owned_from n items ≡ 0
 none_owned n [] within = refl
-none_owned n (item ∷ items) within =
-    let rest = none_owned n items (λ t. within (suc t)) in let here = within 0 item refl in grind (arith, nat_tests, rest, here)
+none_owned n (item ∷ items) within = grind (arith, nat_tests, none_owned n items (λ t. within (suc t)), within 0 item refl)
 
 each_accepted : (i n : ℕ) (passes : List PassMemo) (items : List (Item Act)) → n ≡ i + length passes
     → ((j k : ℕ) (pass : PassMemo) → j ≡ i + k → get_elem? passes k ≡ some pass → accepted_in pass ≡ length (items_of j 0 items))
     → owned_from n items ≡ 0 → sum_by accepted_in passes ≡ owned_from i items
-each_accepted i n [] items last each none = let same : i ≡ n = omega arith in rw same (sym none)
+each_accepted i n [] items last each none = grind (arith, none)
 each_accepted i n (pass ∷ passes) items last each none =
     let rest = each_accepted (suc i) n passes items (omega arith) (λ j k its is. each j (suc k) its (omega (arith, is))) none in
     omega (arith, sum_by-cons accepted_in pass passes, each i 0 pass (omega arith) refl, owned_next i 0 items, rest)

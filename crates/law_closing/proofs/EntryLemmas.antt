@@ -1,5 +1,5 @@
 -- The items of a caller as the entries of its calls, and their tickets.
-use Rattle.law_closing.proofs.Names.{Item, some, Act, Outcome, Lost, Got, calls_in, fate_of, NamesItsCalls, got_of, items_of, tickets_from, tickets_of, entries_by, entries_from, get_elem?, ◌≡◌, ◌≢◌, ℕ, zero, suc, ◌+◌, List, [], ◌∷◌, map, refl, sym, ◌∙◌, cond, eqb, ne_eqb, arith, got_from}
+use Rattle.law_closing.proofs.Names.{Item, some, Act, Outcome, Lost, Got, calls_in, fate_of, NamesItsCalls, got_of, items_of, tickets_from, tickets_of, entries_by, entries_from, get_elem?, ◌≡◌, ◌≢◌, ℕ, zero, suc, ◌+◌, List, [], ◌∷◌, map, refl, cond, eqb, ne_eqb, arith, got_from}
 use Rattle.std.proofs.lemmas.Grind.{common_steps}
 use Rattle.law_closing.specs.Closed.{plain_item}
 
@@ -9,7 +9,7 @@ module _ (i : ℕ) where
       → (entries_by i (map plain_item items) ≡ map (λ x. plain_item x.1) (items_of i t items))
       × (tickets_of i t (map plain_item items) ≡ map (λ x. (x.1.call, x.0)) (items_of i t items))
   items_as t [] = (refl, refl)
-  items_as t (item ∷ items) = let rest = items_as (suc t) items in grind (arith, rest)
+  items_as t (item ∷ items) = grind (arith, items_as (suc t) items)
 
   -- an item that a call got is the entry of this call
   got_as : (call : ℕ) (log : List Outcome)
@@ -21,18 +21,14 @@ module _ (i : ℕ) where
       got_as (suc call) log (λ j t item at. let its = names (suc j) t item at in (its.0, omega (arith, its.1)))
   got_as call (Got t item ∷ log) names =
       let rest = got_as (suc call) log (λ j t item at. let its = names (suc j) t item at in (its.0, omega (arith, its.1))) in
-      let its = names 0 t item refl in
-      let here : item.call ≡ call = omega (arith, its.1) in
-      (cc (rest.0, its.0, here), cc (rest.1, here))
+      grind (arith, rest, names 0 t item refl)
 
   -- the entries of a caller are its accepted calls
   pub whole_as : (log : List Outcome) (items : List (Item Act)) → NamesItsCalls i log → got_of log ≡ items_of i 0 items
       → (entries_by i (map plain_item items) ≡ entries_from i 0 (calls_in log))
       × (tickets_from 0 (map fate_of log) ≡ tickets_of i 0 (map plain_item items))
   whole_as log items names accepted =
-      let its = items_as 0 items in
-      let got = rw accepted at (got_as 0 log (λ j t item at. let its = names j t item at in (its.0, omega (arith, its.1)))) in
-      (its.0 ∙ got.0, got.1 ∙ sym its.1)
+      grind (arith, items_as 0 items, accepted, got_as 0 log (λ j t item at. grind (arith, names j t item at)))
 
   -- who has none of the items got none
   pub no_items : (t : ℕ) (items : List (Item Act)) → ((j : ℕ) (item : Item Act) → get_elem? items j ≡ some item → i ≢ item.caller) → items_of i t items ≡ []

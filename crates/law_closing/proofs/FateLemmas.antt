@@ -1,5 +1,5 @@
 -- The logs of rings as plain data.
-use Rattle.law_closing.proofs.Names.{some, decided_on, get_elem?, length-map, ◌≡◌, ◌≢◌, ℕ, suc, ◌≤◌, Some, List, [], ◌∷◌, map, refl, sym, ap, subst, ◌∙◌, ne_eqb, arith}
+use Rattle.law_closing.proofs.Names.{some, decided_on, get_elem?, length-map, ◌≡◌, ◌≢◌, ℕ, suc, ◌≤◌, Some, List, [], ◌∷◌, map, refl, length, ne_eqb, arith}
 use Rattle.ids_types.specs.Fates.{AreAllDecided, claims_got}
 use Rattle.history_spec.specs.Settled.{IsSettledLog, claims_by}
 use Rattle.permit_ring.specs.{IsWholeLog, fate_of, got_of, taken_by}
@@ -18,7 +18,7 @@ module _ {N : Type 0} where
 pub claimed_as : (i t : ℕ) (taken : List (ℕ × Unit {0}))
     → claims_by i t (map (λ x. x.0) taken) ≡ map (λ x. x.0) (taken_by i t (map Some taken))
 claimed_as i t [] = refl
-claimed_as i t (x ∷ taken) = let rest = claimed_as i (suc t) taken in grind (arith, rest)
+claimed_as i t (x ∷ taken) = grind (arith, claimed_as i (suc t) taken)
 
 -- who has none of the tickets claimed nothing
 pub claimed_none : (i t : ℕ) (taken : List (ℕ × Unit {0})) → ((j : ℕ) (x : ℕ × Unit {0}) → get_elem? taken j ≡ some x → i ≢ x.0)
@@ -30,12 +30,11 @@ claimed_none i t (x ∷ taken) other = rw (ne_eqb i x.0 (other 0 x refl)) (claim
 pub whole_settled : {number i : ℕ} {fronts : List ℕ} {taken : List (ℕ × Unit {0})} {memo : SeatMemo} → IsWholeLog fronts taken i memo
     → ((j front : ℕ) → get_elem? fronts j ≡ some front → number ≤ front)
     → IsSettledLog number (map (λ x. x.0) taken) i (map fate_of memo.log)
-whole_settled {number = number} {i = i} {taken = taken} {memo = memo} whole large = record {
-  decided = subst (λ n. AreAllDecided n (λ claimed. number ≤ claimed) (map fate_of memo.log)) (sym (length-map taken (λ x. x.0)))
-      (decided_on whole.decided (λ g front. large front.0 g front.1));
-  got = got_as memo.log ∙ ap (map (λ x. x.0)) whole.got ∙ sym (claimed_as i 0 taken);
-}
+whole_settled {number = number} {i = i} {taken = taken} {memo = memo} whole large =
+    let decided : AreAllDecided (length taken) (λ claimed. number ≤ claimed) (map fate_of memo.log) =
+    decided_on whole.decided (λ g front. large front.0 g front.1) in
+    grind (arith, decided, got_as memo.log, whole.got, claimed_as i 0 taken, length-map taken (λ x. x.0))
 
 -- and so is that of one who claimed nothing
 pub none_settled : {number i : ℕ} {claimants : List ℕ} → claims_by i 0 claimants ≡ [] → IsSettledLog number claimants i []
-none_settled none = record { decided = record { rises = tt; within = omega arith; at_front = λ j g at. cc }; got = sym none }
+none_settled none = grind (arith, none)

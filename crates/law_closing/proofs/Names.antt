@@ -1,7 +1,7 @@
 -- The names of other crates that several files of this crate cite.
 pub use Rattle.atomic_table.proofs.Lists.{at_map}
 pub use Rattle.buffer_classes.specs.declared.class.Classes.{Classes}
-pub use Rattle.history_spec.specs.{tickets_from, tickets_of, entries_by, entries_from, class_at, AreDecided, StandsIn, IsSettledLog}
+pub use Rattle.history_spec.specs.{tickets_from, tickets_of, entries_by, entries_from, class_at, AreDecided, IsSettledLog}
 pub use Rattle.ids_config.specs.Parts.{Parts}
 pub use Rattle.ids_types.proofs.FatesLemmas.{decided_on}
 pub use Rattle.ids_types.specs.declared.class_spec.ClassSpec.{ClassSpec}
@@ -13,4 +13,4 @@ pub use Rattle.std.proofs.Common.{◌≡◌, ℕ, suc, List, ◌∷◌, slice_in
 pub use Rattle.std.proofs.lemmas.Bool.Decides.{nat_tests}
 pub use Rattle.std.proofs.lemmas.List.{length-map, get_or_past}
 pub use lib.ListN.{get_elem?}
-pub use mathlib.Core.Option.{some, none}
+pub use mathlib.Core.Option.{some}

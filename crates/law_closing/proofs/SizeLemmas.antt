@@ -12,7 +12,7 @@ small_in bytes specs = length (filter (λ (class : ClassSpec). nat_lt class.size
 first_in : (bytes above : ℕ) (specs : List ClassSpec) → RiseFrom above (spec_sizes specs)
     → (first_fitting bytes (spec_sizes specs) ≡ small_in bytes specs) × (bytes ≤ above → small_in bytes specs ≡ 0)
 first_in bytes above [] rise = (refl, λ fits. refl)
-first_in bytes above (spec ∷ specs) rise = let rest = first_in bytes spec.size specs rise.1 in grind (arith, nat_tests, rise, rest)
+first_in bytes above (spec ∷ specs) rise = grind (arith, nat_tests, rise, first_in bytes spec.size specs rise.1)
 
 pub first_is_small : (config : Parts) (classes : Classes) (bytes : ℕ) → AreClasses classes → HaveSizes config classes
     → first_fitting bytes (class_sizes classes) ≡ too_small config bytes

@@ -1,25 +1,16 @@
 -- What a close leaves.
-use Rattle.main_function.proofs.Names.{◌≡◌, ℕ, zero, suc, true, is_some, Option, List, [], ◌∷◌, ◌++◌, length, map, refl, sym, ◌∙◌, sum_by, arith, length-map, sum_by-cons, Turn, Parts, Buffer, AllOf, givers_of, AreAllBack, AreAllSwept, IsAllTaken, EachSettled, IsDeskOf, desk_memo, to_give_back, PassMemo, lost_contexts, lost_events, missing_in, Desk, Shared, all_calls, all_accepted, Closed, OnlyWelcomes, all_back, came, plain_item, IsManagerOf, Stands, Turned, Manager, get_elem?, some}
+use Rattle.main_function.proofs.Names.{◌≡◌, ℕ, suc, Option, List, [], ◌∷◌, ◌++◌, length, map, refl, sym, ◌∙◌, sum_by, arith, length-map, sum_by-cons, Turn, Parts, Buffer, AllOf, givers_of, AreAllBack, AreAllSwept, IsAllTaken, EachSettled, IsDeskOf, desk_memo, to_give_back, PassMemo, lost_events, missing_in, Desk, Shared, all_calls, all_accepted, Closed, OnlyWelcomes, all_back, came, plain_item, IsManagerOf, Stands, Turned, Manager, get_elem?, some}
 use Rattle.atomic_table.proofs.Lists.{at_map}
+use Rattle.report_queue.proofs.ClosingLemmas.{at_map_back}
 use Rattle.permit_ring.specs.{ended, marks_back}
 use Rattle.main_function.proofs.WelcomeLemmas.{only_back}
 
--- passes that all came back did so
-some_back : (passes : List PassMemo) (i : ℕ) (back : Option PassMemo) → get_elem? (map came passes) i ≡ some back → is_some back ≡ true
-some_back [] i back at = cc
-some_back (pass ∷ passes) zero back at = cc
-some_back (pass ∷ passes) (suc i) back at = some_back passes i back at
-
-events_of : (passes : List PassMemo) → sum_by (marks_back 0) (map came passes) ≡ sum_by lost_events passes
-events_of [] = refl
-events_of (pass ∷ passes) = omega (arith, events_of passes, sum_by-cons (marks_back 0) (came pass) (map came passes), sum_by-cons lost_events pass passes)
-
-contexts_of : (passes : List PassMemo) → ((i : ℕ) (pass : PassMemo) → get_elem? passes i ≡ some pass → lost_contexts pass ≡ missing_in pass.log)
-    → sum_by (marks_back 1) (map came passes) ≡ sum_by (λ (pass : PassMemo). missing_in pass.log) passes
-contexts_of [] each = refl
-contexts_of (pass ∷ passes) each =
-    let rest = contexts_of passes (λ i. each (suc i)) in
-    omega (arith, each 0 pass refl, rest, sum_by-cons (marks_back 1) (came pass) (map came passes), sum_by-cons (λ (p : PassMemo). missing_in p.log) pass passes)
+-- a sum over passes that came back
+sum_came : (f : Option PassMemo → ℕ) (g : PassMemo → ℕ) (passes : List PassMemo) → ((i : ℕ) (pass : PassMemo) → get_elem? passes i ≡ some pass → f (came pass) ≡ g pass)
+    → sum_by f (map came passes) ≡ sum_by g passes
+sum_came f g [] each = refl
+sum_came f g (pass ∷ passes) each =
+    omega (arith, each 0 pass refl, sum_came f g passes (λ i. each (suc i)), sum_by-cons f (came pass) (map came passes), sum_by-cons g pass passes)
 
 module _ {C : Type 0} (stands : C → Parts → List Turn → Type 0) (events : C → ℕ) (kept : C → List Buffer) (shared : Shared)
     (old : Manager C) (desk : Desk) (passes : List PassMemo) (told : desk_memo desk ≡ all_back passes (desk_memo old.desk)) where
@@ -46,12 +37,13 @@ module _ {C : Type 0} (stands : C → Parts → List Turn → Type 0) (events : 
       → (AreAllBack (desk_memo desk) → EachSettled new.desk) → Closed stands kept shared tick passes old new
   unfolding turned_from
   closed_by tick new back givers turned mine taken swept settled =
-      let all : AreAllBack (desk_memo desk) = λ i its at. some_back passes i its (rw (← back) at) in
+      let all : AreAllBack (desk_memo desk) = λ i its at. rw (← (at_map_back came passes i its (rw (← back) at)).2) refl in
       let its_back = turned.back_is ∙ back in
       let shows = λ (config : Parts) (turns : List Turn) (is : Stands stands config old turns).
       (turned.stands_then config turns (stands_back config turns is)).reports_show in
       let accepted = all_accepted (desk_memo new.desk) passes (taken all) its_back in
-      let contexts = contexts_of passes (λ i pass at. mine.desk_is.tied.missing i (ended pass) (rw its_back (at_map came passes i pass at))) in
+      let events = sum_came (marks_back 0) lost_events passes (λ i pass at. refl) in
+      let contexts = sum_came (marks_back 1) (λ (pass : PassMemo). missing_in pass.log) passes (λ i pass at. mine.desk_is.tied.missing i (ended pass) (rw its_back (at_map came passes i pass at))) in
       record {
         givers = givers_of desk.givers;
         welcomed = givers;
@@ -72,5 +64,5 @@ module _ {C : Type 0} (stands : C → Parts → List Turn → Type 0) (events : 
           fronts_are = grind (arith, (shows config turns is).fronts_are, mine.positions_are, made_for.positions_are);
         });
         sums = λ config turns is. grind (arith, mine.totals_are, shows config turns is, length-map (desk_memo new.desk).notes plain_item);
-        counts = grind (arith, mine.totals_are, accepted, swept all, its_back, events_of passes, contexts);
+        counts = grind (arith, mine.totals_are, accepted, swept all, its_back, events, contexts);
       }

@@ -1,5 +1,5 @@
 -- The names of other crates and of this crate's specs that more than one of its proofs stands on.
-pub use Rattle.std.proofs.Common.{◌≡◌, ℕ, zero, suc, ◌+◌, ◌<◌, true, is_some, Option, List, [], ◌∷◌, ◌++◌, length, map, refl, sym, subst, ap, ◌∙◌, sum, sum_by, arith, ◌*◌, ◌≤◌, IfSome, rules, max, None, get_or, take, ◌^◌, Ok, Err, slice_set, ◌-◌, vec_capacity}
+pub use Rattle.std.proofs.Common.{◌≡◌, ℕ, suc, ◌+◌, ◌<◌, Option, List, [], ◌∷◌, ◌++◌, length, map, refl, sym, subst, ap, ◌∙◌, sum, sum_by, arith, ◌*◌, ◌≤◌, IfSome, rules, max, None, get_or, take, ◌^◌, Ok, Err, slice_set, ◌-◌, vec_capacity}
 pub use Rattle.std.proofs.lemmas.Grind.{common_steps, flat_map-append}
 pub use Rattle.std.proofs.lemmas.List.{length-map, length-replicate, map-append, take_more, append-nil, append_assoc, length-take-le, set-append_left, take_all, map_push, nil_from_length}
 pub use Rattle.std.proofs.lemmas.List.Elements.{All-from_recursion, All-weaker, recursion_from_All, All-nil, All-push}
@@ -15,7 +15,7 @@ pub use Rattle.ids_types.specs.declared.entry.Entry.{Entry}
 pub use Rattle.ids_types.specs.declared.entry.TurnHead.{TurnHead}
 pub use Rattle.permit_ring.proofs.ListLemmas.{at_length, there}
 pub use Rattle.permit_ring.specs.Hands.{AllAdmitted}
-pub use Rattle.report_api.specs.{EachSettled, Act, DeskMemo, PassMemo, lost_events, lost_contexts, missing_in, Report, State, SetMode, Absent, Kept, Missing, AdmitsAct, AdmitsItem, is_sensor, term_sizes, IsNewMaking, sizes_of, IsPassOf, IsDeskOf, desk_memo, to_give_back, pass_memo}
+pub use Rattle.report_api.specs.{EachSettled, Act, DeskMemo, PassMemo, lost_events, missing_in, Report, Kept, AdmitsAct, AdmitsItem, term_sizes, IsNewMaking, sizes_of, IsPassOf, IsDeskOf, desk_memo, to_give_back, pass_memo}
 pub use Rattle.report_api.specs.declared.desk.Desk.{Desk}
 pub use Rattle.report_api.specs.declared.pass.Pass.{Pass}
 pub use Rattle.report_api.specs.declared.shared.Shared.{Shared}

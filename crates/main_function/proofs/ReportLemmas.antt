@@ -1,18 +1,9 @@
 -- What a turn adds to the desk, and to what it shows of a history.
-use Rattle.main_function.proofs.Names.{◌≡◌, ℕ, zero, suc, ◌+◌, ◌*◌, ◌≤◌, ◌<◌, List, [], ◌∷◌, ◌++◌, length, map, refl, arith, common_steps, flat_map-append, length-map, map-append, sum_by_push, entry_by, Entry, Turn, Buffer, DeskMemo, MakesTurn, ShowsHistory, held, item_of, items_of, sweeps_for, AreTotals, plain_item, Totals, end_steps, gave_of, only_reaps}
+use Rattle.main_function.proofs.Names.{◌≡◌, ℕ, ◌+◌, ◌*◌, ◌≤◌, List, [], ◌∷◌, ◌++◌, length, map, arith, common_steps, flat_map-append, length-map, map-append, sum_by_push, entry_by, Entry, Turn, Buffer, DeskMemo, MakesTurn, ShowsHistory, held, item_of, items_of, sweeps_for, AreTotals, plain_item, Totals, end_steps, gave_of, only_reaps}
+use Rattle.std.proofs.lemmas.Bool.Decides.{nat_tests}
 use mathlib.Core.List.{map-map}
 use Rattle.history_spec.specs.Fronts.{and_front}
 use Rattle.history_spec.proofs.FrontLemmas.{fronts_more}
-
--- the entries of a turn are the items that were taken
-entries_same : (taken : List (Entry Buffer)) → map plain_item (items_of taken) ≡ map (entry_by held) taken
-entries_same taken = map-map plain_item item_of taken
-
--- the fronts after an offer
-front_as : (offered count : ℕ) (fronts new : List ℕ) → (count ≡ 0 → new ≡ fronts) → (0 < count → new ≡ fronts ++ (offered + count) ∷ [])
-    → new ≡ and_front offered count fronts
-front_as offered zero fronts new none more = none refl
-front_as offered (suc count) fronts new none more = more (omega arith)
 
 -- what a turn adds to what the desk knows
 pub record TurnAdds (positions : ℕ) (old : DeskMemo) (taken : List (Entry Buffer)) (turn : Turn) (new : DeskMemo) : Type 0 where
@@ -32,8 +23,7 @@ module _ (positions : ℕ) (old new : DeskMemo) (turn : Turn) (taken : List (Ent
       let only = only_reaps (items_of taken) swept in
       let steps = end_steps (items_of taken) swept makes.took makes.takes in
       let gave = gave_of positions old.made (length taken) makes.took new makes.gives in
-      let fronts = front_as old.offered (length taken) old.fronts new.fronts in
-      grind (arith, common_steps, only, steps, gave, fronts, makes.takes, makes.few, length-map taken item_of)
+      grind (arith, nat_tests, common_steps, only, steps, gave, makes.takes, makes.few, length-map taken item_of)
 
   -- a desk that shows turns shows one turn more
   pub shows_more : (turns : List Turn) → old.offered ≡ positions + length old.notes → ShowsHistory positions old turns
@@ -43,11 +33,12 @@ module _ (positions : ℕ) (old new : DeskMemo) (turn : Turn) (taken : List (Ent
       let items = map-append plain_item old.notes (items_of taken) in
       let more = flat_map-append (λ (t : Turn). t.entries) turns (turn ∷ []) in
       let count = length-map old.notes plain_item in
+      let same : map plain_item (items_of taken) ≡ map (entry_by held) taken = map-map plain_item item_of taken in
       let entries = length-map taken (entry_by held) in
       let fronts = fronts_more positions turns turn (positions ∷ []) in
       let events = map-append (λ (t : Turn). t.head.lost_events) turns (turn ∷ []) in
       let contexts = map-append (λ (t : Turn). t.head.lost_contexts) turns (turn ∷ []) in
-      grind (arith, common_steps, adds, makes.entries_are, entries_same taken, items, more, shows, events, contexts, fronts, count, entries, offered)
+      grind (arith, common_steps, adds, makes.entries_are, same, items, more, shows, events, contexts, fronts, count, entries, offered)
 
   -- the totals of all turns with it
   pub totals_more : (before after : Totals) → AreTotals old before → after.entries ≡ before.entries + length taken

@@ -1,9 +1,11 @@
 -- What a manager between two calls can do, and what it is after a turn.
-use Rattle.main_function.proofs.Names.{◌≡◌, ℕ, ◌≤◌, List, [], ◌++◌, length, subst, sym, arith, rules, All, common_steps, recursion_from_All, Entry, AllAdmitted, HandsBack, IsShort, all_parcels, FitsLargest, FitsTurn, HasLogRoom, bytes_in, most_sent, Buffer, AreBuffersIn, queue_positions, DeskMemo, sizes_of, term_sizes, Shared, IsHeld, held, IsManagerOf, Took, Manager}
+use Rattle.main_function.proofs.Names.{◌≡◌, ℕ, ◌≤◌, List, [], ◌++◌, ◌*◌, length, IfSome, subst, sym, arith, rules, All, common_steps, All-weaker, recursion_from_All, Entry, AllAdmitted, HandsBack, IsShort, all_parcels, FitsAct, FitsLargest, FitsTurn, parcel_of, HasLogRoom, bytes_in, most_sent, Buffer, AreBuffersIn, queue_positions, DeskMemo, sizes_of, term_sizes, Shared, IsHeld, held, IsManagerOf, Took, Manager}
 use Rattle.std.specs.List.Sorted.{IsPermutation}
-use Rattle.main_function.proofs.FittingLemmas.{bytes_fit, came_fit, come_out, held_fit, held_in, held_short, items_fit}
+use Rattle.std.proofs.lemmas.Bool.Decides.{nat_tests}
+use Rattle.main_function.proofs.FittingLemmas.{held_in, of_items}
 use Rattle.main_function.proofs.LargestLemmas.{largest_admits}
 use Rattle.ids_types.specs.Output.{room_of}
+use Rattle.filter_chain.proofs.ParcelLemmas.{all_parcels_of, parcels_keep}
 use Rattle.filter_chain.proofs.RoomLemmas.{most_grows}
 
 module _ {C : Type 0} {events : C → ℕ} {kept : C → List Buffer} {shared : Shared} {m : Manager C} (mine : IsManagerOf events kept shared m) where
@@ -18,33 +20,41 @@ module _ {C : Type 0} {events : C → ℕ} {kept : C → List Buffer} {shared : 
 
   -- what the chain keeps is short
   pub kept_short : All (IsShort held) (kept m.chain)
-  kept_short = held_short shared.terms m.largest within mine.roomy.short (kept m.chain) are_held
+  kept_short = All-weaker (IsHeld (term_sizes shared.terms)) (IsShort held)
+      (λ buf is. omega (arith, within buf.class buf.size is.size_is, is.fits, mine.roomy.short)) (kept m.chain) are_held
 
-  -- and no larger than the largest class
+  -- what is held is no larger than the largest class
+  held_fit : (bufs : List Buffer) → All (IsHeld (term_sizes shared.terms)) bufs → All (FitsLargest held m.largest) bufs
+  held_fit = All-weaker (IsHeld (term_sizes shared.terms)) (FitsLargest held m.largest)
+      (λ buf is. grind (arith, nat_tests, within buf.class buf.size is.size_is, given buf.class buf.size is.size_is, is.fits))
+
   pub kept_fit : All (FitsLargest held m.largest) (kept m.chain)
-  kept_fit = held_fit shared.terms m.largest within mine.roomy.short given (kept m.chain) are_held
+  kept_fit = held_fit (kept m.chain) are_held
 
   module _ {old new : DeskMemo} {taken : List (Entry Buffer)} (took : Took shared.terms (queue_positions shared.queue) old taken new) where
     pub few_taken : length taken ≤ m.positions
     few_taken = omega (arith, took.few, mine.positions_are)
 
+    items_are : All (λ (e : Entry Buffer). FitsAct held shared.terms.events e.act) taken × All (λ (e : Entry Buffer). IfSome (parcel_of e.act) (IsHeld (term_sizes shared.terms))) taken
+        × (bytes_in held taken ≤ length taken * m.largest)
+    items_are = of_items shared.terms m.largest within mine.roomy.short taken took.admitted
+
     -- the chain can take what was taken
     pub can_take : FitsTurn held (events m.chain) taken
-    can_take = items_fit shared.terms m.largest within mine.roomy.short (events m.chain) taken mine.events_are
-        (omega (arith, few_taken, mine.roomy.few_positions)) took.admitted
+    can_take = rw mine.events_are record { few = omega (arith, few_taken, mine.roomy.few_positions); acts = items_are.0 }
 
     -- and it is no more than the room is for
     pub few_bytes : bytes_in held taken ≤ m.most_bytes
     few_bytes =
         let few = few_taken in
-        search (rules, few, bytes_fit shared.terms m.largest within mine.roomy.short taken took.admitted, mine.roomy.bytes_are)
+        search (rules, few, items_are.2, mine.roomy.bytes_are)
 
     pub has_room : HasLogRoom held taken m.out
     has_room = grind (arith, common_steps, few_taken, few_bytes, mine.roomy.out_room)
 
     -- nor is what was taken larger
     pub taken_fit : All (FitsLargest held m.largest) (all_parcels taken)
-    taken_fit = came_fit shared.terms m.largest within mine.roomy.short given taken took.admitted
+    taken_fit = held_fit (all_parcels taken) (all_parcels_of (IsHeld (term_sizes shared.terms)) taken items_are.1)
 
     -- and so the messages find room
     pub has_sent_room : most_sent m.largest (length taken) (events m.chain) ≤ (room_of m.out).sent
@@ -55,7 +65,7 @@ module _ {C : Type 0} {events : C → ℕ} {kept : C → List Buffer} {shared : 
       pub come_back : back_before ≡ [] → AreBuffersIn (sizes_of shared) back × All (IsHeld (sizes_of shared)) now
           × IsPermutation (all_parcels taken ++ kept m.chain) (back ++ now)
       come_back empty =
-          let are = come_out shared.terms m.largest within mine.roomy.short taken (kept m.chain) now back_before back took.admitted are_held hands in
+          let are = parcels_keep (IsHeld (term_sizes shared.terms)) taken (kept m.chain) now back_before back items_are.1 are_held hands in
           let same : hands.further ≡ back = grind (arith, common_steps, hands.back, empty) in
           let sizes = mine.desk_is.is_shared.sizes_are in (
             subst (AreBuffersIn (sizes_of shared)) same (rw sizes (held_in _ hands.further (recursion_from_All _ _ are.0))),

@@ -14,16 +14,9 @@ module _ (terms : ReportTerms) (most : ℕ) (old mid new : DeskMemo) (taken : Li
       → ReapTells (item_note (λ (act : Act). act)) mid (Ok (item_of entry)) new → TakesOn terms most old (taken ++ entry ∷ []) new
   took_one entry more admitted told =
       let items = map-append item_of taken (entry ∷ []) in
-      record {
-        is = rw (items, reaps_push, ← on.is) told;
-        few = grind (arith, common_steps, more);
-        admitted = rw items (All-push (AdmitsItem terms) (items_of taken) (item_of entry) on.admitted admitted);
-      }
+      let all = All-push (AdmitsItem terms) (items_of taken) (item_of entry) on.admitted admitted in
+      grind (arith, common_steps, more, items, reaps_push, on.is, told, all)
 
   -- one was not ready
   pub took_till : (unready : Unready) → ReapTells (item_note (λ (act : Act). act)) mid (Err unready) new → Took terms most old taken new
-  took_till unready told = record {
-    run = rw (← on.is) (unready.mark, told.0, told.1);
-    few = on.few;
-    admitted = on.admitted;
-  }
+  took_till unready told = record { run = rw (← on.is) (unready.mark, told.0, told.1); few = on.few; admitted = on.admitted }

@@ -1,5 +1,5 @@
 -- For which turns a manager stands after one more.
-use Rattle.main_function.proofs.Names.{◌≡◌, ℕ, ◌+◌, ◌≤◌, ◌^◌, List, [], ◌∷◌, ◌++◌, length, sum, ap, arith, rules, common_steps, sum_by_push, Entry, Turn, Parts, Buffer, desk_memo, MakesTurn, Stands, Manager}
+use Rattle.main_function.proofs.Names.{◌≡◌, ℕ, ◌+◌, ◌≤◌, ◌^◌, List, [], ◌∷◌, ◌++◌, length, sum, ap, arith, common_steps, sum_by_push, Entry, Turn, Parts, Buffer, desk_memo, MakesTurn, Stands, Manager}
 use Rattle.filter_chain.specs.History.{last_tick}
 use Rattle.main_function.proofs.ReportLemmas.{shows_more}
 
@@ -16,10 +16,5 @@ module _ {C : Type 0} (stands : C → Parts → List Turn → Type 0) (config : 
       → new.positions ≡ old.positions → new.last ≡ turn.head.tick → new.turns ≡ old.turns + 1
       → Stands stands config new (turns ++ turn ∷ [])
   stands_more old new turn taken is chain later makes offered positions last count =
-      let before = is.tick_is in
-      record {
-        chain_stands = chain (omega (arith, before, later));
-        reports_show = search (rules, positions, shows_more old.positions (desk_memo old.desk) (desk_memo new.desk) turn taken makes turns offered is.reports_show);
-        tick_is = grind (arith, common_steps, last);
-        count_is = grind (arith, common_steps, count, is.count_is);
-      }
+      let shows = shows_more old.positions (desk_memo old.desk) (desk_memo new.desk) turn taken makes turns offered is.reports_show in
+      grind (arith, common_steps, chain, is, later, shows, positions, last, count)

@@ -1,5 +1,5 @@
 -- All passes come back, the last first.
-use Rattle.main_function.proofs.Names.{◌≡◌, ℕ, suc, ◌+◌, ◌<◌, List, [], ◌∷◌, ◌++◌, length, map, slice_set, take, refl, sym, ap, ◌∙◌, arith, append-nil, at_length, there, AllOf, Welcomed, welcomes, DeskMemo, PassMemo, IsPassOf, pass_memo, Pass, Shared, OnlyWelcomes, all_back, came, common_steps, append_assoc, length-take-le, set-append_left, take_all, get_elem?, some}
+use Rattle.main_function.proofs.Names.{◌≡◌, ℕ, suc, ◌+◌, List, [], ◌∷◌, ◌++◌, length, map, slice_set, take, refl, sym, ap, ◌∙◌, arith, append-nil, at_length, there, AllOf, Welcomed, welcomes, DeskMemo, PassMemo, IsPassOf, pass_memo, Pass, Shared, OnlyWelcomes, all_back, came, common_steps, append_assoc, length-take-le, set-append_left, take_all, get_elem?, some}
 use Rattle.std.proofs.Math.Seq.{take-set-lt, take-suc-set}
 use Rattle.buffer_classes.specs.declared.giver.Giver.{Giver}
 
@@ -29,19 +29,14 @@ back_from i (pass ∷ passes) desk each long =
     let more = take-suc-set desk.back i (came (pass_memo pass)) (omega (arith, long)) in
     ap (λ n. slice_set (all_back (map pass_memo passes) desk).back n (came (pass_memo pass))) number ∙ rw (rest, left, ← last, more, append_assoc) refl
 
--- a giver that took nobody back
-pub only_none : (givers : List Giver) → AllOf (λ i. OnlyWelcomes 0) givers givers
-only_none givers = grind arith
-
--- and one that took one seat more
+-- a giver that took one seat more
 pub only_more : (n : ℕ) (shared : Shared) (pass : Pass) (olds mids news : List Giver) → IsPassOf shared pass
     → length mids ≡ length shared.classes.classes.items → AllOf (λ i. OnlyWelcomes n) olds mids → AllOf (Welcomed pass.claimant) mids news
     → AllOf (λ i. OnlyWelcomes (n + 1)) olds news
 only_more n shared pass olds mids news its as_many first second = record {
   as_many = second.as_many ∙ first.as_many;
   each = λ i old new was is.
-      let below : i < length mids = omega (arith, at_length olds i old was, first.as_many) in
-      let mid = there mids i below in
-      let seat = there pass.claimant.seats.items i (omega (arith, below, as_many, its.at.claimant.all)) in
+      let mid = there mids i (omega (arith, at_length olds i old was, first.as_many)) in
+      let seat = there pass.claimant.seats.items i (omega (arith, at_length mids i mid.0 mid.1, as_many, its.at.claimant.all)) in
       grind (arith, common_steps, first.each i old mid.0 was mid.1, second.each i mid.0 new mid.1 is seat.0 seat.1);
 }

@@ -1,5 +1,5 @@
 -- Fields are read from an image exactly where they were written, and tell one record.
-use Rattle.memory_image.proofs.Names.{◌≡◌, ℕ, ◌^◌, ◌<◌, List, ◌++◌, length, Option, Some, None, IfSome, refl, sym, ap, ap₂, subst, ◌∙◌, arith, append-nil, AreBytes, Row, Fields, IsKeepable, fields_bytes, fields_of, flag_of, number_of, row_bytes, w16, w64, IsPart, made, one_answer, part, parts_are_part, byte_is_part, bytes_are_part, number_is_part, wide16, wide64, Stamp, fields, fields_at}
+use Rattle.memory_image.proofs.Names.{◌≡◌, ℕ, ◌^◌, ◌<◌, List, ◌++◌, length, Some, refl, sym, ap, ◌∙◌, arith, append-nil, AreBytes, Row, Fields, IsKeepable, fields_bytes, fields_of, row_bytes, w16, w64, IsPart, made, one_answer, part, parts_are_part, byte_is_part, bytes_are_part, number_is_part, wide16, wide64, fields, fields_at}
 
 -- fields that so many bytes can say
 abbrev pub Fit : Fields → Type 0
@@ -28,33 +28,16 @@ fields_are_part =
       is = refl;
     })
 
--- a number of eight bytes tells a timestamp of as many
-pub wide : (stamp : Option Stamp) (number : ℕ) → number ≡ number_of stamp → number < 2 ^ 64 → IfSome stamp (λ stamp. stamp.0 < 2 ^ 64)
-wide None number is below = tt
-wide (Some stamp) number is below = subst (λ n. n < 2 ^ 64) is below
-
 fit_of : (row : Row) → IsKeepable row → Fit (fields_of row)
-fit_of row keeps = grind (arith, keeps, told row.stamp keeps.stamp)
-  where
-    told : (stamp : Option Stamp) → IfSome stamp (λ stamp. stamp.0 < 2 ^ 64) → (flag_of stamp < 256) × (number_of stamp < 2 ^ 64)
-    told None below = (omega arith, omega arith)
-    told (Some stamp) below = (omega arith, below)
+fit_of row keeps = grind (arith, keeps)
 
 -- the fields of a record that was written are read
 pub fields_again : (row : Row) (rest : List ℕ) → IsKeepable row → fields_at (row_bytes row ++ rest) ≡ Some (fields_of row, rest)
 fields_again row rest keeps = fields_are_part.again (fields_of row) rest (fit_of row keeps)
-
-same_stamp : (a b : Option Stamp) → flag_of a ≡ flag_of b → number_of a ≡ number_of b → a ≡ b
-same_stamp None None flag number = refl
-same_stamp (Some a) (Some b) flag number = let at : ℕ → Option Stamp = λ n. Some (record { 0 = n }) in ap at number
-same_stamp a b flag number = absurd cc
 
 -- bytes begin with one record
 pub one_row : (row next : Row) (rest more : List ℕ) → IsKeepable row → IsKeepable next → row_bytes row ++ rest ≡ row_bytes next ++ more
     → (row ≡ next) × (rest ≡ more)
 one_row row next rest more keeps keeps_next same =
     let is = one_answer (sym (fields_again row rest keeps) ∙ ap fields_at same ∙ fields_again next more keeps_next) in
-    let stamp = same_stamp row.stamp next.stamp (ap (λ (f : Fields). f.flag) is.0) (ap (λ (f : Fields). f.number) is.0) in
-    let of : Fields → Option Stamp → Row = λ f stamp.
-    record { key = record { event = record { 0 = f.event }; id = f.id; sensor = f.sensor }; occurrences = f.occurrences; first = f.first; last = f.last; stamp = stamp; context = f.context } in
-    (ap₂ of is.0 stamp, is.1)
+    grind (arith, is)

@@ -1,43 +1,31 @@
 -- A record that is stored as its first and its last item, and the records of an image so far.
-use Rattle.memory_image.proofs.Names.{◌≡◌, ℕ, suc, ◌+◌, ◌≤◌, List, [], ◌∷◌, ◌++◌, length, reverse, get_or, Option, Some, None, refl, sym, ◌∙◌, arith, append_assoc, append-nil, length-append, length-take, take_all, All, AllPairs, Row, Differ, IsKeepable, joined, row_bytes, min, eq-eqb, lt-ltb, eqb-false, eqb-true, get_or_append_left, get_or_at, length-map, nat_tests, flat_map-append, length-remove, All-head, All-permutation, IsPermutation-reverse, IsPermutation-sym, All-tail, position-Some, fails_before_first, position, position_or_len, Stored, event_of, Held, Stands, after_storing, after_storing_at, begun, is_of, stored, stands_after, HasPlace}
+use Rattle.memory_image.proofs.Names.{◌≡◌, ℕ, ◌≤◌, List, [], ◌∷◌, ◌++◌, length, reverse, None, refl, sym, ◌∙◌, arith, append_assoc, append-nil, length-append, length-take, take_all, All, AllPairs, Row, Differ, IsKeepable, joined, row_bytes, get_or_append_left, get_or_at, nat_tests, flat_map-append, length-remove, All-head, All-permutation, IsPermutation-reverse, IsPermutation-sym, All-tail, position-Some, fails_before_first, position, position_or_len, Stored, event_of, Held, Stands, after_storing, begun, is_of, stored, stands_after, HasPlace}
 use Rattle.memory_image.proofs.ReadingLemmas.{one_row}
+use Rattle.std.proofs.lemmas.Grind.{common_steps}
 
 -- the records after a store
 pub stored_rows : (item : Stored) (old new : Held) (items : List Stored) → item.count ≤ 65535 → Stands old items → Stands new (item ∷ items)
     → new.room ≡ old.room → new.rows ≡ (after_storing item old).rows
 stored_rows item old new items small stands after room =
-    let same : (after_storing item old).room ≡ old.room = elim (position (is_of (event_of item)) old.rows) as
-    (λ (place : Option ℕ). (after_storing_at item old place).room ≡ old.room) [ None ↦ refl | Some p ↦ refl ] in
-    cc (after, stands_after item old items small stands, room, same)
+    grind (arith, after, stands_after item old items small stands, room)
 
 -- where there is a place for one, a store begins a record
 pub begins : (item : Stored) (row : Row) (old : Held) → event_of item ≡ row.key.event.0 → HasPlace old row
     → (after_storing item old).rows ≡ begun item ∷ old.rows
-begins item row old same place =
-    let none : position (is_of (event_of item)) old.rows ≡ None = rw same place.alone in
-    rw none (take_all old.room (begun item ∷ old.rows) (omega (arith, place.room)))
+begins item row old same place = grind (arith, same, place, take_all old.room (begun item ∷ old.rows))
 
 -- and there is one, unless there are as many as before
 pub had_place : (item : Stored) (row : Row) (old : Held) (items : List Stored) → event_of item ≡ row.key.event.0 → Stands old items
     → (length (after_storing item old).rows ≡ length old.rows → ⊥) → HasPlace old row
 had_place item row old items same stands more =
-    let fits : length old.rows ≤ old.room = rw stands (simp (length-map, length-take) (omega arith)) in
-    elim (position (is_of (event_of item)) old.rows) as (λ (place : Option ℕ). position (is_of (event_of item)) old.rows ≡ place
-    → (length (after_storing_at item old place).rows ≡ length old.rows → ⊥) → HasPlace old row) [
-      | None ↦ λ is more. record { alone = rw (← same) is; room = grind (arith, length-take old.room (begun item ∷ old.rows), more) }
-      | Some p ↦ λ is more.
-          let long = length-remove old.rows p (position-Some (is_of (event_of item)) old.rows p row is).0 in
-          absurd (more (omega (arith, long)))
-    ] refl more
+    grind (arith, common_steps, nat_tests, same, stands, length-take old.room (begun item ∷ old.rows), length-remove old.rows, position-Some (is_of (event_of item)) old.rows, more)
 
 -- the first and the last item of a record, one after the other, make the record
 pub record_made : (row : Row) (rows : List Row) (room : ℕ) → row.occurrences ≤ 65535
     → (after_storing (stored row.last row.key 0 row.stamp row.context)
     (record { room = room; rows = begun (stored row.first row.key row.occurrences row.stamp row.context) ∷ rows })).rows
     ≡ row ∷ rows
-record_made row rows room few =
-    let sum : min (row.occurrences + 0) 65535 ≡ row.occurrences = omega arith in
-    rw (eq-eqb row.key.event.0 row.key.event.0 refl, lt-ltb 0 (suc (length rows)) (omega arith), sum) refl
+record_made row rows room few = grind (arith, nat_tests, common_steps, few)
 
 -- ---- events that differ
 
@@ -45,8 +33,7 @@ record_made row rows room few =
 pub apart : (rows : List Row) (row : Row) → position (is_of row.key.event.0) rows ≡ None → All (λ (one : Row). Differ one row) (reverse rows)
 apart rows row alone =
     All-permutation (λ (one : Row). Differ one row) rows (reverse rows) (IsPermutation-reverse rows) (λ k d low.
-    let past : length rows ≤ position_or_len (is_of row.key.event.0) rows = grind (arith, nat_tests) in
-    eqb-false (get_or rows k d).key.event.0 row.key.event.0 (fails_before_first (is_of row.key.event.0) rows k d (omega arith)))
+    grind (arith, nat_tests, fails_before_first (is_of row.key.event.0) rows k d))
 
 -- and where all differ, none is of a later record's event
 pub alone : (rows more : List Row) (row : Row) → AllPairs Differ (reverse rows ++ row ∷ more) → position (is_of row.key.event.0) rows ≡ None
@@ -55,12 +42,8 @@ alone rows more row differ =
     let all = All-permutation (λ (one : Row). Differ one row) front rows (IsPermutation-sym rows front (IsPermutation-reverse rows)) (λ k d low same.
     differ k (length front) d low (omega (arith, length-append front (row ∷ more)))
     (rw (get_or_append_left front (row ∷ more) d k low, get_or_at front row more d (length front) refl) same)) in
-    elim (position (is_of row.key.event.0) rows) as (λ (place : Option ℕ). position (is_of row.key.event.0) rows ≡ place → place ≡ None) [
-      | None ↦ λ none. refl
-      | Some i ↦ λ is.
-          let found = position-Some (is_of row.key.event.0) rows i row is in
-          absurd (all i row found.0 (eqb-true (get_or rows i row).key.event.0 row.key.event.0 found.1))
-    ] refl
+    let first = position_or_len (is_of row.key.event.0) rows in
+    grind (arith, nat_tests, position-Some (is_of row.key.event.0) rows first row, all first row)
 
 -- ---- the records of an image so far
 
@@ -73,7 +56,7 @@ goes_on (row ∷ done) (next ∷ rows) rest all keeps same =
     let is = one_row next row (joined rows) (joined done ++ rest) (All-head IsKeepable next rows keeps) (All-head IsKeepable row done all)
     (same ∙ append_assoc (row_bytes row) (joined done) rest) in
     let goes = goes_on done rows rest (All-tail IsKeepable row done all) (All-tail IsKeepable next rows keeps) is.1 in
-    (goes.0, cc (is.0, goes.1), goes.2, goes.3)
+    (goes.0, grind (arith, is, goes), goes.2, goes.3)
 
 -- one record more is read
 pub read_more : (done : List Row) (row : Row) (image rest after : List ℕ) → image ≡ joined done ++ rest → rest ≡ row_bytes row ++ after

@@ -1,21 +1,17 @@
 -- What the three writes of a save leave, once they are done.
-use Rattle.memory_store.proofs.Names.{◌≡◌, ℕ, ◌+◌, ◌-◌, ◌*◌, ◌<◌, ◌≤◌, List, [], ◌∷◌, ◌++◌, length, take, drop, get_or, Some, None, refl, sym, ap, subst, ◌∙◌, arith, length-drop, drop_at, inl, inr, ChangesIn, part, overwritten, get_or_at, take-append-le, drop-append-le, length-take-le, take-append-add, IsBody, IsSet, KeepsEither, Slot, gated, kept_slot, slot_at, slot_in, overwritten_changes, LeavesSince, KeepsSlot, Shown, Place, IsPlaceOn, Holds, bytes_of, goes_on_with, weaker}
-use Rattle.std.proofs.lemmas.Option.{IfSome_then}
-use Rattle.memory_store.proofs.SlotLemmas.{body_set, body_span, gate_cases, gate_set, gate_span, kept_newer, kept_shut}
+use Rattle.memory_store.proofs.Names.{◌≡◌, ℕ, ◌+◌, ◌-◌, ◌*◌, ◌≤◌, List, [], ◌∷◌, ◌++◌, length, take, drop, Some, None, sym, subst, arith, drop_at, inl, ChangesIn, part, overwritten, get_or_at, take-append-le, drop-append-le, length-take-le, take-append-add, IsBody, IsSet, KeepsEither, Slot, gated, kept_slot, slot_in, overwritten_changes, LeavesSince, KeepsSlot, Shown, Place, IsPlaceOn, Holds, bytes_of, goes_on_with, weaker, nat_tests, common_steps, places}
+use Rattle.memory_store.proofs.SlotLemmas.{body_set, body_span, gate_set, gate_span, kept_by, kept_shut}
 
 -- ---- parts of bytes that were written
 
 part-append : (at count : ℕ) (xs ys : List ℕ) → at + count ≤ length xs → part at count (xs ++ ys) ≡ part at count xs
 part-append at count xs ys within =
-    rw (drop-append-le at xs ys (omega arith)) (take-append-le count (drop at xs) ys (omega (arith, length-drop at xs)))
+    grind (arith, common_steps, drop-append-le at xs ys, take-append-le count (drop at xs) ys)
 
 -- a slot is what its body says, whatever follows
 slot_in-append : (body rest : List ℕ) → length body ≡ 12 + (slot_in body).size → slot_in (body ++ rest) ≡ slot_in body
 slot_in-append body rest whole =
-    let sequence = take-append-le 8 body rest (omega (arith, whole)) in
-    let size = part-append 8 4 body rest (omega (arith, whole)) in
-    let image = part-append 12 (slot_in body).size body rest (omega (arith, whole)) in
-    rw (sequence, size, image) refl
+    grind (arith, take-append-le 8 body rest, part-append 8 4 body rest, part-append 12 (slot_in body).size body rest, whole)
 
 -- ---- the steps of a save
 
@@ -25,16 +21,13 @@ pub gate_done : (slot : ℕ) → slot ≤ 1 → (byte : ℕ) (old new : List ℕ
 gate_done slot low byte old new size is =
     let at = 270864 * slot in
     let changes = subst (ChangesIn (gate_span slot) old) (sym is) (overwritten_changes at (byte ∷ []) old (omega arith)) in
-    let gate = ap (λ bytes. get_or bytes at 0) is ∙ get_or_at (take at old) byte (drop (at + 1) old) 0 at (length-take-le at old (omega arith)) in
-    subst (λ gate. IsSet slot (gated gate (part (at + 1) 270860 old)) old new) gate (gate_set slot low old new changes)
+    grind (arith, places, is, gate_set slot low old new changes, get_or_at (take at old) byte (drop (at + 1) old) 0 at)
 
 -- the slot that was saved is kept
 pub saved_kept : (place : Place) (old new : List ℕ) (saved : Slot) → place.slot ≤ 1 → IsPlaceOn place old → IsSet place.slot (Some saved) old new
     → saved.sequence ≡ place.sequence + 1 → kept_slot new ≡ Holds saved
 saved_kept place old new saved low next is newer =
-    kept_newer place.slot new saved low is.own
-    (rw is.other (IfSome_then (slot_at (1 - place.slot) old) {P = λ slot. slot.sequence ≡ place.sequence}
-    {Q = λ slot. slot.sequence < saved.sequence} next.numbered (λ slot same. omega (arith, same, newer))))
+    rw (kept_by place.slot new low, is.own, is.other) (grind (arith, nat_tests, next, newer))
 
 module _ (place : Place) (low : place.slot ≤ 1) (body : List ℕ) (is_body : IsBody body (place.sequence + 1)) (old : Shown)
     (next : IsPlaceOn place (bytes_of old)) where
@@ -62,7 +55,7 @@ module _ (place : Place) (low : place.slot ≤ 1) (body : List ℕ) (is_body : I
       → IsSet place.slot (Some (slot_in body)) (bytes_of old) new
   open_done mid new size has is =
       let done = gate_done place.slot low 1 mid new size is in
-      record { own = done.own ∙ ap Some has.behind; other = done.other ∙ has.shut.other }
+      grind (arith, done, has)
 
   -- ---- what may be left at each moment of it
 
@@ -72,20 +65,13 @@ module _ (place : Place) (low : place.slot ≤ 1) (body : List ℕ) (is_body : I
       → LeavesSince shut.run now.run (ChangesIn (body_span place.slot (length body)) (bytes_of shut))
       → LeavesSince old.run now.run (KeepsEither (slot_in body) (bytes_of old))
   body_leaves shut now is_shut first second =
-      let either = KeepsEither (slot_in body) (bytes_of old) in
-      goes_on_with either old.run shut.run now.run
-      (weaker (KeepsSlot (bytes_of old)) either old.run shut.run (λ left same. inl same) first)
-      (weaker (ChangesIn (body_span place.slot (length body)) (bytes_of shut)) either shut.run now.run (λ left changes. inl (
-      kept_shut place.slot low (bytes_of old) left next.keeps
+      goes_on_with (KeepsEither (slot_in body) (bytes_of old)) old.run shut.run now.run (weaker _ _ _ _ (λ left same. inl same) first)
+      (weaker _ _ _ _ (λ left changes. inl (kept_shut place.slot low (bytes_of old) left next.keeps
       (body_set place.slot low (length body) (bytes_of old) (bytes_of shut) left is_body.few is_shut changes))) second)
 
   -- while the gate is opened
   pub open_step : (mid left : List ℕ) → HasBody mid → ChangesIn (gate_span place.slot) mid left → KeepsEither (slot_in body) (bytes_of old) left
   open_step mid left has changes =
       let set = gate_set place.slot low mid left changes in
-      let other = set.other ∙ has.shut.other in
-      elim (gate_cases (get_or left (270864 * place.slot) 0) (part (270864 * place.slot + 1) 270860 mid)) [
-        | inl shut ↦ inl (kept_shut place.slot low (bytes_of old) left next.keeps (record { own = set.own ∙ shut; other = other }))
-        | inr opened ↦ inr (saved_kept place (bytes_of old) left (slot_in body) low next
-            (record { own = set.own ∙ opened ∙ ap Some has.behind; other = other }) is_body.numbered)
-      ]
+      let shut = kept_shut place.slot low (bytes_of old) left next.keeps in
+      grind (arith, nat_tests, set, has, shut, saved_kept place (bytes_of old) left (slot_in body) low next, is_body.numbered)

@@ -1,5 +1,5 @@
 -- What changes in one slot make of the slot that a disk keeps.
-use Rattle.memory_store.proofs.Names.{◌≡◌, ℕ, zero, suc, ◌+◌, ◌-◌, ◌*◌, ◌<◌, ◌≤◌, ◌⊎◌, true, List, drop, get_or, Option, Some, None, is_some, IfSome, refl, sym, ap, ap₂, ◌∙◌, inl, inr, arith, same_number_lists, length-take, length-drop, get_or-take, get_or-drop, Span, IsIn, ChangesIn, part, nat_tests, Slot, Holds, IsSet, slot_in, gated, slot_at, only, chosen, kept_slot}
+use Rattle.memory_store.proofs.Names.{◌≡◌, ℕ, zero, suc, ◌+◌, ◌-◌, ◌*◌, ◌<◌, ◌≤◌, true, List, get_or, Option, Some, None, is_some, refl, sym, ap, ap₂, ◌∙◌, arith, same_number_lists, length-take, length-drop, Span, IsIn, ChangesIn, part, nat_tests, Slot, IsSet, slot_in, gated, slot_at, only, chosen, kept_slot, places, if◌then◌else◌, ◌==◌}
 
 -- ---- parts of bytes
 
@@ -8,40 +8,22 @@ part_outside : (at count : ℕ) (span : Span) (old new : List ℕ) → ChangesIn
     → ((i : ℕ) → at ≤ i → i < at + count → ¬ IsIn span i) → part at count new ≡ part at count old
 part_outside at count span old new changes apart =
     same_number_lists (part at count new) (part at count old) (simp (length-take, length-drop, changes.size)) (λ i low.
-    let few : i < count = omega (arith, low, length-take count (drop at new)) in
-    rw (get_or-take count (drop at new) i 0 few, get_or-take count (drop at old) i 0 few, get_or-drop at new i 0, get_or-drop at old i 0)
-    (changes.others (at + i) (apart (at + i) (omega arith) (omega arith))))
+    grind (arith, places, low, changes.others (at + i), apart (at + i)))
 
 -- ---- the kept slot
 
-chosen_swap : (a b : Option Slot) → chosen a b ≡ chosen b a
-chosen_swap None None = refl
-chosen_swap None (Some b) = refl
-chosen_swap (Some a) None = refl
-chosen_swap (Some a) (Some b) = grind (arith, nat_tests)
-
--- by either of the two
-kept_by : (slot : ℕ) (disk : List ℕ) → slot ≤ 1 → kept_slot disk ≡ chosen (slot_at slot disk) (slot_at (1 - slot) disk)
+-- by either of the two slots
+pub kept_by : (slot : ℕ) (disk : List ℕ) → slot ≤ 1 → kept_slot disk ≡ chosen (slot_at slot disk) (slot_at (1 - slot) disk)
 kept_by zero disk low = refl
-kept_by (suc zero) disk low = chosen_swap (slot_at 0 disk) (slot_at 1 disk)
+kept_by (suc zero) disk low = grind (arith, nat_tests)
 kept_by (suc (suc slot)) disk low = absurd (omega arith)
-
--- this one where its sequence is above the other's
-pub kept_newer : (slot : ℕ) (disk : List ℕ) (own : Slot) → slot ≤ 1 → slot_at slot disk ≡ Some own
-    → IfSome (slot_at (1 - slot) disk) (λ other. other.sequence < own.sequence) → kept_slot disk ≡ Holds own
-kept_newer slot disk own low is above =
-    rw (kept_by slot disk low, is) (elim (slot_at (1 - slot) disk) as (λ (other : Option Slot).
-    IfSome other (λ other. other.sequence < own.sequence) → chosen (Some own) other ≡ Holds own)
-    [ None ↦ λ none. refl | Some other ↦ λ above. grind (arith, nat_tests, above) ] above)
 
 -- ---- changes in one slot
 
--- a gate is closed or open
-pub gate_cases : (gate : ℕ) (bytes : List ℕ) → (gated gate bytes ≡ None) ⊎ (gated gate bytes ≡ Some (slot_in bytes))
-gate_cases gate bytes = grind (arith, nat_tests)
-
-gate_open : (gate : ℕ) (bytes : List ℕ) → is_some (gated gate bytes) ≡ true → gated gate bytes ≡ Some (slot_in bytes)
-gate_open gate bytes is_open = grind (arith, nat_tests)
+-- a gate that was open and is written is closed, or opens the same
+gate_left : (now was : ℕ) (slot : Slot) (other : Option Slot) → is_some (if was == 1 then Some slot else None) ≡ true
+    → chosen (if was == 1 then Some slot else None) other ≡ only other → chosen (if now == 1 then Some slot else None) other ≡ only other
+gate_left now was slot other is_open kept = grind (arith, nat_tests, is_open, kept)
 
 -- the gate of a slot
 abbrev pub gate_span : ℕ → Span
@@ -78,8 +60,8 @@ module _ (slot : ℕ) (low : slot ≤ 1) where
       → IsSet slot None old new
   unfolding slot_at
   body_set count old mid new few shut changes =
-      let at = 270864 * slot in record {
-        own = rw (changes.others at (λ inside. omega (arith, inside.0))) (grind (arith, nat_tests, shut.own));
+      record {
+        own = rw (changes.others (270864 * slot) (λ inside. omega (arith, inside.0))) (grind (arith, nat_tests, shut.own));
         other = other_stays (body_span slot count) mid new (omega arith) (omega (arith, few)) changes ∙ shut.other;
       }
 
@@ -94,10 +76,7 @@ module _ (slot : ℕ) (low : slot ≤ 1) where
     pub shutting_keeps : is_some (slot_at slot old) ≡ true → ChangesIn (gate_span slot) old new → kept_slot new ≡ kept_slot old
     unfolding slot_at
     shutting_keeps is_open changes =
-        let bytes = part (270864 * slot + 1) 270860 old in
         let set = gate_set old new changes in
-        let was = gate_open (get_or old (270864 * slot) 0) bytes is_open in
-        elim (gate_cases (get_or new (270864 * slot) 0) bytes) [
-          | inl closed ↦ kept_shut (record { own = set.own ∙ closed; other = set.other })
-          | inr opened ↦ rw (kept_by slot new low, kept_by slot old low, set.own, opened, was, set.other) refl
-        ]
+        rw (kept_by slot new low, kept, set.own, set.other)
+        (gate_left (get_or new (270864 * slot) 0) (get_or old (270864 * slot) 0) (slot_in (part (270864 * slot + 1) 270860 old)) _ is_open
+        (rw (kept_by slot old low) at kept))

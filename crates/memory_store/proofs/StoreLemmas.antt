@@ -1,5 +1,5 @@
 -- What a save and a beginning make of the slots that a disk keeps.
-use Rattle.memory_store.proofs.Names.{◌≡◌, ℕ, ◌+◌, ◌-◌, ◌^◌, ◌<◌, ◌≤◌, nat_lt, List, ◌++◌, length, Some, Ok, Err, Result, is_some, refl, sym, ap, ap₂, ◌∙◌, inl, inr, arith, ⊤, part, Run, Shown, LeavesSince, MayBeLeft, Reads, Syncs, goes_on_with, read_leaves, sync_leaves, DiskFailed, lt-ltb, take_all, from_be_bytes-to_be_bytes_4, from_be_bytes-to_be_bytes_8, OnOk, w32, w64, to_be_bytes, Row, AreKeepable, joined, length-all, IsBody, IsPlaceOn, IsSet, KeepsEither, KeepsRowsOr, slot_for, Holds, KeepsRows, Slot, kept_slot, only, slot_at, slot_in, Place, bytes_of, weaker}
+use Rattle.memory_store.proofs.Names.{◌≡◌, ℕ, ◌+◌, ◌-◌, ◌^◌, ◌<◌, ◌≤◌, nat_lt, List, ◌++◌, length, Some, Result, refl, sym, ap, ◌∙◌, arith, ⊤, part, Run, Shown, LeavesSince, MayBeLeft, Reads, Syncs, goes_on_with, read_leaves, sync_leaves, DiskFailed, take_all, from_be_bytes-to_be_bytes_4, from_be_bytes-to_be_bytes_8, OnOk, w32, w64, to_be_bytes, Row, AreKeepable, joined, length-all, IsBody, IsPlaceOn, IsSet, KeepsEither, KeepsRowsOr, slot_for, Holds, KeepsRows, Slot, kept_slot, slot_at, slot_in, Place, bytes_of, weaker, nat_tests}
 use Rattle.memory_store.proofs.SaveLemmas.{saved_kept}
 
 -- what a body says, and that it fits a slot
@@ -26,22 +26,15 @@ pub place_after : (place : Place) (old new : List ℕ) (saved : Slot) → place.
     → IsPlaceOn (record { slot = 1 - place.slot; is_open = nat_lt 0 place.sequence; sequence = place.sequence + 1 }) new
 place_after place old new saved low next is newer =
     let own : slot_at (1 - (1 - place.slot)) new ≡ Some saved = ap (λ slot. slot_at slot new) (omega arith) ∙ is.own in
-    record {
-      gate = ap is_some is.other ∙ next.begun;
-      begun = ap is_some own ∙ sym (lt-ltb 0 (place.sequence + 1) (omega arith));
-      numbered = rw own newer;
-      keeps = saved_kept place old new saved low next is newer ∙ sym (ap only own);
-    }
+    grind (arith, nat_tests, own, is, next, newer, saved_kept place old new saved low next is newer)
 
 -- so at each moment of a save these records are kept, or those
 pub either_rows : (old new : Shown) (saved : Slot) (base : ℕ) (was rows : List Row) → saved ≡ slot_for (base + 1) rows → AreKeepable rows
     → base < 2 ^ 62 → KeepsRows (bytes_of old) base was → LeavesSince old.run new.run (KeepsEither saved (bytes_of old))
     → LeavesSince old.run new.run (KeepsRowsOr base was (base + 1) rows)
-either_rows old new saved base was rows says all low keeps =
-    weaker (KeepsEither saved (bytes_of old)) (KeepsRowsOr base was (base + 1) rows) old.run new.run (λ left either. elim either [
-      | inl same ↦ inl (rw same keeps)
-      | inr now ↦ inr (keeps_saved left (base + 1) rows saved now says (omega arith) (omega arith) all)
-    ])
+either_rows old new saved base was rows says all low had keeps =
+    weaker (KeepsEither saved (bytes_of old)) (KeepsRowsOr base was (base + 1) rows) old.run new.run
+    (λ left either. grind (arith, either, had, keeps_saved left (base + 1) rows saved, says, all)) keeps
 
 -- ---- a beginning
 
@@ -50,11 +43,11 @@ pub synced_read : (old mid new : Run) (result : Result ⊤ DiskFailed) (at : ℕ
     → Reads mid new at out result' → LeavesSince old new (MayBeLeft old.now)
 synced_read old mid new result at out result' syncs reads =
     let first = sync_leaves (MayBeLeft old.now) old mid result (λ bytes may. may) syncs in
-    goes_on_with (MayBeLeft old.now) old mid new first (read_leaves (MayBeLeft old.now) mid new at out result' first.now reads)
+    goes_on_with _ old mid new first (read_leaves _ mid new at out result' first.now reads)
 
 -- what was read stands there
 pub read_gives : (old new : Run) (at count : ℕ) (out bytes : List ℕ) (result : Result ⊤ DiskFailed) → Reads old new at out result
     → old.now.contents ≡ bytes → length out ≡ count → OnOk result (out ≡ part at count bytes)
-read_gives old new at count out bytes (Ok done) reads same size =
-    reads.1 ∙ ap₂ (part at) size same
-read_gives old new at count out bytes (Err failed) reads same size = tt
+read_gives old new at count out bytes result reads same size = grind (arith, reads, same, size)
+
+pub ruleset encoding = (length-all, body_told)

@@ -21,6 +21,7 @@ pub(crate) struct Slot<'a> {
 
 /// Fills an empty memory with the records that are kept, and says where a save goes; or names the slot that is
 /// damaged.
+#[tactic(auto, using(std::proofs::lemmas::Bool::Decides::nat_tests))]
 pub(crate) fn find(first: &[u8], second: &[u8], memory: &mut Memory) -> Result<Place, u8>
     requires first { length first.now ≡ 270861 }
     requires second { length second.now ≡ 270861 }
@@ -48,6 +49,7 @@ pub(crate) fn find(first: &[u8], second: &[u8], memory: &mut Memory) -> Result<P
 }
 
 /// Fills an empty memory with the records of this slot, and says that a save goes to the other one.
+#[tactic(auto, using(std::proofs::lemmas::Bool::Decides::nat_tests))]
 fn take(number: u8, is_open: bool, kept: Slot<'_>, memory: &mut Memory) -> Result<Place, u8>
     requires number { number ≤ 1 }
     requires memory { memory.old ≡ no_rows 256 }

@@ -192,6 +192,7 @@ fn read_slots<D: Disk>(disk: &mut D, first: &mut [u8], second: &mut [u8]) -> Res
 }
 
 /// Puts the body of a save in place of the bytes.
+#[tactic(auto, using(crate::proofs::StoreLemmas::encoding))]
 fn encode(body: &mut Vec<u8>, sequence: u64, memory: &Memory)
     requires keepable { AreKeepable (reverse memory.now.rows) }
     requires room { 270860 ≤ vec_capacity body.old }

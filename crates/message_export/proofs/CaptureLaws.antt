@@ -1,8 +1,8 @@
 -- What a capture tells of its messages.
-use Rattle.message_export.proofs.Names.{◌≡◌, ◌<◌, ◌≤◌, ◌^◌, ◌++◌, ◌∷◌, [], ℕ, List, length, map, take, drop, min, refl, sym, ap, ◌∙◌, arith, MessageParts, FitsMessage, AreMessages, spelling, w32, from_be_bytes, to_be_bytes, AllByRecursion, common_steps, append_cancel_left, drop_at, length-take, take_all, take_at}
+use Rattle.message_export.proofs.Names.{◌≡◌, ◌<◌, ◌≤◌, ◌^◌, ◌++◌, ◌∷◌, [], ℕ, List, length, map, take, drop, refl, ap, arith, MessageParts, FitsMessage, AreMessages, spelling, w32, from_be_bytes, to_be_bytes, AllByRecursion, common_steps, append_cancel_left, drop_at, length-take, take_all, take_at}
 use Rattle.std.proofs.lemmas.Nat.{from_be_bytes-to_be_bytes_4}
 use Rattle.ids_frame.proofs.MessageLemmas.{one_message_lem}
-use Rattle.message_export.specs.Capture.{Told, capture_front, exported_pcap, kept, no_time, packet, packets, time_after, told_of}
+use Rattle.message_export.specs.Capture.{Told, exported_pcap, kept, packet, packets, time_after, told_of}
 use Rattle.message_export.specs.declared.capture.Time.{Time}
 
 -- ---- the length of a message is told in four bytes
@@ -28,12 +28,10 @@ one_tells : (t u : Time) (m n : MessageParts) (behind others : List ℕ) → Fit
 one_tells t u m n behind others fit fits e =
     let numbers : from_be_bytes w32 (to_be_bytes w32 (length (spelling m))) ≡ from_be_bytes w32 (to_be_bytes w32 (length (spelling n))) =
     ap (λ l. from_be_bytes w32 (take 4 (drop 12 l))) e in
-    let len = sym (from_be_bytes-to_be_bytes_4 (length (spelling m)) (fits_32 m fit)) ∙ numbers
-    ∙ from_be_bytes-to_be_bytes_4 (length (spelling n)) (fits_32 n fits) in
-    let tail : kept (spelling m) ++ behind ≡ kept (spelling n) ++ others = ap (drop 16) e in
-    let kept_len : length (kept (spelling m)) ≡ length (kept (spelling n)) =
-    length-take 262144 (spelling m) ∙ ap (λ k. min 262144 k) len ∙ sym (length-take 262144 (spelling n)) in
-    let parts = same_parts (kept (spelling m)) (kept (spelling n)) behind others kept_len tail in
+    let len : length (spelling m) ≡ length (spelling n) =
+    cc (numbers, from_be_bytes-to_be_bytes_4 _ (fits_32 m fit), from_be_bytes-to_be_bytes_4 _ (fits_32 n fits)) in
+    let kept_len : length (kept (spelling m)) ≡ length (kept (spelling n)) = cc (len, length-take 262144 (spelling m), length-take 262144 (spelling n)) in
+    let parts = same_parts (kept (spelling m)) (kept (spelling n)) behind others kept_len (ap (drop 16) e) in
     record { len = len; bytes = parts.0; rest = parts.1 }
 
 all_tell : (t u : Time) (messages others : List MessageParts) → AreMessages messages → AreMessages others
@@ -43,24 +41,20 @@ all_tell t u (m ∷ messages) (n ∷ others) fit fits e =
     let now = time_after t m.stamp in
     let later = time_after u n.stamp in
     let one = one_tells now later m n (packets now messages) (packets later others) fit.0 fits.0 e in
-    let first : told_of m ≡ told_of n = grind (arith, one) in
-    cc (first, all_tell now later messages others fit.1 fits.1 one.rest)
+    cc (one.len, one.bytes, all_tell now later messages others fit.1 fits.1 one.rest)
 all_tell t u [] (n ∷ others) fit fits e = absurd (omega (arith, ap (λ l. length (take 1 l)) e))
 all_tell t u (m ∷ messages) [] fit fits e = absurd (omega (arith, ap (λ l. length (take 1 l)) e))
 
 pub told_lem : (messages others : List MessageParts) → AreMessages messages → AreMessages others
     → exported_pcap messages ≡ exported_pcap others → map told_of messages ≡ map told_of others
-told_lem messages others fit fits e =
-    all_tell no_time no_time messages others fit fits
-    (append_cancel_left capture_front (packets no_time messages) (packets no_time others) e)
+told_lem messages others fit fits e = grind (arith, common_steps, all_tell, append_cancel_left)
 
 -- ---- messages that are kept whole
 
 one_short : (m n : MessageParts) → FitsMessage m → FitsMessage n → length (spelling m) ≤ 262144
     → length (spelling m) ≡ length (spelling n) → kept (spelling m) ≡ kept (spelling n) → m ≡ n
 one_short m n fit fits short len same =
-    let whole = sym (take_all 262144 (spelling m) short) ∙ same ∙ take_all 262144 (spelling n) (omega (arith, len, short)) in
-    (one_message_lem m n [] [] fit fits (ap (λ l. l ++ []) whole)).0
+    (one_message_lem m n [] [] fit fits (cc (take_all 262144 (spelling m) short, same, take_all 262144 (spelling n) (omega (arith, len, short))))).0
 
 all_short : (messages others : List MessageParts) → AreMessages messages → AreMessages others
     → AllByRecursion (λ m. length (spelling m) ≤ 262144) messages

@@ -1,9 +1,9 @@
 -- Messages are exported one by one: those in front were, and the others are left.
 use Rattle.message_export.proofs.Names.{◌≡◌, ◌+◌, ◌-◌, ◌<◌, ◌==◌, ◌∷◌, ◌++◌, ℕ, List, [], Ok, Err, arith, false, true, length, drop, refl, sym, ap, ◌∙◌, append_assoc, IsByte, AreBytes, MessageParts, IsJoined, joined, AreMessages, messages_read, spelling, CauseOf, line_feed, common_steps, append-nil, length-append, nil_from_length, Front}
 use Rattle.std.proofs.lemmas.List.Elements.{All-drop}
-use Rattle.ids_frame.specs.declared.fault.BadMessage.{BadMessage}
 use Rattle.ids_frame.specs.declared.fault.FrameFault.{FrameFault}
-use Rattle.ids_frame.proofs.MessagesLemmas.{read_is_held}
+use Rattle.ids_frame.proofs.MessageLemmas.{read_of}
+use Rattle.ids_frame.proofs.MessagesLemmas.{IsLeft, read_is_held, stops}
 use Rattle.message_export.specs.Capture.{capture_front, no_time, packet, packets, time_after}
 use Rattle.message_export.specs.Exported.{exported, front_of, piece}
 use Rattle.message_export.specs.JsonLines.{json_line, json_lines}
@@ -93,9 +93,6 @@ all_put format bytes rest out time are so none =
 pub putting_stops : (format : Format) (bytes rest out : List ℕ) (time : Time) (fault : FrameFault) → AreBytes bytes
     → ArePut format bytes rest out time → (length rest == 0) ≡ false → CauseOf fault rest
     → messages_read bytes ≡ Err (record { at = length bytes - length rest; fault = fault })
-putting_stops format bytes [] out time fault are so some cause = absurd (cc some)
-putting_stops format bytes (next ∷ rest) out time fault are so some cause =
-    let bad : BadMessage = record { at = length bytes - length (next ∷ rest); fault = fault } in
-    let place : bad.at ≡ length (joined so.front) = grind (arith, common_steps) in
-    let s = so.stands in
-    (read_is_held bytes (Err bad) are).1 (record { front = so.front; fit = s.fit; next = next; rest = rest; whole = s.whole; place = place; cause = cause })
+putting_stops format bytes rest out time fault are so some cause =
+    let left : IsLeft bytes rest = record { front = so.front; fit = so.stands.fit; whole = so.stands.whole; are_bytes = so.stands.are_bytes } in
+    stops bytes rest fault left some (read_of rest (Err fault) so.stands.are_bytes cause)

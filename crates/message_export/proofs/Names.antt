@@ -1,7 +1,7 @@
 -- The names of other crates that several files of this crate cite.
 pub use Rattle.ids_frame.proofs.DecodeLemmas.{Front, are_bytes, decode_tells}
 pub use Rattle.ids_frame.specs.{IsByte, AreBytes, MessageParts, IsJoined, joined, AreMessages, messages_read, spelling, CauseOf, ContextPart, FitsContext, FitsMessage}
-pub use Rattle.std.proofs.Common.{◌≡◌, ◌+◌, ◌-◌, ◌<◌, ◌==◌, ◌∷◌, ◌++◌, ℕ, List, [], Ok, Err, arith, false, true, length, drop, refl, sym, ap, ◌∙◌, append_assoc, ◌^◌, Bool, not, Option, Some, None, get_or, inl, inr, ◌≤◌, map, take, min}
+pub use Rattle.std.proofs.Common.{◌≡◌, ◌+◌, ◌-◌, ◌<◌, ◌==◌, ◌∷◌, ◌++◌, ℕ, List, [], Ok, Err, arith, false, true, length, drop, refl, sym, ap, ◌∙◌, append_assoc, ◌^◌, Bool, not, Option, Some, None, get_or, inr, ◌≤◌, map, take, min}
 pub use Rattle.std.proofs.lemmas.Grind.{common_steps, flat_map-append}
 pub use Rattle.std.proofs.lemmas.List.{append-nil, length-append, nil_from_length, append_cancel_right, get_or_past, append_cancel_left, drop_at, length-take, take_all, take_at}
 pub use Rattle.std.proofs.lemmas.Result.{IfOk-equal}

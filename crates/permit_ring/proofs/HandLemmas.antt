@@ -50,6 +50,10 @@ module _ {O D : Type 0} {Admits : O → Type 0} {n t filled vacant : ℕ} {hand 
   two_rows : (slots : List (Slot O D)) → hand_from n t (row ++ slots) ≡ front ++ hand_from n (t + filled) slots
   two_rows slots = cc (hand-append n t row slots, length-map {B = Slot O D} keeps.values Offered, keeps.filled_are)
 
+  -- the slots are the filled and the vacant ones
+  pub hand_length : length hand ≡ filled + vacant
+  hand_length = rw keeps.in_hand (simp (length-hand, length-append, length-map, length-replicate) (omega (arith, keeps.filled_are)))
+
   -- what is filled is ready to be offered
   pub ready_is : ready hand ≡ filled
   ready_is = rw keeps.in_hand (ready_filled n D t keeps.values vacant ∙ keeps.filled_are)
@@ -57,13 +61,11 @@ module _ {O D : Type 0} {Admits : O → Type 0} {n t filled vacant : ℕ} {hand 
   -- one position more is vacant
   pub hand_reaped : {at : ℕ} → at ≡ (t + filled + vacant) % n → KeepsInHand Admits n t filled (vacant + 1) (hand ++ (at, Empty) ∷ [])
   hand_reaped {at} is =
-      let empties : List (Slot O D) = replicate vacant Empty in
-      let long : t + length (row ++ empties) ≡ t + filled + vacant = simp (length-append, length-map, length-replicate)
-      (omega (arith, keeps.filled_are)) in
-      let more = append_assoc row empties (Empty ∷ []) in
-      let behind = hand-append n t (row ++ empties) (Empty ∷ []) in
+      let slots : List (Slot O D) = filled_then keeps.values vacant in
+      let long : t + length slots ≡ t + filled + vacant = omega (arith, hand_length, ap length keeps.in_hand, length-hand n t slots) in
+      let more = append_assoc row (replicate vacant Empty) (Empty ∷ []) in
       let one : hand ++ (at, Empty) ∷ [] ≡ hand_from n t (row ++ replicate (vacant + 1) Empty) =
-      cc (behind, more, replicate_more {X = Slot O D} vacant Empty, keeps.in_hand) in
+      cc (hand-append n t slots (Empty ∷ []), more, replicate_more {X = Slot O D} vacant Empty, keeps.in_hand) in
       record { values = keeps.values; filled_are = keeps.filled_are; admitted = keeps.admitted; in_hand = one }
 
   -- what was filled is offered
@@ -83,9 +85,6 @@ module _ {O D : Type 0} {Admits : O → Type 0} {n t filled vacant : ℕ} {hand 
     parts =
         let more : vacant ≡ suc (vacant - 1) = omega (arith, some_vacant) in
         cc (keeps.in_hand, two_rows (replicate vacant Empty))
-
-    pub filled_fit : filled ≤ length hand
-    filled_fit = omega (arith, ap length parts, length-append front ((vacancy, Empty) ∷ back), length-front)
 
     -- the vacant slot is in front
     pub turned_to : {now : List (ℕ × Slot O D)} → now ≡ drop filled hand ++ take filled hand → now ≡ (vacancy, Empty) ∷ (back ++ front)

@@ -3,23 +3,20 @@ pub mod KeeperSteps
 pub mod ListLemmas
 pub mod Lives
 pub mod LogLemmas
-pub mod MoveLemmas
 pub mod Names
 pub mod NewRings
-pub mod OrderLemmas
-pub mod Positions
 pub mod RunLemmas
 pub mod RuleLaws
 pub mod SeatSteps
 pub mod Settled
 pub mod States
-pub use Rattle.permit_ring.proofs.HandLemmas.{in_front, none_filled, ready_is, hand_reaped, hand_offered, turned_more, filled_fit, turned_to, vacant_fit, one_more_filled}
+pub use Rattle.permit_ring.proofs.HandLemmas.{in_front, none_filled, ready_is, hand_reaped, hand_offered, turned_more, hand_length, turned_to, vacant_fit, one_more_filled}
 pub use Rattle.permit_ring.proofs.KeeperSteps.{see_ready, offer_ready, read_ready, sweep_ready}
 pub use Rattle.permit_ring.proofs.ListLemmas.{at_length, there, at_end}
 pub use Rattle.permit_ring.proofs.Lives.{splits_allowed, joins_allowed}
-pub use Rattle.permit_ring.proofs.LogLemmas.{kept_log, lost_log, got_from, taken_in}
+pub use Rattle.permit_ring.proofs.LogLemmas.{got_from, taken_in}
 pub use Rattle.permit_ring.proofs.NewRings.{opens_running, untouched, new_ordered, one_seat_more}
-pub use Rattle.permit_ring.proofs.RuleLaws.{fate_of, logged_is_claimed, machine_holds, open_of, slot_at, place_from, memo_known, one_port, records_rise, noted_as}
+pub use Rattle.permit_ring.proofs.RuleLaws.{fate_of, logged_is_claimed, machine_holds, open_of, place_from, memo_known, one_port, records_rise, noted_as}
 pub use Rattle.permit_ring.proofs.RunLemmas.{OnlyReaps, only_reaps, reaps_push, end_steps, Gave, gave_of}
 pub use Rattle.permit_ring.proofs.Settled.{some_there, more_fronts, offer_keeps_back, offer_keeps_settled}
 pub use Rattle.permit_ring.proofs.States.{ring_of}

@@ -2,9 +2,8 @@
 use Rattle.permit_ring.proofs.Names.{◌≡◌, ◌≢◌, ℕ, ◌+◌, ◌<◌, true, false, cond, eqb, List, [], ◌∷◌, ◌++◌, set, length, Some, None, refl, sym, ◌∙◌, ap, inl, inr, le_refl, eq-eqb, ne_eqb, arith, ⊎_elim, common_steps, length-append, length-set, State, Joins, Splits, at_set, set_here, set_else, at_longer, at_last, Machine, opening, new_seat, after, seat_at, is_idle, with_seat, split_next, join_next, SameHolders, holders_stay_push, live_is_made, holders_stay, seat_at-here, seat_at-else, SeatView, Split, Join, Key, KeeperMemo, Move, SeatMemo, Slot, View, Sits, Keeps, Spent, Leads, by_seat, by_keeper, join_both, join_spent, split_left, split_right, IsSeatMemo, Runs, and_move, ended, new_memo, makes, welcomes, get_elem?, some}
 use Rattle.permit_ring.proofs.LogLemmas.{taken_none}
 use Rattle.permit_ring.proofs.ListLemmas.{at_end, at_length}
-use Rattle.permit_ring.proofs.MoveLemmas.{leads_on, by_seat-else, by_keeper-own}
 use Rattle.permit_ring.proofs.NewRings.{new_ordered}
-use Rattle.permit_ring.proofs.States.{fates_stay, slots_stay, keeper_port, not_first, seated, sizes_of}
+use Rattle.permit_ring.proofs.States.{fates_stay, slots_stay, keeper_port, not_first, seated, sizes_of, leads_on, by_seat-on, by_keeper-on}
 
 -- the seats and the moves after the seat of this number was made
 record IsSplit (made : ℕ) (seats now : List SeatView) (moves then : List Move) : Type 0 where
@@ -17,35 +16,28 @@ record IsSplit (made : ℕ) (seats now : List SeatView) (moves then : List Move)
 module _ {O D T N : Type 0} {note : D → N} {Ao : T → O → Type 0} {An : T → N → Type 0} {key : Key T} {s : State (Slot O D) (View T N)}
     (r : Runs note Ao An key s) (seats : List SeatView) (then : List Move)
     (split : IsSplit r.keeper.made r.machine.seats seats r.moves then) where
-  abbrev after_it : Machine
-  after_it = record r.machine { seats = seats }
-
   abbrev kept : List (View T N)
   kept = set s.views 0 (Keeps key (makes r.keeper))
 
   abbrev newest : View T N
   newest = Sits key (new_memo r.keeper.made)
 
-  -- the port of each seat: the new one gets the next
-  abbrev owner : ℕ → ℕ
-  owner i = cond (eqb i r.keeper.made) (length s.views) (r.owner i)
-
   -- the seats that were made before know what they knew, and the new one knows of no call
   known : (memo : SeatMemo N) → IsSeatMemo r.machine r.moves r.fates r.keeper.fronts r.keeper.made memo
-      → IsSeatMemo after_it then r.fates r.keeper.fronts (r.keeper.made + 1) memo
+      → IsSeatMemo (record r.machine { seats = seats }) then r.fates r.keeper.fronts (r.keeper.made + 1) memo
   known memo is = grind (arith, split)
 
-  known_new : IsSeatMemo after_it then r.fates r.keeper.fronts (r.keeper.made + 1) (new_memo r.keeper.made)
+  known_new : IsSeatMemo (record r.machine { seats = seats }) then r.fates r.keeper.fronts (r.keeper.made + 1) (new_memo r.keeper.made)
   known_new =
-      let none_taken = taken_none r.keeper.made 0 r.fates (λ t x e. let done = r.are_fates.finished t r.keeper.made x e in omega arith) in
-      grind (arith, common_steps, split, r.knows.unmade_rest, new_ordered {N = N} r.keeper.made, none_taken)
+      let none = taken_none r.keeper.made 0 r.fates (λ t x e. let done = r.are_fates.finished t r.keeper.made x e in omega arith) in
+      grind (arith, common_steps, split, r.knows.unmade_rest, new_ordered {N = N} r.keeper.made, none)
 
   -- the rule after the split
-  split_runs : Leads (opening key.positions key.limit) then after_it → (makes r.keeper).moves ≡ by_keeper then
+  split_runs : Leads (opening key.positions key.limit) then (record r.machine { seats = seats }) → (makes r.keeper).moves ≡ by_keeper then
       → Runs note Ao An key record { words = s.words; homes = s.homes; views = kept ++ newest ∷ [] }
   split_runs led moved = record {
     sizes = r.sizes;
-    machine = after_it;
+    machine = record r.machine { seats = seats };
     moves = then;
     reached = led;
     words_are = r.words_are;
@@ -56,19 +48,17 @@ module _ {O D T N : Type 0} {note : D → N} {Ao : T → O → Type 0} {An : T �
     keeper_there = at_longer kept (newest ∷ []) 0 (Keeps key (makes r.keeper))
         (set_here s.views 0 (Keeps key (makes r.keeper)) (at_length s.views 0 (Keeps key r.keeper) r.keeper_there));
     knows = grind (arith, r.knows, moved, split, length-append r.keeper.back (None ∷ []));
-    owner = owner;
+    -- the new one gets the next port
+    owner = λ i. cond (eqb i r.keeper.made) (length s.views) (r.owner i);
     each_view = λ port v e.
-        let long = length-set s.views 0 (Keeps key (makes r.keeper)) in
-        let last = at_end kept newest v port e in
         let before = at_set s.views 0 port (Keeps key (makes r.keeper)) v in
-        grind (arith, last, before, r.each_view port v, known, known_new, long, eq-eqb, ne_eqb);
+        grind (arith, at_end kept newest v port e, before, r.each_view port v, known, known_new, length-set, eq-eqb, ne_eqb);
     -- each seat of before is where it was, and the new one is at its port
     each_seat = λ i back e. ⊎_elim
         (λ before.
         let less = at_length r.keeper.back i back before in
         let else = set_else s.views 0 (r.owner i) (Keeps key (makes r.keeper)) in
-        let longer = at_longer kept (newest ∷ []) (r.owner i) in
-        grind (arith, before, less, r.knows.back_is, r.each_seat i back, else, not_first r (r.owner i), longer, known, ne_eqb))
+        grind (arith, before, less, r.knows.back_is, r.each_seat i back, else, not_first r (r.owner i), at_longer kept (newest ∷ []) (r.owner i), known, ne_eqb))
         (λ last.
         let here : i ≡ r.keeper.made = last.0 ∙ r.knows.back_is in
         let end = at_last kept newest (length s.views) (length-set s.views 0 (Keeps key (makes r.keeper))) in
@@ -87,9 +77,9 @@ module _ {O D T N : Type 0} (note : D → N) (Ao : T → O → Type 0) (An : T �
         | inl all ↦
             let can = split_next r.machine (omega (arith, sizes_of r)) in
             split_runs r (r.machine.seats ++ new_seat ∷ []) (and_move r.moves Split 0)
-            (grind (arith, common_steps, all, by_seat-else r.moves Split 0, holders_stay_push r.machine.seats))
+            (grind (arith, common_steps, all, by_seat-on r.moves Split 0, holders_stay_push r.machine.seats))
             (leads_on (opening key.positions key.limit) r.machine (after r.machine Split) r.moves Split r.reached can)
-            (rw (ne_eqb r.keeper.made 0 (λ e. omega arith), by_keeper-own r.moves Split 0 refl, r.knows.moved) refl)
+            (rw (ne_eqb r.keeper.made 0 (λ e. omega arith), by_keeper-on r.moves Split 0, r.knows.moved) refl)
         | inr first ↦ split_runs r r.machine.seats r.moves (grind (arith, common_steps, first)) r.reached
             (rw (eq-eqb r.keeper.made 0 first.0) r.knows.moved)
       ])
@@ -107,15 +97,14 @@ module _ {O D T N : Type 0} (note : D → N) (Ao : T → O → Type 0) (An : T �
       let gone : SeatView = record (seat_at m.seats memo.number) { live = false } in
       let now : Machine = with_seat m memo.number gone in
       let moves : List Move = and_move r.moves (Join memo.number) 0 in
-      let quiet = by_seat-else r.moves (Join memo.number) 0 in
       let made = live_is_made m.seats memo.number (rw its.shows at (seated r other there).1) in
       -- each other seat that was made knows what it knew
       let known : (k : SeatMemo N) → k.number ≢ memo.number → IsSeatMemo m r.moves r.fates r.keeper.fronts r.keeper.made k
       → IsSeatMemo now moves r.fates r.keeper.fronts r.keeper.made k =
-      λ k apart was. grind (arith, seat_at-else m.seats memo.number gone made, quiet) in
+      λ k apart was. grind (arith, seat_at-else m.seats memo.number gone made, by_seat-on) in
       -- and so does this one, but that it is not live any more
-      let here = seat_at-here m.seats memo.number gone made in
-      let ends : IsSeatMemo now moves r.fates r.keeper.fronts r.keeper.made (ended memo) = grind (arith, common_steps) in
+      let ends : IsSeatMemo now moves r.fates r.keeper.fronts r.keeper.made (ended memo) =
+      grind (arith, common_steps, seat_at-here m.seats memo.number gone made, by_seat-on) in
       let kept : List (View T N) = set s.views 0 (Keeps key (welcomes memo r.keeper)) in
       rw (keeps, sits, p.0, p.1) record {
         sizes = r.sizes;
@@ -130,19 +119,13 @@ module _ {O D T N : Type 0} (note : D → N) (Ao : T → O → Type 0) (An : T �
         are_slots = slots_stay refl refl refl r.are_slots;
         keeper_there = set_else kept other 0 Spent (λ e. not_first r other there (sym e))
             ∙ set_here s.views 0 (Keeps key (welcomes memo r.keeper)) (at_length s.views 0 (Keeps key r.keeper) r.keeper_there);
-        knows =
-            let own = by_keeper-own r.moves (Join memo.number) 0 refl in
-            let long = length-set m.seats memo.number gone in
-            let back = length-set r.keeper.back memo.number (Some (ended memo)) in
-            grind (arith, r.knows, its.is_made, own, long, back, quiet);
+        knows = grind (arith, r.knows, its.is_made, by_keeper-on, by_seat-on, length-set);
         owner = r.owner;
         each_view = λ port v e.
-            let spent = at_set kept other port Spent v e in
             let before = at_set s.views 0 port (Keeps key (welcomes memo r.keeper)) v in
-            grind (arith, spent, before, r.each_view port v, known, (seated r other there).0);
+            grind (arith, at_set kept other port Spent v e, before, r.each_view port v, known, (seated r other there).0);
         each_seat = λ i back e.
             let back_now = at_set r.keeper.back memo.number i (Some (ended memo)) back e in
-            let spent = set_else kept other (r.owner i) Spent in
             let else = set_else s.views 0 (r.owner i) (Keeps key (welcomes memo r.keeper)) in
-            grind (arith, back_now, r.each_seat i back, spent, else, not_first r (r.owner i), there, known, ends);
+            grind (arith, back_now, r.each_seat i back, set_else kept other (r.owner i) Spent, else, not_first r (r.owner i), there, known, ends);
       }

@@ -1,5 +1,5 @@
 -- The log of a seat and what became of tickets, with one call or one ticket more.
-use Rattle.permit_ring.proofs.Names.{◌≡◌, ◌≢◌, ℕ, zero, suc, ◌+◌, ◌<◌, ◌≤◌, ◌⊎◌, Bool, true, false, cond, List, [], ◌∷◌, ◌++◌, set, Option, Some, None, refl, sym, ◌∙◌, ap, inl, inr, eqb, eq-eqb, ne_eqb, eqb-true, arith, lt-ltb, le-ltb, common_steps, at_map, map, PermitWord, Outcome, Lost, Got, start_of, end_of, RisesFrom, end_from, got_of, taken_by, and_lost, get_elem?, some, fate_within, lost}
+use Rattle.permit_ring.proofs.Names.{◌≡◌, ◌≢◌, ℕ, zero, suc, ◌+◌, ◌<◌, ◌≤◌, ◌⊎◌, Bool, true, false, cond, List, [], ◌∷◌, ◌++◌, set, Option, Some, None, refl, ◌∙◌, ap, inl, inr, eqb, ne_eqb, eqb-true, arith, common_steps, at_map, map, Outcome, Lost, Got, start_of, end_of, RisesFrom, end_from, got_of, taken_by, get_elem?, some, fate_within, lost}
 use Rattle.permit_ring.specs.Logs.{fate_of}
 
 module _ {N : Type 0} where
@@ -16,16 +16,7 @@ module _ {N : Type 0} where
   -- the tickets of more calls come after
   pub got_of-append : (log more : List (Outcome N)) → got_of (log ++ more) ≡ got_of log ++ got_of more
   got_of-append [] more = refl
-  got_of-append (Lost h ∷ log) more = got_of-append log more
-  got_of-append (Got t x ∷ log) more = ap (λ (l : List (ℕ × N)). (t, x) ∷ l) (got_of-append log more)
-
-  -- a step that found a position free lost no call
-  pub kept_log : (word : PermitWord) (log : List (Outcome N)) → 0 < word.free → and_lost word log ≡ log
-  kept_log word log free = ap (λ (b : Bool). cond b log (log ++ Lost word.claimed ∷ [])) (lt-ltb 0 word.free free)
-
-  -- and one that found none lost its call
-  pub lost_log : (word : PermitWord) (log : List (Outcome N)) → word.free ≡ 0 → and_lost word log ≡ log ++ Lost word.claimed ∷ []
-  lost_log word log full = ap (λ (b : Bool). cond b log (log ++ Lost word.claimed ∷ [])) (le-ltb 0 word.free (omega arith))
+  got_of-append (r ∷ log) more = grind (arith, got_of-append log more)
 
 -- an element of a list with or without one more in front
 first_or_behind : {A : Type 0} (b : Bool) (x a : A) (l : List A) (k : ℕ) → get_elem? (cond b (x ∷ l) l) k ≡ some a
@@ -78,53 +69,39 @@ module _ {N : Type 0} where
 
   -- a lost fate is that of a lost call
   pub lost_in : (log : List (Outcome N)) (j g : ℕ) → get_elem? (map fate_of log) j ≡ some (lost g) → get_elem? log j ≡ some (Lost g)
-  lost_in [] j g at = cc
-  lost_in (Lost its ∷ log) zero g at = cc
-  lost_in (Got t x ∷ log) zero g at = cc
   lost_in (r ∷ log) (suc j) g at = lost_in log j g at
+  lost_in _ _ g at = grind arith
 
-abbrev Fates : Type 0 → Type 0
-Fates N = List (Option (ℕ × N))
-
-module _ {N : Type 0} where
   -- a ticket that is held belongs to no log
-  pub taken-open : (i f : ℕ) (fates : Fates N) → taken_by i f (fates ++ None ∷ []) ≡ taken_by i f fates
+  pub taken-open : (i f : ℕ) (fates : List (Option (ℕ × N))) → taken_by i f (fates ++ None ∷ []) ≡ taken_by i f fates
   taken-open i f [] = refl
-  taken-open i f (None ∷ fates) = taken-open i (suc f) fates
-  taken-open i f (Some x ∷ fates) = cc (taken-open i (suc f) fates)
+  taken-open i f (x ∷ fates) = grind (arith, taken-open i (suc f) fates)
 
   -- one that another seat finishes is none of this seat's
-  pub taken-else : (i j f : ℕ) (x : N) (fates : Fates N) (t : ℕ) → i ≢ j → get_elem? fates t ≡ some None
+  pub taken-else : (i j f : ℕ) (x : N) (fates : List (Option (ℕ × N))) (t : ℕ) → i ≢ j → get_elem? fates t ≡ some None
       → taken_by i f (set fates t (Some (j, x))) ≡ taken_by i f fates
   taken-else i j f x (None ∷ fates) zero other e = simp (ne_eqb i j other)
-  taken-else i j f x (None ∷ fates) (suc t) other e = taken-else i j (suc f) x fates t other e
-  taken-else i j f x (Some y ∷ fates) (suc t) other e = cc (taken-else i j (suc f) x fates t other e)
+  taken-else i j f x (y ∷ fates) (suc t) other e = grind (arith, taken-else i j (suc f) x fates t other e)
   taken-else i j f x _ _ other e = cc
 
   -- a seat that finished no ticket took none
-  pub taken_none : (i f : ℕ) (fates : Fates N) → ((u : ℕ) (x : N) → get_elem? fates u ≢ some (Some (i, x))) → taken_by i f fates ≡ []
+  pub taken_none : (i f : ℕ) (fates : List (Option (ℕ × N))) → ((u : ℕ) (x : N) → get_elem? fates u ≢ some (Some (i, x))) → taken_by i f fates ≡ []
   taken_none i f [] none = refl
   taken_none i f (None ∷ fates) none = taken_none i (suc f) fates (λ u. none (suc u))
-  taken_none i f (Some y ∷ fates) none =
-      let other = ne_eqb i y.0 (λ own. none 0 y.1 (ap (λ (k : ℕ). some (Some (k, y.1))) (sym own))) in
-      simp other (taken_none i (suc f) fates (λ u. none (suc u)))
+  taken_none i f (Some y ∷ fates) none = grind (arith, none 0 y.1, taken_none i (suc f) fates (λ u. none (suc u)))
 
   -- one that the seat finishes itself comes last, where all that it finished before are below it
-  taken-own_from : (i f b : ℕ) (x : N) (fates : Fates N) (t : ℕ) → b ≡ f + t → get_elem? fates t ≡ some None
+  taken-own_from : (i f b : ℕ) (x : N) (fates : List (Option (ℕ × N))) (t : ℕ) → b ≡ f + t → get_elem? fates t ≡ some None
       → ((u : ℕ) (y : N) → get_elem? fates u ≡ some (Some (i, y)) → u < t)
       → taken_by i f (set fates t (Some (i, x))) ≡ taken_by i f fates ++ (b, x) ∷ []
   taken-own_from i f b x (None ∷ fates) zero is e below =
-      let none = taken_none i (suc f) fates (λ u y done. let k = below (suc u) y done in omega arith) in
-      simp (eq-eqb i i refl, none) (let here : f ≡ b = omega arith in cc)
-  taken-own_from i f b x (None ∷ fates) (suc t) is e below = taken-own_from i (suc f) b x fates t (omega arith) e
-      (λ u y done. let k = below (suc u) y done in omega arith)
-  taken-own_from i f b x (Some y ∷ fates) (suc t) is e below =
-      let rest = taken-own_from i (suc f) b x fates t (omega arith) e (λ u z done. let k = below (suc u) z done in omega arith) in
-      grind (arith, common_steps)
+      grind (arith, common_steps, is, taken_none i (suc f) fates (λ u y done. let k = below (suc u) y done in omega arith))
+  taken-own_from i f b x (y ∷ fates) (suc t) is e below =
+      grind (arith, common_steps, taken-own_from i (suc f) b x fates t (omega arith) e (λ u z done. let k = below (suc u) z done in omega arith))
   taken-own_from i f b x _ _ is e below = cc
 
   -- a ticket that a seat finishes comes last among its own
-  pub taken-own : (i t : ℕ) (x : N) (fates : Fates N) (log : List (Outcome N)) → RisesFrom 0 log → end_from 0 log ≤ t
+  pub taken-own : (i t : ℕ) (x : N) (fates : List (Option (ℕ × N))) (log : List (Outcome N)) → RisesFrom 0 log → end_from 0 log ≤ t
       → got_of log ≡ taken_by i 0 fates → get_elem? fates t ≡ some None
       → taken_by i 0 (set fates t (Some (i, x))) ≡ taken_by i 0 fates ++ (t, x) ∷ []
   taken-own i t x fates log rises after got is_open = taken-own_from i 0 t x fates t (omega arith) is_open (λ u y done.

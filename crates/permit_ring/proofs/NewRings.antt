@@ -44,10 +44,7 @@ module _ {O D T N : Type 0} (note : D → N) (Ao : T → O → Type 0) (An : T �
 -- once all seats are made, nothing was taken or swept
 pub untouched : {N : Type 0} (n made : ℕ) → IsUntouched {N = N} n made (made_memo n made)
 untouched n zero = assumption
-untouched {N = N} n (suc made) =
-    let was = untouched {N = N} n made in
-    let back = replicate_more {X = Option (SeatMemo N)} made None in
-    grind (arith, was, back)
+untouched {N = N} n (suc made) = grind (arith, untouched {N = N} n made, replicate_more {X = Option (SeatMemo N)} made None)
 
 -- the log of a seat that has just been made is in order
 pub new_ordered : {N : Type 0} (i : ℕ) → IsOrdered (new_memo {N = N} i)
@@ -57,7 +54,7 @@ new_ordered i = record { decided = refl; rises = tt; below_ticket = λ t h. omeg
 pub one_seat_more : {F O D T N : Type 0} (Ao : T → O → Type 0) (ring : Ring F O D T N) (made : ℕ) (seats : List (Seat F O D T N))
     (seat : Seat F O D T N) → AreNewSeats Ao ring made seats → IsNewSeat Ao ring made seat
     → AreNewSeats Ao ring (made + 1) (seats ++ seat ∷ [])
-one_seat_more {F} {O} {D} {T} {N} Ao ring made seats seat were is =
-    let each : (i : ℕ) (other : Seat F O D T N) → get_elem? (seats ++ seat ∷ []) i ≡ some other → IsNewSeat Ao ring i other =
-    λ i other e. ⊎_elim (λ old. were.each i other old) (λ last. rw (last.0, were.all_made, ← last.1) is) (at_end seats seat other i e) in
-    assumption (length_push seats seat ∙ ap (λ (k : ℕ). k + 1) were.all_made)
+one_seat_more Ao ring made seats seat were is = record {
+  all_made = length_push seats seat ∙ ap (λ (k : ℕ). k + 1) were.all_made;
+  each = λ i other e. ⊎_elim (were.each i other) (λ last. rw (last.0, were.all_made, ← last.1) is) (at_end seats seat other i e);
+}

@@ -2,7 +2,7 @@
 use Rattle.permit_ring.proofs.Names.{◌≡◌, ℕ, zero, suc, ◌+◌, ◌%◌, ◌<◌, ◌≤◌, false, is_some, Option, Some, None, refl, sym, ◌∙◌, ap, inl, inr, mod-eq_of_lt, arith, ⊎_elim, map, at_map, cases_eq, common_steps, State, seat_at, Holds, Key, Lost, Got, SeatMemo, Slot, View, Sits, SitsThere, CameBack, IsMemoThere, IsHeldOnce, HasOnePlace, IsNotedAs, IsInOrder, IsAdmittedSlot, IsOneSeats, Home, IsSlot, IsSeatMemo, IsSomewhere, Runs, get_elem?, some, add-mod_right, fates_in_order}
 use mathlib.Core.Option as maybe
 use Rattle.ring_core.proofs.SeatLemmas.{live_is_made}
-use Rattle.permit_ring.proofs.States.{ring_of, one_turn_ahead, keeper_port, seated}
+use Rattle.permit_ring.proofs.States.{ring_of, keeper_port, seated}
 use Rattle.permit_ring.proofs.ListLemmas.{at_length, there}
 use Rattle.permit_ring.proofs.LogLemmas.{got_in, got_from, taken_in, taken_from, within_end}
 use Rattle.permit_ring.specs.Logs as logs
@@ -17,17 +17,15 @@ in_turn n (suc from) p below = let q = in_turn n from p below in elim (cases_eq 
 
 module _ {O D T N : Type 0} {note : D → N} {Ao : T → O → Type 0} {An : T → N → Type 0} {key : Key T} {s : State (Slot O D) (View T N)}
     (r : Runs note Ao An key s) where
-  abbrev Known : SeatMemo N → Type 0
-  Known memo = IsSeatMemo r.machine r.moves r.fates r.keeper.fronts r.keeper.made memo
-
   -- who came back is with the keeper and not live, and knows what it knew
   came_back : (memo : SeatMemo N) → CameBack s.views memo
-      → (get_elem? r.keeper.back memo.number ≡ some (Some memo)) × (memo.view.live ≡ false) × Known memo
+      → (get_elem? r.keeper.back memo.number ≡ some (Some memo)) × (memo.view.live ≡ false)
+      × IsSeatMemo r.machine r.moves r.fates r.keeper.fronts r.keeper.made memo
   came_back memo c = let here = rw (keeper_port r c.there).1 at c.back_at in
       let p = r.each_seat memo.number (Some memo) here in (here, p.1, p.2)
 
   -- what a seat that was made knows
-  pub memo_known : (memo : SeatMemo N) → IsMemoThere s.views memo → Known memo
+  pub memo_known : (memo : SeatMemo N) → IsMemoThere s.views memo → IsSeatMemo r.machine r.moves r.fates r.keeper.fronts r.keeper.made memo
   memo_known memo (inl sits) = (seated r _ sits.there).2
   memo_known memo (inr back) = (came_back memo back).2
 
@@ -66,8 +64,7 @@ module _ {O D T N : Type 0} {note : D → N} {Ao : T → O → Type 0} {An : T �
     pub fate_of : (j t : ℕ) (x : N) → get_elem? memo.log j ≡ some (Got t x) → get_elem? r.fates t ≡ some (Some (memo.number, x))
     fate_of j t x e =
         let got = got_in memo.log j t x e in
-        let took = taken_from memo.number 0 r.fates got.0 t x (rw (memo_known memo is).got at got.1) in
-        let here : t ≡ took.0 = omega arith in rw here took.2
+        grind (arith, taken_from memo.number 0 r.fates got.0 t x (rw (memo_known memo is).got at got.1))
 
     -- it was claimed
     pub logged_is_claimed : (j t : ℕ) (x : N) → get_elem? memo.log j ≡ some (Got t x) → t < r.machine.word.claimed
@@ -89,11 +86,6 @@ module _ {O D T N : Type 0} {note : D → N} {Ao : T → O → Type 0} {An : T �
     pub open_of : (t : ℕ) → Holds memo.view t → get_elem? r.fates t ≡ some None
     open_of t holds = r.are_fates.held_is_open memo.number t (machine_holds t holds)
 
-  -- the slot of a ticket that was offered and is not reaped
-  pub slot_at : (t : ℕ) → r.machine.reaped ≤ t → t < r.machine.offered → IsSlot note (Ao key.terms) r.machine r.fates t
-      (get_elem? s.homes (t % key.positions))
-  slot_at t from below = r.are_slots.each t from (omega (arith, below, one_turn_ahead r))
-
   -- two places of one ticket in logs are one
   one_entry : (a b : SeatMemo N) (j l t : ℕ) (x y : N) → IsMemoThere s.views a → IsMemoThere s.views b
       → get_elem? a.log j ≡ some (Got t x) → get_elem? b.log l ≡ some (Got t y) → (a ≡ b) × (j ≡ l) × (x ≡ y)
@@ -101,16 +93,14 @@ module _ {O D T N : Type 0} {note : D → N} {Ao : T → O → Type 0} {An : T �
       let fate : (a.number, x) ≡ (b.number, y) = cc (fate_of a is_a j t x ea, fate_of b is_b l t y eb) in
       let one : a ≡ b = one_each a b is_a is_b (ap (λ (p : ℕ × N). p.0) fate) in
       let rises = (records_rise a is_a).rises in
-      let here : get_elem? a.log l ≡ some (Got t y) = rw one eb in
-      (one, grind (arith, here, rises j l (Got t x) (Got t y), rises l j (Got t y) (Got t x)), ap (λ (p : ℕ × N). p.1) fate)
+      grind (arith, fate, one, ea, eb, rises j l (Got t x) (Got t y), rises l j (Got t y) (Got t x))
 
   -- a ticket of which nothing became is held, and has this place alone
   held_once : (t : ℕ) → get_elem? r.fates t ≡ some None → IsHeldOnce s.views t
   held_once t undone =
       let held = r.are_fates.open_is_held t undone in
       let live = ((ring_of r).seats.each held.0).holder_is_live (ap is_some held.1) in
-      let made = live_is_made r.machine.seats held.0 live in
-      let one = each_number_is_one_seats held.0 (grind (arith, common_steps, r.knows.made_is, made, held.1)) in
+      let one = each_number_is_one_seats held.0 (grind (arith, common_steps, r.knows.made_is, live_is_made r.machine.seats held.0 live, held.1)) in
       let h : Holds one.memo.view t = rw ((memo_known one.memo one.is_there).shows, one.number_is) held.1 in
       -- a seat that holds a ticket is live, so it sits at a port
       let sits : SitsThere s.views one.memo = ⊎_elim (λ there. there)
@@ -120,9 +110,9 @@ module _ {O D T N : Type 0} {note : D → N} {Ao : T → O → Type 0} {An : T �
         sits = sits;
         is_live = (seated r _ sits.there).1;
         holds = h;
-        no_other = λ other is h_too. let theirs = machine_holds other is t h_too in
-            one_each other one.memo is one.is_there ((ring_of r).seats.apart other.number one.memo.number t theirs
-            (machine_holds one.memo one.is_there t h));
+        no_other = λ other is h_too.
+            let apart = (ring_of r).seats.apart other.number one.memo.number t in
+            grind (arith, one_each other one.memo is one.is_there, machine_holds other is t h_too, apart, machine_holds one.memo one.is_there t h);
         in_no_log = λ other j x is e. cc (undone, fate_of other is j t x e);
       }
 
@@ -150,8 +140,7 @@ module _ {O D T N : Type 0} {note : D → N} {Ao : T → O → Type 0} {An : T �
   -- the value at home of a ticket is admitted, whatever became of it
   value_at : (t : ℕ) (x : Slot O D) (home : Home O D) (fate : maybe.Option (Option (ℕ × N))) → get_elem? r.fates t ≡ fate
       → IsSlot note (Ao key.terms) r.machine r.fates t home → home ≡ some (some x) → IsAdmittedSlot note Ao An key.terms x
-  value_at t x home (some (Some y)) e is at =
-      let done = is.finished_home y.0 y.1 e in grind (arith, at, done, r.are_fates.finished t y.0 y.1 e)
+  value_at t x home (some (Some y)) e is at = grind (arith, at, is.finished_home y.0 y.1 e, r.are_fates.finished t y.0 y.1 e)
   value_at t x home fate e is at = grind (arith, is, at, there r.fates t, r.are_fates.each_claimed)
 
   -- each value at home is that of a ticket of the turn

@@ -1,5 +1,5 @@
 -- What runs of the keeper's steps add: reaps one after the other, and an offer.
-use Rattle.permit_ring.proofs.Names.{◌≡◌, ℕ, ◌+◌, ◌≤◌, ◌<◌, List, [], ◌∷◌, ◌++◌, length, refl, inl, inr, arith, common_steps, KeeperMemo, eq-zero-or-pos}
+use Rattle.permit_ring.proofs.Names.{◌≡◌, ℕ, ◌+◌, ◌≤◌, ◌<◌, List, [], ◌∷◌, ◌++◌, length, refl, arith, common_steps, KeeperMemo, eq-zero-or-pos}
 use Rattle.permit_ring.specs.{reaps_all, ReapsToEnd, OffersAll, reaps}
 
 module _ {N : Type 0} where
@@ -41,8 +41,4 @@ module _ {N : Type 0} where
     pub few_moves : length new.moves ≤ length old.moves + most
 
   pub gave_of : (n limit count : ℕ) (old new : KeeperMemo N) → OffersAll n limit count old new → Gave (n + limit + 2) count old new
-  gave_of n limit count old new gave = elim (eq-zero-or-pos count) [
-    | inl none ↦ let same = gave.0 none in grind (arith, none, same)
-    | inr some ↦
-        let did = gave.1 some in grind (arith, common_steps, did)
-  ]
+  gave_of n limit count old new gave = grind (arith, common_steps, gave, eq-zero-or-pos count)

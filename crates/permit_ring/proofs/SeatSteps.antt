@@ -1,10 +1,9 @@
 -- Each step of a seat keeps the rule.
-use Rattle.permit_ring.proofs.Names.{◌≡◌, ◌≢◌, ℕ, suc, ◌+◌, ◌%◌, ◌^◌, ◌<◌, ◌≤◌, ◌==◌, true, false, List, [], ◌∷◌, ◌++◌, set, length, Option, Some, None, refl, sym, ◌∙◌, ap, slice_index, arith, ⊎_elim, le_refl, eq-eqb, ne_eqb, cases_lt, lt-ltb, le-ltb, length-set, length_push, at_last, at_longer, at_set, at_snoc, set_else, set_here, State, step, keeps, takes, gives, Allows, SeatView, Step, Look, Claim, Finish, Mark, Key, Move, Lost, Got, SeatMemo, Slot, Offered, Finished, View, Sits, IsOrdered, end_from, got_of, taken_by, found_at, is_of_seat, is_of_keeper, Known, saw_word, claimed_word, marked_loss, finished_value, words_of, StandsIn, AreFates, AreSlots, Counts, IsSeatMemo, Runs, Outcome, RisesFrom, append-nil, and_move, and_lost, looks, claims, adds_mark, finishes, Machine, opening, possible, after, served, is_idle, looked, seat_at, marks_of, marked, Holds, packed, unpacked, IsPackable, IsReadable, small, word_packs, all_claimed, armed_leaves_field, after_keeps, next_of_possible, idle_parts, live_is_made, seat_at-here, seat_at-else, holders_stay, unpacked-packed, packed-claimed, get_elem?, some, none}
+use Rattle.permit_ring.proofs.Names.{◌≡◌, ◌≢◌, ℕ, suc, ◌+◌, ◌%◌, ◌^◌, ◌<◌, ◌≤◌, ◌==◌, true, false, List, [], ◌∷◌, ◌++◌, set, length, Option, Some, None, refl, sym, ◌∙◌, ap, slice_index, arith, ⊎_elim, le_refl, eq-eqb, ne_eqb, cases_lt, lt-ltb, le-ltb, length-set, length_push, at_last, at_longer, at_set, at_snoc, set_else, set_here, State, step, keeps, takes, gives, Allows, Step, Look, Claim, Finish, Mark, Key, Move, Lost, Got, SeatMemo, Slot, Offered, Finished, View, Sits, IsOrdered, end_from, got_of, taken_by, found_at, is_of_seat, is_of_keeper, Known, saw_word, claimed_word, marked_loss, finished_value, words_of, StandsIn, AreFates, AreSlots, Counts, IsSeatMemo, Runs, Outcome, RisesFrom, append-nil, and_move, and_lost, looks, claims, adds_mark, finishes, Machine, opening, possible, after, served, is_idle, looked, seat_at, marks_of, marked, Holds, packed, unpacked, IsPackable, IsReadable, small, word_packs, all_claimed, armed_leaves_field, after_keeps, next_of_possible, idle_parts, live_is_made, seat_at-here, seat_at-else, holders_stay, unpacked-packed, packed-claimed, get_elem?, some, none}
 use mathlib.Core.Option as maybe
 use Rattle.permit_ring.proofs.LogLemmas.{taken-open, taken-else, taken-own, rises_on, end_on, got_of-append}
 use Rattle.permit_ring.proofs.ListLemmas.{at_end, at_length}
-use Rattle.permit_ring.proofs.MoveLemmas.{leads_on, by_seat-own, by_seat-else, by_keeper-else}
-use Rattle.permit_ring.proofs.States.{ring_of, sizes_of, one_turn_ahead, not_first, seated, fates_stay, slots_stay, slots_set}
+use Rattle.permit_ring.proofs.States.{ring_of, sizes_of, one_turn_ahead, not_first, seated, fates_stay, slots_stay, slots_set, leads_on, by_seat-on, by_keeper-on}
 
 module _ {O D T N : Type 0} {note : D → N} {Ao : T → O → Type 0} {An : T → N → Type 0} {key : Key T} {s : State (Slot O D) (View T N)}
     (r : Runs note Ao An key s) where
@@ -42,10 +41,6 @@ module _ {O D T N : Type 0} {note : D → N} {Ao : T → O → Type 0} {An : T �
     its : IsSeatMemo r.machine r.moves r.fates r.keeper.fronts r.keeper.made memo
     its = (seated r id at).2
 
-    -- the seat that steps, as the machine has it
-    abbrev seat : SeatView
-    seat = seat_at r.machine.seats memo.number
-
     made_there : memo.number < length r.machine.seats
     made_there = live_is_made r.machine.seats memo.number (rw its.shows at (seated r id at).1)
 
@@ -55,17 +50,13 @@ module _ {O D T N : Type 0} {note : D → N} {Ao : T → O → Type 0} {An : T �
         → AreSlots note (Ao key.terms) (after r.machine step) later key.positions homes
         → Runs note Ao An key record { words = words; homes = homes; views = set s.views id (Sits key new) }
     seat_runs {step} {later} {new} {words} {homes} to told slots =
-        let found : ℕ = found_at r.machine step in
-        let moves : List Move = and_move r.moves step found in
-        let own = by_seat-own r.moves step found in
-        let none = by_seat-else r.moves step found in
-        let here = seat_at-here r.machine.seats memo.number new.view made_there in
-        let else = seat_at-else r.machine.seats memo.number new.view made_there in
-        let mine : IsSeatMemo (after r.machine step) moves later r.keeper.fronts r.keeper.made new = grind (arith, its, to, eq-eqb) in
+        let moves : List Move = and_move r.moves step (found_at r.machine step) in
+        let mine : IsSeatMemo (after r.machine step) moves later r.keeper.fronts r.keeper.made new =
+        grind (arith, its, to, eq-eqb, made_there, by_seat-on, seat_at-here) in
         let others : (other : SeatMemo N) → other.number ≢ memo.number
         → IsSeatMemo r.machine r.moves r.fates r.keeper.fronts r.keeper.made other
         → IsSeatMemo (after r.machine step) moves later r.keeper.fronts r.keeper.made other =
-        λ other away knew. grind (arith, to, ne_eqb) in
+        λ other away knew. grind (arith, to, ne_eqb, made_there, by_seat-on, seat_at-else) in
         record {
           sizes = r.sizes;
           machine = after r.machine step;
@@ -78,18 +69,13 @@ module _ {O D T N : Type 0} {note : D → N} {Ao : T → O → Type 0} {An : T �
           are_fates = to.are_fates;
           are_slots = slots;
           keeper_there = set_else s.views id 0 (Sits key new) (λ e. not_first r id at (sym e)) ∙ r.keeper_there;
-          knows =
-              let rest = by_keeper-else r.moves step found in
-              let long = length-set r.machine.seats memo.number new.view in
-              grind (arith, its.is_made, to, ne_eqb);
+          knows = grind (arith, r.knows, its.is_made, to, ne_eqb, by_seat-on, by_keeper-on, length-set);
           owner = r.owner;
           each_view = λ port v e.
-              let c = at_set s.views id port (Sits key new) v e in
-              grind (arith, c, r.each_view port v, seated r id at, to.same, mine, others);
+              grind (arith, at_set s.views id port (Sits key new) v e, r.each_view port v, seated r id at, to.same, mine, others);
           each_seat = λ i back e.
-              let else = set_else s.views id (r.owner i) (Sits key new) in
               let placed = set_here s.views id (Sits key new) (at_length s.views id (Sits key memo) at) in
-              grind (arith, r.each_seat i back, else, placed, at, to.same, others, seated r id at);
+              grind (arith, r.each_seat i back, set_else s.views id (r.owner i) (Sits key new), placed, at, to.same, others, seated r id at);
         }
 
     -- the log after a step that read the word is in order
@@ -104,28 +90,23 @@ module _ {O D T N : Type 0} {note : D → N} {Ao : T → O → Type 0} {An : T �
         (length earlier.0, cc (earlier.1, all_claimed r.machine (ring_of r) full, r.knows.counted.offered_is)) in
         let call : Outcome N = Lost r.machine.word.claimed in
         let on = rises_on 0 memo.log call its.ordered.rises its.below_claims in
-        let end = end_on 0 memo.log call in
-        let got = got_of-append memo.log (call ∷ []) in
         let last = λ (j g : ℕ). at_snoc memo.log call (Lost g) j in
-        grind (arith, its.ordered.rises, its.below_claims, its.lost_at_front, append-nil (got_of memo.log))
+        grind (arith, its, on, append-nil (got_of memo.log), end_on 0 memo.log call, got_of-append memo.log (call ∷ []))
 
     -- a claim of an armed seat
     module _ (armed : memo.view.armed ≡ true) where
       no_ticket : memo.view.held ≡ None
       no_ticket = rw its.shows (((ring_of r).seats.each memo.number).armed_holds_none (rw its.shows at armed))
 
-      abbrev claim_now : Machine
-      claim_now = after r.machine (Claim memo.number)
-
       -- the word after the claim
-      claim_told : set s.words 0 ((slice_index s.words 0 + 65535) % 2 ^ 64) ≡ words_of claim_now
+      claim_told : set s.words 0 ((slice_index s.words 0 + 65535) % 2 ^ 64) ≡ words_of (after r.machine (Claim memo.number))
       claim_told =
-          let packs = word_packs claim_now (after_keeps r.machine (ring_of r) (Claim memo.number) (rw its.shows at armed)) in
+          let packs = word_packs (after r.machine (Claim memo.number)) (after_keeps r.machine (ring_of r) (Claim memo.number) (rw its.shows at armed)) in
           let left = armed_leaves_field r.machine (ring_of r) memo.number (rw its.shows at armed) in
           let sum = packed-claimed r.machine.limit r.machine.word (ring_of r).permits.either left in
           grind (arith, r.words_are, sum, packs)
 
-      claim_step : {later : List (Option (ℕ × N))} → AreFates claim_now (An key.terms) r.keeper.made later
+      claim_step : {later : List (Option (ℕ × N))} → AreFates (after r.machine (Claim memo.number)) (An key.terms) r.keeper.made later
           → ((t j : ℕ) (x : N) → get_elem? r.fates t ≡ some (Some (j, x)) → get_elem? later t ≡ some (Some (j, x)))
           → ((j : ℕ) → taken_by j 0 later ≡ taken_by j 0 r.fates)
           → IsStepTo memo (Claim memo.number) later (claims key.limit r.machine.word memo)
@@ -140,7 +121,7 @@ module _ {O D T N : Type 0} (note : D → N) (Ao : T → O → Type 0) (An : T �
       → Allows (Runs note Ao An key) slots id me 0 (λ n. n) (saw_word (step slots 0 0 0 none) me)
   look_ready idle few = rw sits (λ s r _ at _.
       let m : Machine = r.machine in
-      let same = holders_stay m.seats memo.number (looked m.word (seat r id at)) (made_there r id at) refl in
+      let same = holders_stay m.seats memo.number (looked m.word (seat_at m.seats memo.number)) (made_there r id at) refl in
       let to : IsStepTo r memo (Look memo.number) r.fates (looks key.limit m.word memo) =
       grind (arith, its r id at, order_now r id at, idle_parts memo.view idle, sizes_of r, length_push memo.log (Lost m.word.claimed)) in
       rw (read_back r) (
@@ -162,30 +143,29 @@ module _ {O D T N : Type 0} (note : D → N) (Ao : T → O → Type 0) (An : T �
       -- where a position is free, the seat holds the next ticket, and where none is, its call is lost
       rw (read_back r) (⊎_elim
       (λ free.
-      let turn = one_turn_ahead r in
-      let next : (t < m.offered) × (t < m.reaped + key.positions) = let account = permits.account in omega arith in
-      let more : (claim_now r id at armed).word.claimed ≡ t + 1 = simp (lt-ltb 0 m.word.free free) in
+      let next : (t < m.offered) × (t < m.reaped + key.positions) = omega (arith, permits.account, one_turn_ahead r) in
+      let more : (after m (Claim memo.number)).word.claimed ≡ t + 1 = simp (lt-ltb 0 m.word.free free) in
       let last = at_last r.fates None in
       let ends = at_end r.fates None in
-      let here = seat_at-here m.seats memo.number (served m.word (seat r id at)) made in
-      let else = seat_at-else m.seats memo.number (served m.word (seat r id at)) made in
+      let here = seat_at-here m.seats memo.number (served m.word (seat_at m.seats memo.number)) made in
+      let else = seat_at-else m.seats memo.number (served m.word (seat_at m.seats memo.number)) made in
       let old = λ (u : ℕ). at_longer r.fates (None ∷ []) u None in
-      let fates : AreFates (claim_now r id at armed) (An key.terms) r.keeper.made (r.fates ++ None ∷ []) =
+      let fates : AreFates (after m (Claim memo.number)) (An key.terms) r.keeper.made (r.fates ++ None ∷ []) =
       grind (arith, its r id at, no_ticket r id at armed, length_push r.fates None) in
       let to = claim_step r id at armed fates (λ u j x e. at_longer r.fates (None ∷ []) u (Some (j, x)) e) (λ j. taken-open j 0 r.fates) in
       let home = (r.are_slots.each t permits.reaped_claimed next.1).offered_home (le_refl t) next.0 in (
         Sits key (claims key.limit m.word memo),
         takes (t % key.positions) (Offered home.0),
         home.2,
-        seat_runs r id at to told (slots_set t none r.sizes.some_position permits.reaped_claimed next.1 refl r.are_slots
+        seat_runs r id at to told (slots_set t none r.sizes.some_position r.are_slots permits.reaped_claimed next.1
             (grind (arith, last t r.are_fates.each_claimed, more))
-            (λ u home away from to is. grind (arith, is, away, from, more, r.are_fates.each_claimed, ends))),
+            (λ u away from to. let is = r.are_slots.each u from to in grind (arith, is, away, from, more, r.are_fates.each_claimed, ends))),
         grind (arith, number_reads r, home, same, free, to.ordered, small m (ring_of r)),
       ))
       (λ past.
       let full : m.word.free ≡ 0 = omega arith in
       let none_more = le-ltb 0 m.word.free (omega arith) in
-      let holders = holders_stay m.seats memo.number (served m.word (seat r id at)) made (simp none_more) in
+      let holders = holders_stay m.seats memo.number (served m.word (seat_at m.seats memo.number)) made (simp none_more) in
       let to = claim_step r id at armed (fates_stay (le_refl r.keeper.made) holders (simp none_more) r.are_fates) (λ u j x e. e) (λ j. refl) in (
         Sits key (claims key.limit m.word memo),
         keeps,
@@ -200,17 +180,15 @@ module _ {O D T N : Type 0} (note : D → N) (Ao : T → O → Type 0) (An : T �
       → Allows (Runs note Ao An key) slots id me (kind + 1) (λ n. (n + 1) % 2 ^ 64) (marked_loss (step slots (kind + 1) 1 0 none) me)
   mark_ready kind low few = rw sits (λ s r _ at _.
       let m : Machine = r.machine in
-      let now : Machine = after m (Mark memo.number kind) in
-      let holders = holders_stay m.seats memo.number (marked kind (seat r id at)) (made_there r id at) in
+      let holders = holders_stay m.seats memo.number (marked kind (seat_at m.seats memo.number)) (made_there r id at) in
       let to : IsStepTo r memo (Mark memo.number kind) r.fates (adds_mark kind (slice_index s.words (kind + 1)) memo) =
       grind (arith, its r id at, small m (ring_of r), r.words_are, (seated r id at).1, lt-ltb, holders) in
-      let told : set s.words (kind + 1) ((slice_index s.words (kind + 1) + 1) % 2 ^ 64) ≡ words_of now =
-      grind (arith, r.words_are, small m (ring_of r)) in
-      let same : (now.reaped ≡ m.reaped) × (now.word.claimed ≡ m.word.claimed) × (now.offered ≡ m.offered) = grind arith in (
+      let told : set s.words (kind + 1) ((slice_index s.words (kind + 1) + 1) % 2 ^ 64) ≡ words_of (after m (Mark memo.number kind)) =
+      grind (arith, r.words_are, small m (ring_of r)) in (
         Sits key (adds_mark kind (slice_index s.words (kind + 1)) memo),
         keeps,
         tt,
-        seat_runs r id at to told (slots_stay same.0 same.1 same.2 r.are_slots),
+        seat_runs r id at to told (slots_stay (grind arith) (grind arith) (grind arith) r.are_slots),
         grind (arith, to.ordered),
       ))
 
@@ -233,8 +211,8 @@ module _ {O D T N : Type 0} (note : D → N) (Ao : T → O → Type 0) (An : T �
       let set_away = set_else r.fates t in
       let call = Got t (note d) in
       let after_log : end_from 0 memo.log ≤ t = knows.ordered.below_ticket t holds in
-      let here = seat_at-here m.seats memo.number (record (seat r id at) { held = None }) made in
-      let else = seat_at-else m.seats memo.number (record (seat r id at) { held = None }) made in
+      let here = seat_at-here m.seats memo.number (record (seat_at m.seats memo.number) { held = None }) made in
+      let else = seat_at-else m.seats memo.number (record (seat_at m.seats memo.number) { held = None }) made in
       let alone = λ (j : ℕ) (h : Holds (seat_at m.seats j) t). (ring_of r).seats.apart j memo.number t h held in
       let fates : AreFates (after m (Finish memo.number)) (An key.terms) r.keeper.made later =
       grind (arith, knows, held, length-set r.fates t fate, at_set r.fates t) in
@@ -242,16 +220,14 @@ module _ {O D T N : Type 0} (note : D → N) (Ao : T → O → Type 0) (An : T �
       let own = taken-own memo.number t (note d) r.fates memo.log knows.ordered.rises after_log knows.got open_now in
       let others = λ (j : ℕ) (other : j ≢ memo.number). taken-else j memo.number 0 (note d) r.fates t other open_now in
       let last = λ (j g : ℕ). at_snoc memo.log call (Lost g) j in
-      let got = got_of-append memo.log (call ∷ []) in
-      let end = end_on 0 memo.log call in
-      let long = length_push memo.log call in
-      let to : IsStepTo r memo (Finish memo.number) later (finishes (note d) memo) = grind (arith, knows, held, out, no_ticket r id at) in
+      let to : IsStepTo r memo (Finish memo.number) later (finishes (note d) memo) =
+      grind (arith, knows, held, out, no_ticket r id at, got_of-append memo.log (call ∷ []), end_on 0 memo.log call, length_push memo.log call) in
       let three : t % key.positions + 3 ≡ suc (suc (suc (t % key.positions))) = omega arith in (
         Sits key (finishes (note d) memo),
         gives,
         tt,
         seat_runs r id at to (rw (r.words_are, three, ← (sizes_of r).positions_are, held)) (slots_set t (some (Finished d))
-            r.sizes.some_position out.0 (omega (arith, one_turn_ahead r)) refl r.are_slots (grind (arith, set_there, out, account))
-            (λ u home away from to is. grind (arith, is, set_away u fate away))),
+            r.sizes.some_position r.are_slots out.0 (omega (arith, one_turn_ahead r)) (grind (arith, set_there, out, account))
+            (λ u away from to. let is = r.are_slots.each u from to in grind (arith, is, set_away u fate away))),
         (refl, to.ordered),
       ))

@@ -1,8 +1,10 @@
 -- What is left once all seats are back, and that what is settled stays so.
-use Rattle.permit_ring.proofs.Names.{◌≡◌, ◌≢◌, ℕ, zero, suc, ◌+◌, ◌-◌, ◌%◌, ◌<◌, is_some, List, [], ◌∷◌, ◌++◌, map, length, get_or, sum_by, Option, Some, None, refl, sym, ◌∙◌, ap, subst, inl, inr, mod-lt, arith, cases_lt, false≢true, common_steps, length-map, nil_from_length, sum_by-cons, at_longer, at_map, State, SeatView, Key, KeeperMemo, Got, SeatMemo, Slot, View, OfferTells, AreAllBack, IsAllReaped, IsSettled, IsWholeLog, marks_back, StandsIn, Runs, Machine, marks_of, new_seat, nobody, mark_at, seat_at, Holds, IsRing, all_but_a_turn_reaped, live_is_made, one_turn, get_elem?, some, decided_on, lost}
-use Rattle.permit_ring.specs.Logs.{fate_of}
+use Rattle.permit_ring.proofs.Names.{◌≡◌, ◌≢◌, ◌≤◌, ℕ, zero, suc, ◌+◌, ◌-◌, ◌%◌, ◌<◌, is_some, List, [], ◌∷◌, ◌++◌, map, length, get_or, sum_by, Option, Some, None, refl, sym, ◌∙◌, ap, subst, inl, inr, mod-lt, arith, false≢true, common_steps, length-map, nil_from_length, sum_by-cons, at_longer, at_map, State, SeatView, Key, KeeperMemo, Got, SeatMemo, Slot, View, OfferTells, AreAllBack, IsAllReaped, IsSettled, IsWholeLog, marks_back, StandsIn, Runs, Machine, marks_of, nobody, mark_at, seat_at, Holds, all_but_a_turn_reaped, live_is_made, one_turn, get_elem?, some, decided_on}
+use Rattle.permit_ring.specs.Logs.{end_from, fate_of}
 use Rattle.permit_ring.proofs.LogLemmas.{got_from, lost_in, taken_in, within_end}
 use Rattle.permit_ring.proofs.States.{ring_of}
+use Rattle.ring_core.specs.{loss_at}
+use Rattle.ids_types.specs.Fates.{AreAllDecided}
 
 -- where each ticket has its note, something became of each
 all_noted : {N : Type 0} (fates : List (Option (ℕ × N))) (notes : List N) → length notes ≡ length fates
@@ -23,30 +25,13 @@ some_there (None ∷ xs) zero low closed = absurd (closed refl)
 some_there (Some a ∷ xs) zero low closed = (a, refl)
 some_there (x ∷ xs) (suc i) low closed = some_there xs i (omega arith) closed
 
--- where no seat holds a ticket, and the next one is not finished, all that was claimed was reaped
-all_reaped : (m : Machine) → IsRing m → ((i t : ℕ) → Holds (seat_at m.seats i) t → ⊥)
-    → mark_at m.marks (m.reaped % m.positions) ≢ m.reaped + 1 → m.reaped ≡ m.word.claimed
-all_reaped m ring none_holds other = elim (cases_lt m.reaped m.word.claimed) [
-  | inl less ↦
-      let shown : ℕ = mark_at m.marks (m.reaped % m.positions) in
-      let mark = ring.marks (m.reaped % m.positions) (mod-lt m.reaped ring.sizes.some_position) in
-      let above = mark.above_all m.reaped (assumption (less, λ (i : ℕ). none_holds i m.reaped)) in
-      let last = mark.just_above (shown - 1) (omega arith) in
-      let claimed = last.claimed_before in
-      let turn = all_but_a_turn_reaped m ring in
-      let same = one_turn m.reaped (shown - 1) m.positions (omega arith) (omega arith) (sym last.stands_at) in
-      absurd (other (omega arith))
-  | inr not_less ↦ let behind = ring.permits.reaped_claimed in omega arith
-]
-
 -- two lists of the same length whose elements weigh the same weigh the same
 same_sums : {A B : Type 0} (f : A → ℕ) (g : B → ℕ) (d : A) (xs : List A) (ys : List B) → length ys ≡ length xs
     → ((i : ℕ) → i < length ys → (y : B) × (get_elem? ys i ≡ some y) × (f (get_or xs i d) ≡ g y)) → sum_by f xs ≡ sum_by g ys
 same_sums f g d [] [] long each = refl
 same_sums f g d (x ∷ xs) (y ∷ ys) long each =
-    let here = each zero (omega arith) in
     let rest = same_sums f g d xs ys (omega arith) (λ i low. each (suc i) (omega arith)) in
-    cc (here.1, here.2, rest, sum_by-cons f x xs, sum_by-cons g y ys)
+    grind (arith, each zero (omega arith), rest, sum_by-cons f x xs, sum_by-cons g y ys)
 same_sums f g d _ _ long each = absurd (omega arith)
 
 -- a front stands among more
@@ -73,8 +58,7 @@ module _ {N : Type 0} where
       seats_are = s.seats_are;
       logs_are = λ i memo e.
           let its = s.logs_are i memo e in
-          let decided = decided_on its.decided (more_fronts old.fronts (old.offered + count)) in
-          assumption;
+          grind (arith, its, decided_on its.decided (more_fronts old.fronts (old.offered + count)));
     }
 
 module _ {O D T N : Type 0} {note : D → N} {Ao : T → O → Type 0} {An : T → N → Type 0} {key : Key T} {s : State (Slot O D) (View T N)}
@@ -85,36 +69,35 @@ module _ {O D T N : Type 0} {note : D → N} {Ao : T → O → Type 0} {An : T �
 
   -- once all seats are back, none holds a ticket
   none_left : AreAllBack r.keeper → (i t : ℕ) → Holds (seat_at r.machine.seats i) t → ⊥
-  none_left back i t holds = elim r.knows.made_is [
-    | inl made ↦
-        let live = ((ring_of r).seats.each i).holder_is_live (ap is_some holds) in
-        let below = live_is_made r.machine.seats i live in
-        let b = some_there r.keeper.back i (omega (arith, made.1, r.knows.back_is)) (λ e. false≢true (back i None e)) in
-        cc (live, shown i b.0 b.1, (r.each_seat i (Some b.0) b.1).1)
-    | inr start ↦ let one = start.1 in grind (arith, common_steps)
-  ]
+  none_left back i t holds =
+      let live = ((ring_of r).seats.each i).holder_is_live (ap is_some holds) in
+      let made : i < length r.keeper.back = grind (arith, common_steps, r.knows.made_is, live_is_made r.machine.seats i live, r.knows.back_is, holds) in
+      let b = some_there r.keeper.back i made (λ e. false≢true (back i None e)) in
+      cc (live, shown i b.0 b.1, (r.each_seat i (Some b.0) b.1).1)
 
   -- the log of a seat that came back is whole, where something became of each ticket
   whole_log : (taken : List (ℕ × N)) → r.fates ≡ map Some taken → (i : ℕ) (memo : SeatMemo N)
       → get_elem? r.keeper.back i ≡ some (Some memo) → IsWholeLog r.keeper.fronts taken i memo
   whole_log taken all i memo at =
       let p = r.each_seat i (Some memo) at in
-      let seat = rw (← shown i memo at) at ((ring_of r).seats.each i) in
-      let front = λ (j g : ℕ) (e : get_elem? (map fate_of memo.log) j ≡ some (lost g)). p.2.lost_at_front j g (lost_in memo.log j g e) in
       let claimed : r.machine.word.claimed ≡ length taken = sym r.are_fates.each_claimed ∙ ap length all ∙ length-map taken Some in
-      record {
-        number_is = p.0;
-        calls_are = grind (arith, common_steps, p, seat);
-        decided = record { rises = p.2.ordered.rises; within = omega (arith, p.2.below_claims, claimed); at_front = front };
-        got = grind (arith, p, all);
-      }
+      let within : end_from 0 memo.log ≤ length taken = omega (arith, p.2.below_claims, claimed) in
+      let decided : AreAllDecided (length taken) (StandsIn r.keeper.fronts) (map fate_of memo.log) =
+      record { rises = p.2.ordered.rises; within = within; at_front = λ j g e. p.2.lost_at_front j g (lost_in memo.log j g e) } in
+      grind (arith, common_steps, p, all, decided, rw (← shown i memo at) at ((ring_of r).seats.each i))
 
   -- and where the next ticket is not finished, nothing is left
   pub settled : mark_at r.machine.marks (r.machine.reaped % r.machine.positions) ≢ r.machine.reaped + 1 → AreAllBack r.keeper
       → IsSettled r.keeper
   settled other back =
-      let reaped = all_reaped r.machine (ring_of r) (none_left back) other in
-      let long = sym r.knows.counted.reaped_is ∙ reaped ∙ sym r.are_fates.each_claimed in
+      let m : Machine = r.machine in
+      let ring = ring_of r in
+      let shown : ℕ = mark_at m.marks (m.reaped % m.positions) in
+      let mark = ring.marks (m.reaped % m.positions) (mod-lt m.reaped ring.sizes.some_position) in
+      let same = one_turn m.reaped (shown - 1) m.positions in
+      let all_reaped : m.reaped ≡ m.word.claimed =
+      grind (arith, mark, none_left back, mark.just_above (shown - 1), all_but_a_turn_reaped m ring, same, other, ring.permits.reaped_claimed) in
+      let long = sym r.knows.counted.reaped_is ∙ all_reaped ∙ sym r.are_fates.each_claimed in
       let all = all_noted r.fates r.keeper.notes long r.knows.noted in
       record {
         taken = all.0;
@@ -126,20 +109,21 @@ module _ {O D T N : Type 0} {note : D → N} {Ao : T → O → Type 0} {An : T �
   -- so once all seats are back, the next ticket is finished only where some was not reaped
   pub not_over : (i : ℕ) (x : N) → get_elem? r.fates r.machine.reaped ≡ some (Some (i, x)) → AreAllBack r.keeper → ¬ IsAllReaped r.keeper
   not_over i x e back reaped =
-      let made = (r.are_fates.finished r.machine.reaped i x e).0 in
-      let b = some_there r.keeper.back i (omega (arith, r.knows.back_is)) (λ e. false≢true (back i None e)) in
+      let b = some_there r.keeper.back i (omega (arith, r.knows.back_is, (r.are_fates.finished r.machine.reaped i x e).0))
+      (λ e. false≢true (back i None e)) in
       let p = r.each_seat i (Some b.0) b.1 in
       let took = taken_in i 0 r.fates r.machine.reaped r.machine.reaped x (omega arith) e in
       let entry = got_from b.0.log took.0 r.machine.reaped x (rw (p.2.got, p.0) took.1) in
-      let above = within_end 0 b.0.log entry.0 (Got r.machine.reaped x) p.2.ordered.rises entry.1 in
-      omega (arith, reaped i b.0 b.1, r.knows.counted.reaped_is)
+      omega (arith, reaped i b.0 b.1, r.knows.counted.reaped_is, within_end 0 b.0.log entry.0 (Got r.machine.reaped x) p.2.ordered.rises entry.1)
 
   -- so once all seats are back, their marks are those of all seats
-  pub all_marks : AreAllBack r.keeper → (kind : ℕ) → sum_by (λ (v : SeatView). marks_of v kind) (new_seat ∷ []) ≡ 0
-      → sum_by (λ (v : SeatView). marks_of v kind) r.machine.seats ≡ sum_by (marks_back kind) r.keeper.back
-  all_marks back kind clean = elim r.knows.made_is [
-    | inl made ↦ same_sums (λ (v : SeatView). marks_of v kind) (marks_back kind) nobody r.machine.seats r.keeper.back
-        (r.knows.back_is ∙ made.1) (λ i low. let b = some_there r.keeper.back i low (λ e. false≢true (back i None e)) in
-        (Some b.0, b.1, ap (λ (v : SeatView). marks_of v kind) (sym (shown i b.0 b.1))))
-    | inr start ↦ rw (start.1, nil_from_length r.keeper.back (r.knows.back_is ∙ start.0)) clean
-  ]
+  pub all_marks : AreAllBack r.keeper → (kind : ℕ) → kind < 2
+      → (loss_at r.machine kind).value + (loss_at r.machine kind).swept ≡ sum_by (marks_back kind) r.keeper.back
+  all_marks back kind low =
+      let sums : sum_by (λ (v : SeatView). marks_of v kind) r.machine.seats ≡ sum_by (marks_back kind) r.keeper.back = elim r.knows.made_is [
+        | inl made ↦ same_sums (λ (v : SeatView). marks_of v kind) (marks_back kind) nobody r.machine.seats r.keeper.back
+            (r.knows.back_is ∙ made.1) (λ i low. let b = some_there r.keeper.back i low (λ e. false≢true (back i None e)) in
+            (Some b.0, b.1, ap (λ (v : SeatView). marks_of v kind) (sym (shown i b.0 b.1))))
+        | inr start ↦ rw (start.1, nil_from_length r.keeper.back (r.knows.back_is ∙ start.0)) (grind (arith, low))
+      ] in
+      grind (arith, sums, low, (ring_of r).loss0, (ring_of r).loss1)

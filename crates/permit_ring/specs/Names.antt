@@ -1,4 +1,4 @@
--- The types of the ring machine and of a ring, under one name.
+-- What the ring machine and a ring declare, and the definitions on them that more than one file cites, under one name.
 pub use Rattle.ring_core.specs.declared.seat.SeatView.{SeatView}
 pub use Rattle.ring_core.specs.declared.seat.Ticket0.{Ticket0}
 pub use Rattle.ring_core.specs.declared.step.Step.{Step}

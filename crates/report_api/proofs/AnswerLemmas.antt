@@ -1,5 +1,5 @@
 -- What a call did to its pass at the report ring, in one.
-use Rattle.report_api.proofs.Names.{◌≡◌, ℕ, ◌+◌, ◌-◌, ◌≤◌, ◌<◌, List, [], ◌∷◌, ◌++◌, length, Some, Ok, Err, refl, arith, Ticket, Option, Caller, ClaimTells, caller_memo, ticket_of, adds_mark, finishes, item_by, Act, Outcome, PassMemo, Lost, Got, lost_events, lost_contexts, queue_seats, pass_memo, Pass, Shared, claimed, holds_ticket, common_steps, first_fitting}
+use Rattle.report_api.proofs.Names.{◌≡◌, ℕ, ◌+◌, ◌-◌, ◌≤◌, ◌<◌, List, [], ◌∷◌, ◌++◌, length, Some, Ok, Err, refl, arith, Ticket, Caller, ClaimTells, caller_memo, ticket_of, adds_mark, finishes, item_by, Act, Outcome, PassMemo, Lost, Got, lost_events, lost_contexts, queue_seats, pass_memo, Pass, Shared, claimed, holds_ticket, common_steps, first_fitting}
 use Rattle.permit_ring.specs.declared.answer.Look.{Look}
 use Rattle.report_api.specs.Answers.{Given, IsCall, PutsUnder, Reports, act_with, fitting}
 use Rattle.report_api.specs.Names.{Missing}
@@ -35,21 +35,18 @@ module _ (limit : ℕ) (old mid : PassMemo) where
         → OneCall old (Got t.0 (item_by mid act)) 0 1 4 new
     put_without found new put = grind (arith, common_steps, claimed limit old (Ok t) mid tells, put, holds_ticket limit old t mid tells)
 
--- the ticket that is held then is that of the claim
-pub claim_of_held : (limit : ℕ) (old mid : PassMemo) (held : Option Ticket) (t u : Ticket) → ClaimTells limit old (Ok t) mid → held ≡ Some t
-    → held ≡ Some u → ClaimTells limit old (Ok u) mid
-claim_of_held limit old mid held t u tells is under = let same : t ≡ u = cc in rw same at tells
-
 -- a report that was put under the ticket that its claim got
 pub put_tells : {shared : Shared} {given : Given} {old : Pass} (t : Ticket) (seat : Caller) (answer : ReportAnswer) (new : Pass) → IsCall shared given (pass_memo old)
     → ClaimTells (queue_seats shared.queue) (pass_memo old) (Ok t) (caller_memo seat) → ticket_of seat ≡ Some t
     → PutsUnder shared given (record { seat = seat; claimant = old.claimant; spare = old.spare }) answer new → Reports shared given old answer new
 put_tells {given = given} {old} t seat (reports.Accepted u) new call tells held put =
-    let tells = claim_of_held _ (pass_memo old) (caller_memo seat) (ticket_of seat) t u tells held put.ticket in
+    let same : t ≡ u = cc in
+    let tells = rw same at tells in
     let moves = put_call _ (pass_memo old) (caller_memo seat) u tells (act_with given put.told.0) (pass_memo new) put.told.2 in
     record { mine = put.mine; told = (call, (_, tells, put.told)); classes = put.classes; steps = omega (arith, put.few, moves.few_moves) }
 put_tells {given = given} {old} t seat (reports.WithoutContext u looks) new call tells held put =
-    let tells = claim_of_held _ (pass_memo old) (caller_memo seat) (ticket_of seat) t u tells held put.ticket in
+    let same : t ≡ u = cc in
+    let tells = rw same at tells in
     let moves = put_without _ (pass_memo old) (caller_memo seat) u tells (act_with given (Missing looks)) put.told.2.0 (pass_memo new) put.told.2.1 in
     record { mine = put.mine; told = (call, (_, tells, put.told)); classes = put.classes; steps = omega (arith, put.few, moves.few_moves) }
 put_tells t seat _ new call tells held put = absurd put.told

@@ -1,10 +1,10 @@
 -- A pass after one call more.
-use Rattle.report_api.proofs.Names.{IsPassOf, None, Some, undecided, IsControl, plain_act, ◌≡◌, ℕ, ◌+◌, ◌≤◌, ◌<◌, ◌^◌, is_none, is_some, true, false, List, [], ◌∷◌, ◌++◌, length, map, refl, ap, arith, append-nil, length_push, map-append, map_push, CallAsks, Follows, adds_mark, finishes, Act, Outcome, PassMemo, lost_events, lost_contexts, Lost, Got, IsPassAt, asks_of, call_of, calls_in, fate_of, misses_context, missing_in, pass_memo, sizes_of, Pass, Shared, ticket_in, common_steps}
+use Rattle.report_api.proofs.Names.{IsPassOf, None, Some, IsControl, plain_act, ◌≡◌, ℕ, ◌+◌, ◌≤◌, is_some, true, List, [], ◌∷◌, ◌++◌, length, map, refl, ap, arith, append-nil, length_push, map-append, map_push, CallAsks, Follows, adds_mark, finishes, Act, Outcome, PassMemo, lost_events, lost_contexts, Lost, Got, IsPassAt, asks_of, call_of, calls_in, fate_of, misses_context, missing_in, pass_memo, sizes_of, Pass, Shared, ticket_in, common_steps}
 use Rattle.history_spec.proofs.FollowsLemmas.{follows_after}
 use Rattle.report_queue.specs.declared.cargo.Item.{Item}
 use Rattle.buffer_classes.specs.Names as classes
 use Rattle.buffer_classes.specs.Seats.{IsClaimSeatOf, claimant_of, claims_of, log_of}
-use Rattle.report_queue.specs.Parts.{IsCallerOf, caller_memo, ticket_of}
+use Rattle.report_queue.specs.Parts.{IsCallerOf, ticket_of}
 
 missing-push : (log : List Outcome) (outcome : Outcome) → missing_in (log ++ outcome ∷ []) ≡ missing_in log + missing_in (outcome ∷ [])
 missing-push [] outcome = omega arith
@@ -12,17 +12,14 @@ missing-push (Lost claimed ∷ log) outcome = missing-push log outcome
 missing-push (Got ticket item ∷ log) outcome = omega (arith, missing-push log outcome)
 
 -- no more contexts are missing than there are calls
-missing_within : (log : List Outcome) → missing_in log ≤ length log
+pub missing_within : (log : List Outcome) → missing_in log ≤ length log
 missing_within [] = omega arith
 missing_within (Lost claimed ∷ log) = omega (arith, missing_within log)
 missing_within (Got ticket item ∷ log) = grind (arith, missing_within log)
 
 -- a control asks no class, and misses no context
-pub control_asks : (classes i : ℕ) (act : Act) → IsControl act → CallAsks classes i (Some (plain_act act)) []
+pub control_asks : (classes i : ℕ) (act : Act) → IsControl act → CallAsks classes i (Some (plain_act act)) [] × (misses_context act ≡ 0)
 control_asks classes i act is = grind arith
-
-pub control_misses : (act : Act) → IsControl act → misses_context act ≡ 0
-control_misses act is = grind arith
 
 -- one call more that is decided: its outcome stands in the log, and a missing context was marked
 pub record AddsCall (old : PassMemo) (outcome : Outcome) (new : PassMemo) : Type 0 where
@@ -61,12 +58,3 @@ module _ {shared : Shared} {old : Pass} (at : IsPassAt shared old) (new : Pass) 
   pub plain_after : new.claimant ≡ old.claimant → ((i : ℕ) → CallAsks (length (sizes_of shared)) i (call_of outcome) []) → IsPassOf shared new
   plain_after same asks = pass_after (rw same (at.claimant)) (ap claimant_of same) (rw same (omega arith)) (λ i. [])
       (λ i. rw (same, append-nil (log_of old.claimant i)) refl) asks
-
--- a pass that holds a ticket has one call that is not decided, and may mark one context more
-pub contexts_within : {shared : Shared} {pass : Pass} → IsPassAt shared pass → is_none (ticket_of pass.seat) ≡ false
-    → lost_contexts (pass_memo pass) < 2 ^ 40
-contexts_within {pass = pass} at busy =
-    let its = at.caller.is_seat in
-    let there : is_some (caller_memo pass.seat).view.held ≡ true = grind (arith, its.ticket_is, busy) in
-    let one : undecided (caller_memo pass.seat).view ≡ 1 = rw (its.not_armed, there) refl in
-    omega (arith, missing_within (pass_memo pass).log, one, at.caller.in_order.decided, at.caller.calls_are, at.caller.calls_within, at.contexts_are)

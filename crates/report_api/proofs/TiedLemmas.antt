@@ -5,28 +5,22 @@ use Rattle.permit_ring.specs.Closing.{AreAllBack, IsSettled}
 module _ {number : ℕ} {back : List (Option PassMemo)} {olds news : List Giver} {bufs : List Buffer} (tied : AreTied number back olds)
     (gave : AllOf (GaveBack bufs) olds news) where
   -- the giver that stands at a place now stood there before, and gave back
-  record Stood (i : ℕ) (new : Giver) : Type 0 where
-    old : Giver
-    old_at : get_elem? olds i ≡ some old
-    did : GaveBack bufs i old new
-
-  stood : (i : ℕ) (new : Giver) → get_elem? news i ≡ some new → Stood i new
+  stood : (i : ℕ) (new : Giver) → get_elem? news i ≡ some new → (old : Giver) × (get_elem? olds i ≡ some old) × GaveBack bufs i old new
   stood i new at =
-      let old = there olds i (omega (arith, gave.as_many, at_length news i new at)) in
-      record { old = old.0; old_at = old.1; did = gave.each i old.0 new old.1 at }
+      let old = there olds i (omega (arith, gave.as_many, at_length news i new at)) in (old.0, old.1, gave.each i old.0 new old.1 at)
 
   same_log : (i caller : ℕ) → log_at (get_elem? news i) caller ≡ log_at (get_elem? olds i) caller
   same_log i caller = elim (below_or news i) [
-    | inl new ↦ let was = stood i new.0 new.1 in rw (new.1, was.old_at, was.did.back_is) refl
+    | inl new ↦ let was = stood i new.0 new.1 in rw (new.1, was.1, was.2.back_is) refl
     | inr past ↦ rw (nothing_past news i past, nothing_past olds i (omega (arith, gave.as_many, past))) refl
   ]
 
   -- giving back leaves them tied
   pub tied_given : AreTied number back news
   tied_given = record {
-    as_many = λ i giver at. let was = stood i giver at in grind (arith, was, tied.as_many i was.old was.old_at);
-    both = λ i caller giver pass at came. let was = stood i giver at in rw was.did.back_is (tied.both i caller was.old pass was.old_at came);
-    follows = λ i caller pass came. rw (same_log i caller) (tied.follows i caller pass came);
+    as_many = λ i giver at. let was = stood i giver at in grind (arith, was, tied.as_many i was.0 was.1);
+    both = λ i caller giver pass at came. let was = stood i giver at in grind (arith, was, tied.both i caller was.0 pass was.1 came);
+    follows = λ i caller. rw (same_log i caller) (tied.follows i caller);
     missing = tied.missing;
   }
 
@@ -45,4 +39,4 @@ pub settles : {number : ℕ} {back : List (Option PassMemo)} {olds news : List G
     → ((i : ℕ) (came : Option PassMemo) → get_elem? back i ≡ some came → is_some came ≡ true) → AllOf (GaveBack bufs) olds news
     → (i : ℕ) (giver : Giver) → get_elem? news i ≡ some giver → IsSettled (giver_memo giver)
 settles tied all gave i giver at =
-    let was = stood tied gave i giver at in was.did.settled (claimants_back tied all i was.old was.old_at)
+    let was = stood tied gave i giver at in was.2.settled (claimants_back tied all i was.0 was.1)

@@ -23,6 +23,7 @@ pub struct Parts {
 }
 
 // The classes to be made.
+#[tactic(auto, using(crate::proofs::MakingLemmas::small_at))]
 fn specs_of(alloc: Global, classes: &[(u64, u64)]) -> Result<Vec<ClassSpec>, AllocError>
     requires { AreSpecs (map class_of classes.now) }
     ensures { IfOk result (λ v. v.items ≡ map class_of classes.now) }

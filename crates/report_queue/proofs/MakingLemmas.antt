@@ -1,6 +1,6 @@
 -- A queue that has just been made, from its ring.
-use Rattle.report_queue.proofs.Names.{at_length, new_ordered, untouched, get_or_default, length-map, length-replicate, seat_number, some, ◌≡◌, ℕ, zero, suc, ◌<◌, ◌≤◌, List, length, replicate, Option, Some, None, sym, ap, ◌∙◌, subst, arith, All, slice_index_or, at_index, get_elem?}
-use Rattle.report_queue.specs.{SeatMemo, Item, Queue, QueueSeat, Taker, admits_all, IsNewQueue, IsUnused, as_callers, IsTakerOf, caller_number}
+use Rattle.report_queue.proofs.Names.{at_length, new_ordered, untouched, get_or_default, length-map, length-replicate, some, ◌≡◌, ℕ, zero, suc, ◌≤◌, List, replicate, Option, Some, None, arith, All, slice_index_or, at_index, get_elem?}
+use Rattle.report_queue.specs.{SeatMemo, Item, Queue, QueueSeat, Taker, admits_all, IsNewQueue, IsUnused, as_callers, caller_number}
 use Rattle.permit_ring.specs.declared.seat.Seat.{Seat}
 use Rattle.permit_ring.specs.Making as ring
 use Rattle.report_queue.specs.declared.cargo.Items.{Items}
@@ -13,34 +13,20 @@ none_there (suc n) zero a e = cc
 none_there (suc n) (suc i) a e = none_there n i a e
 
 module _ {P L T N : Type 0} (queue : Queue P L T N) where
-  new_caller_is : (i : ℕ) (seat : Seat (Items P) L (Item L) T (Item N)) → i < 32 → ring.IsNewSeat admits_all queue.ring i seat
-      → IsUnused queue record { seat = seat } × (seat_number seat ≡ i)
-  new_caller_is i seat within is = let ordered = new_ordered {N = Item N} i in grind (arith, is, ordered)
-
   -- a new ring with a keeper and callers is a new queue
   pub new_queue_is : (n seats : ℕ) (terms : T) (taker : Taker P L T N) (ring_seats : List (Seat (Items P) L (Item L) T (Item N)))
       (callers : List (QueueSeat P L T N)) → seats ≤ 32 → ring.IsNewRing admits_all n seats terms queue.ring taker.keeper ring_seats
       → callers ≡ as_callers ring_seats → IsNewQueue n seats terms queue taker callers
   new_queue_is n seats terms taker ring_seats callers within is are =
       let made = untouched {N = Item N} n seats in
-      let count = is.seats_are.all_made in
-      let none = λ (i : ℕ) (memo : SeatMemo (Item N)). none_there {C = ⊥} seats i memo in
-      let taker_is : IsTakerOf queue taker = grind (arith, is, made, none, length-replicate {A = Option (SeatMemo (Item N))} seats None) in
-      record {
-        positions_are = is.positions_are;
-        seats_may_be = is.seats_may_be;
-        terms_are = is.terms_are;
-        is_taker = taker_is;
-        untouched = rw is.knows made;
-        none_to_give_back = is.none_filled;
-        all_made = ap length are ∙ length-map ring_seats (λ seat. record { seat = seat }) ∙ count;
-        each = λ i seat e.
-            let found = at_map_back (λ (s : Seat (Items P) L (Item L) T (Item N)). record { seat = s }) ring_seats i seat
-            (ap (λ (l : List (QueueSeat P L T N)). get_elem? l i) (sym are) ∙ e) in
-            let low = at_length ring_seats i found.0 found.1 in
-            subst (λ (c : QueueSeat P L T N). IsUnused queue c × (caller_number c ≡ i)) found.2
-            (new_caller_is i found.0 (omega (arith, low, count, within)) (is.seats_are.each i found.0 found.1));
-      }
+      let none = none_there {A = SeatMemo (Item N)} {C = ⊥} seats in
+      let long = length-map {B = QueueSeat P L T N} ring_seats (λ seat. record { seat = seat }) in
+      let each : (i : ℕ) (seat : QueueSeat P L T N) → get_elem? callers i ≡ some seat → IsUnused queue seat × (caller_number seat ≡ i) = λ i seat e.
+      let found = at_map_back (λ (s : Seat (Items P) L (Item L) T (Item N)). record { seat = s }) ring_seats i seat (rw are at e) in
+      let low = at_length ring_seats i found.0 found.1 in
+      let new = is.seats_are.each i found.0 found.1 in
+      rw (← found.2) (grind (arith, new, low, is.seats_are.all_made, within, new_ordered {N = Item N} i)) in
+      grind (arith, is, made, none, long, are, each, length-replicate {A = Option (SeatMemo (Item N))} seats None)
 
 -- each caller of a new queue is unused
 pub all_unused : {P L T N : Type 0} {n seats : ℕ} {terms : T} {queue : Queue P L T N} {taker : Taker P L T N}

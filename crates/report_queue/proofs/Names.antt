@@ -1,9 +1,10 @@
 -- The names of other crates that several files of this crate cite.
 pub use Rattle.atomic_table.proofs.Lists.{at_map, at_index, at_set}
-pub use Rattle.permit_ring.proofs.{there, got_from, taken_in, more_fronts, offer_keeps_back, at_length, new_ordered, untouched, at_end, kept_log, lost_log}
-pub use Rattle.permit_ring.specs.{IsSettled, StandsIn, fate_of, taken_by, waits, IsAllReaped, ended, HasInHand, ring_terms, and_lost, ticket_in, AreAllBack, sweeps}
-pub use Rattle.permit_ring.specs.Seats.{seat_number, keeper_memo}
-pub use Rattle.std.proofs.Common.{◌≡◌, ℕ, zero, suc, ◌+◌, ◌<◌, ◌==◌, if◌then◌else◌, true, is_some, List, [], ◌∷◌, map, length, Option, Some, None, refl, sym, ap, ap₂, ◌∙◌, subst, true≢false, inl, inr, eq-zero-or-pos, arith, ◌≤◌, replicate, All, slice_index_or, set, ◌^◌, ◌++◌, Result, Ok, Err, rules}
+pub use Rattle.permit_ring.proofs.{some_there, got_from, taken_in, more_fronts, at_length, new_ordered, untouched, at_end, gave_of}
+pub use Rattle.permit_ring.specs.{IsSettled, StandsIn, taken_by, waits, ended, ticket_in, AreAllBack}
+pub use Rattle.std.proofs.Common.{◌≡◌, ℕ, zero, suc, ◌+◌, List, [], ◌∷◌, map, length, Option, Some, None, refl, sym, ap, ◌∙◌, eq-zero-or-pos, arith, ◌≤◌, replicate, All, slice_index_or, ◌++◌, Result, Ok, Err, rules}
+pub use Rattle.std.proofs.lemmas.Bool.{false≢true}
+pub use Rattle.std.proofs.lemmas.Bool.Decides.{nat_tests}
 pub use Rattle.std.proofs.lemmas.Grind.{common_steps}
 pub use Rattle.std.proofs.lemmas.List.{length-map, get_or_default, length-replicate, length-set}
 pub use lib.ListN.{get_elem?}

@@ -24,9 +24,7 @@ module _ (m : Machine) (r : IsRing m) (i : ℕ) (now : SeatView) where
       → armed_count seats + word.over ≤ m.limit → word.claimed + armed_count seats ≤ calls_sum seats
       → AreSeats m.limit m.reaped word seats
   seats_set made {word = word} each in_order apart within had =
-      let all = each_after m.seats i now made (IsSeat m.reaped word.claimed) each in_order in
-      let long = length-set m.seats i now in
-      grind arith
+      grind (arith, length-set m.seats i now, each_after m.seats i now made (IsSeat m.reaped word.claimed) each in_order)
 
   -- the ring after it, with these vain claims and loss words
   pub seat_sound : (over : ℕ) (loss0 loss1 : LossWord) → IsChange m (seat_at m.seats i) now over loss0 loss1
@@ -34,11 +32,9 @@ module _ (m : Machine) (r : IsRing m) (i : ℕ) (now : SeatView) where
   seat_sound over loss0 loss1 c =
       let made = live_is_made m.seats i c.live in
       let sums = sums_after m.seats i now made in
-      let long = length-set m.seats i now in
       let few = count_by-le-length (λ (s : SeatView). s.armed) seats in
-      let within : armed_count seats + over ≤ m.limit = grind (arith, c.within) in
+      let within : armed_count seats + over ≤ m.limit = grind (arith, c.within, length-set m.seats i now) in
       let same = holders_stay m.seats i now made c.ticket in
       let changed : AreSeats m.limit m.reaped (record m.word { over = over }) seats = seats_set made r.seats.each c.in_order
       (apart_same m.seats seats same r.seats.apart) within (omega arith) in
-      let marks = λ (p : ℕ) (h : p < m.positions). mark_same m.seats seats same (r.marks p h) in
-      grind (arith, common_steps)
+      grind (arith, common_steps, λ (p : ℕ) (h : p < m.positions). mark_same m.seats seats same (r.marks p h))

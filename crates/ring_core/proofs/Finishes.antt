@@ -1,5 +1,5 @@
 -- A finish keeps what holds of a ring.
-use Rattle.ring_core.proofs.Names.{◌≡◌, ◌≢◌, ℕ, ◌+◌, ◌%◌, ◌<◌, ◌≤◌, true, is_some, Option, Some, None, List, length, set, refl, sym, ◌∙◌, ap, inl, inr, arith, cases_eq, common_steps, get_or-set_same, get_or-set_other, SeatView, Ticket0, Finish, seat_at, with_seat, mark_at, possible, after, IsRing, AreSeats, IsMark, IsFinished, Holds, Machine}
+use Rattle.ring_core.proofs.Names.{◌≡◌, ◌≢◌, ℕ, ◌+◌, ◌%◌, ◌<◌, ◌≤◌, true, is_some, None, List, length, set, ap, inl, inr, arith, cases_eq, common_steps, get_or-set_same, get_or-set_other, SeatView, Finish, seat_at, with_seat, mark_at, possible, after, IsRing, AreSeats, IsMark, IsFinished, Holds, Machine}
 use Rattle.ring_core.proofs.Changes.{seats_set}
 use Rattle.ring_core.proofs.SeatLemmas.{live_is_made, mark_stays, sums_after, holder_after, holder_before, one_ticket}
 use Rattle.ring_core.proofs.Turns.{one_turn}
@@ -28,9 +28,8 @@ module _ (m : Machine) (r : IsRing m) (i t : ℕ) (holds : Holds (seat_at m.seat
   finished_before : (p u : ℕ) → p ≢ t % m.positions → IsFinished m.positions m.word.claimed now p u
       → IsFinished m.positions m.word.claimed m.seats p u
   finished_before p u other f =
-      let before = λ (j : ℕ). holder_before m.seats i empty made j u
-      (λ was. let same = one_ticket t u (sym holds ∙ was) in absurd (other cc)) in
-      grind arith
+      let before = λ (j : ℕ). holder_before m.seats i empty made j u in
+      grind (arith, before, one_ticket t u, other, holds)
 
   finished_after : (p u : ℕ) → IsFinished m.positions m.word.claimed m.seats p u → IsFinished m.positions m.word.claimed now p u
   finished_after p u f = let else = λ (j : ℕ). held_else j u in grind arith
@@ -39,11 +38,8 @@ module _ (m : Machine) (r : IsRing m) (i t : ℕ) (holds : Holds (seat_at m.seat
   marks p h = elim (cases_eq p (t % m.positions)) [
     | inl here ↦
         let there : t % m.positions < length m.marks = omega arith in
-        rw (here, get_or-set_same m.marks (t % m.positions) (t + 1) 0 there) (record {
-          -- no finished ticket at t's position is above t, which stands in the last turn
-          above_all = λ u f. grind (arith, out, one_turn t u m.positions, f);
-          just_above = λ u e. let same : u ≡ t = omega arith in rw same now_finished;
-        })
+        let turn = λ (u : ℕ). one_turn t u m.positions in
+        grind (arith, here, out, turn, now_finished, get_or-set_same m.marks (t % m.positions) (t + 1) 0 there)
     | inr other ↦ rw (get_or-set_other m.marks (t % m.positions) p (t + 1) 0 other)
         (mark_stays (λ u. finished_before p u other) (finished_after p) (r.marks p h))
   ]
@@ -52,15 +48,9 @@ module _ (m : Machine) (r : IsRing m) (i t : ℕ) (holds : Holds (seat_at m.seat
   finish_sound =
       let sums = sums_after m.seats i empty made in
       let seats : AreSeats m.limit m.reaped m.word now =
-      seats_set m r i empty made r.seats.each (let s = r.seats.each i in grind (arith, common_steps))
+      seats_set m r i empty made r.seats.each (grind (arith, common_steps, r.seats.each i))
       (λ a b u ha hb. r.seats.apart a b u (held_else a u ha).1 (held_else b u hb).1) (omega arith) (omega arith) in
-      let marked = marks in
-      grind (arith, common_steps)
-
--- what is some is some ticket
-some_ticket : (held : Option Ticket0) → is_some held ≡ true → (ticket : Ticket0) × (held ≡ Some ticket)
-some_ticket None some = absurd cc
-some_ticket (Some ticket) some = (ticket, refl)
+      grind (arith, common_steps, marks)
 
 pub finish_keeps : (m : Machine) → IsRing m → (i : ℕ) → possible m (Finish i) ≡ true → IsRing (after m (Finish i))
-finish_keeps m r i ok = let t = some_ticket (seat_at m.seats i).held ok in rw t.1 (finish_sound m r i t.0.0 t.1)
+finish_keeps m r i ok = let all = λ (t : ℕ). finish_sound m r i t in grind (arith, all)

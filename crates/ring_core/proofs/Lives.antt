@@ -11,27 +11,19 @@ module _ (m : Machine) (r : IsRing m) where
   split_keeps ok =
       let each = seat_at-push m.seats (IsSeat m.reaped m.word.claimed) r.seats.each (grind (arith, common_steps)) in
       let apart = apart_same m.seats one_more (holders_stay_push m.seats) r.seats.apart in
-      let marks = λ (p : ℕ) (h : p < m.positions). mark_same m.seats one_more (holders_stay_push m.seats) (r.marks p h) in
-      grind (arith, common_steps)
+      grind (arith, common_steps, λ (p : ℕ) (h : p < m.positions). mark_same m.seats one_more (holders_stay_push m.seats) (r.marks p h))
 
 module _ (m : Machine) (r : IsRing m) (i : ℕ) where
   abbrev old : SeatView
   old = seat_at m.seats i
 
   pub join_keeps : possible m (Join i) ≡ true → IsRing (after m (Join i))
-  join_keeps ok =
-      let s = r.seats.each i in
-      seat_sound m r i (record old { live = false }) m.word.over m.loss0 m.loss1 (grind (arith, common_steps, r.permits.either))
+  join_keeps ok = seat_sound m r i (record old { live = false }) m.word.over m.loss0 m.loss1 (grind (arith, common_steps, r.seats.each i, r.permits.either))
 
   pub look_keeps : possible m (Look i) ≡ true → IsRing (after m (Look i))
-  look_keeps ok =
-      let s = r.seats.each i in
-      seat_sound m r i (looked m.word old) m.word.over m.loss0 m.loss1 (grind (arith, common_steps, r.permits.either))
+  look_keeps ok = seat_sound m r i (looked m.word old) m.word.over m.loss0 m.loss1 (grind (arith, common_steps, r.seats.each i, r.permits.either))
 
   pub mark_keeps : (kind : ℕ) → possible m (Mark i kind) ≡ true → IsRing (after m (Mark i kind))
-  mark_keeps zero ok =
-      let s = r.seats.each i in
-      seat_sound m r i (marked 0 old) m.word.over (one_more_lost m.loss0) m.loss1 (grind (arith, common_steps, r.permits.either))
+  mark_keeps zero ok = seat_sound m r i (marked 0 old) m.word.over (one_more_lost m.loss0) m.loss1 (grind (arith, common_steps, r.seats.each i, r.permits.either))
   mark_keeps (suc kind) ok =
-      let s = r.seats.each i in
-      seat_sound m r i (marked (suc kind) old) m.word.over m.loss0 (one_more_lost m.loss1) (grind (arith, common_steps, r.permits.either))
+      seat_sound m r i (marked (suc kind) old) m.word.over m.loss0 (one_more_lost m.loss1) (grind (arith, common_steps, r.seats.each i, r.permits.either))

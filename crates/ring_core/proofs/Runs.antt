@@ -1,5 +1,5 @@
 -- What holds of a ring is kept by each step, and by each list of steps.
-use Rattle.ring_core.proofs.Names.{◌≡◌, ℕ, Bool, cond, ◌+◌, ◌<◌, true, Some, None, IfSome, is_some, List, [], ◌∷◌, ◌++◌, length, take, get_or, refl, ◌∙◌, ap, inl, inr, zero, suc, arith, common_steps, cases_Bool, take_more, Step, Look, Claim, Finish, See, Read, Offer, Mark, Sweep, Split, Join, HasSizes, possible, after, next, after_all, StopsAt, IsRing, Machine}
+use Rattle.ring_core.proofs.Names.{◌≡◌, ℕ, Bool, cond, ◌+◌, ◌<◌, true, Some, None, IfSome, is_some, List, [], ◌∷◌, ◌++◌, length, take, get_or, ◌∙◌, ap, zero, suc, arith, common_steps, take_more, Step, Look, Claim, Finish, See, Read, Offer, Mark, Sweep, Split, Join, HasSizes, possible, after, next, after_all, StopsAt, IsRing, Machine}
 use Rattle.ring_core.proofs.Claims.{claim_keeps}
 use Rattle.ring_core.proofs.Finishes.{finish_keeps}
 use Rattle.ring_core.proofs.Keeps.{see_keeps, read_keeps, offer_keeps}
@@ -29,25 +29,18 @@ pub step_sound : {m now : Machine} → IsRing m → (step : Step) → next m ste
 step_sound {m = m} {now = now} r step e = let is = step_of_next m now step e in rw (is.is_after) (after_keeps m r step is.possible_here)
 
 pub next_keeps : (m : Machine) → IsRing m → (step : Step) → IfSome (next m step) IsRing
-next_keeps m r step = elim (cases_Bool (possible m step)) [ inl ok ↦ rw ok (after_keeps m r step ok) | inr stuck ↦ rw stuck tt ]
+next_keeps m r step = grind (arith, after_keeps m r step)
 
 -- what follows a ring by any list of steps is a ring
 pub runs_keep : (m : Machine) → IsRing m → (steps : List Step) → IfSome (after_all m steps) IsRing
 runs_keep m r [] = r
-runs_keep m r (step ∷ steps) = elim (cases_Bool (possible m step)) [
-  | inl ok ↦ rw ok (runs_keep (after m step) (after_keeps m r step ok) steps)
-  | inr stuck ↦ rw stuck tt
-]
+runs_keep m r (step ∷ steps) = grind (arith, λ (ok : possible m step ≡ true). runs_keep (after m step) (after_keeps m r step ok) steps)
 
 -- one step more
 after_all-step : (start m : Machine) (steps : List Step) (step : Step) → after_all start steps ≡ Some m
     → after_all start (steps ++ step ∷ []) ≡ next m step
-after_all-step start m [] step e =
-    let same : m ≡ start = cc in rw same (elim (cases_Bool (possible start step)) [ inl ok ↦ rw ok refl | inr stuck ↦ rw stuck refl ])
-after_all-step start m (first ∷ steps) step e = elim (cases_Bool (possible start first)) [
-  | inl ok ↦ rw ok (after_all-step (after start first) m steps step (rw ok at e))
-  | inr stuck ↦ let none = rw stuck at e in absurd cc
-]
+after_all-step start m [] step e = grind (arith, e)
+after_all-step start m (first ∷ steps) step e = grind (arith, e, after_all-step (after start first) m steps step)
 
 -- the steps lead to this state, and it is that of a ring
 pub record IsReached (start : Machine) (steps : List Step) (now : Machine) : Type 0 where

@@ -1,5 +1,5 @@
 -- The list of seats with one of them changed, or with one more: what that leaves as it was.
-use Rattle.ring_core.proofs.Names.{◌≡◌, ◌≢◌, ℕ, ◌+◌, ◌<◌, ◌⊎◌, Bool, true, false, cond, Option, Some, None, List, [], ◌∷◌, ◌++◌, length, set, sum_by, sym, ◌∙◌, ap, subst, inl, inr, arith, cases_eq, cases_lt, common_steps, get_or_past, get_or-set_same, get_or-set_other, get_or_append_left, get_or_push, length-append, sum_by-set, SeatView, Ticket0, nobody, new_seat, seat_at, is_idle, Holds, IsFinished, IsMark, armed_count, calls_sum}
+use Rattle.ring_core.proofs.Names.{◌≡◌, ◌≢◌, ℕ, zero, suc, ◌+◌, ◌<◌, ◌⊎◌, Bool, true, false, cond, Option, Some, None, List, [], ◌∷◌, ◌++◌, length, set, sum_by, sym, ◌∙◌, ap, subst, inl, inr, arith, cases_eq, common_steps, get_or-set_same, get_or-set_other, sum_by-set, SeatView, Ticket0, nobody, new_seat, seat_at, is_idle, Holds, IsFinished, IsMark, armed_count, calls_sum}
 
 -- what is known of an idle seat
 pub record Idle (seat : SeatView) : Type 0 where
@@ -40,8 +40,7 @@ module _ (seats now : List SeatView) (same : SameHolders seats now) where
   apart_same apart i j t hi hj = apart i j t (sym (same i) ∙ hi) (sym (same j) ∙ hj)
 
   pub mark_same : {n claimed p mark : ℕ} → IsMark n claimed seats p mark → IsMark n claimed now p mark
-  mark_same old = let back = λ (j : ℕ). sym (same j) in
-      record { above_all = λ t f. old.above_all t (grind arith); just_above = λ t e. let f = old.just_above t e in grind arith }
+  mark_same = mark_stays (grind (arith, same)) (grind (arith, same))
 
 -- what a list of seats adds up to beside one where seat `old` became `new`
 pub record AreSums (seats now : List SeatView) (old new : SeatView) : Type 0 where
@@ -88,20 +87,18 @@ module _ (seats : List SeatView) (i : ℕ) (seat : SeatView) (made : i < length 
   pub holders_stay : seat.held ≡ (seat_at seats i).held → SameHolders seats (set seats i seat)
   holders_stay same j = elim (seat_at-set j) [ inl e ↦ cc | inr e ↦ cc ]
 
--- one seat more, which no number had before
-module _ (seats : List SeatView) where
-  -- seat j is as before, or the new one
-  pushed : (j : ℕ) → (seat_at (seats ++ new_seat ∷ []) j ≡ seat_at seats j)
-      ⊎ ((seat_at (seats ++ new_seat ∷ []) j ≡ new_seat) × (seat_at seats j ≡ nobody))
-  pushed j =
-      let long = length-append seats (new_seat ∷ []) in
-      let left = get_or_append_left seats (new_seat ∷ []) nobody j in
-      let past = get_or_past (seats ++ new_seat ∷ []) j nobody in
-      grind (arith, cases_lt j (length seats), cases_eq (length seats) j, get_or_past seats j nobody, get_or_push seats new_seat nobody j)
+-- one seat more, which no number had before: seat j is as before, or the new one
+pushed : (seats : List SeatView) (j : ℕ) → (seat_at (seats ++ new_seat ∷ []) j ≡ seat_at seats j)
+    ⊎ ((seat_at (seats ++ new_seat ∷ []) j ≡ new_seat) × (seat_at seats j ≡ nobody))
+pushed [] zero = grind arith
+pushed [] (suc j) = grind arith
+pushed (x ∷ seats) zero = grind arith
+pushed (x ∷ seats) (suc j) = pushed seats j
 
+module _ (seats : List SeatView) where
   pub seat_at-push : (P : SeatView → Type 0) → ((j : ℕ) → P (seat_at seats j)) → P new_seat → (j : ℕ)
       → P (seat_at (seats ++ new_seat ∷ []) j)
-  seat_at-push P old new j = elim (pushed j) [ inl e ↦ subst P (sym e) (old j) | inr e ↦ subst P (sym e.0) new ]
+  seat_at-push P old new j = elim (pushed seats j) [ inl e ↦ subst P (sym e) (old j) | inr e ↦ subst P (sym e.0) new ]
 
   pub holders_stay_push : SameHolders seats (seats ++ new_seat ∷ [])
-  holders_stay_push j = elim (pushed j) [ inl e ↦ cc | inr e ↦ cc ]
+  holders_stay_push j = grind (arith, pushed seats j)

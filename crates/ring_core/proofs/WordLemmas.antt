@@ -11,8 +11,7 @@ pub unpacked-packed : (seats : ℕ) (word : PermitWord) → seats < 256 → IsPa
 unpacked-packed seats word few fits =
     let field : field_of seats word < 2 ^ 16 = omega arith in
     let tries = div-mul-add (tries_of word) (2 ^ 16) (field_of seats word) field in
-    let low = mod-mul-add (tries_of word) (2 ^ 16) (field_of seats word) field in
-    rw (tries, low) (grind (arith, common_steps))
+    grind (arith, common_steps, tries, mod-mul-add (tries_of word) (2 ^ 16) (field_of seats word) field)
 
 -- two words that pack to one number are one
 pub packed_apart : (seats : ℕ) (a b : PermitWord) → seats < 256 → IsPackable seats a → IsPackable seats b

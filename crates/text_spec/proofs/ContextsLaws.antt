@@ -1,10 +1,10 @@
 -- The fields of the texts keep the laws of a field.
-use Rattle.text_spec.proofs.Names.{◌≡◌, ◌<◌, ◌≤◌, ◌==◌, ◌∷◌, ◌^◌, if◌then◌else◌, is_ascii_digit, digits_value, any_bytes, bytes_in, bytes_word, is_number, capped, ℕ, zero, suc, true, false, inl, inr, List, [], length, map, refl, sym, ap, subst, ◌∙◌, arith, Option, Some, None, IfSome, option_map, decimal, bytes_eq, ⊤, w64, to_be_bytes, AllByRecursion, slice_split, join_with_byte, list_all, and_parts, cond-true, eqb-true, join_with_byte-slice_split, same_Some, none-some, cond_some, bytes_eq-Decides, IsBytes, encode_lower, Carried, Absent, Kept, Missing, Stamp, colon, point, mark, kept_fields, kept_places, context_word, IsContextWord, IsContext, IsExactContext, kept_in, numbers_in, claims_in, context_in, a_context, the, a_number, a_stamp, a_mode, hex_bytes, words_of_fields, AreWritten, is_lower_digit, some_hex, mode_name, mode_named, all_modes, stamp_in, stamp_text, absent, rules, nat_tests}
+use Rattle.text_spec.proofs.Names.{◌≡◌, ◌<◌, ◌≤◌, ◌==◌, ◌∷◌, ◌^◌, if◌then◌else◌, is_ascii_digit, digits_value, any_bytes, bytes_in, bytes_word, is_number, capped, ℕ, zero, suc, true, false, inl, inr, List, [], length, map, refl, sym, ap, subst, ◌∙◌, arith, Option, Some, None, IfSome, Stamp, option_map, decimal, bytes_eq, ⊤, w64, to_be_bytes, AllByRecursion, slice_split, join_with_byte, list_all, and_parts, cond-true, eqb-true, join_with_byte-slice_split, same_Some, none-some, cond_some, bytes_eq-Decides, cases_Bool, IsBytes, encode_lower, Carried, Absent, Kept, Missing, colon, point, mark, kept_fields, kept_places, context_word, IsContextWord, IsContext, IsExactContext, kept_in, numbers_in, claims_in, context_in, a_context, the, a_number, a_stamp, a_mode, hex_bytes, words_of_fields, AreWritten, is_lower_digit, some_hex, mode_name, mode_named, all_modes, stamp_in, stamp_text, absent, rules, nat_tests}
 use Rattle.text_spec.proofs.FieldsLaws.{Told, IsReading, Lawful, AreLawful, in_word, lawful, simple_lawful, AreReading, reads, fields_are, fields_again, fields_pass}
-use Rattle.text_spec.proofs.FrontLemmas.{bind_again, bind_some, chosen, is_some, mapped_some}
+use Rattle.text_spec.proofs.FrontLemmas.{bind_some, mapped_some}
 use Rattle.text_spec.proofs.HexadecimalLemmas.{hex_in-encode_lower, hex_not_absent, lower_text, some_hex_takes, some_hex_again}
 use Rattle.text_spec.proofs.ModesLemmas.{named_takes, mode_again}
-use Rattle.text_spec.proofs.NumbersLemmas.{number_parts, decimal-told, told-decimal}
+use Rattle.text_spec.proofs.NumbersLemmas.{is_number_is, decimal-told, number_again}
 use Rattle.text_spec.proofs.StampsLemmas.{IsBytes-high_first, stamp_takes, stamp_again}
 use Rattle.text_spec.proofs.WordsLemmas.{Pass, all_pass, weaker, split_joined, join_passes}
 
@@ -22,7 +22,7 @@ mode_lawful = simple_lawful (λ _. ⊤) mode_name mode_named
 
 -- the digits of a number are digits of hexadecimal
 number_lower : (word : List ℕ) → is_number word ≡ true → list_all is_lower_digit word ≡ true
-number_lower word is = weaker is_ascii_digit is_lower_digit word (λ b digit. grind (arith, digit)) (number_parts word is).0
+number_lower word is = weaker is_ascii_digit is_lower_digit word (λ b digit. grind (arith, digit)) ((is_number_is word).0 is).0
 
 -- which are bytes that words have
 lower_passes : (word : List ℕ) → list_all is_lower_digit word ≡ true → list_all in_word word ≡ true
@@ -31,8 +31,8 @@ lower_passes word all = weaker is_lower_digit in_word word (λ b digit. grind (a
 pub number_lawful : Lawful a_number
 number_lawful = lawful a_number
     (λ word n read. record { written = grind (arith, read); held = tt; takes = decimal-told word n read })
-    (λ word is. (capped (digits_value 10 word), rw is refl))
-    (λ n held exact. told-decimal n (omega (arith, exact)))
+    (λ word is none. none-some (capped (digits_value 10 word)) (sym none ∙ rw is refl))
+    (λ n held exact. let same : capped n ≡ n = omega (arith, exact) in rw (number_again n (omega (arith, exact))) (ap Some same))
     (λ word is. lower_passes word (number_lower word is))
 
 -- ---- timestamps and bytes
@@ -69,13 +69,6 @@ any_lawful = simple_lawful IsBytes bytes_word bytes_in any_takes (λ bytes held.
 kept_lawful : AreLawful kept_places
 kept_lawful = (number_lawful, (number_lawful, (bytes_lawful, tt)))
 
-kept_takes : (word : List ℕ) (context : Carried (List ℕ)) → kept_in (slice_split (λ b. b == colon) word) ≡ Some context → Told a_context word context
-kept_takes word context read =
-    let pieces = slice_split (λ b. b == colon) word in
-    let all = reads kept_places Kept pieces context kept_lawful read in
-    let joined = sym (join_with_byte-slice_split colon word) in
-    subst (Told a_context word) all.made (record { written = inr (inl (pieces, all.written, joined)); held = all.shown.held; takes = λ exact. joined ∙ ap (join_with_byte colon) (all.shown.are exact) })
-
 -- joined pieces, which have digits of hexadecimal alone, are cut again
 kept_cut : (pieces : List (List ℕ)) → AreWritten kept_places pieces → context_in (join_with_byte colon pieces) ≡ kept_in pieces
 kept_cut ((digit ∷ digits) ∷ claim ∷ hex ∷ []) is =
@@ -105,12 +98,7 @@ numbers_take (suc most) (piece ∷ pieces) numbers read =
     let rest = mapped_some (λ ns. first.0 ∷ ns) (numbers_in most pieces) numbers first.2 in
     let told : Told a_number piece first.0 = subst (IsReading a_number piece) first.1 (number_lawful.is piece) in
     let more = numbers_take most pieces rest.0 rest.1 in
-    subst (AreNumbers (suc most) (piece ∷ pieces)) rest.2 (record {
-      written = (told.written, more.written);
-      few = omega (arith, more.few);
-      as_many = omega (arith, more.as_many);
-      takes = λ exact. cc (told.takes exact.0, more.takes exact.1);
-    })
+    subst (AreNumbers (suc most) (piece ∷ pieces)) rest.2 (grind (arith, told, more))
 
 pub numbers_again : (most : ℕ) (numbers : List ℕ) → AllByRecursion a_number.Exact numbers → length numbers ≤ most → numbers_in most (map decimal numbers) ≡ Some numbers
 numbers_again most [] exact few = refl
@@ -118,13 +106,10 @@ numbers_again zero (n ∷ numbers) exact few = absurd (omega arith)
 numbers_again (suc most) (n ∷ numbers) exact few =
     rw (number_lawful.again n tt exact.0, numbers_again most numbers exact.1 (omega arith)) refl
 
-numbers_read : (most : ℕ) (pieces : List (List ℕ)) → AllByRecursion a_number.Writes pieces → length pieces ≤ most → (numbers : List ℕ) × (numbers_in most pieces ≡ Some numbers)
-numbers_read most [] are few = ([], refl)
+numbers_read : (most : ℕ) (pieces : List (List ℕ)) → AllByRecursion a_number.Writes pieces → length pieces ≤ most → numbers_in most pieces ≡ Some (map (λ word. capped (digits_value 10 word)) pieces)
+numbers_read most [] are few = refl
 numbers_read zero (piece ∷ pieces) are few = absurd (omega arith)
-numbers_read (suc most) (piece ∷ pieces) are few =
-    let first = is_some (a_number.reading piece) (λ none. subst (IsReading a_number piece) none (number_lawful.is piece) are.0) in
-    let rest = numbers_read most pieces are.1 (omega arith) in
-    (first.0 ∷ rest.0, bind_again (a_number.reading piece) (λ n. option_map (λ ns. n ∷ ns) (numbers_in most pieces)) first.0 first.1 ∙ ap (option_map (λ ns. first.0 ∷ ns)) rest.1)
+numbers_read (suc most) (piece ∷ pieces) are few = rw (are.0, numbers_read most pieces are.1 (omega arith)) refl
 
 claims_are : (word numbers : List ℕ) → claims_in word ≡ Some numbers → (pieces : List (List ℕ)) × AreNumbers 4 pieces numbers × (word ≡ join_with_byte point pieces)
 claims_are [] numbers read = ([], numbers_take 4 [] numbers read, refl)
@@ -150,15 +135,20 @@ claims_cut ((digit ∷ digits) ∷ pieces) are = ap (numbers_in 4) (split_joined
 
 context_takes : (word : List ℕ) (context : Carried (List ℕ)) → context_in word ≡ Some context → Told a_context word context
 context_takes [] context read = absurd (none-some context read)
-context_takes (first ∷ rest) context read = elim (chosen (first == mark) (option_map Missing (claims_in rest)) _ _ read) [
+context_takes (first ∷ rest) context read = elim (cases_Bool (first == mark)) [
   | inl missing ↦
-      let from = mapped_some Missing (claims_in rest) context missing.1 in
-      subst (λ c. Told a_context (c ∷ rest) context) (sym (eqb-true first mark missing.0)) (subst (Told a_context (mark ∷ rest)) from.2 (claims_take rest from.0 from.1))
-  | inr other ↦ elim (chosen (bytes_eq (first ∷ rest) absent) (Some Absent) _ _ other.1) [
+      let from = mapped_some Missing (claims_in rest) context (rw missing at read) in
+      subst (λ c. Told a_context (c ∷ rest) context) (sym (eqb-true first mark missing)) (subst (Told a_context (mark ∷ rest)) from.2 (claims_take rest from.0 from.1))
+  | inr other ↦ elim (cases_Bool (bytes_eq (first ∷ rest) absent)) [
     | inl none ↦
-        let is = (bytes_eq-Decides (first ∷ rest) absent).0 none.0 in
-        subst (Told a_context (first ∷ rest)) (same_Some Absent context none.1) (record { written = inl is; held = tt; takes = λ exact. is })
-    | inr pieces ↦ kept_takes (first ∷ rest) context pieces.1
+        let is = (bytes_eq-Decides (first ∷ rest) absent).0 none in
+        subst (Told a_context (first ∷ rest)) (same_Some Absent context (rw (other, none) at read)) (record { written = inl is; held = tt; takes = λ exact. is })
+    | inr neither ↦
+        let word = first ∷ rest in
+        let pieces = slice_split (λ b. b == colon) word in
+        let all = reads kept_places Kept pieces context kept_lawful (rw (other, neither) at read) in
+        let joined = sym (join_with_byte-slice_split colon word) in
+        subst (Told a_context word) all.made (record { written = inr (inl (pieces, all.written, joined)); held = all.shown.held; takes = λ exact. joined ∙ ap (join_with_byte colon) (all.shown.are exact) })
   ]
 ]
 
@@ -172,14 +162,12 @@ context_again (Missing numbers) held exact =
     let again = numbers_again 4 numbers exact held in
     ap (option_map Missing) (claims_cut (map decimal numbers) (numbers_take 4 (map decimal numbers) numbers again).written ∙ again)
 
-context_reads : (word : List ℕ) → IsContextWord word → (context : Carried (List ℕ)) × (context_in word ≡ Some context)
-context_reads word (inl none) = (Absent, ap context_in none)
-context_reads word (inr (inl three)) =
-    let read = is_some (kept_in three.0) (λ none. subst (AreReading kept_places Kept three.0) none (fields_are _ kept_places Kept three.0 kept_lawful) three.1) in
-    (read.0, ap context_in three.2 ∙ kept_cut three.0 three.1 ∙ read.1)
-context_reads word (inr (inr missing)) =
-    let read = numbers_read 4 missing.0 missing.1 missing.2 in
-    (Missing read.0, ap context_in missing.3 ∙ ap (option_map Missing) (claims_cut missing.0 missing.1 ∙ read.1))
+context_reads : (word : List ℕ) → IsContextWord word → context_in word ≡ None → ⊥
+context_reads word (inl is) none = none-some Absent (sym none ∙ ap context_in is)
+context_reads word (inr (inl three)) none =
+    subst (AreReading kept_places Kept three.0) (sym (ap context_in three.2 ∙ kept_cut three.0 three.1) ∙ none) (fields_are _ kept_places Kept three.0 kept_lawful) three.1
+context_reads word (inr (inr missing)) none =
+    none-some _ (sym none ∙ ap context_in missing.3 ∙ ap (option_map Missing) (claims_cut missing.0 missing.1 ∙ numbers_read 4 missing.0 missing.1 missing.2))
 
 context_passes : (word : List ℕ) → IsContextWord word → list_all in_word word ≡ true
 context_passes word (inl none) = ap (list_all in_word) none

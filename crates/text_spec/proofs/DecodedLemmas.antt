@@ -1,5 +1,5 @@
 -- The line of a decoded message.
-use Rattle.text_spec.proofs.Names.{◌≡◌, ◌+◌, ◌<◌, ◌≤◌, ◌++◌, ℕ, List, Option, Some, None, Stamp, w64, to_be_bytes, append_assoc, length, length-append, arith, decimal, layout_word, message_line, shown_context, shown_signature, stamp_text, common_steps}
+use Rattle.text_spec.proofs.Names.{◌≡◌, ◌+◌, ◌<◌, ◌≤◌, length, length-append, arith, decimal, layout_word, message_line, shown_context, shown_signature, stamp_text, common_steps, ◌++◌, ℕ, List, append_assoc, Option, Stamp, None, Some, to_be_bytes, w64}
 use Rattle.ids_frame.specs.Message.{MessageParts, FitsMessage}
 use Rattle.text_spec.proofs.HexadecimalLemmas.{length_hex}
 use Rattle.text_spec.proofs.NumbersLemmas.{few_digits}
@@ -12,18 +12,7 @@ length_line m = simp length-append (omega arith)
 -- the words in front of the context and of the signature are short
 pub few_in_front : (m : MessageParts) → FitsMessage m
     → length (message_line m) < 127 + length (shown_context m.context) + length (shown_signature m.signature)
-few_in_front m fits =
-    let layout : length (layout_word m.version) ≤ 2 = grind (arith, common_steps) in
-    omega (
-      arith,
-      length_line m,
-      few_digits m.instance (omega (arith, fits.room.ten_bits)),
-      few_digits m.sensor (omega (arith, fits.room.six_bits)),
-      few_digits m.event (omega (arith, fits.event)),
-      few_digits m.count (omega (arith, fits.count)),
-      few_digits m.reserved (omega (arith, fits.reserved)),
-      length_stamp m.stamp,
-    )
+few_in_front m fits = grind (arith, common_steps, length_line m, few_digits, fits, length_stamp m.stamp)
   where
     length_stamp : (stamp : Option Stamp) → length (stamp_text stamp) ≤ 16
     length_stamp None = omega arith

@@ -1,5 +1,5 @@
 -- Lists of fields: their reading against their words, both ways, for any fields that keep the laws.
-use Rattle.text_spec.proofs.Names.{◌≡◌, ◌<◌, ◌==◌, ◌∷◌, ℕ, not, Bool, true, List, [], length, refl, sym, ap, subst, ◌∙◌, arith, inl, inr, Option, Some, None, option_map, nat_lt, list_all, none-some, Field, Filled, simple, put, the, words_of_fields, AreHeld, AreExact, AreWritten, HasForm, Makes, read_by, Form, told_in, told_in_one, or_else, space, line_feed, words_of, line_of, ◌>>=◌}
+use Rattle.text_spec.proofs.Names.{◌≡◌, ◌==◌, ◌∷◌, ℕ, not, Bool, true, List, [], refl, sym, ap, subst, ◌∙◌, arith, inl, inr, Option, Some, None, option_map, nat_lt, list_all, none-some, Field, Filled, simple, put, the, words_of_fields, AreHeld, AreExact, AreWritten, HasForm, Makes, read_by, Form, told_in, told_in_one, or_else, space, line_feed, words_of, line_of, ◌>>=◌}
 use Rattle.text_spec.proofs.WordsLemmas.{Pass, all_pass, weaker, split_joined, join_passes}
 
 -- ---- the laws of a field
@@ -31,19 +31,16 @@ abbrev pub AreLawful : List Field → Type 0
 AreLawful [] = Unit {0}
 AreLawful (field ∷ fields) = Lawful field × AreLawful fields
 
--- a reading of which both ways are known
-is_reading : (field : Field) (word : List ℕ) → ((x : field.Value) → field.reading word ≡ Some x → Told field word x)
-    → (field.Writes word → (x : field.Value) × (field.reading word ≡ Some x)) → (read : Option field.Value) → field.reading word ≡ read → IsReading field word read
-is_reading field word takes reads None is = λ written. let some = reads written in none-some some.0 (sym is ∙ some.1)
-is_reading field word takes reads (Some x) is = takes x is
-
 -- the laws by both ways of the reading
 pub lawful : (field : Field) → ((word : List ℕ) (x : field.Value) → field.reading word ≡ Some x → Told field word x)
-    → ((word : List ℕ) → field.Writes word → (x : field.Value) × (field.reading word ≡ Some x))
+    → ((word : List ℕ) → field.Writes word → field.reading word ≡ None → ⊥)
     → ((x : field.Value) → field.Held x → field.Exact x → field.reading (field.word x) ≡ Some x)
     → ((word : List ℕ) → field.Writes word → list_all in_word word ≡ true) → Lawful field
 lawful field takes reads again passes = record {
-  is = λ word. is_reading field word (takes word) (reads word) (field.reading word) refl;
+  is = λ word. elim (field.reading word) as (λ read. field.reading word ≡ read → IsReading field word read) [
+    | None ↦ λ is written. reads word written is
+    | Some x ↦ takes word x
+  ] refl;
   again = again;
   passes = passes;
 }
@@ -54,7 +51,7 @@ pub simple_lawful : {Value : Type 0} (Held : Value → Type 0) (word : Value →
     → ((x : Value) → Held x → list_all in_word (word x) ≡ true) → Lawful (simple Value Held word reading)
 simple_lawful Held word reading takes again passes = lawful (simple _ Held word reading)
     (λ w x read. let is = takes w x read in record { written = (x, is.0, is.1); held = is.0; takes = λ exact. is.1 })
-    (λ w is. (is.0, ap reading is.2 ∙ again is.0 is.1))
+    (λ w is none. none-some is.0 (sym none ∙ ap reading is.2 ∙ again is.0 is.1))
     (λ x held exact. again x held)
     (λ w is. ap (list_all in_word) is.2 ∙ passes is.0 is.1)
 
@@ -92,26 +89,22 @@ abbrev pub AreReading : {A : Type 0} → (fields : List Field) → Makes fields 
 AreReading fields makes words None = AreWritten fields words → ⊥
 AreReading fields makes words (Some a) = Reads fields makes words a
 
--- words that are read, by what the first of them is read as
-first_read : (A : Type 0) (field : Field) (fields : List Field) (makes : Makes (field ∷ fields) A) (word : List ℕ) (words : List (List ℕ)) (read : Option field.Value)
-    → IsReading field word read → ((x : field.Value) → AreReading fields (makes x) words (read_by fields (makes x) words))
-    → AreReading (field ∷ fields) makes (word ∷ words) (◌>>=◌ {A = field.Value × List (List ℕ)} (option_map (λ x. (x, words)) read) (λ x. read_by fields (makes x.0) x.1))
-first_read A field fields makes word words None none rest = λ written. none written.0
-first_read A field fields makes word words (Some x) told rest = elim (read_by fields (makes x) words) as (λ read. AreReading fields (makes x) words read → AreReading (field ∷ fields) makes (word ∷ words) read) [
-  | None ↦ λ none written. none written.1
-  | Some a ↦ λ more. record {
-    values = (x, more.values);
-    made = more.made;
-    written = (told.written, more.written);
-    shown = record { held = (told.held, more.shown.held); are = λ exact. rw (told.takes exact.0, more.shown.are exact.1) refl };
-  }
-] (rest x)
-
 -- words are read exactly where the fields may be they
 pub fields_are : (A : Type 0) (fields : List Field) (makes : Makes fields A) (words : List (List ℕ)) → AreLawful fields → AreReading fields makes words (read_by fields makes words)
 fields_are A [] makes [] laws = record { values = tt; made = refl; written = tt; shown = record { held = tt; are = λ exact. refl } }
 fields_are A (field ∷ fields) makes (word ∷ words) laws =
-    first_read A field fields makes word words (field.reading word) (laws.0.is word) (λ x. fields_are A fields (makes x) words laws.1)
+    elim (field.reading word) as (λ read. IsReading field word read → AreReading (field ∷ fields) makes (word ∷ words) (◌>>=◌ {A = field.Value × List (List ℕ)} (option_map (λ x. (x, words)) read) (λ x. read_by fields (makes x.0) x.1))) [
+      | None ↦ λ none written. none written.0
+      | Some x ↦ λ told. elim (read_by fields (makes x) words) as (λ read. AreReading fields (makes x) words read → AreReading (field ∷ fields) makes (word ∷ words) read) [
+        | None ↦ λ none written. none written.1
+        | Some a ↦ λ more. record {
+          values = (x, more.values);
+          made = more.made;
+          written = (told.written, more.written);
+          shown = record { held = (told.held, more.shown.held); are = λ exact. rw (told.takes exact.0, more.shown.are exact.1) refl };
+        }
+      ] (fields_are A fields (makes x) words laws.1)
+    ] (laws.0.is word)
 fields_are A fields makes words laws = λ written. written
 
 -- what was read of words
@@ -138,33 +131,21 @@ pub first_form : {A : Type 0} (form : Form A) (values : Values form.fields) (oth
 first_form form values others laws held exact =
     rw (fields_again (the form.letter ∷ form.fields) (λ _. form.makes) (tt, values) laws (tt, held) (tt, exact)) refl
 
--- the fields of some with their values
-abbrev pub kinds : List Filled → List Field
-kinds [] = []
-kinds (one ∷ more) = one.field ∷ kinds more
-
--- values that there are and that are told as they are have words that pass
-pub filled_pass : (fields : List Filled) → AreLawful (kinds fields) → AreHeld fields → AreExact fields → Pass in_word (words_of_fields fields)
-filled_pass [] laws held exact = tt
-filled_pass (one ∷ more) laws held exact =
-    let word = one.field.word one.value in
-    (laws.0.passes word (subst (IsReading one.field word) (laws.0.again one.value held.0 exact.0) (laws.0.is word)).written, filled_pass more laws.1 held.1 exact.1)
-
 -- ---- the line of some words
 
 -- a byte that lines have
 abbrev pub in_line : ℕ → Bool
 in_line b = not (b == line_feed)
 
--- words are cut again
-pub words_again : (words : List (List ℕ)) → 0 < length words → Pass in_word words → words_of (line_of words) ≡ words
-words_again [] some pass = absurd (omega arith)
-words_again (word ∷ words) some pass = split_joined in_word space word words refl pass
+-- the line of these words is cut into them again, and has no line feed
+abbrev pub IsLine : List (List ℕ) → Type 0
+IsLine words = (words_of (line_of words) ≡ words) × (list_all in_line (line_of words) ≡ true)
 
--- their line has no line feed
-pub line_free : (words : List (List ℕ)) → Pass in_word words → list_all in_line (line_of words) ≡ true
-line_free words pass =
-    join_passes in_line space words refl (all_pass in_line (λ word. list_all in_word word ≡ true) words (λ word is. weaker in_word in_line word (λ b above. grind (arith, above)) is) pass)
+pub are_line : (word : List ℕ) (words : List (List ℕ)) → Pass in_word (word ∷ words) → IsLine (word ∷ words)
+are_line word words pass = (
+  split_joined in_word space word words refl pass,
+  join_passes in_line space (word ∷ words) refl (all_pass in_line (λ word. list_all in_word word ≡ true) (word ∷ words) (λ word is. weaker in_word in_line word (λ b above. grind (arith, above)) is) pass),
+)
 
 module _ {A : Type 0} (shows : A → List Filled) where
   -- ---- forms
@@ -196,3 +177,10 @@ module _ {A : Type 0} (shows : A → List Filled) where
   forms_are [] words are = λ written. written
   forms_are (form ∷ forms) words are =
       told_or form forms words (told_in form words) (told_in_one forms words) are.0 (fields_are _ (the form.letter ∷ form.fields) (λ _. form.makes) words are.0.laws) (forms_are forms words are.1)
+
+  -- words that have a form are a line
+  pub forms_line : (forms : List (Form A)) (words : List (List ℕ)) → AreForms forms → HasForm forms words → IsLine words
+  forms_line [] words are has = absurd has
+  forms_line (form ∷ forms) [] are (inl here) = absurd here
+  forms_line (form ∷ forms) (word ∷ words) are (inl here) = are_line word words (fields_pass (the form.letter ∷ form.fields) (word ∷ words) are.0.laws here)
+  forms_line (form ∷ forms) words are (inr later) = forms_line forms words are.1 later

@@ -1,10 +1,5 @@
 -- What the steps of a reading found.
-use Rattle.text_spec.proofs.Names.{◌≡◌, ◌⊎◌, if◌then◌else◌, inl, inr, Bool, true, false, refl, ap, Option, Some, None, option_map, same_Some, none-some, ◌>>=◌}
-
--- what a test chose
-pub chosen : {A : Type 0} (b : Bool) (x y z : A) → (if b then x else y) ≡ z → ((b ≡ true) × (x ≡ z)) ⊎ ((b ≡ false) × (y ≡ z))
-chosen true x y z h = inl (refl, h)
-chosen false x y z h = inr (refl, h)
+use Rattle.text_spec.proofs.Names.{◌≡◌, refl, ap, Option, Some, None, option_map, same_Some, none-some, ◌>>=◌}
 
 -- what two steps found
 pub bind_some : {A B : Type 0} (o : Option A) (f : A → Option B) (y : B) → (o >>= f) ≡ Some y → (x : A) × (o ≡ Some x) × (f x ≡ Some y)

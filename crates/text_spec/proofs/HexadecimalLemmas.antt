@@ -1,5 +1,5 @@
 -- Hexadecimal: the readings of a word against the text of some bytes, into a room and byte by byte.
-use Rattle.text_spec.proofs.Names.{◌≡◌, ◌+◌, ◌*◌, ◌-◌, ◌/◌, ◌%◌, ◌<◌, ◌≤◌, ◌∷◌, ◌++◌, take_more, length-encode_with, decode_of-encode_lower, decode_of-odd, ℕ, zero, suc, true, false, inl, inr, List, [], append_assoc, length, slice_index, take, refl, sym, ap, ◌∙◌, arith, Option, Some, None, is_in_range, list_all, agree_below_at, and_parts, cases_Bool, or_cases, IsBytes, encode_lower, lower_digits, hex_in, is_lower_digit, some_bytes, some_hex, bytes_of, IsWritten, ◌>>=◌, set, same_Some, bytes_eq, absent, false_from_ne_true, bytes_eq-Decides, common_steps, drop_split, decode_pairs, encode_with, slice_range, take_more_set, drop}
+use Rattle.text_spec.proofs.Names.{◌≡◌, take_all, ◌+◌, ◌*◌, ◌-◌, ◌/◌, ◌%◌, ◌<◌, ◌≤◌, ◌∷◌, ◌++◌, take_more, length-encode_with, decode_of-encode_lower, decode_of-odd, ℕ, zero, suc, true, false, inl, inr, List, [], append_assoc, length, slice_index, take, refl, sym, ap, ◌∙◌, arith, Some, None, is_in_range, list_all, agree_below_at, and_parts, or_cases, IsBytes, encode_lower, lower_digits, hex_in, is_lower_digit, some_hex, bytes_of, IsWritten, set, same_Some, bytes_eq, absent, false_from_ne_true, bytes_eq-Decides, common_steps, drop_split, encode_with-drop, encode_step, length-set, decode_pairs, encode_with, slice_range, take_more_set, drop}
 
 -- the text of bytes is twice as long
 pub length_hex : (bytes : List ℕ) → length (encode_lower bytes) ≡ 2 * length bytes
@@ -7,17 +7,14 @@ length_hex bytes = length-encode_with lower_digits bytes
 
 -- ---- from the bytes to the text
 
--- each of the sixteen digits is one of lower case
-lower_digit_at : (d : ℕ) → d < 16 → is_lower_digit (slice_index lower_digits d) ≡ true
-lower_digit_at d small = agree_below_at (λ k. is_lower_digit (slice_index lower_digits k)) (λ _. true) 16 d refl small
-
 -- the text of bytes has digits of lower case alone
 pub lower_text : (bytes : List ℕ) → IsBytes bytes → list_all is_lower_digit (encode_lower bytes) ≡ true
 unfolding encode_with
 lower_text [] all = refl
 lower_text (b ∷ bytes) all =
     let byte : b < 256 = all 0 in
-    rw (lower_digit_at (b / 16) (omega arith), lower_digit_at (b % 16) (omega arith)) (lower_text bytes (λ i. all (suc i)))
+    let digit : (d : ℕ) → d < 16 → is_lower_digit (slice_index lower_digits d) ≡ true = λ d small. agree_below_at (λ k. is_lower_digit (slice_index lower_digits k)) (λ _. true) 16 d refl small in
+    rw (digit (b / 16) (omega arith), digit (b % 16) (omega arith)) (lower_text bytes (λ i. all (suc i)))
 
 -- the text of some bytes is read as them
 pub hex_in-encode_lower : (bytes : List ℕ) → IsBytes bytes → hex_in (encode_lower bytes) ≡ Some bytes
@@ -37,9 +34,14 @@ unfolding encode_with
 encode-append [] ys = refl
 encode-append (b ∷ xs) ys = rw (encode-append xs ys) refl
 
--- the text of what is left, up to a place and from there on
-pub encode_on : (a b : ℕ) (bytes : List ℕ) → a ≤ b → encode_lower (drop a bytes) ≡ encode_lower (slice_range bytes a b) ++ encode_lower (drop b bytes)
-encode_on a b bytes le = ap encode_lower (drop_split bytes a b le) ∙ encode-append (slice_range bytes a b) (drop b bytes)
+-- the text of what is left, of eight bytes and of those after them
+pub encode_eight : (k : ℕ) (bytes : List ℕ) → encode_lower (drop (8 * k) bytes) ≡ encode_lower (slice_range bytes (8 * k) (8 * k + 8)) ++ encode_lower (drop (8 * (k + 1)) bytes)
+encode_eight k bytes =
+    let next : 8 * (k + 1) ≡ 8 * k + 8 = omega arith in
+    rw next (ap encode_lower (drop_split bytes (8 * k) (8 * k + 8) (omega arith)) ∙ encode-append (slice_range bytes (8 * k) (8 * k + 8)) (drop (8 * k + 8) bytes))
+
+-- how bytes are written, one after another
+pub ruleset writings = (encode_none, encode_eight, encode_with-drop, encode_step, length-set, common_steps)
 
 -- ---- from the text to the bytes
 
@@ -55,25 +57,17 @@ pub record IsTextOf (word bytes : List ℕ) : Type 0 where
   pub are_bytes : IsBytes bytes
   pub text : encode_lower bytes ≡ word
 
--- a byte more
-cons_bytes : (b : ℕ) (bytes : List ℕ) → b < 256 → IsBytes bytes → IsBytes (b ∷ bytes)
-cons_bytes b bytes small all zero = small
-cons_bytes b bytes small all (suc i) = all i
-
 -- digits of lower case in pairs are the text of some bytes
 by_pairs : (word : List ℕ) → list_all is_lower_digit word ≡ true → length word % 2 ≡ 0 → (bytes : List ℕ) × IsTextOf word bytes
 unfolding encode_with
 by_pairs [] all even = ([], record { are_bytes = λ i. omega arith; text = refl })
 by_pairs (c ∷ []) all even = cc even
 by_pairs (c ∷ d ∷ word) all even =
-    let parts = and_parts (is_lower_digit c) _ all in
-    let more = and_parts (is_lower_digit d) (list_all is_lower_digit word) parts.1 in
-    let high = digit_stands c parts.0 in
-    let low = digit_stands d more.0 in
-    let rest = by_pairs word more.1 (omega (arith, even)) in
-    let upper : (high.0 * 16 + low.0) / 16 ≡ high.0 = omega (arith, low.1) in
-    let lower : (high.0 * 16 + low.0) % 16 ≡ low.0 = omega (arith, low.1) in
-    ((high.0 * 16 + low.0) ∷ rest.0, record { are_bytes = cons_bytes _ rest.0 (omega (arith, high.1, low.1)) rest.1.are_bytes; text = rw (upper, lower, high.2, low.2, rest.1.text) refl })
+    let digits : (is_lower_digit c ≡ true) × (is_lower_digit d ≡ true) × (list_all is_lower_digit word ≡ true) = grind (arith, all) in
+    let high = digit_stands c digits.0 in
+    let low = digit_stands d digits.1 in
+    let rest = by_pairs word digits.2 (omega (arith, even)) in
+    ((high.0 * 16 + low.0) ∷ rest.0, record { are_bytes = λ k. grind (arith, common_steps, high.1, low.1, rest.1.are_bytes (k - 1)); text = grind (arith, high.1, low.1, high.2, low.2, rest.1.text) })
 
 -- a word that is the text of some bytes is read as them
 pub hex_in-text : (word bytes : List ℕ) → IsTextOf word bytes → hex_in word ≡ Some bytes
@@ -99,33 +93,25 @@ pair_more word room i b there inside is was =
     let two : 2 * (i + 1) ≡ 2 * i + 1 + 1 = omega arith in
     rw (take_more_set room i b there, encode-append (take i room) (b ∷ []), is.high, is.low, was, two, take_more word (2 * i + 1) 0 inside, take_more word (2 * i) 0 (omega arith)) (sym (append_assoc (take (2 * i) word) _ _))
 
--- the first bytes of a room are bytes
-pub bytes_taken : (n : ℕ) (room : List ℕ) → ((k : ℕ) → k < n → slice_index room k < 256) → IsBytes (take n room)
-bytes_taken n room small i = grind (arith, common_steps, small i)
+-- a room that holds all bytes
+pub room_read : (word room : List ℕ) (n : ℕ) → 2 * n ≡ length word → ((k : ℕ) → k < n → slice_index room k < 256) → encode_lower (take n room) ≡ take (2 * n) word → hex_in word ≡ Some (take n room)
+room_read word room n all small text =
+    hex_in-text word (take n room) (record { are_bytes = λ k. grind (arith, common_steps, small k); text = text ∙ take_all (2 * n) word (omega (arith, all)) })
+
+-- how bytes are read into a room
+pub ruleset rooms = (encode_none, pair_more, room_read, common_steps)
 
 -- ---- a byte or more
 
 -- some bytes are kept
 pub some_hex_again : (word bytes : List ℕ) → 1 ≤ length bytes → hex_in word ≡ Some bytes → some_hex word ≡ Some bytes
-some_hex_again word [] some read = absurd (omega arith)
-some_hex_again word (b ∷ bytes) some read = ap (λ o. o >>= some_bytes) read
-
--- and nothing else
-kept_is : (read : Option (List ℕ)) (bytes : List ℕ) → (read >>= some_bytes) ≡ Some bytes → (read ≡ Some bytes) × (1 ≤ length bytes)
-kept_is (Some (b ∷ read)) bytes h = (h, omega (arith, ap length (same_Some (b ∷ read) bytes h)))
-kept_is read bytes h = cc h
+some_hex_again word bytes some read = grind (arith, some, read)
 
 -- a word that is read as some bytes is their text
 pub some_hex_takes : (word bytes : List ℕ) → some_hex word ≡ Some bytes → IsTextOf word bytes × (1 ≤ length bytes)
-some_hex_takes word bytes read = let is = kept_is (hex_in word) bytes read in (hex_in-some word bytes is.0, is.1)
+some_hex_takes word bytes read = grind (arith, read, hex_in-some word bytes)
 
--- an odd number of digits and another byte are not read, nor is an empty word
-pub some_hex-odd : (word : List ℕ) → length word % 2 ≡ 1 → some_hex word ≡ None
-some_hex-odd word odd = elim (cases_Bool (list_all is_lower_digit word)) [ inl all ↦ rw (all, decode_of-odd word odd) refl | inr other ↦ rw other refl ]
-
-pub some_hex-other : (word : List ℕ) → list_all is_lower_digit word ≡ false → some_hex word ≡ None
-some_hex-other word other = rw other refl
-
+-- an empty word is not read
 pub some_hex-empty : (word : List ℕ) → length word ≡ 0 → some_hex word ≡ None
 unfolding decode_pairs
 some_hex-empty [] empty = refl
@@ -142,4 +128,4 @@ some_hex-pairs word all even some =
     some_hex_again word (bytes_of word) (omega (arith, length-hex_in word (bytes_of word) read)) read
 
 -- how a word is read
-pub ruleset readings = (some_hex-odd, some_hex-other, some_hex-empty, some_hex-pairs, hex_in-pairs, length-hex_in)
+pub ruleset readings = (some_hex-empty, some_hex-pairs, hex_in-pairs, length-hex_in, hex_in-encode_lower, hex_in-some)

@@ -1,5 +1,6 @@
 -- A line without a fault: what holds of it, and what it adds to the lines before it.
-use Rattle.text_spec.proofs.Names.{◌≡◌, ◌<◌, ◌≤◌, ◌∷◌, ◌++◌, recursion_from_All, AllPass-from_list_all, ℕ, true, List, [], length, map, sym, ap, append_assoc, arith, Ok, slice_index, flat_map, append-nil, flat_map_more, map-append, nil_from_length, Parts, is_sensor, Turn, begun, extended, with_entry, IsExactContext, AreExact, Past, is_claim, is_call, is_context, is_act, has_event, entry_fault, fault_of, next, entry_of, Carried, Absent, Kept, Missing, Act, Report, Entry, Line, begins, enters, loses, act_fields, fields_of, turn_told, lines_told, State, SetMode}
+use Rattle.text_spec.proofs.Names.{◌≡◌, ◌<◌, ◌≤◌, ◌∷◌, ◌++◌, a_number, ℕ, true, List, [], length, map, sym, ap, append_assoc, arith, Ok, slice_index, flat_map, append-nil, flat_map_more, map-append, nil_from_length, Parts, is_sensor, Turn, begun, extended, with_entry, IsExactContext, AreExact, Past, is_claim, is_call, is_context, is_act, has_event, entry_fault, fault_of, next, entry_of, Carried, Absent, Kept, Missing, Act, Report, Entry, Line, begins, enters, loses, act_fields, fields_of, turn_told, lines_told}
+use Rattle.text_spec.proofs.WordsLemmas.{all_from}
 
 -- what holds of an entry without a fault
 pub record EntryPasses (config : Parts) (past : Past) (entry : Entry (List ℕ)) : Type 0 where
@@ -29,26 +30,19 @@ entry_passes config past entry none = record {
 exact_context : (context : Carried (List ℕ)) → is_context context ≡ true → IsExactContext context
 exact_context Absent is = tt
 exact_context (Kept class claim bytes) is = grind (arith, is)
-exact_context (Missing numbers) is = recursion_from_All _ numbers (λ k d within.
-    let one = AllPass-from_list_all is_claim numbers is k d within in
-    grind (arith, one))
+exact_context (Missing numbers) is = all_from is_claim a_number.Exact numbers (λ n one. grind (arith, one)) is
 
 -- an event that sensors report is there
 pub sensor_is_there : (config : Parts) (k : ℕ) → is_sensor config k ≡ true → k < length config.events
 sensor_is_there config k is = grind (arith, is)
 
-exact_act : (config : Parts) (past : Past) (caller call : ℕ) (act : Act (List ℕ)) → length config.events ≤ 256 → entry_fault config past (entry_of caller call act) ≡ Ok tt → AreExact (act_fields caller call act)
-exact_act config past caller call (Report event count stamp context) few none =
-    let passes = entry_passes config past (entry_of caller call (Report event count stamp context)) none in
-    let is = passes.act in
-    let there = sensor_is_there config event.0 passes.event in
-    (tt, (grind (arith, none), (grind (arith, none), (omega arith, (grind (arith, is), (tt, (exact_context context (grind (arith, is)), tt)))))))
-exact_act config past caller call (State state) few none = (tt, (grind (arith, none), (grind (arith, none), (tt, (grind (arith, none), tt)))))
-exact_act config past caller call (SetMode event mode) few none = (tt, (grind (arith, none), (grind (arith, none), (tt, (grind (arith, few, none), (tt, tt))))))
+exact_act : (config : Parts) (past : Past) (caller call : ℕ) (act : Act (List ℕ)) → length config.events ≤ 256 → EntryPasses config past (entry_of caller call act) → AreExact (act_fields caller call act)
+exact_act config past caller call (Report event count stamp context) few passes = grind (arith, few, passes, exact_context context, sensor_is_there config event.0)
+exact_act config past caller call act few passes = grind (arith, few, passes)
 
 -- a line without a fault is told as it is
 pub line_exact : (config : Parts) (past : Past) (line : Line) → length config.events ≤ 256 → fault_of config past line ≡ Ok tt → AreExact (fields_of line)
-line_exact config past (enters entry) few none = exact_act config past entry.caller entry.call entry.act few none
+line_exact config past (enters entry) few none = exact_act config past entry.caller entry.call entry.act few (entry_passes config past entry none)
 line_exact config past line few none = grind (arith, none)
 
 -- ---- what it adds

@@ -1,5 +1,5 @@
 -- What turns and losses that fit a configuration keep.
-use Rattle.text_spec.proofs.Names.{◌≡◌, ◌+◌, ◌<◌, ◌≤◌, ◌||◌, ◌∷◌, ◌++◌, ℕ, true, false, List, [], length, map, get_or, length-set, get_or-set_same, set, refl, ap, ◌∙◌, append_assoc, arith, Ok, AllByRecursion, flat_map, list_any, both_ways, eq-eqb, append-nil, length-append, list_any-append, Parts, Turn, begun, with_entry, entries_of, Past, is_in_ranges, fault_of, next, is_pair, has_pair, pair_of, AreFaultless, journal_grammar, Follows, Entry, Line, begins, enters, loses, turn_told, common_steps}
+use Rattle.text_spec.proofs.Names.{◌≡◌, ◌+◌, ◌<◌, ◌≤◌, ◌||◌, ◌∷◌, ◌++◌, ℕ, true, false, List, [], length, map, get_or, length-set, refl, ap, ◌∙◌, append_assoc, arith, Ok, AllByRecursion, flat_map, list_any, eq-eqb, append-nil, length-append, list_any-append, Parts, Turn, begun, with_entry, entries_of, Past, is_in_ranges, fault_of, next, is_pair, has_pair, pair_of, AreFaultless, journal_grammar, Follows, Entry, Line, begins, enters, loses, turn_told, common_steps}
 use Rattle.text_spec.proofs.JournalFacts.{entry_passes, flat_map-push, flat_map-with_entry}
 
 -- what the lines so far keep of one of them
@@ -20,13 +20,9 @@ calls_stay past line calls = calls
 module _ (config : Parts) where
   -- ---- ranges
 
-  in_ranges_of : (past : Past) (line : Line) → fault_of config past line ≡ Ok tt → is_in_ranges config line ≡ true
-  in_ranges_of past (begins head) none = grind (arith, none)
-  in_ranges_of past line none = grind (arith, none)
-
   pub all_in_ranges : (past : Past) (lines : List Line) → AreFaultless (journal_grammar config) past lines → AllByRecursion (λ line. is_in_ranges config line ≡ true) lines
   all_in_ranges past [] none = tt
-  all_in_ranges past (line ∷ lines) none = (in_ranges_of past line none.0, all_in_ranges (next past line) lines none.1)
+  all_in_ranges past (line ∷ lines) none = (grind (arith, none.0), all_in_ranges (next past line) lines none.1)
 
   -- ---- order
 
@@ -35,26 +31,20 @@ module _ (config : Parts) where
   kept_now past (begins head) calls none = omega arith
   kept_now past (enters entry) calls none =
       let passes = entry_passes config past entry none in
-      let within : entry.caller < length past.calls = omega (arith, calls, passes.caller) in (
-        rw length-set within,
-        rw (get_or-set_same past.calls entry.caller (entry.call + 1) 0 within) (omega arith),
-        has_pair-more past.told.turns entry (pair_of entry.caller entry.call) passes.some ∙ grind (arith, eq-eqb (pair_of entry.caller entry.call) (pair_of entry.caller entry.call) refl),
-      )
+      let within : entry.caller < length past.calls = omega (arith, calls, passes.caller) in
+      grind (arith, common_steps, within, has_pair-more past.told.turns entry (pair_of entry.caller entry.call) passes.some, eq-eqb (pair_of entry.caller entry.call) (pair_of entry.caller entry.call) refl)
   kept_now past (loses loss) calls none = (omega arith, rw length-append (omega arith))
 
   -- what is kept stays kept, and a line follows it
   kept_on : (past : Past) (first line : Line) → Keeps past first → fault_of config past line ≡ Ok tt → Keeps (next past line) first × Follows first line
   kept_on past (begins one) (begins head) keeps none = grind (arith, keeps, none)
   kept_on past (begins one) line keeps none = (keeps, tt)
-  kept_on past (enters one) (begins head) keeps none =
-      ((keeps.0, keeps.1, rw (flat_map-push (λ (t : Turn). t.entries) past.told.turns (begun head), append-nil) keeps.2), tt)
+  kept_on past (enters one) (begins head) keeps none = grind (arith, keeps, flat_map-push (λ (t : Turn). t.entries) past.told.turns (begun head), append-nil)
   kept_on past (enters one) (enters entry) keeps none =
       let passes = entry_passes config past entry none in
       let rises : one.caller ≡ entry.caller → one.call < entry.call = λ own. omega (arith, rw own at keeps.1, passes.rises) in
-      let still : one.call < get_or (set past.calls entry.caller (entry.call + 1)) one.caller 0 = grind (arith, common_steps, keeps.0, keeps.1, rises) in
-      ((rw length-set keeps.0, still, has_pair-more past.told.turns entry (pair_of one.caller one.call) passes.some ∙ grind (arith, keeps.2)), rises)
-  kept_on past (enters one) (loses loss) keeps none =
-      (keeps, λ same. both_ways (has_pair past.told.turns (pair_of loss.caller loss.call)) (grind (arith, none)) (rw same at keeps.2))
+      grind (arith, common_steps, keeps, rises, has_pair-more past.told.turns entry (pair_of one.caller one.call) passes.some)
+  kept_on past (enters one) (loses loss) keeps none = grind (arith, keeps, none)
   kept_on past (loses one) (loses loss) keeps none = ((grind (arith, keeps.0, none), rw length-append (omega arith)), grind (arith, keeps.0, none))
   kept_on past (loses one) line keeps none = (keeps, grind (arith, keeps.1, none))
 
@@ -75,8 +65,7 @@ module _ (config : Parts) where
       → (past.entries + length entries ≤ 1024) × (later : Past) × AreFaultless (journal_grammar config) later rest
   few_more past [] rest few none = (omega arith, past, none)
   few_more past (entry ∷ entries) rest few none =
-      let here = (entry_passes config past entry none.0).few in
-      let more = few_more (next past (enters entry)) entries rest (omega arith) none.1 in
+      let more = few_more (next past (enters entry)) entries rest (omega (arith, (entry_passes config past entry none.0).few)) none.1 in
       (omega (arith, more.0), more.1, more.2)
 
   pub turns_few : (past : Past) (turns : List Turn) (rest : List Line) → AreFaultless (journal_grammar config) past (flat_map turn_told turns ++ rest) → AllByRecursion (λ turn. length turn.entries ≤ 1024) turns

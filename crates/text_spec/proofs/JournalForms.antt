@@ -1,22 +1,19 @@
 -- One line of a journal: its reading against its own text, both ways.
-use Rattle.text_spec.proofs.Names.{◌≡◌, ◌<◌, ℕ, List, length, refl, subst, arith, Some, None, words_of_fields, AreHeld, AreExact, HasForm, told_in, entry_of, turn_form, report_form, state_form, setting_form, loss_form, line_forms, told_by, Act, Report, State, SetMode, Line, begins, enters, loses, act_fields, fields_of}
+use Rattle.text_spec.proofs.Names.{◌≡◌, ℕ, List, refl, subst, Some, None, words_of_fields, AreHeld, AreExact, HasForm, told_in, entry_of, turn_form, report_form, state_form, setting_form, loss_form, line_forms, told_by, Act, Report, State, SetMode, Line, begins, enters, loses, act_fields, fields_of}
 use Rattle.text_spec.proofs.ContextsLaws.{lawfuls, number_lawful}
-use Rattle.text_spec.proofs.FieldsLaws.{AreForms, AreLawful, IsShown, IsTold, first_form, forms_are, kinds}
+use Rattle.text_spec.proofs.FieldsLaws.{AreForms, IsShown, IsTold, first_form, forms_are}
 
 -- ---- the forms of a journal
 
-are_forms : AreForms fields_of line_forms
+pub are_forms : AreForms fields_of line_forms
 are_forms = search lawfuls depth 40
 
 -- words tell something exactly where they have a form, and are then the line's
-line_is : (words : List (List ℕ)) → IsTold fields_of line_forms words (told_by words)
-line_is words = forms_are fields_of line_forms words are_forms
-
 pub told_is : (words : List (List ℕ)) (line : Line) → told_by words ≡ Some line → HasForm line_forms words × IsShown words (fields_of line)
-told_is words line read = subst (IsTold fields_of line_forms words) read (line_is words)
+told_is words line read = subst (IsTold fields_of line_forms words) read (forms_are fields_of line_forms words are_forms)
 
 pub none_has_none : (words : List (List ℕ)) → told_by words ≡ None → HasForm line_forms words → ⊥
-none_has_none words none = subst (IsTold fields_of line_forms words) none (line_is words)
+none_has_none words none = subst (IsTold fields_of line_forms words) none (forms_are fields_of line_forms words are_forms)
 
 -- ---- from a line's words to the line
 
@@ -36,14 +33,3 @@ line_again (begins head) held exact =
     first_form turn_form (head.tick, (head.lost_events, (head.lost_contexts, (head.limited, tt)))) _ are_forms.0.laws held.1 exact.1
 line_again (enters entry) held exact = act_again entry.caller entry.call entry.act held exact
 line_again (loses loss) held exact = first_form loss_form (loss.caller, (loss.call, (loss.given, tt))) _ are_forms.1.1.1.1.0.laws held.1 exact.1
-
--- ---- its fields
-
-act_lawful : (caller call : ℕ) (act : Act (List ℕ)) → AreLawful (kinds (act_fields caller call act)) × (0 < length (words_of_fields (act_fields caller call act)))
-act_lawful caller call (State state) = (search lawfuls depth 20, omega arith)
-act_lawful caller call act = (search lawfuls depth 20, omega arith)
-
--- they keep the laws, and there are some
-pub line_lawful : (line : Line) → AreLawful (kinds (fields_of line)) × (0 < length (words_of_fields (fields_of line)))
-line_lawful (enters entry) = act_lawful entry.caller entry.call entry.act
-line_lawful line = (search lawfuls depth 20, omega arith)

@@ -1,8 +1,9 @@
 -- All lines of a journal: what a text tells is a journal, and each journal is told by its own text.
-use Rattle.text_spec.proofs.Names.{◌≡◌, ◌≤◌, ◌∷◌, ◌++◌, ℕ, List, [], length, map, refl, sym, ap, ◌∙◌, append_assoc, Ok, Err, flat_map, append-nil, Parts, Turn, Past, next, start, AreFaultless, IsJournal, journal_grammar, BadLine, journal_in, Entry, Loss, Told, Line, begins, enters, loses, fields_of, turn_told, lines_told, past_in, IsHeld, line_for, subst, text_of, AllByRecursion}
+use Rattle.text_spec.proofs.Names.{◌≡◌, ◌≤◌, ◌∷◌, ◌++◌, ℕ, List, [], length, map, refl, sym, ap, ◌∙◌, append_assoc, Ok, Err, flat_map, append-nil, Parts, Turn, Past, next, start, AreFaultless, IsJournal, journal_grammar, BadLine, journal_in, Entry, Loss, Told, Line, begins, enters, loses, fields_of, turn_told, lines_told, IsHeld, line_for, line_forms, subst, text_of, AllByRecursion}
 use Rattle.text_spec.proofs.JournalFacts.{line_exact, line_grows}
-use Rattle.text_spec.proofs.JournalForms.{line_again, line_lawful, told_is}
-use Rattle.text_spec.proofs.LinesLaws.{Tells, all_next, bind_ok, is_their_text, text_adds, text_read}
+use Rattle.text_spec.proofs.FieldsLaws.{forms_line}
+use Rattle.text_spec.proofs.JournalForms.{are_forms, line_again, told_is}
+use Rattle.text_spec.proofs.LinesLaws.{Tells, all_next, is_their_text, text_adds, text_read}
 
 -- ---- what lines tell
 
@@ -35,10 +36,9 @@ module _ (config : Parts) (few : length config.events ≤ 256) where
   -- a line without a fault is read from its own words alone
   tells : Tells (journal_grammar config) fields_of
   tells = record {
-    lawful = line_lawful;
     exact = λ past line none. line_exact config past line few none;
     again = line_again;
-    takes = λ words line read. (told_is words line read).1;
+    takes = λ words line read. let told = told_is words line read in (told.1, forms_line fields_of line_forms words are_forms told.0);
   }
 
   -- what lines without a fault tell after others
@@ -50,10 +50,9 @@ module _ (config : Parts) (few : length config.events ≤ 256) where
   -- what a text tells is a journal, and the text is its own
   pub told_is_journal : (text : List ℕ) (told : Told) → journal_in config text ≡ Ok told → IsJournal config text told
   told_is_journal text told read =
-      let step = bind_ok (past_in (journal_grammar config) start text) (λ past. Ok past.told) told read in
-      let all = text_read (journal_grammar config) fields_of tells.takes start step.0 text step.1 in
-      let same : step.0.told ≡ told = cc step.2 in
-      let are : all.lines ≡ lines_told told = sym (lines_told_behind start all.lines all.none) ∙ ap (λ (p : Past). lines_told p.told) all.leave ∙ ap lines_told same in
+      let step = text_read (journal_grammar config) fields_of (λ words line read. (told_is words line read).1) (λ past. past.told) start text told read in
+      let all = step.1 in
+      let are : all.lines ≡ lines_told told = sym (lines_told_behind start all.lines all.none) ∙ ap (λ (p : Past). lines_told p.told) all.leave ∙ ap lines_told step.2 in
       record {
         fits = record { held = subst (AllByRecursion IsHeld) are all.held; faultless = subst (AreFaultless (journal_grammar config) start) are all.none };
         is_text = is_their_text (journal_grammar config) fields_of tells start step.0 text all ∙ ap (λ (ls : List Line). text_of (map line_for ls)) are;

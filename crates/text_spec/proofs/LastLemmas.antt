@@ -6,12 +6,6 @@ use Rattle.text_spec.proofs.FieldsLaws.{in_word, IsReading, Lawful}
 use Rattle.text_spec.proofs.HexadecimalLemmas.{lower_text, some_hex_takes}
 use Rattle.text_spec.proofs.WordsLemmas.{split_joined}
 
--- what has another piece after it is not the last
-not_last : {A B : Type 0} (make : A → B) (next : List ℕ) (pieces : List (List ℕ)) (read : Option A)
-    → ◌>>=◌ {A = A × List (List ℕ)} (option_map (λ x. (x, next ∷ pieces)) read) (λ x. ended (make x.0) x.1) ≡ None
-not_last make next pieces None = refl
-not_last make next pieces (Some x) = refl
-
 module _ {A : Type 0} (field : Field) (make : field.Value → A) (separator : ℕ) where
   -- a text that is no word of the field has no last piece that is one
   none_last : (text : List ℕ) (pieces : List (List ℕ)) → pieces_of separator text ≡ pieces → field.reading text ≡ None
@@ -20,7 +14,8 @@ module _ {A : Type 0} (field : Field) (make : field.Value → A) (separator : �
   none_last text (word ∷ []) is none =
       let same : word ≡ text = rw is at (join_with_byte-slice_split separator text) in
       rw (same, none) refl
-  none_last text (word ∷ next ∷ pieces) is none = not_last make next pieces (field.reading word)
+  none_last text (word ∷ next ∷ pieces) is none =
+      elim (field.reading word) as (λ read. ◌>>=◌ {A = field.Value × List (List ℕ)} (option_map (λ x. (x, next ∷ pieces)) read) (λ x. ended (make x.0) x.1) ≡ None) [ None ↦ refl | Some x ↦ refl ]
 
   by_reading : (p : ℕ → Bool) → p separator ≡ false
       → (text : List ℕ) → ((x : field.Value) → field.reading text ≡ Some x → list_all p text ≡ true)

@@ -1,12 +1,12 @@
 -- Texts that are read line by line: the steps of a reading, the text of lines without a fault, and what a text that
 -- was read tells, for any grammar.
-use Rattle.text_spec.proofs.Names.{◌≡◌, ◌<◌, ◌+◌, ◌==◌, ◌∷◌, ◌++◌, Grammar, BadLine, at_line, AreFaultless, after_line, at_end, past_in, line_with, Fails, RefusedFor, fault_at, fault_behind, ℕ, suc, List, [], length, map, refl, sym, ap, arith, Option, Some, None, Result, Ok, Err, ⊤, AllByRecursion, eqb-true, join_with_byte-slice_split, length-append, length-slice_split, nil_from_length, AreExact, AreHeld, Filled, line_feed, past_with, pieces_of, space, text_of, words_of, words_of_fields, add-one}
+use Rattle.text_spec.proofs.Names.{◌≡◌, ◌<◌, ◌+◌, ◌==◌, ◌∷◌, ◌++◌, Grammar, BadLine, at_line, AreFaultless, after_line, at_end, past_in, line_with, Fails, RefusedFor, fault_at, fault_behind, ℕ, suc, List, [], length, map, refl, sym, arith, Option, Some, None, Result, Ok, Err, ⊤, AllByRecursion, eqb-true, join_with_byte-slice_split, length-append, length-slice_split, nil_from_length, AreExact, AreHeld, Filled, line_feed, past_with, pieces_of, space, text_of, words_of, words_of_fields, add-one}
 use Rattle.text_spec.specs.Lines.{◌>>=◌, after_pieces}
 use Rattle.ids_config.specs.Steps.{◌>>◌, asks}
 use Rattle.ids_config.proofs.StepLemmas.{both_ok, asked}
 use Rattle.text_spec.specs.declared.fault.LineFault.{LineFault}
 use Rattle.text_spec.specs.declared.fault.LineFault.TheVariants as line_faults
-use Rattle.text_spec.proofs.FieldsLaws.{AreLawful, IsShown, filled_pass, in_line, kinds, line_free, words_again}
+use Rattle.text_spec.proofs.FieldsLaws.{IsLine, IsShown, in_line}
 use Rattle.text_spec.proofs.WordsLemmas.{Pass, join_ended, split_text}
 
 -- ---- steps that found no fault
@@ -16,13 +16,7 @@ bind_ok (Ok x) f y h = (x, refl, h)
 bind_ok (Err bad) f y h = cc h
 
 pub at_line_ok : {A : Type 0} (n : ℕ) (r : Result A ℕ) (x : A) → at_line n r ≡ Ok x → r ≡ Ok x
-at_line_ok n (Ok y) x h = cc h
-at_line_ok n (Err fault) x h = cc h
-
--- two searches and a third
-then_all : {A : Type 0} (one two : Result ⊤ ℕ) (next : Result A ℕ) → (one >> two >> next) ≡ ((one >> two) >> next)
-then_all (Ok done) two next = refl
-then_all (Err fault) two next = refl
+at_line_ok n r x h = grind (arith, h)
 
 module _ {Past Line : Type 0} (grammar : Grammar Past Line) where
   -- ---- pieces
@@ -54,7 +48,8 @@ module _ {Past Line : Type 0} (grammar : Grammar Past Line) where
   pub ends : (n : ℕ) (past : Past) (rest : List ℕ) (pieces : List (List ℕ)) (expected : Result Past BadLine) → pieces ≡ rest ∷ [] → after_pieces grammar n past pieces ≡ expected
       → (found : Result ⊤ ℕ) → found ≡ fault_behind rest (grammar.end_fault past) → expected ≡ at_line n (found >> Ok past)
   unfolding after_pieces
-  ends n past rest pieces expected are was found is = rw (← was, are, is) (ap (at_line n) (then_all (asks 1 (length rest == 0)) (grammar.end_fault past) (Ok past)))
+  ends n past rest pieces expected are was found is =
+      rw (← was, are, is) (elim (asks 1 (length rest == 0)) as (λ one. at_line n (one >> grammar.end_fault past >> Ok past) ≡ at_line n ((one >> grammar.end_fault past) >> Ok past)) [ Ok done ↦ refl | Err fault ↦ refl ])
 
   -- ---- lines one after the other
 
@@ -111,8 +106,11 @@ module _ {Past Line : Type 0} (grammar : Grammar Past Line) (shows : Line → Li
           are = λ exact. rw (more.are exact.1, ← one.3.are exact.0, join_with_byte-slice_split space piece) refl;
         }
 
-    pub text_read : (past now : Past) (text : List ℕ) → past_in grammar past text ≡ Ok now → AreRead past now (pieces_of line_feed text)
-    text_read past now text read = are_read 1 past now (pieces_of line_feed text) (omega (arith, length-slice_split (λ b. b == line_feed) text)) read
+    pub text_read : {A : Type 0} (view : Past → A) (past : Past) (text : List ℕ) (a : A) → (past_in grammar past text >>= λ now. Ok (view now)) ≡ Ok a
+        → (now : Past) × AreRead past now (pieces_of line_feed text) × (view now ≡ a)
+    text_read view past text a read =
+        let step = bind_ok (past_in grammar past text) (λ now. Ok (view now)) a read in
+        (step.0, are_read 1 past step.0 (pieces_of line_feed text) (omega (arith, length-slice_split (λ b. b == line_feed) text)) step.1, cc step.2)
 
   -- ---- the text of lines without a fault
 
@@ -129,18 +127,14 @@ module _ {Past Line : Type 0} (grammar : Grammar Past Line) (shows : Line → Li
   -- some lines, and some after them
   pub leave_more : (past middle now : Past) (lines more : List Line) → Leaves past lines middle → Leaves middle more now → Leaves past (lines ++ more) now
   leave_more past middle now [] more one other = rw one.leaves other
-  leave_more past middle now (line ∷ lines) more one other =
-      leave_one past now line (lines ++ more) one.faultless.0 one.held.0
-      (leave_more (grammar.next past line) middle now lines more (record { faultless = one.faultless.1; held = one.held.1; leaves = one.leaves }) other)
+  leave_more past middle now (line ∷ lines) more one other = grind (arith, one, other, leave_more (grammar.next past line) middle now lines more)
 
   pub record Tells : Type 0 where
-    -- the fields keep the laws, and there are some
-    pub lawful : (line : Line) → AreLawful (kinds (shows line)) × (0 < length (words_of_fields (shows line)))
     -- a line without a fault is told as it is
     pub exact : (past : Past) (line : Line) → grammar.fault_of past line ≡ Ok tt → AreExact (shows line)
-    -- a line is read from its words, and no other words are read as it
+    -- a line is read from its words, and no other words are read as it; they are cut again
     pub again : (line : Line) → AreHeld (shows line) → AreExact (shows line) → grammar.told_by (words_of_fields (shows line)) ≡ Some line
-    pub takes : (words : List (List ℕ)) (line : Line) → grammar.told_by words ≡ Some line → IsShown words (shows line)
+    pub takes : (words : List (List ℕ)) (line : Line) → grammar.told_by words ≡ Some line → IsShown words (shows line) × IsLine words
 
   module _ (tells : Tells) where
     -- lines without a fault, one after another: each is told as it is, and none has a line feed
@@ -150,11 +144,11 @@ module _ {Past Line : Type 0} (grammar : Grammar Past Line) (shows : Line → Li
     lines_add n past [] none held = (tt, tt, (n, refl))
     lines_add n past (line ∷ lines) none held =
         let exact = tells.exact past line none.0 in
-        let words = words_of_fields (shows line) in
-        let passes = filled_pass (shows line) (tells.lawful line).0 held.0 exact in
+        let again = tells.again line held.0 exact in
+        let is = (tells.takes (words_of_fields (shows line)) line again).1 in
         let rest = lines_add (suc n) (grammar.next past line) lines none.1 held.1 in
         let step = at_front grammar n past (line_with (shows line)) (lines_for lines ++ [] ∷ []) (omega (arith, length-append (lines_for lines) ([] ∷ []))) in
-        ((exact, rest.0), (line_free words passes, rest.1), (rest.2.0, rw (step, words_again words (tells.lawful line).1 passes, tells.again line held.0 exact, none.0) rest.2.1))
+        ((exact, rest.0), (is.1, rest.1), (rest.2.0, rw (step, is.0, again, none.0) rest.2.1))
 
     -- the text of lines without a fault
     pub text_adds : (past : Past) (lines : List Line) → AreFaultless grammar past lines → AreHeldLines lines

@@ -1,8 +1,9 @@
 -- Rounds in lists: the last one, its tick, and the ticks of all.
-use Rattle.text_spec.proofs.Names.{◌≡◌, ◌<◌, ◌≤◌, ◌^◌, ◌∷◌, ◌++◌, leb-true, nat_le, KeepUpFrom, last_tick, round_ticks, is_tick, asked_more, begun_round, ended_at, keep_up, last_from, with_last, AreTicks, Asked, ℕ, zero, suc, true, List, [], length, set, get_or, refl, sym, ap, ◌∙◌, append_assoc, arith, AllByRecursion, flat_map, list_all, le-leb, recursion_from_All, AllPass-from_list_all, list_all-from_AllPass, Decides-and, All-append, All-from_recursion, All-set}
+use Rattle.text_spec.proofs.Names.{◌≡◌, ◌<◌, ◌≤◌, ◌^◌, ◌∷◌, ◌++◌, leb-true, nat_le, KeepUpFrom, last_tick, round_ticks, is_tick, asked_more, begun_round, ended_at, keep_up, last_from, with_last, AreTicks, Asked, ℕ, zero, suc, true, List, [], length, set, get_or, refl, sym, ap, ◌∙◌, append_assoc, arith, AllByRecursion, flat_map, list_all, le-leb, recursion_from_All, list_all-from_AllPass, Decides-and, All-append, All-from_recursion, All-set}
 use Rattle.std.specs.Bool.{Decides}
 use Rattle.history_spec.specs.Rounds.{Round}
 use Rattle.text_spec.proofs.JournalFacts.{flat_map-push}
+use Rattle.text_spec.proofs.WordsLemmas.{all_from}
 
 -- ---- facts of each element
 
@@ -42,13 +43,6 @@ all_with_last P change [] keeps all = tt
 all_with_last P change (one ∷ []) keeps all = (keeps one all.0, tt)
 all_with_last P change (one ∷ next ∷ rounds) keeps all = (all.0, all_with_last P change (next ∷ rounds) keeps all.1)
 
--- a change that leaves the ticks
-pub ticks_with_last : (change : Round → Round) (rounds : List Round) → ((round : Round) → round_ticks (change round) ≡ round_ticks round)
-    → flat_map round_ticks (with_last change rounds) ≡ flat_map round_ticks rounds
-ticks_with_last change [] same = refl
-ticks_with_last change (one ∷ []) same = ap (λ ts. ts ++ []) (same one)
-ticks_with_last change (one ∷ next ∷ rounds) same = ap (λ ts. round_ticks one ++ ts) (ticks_with_last change (next ∷ rounds) same)
-
 -- ---- ticks in order
 
 -- the test of ticks that keep up
@@ -85,9 +79,6 @@ last_of_all (round ∷ rounds) =
 abbrev pub IsSmall : ℕ → Type 0
 IsSmall tick = tick ≤ 2 ^ 62
 
-pub all_small : (ticks : List ℕ) → list_all is_tick ticks ≡ true → AllByRecursion IsSmall ticks
-all_small ticks all = recursion_from_All IsSmall ticks (λ k d within. leb-true _ (2 ^ 62) (AllPass-from_list_all is_tick ticks all k d within))
-
 pub small_all : (ticks : List ℕ) → AllByRecursion IsSmall ticks → list_all is_tick ticks ≡ true
 small_all ticks all = list_all-from_AllPass is_tick ticks (λ k d within. le-leb _ (2 ^ 62) (All-from_recursion IsSmall ticks all k d within))
 
@@ -103,17 +94,17 @@ pub ticks_pushed : (rounds : List Round) (callers : ℕ) (beside : List ℕ) (af
     → AreTicks (rounds ++ begun_round callers beside after ∷ [])
 ticks_pushed rounds callers beside after are small keeps =
     let round = begun_round callers beside after in
-    let flat = flat_map-push round_ticks rounds round in
-    record {
-      small = rw flat (all_append IsSmall (flat_map round_ticks rounds) (round_ticks round) are.small small);
-      keep_up = rw flat (keep_append 0 (flat_map round_ticks rounds) (round_ticks round) are.keep_up (rw (last_of_all rounds) keeps));
-    }
+    let small_ones = all_append IsSmall (flat_map round_ticks rounds) (round_ticks round) are.small small in
+    let keep_up = keep_append 0 (flat_map round_ticks rounds) (round_ticks round) are.keep_up (rw (last_of_all rounds) keeps) in
+    grind (arith, flat_map-push round_ticks rounds round, small_ones, keep_up)
 
 -- a line more of a caller
 pub ticks_asked : (rounds : List Round) (caller : ℕ) (asked : Asked) → AreTicks rounds → AreTicks (with_last (asked_more caller asked) rounds)
-ticks_asked rounds caller asked are =
-    let same = ticks_with_last (asked_more caller asked) rounds (λ round. refl) in
-    record { small = rw same are.small; keep_up = rw same are.keep_up }
+ticks_asked [] caller asked are = are
+ticks_asked (round ∷ rounds) caller asked are =
+    by_last (λ rs. AreTicks rs → AreTicks (with_last (asked_more caller asked) rs)) (λ front last its.
+    let same = ticks-push front last ∙ sym (ticks-push front (asked_more caller asked last)) in
+    rw (with_last-push (asked_more caller asked) front last) (record { small = rw same at its.small; keep_up = rw same at its.keep_up })) (round ∷ rounds) (omega arith) are
 
 -- the last round ends later
 pub ticks_ended : (rounds : List Round) (tick : ℕ) → AreTicks rounds → last_tick rounds ≤ tick → IsSmall tick → AreTicks (with_last (ended_at tick) rounds)
@@ -136,7 +127,8 @@ last_small rounds are = rw last_of_all at (small_last 0 (flat_map round_ticks ro
 -- the ticks of a line that opens a round, after these rounds, and the last of them once more
 pub opening_small : (rounds : List Round) (ticks : List ℕ) → AreTicks rounds → list_all is_tick ticks ≡ true → AllByRecursion IsSmall (ticks ++ last_from (last_tick rounds) ticks ∷ [])
 opening_small rounds ticks are small =
-    all_append IsSmall ticks (last_from (last_tick rounds) ticks ∷ []) (all_small ticks small) (small_last (last_tick rounds) ticks (last_small rounds are) (all_small ticks small), tt)
+    let all = all_from is_tick IsSmall ticks (λ tick is. leb-true tick (2 ^ 62) is) small in
+    all_append IsSmall ticks (last_from (last_tick rounds) ticks ∷ []) all (small_last (last_tick rounds) ticks (last_small rounds are) all, tt)
 
 pub opening_keeps_up : (least : ℕ) (ticks : List ℕ) → keep_up least ticks ≡ true → KeepUpFrom least (ticks ++ last_from least ticks ∷ [])
 opening_keeps_up least ticks is = keep_append least ticks (last_from least ticks ∷ []) ((keep_up_is least ticks).0 is) (omega arith, tt)

@@ -1,14 +1,15 @@
 -- All lines of a trace: the text of rounds that fit is read as them, and the rounds that a text tells fit.
-use Rattle.text_spec.proofs.Names.{◌≡◌, ◌+◌, ◌<◌, ◌≤◌, ◌^◌, ◌∷◌, ◌++◌, replicate, le-leb, get_or_at, length-replicate, set_at, KeepUpFrom, lines_at, last_tick, round_ticks, is_tick, AreFaultless, PastRounds, no_rounds, last_from, begun_round, asked_more, ended_at, next_rounds, asked_fault, trace_fault_of, trace_grammar, trace_in, MayAsk, IsAllowedRound, AreRounds, Asked, reports, changes, Round, TraceLine, opens, calls, closes, asked_fields, trace_fields, callers_told, round_told, rounds_told, trace_text, ℕ, suc, true, false, List, [], length, map, refl, sym, ap, ◌∙◌, append_assoc, arith, Ok, AllByRecursion, flat_map, append-nil, length-append, length-set, Parts, AreHeld, AreExact, Grammar, past_in, recursion_from_All, AllPass-from_list_all, nat_tests, All-replicate}
+use Rattle.text_spec.proofs.Names.{◌≡◌, ◌+◌, ◌<◌, ◌≤◌, ◌^◌, ◌∷◌, ◌++◌, replicate, le-leb, get_or_at, length-replicate, set_at, KeepUpFrom, lines_at, last_tick, round_ticks, is_tick, AreFaultless, PastRounds, no_rounds, last_from, begun_round, asked_more, ended_at, next_rounds, asked_fault, trace_fault_of, trace_grammar, trace_in, MayAsk, IsAllowedRound, AreRounds, Asked, Round, TraceLine, opens, calls, closes, asked_fields, trace_fields, callers_told, round_told, rounds_told, trace_text, ℕ, suc, true, false, List, [], length, map, refl, sym, ap, ◌∙◌, append_assoc, arith, Ok, AllByRecursion, flat_map, append-nil, length-append, length-set, Parts, AreHeld, AreExact, Grammar, a_number, recursion_from_All, nat_tests, All-replicate}
+use Rattle.text_spec.specs.TraceForm.{opening_in}
 use Rattle.text_spec.proofs.JournalFacts.{sensor_is_there}
-use Rattle.text_spec.proofs.LinesLaws.{AreHeldLines, Leaves, Tells, all_next, bind_ok, leave_more, leave_one, text_adds, text_read}
+use Rattle.text_spec.proofs.LinesLaws.{AreHeldLines, Leaves, Tells, all_next, leave_more, leave_one, text_adds, text_read}
 use Rattle.text_spec.proofs.TraceFacts.{IsSmall, all_append, all_at, all_set, all_split, all_with_last, last_tick-push, opening_keeps_up, opening_small, keep_split, keep_up_is, small_all, ticks_asked, ticks_ended, ticks_pushed, with_last-push}
-use Rattle.text_spec.proofs.TraceForms.{numbers_are, trace_line_again, trace_line_lawful, trace_told_is}
+use Rattle.text_spec.proofs.TraceForms.{numbers_are, told_line, trace_line_again, trace_told_is}
+use Rattle.text_spec.proofs.WordsLemmas.{all_from}
 
 -- what is asked for can be held whoever asks for it
 held_by : (one other : ℕ) (asked : Asked) → AreHeld (asked_fields one asked) → AreHeld (asked_fields other asked)
-held_by one other (changes state) held = held
-held_by one other asked held = held
+held_by one other asked held = grind (arith, held)
 
 module _ (config : Parts) where
   abbrev grammar : Grammar PastRounds TraceLine
@@ -19,20 +20,12 @@ module _ (config : Parts) where
   module _ (callers : config.callers ≤ 32) (few : length config.events ≤ 256) where
     -- it is told as it is
     line_exact : (past : PastRounds) (line : TraceLine) → trace_fault_of config past line ≡ Ok tt → AreExact (trace_fields line)
-    line_exact past (opens ticks) none = (
-      tt,
-      (numbers_are ticks).told (recursion_from_All _ ticks (λ k d within.
-          let is = AllPass-from_list_all is_tick ticks (grind (arith, none)) k d within in
-          grind (arith, is))),
-    )
-    line_exact past (calls caller (reports event count stamp bytes)) none =
-        let there = sensor_is_there config event.0 (grind (arith, none)) in
-        (tt, (grind (arith, callers, none), (omega arith, (grind (arith, none), (tt, (tt, tt))))))
-    line_exact past line none = grind (arith, callers, few, none)
+    line_exact past (opens ticks) none = (tt, (numbers_are ticks).told (all_from is_tick a_number.Exact ticks (λ tick is. grind (arith, is)) (grind (arith, none))))
+    line_exact past line none = grind (arith, callers, few, none, sensor_is_there config)
 
     -- it is read from its own words alone
     tells : Tells grammar trace_fields
-    tells = record { lawful = trace_line_lawful; exact = line_exact; again = trace_line_again; takes = trace_told_is }
+    tells = record { exact = line_exact; again = trace_line_again; takes = λ words line read. told_line words line (opening_in words) refl read }
 
   -- ---- the lines of rounds
 
@@ -70,9 +63,8 @@ module _ (config : Parts) where
       let tick = last_from (last_tick done) round.beside in
       let ticks = all_split IsSmall round.beside (round.after ∷ []) small in
       let open_round : Round = record { beside = round.beside; lines = round.lines; after = tick } in
-      let closes_well : trace_fault_of config (within done round.beside tick round.lines) (closes round.after) ≡ Ok tt = rw (le-leb round.after (2 ^ 62) ticks.1.0, last_tick-push done open_round, le-leb tick round.after after) refl in
       let closing : Leaves grammar trace_fields (within done round.beside tick round.lines) (closes round.after ∷ []) (ended (done ++ round ∷ [])) =
-      record { faultless = (closes_well, tt); held = ((tt, (tt, tt)), tt); leaves = ap ended (with_last-push (ended_at round.after) done open_round) } in
+      record { faultless = (rw (le-leb round.after (2 ^ 62) ticks.1.0, last_tick-push done open_round, le-leb tick round.after after) refl, tt); held = ((tt, (tt, tt)), tt); leaves = ap ended (with_last-push (ended_at round.after) done open_round) } in
       let callers = callers_leave done round.beside tick 0 [] round.lines refl (omega (arith, allowed.callers)) allowed.asked in
       leave_one grammar trace_fields _ _ (opens round.beside) (callers_told 0 round.lines ++ closes round.after ∷ []) (rw (small_all round.beside ticks.0, (keep_up_is (last_tick done) round.beside).1 beside) refl) (tt, (numbers_are round.beside).held)
       (rw allowed.callers at (leave_more grammar trace_fields _ _ _ (callers_told 0 round.lines) (closes round.after ∷ []) callers closing))
@@ -130,7 +122,7 @@ module _ (config : Parts) where
   -- the rounds that a text tells fit
   pub trace_fits : (text : List ℕ) (rounds : List Round) → trace_in config text ≡ Ok rounds → AreRounds config rounds
   trace_fits text rounds read =
-      let step = bind_ok (past_in grammar no_rounds text) (λ past. Ok past.rounds) rounds read in
-      let all = text_read grammar trace_fields trace_told_is no_rounds step.0 text step.1 in
-      let are : (all_next grammar no_rounds all.lines).rounds ≡ rounds = ap (λ (p : PastRounds). p.rounds) all.leave ∙ cc step.2 in
+      let step = text_read grammar trace_fields trace_told_is (λ past. past.rounds) no_rounds text rounds read in
+      let all = step.1 in
+      let are : (all_next grammar no_rounds all.lines).rounds ≡ rounds = ap (λ (p : PastRounds). p.rounds) all.leave ∙ step.2 in
       rw (← are) (lines_fit no_rounds all.lines all.none all.held (record { allowed = tt; ticks = record { small = tt; keep_up = tt } }))

@@ -10,6 +10,10 @@ Pass p words = AllByRecursion (λ word. list_all p word ≡ true) words
 pub all_pass : (p : ℕ → Bool) (Is : List ℕ → Type 0) (words : List (List ℕ)) → ((word : List ℕ) → Is word → list_all p word ≡ true) → AllByRecursion Is words → Pass p words
 all_pass p Is words each are = recursion_from_All _ words (All-weaker Is (λ word. list_all p word ≡ true) each words (All-from_recursion Is words are))
 
+-- what holds of each that passes a test holds of all, where all pass
+pub all_from : {A : Type 0} (p : A → Bool) (Is : A → Type 0) (xs : List A) → ((x : A) → p x ≡ true → Is x) → list_all p xs ≡ true → AllByRecursion Is xs
+all_from p Is xs each all = recursion_from_All Is xs (λ k d within. each _ (AllPass-from_list_all p xs all k d within))
+
 -- bytes that pass a test pass one that asks less
 pub weaker : (p q : ℕ → Bool) (bytes : List ℕ) → ((b : ℕ) → p b ≡ true → q b ≡ true) → list_all p bytes ≡ true → list_all q bytes ≡ true
 weaker p q bytes less all = list_all-from_AllPass q bytes (λ k d within. less _ (AllPass-from_list_all p bytes all k d within))

@@ -13,7 +13,7 @@ use ids_types::NoMemory;
 /// Appends the line of a message: `M INSTANCE SENSOR EVENT COUNT RESERVED STAMP CONTEXT SIGNATURE`, with
 /// `M2` in place of `M` for a message of version 2.
 /// Steps: the bytes of the line. Memory: may answer want of memory, only where the room is short. By: `full`; read off.
-#[tactic(auto, using(crate::proofs::DecodedLemmas::length_line))]
+#[tactic(auto, using(crate::proofs::DecodedLemmas::length_line, crate::proofs::DecodedLemmas::texts_put))]
 pub fn push_message(out: &mut Vec<u8>, message: &Message<'_>) -> Result<(), NoMemory>
     ensures ok { OnOk result (out.new.items ≡ out.old.items ++ (message_line message.now ++ line_feed ∷ [])) }
     ensures err { OnErr result (out.new.items ≡ out.old.items) }
@@ -57,7 +57,7 @@ fn reserve_line(out: &mut Vec<u8>, message: &Message<'_>) -> Result<(), NoMemory
     Ok(out.reserve(line_len(message) + 1)?)
 }
 
-#[tactic(auto, using(crate::proofs::DecodedLemmas::length_line))]
+#[tactic(auto, using(crate::proofs::DecodedLemmas::length_line, crate::proofs::NumbersLemmas::few_digits))]
 fn line_len(message: &Message<'_>) -> usize
     ensures value { result ≡ length (message_line message.now) }
     ensures small { result < 2 ^ 34 }

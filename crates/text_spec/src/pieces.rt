@@ -1,7 +1,8 @@
 //! The words of a line and the parts of a word, taken one after another.
 
 ghost use Rattle.std.specs.Char.{is_ascii_digit};
-ghost use Rattle.std.specs.Prelude.{◌≡◌, ◌==◌, ◌&&◌, ℕ, ◌+◌, ◌<◌, ◌≤◌, List, ◌∷◌, true, false, length, take, drop, slice_index, option_map, IfSome, IfOk, IfErr, position};
+ghost use Rattle.std.specs.Prelude.{◌≡◌, ◌==◌, ◌&&◌, ℕ, ◌+◌, ◌<◌, ◌≤◌, List, ◌∷◌, true, false, length, take, drop, slice_index, option_map, IfSome, IfOk, IfErr};
+ghost use Rattle.memchr.specs.Find.{IsFirstByte, is_byte};
 ghost use Rattle.text_spec.specs.Fields.{a_mode, a_number, a_stamp, first_as};
 ghost use Rattle.text_spec.specs.Maybe.{first_of, ended as ended_of};
 ghost use Rattle.text_spec.specs.PiecesView.{AreDigits, pieces_left};
@@ -116,6 +117,7 @@ impl<'a, const SEPARATOR: u8> Pieces<'a, SEPARATOR> {
 /// What stands before the first separator, and what stands after it, if there is one.
 /// Steps: the bytes up to the first separator. By: `shorter`; read off.
 #[inline(always)]
+#[tactic(auto, using(crate::proofs::PiecesLemmas::cuts))]
 pub fn cut(text: &[u8], separator: u8) -> (&[u8], Option<&[u8]>)
     ensures pieces { pieces_of separator text.now ≡
         result.0.now ∷ pieces_left separator (option_map (λ r. r.now) result.1) }
@@ -130,7 +132,7 @@ pub fn cut(text: &[u8], separator: u8) -> (&[u8], Option<&[u8]>)
 /// The first place of a byte.
 #[inline(never)]
 fn place_of(text: &[u8], byte: u8) -> Option<usize>
-    ensures { result ≡ position (λ b. b == byte) text.now }
+    ensures { IsFirstByte (is_byte byte) text.now result }
 {
     memchr(byte, text)
 }
@@ -256,6 +258,7 @@ fn next_digit(text: &[u8], i: usize, value: u64, separator: u8) -> Result<u64, C
 
 /// The number of a text of digits.
 #[inline(always)]
+#[tactic(auto, using(crate::proofs::PiecesLemmas::whole_piece))]
 fn whole_number(text: &[u8], value: u64, separator: u8) -> Cut<'_>
     requires { AreDigits separator text.now (length text.now) value }
     ensures { option_map (λ x. (x.0, pieces_left separator (option_map (λ r. r.now) x.1))) result
@@ -266,6 +269,7 @@ fn whole_number(text: &[u8], value: u64, separator: u8) -> Cut<'_>
 
 /// The number of the digits before the first byte that is no digit of it.
 #[inline(always)]
+#[tactic(auto, using(crate::proofs::PiecesLemmas::cuts))]
 fn number_before(text: &[u8], i: usize, value: u64, separator: u8) -> Cut<'_>
     requires digits { AreDigits separator text.now i value }
     requires within { i < length text.now }

@@ -1,8 +1,10 @@
 -- The end of a replay: from where its callers and its manager stand to what it gives.
-use Rattle.trace_replay.proofs.Names.{◌≡◌, ℕ, suc, ◌+◌, ◌≤◌, ◌<◌, ◌⊎◌, ⊎_elim, List, [], ◌∷◌, length, map, take, refl, sym, ap, ◌∙◌, arith, AllByRecursion, length-map, map-append, take_all, flat_map-cons, Turn, Parts, IsValid, all_losses, losses_from, IsMerge, last_tick, lines_of, ticks_of, AreRounds, IsAllowedRound, Buffer, desk_memo, PassMemo, pass_memo, Shared, HaveAllCalls, fates_in, losses_in, Traced, HavePlayed, sizes_in, Closes, IsRecordOf, IsSmallTurn, tick_of, turns_in, IsBetween, all_rests, as_told, AreFew, HasListed, losses_by, passes_of, told, Caller, Recorder, at_map_back, some, all_append, get_elem?}
+use Rattle.trace_replay.proofs.Names.{cases_lt, inl, inr, ◌≡◌, ℕ, suc, ◌+◌, List, [], ◌∷◌, length, map, take, refl, sym, ap, ◌∙◌, arith, AllByRecursion, length-map, map-append, take_all, Turn, Parts, IsValid, all_losses, losses_from, last_tick, lines_of, ticks_of, AreRounds, Buffer, PassMemo, pass_memo, Shared, fates_in, losses_in, Traced, HavePlayed, sizes_in, Closes, IsRecordOf, IsSmallTurn, tick_of, turns_in, IsBetween, all_rests, as_told, HasListed, losses_by, passes_of, told, Caller, Recorder, at_map_back, some, all_append, get_elem?}
 use Rattle.trace_text.specs.Small.{AreSmall}
 use Rattle.trace_text.proofs.JournalLemmas.{merge_fits}
-use Rattle.law_closing.specs.Closed.{IsMadeFor, plain_item}
+use Rattle.law_closing.proofs.SizeLemmas.{first_is_small}
+use Rattle.law_closing.specs.Closed.{IsMadeFor}
+use Rattle.trace_replay.specs.Rounds.{CanPlay}
 use Rattle.trace_replay.specs.Replayed.{IsReplayOver, given}
 use Rattle.trace_replay.proofs.MergeLemmas.{merged, no_lines}
 use Rattle.trace_replay.proofs.RoundLemmas.{at_rest}
@@ -18,101 +20,70 @@ all_listed : (n from : ℕ) (callers : List Caller)
     → losses_by callers ≡ all_losses n from (map fates_in (views_of callers))
 all_listed n from [] each = refl
 all_listed n from (caller ∷ callers) each =
-    rw (
-      flat_map-cons (λ (c : Caller). c.losses.items) caller callers,
-      each 0 from caller (omega arith) refl,
-      all_listed n (suc from) callers (λ i j c is. each (suc i) j c (omega (arith, is))),
-    ) refl
+    let rest = all_listed n (suc from) callers (λ i j c is. each (suc i) j c (omega (arith, is))) in
+    cc (each 0 from caller (omega arith) refl, rest)
 
 all_map : {A : Type 0} (P Q : A → Type 0) → ((x : A) → P x → Q x) → (xs : List A) → AllByRecursion P xs → AllByRecursion Q xs
 all_map P Q f [] all = tt
 all_map P Q f (x ∷ xs) all = (f x all.0, all_map P Q f xs all.1)
 
-module _ {C : Type 0} (stands : C → Parts → List Turn → Type 0) (events : C → ℕ) (kept : C → List Buffer) (config : Parts)
-    (shared : Shared) (trace : Traced) (callers : List Caller) (r1 r2 : Recorder C) (tick : ℕ)
+module _ {C : Type 0} {stands : C → Parts → List Turn → Type 0} {events : C → ℕ} {kept : C → List Buffer} {config : Parts} {shared : Shared} {trace : Traced}
+    {callers : List Caller} {r1 r2 : Recorder C} {tick : ℕ} (between : IsBetween events kept shared trace (length trace.rounds) callers r1)
+    (was : IsRecordOf stands config r1) (closes : Closes stands events kept shared tick (views_of callers) r1 r2) (tick_is : tick ≡ last_tick trace.rounds)
     (valid : IsValid config) (of_config : trace.callers ≡ config.callers) (rounds : AreRounds config trace.rounds)
-    (few : AreFew trace.callers trace.rounds) (made_for : IsMadeFor config shared)
-    (between : IsBetween events kept shared trace (length trace.rounds) callers r1) (was : IsRecordOf stands config r1)
-    (closes : Closes stands events kept shared tick (views_of callers) r1 r2) (tick_is : tick ≡ last_tick trace.rounds) where
-  abbrev views : List PassMemo
-  views = views_of callers
-
+    {positions : ℕ} (can : CanPlay shared positions trace) (made_for : IsMadeFor config shared) where
   whole : take (length trace.rounds) trace.rounds ≡ trace.rounds
   whole = take_all (length trace.rounds) trace.rounds (omega arith)
-
-  each_caller : AllByRecursion (λ round. length round.lines ≡ config.callers) trace.rounds
-  each_caller = all_map (IsAllowedRound config) _ (λ round allowed. allowed.callers) trace.rounds rounds.allowed
 
   listed : (i : ℕ) (caller : Caller) → get_elem? callers i ≡ some caller
       → HasListed (sizes_in config) config.ring i (lines_of i trace.rounds) (told caller)
   listed i caller at =
       rw (whole, made_for.positions_are, made_for.sizes) at (at_rest shared trace.rounds (length trace.rounds) callers between.at_rest i caller at).listed
 
-  played : HavePlayed config trace.rounds views
-  played = record {
-    all = length-map (passes_of callers) pass_memo ∙ length-map callers (λ (c : Caller). c.pass) ∙ between.as_many ∙ of_config;
-    each = λ i view at.
-        let pass = at_map_back pass_memo (passes_of callers) i view at in
-        let caller = at_map_back (λ (c : Caller). c.pass) callers i pass.0 pass.1 in
-        rw (sym pass.2, sym caller.2) (listed i caller.0 caller.1).played;
-  }
-
-  recorded : IsRecordOf stands config r2
-  recorded = closes.advances.records config was
-
-  calls_are : HaveAllCalls config views (turns_in r2)
-  calls_are = closes.all_calls config made_for was
-
-  ticks_are : map tick_of (turns_in r2) ≡ ticks_of trace.rounds
-  ticks_are = rw closes.advances.turns_are (map-append tick_of (turns_in r1) closes.advances.turns
-      ∙ rw (between.ticks_are, closes.advances.ticks_are, tick_is, whole) refl)
-
-  small : AllByRecursion (IsSmallTurn config.ring) (turns_in r2)
-  small = rw closes.advances.turns_are (rw (sym made_for.positions_are) (all_append _ (turns_in r1) closes.advances.turns between.small closes.advances.small))
-
-  merge : IsMerge config trace.rounds (turns_in r2) (losses_in config.ring views)
-  merge =
-      let sums = closes.sums config was in
-      merged config trace.rounds (turns_in r2) views valid each_caller played calls_are (sym sums.lost_events_are ∙ closes.counts.lost_events_are)
-      (sym sums.lost_contexts_are ∙ closes.counts.lost_contexts_are) ticks_are
-      (all_map (IsSmallTurn config.ring) _ (λ turn is. is.few) (turns_in r2) small)
-
-  losses_are : losses_by callers ≡ losses_in config.ring views
-  losses_are = all_listed config.ring 0 callers (λ i j caller is at. let same : j ≡ i = omega (arith, is) in rw same (listed i caller at).losses_are)
-
-  are_small : AreSmall trace.rounds (turns_in r2)
-  are_small = record {
-    few_lines = λ caller.
-        let which : (caller < config.callers) ⊎ (config.callers ≤ caller) = search arith in
-        ⊎_elim (λ less. let below = few caller (rw of_config less) in omega (arith, below))
-        (λ past. rw (no_lines config.callers caller trace.rounds each_caller past) (omega arith)) which;
-    few_entries = omega (
-      arith,
-      closes.advances.manager_is.items_within,
-      ap length recorded.stands_for.reports_show.items_are,
-      length-map (desk_memo r2.manager.desk).notes plain_item,
-    );
-    heads = all_map (IsSmallTurn config.ring) _
-        (λ turn is. record { lost_events = is.head_is.lost_events; lost_contexts = is.head_is.lost_contexts; limited = is.head_is.limited }) (turns_in r2) small;
-  }
-
   -- it is a replay of the rounds
   pub is_replay : IsReplayOver stands events kept config trace.rounds r2.manager (given r2 (losses_by callers))
-  is_replay = record {
-    merged = rw losses_are merge;
-    fits = rw losses_are (merge_fits config trace.rounds (turns_in r2) (losses_in config.ring views) valid rounds are_small merge);
-    causal = recorded.causal;
-    sent = recorded.transcript.sent;
-    ends = recorded.transcript.ends;
-    messages = recorded.transcript.messages;
-    shared = shared;
-    made_for = made_for;
-    is_manager = closes.advances.manager_is;
-    stands_for = recorded.stands_for;
-    rests_are = closes.advances.rests_are ∙ between.rests_are ∙ ap (λ n. as_told (all_rests n trace.rounds)) of_config;
-    passes = views;
-    are_back = closes.back_is;
-    played = played;
-    calls = calls_are;
-    losses_are = losses_are;
-  }
+  is_replay =
+      let recorded = closes.advances.records config was in
+      let played : HavePlayed config trace.rounds (views_of callers) = record {
+        all = length-map (passes_of callers) pass_memo ∙ length-map callers (λ (c : Caller). c.pass) ∙ between.as_many ∙ of_config;
+        each = λ i view at.
+            let pass = at_map_back pass_memo (passes_of callers) i view at in
+            let caller = at_map_back (λ (c : Caller). c.pass) callers i pass.0 pass.1 in
+            rw (sym pass.2, sym caller.2) (listed i caller.0 caller.1).played;
+      } in
+      let small : AllByRecursion (IsSmallTurn config.ring) (turns_in r2) = rw (closes.advances.turns_are, ← made_for.positions_are)
+      (all_append _ (turns_in r1) closes.advances.turns between.small closes.advances.small) in
+      let losses_are : losses_by callers ≡ losses_in config.ring (views_of callers) =
+      all_listed config.ring 0 callers (λ i j caller is at. let same : j ≡ i = omega (arith, is) in rw same (listed i caller at).losses_are) in
+      let ticks : map tick_of (turns_in r2) ≡ ticks_of trace.rounds =
+      rw (closes.advances.turns_are, map-append, between.ticks_are, closes.advances.ticks_are, tick_is, whole) refl in
+      let sizes = λ (bytes : ℕ). rw made_for.sizes at (first_is_small config shared.classes bytes closes.advances.manager_is.desk_is.givers.are made_for.sizes) in
+      let merge =
+      merged config trace.rounds (turns_in r2) (views_of callers) sizes (rw of_config at can.each_caller) played (closes.all_calls config made_for was)
+      (closes.sums config was) closes.counts ticks (all_map (IsSmallTurn config.ring) _ (λ turn is. is.few) (turns_in r2) small) in
+      let are_small : AreSmall trace.rounds (turns_in r2) = record {
+        few_lines = λ caller. elim (cases_lt caller trace.callers) [
+          | inl less ↦ omega (arith, can.few caller less)
+          | inr past ↦ rw (no_lines trace.callers caller trace.rounds can.each_caller past) (omega arith)
+        ];
+        few_entries = rw (← recorded.stands_for.reports_show.items_are, length-map) (omega (arith, closes.advances.manager_is.items_within));
+        heads = all_map (IsSmallTurn config.ring) _ (λ turn is. assumption is.head_is) (turns_in r2) small;
+      } in
+      record {
+        merged = rw losses_are merge;
+        fits = rw losses_are (merge_fits config trace.rounds (turns_in r2) (losses_in config.ring (views_of callers)) valid rounds are_small merge);
+        causal = recorded.causal;
+        sent = recorded.transcript.sent;
+        ends = recorded.transcript.ends;
+        messages = recorded.transcript.messages;
+        shared = shared;
+        made_for = made_for;
+        is_manager = closes.advances.manager_is;
+        stands_for = recorded.stands_for;
+        rests_are = closes.advances.rests_are ∙ between.rests_are ∙ ap (λ n. as_told (all_rests n trace.rounds)) of_config;
+        passes = views_of callers;
+        are_back = closes.back_is;
+        played = played;
+        calls = closes.all_calls config made_for was;
+        losses_are = losses_are;
+      }

@@ -1,10 +1,6 @@
-pub mod CallLemmas
 pub mod EndLemmas
-pub mod GatheredLemmas
-pub mod HandLemmas
 pub mod MergeLemmas
 pub mod Names
-pub mod PlayedLemmas
 pub mod RecordingLemmas
 pub mod RestLemmas
 pub mod RoundLemmas

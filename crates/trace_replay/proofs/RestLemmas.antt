@@ -1,17 +1,18 @@
 -- What the rests of a replay tell, round by round and caller by caller.
-use Rattle.trace_replay.proofs.Names.{◌≡◌, ℕ, zero, suc, ◌+◌, ◌-◌, ◌*◌, ◌≤◌, ◌<◌, List, [], ◌∷◌, ◌++◌, length, take, refl, ap, ◌∙◌, arith, length-append, append-nil, append_assoc, map-append, Round, lines_of, calls_of, with_rest, calls_of_each, lines_before, Caller, add-one, some, at_longer, flat_map-append, get_elem?}
+use Rattle.trace_replay.proofs.Names.{append_assoc, append-nil, map-append, with_rest, flat_map-append, ◌≡◌, ℕ, zero, suc, ◌+◌, ◌-◌, ◌*◌, ◌≤◌, ◌<◌, List, [], ◌∷◌, ◌++◌, length, take, refl, ap, ◌∙◌, arith, length-append, Round, lines_of, Shared, IsAtRest, cases_lt, inl, inr, calls_of_each, lines_before, Caller, add-one, some, at_longer, get_elem?}
 use Rattle.trace_replay.specs.Rests.{as_told, CallerRest, LiesInItsRound, TellsCalls, lines_from, rests_before, ticks_before}
 
 -- ---- callers
 
--- callers that each made their lines' calls
-pub each_made : (rounds : List Round) (from : ℕ) (callers : List Caller)
-    → ((i j : ℕ) (caller : Caller) → j ≡ from + i → get_elem? callers i ≡ some caller → calls_of caller.pass.seat ≡ length (lines_of j rounds))
+-- callers that are at rest made as many calls as each has lines
+pub calls_made : (shared : Shared) (rounds : List Round) (from : ℕ) (callers : List Caller)
+    → ((i j : ℕ) (caller : Caller) → j ≡ from + i → get_elem? callers i ≡ some caller → IsAtRest shared j (lines_of j rounds) caller)
     → calls_of_each callers ≡ lines_from from (length callers) rounds
-each_made rounds from [] each = refl
-each_made rounds from (caller ∷ callers) each =
-    let rest = each_made rounds (suc from) callers (λ i j c is at. each (suc i) j c (omega (arith, is)) at) in
-    let one = each 0 from caller (omega arith) refl in cc
+calls_made shared rounds from [] each = refl
+calls_made shared rounds from (caller ∷ callers) each =
+    let rest = calls_made shared rounds (suc from) callers (λ i j c is. each (suc i) j c (omega (arith, is))) in
+    let its = each 0 from caller (omega arith) refl in
+    let one = its.is_pass.at.caller.calls_are ∙ its.listed.played.calls_are in cc
 
 -- ---- places
 
@@ -46,30 +47,25 @@ module _ (n : ℕ) (rounds : List Round) where
   two_each (suc k) = simp length-append (omega (arith, two_each k))
 
   -- and before those of the rounds after
-  stays : (more k all j : ℕ) (rest : CallerRest) → all ≡ more + k → get_elem? (rests_before n rounds k) j ≡ some rest
-      → get_elem? (rests_before n rounds all) j ≡ some rest
-  stays zero k all j rest is at = let same : all ≡ k = omega (arith, is) in rw same at
-  stays (suc more) k zero j rest is at = absurd (omega (arith, is))
-  stays (suc more) k (suc all) j rest is at =
-      at_longer (rests_before n rounds all) (two_rests all) j rest (stays more k all j rest (omega (arith, is)) at)
+  rest_at : (all k e j : ℕ) (rest : CallerRest) → k < all → j ≡ 2 * k + e → get_elem? (two_rests k) e ≡ some rest → get_elem? (rests_before n rounds all) j ≡ some rest
+  rest_at zero k e j rest less at is = absurd (omega (arith, less))
+  rest_at (suc all) k e j rest less at is = elim (cases_lt k all) [
+    | inl below ↦ at_longer (rests_before n rounds all) (two_rests all) j rest (rest_at all k e j rest below at is)
+    | inr past ↦
+        let same : all ≡ k = omega (arith, less, past) in
+        rw same (at_behind (rests_before n rounds k) (two_rests k) j e (omega (arith, at, two_each k)) ∙ is)
+  ]
 
   -- rest e of round k tells what each caller had called
   tells : (k e j caller turns : ℕ) → k < length rounds → caller < n → j ≡ 2 * k + e
       → get_elem? (two_rests k) e ≡ some (record { turns = turns; calls = lines_from 0 n (take (suc k) rounds) })
       → TellsCalls n rounds j turns caller (length (lines_before rounds (suc k) caller))
-  tells k e j caller turns less low at is =
-      let here = at_behind (rests_before n rounds k) (two_rests k) j e (omega (arith, at, two_each k)) ∙ is in
-      record {
-        rest = record { turns = turns; calls = lines_from 0 n (take (suc k) rounds) };
-        is_there = stays (length rounds - suc k) (suc k) (length rounds) j _ (omega (arith, less)) here;
-        turns_are = refl;
-        calls_are = line_at_place 0 n caller caller (take (suc k) rounds) low (omega arith);
-      }
-
-  after_last : (k caller : ℕ) → 0 < k → k ≤ length rounds → caller < n
-      → TellsCalls n rounds (2 * k - 1) (length (ticks_before rounds k)) caller (length (lines_before rounds k caller))
-  after_last zero caller begun within low = absurd (omega (arith, begun))
-  after_last (suc k) caller begun within low = tells k 1 (2 * suc k - 1) caller _ (omega (arith, within)) low (omega arith) refl
+  tells k e j caller turns less low at is = record {
+    rest = record { turns = turns; calls = lines_from 0 n (take (suc k) rounds) };
+    is_there = rest_at (length rounds) k e j _ less at is;
+    turns_are = refl;
+    calls_are = line_at_place 0 n caller caller (take (suc k) rounds) low (omega arith);
+  }
 
   -- a call lies between the turns that ended the round before and its own
   pub lies_in_its_round : (k caller call : ℕ) → k < length rounds → caller < n → length (lines_before rounds k caller) ≤ call
@@ -79,6 +75,8 @@ module _ (n : ℕ) (rounds : List Round) where
     calls_after = length (lines_before rounds (k + 1) caller);
     not_made = from;
     made = below;
-    after_the_last = λ begun. after_last k caller begun (omega (arith, less)) low;
+    after_the_last = λ begun.
+        let same : suc (k - 1) ≡ k = omega (arith, begun) in
+        rw same at (tells (k - 1) 1 (2 * k - 1) caller _ (omega (arith, less)) low (omega (arith, begun)) refl);
     before_its_own = rw add-one (tells k 0 (2 * k) caller _ less low (omega arith) refl);
   }

@@ -26,34 +26,32 @@ use Rattle.std.proofs.sync.atomic.AtomicBool.TheSendSync as flag
 use Rattle.report_api.proofs.shared.Shared.TheSendSync as shared
 use Rattle.trace_text.proofs.trace.Trace.TheSendSync as trace
 
-pub seat_sync : (S V : RattleType) → IsSend S → IsSync (seat.the_row S V)
+seat_sync : (S V : RattleType) → IsSend S → IsSync (seat.the_row S V)
 seat_sync S V s = record { shared = λ d b o κ q. whole-keyless _ _ (seats.the_send S V s).owned q d b o }
 
 module _ (F O X T N : RattleType) (o : IsSend O) (x : IsSend X) where
-  pub permit_field : IsSync (permit.the_field F O X T N).row
+  permit_field : IsSync (permit.the_field F O X T N).row
   permit_field = struct_sync (shape (permit.the_type F O X T N))
       (seat_sync _ _ (slots.the_send O X o x), (search sendable, (search sendable, (search sendable depth 12, tt))))
 
-  pub permit_sync : IsSync (permit.the_row F O X T N)
+  permit_sync : IsSync (permit.the_row F O X T N)
   permit_sync = recorded_sync (permit.the_field F O X T N).row _ _ (permit.the_type F O X T N).to_one permit_field
 
-pub claims_field : IsSync (claims.the_field).row
-claims_field = struct_sync (shape claims.the_type) (search (sendable, vecs.the_sync, permit_sync, bufs.the_send, heap.the_sync) depth 12, (search sendable, (search sendable, tt)))
-
-pub queue_field : (P L T N : RattleType) → IsSend L → IsSync (queue.the_field P L T N).row
+queue_field : (P L T N : RattleType) → IsSend L → IsSync (queue.the_field P L T N).row
 queue_field P L T N l = struct_sync (shape (queue.the_type P L T N)) (search (sendable, permit_field, items.the_send) depth 12, tt)
 
-pub pass_field : IsSync (pass.the_field).row
+pass_field : IsSync (pass.the_field).row
 pass_field = struct_sync (shape pass.the_type) (
   search (sendable, queue_field, Box-send, acts.the_send, bufs.the_send) depth 12,
-  (claims_field, (search (sendable, Box-sync, acts.the_sync, bufs.the_sync) depth 12, tt)),
+  (
+    struct_sync (shape claims.the_type) (search (sendable, vecs.the_sync, permit_sync, bufs.the_send, heap.the_sync) depth 12, (search sendable, (search sendable, tt))),
+    (search (sendable, Box-sync, acts.the_sync, bufs.the_sync) depth 12, tt),
+  ),
 )
 
-caller_field : IsSync (caller.the_field).row
-caller_field = struct_sync (shape caller.the_type) (pass_field, (search (sendable, vecs.the_sync, heap.the_sync) depth 12, tt))
-
 hand_sync : IsSync hand.the_row
-hand_sync = recorded_sync (hand.the_field).row _ _ (hand.the_type).to_one (struct_sync (shape hand.the_type) (caller_field, (search sendable, (search sendable, tt))))
+hand_sync = recorded_sync (hand.the_field).row _ _ (hand.the_type).to_one (struct_sync (shape hand.the_type)
+    (struct_sync (shape caller.the_type) (pass_field, (search (sendable, vecs.the_sync, heap.the_sync) depth 12, tt)), (search sendable, (search sendable, tt))))
 
 -- the places of callers may be seen by their threads
 place_sync : IsSync place.the_row

@@ -74,6 +74,7 @@ impl Caller {
         requires room { vec_len self.old.losses < vec_capacity self.old.losses }
         ensures mine { IsPassOf shared.now self.new.pass }
         ensures once { CallsOnce (sizes_of shared.now) positions (line_asked line.now) (told self.old) (told self.new) }
+        ensures few { vec_len self.new.losses ≤ vec_len self.old.losses + 1 }
         ensures room { vec_capacity self.new.losses ≡ vec_capacity self.old.losses }
     {
         let (caller, call) = (self.pass.caller(), self.pass.calls());

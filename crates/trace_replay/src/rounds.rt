@@ -51,7 +51,8 @@ pub(crate) fn play_beside<R: Threads + Sync, G: Gate + Sync, C: ParcelChain<CtxB
     made
 }
 
-/// Plays all rounds of a trace, one after the other.
+/// Plays all rounds of a trace, one after the other: the callers' calls of each beside the turns of its ticks beside, and
+/// then one turn more, between two rests.
 fn play_rounds<G: Gate, C: ParcelChain<CtxBuf>>(
     stage: &Stage<'_, G>,
     recorder: &mut Recorder<C>,
@@ -62,29 +63,11 @@ fn play_rounds<G: Gate, C: ParcelChain<CtxBuf>>(
     ensures { OnOk result (Plays C.stands C.events C.kept stage.now.shared.now stage.now.trace.now (length stage.now.trace.now.rounds)
         callers.new.items recorder.old recorder.new) }
 {
-    let mut patience = Patience::new();
+    let patience = &mut Patience::new();
     for round in 0..stage.trace.rounds() {
-        play_round(stage, round, &mut patience, recorder, callers)?;
+        play_calls(stage, round, patience, recorder, callers)?;
+        end_round(stage, round, recorder, callers.as_slice())?;
     }
-    Ok(())
-}
-
-/// Plays a round: the callers' calls beside the turns of its ticks beside, and then one turn more, between two rests.
-fn play_round<G: Gate, C: ParcelChain<CtxBuf>>(
-    stage: &Stage<'_, G>,
-    round: u64,
-    patience: &mut Patience,
-    recorder: &mut Recorder<C>,
-    callers: &mut Vec<Caller>,
-) -> Result<(), NoMemory>
-    requires set { IsSet stage.now }
-    requires round { round < length stage.now.trace.now.rounds }
-    requires between { IsBetween C.events C.kept stage.now.shared.now stage.now.trace.now round callers.old.items recorder.old }
-    ensures { OnOk result (Plays C.stands C.events C.kept stage.now.shared.now stage.now.trace.now (round + 1)
-        callers.new.items recorder.old recorder.new) }
-{
-    play_calls(stage, round, patience, recorder, callers)?;
-    end_round(stage, round, recorder, callers.as_slice())?;
     Ok(())
 }
 

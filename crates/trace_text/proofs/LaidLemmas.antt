@@ -18,12 +18,7 @@ piece : {A B : Type 0} (f : A → List B) (xs : List A) (k start end : ℕ) (d :
     → IsPiece (flat_map f xs) start end (f (get_or xs k d))
 piece f xs k start end d within starts ends =
     let whole : flat_map f xs ≡ flat_map f (take k xs) ++ (f (get_or xs k d) ++ flat_map f (drop (suc k) xs)) = grind (arith, common_steps, take-append-drop k xs, drop-cons xs k d within) in
-    rw whole (record {
-      long = grind (arith, common_steps, length-append);
-      within = grind (arith, common_steps, length-append);
-      is = grind (arith, common_steps, length-append, drop_at, take_at);
-      at = λ i e inside. grind (arith, common_steps);
-    })
+    rw whole (grind (arith, common_steps, length-append, drop_at, take_at))
 
 -- ---- rounds by their places
 
@@ -71,14 +66,16 @@ now_sound t rounds few few_lines lie ticks =
 
 -- ---- a trace without rounds
 
-pub none_lie : (laid : Laid) (callers : ℕ) → laid.beside ≡ [] → laid.lines ≡ replicate callers [] → laid.ends ≡ at_start ∷ [] → Lie laid []
-none_lie laid callers ticks lines ends = record {
-  beside = ticks;
-  lines = λ caller. rw (lines, same_replicate {A = List Asked} callers caller []) refl;
-  callers = tt;
-  as_many = ap length ends;
-  ends = λ k le. let none : k ≡ 0 = omega arith in rw (none, ends) (record { beside = refl; lines = λ caller. same_replicate 32 caller 0; all_callers = refl; after = refl });
-}
+pub none_sound : (t : Inside) (callers : ℕ) → callers ≤ 32 → t.beside.items ≡ [] → t.rows ≡ replicate callers [] → t.ends.items ≡ at_start ∷ [] → IsSound t
+none_sound t callers few ticks rows ends =
+    let none = same_replicate {A = List Asked} callers in
+    now_sound t [] (grind (arith, rows, length-replicate, few)) (λ caller. rw (rows, none caller []) (omega arith)) (record {
+      beside = ticks;
+      lines = λ caller. rw (rows, none caller []) refl;
+      callers = tt;
+      as_many = ap length ends;
+      ends = λ k le. let none : k ≡ 0 = omega arith in rw (none, ends) (record { beside = refl; lines = λ caller. same_replicate 32 caller 0; all_callers = refl; after = refl });
+    }) (record { small = tt; keep_up = tt })
 
 -- ---- changes
 
@@ -104,12 +101,7 @@ round_lies laid rounds more end lie ticks counts =
       callers = all_append _ rounds (round ∷ []) lie.callers (length-replicate (length laid.lines) [], tt);
       as_many = grind (arith, length-append, lie.as_many);
       ends = ends_are (laid.ends ++ end ∷ []) rounds round (λ k le. rw (get_or_append_left laid.ends (end ∷ []) at_start k (omega (arith, lie.as_many))) (lie.ends k le))
-          (rw (get_or_push laid.ends end at_start (length rounds + 1) lie.as_many) (record {
-            beside = rw (← beside) ticks;
-            lines = λ caller. rw (counts, ← lines caller, lie.lines caller) (last.lines caller);
-            all_callers = rw counts last.all_callers;
-            after = sym (last_tick-push rounds round);
-          }));
+          (rw (get_or_push laid.ends end at_start (length rounds + 1) lie.as_many) (grind (arith, beside, ticks, counts, lines, lie.lines, last, last_tick-push)));
     }
 
 -- the lists with other lines and another last place
@@ -154,22 +146,14 @@ module _ (laid : Laid) (front : List Round) (round : Round) (lie : Lie laid (fro
       let now = asked_more caller asked round in
       let its : (k : ℕ) → get_or (set laid.lines caller (get_or laid.lines caller [] ++ asked ∷ [])) k [] ≡ lines_of k (front ++ now ∷ []) =
       λ k. grind (arith, common_steps, lie.lines, lists.1.0, flat_map-push (lines_at k) front) in
-      changed now _ _ refl (length-set round.lines caller _) (length-set laid.lines caller _) its (record {
-        beside = grind (arith, common_steps, ends_last.beside, flat_map-push (λ (r : Round). r.beside) front);
-        lines = λ k. rw (← its k) (grind (arith, common_steps, is, ends_last.lines, ends_last.all_callers, all_counted laid (front ++ round ∷ []) lie));
-        all_callers = length-set (last_end laid).lines caller count ∙ ends_last.all_callers;
-        after = grind (arith, ends_last.after, last_tick-push front);
-      })
+      changed now _ _ refl (length-set round.lines caller _) (length-set laid.lines caller _) its
+      (grind (arith, common_steps, is, ends_last, its, all_counted laid (front ++ round ∷ []) lie, last_tick-push, flat_map-push (λ (r : Round). r.beside) front))
 
   end_lies : (tick : ℕ) → Lie (and_tick laid tick) (front ++ ended_at tick round ∷ [])
   end_lies tick =
       let its : (caller : ℕ) → lines_of caller (front ++ round ∷ []) ≡ lines_of caller (front ++ ended_at tick round ∷ []) = λ caller. grind (arith, flat_map-push (lines_at caller) front) in
-      changed (ended_at tick round) laid.lines _ refl refl refl (λ caller. lie.lines caller ∙ its caller) (record {
-        beside = grind (arith, ends_last.beside, flat_map-push (λ (r : Round). r.beside) front);
-        lines = λ caller. ends_last.lines caller ∙ ap length (its caller);
-        all_callers = ends_last.all_callers;
-        after = sym (last_tick-push front (ended_at tick round));
-      })
+      changed (ended_at tick round) laid.lines _ refl refl refl (λ caller. lie.lines caller ∙ its caller)
+      (grind (arith, ends_last, its, last_tick-push, flat_map-push (λ (r : Round). r.beside) front))
 
 module _ (laid : Laid) (rounds : List Round) (lie : Lie laid rounds) (some : 0 < length rounds) where
   -- a line more in the last round, and another last tick

@@ -5,7 +5,6 @@ pub mod LineLemmas
 pub mod Names
 pub mod PastLemmas
 pub mod PrintingLemmas
-pub mod ReaderLemmas
 pub mod RowsLemmas
 pub mod StandsLemmas
 pub mod TicksLemmas

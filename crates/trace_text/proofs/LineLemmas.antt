@@ -5,7 +5,7 @@ use Rattle.history_spec.specs.Contexts.{claim_in, claim_of, claims_of, IsLegalMi
 use Rattle.text_spec.specs.Below.{IsBytes}
 use Rattle.std.proofs.lemmas.List.Folds.{list_any_none}
 use Rattle.std.proofs.lemmas.List.Sums.{list_all-from_AllPass}
-use Rattle.trace_text.proofs.StandsLemmas.{all_stands, once_there, stands_all, stands_at, stands_counted, stands_flat_map, stands_map}
+use Rattle.trace_text.proofs.StandsLemmas.{all_stands, stands_all, stands_at, stands_counted, stands_flat_map, stands_map}
 
 -- entries with their context as bytes
 abbrev pub Entries : Type 0
@@ -89,14 +89,11 @@ module _ (config : Parts) where
     context_fits caller call bytes Absent are low carries = (tt, refl)
     context_fits caller call bytes (Kept class claim kept) are low carries =
         let its_claim = low class claim (rw (eq-eqb class class refl) (0, refl)) in
-        let long = ap length carries.kept_is in (
-          (tt, (tt, ((subst IsBytes (sym carries.kept_is) are, omega (arith, long, carries.some_bytes)), tt))),
-          grind (arith, its_claim, long, carries, valid.few_classes, size_small 0 class config.classes valid.classes),
-        )
-    context_fits caller call bytes (Missing numbers) are low carries = (
-      omega (arith, carries.1.each_class, valid.few_classes),
-      list_all-from_AllPass is_claim numbers (All-from_recursion _ numbers (stands_all _ numbers (λ n at. miss_small caller call _ n (carries.1.each_miss at.0 n at.1)))),
-    )
+        let its_bytes = subst IsBytes (sym carries.kept_is) are in
+        grind (arith, its_claim, its_bytes, ap length carries.kept_is, carries, valid.few_classes, size_small 0 class config.classes valid.classes)
+    context_fits caller call bytes (Missing numbers) are low carries =
+        let small_ones : is_context (Missing numbers) ≡ true = list_all-from_AllPass is_claim numbers (All-from_recursion _ numbers (stands_all _ numbers (λ n at. miss_small caller call _ n (carries.1.each_miss at.0 n at.1)))) in
+        grind (arith, carries.1.each_class, valid.few_classes, small_ones)
 
     -- an act that is as its line asks
     act_fits : (caller call : ℕ) (asked : Asked) (act : Act (List ℕ)) → MayAsk config asked
@@ -105,16 +102,11 @@ module _ (config : Parts) where
     act_fits caller call (reports event count stamp bytes) (Report its its_count its_stamp context) may low is
         (is_event, is_count, is_stamp, carries) =
         let fits = context_fits caller call bytes context may.0.1.1.1.1.1.0 low carries in
-        rw (is_event, is_count, is_stamp) (record {
-          held = (tt, (tt, (tt, (tt, (tt, (may.0.1.1.1.1.0, (fits.0, tt)))))));
-          place = is;
-          ranges = grind (arith, may.1, fits.1);
-          event = grind (arith, may.1);
-        })
+        grind (arith, is_event, is_count, is_stamp, may, fits, is)
     act_fits caller call (changes state) (State its) may low is is_state =
-        rw is_state (record { held = (tt, (tt, (tt, (tt, (tt, tt))))); place = is; ranges = grind (arith, may.1); event = refl })
+        grind (arith, is_state, may, is)
     act_fits caller call (sets event mode) (SetMode its its_mode) may low is (is_event, is_mode) =
-        rw (is_event, is_mode) (record { held = (tt, (tt, (tt, (tt, (tt, (tt, tt)))))); place = is; ranges = refl; event = may.1 })
+        grind (arith, is_event, is_mode, may, is)
     act_fits caller call asked act may low is none = absurd none
 
     -- each entry
@@ -137,30 +129,24 @@ module _ (config : Parts) where
         let tick = all_stands IsSmall (ticks_of rounds) turn.head.tick ticks (rw merge.ticks_are at its_tick) in
         let head = all_stands (λ t. IsSmallHead t.head) turns turn small.heads stands in
         let few = all_stands (λ t. length t.entries ≤ config.ring) turns turn merge.few stands in
-        record {
-          head = rw (le-leb _ _ tick, le-leb _ _ head.lost_events, le-leb _ _ head.lost_contexts, le-leb _ _ head.limited) refl;
-          few = omega (arith, few, valid.ring.most);
-          entries = stands_all (EntryFits config) turn.entries (λ e at.
-              entry_fits e (stands_flat_map (λ t. t.entries) turns turn e stands at));
-        }
+        let entries = stands_all (EntryFits config) turn.entries (λ e at. entry_fits e (stands_flat_map (λ t. t.entries) turns turn e stands at)) in
+        grind (arith, tick, head, few, valid.ring.most, entries)
 
     -- each loss; its call is no entry's
     pub loss_fits : (loss : Loss) → StandsIn losses loss → LossFits (entries_of turns) loss
     loss_fits loss stands =
         let kept = stands_kept (λ l. loss.caller == l.caller) losses loss stands (eq-eqb loss.caller loss.caller refl) in
         let calls = calls_of loss.caller (entries_of turns) in
-        let once = once_there loss.call _ calls (lost_calls_of loss.caller losses) (merge.calls.each_once loss.caller loss.call)
-        (stands_map (λ l. l.call) _ loss kept) in
-        let is = line_is_call loss.caller loss.call once.0 in
+        let once = merge.calls.each_once loss.caller loss.call in
+        let lost = stands_counted loss.call (lost_calls_of loss.caller losses) (stands_map (λ l. l.call) _ loss kept) in
+        let is = line_is_call loss.caller loss.call (grind (arith, once, lost)) in
         let none_is = λ (e : Entry (List ℕ)) (at : StandsIn (entries_of turns) e)
         (same : is_pair (pair_of loss.caller loss.call) e ≡ true).
         let place = (entry_fits e at).place in
         let pair = eqb-true _ _ same in
         let by : e.caller ≡ loss.caller = grind (arith, place, is, pair) in
         let own = stands_kept (λ x. loss.caller == x.caller) (entries_of turns) e at (eq-eqb _ _ (sym by)) in
-        once.1 (subst (StandsIn calls) (omega (arith, pair, by)) (stands_map (λ x. x.call) _ e own)) in
-        record {
-          place = is;
-          given = le-leb loss.given (2 ^ 46) (omega (arith, (merge.calls.legal loss stands).claimed, small.few_entries));
-          apart = list_any_none _ (entries_of turns) (All-from_recursion _ _ (stands_all _ (entries_of turns) (λ e at. false_from_ne_true _ (none_is e at))));
-        }
+        let own_call = stands_counted loss.call calls (subst (StandsIn calls) (omega (arith, pair, by)) (stands_map (λ x. x.call) _ e own)) in
+        let never : ⊥ = grind (arith, once, lost, own_call) in never in
+        let apart : list_any (is_pair (pair_of loss.caller loss.call)) (entries_of turns) ≡ false = list_any_none _ (entries_of turns) (All-from_recursion _ _ (stands_all _ (entries_of turns) (λ e at. false_from_ne_true _ (none_is e at)))) in
+        grind (arith, is, (merge.calls.legal loss stands).claimed, small.few_entries, apart)

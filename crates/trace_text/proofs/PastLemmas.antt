@@ -31,16 +31,7 @@ module _ (config : Parts) (all : Entries) where
       let least = (rw (eq-eqb e.caller e.caller refl) at (awaits.calls_rise e.caller)).0 in
       let few : past.entries < 1024 = omega (arith, awaits.few) in (
         rw (awaits.no_losses, lt-ltb 0 _ begun, fits.place, fits.ranges, fits.event, le-leb _ _ least, lt-ltb _ 1024 few) refl,
-        record {
-          callers = grind (arith, length-set, awaits.callers);
-          no_losses = awaits.no_losses;
-          has_begun = λ more. omega (arith, length_with_entry past.told.turns e, begun);
-          few = omega (arith, awaits.few);
-          calls_rise = λ caller. grind (arith, common_steps, within, awaits.calls_rise caller);
-          ticks_keep_up = awaits.ticks_keep_up;
-          are_all = grind (arith, append_assoc, entries_of-with_entry, begun, awaits.are_all);
-          no_pair = awaits.no_pair;
-        },
+        grind (arith, common_steps, length-set, append_assoc, length_with_entry, entries_of-with_entry, within, begun, awaits),
       )
 
   -- the head of a turn that is awaited
@@ -49,16 +40,7 @@ module _ (config : Parts) (all : Entries) where
   head_taken past turn turns fits awaits =
       let same = flat_map-push (λ (t : Turn). t.entries) past.told.turns (begun turn.head) ∙ append-nil _ in (
         grind (arith, awaits.no_losses, fits.head, awaits.ticks_keep_up.0),
-        record {
-          callers = awaits.callers;
-          no_losses = awaits.no_losses;
-          has_begun = λ some. omega (arith, length-append past.told.turns (begun turn.head ∷ []));
-          few = omega (arith, fits.few);
-          calls_rise = awaits.calls_rise;
-          ticks_keep_up = awaits.ticks_keep_up.1;
-          are_all = rw same awaits.are_all;
-          no_pair = awaits.no_pair;
-        },
+        grind (arith, length-append, fits.few, same, awaits),
       )
 
   -- ---- all lines
@@ -69,10 +51,8 @@ module _ (config : Parts) (all : Entries) where
       → AreTaken past (map loses losses)
   losses_taken past caller call [] pair small are order fits = (tt, tt)
   losses_taken past caller call (loss ∷ losses) pair small are order fits =
-      let least : past.pair ≤ pair_of loss.caller loss.call = omega (arith, pair, small, order.0) in
-      let none : fault_of config past (loses loss) ≡ Ok tt = grind (arith, fits.0.place, fits.0.given, fits.0.apart, are, least) in
       let rest = losses_taken (next past (loses loss)) loss.caller (suc loss.call) losses (omega arith) (grind (arith, fits.0.place)) are order.1 fits.1 in
-      (((tt, (tt, (tt, (tt, tt)))), rest.0), (none, rest.1))
+      grind (arith, pair, small, order, fits, are, rest)
 
   -- entries that are awaited, and some lines after them
   entries_taken : (past : Past) (entries : Entries) (turns : List Turn) (rest : List Line) → AllByRecursion (EntryFits config) entries

@@ -1,5 +1,6 @@
 -- The text of a trace, one line after another.
-use Rattle.trace_text.proofs.Names.{◌≡◌, ℕ, suc, ◌+◌, List, [], ◌∷◌, ◌++◌, length, map, take, refl, sym, ap, ◌∙◌, append_assoc, arith, decimal, append-nil, map-append, take_all, AllByRecursion, Parts, IsAllowedRound, MayAsk, ended_line, words_of_fields, Asked, Round, asked_fields, calls, callers_told, closes, number_fields, opens, round_told, rounds_told, trace_fields, trace_line_for, line_of, space, flat_map-push, text_of-map, caller_text, lines_text, ticks_text}
+use Rattle.trace_text.proofs.Names.{◌≡◌, ◌≤◌, Traced, AreTicks, trace_in, trace_again, Ok, ℕ, suc, ◌+◌, List, [], ◌∷◌, ◌++◌, length, map, take, refl, sym, ap, ◌∙◌, append_assoc, arith, decimal, append-nil, map-append, take_all, AllByRecursion, Parts, IsAllowedRound, MayAsk, ended_line, words_of_fields, Asked, Round, asked_fields, calls, callers_told, closes, number_fields, opens, round_told, rounds_told, trace_fields, trace_line_for, line_of, space, flat_map-push, text_of-map, caller_text, lines_text, ticks_text, common_steps}
+use Rattle.text_spec.specs.TraceText.{trace_text}
 
 -- ---- the line that opens a round
 
@@ -25,16 +26,19 @@ pub callers_text-push : (front : List (List Asked)) (lines : List Asked) → lin
 callers_text-push front lines = ap lines_text (callers_told-push 0 (length front) front lines (omega arith)) ∙ text_of-map trace_line_for (callers_told 0 front) (map (calls (length front)) lines)
 
 -- a whole round
-pub round_printed : (before opened called next : List ℕ) (round : Round) (callers : ℕ) → callers ≡ length round.lines → opened ≡ before ++ ended_line (trace_fields (opens round.beside))
-    → called ≡ opened ++ lines_text (callers_told 0 (take callers round.lines)) → next ≡ called ++ ended_line (trace_fields (closes round.after)) → next ≡ before ++ lines_text (round_told round)
-round_printed before opened called next round callers all is_opened is_called is_closed =
+pub round_text : (round : Round) → lines_text (round_told round) ≡ ended_line (trace_fields (opens round.beside)) ++ (lines_text (callers_told 0 round.lines) ++ ended_line (trace_fields (closes round.after)))
+round_text round =
     let middle = callers_told 0 round.lines in
     let parts = text_of-map trace_line_for (opens round.beside ∷ []) (middle ++ closes round.after ∷ []) in
-    let ending = text_of-map trace_line_for middle (closes round.after ∷ []) in
-    rw (is_closed, is_called, is_opened, take_all callers round.lines (omega (arith, all))) (grind (arith, append_assoc, parts, ending))
+    grind (arith, append_assoc, parts, text_of-map trace_line_for middle (closes round.after ∷ []))
 
 pub rounds_text-push : (front : List Round) (round : Round) → lines_text (rounds_told (front ++ round ∷ [])) ≡ lines_text (rounds_told front) ++ lines_text (round_told round)
 rounds_text-push front round = ap lines_text (flat_map-push round_told front round) ∙ text_of-map trace_line_for (rounds_told front) (round_told round)
+
+-- how lines are printed, one after another
+pub ruleset pushes = (common_steps, append_assoc, ticks_text-push, opening_text, caller_text-push, rounds_text-push)
+
+pub ruleset round_pushes = (common_steps, append_assoc, callers_text-push, round_text, take_all)
 
 -- ---- the text is read again
 
@@ -42,3 +46,7 @@ pub all_allowed : (config : Parts) (callers : ℕ) (rounds : List Round) → con
     → AllByRecursion (λ (round : Round). AllByRecursion (AllByRecursion (MayAsk config)) round.lines) rounds → AllByRecursion (IsAllowedRound config) rounds
 all_allowed config callers [] same wide may = tt
 all_allowed config callers (round ∷ rounds) same wide may = (record { callers = wide.0 ∙ sym same; asked = may.0 }, all_allowed config callers rounds same wide.1 may.1)
+
+pub text_again : (config : Parts) (trace : Traced) → config.callers ≤ 32 → length config.events ≤ 256 → config.callers ≡ trace.callers → AllByRecursion (λ (round : Round). length round.lines ≡ trace.callers) trace.rounds
+    → AreTicks trace.rounds → AllByRecursion (λ (round : Round). AllByRecursion (AllByRecursion (MayAsk config)) round.lines) trace.rounds → trace_in config (trace_text trace.rounds) ≡ Ok trace.rounds
+text_again config trace callers few same wide ticks may = trace_again config trace.rounds callers few (record { allowed = all_allowed config trace.callers trace.rounds same wide may; ticks = ticks })

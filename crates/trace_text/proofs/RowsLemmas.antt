@@ -23,8 +23,7 @@ maps_same f g P same [] all = refl
 maps_same f g P same (x ∷ xs) all = ap₂ ◌∷◌ (same x all.0) (maps_same f g P same xs all.1)
 
 row_within : (n m : ℕ) → n ≤ m → (row : Row) → IsRowWithin n row → IsRowWithin m row
-row_within n m le (rows.Report event count stamp start end) within = (within.0, omega (arith, le, within.1))
-row_within n m le row within = tt
+row_within n m le row within = grind (arith, le, within)
 
 all_weaker : {A : Type 0} (P Q : A → Type 0) → ((x : A) → P x → Q x) → (xs : List A) → AllByRecursion P xs → AllByRecursion Q xs
 all_weaker P Q less xs all = recursion_from_All Q xs (All-weaker P Q less xs (All-from_recursion P xs all))

@@ -9,12 +9,6 @@ stands_counted x [] (place, at) = cc
 stands_counted x (y ∷ xs) (zero, at) = rw (eq-eqb y x (some-injective y x at)) (omega arith)
 stands_counted x (y ∷ xs) (suc place, at) = omega (arith, stands_counted x xs (place, at))
 
--- a number that is counted once where it is below a bound, and stands in the second of two lists, is below the bound
--- and does not stand in the first
-pub once_there : (x n : ℕ) (xs ys : List ℕ) → times x xs + times x ys ≡ once_below x n → StandsIn ys x
-    → (x < n) × (StandsIn xs x → ⊥)
-once_there x n xs ys once stands = (grind (arith, stands_counted), λ first. grind (arith, stands_counted))
-
 -- at each place of a list of one thing, and at any other, stands that thing
 pub same_replicate : {A : Type 0} (n i : ℕ) (x : A) → get_or (replicate n x) i x ≡ x
 same_replicate n i x = grind (arith, common_steps)

@@ -16,6 +16,7 @@ use text_spec::{push_bytes, push_field, push_mode, push_stamp};
 /// The text of a trace: its rounds, the lines of each by caller.
 /// Steps: the bytes of the text, and one step for each caller of each round, at most 32. Memory: may answer want of
 /// memory. By: `text`; read off.
+#[tactic(auto, using(crate::proofs::PrintingLemmas::text_again))]
 pub fn print(alloc: Global, trace: &Trace) -> Result<Vec<u8>, NoMemory>
     ensures text { IfOk result (λ text. text.items ≡ trace_text trace.now.rounds) }
     // Under each configuration that has its callers and allows each of its lines, the text is read as it.
@@ -29,6 +30,7 @@ pub fn print(alloc: Global, trace: &Trace) -> Result<Vec<u8>, NoMemory>
     print_rounds(alloc, trace)
 }
 
+#[tactic(auto, using(crate::proofs::PrintingLemmas::pushes))]
 fn print_rounds(alloc: Global, trace: &Trace) -> Result<Vec<u8>, NoMemory>
     ensures { IfOk result (λ text. text.items ≡ trace_text trace.now.rounds) }
 {
@@ -40,6 +42,7 @@ fn print_rounds(alloc: Global, trace: &Trace) -> Result<Vec<u8>, NoMemory>
 }
 
 /// Appends the lines of a round.
+#[tactic(auto, using(crate::proofs::PrintingLemmas::round_pushes))]
 fn push_round(out: &mut Vec<u8>, trace: &Trace, round: u64) -> Result<(), NoMemory>
     requires round { round < length trace.now.rounds }
     requires callers { length (round_at trace.now.rounds round).lines ≡ trace.now.callers }
@@ -54,6 +57,7 @@ fn push_round(out: &mut Vec<u8>, trace: &Trace, round: u64) -> Result<(), NoMemo
 }
 
 /// Appends `N` and the ticks as a line.
+#[tactic(auto, using(crate::proofs::PrintingLemmas::pushes))]
 fn push_opening(out: &mut Vec<u8>, ticks: &[u64]) -> Result<(), NoMemory>
     ensures { OnOk result (out.new.items ≡ out.old.items ++ ended_line (trace_fields (opens ticks.now))) }
 {
@@ -63,6 +67,7 @@ fn push_opening(out: &mut Vec<u8>, ticks: &[u64]) -> Result<(), NoMemory>
 }
 
 /// Appends each tick after a space.
+#[tactic(auto, using(crate::proofs::PrintingLemmas::pushes))]
 fn push_ticks(out: &mut Vec<u8>, ticks: &[u64]) -> Result<(), NoMemory>
     ensures { OnOk result (out.new.items ≡ out.old.items ++ ticks_text ticks.now) }
 {
@@ -82,6 +87,7 @@ fn push_closing(out: &mut Vec<u8>, tick: u64) -> Result<(), NoMemory>
 }
 
 /// Appends the lines of a caller in a round.
+#[tactic(auto, using(crate::proofs::PrintingLemmas::pushes))]
 fn push_caller(out: &mut Vec<u8>, trace: &Trace, round: u64, caller: u8) -> Result<(), NoMemory>
     requires round { round < length trace.now.rounds }
     requires caller { caller < trace.now.callers }

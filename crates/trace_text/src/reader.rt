@@ -67,6 +67,7 @@ impl<'a> Reader<'a> {
     }
 
     /// Opens a round, whose ticks beside these words are.
+    #[tactic(auto, using(crate::proofs::Names::opening_small, crate::proofs::Names::opening_keeps_up))]
     fn open(&mut self, words: Words<'_>) -> Result<(), LineFault>
         ensures took { Took (past_of self.new)
             (past_with (trace_grammar self.old.config.now) (past_of self.old)

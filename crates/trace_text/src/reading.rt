@@ -1,6 +1,6 @@
 //! Reading a trace from its text.
 
-ghost use Rattle.std.specs.Prelude.{◌≡◌, IfOk};
+ghost use Rattle.std.specs.Prelude.{◌≡◌, IfOk, Ok};
 ghost use Rattle.text_spec.specs.{Reads, AreRounds, trace_in};
 
 use crate::reader::Reader;
@@ -11,6 +11,7 @@ use text_spec::{LineFault, LineReader, TextFault, read_lines};
 
 /// The trace that the text is under this configuration, or its first bad line and that line's first fault.
 /// Steps: the bytes of the text. Memory: may answer want of memory (`TextFault`). By: `exact` (`Reads`); read off.
+#[tactic(auto, using(text_spec::proofs::TraceLaws::trace_fits))]
 pub fn read(alloc: Global, text: &[u8], config: &Config) -> Result<Trace, TextFault>
     // The answer is what the text's lines tell one after another.
     ensures exact { Reads (λ t. t.rounds) (trace_in config.now text.now) result }
@@ -24,6 +25,7 @@ pub fn read(alloc: Global, text: &[u8], config: &Config) -> Result<Trace, TextFa
 /// What the lines of a text tell.
 fn read_trace(alloc: Global, text: &[u8], config: &Config) -> Result<Trace, TextFault>
     ensures exact { Reads (λ t. t.rounds) (trace_in config.now text.now) result }
+    ensures told { IfOk result (λ t. trace_in config.now text.now ≡ Ok t.rounds) }
     ensures callers { IfOk result (λ t. t.callers ≡ config.now.callers) }
 {
     let reader = read_lines(Reader::new(alloc, config)?, text)?;

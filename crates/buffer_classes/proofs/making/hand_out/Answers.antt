@@ -13,8 +13,8 @@ its c = at_index c.loop-seat.claimants.items c.len.result c.index_mut.result.now
 pub push_reserved-requires : goal.push_reserved-requires
 push_reserved-requires c =
     let old = there c.args.claimants.now.items c.len.result (grind (arith, common_steps, c.requires.as_many)) in
-    let was = c.loop-seat.invariant.1.each c.len.result old.0 _ old.1 (its (goal.at.push_reserved-requires c).After-index_mut) in
-    grind (arith, common_steps, was.1, c.requires.room c.len.result old.0 old.1)
+    let here = its (goal.at.push_reserved-requires c).After-index_mut in
+    grind (arith, common_steps, c.loop-seat.invariant.1.each c.len.result, here, c.requires.room c.len.result, old)
 
 pub loop-seat-preserved : goal.loop-seat-preserved
 loop-seat-preserved c =

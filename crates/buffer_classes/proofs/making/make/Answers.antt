@@ -12,7 +12,7 @@ hand_out-requires-clause-room c = λ j seat at.
     grind (arith, common_steps, (c.loop-spec.invariant.0.each j seat at).is_claimant.all, as_many c.loop-spec.invariant.0, c.loop-spec.invariant.3 j seat at)
 
 pub push_reserved-requires : goal.push_reserved-requires
-push_reserved-requires c = grind (arith, common_steps, c.loop-spec.invariant.0.givers_are.all, as_many c.loop-spec.invariant.0)
+push_reserved-requires c = grind (arith, common_steps, c.loop-spec.invariant, as_many c.loop-spec.invariant.0)
 
 pub loop-spec-preserved : goal.loop-spec-preserved
 loop-spec-preserved c =

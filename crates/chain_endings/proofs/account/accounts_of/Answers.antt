@@ -1,4 +1,4 @@
-use Rattle.chain_endings.proofs.Names.{nothing, get_or-replicate, length-replicate, map_more, reverse-append, ◌<◌, length, map, reverse, get_or, take, sym, ap, subst, ◌∙◌, arith, rules, ending_of}
+use Rattle.chain_endings.proofs.Names.{nothing, get_or-replicate, map_more, reverse-append, map, reverse, get_or, take, sym, ap, subst, ◌∙◌, arith, common_steps, rules, ending_of}
 use Rattle.chain_endings.specs.Accounting.{AreOf}
 use Rattle.chain_endings.proofs.AccountingLemmas.{accounts_few, accounts_more}
 use Rattle.chain_endings.proofs.account.accounts_of.Goals as goal
@@ -6,12 +6,7 @@ use Rattle.chain_endings.proofs.account.accounts_of.Goals as goal
 pub loop-ending-init : goal.loop-ending-init
 loop-ending-init c =
     let equal = c.in_ok-accounts.ensures.items_if_clones_equal (λ y is. is) in
-    record {
-      events = search rules;
-      each = λ k less.
-          let low : k < c.len.result = omega (arith, less, ap length equal, length-replicate c.len.result c.nothing.result) in
-          rw (equal, get_or-replicate c.len.result k c.nothing.result nothing low) c.nothing.ensures;
-    }
+    record { events = search rules; each = λ k less. grind (arith, common_steps, equal, get_or-replicate c.len.result k c.nothing.result nothing, c.nothing.ensures) }
 
 pub add_to-requires : goal.add_to-requires
 add_to-requires c =

@@ -4,8 +4,7 @@ use Rattle.chain_endings.proofs.accounts.count_all.Given as goal
 
 -- the first entries are counted
 abbrev pub invariant-loop-entry : goal.invariant-loop-entry
-invariant-loop-entry l = record {
-  front : List (Entry (List ℕ));
+invariant-loop-entry l = (front : List (Entry (List ℕ))) × record {
   whole : front ++ l.rest ≡ l.initial.rest;
   counts : (done : List (Entry (List ℕ))) → CountsMissing done l.initial.missing.items → CountsMissing (done ++ front) l.missing.items;
   count : length l.missing.items ≡ length l.initial.missing.items;

@@ -4,8 +4,7 @@ use Rattle.chain_endings.proofs.accounts.missing_in.Given as goal
 
 -- the entries of the turns that were gone over are counted, and with those that are left they are all
 abbrev pub invariant-loop-entries : goal.invariant-loop-entries
-invariant-loop-entries l = record {
-  done : List (Entry (List ℕ));
+invariant-loop-entries l = (done : List (Entry (List ℕ))) × record {
   whole : done ++ entries_of l.turns ≡ entries_of l.history.turns;
   counts : CountsMissing done l.missing.items;
   count : length l.missing.items ≡ l.events;

@@ -1,4 +1,4 @@
-use Rattle.chain_endings.proofs.Names.{RiseFrom, turn_with, Parts, Turn, turn_at, append-nil, length-append, ◌≡◌, ◌<◌, ◌≤◌, [], ◌∷◌, ◌++◌, drop, length, map, reverse, refl, ap, ◌∙◌, arith, append_assoc, rules, common_steps, bare, ending_of, text_of}
+use Rattle.chain_endings.proofs.Names.{RiseFrom, turn_with, Parts, Turn, turn_at, append-nil, ◌≡◌, ◌<◌, ◌≤◌, [], ◌∷◌, ◌++◌, drop, length, map, reverse, ap, ◌∙◌, arith, common_steps, bare, ending_of, text_of}
 use Rattle.std.proofs.Math.Seq.{get_or-append_seam}
 use Rattle.filter_chain.specs.History.{last_tick}
 use Rattle.filter_chain.proofs.TranscriptLemmas.{last_of, newest_first}
@@ -20,10 +20,8 @@ behind c =
     let before = c.loop-head.invariant in
     let rest = c.pop_front.new.self in
     let left : c.loop-head.turns ≡ turn_of c ∷ rest = grind (arith, common_steps) in
-    let whole : before.taken ++ turn_of c ∷ rest ≡ c.args.history.now.turns = rw (← left) before.whole in
-    let less : c.loop-head.turn < length c.args.history.now.turns =
-    omega (arith, before.count, ap length whole, length-append before.taken (turn_of c ∷ rest)) in
-    (left, less, rw (before.count, ← whole) (get_or-append_seam before.taken (turn_of c) rest _))
+    let whole : before.0 ++ turn_of c ∷ rest ≡ c.args.history.now.turns = rw (← left) before.1.whole in
+    (left, grind (arith, common_steps, before.1.count, ap length whole), rw (before.1.count, ← whole) (get_or-append_seam before.0 (turn_of c) rest _))
 
 pub watched-requires : goal.watched-requires
 watched-requires c = c.make.ensures c.args.config.now
@@ -35,34 +33,24 @@ pub loop-head-init : goal.loop-head-init
 loop-head-init c =
     let config = c.args.config.now in
     let walked = c.walk-turns.ensures in
-    record {
-      taken = [];
-      whole = walked;
-      stands = c.in_ok-chain.ensures.stands;
-      text = ap (λ ts. c.args.out.now.items ++ text_of (turns_lines config [] ts)) walked;
-      count = refl;
-      all_events = c.in_ok-chain.ensures.events;
-      kept = rw c.in_ok-chain.ensures.kept (λ k d low. absurd (omega (arith, low)));
-      ready = search rules;
-      turns_fit = rw walked c.requires.turns_fit;
-      ticks = rw walked c.requires.ticks;
-    }
+    let text = ap (λ ts. c.args.out.now.items ++ text_of (turns_lines config [] ts)) walked in
+    ([], grind (arith, common_steps, walked, text, c.in_ok-chain.ensures, c.requires))
 
 -- the ticks rise, and what is heard before a turn and after it
-heard : (c : In_ok-heard) → let before = c.loop-head.invariant in let past = moments c.args.config.now (reverse before.taken) in
-    let turn = turn_with c.in-Some.head c.in-Some.entries in RiseFrom (last_tick before.taken) (turn ∷ c.pop_front.new.self)
+heard : (c : In_ok-heard) → let before = c.loop-head.invariant in let past = moments c.args.config.now (reverse before.0) in
+    let turn = turn_with c.in-Some.head c.in-Some.entries in RiseFrom (last_tick before.0) (turn ∷ c.pop_front.new.self)
     × (length c.in_ok-from.field-0.now ≤ length c.in_ok-heard.field-0.now)
     × (map ending_of (drop (length c.in_ok-from.field-0.now) c.in_ok-heard.field-0.now) ≡ map bare (turn_endings c.args.config.now past turn))
 heard c =
     let config = c.args.config.now in
     let before = c.loop-head.invariant in
-    let past = reverse before.taken in
+    let past = reverse before.0 in
     let turn = turn_with c.in-Some.head c.in-Some.entries in
     let left : c.loop-head.turns ≡ turn ∷ c.pop_front.new.self = grind (arith, common_steps) in
-    let rises = rw left at before.ticks in
-    let now = rw newest_first at (c.take.ensures.stands config before.taken before.stands rises.0) in
+    let rises = rw left at before.1.ticks in
+    let now = rw newest_first at (c.take.ensures.stands config before.0 before.1.stands rises.0) in
     let since = heard_since ending_of config (moments config past) turn c.in_ok-from.field-0.now c.in_ok-heard.field-0.now
-    (c.in_ok-from.ensures config (moments config past) (c.witness.ensures config past before.stands))
+    (c.in_ok-from.ensures config (moments config past) (c.witness.ensures config past before.1.stands))
     (c.in_ok-heard.ensures config (moments config (turn ∷ past)) (c.witness-in-Some.ensures config (turn ∷ past) now)) in
     (rises, since.0, since.1)
 
@@ -78,38 +66,22 @@ loop-head-preserved c =
     let before = c.loop-head.invariant in
     let turn = turn_with c.in-Some.head c.in-Some.entries in
     let rest = c.pop_front.new.self in
-    let past = reverse before.taken in
+    let past = reverse before.0 in
     let place = behind (goal.at.loop-head-preserved c).In-Some in
     let left = place.0 in
     let known = heard (goal.at.loop-head-preserved c).In_ok-heard in
-    let fit = rw left at before.turns_fit in
+    let fit = rw left at before.1.turns_fit in
     let ms = moments config past in
     let same = c.parts-parts.ensures.value in
     let lines = c.in_ok-push_turn.ensures ms (rw (c.split_at.ensures.back, same, place.2) known.2)
     ∙ ap (λ (p : Parts). c.loop-head.out.items ++ text_of (turn_lines p ms (turn_at c.args.history.now.turns c.loop-head.turn))) same
     ∙ ap (λ t. c.loop-head.out.items ++ text_of (turn_lines config ms t)) place.2 in
-    record {
-      taken = before.taken ++ turn ∷ [];
-      whole = rw append_assoc (rw left at before.whole);
-      stands = c.take.ensures.stands config before.taken before.stands known.0.0;
-      text = rw (newest_first before.taken turn) (text_more c.loop-head.out.items (turn_lines config ms turn)
-          (turns_lines config (turn ∷ past) rest) (rw left at before.text) lines);
-      count = grind (arith, common_steps, before.count);
-      all_events = c.take.ensures.events ∙ before.all_events;
-      kept = c.take.ensures.kept;
-      ready = rw before.all_events at c.take.ensures.ready;
-      turns_fit = fit.1;
-      ticks = rw (last_of before.taken turn) known.0.1;
-    }
+    let text = text_more c.loop-head.out.items (turn_lines config ms turn) (turns_lines config (turn ∷ past) rest) (rw left at before.1.text) lines in
+    let stands = c.take.ensures.stands config before.0 before.1.stands known.0.0 in
+    (before.0 ++ turn ∷ [], grind (arith, common_steps, before.1, left, known.0, fit, text, stands, newest_first before.0 turn, last_of before.0 turn, c.take.ensures))
 
 pub returns-clause-text : goal.returns-clause-text
-returns-clause-text c =
-    let end = c.loop-head.invariant in
-    let none : c.loop-head.turns ≡ [] = grind (arith, common_steps) in
-    rw (none, append-nil) at end.text
+returns-clause-text c = let end = c.loop-head.invariant in grind (arith, common_steps, end.1.text)
 
 pub returns-clause-stands : goal.returns-clause-stands
-returns-clause-stands c =
-    let end = c.loop-head.invariant in
-    let none : c.loop-head.turns ≡ [] = grind (arith, common_steps) in
-    rw (← (rw (none, append-nil) at end.whole)) end.stands
+returns-clause-stands c = let end = c.loop-head.invariant in grind (arith, common_steps, end.1.whole, end.1.stands, append-nil end.0)

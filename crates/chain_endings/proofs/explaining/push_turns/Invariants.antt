@@ -9,8 +9,7 @@ use Rattle.chain_endings.proofs.explaining.push_turns.Given as goal
 abbrev pub invariant-loop-head : goal.invariant-loop-head
 invariant-loop-head l =
     let many = length l.config.events in
-    record {
-      taken : List Turn;
+    (taken : List Turn) × record {
       whole : taken ++ l.turns ≡ l.history.turns;
       stands : StandsWatched (λ p. p.0.now) Hears l.config (reverse taken) l.chain;
       text : l.out.items ++ text_of (turns_lines l.config (reverse taken) l.turns)

@@ -7,8 +7,7 @@ use Rattle.chain_plain.proofs.folding.fold.Given as goal
 abbrev pub invariant-loop-head : goal.invariant-loop-head
 invariant-loop-head g l =
     let many = length l.config.events in
-    record {
-      taken : List Turn;
+    (taken : List Turn) × record {
       whole : taken ++ l.turns ≡ l.history.turns;
       stands : g.C.Chain.stands l.chain l.config taken;
       tells : Tells l.config taken l.tally;

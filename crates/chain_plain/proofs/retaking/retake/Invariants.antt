@@ -7,8 +7,7 @@ use Rattle.chain_plain.proofs.retaking.retake.Given as goal
 abbrev pub invariant-loop-head : goal.invariant-loop-head
 invariant-loop-head g l =
     let many = g.C.Chain.events l.fn.chain in
-    record {
-      taken : List Turn;
+    (taken : List Turn) × record {
       whole : taken ++ l.turns ≡ l.history.turns;
       stands : (config : Parts) → g.C.Chain.stands l.fn.chain config [] → AreInOrder (reverse taken)
           → g.C.Chain.stands l.chain config taken;

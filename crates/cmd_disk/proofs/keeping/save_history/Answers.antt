@@ -1,4 +1,4 @@
-use Rattle.cmd_disk.proofs.Names.{KeepsRows, rules, subst}
+use Rattle.cmd_disk.proofs.Names.{KeepsRows, subst}
 use Rattle.cmd_disk.proofs.EndLemmas.{none_begun, save_cause, saved_behind}
 use Rattle.cmd_disk.proofs.keeping.save_history.Goals as goal
 
@@ -24,6 +24,3 @@ pub returns-clause-leaves : goal.returns-clause-leaves
 returns-clause-leaves g c tells =
     let fault = c.in-Err.fault in
     rw c.not_begun.ensures (none_begun c.args.config.now c.args.history.now.turns g.D.Disk.shows c.args.disk fault (c.in-Err.ensures.any_moment tells))
-
-pub returns-clause-cause : goal.returns-clause-cause
-returns-clause-cause g c = search rules

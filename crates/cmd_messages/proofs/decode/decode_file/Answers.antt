@@ -1,12 +1,12 @@
-use Rattle.cmd_steps.proofs.Names.{decode, decoded_text, file, goes_on, judged, left_unread, messages_judged, reading_of, refl, stops_early}
+use Rattle.cmd_steps.proofs.Names.{decode, decoded_text, file, goes_on, judged, messages_judged, reading_of, refl}
 use Rattle.cmd_steps.proofs.MadeLemmas.{text_ends}
+use Rattle.cmd_messages.proofs.CopyLemmas.{unread}
 use Rattle.cmd_messages.proofs.decode.decode_file.Goals as goal
 
 pub returns-in_err-bytes : goal.returns-in_err-bytes
 unfolding reading_of
 returns-in_err-bytes g c =
-    left_unread (decode c.args.name.now) _ c.in_err-bytes.field-0.0 _ _ c.from_residual.ensures.1
-    (stops_early (file 67108864 c.args.name.now) (messages_judged decoded_text) _ _ _ c.in_err-bytes.ensures.reads)
+    unread _ (decode c.args.name.now) _ _ (messages_judged decoded_text) refl _ _ c.from_residual.ensures.1 c.in_err-bytes.ensures.reads
 
 pub returns : goal.returns
 unfolding reading_of

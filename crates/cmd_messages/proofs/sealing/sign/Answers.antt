@@ -1,23 +1,16 @@
-use Rattle.cmd_steps.proofs.Names.{Keyed, gives, goes_on, keyed_in, keyed_of, left_unread, read_none, reading_of, refl, seals, sign, stops_early}
+use Rattle.cmd_steps.proofs.Names.{Keyed, gives, keyed_of, reading_of, refl, seals, sign}
+use Rattle.cmd_messages.proofs.CopyLemmas.{come, unread}
 use Rattle.cmd_messages.proofs.sealing.sign.Goals as goal
 
 pub returns-in_err-key : goal.returns-in_err-key
 unfolding reading_of
 returns-in_err-key g c =
-    let names = keyed_of c.args.names in
-    left_unread (sign names) _ c.in_err-key.field-0.0 _ _ c.from_residual.ensures.1
-    (stops_early (keyed_in 67108864 names) (λ (keyed : Keyed). gives (seals names.files.target keyed.key names.start keyed.bytes)) _ _ _
-    c.in_err-key.ensures)
+    let next = λ (keyed : Keyed). gives (seals c.args.names.files.target.now keyed.key c.args.names.start keyed.bytes) in
+    unread _ (sign (keyed_of c.args.names)) _ _ next refl _ _ c.from_residual.ensures.1 c.in_err-key.ensures
 
 pub returns : goal.returns
 unfolding reading_of
 returns g c =
-    let names = keyed_of c.args.names in
-    c.write_made.ensures (sign names) (seals names.files.target c.in_ok-key.key names.start c.in_ok-key.bytes.items)
-    (g.H.Shelf.shows c.args.shelf.now)
-    (record {
-      read = goes_on (keyed_in 67108864 names) (λ (keyed : Keyed). gives (seals names.files.target keyed.key names.start keyed.bytes)) _ _ _ _
-          c.in_ok-key.ensures _ (read_none _ _);
-      writes = refl;
-    })
-    (rw c.deref.ensures.value at (c.make_sealed-made.ensures names.files.target))
+    let task = λ (keyed : Keyed). seals c.args.names.files.target.now keyed.key c.args.names.start keyed.bytes in
+    c.write_made.ensures (sign (keyed_of c.args.names)) _ _ (come _ _ _ _ task refl _ c.in_ok-key.ensures)
+    (rw c.deref.ensures.value at (c.make_sealed-made.ensures c.args.names.files.target.now))

@@ -15,6 +15,5 @@ returns-clause-one g c = rw c.lent.ensures at c.count-fate.ensures.one
 
 pub returns-clause-sends : goal.returns-clause-sends
 returns-clause-sends g c =
-    let one = rw c.lent.ensures at c.count-fate.ensures.one in
     let whole = ap (carried_room g.B.Parcel.held) c.give_back.ensures.items in
-    grind (arith, common_steps, whole, message_room g.B.Parcel.held c.args.item.context, one.sent_left)
+    grind (arith, common_steps, whole, c.lent.ensures, message_room g.B.Parcel.held c.args.item.context, c.count-fate.ensures.one)

@@ -1,24 +1,24 @@
-use Rattle.event_chain.proofs.Names.{◌≡◌, Some, None, refl, sym, ◌∙◌, ap, arith, common_steps, event_at, arrives, alone, item_at, told_by, carried_room, slots_by, stands_alone}
-use Rattle.event_chain.proofs.CallLemmas.{none_of, flows_with}
+use Rattle.event_chain.proofs.Names.{◌≡◌, None, refl, sym, ◌∙◌, ap, arith, common_steps, event_at, alone, item_at, told_by, carried_room, slots_by, stands_alone}
+use Rattle.event_chain.proofs.CallLemmas.{none_of}
 use Rattle.event_chain.proofs.joining.pass.Goals as goal
 
 pub returns-then-aggregates-clause-flows : goal.returns-then-aggregates-clause-flows
 returns-then-aggregates-clause-flows g c config start calls joined items flows ends =
     let told = told_by g.B.Parcel.held c.args.item in
-    let is = sym (c.aggregates.ensures.configured config calls flows.stands) ∙ c.if-aggregates.true in
-    let none : alone (event_at config told.event.0).aggregate (item_at c.args.tick told) ≡ None = grind (arith, common_steps, is) in
-    flows_with (arrives c.args.tick told) None flows none (c.join.ensures.stands config calls flows.stands ends.calls_end) flows.behind
+    let none : alone (event_at config told.event.0).aggregate (item_at c.args.tick told) ≡ None =
+    grind (arith, common_steps, c.aggregates.ensures.configured config calls flows.stands, c.if-aggregates.true) in
+    record { stands = c.join.ensures.stands config calls flows.stands ends.calls_end; behind = rw none flows.behind }
 
 pub returns-else-aggregates-clause-flows : goal.returns-else-aggregates-clause-flows
 returns-else-aggregates-clause-flows g c config start calls joined items flows ends =
     let held = g.B.Parcel.held in
     let told = told_by held c.args.item in
-    let item = item_at c.args.tick told in
     let none = none_of (event_at config told.event.0).aggregate
     (sym (c.aggregates.ensures.configured config calls flows.stands) ∙ c.if-aggregates.false) in
-    flows_with (arrives c.args.tick told) (Some item) flows (ap (λ setting. alone setting item) none)
-    (stands_alone config calls (slots_by held c.args.windows.now) c.args.tick told none flows.stands)
-    (c.go_on.ensures.stands config start joined items flows.behind ends.joined_end ends.items_end)
+    record {
+      stands = stands_alone config calls (slots_by held c.args.windows.now) c.args.tick told none flows.stands;
+      behind = rw none (c.go_on.ensures.stands config start joined items flows.behind ends.joined_end ends.items_end);
+    }
 
 pub returns-then-aggregates-clause-sends : goal.returns-then-aggregates-clause-sends
 returns-then-aggregates-clause-sends g c =

@@ -1,6 +1,8 @@
-use Rattle.frame_auth.proofs.Names.{refl, sym, subst, ◌∙◌, BeginsWith}
+use Rattle.frame_auth.proofs.Names.{refl, sym, ◌∙◌}
 use Rattle.ids_frame.proofs.DecodeLemmas.{are_bytes, decode_tells}
 use Rattle.frame_auth.proofs.reading.first_message.Goals as goal
+use Rattle.std.proofs.Common.{arith}
+use Rattle.std.proofs.lemmas.Grind.{common_steps}
 
 pub split_at-requires : goal.split_at-requires
 split_at-requires c = (decode_tells c.args.bytes.now _ (are_bytes _ c.type_inv.bytes) (sym c.in-Ok.is ∙ c.decode.ensures)).few
@@ -8,11 +10,7 @@ split_at-requires c = (decode_tells c.args.bytes.now _ (are_bytes _ c.type_inv.b
 pub returns-in-Ok : goal.returns-in-Ok
 returns-in-Ok c =
     let front = decode_tells c.args.bytes.now _ (are_bytes _ c.type_inv.bytes) (sym c.in-Ok.is ∙ c.decode.ensures) in
-    record {
-      begins = subst (BeginsWith c.args.bytes.now c.in-Ok.message) (sym c.split_at.ensures.back) front.begins;
-      spelled = c.split_at.ensures.front ∙ front.spelled;
-      bad = tt;
-    }
+    grind (arith, common_steps)
 
 pub returns-in-Err-clause-bad : goal.returns-in-Err-clause-bad
 returns-in-Err-clause-bad c = (refl, decode_tells c.args.bytes.now _ (are_bytes _ c.type_inv.bytes) (sym c.in-Err.is ∙ c.decode.ensures))

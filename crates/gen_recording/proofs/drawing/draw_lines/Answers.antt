@@ -1,17 +1,6 @@
-use Rattle.gen_recording.proofs.Names.{◌≡◌, ◌+◌, ◌*◌, ◌<◌, ◌++◌, ◌∷◌, [], length, map, sym, ap, ◌∙◌, arith, append_assoc, append-nil, range_with_len, map-range_with_len_more, line_asked, with_lines, number_after, changes_by, tick_after, report_at}
-use Rattle.gen_recording.proofs.TraceLemmas.{length-with_last, lines_more}
+use Rattle.gen_recording.proofs.Names.{◌≡◌, ◌+◌, ◌*◌, ◌++◌, ◌∷◌, [], map, sym, ap, ◌∙◌, arith, append_assoc, range_with_len, map-range_with_len_more, line_asked, with_lines, number_after, changes_by, tick_after, report_at}
+use Rattle.gen_recording.proofs.TraceLemmas.{lines_more}
 use Rattle.gen_recording.proofs.drawing.draw_lines.Goals as goal
-
-pub loop-init : goal.loop-init
-loop-init c = record {
-  trace = rw append-nil c.in_ok-push_change.ensures;
-  number = c.requires.number ∙ ap (number_after c.args.options.now.start) (omega arith);
-}
-
-pub push_line-requires-clause-round : goal.push_line-requires-clause-round
-push_line-requires-clause-round c =
-    let some : 0 < length c.args.trace.now.rounds = c.requires.some in
-    rw (c.loop.invariant.trace, length-with_last) some
 
 pub loop-preserved : goal.loop-preserved
 loop-preserved c =

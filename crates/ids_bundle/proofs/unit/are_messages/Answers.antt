@@ -1,4 +1,4 @@
-use Rattle.ids_bundle.proofs.Names.{arith, rules, take_rest, ◌+◌, ◌-◌}
+use Rattle.ids_bundle.proofs.Names.{arith, take_rest, ◌+◌, ◌-◌}
 use Rattle.std.proofs.lemmas.List.Elements.{All-drop}
 use Rattle.ids_frame.specs.Bytes.{IsByte}
 use Rattle.ids_frame.proofs.DecodeLemmas.{decode_tells}
@@ -8,8 +8,7 @@ use Rattle.ids_bundle.proofs.unit.are_messages.Goals as goal
 pub returns-in_default : goal.returns-in_default
 returns-in_default c =
     let inv = c.loop.invariant in
-    let none = none_more _ _ (c.args.number - c.loop.counter) inv.are_bytes (decode_tells _ _ inv.are_bytes c.in_default.ensures) (omega arith) in
-    (λ no. absurd (search rules), λ so. absurd (none (inv.fewer.0 so)))
+    grind (arith, inv.fewer, none_more _ _ (c.args.number - c.loop.counter) inv.are_bytes (decode_tells _ _ inv.are_bytes c.in_default.ensures))
 
 pub slice_bounds-rest-count : goal.slice_bounds-rest-count
 slice_bounds-rest-count c = (decode_tells _ _ c.loop.invariant.are_bytes c.in-Ok.ensures).few
@@ -22,7 +21,4 @@ loop-preserved c =
     let inv = c.loop.invariant in
     let front = decode_tells _ _ inv.are_bytes c.in-Ok.ensures in
     let so = one_fewer _ _ _ (c.args.number - c.loop.counter) (c.args.number - (c.loop.counter + 1)) front (omega arith) in
-    rw (take_rest c.loop.rest.now c.in-Ok.size) (record {
-      fewer = (λ all. so.0 (inv.fewer.0 all), λ few. inv.fewer.1 (so.1 few));
-      are_bytes = All-drop IsByte c.in-Ok.size c.loop.rest.now inv.are_bytes;
-    })
+    rw (take_rest c.loop.rest.now c.in-Ok.size) (grind (arith, so, inv, All-drop IsByte c.in-Ok.size c.loop.rest.now inv.are_bytes))

@@ -1,4 +1,4 @@
-use Rattle.std.proofs.Common.{◌≡◌, ◌++◌, refl, subst, option_copied, arith}
+use Rattle.std.proofs.Common.{◌≡◌, ◌++◌, refl, option_copied, arith}
 use Rattle.std.proofs.lemmas.Grind.{common_steps}
 use Rattle.ids_frame.specs.Spelling.{signature_part}
 use Rattle.ids_frame.proofs.writing.put_signature.Goals as goal
@@ -8,8 +8,4 @@ pub returns-in-Some : goal.returns-in-Some
 returns-in-Some g c =
     let whole : c.to_be_bytes.result ++ c.in-Some.bytes.now ≡ signature_part (option_copied c.args.signature) =
     rw (c.to_be_bytes.ensures, c.in-Some.is) refl in
-    record {
-      put = subst (λ xs. g.R.Room.extends c.args.room.now xs c.put-in-Some.new.self) whole
-          (g.met.R.Room.both _ _ _ _ _ c.put.ensures.put c.put-in-Some.ensures.put);
-      less = grind (arith, common_steps, c.put.ensures.less, c.put-in-Some.ensures.less);
-    }
+    grind (arith, common_steps, common_steps)

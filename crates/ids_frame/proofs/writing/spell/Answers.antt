@@ -1,4 +1,4 @@
-use Rattle.std.proofs.Common.{◌≡◌, ◌++◌, refl, subst, option_copied, arith}
+use Rattle.std.proofs.Common.{◌≡◌, ◌++◌, refl, option_copied, arith}
 use Rattle.std.proofs.lemmas.Grind.{common_steps}
 use Rattle.ids_frame.specs.Spelling.{context_part, signature_part, spelling, stamp_part}
 use Rattle.ids_frame.proofs.writing.spell.Goals as goal
@@ -10,9 +10,4 @@ returns g c =
     let whole : c.event_of.result ++ stamp_part c.stamp.result ++ context_part c.context.result
     ++ signature_part (option_copied c.signature.result) ≡ spelling c.args.message.now =
     rw (c.event_of.ensures, c.stamp.ensures, c.context.ensures.value, c.signature.ensures.value) refl in
-    record {
-      put = subst (λ xs. g.R.Room.extends c.args.room.now xs c.put_signature.new.room) whole
-          (both _ _ _ _ _ (both _ _ _ _ _ (both _ _ _ _ _ c.put.ensures.put c.put_stamp.ensures.put) c.put_context.ensures.put)
-          c.put_signature.ensures.put);
-      less = grind (arith, common_steps);
-    }
+    grind (arith, common_steps, common_steps)

@@ -1,21 +1,29 @@
-use Rattle.idsm_c.proofs.Names.{◌∙◌, sym, arith, contents_of}
-use Rattle.idsm_c.proofs.MakingLemmas.{keeps_all, none_more, one_taken}
+use Rattle.idsm_c.proofs.Names.{◌∙◌, arith, length, refl, sym, Option, contents_of}
+use Rattle.std.proofs.Common.{◌<◌}
+use Rattle.std.specs.Prelude.{is_some}
+use Rattle.std.proofs.Math.Seq.{map-set_same}
+use Rattle.std.proofs.lemmas.List.{get_or-map, length-map}
+use Rattle.std.proofs.lemmas.List.Folds.{list_any_at, list_any_more}
+use Rattle.idsm_api.specs.declared.role.Role.{Role}
+use Rattle.idsm_c.specs.declared.handle.Handle.{Handle}
 use Rattle.idsm_c.proofs.making.is_any_taken.Goals as goal
 
-pub returns-then-has_any-clause-told : goal.returns-then-has_any-clause-told
-returns-then-has_any-clause-told c =
-    sym (one_taken (contents_of c.args.handles.now) c.loop-i.handles c.loop-i.invariant.0 c.loop-i.i c.index-handles-i.result
-    (omega arith) (sym c.has_any.ensures.told ∙ c.if-has_any.true))
-
-pub returns-then-has_any-clause-same : goal.returns-then-has_any-clause-same
-returns-then-has_any-clause-same c =
-    keeps_all (contents_of c.args.handles.now) c.loop-i.handles c.loop-i.invariant.0 c.loop-i.i c.index-handles-i.result
-    (omega arith) c.has_any.new.self c.has_any.ensures.same
+pub returns-then-has_any : goal.returns-then-has_any
+returns-then-has_any c =
+    let old = c.loop-i.handles in
+    let i = c.loop-i.i in
+    let d = c.index-handles-i.result in
+    let low : i < length old = omega arith in
+    let any = list_any_at (λ (c : Option Role). is_some c) (contents_of old) i d.content (rw length-map low)
+    (rw (get_or-map (λ (h : Handle). h.content) old i d d.content low, ← c.has_any.ensures.told) c.if-has_any.true) in
+    record { told = rw (← c.loop-i.invariant.0) (sym any); same = map-set_same (λ (h : Handle). h.content) old i c.has_any.new.self d c.has_any.ensures.same ∙ c.loop-i.invariant.0 }
 
 pub loop-i-preserved : goal.loop-i-preserved
-loop-i-preserved c = (
-  keeps_all (contents_of c.args.handles.now) c.loop-i.handles c.loop-i.invariant.0 c.loop-i.i c.index-handles-i.result
-      (omega arith) c.has_any.new.self c.has_any.ensures.same,
-  none_more (contents_of c.args.handles.now) c.loop-i.handles c.loop-i.invariant.0 c.loop-i.i c.index-handles-i.result
-      (omega arith) c.loop-i.invariant.1 (sym c.has_any.ensures.told ∙ c.if-has_any.false),
-)
+loop-i-preserved c =
+    let old = c.loop-i.handles in
+    let i = c.loop-i.i in
+    let d = c.index-handles-i.result in
+    let low : i < length old = omega arith in
+    let same = map-set_same (λ (h : Handle). h.content) old i c.has_any.new.self d c.has_any.ensures.same in
+    let more = list_any_more (λ (c : Option Role). is_some c) (contents_of old) i d.content (rw length-map low) in
+    (same ∙ c.loop-i.invariant.0, rw (same, more, c.loop-i.invariant.1, get_or-map (λ (h : Handle). h.content) old i d d.content low, ← c.has_any.ensures.told, c.if-has_any.false) refl)

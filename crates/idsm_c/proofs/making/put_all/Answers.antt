@@ -1,12 +1,22 @@
-use Rattle.idsm_c.proofs.Names.{◌≡◌, ◌∷◌, ◌++◌, [], length, rules, Some, IsFit, roles_in, All-pop}
-use Rattle.idsm_c.proofs.MakingLemmas.{fills_one, roles_left}
+use Rattle.idsm_c.proofs.Names.{◌≡◌, ◌∙◌, ◌∷◌, [], ap, arith, length, rules, Some, Global, IsFit, contents_of, roles_in, All-pop, Role}
+use Rattle.std.proofs.Common.{◌<◌}
+use Rattle.std.proofs.lemmas.List.{append_assoc, drop-set, length_push, length-map, length-set, map-append, map-set}
+use Rattle.std.specs.declared.boxed.Box.{Box}
+use Rattle.idsm_c.specs.declared.handle.Handle.{Handle}
 use Rattle.idsm_c.proofs.making.put_all.Goals as goal
 
 pub loop-role-preserved : goal.loop-role-preserved
 loop-role-preserved c =
-    let left = c.loop-role.roles.items in let rest = c.pop.new.self.items in let role = c.in-Some.role in
-    let are : left ≡ rest ++ role ∷ [] = c.in-Some.ensures.items in
-    let many : c.len.result ≡ length rest = search rules in (
-      rw many (fills_one (roles_in c.args.roles.items) left rest role c.loop-role.handles c.loop-role.invariant.0 are c.put.new.self c.put.ensures),
-      (All-pop IsFit (roles_in left) (roles_in rest) (Some role.value) (roles_left left rest role are) c.loop-role.invariant.1).0,
+    let rest = c.pop.new.self.items in
+    let role = c.in-Some.role in
+    let old = c.loop-role.handles in
+    let long = ap length c.in-Some.ensures.items ∙ length_push rest role in
+    let roles = ap roles_in c.in-Some.ensures.items ∙ map-append (λ (box : Box Role Global). box.value) rest (role ∷ []) in
+    let was = simp (map-append, append_assoc) at (rw (roles, long) at c.loop-role.invariant.0) in
+    let low : length rest < length old = omega (arith, long, c.loop-role.invariant.1) in
+    let many : c.len.result ≡ length rest = search rules in
+    rw (many, map-set (λ (h : Handle). h.content) old (length rest) c.put.new.self, c.put.ensures, drop-set (contents_of old) (length rest) (Some role.value) (rw length-map low)) (
+      was,
+      simp length-set (omega (arith, low)),
+      (All-pop IsFit (roles_in c.loop-role.roles.items) (roles_in rest) (Some role.value) roles c.loop-role.invariant.2).0,
     )

@@ -1,15 +1,14 @@
 use Rattle.cmd_steps.proofs.Names.{Recorded, check, check_judged, file, goes_on, judged, left_unread, messages_of, reading_of, recorded_in, refl, stops_early, three_of, ◌>>=◌}
 use Rattle.cmd_steps.proofs.MadeLemmas.{text_ends}
+use Rattle.idsm_run.proofs.TaskLemmas.{unread}
 use Rattle.idsm_run.proofs.check.check.Goals as goal
 
 pub returns-in_err-inputs : goal.returns-in_err-inputs
 unfolding reading_of
 returns-in_err-inputs g c =
     let names = three_of c.args.names in
-    left_unread (check names) _ c.in_err-inputs.field-0.0 _ _ c.from_residual.ensures.1
-    (stops_early (recorded_in names.from)
-    (λ (own : Recorded). file 67108864 names.messages >>= λ bytes. check_judged bytes (messages_of own.config own.told.turns)) _ _ _
-    c.in_err-inputs.ensures.reads)
+    let next = λ (own : Recorded). file 67108864 names.messages >>= λ bytes. check_judged bytes (messages_of own.config own.told.turns) in
+    unread _ (check names) _ _ next refl _ _ c.from_residual.ensures.1 c.in_err-inputs.ensures.reads
 
 pub returns-in_err-bytes : goal.returns-in_err-bytes
 unfolding reading_of

@@ -1,12 +1,7 @@
-use Rattle.cmd_steps.proofs.Names.{drop, nat_eq, length-drop, arith, common_prefix_len-le}
+use Rattle.cmd_steps.proofs.Names.{drop, nat_eq, length-drop, arith, common_prefix_len-le, ℕ}
 use Rattle.idsm_run.proofs.check.common_len.Goals as goal
 
 -- one of the two has no byte more
 pub returns-after-loop-count : goal.returns-after-loop-count
 returns-after-loop-count c =
-    let left = c.args.left.now in
-    let right = c.args.right.now in
-    let count = c.loop-count.count in
-    let rest = common_prefix_len-le nat_eq (drop count left) (drop count right) in
-    let is = c.loop-count.invariant in
-    omega (arith, rest, length-drop count left, length-drop count right, is.least, is.within, is.same, c.loop-count-test.false)
+    omega (arith, common_prefix_len-le nat_eq (drop c.loop-count.count c.args.left.now) (drop c.loop-count.count c.args.right.now), length-drop {A = ℕ})

@@ -1,9 +1,5 @@
-use Rattle.cmd_steps.proofs.Names.{NoMemory, ap, does, gen, gen_work, given_of, inl, left_ends, names_of, read_none, reading_of, refl}
+use Rattle.cmd_steps.proofs.Names.{ap, does, gen, gen_work, given_of, names_of, read_none, reading_of, refl}
 use Rattle.idsm_run.proofs.generating.generate_files.Goals as goal
-
-pub returns-in_err-config : goal.returns-in_err-config
-returns-in_err-config g c =
-    left_ends (gen (given_of c.args.given)) _ NoMemory _ _ c.from_residual.ensures.1 (inl (λ told name. refl))
 
 pub returns : goal.returns
 unfolding reading_of

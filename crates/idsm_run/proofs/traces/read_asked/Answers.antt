@@ -1,30 +1,26 @@
-use Rattle.cmd_steps.proofs.Names.{config_in, file, five_of, goes_on, judged, left_reading, read_none, rounds_in, stops_early}
+use Rattle.cmd_steps.proofs.Names.{config_in, file, goes_on, judged, left_reading, read_none, rounds_in, stops_early}
 use Rattle.idsm_run.proofs.traces.read_asked.Goals as goal
 
 pub returns-in_err-config-clause-reads : goal.returns-in_err-config-clause-reads
 returns-in_err-config-clause-reads g c =
-    let names = five_of c.args.names in
     left_reading _ _ _ c.in_err-config.field-0.0 _ _ c.from_residual.ensures.1
-    (stops_early (config_in names.config) (rounds_in names.trace) _ _ _ c.in_err-config.ensures)
+    (stops_early (config_in c.args.names.config.now) (rounds_in c.args.names.trace.now) _ _ _ c.in_err-config.ensures)
 
 pub returns-in_err-text-clause-reads : goal.returns-in_err-text-clause-reads
 returns-in_err-text-clause-reads g c =
-    let names = five_of c.args.names in
     left_reading _ _ _ c.in_err-text.field-0.0 _ _ c.from_residual-in_err-text.ensures.1
-    (goes_on (config_in names.config) (rounds_in names.trace) _ _ _ _ c.in_ok-config.ensures _
+    (goes_on (config_in c.args.names.config.now) (rounds_in c.args.names.trace.now) _ _ _ _ c.in_ok-config.ensures _
     (stops_early _ _ _ _ _ c.in_err-text.ensures.reads))
 
 pub returns-in_err-trace-clause-reads : goal.returns-in_err-trace-clause-reads
 returns-in_err-trace-clause-reads g c =
-    let names = five_of c.args.names in
     left_reading _ _ _ c.in_err-trace.field-0.0 _ _ c.from_residual-in_err-trace.ensures.1
-    (goes_on (config_in names.config) (rounds_in names.trace) _ _ _ _ c.in_ok-config.ensures _
-    (goes_on (file 16777216 names.trace) _ _ _ _ _ c.in_ok-text.ensures.reads _
+    (goes_on (config_in c.args.names.config.now) (rounds_in c.args.names.trace.now) _ _ _ _ c.in_ok-config.ensures _
+    (goes_on (file 16777216 c.args.names.trace.now) _ _ _ _ _ c.in_ok-text.ensures.reads _
     (stops_early _ _ _ _ _ (judged _ _ _ c.in_err-trace.ensures.judges))))
 
 pub returns-clause-reads : goal.returns-clause-reads
 returns-clause-reads g c =
-    let names = five_of c.args.names in
-    goes_on (config_in names.config) (rounds_in names.trace) _ _ _ _ c.in_ok-config.ensures _
-    (goes_on (file 16777216 names.trace) _ _ _ _ _ c.in_ok-text.ensures.reads _
+    goes_on (config_in c.args.names.config.now) (rounds_in c.args.names.trace.now) _ _ _ _ c.in_ok-config.ensures _
+    (goes_on (file 16777216 c.args.names.trace.now) _ _ _ _ _ c.in_ok-text.ensures.reads _
     (goes_on _ _ _ _ _ _ (judged _ _ _ c.in_ok-trace.ensures.judges) _ (read_none _ _)))

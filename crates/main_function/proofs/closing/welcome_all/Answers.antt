@@ -1,6 +1,6 @@
 use Rattle.main_function.proofs.Names.{◌≡◌, ◌+◌, ◌++◌, ◌∷◌, [], arith, subst, refl, ◌∙◌, AllOf, IsPassOf, OnlyWelcomes, givers_of, common_steps, desk_memo, nil_from_length}
 use Rattle.buffer_classes.proofs.{admitted_before, admitted_last}
-use Rattle.main_function.proofs.WelcomeLemmas.{back_last, only_more, only_none}
+use Rattle.main_function.proofs.WelcomeLemmas.{back_last, only_more}
 use Rattle.main_function.proofs.closing.welcome_all.Goals as goal
 
 pub loop-pass-init : goal.loop-pass-init
@@ -9,7 +9,7 @@ loop-pass-init c = record {
   passes = λ i pass at. (c.requires.passes.each i pass at).0;
   told = refl;
   counts = refl;
-  givers = (0, omega arith, only_none (givers_of c.args.desk.now.givers));
+  givers = (0, omega arith, grind arith);
 }
 
 pub welcome-requires-clause-pass : goal.welcome-requires-clause-pass

@@ -1,14 +1,7 @@
-use Rattle.memory_image.proofs.Names.{◌≡◌, ◌++◌, ◌∷◌, [], length, reverse, sym, ap, subst, ◌∙◌, rules, arith, nat_tests, append-nil, append_assoc, All, Row, Differ, IsKeepable, All-head, All-push, all_pairs_push, length-reverse, length-append, nil_from_length, reverse-append, List, ℕ, map, refl, row_of, take-nil, plain_row, AreKeepable, joined, row_bytes}
+use Rattle.memory_image.proofs.Names.{◌≡◌, ◌++◌, ◌∷◌, [], reverse, sym, ap, subst, ◌∙◌, rules, arith, nat_tests, append-nil, append_assoc, All, Row, Differ, IsKeepable, All-head, All-push, all_pairs_push, length-reverse, length-append, nil_from_length, reverse-append, List, plain_row, AreKeepable, joined}
 use Rattle.memory_image.proofs.RestoreLemmas.{alone, apart, goes_on, read_more}
+use Rattle.std.proofs.lemmas.Grind.{common_steps}
 use Rattle.memory_image.proofs.image.restore.Goals as goal
-
-pub loop-rest-init : goal.loop-rest-init
-loop-rest-init c = rw c.requires (record {
-  room = refl;
-  keepable = record { each = λ k d below. absurd (omega arith); differ = λ i j d below within. absurd (omega arith); few = omega arith };
-  read = refl;
-  stands = ([], sym (ap (λ (events : List ℕ). map (row_of 256 []) events) (take-nil 256)));
-})
 
 pub returns-in_default-clause-none : goal.returns-in_default-clause-none
 returns-in_default-clause-none c rows of =
@@ -36,9 +29,6 @@ returns-then-not-add-clause-none c rows of =
       room = omega (arith, so_far.room, are.few, length-append done (row ∷ goes.0), length-reverse memory.rows);
     })
 
-pub loop-rest-smaller : goal.loop-rest-smaller
-loop-rest-smaller c = omega (arith, length-append (row_bytes (plain_row c.in-Some.row)) c.in-Some.after.now, ap (λ bytes. length bytes) c.in-Some.ensures.1)
-
 pub loop-rest-preserved : goal.loop-rest-preserved
 loop-rest-preserved c =
     let so_far = c.loop-rest.invariant in
@@ -53,15 +43,11 @@ loop-rest-preserved c =
       keepable = rw rows (record {
         each = All-push IsKeepable done row so_far.keepable.each c.in-Some.ensures.0;
         differ = all_pairs_push Differ done row so_far.keepable.differ (apart memory.rows row adds.place.alone);
-        few = omega (arith, adds.place.room, so_far.room, length-append done (row ∷ []), length-reverse memory.rows);
+        few = grind (arith, common_steps, adds, so_far);
       });
       read = rw rows (read_more done row c.args.image.now c.loop-rest.rest.now after so_far.read c.in-Some.ensures.1);
       stands = (adds.items, adds.stands);
     }
 
 pub returns-clause-found : goal.returns-clause-found
-returns-clause-found c =
-    let so_far = c.loop-rest.invariant in
-    let done = joined (reverse c.loop-rest.memory.rows) in
-    let none = nil_from_length c.loop-rest.rest.now (grind (arith, nat_tests)) in
-    record { keepable = so_far.keepable; whole = so_far.read ∙ ap (λ bytes. done ++ bytes) none ∙ append-nil done }
+returns-clause-found c = grind (arith, common_steps, nat_tests, nil_from_length, append-nil)

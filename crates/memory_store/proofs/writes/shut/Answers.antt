@@ -1,24 +1,21 @@
-use Rattle.memory_store.proofs.Names.{◌≡◌, true, refl, ◌∙◌, rules, arith, ChangesIn, KeepsSlot, bytes_of, no_call, on_ok, settled_leaves, weaker}
+use Rattle.memory_store.proofs.Names.{◌≡◌, true, refl, ◌∙◌, rules, arith, ChangesIn, KeepsSlot, bytes_of, no_call, settled_leaves, weaker}
 use Rattle.memory_store.proofs.SaveLemmas.{gate_done}
 use Rattle.memory_store.proofs.SlotLemmas.{gate_span, shutting_keeps}
+use Rattle.std.proofs.lemmas.Result.{on_ok_weaker}
 use Rattle.memory_store.proofs.writes.shut.Goals as goal
 
 pub returns-then-not-place-clause-any_moment : goal.returns-then-not-place-clause-any_moment
-returns-then-not-place-clause-any_moment g c ready =
-    let shown = g.D.Disk.shows c.args.disk.now in
-    no_call (KeepsSlot (bytes_of shown)) shown.run (settled_leaves (KeepsSlot (bytes_of shown)) shown.run.now ready.settled.synced refl)
+returns-then-not-place-clause-any_moment g c ready = no_call _ _ (settled_leaves _ _ ready.settled.synced refl)
 
 pub returns-clause-any_moment : goal.returns-clause-any_moment
 returns-clause-any_moment g c ready =
     let old = g.D.Disk.shows c.args.disk.now in
-    let slot = c.args.place.now.slot in
     let opened : c.args.place.now.is_open ≡ true = first_of (cc, search rules, grind arith) in
-    weaker (ChangesIn (gate_span slot) (bytes_of old)) (KeepsSlot (bytes_of old)) old.run (g.D.Disk.shows c.write_through.new.disk).run
-    (λ left. shutting_keeps slot c.requires (bytes_of old) left ready.next.keeps (ready.next.gate ∙ opened))
+    weaker (ChangesIn (gate_span c.args.place.now.slot) (bytes_of old)) (KeepsSlot (bytes_of old)) old.run _
+    (λ left. shutting_keeps c.args.place.now.slot c.requires (bytes_of old) left ready.next.keeps (ready.next.gate ∙ opened))
     (rw c.from.ensures at (c.write_through.ensures.any_moment ready.settled))
 
 pub returns-clause-shut : goal.returns-clause-shut
 returns-clause-shut g c ready =
-    on_ok c.write_through.result
-    (gate_done c.args.place.now.slot c.requires 0 (bytes_of (g.D.Disk.shows c.args.disk.now)) (bytes_of (g.D.Disk.shows c.write_through.new.disk)) ready.settled.size)
+    on_ok_weaker c.write_through.result (gate_done c.args.place.now.slot c.requires 0 (bytes_of (g.D.Disk.shows c.args.disk.now)) _ ready.settled.size)
     (rw c.from.ensures at (c.write_through.ensures.written ready.settled))

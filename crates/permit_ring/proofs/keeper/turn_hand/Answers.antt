@@ -4,7 +4,5 @@ use Rattle.permit_ring.proofs.keeper.turn_hand.Goals as goal
 
 pub loop-preserved : goal.loop-preserved
 loop-preserved g c =
-    let is = c.loop.invariant in
-    let turn = c.turn.ensures in
     let more = turned_more c.args.place.now.me.1 c.loop.counter (omega (arith, c.loop-test.true, c.requires)) in
-    grind (arith, is, turn, more)
+    grind (arith, c.loop.invariant, c.turn.ensures, more)

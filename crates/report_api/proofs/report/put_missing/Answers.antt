@@ -1,4 +1,4 @@
-use Rattle.report_api.proofs.Names.{◌∙◌, refl, ap, arith, adds_mark, common_steps}
+use Rattle.report_api.proofs.Names.{refl, arith, common_steps}
 use Rattle.report_api.proofs.report.put_missing.Goals as goal
 
 pub mark_lost_context-requires-clause-few : goal.mark_lost_context-requires-clause-few
@@ -8,6 +8,4 @@ pub returns-clause-reported : goal.returns-clause-reported
 returns-clause-reported c = rw c.replace.ensures.value (c.put-ticket.result, refl, c.put-ticket.ensures.ticket)
 
 pub returns-clause-told : goal.returns-clause-told
-returns-clause-told c =
-    let marked = c.mark_lost_context.ensures.told in
-    (marked.0, rw (← c.claimed.ensures) (marked.1 ∙ ap (adds_mark 1 marked.0) c.put-ticket.ensures.told))
+returns-clause-told c = grind (arith, c.mark_lost_context.ensures.told, c.claimed.ensures, c.put-ticket.ensures.told)

@@ -1,16 +1,17 @@
-use Rattle.trace_replay.proofs.Names.{◌+◌, sym, subst, arith, length_push, IsAtRest, lines_before}
-use Rattle.trace_replay.proofs.HandLemmas.{rest_push}
+use Rattle.trace_replay.proofs.Names.{◌≡◌, [], ◌∷◌, length, sym, arith, inl, inr, cases_lt, length_push, get_or_append_left, get_or_push}
 use Rattle.trace_replay.proofs.handing.take_back.Goals as goal
 
 pub loop-i-preserved : goal.loop-i-preserved
 loop-i-preserved g c =
-    let shared = c.args.stage.now.shared.now in
-    let rounds = c.args.stage.now.trace.now.rounds in
     let front = c.loop-i.callers.items in
     let caller = c.in_ok-caller.caller in
     let was = c.loop-i.invariant in
-    let one = subst (λ n. IsAtRest shared n (lines_before rounds (c.args.round + 1) n) caller) (sym was.1) c.in_ok-caller.ensures in
+    let more = length_push front caller in
     rw c.in_ok-push.ensures.items (
-      rest_push shared rounds (c.args.round + 1) front caller was.0 one,
-      omega (arith, was.1, length_push front caller),
+      λ i d low. elim (cases_lt i (length front)) [
+        | inl below ↦ rw (get_or_append_left front (caller ∷ []) d i below) (was.0 i d below)
+        | inr above ↦
+            let at : i ≡ length front = omega (arith, low, above, more) in rw (get_or_push front caller d i (sym at), at, was.1) c.in_ok-caller.ensures
+      ],
+      omega (arith, was.1, more),
     )

@@ -6,8 +6,4 @@ make-requires-3-clause-asked g c = all_may_be_asked c.args.config.now c.in_ok-sh
     c.in_ok-shared.ensures.making.is_config c.args.trace.now.rounds c.requires.rounds.allowed
 
 pub play-requires-clause-new : goal.play-requires-clause-new
-play-requires-clause-new g c κs within = record {
-  manager_is = rw c.in_ok-stage.ensures.shared c.in_ok-shared.ensures;
-  no_turns = c.in_ok-gathered.ensures.history;
-  nothing_sent = c.in_ok-gathered.ensures.transcript;
-}
+play-requires-clause-new g c κs within = rw c.in_ok-stage.ensures.shared (assumption (c.in_ok-shared.ensures, c.in_ok-gathered.ensures))

@@ -1,15 +1,10 @@
-use Rattle.trace_replay.proofs.Names.{◌+◌, ◌∙◌, [], ◌∷◌, length, refl, sym, ap, subst, arith, desk_memo, Continues, Recorder}
-use Rattle.trace_replay.proofs.RoundLemmas.{all_passes}
+use Rattle.trace_replay.proofs.Names.{◌+◌, refl, arith, Recorder}
+use Rattle.trace_replay.proofs.RoundLemmas.{has_passes}
 use Rattle.trace_replay.proofs.rounds.end_round.Goals as goal
 
 pub rest-requires : goal.rest-requires
 rest-requires g c = record {
-  passes = record {
-    shared = c.args.stage.now.shared.now;
-    is_manager = c.requires.mine;
-    passes_are = all_passes c.args.stage.now.shared.now c.args.stage.now.trace.now.rounds (c.args.round + 1) c.args.callers.now c.requires.rest
-        (desk_memo c.args.recorder.now.manager.desk) c.requires.all;
-  };
+  passes = has_passes c.args.stage.now.shared.now c.args.stage.now.trace.now.rounds (c.args.round + 1) c.args.callers.now c.requires.rest c.requires.mine c.requires.all;
 }
 
 pub turn-requires-clause-mine : goal.turn-requires-clause-mine
@@ -21,26 +16,18 @@ turn-requires-clause-later g c = omega (arith, c.in_ok-rest.ensures.same.last_is
 pub rest-requires-2 : goal.rest-requires-2
 rest-requires-2 g c =
     let turn = c.in_ok-turn.ensures in
-    let all = c.requires.all ∙ sym (ap length turn.back_is ∙ ap (λ desk. length (desk_memo desk).back) c.in_ok-rest.ensures.same.desk_is) in
     record {
-      passes = record {
-        shared = c.args.stage.now.shared.now;
-        is_manager = turn.advances.manager_is;
-        passes_are = all_passes c.args.stage.now.shared.now c.args.stage.now.trace.now.rounds (c.args.round + 1) c.args.callers.now c.requires.rest
-            (desk_memo c.turn.new.self.manager.desk) all;
-      };
+      passes = has_passes c.args.stage.now.shared.now c.args.stage.now.trace.now.rounds (c.args.round + 1) c.args.callers.now c.requires.rest turn.advances.manager_is
+          (cc (c.requires.all, turn.back_is, c.in_ok-rest.ensures.same.desk_is));
     }
 
 pub returns : goal.returns
 returns g c =
-    let r1 = c.args.recorder.now in
-    let r3 = c.turn.new.self in
-    let rested : Recorder _ = record { manager = c.rest.new.self; gathered = r1.gathered } in
+    let rested : Recorder _ = record { manager = c.rest.new.self; gathered = c.args.recorder.now.gathered } in
     record {
       rested = rested;
-      turned = r3;
+      turned = c.turn.new.self;
       before = record { manager_is = c.in_ok-rest.ensures.same; gathered_is = refl; rests_are = c.in_ok-rest.ensures.ok };
-      turn = subst (λ tick. Continues g.C.Chain.stands g.C.Chain.events g.C.Chain.kept c.args.stage.now.shared.now (tick ∷ []) rested r3)
-          c.after.ensures c.in_ok-turn.ensures;
+      turn = rw c.after.ensures at c.in_ok-turn.ensures;
       after = record { manager_is = c.in_ok-rest-2.ensures.same; gathered_is = refl; rests_are = c.in_ok-rest-2.ensures.ok };
     }

@@ -1,4 +1,4 @@
-use Rattle.buffer_classes.proofs.Names.{arith, filled_of, keeper_memo, ring_seats, OffersAll, giver_memo, at_snoc, AllAdmitted, ◌≤◌, gave_of}
+use Rattle.buffer_classes.proofs.Names.{arith, filled_of, keeper_memo, ring_seats, OffersAll, giver_memo, at_snoc, gave_of}
 use Rattle.buffer_classes.proofs.giver.Giver.offer.Goals as goal
 
 pub returns-clause-mine : goal.returns-clause-mine
@@ -7,8 +7,4 @@ returns-clause-mine c =
     let was = c.requires.mine in
     let told : OffersAll c.args.self.now.number (ring_seats c.args.ring.now) (filled_of c.args.self.now.keeper) (giver_memo c.args.self.now)
     (keeper_memo c.offer.new.self) = (λ none. (did.none none).1, λ some. (c.offer.result, omega (arith, did.bound), did.told some)) in
-    let gave = gave_of _ _ _ _ _ told in
-    let end = at_snoc (giver_memo c.args.self.now).fronts in
-    let fronts : AllAdmitted (λ front. c.args.self.now.number ≤ front) (keeper_memo c.offer.new.self).fronts =
-    grind (arith, gave, was.offered_from, was.fronts_from, end) in
-    grind (arith, was, did.mine, did.counts, gave, fronts)
+    grind (arith, was, did.mine, did.counts, gave_of _ _ _ _ _ told, at_snoc (giver_memo c.args.self.now).fronts)

@@ -3,8 +3,7 @@ use Rattle.buffer_classes.proofs.GiveLemmas.{admitted_before, admitted_last}
 use Rattle.buffer_classes.proofs.giver.Giver.put_late.Goals as goal
 
 pub refill-requires-clause-admitted : goal.refill-requires-clause-admitted
-refill-requires-clause-admitted c = λ _.
-    admitted_last _ c.pop.new.self.items c.in-Some.buf c.in-Some.ensures.items c.loop-self.invariant.0.late_are
+refill-requires-clause-admitted c = λ _. admitted_last _ _ _ c.in-Some.ensures.items c.loop-self.invariant.0.late_are
 
 pub loop-self-preserved : goal.loop-self-preserved
 loop-self-preserved c =

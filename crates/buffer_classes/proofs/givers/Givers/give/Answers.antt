@@ -29,12 +29,10 @@ index-requires-in-Some c = omega (arith, c.loop-buf.invariant.0.all, (its (goal.
 pub put-requires : goal.put-requires
 put-requires c =
     let is = c.loop-buf.invariant.0 in
-    let i = c.class-class.result in
     let known = its (goal.at.put-requires c).In-Some in
-    record {
-      mine = giver_there is i (omega (arith, known.1)) c.index-in-Some.ensures c.index_mut-in-Some.ensures.value;
-      buf = buffer_there is i (omega (arith, known.1)) c.index-in-Some.ensures c.in-Some.buf c.class-class.ensures known.0;
-    }
+    let low : c.class-class.result < length (givers_of c.loop-buf.self) = omega (arith, known.1) in
+    let giver = giver_there is c.class-class.result low c.index-in-Some.ensures c.index_mut-in-Some.ensures.value in
+    grind (arith, giver, buffer_there is c.class-class.result low c.index-in-Some.ensures c.in-Some.buf c.class-class.ensures known.0)
 
 pub loop-buf-preserved : goal.loop-buf-preserved
 loop-buf-preserved c =

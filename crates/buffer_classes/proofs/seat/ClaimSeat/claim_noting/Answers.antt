@@ -4,7 +4,7 @@ use Rattle.buffer_classes.proofs.{asked_none, first_within, got, in_vain, leaves
 use Rattle.buffer_classes.proofs.seat.ClaimSeat.claim_noting.Goals as goal
 
 pub loop-place-init : goal.loop-place-init
-loop-place-init c = rw c.requires.none (let asked = asked_none c.requires.mine c.args.len in grind (arith, common_steps, asked))
+loop-place-init c = rw c.requires.none (grind (arith, common_steps, asked_none c.requires.mine c.args.len))
 
 pub ask-requires : goal.ask-requires
 ask-requires c =

@@ -1,4 +1,4 @@
-use Rattle.event_chain.proofs.Names.{◌≡◌, ◌∷◌, List, map, Parts, event_at, counted, Item, verdict, EndBy, ThresholdsStand, refl}
+use Rattle.event_chain.proofs.Names.{◌≡◌, arith, ◌∷◌, List, map, Parts, event_at, counted, Item, verdict, EndBy, ThresholdsStand, refl}
 use Rattle.event_chain.proofs.FlowLemmas.{end_counted}
 use Rattle.event_chain.proofs.counting.Counting.count.Goals.{After-arrive}
 use Rattle.event_chain.proofs.counting.Counting.count.Goals as goal
@@ -16,18 +16,17 @@ told c config joined stood by =
 pub returns-then-arrive-clause-stands : goal.returns-then-arrive-clause-stands
 returns-then-arrive-clause-stands c config start joined items stands joined_by items_by =
     let told = told (goal.at.returns-then-arrive-clause-stands c).After-arrive config joined stands.thresholds joined_by in
-    rw (← told.0, c.if-arrive.true)
-    (record { thresholds = told.1; outlet = c.qualify.ensures.stands config start items stands.outlet items_by })
+    grind (arith, told, c.if-arrive.true, c.qualify.ensures.stands config start items stands.outlet items_by)
 
 pub returns-then-arrive-clause-fate : goal.returns-then-arrive-clause-fate
 returns-then-arrive-clause-fate c config start joined items stands joined_by items_by =
     let told = told (goal.at.returns-then-arrive-clause-fate c).After-arrive config joined stands.thresholds joined_by in
-    rw (← told.0, c.if-arrive.true) (c.qualify.ensures.fate config start items stands.outlet items_by)
+    grind (arith, told, c.if-arrive.true, c.qualify.ensures.fate config start items stands.outlet items_by)
 
 pub returns-else-arrive-clause-stands : goal.returns-else-arrive-clause-stands
 returns-else-arrive-clause-stands c config start joined items stands joined_by items_by =
     let told = told (goal.at.returns-else-arrive-clause-stands c).After-arrive config joined stands.thresholds joined_by in
-    rw (← told.0, c.if-arrive.false) (record { thresholds = told.1; outlet = stands.outlet })
+    grind (arith, told, c.if-arrive.false, stands.outlet)
 
 pub returns-else-arrive-clause-fate : goal.returns-else-arrive-clause-fate
 returns-else-arrive-clause-fate c config start joined items stands joined_by items_by =

@@ -1,6 +1,6 @@
-use Rattle.event_chain.proofs.Names.{◌+◌, ◌≤◌, ◌++◌, List, [], ◌∷◌, length, reverse, reverse-append, ap, ◌∙◌, arith, rules, common_steps, Turn, qualified_of, moments, with_all-append, Sends, last_tick, newest_tick, Parts, all_parcels, turn_by, start_of, Watched, StandsWatched, vec_capacity, ◌≡◌, Knowing, Filters, Internal, Output, internal_of, IsBehind, heads_of, ℕ}
+use Rattle.event_chain.proofs.Names.{◌+◌, ◌≤◌, ◌++◌, List, [], ◌∷◌, length, reverse, reverse-append, append-nil, ap, ◌∙◌, arith, rules, common_steps, Turn, qualified_of, moments, with_all-append, Sends, last_tick, newest_tick, Parts, all_parcels, turn_by, start_of, Watched, StandsWatched, vec_capacity, ◌≡◌, Knowing, Filters, Internal, Output, internal_of, IsBehind, heads_of, ℕ}
 use Rattle.event_chain.proofs.ClosingLemmas.{asked}
-use Rattle.event_chain.proofs.Going.{HasLeft, left_less, left_more, stays_more}
+use Rattle.event_chain.proofs.Going.{Goes, goes_left, goes_more, goes_none, stays_more}
 use Rattle.event_chain.proofs.HandsLemmas.{hands_next, hands_none}
 use Rattle.event_chain.proofs.HeadLemmas.{heads_few, heads_within}
 use Rattle.event_chain.proofs.SoundLemmas.{sound_kept}
@@ -14,31 +14,27 @@ same : (g : Over) (c : After-deref g) → c.begin.new.self.windows ≡ c.args.se
 same g c = c.begin.ensures.windows ∙ ap (λ (v : Watched g.row.B.Denot g.row.W.Denot). v.filters.windows) c.self.view_is
 
 -- what is left when the turn has begun
-begun : (g : Over) (c : After-deref g) → HasLeft g.B.Parcel.held (length c.deref.result.now + (3 + length c.args.items.now.items))
-    (all_parcels c.args.items.now.items) c.begin.new.self c.args.back.now.items (vec_capacity c.args.back.now) c.begin.new.out
+begun : (g : Over) (c : After-deref g) → let parcels = all_parcels c.args.items.now.items in
+    Goes g.B.Parcel.held c.args.head.now.tick (vec_capacity c.args.back.now) (length c.deref.result.now + (3 + length c.args.items.now.items)) 0
+    parcels parcels c.begin.new.self c.begin.new.self c.args.back.now.items c.args.back.now.items c.begin.new.out c.begin.new.out
 begun g c =
     let items = c.args.items.now.items in
     let same = same g c in
     let few = (asked c.deref.ensures.value c.self.invariant.aggregating c.begin.ensures.windows).1.1 in
     let can = c.begin.ensures.can (length items) (length c.self.inside.filters.windows) c.requires.items.few c.self.invariant.few in
-    record {
+    goes_none (record {
       can = search (rules, can, few, ap length c.begin.ensures.windows);
       room = grind (arith, common_steps, same, few, c.begin.ensures.all_left, c.requires.out);
       back = grind (arith, common_steps, same, kept_few c.begin.new.self.windows, parcels_few items, c.requires.back);
-    }
+    })
 
 pub close_all-requires : goal.close_all-requires
 close_all-requires g c =
     let begun = begun g (goal.at.close_all-requires g c).After-deref in
-    let left = left_less [] (all_parcels c.args.items.now.items) begun (length c.deref.result.now) (omega arith) in
-    record {
-      places = search rules;
-      events = (asked c.deref.ensures.value c.self.invariant.aggregating c.begin.ensures.windows).1.0;
-      can = left.can;
-      room = left.room;
-      short = rw (same g (goal.at.close_all-requires g c).After-deref) c.requires.kept;
-      back = omega (arith, left.back);
-    }
+    let left = goes_left [] (all_parcels c.args.items.now.items) begun (length c.deref.result.now) (omega arith) in
+    let asked = asked c.deref.ensures.value c.self.invariant.aggregating c.begin.ensures.windows in
+    let same = same g (goal.at.close_all-requires g c).After-deref in
+    grind (arith, common_steps, left, asked, c.begin.ensures.places c.self.invariant.places, same, c.requires.kept)
 
 pub take_heads-requires : goal.take_heads-requires
 take_heads-requires g c =
@@ -48,17 +44,12 @@ take_heads-requires g c =
     let count = length c.heads.result in
     let three = heads_few c.self.inside.internal c.args.head.now c.heads.result c.heads.ensures in
     let begun = begun g (goal.at.take_heads-requires g c).After-deref in
-    let closed = left_more [] came begun count (omega (arith, three)) all.stays all.sends all.parcels all.capacity in
-    let left = left_less [] came closed count (omega arith) in
-    record {
-      places = search rules;
-      settled = all.settled (asked c.deref.ensures.value sound.aggregating c.begin.ensures.windows).0;
-      events = heads_within c.self.inside.internal c.args.head.now c.heads.result c.heads.ensures (length c.close_all.new.self.windows)
-          (rw (all.stays.windows.events, c.begin.ensures.windows) (sound.lost_events, sound.lost_contexts, sound.limited));
-      can = left.can;
-      room = left.room;
-      back = omega (arith, left.back);
-    }
+    let closed = goes_more [] came begun _ (omega arith) all.stays all.sends all.parcels in
+    let left = goes_left [] came closed count (omega (arith, three)) in
+    let events = heads_within c.self.inside.internal c.args.head.now c.heads.result c.heads.ensures (length c.close_all.new.self.windows)
+    (rw (all.stays.windows.events, c.begin.ensures.windows) (sound.lost_events, sound.lost_contexts, sound.limited)) in
+    let settled = all.settled (asked c.deref.ensures.value sound.aggregating c.begin.ensures.windows).0 in
+    grind (arith, common_steps, left, events, settled, all.stays.places (c.begin.ensures.places sound.places))
 
 pub take_entries-requires : goal.take_entries-requires
 take_entries-requires g c =
@@ -68,9 +59,9 @@ take_entries-requires g c =
     let all = c.take_heads.ensures in
     let three = heads_few c.self.inside.internal c.args.head.now c.heads.result c.heads.ensures in
     let begun = begun g (goal.at.take_entries-requires g c).After-deref in
-    let closed = left_more [] came begun (length c.heads.result + count) (omega (arith, three)) first.stays first.sends first.parcels
-    first.capacity in
-    let left = left_more [] came closed count (omega arith) all.stays all.sends all.parcels all.capacity in
+    let closed = goes_more [] came begun _ (omega arith) first.stays first.sends first.parcels in
+    let headed = goes_more [] came closed _ (omega (arith, three)) all.stays all.sends all.parcels in
+    let left = goes_left came [] (rw (← append-nil came) at headed) count (omega (arith, three)) in
     let settled = first.settled (asked c.deref.ensures.value c.self.invariant.aggregating c.begin.ensures.windows).0 in
     let windows = same g (goal.at.take_entries-requires g c).After-deref in
     record {

@@ -1,4 +1,4 @@
-use Rattle.event_chain.proofs.Names.{length, ap, rules, qualified, Output, SenderParts}
+use Rattle.event_chain.proofs.Names.{arith, length, ap, rules, qualified, Output, SenderParts}
 use Rattle.event_chain.proofs.FlowLemmas.{ends_later}
 use Rattle.event_chain.proofs.filters.Filters.begin.Goals as goal
 
@@ -12,8 +12,4 @@ returns-clause-behind g c config before now moments rests le =
 pub returns-clause-places : goal.returns-clause-places
 returns-clause-places g c places =
     let same = ap (λ (s : SenderParts). length s.sources) c.begin.ensures.none in
-    record {
-      gate = places.gate;
-      has = λ k less. let has = places.has k less in record { threshold = has.threshold; source = rw same has.source };
-      own = places.own;
-    }
+    grind (arith, places, same)

@@ -1,7 +1,8 @@
-use Rattle.event_chain.proofs.Names.{◌≤◌, Some, option_map, most_message, refl, sym, subst, ap, arith, rules, length_permutation, common_steps, closes_due, closes, gated, item_at, told_by, stands_with_closing, slot_at, HasEvent, Windowed}
-use Rattle.event_chain.proofs.CallLemmas.{behind_call, behind_none, due_own, flows_with}
+use Rattle.event_chain.proofs.Names.{◌≤◌, ◌≡◌, ◌+◌, length, option_map, most_message, refl, sym, subst, ap, arith, rules, length_permutation, common_steps, closes_due, closes, gated, item_at, told_by, stands_with_closing, HasEvent, Windowed}
+use Rattle.std.proofs.lemmas.List.Sorted.{sum_by-IsPermutation}
+use Rattle.event_chain.proofs.CallLemmas.{behind_call, behind_none}
 use Rattle.event_chain.proofs.FateLemmas.{told_given}
-use Rattle.event_chain.proofs.RoomLemmas.{given_fits, given_short}
+use Rattle.event_chain.proofs.RoomLemmas.{given_short, message_room}
 use Rattle.event_chain.proofs.filters.Filters.close.Goals as goal
 
 pub go_on-fate-requires-clause-count : goal.go_on-fate-requires-clause-count
@@ -10,11 +11,12 @@ go_on-fate-requires-clause-count g c =
     let item = c.in-Some.item in
     let event = c.args.event.0 in
     let moved = c.in-Some.ensures.moved in
-    let own = due_own event c.args.tick (slot_at c.args.self.now.windows event) item (c.requires.places.own event) c.in-Some.ensures.item in
+    let own : item.event.0 ≡ event = grind (arith, common_steps, c.requires.places.own event, c.in-Some.ensures.item) in
     let has = subst (λ k. HasEvent k c.args.self.now.counting) (sym own) (c.requires.places.has event c.requires.event) in
     let bytes = given_short held item.context _ _ moved c.requires.short in
-    let fits = given_fits held item.context _ _ moved in
-    let room : most_message (option_map held item.context) ≤ c.args.out.now.sent_left = omega (arith, fits, c.requires.room) in
+    let same = sum_by-IsPermutation (λ (parcel : g.row.B.Denot). 4 + length (held parcel)) _ _ moved in
+    let room : most_message (option_map held item.context) ≤ c.args.out.now.sent_left =
+    grind (arith, common_steps, message_room held item.context, same, c.requires.room) in
     search (rules, has, bytes, room, c.requires.can)
 
 pub go_on-fate-requires-clause-back : goal.go_on-fate-requires-clause-back
@@ -33,8 +35,10 @@ returns-in-Some-clause-behind g c config start moments behind =
     let known = c.tell.ensures config moments (closes tick event) behind.witness
     (told_given config moments item tick event refl gives (sym fate)) in
     behind_call behind (stands_with_closing config moments tick event c.args.self.now.gate behind.gate) known (closes_due tick event) refl
-    refl refl (flows_with (closes_due tick event) (Some item) behind.flows gives (all.stands_over config calls behind.flows.stands)
-    (c.go_on-fate.ensures.stands config start _ _ behind.flows.behind ends.joined_end ends.items_end))
+    refl refl (record {
+      stands = all.stands_over config calls behind.flows.stands;
+      behind = rw gives (c.go_on-fate.ensures.stands config start _ _ behind.flows.behind ends.joined_end ends.items_end);
+    })
 
 pub returns-in-None-clause-behind : goal.returns-in-None-clause-behind
 returns-in-None-clause-behind g c config start moments behind =

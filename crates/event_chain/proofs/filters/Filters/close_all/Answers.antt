@@ -1,46 +1,40 @@
-use Rattle.event_chain.proofs.Names.{◌≡◌, [], length, refl, ◌∙◌, arith, rules, map, ap, EventIndex, drop_all, drop_more, length-map, IsShort, slot_by, Stays}
+use Rattle.event_chain.proofs.Names.{None, ◌≡◌, [], length, refl, ◌∙◌, arith, rules, map, ap, EventIndex, drop_all, drop_more, get_or_past, fresh_slot, common_steps, length-map, IsShort, slot_by, vec_capacity}
 use Rattle.filter_chain.proofs.ParcelLemmas.{parcels_keep}
 use Rattle.event_chain.proofs.ClosingLemmas.{ClosedTo, closed_more, closed_skip, reached, reached_next}
-use Rattle.event_chain.proofs.Going.{left_more, stays_more}
-use Rattle.event_chain.proofs.HandsLemmas.{hands_next, hands_none}
-use Rattle.event_chain.proofs.SoundLemmas.{settled_all}
+use Rattle.event_chain.proofs.Going.{Goes, goes_more, goes_none}
 use Rattle.event_chain.proofs.filters.Filters.close_all.Goals as goal
 
 pub loop-event-init : goal.loop-event-init
 loop-event-init g c =
     let filters = c.args.self.now in
     let out = c.args.out.now in
-    let stays : Stays 0 c.args.tick filters filters out out = search rules in
+    let goes : Goes g.B.Parcel.held c.args.tick (vec_capacity c.args.back.now) (length c.args.events.now) 0 [] [] filters filters c.args.back.now.items
+    c.args.back.now.items out out =
+    goes_none (record { can = search rules; room = omega (arith, c.requires.room); back = omega (arith, c.requires.back) }) in
     record {
       closed = λ is. rw is (reached (ClosedTo g.B.Parcel.held g.W.Witness.knows c.args.tick filters out filters out)
-          (closed_skip g.met.W.Witness.silent stays.windows) 0 (length filters.windows) (omega arith)
+          (closed_skip g.met.W.Witness.silent goes.stays.windows) 0 (length filters.windows) (omega arith)
           (record { behind = λ config start moments behind. behind; settled = λ k less. absurd (omega arith) }));
-      stays = stays;
-      sends = omega arith;
-      hands = hands_none [] _ _;
-      left = record { can = search rules; room = omega (arith, c.requires.room); back = omega (arith, c.requires.back) };
+      goes = goes;
       capacity = refl;
     }
 
 pub close-requires-clause-short : goal.close-requires-clause-short
 close-requires-clause-short g c =
-    (parcels_keep (IsShort g.B.Parcel.held) [] _ _ _ _ (λ k d less. absurd (omega arith)) c.requires.short c.loop-event.invariant.hands).1
+    (parcels_keep (IsShort g.B.Parcel.held) [] _ _ _ _ (λ k d less. absurd (omega arith)) c.requires.short c.loop-event.invariant.goes.hands).1
 
 pub loop-event-preserved : goal.loop-event-preserved
 loop-event-preserved g c =
     let Closed = ClosedTo g.B.Parcel.held g.W.Witness.knows c.args.tick c.args.self.now c.args.out.now in
     let all = c.loop-event.invariant in
     let close = c.close.ensures in
-    let stays = stays_more all.stays close.stays in
+    let goes = goes_more [] [] all.goes 1 (omega (arith, c.loop-event-test.true)) close.stays close.sends close.parcels in
     let next = drop_more c.args.events.now c.loop-event.event-index _ c.loop-event-test.true in
     record {
-      closed = λ is. reached_next (Closed c.close.new.self c.close.new.out) (closed_skip g.met.W.Witness.silent stays.windows)
+      closed = λ is. reached_next (Closed c.close.new.self c.close.new.out) (closed_skip g.met.W.Witness.silent goes.stays.windows)
           (Closed c.loop-event.self c.loop-event.out) (ap (map (λ (event : EventIndex). event.0)) next) (all.closed is)
           (λ less. closed_more _ close.behind close.stays.windows.settled close.settled);
-      stays = stays;
-      sends = omega (arith, all.sends, close.sends);
-      hands = hands_next [] [] _ all.hands close.parcels;
-      left = left_more [] [] all.left _ (omega (arith, c.loop-event-test.true)) close.stays close.sends close.parcels refl;
+      goes = goes;
       capacity = close.capacity ∙ all.capacity;
     }
 
@@ -54,5 +48,5 @@ returns-clause-behind g c is config start moments behind =
 pub returns-clause-settled : goal.returns-clause-settled
 returns-clause-settled g c is =
     let all = rw (drop_all c.loop-event.event-index c.args.events.now c.loop-event-test.false) at (c.loop-event.invariant.closed is) in
-    settled_all c.args.tick c.loop-event.self.windows
-    (λ k less. all.settled k (omega (arith, less, c.loop-event.invariant.stays.windows.events)))
+    let count = c.loop-event.invariant.goes.stays.windows.events in
+    λ k. grind (arith, common_steps, all.settled k, count, get_or_past c.loop-event.self.windows k (fresh_slot None))

@@ -1,7 +1,5 @@
-use Rattle.event_chain.proofs.Names.{◌≡◌, ◌<◌, ◌+◌, ◌≤◌, ◌++◌, drop, length, option_to_list, get_or, refl, ap, ◌∙◌, append_assoc, arith, rules, drop-set-lt, drop_more, length-set, common_steps, map-append, take_all, take_more, with_all-append, all_parcels, parcel_of}
-use Rattle.event_chain.proofs.Going.{left_less, left_more, stays_more}
-use Rattle.event_chain.proofs.HandsLemmas.{hands_next}
-use Rattle.event_chain.proofs.SoundLemmas.{parcels_cons}
+use Rattle.event_chain.proofs.Names.{◌≡◌, ◌<◌, ◌+◌, ◌≤◌, ◌++◌, drop, length, option_to_list, get_or, ◌∙◌, arith, rules, drop-set-lt, drop_more, length-set, common_steps, map-append, take_all, take_more, with_all-append, all_parcels, parcel_of}
+use Rattle.event_chain.proofs.Going.{goes_left, goes_more}
 use Rattle.event_chain.proofs.filters.Filters.take_entries.Given.{Over}
 use Rattle.event_chain.proofs.filters.Filters.take_entries.Goals.{After-index_mut}
 use Rattle.event_chain.proofs.filters.Filters.take_entries.Goals as goal
@@ -19,18 +17,17 @@ next g c =
     let old = drop_more items i entry low in
     let new = drop_more c.loop-i.items.items i entry (omega (arith, low, all.count)) in
     let same : get_or items i entry ≡ entry = cc (all.same, c.index_mut.ensures.value) in
-    let parcels = ap all_parcels old ∙ parcels_cons (get_or items i entry) (drop (i + 1) items) in
-    (low, same, cc (all.same), rw same at parcels)
+    (low, same, cc (all.same), grind (arith, common_steps, old, same))
 
 pub enter-requires : goal.enter-requires
 enter-requires g c =
     let all = c.loop-i.invariant in
     let next = next g (goal.at.enter-requires g c).After-index_mut in
     let own = option_to_list (parcel_of c.index_mut.result.now.act) in
-    let left = left_less own (all_parcels (drop (c.loop-i.i + 1) c.args.items.now.items)) (rw next.3 at all.left) 1 (omega (arith, next.0)) in
+    let left = goes_left own (all_parcels (drop (c.loop-i.i + 1) c.args.items.now.items)) (rw next.3 at all.goes) 1 (omega (arith, next.0)) in
     record {
       ready = search (rules, left.can);
-      fits = rw (all.stays.windows.events, ← next.1) (c.requires.acts c.loop-i.i c.index_mut.result.now next.0);
+      fits = rw (all.goes.stays.windows.events, ← next.1) (c.requires.acts c.loop-i.i c.index_mut.result.now next.0);
       room = left.room;
       back = grind (arith, common_steps, left.back, all.capacity);
     }
@@ -51,10 +48,7 @@ loop-i-preserved g c =
       behind = λ config start moments behind.
           rw (take_more items i entry next.0, next.1, map-append, map-append, with_all-append)
           (enter.behind config start _ (all.behind config start moments behind));
-      stays = stays_more all.stays enter.stays;
-      sends = omega (arith, all.sends, enter.sends);
-      hands = hands_next own parcels _ (rw (next.3, append_assoc) at all.hands) enter.parcels;
-      left = left_more own parcels (rw next.3 at all.left) _ (omega (arith, next.0)) enter.stays enter.sends enter.parcels refl;
+      goes = goes_more own parcels (rw next.3 at all.goes) 1 (omega (arith, next.0)) enter.stays enter.sends enter.parcels;
       capacity = enter.capacity ∙ all.capacity;
       room = all.room;
     }

@@ -1,5 +1,5 @@
-use Rattle.event_chain.proofs.Names.{◌≡◌, ◌-◌, ◌++◌, List, drop, length, take, vec_capacity, Parts, Moment, with_all, HandsBack, all_parcels, all_kept, Start, IsBehind, Stays, TakesRoom}
-use Rattle.event_chain.proofs.Going.{HasLeft, entry_moments}
+use Rattle.event_chain.proofs.Names.{◌≡◌, List, drop, length, take, vec_capacity, Parts, Moment, with_all, all_parcels, Start, IsBehind}
+use Rattle.event_chain.proofs.Going.{Goes, entry_moments}
 use Rattle.event_chain.proofs.filters.Filters.take_entries.Given as goal
 
 -- the first entries entered, and the others are what they were
@@ -14,11 +14,8 @@ invariant-loop-i g l =
       count : length l.items.items ≡ length items;
       behind : (config : Parts) (start : Start) (moments : List Moment) → IsBehind held knows config start l.tick moments l.fn.self l.fn.out
           → IsBehind held knows config start l.tick (with_all moments (entry_moments held l.tick (take l.i items))) l.self l.out;
-      stays : Stays l.i l.tick l.fn.self l.self l.fn.out l.out;
-      sends : TakesRoom held l.i l.fn.back.items l.back.items l.fn.out l.out;
-      hands : HandsBack (all_parcels items) (all_kept l.fn.self.windows) (all_parcels rest ++ all_kept l.self.windows)
-          l.fn.back.items l.back.items;
-      left : HasLeft held (length items - l.i) (all_parcels rest) l.self l.back.items (vec_capacity l.fn.back) l.out;
+      goes : Goes held l.tick (vec_capacity l.fn.back) (length items) l.i (all_parcels items) (all_parcels rest) l.fn.self l.self
+          l.fn.back.items l.back.items l.fn.out l.out;
       capacity : vec_capacity l.back ≡ vec_capacity l.fn.back;
       room : vec_capacity l.items ≡ vec_capacity l.fn.items;
     }

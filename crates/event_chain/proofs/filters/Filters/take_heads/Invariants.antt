@@ -1,5 +1,5 @@
-use Rattle.event_chain.proofs.Names.{◌≡◌, ◌-◌, List, [], length, map, take, vec_capacity, Parts, Moment, head_moment, with_all, HandsBack, all_kept, head_told, Start, IsBehind, Stays, TakesRoom}
-use Rattle.event_chain.proofs.Going.{HasLeft}
+use Rattle.event_chain.proofs.Names.{◌≡◌, List, [], length, map, take, vec_capacity, Parts, Moment, head_moment, with_all, head_told, Start, IsBehind}
+use Rattle.event_chain.proofs.Going.{Goes}
 use Rattle.event_chain.proofs.filters.Filters.take_heads.Given as goal
 
 -- the first heads came
@@ -10,9 +10,6 @@ invariant-loop-i g l =
     record {
       behind : (config : Parts) (start : Start) (moments : List Moment) → IsBehind held knows config start l.tick moments l.fn.self l.fn.out
           → IsBehind held knows config start l.tick (with_all moments (map (head_moment l.tick) (map head_told (take l.i l.heads)))) l.self l.out;
-      stays : Stays l.i l.tick l.fn.self l.self l.fn.out l.out;
-      sends : TakesRoom held l.i l.fn.back.items l.back.items l.fn.out l.out;
-      hands : HandsBack [] (all_kept l.fn.self.windows) (all_kept l.self.windows) l.fn.back.items l.back.items;
-      left : HasLeft held (length l.heads - l.i) [] l.self l.back.items (vec_capacity l.fn.back) l.out;
+      goes : Goes held l.tick (vec_capacity l.fn.back) (length l.heads) l.i [] [] l.fn.self l.self l.fn.back.items l.back.items l.fn.out l.out;
       capacity : vec_capacity l.back ≡ vec_capacity l.fn.back;
     }

@@ -1,6 +1,6 @@
-use Rattle.gen_recording.proofs.Names.{◌≡◌, ℕ, List, [], ◌∷◌, ◌++◌, length, map, reverse, sym, subst, ap, ap₂, ◌∙◌, arith, length-append, common_steps, map-append, All-push, plain_entry, Entry, Plain, FitsAct, FitsTurn, line_asked, AreCounts, Call, calls_of, held}
+use Rattle.gen_recording.proofs.Names.{◌≡◌, ℕ, List, [], ◌∷◌, ◌++◌, length, map, reverse, sym, subst, ap, ap₂, ◌∙◌, arith, length-append, common_steps, reverse-append, map-append, All-push, plain_entry, Entry, Plain, FitsAct, FitsTurn, line_asked, Call, calls_of, held}
 use Rattle.chain_plain.proofs.TurningLemmas.{fits_act}
-use Rattle.gen_recording.proofs.RecordingLemmas.{ask_fits, entries_more, reversed_more}
+use Rattle.gen_recording.proofs.RecordingLemmas.{ask_fits, entries_more}
 use Rattle.gen_recording.proofs.recorder.Recorder.call.Goals as goal
 
 pub returns-clause-at : goal.returns-clause-at
@@ -20,11 +20,8 @@ returns-clause-at c before calls at =
       tick = at.tick;
       stands = at.stands;
       tells = at.tells;
-      counts = subst (λ ps. AreCounts config ps c.make_entry.new.counts) (sym (reversed_more calls call (calls_of before)))
-          (c.in_ok-entry.ensures.counts past at.counts);
-      entries = ap (map plain_entry) items ∙ map-append plain_entry c.args.self.now.desk.items.items (entry ∷ [])
-          ∙ ap₂ (λ (es : List (Entry (List ℕ))) (e : Entry (List ℕ)). es ++ e ∷ []) at.entries is
-          ∙ sym (entries_more config (calls_of before) calls call);
+      counts = rw reverse-append (c.in_ok-entry.ensures.counts past at.counts);
+      entries = grind (arith, items, map-append plain_entry c.args.self.now.desk.items.items (entry ∷ []), at.entries, is, entries_more config (calls_of before) calls call);
       fits = subst (FitsTurn held (length config.events)) (sym items) (record {
         few = omega (arith, length-append c.args.self.now.desk.items.items (entry ∷ []), c.requires.few);
         acts = All-push (λ (e : Entry Plain). FitsAct held (length config.events) e.act) c.args.self.now.desk.items.items entry
@@ -32,10 +29,5 @@ returns-clause-at c before calls at =
       });
       kept = at.kept;
       events = at.events;
-      room = record {
-        nothing_back = at.room.nothing_back;
-        items_room = omega (arith, at.room.items_room, c.push_reserved.ensures.capacity);
-        back_room = at.room.back_room;
-        sent_room = at.room.sent_room;
-      };
+      room = grind (arith, at.room, c.push_reserved.ensures.capacity);
     }

@@ -3,11 +3,6 @@ use Rattle.std.proofs.lemmas.List.{map_more}
 use Rattle.gen_recording.proofs.RecordingLemmas.{items_are}
 use Rattle.gen_recording.proofs.recorder.Recorder.take_lines.Goals as goal
 
-pub call-requires-clause-recording : goal.call-requires-clause-recording
-call-requires-clause-recording c =
-    let start = c.requires.recording in
-    record { before = start.before; calls = _; at = c.loop-i.invariant.at start.before start.calls start.at }
-
 -- the line finds room
 pub call-requires-clause-few : goal.call-requires-clause-few
 call-requires-clause-few c =

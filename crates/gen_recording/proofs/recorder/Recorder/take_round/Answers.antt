@@ -1,4 +1,4 @@
-use Rattle.gen_recording.proofs.Names.{◌≡◌, ◌<◌, ◌≤◌, [], length, take_all, reverse-append, ◌∙◌, arith, on_ok_weaker, round_at, idle}
+use Rattle.gen_recording.proofs.Names.{◌≡◌, add-one, ◌<◌, ◌≤◌, [], length, take_all, reverse-append, ◌∙◌, arith, on_ok_weaker, round_at, idle}
 use Rattle.std.proofs.lemmas.List.{drop_more, map_more}
 use Rattle.gen_recording.proofs.RecordingLemmas.{callers_few, callers_more, items_are}
 use Rattle.gen_recording.proofs.recorder.Recorder.take_round.Goals as goal
@@ -26,7 +26,7 @@ pub loop-caller-preserved : goal.loop-caller-preserved
 loop-caller-preserved c =
     let lines = (round_at c.args.trace.now.rounds c.args.round).lines in
     record {
-      at = λ before start. rw (callers_more lines c.loop-caller.caller)
+      at = λ before start. rw (add-one, callers_more 0 c.loop-caller.caller c.loop-caller.caller lines (omega arith))
           (c.in_ok-take_lines.ensures.at before _ (c.loop-caller.invariant.at before start));
       tick = c.in_ok-take_lines.ensures.tick ∙ c.loop-caller.invariant.tick;
     }

@@ -1,13 +1,12 @@
-use Rattle.gen_recording.proofs.Names.{◌≡◌, ◌≤◌, [], ◌∷◌, ◌++◌, length, map, reverse, sym, subst, ap, ap₂, ◌∙◌, arith, on_ok_weaker, reverse-append, reverse-reverse, plain_entry, handed_on, Plain, Entry, FitsAct, FitsTurn, turn_by, All-nil, Stands, calls_of, turns_of, turn_of, held, turns_made}
+use Rattle.gen_recording.proofs.Names.{◌≡◌, ◌≤◌, refl, append-nil, [], ◌∷◌, ◌++◌, length, map, reverse, sym, subst, ap, ap₂, ◌∙◌, arith, on_ok_weaker, reverse-append, reverse-reverse, plain_entry, handed_on, Plain, Entry, FitsAct, FitsTurn, turn_by, All-nil, Stands, calls_of, turns_of, turn_of, held, turns_made}
 use Rattle.filter_chain.specs.History.{last_tick}
 use Rattle.ids_types.specs.declared.entry.TurnHead.{TurnHead}
 use Rattle.chain_plain.specs.Telling.{HasDeskRoom, Tells}
 use Rattle.chain_plain.proofs.TellingLemmas.{tells_more}
 use Rattle.filter_chain.proofs.TranscriptLemmas.{last_of}
 use Rattle.journal.specs.Printing.{lines_text}
-use Rattle.journal.specs.Answers.{told}
-use Rattle.text_spec.specs.JournalText.{journal_text, turn_told}
-use Rattle.gen_recording.proofs.RecordingLemmas.{journal_more, turn_is}
+use Rattle.text_spec.specs.JournalText.{turn_told}
+use Rattle.journal.proofs.PrintingLemmas.{turns-push}
 use Rattle.gen_recording.proofs.recorder.Recorder.turn.Goals as goal
 
 -- the turn that was planned was made
@@ -23,7 +22,7 @@ returns-clause-at c = on_ok_weaker c.add.result (λ tallies before calls at.
     let limited : c.limited.result ≡ handed_on config (turns_of config before) =
     c.limited.ensures.value config history stands ∙ ap (handed_on config) back in
     let is : turn ≡ turn_of config (turns_of config before) (calls_of before) (record { tick = c.args.tick; calls = calls }) =
-    turn_is config before calls c.args.tick c.limited.result c.args.self.now.desk.items.items at.entries limited in
+    rw (limited, at.entries) refl in
     let newest : reverse (history ++ turn ∷ []) ≡ turns_of config (record { tick = c.args.tick; calls = calls } ∷ before) =
     reverse-append history (turn ∷ []) ∙ ap₂ (λ t ts. t ∷ ts) is back in
     let made : history ++ turn ∷ [] ≡ turns_made config (record { tick = c.args.tick; calls = calls } ∷ before) =
@@ -37,16 +36,13 @@ returns-clause-at c = on_ok_weaker c.add.result (λ tallies before calls at.
     let more : c.push_turn.new.out.items ≡ old ++ lines_text (turn_told turn) =
     c.in_ok-push_turn.ensures ∙ ap (λ items. old ++ lines_text (turn_told (turn_by held head items))) c.deref.ensures.value in
     record {
-      journal = journal_more history turn old _ at.journal more ∙ ap (λ turns. journal_text (told turns [])) made;
+      journal = rw (← made, more, at.journal) (simp (append-nil, turns-push));
       tick = sym (ap last_tick (sym made) ∙ last_of history turn);
       stands = subst (λ ts. Stands held config ts c.turn.new.chain) newest now;
       tells = subst (λ ts. Tells config ts c.add.new.self) made tells;
       counts = at.counts;
       entries = ap (map plain_entry) c.turn.ensures.ready.no_items;
-      fits = subst (FitsTurn held (length config.events)) (sym c.turn.ensures.ready.no_items) (record {
-        few = omega arith;
-        acts = All-nil (λ (e : Entry Plain). FitsAct held (length config.events) e.act);
-      });
+      fits = rw c.turn.ensures.ready.no_items (record { few = omega arith; acts = All-nil _ });
       kept = c.turn.ensures.kept;
       events = c.turn.ensures.events ∙ at.events;
       room = subst (λ n. HasDeskRoom n c.turn.new.self) at.events c.turn.ensures.ready.room;

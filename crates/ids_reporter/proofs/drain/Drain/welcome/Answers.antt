@@ -1,4 +1,4 @@
-use Rattle.ids_reporter.proofs.Names.{sym, subst, ◌∙◌, view, IsDraining}
+use Rattle.ids_reporter.proofs.Names.{sym, subst, arith, view, IsDraining, common_steps}
 use Rattle.ids_reporter.proofs.RuleLemmas.{looks, welcomes}
 use Rattle.ids_reporter.proofs.ViewLemmas.{adds_within}
 use Rattle.ids_reporter.proofs.drain.Drain.welcome.Goals as goal
@@ -11,11 +11,5 @@ learn_as-requires-clause-rule c = looks _ _ (subst IsDraining (sym c.absorb.ensu
 
 pub returns-clause-mine : goal.returns-clause-mine
 returns-clause-mine c =
-    let same = c.learn_as.ensures.queue in
-    let is = same.1 ∙ c.absorb.ensures.rule in
-    record {
-      of_relay = (cc, cc);
-      drains = rw is tt;
-      in_order = rw is c.requires.mine.in_order;
-      within = rw same.1 (adds_within (view c.absorb.new.pass) c.learn_as.ensures.rule.0 c.learn_as.ensures.rule.1);
-    }
+    let within = adds_within (view c.absorb.new.pass) c.learn_as.ensures.rule.0 c.learn_as.ensures.rule.1 in
+    grind (arith, common_steps, within, c.learn_as.ensures.queue, c.absorb.ensures.rule, c.requires.mine)

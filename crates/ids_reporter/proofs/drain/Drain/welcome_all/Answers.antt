@@ -1,4 +1,4 @@
-use Rattle.ids_reporter.proofs.Names.{◌≡◌, ◌<◌, ◌≤◌, ℕ, inl, inr, refl, sym, ap, ◌∙◌, arith, cases_lt, length, get_or, IsBackIn, made_in, taken_in, Feeder, common_steps}
+use Rattle.ids_reporter.proofs.Names.{◌<◌, ◌≤◌, ℕ, sym, ap, ◌∙◌, arith, length, get_or, IsBackIn, made_in, taken_in, Feeder, common_steps}
 use Rattle.ids_reporter.proofs.ViewLemmas.{popped}
 use Rattle.ids_reporter.proofs.drain.Drain.welcome_all.Goals as goal
 
@@ -11,12 +11,7 @@ loop-feeder-preserved c =
     let more = c.welcome.ensures.back in
     let last = popped front all c.in-Some.feeder (length c.loop-feeder.feeders.items) (sym split ∙ was.rest) in
     let back : (k : ℕ) (d : Feeder) → length front ≤ k → k < length all → IsBackIn c.welcome.new.self (get_or all k d) = λ k d le lt.
-    elim (cases_lt (length front) k) [
-      | inl above ↦ rw more (inr (was.back k d (grind (arith, common_steps, above, split)) lt))
-      | inr below ↦
-          let at : k ≡ length front = omega (arith, le, below) in
-          rw (at, last.1 d, more) (inl (refl, refl))
-    ] in
+    grind (arith, common_steps, was.back k d, last.1 d, more, split) in
     record { mine = c.welcome.ensures.mine; made = ap made_in more ∙ was.made; taken = ap taken_in more ∙ was.taken; rest = last.0; back = back }
 
 pub returns-clause-back : goal.returns-clause-back

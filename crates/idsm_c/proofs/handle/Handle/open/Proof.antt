@@ -1,12 +1,12 @@
 -- `open` tests the pointer, and gives what the handle owned with it. Assumes `Logic`.
-use Rattle.idsm_c.proofs.Names.{◌≡◌, List, [], ◌∷◌, ◌++◌, refl, sym, ap, ◌∙◌, subst, lit<, Some, None, Val, vptr, vcons, vnil, SProp, ent, emp, id⊢, WpFn, ‵, ◌⊛◌, at_ret, ◌$◌, ◌∵◌, !, qed, by, move, keep, split, fsplit, fjoin, suffices, use0, use1, rewrite, stop, fld, lit, of_opd, no_more, and_then, first, exec, returns, enter, alloc_all, pass_all, free_all, look_at, get, get_in, sets, env, agg, sub, whole, fact, fact_i, tables, RattleType, owns, Ptr, block_ptr, null_ptr, types_at, nothing, layout, alive, Stays, stay_dropped, walk_of, Goes-blank, after, Good, and_tt, proved_at, leaves, IsFit, tests_null, sets_last, ghosts, raw, bin, branches, Goes-dropped, type_at, one, IfSome}
+use Rattle.idsm_c.proofs.Names.{fpick, feq_l, drop, vstruct, of_list, ◌≡◌, List, [], ◌∷◌, ◌++◌, refl, sym, ap, ◌∙◌, subst, lit<, Some, None, Val, vptr, vcons, vnil, SProp, ent, emp, id⊢, WpFn, ‵, ◌⊛◌, at_ret, ◌$◌, ◌∵◌, !, qed, by, move, keep, split, fsplit, fjoin, suffices, use0, use1, rewrite, stop, fld, lit, of_opd, no_more, and_then, first, exec, returns, enter, alloc_all, pass_all, free_all, look_at, get, get_in, sets, env, agg, sub, whole, fact, fact_i, tables, RattleType, owns, Ptr, block_ptr, null_ptr, types_at, nothing, layout, alive, Stays, stay_dropped, walk_of, Goes-blank, after, Good, and_tt, proved_at, leaves, IsFit, tests_null, sets_last, ghosts, raw, bin, branches, Goes-dropped, type_at, one, IfSome}
 use types.Match.{live}
 use Rattle.core.proofs.option.Made.{Some-of, none_of}
 use Rattle.std.specs.contracts.alloc.Global as heap
 use Rattle.std.proofs.alloc.Global.TheLaws as heap_laws
 use Rattle.idsm_c.specs.Opened.{as_open}
 use Rattle.idsm_api.specs.contracts.role.Role as role
-use Rattle.idsm_c.proofs.Handles.{Loose, both, handle_val, handle_out, either_held, loose_good, loose_in, slot_at}
+use Rattle.idsm_c.proofs.Handles.{Loose, both, handle_val, either_held, loose_good, loose_in, slot_at}
 use Rattle.idsm_c.specs.contracts.handle.Handle.open.{ended, clauses}
 use Rattle.idsm_c.specs.contracts.handle.Handle.open.Key.{name as #self}
 use Rattle.idsm_c.proofs.handle.Handle.open.Statement.{statement}
@@ -24,7 +24,8 @@ open_spec 𝓤 𝓛 𝓜 𝓡 wired =
     let h = one (layout Z) z.0.4.1.0 ((LZ.lawful 𝓛).typed a z.0.4.1.0 are.1.0) in
     let Said = λ (r : Out.Denot). (as_open r ≡ d.content) × IfSome (as_open r) IsFit in
     qed 𝓛 ((raw (alive 𝓛 En.signature κs qs) ⊛ ‵ (owns (types_at En.signature.params κs) z.0.3 z.0.4)) ∷ raw ((c κs z.0.3).requires z.1) ∷ []) ∵
-    split ! $ move ! (1 ∷ []) $ fsplit ! $ handle_out ! d z.0.4.0 (λ ws. either_held ! d.at d.content
+    split ! $ move ! (1 ∷ []) $ fsplit ! $ fsplit ! $ fpick ! (λ vss. fsplit ! $ feq_l ! (λ ev. fsplit ! $ feq_l ! (λ ep. drop ! $
+    let ws = subst (λ (ps : List Val). z.0.4.0 ≡ vstruct (of_list (ps ++ [])) ∷ []) ep ev in either_held ! d.at d.content
     (λ is none. let w : Val = handle_val null_ptr in let told : z.0.4.0 ≡ w ∷ [] = ws ∙ ap (λ (p : Ptr). handle_val p ∷ []) is in
     suffices ! (Run (w ∷ h.0 ∷ [])) (subst (λ (us : List Val). ent 𝓤 (Run (w ∷ h.0 ∷ [])) (Run us)) (sym (λ i. told i ++ (h.1 i ++ []))) (id⊢ 𝓤 (Run (w ∷ h.0 ∷ [])))) $
     enter ! 𝓣.C 𝓣.Λ fn (w ∷ h.0 ∷ []) Post $ alloc_all ! (λ l. pass_all ! refl ((tt, (record { fits = lit< tt }, tt)), (h.2, tt)) $ let Ev = env fn.locals l in
@@ -47,4 +48,4 @@ open_spec 𝓤 𝓛 𝓜 𝓡 wired =
     exec ! 𝓣.C 𝓣.Λ Ev (after 3 fn.body) (at_ret Ev Post) $ sets ! (of_opd ! (get ! refl)) refl good $
     move ! (1 ∷ []) $ fsplit ! $ rewrite ! 0 (λ (us : List Val). ‵ (Z.own_val a us)) h.1 refl $ move ! (2 ∷ 0 ∷ []) $ loose_in R Z LZ ghosts ! b o h.0 a x $
     use1 𝓛 (‵ (Out.own_val (Some r) (v₁ ∷ []))) (Some-of 𝓛 Lr r made) $ use0 𝓛 (raw (fact 𝓤 (Said (Some r)))) (fact_i 𝓤 (Said (Some r)) (emp 𝓤) (sym full, fit)) $ nothing ! $ nothing ! $ fjoin ! $ nothing ! $ fjoin ! $
-    returns ! (look_at ! 0 refl) $ free_all ! refl $ keep ! (4 ∷ 0 ∷ 2 ∷ 1 ∷ []) $ by ! (leaves 𝓛 En hs c z v₁ (Some r) (tt, (tt, tt)) (tt, (tt, tt))))))))
+    returns ! (look_at ! 0 refl) $ free_all ! refl $ keep ! (4 ∷ 0 ∷ 2 ∷ 1 ∷ []) $ by ! (leaves 𝓛 En hs c z v₁ (Some r) (tt, (tt, tt)) (tt, (tt, tt))))))))))

@@ -1,4 +1,4 @@
-use Rattle.main_function.proofs.Names.{rules, refl, ap, arith, common_steps, TurnHead, turn_by, DeskMemo, desk_memo, MakesTurn, held, item_of, items_of, length-map, ◌∙◌, gave_of, only_reaps}
+use Rattle.main_function.proofs.Names.{AllOf, GaveBack, givers_of, rules, refl, ap, arith, common_steps, TurnHead, turn_by, DeskMemo, desk_memo, MakesTurn, held, item_of, items_of, length-map, ◌∙◌, gave_of, only_reaps}
 use Rattle.report_queue.proofs.ClosingLemmas.{taken_on}
 use Rattle.main_function.proofs.QuickLemmas.{turn_is_quick}
 use Rattle.main_function.proofs.ReportLemmas.{offered_more, totals_more, turn_adds}
@@ -6,26 +6,19 @@ use Rattle.main_function.proofs.StepLemmas.{can_take, come_back, few_bytes, few_
 use Rattle.main_function.proofs.TurnedLemmas.{last_within, stands_more}
 use Rattle.main_function.proofs.manager.Manager.step.Goals as goal
 
-pub turn-requires-clause-fits : goal.turn-requires-clause-fits
-turn-requires-clause-fits g c =
-    let took = c.take_ready.ensures.took in
-    g.met.C.Chain.smaller _ _ _ _ _ (few_taken c.requires.mine took) (few_bytes c.requires.mine took) c.requires.fits
-
-pub turn-requires-clause-items : goal.turn-requires-clause-items
-turn-requires-clause-items g c = can_take c.requires.mine c.take_ready.ensures.took
-
-pub turn-requires-clause-kept : goal.turn-requires-clause-kept
-turn-requires-clause-kept g c = kept_short c.requires.mine
-
-pub turn-requires-clause-log : goal.turn-requires-clause-log
-turn-requires-clause-log g c = has_room c.requires.mine c.take_ready.ensures.took
-
-pub turn-requires-clause-out : goal.turn-requires-clause-out
-turn-requires-clause-out g c =
+pub turn-requires : goal.turn-requires
+turn-requires g c =
     let mine = c.requires.mine in
     let took = c.take_ready.ensures.took in
-    g.met.C.ParcelChain.within c.args.self.now.chain c.take_ready.new.items.items c.args.self.now.largest _ (taken_fit mine took) (kept_fit mine)
-    (has_sent_room mine took)
+    record {
+      fits = g.met.C.Chain.smaller _ _ _ _ _ (few_taken mine took) (few_bytes mine took) c.requires.fits;
+      items = can_take mine took;
+      kept = kept_short mine;
+      back = search rules;
+      log = has_room mine took;
+      out = g.met.C.ParcelChain.within c.args.self.now.chain c.take_ready.new.items.items c.args.self.now.largest _ (taken_fit mine took) (kept_fit mine)
+          (has_sent_room mine took);
+    }
 
 pub with-self-requires-clause-entries : goal.with-self-requires-clause-entries
 with-self-requires-clause-entries g c =
@@ -39,89 +32,70 @@ pub give_back-requires-clause-back : goal.give_back-requires-clause-back
 give_back-requires-clause-back g c =
     (come_back c.requires.mine c.take_ready.ensures.took c.turn.ensures.parcels c.requires.mine.roomy.no_back).0
 
-pub returns-clause-turned : goal.returns-clause-turned
-returns-clause-turned g c =
+pub returns : goal.returns
+returns g c =
     let mine = c.requires.mine in
+    let took = c.take_ready.ensures.took in
+    let swept = c.sweep-lost_events.ensures.swept in
     let head : TurnHead = record { tick = c.args.tick; lost_events = c.sweep-lost_events.result.0; lost_contexts = c.sweep-lost_events.result.1; limited = c.limited.result } in
     let taken = c.take_ready.new.items.items in
     let makes : MakesTurn c.args.self.now.positions (desk_memo c.args.self.now.desk) taken (turn_by held head taken) (desk_memo c.give_back.new.self) =
     record {
       took = desk_memo c.take_ready.new.desk;
-      takes = rw (← c.sweep-lost_events.ensures.swept.told) c.take_ready.ensures.took.run;
+      takes = rw (← swept.told) took.run;
       gives = rw (mine.positions_are, mine.desk_is.taker.seats_are, ← c.take_ready.ensures.counts) c.give_back.ensures.places.told;
       entries_are = refl;
-      few = omega (arith, c.take_ready.ensures.took.few, mine.positions_are);
+      few = omega (arith, took.few, mine.positions_are);
     } in
-    let out = come_back mine c.take_ready.ensures.took c.turn.ensures.parcels mine.roomy.no_back in
+    let out = come_back mine took c.turn.ensures.parcels mine.roomy.no_back in
+    let gave : AllOf (GaveBack c.turn.new.back.items) (givers_of c.args.self.now.desk.givers) (givers_of c.give_back.new.self.givers) =
+    search (rules, c.give_back.ensures.gave, c.take_ready.ensures.same, c.sweep-lost_events.ensures.same) in
+    let only = only_reaps (items_of taken) (desk_memo c.sweep-lost_events.new.self) in
     record {
-      turn = turn_by held head taken;
-      taken = taken;
-      log_is = c.turn.ensures.logs;
-      tick_is = refl;
-      head_is = record {
-        lost_events = last_within _ _ _ (ap (λ (k : DeskMemo). k.swept0) c.sweep-lost_events.ensures.swept.told) c.sweep-lost_events.ensures.swept.bounds.0;
-        lost_contexts = last_within _ _ _ (ap (λ (k : DeskMemo). k.swept1) c.sweep-lost_events.ensures.swept.told) c.sweep-lost_events.ensures.swept.bounds.1;
-        limited = c.limited.ensures.bound;
+      -- between two calls it is the one of this making again
+      mine = record {
+        desk_is = c.give_back.ensures.mine;
+        positions_are = mine.positions_are;
+        none_taken = c.give_back.ensures.places.counts;
+        offered_is = offered_more _ _ _ _ _ makes mine.offered_is;
+        items_within = search rules;
+        totals_are = totals_more _ _ _ _ _ makes _ _ mine.totals_are (search (rules, c.with-self.ensures.entries)) c.with-self.ensures.lost_events c.with-self.ensures.lost_contexts;
+        events_are = c.turn.ensures.events ∙ mine.events_are;
+        largest_is = mine.largest_is;
+        sizes_given = mine.sizes_given;
+        kept_are = out.1;
+        tick_within = c.requires.within;
+        roomy = grind (arith, common_steps, mine.roomy, c.turn.ensures, c.give_back.ensures.empty);
       };
-      makes = makes;
-      back_is = (turn_adds _ _ _ _ _ makes).back_is;
-      buffers = record {
-        back = c.turn.new.back.items;
-        same = out.2;
-        gave = search (rules, c.give_back.ensures.gave, c.take_ready.ensures.same, c.sweep-lost_events.ensures.same);
+      turned = record {
+        turn = turn_by held head taken;
+        taken = taken;
+        log_is = c.turn.ensures.logs;
+        tick_is = refl;
+        head_is = record {
+          lost_events = last_within _ _ _ (ap (λ (k : DeskMemo). k.swept0) swept.told) swept.bounds.0;
+          lost_contexts = last_within _ _ _ (ap (λ (k : DeskMemo). k.swept1) swept.told) swept.bounds.1;
+          limited = c.limited.ensures.bound;
+        };
+        makes = makes;
+        back_is = (turn_adds _ _ _ _ _ makes).back_is;
+        buffers = record { back = c.turn.new.back.items; same = out.2; gave = gave };
+        stands_then = λ config turns is. stands_more g.C.Chain.stands config turns _ _ _ taken is
+            (c.turn.ensures.stands config turns is.chain_stands) c.requires.later makes mine.offered_is refl refl refl;
+        limited_is = λ config turns is. c.limited.ensures.value config turns is.chain_stands;
+        sends = λ config turns is. search (rules, is.tick_is, c.requires.later, c.turn.ensures.sends config turns is.chain_stands);
+        room_is = c.turn.ensures.out_room;
+        rests_are = refl;
+        turns_are = refl;
+        last_is = refl;
       };
-      stands_then = λ config turns is. stands_more g.C.Chain.stands config turns _ _ _ taken is
-          (c.turn.ensures.stands config turns is.chain_stands) c.requires.later makes mine.offered_is refl refl refl;
-      limited_is = λ config turns is. c.limited.ensures.value config turns is.chain_stands;
-      sends = λ config turns is. search (rules, is.tick_is, c.requires.later, c.turn.ensures.sends config turns is.chain_stands);
-      room_is = c.turn.ensures.out_room;
-      rests_are = refl;
-      turns_are = refl;
-      last_is = refl;
+      quick = turn_is_quick mine.desk_is mine.positions_are makes gave;
+      -- no sweep and no take brings a pass back
+      all_taken = λ all. taken_on _ _ _ _ _ c.give_back.ensures.places.told (c.take_ready.ensures.all_taken (rw swept.told all));
+      -- and nothing is swept after the takes
+      swept = λ all.
+          let none = swept.all_swept all in
+          let offers = gave_of _ _ _ _ _ c.give_back.ensures.places.told in
+          grind (arith, none, only, took.run.2, offers.swept0_is, offers.swept1_is, offers.back_is);
+      settled = λ all. c.give_back.ensures.settled (rw (took.run.2, only.back_is, swept.told) all);
     }
-
--- between two calls it is the one of this making again
-pub returns-clause-mine : goal.returns-clause-mine
-unfolding returns-clause-turned
-returns-clause-mine g c =
-    let mine = c.requires.mine in
-    let turned = returns-clause-turned g c in
-    let out = come_back mine c.take_ready.ensures.took c.turn.ensures.parcels mine.roomy.no_back in
-    record {
-      desk_is = c.give_back.ensures.mine;
-      positions_are = mine.positions_are;
-      none_taken = c.give_back.ensures.places.counts;
-      offered_is = offered_more _ _ _ _ _ turned.makes mine.offered_is;
-      items_within = search rules;
-      totals_are = totals_more _ _ _ _ _ turned.makes _ _ mine.totals_are (search (rules, c.with-self.ensures.entries)) c.with-self.ensures.lost_events c.with-self.ensures.lost_contexts;
-      events_are = c.turn.ensures.events ∙ mine.events_are;
-      largest_is = mine.largest_is;
-      sizes_given = mine.sizes_given;
-      kept_are = out.1;
-      tick_within = c.requires.within;
-      roomy = grind (arith, common_steps, mine.roomy, c.turn.ensures, c.give_back.ensures.empty);
-    }
-
-pub returns-clause-quick : goal.returns-clause-quick
-unfolding returns-clause-turned
-returns-clause-quick g c =
-    let turned = returns-clause-turned g c in
-    turn_is_quick c.requires.mine.desk_is c.requires.mine.positions_are turned.makes turned.buffers.gave
-
--- no sweep and no take brings a pass back
-pub returns-clause-all_taken : goal.returns-clause-all_taken
-returns-clause-all_taken g c = λ all.
-    taken_on _ _ _ _ _ c.give_back.ensures.places.told (c.take_ready.ensures.all_taken (rw c.sweep-lost_events.ensures.swept.told all))
-
--- and nothing is swept after the takes
-pub returns-clause-swept : goal.returns-clause-swept
-returns-clause-swept g c = λ all.
-    let swept = c.sweep-lost_events.ensures.swept.all_swept all in
-    let only = only_reaps (items_of c.take_ready.new.items.items) (desk_memo c.sweep-lost_events.new.self) in
-    let gave = gave_of _ _ _ _ _ c.give_back.ensures.places.told in
-    grind (arith, swept, only, c.take_ready.ensures.took.run.2, gave.swept0_is, gave.swept1_is, gave.back_is)
-
-pub returns-clause-settled : goal.returns-clause-settled
-returns-clause-settled g c = λ all.
-    let only = only_reaps (items_of c.take_ready.new.items.items) (desk_memo c.sweep-lost_events.new.self) in
-    c.give_back.ensures.settled (rw (c.take_ready.ensures.took.run.2, only.back_is, c.sweep-lost_events.ensures.swept.told) all)

@@ -1,4 +1,4 @@
-use Rattle.memory_store.proofs.Names.{Err, reverse, subst, rules, arith, common_steps, IsTrue, bytes_of}
+use Rattle.memory_store.proofs.Names.{Err, reverse, subst, rules, arith, common_steps, IsTrue}
 use Rattle.memory_store.proofs.FindLemmas.{found_on, tells_on}
 use Rattle.memory_store.proofs.store.Store.begin.Goals as goal
 
@@ -10,21 +10,19 @@ invariant_of-result g c = record {
   ready = λ now.
       let tells = subst IsTrue c.read_slots.ensures.tells now in
       let read = c.in-Ok-read_slots.ensures in
-      let found = found_on (bytes_of (g.D.Disk.shows c.args.disk)) _ c.deref.result.now c.deref-2.result.now c.in-Ok-find.place
-      (reverse c.find.new.memory.rows) (grind (arith, common_steps, read.first tells)) (grind (arith, common_steps, read.second tells))
-      (read.same tells) c.in-Ok-find.ensures in
+      let found = found_on _ _ c.deref.result.now c.deref-2.result.now _ _ (grind (arith, common_steps, read.first tells))
+      (grind (arith, common_steps, read.second tells)) (read.same tells) c.in-Ok-find.ensures in
       record { settled = read.settled tells; next = found.0 };
 }
 
 pub returns-in-Ok-find-clause-keeps : goal.returns-in-Ok-find-clause-keeps
 returns-in-Ok-find-clause-keeps g c tells =
     let read = c.in-Ok-read_slots.ensures in
-    (found_on (bytes_of (g.D.Disk.shows c.args.disk)) _ c.deref.result.now c.deref-2.result.now c.in-Ok-find.place
-    (reverse c.find.new.memory.rows) (grind (arith, common_steps, read.first tells)) (grind (arith, common_steps, read.second tells))
-    (read.same tells) c.in-Ok-find.ensures).1
+    (found_on _ _ c.deref.result.now c.deref-2.result.now _ _ (grind (arith, common_steps, read.first tells))
+    (grind (arith, common_steps, read.second tells)) (read.same tells) c.in-Ok-find.ensures).1
 
 pub returns-in-Err-clause-answers : goal.returns-in-Err-clause-answers
 returns-in-Err-clause-answers g c tells =
     let read = c.in-Ok-read_slots.ensures in
-    tells_on (bytes_of (g.D.Disk.shows c.args.disk)) c.deref.result.now c.deref-2.result.now (reverse c.find.new.memory.rows) (Err c.in-Err.slot)
+    tells_on _ c.deref.result.now c.deref-2.result.now (reverse c.find.new.memory.rows) (Err c.in-Err.slot)
     (grind (arith, common_steps, read.first tells)) (grind (arith, common_steps, read.second tells)) c.in-Err.ensures

@@ -1,4 +1,4 @@
-use Rattle.permit_ring.proofs.Names.{◌≡◌, arith, ℕ, ◌+◌, ◌%◌, sym, ap, ap₂, ◌∙◌, length_push, Finished, keeper_memo, add-mod_right, mod-add-mod}
+use Rattle.permit_ring.proofs.Names.{arith, ℕ, ◌+◌, ◌%◌, sym, ap, ap₂, ◌∙◌, length_push, Finished, keeper_memo, add-mod_right, mod-add-mod}
 use Rattle.permit_ring.proofs.{hand_reaped, in_front}
 use Rattle.permit_ring.proofs.keeper.Keeper.reap.Goals as goal
 
@@ -16,11 +16,9 @@ returns-clause-mine g c =
     let mine = c.requires.mine in
     let saw = c.read_mark-mark.ensures in
     let keeper = c.args.self.now in
-    let n = c.args.ring.now.positions in
     let reaped = ap (λ keeper. keeper.reaped) saw.same ∙ mine.reaped_is in
     let hit = saw.saw.0 (c.if-mark-self.false ∙ ap (λ (t : ℕ). t + 1) reaped) in
-    let account = mine.account in
-    let past : (keeper_memo keeper).offered + keeper.filled + keeper.vacant ≡ keeper.reaped + n = omega arith in
-    let hand = hand_reaped mine.in_hand {at = keeper.next} (rw (past, add-mod_right) mine.next_is) in
+    let hand = hand_reaped mine.in_hand {at = keeper.next} (rw (mine.account, add-mod_right) mine.next_is) in
+    let past = mod-add-mod keeper.reaped c.args.ring.now.positions 1 in
     let notes = length_push (keeper_memo keeper).notes (g.F.Freight.note hit.0) in
-    grind (arith, mine, saw.same, hit, c.exchange-old.ensures, c.turn.ensures, hand, c.after-self.ensures, mod-add-mod keeper.reaped n 1, notes)
+    grind (arith, mine, saw.same, hit, c.exchange-old.ensures, c.turn.ensures, hand, c.after-self.ensures, past, notes)

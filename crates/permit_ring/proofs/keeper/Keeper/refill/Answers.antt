@@ -1,9 +1,9 @@
 use Rattle.permit_ring.proofs.Names.{arith, ◌+◌, refl, sym, ap, ◌∙◌, Empty, keeper_memo, first_slot, mod-add-mod}
-use Rattle.permit_ring.proofs.HandLemmas.{filled_fit, in_front, one_more_filled, vacant_fit, turned_to}
+use Rattle.permit_ring.proofs.HandLemmas.{hand_length, in_front, one_more_filled, vacant_fit, turned_to}
 use Rattle.permit_ring.proofs.keeper.Keeper.refill.Goals as goal
 
 pub turn_hand-requires : goal.turn_hand-requires
-turn_hand-requires g c = filled_fit c.requires.mine.in_hand c.requires.vacant c.requires.mine.vacancy_is
+turn_hand-requires g c = omega (arith, hand_length c.requires.mine.in_hand)
 
 pub exchange-old-requires : goal.exchange-old-requires
 exchange-old-requires g c =

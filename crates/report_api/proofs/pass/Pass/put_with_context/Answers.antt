@@ -1,24 +1,26 @@
-use Rattle.report_api.proofs.Names.{length, refl, ap, arith, sizes_of}
+use Rattle.report_api.proofs.Names.{ℕ, eq-eqb, ne_eqb, lost_past, length, refl, ap, arith, common_steps, sizes_of, pass_memo}
 use Rattle.buffer_classes.specs.Classes.{first_fitting}
 use Rattle.report_api.specs.Names.{Kept}
-use Rattle.report_api.proofs.{contexts_within, fitting_some, kept_asks, missed_adds, missing_asks, pass_after, put_adds}
+use Rattle.report_api.proofs.{missing_within, fitting_some, at_most, missed_adds, looks_lost, pass_after, put_adds}
 use Rattle.report_api.proofs.pass.Pass.put_with_context.Goals as goal
 
 pub put_missing-requires-clause-few : goal.put_missing-requires-clause-few
-put_missing-requires-clause-few c = omega (arith, contexts_within c.requires.at c.requires.busy)
+put_missing-requires-clause-few c =
+    grind (arith, common_steps, c.requires.at, c.requires.busy, missing_within (pass_memo c.args.self.now).log)
 
 pub returns-in-Some : goal.returns-in-Some
 returns-in-Some c =
     let sizes = sizes_of c.args.shared.now in
     let bytes = c.args.context.now in
     let did = c.in-Some.ensures in
+    let first : ℕ = first_fitting (length bytes) sizes in
     let looks = c.claim_noting.new.looks in
     let filled = c.fill.new.self in
     let told = rw c.kept-act.ensures at c.put.ensures.told in
     record {
       mine = pass_after c.requires.at _ c.put.ensures.mine c.put.ensures.held c.put.ensures.spare _ (put_adds _ _ _ refl told) did.mine did.counted.1
           (omega (arith, did.counted.0)) _ did.logs
-          (λ i. kept_asks (first_fitting (length bytes) sizes) i looks bytes c.in-Some.buf filled c.fill.ensures did.told.0);
+          (λ i. grind (arith, c.fill.ensures, did.told, eq-eqb i c.in-Some.buf.class, ne_eqb i c.in-Some.buf.class, at_most first i looks, lost_past first i looks));
       ticket = c.put.ensures.ticket;
       told = (Kept filled.class filled.claim filled, grind (arith, c.requires.some, c.fill.ensures, did), told);
       classes = (λ nothing. absurd (omega (arith, c.requires.some, ap length nothing)), λ any. (c.in-Some.buf, looks, did.told, did.steps));
@@ -35,7 +37,7 @@ returns-in-None c =
     rw put.ensures.reported.1 (record {
       mine = pass_after c.requires.at _ put.ensures.mine put.ensures.held put.ensures.spare _ (missed_adds _ _ _ put.ensures.told.0 refl put.ensures.told.1)
           did.mine did.counted.1 (omega (arith, did.counted.0)) _ did.logs
-          (λ i. missing_asks (first_fitting (length bytes) sizes) i (length sizes) looks did.told);
+          (λ i. grind (arith, looks_lost (first_fitting (length bytes) sizes) i looks, did.told));
       ticket = put.ensures.reported.2;
       told = (c.requires.some, did.told, put.ensures.told);
       classes = did.steps;

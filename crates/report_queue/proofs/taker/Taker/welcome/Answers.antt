@@ -1,17 +1,19 @@
-use Rattle.report_queue.proofs.Names.{length-set, Some, arith}
-use Rattle.permit_ring.specs.Steps.{ended}
+use Rattle.report_queue.proofs.Names.{at_set, ended, length-set, Some, arith}
 use Rattle.report_queue.specs.{caller_memo, taker_memo}
-use Rattle.report_queue.proofs.TakerLemmas.{names-welcome}
 use Rattle.report_queue.proofs.taker.Taker.welcome.Goals as goal
 
 pub returns : goal.returns
 returns g c =
-    let was = c.requires.mine in
     let memo = caller_memo c.args.seat in
     let back = (taker_memo c.args.self.now).back in
-    let names = names-welcome back memo was.names (grind (arith, c.requires.seat)) in
-    record {
-      mine = grind (arith, was, c.welcome.ensures, names, length-set back memo.number (Some (ended memo)));
-      told = c.welcome.ensures.told;
-      counts = c.welcome.ensures.counts.1;
-    }
+    let long = length-set back memo.number (Some (ended memo)) in
+    grind (arith, c.requires.mine, c.requires.seat, c.welcome.ensures, at_set back memo.number, long)
+
+t1 : goal.returns
+t1 g c =
+    let long = length-set (taker_memo c.args.self.now).back (caller_memo c.args.seat).number (Some (ended (caller_memo c.args.seat))) in
+    grind (arith, c.requires.mine, c.requires.seat, c.welcome.ensures, at_set (taker_memo c.args.self.now).back, long)
+
+t2 : goal.returns
+t2 g c =
+    grind (arith, c.requires.mine, c.requires.seat, c.welcome.ensures, at_set (taker_memo c.args.self.now).back (caller_memo c.args.seat).number, length-set)

@@ -1,19 +1,17 @@
-use Rattle.trace_replay.proofs.Names.{refl, subst, Output, CloseLeaves, Gathered, map, pass_memo}
-use Rattle.trace_replay.specs.Recording.{Gathers}
-use Rattle.trace_replay.proofs.RecordingLemmas.{closes}
+use Rattle.trace_replay.proofs.RecordingLemmas.{advances}
 use Rattle.trace_replay.proofs.recorder.Recorder.close.Goals as goal
 
 pub returns : goal.returns
 returns g c =
-    let chain = g.C.Chain in
-    let m0 = c.ready.new.self.manager in
-    let m1 = c.close.follows.lender-at-none in
-    let passes = map pass_memo c.args.passes.now.items in
-    let made = subst (λ answer. CloseLeaves chain.stands chain.events chain.kept c.args.shared.now c.args.tick passes m0 answer m1) c.in-Ok.is
-    c.close.follows.holds-at-none in
+    let made = rw c.in-Ok.is at c.close.follows.holds-at-none in
     let same = c.in_ok-ready.ensures.same in
-    closes chain.stands chain.events chain.kept c.args.shared.now c.args.self.now c.requires.mine m0 m1 c.add.new.self
-    (record { manager_is = same.manager_is; rests_are = same.rests_are; gathered_is = refl })
-    (subst (λ (old : Gathered). Gathers m1.out old c.add.new.self) same.gathered_is
-    (subst (λ (out : Output). Gathers out c.ready.new.self.gathered c.add.new.self) made.1 c.in_ok-add.ensures))
-    made.0 c.args.tick passes made.3
+    let adds = rw (made.1, same.gathered_is) at c.in_ok-add.ensures in
+    let closed = made.3 in
+    let history = rw closed.turned.log_is at adds.history in
+    record {
+      advances = advances same c.requires.mine made.0 adds closed.turned;
+      back_is = closed.are_back;
+      counts = closed.counts;
+      all_calls = λ config made_for was. rw history (closed.all_calls config _ made_for (same.manager_is.stands_then config _ was.stands_for));
+      sums = λ config was. rw history (closed.sums config _ (same.manager_is.stands_then config _ was.stands_for));
+    }

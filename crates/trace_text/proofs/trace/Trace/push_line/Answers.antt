@@ -9,17 +9,14 @@ module _ (c : goal.After-self-1) where
   there : c.args.caller < length c.self.inside.rows
   there = grind (arith, c.requires.caller, c.self.view_is)
 
-  -- the last place, as it was read and as it is written
-  first_is : c.index.result.now ≡ last_end (laid_of c.self.inside)
-  first_is = get_or_read c.self.inside.ends.items _ c.index.result.now (omega (arith, c.self.invariant.lie.as_many)) (search (rules, c.index.ensures)) at_start
-
   place : c.len.result ≡ length c.self.inside.ends.items
   place = search rules
 
   counted : c.in_ok-more.more ≡ slice_index (last_end (laid_of c.self.inside)).lines c.args.caller + 1
   counted =
       let count : c.in_ok-more.more ≡ slice_index c.index.result.now.lines c.args.caller + 1 = search rules in
-      count ∙ ap (λ (e : RoundEnd). slice_index e.lines c.args.caller + 1) first_is
+      let last : c.index.result.now ≡ last_end (laid_of c.self.inside) = get_or_read c.self.inside.ends.items _ c.index.result.now (omega (arith, c.self.invariant.lie.as_many)) (search (rules, c.index.ensures)) at_start in
+      rw last at count
 
   pushed : c.push.new.self ≡ set c.self.inside.rows c.args.caller (get_or c.self.inside.rows c.args.caller [] ++ asked ∷ [])
   pushed = search rules
