@@ -39,8 +39,7 @@ module _ {classes : Classes} {me : ClaimSeat} (mine : IsClaimSeatOf classes me) 
   pub asked_none : AllOf (AskedSo classes (lost_at first [])) me.seats.items me.seats.items
   asked_none = record {
     as_many = refl;
-    each = λ i old new was is class at.
-        let same : new ≡ old = cc in ((λ _. same), grind (arith, same, mine.each i class old at was));
+    each = λ i old new was is class at. grind (arith, was, is, mine.each i class old at was);
   }
 
   -- what a claim leaves

@@ -1,5 +1,5 @@
 -- The names of other crates and of this crate's specs that more than one of its proofs stands on.
-pub use Rattle.std.proofs.Common.{◌≡◌, ◌≢◌, ℕ, zero, suc, ◌+◌, ◌<◌, ◌≤◌, ◌==◌, ◌⊎◌, List, [], ◌∷◌, ◌++◌, length, set, refl, sym, ap, subst, ◌∙◌, if◌then◌else◌, arith, inl, inr, get_or, map, eq-zero-or-pos, take, cond, length-append, ◌-◌, ◌*◌, ◌^◌, ⊎_elim, All, drop, add-one, None}
+pub use Rattle.std.proofs.Common.{◌≡◌, ◌≢◌, ℕ, zero, suc, ◌+◌, ◌<◌, ◌≤◌, ◌==◌, ◌⊎◌, List, [], ◌∷◌, ◌++◌, length, set, refl, sym, ap, ◌∙◌, if◌then◌else◌, arith, inl, inr, get_or, map, eq-zero-or-pos, take, cond, length-append, ◌-◌, ◌*◌, ◌^◌, ⊎_elim, All, drop, add-one, None}
 pub use Rattle.std.proofs.lemmas.List.{length-set, append-nil, append_assoc, length_push, length-map, map_push, nil_from_length, get_or_default, length-take-le, take_more, length-replicate}
 pub use Rattle.std.specs.Prelude.{vec_capacity, nat_lt}
 pub use Rattle.atomic_table.proofs.Lists.{at_set, at_index, at_last, at_longer, at_map, at_snoc, drop_at}

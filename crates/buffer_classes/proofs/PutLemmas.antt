@@ -1,5 +1,5 @@
 -- Buffers that are put one after another.
-use Rattle.buffer_classes.proofs.Names.{◌≡◌, ℕ, ◌+◌, cond, ◌==◌, List, [], ◌∷◌, ◌++◌, ◌∙◌, ap, arith, set, length, length-append, append_assoc, Giver, Buffer, AllOf, OffersAll, GaveBack, class_count, Begins, Offers, Puts, filled_count, giver_memo, subst, eq-zero-or-pos, inl, inr, nat_tests, some, only_reaps, end_steps, gave_of, get_elem?, sum_by_push}
+use Rattle.buffer_classes.proofs.Names.{◌≡◌, ℕ, ◌+◌, cond, ◌==◌, List, [], ◌∷◌, ◌++◌, ◌∙◌, ap, arith, set, length, length-append, append_assoc, Giver, Buffer, AllOf, OffersAll, GaveBack, class_count, Begins, Offers, Puts, filled_count, giver_memo, eq-zero-or-pos, inl, inr, nat_tests, some, only_reaps, end_steps, gave_of, get_elem?, sum_by_push}
 use Rattle.buffer_classes.proofs.ByIndexLemmas.{all_more}
 use Rattle.permit_ring.proofs.Settled.{offer_keeps_settled}
 
@@ -35,10 +35,7 @@ one_put left b is i mid new place here was one =
 -- at last all are
 pub all_put : {all left : List Buffer} {olds news : List Giver} → left ≡ [] → AllOf (PutsSome all left) olds news
     → AllOf (λ i. Puts (class_count i all)) olds news
-all_put none was = record {
-  as_many = was.as_many;
-  each = λ i old new at is. let s = was.each i old new at is in subst (λ count. Puts count old new) (grind (arith, s.are, none)) s.did;
-}
+all_put none was = record { as_many = was.as_many; each = λ i old new at is. grind (arith, was.each i old new at is, none) }
 
 -- a class that was begun, where its buffers were put and which was offered
 pub gave_back : (bufs : List Buffer) (i : ℕ) (old begun put new : Giver) → Begins old begun → Puts (class_count i bufs) begun put

@@ -7,7 +7,7 @@ use Rattle.filter_chain.specs.{FitsAct, FitsTurn, bytes_in}
 
 module _ {B : Type 0} (held : B → List ℕ) (events : ℕ) where
   -- an act fits where what it tells does
-  act_fits : (act : Act B) → FitsAct held events act ↔ FitsAct (λ bytes. bytes) events (act_by held act)
+  pub act_fits : (act : Act B) → FitsAct held events act ↔ FitsAct (λ bytes. bytes) events (act_by held act)
   act_fits act = grind arith
 
   -- items fit where the entries do that they tell

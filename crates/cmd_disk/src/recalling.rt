@@ -7,7 +7,7 @@ ghost use Rattle.cmd_disk.specs.Keeping.{HasDiskCause};
 ghost use Rattle.cmd_disk.specs.Runs.{RecalledBy, written_end};
 ghost use Rattle.cmd_files.specs.Writing.{StandsInPart};
 
-use crate::ended::{Ended, ended_with, not_begun};
+use crate::ended::{Ended, not_begun};
 use cmd_files::{DiskStop, NewFile, Stop, write_files};
 use cmd_words::PairNames;
 use ids_outside::{Shelf, WriteFault};
@@ -17,6 +17,7 @@ use memory_store::{Records, Store};
 use std::alloc::Global;
 
 /// Writes the text of the records that the disk keeps, and gives the line that tells how many they are.
+#[tactic(auto, using(crate::proofs::KeepLemmas::recall_not_begun))]
 pub(crate) fn recall<'a, H: Shelf, D: Disk>(
     alloc: Global,
     names: PairNames<'a>,
@@ -39,7 +40,8 @@ pub(crate) fn recall<'a, H: Shelf, D: Disk>(
                 Ok(line) => Ok(line),
                 Err(fault) => Err(Stop::from(fault)),
             };
-            ended_with(end, store.finish())
+            let disk = store.finish();
+            Ended { end, disk }
         }
         Err(fault) => not_begun(fault, DiskStop::Failed),
     }

@@ -4,5 +4,5 @@ pub use Rattle.cmd_files.specs.Writing.{Adds, AreUntouched, CanWrite, Cuts, IsNo
 pub use Rattle.ids_outside.specs.{WriteCause, AppendMakes, Changes, CreateMakes}
 pub use Rattle.std.proofs.Common.{ap, arith, drop, inl, inr, refl, subst, sym, ◌+◌, ◌-◌, ◌∙◌}
 pub use Rattle.std.proofs.lemmas.Grind.{common_steps}
-pub use Rattle.std.proofs.lemmas.List.{length-take, take-take}
+pub use Rattle.std.proofs.lemmas.List.{drop_more, length-take, take-take}
 pub use Rattle.std.specs.Result.{IsErrAnd}

@@ -116,6 +116,7 @@ impl<B: Parcel> Windows<B> {
         self.arrive_slot(tick, item)
     }
 
+    #[tactic(auto, using(crate::proofs::SlotLemmas::intervals_set))]
     fn close_slot(&mut self, event: EventIndex, tick: u64) -> Option<Qualified<B>>
         requires { event.0 < length self.old }
         ensures slots { self.new ≡ after_closing event.0 tick self.old }
@@ -124,6 +125,7 @@ impl<B: Parcel> Windows<B> {
         self.slots[usize::from(event.0)].close_due(tick)
     }
 
+    #[tactic(auto, using(crate::proofs::SlotLemmas::intervals_set))]
     fn arrive_slot(&mut self, tick: u64, item: Qualified<B>) -> Option<B>
         requires { item.event.0 < length self.old }
         ensures slots { self.new ≡ after_arrival tick item self.old }

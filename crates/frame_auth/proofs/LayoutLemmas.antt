@@ -141,4 +141,4 @@ moved key part due m rest behind old new spelled begins some size made is added 
 -- what telling a counter needs, and what taking a seal off does
 pub ruleset telling = (common_steps, be_bytes_8, seal_made, seal_parts)
 
-pub ruleset unsealing = (common_steps, unsealed_layout, added_bare, moved)
+pub ruleset unsealing = (common_steps, unsealed_layout)

@@ -103,7 +103,7 @@ impl Unpacker {
 }
 
 /// Takes bytes of the piece until a unit is whole, and tells what the held bytes are then.
-#[tactic(auto, using(std::proofs::lemmas::Grind::common_steps, crate::proofs::StreamLemmas::is_seen))]
+#[tactic(auto, using(crate::proofs::StreamLemmas::is_seen))]
 fn take(held: &mut Vec<u8>, piece: &[u8]) -> (Fed, State)
     requires part { IsPart held.old.items }
     requires room { 65539 ≤ vec_capacity held.old }

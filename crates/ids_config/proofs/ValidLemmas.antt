@@ -5,10 +5,9 @@ use Rattle.std.specs.Prelude.{Result, nat_le}
 use Rattle.std.specs.List.{AllByRecursion}
 use Rattle.ids_types.specs.declared.class_spec.ClassSpec.{ClassSpec}
 use Rattle.ids_config.specs.declared.fault.ConfigPlace.TheVariants as places
-use Rattle.ids_config.specs.declared.parts.Aggregate.{Aggregate}
 use Rattle.ids_config.specs.declared.parts.Window.{Window}
 use Rattle.ids_config.specs.Parts.{Event, Parts}
-use Rattle.ids_config.specs.{◌>>◌, in_range, capped, IsWithin, IsInterval, IsWindow, AreClasses, IsEvent, AreInternal, IsValid}
+use Rattle.ids_config.specs.{◌>>◌, in_range, capped, IsWithin, IsWindow, AreClasses, IsEvent, AreInternal, IsValid}
 use Rattle.ids_config.specs.Values
 use Rattle.ids_config.proofs.StepLemmas.{both_ok, asks_ok, asked, at_ok, in_range_ok, each_ok}
 

@@ -7,7 +7,7 @@ pub use Rattle.ids_types.specs.Output.{Output, room_of}
 pub use Rattle.ids_config.specs.Parts.{Parts}
 pub use Rattle.report_api.specs.declared.pass.Pass.{Pass}
 pub use Rattle.report_api.specs.declared.shared.Shared.{Shared}
-pub use Rattle.idsm_api.specs.{Caller, IsFitCaller, caller_shares, chain_events, chain_kept, chain_stands, manager_shares}
+pub use Rattle.idsm_api.specs.{Caller, IsFitCaller, caller_shares, chain_events, chain_kept, chain_stands, manager_shares, log_in}
 pub use Rattle.idsm_api.specs.declared.manager.Manager.{Manager}
 pub use Rattle.atomic_table.proofs.Lists.{at_map}
 pub use Rattle.buffer_classes.specs.Buffers.{Buffer}
@@ -18,4 +18,3 @@ pub use Rattle.permit_ring.proofs.ListLemmas.{at_length, there}
 pub use Rattle.report_api.specs.{desk_memo, PassMemo, IsPassOf, lost_events, missing_in, pass_memo, sizes_of, CarriesAll, Given, ReportTells, act_with, calls_in, call_of, lost_contexts}
 pub use Rattle.report_queue.specs.Parts.{queue_seats, ticket_of}
 pub use Rattle.std.proofs.lemmas.Grind.{common_steps}
-pub use mathlib.Core.Option.{some}

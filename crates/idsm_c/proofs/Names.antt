@@ -5,12 +5,13 @@ pub use Rattle.core.proofs.atomic.Steps.{fm}
 pub use Rattle.core.proofs.cell.Inside.{Good, one}
 pub use Rattle.idsm_c.specs.Held.{held}
 pub use Rattle.idsm_c.specs.Making.{caller_roles, contents_of, is_taken, roles_in}
+pub use Rattle.idsm_c.specs.declared.handle.Handle.{Handle}
 pub use Rattle.idsm_c.specs.declared.making.Roles.{Roles}
 pub use Rattle.idsm_api.specs.Handled.{IsFit}
-pub use Rattle.std.proofs.Common.{List, [], ap, arith, false, length, lit<, refl, rules, subst, sym, take, ℕ, ◌++◌, ◌+◌, ◌∙◌, ◌∷◌, ◌≡◌, ◌≤◌, zero, suc, vec_len, vec_capacity}
+pub use Rattle.std.proofs.Common.{List, [], ap, arith, false, length, lit<, refl, rules, subst, sym, take, ℕ, ◌++◌, ◌+◌, ◌∙◌, ◌∷◌, ◌≡◌, ◌≤◌, zero, suc, vec_len, vec_capacity, ◌<◌}
 pub use Rattle.std.proofs.raw_atomic.Walks.{leaves, proved_at, proved}
 pub use Rattle.std.specs.List.{All}
-pub use Rattle.std.specs.Prelude.{None, Option, Some, Result, Ok, Err, IfSome}
+pub use Rattle.std.specs.Prelude.{None, Option, Some, Result, Ok, Err, IfSome, is_some}
 pub use Rattle.std.specs.declared.alloc.Global.{Global}
 pub use Rattle.std_alloc.proofs.BoxSteps.Steps.{box_in, box_out}
 pub use Rattle.std_alloc.proofs.ResultValues.{and_tt}
@@ -43,6 +44,7 @@ pub use types.Logic.{sem, Logic}
 pub use types.Part.{agg, sub, whole}
 pub use types.Run.{and_then, enter, exec, first, fld, lit, no_more, of_opd, returns, stop, blocks, bin, branches}
 pub use Rattle.idsm_api.specs.declared.role.Role.{Role}
+pub use Rattle.std.proofs.lemmas.List.{append_assoc, drop-set, get_or-map, length_push, length-map, length-set, map-append, map-set}
 pub use Rattle.std.proofs.lemmas.List.Elements.{All-map, All-pop}
 pub use Rattle.std.specs.contracts.impls.GlobalAllocator.TheImpl.{ghosts}
 pub use denote.Struct.Struct.{within, exits_of}

@@ -23,4 +23,4 @@ claims-push (m ∷ []) n = refl
 claims-push (m ∷ k ∷ front) n = grind (arith, nat_tests, append_assoc, claims-push (k ∷ front) n)
 
 -- how lines are printed, one after another
-pub ruleset pushes = (common_steps, entries-push, turns-push, losses-push)
+pub ruleset pushes = (common_steps, turns-push, losses-push)

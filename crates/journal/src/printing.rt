@@ -43,7 +43,6 @@ fn print_lines(alloc: Global, history: &History, losses: &[Loss]) -> Result<Vec<
 }
 
 /// Appends the lines of a turn.
-#[tactic(auto, using(crate::proofs::PrintingLemmas::pushes))]
 fn push_turn(out: &mut Vec<u8>, history: &History, turn: u64) -> Result<(), NoMemory>
     requires { turn < length history.now.turns }
     ensures { OnOk result (out.new.items ≡

@@ -4,7 +4,7 @@ use Rattle.cmd_steps.proofs.Names.{Turn, text_of}
 use mathlib.Core.List.{reverse_aux}
 use Rattle.std.proofs.lemmas.List.{map-append}
 use Rattle.std.specs.Fmt.{digits}
-use Rattle.law_agreement.proofs.Names.{◌≡◌, ℕ, zero, suc, ◌+◌, ◌*◌, ◌/◌, ◌%◌, ◌≤◌, Bool, false, List, [], ◌∷◌, length, map, flat_map, reverse, Option, Some, None, arith, length-append, digits_onto, digit_glyph, range_with_len, Kept, Entry, Stamp, Parts, internal_of, Told, Line, begins, enters, loses, line_for, turn_told, lines_told, journal_text, messages, kept_parcel, closes, head_moment, act_moment, turn_moments, moments, stamp_weight, context_weight, moment_weight}
+use Rattle.law_agreement.proofs.Names.{◌≡◌, ℕ, zero, suc, ◌+◌, ◌*◌, ◌/◌, ◌%◌, ◌≤◌, Bool, false, List, [], ◌∷◌, length, map, flat_map, reverse, Option, Some, None, arith, length-append, digits_onto, digit_glyph, Kept, Entry, Stamp, Parts, Told, Line, begins, enters, line_for, turn_told, journal_text, messages, kept_parcel, closes, head_moment, act_moment, turn_moments, moments, stamp_weight, context_weight, moment_weight}
 use Rattle.ids_types.specs.declared.entry.Act.{Act}
 use Rattle.ids_types.specs.declared.entry.Carried.{Carried}
 use Rattle.ids_types.specs.declared.entry.TurnHead.{TurnHead}

@@ -1,6 +1,5 @@
 -- What a closed desk makes of a history.
-use Rattle.law_closing.proofs.Names.{Item, some, asks_back, desk_memo, log_at, Act, Got, Outcome, PassMemo, call_of, calls_in, fate_of, sizes_of, decided_on, AreAllBack, class_at, AreDecided, entries_by, IsSettledLog, entries_from, get_elem?, at_map, get_or_past, length-map, ◌≡◌, ℕ, true≢false, Option, None, List, [], length, map, refl, sym, ap, subst, ◌∙◌, arith, inl, inr, ClassSpec, Classes, some_there, at_length, there, Parts}
-use mathlib.Core.Option as maybe
+use Rattle.law_closing.proofs.Names.{Item, some, asks_back, desk_memo, Act, Got, Outcome, PassMemo, call_of, calls_in, fate_of, sizes_of, decided_on, AreAllBack, class_at, AreDecided, entries_by, IsSettledLog, entries_from, get_elem?, at_map, get_or_past, length-map, ◌≡◌, ℕ, true≢false, Option, None, List, [], length, map, refl, sym, ap, ◌∙◌, arith, inl, inr, ClassSpec, Classes, some_there, at_length, there, Parts}
 use Rattle.std.proofs.lemmas.Bool.{cases_lt}
 use Rattle.ids_types.specs.{entries_of}
 use Rattle.history_spec.specs.Decided.{fates_of}
@@ -98,17 +97,16 @@ module _ (closed : ClosedDesk) where
         let mine = closed.is_desk.givers.each i class.0 giver class.1 found.1 in
         let number = (closed.made_for.numbers i class.0 class.1).0 in (
           map (λ x. x.0) its.taken,
-          λ caller. subst (λ (it : maybe.Option Giver). IsSettledLog (class_at closed.config i).number
-              (map (λ x. x.0) its.taken) caller (map fate_of (log_at it caller))) (sym found.1) (elim (cases_lt caller (length (giver_memo giver).back)) [
-                | inl low ↦
-                    let memo = some_there (giver_memo giver).back caller low
-                    (λ none. true≢false (sym (claimants_back closed.is_desk.tied all_back i giver found.1 caller None none))) in
-                    rw memo.1 (whole_settled (its.logs_are caller memo.0 memo.1)
-                    (λ j front stands. omega (arith, mine.fronts_from j front stands, mine.number_is, number)))
-                | inr past ↦ rw (nothing_past (giver_memo giver).back caller past)
-                    (none_settled (claimed_none caller 0 its.taken
-                    (λ t x taken is. omega (arith, its.seats_are t x.0 x.1 taken, mine.made_are, past, is))))
-              ]),
+          λ caller. rw found.1 (elim (cases_lt caller (length (giver_memo giver).back)) [
+            | inl low ↦
+                let memo = some_there (giver_memo giver).back caller low
+                (λ none. true≢false (sym (claimants_back closed.is_desk.tied all_back i giver found.1 caller None none))) in
+                rw memo.1 (whole_settled (its.logs_are caller memo.0 memo.1)
+                (λ j front stands. omega (arith, mine.fronts_from j front stands, mine.number_is, number)))
+            | inr past ↦ rw (nothing_past (giver_memo giver).back caller past)
+                (none_settled (claimed_none caller 0 its.taken
+                (λ t x taken is. omega (arith, its.seats_are t x.0 x.1 taken, mine.made_are, past, is))))
+          ]),
         )
     | inr past ↦ ([], λ caller. rw (nothing_past givers i past) (none_settled refl))
   ]

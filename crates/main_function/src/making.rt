@@ -21,6 +21,7 @@ pub struct Made<C> {
 }
 
 // The size of the largest class, 0 where there is none.
+#[tactic(auto, using(crate::proofs::LargestLemmas::larger_class))]
 fn largest_of(classes: &[(u64, u64)]) -> u64
     ensures { result ≡ largest_size (spec_sizes (map class_of classes.now)) }
 {

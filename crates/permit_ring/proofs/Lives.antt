@@ -89,8 +89,7 @@ module _ {O D T N : Type 0} (note : D → N) (Ao : T → O → Type 0) (An : T �
       → is_idle memo.view ≡ true → Joins (Runs note Ao An key) id v other w (join_both v w) join_spent
   joins_allowed id other v w k memo keeps sits idle s r at apart at_other =
       let p = keeper_port r (at ∙ ap some keeps) in
-      let there : get_elem? s.views other ≡ some (Sits key memo) = sym (set_else s.views id other (join_both v w) apart) ∙ at_other
-      ∙ ap some sits in
+      let there : get_elem? s.views other ≡ some (Sits key memo) = cc (set_else s.views id other (join_both v w) apart) in
       let m : Machine = r.machine in
       let its = (seated r other there).2 in
       -- the seat that ends, as the machine has it

@@ -46,11 +46,9 @@ module _ {O D T N : Type 0} {note : D → N} {Ao : T → O → Type 0} {An : T �
       → IsSomewhere key r.machine r.moves r.fates r.keeper s.views r.owner i back → (memo : SeatMemo N) × (memo.number ≡ i)
       × IsMemoThere s.views memo
   memo_from i None e p = (p.0, p.1, inl (record { port = r.owner i; its_key = key; there = p.2 }))
-  memo_from i (Some memo) e p = (
-    memo,
-    p.0,
-    inr (record { port = 0; its_key = key; keeper = r.keeper; there = r.keeper_there; back_at = ap (get_elem? r.keeper.back) p.0 ∙ e }),
-  )
+  memo_from i (Some memo) e p =
+      let at = ap (get_elem? r.keeper.back) p.0 ∙ e in
+      (memo, p.0, inr (record { port = 0; its_key = key; keeper = r.keeper; there = r.keeper_there; back_at = at }))
 
   -- each number is that of one seat
   pub each_number_is_one_seats : (i : ℕ) → i < r.keeper.made → IsOneSeats s.views i

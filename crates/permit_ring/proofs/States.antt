@@ -1,7 +1,5 @@
 -- Moves lead from ring to ring, each of one actor alone, and what stays of the rule where one view changes.
-use Rattle.permit_ring.proofs.Names.{◌≡◌, ◌≢◌, ℕ, ◌+◌, ◌%◌, ◌<◌, ◌≤◌, true, List, set, Option, ◌∙◌, inl, inr, mod-lt, arith, cases_eq, common_steps, length-set, set_here, set_else, State, Machine, HasSizes, opening, IsRing, SameHolders, same_position, opens, Key, KeeperMemo, SeatMemo, Slot, View, Sits, Keeps, AreFates, IsSlot, AreSlots, IsSeatMemo, Runs, get_elem?, some, false, [], ◌∷◌, Some, sym, subst, append-nil, after, next, step_of_next, after_keeps, after_sizes, same_sizes, Step, Move, found_at, Leads, is_of_seat, is_of_keeper, by_seat, by_keeper, and_move, cond}
-use Rattle.permit_ring.specs.Moves.{move}
-use Rattle.std.proofs.lemmas.Bool.{cases_Bool}
+use Rattle.permit_ring.proofs.Names.{◌≡◌, ◌≢◌, ℕ, ◌+◌, ◌%◌, ◌<◌, ◌≤◌, true, List, set, Option, ◌∙◌, inl, inr, mod-lt, arith, cases_eq, common_steps, length-set, set_here, set_else, State, Machine, HasSizes, opening, IsRing, SameHolders, same_position, opens, Key, KeeperMemo, SeatMemo, Slot, View, Sits, Keeps, AreFates, IsSlot, AreSlots, IsSeatMemo, Runs, get_elem?, some, [], ◌∷◌, Some, sym, subst, append-nil, after, next, step_of_next, after_keeps, after_sizes, same_sizes, Step, Move, found_at, Leads, is_of_seat, is_of_keeper, by_seat, by_keeper, and_move, cond}
 use mathlib.Core.Option as maybe
 use Rattle.std.proofs.lemmas.List.Elements.{filter-append}
 
@@ -22,11 +20,10 @@ module _ (moves : List Move) (step : Step) (found : ℕ) where
   -- a move of seat i stands last among its moves, and another's move leaves them alone
   pub by_seat-on : (i : ℕ) → by_seat i (and_move moves step found)
       ≡ cond (is_of_seat i step) (and_move (by_seat i moves) step found) (by_seat i moves)
-  by_seat-on i = grind (arith, filter-append (λ (v : Move). is_of_seat i v.step) moves (move step found ∷ []), append-nil (by_seat i moves), cases_Bool (is_of_seat i step))
+  by_seat-on i = simp filter-append (grind (arith, append-nil (by_seat i moves)))
 
-  pub by_keeper-on : by_keeper (and_move moves step found)
-      ≡ cond (is_of_keeper step) (and_move (by_keeper moves) step found) (by_keeper moves)
-  by_keeper-on = grind (arith, filter-append (λ (v : Move). is_of_keeper v.step) moves (move step found ∷ []), append-nil (by_keeper moves), cases_Bool (is_of_keeper step))
+  pub by_keeper-on : by_keeper (and_move moves step found) ≡ cond (is_of_keeper step) (and_move (by_keeper moves) step found) (by_keeper moves)
+  by_keeper-on = simp filter-append (grind (arith, append-nil (by_keeper moves)))
 
 module _ {N : Type 0} {m now : Machine} {fates : List (Option (ℕ × N))} where
   -- where no ticket changes hands, the fates stay

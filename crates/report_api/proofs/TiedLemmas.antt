@@ -1,11 +1,11 @@
 -- What ties the passes that came back to their claimants.
 use Rattle.report_api.proofs.Names.{◌≡◌, ℕ, true, is_some, true≢false, Option, None, List, refl, sym, arith, inl, inr, at_length, there, Giver, Buffer, AllOf, GaveBack, giver_memo, below_or, nothing_past, AreTied, log_at, PassMemo, get_elem?, some, some_there}
-use Rattle.permit_ring.specs.Closing.{AreAllBack, IsSettled}
+use Rattle.permit_ring.specs.Closing.{AreAllBack}
 
 module _ {number : ℕ} {back : List (Option PassMemo)} {olds news : List Giver} {bufs : List Buffer} (tied : AreTied number back olds)
     (gave : AllOf (GaveBack bufs) olds news) where
   -- the giver that stands at a place now stood there before, and gave back
-  stood : (i : ℕ) (new : Giver) → get_elem? news i ≡ some new → (old : Giver) × (get_elem? olds i ≡ some old) × GaveBack bufs i old new
+  pub stood : (i : ℕ) (new : Giver) → get_elem? news i ≡ some new → (old : Giver) × (get_elem? olds i ≡ some old) × GaveBack bufs i old new
   stood i new at =
       let old = there olds i (omega (arith, gave.as_many, at_length news i new at)) in (old.0, old.1, gave.each i old.0 new old.1 at)
 
@@ -33,10 +33,3 @@ module _ {number : ℕ} {back : List (Option PassMemo)} {givers : List Giver} (t
       (λ none. true≢false (sym (all caller None none))) in
       let memo = tied.both i caller giver pass.0 at pass.1 in
       grind (arith, e, memo.1)
-
--- then giving back settles each class
-pub settles : {number : ℕ} {back : List (Option PassMemo)} {olds news : List Giver} {bufs : List Buffer} (tied : AreTied number back olds)
-    → ((i : ℕ) (came : Option PassMemo) → get_elem? back i ≡ some came → is_some came ≡ true) → AllOf (GaveBack bufs) olds news
-    → (i : ℕ) (giver : Giver) → get_elem? news i ≡ some giver → IsSettled (giver_memo giver)
-settles tied all gave i giver at =
-    let was = stood tied gave i giver at in was.2.settled (claimants_back tied all i was.0 was.1)

@@ -99,7 +99,7 @@ room_read word room n all small text =
     hex_in-text word (take n room) (record { are_bytes = λ k. grind (arith, common_steps, small k); text = text ∙ take_all (2 * n) word (omega (arith, all)) })
 
 -- how bytes are read into a room
-pub ruleset rooms = (encode_none, pair_more, room_read, common_steps)
+pub ruleset rooms = (encode_none, room_read, common_steps)
 
 -- ---- a byte or more
 

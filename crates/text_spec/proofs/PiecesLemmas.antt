@@ -30,7 +30,7 @@ no_number c text i inside before apart strange =
     rw (first.1, strange_word (take end text) strange_there) refl
 
 -- where a text is cut
-pub ruleset cuts = (first_piece, whole_piece, no_number, take_rest, nat_tests)
+pub ruleset cuts = (first_piece, whole_piece, take_rest, nat_tests)
 
 -- a text has a piece
 pub some_piece : (c : ℕ) (text : List ℕ) → (length (slice_split (λ b. b == c) text) == 0) ≡ false

@@ -269,7 +269,7 @@ fn whole_number(text: &[u8], value: u64, separator: u8) -> Cut<'_>
 
 /// The number of the digits before the first byte that is no digit of it.
 #[inline(always)]
-#[tactic(auto, using(crate::proofs::PiecesLemmas::cuts))]
+#[tactic(auto, using(crate::proofs::PiecesLemmas::no_number, std::proofs::lemmas::Bool::Decides::nat_tests))]
 fn number_before(text: &[u8], i: usize, value: u64, separator: u8) -> Cut<'_>
     requires digits { AreDigits separator text.now i value }
     requires within { i < length text.now }

@@ -1,10 +1,9 @@
 -- The end of a replay: from where its callers and its manager stand to what it gives.
-use Rattle.trace_replay.proofs.Names.{cases_lt, inl, inr, ◌≡◌, ℕ, suc, ◌+◌, List, [], ◌∷◌, length, map, take, refl, sym, ap, ◌∙◌, arith, AllByRecursion, length-map, map-append, take_all, Turn, Parts, IsValid, all_losses, losses_from, last_tick, lines_of, ticks_of, AreRounds, Buffer, PassMemo, pass_memo, Shared, fates_in, losses_in, Traced, HavePlayed, sizes_in, Closes, IsRecordOf, IsSmallTurn, tick_of, turns_in, IsBetween, all_rests, as_told, HasListed, losses_by, passes_of, told, Caller, Recorder, at_map_back, some, all_append, get_elem?}
+use Rattle.trace_replay.proofs.Names.{CanPlay, cases_lt, inl, inr, ◌≡◌, ℕ, suc, ◌+◌, List, [], ◌∷◌, length, map, refl, sym, ap, ◌∙◌, arith, AllByRecursion, length-map, map-append, take_all, Turn, Parts, IsValid, all_losses, losses_from, last_tick, ticks_of, AreRounds, Buffer, PassMemo, pass_memo, Shared, fates_in, losses_in, Traced, HavePlayed, Closes, IsRecordOf, IsSmallTurn, tick_of, turns_in, IsBetween, all_rests, as_told, losses_by, passes_of, Caller, Recorder, at_map_back, some, all_append, get_elem?}
 use Rattle.trace_text.specs.Small.{AreSmall}
 use Rattle.trace_text.proofs.JournalLemmas.{merge_fits}
 use Rattle.law_closing.proofs.SizeLemmas.{first_is_small}
 use Rattle.law_closing.specs.Closed.{IsMadeFor}
-use Rattle.trace_replay.specs.Rounds.{CanPlay}
 use Rattle.trace_replay.specs.Replayed.{IsReplayOver, given}
 use Rattle.trace_replay.proofs.MergeLemmas.{merged, no_lines}
 use Rattle.trace_replay.proofs.RoundLemmas.{at_rest}
@@ -32,18 +31,13 @@ module _ {C : Type 0} {stands : C → Parts → List Turn → Type 0} {events : 
     (was : IsRecordOf stands config r1) (closes : Closes stands events kept shared tick (views_of callers) r1 r2) (tick_is : tick ≡ last_tick trace.rounds)
     (valid : IsValid config) (of_config : trace.callers ≡ config.callers) (rounds : AreRounds config trace.rounds)
     {positions : ℕ} (can : CanPlay shared positions trace) (made_for : IsMadeFor config shared) where
-  whole : take (length trace.rounds) trace.rounds ≡ trace.rounds
-  whole = take_all (length trace.rounds) trace.rounds (omega arith)
-
-  listed : (i : ℕ) (caller : Caller) → get_elem? callers i ≡ some caller
-      → HasListed (sizes_in config) config.ring i (lines_of i trace.rounds) (told caller)
-  listed i caller at =
-      rw (whole, made_for.positions_are, made_for.sizes) at (at_rest shared trace.rounds (length trace.rounds) callers between.at_rest i caller at).listed
-
   -- it is a replay of the rounds
   pub is_replay : IsReplayOver stands events kept config trace.rounds r2.manager (given r2 (losses_by callers))
   is_replay =
       let recorded = closes.advances.records config was in
+      let whole = take_all (length trace.rounds) trace.rounds (omega arith) in
+      let listed = λ (i : ℕ) (caller : Caller) (at : get_elem? callers i ≡ some caller).
+      rw (whole, made_for.positions_are, made_for.sizes) at (at_rest shared trace.rounds (length trace.rounds) callers between.at_rest i caller at).listed in
       let played : HavePlayed config trace.rounds (views_of callers) = record {
         all = length-map (passes_of callers) pass_memo ∙ length-map callers (λ (c : Caller). c.pass) ∙ between.as_many ∙ of_config;
         each = λ i view at.

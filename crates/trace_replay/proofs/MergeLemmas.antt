@@ -1,12 +1,10 @@
 -- What the passes of a replay did is a merge of their callers' lines.
-use Rattle.trace_replay.proofs.Names.{◌≡◌, ℕ, zero, suc, ◌+◌, ◌<◌, ◌≤◌, if◌then◌else◌, nat_lt, Bool, List, [], ◌∷◌, length, map, filter, sum_by, refl, sym, ap, subst, ◌∙◌, arith, inl, inr, length-append, AllByRecursion, AllZip, get_or_past, length-map, filter-append, sum_by-cons, Turn, entries_of, Parts, class_of, all_losses, losses_from, AreMerged, IsAsAsked, IsMerge, StandsIn, Asked, reports, changes, sets, Round, is_lost_report, lines_of, ticks_of, Act, Report, State, SetMode, Absent, Kept, Missing, Outcome, Lost, Got, PassMemo, lost_events, calls_in, fate_of, missing_in, plain_act, missed_by, HaveAllCalls, calls_by, fates_in, losses_in, or_at, Answers, IsAsked, lost_reports, HavePlayed, sizes_in, HasPlayed, at_map_back, some, AllZip-long, at_map, at_length, Misses, misses_context, entries_by, entries_from, get_elem?}
+use Rattle.trace_replay.proofs.Names.{too_small, AreCountsOf, AreSumsOf, ◌≡◌, ℕ, zero, suc, ◌+◌, ◌<◌, ◌≤◌, if◌then◌else◌, nat_lt, Bool, List, [], ◌∷◌, length, map, filter, sum_by, refl, sym, ap, subst, ◌∙◌, arith, inl, inr, length-append, AllByRecursion, AllZip, get_or_past, length-map, filter-append, sum_by-cons, Turn, entries_of, Parts, class_of, all_losses, losses_from, AreMerged, IsAsAsked, IsMerge, StandsIn, Asked, reports, changes, sets, Round, is_lost_report, lines_of, ticks_of, Act, Report, State, SetMode, Absent, Kept, Missing, Outcome, Lost, Got, PassMemo, lost_events, calls_in, fate_of, missing_in, plain_act, missed_by, HaveAllCalls, calls_by, fates_in, losses_in, or_at, Answers, IsAsked, lost_reports, HavePlayed, sizes_in, HasPlayed, at_map_back, some, AllZip-long, at_map, at_length, Misses, misses_context, entries_by, entries_from, get_elem?}
 use Rattle.std.proofs.Math.Path.{fun_ext}
 use Rattle.ids_types.specs.declared.class_spec.ClassSpec.{ClassSpec}
 use Rattle.buffer_classes.specs.Classes.{first_fitting}
-use Rattle.main_function.specs.{AreCountsOf, AreSumsOf}
 use Rattle.main_function.specs.declared.rest.Totals.{Totals}
 use Rattle.buffer_classes.proofs.AskLemmas.{below_or}
-use Rattle.history_spec.specs.Contexts.{too_small}
 use Rattle.history_spec.specs.Names.{Entry}
 
 -- ---- what was asked

@@ -12,9 +12,9 @@ pub use Rattle.law_closing.specs.Calls.{HaveAllCalls, fates_in, losses_in, calls
 pub use Rattle.ids_config.specs.Parts.{Parts, class_of}
 pub use Rattle.ids_config.specs.Valid.{IsValid}
 pub use Rattle.ids_types.specs.{kept_bytes, Turn, entry_at, entries_of, turn_at}
-pub use Rattle.main_function.specs.{IsManagerOf, last_of, turns_of, rests_told, with_rest, Turned}
+pub use Rattle.main_function.specs.{IsManagerOf, last_of, turns_of, rests_told, with_rest, Turned, AreCountsOf, AreSumsOf, HasPasses}
 pub use Rattle.main_function.specs.declared.manager.Manager.{Manager}
-pub use Rattle.history_spec.specs.{all_losses, losses_from, IsMerge, AreMerged, IsAsAsked, StandsIn, KeepUpFrom, Asked, reports, changes, sets, last_tick, lines_of, ticks_of, Round, is_lost_report, lines_at, round_ticks, Misses, misses_context, entries_by, entries_from}
+pub use Rattle.history_spec.specs.{all_losses, losses_from, IsMerge, AreMerged, IsAsAsked, StandsIn, KeepUpFrom, Asked, reports, changes, sets, last_tick, lines_of, ticks_of, Round, is_lost_report, lines_at, round_ticks, Misses, misses_context, entries_by, entries_from, too_small}
 pub use Rattle.permit_ring.proofs.ListLemmas.{there, at_length}
 pub use Rattle.report_api.specs.{desk_memo, lost_events, pass_memo, calls_in, missing_in, plain_act, misses_context as missed_by}
 pub use Rattle.report_api.specs.Names.{Act, Absent, Kept, Missing, Lost, Got, DeskMemo, PassMemo, Report, State, SetMode, Outcome}
@@ -27,13 +27,13 @@ pub use Rattle.text_spec.specs.{begun_round, last_from, is_allowed, AreRounds, I
 pub use Rattle.trace_text.specs.{line_at, Traced, round_at}
 pub use Rattle.trace_replay.specs.Calls.{IsAsked, lost_report, Answers, lost_reports, CallsOnce, Told, loss_of, MayBeAsked}
 pub use Rattle.trace_replay.specs.Played.{HavePlayed, sizes_in}
-pub use Rattle.trace_replay.specs.{Closes, IsRecordOf, IsSmallTurn, tick_of, turns_in, Advances, Continues, StaysSame, StillRecords, all_rests, as_told, rests_before, ticks_before, IsBetween, EndsRound, Plays, HasListed, losses_by, passes_of, told, HasPlayed, lines_before, AreAtRest, IsAtRest, MayAllBeAsked, calls_of_each}
+pub use Rattle.trace_replay.specs.{Closes, IsRecordOf, IsSmallTurn, tick_of, turns_in, Advances, Continues, StaysSame, StillRecords, all_rests, as_told, rests_before, ticks_before, IsBetween, EndsRound, Plays, HasListed, losses_by, passes_of, HasPlayed, lines_before, AreAtRest, IsAtRest, MayAllBeAsked, calls_of_each, CanPlay}
 pub use Rattle.trace_replay.specs.declared.caller.Caller.{Caller}
 pub use Rattle.trace_replay.specs.declared.gathered.Gathered.{Gathered}
 pub use Rattle.trace_replay.specs.declared.recorder.Recorder.{Recorder}
 pub use Rattle.atomic_table.proofs.Lists.{at_map, at_longer}
 pub use Rattle.report_queue.proofs.ClosingLemmas.{at_map_back}
-pub use Rattle.std.proofs.lemmas.Grind.{flat_map-append}
+pub use Rattle.std.proofs.lemmas.Grind.{flat_map-append, common_steps}
 pub use Rattle.std.proofs.lemmas.Slice.Zip.{AllZip-long, all_zipped_more}
 pub use denote.Param.Send.{IsSend, IsSync, sendable, whole-keyless, struct_sync, recorded_sync, shr_sync, shr_send, Quiet-if}
 pub use lib.ListN.{get_elem?}

@@ -1,8 +1,7 @@
 -- One round more.
-use Rattle.trace_replay.proofs.Names.{IsManagerOf, Manager, all_split, ◌≡◌, ℕ, ◌+◌, ◌-◌, ◌≤◌, ◌<◌, ◌^◌, List, [], ◌∷◌, ◌++◌, length, take, drop, sym, ap, subst, ◌∙◌, arith, append_assoc, length-append, All, flat_map, length-map, map-append, take_more, take-append-drop, All-from_recursion, Turn, Parts, KeepUpFrom, Round, lines_of, round_ticks, begun_round, last_from, AreTicks, flat_map-push, keep_split, last_from-push, Buffer, at_length, desk_memo, Shared, or_at, turns_of, Traced, round_at, Continues, StillRecords, turns_in, EndsRound, IsBetween, Plays, calls_of_each, rests_before, ticks_before, AreAtRest, IsAtRest, passes_of, Caller, Recorder, add-one, at_map_back, some, all_append, flat_map-append, get_elem?}
+use Rattle.trace_replay.proofs.Names.{HasPasses, IsManagerOf, Manager, all_split, ◌≡◌, ℕ, ◌+◌, ◌-◌, ◌≤◌, ◌<◌, ◌^◌, List, [], ◌∷◌, ◌++◌, length, take, drop, sym, ap, subst, ◌∙◌, arith, append_assoc, length-append, All, flat_map, length-map, map-append, take_more, take-append-drop, All-from_recursion, Turn, Parts, KeepUpFrom, Round, lines_of, round_ticks, begun_round, last_from, AreTicks, flat_map-push, keep_split, last_from-push, Buffer, at_length, desk_memo, Shared, or_at, turns_of, Traced, round_at, Continues, StillRecords, turns_in, EndsRound, IsBetween, Plays, calls_of_each, rests_before, ticks_before, AreAtRest, IsAtRest, passes_of, Caller, Recorder, add-one, at_map_back, some, all_append, flat_map-append, get_elem?}
 use Rattle.trace_replay.proofs.RecordingLemmas.{last_on}
 use Rattle.trace_replay.proofs.RestLemmas.{calls_made, two_told}
-use Rattle.main_function.specs.Standing.{HasPasses}
 use Rattle.trace_replay.specs.Rounds.{RestsOnce}
 
 -- ---- ticks

@@ -1,5 +1,5 @@
 -- Which lines of a trace have a form.
-use Rattle.trace_text.proofs.Names.{◌≡◌, ◌⊎◌, map, ℕ, zero, suc, ◌≤◌, List, [], ◌∷◌, length, refl, sym, ap, subst, inl, inr, arith, AllByRecursion, Option, Some, None, option_map, codes, numbers_in, told_in_one, or_else, opening_in, trace_forms, trace_told_by, TraceLine, opens, trace_fields}
+use Rattle.trace_text.proofs.Names.{◌≡◌, ◌⊎◌, map, ℕ, zero, suc, ◌≤◌, List, [], ◌∷◌, length, refl, sym, ap, subst, inl, inr, arith, AllByRecursion, Some, None, option_map, codes, numbers_in, told_in_one, opening_in, trace_forms, trace_told_by, TraceLine, opens, trace_fields}
 use Rattle.text_spec.specs.Fields.{a_number, first_as, the}
 use Rattle.text_spec.proofs.ContextsLaws.{lawfuls, numbers_take, the_lawful}
 use Rattle.text_spec.proofs.FieldsLaws.{AreForms, IsReading, IsTold, forms_are}

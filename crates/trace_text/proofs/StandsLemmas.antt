@@ -1,5 +1,5 @@
 -- What stands in a list: its place, how often it is counted, and facts of all that stands there.
-use Rattle.trace_text.proofs.Names.{◌≡◌, ℕ, zero, suc, ◌+◌, ◌<◌, List, [], ◌∷◌, length, map, get_or, refl, sym, ap, subst, arith, AllByRecursion, flat_map, replicate, eq-eqb, StandsIn, times, once_below, stands_left, stands_right, common_steps, All-from_recursion}
+use Rattle.trace_text.proofs.Names.{◌≡◌, ℕ, zero, suc, ◌<◌, List, [], ◌∷◌, length, map, get_or, refl, sym, ap, subst, arith, AllByRecursion, flat_map, replicate, eq-eqb, StandsIn, times, stands_left, stands_right, common_steps, All-from_recursion}
 use mathlib.Core.Option.{some, some-injective}
 use lib.ListN.{get_elem?}
 

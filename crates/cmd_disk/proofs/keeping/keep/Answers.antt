@@ -1,5 +1,5 @@
 use Rattle.cmd_steps.proofs.Names.{keep_files_of, plain_stop}
-use Rattle.cmd_disk.proofs.Names.{Recorded, arith, gives, keep, keeps, no_call, reading_ends, reading_of, recorded_in, refl, stops_early}
+use Rattle.cmd_disk.proofs.Names.{Recorded, gives, keep, keeps, no_call, reading_ends, reading_of, recorded_in, refl, stops_early}
 use Rattle.cmd_steps.proofs.MadeLemmas.{work_said}
 use Rattle.cmd_disk.proofs.EndLemmas.{left_behind}
 use Rattle.cmd_disk.proofs.KeepLemmas.{came, kept_in_part, leaves_own, plain_kept, unread_end}
@@ -11,10 +11,6 @@ returns-in-Err-clause-ends g c =
     let next = λ (own : Recorded). gives (keeps own.config own.told.turns) in
     rw c.ended_with.ensures (reading_ends (keep (keep_files_of c.args.names)) (plain_stop c.in-Err.stop) _ _
     (stops_early (recorded_in (keep_files_of c.args.names).from) next (plain_stop c.in-Err.stop) _ _ c.in-Err.ensures.reads))
-
-pub returns-in-Err-clause-cause : goal.returns-in-Err-clause-cause
-returns-in-Err-clause-cause g c =
-    rw c.ended_with.ensures (grind (arith, c.in-Err.ensures.reads))
 
 pub returns-in-Err-clause-leaves : goal.returns-in-Err-clause-leaves
 returns-in-Err-clause-leaves g c told tells own found =

@@ -1,4 +1,4 @@
-use Rattle.cmd_steps.proofs.Names.{BadMessage, BadMessages, Err, List, MessageParts, Ok, Result, ap, are_bytes, decode_tells, decoded_text, does, gives, if_found, only_said, refl, sym, take_rest, ℕ, ◌>>=◌, ◌∙◌}
+use Rattle.cmd_steps.proofs.Names.{Err, Ok, are_bytes, arith, decode_tells, refl, sym, take_rest, ◌∙◌}
 use Rattle.cmd_messages.proofs.LinesLemmas.{all_printed, more_printed, printing_stops}
 use Rattle.cmd_messages.proofs.decode.lines_of.Goals as goal
 
@@ -18,11 +18,9 @@ pub returns-in-Err : goal.returns-in-Err
 returns-in-Err c =
     let so = c.loop-rest.invariant in
     let cause = decode_tells _ (Err c.in-Err.fault) so.are_bytes c.in-Err.ensures in
-    let stops = printing_stops _ _ _ c.in-Err.fault (are_bytes c.args.bytes.now c.type_inv.bytes) so (sym c.is_empty.ensures ∙ c.loop-rest-test.true) cause in
-    rw stops refl
+    rw (printing_stops _ _ _ c.in-Err.fault (are_bytes c.args.bytes.now c.type_inv.bytes) so (sym c.is_empty.ensures ∙ c.loop-rest-test.true) cause) refl
 
 pub returns : goal.returns
 returns c =
-    let all = all_printed _ _ _ (are_bytes c.args.bytes.now c.type_inv.bytes) c.loop-rest.invariant (sym c.is_empty.ensures ∙ c.loop-rest-test.false) in
-    ap (λ (found : Result (List MessageParts) BadMessage). if_found BadMessages found >>= λ messages. gives (does (only_said (decoded_text messages)))) all.1
-    ∙ ap (λ (lines : List ℕ). gives (does (only_said lines))) (sym all.2)
+    let none = sym c.is_empty.ensures ∙ c.loop-rest-test.false in
+    grind (arith, all_printed _ _ _ (are_bytes c.args.bytes.now c.type_inv.bytes) c.loop-rest.invariant none)

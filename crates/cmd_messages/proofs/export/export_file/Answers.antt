@@ -7,8 +7,8 @@ use Rattle.cmd_messages.proofs.export.export_file.Goals as goal
 pub returns-in_err-bytes : goal.returns-in_err-bytes
 unfolding reading_of
 returns-in_err-bytes g c =
-    let names = exported_of c.args.names in
-    unread _ (export names) _ _ (messages_judged (exported names.format)) refl _ _ c.from_residual.ensures.1 c.in_err-bytes.ensures.reads
+    unread _ (export (exported_of c.args.names)) _ _ (messages_judged (exported c.args.names.format)) refl _ _ c.from_residual.ensures.1
+    c.in_err-bytes.ensures.reads
 
 pub returns : goal.returns
 unfolding reading_of

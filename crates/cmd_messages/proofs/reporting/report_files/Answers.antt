@@ -19,8 +19,7 @@ ended : (g : Over) (c : After-write_work g) → EndsAs (report (report_files_of 
 unfolding reading_of
 ended g c =
     let names = report_files_of c.args.names in
-    let sources = c.in_ok-sources.sources.items in
-    c.write_work.ensures.ends (report names) (reports names.target sources) (g.H.Shelf.shows c.args.shelf.now)
+    c.write_work.ensures.ends (report names) (reports names.target c.in_ok-sources.sources.items) (g.H.Shelf.shows c.args.shelf.now)
     (come _ _ _ _ (λ (own : Sources). reports names.target own) refl _ c.in_ok-sources.ensures.reads)
     (grind (arith, c.in_ok-forwarded.ensures, c.deref.ensures.value, c.deref-2.ensures.value, c.deref-3.ensures.value, c.in_ok-line.ensures))
 

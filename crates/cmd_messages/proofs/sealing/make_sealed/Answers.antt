@@ -1,9 +1,8 @@
-use Rattle.cmd_steps.proofs.Names.{arith, codes, joined, length, rules, ◌-◌, ◌/◌}
+use Rattle.cmd_steps.proofs.Names.{arith, codes, length, rules, ◌-◌, ◌/◌}
 use Rattle.cmd_messages.proofs.CopyLemmas.{copied_work, sealed_length}
-use Rattle.frame_auth.specs.Sealing.{joined_sealed}
 use Rattle.cmd_messages.proofs.sealing.make_sealed.Goals as goal
 
 pub returns-in_ok-line-in-Ok : goal.returns-in_ok-line-in-Ok
 returns-in_ok-line-in-Ok c target =
-    copied_work joined (joined_sealed c.args.key.now c.args.start) (codes "signed ") target _ _ _ ((c.len.result - length c.args.messages.now) / 42) c.in-Ok.ensures.found
+    copied_work _ _ (codes "signed ") target _ _ _ ((c.len.result - length c.args.messages.now) / 42) c.in-Ok.ensures.found
     (grind (arith, sealed_length, c.in-Ok.ensures.found, c.len.ensures)) (search rules)

@@ -1,6 +1,6 @@
 use Rattle.frame_auth.proofs.Names.{◌≡◌, ◌++◌, Some, refl, sym, ap, ◌∙◌, arith, inr, seal_of, common_steps}
 use Rattle.frame_auth.proofs.WalkLemmas.{begins_so}
-use Rattle.frame_auth.proofs.LayoutLemmas.{no_seal, no_counter, sealed_with, other_counter, added_bare}
+use Rattle.frame_auth.proofs.LayoutLemmas.{no_seal, no_counter, sealed_with, other_counter, added_bare, moved}
 use Rattle.frame_auth.proofs.unsealing.unseal_first.Goals as goal
 
 pub returns-in_default-clause-place : goal.returns-in_default-clause-place
@@ -24,3 +24,6 @@ returns-in_default-counter_of-clause-place c =
 
 pub returns-then-counter-due-clause-place : goal.returns-then-counter-due-clause-place
 returns-then-counter-due-clause-place c = grind (arith, common_steps, begins_so, sealed_with, other_counter, added_bare)
+
+pub returns-clause-found : goal.returns-clause-found
+returns-clause-found c = grind (arith, common_steps, added_bare, moved)

@@ -1,11 +1,7 @@
-use Rattle.idsm_c.proofs.Names.{◌∙◌, arith, length, refl, sym, Option, contents_of}
-use Rattle.std.proofs.Common.{◌<◌}
-use Rattle.std.specs.Prelude.{is_some}
+use Rattle.idsm_c.proofs.Names.{get_or-map, length-map, Handle, is_some, ◌<◌, ◌∙◌, arith, length, refl, sym, Option, contents_of}
 use Rattle.std.proofs.Math.Seq.{map-set_same}
-use Rattle.std.proofs.lemmas.List.{get_or-map, length-map}
 use Rattle.std.proofs.lemmas.List.Folds.{list_any_at, list_any_more}
 use Rattle.idsm_api.specs.declared.role.Role.{Role}
-use Rattle.idsm_c.specs.declared.handle.Handle.{Handle}
 use Rattle.idsm_c.proofs.making.is_any_taken.Goals as goal
 
 pub returns-then-has_any : goal.returns-then-has_any

@@ -1,9 +1,12 @@
-use Rattle.idsm_c.proofs.Names.{◌≡◌, ◌∙◌, ◌∷◌, [], ap, arith, length, rules, Some, Global, IsFit, contents_of, roles_in, All-pop, Role}
-use Rattle.std.proofs.Common.{◌<◌}
-use Rattle.std.proofs.lemmas.List.{append_assoc, drop-set, length_push, length-map, length-set, map-append, map-set}
+use Rattle.idsm_c.proofs.Names.{append_assoc, drop-set, length_push, length-map, length-set, map-append, map-set, Handle, ◌<◌, ◌≡◌, ◌∙◌, ◌∷◌, [], ap, arith, length, rules, Some, Global, IsFit, contents_of, roles_in, All-pop, Role}
 use Rattle.std.specs.declared.boxed.Box.{Box}
-use Rattle.idsm_c.specs.declared.handle.Handle.{Handle}
 use Rattle.idsm_c.proofs.making.put_all.Goals as goal
+
+pub put-requires : goal.put-requires
+put-requires c =
+    let rest = c.pop.new.self.items in
+    let roles = ap roles_in c.in-Some.ensures.items ∙ map-append (λ (box : Box Role Global). box.value) rest (c.in-Some.role ∷ []) in
+    (All-pop IsFit (roles_in c.loop-role.roles.items) (roles_in rest) (Some c.in-Some.role.value) roles c.loop-role.invariant.2).1
 
 pub loop-role-preserved : goal.loop-role-preserved
 loop-role-preserved c =

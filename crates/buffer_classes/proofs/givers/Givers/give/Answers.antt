@@ -4,9 +4,8 @@ use Rattle.buffer_classes.proofs.givers.Givers.give.Goals.{In-Some}
 use Rattle.buffer_classes.proofs.givers.Givers.give.Goals as goal
 
 pub begin-requires : goal.begin-requires
-begin-requires c = record {
-  mine = giver_there c.loop-class.invariant.0 c.loop-class.class (omega arith) c.index.ensures c.index_mut.ensures.value;
-}
+begin-requires c =
+    grind (arith, giver_there c.loop-class.invariant.0 c.loop-class.class (omega arith) c.index.ensures c.index_mut.ensures.value)
 
 pub loop-class-preserved : goal.loop-class-preserved
 loop-class-preserved c = givers_below c.loop-class.invariant.0 c.loop-class.class (omega arith) c.index.ensures
@@ -48,10 +47,9 @@ loop-buf-preserved c =
     )
 
 pub offer-requires : goal.offer-requires
-offer-requires c = record {
-  mine = giver_there c.loop-class-2.invariant.0 c.loop-class-2.class (omega arith) c.index-in-loop-class-2.ensures
-      c.index_mut-in-loop-class-2.ensures.value;
-}
+offer-requires c =
+    let is = c.loop-class-2.invariant.0 in
+    grind (arith, giver_there is _ (omega arith) c.index-in-loop-class-2.ensures c.index_mut-in-loop-class-2.ensures.value)
 
 pub loop-class-2-preserved : goal.loop-class-2-preserved
 loop-class-2-preserved c = givers_below c.loop-class-2.invariant.0 c.loop-class-2.class (omega arith) c.index-in-loop-class-2.ensures

@@ -1,5 +1,5 @@
-use Rattle.gen_recording.proofs.Names.{◌≡◌, ℕ, List, [], ◌∷◌, ◌++◌, length, map, reverse, sym, subst, ap, ap₂, ◌∙◌, arith, length-append, common_steps, reverse-append, map-append, All-push, plain_entry, Entry, Plain, FitsAct, FitsTurn, line_asked, Call, calls_of, held}
-use Rattle.chain_plain.proofs.TurningLemmas.{fits_act}
+use Rattle.gen_recording.proofs.Names.{◌≡◌, ℕ, List, [], ◌∷◌, ◌++◌, length, reverse, sym, subst, ap, arith, length-append, common_steps, reverse-append, map-append, All-push, plain_entry, Entry, Plain, FitsAct, FitsTurn, line_asked, Call, calls_of, held}
+use Rattle.chain_plain.proofs.TurningLemmas.{act_fits}
 use Rattle.gen_recording.proofs.RecordingLemmas.{ask_fits, entries_more}
 use Rattle.gen_recording.proofs.recorder.Recorder.call.Goals as goal
 
@@ -12,7 +12,7 @@ returns-clause-at c before calls at =
     let is = c.in_ok-entry.ensures.entry past at.counts in
     let items : c.push_reserved.new.self.items ≡ c.args.self.now.desk.items.items ++ entry ∷ [] = grind (arith, common_steps) in
     let fits : FitsAct held (length config.events) entry.act =
-    fits_act held (length config.events) entry.act
+    (act_fits held (length config.events) entry.act).1
     (subst (FitsAct (λ bytes. bytes) (length config.events)) (sym (ap (λ (e : Entry (List ℕ)). e.act) is))
     (ask_fits config past c.args.caller (line_asked c.args.line) c.requires.line)) in
     record {

@@ -1,4 +1,4 @@
-use Rattle.gen_recording.proofs.Names.{◌≡◌, ◌≤◌, refl, append-nil, [], ◌∷◌, ◌++◌, length, map, reverse, sym, subst, ap, ap₂, ◌∙◌, arith, on_ok_weaker, reverse-append, reverse-reverse, plain_entry, handed_on, Plain, Entry, FitsAct, FitsTurn, turn_by, All-nil, Stands, calls_of, turns_of, turn_of, held, turns_made}
+use Rattle.gen_recording.proofs.Names.{◌≡◌, ◌≤◌, refl, append-nil, [], ◌∷◌, ◌++◌, map, reverse, sym, subst, ap, ap₂, ◌∙◌, arith, on_ok_weaker, reverse-append, reverse-reverse, plain_entry, handed_on, turn_by, All-nil, Stands, calls_of, turns_of, turn_of, held, turns_made}
 use Rattle.filter_chain.specs.History.{last_tick}
 use Rattle.ids_types.specs.declared.entry.TurnHead.{TurnHead}
 use Rattle.chain_plain.specs.Telling.{HasDeskRoom, Tells}

@@ -1,7 +1,7 @@
-use Rattle.idsm_api.proofs.Names.{◌≡◌, ◌∙◌, length, rules, refl, sym, length-map, arc_value, chain_events, chain_kept, chain_stands}
+use Rattle.idsm_api.proofs.Names.{log_in, ap, ◌≡◌, ◌∙◌, length, rules, refl, sym, length-map, arc_value, chain_events, chain_kept, chain_stands}
 use Rattle.ids_config.specs.{class_of, parts_of}
 use Rattle.main_function.specs.Making.{IsNewManager}
-use Rattle.idsm_api.proofs.MakingLemmas.{all_callers, callers_fit, classes_made, most_made, none_called}
+use Rattle.idsm_api.proofs.MakingLemmas.{all_callers, classes_made, most_made, pass_new}
 use Rattle.idsm_api.proofs.manager.Manager.make_for.Goals as goal
 
 pub returns : goal.returns
@@ -20,14 +20,14 @@ returns c =
     record {
       is_new = rw its.passes new;
       shares = its.shares;
-      callers_fit = callers_fit _ shared _ made.manager new callers its.passes its.shares;
+      callers_fit = λ i d low. rw (its.shares i d low) (pass_new new callers its.passes i d low).is_pass;
       manager_fits = record {
         is_manager = new.is_manager;
-        most_is = rw (c.most_sent-most.ensures, c.largest.ensures, events) (most_made _ shared _ made.manager read_new);
+        most_is = rw (c.most_sent-most.ensures, c.largest.ensures, events) (most_made read_new);
         last_is = sym new.stands_for_none.tick_is;
         none_back = c.in_ok-passes.ensures.items;
-        classes_are = classes ∙ sym (length-map c.parts.inside.classes.items class_of) ∙ classes_made _ shared _ made.manager read_new;
+        classes_are = classes ∙ sym (length-map c.parts.inside.classes.items class_of) ∙ classes_made read_new;
       };
-      are_all = all_callers _ shared _ made.manager new callers its.passes its.shares _ refl (search rules);
-      none_called = none_called _ shared _ made.manager new callers its.passes;
+      are_all = all_callers new callers its.passes its.shares _ refl (search rules);
+      none_called = λ i d low. ap log_in (pass_new new callers its.passes i d low).knows;
     }

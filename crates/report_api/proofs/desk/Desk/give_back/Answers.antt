@@ -1,5 +1,5 @@
 use Rattle.report_api.proofs.Names.{arith, desk_memo, to_give_back, gave_of, queue_positions, queue_seats}
-use Rattle.report_api.proofs.TiedLemmas.{settles, tied_given}
+use Rattle.report_api.proofs.TiedLemmas.{claimants_back, stood, tied_given}
 use Rattle.report_api.proofs.desk.Desk.give_back.Goals as goal
 
 pub returns-clause-mine : goal.returns-clause-mine
@@ -11,4 +11,6 @@ returns-clause-mine c =
     grind (arith, c.requires.mine, c.give_back.ensures.mine, c.give.ensures.mine, gave.back_is, tied)
 
 pub returns-clause-settled : goal.returns-clause-settled
-returns-clause-settled c all = settles c.requires.mine.tied all c.give.ensures.gave
+returns-clause-settled c all i giver at =
+    let was = stood c.requires.mine.tied c.give.ensures.gave i giver at in
+    was.2.settled (claimants_back c.requires.mine.tied all i was.0 was.1)

@@ -1,4 +1,4 @@
-use Rattle.trace_text.proofs.Names.{◌≡◌, ◌^◌, ◌<◌, ◌+◌, ◌-◌, ◌++◌, ◌∷◌, [], length, set, get_or, List, rules, arith, ap, ap₂, length-append, length-set, ◌∙◌, slice_index, get_or_read, asked_more, with_last, Asked, Round, ticks_asked, line_asked, Lie, at_start, laid_of, rounds_laid, with_line, RoundEnd, common_steps}
+use Rattle.trace_text.proofs.Names.{◌≡◌, ◌^◌, ◌<◌, ◌+◌, ◌-◌, ◌++◌, ◌∷◌, [], length, set, get_or, List, rules, arith, ap, ap₂, length-append, length-set, ◌∙◌, slice_index, get_or_read, asked_more, with_last, Asked, Round, ticks_asked, line_asked, Lie, at_start, laid_of, rounds_laid, with_line, common_steps}
 use Rattle.trace_text.proofs.LaidLemmas.{all_counted, last_end, line_pushed, now_sound, rounds_are}
 use Rattle.trace_text.proofs.trace.Trace.push_line.Goals as goal
 
