@@ -1,6 +1,6 @@
 //! Messages packed into units, and taken out of a stream.
 
-use ids_bundle::{Fed, Unpacker, pack};
+use ids_bundle::{Count, Fed, Unpacker, count, pack};
 use std::alloc::Global;
 use std::test::*;
 
@@ -19,6 +19,20 @@ fn nine(alloc: Global) -> Result<Vec<u8>, Fail> {
 // Their units of at most 64 bytes.
 fn units_of_nine(alloc: Global) -> Result<Vec<u8>, Fail> {
     Ok(pack(alloc, 64, &nine(alloc)?).ok().ok_or("packed")?)
+}
+
+#[test]
+fn units_before_a_cut_are_counted(rt: HostRuntime) -> Result<(), Fail> {
+    let units = units_of_nine(rt.alloc())?;
+    let (_, cut) = units.split_last().ok_or("a byte")?;
+    assert_eq!(rt;
+        count(cut),
+        Count {
+            units: 1,
+            messages: 8
+        }
+    );
+    Ok(())
 }
 
 #[test]
