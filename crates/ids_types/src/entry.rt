@@ -45,7 +45,7 @@ pub struct Entry<B> {
 #[derive(Clone, Copy, Debug, PartialEq, Eq)]
 pub struct TurnHead {
     pub tick: u64,
-    /// Reports and controls that found no event buffer.
+    /// Reports that found no event buffer.
     pub lost_events: u64,
     /// Reports that found no context data buffer.
     pub lost_contexts: u64,
