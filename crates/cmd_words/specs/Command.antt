@@ -1,11 +1,10 @@
 -- The commands of the program, as its words give them.
 -- Source: docs/COMMANDS.md.
-use Rattle.std.specs.Prelude.{◌≡◌, ℕ, ◌^◌, ◌&&◌, ◌||◌, ◌==◌, nat_le, not, bytes_eq, Bool, true, false, List, [], ◌∷◌, length, Option, Some, None, option_map, codes, if◌then◌else◌}
+use Rattle.std.specs.Prelude.{ℕ, ◌^◌, ◌&&◌, ◌==◌, nat_le, not, bytes_eq, Bool, true, false, List, [], ◌∷◌, ◌++◌, length, Option, Some, None, option_map, codes, if◌then◌else◌}
 use Rattle.gen_options.specs.{Wanted, words_give}
 use Rattle.message_export.specs.declared.exporting.Format.{Format}
 use Rattle.message_export.specs.declared.exporting.Format.TheVariants.{Json, Pcap}
 use Rattle.std.specs.List.{list_any}
-use Rattle.cmd_words.specs.declared.command.TheConstants.{USAGE}
 use Rattle.text_spec.specs.Maybe.{◌>>=◌}
 use Rattle.text_spec.specs.Numbers.{number_in}
 
@@ -84,7 +83,22 @@ pub data Command : Type 0 where
 
 -- the usage, with the commands that are built
 abbrev pub usage : List ℕ
-usage = USAGE.now
+usage =
+    codes "usage: idsm replay CONFIG TRACE MESSAGES MEMORY JOURNAL\n"
+    ++ codes "       idsm fold CONFIG JOURNAL MESSAGES MEMORY\n"
+    ++ codes "       idsm check CONFIG JOURNAL MESSAGES\n"
+    ++ codes "       idsm decode MESSAGES\n"
+    ++ codes "       idsm gen [--start N] [--callers N] [--rounds N] [--events N] CONFIG TRACE JOURNAL\n"
+    ++ codes "       idsm migrate CONFIG NEW\n"
+    ++ codes "       idsm report OUT FILE ..\n"
+    ++ codes "       idsm keep DISK CONFIG JOURNAL\n"
+    ++ codes "       idsm recall DISK MEMORY\n"
+    ++ codes "       idsm sign KEY START MESSAGES SIGNED\n"
+    ++ codes "       idsm verify KEY START SIGNED MESSAGES\n"
+    ++ codes "       idsm bundle SIZE MESSAGES UNITS\n"
+    ++ codes "       idsm unbundle UNITS MESSAGES\n"
+    ++ codes "       idsm explain CONFIG JOURNAL\n"
+    ++ codes "       idsm export FORMAT MESSAGES\n"
 
 -- a word that may be a name: it is not empty
 abbrev pub is_name : List ℕ → Bool

@@ -4,16 +4,15 @@ use Rattle.std.proofs.Common.{refl, sym, ap, ◌∙◌, append_assoc, arith, len
 use Rattle.std.proofs.lemmas.List.{append-nil}
 use Rattle.arrayvec.specs.ArrayVec.{ArrayVec, Extends, array_vec_len}
 use Rattle.ids_types.specs.Output.{Output, has_put}
-use Rattle.ids_frame.specs.declared.writing.TheConstants.{MAX_BYTES}
 
 -- the one room became the other by a piece more, and has as much less room
 pub record PutsPiece {S : Type 0} (left : S → ℕ) (extends : S → List ℕ → S → Type 0) (old : S) (piece : List ℕ) (new : S) : Type 0 where
   pub put : extends old piece new
   pub less : left new + length piece ≡ left old
 
--- how many bytes more go into an `ArrayVec`
+-- how many bytes more go into an `ArrayVec` of 1,100
 abbrev pub room_in : ArrayVec ℕ → ℕ
-room_in out = MAX_BYTES - array_vec_len out
+room_in out = 1100 - array_vec_len out
 
 -- no piece leaves an `ArrayVec` as it is
 pub nothing_put : (out : ArrayVec ℕ) → Extends out [] out
