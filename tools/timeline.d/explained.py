@@ -12,7 +12,8 @@ COLUMNS = ("came", "closed", "mode", "block", "nth", "aggregate", "threshold", "
            "open", "stored", "missing")
 MODES = ("OFF", "BRIEF", "DETAILED", "BRIEF_BYPASSING_FILTERS", "DETAILED_BYPASSING_FILTERS")
 
-N = "(0|[1-9][0-9]*)"
+# A number of idsm is at most 2^62, which has 19 digits.
+N = "(0|[1-9][0-9]{0,18})"
 FATE = f"({'|'.join(FATES)}) (stored|-)"
 FORMS = {
     "turn": re.compile(f"T {N} {N} {N} {N}"),

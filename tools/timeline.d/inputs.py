@@ -2,9 +2,13 @@
 from __future__ import annotations
 
 import json
+from pathlib import Path
 from typing import Optional
 
 from explained import Run, Unreadable
+from judging import faults_of_text
+
+SCHEMA = Path(__file__).resolve().parents[2] / "docs" / "config.schema.json"
 
 LABELS = {"OFF": "off", "BRIEF": "brief", "BRIEF_BYPASSING_FILTERS": "brief, bypassing",
           "DETAILED_BYPASSING_FILTERS": "detailed, bypassing"}
@@ -23,7 +27,10 @@ def number(value: int) -> str:
 def calls_of(trace: str) -> dict[tuple[int, int], Optional[tuple[int, int]]]:
     """The calls of a trace, by caller and number: event and count of a report, and nothing of a control."""
     calls, made = {}, {}
-    for at, line in enumerate(trace.split("\n")[:-1], 1):
+    lines = trace.split("\n")
+    if lines[-1]:
+        raise Unreadable(f"line {len(lines)}: it does not end: the file was cut")
+    for at, line in enumerate(lines[:-1], 1):
         word, *words = line.split(" ")
         if word in ("N", "E"):
             continue
@@ -87,18 +94,29 @@ def settings_of(event: dict) -> str:
     return " · ".join(words)
 
 
+def refuse_fraction(digits: str) -> None:
+    raise ValueError(f"{digits} is no whole number")
+
+
+def configuration_of(text: str) -> dict:
+    """The configuration of this text: it fits docs/config.schema.json, and each of its numbers is written as a whole one."""
+    try:
+        found = faults_of_text(json.loads(SCHEMA.read_text()), text)
+        if found:
+            raise Unreadable("it is no configuration: " + " ".join(found[0].split()))
+        return json.loads(text, parse_float=refuse_fraction)
+    except (ValueError, RecursionError):
+        raise Unreadable("it is no configuration") from None
+
+
 class Labels:
     """What stands before the lanes: the events' settings, and the state at the start."""
 
     def __init__(self, run: Run, config: Optional[str]):
         self.settings = [""] * len(run.accounts)
         self.state: Optional[int] = None
-        if config is None:
-            return
-        try:
-            self.take(run, json.loads(config))
-        except (AttributeError, KeyError, TypeError, ValueError, IndexError):
-            raise Unreadable("it is no configuration") from None
+        if config is not None:
+            self.take(run, configuration_of(config))
 
     def take(self, run: Run, config: dict) -> None:
         events = config["events"]
@@ -108,6 +126,8 @@ class Labels:
         self.state = config.get("state", 0)
         self.settings = [settings_of(event) for event in events]
         for name, event in (config.get("internal") or {}).items():
+            if event is not None and event >= len(events):
+                raise Unreadable(f"it is no configuration: /internal/{name}: there is no event {event}")
             if event is not None:
                 words = "tells " + name.replace("_", " ")
                 self.settings[event] = " · ".join(filter(None, (words, self.settings[event])))

@@ -1,6 +1,7 @@
 """Shapes and words of a picture, and the columns that both kinds of picture have."""
 from __future__ import annotations
 
+import re
 from html import escape
 from typing import Optional
 
@@ -18,6 +19,8 @@ WORDS = {"sent": "sent", "unsent": "qualified, not to be sent", "rate": "held ba
 # On these a number is white.
 DARK = {"sent", "rate", "mode", "aggregate"}
 MARGIN = 14
+# What no text of XML may have: most control characters, and halves of pairs, as names that are no UTF-8 give.
+NOT_XML = re.compile("[^\t\n\r -\ud7ff\ue000-\ufffd\U00010000-\U0010ffff]")
 GREY, FAINT, BLACK = "#444", "#666", "#222"
 
 
@@ -29,6 +32,11 @@ def short(value: float) -> str:
 def width_of(words: str, size: float) -> float:
     """About how wide words are, rather more than less."""
     return 0.62 * size * len(words)
+
+
+def xml(words: str) -> str:
+    """Words as a text of XML, with a mark in the place of each character that none may have."""
+    return escape(NOT_XML.sub("\ufffd", words))
 
 
 class Svg:
@@ -44,7 +52,7 @@ class Svg:
         if not words:
             return
         more = ("" if anchor == "start" else f' text-anchor="{anchor}"') + (' font-weight="bold"' if bold else "")
-        self.add(f'<text x="{short(x)}" y="{short(y)}" font-size="{size}"{more} fill="{colour}">{escape(words)}</text>')
+        self.add(f'<text x="{short(x)}" y="{short(y)}" font-size="{size}"{more} fill="{colour}">{xml(words)}</text>')
 
     def box(self, x: float, y: float, width: float, height: float, more: str) -> None:
         self.add(f'<rect x="{short(x)}" y="{short(y)}" width="{short(width)}" height="{short(height)}" {more}/>')
@@ -57,7 +65,7 @@ class Svg:
         size = f"{short(self.width)} {short(height)}"
         head = (f'<svg xmlns="http://www.w3.org/2000/svg" viewBox="0 0 {size}" width="{short(self.width)}" height="{short(height)}" '
                 f'font-family="DejaVu Sans, Verdana, Helvetica, Arial, sans-serif" role="img">\n'
-                f"<title>{escape(title)}</title>\n<style>{style}</style>\n<rect width=\"100%\" height=\"100%\" fill=\"#fff\"/>\n")
+                f"<title>{xml(title)}</title>\n<style>{style}</style>\n<rect width=\"100%\" height=\"100%\" fill=\"#fff\"/>\n")
         return head + "\n".join(self.parts) + "\n</svg>\n"
 
 
