@@ -145,9 +145,10 @@ def answers(program: Path, texts: Iterable[str]) -> list[Answer]:
         def answer(index: int, text: str) -> Answer:
             config, new = Path(folder, f"{index}.json"), Path(folder, f"{index}.new")
             config.write_text(text, encoding="utf-8")
-            how: dict[str, Any] = {"stdin": subprocess.DEVNULL, "stdout": subprocess.PIPE, "stderr": subprocess.STDOUT}
-            ran = subprocess.run([program, "migrate", config, new], timeout=60, **how)
+            how: dict[str, Any] = {"stdin": subprocess.DEVNULL, "capture_output": True, "timeout": 600}
+            ran = subprocess.run([program, "migrate", config, new], **how)
             written = new.read_text(encoding="utf-8") if ran.returncode == 0 else ""
-            return Answer(ran.returncode, ran.stdout.decode().strip(), written)
+            told = f" with {ran.stderr!r} on standard error" if ran.stderr else ""
+            return Answer(-1 if told else ran.returncode, ran.stdout.decode().strip() + told, written)
 
         return list(pool.map(answer, *zip(*enumerate(texts))))
