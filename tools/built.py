@@ -12,7 +12,9 @@ def built_program(words: list[str]) -> Path:
         program = Path(words[0]).resolve()
     else:
         which = subprocess.run([TOP / "idsm", "--which"], stdin=subprocess.DEVNULL, stdout=subprocess.PIPE, text=True)
-        program = Path(which.stdout.strip() or "/no program")
+        if which.returncode:
+            sys.exit(f"{Path(sys.argv[0]).name}: ./idsm has no program to run")
+        program = Path(which.stdout[:-1])
     if not program.is_file():
         sys.exit(f"{Path(sys.argv[0]).name}: there is no program {program}")
     return program
