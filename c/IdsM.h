@@ -68,13 +68,17 @@ extern IdsM_UnitType IdsM_Unit;
 }
 #endif
 
-/* Makes the callers and the manager of a configuration, NULL for that of IdsM_Cfg.h. */
+/* Makes the callers and the manager of a configuration, NULL for that of IdsM_Cfg.h. Another one has as many callers, and
+   its events at the same places: ids are looked up in IdsM_Cfg.h. */
 static inline IdsM_ReturnType IdsM_Init(const IdsM_ConfigType *config)
 {
+    const IdsM_ConfigType made = {IDSM_CFG_BYTES, sizeof IDSM_CFG_BYTES};
     if (idsm_abi() != IDSM_ABI)
         return IDSM_OUT_OF_RANGE;
-    return idsm_init(config == NULL ? IDSM_CFG_BYTES : config->bytes, config == NULL ? sizeof IDSM_CFG_BYTES : config->count,
-                     IdsM_Unit.callers, IDSM_CFG_CALLERS, &IdsM_Unit.manager, &IdsM_Unit.fault);
+    if (config == NULL)
+        config = &made;
+    return idsm_init_within(config->bytes, config->count, IdsM_Unit.callers, IDSM_CFG_CALLERS, &IdsM_Unit.manager,
+                            sizeof IdsM_Unit.messages, &IdsM_Unit.fault);
 }
 
 static inline IdsM_ReturnType IdsM_GetVersionInfo(IDSM_VERSION_INFO_TYPE *info)
@@ -90,36 +94,24 @@ static inline IdsM_ReturnType IdsM_GetVersionInfo(IDSM_VERSION_INFO_TYPE *info)
 }
 
 #ifdef IDSM_TICK
-/* Hands out the messages of the last turn. */
-static inline void IdsM_SendMessages(void)
+static inline void IdsM_SendMessage(void *to, const uint8_t *message, size_t length)
 {
-    size_t at = 0, length;
-    while (idsm_message(IdsM_Unit.messages, IdsM_Unit.sent.bytes, at, &length) == IDSM_DONE) {
-        const uint8_t *message = &IdsM_Unit.messages[at];
-        (void)message; /* IDSM_SEND may look at the length alone. */
-        IDSM_SEND(message, length);
-        at += length;
-    }
+    (void)to, (void)message, (void)length; /* IDSM_SEND may look at one of them alone. */
+    IDSM_SEND(message, length);
 }
 
 /* Makes a turn, and hands out its messages. */
 static inline IdsM_ReturnType IdsM_MainFunction(void)
 {
-    uint8_t answer =
-        idsm_main(&IdsM_Unit.manager, IDSM_TICK(), IdsM_Unit.messages, sizeof IdsM_Unit.messages, &IdsM_Unit.sent);
-    if (answer == IDSM_DONE)
-        IdsM_SendMessages();
-    return answer;
+    return idsm_main_send(&IdsM_Unit.manager, IDSM_TICK(), IdsM_Unit.messages, sizeof IdsM_Unit.messages,
+                          IdsM_SendMessage, NULL, &IdsM_Unit.sent);
 }
 
 /* Makes a last turn, hands out its messages, and frees all. */
 static inline IdsM_ReturnType IdsM_DeInit(idsm_totals *totals)
 {
-    uint8_t answer = idsm_close(&IdsM_Unit.manager, IDSM_TICK(), IdsM_Unit.messages, sizeof IdsM_Unit.messages,
-                                &IdsM_Unit.sent, totals);
-    if (answer == IDSM_DONE)
-        IdsM_SendMessages();
-    return answer;
+    return idsm_close_send(&IdsM_Unit.manager, IDSM_TICK(), IdsM_Unit.messages, sizeof IdsM_Unit.messages,
+                           IdsM_SendMessage, NULL, &IdsM_Unit.sent, totals);
 }
 #else
 /* Where they are called all the same, the compiler's message names what lacks. */

@@ -2,10 +2,14 @@
    worked out by hand. It is C and C++. With STAND_IN it is for c/stand_in.c, which has no filters and no memory; with
    WITHOUT_LIMITS it leaves out the want of memory, since a sanitizer runs under no such limit.
    IDSM_SPENT would take 2^40 calls, and IDSM_BUSY another thread: c/passing.c has them. */
+#define _DEFAULT_SOURCE /* for MAP_ANONYMOUS */
 #include <stddef.h>
 #include <stdio.h>
+#include <stdlib.h>
 #include <string.h>
+#include <sys/mman.h>
 #include <sys/resource.h>
+#include <unistd.h>
 
 #include "idsm_c.h"
 
@@ -41,8 +45,17 @@ static void hex(char *to, const uint8_t *bytes, size_t count)
         sprintf(to + 2 * i, "%02x", (unsigned)bytes[i]);
 }
 
+/* While messages are handed out, nobody else makes a turn. */
 static void keep(const uint8_t *message, size_t length)
 {
+    static int is_nested;
+    idsm_totals totals;
+    if (!is_nested) {
+        is_nested = 1;
+        expect("a turn while messages are sent", 16, IdsM_MainFunction());
+        expect("a close while messages are sent", 16, IdsM_DeInit(&totals));
+        is_nested = 0;
+    }
     hex(kept + strlen(kept), message, length);
     strcat(kept, " ");
 }
@@ -138,6 +151,33 @@ static uint8_t make(const char *config, size_t count)
                      &IdsM_Unit.fault);
 }
 
+/* IdsM_Init with a configuration of one's own: blanks, then this text, of 16 (ring + 4) bytes of messages a turn. */
+static uint8_t init_own(const char *text)
+{
+    static char own[600];
+    IdsM_ConfigType config = {(const uint8_t *)own, sizeof IDSM_CFG_BYTES + strlen(text)};
+    memset(own, ' ', sizeof own);
+    memcpy(own + sizeof IDSM_CFG_BYTES, text, strlen(text));
+    return IdsM_Init(&config);
+}
+
+static void own_configurations(void)
+{
+    idsm_totals totals;
+    expect("other callers", 10, init_own("{\"form\":1,\"instance\":19,\"ring\":4,\"events\":[{\"id\":43,\"sensor\":3}]}"));
+    expect("304 bytes of messages", 13,
+           init_own("{\"form\":1,\"instance\":19,\"callers\":2,\"ring\":15,\"events\":[{\"id\":43,\"sensor\":3}]}"));
+    expect("a caller after that", 1, IdsM_SetSecurityEvent(42));
+    expect("288 bytes of messages", 0,
+           init_own("{\"form\":1,\"instance\":19,\"callers\":2,\"ring\":14,\"events\":[{\"id\":43,\"sensor\":3}]}"));
+    expect("the event at the place of 42", 0, IdsM_SetSecurityEvent(42));
+    expect_turn("the event at the place of 42", "1004c3002b000100 ");
+    expect("a place that it lacks", 5, IdsM_SetSecurityEvent(4100));
+    expect("a close of it", 0, IdsM_DeInit(&totals));
+    memset(&IdsM_Unit, 0, sizeof IdsM_Unit);
+    tick = 0;
+}
+
 #ifndef STAND_IN
 static void expect_fault(const char *config, unsigned number, unsigned part, unsigned place)
 {
@@ -165,6 +205,7 @@ static void making(void)
     static idsm_manager another;
     idsm_fault fault;
     running = &IdsM_Unit.callers[0];
+    own_configurations();
     expect("an unset caller", 1, IdsM_SetSecurityEvent(42));
     expect("an unset manager", 1, IdsM_MainFunction());
     expect("no configuration", 12, make("{}", 2));
@@ -297,36 +338,67 @@ static void refused_turns(void)
     expect_turn("after all these", "1004851004000100 ");
 }
 
+/* The same bytes before a page that nobody may read. */
+static const uint8_t *at_end(const uint8_t *bytes, size_t count)
+{
+    static uint8_t *end;
+    if (end == NULL) {
+        size_t page = (size_t)sysconf(_SC_PAGESIZE);
+        uint8_t *pages = (uint8_t *)mmap(NULL, 2 * page, PROT_READ | PROT_WRITE, MAP_PRIVATE | MAP_ANONYMOUS, -1, 0);
+        if (pages == MAP_FAILED || mprotect(pages + page, page, PROT_NONE) != 0)
+            exit(2);
+        end = pages + page;
+    }
+    memcpy(end - count, bytes, count);
+    return end - count;
+}
+
+/* The length of the message that begins there; 0 where none does. */
+static void expect_length(const char *what, uint64_t wanted, const uint8_t *bytes, size_t count, size_t at)
+{
+    size_t length = 77;
+    expect(what, wanted > 0 ? 0 : 10, idsm_message(at_end(bytes, count), count, at, &length));
+    expect(what, wanted, length);
+}
+
+/* A message, of which no front is one. */
+static void expect_whole(const char *what, const uint8_t *bytes, size_t count)
+{
+    expect_length(what, count, bytes, count, 0);
+    for (size_t front = 1; front < count; front++)
+        expect_length(what, 0, bytes, front, 0);
+}
+
 static void walks(void)
 {
     static const uint8_t messages[] = {0x10, 4, 0x83, 0, 42, 0, 1, 0, 0x21, 4, 0x83, 0, 42, 0, 1, 7, 2, 0xa1, 0xb2,
                                        0x12, 4, 0x83, 0, 42, 0, 1, 0, 1, 2, 3, 4, 5, 6, 7, 8};
-    static uint8_t large[1044] = {0x13, 4, 0x83, 0, 42, 0, 1, 0, 1, 2, 3, 4, 5, 6, 7, 8, 0x80, 0, 4, 0};
-    static const uint8_t signed_one[10] = {0x14, 4, 0x83, 0, 42, 0, 1, 0, 0, 0};
-    static const uint8_t other[8] = {0x30, 4, 0x83, 0, 42, 0, 1, 0};
-    static const uint8_t cut[8] = {0x11, 4, 0x83, 0, 42, 0, 1, 0};
+    static const uint8_t large[1044] = {0x13, 4, 0x83, 0, 42, 0, 1, 0, 1, 2, 3, 4, 5, 6, 7, 8, 0x80, 0, 4, 0};
+    static const uint8_t short_one[9 + 127] = {0x11, 4, 0x83, 0, 42, 0, 1, 0, 127};
     static const uint8_t empty[12] = {0x11, 4, 0x83, 0, 42, 0, 1, 0, 0x80, 0, 0, 0};
+    static const uint8_t wide[12] = {0x11, 4, 0x83, 0, 42, 0, 1, 0, 0xff, 0xff, 0xff, 0xff};
+    static const uint8_t huge[12] = {0x11, 4, 0x83, 0, 42, 0, 1, 0, 0x80, 1, 0, 0};
+    static const uint8_t signed_one[10] = {0x14, 4, 0x83, 0, 42, 0, 1, 0, 0, 0};
+    static const uint8_t other[8] = {0x30, 4, 0x83, 0, 42, 0, 1, 0}, older[8] = {0x00, 4, 0x83, 0, 42, 0, 1, 0};
     size_t length;
-    expect("a message", 0, idsm_message(messages, sizeof messages, 0, &length));
-    expect("its length", 8, length);
-    expect("a message with context", 0, idsm_message(messages, sizeof messages, 8, &length));
-    expect("its length", 11, length);
-    expect("a message with timestamp", 0, idsm_message(messages, sizeof messages, 19, &length));
-    expect("its length", 16, length);
-    expect("the longest", 0, idsm_message(large, sizeof large, 0, &length));
-    expect("its length", 1044, length);
-    expect("the longest cut", 10, idsm_message(large, sizeof large - 1, 0, &length));
-    expect("the end", 10, idsm_message(messages, sizeof messages, sizeof messages, &length));
-    expect("its length", 0, length);
-    expect("behind the end", 10, idsm_message(messages, sizeof messages, 100, &length));
-    expect("a cut one", 10, idsm_message(messages, sizeof messages - 1, 19, &length));
-    expect("a cut length", 10, idsm_message(large, 18, 0, &length));
-    expect("a cut context", 10, idsm_message(cut, sizeof cut, 0, &length));
-    expect("an empty context in long form", 0, idsm_message(empty, sizeof empty, 0, &length));
-    expect("its length", 12, length);
-    expect("no message", 10, idsm_message(messages, sizeof messages, 1, &length));
-    expect("a signed one", 10, idsm_message(signed_one, sizeof signed_one, 0, &length));
-    expect("one of another version", 10, idsm_message(other, sizeof other, 0, &length));
+    expect_length("a message", 8, messages, sizeof messages, 0);
+    expect_length("a message with context", 11, messages, sizeof messages, 8);
+    expect_length("a message with timestamp", 16, messages, sizeof messages, 19);
+    expect_length("a cut one", 0, messages, sizeof messages - 1, 19);
+    expect_length("the end", 0, messages, sizeof messages, sizeof messages);
+    expect_length("behind the end", 0, messages, sizeof messages, 100);
+    expect_length("no message", 0, messages, sizeof messages, 1);
+    expect_whole("the first", messages, 8);
+    expect_whole("the second", messages + 8, 11);
+    expect_whole("the third", messages + 19, 16);
+    expect_whole("the longest", large, sizeof large);
+    expect_whole("the longest in short form", short_one, sizeof short_one);
+    expect_whole("an empty context in long form", empty, sizeof empty);
+    expect_length("a context of 2^31 - 1 bytes", 0, wide, sizeof wide, 0);
+    expect_length("a context of 2^16 bytes", 0, huge, sizeof huge, 0);
+    expect_length("a signed one", 0, signed_one, sizeof signed_one, 0);
+    expect_length("one of version 3", 0, other, sizeof other, 0);
+    expect_length("one of version 0", 0, older, sizeof older, 0);
     expect("no bytes", 10, idsm_message(NULL, 0, 0, &length));
     expect("NULL as messages", 15, idsm_message(NULL, 8, 0, &length));
     expect("NULL as length", 15, idsm_message(messages, sizeof messages, 0, NULL));

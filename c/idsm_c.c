@@ -21,10 +21,11 @@ uint8_t idsm_raw_row_at(word *manager, uint16_t i, uint8_t *context, size_t byte
 uint8_t idsm_raw_late(word *manager, uint8_t class_index, uint64_t *late);
 uint8_t idsm_raw_close(word *handle);
 
-/* What a handle has while a call works with it, and after its manager was closed: the addresses of nothing else. */
-static const char in_call, closed;
-#define IN_CALL ((void *)(uintptr_t)&in_call)
-#define CLOSED ((void *)(uintptr_t)&closed)
+/* What a handle has while a call works with it, and after its manager was closed: the addresses of nothing else. They
+   are of one object, since a compiler may make one object of two constants. */
+static const char marks[2];
+#define IN_CALL ((void *)(uintptr_t)&marks[0])
+#define CLOSED ((void *)(uintptr_t)&marks[1])
 
 /* What stands for no bytes. */
 static uint8_t no_byte;
@@ -101,20 +102,45 @@ static uint8_t take_all_unset(idsm_caller *callers, size_t count, idsm_manager *
     return IDSM_DONE;
 }
 
-uint8_t idsm_init(const uint8_t *config, size_t bytes, idsm_caller *callers, size_t count, idsm_manager *manager,
-                  idsm_fault *fault)
+/* Frees what each of the words has. */
+static void free_all(word *words, size_t count)
+{
+    for (size_t i = 0; i < count; i++)
+        idsm_raw_close(&words[i]);
+}
+
+/* Makes callers and manager; none where a turn's messages can take more bytes than there is room. */
+static uint8_t make(const uint8_t *config, size_t bytes, word *callers, size_t count, word *manager, size_t room,
+                    idsm_fault *fault)
+{
+    uint64_t wanted;
+    uint8_t answer = idsm_raw_init(config == NULL ? &no_byte : config, bytes, callers, count, manager, fault);
+    if (answer != IDSM_DONE)
+        return answer;
+    answer = idsm_raw_buffer_size(manager, &wanted);
+    if (answer == IDSM_DONE && wanted > room)
+        answer = IDSM_SMALL_BUFFER;
+    if (answer != IDSM_DONE) {
+        free_all(callers, count);
+        free_all(manager, 1);
+    }
+    return answer;
+}
+
+uint8_t idsm_init_within(const uint8_t *config, size_t bytes, idsm_caller *callers, size_t count,
+                         idsm_manager *manager, size_t room, idsm_fault *fault)
 {
     static const idsm_fault no_fault = {0, 0, 0};
-    word words[IDSM_MOST_CALLERS + 1] = {{NULL}}, own = {NULL};
+    word words[IDSM_MOST_CALLERS] = {{NULL}}, own = {NULL};
     if (fault == NULL || manager == NULL || is_no_memory(config, bytes) || is_no_memory(callers, count))
         return IDSM_NULL;
     *fault = no_fault;
+    if (count > IDSM_MOST_CALLERS)
+        return IDSM_OUT_OF_RANGE;
     uint8_t answer = take_all_unset(callers, count, manager);
     if (answer != IDSM_DONE)
         return answer;
-    /* One word more than there can be callers, so that more handles than that are too many. */
-    size_t asked = count > IDSM_MOST_CALLERS ? IDSM_MOST_CALLERS + 1 : count;
-    answer = idsm_raw_init(config == NULL ? &no_byte : config, bytes, words, asked, &own, fault);
+    answer = make(config, bytes, words, count, &own, room, fault);
     if (answer == IDSM_DONE) {
         static const idsm_totals none = {0, 0, 0, 0};
         manager->callers = callers;
@@ -122,9 +148,15 @@ uint8_t idsm_init(const uint8_t *config, size_t bytes, idsm_caller *callers, siz
         manager->totals = none;
     }
     for (size_t i = 0; i < count; i++)
-        give(&callers[i].at, answer == IDSM_DONE ? words[i].at : NULL);
+        give(&callers[i].at, words[i].at);
     give(&manager->at, own.at);
     return answer;
+}
+
+uint8_t idsm_init(const uint8_t *config, size_t bytes, idsm_caller *callers, size_t count, idsm_manager *manager,
+                  idsm_fault *fault)
+{
+    return idsm_init_within(config, bytes, callers, count, manager, SIZE_MAX, fault);
 }
 
 static uint8_t report(idsm_caller *caller, uint16_t event, uint16_t count, uint8_t has_stamp, uint64_t stamp,
@@ -229,34 +261,6 @@ uint8_t idsm_late(idsm_manager *manager, uint8_t class_index, uint64_t *late)
     return answer;
 }
 
-/* A turn of the manager whose word this is. */
-static uint8_t turn(idsm_manager *manager, word *own, uint64_t tick, uint8_t *buffer, size_t bytes, idsm_sent *sent)
-{
-    uint8_t answer = idsm_raw_main(own, tick, buffer == NULL ? &no_byte : buffer, bytes, sent);
-    if (answer == IDSM_DONE) {
-        manager->totals.entries += sent->entries;
-        manager->totals.lost_events += sent->lost_events;
-        manager->totals.lost_contexts += sent->lost_contexts;
-        manager->totals.messages += sent->messages;
-    }
-    return answer;
-}
-
-uint8_t idsm_main(idsm_manager *manager, uint64_t tick, uint8_t *buffer, size_t bytes, idsm_sent *sent)
-{
-    static const idsm_sent nothing = {0, 0, 0, 0, 0};
-    word own;
-    if (sent == NULL || is_no_memory(buffer, bytes))
-        return IDSM_NULL;
-    *sent = nothing;
-    uint8_t answer = take_manager(manager, &own);
-    if (answer != IDSM_DONE)
-        return answer;
-    answer = turn(manager, &own, tick, buffer, bytes, sent);
-    give(&manager->at, own.at);
-    return answer;
-}
-
 /* How long a message is by its first bytes (docs/FORMATS.md), of which there is one; 0 where they end too soon to tell or
    begin no message. */
 static size_t message_length(const uint8_t *at, size_t bytes)
@@ -288,6 +292,70 @@ uint8_t idsm_message(const uint8_t *messages, size_t bytes, size_t at, size_t *l
         return IDSM_OUT_OF_RANGE;
     *length = found;
     return IDSM_DONE;
+}
+
+/* Where the messages of a turn go; nowhere where there is no function. */
+typedef struct {
+    idsm_send *send;
+    void *to;
+} route;
+
+static void hand_out(route out, const uint8_t *messages, const idsm_sent *sent)
+{
+    size_t length;
+    if (out.send == NULL)
+        return;
+    for (size_t at = 0; idsm_message(messages, sent->bytes, at, &length) == IDSM_DONE; at += length)
+        out.send(out.to, messages + at, length);
+}
+
+/* A turn of the manager whose word this is. What it sent is written only where it was made. */
+static uint8_t turn(idsm_manager *manager, word *own, uint64_t tick, uint8_t *buffer, size_t bytes, idsm_sent *sent)
+{
+    idsm_sent told = {0, 0, 0, 0, 0};
+    uint8_t answer = idsm_raw_main(own, tick, buffer == NULL ? &no_byte : buffer, bytes, &told);
+    if (answer == IDSM_DONE) {
+        manager->totals.entries += told.entries;
+        manager->totals.lost_events += told.lost_events;
+        manager->totals.lost_contexts += told.lost_contexts;
+        manager->totals.messages += told.messages;
+        *sent = told;
+    }
+    return answer;
+}
+
+/* Makes a turn and hands out its messages, all before the handle is given back: so no other turn writes over them. */
+static uint8_t main_turn(idsm_manager *manager, uint64_t tick, uint8_t *buffer, size_t bytes, route out,
+                         idsm_sent *sent)
+{
+    word own;
+    uint8_t answer = take_manager(manager, &own);
+    if (answer != IDSM_DONE)
+        return answer;
+    answer = turn(manager, &own, tick, buffer, bytes, sent);
+    if (answer == IDSM_DONE)
+        hand_out(out, buffer, sent);
+    give(&manager->at, own.at);
+    return answer;
+}
+
+uint8_t idsm_main(idsm_manager *manager, uint64_t tick, uint8_t *buffer, size_t bytes, idsm_sent *sent)
+{
+    static const idsm_sent nothing = {0, 0, 0, 0, 0};
+    static const route nowhere = {NULL, NULL};
+    if (sent == NULL || is_no_memory(buffer, bytes))
+        return IDSM_NULL;
+    *sent = nothing;
+    return main_turn(manager, tick, buffer, bytes, nowhere, sent);
+}
+
+uint8_t idsm_main_send(idsm_manager *manager, uint64_t tick, uint8_t *buffer, size_t bytes, idsm_send *send, void *to,
+                       idsm_sent *sent)
+{
+    route out = {send, to};
+    if (sent == NULL || send == NULL || is_no_memory(buffer, bytes))
+        return IDSM_NULL;
+    return main_turn(manager, tick, buffer, bytes, out, sent);
 }
 
 uint8_t idsm_row_at(idsm_manager *manager, uint16_t i, uint8_t *context, size_t bytes, idsm_row *row)
@@ -352,11 +420,47 @@ static uint8_t take_callers(idsm_manager *manager, word *words)
 /* Gives the callers of a manager back, or frees them. */
 static void leave_callers(idsm_manager *manager, word *words, int frees)
 {
-    for (size_t i = 0; i < manager->count; i++) {
-        if (frees)
-            idsm_raw_close(&words[i]);
+    if (frees)
+        free_all(words, manager->count);
+    for (size_t i = 0; i < manager->count; i++)
         give(&manager->callers[i].at, frees ? CLOSED : words[i].at);
+}
+
+/* Makes a last turn with all callers in hand, frees them, and hands out its messages. */
+static uint8_t last_turn(idsm_manager *manager, word *own, uint64_t tick, uint8_t *buffer, size_t bytes, route out,
+                         idsm_sent *sent)
+{
+    word words[IDSM_MOST_CALLERS];
+    uint64_t room;
+    /* A caller has no such number, and no callers. */
+    uint8_t answer = idsm_raw_buffer_size(own, &room);
+    if (answer == IDSM_DONE)
+        answer = take_callers(manager, words);
+    if (answer != IDSM_DONE)
+        return answer;
+    answer = turn(manager, own, tick, buffer, bytes, sent);
+    leave_callers(manager, words, answer == IDSM_DONE);
+    if (answer == IDSM_DONE)
+        hand_out(out, buffer, sent);
+    return answer;
+}
+
+static uint8_t close_all(idsm_manager *manager, uint64_t tick, uint8_t *buffer, size_t bytes, route out,
+                         idsm_sent *sent, idsm_totals *totals)
+{
+    word own;
+    uint8_t answer = take_manager(manager, &own);
+    if (answer != IDSM_DONE)
+        return answer;
+    answer = last_turn(manager, &own, tick, buffer, bytes, out, sent);
+    if (answer != IDSM_DONE) {
+        give(&manager->at, own.at);
+        return answer;
     }
+    *totals = manager->totals;
+    free_all(&own, 1);
+    give(&manager->at, CLOSED);
+    return IDSM_DONE;
 }
 
 uint8_t idsm_close(idsm_manager *manager, uint64_t tick, uint8_t *buffer, size_t bytes, idsm_sent *sent,
@@ -364,29 +468,19 @@ uint8_t idsm_close(idsm_manager *manager, uint64_t tick, uint8_t *buffer, size_t
 {
     static const idsm_sent nothing = {0, 0, 0, 0, 0};
     static const idsm_totals none = {0, 0, 0, 0};
-    word words[IDSM_MOST_CALLERS], own;
-    uint64_t room;
+    static const route nowhere = {NULL, NULL};
     if (sent == NULL || totals == NULL || is_no_memory(buffer, bytes))
         return IDSM_NULL;
     *sent = nothing;
     *totals = none;
-    uint8_t answer = take_manager(manager, &own);
-    if (answer != IDSM_DONE)
-        return answer;
-    /* A caller has no such number, and no callers. */
-    answer = idsm_raw_buffer_size(&own, &room);
-    if (answer == IDSM_DONE)
-        answer = take_callers(manager, words);
-    if (answer == IDSM_DONE) {
-        answer = turn(manager, &own, tick, buffer, bytes, sent);
-        leave_callers(manager, words, answer == IDSM_DONE);
-    }
-    if (answer != IDSM_DONE) {
-        give(&manager->at, own.at);
-        return answer;
-    }
-    *totals = manager->totals;
-    idsm_raw_close(&own);
-    give(&manager->at, CLOSED);
-    return IDSM_DONE;
+    return close_all(manager, tick, buffer, bytes, nowhere, sent, totals);
+}
+
+uint8_t idsm_close_send(idsm_manager *manager, uint64_t tick, uint8_t *buffer, size_t bytes, idsm_send *send, void *to,
+                        idsm_sent *sent, idsm_totals *totals)
+{
+    route out = {send, to};
+    if (sent == NULL || totals == NULL || send == NULL || is_no_memory(buffer, bytes))
+        return IDSM_NULL;
+    return close_all(manager, tick, buffer, bytes, out, sent, totals);
 }

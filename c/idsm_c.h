@@ -71,7 +71,7 @@ typedef struct {
     uint32_t place;
 } idsm_fault;
 
-/* What a turn tells. All is 0 where none was made. */
+/* What a turn tells. */
 typedef struct {
     uint64_t bytes;
     uint64_t entries;
@@ -100,6 +100,11 @@ uint32_t idsm_abi(void);
 uint8_t idsm_init(const uint8_t *config, size_t bytes, idsm_caller *callers, size_t count, idsm_manager *manager,
                   idsm_fault *fault);
 
+/* The same for a buffer of so many bytes: IDSM_SMALL_BUFFER if a turn's messages can be more, and then no handle is
+   filled. */
+uint8_t idsm_init_within(const uint8_t *config, size_t bytes, idsm_caller *callers, size_t count,
+                         idsm_manager *manager, size_t room, idsm_fault *fault);
+
 /* Calls of callers. An event is its place in the configuration, from 0. (NULL, 0) is no context. */
 uint8_t idsm_set_event(idsm_caller *caller, uint16_t event);
 uint8_t idsm_set_event_count(idsm_caller *caller, uint16_t event, uint16_t count);
@@ -111,9 +116,19 @@ uint8_t idsm_set_event_at(idsm_caller *caller, uint16_t event, uint16_t count, u
 uint8_t idsm_set_state(idsm_caller *caller, uint8_t state);
 uint8_t idsm_set_mode(idsm_caller *caller, uint16_t event, uint8_t mode);
 
-/* Makes a turn. Its messages stand at the front of the buffer, which has at least the bytes of idsm_buffer_size. */
+/* Makes a turn. Its messages stand at the front of the buffer, which has at least the bytes of idsm_buffer_size. `sent` is
+   zeros if none was made, so two tasks that may call it at once need a `sent` and a buffer each. */
 uint8_t idsm_buffer_size(idsm_manager *manager, uint64_t *bytes);
 uint8_t idsm_main(idsm_manager *manager, uint64_t tick, uint8_t *buffer, size_t bytes, idsm_sent *sent);
+
+/* Takes a message. It may report, but each call on the manager is answered IDSM_BUSY meanwhile. */
+typedef void idsm_send(void *to, const uint8_t *message, size_t length);
+
+/* Makes a turn and calls send(to, message, length) for each of its messages, all before it gives the manager's handle
+   back. It writes the buffer only while it has the handle, and `sent` only if the answer is IDSM_DONE: so tasks that call
+   it at once may share both. */
+uint8_t idsm_main_send(idsm_manager *manager, uint64_t tick, uint8_t *buffer, size_t bytes, idsm_send *send, void *to,
+                       idsm_sent *sent);
 
 /* The length of the message that stands at `at` in a turn's messages: IDSM_OUT_OF_RANGE where none does, as at the end. */
 uint8_t idsm_message(const uint8_t *messages, size_t bytes, size_t at, size_t *length);
@@ -132,6 +147,10 @@ uint8_t idsm_late(idsm_manager *manager, uint8_t class_index, uint64_t *late);
    then answers IDSM_CLOSED. Where it answers anything but IDSM_DONE, nothing was done. */
 uint8_t idsm_close(idsm_manager *manager, uint64_t tick, uint8_t *buffer, size_t bytes, idsm_sent *sent,
                    idsm_totals *totals);
+
+/* The same, with the last turn's messages handed out as by idsm_main_send. */
+uint8_t idsm_close_send(idsm_manager *manager, uint64_t tick, uint8_t *buffer, size_t bytes, idsm_send *send, void *to,
+                        idsm_sent *sent, idsm_totals *totals);
 
 #ifdef __cplusplus
 }

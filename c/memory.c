@@ -1,6 +1,8 @@
-/* What a manager takes of memory: idsm_init takes IDSM_CFG_MEMORY bytes, and none where it refuses; no call after it asks
-   for any or gives any back, and after the close all are given back. c/check links it with --wrap, so that each call of the
-   allocator comes here. With STAND_IN it is for c/stand_in.c, which takes other bytes. */
+/* What a manager takes of memory: idsm_init takes IDSM_CFG_MEMORY bytes, in as many blocks as BLOCKS says where it is
+   defined, and none where it refuses. No call after it asks for any or gives any back, and after the close all are given
+   back. And the other numbers of IdsM_Cfg.h: those of callers, classes, events and event buffers, and the bytes of a turn's
+   messages. c/check links it with --wrap, so that each call of the allocator comes here. With STAND_IN it is for
+   c/stand_in.c, which takes other bytes. */
 #include "IdsM_Cfg.h"
 #include "idsm_c.h"
 
@@ -19,28 +21,29 @@ void *__wrap_calloc(size_t count, size_t size);
 void *__wrap_realloc(void *at, size_t size);
 void __wrap_free(void *at);
 
-/* The bytes that are taken, and how often the allocator was called. */
-static size_t taken, calls;
+/* The bytes and the blocks that are taken, and how often the allocator was called. */
+static size_t taken, blocks, calls;
 
 static size_t *block_of(void *at)
 {
     return at == NULL ? NULL : (size_t *)(void *)((char *)at - BEFORE);
 }
 
-/* A block that had the old size and gets this one. */
-static void *noted(size_t *block, size_t old, size_t size)
+/* A block that had the old size and gets this one, and is so many more. */
+static void *noted(size_t *block, size_t old, size_t size, size_t more)
 {
     calls++;
     if (block == NULL)
         return NULL;
     *block = size;
     taken = taken - old + size;
+    blocks += more;
     return (char *)block + BEFORE;
 }
 
 void *__wrap_malloc(size_t size)
 {
-    return noted(__real_malloc(size + BEFORE), 0, size);
+    return noted(__real_malloc(size + BEFORE), 0, size, 1);
 }
 
 void *__wrap_calloc(size_t count, size_t size)
@@ -53,7 +56,7 @@ void *__wrap_realloc(void *at, size_t size)
 {
     size_t *block = block_of(at);
     size_t old = block == NULL ? 0 : *block;
-    return noted(__real_realloc(block, size + BEFORE), old, size);
+    return noted(__real_realloc(block, size + BEFORE), old, size, block == NULL);
 }
 
 void __wrap_free(void *at)
@@ -61,6 +64,7 @@ void __wrap_free(void *at)
     size_t *block = block_of(at);
     calls++;
     taken -= block == NULL ? 0 : *block;
+    blocks -= block != NULL;
     __real_free(block);
 }
 
@@ -100,6 +104,23 @@ static void expect(const char *what, size_t wanted, size_t got)
     }
 }
 
+/* The numbers of IdsM_Cfg.h, by what the library answers at and past them. idsm_init has looked at that of the callers. */
+static void numbers(void)
+{
+    uint64_t number;
+    expect("idsm_buffer_size", IDSM_DONE, idsm_buffer_size(&manager, &number));
+    expect("IDSM_CFG_BUFFER", (size_t)number, IDSM_CFG_BUFFER);
+    for (uint8_t i = 0; i < IDSM_CFG_CLASSES + 1; i++)
+        expect("IDSM_CFG_CLASSES", i == IDSM_CFG_CLASSES ? IDSM_OUT_OF_RANGE : IDSM_DONE, idsm_late(&manager, i, &number));
+    expect("IDSM_CFG_EVENTS", IDSM_UNKNOWN_EVENT, idsm_set_mode(&callers[0], IDSM_CFG_EVENTS, IDSM_MODE_DETAILED));
+    expect("the last event", IDSM_DONE, idsm_set_mode(&callers[0], IDSM_CFG_EVENTS - 1, IDSM_MODE_DETAILED));
+    for (unsigned i = 1; i < IDSM_CFG_RING; i++)
+        expect("an event buffer", IDSM_DONE, idsm_set_state(&callers[IDSM_CFG_CALLERS - 1], 2));
+    expect("IDSM_CFG_RING", IDSM_LOST, idsm_set_state(&callers[0], 2));
+    expect("a turn", IDSM_DONE, idsm_main(&manager, 0, buffer, sizeof buffer, &sent));
+    expect("its entries", IDSM_CFG_RING, (size_t)sent.entries);
+}
+
 int main(void)
 {
     idsm_fault fault;
@@ -115,11 +136,15 @@ int main(void)
     expect("whether idsm_init takes memory", 1, taken > 0);
 #else
     expect("the bytes that idsm_init takes", IDSM_CFG_MEMORY, taken);
+#ifdef BLOCKS
+    expect("the blocks that idsm_init takes", BLOCKS, blocks);
+#endif
 #endif
     calls = 0;
+    numbers();
     expect("whether each call does its work", 1, (size_t)works());
     expect("calls of the allocator before the close", 0, calls);
     expect("idsm_close", IDSM_DONE, idsm_close(&manager, 4, buffer, sizeof buffer, &sent, &totals));
-    expect("the bytes that are left after the close", 0, taken);
+    expect("the bytes that are left after the close", 0, taken + blocks);
     return failures == 0 ? 0 : 1;
 }

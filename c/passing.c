@@ -1,6 +1,6 @@
 /* What c/idsm_c.c hands to the proved library and takes from it, over a library that only notes its arguments: each
-   argument and each field arrives unchanged, each number of an answer is passed on, and a call on a handle that works
-   already is answered. */
+   argument and each field arrives unchanged, no pointer is NULL, each number of an answer is passed on, and a call on a
+   handle that works already is answered. */
 #include <stdio.h>
 #include <string.h>
 
@@ -21,14 +21,26 @@ static void expect(const char *what, uint64_t wanted, uint64_t got)
     }
 }
 
-/* What the next call of the library answers, what it was given, and what is called while it works. */
+/* What the next call of the library answers, what it was given, and what is called while it works. Before a turn's
+   answer are its messages: so many bytes of them. */
 static uint8_t answer;
+static uint64_t sent_bytes = 1;
 static uint64_t given[4];
 static const uint8_t *bytes_at;
 static size_t bytes_given, handles_given;
-static int closed;
+static int closed, in_snapshot;
 static void (*meanwhile)(void);
 static char caller_part, other_part, manager_part;
+/* What a size and the first record are answered, where it is another answer. */
+static uint8_t size_answer, row_answer;
+
+/* Bytes as the proved library may be given them: at some address, also where there are none. */
+static void expect_bytes(const uint8_t *at, size_t bytes)
+{
+    expect("bytes at an address", 1, at != NULL);
+    bytes_at = at;
+    bytes_given = bytes;
+}
 
 static uint8_t answers(void)
 {
@@ -46,10 +58,11 @@ uint8_t idsm_raw_init(const uint8_t *config, size_t bytes, word *callers, size_t
                       idsm_fault *fault)
 {
     idsm_fault found = {11, 12, 13};
-    bytes_at = config;
-    bytes_given = bytes;
+    expect_bytes(config, bytes);
     handles_given = count;
+    expect("a fault at first", 0, fault->number + fault->part + fault->place);
     *fault = found;
+    expect("a manager's handle of an init", 1, manager->at == NULL);
     for (size_t i = 0; i < count; i++)
         expect("a handle of an init", 1, callers[i].at == NULL);
     if (answer == IDSM_DONE) {
@@ -68,8 +81,7 @@ uint8_t idsm_raw_report(word *caller, uint16_t event, uint16_t count, uint8_t ha
     given[1] = count;
     given[2] = has_stamp;
     given[3] = stamp;
-    bytes_at = context;
-    bytes_given = bytes;
+    expect_bytes(context, bytes);
     return answers();
 }
 
@@ -92,16 +104,16 @@ uint8_t idsm_raw_buffer_size(word *manager, uint64_t *bytes)
 {
     expect("a manager with a size", 1, manager->at == &manager_part);
     *bytes = 21;
-    return answer;
+    return size_answer != IDSM_DONE ? size_answer : answer;
 }
 
 uint8_t idsm_raw_main(word *manager, uint64_t tick, uint8_t *buffer, size_t bytes, idsm_sent *sent)
 {
-    idsm_sent told = {1, 2, 3, 4, 5};
+    idsm_sent told = {sent_bytes, 2, 3, 4, 5};
     expect("a manager with a turn", 1, manager->at == &manager_part);
+    expect("what is sent at first", 0, sent->bytes + sent->entries + sent->lost_events + sent->lost_contexts + sent->messages);
     given[0] = tick;
-    bytes_at = buffer;
-    bytes_given = bytes;
+    expect_bytes(buffer, bytes);
     if (answer == IDSM_DONE)
         *sent = told;
     return answers();
@@ -119,11 +131,12 @@ uint8_t idsm_raw_row_at(word *manager, uint16_t i, uint8_t *context, size_t byte
     idsm_row told = {31, 32, 33, 34, 35, 36, 37, 38, 39};
     expect("a manager with a row", 1, manager->at == &manager_part);
     given[0] = i;
-    bytes_at = context;
-    bytes_given = bytes;
+    expect_bytes(context, bytes);
+    expect("a row at first", 0, in_snapshot ? 0 : row->first + row->last + row->stamp + row->bytes + row->event + row->id +
+           row->occurrences + row->sensor + row->has_stamp);
     *row = told;
     row->first += i;
-    return answers();
+    return i == 0 && row_answer != IDSM_DONE ? row_answer : answers();
 }
 
 uint8_t idsm_raw_late(word *manager, uint8_t class_index, uint64_t *late)
@@ -154,7 +167,7 @@ static void expect_report(const char *what, uint64_t count, uint64_t has_stamp, 
     expect(what, has_stamp, given[2]);
     expect(what, stamp, given[3]);
     expect(what, bytes, bytes_given);
-    expect(what, 1, context == NULL ? bytes_at != NULL : bytes_at == context);
+    expect(what, 1, context == NULL || bytes_at == context);
 }
 
 /* Each call with each number of an answer. */
@@ -174,6 +187,8 @@ static void calls(void)
     expect_report("a count and a context", 400, 0, 0, buffer, 7);
     expect("a stamp", answer, idsm_set_event_at(callers, 300, 400, (uint64_t)1 << 63, buffer, 6));
     expect_report("a stamp", 400, 1, (uint64_t)1 << 63, buffer, 6);
+    expect("a stamp of 0", answer, idsm_set_event_at(callers, 300, 1, 0, NULL, 0));
+    expect_report("a stamp of 0", 1, 1, 0, NULL, 0);
     expect("a state", answer, idsm_set_state(callers, 201));
     expect("a state", 201, given[0]);
     expect("a mode", answer, idsm_set_mode(callers, 300, 3));
@@ -196,12 +211,35 @@ static void calls(void)
     expect("its arguments", 10, given[0] + bytes_given + (bytes_at == buffer));
     expect("its fields", 1, row.first == 35 && row.last == 32 && row.stamp == 33 && row.bytes == 34 && row.event == 35 &&
            row.id == 36 && row.occurrences == 37 && row.sensor == 38 && row.has_stamp == 39);
+    in_snapshot = 1;
     expect("all rows", answer, idsm_snapshot(&manager, rows, 2, buffer, 4, &count));
     if (answer == IDSM_DONE) {
         expect("their number", 2, count);
         expect("the last one's context", 1, bytes_at == buffer + 4);
+        expect("its room", 4, bytes_given);
         expect("their order", 1, rows[0].first == 31 && rows[1].first == 32);
     }
+    in_snapshot = 0;
+}
+
+/* Each call that takes bytes, with none of them. */
+static void no_bytes(void)
+{
+    static const idsm_row zeros;
+    idsm_sent sent;
+    idsm_row row, rows[2] = {zeros, zeros};
+    size_t count;
+    expect("a turn without a buffer", 0, idsm_main(&manager, 1, NULL, 0, &sent));
+    expect("its buffer", 0, bytes_given);
+    expect("a row without a context", 0, idsm_row_at(&manager, 0, NULL, 0, &row));
+    expect("its context", 0, bytes_given);
+    in_snapshot = 1;
+    expect("a snapshot without contexts", 0, idsm_snapshot(&manager, rows, 2, NULL, 0, &count));
+    expect("its contexts", 0, bytes_given);
+    row_answer = IDSM_SMALL_BUFFER;
+    expect("a snapshot without room for the first context", 13, idsm_snapshot(&manager, rows, 2, buffer, 4, &count));
+    row_answer = IDSM_DONE;
+    in_snapshot = 0;
 }
 
 /* What an interrupt meets on a handle whose call it interrupts, and on the others. */
@@ -264,22 +302,121 @@ static void interrupts_init(void)
     expect("a turn in an init", 16, idsm_main(&manager, 1, buffer, 8, &sent));
 }
 
-/* More handles than a configuration can have callers are one too many, and what is refused leaves each handle. */
+/* More handles than a configuration can have callers are looked at by nobody, and what is refused leaves each handle. */
 static void many_handles(void)
 {
-    static idsm_caller many[40];
+    static idsm_caller many[32];
     static idsm_manager another;
-    idsm_fault fault;
+    idsm_fault fault = {9, 9, 9};
     answer = IDSM_OUT_OF_RANGE;
     expect("32 handles", 10, idsm_init(buffer, 3, many, 32, &another, &fault));
     expect("all of them", 32, handles_given);
-    expect("40 handles", 10, idsm_init(buffer, 3, many, 40, &another, &fault));
-    expect("too many of them", 33, handles_given);
+    handles_given = 0;
+    answer = IDSM_NO_MEMORY;
+    expect("33 handles", 10, idsm_init(buffer, 3, many, 33, &another, &fault));
+    expect("10 million handles", 10, idsm_init(buffer, 3, many, 10000000, &another, &fault));
+    expect("what the library is given of them", 0, handles_given);
+    expect("their fault", 0, fault.number + fault.part + fault.place);
     many[2].at = &other_part;
-    expect("a taken one", 14, idsm_init(buffer, 3, many, 40, &another, &fault));
-    for (unsigned i = 0; i < 40; i++)
+    fault.number = fault.part = fault.place = 9;
+    expect("a taken one", 14, idsm_init(buffer, 3, many, 32, &another, &fault));
+    expect("its fault", 0, fault.number + fault.part + fault.place);
+    for (unsigned i = 0; i < 32; i++)
         expect("a handle behind a refusal", i == 2, many[i].at != NULL);
     expect("a manager behind a refusal", 1, another.at == NULL);
+}
+
+static void expect_unset(const char *what)
+{
+    expect(what, 1, callers[0].at == NULL && callers[1].at == NULL && manager.at == NULL);
+    expect(what, 3, (uint64_t)closed);
+    closed = 0;
+}
+
+/* Callers and a manager that do not fit the buffer, or that have no size, are freed again. */
+static void room(void)
+{
+    idsm_fault fault;
+    answer = IDSM_DONE;
+    expect("a buffer too small", 13, idsm_init_within(buffer, 3, callers, 2, &manager, 20, &fault));
+    expect_unset("its handles");
+    size_answer = IDSM_OTHER_ROLE;
+    expect("no size", 2, idsm_init_within(buffer, 3, callers, 2, &manager, 21, &fault));
+    expect_unset("the handles of no size");
+    size_answer = IDSM_DONE;
+}
+
+/* Where messages are sent: their bytes one after the other, with the length before each. */
+struct sink {
+    uint8_t bytes[64];
+    size_t count;
+    uint8_t report;
+};
+
+static void keep(void *to, const uint8_t *message, size_t length)
+{
+    struct sink *sink = to;
+    idsm_sent sent = {9, 9, 9, 9, 9};
+    idsm_totals totals = {9, 9, 9, 9};
+    uint64_t number;
+    sink->bytes[sink->count++] = (uint8_t)length;
+    memcpy(sink->bytes + sink->count, message, length);
+    sink->count += length;
+    expect("a turn while messages are sent", 16, idsm_main_send(&manager, 1, buffer, 8, keep, to, &sent));
+    expect("a close then", 16, idsm_close_send(&manager, 1, buffer, 8, keep, to, &sent, &totals));
+    expect("what they told", 9, sent.bytes & sent.messages & totals.entries & totals.messages);
+    expect("rows then", 16, idsm_rows(&manager, &number));
+    expect("a report then", sink->report, idsm_set_event(callers, 300));
+}
+
+/* Two messages of a turn, and behind them one of an earlier turn. */
+static const uint8_t MESSAGES[25] = {0x10, 1, 2, 3, 4, 5, 6, 7, 0x21, 1, 2, 3, 4, 5, 6, 7, 0, 0x10};
+
+static void expect_sent(const char *what, const struct sink *sink)
+{
+    expect(what, 19, sink->count);
+    expect(what, 0, (uint64_t)(sink->bytes[0] - 8 + sink->bytes[9] - 9));
+    expect(what, 0, (uint64_t)memcmp(sink->bytes + 1, MESSAGES, 8) | (uint64_t)memcmp(sink->bytes + 10, MESSAGES + 8, 9));
+}
+
+static void sends(void)
+{
+    struct sink sink = {{0}, 0, IDSM_DONE}, none = sink;
+    uint8_t sending[25];
+    idsm_sent sent = {9, 9, 9, 9, 9};
+    idsm_totals totals = {9, 9, 9, 9};
+    memcpy(sending, MESSAGES, sizeof sending);
+    sent_bytes = 17;
+    expect("no function", 15, idsm_main_send(&manager, 9, sending, 25, NULL, &sink, &sent));
+    expect("no sent", 15, idsm_main_send(&manager, 9, sending, 25, keep, &sink, NULL));
+    expect("no such buffer", 15, idsm_main_send(&manager, 9, NULL, 21, keep, &sink, &sent));
+    expect("no manager", 15, idsm_main_send(NULL, 9, sending, 25, keep, &sink, &sent));
+    expect("a close without a function", 15, idsm_close_send(&manager, 9, sending, 25, NULL, &sink, &sent, &totals));
+    expect("a close without totals", 15, idsm_close_send(&manager, 9, sending, 25, keep, &sink, &sent, NULL));
+    expect("a close without sent", 15, idsm_close_send(&manager, 9, sending, 25, keep, &sink, NULL, &totals));
+    expect("a close without such a buffer", 15, idsm_close_send(&manager, 9, NULL, 21, keep, &sink, &sent, &totals));
+    answer = IDSM_TICK_BACK;
+    expect("a refused turn", 8, idsm_main_send(&manager, 9, sending, 25, keep, &sink, &sent));
+    expect("its tick and buffer", 35, given[0] + bytes_given + (bytes_at == sending));
+    expect("a refused size of a close", 8, idsm_close_send(&manager, 9, sending, 25, keep, &sink, &sent, &totals));
+    expect("what they sent", 0, sink.count);
+    expect("what they told", 9, sent.bytes & sent.messages & totals.entries & totals.messages);
+    answer = IDSM_DONE;
+    expect("a turn that sends", 0, idsm_main_send(&manager, 9, sending, 25, keep, &sink, &sent));
+    expect_sent("what it sent", &sink);
+    expect("what it told", 17, sent.bytes);
+    sink = none;
+    sink.report = IDSM_CLOSED;
+    sent.bytes = 9;
+    expect("a close that sends", 0, idsm_close_send(&manager, 9, sending, 25, keep, &sink, &sent, &totals));
+    expect_sent("what the close sent", &sink);
+    expect("what the close told", 17, sent.bytes);
+    /* Of the turn and of the close. */
+    expect("its totals", 4 + 60 + 800 + 10000,
+           totals.entries + totals.lost_events * 10 + totals.lost_contexts * 100 + totals.messages * 1000);
+    expect("what it freed", 3, (uint64_t)closed);
+    closed = 0;
+    sent_bytes = 1;
 }
 
 int main(void)
@@ -296,6 +433,12 @@ int main(void)
         expect("its handles", 1, callers[0].at == NULL && callers[1].at == NULL && manager.at == NULL);
     }
     many_handles();
+    room();
+    expect("no configuration", 0, idsm_init_within(NULL, 0, callers, 2, &manager, 21, &fault));
+    expect("its bytes", 0, bytes_given);
+    sends();
+    memset(callers, 0, sizeof callers);
+    manager.at = NULL;
     answer = 0;
     meanwhile = interrupts_init;
     expect("an init", 0, idsm_init(buffer, 3, callers, 2, &manager, &fault));
@@ -305,6 +448,7 @@ int main(void)
     for (answer = 0; answer < 18; answer++)
         calls();
     answer = 0;
+    no_bytes();
     meanwhile = interrupts;
     expect("an interrupted report", 0, idsm_set_event(callers, 0));
     meanwhile = interrupts_other;
@@ -316,8 +460,8 @@ int main(void)
     meanwhile = NULL;
     expect("the close", 0, idsm_close(&manager, 6, buffer, 8, &sent, &totals));
     expect("what was freed", 3, (uint64_t)closed);
-    /* Of a turn with each argument, the interrupted one and that of the close: 2, 3, 4 and 5 in each. */
-    expect("the totals", 6 + 90 + 1200 + 15000,
+    /* Of a turn with a buffer and one without, the interrupted one and that of the close: 2, 3, 4 and 5 in each. */
+    expect("the totals", 8 + 120 + 1600 + 20000,
            totals.entries + totals.lost_events * 10 + totals.lost_contexts * 100 + totals.messages * 1000);
     expect("what the close sent", 1, sent.bytes);
     expect("a closed caller", 17, idsm_set_event(callers, 0));
