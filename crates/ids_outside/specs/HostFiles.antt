@@ -1,5 +1,5 @@
 -- What the host's shelf does with the files that it opens, as far as these tell their bytes.
-use Rattle.std.specs.Prelude.{◌≡◌, ℕ, List, Option, IfSome, Result, Ok, Err, Vec, string_bytes}
+use Rattle.std.specs.Prelude.{◌≡◌, ◌≢◌, ℕ, List, Option, Some, IfSome, Result, Ok, Err, Vec, option_map, string_bytes}
 use Rattle.std.specs.Io.KnownBytes.{Appends}
 use Rattle.std.specs.declared.alloc.Global.{Global}
 use Rattle.ids_outside.specs.Streams.{StreamGives}
@@ -7,23 +7,25 @@ use Rattle.ids_outside.specs.declared.faults.ReadFault.TheVariants as read
 use Rattle.ids_outside.specs.declared.faults.ReadFault.{ReadFault}
 use Rattle.ids_outside.specs.declared.host_shelf.OpenFile.{OpenFile}
 
--- some file of the host had these bytes left, or more than the limit, where it tells them
-pub record WasRead {F : Type 0} (remaining : F → Option (List ℕ)) (limit : ℕ) (result : Result (Vec ℕ Global) ReadFault) : Type 0 where
+-- when it was opened, a file of the host had these bytes left, or more than the limit, where it tells them
+pub record WasRead {F : Type 0} (IsOpened : F → Type 0) (remaining : F → Option (List ℕ)) (limit : ℕ) (result : Result (Vec ℕ Global) ReadFault) : Type 0 where
   pub file : F
+  pub opened : IsOpened file
   pub gives : IfSome (remaining file) (λ left. StreamGives left limit result)
 
--- an answer with bytes, or that they are too long, comes of a file that was read
-abbrev pub ReadsFile : {F : Type 0} → (F → Option (List ℕ)) → ℕ → Result (Vec ℕ Global) ReadFault → Type 0
-ReadsFile remaining limit (Ok bytes) = WasRead remaining limit (Ok bytes)
-ReadsFile remaining limit (Err read.Failed) = Unit {0}
-ReadsFile remaining limit (Err read.TooLong) = WasRead remaining limit (Err read.TooLong)
-ReadsFile remaining limit (Err read.NoMemory) = Unit {0}
+-- an answer with bytes, or that they are too long, comes of a file as it was opened
+abbrev pub ReadsFile : {F : Type 0} → (F → Type 0) → (F → Option (List ℕ)) → ℕ → Result (Vec ℕ Global) ReadFault → Type 0
+ReadsFile IsOpened remaining limit (Ok bytes) = WasRead IsOpened remaining limit (Ok bytes)
+ReadsFile IsOpened remaining limit (Err read.Failed) = Unit {0}
+ReadsFile IsOpened remaining limit (Err read.TooLong) = WasRead IsOpened remaining limit (Err read.TooLong)
+ReadsFile IsOpened remaining limit (Err read.NoMemory) = Unit {0}
 
--- a file of the host took the whole piece after what it held: the one that was open, where that has this name; and it
--- stays open
-pub record WasWritten {F : Type 0} (contents : F → Option (List ℕ)) (name piece : List ℕ) (before now : Option (OpenFile F)) : Type 0 where
+-- a file of the host took the whole piece after what it held: the one that was open, where that has this name, else one
+-- that was just opened; and it stays open
+pub record WasWritten {F : Type 0} (IsOpened : F → Type 0) (contents : F → Option (List ℕ)) (name piece : List ℕ) (before now : Option (OpenFile F)) : Type 0 where
   pub old : F
   pub new : F
-  pub same : IfSome before (λ opened. string_bytes opened.name ≡ name → old ≡ opened.file)
+  pub same : IfSome before (λ current. string_bytes current.name ≡ name → old ≡ current.file)
+  pub opened : option_map (λ current. string_bytes current.name) before ≢ Some name → IsOpened old
   pub stays : IfSome now (λ opened. new ≡ opened.file)
   pub whole : Appends (contents old) (contents new) piece

@@ -14,4 +14,4 @@ pub use Rattle.ids_outside.specs.MemoryFiles.{Given, has_name, names_differ, giv
 pub use Rattle.ids_outside.specs.Script.{Plan, IsToFail, CountsCall, ReadFollows, WriteFollows}
 pub use Rattle.ids_outside.specs.Shelved.{telling, silent}
 pub use Rattle.ids_outside.specs.Sinks.{Misses, Heard, hearing, deaf, no_misses, PutTakes, MissesOne, PutCause}
-pub use Rattle.ids_outside.specs.declared.faults.FaultKind.TheVariants.{Create, Append}
+pub use Rattle.ids_outside.specs.declared.faults.FaultKind.TheVariants.{Read, Create, Append}
