@@ -132,7 +132,7 @@ fn turn<C: ParcelChain<CtxBuf>>(shared: &Shared, manager: &mut Manager<C>) -> Op
     ensures { IsManagerOf C.events C.kept shared.now manager.new }
 {
     let tick = manager.turns();
-    if tick >= 4_294_967_296 || !manager.fits() {
+    if tick >= 4_294_967_296 {
         return None;
     }
     let out = manager.turn(shared, tick).ok()?;

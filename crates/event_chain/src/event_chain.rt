@@ -116,10 +116,6 @@ impl<B: Parcel, W: Witness> Chain<B> for EventChain<B, W> {
 
     ghost sends_within = { λ chain items sent. HasTurnRoom B.held items chain.filters.windows sent };
 
-    fn fits(&self, _entries: u64, _bytes: u64) -> bool {
-        true
-    }
-
     /// Has nothing to do, and always succeeds.
     fn reserve(&mut self, _entries: u64, _bytes: u64) -> Result<(), NoMemory>
         ensures done { IsOk result }
@@ -161,6 +157,8 @@ impl<B: Parcel, W: Witness> Chain<B> for EventChain<B, W> {
 
 impl<B: Parcel, W: Witness> ParcelChain<B> for EventChain<B, W> {
     ghost use Rattle.event_chain.specs.Room.{within_turn};
+
+    ghost roomy = { λ chain entries bytes. refl };
 
     ghost within = { λ chain items largest sent came kept room.
         within_turn B.held items chain.filters.windows largest sent came kept room };

@@ -31,12 +31,7 @@ pub trait Chain<B: Parcel> {
     /// The messages of a turn of these entries have at most so many bytes.
     ghost sends_within: { Self → List (Entry B) → ℕ → Type 0 };
 
-    /// Whether there is room for one more turn of so many entries and bytes of context data.
-    /// Waits: as its chain; `EventChain`: no.
-    fn fits(&self, entries: u64, bytes: u64) -> bool
-        ensures { result ≡ has_room self.now entries bytes };
-
-    /// Makes that room.
+    /// Makes room for one more turn of so many entries and bytes of context data.
     /// Memory: may answer want of memory; `EventChain` takes none and never does. Waits: as its chain; `EventChain`:
     /// no.
     fn reserve(&mut self, entries: u64, bytes: u64) -> Result<(), NoMemory>
@@ -87,12 +82,12 @@ pub trait Chain<B: Parcel> {
         ensures log { out.new.log ≡ out.old.log }
         ensures events { events self.new ≡ events self.old }
 
-        // Each parcel is kept or handed back, and no room is lowered.
+        // Each parcel is kept or handed back, and no room is changed.
         ensures parcels { HandsBack (all_parcels items.old.items) (kept self.old) (kept self.new)
             back.old.items back.new.items }
         ensures items { items.new.items ≡ [] }
-        ensures items_room { vec_capacity items.old ≤ vec_capacity items.new }
-        ensures back_room { vec_capacity back.old ≤ vec_capacity back.new }
+        ensures items_room { vec_capacity items.new ≡ vec_capacity items.old }
+        ensures back_room { vec_capacity back.new ≡ vec_capacity back.old }
         ensures out_room { room_of out.new ≡ room_of out.old };
 
     /// Takes a turn: logs it, and judges it.
@@ -122,8 +117,8 @@ pub trait Chain<B: Parcel> {
         ensures parcels { HandsBack (all_parcels items.old.items) (kept self.old) (kept self.new)
             back.old.items back.new.items }
         ensures items { items.new.items ≡ [] }
-        ensures items_room { vec_capacity items.old ≤ vec_capacity items.new }
-        ensures back_room { vec_capacity back.old ≤ vec_capacity back.new }
+        ensures items_room { vec_capacity items.new ≡ vec_capacity items.old }
+        ensures back_room { vec_capacity back.new ≡ vec_capacity back.old }
         ensures out_room { room_of out.new ≡ room_of out.old }
     {
         log_turn(head, items, out);
@@ -144,8 +139,12 @@ pub trait Chain<B: Parcel> {
         sends_within chain items sent };
 }
 
-/// A chain whose messages have the context data of parcels that came with the turn or were kept, and no others.
+/// A chain that always has room, and whose messages have the context data of parcels that came with the turn or were
+/// kept, and no others.
 pub trait ParcelChain<B: Parcel>: Chain<B> {
+    /// There is room for each turn.
+    ghost roomy: { (chain : Self) (entries bytes : ℕ) → Self.has_room chain entries bytes ≡ true };
+
     /// Where none of these have more bytes than the largest, messages have no more either.
     ghost within: { (chain : Self) (items : List (Entry B)) (largest sent : ℕ) →
         All (FitsLargest B.held largest) (all_parcels items) → All (FitsLargest B.held largest) (Self.kept chain) →

@@ -44,10 +44,10 @@ module _ {C : Type 0} {events : C → ℕ} {kept : C → List Buffer} {shared : 
     can_take = rw mine.events_are record { few = omega (arith, few_taken, mine.roomy.few_positions); acts = items_are.0 }
 
     -- and it is no more than the room is for
-    pub few_bytes : bytes_in held taken ≤ m.most_bytes
+    few_bytes : bytes_in held taken ≤ m.positions * m.largest
     few_bytes =
         let few = few_taken in
-        search (rules, few, items_are.2, mine.roomy.bytes_are)
+        search (rules, few, items_are.2)
 
     pub has_room : HasLogRoom held taken m.out
     has_room = grind (arith, common_steps, few_taken, few_bytes, mine.roomy.out_room)

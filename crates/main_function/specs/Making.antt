@@ -21,7 +21,6 @@ module _ {C : Type 0} where
     pub turns_are : m.turns ≡ 0
     pub positions_are : m.positions ≡ positions
     pub largest_is : m.largest ≡ largest
-    pub bytes_are : m.most_bytes ≡ positions * largest
 
   -- nothing was reported or taken: the manager stands for no turns, and these are its passes
   pub record IsNewManager (stands : C → Parts → List Turn → Type 0) (events : C → ℕ) (kept : C → List Buffer)

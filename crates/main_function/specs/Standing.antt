@@ -1,5 +1,5 @@
 -- For which turns a manager stands, and what holds of it between two calls.
-use Rattle.std.specs.Prelude.{◌≡◌, ℕ, ◌+◌, ◌*◌, ◌≤◌, ◌^◌, Bool, List, [], fold, length, max, sum, vec_capacity}
+use Rattle.std.specs.Prelude.{◌≡◌, ℕ, ◌+◌, ◌*◌, ◌≤◌, ◌^◌, List, [], fold, length, max, sum, vec_capacity}
 use mathlib.Core.Option.{some}
 use lib.ListN.{get_elem?}
 use Rattle.std.specs.List.{All}
@@ -47,10 +47,6 @@ module _ {C : Type 0} where
   abbrev pub rests_of : Manager C → RestsTold
   rests_of m = rests_told m.rests
 
-  -- there is room for the largest turn
-  abbrev pub fits_turn : (C → ℕ → ℕ → Bool) → Manager C → Bool
-  fits_turn has_room m = has_room m.chain m.positions m.most_bytes
-
   -- the manager stands for these turns of the configuration, the first of them first
   pub record Stands (stands : C → Parts → List Turn → Type 0) (config : Parts) (m : Manager C) (turns : List Turn) : Type 0 where
     pub chain_stands : stands m.chain config turns
@@ -64,8 +60,7 @@ module _ {C : Type 0} where
     pub items_room : m.positions ≤ vec_capacity m.items
     pub no_back : m.back.items ≡ []
     pub back_room : m.positions + events m.chain ≤ vec_capacity m.back
-    pub out_room : HasRoomFor m.positions m.most_bytes m.largest (events m.chain) m.out
-    pub bytes_are : m.most_bytes ≡ m.positions * m.largest
+    pub out_room : HasRoomFor m.positions (m.positions * m.largest) m.largest (events m.chain) m.out
     pub few_positions : m.positions ≤ 1024
     pub short : m.largest ≤ 1024
 
@@ -95,7 +90,13 @@ module _ {C : Type 0} where
     pub is_manager : IsManagerOf events kept shared m
     pub passes_are : AreAllPasses shared (desk_memo m.desk) passes
 
-  -- nothing but the chain's room or the rests is changed: the manager stands for the same turns, and is of the same making
+  -- the lists and the output of the manager have the room that they had
+  pub record KeepsRoom (old new : Manager C) : Type 0 where
+    pub items_are : vec_capacity new.items ≡ vec_capacity old.items
+    pub back_are : vec_capacity new.back ≡ vec_capacity old.back
+    pub out_is : room_of new.out ≡ room_of old.out
+
+  -- nothing but the rests is changed: the manager stands for the same turns, and is of the same making
   pub record StaysSo (stands : C → Parts → List Turn → Type 0) (events : C → ℕ) (kept : C → List Buffer)
       (old new : Manager C) : Type 0 where
     pub is_manager : (shared : Shared) → IsManagerOf events kept shared old → IsManagerOf events kept shared new
@@ -103,3 +104,4 @@ module _ {C : Type 0} where
     pub desk_is : new.desk ≡ old.desk
     pub turns_are : turns_of new ≡ turns_of old
     pub last_is : last_of new ≡ last_of old
+    pub keeps : KeepsRoom old new

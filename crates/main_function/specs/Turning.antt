@@ -3,12 +3,12 @@ use Rattle.std.specs.Borrow.{Bor}
 use mathlib.Core.Option.{some}
 use lib.ListN.{get_elem?}
 use Rattle.std.specs.Prelude.{◌≡◌, ℕ, ◌+◌, ◌*◌, ◌≤◌, ◌<◌, ◌^◌, List, [], ◌∷◌, ◌++◌, length, Result, Ok, Err}
-use Rattle.main_function.specs.Names.{Output, room_of, IsMadeFor, Shared, Parts, Entry, Sends, handed_of, all_parcels, Buffer, giver_memo, givers_of, Desk, Turn, DeskMemo, desk_memo, Giver}
+use Rattle.main_function.specs.Names.{Output, IsMadeFor, Shared, Parts, Entry, Sends, handed_of, all_parcels, Buffer, giver_memo, givers_of, Desk, Turn, DeskMemo, desk_memo, Giver}
 use Rattle.ids_types.specs.declared.entry.TurnHead.{TurnHead}
 use Rattle.history_spec.specs.Contexts.{class_at}
 use Rattle.main_function.specs.Buffers.{ReturnsBuffers}
 use Rattle.main_function.specs.Reports.{MakesTurn}
-use Rattle.main_function.specs.Standing.{IsManagerOf, Stands}
+use Rattle.main_function.specs.Standing.{IsManagerOf, KeepsRoom, Stands}
 use Rattle.main_function.specs.declared.manager.Manager.{Manager}
 use Rattle.main_function.specs.declared.rest.TurnFault.{TurnFault}
 use Rattle.main_function.specs.declared.rest.TurnFault.TheVariants.{TickBack, TickTooLarge}
@@ -37,7 +37,7 @@ module _ {C : Type 0} (stands : C → Parts → List Turn → Type 0) (kept : C 
     pub limited_is : (config : Parts) (turns : List Turn) → Stands stands config old turns
         → turn.head.limited ≡ handed_of config turns
     pub sends : (config : Parts) (turns : List Turn) → Stands stands config old turns → Sends config turns turn new.out
-    pub room_is : room_of new.out ≡ room_of old.out
+    pub keeps : KeepsRoom old new
     pub rests_are : new.rests ≡ old.rests
     pub turns_are : new.turns ≡ old.turns + 1
     pub last_is : new.last ≡ tick

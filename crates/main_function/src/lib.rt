@@ -3,7 +3,7 @@
 //! Layer 8, reports. Over `report_api`'s desk, `law_closing`'s laws and any `Chain`; the runs above make it, turn it and
 //! close it. For which turns a manager stands is told by `specs/Standing.antt`, what a turn does by `specs/Turning.antt`,
 //! and what a close leaves by `specs/Closing.antt`. A turn and a close take no memory: only making, a rest and
-//! what makes room do.
+//! what makes room for rests do.
 #![tactic(auto)]
 
 mod closing;

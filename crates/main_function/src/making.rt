@@ -46,7 +46,6 @@ fn build<C: Drop>(
     requires short { largest ≤ 1024 }
     ensures { IfOk result (IsBuilt desk chain positions events largest) }
 {
-    let most_bytes = positions * largest;
     Ok(Manager {
         desk,
         chain,
@@ -55,7 +54,7 @@ fn build<C: Drop>(
         out: TurnOut::make(
             alloc,
             positions,
-            most_bytes,
+            positions * largest,
             most_sent(largest, positions, events),
         )?,
         rests: RestLog::new(alloc),
@@ -68,16 +67,14 @@ fn build<C: Drop>(
         turns: 0,
         positions,
         largest,
-        most_bytes,
     })
 }
 
 /// Makes all that one manager needs: what is shared, a pass for each caller, and the manager over its chain, which
-/// has taken no turn and is of this configuration. No other call of this crate takes memory, but `reserve`,
-/// `reserve_rests` and `rest`.
-/// Steps: as `report_api::make`; the rest is constant. Memory: made once, but for `rest`, `reserve_rests` and a chain
-/// that takes some at `reserve`. Room for a turn of all positions: at most 1 MiB of contexts and 1,339,452 bytes of
-/// messages. By: `IsNewManager`; read off.
+/// has taken no turn and is of this configuration. No other call of this crate takes memory, but `reserve_rests` and
+/// `rest`.
+/// Steps: as `report_api::make`; the rest is constant. Memory: made once, but for `rest` and `reserve_rests`. Room for a
+/// turn of all positions: at most 1 MiB of contexts and 1,339,452 bytes of messages. By: `IsNewManager`; read off.
 pub fn make<C: ParcelChain<CtxBuf> + Drop>(
     alloc: Global,
     config: &Config,

@@ -1,10 +1,10 @@
 //! The manager.
-ghost use Rattle.std.specs.Prelude.{◌≡◌, ◌≤◌, ◌<◌, ◌^◌, [], true, List, length, map, reverse, IfOk, OnErr, OnOk};
+ghost use Rattle.std.specs.Prelude.{◌≡◌, ◌≤◌, ◌<◌, ◌^◌, [], List, length, map, reverse, vec_capacity, IfOk, OnErr, OnOk};
 ghost use Rattle.ids_types.specs.{room_of, Turn};
 ghost use Rattle.ids_config.specs.Parts.{Parts};
 ghost use Rattle.filter_chain.specs.History.{rows_of};
 ghost use Rattle.buffer_classes.specs.Givers.{givers_of, late_of};
-ghost use Rattle.main_function.specs.{AreCountsOf, CloseLeaves, Closed, AreAllPasses, HasPasses, IsManager, IsManagerOf, Stands, StaysSo, fits_turn, last_of, rests_of, turns_of, calls_by, rests_told, with_rest, IsQuick, LogsOne, TurnFails, TurnLeaves, Turned};
+ghost use Rattle.main_function.specs.{AreCountsOf, CloseLeaves, Closed, AreAllPasses, HasPasses, IsManager, IsManagerOf, Stands, StaysSo, last_of, rests_of, turns_of, calls_by, rests_told, with_rest, IsQuick, LogsOne, TurnFails, TurnLeaves, Turned};
 ghost use Rattle.report_queue.specs.{AreAllBack, AreAllSwept, IsAllTaken};
 ghost use Rattle.report_api.specs.{EachSettled, desk_memo, pass_memo};
 
@@ -34,9 +34,8 @@ pub struct Manager<C> {
     pub(crate) turns: u64,
     // How many event buffers there are.
     pub(crate) positions: u64,
-    // How many bytes a buffer of the largest class can hold, and all context data of a turn.
+    // How many bytes a buffer of the largest class can hold.
     pub(crate) largest: u64,
-    pub(crate) most_bytes: u64,
 }
 
 /// The largest tick.
@@ -54,11 +53,10 @@ impl<C: ParcelChain<CtxBuf>> Manager<C> {
     /// Steps: two swaps; at most positions items taken, and one load more; one `Chain::turn`; one `Desk::give_back`;
     /// none of these where it is refused. At the report ring at most 2 × positions + callers + 5 steps, at a class at
     /// most 2 × buffers + callers + 3. Waits: as its chain; `EventChain`: no. By: `fault`, `after_borrow`
-    /// (`TurnLeaves`: `IsQuick` has the bounds, `MakesTurn` the steps in their order); answer `TurnFault`, no NoMemory;
-    /// room by `IsManagerOf` (`roomy`).
+    /// (`TurnLeaves`: `IsQuick` has the bounds, `MakesTurn` the steps in their order, `KeepsRoom` that no memory is
+    /// taken); answer `TurnFault`, no NoMemory.
     pub fn turn(&mut self, shared: &Shared, tick: u64) -> Result<&TurnOut, TurnFault>
         requires mine { IsManagerOf C.events C.kept shared.now self.old }
-        requires fits { fits_turn C.has_room self.old ≡ true }
         requires few { turns_of self.old < 2 ^ 62 }
         ensures fault { TurnFails (last_of self.old) tick result }
         ensures lent { IfOk result (λ out. LogsOne tick out.now) }
@@ -76,8 +74,8 @@ impl<C: ParcelChain<CtxBuf>> Manager<C> {
     /// taken yet. It answers the turn's output, lent, and what all turns took and lost. A refusal is that of a turn,
     /// and leaves the passes in place. It takes no memory.
     /// Steps: for each pass, at most 32, a `Desk::welcome`; and then as `Manager::turn`. Memory: none; the passes'
-    /// lists are given back. Waits: as its chain; `EventChain`: no. By: `fault`, `ok`, `after_borrow` (`CloseLeaves`:
-    /// `IsQuick`, `Turned`); answer `TurnFault`, no NoMemory.
+    /// lists are given back. Waits: as its chain; `EventChain`: no. By: `fault`, `ok`, `room`, `after_borrow`
+    /// (`CloseLeaves`: `IsQuick`, `Turned`); answer `TurnFault`, no NoMemory.
     pub fn close(
         &mut self,
         shared: &Shared,
@@ -85,7 +83,6 @@ impl<C: ParcelChain<CtxBuf>> Manager<C> {
         tick: u64,
     ) -> Result<(&TurnOut, Totals), TurnFault>
         requires mine { IsManagerOf C.events C.kept shared.now self.old }
-        requires fits { fits_turn C.has_room self.old ≡ true }
         requires few { turns_of self.old < 2 ^ 62 }
         requires passes { AreAllPasses shared.now (desk_memo self.old.desk) passes.old.items }
         ensures fault { TurnFails (last_of self.old) tick result }
@@ -93,6 +90,7 @@ impl<C: ParcelChain<CtxBuf>> Manager<C> {
         ensures counts { IfOk result (λ closed. AreCountsOf (map pass_memo passes.old.items) closed.1) }
         ensures ok { OnOk result (passes.new.items ≡ []) }
         ensures err { OnErr result (passes.new ≡ passes.old) }
+        ensures room { vec_capacity passes.new ≡ vec_capacity passes.old }
         // Once the output is given back, all holds that the close leaves.
         ensures* after_borrow { sem 𝓛 (Rests (the_row C.row) self.entry (λ new.
             CloseLeaves C.stands C.events C.kept shared.now tick (map pass_memo passes.old.items) self.old result new)) }
@@ -141,26 +139,6 @@ impl<C: ParcelChain<CtxBuf>> Manager<C> {
         self.rests.add(self.turns, passes)
     }
 
-    /// Whether there is room for the largest turn: as many entries as there are event buffers, each with as much
-    /// context data as a buffer of the largest class can hold.
-    /// Steps: one `Chain::fits`: constant. Waits: as its chain; `EventChain`: no.
-    pub fn fits(&self) -> bool
-        ensures { result ≡ fits_turn C.has_room self.now }
-    {
-        self.chain.fits(self.positions, self.most_bytes)
-    }
-
-    /// Makes that room.
-    /// Steps: one `Chain::reserve`: constant. Memory: may answer want of memory, only as its chain; with `EventChain`
-    /// never. Waits: as its chain; `EventChain`: no. By: `ok`; no loop.
-    pub fn reserve(&mut self) -> Result<(), NoMemory>
-        ensures ok { OnOk result (fits_turn C.has_room self.new ≡ true) }
-        ensures same { StaysSo C.stands C.events C.kept self.old self.new }
-        ensures rests { rests_of self.new ≡ rests_of self.old }
-    {
-        self.chain.reserve(self.positions, self.most_bytes)
-    }
-
     /// The event memory after the last turn.
     /// Steps: one `Chain::memory`: constant. Waits: as its chain; `EventChain`: no.
     pub fn memory(&self) -> &Memory
@@ -203,7 +181,6 @@ impl<C: ParcelChain<CtxBuf>> Manager<C> {
     // Takes all passes back, and all that is left in a last turn of a tick that may be.
     fn finish(&mut self, shared: &Shared, passes: &mut Vec<Pass>, tick: u64)
         requires mine { IsManagerOf C.events C.kept shared.now self.old }
-        requires fits { fits_turn C.has_room self.old ≡ true }
         requires few { turns_of self.old < 2 ^ 62 }
         requires later { last_of self.old ≤ tick }
         requires within { tick ≤ 2 ^ 62 }
@@ -212,6 +189,7 @@ impl<C: ParcelChain<CtxBuf>> Manager<C> {
         ensures quick { IsQuick shared.now (length passes.old.items) self.old.desk self.new.desk }
         ensures closed { Closed C.stands C.kept shared.now tick (map pass_memo passes.old.items) self.old self.new }
         ensures empty { passes.new.items ≡ [] }
+        ensures room { vec_capacity passes.new ≡ vec_capacity passes.old }
     {
         welcome_all(&mut self.desk, shared, passes);
         self.step(shared, tick);
@@ -220,7 +198,6 @@ impl<C: ParcelChain<CtxBuf>> Manager<C> {
     // Makes a turn of a tick that may be.
     fn step(&mut self, shared: &Shared, tick: u64)
         requires mine { IsManagerOf C.events C.kept shared.now self.old }
-        requires fits { fits_turn C.has_room self.old ≡ true }
         requires few { turns_of self.old < 2 ^ 62 }
         requires later { last_of self.old ≤ tick }
         requires within { tick ≤ 2 ^ 62 }

@@ -90,10 +90,6 @@ impl<'c, B: Parcel> Chain<B> for PlainChain<'c, B> {
 
     ghost sends_within = { λ chain items sent. most_sent 1024 (length items) (length chain.config.events) ≤ sent };
 
-    fn fits(&self, entries: u64, bytes: u64) -> bool {
-        self.history.has_room(1, entries, bytes)
-    }
-
     /// Makes room for one turn more of that size, and lowers none of the room that there is.
     fn reserve(&mut self, entries: u64, bytes: u64) -> Result<(), NoMemory>
         ensures ok { OnOk result (has_turn_room self.new.history.room entries bytes ≡ true) }
@@ -138,11 +134,11 @@ impl<'c, B: Parcel> Chain<B> for PlainChain<'c, B> {
         ensures room { self.new.history.room ≡
             room_after self.old.history.room 1 (length items.old.items) (bytes_in B.held items.old.items) }
 
-        // Each parcel is handed back, and no room of the caller's is lowered.
+        // Each parcel is handed back, and no room of the caller's is changed.
         ensures parcels { HandsBack (all_parcels items.old.items) [] [] back.old.items back.new.items }
         ensures items { items.new.items ≡ [] }
-        ensures items_room { vec_capacity items.old ≤ vec_capacity items.new }
-        ensures back_room { vec_capacity back.old ≤ vec_capacity back.new }
+        ensures items_room { vec_capacity items.new ≡ vec_capacity items.old }
+        ensures back_room { vec_capacity back.new ≡ vec_capacity back.old }
         ensures out_room { room_of out.new ≡ room_of out.old }
     {
         let Fresh { chain, desk } = next(&mut self.fresh);

@@ -2,9 +2,9 @@
 //!
 //! A table is a text of a configuration, and then of a line for each step, as `STEP => ANSWER`. The steps go to one
 //! manager over the filter chain of the configuration, and to its passes. `turn TICK` answers the journal of the turn, with a bar for each
-//! line feed, how many messages it sent, and their bytes; `close TICK` adds the totals. `rest` and `reserve` are
-//! the calls of these names. `tell` with `turns`, `passes`, `fits`, `late CLASS`, `rests` or `memory` answers what
-//! the manager shows: rests and records with their number first. All other steps are calls of a pass (`calls.rt`).
+//! line feed, how many messages it sent, and their bytes; `close TICK` adds the totals. `rest` is the call of this
+//! name. `tell` with `turns`, `passes`, `late CLASS`, `rests` or `memory` answers what the manager shows: rests and
+//! records with their number first. All other steps are calls of a pass (`calls.rt`).
 ghost use Rattle.test_reports.specs.Running.{IsRunning};
 
 use crate::calls::{call, number, word};
@@ -56,7 +56,6 @@ impl<C: ParcelChain<CtxBuf>> Run<C> {
             "turn" => self.turn(alloc, number(step, 1), told),
             "close" => self.close(alloc, number(step, 1), told),
             "rest" => self.rest(told),
-            "reserve" => self.reserve(told),
             "tell" => self.tell(alloc, step, told),
             _ => self.call(step, told),
         }
@@ -77,7 +76,7 @@ impl<C: ParcelChain<CtxBuf>> Run<C> {
         requires { IsRunning C.events C.kept self.old.classes self.old.made }
         ensures { IsRunning C.events C.kept self.new.classes self.new.made }
     {
-        if !self.made.manager.fits() || self.made.manager.turns() >= 1000 {
+        if self.made.manager.turns() >= 1000 {
             return Ok(told.extend_from_slice(b"no room")?);
         }
         match self.made.manager.turn(&self.made.shared, tick) {
@@ -90,10 +89,7 @@ impl<C: ParcelChain<CtxBuf>> Run<C> {
         requires { IsRunning C.events C.kept self.old.classes self.old.made }
         ensures { IsRunning C.events C.kept self.new.classes self.new.made }
     {
-        if self.made.passes.is_empty()
-            || !self.made.manager.fits()
-            || self.made.manager.turns() >= 1000
-        {
+        if self.made.passes.is_empty() || self.made.manager.turns() >= 1000 {
             return Ok(told.extend_from_slice(b"no room")?);
         }
         match self
@@ -120,14 +116,6 @@ impl<C: ParcelChain<CtxBuf>> Run<C> {
         Ok(told.extend_from_slice(b"rested")?)
     }
 
-    fn reserve(&mut self, told: &mut Vec<u8>) -> Result<(), NoMemory>
-        requires { IsRunning C.events C.kept self.old.classes self.old.made }
-        ensures { IsRunning C.events C.kept self.new.classes self.new.made }
-    {
-        self.made.manager.reserve()?;
-        Ok(told.extend_from_slice(b"reserved")?)
-    }
-
     // How many buffers of a class are late, the largest number where there is no such class.
     fn late(&self, class: u64) -> u16
         requires { IsRunning C.events C.kept self.now.classes self.now.made }
@@ -148,7 +136,6 @@ impl<C: ParcelChain<CtxBuf>> Run<C> {
             "turns" => push_number(told, self.made.manager.turns()),
             "passes" => push_number(told, self.made.passes.len() as u64),
             "late" => push_number(told, u64::from(self.late(number(step, 2)))),
-            "fits" => push_number(told, u64::from(self.made.manager.fits())),
             "rests" => {
                 let rests = self.made.manager.rests();
                 push_number(told, rests.turns.len() as u64)?;

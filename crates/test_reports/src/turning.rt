@@ -63,7 +63,6 @@ turn 5 => T 5 0 0 0/R 0 0 0 1 - -/C 0 1 S 1/R 0 2 0 2 - -/C 0 3 S 0/R 0 4 0 3 - 
 /// The rests tell how many turns were made at each, and then how many calls of each caller, rest by rest.
 const RESTS: &str =
     r##"{"form":1,"instance":18,"callers":2,"memory":2,"classes":[{"size":4,"number":2}],"events":[{"id":42,"sensor":3,"store":true},{"id":7,"sensor":0,"store":true},{"id":9,"sensor":1,"send":false,"store":true}]}
-tell fits => 1
 tell rests => 0
 tell memory => 0/
 rest => rested
@@ -74,12 +73,10 @@ rest => rested
 tell memory => 2/S 0 42 3 1 3 3 - 0000/S 1 7 0 5 3 3 - -/
 event 1 2 => accepted 2
 count 1 0 0 => zero count
-reserve => reserved
 turn 4 => T 4 0 0 0/R 1 1 2 1 - -/ 0 #
 tell memory => 2/S 1 7 0 5 3 3 - -/S 2 9 1 1 4 4 - -/
 rest => rested
 tell rests => 3 0 1 2 0 0 1 1 1 2
-tell fits => 1
 tell late 0 => 0"##;
 
 /// One buffer, and windows of 10 ticks that keep the first context.

@@ -1,5 +1,5 @@
 -- What was gathered, with one turn more, and with those of one list of ticks after those of another.
-use Rattle.trace_replay.proofs.Names.{◌≡◌, ℕ, List, [], ◌∷◌, ◌++◌, refl, ap, ◌∙◌, arith, append_assoc, length-append, length-map, map-append, Turn, Parts, last_from, Buffer, DeskMemo, Shared, IsManagerOf, rests_told, Turned, Manager, Advances, Continues, StaysSame, turns_in, Gathered, Recorder, all_append}
+use Rattle.trace_replay.proofs.Names.{◌≡◌, ℕ, List, [], ◌∷◌, ◌++◌, refl, ap, ◌∙◌, arith, append_assoc, length-append, length-map, map-append, Turn, Parts, last_from, Buffer, DeskMemo, Shared, IsManagerOf, rests_told, Turned, Manager, Advances, Continues, turns_in, Gathered, Recorder, all_append}
 use Rattle.filter_chain.proofs.TranscriptLemmas.{newest_first, transcript_more}
 use Rattle.trace_replay.specs.Recording.{Gathers}
 use Rattle.buffer_classes.specs.declared.giver.Giver.{Giver}
@@ -29,29 +29,26 @@ module _ {C : Type 0} {stands : C → Parts → List Turn → Type 0} {events : 
         back_is = then.back_is ∙ first.back_is;
       }
 
-  module _ {old mid : Recorder C} {m : Manager C} {g : Gathered} (same : StaysSame stands events kept old mid)
-      (is : IsManagerOf events kept shared old.manager) (now : IsManagerOf events kept shared m) (adds : Gathers m.out old.gathered g) where
+  module _ {old : Recorder C} {m : Manager C} {g : Gathered} (is : IsManagerOf events kept shared old.manager)
+      (now : IsManagerOf events kept shared m) (adds : Gathers m.out old.gathered g) where
     -- a turn that was made and gathered
-    pub advances : {tick : ℕ} {desk : DeskMemo} {givers : List Giver} → Turned stands kept tick desk givers mid.manager m
+    pub advances : {tick : ℕ} {desk : DeskMemo} {givers : List Giver} → Turned stands kept tick desk givers old.manager m
         → Advances stands events kept shared (tick ∷ []) old (record { manager = m; gathered = g })
     advances turned =
         let before = turns_in old in
         let history = rw turned.log_is at adds.history in
-        let mine = same.manager_is.is_manager shared is in
         record {
           manager_is = now;
           turns = turned.turn ∷ [];
           turns_are = history;
           ticks_are = ap (λ tick. tick ∷ []) turned.tick_is;
-          small = (record { head_is = turned.head_is; few = rw (turned.makes.entries_are, length-map, ← mine.positions_are) turned.makes.few }, tt);
-          records = λ config was.
-              let stood = same.manager_is.stands_then config before was.stands_for in
-              record {
-                stands_for = rw history (turned.stands_then config before stood);
-                transcript = rw history (transcript_more was.transcript (turned.sends config before stood) adds.transcript);
-                causal = rw (history, newest_first before turned.turn) (turned.limited_is config before stood, was.causal);
-              };
-          rests_are = ap rests_told turned.rests_are ∙ same.rests_are;
+          small = (record { head_is = turned.head_is; few = rw (turned.makes.entries_are, length-map, ← is.positions_are) turned.makes.few }, tt);
+          records = λ config was. record {
+            stands_for = rw history (turned.stands_then config before was.stands_for);
+            transcript = rw history (transcript_more was.transcript (turned.sends config before was.stands_for) adds.transcript);
+            causal = rw (history, newest_first before turned.turn) (turned.limited_is config before was.stands_for, was.causal);
+          };
+          rests_are = ap rests_told turned.rests_are;
           last_is = turned.last_is;
-          count_is = omega (arith, turned.turns_are, same.manager_is.turns_are);
+          count_is = turned.turns_are;
         }

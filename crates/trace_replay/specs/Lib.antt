@@ -11,7 +11,7 @@ pub mod Stages
 pub mod Standing
 pub use Rattle.trace_replay.specs.Hands.{StandsAt}
 pub use Rattle.trace_replay.specs.Places.{IsPlaceOf, ArePlaces}
-pub use Rattle.trace_replay.specs.Recording.{tick_of, IsSmallTurn, Gathers, turns_in, CanTurn, IsRecordOf, StillRecords, IsNewRecorder, StaysSame, Advances, Continues, Closes}
+pub use Rattle.trace_replay.specs.Recording.{tick_of, IsSmallTurn, Gathers, turns_in, IsRecordOf, StillRecords, IsNewRecorder, StaysSame, Advances, Continues, Closes}
 pub use Rattle.trace_replay.specs.Rests.{ticks_before, lines_from, CallerRest, as_told, rests_before, all_rests, TellsCalls, LiesInItsRound}
 pub use Rattle.trace_replay.specs.Rounds.{CanPlay, IsBetween, Plays, RestsOnce, EndsRound}
 pub use Rattle.trace_replay.specs.Stages.{IsSet}

@@ -6,7 +6,7 @@ pub use Rattle.ids_config.specs.Parts.{Parts}
 pub use Rattle.ids_types.specs.Turns.{Turn}
 pub use Rattle.ids_types.specs.declared.loss.Loss.{Loss}
 pub use Rattle.law_closing.specs.{HaveAllCalls, IsMadeFor, came, losses_in}
-pub use Rattle.main_function.specs.{AreCountsOf, AreSumsOf, IsNewManager, IsManagerOf, Stands, StaysSo, fits_turn, last_of, rests_of, turns_of, IsSmallHead, with_rest}
+pub use Rattle.main_function.specs.{AreCountsOf, AreSumsOf, IsNewManager, IsManagerOf, Stands, StaysSo, last_of, rests_of, turns_of, IsSmallHead, with_rest}
 pub use Rattle.main_function.specs.Rests.{calls_by, RestsTold}
 pub use Rattle.main_function.specs.declared.manager.Manager.{Manager}
 pub use Rattle.report_api.specs.{desk_memo, PassMemo, CarriesAll, lost_events, IsReported, IsPassOf, pass_memo, sizes_of}

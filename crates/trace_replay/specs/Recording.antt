@@ -1,8 +1,8 @@
 -- What a replay gathers of the turns of its manager.
-use Rattle.std.specs.Prelude.{◌≡◌, ℕ, ◌+◌, ◌≤◌, ◌<◌, ◌^◌, Bool, true, List, [], ◌∷◌, ◌++◌, length, map, reverse}
+use Rattle.std.specs.Prelude.{◌≡◌, ℕ, ◌+◌, ◌≤◌, List, [], ◌∷◌, ◌++◌, length, map, reverse}
 use Rattle.std.specs.List.{AllByRecursion}
 use Rattle.ids_types.specs.Output.{Output}
-use Rattle.trace_replay.specs.Names.{AreCountsOf, AreSumsOf, IsNewManager, IsManagerOf, Stands, StaysSo, fits_turn, last_of, rests_of, turns_of, IsSmallHead, Buffer, IsCausal, Parts, Turn, desk_memo, PassMemo, Pass, HaveAllCalls, IsMadeFor, came, queue_positions, Shared, Manager}
+use Rattle.trace_replay.specs.Names.{AreCountsOf, AreSumsOf, IsNewManager, IsManagerOf, Stands, StaysSo, last_of, rests_of, turns_of, IsSmallHead, Buffer, IsCausal, Parts, Turn, desk_memo, PassMemo, Pass, HaveAllCalls, IsMadeFor, came, queue_positions, Shared, Manager}
 use Rattle.text_spec.specs.TraceFaults.{last_from}
 use Rattle.filter_chain.specs.Transcripts.{Adds, IsEmpty, IsTranscript}
 use Rattle.trace_replay.specs.declared.gathered.Gathered.{Gathered}
@@ -26,11 +26,6 @@ module _ {C : Type 0} where
   -- the turns so far
   abbrev pub turns_in : Recorder C → List Turn
   turns_in r = r.gathered.history.turns
-
-  -- one turn more can be made
-  pub record CanTurn (has_room : C → ℕ → ℕ → Bool) (m : Manager C) : Type 0 where
-    pub fits : fits_turn has_room m ≡ true
-    pub few : turns_of m < 2 ^ 62
 
 module _ {C : Type 0} (stands : C → Parts → List Turn → Type 0) where
   -- the manager stands for the turns that were gathered, and these gave what was gathered of them

@@ -1,10 +1,10 @@
 //! The manager of a replay, with what is gathered of its turns.
-ghost use Rattle.std.specs.Prelude.{◌≡◌, ◌≤◌, ◌^◌, ◌∷◌, [], true, map, OnOk};
+ghost use Rattle.std.specs.Prelude.{◌≡◌, ◌≤◌, ◌<◌, ◌^◌, ◌∷◌, [], map, OnOk};
 ghost use Rattle.std.specs.List.{All};
 ghost use Rattle.history_spec.specs.Orders.{KeepUpFrom};
 ghost use Rattle.report_api.specs.{desk_memo, pass_memo};
-ghost use Rattle.main_function.specs.Standing.{AreAllPasses, IsManagerOf, last_of};
-ghost use Rattle.trace_replay.specs.Recording.{CanTurn, Closes, Continues, StaysSame};
+ghost use Rattle.main_function.specs.Standing.{AreAllPasses, IsManagerOf, last_of, turns_of};
+ghost use Rattle.trace_replay.specs.Recording.{Closes, Continues, StaysSame};
 
 use crate::gate::Gate;
 use crate::gathered::Gathered;
@@ -44,7 +44,7 @@ impl<C: ParcelChain<CtxBuf>> Recorder<C> {
         requires small { tick ≤ 2 ^ 62 }
         ensures { OnOk result (Continues C.stands C.events C.kept shared.now (tick ∷ []) self.old self.new) }
     {
-        self.ready()?;
+        self.can_turn()?;
         let Ok(out) = self.manager.turn(shared, tick) else {
             unreachable!()
         };
@@ -84,7 +84,7 @@ impl<C: ParcelChain<CtxBuf>> Recorder<C> {
         requires passes { AreAllPasses shared.now (desk_memo self.old.manager.desk) passes.old.items }
         ensures { OnOk result (Closes C.stands C.events C.kept shared.now tick (map pass_memo passes.old.items) self.old self.new) }
     {
-        self.ready()?;
+        self.can_turn()?;
         let Ok((out, _)) = self.manager.close(shared, passes, tick) else {
             unreachable!()
         };
@@ -92,14 +92,13 @@ impl<C: ParcelChain<CtxBuf>> Recorder<C> {
         Ok(())
     }
 
-    // Makes sure that the manager can make one turn more.
-    fn ready(&mut self) -> Result<(), NoMemory>
-        ensures can { OnOk result (CanTurn C.has_room self.new.manager) }
-        ensures same { StaysSame C.stands C.events C.kept self.old self.new }
+    // Whether the manager can make one turn more.
+    fn can_turn(&self) -> Result<(), NoMemory>
+        ensures { OnOk result (turns_of self.now.manager < 2 ^ 62) }
     {
         if self.manager.turns() >= MOST_TURNS {
             return Err(NoMemory);
         }
-        self.manager.reserve()
+        Ok(())
     }
 }

@@ -9,6 +9,7 @@ loop-pass-init c = record {
   passes = λ i pass at. (c.requires.passes.each i pass at).0;
   told = refl;
   counts = refl;
+  room = refl;
   givers = (0, omega arith, grind arith);
 }
 
@@ -28,6 +29,7 @@ loop-pass-preserved c =
       passes = admitted_before (IsPassOf c.args.shared.now) left c.in-Some.pass is was.passes;
       told = rw (c.welcome.ensures.came.told, ← back_last left c.in-Some.pass (desk_memo c.loop-pass.desk), ← is) was.told;
       counts = c.welcome.ensures.came.counts ∙ was.counts;
+      room = c.pop.ensures.capacity ∙ was.room;
       givers = (was.givers.0 + 1, grind (arith, common_steps, is, was.givers.1), more);
     }
 

@@ -10,7 +10,7 @@ close-requires-clause-passes c =
 pub hand_over-turned-requires-clause-room : goal.hand_over-turned-requires-clause-room
 hand_over-turned-requires-clause-room c =
     let left = rw c.in-Ok.is at c.close.follows.holds-at-none in
-    omega (arith, room_is c.requires.fit, c.requires.may.can.room, ap (λ r. r.sent) left.3.turned.room_is, ap (λ (out : Output). length out.sent + out.sent_left) left.1)
+    omega (arith, room_is c.requires.fit, c.requires.may.can.room, ap (λ r. r.sent) left.3.turned.keeps.out_is, ap (λ (out : Output). length out.sent + out.sent_left) left.1)
 
 pub returns : goal.returns
 returns c =

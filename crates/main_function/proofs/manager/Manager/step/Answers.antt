@@ -2,7 +2,7 @@ use Rattle.main_function.proofs.Names.{AllOf, GaveBack, givers_of, rules, refl, 
 use Rattle.report_queue.proofs.ClosingLemmas.{taken_on}
 use Rattle.main_function.proofs.QuickLemmas.{turn_is_quick}
 use Rattle.main_function.proofs.ReportLemmas.{offered_more, totals_more, turn_adds}
-use Rattle.main_function.proofs.StepLemmas.{can_take, come_back, few_bytes, few_taken, has_room, has_sent_room, kept_fit, kept_short, taken_fit}
+use Rattle.main_function.proofs.StepLemmas.{can_take, come_back, has_room, has_sent_room, kept_fit, kept_short, taken_fit}
 use Rattle.main_function.proofs.TurnedLemmas.{last_within, stands_more}
 use Rattle.main_function.proofs.manager.Manager.step.Goals as goal
 
@@ -11,7 +11,7 @@ turn-requires g c =
     let mine = c.requires.mine in
     let took = c.take_ready.ensures.took in
     record {
-      fits = g.met.C.Chain.smaller _ _ _ _ _ (few_taken mine took) (few_bytes mine took) c.requires.fits;
+      fits = g.met.C.ParcelChain.roomy c.args.self.now.chain _ _;
       items = can_take mine took;
       kept = kept_short mine;
       back = search rules;
@@ -84,7 +84,11 @@ returns g c =
             (c.turn.ensures.stands config turns is.chain_stands) c.requires.later makes mine.offered_is refl refl refl;
         limited_is = λ config turns is. c.limited.ensures.value config turns is.chain_stands;
         sends = λ config turns is. search (rules, is.tick_is, c.requires.later, c.turn.ensures.sends config turns is.chain_stands);
-        room_is = c.turn.ensures.out_room;
+        keeps = record {
+          items_are = c.turn.ensures.items_room ∙ c.take_ready.ensures.room;
+          back_are = c.give_back.ensures.room ∙ c.turn.ensures.back_room;
+          out_is = c.turn.ensures.out_room;
+        };
         rests_are = refl;
         turns_are = refl;
         last_is = refl;

@@ -4,14 +4,13 @@ use Rattle.trace_replay.proofs.recorder.Recorder.close.Goals as goal
 pub returns : goal.returns
 returns g c =
     let made = rw c.in-Ok.is at c.close.follows.holds-at-none in
-    let same = c.in_ok-ready.ensures.same in
-    let adds = rw (made.1, same.gathered_is) at c.in_ok-add.ensures in
+    let adds = rw made.1 at c.in_ok-add.ensures in
     let closed = made.3 in
     let history = rw closed.turned.log_is at adds.history in
     record {
-      advances = advances same c.requires.mine made.0 adds closed.turned;
+      advances = advances c.requires.mine made.0 adds closed.turned;
       back_is = closed.are_back;
       counts = closed.counts;
-      all_calls = λ config made_for was. rw history (closed.all_calls config _ made_for (same.manager_is.stands_then config _ was.stands_for));
-      sums = λ config was. rw history (closed.sums config _ (same.manager_is.stands_then config _ was.stands_for));
+      all_calls = λ config made_for was. rw history (closed.all_calls config _ made_for was.stands_for);
+      sums = λ config was. rw history (closed.sums config _ was.stands_for);
     }
