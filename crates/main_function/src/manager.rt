@@ -1,10 +1,10 @@
 //! The manager.
-ghost use Rattle.std.specs.Prelude.{◌≡◌, ◌≤◌, ◌<◌, ◌^◌, [], List, length, map, reverse, vec_capacity, IfOk, OnErr, OnOk};
+ghost use Rattle.std.specs.Prelude.{◌≡◌, ◌≤◌, ◌<◌, ◌^◌, [], List, length, map, reverse, vec_capacity, IfOk, IsOk, OnErr, OnOk};
 ghost use Rattle.ids_types.specs.{room_of, Turn};
 ghost use Rattle.ids_config.specs.Parts.{Parts};
 ghost use Rattle.filter_chain.specs.History.{rows_of};
 ghost use Rattle.buffer_classes.specs.Givers.{givers_of, late_of};
-ghost use Rattle.main_function.specs.{AreCountsOf, CloseLeaves, Closed, AreAllPasses, HasPasses, IsManager, IsManagerOf, Stands, StaysSo, last_of, rests_of, turns_of, calls_by, rests_told, with_rest, IsQuick, LogsOne, TurnFails, TurnLeaves, Turned};
+ghost use Rattle.main_function.specs.{AreCountsOf, CloseLeaves, Closed, AreAllPasses, HasPasses, IsManager, IsManagerOf, Stands, StaysSo, last_of, rests_of, turns_of, calls_by, rests_told, with_rest, HasRestRoom, KeepsRestRoom, IsQuick, LogsOne, TurnFails, TurnLeaves, Turned};
 ghost use Rattle.report_queue.specs.{AreAllBack, AreAllSwept, IsAllTaken};
 ghost use Rattle.report_api.specs.{EachSettled, desk_memo, pass_memo};
 
@@ -117,8 +117,9 @@ impl<C: ParcelChain<CtxBuf>> Manager<C> {
 
     /// Makes room for so many rests of so many passes, so that they take no memory when they come.
     /// Memory: may answer want of memory; for each rest 8 bytes, and 8 more for each pass, kept as long as the manager.
-    /// By: `same`, `rests`; no loop.
+    /// By: `room`, `same`, `rests`; no loop.
     pub fn reserve_rests(&mut self, rests: u64, passes: u64) -> Result<(), NoMemory>
+        ensures room { OnOk result (HasRestRoom rests passes self.new.rests) }
         ensures same { StaysSo C.stands C.events C.kept self.old self.new }
         ensures rests { rests_of self.new ≡ rests_of self.old }
     {
@@ -128,12 +129,13 @@ impl<C: ParcelChain<CtxBuf>> Manager<C> {
     /// Records a rest: how many turns were made, and how many calls by each of these passes. No call is under way,
     /// since the passes are all lent to it.
     /// Steps: no step on a ring; the calls of each pass, at most 32, are read. Memory: may answer want of memory; none
-    /// where `reserve_rests` made the room. By: `ok`: one rest with `calls_by` of these passes; `err`; the passes by
-    /// `&`.
+    /// where `reserve_rests` made the room. By: `ok`: one rest with `calls_by` of these passes; `err`; `room`; the passes
+    /// by `&`.
     pub fn rest<P: HasPass>(&mut self, passes: &[P]) -> Result<(), NoMemory>
         requires passes { HasPasses C.events C.kept (map P.its passes.now) self.old }
         ensures ok { OnOk result (rests_of self.new ≡ with_rest (turns_of self.old) (calls_by P.its passes.now) (rests_of self.old)) }
         ensures err { OnErr result (rests_of self.new ≡ rests_of self.old) }
+        ensures room { HasRestRoom 1 (length passes.now) self.old.rests → IsOk result × KeepsRestRoom self.old.rests self.new.rests }
         ensures same { StaysSo C.stands C.events C.kept self.old self.new }
     {
         self.rests.add(self.turns, passes)

@@ -1,7 +1,7 @@
 //! What a turn refuses, what rests record, and what closing tells.
-ghost use Rattle.std.specs.Prelude.{◌≡◌, ◌+◌, ◌≤◌, ◌^◌, OnErr, OnOk};
+ghost use Rattle.std.specs.Prelude.{◌≡◌, ◌+◌, ◌≤◌, ◌^◌, length, vec_len, vec_capacity, IsOk, OnErr, OnOk};
 ghost use Rattle.report_api.specs.declared.pass.Pass.{Pass as PassValue};
-ghost use Rattle.main_function.specs.Rests.{calls_by, rests_told, no_rests, with_rest};
+ghost use Rattle.main_function.specs.Rests.{HasRestRoom, KeepsRestRoom, calls_by, rests_told, no_rests, with_rest};
 
 use ids_types::NoMemory;
 use report_api::Pass;
@@ -38,26 +38,41 @@ impl RestLog {
 
     /// Makes room for so many rests of so many passes.
     pub(crate) fn reserve(&mut self, rests: u64, passes: u64) -> Result<(), NoMemory>
-        ensures { rests_told self.new ≡ rests_told self.old }
+        ensures same { rests_told self.new ≡ rests_told self.old }
+        ensures room { OnOk result (HasRestRoom rests passes self.new) }
     {
-        self.turns.reserve(rests as usize)?;
-        self.calls.reserve(rests.saturating_mul(passes) as usize)?;
-        Ok(())
+        let calls = rests.checked_mul(passes).ok_or(NoMemory)?;
+        make_room(&mut self.turns, rests as usize)?;
+        make_room(&mut self.calls, calls as usize)
     }
 
-    /// Adds a rest of these passes after so many turns.
+    /// Adds a rest of these passes after so many turns. Where there is room for it, it takes no memory.
     pub(crate) fn add<P: HasPass>(&mut self, turns: u64, passes: &[P]) -> Result<(), NoMemory>
         ensures ok { OnOk result (rests_told self.new ≡ with_rest turns (calls_by P.its passes.now) (rests_told self.old)) }
         ensures err { OnErr result (rests_told self.new ≡ rests_told self.old) }
+        ensures room { HasRestRoom 1 (length passes.now) self.old → IsOk result × KeepsRestRoom self.old self.new }
     {
-        self.turns.reserve(1)?;
-        self.calls.reserve(passes.len())?;
+        make_room(&mut self.turns, 1)?;
+        make_room(&mut self.calls, passes.len())?;
         self.turns.push_reserved(turns);
         for has in passes {
             self.calls.push_reserved(has.pass().calls());
         }
         Ok(())
     }
+}
+
+// Makes room for so many numbers more, where there is none.
+fn make_room(list: &mut Vec<u64>, more: usize) -> Result<(), NoMemory>
+    ensures items { list.new.items ≡ list.old.items }
+    ensures len { vec_len list.new ≡ vec_len list.old }
+    ensures ok { OnOk result (vec_len list.new + more ≤ vec_capacity list.new) }
+    ensures room { vec_len list.old + more ≤ vec_capacity list.old → IsOk result × (vec_capacity list.new ≡ vec_capacity list.old) }
+{
+    if list.capacity() - list.len() < more {
+        list.reserve(more)?;
+    }
+    Ok(())
 }
 
 /// What all turns together took and lost.
