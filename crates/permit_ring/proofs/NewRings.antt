@@ -1,5 +1,6 @@
 -- A ring that has just been made: it keeps the rule, and its keeper and seats stand.
-use Rattle.permit_ring.proofs.Names.{◌≡◌, ℕ, zero, suc, ◌+◌, ◌%◌, ◌<◌, List, [], ◌∷◌, ◌++◌, length, refl, sym, ◌∙◌, ap, mod-eq_of_lt, arith, ⊎_elim, map, replicate, length_push, length-map, all_free, opening, packed, Slot, Ring, Seat, Key, Offered, IsOrdered, made_memo, IsNewSeat, AreNewSeats, new_memo, IsUntouched, SeatMemo, Option, None, replicate_more, first_memo, AllAdmitted, HasOffered, IsKey, first_view, Runs, at_map, get_elem?, some-ne-none, some}
+use Rattle.permit_ring.proofs.Names.{◌≡◌, ℕ, zero, suc, ◌+◌, ◌%◌, ◌<◌, List, [], ◌∷◌, ◌++◌, length, refl, sym, ◌∙◌, ap, mod-eq_of_lt, arith, ⊎_elim, map, replicate, length_push, length-map, all_free, opening, packed, Slot, Ring, Seat, Key, Offered, IsOrdered, made_memo, IsNewSeat, AreNewSeats, new_memo, IsUntouched, SeatMemo, Option, None, replicate_more, first_memo, AllAdmitted, HasOffered, IsKey, first_view, Runs, at_map, get_elem?, some-ne-none, some, Split}
+use Rattle.permit_ring.specs.Moves.{move}
 use Rattle.permit_ring.proofs.ListLemmas.{at_end, there}
 use Rattle.atomic_table.specs.Table as table
 use Rattle.ring_core.proofs.Opens.{opens}
@@ -44,7 +45,9 @@ module _ {O D T N : Type 0} (note : D → N) (Ao : T → O → Type 0) (An : T �
 -- once all seats are made, nothing was taken or swept
 pub untouched : {N : Type 0} (n made : ℕ) → IsUntouched {N = N} n made (made_memo n made)
 untouched n zero = assumption
-untouched {N = N} n (suc made) = grind (arith, untouched {N = N} n made, replicate_more {X = Option (SeatMemo N)} made None)
+untouched n (suc zero) = assumption
+untouched {N = N} n (suc (suc made)) =
+    grind (arith, untouched {N = N} n (suc made), replicate_more {X = Option (SeatMemo N)} (suc made) None, replicate_more made (move Split 0))
 
 -- the log of a seat that has just been made is in order
 pub new_ordered : {N : Type 0} (i : ℕ) → IsOrdered (new_memo {N = N} i)

@@ -1,22 +1,26 @@
 -- A ring that has just been made.
-use Rattle.std.specs.Prelude.{◌≡◌, ℕ, zero, suc, List, [], ◌∷◌, length, replicate, None}
+use Rattle.std.specs.Prelude.{◌≡◌, ℕ, zero, suc, ◌-◌, List, [], ◌∷◌, length, replicate, None}
 use mathlib.Core.Option.{some}
 use lib.ListN.{get_elem?}
-use Rattle.permit_ring.specs.Names.{Keeper, KeeperMemo, Ring, Seat, all_free}
+use Rattle.permit_ring.specs.Names.{Keeper, KeeperMemo, Ring, Seat, Split, all_free}
+use Rattle.permit_ring.specs.Moves.{move}
 use Rattle.permit_ring.specs.Seats.{IsSeatOf, IsKeeperOf, seat_memo, seat_number, seat_calls, seat_ticket, keeper_memo, ring_positions, ring_seats, ring_terms, vacant_of, filled_of}
 use Rattle.permit_ring.specs.Steps.{new_memo, first_memo, makes}
 
--- the keeper of a ring of n positions and so many seats, which took and swept nothing
+-- the keeper of a ring of n positions and so many seats, which took, swept and offered nothing
 pub record IsUntouched {N : Type 0} (n seats : ℕ) (k : KeeperMemo N) : Type 0 where
   pub none_taken : k.notes ≡ []
   pub no_marks : k.marks ≡ []
   pub fronts_are : k.fronts ≡ n ∷ []
   pub offered_is : k.offered ≡ n
+  pub offers_are : k.offers ≡ 0
   pub none_swept0 : k.swept0 ≡ []
   pub none_swept1 : k.swept1 ≡ []
   pub seen_is : k.seen ≡ all_free n
   pub made_is : k.made ≡ seats
   pub back_is : k.back ≡ replicate seats None
+  -- its steps made the seats; the first is there from the start
+  pub moves_are : k.moves ≡ replicate (seats - 1) (move Split 0)
 
 -- what the keeper knows once so many seats are made
 abbrev pub made_memo : {N : Type 0} → ℕ → ℕ → KeeperMemo N
