@@ -20,12 +20,12 @@ fn main(rt: HostRuntime) -> io::Result<()> {
         "a relay of two is full at the third put, and empty behind two takes",
         full,
     )?;
-    tell(&rt, "two sources are merged", sources_are_merged(&rt))?;
-    tell(&rt, "two feeders meet", feeders_meet(&rt))?;
+    tell(&rt, "eight sources are merged", sources_are_merged(&rt))?;
+    tell(&rt, "eight feeders meet", feeders_meet(&rt))?;
     let told = is_told_of_each_put(&rt);
     tell(
         &rt,
-        "two sources of 200 messages stay in their order, each put told once",
+        "eight sources of 200 messages stay in their order, each put told once",
         told,
     )
 }
