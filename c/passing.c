@@ -4,7 +4,10 @@
 #include <stdio.h>
 #include <string.h>
 
-#include "idsm_c.h"
+#define IDSM_CALLER() (&IdsM_Unit.callers[0])
+#include "IdsM.h"
+
+IdsM_UnitType IdsM_Unit;
 
 typedef struct {
     void *at;
@@ -427,6 +430,8 @@ int main(void)
     idsm_row rows[1];
     size_t count;
     expect("idsm_abi", 77, idsm_abi());
+    expect("IdsM_Init over a library of another number", 10, IdsM_Init(NULL));
+    expect("what the library is given then", 0, handles_given);
     for (answer = 1; answer < 18; answer++) {
         expect("a refused init", answer, idsm_init(buffer, 3, callers, 2, &manager, &fault));
         expect("its fault", 1, fault.number == 11 && fault.part == 12 && fault.place == 13);
