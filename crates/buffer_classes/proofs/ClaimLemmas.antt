@@ -1,5 +1,5 @@
 -- A claim from class to class.
-use Rattle.buffer_classes.proofs.Names.{◌≡◌, ◌≢◌, ℕ, ◌+◌, ◌-◌, ◌*◌, ◌<◌, ◌≤◌, ◌^◌, List, [], ◌∷◌, ◌++◌, length, set, get_or, ◌∙◌, arith, inl, inr, All, append-nil, length_push, at_index, at_length, at_map, there, ring_seats, ring_terms, seat_calls, seat_memo, Buffer, IsBufferOf, AllOf, Asks, AsksClass, ClaimTells, asked, lost_at, RiseFrom, class_sizes, first_fitting, Class, ClassSeat, Lost, Got, Outcome, IsClaimSeatOf, IsClassSeat, claimant_of, claims_of, log_of, memo_at, steps_of, Classes, ClaimSeat, refl, nat_tests, some, get_elem?, sum_by-set}
+use Rattle.buffer_classes.proofs.Names.{◌≡◌, ◌≢◌, ℕ, ◌+◌, ◌-◌, ◌*◌, ◌<◌, ◌≤◌, ◌^◌, List, [], ◌∷◌, ◌++◌, length, set, get_or, ◌∙◌, arith, inl, inr, All, append-nil, length_push, at_index, at_length, at_map, there, ring_seats, ring_terms, seat_calls, seat_memo, Buffer, IsBufferOf, AllOf, Asks, AsksClass, ClaimTells, asked, lost_at, RiseFrom, class_sizes, first_fitting, Class, ClassSeat, Lost, Got, Outcome, IsClaimSeatOf, IsClassSeat, claimant_of, claims_of, log_of, memo_at, steps_of, Classes, ClaimSeat, refl, nat_tests, some, get_elem?, sum_by-set, vec_capacity}
 use Rattle.std.proofs.lemmas.List.Elements.{All-push}
 use Rattle.buffer_classes.specs.Claims.{AreSmall, HoldsSoMany}
 use Rattle.buffer_classes.specs.declared.seat.Claim.{Claim}
@@ -25,6 +25,7 @@ pub record AskedTo (classes : Classes) (me : ClaimSeat) (bytes place : ℕ) (loo
   pub small : All (λ claimed. claimed ≤ 2 ^ 45) looks
   pub number_is : now.number ≡ me.number
   pub claims_are : now.claims ≡ me.claims + 1
+  pub room_is : vec_capacity now.seats ≡ vec_capacity me.seats
   pub asked : AllOf (AskedSo classes (lost_at (first_fitting bytes (class_sizes classes)) looks)) me.seats.items now.seats.items
   pub steps : steps_of now ≤ steps_of me + 3 * length looks
 
@@ -57,6 +58,7 @@ module _ {classes : Classes} {me : ClaimSeat} (mine : IsClaimSeatOf classes me) 
   }
 
   module _ (result : Claim) (now : ClaimSeat) (number : now.number ≡ me.number) (claims : now.claims ≡ me.claims + 1)
+      (room : vec_capacity now.seats ≡ vec_capacity me.seats)
       (all : AllOf (AskedSo classes (asked first result)) me.seats.items now.seats.items) (told : ClaimTells first sizes result) where
     all_asked : (i : ℕ) (class : Class) → get_elem? classes.classes.items i ≡ some class
         → Asks (ring_seats class.ring) (memo_at me i) (asked first result i) (memo_at now i)
@@ -69,6 +71,7 @@ module _ {classes : Classes} {me : ClaimSeat} (mine : IsClaimSeatOf classes me) 
       mine = record {
         are = mine.are;
         all = all.as_many ∙ mine.all;
+        room = room ∙ mine.room;
         each = λ i class s at e.
             let old = there me.seats.items i (omega (arith, at_length now.seats.items i s e, all.as_many)) in
             grind (arith, mine.each i class old.0 at old.1, (all.each i old.0 s old.1 e class at).1, number, claims);
@@ -107,7 +110,7 @@ module _ {classes : Classes} {me : ClaimSeat} (mine : IsClaimSeatOf classes me) 
         grind (arith, same, not_yet, mine.each place class old.0 class_there old.1)
 
     module _ (new : ClassSeat) (after : ClaimSeat) (seats : after.seats.items ≡ set now.seats.items place new) (number : after.number ≡ now.number)
-        (claims : after.claims ≡ now.claims) where
+        (claims : after.claims ≡ now.claims) (room : vec_capacity after.seats ≡ vec_capacity now.seats) where
       asks_more : (call : Outcome) (done : ℕ → List Outcome) → AsksClass class seat (call ∷ []) new → done place ≡ call ∷ []
           → ((i : ℕ) → i ≢ place → done i ≡ lost_at first looks i)
           → AllOf (AskedSo classes done) me.seats.items after.seats.items × (steps_of after ≤ steps_of me + 3 * length looks + 3)
@@ -126,7 +129,7 @@ module _ {classes : Classes} {me : ClaimSeat} (mine : IsClaimSeatOf classes me) 
           let asked = asks_more (Lost claimed) (lost_at first (looks ++ claimed ∷ [])) did (grind (arith, nat_tests, more place))
           (λ i apart. grind (arith, nat_tests, more i, apart)) in
           let all = All-push (λ (claimed : ℕ). claimed ≤ 2 ^ 45) looks claimed l.small small in
-          grind (arith, l, number, claims, asked, all, length_push looks claimed)
+          grind (arith, l, number, claims, room, asked, all, length_push looks claimed)
 
       -- it gave a buffer
       pub got : (buf : Buffer) → AsksClass class seat (Got buf.claim tt ∷ []) new → IsBufferOf (ring_terms class.ring) buf → buf.claim ≤ 2 ^ 45
@@ -136,5 +139,5 @@ module _ {classes : Classes} {me : ClaimSeat} (mine : IsClaimSeatOf classes me) 
           let told : ClaimTells first sizes (answers.Got buf looks) = grind (arith, mine.are.terms place class class_there, size, its, l.many) in
           let done = asks_more (Got buf.claim tt) (asked first (answers.Got buf looks)) did (grind (arith, nat_tests, told.0, l.many))
           (grind (arith, nat_tests, told.0, l.many)) in
-          leaves (answers.Got buf looks) after (number ∙ l.number_is) (claims ∙ l.claims_are) done.0 told (small, l.small)
+          leaves (answers.Got buf looks) after (number ∙ l.number_is) (claims ∙ l.claims_are) (room ∙ l.room_is) done.0 told (small, l.small)
           (omega (arith, done.1, l.many, below, l.asked.as_many, mine.all, many_sizes classes))

@@ -1,5 +1,5 @@
 -- Classes that are made one after another.
-use Rattle.buffer_classes.proofs.Names.{◌≡◌, ℕ, suc, ◌<◌, List, [], ◌∷◌, ◌++◌, length, take, sym, ◌∙◌, ap, arith, length-map, length_push, map_push, at_end, at_length, there, ClassSpec, IsNewSeat, seat_memo, new_memo, IsBufferOf, AllOf, AreClasses, RiseFrom, class_sizes, givers_of, AreNewClasses, GetsOne, GetsSeat, IsNewClaimant, IsNewClass, spec_sizes, Class, ClassSeat, IsHisSeat, Classes, Giver, Givers, ClaimSeat, IsGiverOf, some, new_ordered, get_elem?}
+use Rattle.buffer_classes.proofs.Names.{◌≡◌, ℕ, suc, ◌<◌, List, [], ◌∷◌, ◌++◌, length, take, sym, ◌∙◌, ap, arith, length-map, length_push, map_push, at_end, at_length, there, ClassSpec, IsNewSeat, seat_memo, new_memo, IsBufferOf, AllOf, AreClasses, RiseFrom, class_sizes, givers_of, AreNewClasses, GetsOne, GetsSeat, IsNewClaimant, IsNewClass, spec_sizes, Class, ClassSeat, IsHisSeat, Classes, Giver, Givers, ClaimSeat, IsGiverOf, some, new_ordered, get_elem?, vec_capacity}
 use Rattle.buffer_classes.specs.{IsNewGiver}
 use Rattle.buffer_classes.proofs.FittingLemmas.{many_sizes}
 
@@ -16,7 +16,7 @@ both_more R xs ys x y many each last i a b at bt =
     grind (arith, at_end xs x a i at, at_end ys y b i bt, at_length xs i a, at_length ys i b, many, each i a b, last)
 
 -- a claimant that got a seat, and which
-pub got_of : (seats : List ClassSeat) {olds news : List ClaimSeat} → AllOf (GetsSeat seats) olds news → length seats ≡ length olds
+got_of : (seats : List ClassSeat) {olds news : List ClaimSeat} → AllOf (GetsSeat seats) olds news → length seats ≡ length olds
     → (i : ℕ) (now : ClaimSeat) → get_elem? news i ≡ some now
     → (old : ClaimSeat) × (s : ClassSeat) × (get_elem? olds i ≡ some old) × (get_elem? seats i ≡ some s) × GetsOne s old now
 got_of seats {olds} {news} gets many i now at =
@@ -35,7 +35,8 @@ module _ {done : List ClassSpec} {limit : ℕ} {classes : Classes} {givers : Giv
     (last : place ≡ length done) (few : length done < 4) (rise : RiseFrom 0 (spec_sizes (done ++ spec ∷ [])))
     (classes' : Classes) (givers' : Givers) (news : List ClaimSeat)
     (classes_are : classes'.classes.items ≡ classes.classes.items ++ class ∷ []) (givers_are : givers_of givers' ≡ givers_of givers ++ giver ∷ [])
-    (gets : AllOf (GetsSeat seats) olds news) where
+    (gets : AllOf (GetsSeat seats) olds news) (room : vec_capacity classes'.classes ≡ vec_capacity classes.classes)
+    (givers_room : vec_capacity givers'.givers ≡ vec_capacity givers.givers) where
   sizes_more : class_sizes classes' ≡ spec_sizes (done ++ spec ∷ [])
   sizes_more = simp (classes_are, map_push, was.sizes_are, new.size_is)
 
@@ -56,6 +57,7 @@ module _ {done : List ClassSpec} {limit : ℕ} {classes : Classes} {givers : Giv
         is_claimant = record {
           are = classes_more;
           all = grind (arith, classes_are, got.0, length_push {X = Class}, length_push {X = ClassSeat}, is.is_claimant.all);
+          room = got.1 ∙ is.is_claimant.room ∙ sym room;
           each = rw (classes_are, got.0, got.2, got.3) (both_more (λ k. IsHisSeat old.number old.claims) classes.classes.items old.seats.items class s
               (sym is.is_claimant.all) is.is_claimant.each (rw (is.number_is, is.no_claims) his));
         };
@@ -72,6 +74,7 @@ module _ {done : List ClassSpec} {limit : ℕ} {classes : Classes} {givers : Giv
     givers_are = record {
       are = classes_more;
       all = grind (arith, classes_are, givers_are, length_push {X = Class}, length_push {X = Giver}, was.givers_are.all);
+      room = givers_room ∙ was.givers_are.room ∙ sym room;
       each = rw (classes_are, givers_are) (both_more (λ i (class : Class). IsGiverOf class.ring) classes.classes.items (givers_of givers) class giver
           (sym was.givers_are.all) was.givers_are.each new.is_giver);
     };

@@ -1,5 +1,5 @@
 -- A context data buffer as plain data, and which buffers the ring of a class carries.
-use Rattle.std.specs.Prelude.{◌≡◌, ℕ, ◌≤◌, List, [], length, take}
+use Rattle.std.specs.Prelude.{◌≡◌, ℕ, ◌≤◌, List, [], length, take, vec_capacity}
 use Rattle.permit_ring.specs.declared.answer.Look.{Look}
 use Rattle.buffer_classes.specs.declared.buffer.CtxBuf.TheInside.{Inside}
 use Rattle.buffer_classes.specs.declared.class.ClassTerms.{ClassTerms}
@@ -15,9 +15,10 @@ pub record Buffer : Type 0 where
 abbrev pub buffer_of : Inside → Buffer
 buffer_of b = record { class = b.held.value.class; claim = b.held.value.claim; size = b.held.value.size; bytes = take b.held.value.len b.held.value.room.items }
 
--- it has as many bytes as it can hold, and holds no more
+-- it has as many bytes as it can hold, in room for just these, and holds no more
 abbrev pub HasItsRoom : Inside → Type 0
-HasItsRoom b = (length b.held.value.room.items ≡ b.held.value.size) × (b.held.value.len ≤ b.held.value.size)
+HasItsRoom b = (length b.held.value.room.items ≡ b.held.value.size) × (vec_capacity b.held.value.room ≡ b.held.value.size)
+    × (b.held.value.len ≤ b.held.value.size)
 
 -- an empty buffer of a class, which nobody has claimed yet
 abbrev pub unused : ℕ → ℕ → Buffer

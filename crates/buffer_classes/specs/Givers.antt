@@ -1,5 +1,5 @@
 -- Those who give the buffers of all classes back.
-use Rattle.std.specs.Prelude.{◌≡◌, ℕ, ◌+◌, ◌*◌, ◌<◌, ◌≤◌, ◌==◌, List, ◌++◌, count_by, length}
+use Rattle.std.specs.Prelude.{◌≡◌, ℕ, ◌+◌, ◌*◌, ◌<◌, ◌≤◌, ◌==◌, List, ◌++◌, count_by, length, vec_capacity}
 use mathlib.Core.Option.{Option, some, none}
 use lib.ListN.{get_elem?}
 use Rattle.permit_ring.specs.{ReapsToEnd, OffersAll, AreAllBack, IsSettled, AllAdmitted}
@@ -19,6 +19,8 @@ givers_of givers = givers.givers.items
 pub record AreGiversOf (classes : Classes) (givers : Givers) : Type 0 where
   pub are : AreClasses classes
   pub all : length (givers_of givers) ≡ length classes.classes.items
+  -- their list has the room of that of the classes, which never changes
+  pub room : vec_capacity givers.givers ≡ vec_capacity classes.classes
   pub each : (i : ℕ) (class : Class) (g : Giver) → get_elem? classes.classes.items i ≡ some class
       → get_elem? (givers_of givers) i ≡ some g → IsGiverOf class.ring g
 

@@ -38,7 +38,7 @@ pub record IsGiverOf (ring : Ring _ Buffer (Unit {0}) ClassTerms (Unit {0})) (g 
   pub number_is : g.number ≡ ring_positions ring
   pub late_are : AllAdmitted (IsBufferOf (ring_terms ring)) g.late.items
   pub few : late_count g ≤ g.number
-  pub room : g.number ≤ vec_capacity g.late
+  pub room : vec_capacity g.late ≡ g.number
   pub made_are : (giver_memo g).made ≡ length (giver_memo g).back
   pub seats_are : (giver_memo g).made ≡ ring_seats ring
   pub offered_from : g.number ≤ (giver_memo g).offered

@@ -1,5 +1,5 @@
 -- One who claims buffers: a seat at the ring of each class, idle between two claims.
-use Rattle.std.specs.Prelude.{◌≡◌, ℕ, ◌≤◌, List, length, sum_by, None}
+use Rattle.std.specs.Prelude.{◌≡◌, ℕ, ◌≤◌, List, length, sum_by, None, vec_capacity}
 use mathlib.Core.Option as maybe
 use mathlib.Core.Option.{some, none}
 use lib.ListN.{get_elem?}
@@ -49,5 +49,7 @@ pub record IsHisSeat (number claims : ℕ) (class : Class) (seat : ClassSeat) : 
 pub record IsClaimSeatOf (classes : Classes) (seat : ClaimSeat) : Type 0 where
   pub are : AreClasses classes
   pub all : length seat.seats.items ≡ length classes.classes.items
+  -- its list has the room of that of the classes, which never changes
+  pub room : vec_capacity seat.seats ≡ vec_capacity classes.classes
   pub each : (i : ℕ) (class : Class) (s : ClassSeat) → get_elem? classes.classes.items i ≡ some class
       → get_elem? seat.seats.items i ≡ some s → IsHisSeat seat.number seat.claims class s

@@ -1,5 +1,5 @@
 //! A context data buffer.
-ghost use Rattle.std.specs.Prelude.{◌≡◌, ◌≤◌, length, take, IfOk};
+ghost use Rattle.std.specs.Prelude.{◌≡◌, ◌≤◌, length, take, vec_capacity, IfOk};
 ghost use Rattle.buffer_classes.specs.Buffers.{filled_with, unused};
 
 use ids_types::Parcel;
@@ -44,7 +44,7 @@ impl CtxBuf {
             size,
             len: 0,
             class,
-            room: Vec::from_elem(alloc, 0, size as usize)?,
+            room: zeros(alloc, size as usize)?,
         };
         Ok(CtxBuf {
             held: Box::new(alloc, held)?,
@@ -88,6 +88,17 @@ impl CtxBuf {
     {
         self.held.claim = claim;
     }
+}
+
+// So many zeros, and room for no more.
+fn zeros(alloc: Global, n: usize) -> Result<Vec<u8>, AllocError>
+    ensures { IfOk result (λ v. (length v.items ≡ n) × (vec_capacity v ≡ n)) }
+{
+    let mut room = Vec::with_capacity(alloc, n)?;
+    for _ in 0..n {
+        room.push_reserved(0);
+    }
+    Ok(room)
 }
 
 // Puts these bytes in front.

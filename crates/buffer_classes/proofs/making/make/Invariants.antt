@@ -1,9 +1,7 @@
-use Rattle.buffer_classes.proofs.Names.{◌≡◌, length, take, vec_capacity, AllAdmitted, AreNewClasses, ClaimSeat}
+use Rattle.buffer_classes.proofs.Names.{◌≡◌, length, take, vec_capacity, AreNewClasses}
 use Rattle.buffer_classes.proofs.making.make.Given as goal
 
 abbrev pub invariant-loop-spec : goal.invariant-loop-spec
 invariant-loop-spec l =
     AreNewClasses (take l.spec-index l.specs) l.seats (record { classes = l.classes }) (record { givers = l.givers }) l.claimants.items
     × (vec_capacity l.classes ≡ length l.specs)
-    × (vec_capacity l.givers ≡ length l.specs)
-    × AllAdmitted (λ (seat : ClaimSeat). vec_capacity seat.seats ≡ length l.specs) l.claimants.items

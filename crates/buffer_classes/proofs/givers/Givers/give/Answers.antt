@@ -9,7 +9,7 @@ begin-requires c =
 
 pub loop-class-preserved : goal.loop-class-preserved
 loop-class-preserved c = givers_below c.loop-class.invariant.0 c.loop-class.class (omega arith) c.index.ensures
-    c.loop-class.invariant.1 c.index_mut.ensures.value refl c.begin.ensures.mine c.begin.ensures.did
+    c.loop-class.invariant.1 c.index_mut.ensures.value refl refl c.begin.ensures.mine c.begin.ensures.did
 
 -- the last buffer is of a class that has a giver
 its : (c : In-Some) → IsBufferIn (class_sizes c.args.classes.now) c.in-Some.buf × (c.in-Some.buf.class < length (givers_of c.loop-buf.self))
@@ -40,7 +40,7 @@ loop-buf-preserved c =
     let left = c.pop.new.self.items in
     let low : i < length (givers_of c.loop-buf.self) = omega (arith, (its (goal.at.loop-buf-preserved c).In-Some).1) in
     let here = at_index (givers_of c.loop-buf.self) i _ low c.index_mut-in-Some.ensures.value in (
-      givers_with is.0 i low c.index-in-Some.ensures refl c.put.ensures.mine,
+      givers_with is.0 i low c.index-in-Some.ensures refl refl c.put.ensures.mine,
       admitted_before (IsBufferIn (class_sizes c.args.classes.now)) left c.in-Some.buf c.in-Some.ensures.items is.1,
       one_put left c.in-Some.buf c.in-Some.ensures.items i _ c.put.new.self c.class-class.ensures here is.2 c.put.ensures.did,
       c.pop.ensures.capacity ∙ is.3,
@@ -53,7 +53,7 @@ offer-requires c =
 
 pub loop-class-2-preserved : goal.loop-class-2-preserved
 loop-class-2-preserved c = givers_below c.loop-class-2.invariant.0 c.loop-class-2.class (omega arith) c.index-in-loop-class-2.ensures
-    c.loop-class-2.invariant.1 c.index_mut-in-loop-class-2.ensures.value refl c.offer.ensures.mine c.offer.ensures.did
+    c.loop-class-2.invariant.1 c.index_mut-in-loop-class-2.ensures.value refl refl c.offer.ensures.mine c.offer.ensures.did
 
 pub returns-clause-gave : goal.returns-clause-gave
 returns-clause-gave c =

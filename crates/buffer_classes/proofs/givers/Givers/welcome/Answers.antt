@@ -27,7 +27,7 @@ loop-its-preserved c =
     let here = at_index (givers_of c.loop-its.self) i _ low c.index_mut.ensures.value in
     let now = last_taken Takes c.pop.new.self.items is.1.0 c.in-Some.its c.in-Some.ensures.items is.1.1 i _ c.take_back.new.self
     (omega (arith, c.len-class.ensures)) here is.2 c.take_back.ensures.did in
-    (givers_with is.0 i low c.index.ensures refl c.take_back.ensures.mine, now.0, now.1)
+    (givers_with is.0 i low c.index.ensures refl refl c.take_back.ensures.mine, now.0, now.1)
 
 pub returns-clause-told : goal.returns-clause-told
 returns-clause-told c = all_from c.loop-its.invariant.2 (omega (arith, c.in_default.ensures.cases.0))

@@ -13,15 +13,15 @@ ask-requires c =
 
 pub loop-place-preserved : goal.loop-place-preserved
 loop-place-preserved c = rw c.push.ensures (in_vain c.requires.mine c.args.len c.loop-place.invariant (omega arith) _ c.index.ensures
-    _ c.index_mut.ensures.value c.ask.new.seat _ refl refl refl c.in-Err.claimed c.in-Err.ensures.did c.in-Err.ensures.small)
+    _ c.index_mut.ensures.value c.ask.new.seat _ refl refl refl refl c.in-Err.claimed c.in-Err.ensures.did c.in-Err.ensures.small)
 
 pub returns-in-Ok : goal.returns-in-Ok
 returns-in-Ok c = got c.requires.mine c.args.len c.loop-place.invariant (omega arith) _ c.index.ensures _ c.index_mut.ensures.value
-    c.ask.new.seat _ refl refl refl c.in-Ok.buf c.in-Ok.ensures.did c.in-Ok.ensures.buffer.0 c.in-Ok.ensures.buffer.1
+    c.ask.new.seat _ refl refl refl refl c.in-Ok.buf c.in-Ok.ensures.did c.in-Ok.ensures.buffer.0 c.in-Ok.ensures.buffer.1
 
 pub returns : goal.returns
 returns c =
     let is = c.loop-place.invariant in
     let many = many_sizes c.args.classes.now in
     let within = first_within c.args.len (class_sizes c.args.classes.now) in
-    leaves c.requires.mine c.args.len (claims.NoneFree c.loop-place.looks) _ is.number_is is.claims_are is.asked (omega arith) is.small (omega arith)
+    leaves c.requires.mine c.args.len (claims.NoneFree c.loop-place.looks) _ is.number_is is.claims_are is.room_is is.asked (omega arith) is.small (omega arith)
