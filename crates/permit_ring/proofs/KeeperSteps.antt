@@ -141,7 +141,7 @@ module _ {O D T N : Type 0} (note : D → N) (Ao : T → O → Type 0) (An : T �
         let other : mark_at m.marks (m.reaped % m.positions) ≢ m.reaped + 1 = λ hit. miss (omega arith) in
         let k : KeeperMemo N = waits (slice_index s.words word) r.keeper in
         let runs = keeper_steps r See {k = k} (see_waits_next m other) read words r.are_slots (assumption) in
-        (Keeps key k, keeps, tt, runs, ((λ hit. absurd (miss hit)), λ _. (refl, λ back. search (settled r other back)))))
+        (Keeps key k, keeps, tt, runs, ((λ hit. absurd (miss hit)), λ _. (refl, λ back. search (settled r (slice_index s.words word) other back)))))
         (cases_eq (slice_index s.words word) (length r.keeper.notes + 1))))
 
     -- its look at the permit word: only the word that it knows changes

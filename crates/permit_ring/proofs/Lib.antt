@@ -5,6 +5,7 @@ pub mod Lives
 pub mod LogLemmas
 pub mod Names
 pub mod NewRings
+pub mod Orders
 pub mod RunLemmas
 pub mod RuleLaws
 pub mod SeatSteps
@@ -18,5 +19,5 @@ pub use Rattle.permit_ring.proofs.LogLemmas.{got_from, taken_in}
 pub use Rattle.permit_ring.proofs.NewRings.{opens_running, untouched, new_ordered, one_seat_more}
 pub use Rattle.permit_ring.proofs.RuleLaws.{fate_of, logged_is_claimed, machine_holds, open_of, place_from, memo_known, one_port, records_rise, noted_as}
 pub use Rattle.permit_ring.proofs.RunLemmas.{OnlyReaps, only_reaps, reaps_push, end_steps, Gave, gave_of}
-pub use Rattle.permit_ring.proofs.Settled.{some_there, more_fronts, offer_keeps_back, offer_keeps_settled}
+pub use Rattle.permit_ring.proofs.Settled.{some_there, more_fronts, offer_keeps_back, offer_keeps_order, offer_keeps_settled}
 pub use Rattle.permit_ring.proofs.States.{ring_of}

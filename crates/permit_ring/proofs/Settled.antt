@@ -1,6 +1,10 @@
 -- What is left once all seats are back, and that what is settled stays so.
-use Rattle.permit_ring.proofs.Names.{◌≡◌, ◌≢◌, ◌≤◌, ℕ, zero, suc, ◌+◌, ◌-◌, ◌%◌, ◌<◌, is_some, List, [], ◌∷◌, ◌++◌, map, length, get_or, sum_by, Option, Some, None, refl, sym, ◌∙◌, ap, subst, inl, inr, mod-lt, arith, false≢true, common_steps, length-map, nil_from_length, sum_by-cons, at_longer, at_map, State, SeatView, Key, KeeperMemo, Got, SeatMemo, Slot, View, OfferTells, AreAllBack, IsAllReaped, IsSettled, IsWholeLog, marks_back, StandsIn, Runs, Machine, marks_of, nobody, mark_at, seat_at, Holds, all_but_a_turn_reaped, live_is_made, one_turn, get_elem?, some, decided_on}
+use Rattle.permit_ring.proofs.Names.{◌≡◌, ◌≢◌, ◌≤◌, ℕ, zero, suc, ◌+◌, ◌-◌, ◌%◌, ◌<◌, is_some, List, [], ◌∷◌, ◌++◌, map, length, get_or, sum_by, Option, Some, None, refl, sym, ◌∙◌, ap, subst, inl, inr, mod-lt, arith, false≢true, common_steps, length-map, nil_from_length, sum_by-cons, at_longer, at_map, State, SeatView, Key, KeeperMemo, Got, SeatMemo, Slot, View, OfferTells, AreAllBack, IsAllReaped, IsSettled, IsWholeLog, marks_back, StandsIn, Runs, Machine, marks_of, nobody, mark_at, seat_at, Holds, all_but_a_turn_reaped, live_is_made, one_turn, get_elem?, some, decided_on, append_assoc, See, Read, by_keeper, by_seat, packed, waits}
+use Rattle.permit_ring.specs.Moves.{move}
 use Rattle.permit_ring.specs.Logs.{end_from, fate_of}
+use Rattle.permit_ring.specs.Calls.{last_word, tried}
+use Rattle.permit_ring.specs.Order.{HaveOneOrder}
+use Rattle.permit_ring.proofs.Orders.{counted, in_order}
 use Rattle.permit_ring.proofs.LogLemmas.{got_from, lost_in, taken_in, within_end}
 use Rattle.permit_ring.proofs.States.{ring_of}
 use Rattle.ring_core.specs.{loss_at}
@@ -51,8 +55,33 @@ module _ {N : Type 0} where
     pub offer_keeps_reaped : IsAllReaped old → IsAllReaped new
     offer_keeps_reaped = subst IsAllReaped (sym tells.1.3)
 
+    pub offer_keeps_order : HaveOneOrder old → HaveOneOrder new
+    offer_keeps_order o =
+        let did = tells.1.3 in
+        let looked = move Read (packed limit tells.0) ∷ [] in
+        let tries = map (tried limit count) (tells.1.0 ++ last_word tells.0 tells.1.0 ∷ []) in
+        let since = o.of_keeper.0 in
+        let before = by_keeper o.moves in
+        record {
+          positions = o.positions;
+          limit = o.limit;
+          positions_are = rw did (at_longer old.fronts ((old.offered + count) ∷ []) 0 o.positions o.positions_are);
+          moves = o.moves;
+          machine = o.machine;
+          reached = o.reached;
+          of_seats = rw did o.of_seats;
+          of_keeper = (
+            (since ++ looked) ++ tries,
+            ap (λ (k : KeeperMemo N). k.moves) did ∙ ap (λ moves. (moves ++ looked) ++ tries) o.of_keeper.1
+                ∙ ap (λ moves. moves ++ tries) (append_assoc before since looked) ∙ append_assoc before (since ++ looked) tries,
+          );
+          counted = o.counted;
+          in_order = o.in_order;
+        }
+
     pub offer_keeps_settled : IsSettled old → IsSettled new
     offer_keeps_settled s = subst IsSettled (sym tells.1.3) record {
+      order = rw tells.1.3 at (offer_keeps_order s.order);
       taken = s.taken;
       notes_are = s.notes_are;
       seats_are = s.seats_are;
@@ -86,10 +115,25 @@ module _ {O D T N : Type 0} {note : D → N} {Ao : T → O → Type 0} {An : T �
       record { rises = p.2.ordered.rises; within = within; at_front = λ j g e. p.2.lost_at_front j g (lost_in memo.log j g e) } in
       grind (arith, common_steps, p, all, decided, rw (← shown i memo at) at ((ring_of r).seats.each i))
 
+  -- all steps stand in the order in which they were made, and then the keeper's look at a mark
+  one_order : (mark : ℕ) → HaveOneOrder (waits mark r.keeper)
+  one_order mark = record {
+    positions = key.positions;
+    limit = key.limit;
+    positions_are = r.knows.counted.first_front;
+    moves = r.moves;
+    machine = r.machine;
+    reached = r.reached;
+    of_seats = λ i memo at. let p = r.each_seat i (Some memo) at in p.2.moved ∙ ap (λ j. by_seat j r.moves) p.0;
+    of_keeper = (move See mark ∷ [], ap (λ moves. moves ++ move See mark ∷ []) r.knows.moved);
+    counted = counted r;
+    in_order = in_order r;
+  }
+
   -- and where the next ticket is not finished, nothing is left
-  pub settled : mark_at r.machine.marks (r.machine.reaped % r.machine.positions) ≢ r.machine.reaped + 1 → AreAllBack r.keeper
-      → IsSettled r.keeper
-  settled other back =
+  pub settled : (seen : ℕ) → mark_at r.machine.marks (r.machine.reaped % r.machine.positions) ≢ r.machine.reaped + 1 → AreAllBack r.keeper
+      → IsSettled (waits seen r.keeper)
+  settled seen other back =
       let m : Machine = r.machine in
       let ring = ring_of r in
       let shown : ℕ = mark_at m.marks (m.reaped % m.positions) in
@@ -104,6 +148,7 @@ module _ {O D T N : Type 0} {note : D → N} {Ao : T → O → Type 0} {An : T �
         notes_are = all.1;
         seats_are = λ t i x e. (r.are_fates.finished t i x (rw all.2 (at_map Some all.0 t (i, x) e))).0;
         logs_are = whole_log all.0 all.2;
+        order = one_order seen;
       }
 
   -- so once all seats are back, the next ticket is finished only where some was not reaped

@@ -4,6 +4,7 @@ use mathlib.Core.Option.{some}
 use lib.ListN.{get_elem?}
 use Rattle.permit_ring.specs.Names.{KeeperMemo, SeatMemo, marks_of, AreAllDecided}
 use Rattle.permit_ring.specs.Logs.{end_from, fate_of, got_of, taken_by}
+use Rattle.permit_ring.specs.Order.{HaveOneOrder}
 use Rattle.permit_ring.specs.Rule.{StandsIn}
 
 module _ {N : Type 0} where
@@ -30,6 +31,7 @@ module _ {N : Type 0} where
     pub notes_are : k.notes ≡ map (λ (x : ℕ × N). x.1) taken
     pub seats_are : (t i : ℕ) (x : N) → get_elem? taken t ≡ some (i, x) → i < k.made
     pub logs_are : (i : ℕ) (memo : SeatMemo N) → get_elem? k.back i ≡ some (Some memo) → IsWholeLog k.fronts taken i memo
+    pub order : HaveOneOrder k
 
   -- the marks of a kind that a seat made which came back
   abbrev pub marks_back : ℕ → Option (SeatMemo N) → ℕ

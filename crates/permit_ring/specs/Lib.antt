@@ -18,7 +18,7 @@ pub use Rattle.permit_ring.specs.Logs.{fate_of, start_of, end_of, RisesFrom, end
 pub use Rattle.permit_ring.specs.Making.{IsUntouched, made_memo, IsNewSeat, AreNewSeats, IsNewRing}
 pub use Rattle.permit_ring.specs.Moves.{found_at, move, Leads, is_of_seat, is_of_keeper, by_seat, by_keeper}
 pub use Rattle.permit_ring.specs.Names.{SeatView, Step, Look, Claim, Finish, See, Read, Offer, Mark, Sweep, Split, Join, PermitWord, Key, KeeperMemo, Move, Outcome, Lost, Got, SeatMemo, Slot, Empty, Offered, Finished, View, Sits, Keeps, Spent, Ring, Seat}
-pub use Rattle.permit_ring.specs.Order.{is_claim, gets_ticket, ticket_at, tickets_got, AreCounted, AreInOrder}
+pub use Rattle.permit_ring.specs.Order.{is_claim, gets_ticket, ticket_at, tickets_got, AreCounted, AreInOrder, HaveOneOrder}
 pub use Rattle.permit_ring.specs.Places.{ShowsRing, SitsThere, CameBack, IsMemoThere, IsOneSeats, IsHeldOnce, IsLoggedOnce, HasOnePlace, IsNotedAs, IsInOrder, IsAdmittedSlot}
 pub use Rattle.permit_ring.specs.Rule.{IsKey, first_view, words_of, StandsIn, Counts, AreFates, IsSeatMemo, IsKeeperMemo, Home, HasFinished, HasOffered, IsOut, IsSlot, AreSlots, IsViewAt, IsSomewhere, Runs, RunningRing}
 pub use Rattle.permit_ring.specs.Seats.{machine_ticket, ring_positions, ring_seats, ring_terms, seat_memo, seat_number, seat_calls, seat_ticket, keeper_memo, vacant_of, filled_of, IsKeeping, HasInHand, KeepsInHand, IsSeatOf, IsKeeperOf, IsSized}

@@ -1,5 +1,5 @@
 -- What was taken once all callers are back, from what the ring's keeper knows.
-use Rattle.report_queue.proofs.Names.{some_there, got_from, taken_in, more_fronts, gave_of, length-map, some, some-injective, some-ne-none, ◌≡◌, ℕ, zero, suc, ◌+◌, List, [], ◌∷◌, map, length, Some, None, refl, sym, ap, ◌∙◌, false≢true, eq-zero-or-pos, arith, at_map, get_elem?, IsSettled, taken_by, StandsIn}
+use Rattle.report_queue.proofs.Names.{some_there, got_from, taken_in, more_fronts, gave_of, offer_keeps_order, length-map, some, some-injective, some-ne-none, ◌≡◌, ℕ, zero, suc, ◌+◌, List, [], ◌∷◌, map, length, Some, None, refl, sym, ap, ◌∙◌, false≢true, eq-zero-or-pos, inl, inr, arith, at_map, get_elem?, IsSettled, taken_by, StandsIn}
 use Rattle.report_queue.specs.{KeeperMemo, SeatMemo, Item, AreAllBack, OffersAll, IsAllTaken, NamesItsCalls, items_of}
 use Rattle.ids_types.proofs.FatesLemmas.{decided_on}
 
@@ -29,6 +29,10 @@ module _ {N : Type 0} where
             let its = is.whole i caller (rw did.back_is at e) in
             let decided = decided_on its.decided on in
             rw did.notes_are assumption;
+        order = elim (eq-zero-or-pos count) [
+          | inl none ↦ rw (gave.0 none) is.order
+          | inr any ↦ offer_keeps_order seats count (gave.1 any).0 old new (gave.1 any).2 is.order
+        ];
       }
 
   module _ (k : KeeperMemo (Item N)) (made : k.made ≡ length k.back)
@@ -51,4 +55,5 @@ module _ {N : Type 0} where
       whole = λ i memo at.
           let its = s.logs_are i memo at in
           rw s.notes_are (grind (arith, its, names i memo at, length-map s.taken (λ (x : ℕ × Item N). x.1), same_items i 0 s.taken owner));
+      order = s.order;
     }

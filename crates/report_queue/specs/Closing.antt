@@ -3,7 +3,7 @@ use Rattle.std.specs.Prelude.{◌≡◌, ℕ, suc, ◌<◌, ◌==◌, if◌then�
 use mathlib.Core.Option.{some}
 use lib.ListN.{get_elem?}
 use Rattle.ids_types.specs.Fates.{AreAllDecided}
-use Rattle.permit_ring.specs.{fate_of, got_of, StandsIn}
+use Rattle.permit_ring.specs.{fate_of, got_of, HaveOneOrder, StandsIn}
 use Rattle.report_queue.specs.Names.{KeeperMemo, SeatMemo, Item}
 use Rattle.report_queue.specs.Items.{NamesItsCalls}
 
@@ -27,3 +27,4 @@ module _ {N : Type 0} where
     pub of_callers : (t : ℕ) (item : Item N) → get_elem? k.notes t ≡ some item → item.caller < length k.back
     pub whole : (i : ℕ) (caller : SeatMemo (Item N)) → get_elem? k.back i ≡ some (Some caller)
         → IsWholeCaller k.fronts k.notes i caller
+    pub order : HaveOneOrder k
