@@ -1,5 +1,6 @@
 -- What a closed desk makes of a history.
 use Rattle.law_closing.proofs.Names.{Item, some, asks_back, desk_memo, Act, Got, Outcome, PassMemo, call_of, calls_in, fate_of, sizes_of, decided_on, AreAllBack, class_at, AreDecided, entries_by, IsSettledLog, entries_from, get_elem?, at_map, get_or_past, length-map, ◌≡◌, ℕ, true≢false, Option, None, List, [], length, map, refl, sym, ap, ◌∙◌, arith, inl, inr, ClassSpec, Classes, some_there, at_length, there, Parts}
+use mathlib.Core.Option.{some-injective}
 use Rattle.std.proofs.lemmas.Bool.{cases_lt}
 use Rattle.ids_types.specs.{entries_of}
 use Rattle.history_spec.specs.Decided.{fates_of}
@@ -14,10 +15,10 @@ use Rattle.buffer_classes.proofs.AskLemmas.{below_or, nothing_past}
 use Rattle.permit_ring.specs.{ended, new_memo}
 use Rattle.report_queue.specs.{IsWholeCaller}
 use Rattle.report_api.proofs.TiedLemmas.{claimants_back}
-use Rattle.law_closing.specs.{HaveAllCalls, came, calls_by, fates_in, ClosedDesk, GiversHaveNumbers, HaveNumbers, plain_item}
+use Rattle.law_closing.specs.{HaveAllCalls, StandInOneOrder, came, calls_by, fates_in, ClosedDesk, GiversHaveNumbers, HaveNumbers, plain_item}
 use Rattle.report_queue.proofs.{at_map_back}
 use Rattle.law_closing.proofs.EntryLemmas.{call_of_ticket, no_items, whole_as}
-use Rattle.law_closing.proofs.PlaceLemmas.{or_at}
+use Rattle.law_closing.proofs.PlaceLemmas.{first_front, or_at}
 use Rattle.law_closing.proofs.FateLemmas.{claimed_none, none_settled, whole_settled}
 
 -- the ring of class i has the number of its giver
@@ -123,6 +124,23 @@ module _ (closed : ClosedDesk) where
         are_entries = rw (its.fates, closed.shows) (whole_as caller its.memo.log items its.whole.names its.whole.accepted).1;
       }
 
+  -- all steps stand in one order
+  one_order : StandInOneOrder closed.config.ring closed.passes
+  one_order =
+      let o = closed.all_taken.order in
+      let n : ℕ = closed.config.ring in
+      let ring : n ≡ o.positions = some-injective n o.positions
+      (sym (first_front n closed.turns n []) ∙ ap (λ (fronts : List ℕ). get_elem? fronts 0) (sym closed.fronts_are) ∙ o.positions_are) in
+      record {
+        limit = o.limit;
+        moves = o.moves;
+        machine = o.machine;
+        reached = rw ring o.reached;
+        of_passes = λ caller pass at. o.of_seats caller (ended pass) (rw closed.are_back (at_map came closed.passes caller pass at));
+        counted = o.counted;
+        in_order = o.in_order;
+      }
+
   pub all_calls : HaveAllCalls closed.config closed.passes closed.turns
   all_calls = record {
     accepted = entries_are;
@@ -135,6 +153,7 @@ module _ (closed : ClosedDesk) where
         let pass = its.stands got.0 (Got t item) got.1 in
         rw (← found.2) (pass.0, item, pass.1, rw (its.whole.names got.0 t item got.1).1 pass.2, refl);
     merged = are_merged closed.config.ring closed.turns _ (map fates_in closed.passes) are_decided;
+    one_order = one_order;
     contexts = legal_contexts closed.config closed.turns (calls_by closed.passes) (asks_back givers) (λ i. (settled_at i).0) record {
       follows = λ caller i. let its = knows caller in rw its.calls (its.follows i);
       settled = λ caller i. (settled_at i).1 caller;

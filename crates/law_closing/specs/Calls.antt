@@ -6,9 +6,13 @@ use Rattle.ids_types.specs.{Turn, entries_of, Fate}
 use Rattle.ids_config.specs.Parts.{Parts}
 use Rattle.history_spec.specs.{all_losses, Calls, entries_by, AreMerged, AreLegalContexts, entries_from}
 use Rattle.history_spec.specs.Names.{Entry, Loss}
+use Rattle.permit_ring.specs.{AreCounted, AreInOrder, Leads, by_seat}
+use Rattle.permit_ring.specs.declared.memo.Move.{Move}
 use Rattle.report_queue.specs.{got_of}
 use Rattle.report_queue.specs.declared.cargo.Item.{Item}
 use Rattle.report_api.specs.{Act, Got, PassMemo, calls_in, fate_of}
+use Rattle.ring_core.specs.{opening}
+use Rattle.ring_core.specs.Machine.{Machine}
 use Rattle.law_closing.specs.Closed.{plain_item}
 
 -- what became of the calls of a pass at the report ring
@@ -32,6 +36,20 @@ abbrev pub IsOfTicket : List PassMemo → ℕ → Entry (List ℕ) → Type 0
 IsOfTicket passes t e = (pass : PassMemo) × (item : Item Act) × (get_elem? passes e.caller ≡ some pass)
     × (get_elem? pass.log e.call ≡ some (Got t item)) × (plain_item item ≡ e)
 
+-- all steps of the passes at a report ring of n places stand in one order, among those of the desk
+pub record StandInOneOrder (n : ℕ) (passes : List PassMemo) : Type 0 where
+  -- for how many callers the ring is
+  pub limit : ℕ
+  pub moves : List Move
+  pub machine : Machine
+  -- each was possible when its turn came, and found what the words then showed
+  pub reached : Leads (opening n limit) moves machine
+  -- each pass made its own in the order in which they stand
+  pub of_passes : (caller : ℕ) (pass : PassMemo) → get_elem? passes caller ≡ some pass → pass.moves ≡ by_seat caller moves
+  -- and the claim that stands first got the lower ticket, whoever made it
+  pub counted : AreCounted limit moves
+  pub in_order : AreInOrder limit moves
+
 -- the turns have all calls of the passes, and nothing else
 pub record HaveAllCalls (config : Parts) (passes : List PassMemo) (turns : List Turn) : Type 0 where
   -- the entries of each caller are its accepted calls, in their order and with what they carried
@@ -40,5 +58,6 @@ pub record HaveAllCalls (config : Parts) (passes : List PassMemo) (turns : List 
   pub merged : AreMerged config.ring (λ caller. length (calls_by passes caller)) turns (losses_in config.ring passes)
   -- the entries stand in the order in which their calls claimed their places: the one at place t is that of the call that got ticket t
   pub in_claim_order : (t : ℕ) (e : Entry (List ℕ)) → get_elem? (entries_of turns) t ≡ some e → IsOfTicket passes t e
+  pub one_order : StandInOneOrder config.ring passes
   -- the claims are legal, and so is each missing context
   pub contexts : AreLegalContexts config turns

@@ -12,8 +12,8 @@ ghost use Rattle.law_closing.specs.{HaveAllCalls, accepted_in, came, ClosedDesk,
 
 /// Once all passes are back and the report ring and the ring of each class is settled, the turns have all calls of
 /// the passes, and nothing else. The entries of each caller are its accepted calls, in order and with what they
-/// carried. All entries stand in the order in which their calls claimed their places, and each lost call found none
-/// free. The claims of each class are 0, 1, 2 and so on, each once. Where a context is missing, with a number for
+/// carried. All entries stand in the order in which their calls claimed their places: the steps of all passes stand in
+/// one order, and the claim that stands first got the lower ticket. Each lost call found none free. The claims of each class are 0, 1, 2 and so on, each once. Where a context is missing, with a number for
 /// each class that would have held it, all buffers of these had been claimed before.
 pub fn closed_desks_have_all_calls()
     ghost closed: { ClosedDesk }
