@@ -1,4 +1,4 @@
-//! A replay whose callers and turn wait for each other.
+//! A replay whose callers and turn wait for each other in each round.
 
 use crate::replays::meeting::Meeting;
 use crate::shelves::{shelf_of, sink_of, words_of};
@@ -8,11 +8,11 @@ use std::alloc::Global;
 use std::test::Fail;
 use std::thread::Threads;
 
-/// Two callers with two reports each, and a turn beside them.
+/// Two rounds, each of two callers with two reports each, and a turn beside them.
 const GIVEN: &str =
-    r#"replay c j m r o | {"form":1,"instance":18,"callers":2,"ring":4,"events":[{"id":42,"sensor":3}]} | N 5/R 0 0 1 - -/R 0 0 1 - -/R 1 0 1 - -/R 1 0 1 - -/E 5/"#;
+    r#"replay c j m r o | {"form":1,"instance":18,"callers":2,"ring":4,"events":[{"id":42,"sensor":3}]} | N 5/R 0 0 1 - -/R 0 0 1 - -/R 1 0 1 - -/R 1 0 1 - -/E 5/N 6/R 0 0 1 - -/R 0 0 1 - -/R 1 0 1 - -/R 1 0 1 - -/E 6/"#;
 
-/// Whether the replay ends well, and its two callers and the turn beside them met.
+/// Whether the replay ends well, and its two callers and the turn beside them met in both rounds.
 fn replayed<R: Threads + Sync>(
     rt: &R,
     alloc: Global,
@@ -22,10 +22,10 @@ fn replayed<R: Threads + Sync>(
 ) -> bool {
     let gate = Meeting::of(2);
     let (status, manager) = run_replay(rt, alloc, words, shelf, out, &gate);
-    status == 0 && manager.is_some() && gate.have_met()
+    status == 0 && manager.is_some() && gate.have_met(2)
 }
 
-/// Whether all three meet in a replay, and a check of what it wrote finds the same.
+/// Whether all three meet in each round of a replay, and a check of what it wrote finds the same.
 fn meet<R: Threads + Sync>(rt: &R, alloc: Global) -> Result<bool, Fail> {
     let words = words_of(alloc, GIVEN)?;
     let check = words_of(alloc, "check c o m")?;
@@ -33,12 +33,12 @@ fn meet<R: Threads + Sync>(rt: &R, alloc: Global) -> Result<bool, Fail> {
     let mut shelf = shelf_of(alloc, GIVEN, "-")?;
     let have_met = replayed(rt, alloc, &words, &mut shelf, &mut out);
     let is_same = run_plain(alloc, &check, &mut shelf, &mut out) == 0;
-    let told = b"turns 3 entries 4 losses 0 without 0\nsame\n".as_slice();
+    let told = b"turns 5 entries 8 losses 0 without 0\nsame\n".as_slice();
     Ok(have_met && is_same && out.taken() == told)
 }
 
 #[test]
-fn two_callers_and_the_turn_beside_them_meet(rt: HostRuntime) -> Result<(), Fail> {
+fn two_callers_and_the_turn_beside_them_meet_in_each_round(rt: HostRuntime) -> Result<(), Fail> {
     assert!(rt; meet(&rt, rt.alloc())?);
     Ok(())
 }
