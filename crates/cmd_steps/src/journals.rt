@@ -24,7 +24,7 @@ pub struct Judged {
 
 /// The history that the bytes are the journal of, folded, where it tells the chain's own numbers. The
 /// bytes are given back before it is folded.
-#[tactic(auto, using(cmd_spec::proofs::JournalLemmas::can_fold, cmd_spec::proofs::JournalLemmas::lines_are_few, cmd_spec::proofs::JournalLemmas::cut_at_ends,))]
+#[tactic(auto, using(cmd_spec::proofs::JournalLemmas::can_fold, cmd_spec::proofs::JournalLemmas::lines_are_few))]
 pub(crate) fn judge_journal<'a>(
     alloc: Global,
     text: Vec<u8>,

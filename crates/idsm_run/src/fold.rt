@@ -13,6 +13,7 @@ use std::alloc::Global;
 
 /// Folds a journal, and returns the line that tells what was folded: the messages of each turn that sends some are
 /// written by one append, and then the text of the event memory. All memory is taken before the first file is made.
+#[tactic(auto, using(cmd_spec::proofs::JournalLemmas::cut_at_ends))]
 pub(crate) fn fold<'a, H: Shelf>(
     alloc: Global,
     names: FoldNames<'a>,
