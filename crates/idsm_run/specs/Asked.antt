@@ -5,7 +5,7 @@ use Rattle.idsm_run.specs.Replayed.{Replays}
 use Rattle.memory_disk.specs.Disks.{Shown}
 use Rattle.cmd_disk.specs.Runs.{RunsOnDisk}
 use Rattle.cmd_messages.specs.Reported.{Reports}
-use Rattle.cmd_steps.specs.Words.{Global, Ran, are_read_by_clap, asks, command_of, disk_of, plain_of, replay_of, report_of}
+use Rattle.cmd_steps.specs.Words.{Global, Puts, Ran, are_read_by_clap, asks, command_of, disk_of, plain_of, replay_of, report_of}
 
 -- a run over a disk, of a replay, of a report, or of a command that needs files alone
 pub data TopCall : Type 0 where
@@ -37,11 +37,10 @@ pub record RunsOnMade {D : Type 0} (Makes : String Global → D → Type 0) (sho
   pub left : D
   pub runs : RunsOnDisk shows (disk_of (command_of words)) status old new before after disk left
 
--- memory for the name was refused, and nothing was touched
+-- memory for the name was refused: that was put, and no file was touched
 pub record WantsName (status : ℕ) (old new : Shelved) (before after : Heard) : Type 0 where
-  pub is : status ≡ 8
+  pub puts : Puts (codes "no memory\n") 8 status before after
   pub shelf : new ≡ old
-  pub sink : after ≡ before
 
 -- what a run does that answers something beside its status, of which nothing more is told
 pub record RunsApart {M : Type 0} (Runs : Option M → ℕ → Shelved → Shelved → Heard → Heard → Type 0) (status : ℕ) (old new : Shelved)

@@ -5,7 +5,7 @@ ghost use Rattle.idsm_run.specs.Asked.{RunsAs, name_of_disk, on_disk, top_call};
 
 use crate::run::{run_plain, run_replay};
 use cmd_disk::run_keep;
-use cmd_files::NO_MEMORY;
+use cmd_files::{NO_MEMORY, say};
 use cmd_messages::run_report;
 use cmd_words::{is_keep, is_replay, is_report};
 use ids_outside::{Shelf, Sink};
@@ -58,7 +58,7 @@ fn run_on_disk<H: Shelf, K: Sink, D: Disk + Drop, F: FnOnce(String) -> D + Drop>
         (H.shows shelf.old) (H.shows shelf.new) (K.hears out.old) (K.hears out.new) }
 {
     let Ok(name) = String::from_str(alloc, second(words)) else {
-        return NO_MEMORY;
+        return say(b"no memory\n", NO_MEMORY, out);
     };
     let (status, _disk) = run_keep(alloc, words, shelf, out, disk_of(name));
     status
