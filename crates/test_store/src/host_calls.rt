@@ -1,5 +1,5 @@
-//! A host of one file and of standard output, which notes each call, gives and takes a few bytes at a time, and fails the
-//! call of one number.
+//! A host of one file and of standard output, which notes each call, gives and takes a few bytes at a time, and fails or
+//! interrupts the call of one number.
 ghost use Rattle.std.specs.Prelude.{◌≡◌, ◌≤◌, length, IfOk};
 
 use std::alloc::{Allocator, Global};
@@ -15,33 +15,65 @@ use std::rt::Files;
 pub struct Noted {
     /// The bytes of the file, or of standard output.
     pub bytes: Vec<u8>,
-    /// A word for each call: `r`, `a`, `c` or `d` opens a file to read, to append, to create or as a disk, `@N` seeks,
-    /// `R` reads, `W` writes, `S` syncs.
+    /// A word for each call. `r`, `a`, `c`, `d` or `m` opens the file of the name behind it to read, to append, to create,
+    /// as a disk, or to make one. `@N` seeks, `R` reads, `W` writes, `S` syncs.
     pub notes: String,
-    /// How many calls were made, and the number of the one that fails, from 0.
+    /// How many calls were made, and how many of them were reads and writes.
     pub calls: u64,
-    fails: u64,
+    pub moves: u64,
+    fault: Fault,
     /// The most bytes that a call gives or takes.
     most: usize,
+    /// Why the file cannot be opened as a disk.
+    no_disk: ErrorKind,
+}
+
+/// What befalls the host's calls.
+#[derive(Clone, Copy, PartialEq)]
+pub enum Fault {
+    Nothing,
+    /// The call of this number fails, from 0.
+    Call(u64),
+    /// The read or write of this number is interrupted, from 0.
+    Interrupt(u64),
 }
 
 impl Noted {
-    pub fn new(alloc: Global, fails: u64, most: usize) -> Noted {
+    pub fn new(
+        alloc: Global,
+        bytes: Vec<u8>,
+        no_disk: ErrorKind,
+        fault: Fault,
+        most: usize,
+    ) -> Noted {
         Noted {
-            bytes: Vec::new(alloc),
+            bytes,
             notes: String::new(alloc),
             calls: 0,
-            fails,
+            moves: 0,
+            fault,
             most,
+            no_disk,
         }
     }
 
     /// Notes a call, and fails where it has the number.
     fn note<D: Display + Drop>(&mut self, call: D) -> io::Result<()> {
-        let fails = self.calls == self.fails;
+        let fails = self.fault == Fault::Call(self.calls);
         self.calls = self.calls.saturating_add(1);
-        if write!(self.notes, "{call} ").is_err() || fails {
+        if write!(self.notes, "{call}").is_err() || fails {
             return refused();
+        }
+        Ok(())
+    }
+
+    /// Notes a read or a write, and interrupts it where it has the number.
+    fn note_move(&mut self, call: &str) -> io::Result<()> {
+        let is_interrupted = self.fault == Fault::Interrupt(self.moves);
+        self.moves = self.moves.saturating_add(1);
+        self.note(call)?;
+        if is_interrupted {
+            return Err(io::Error::from(ErrorKind::Interrupted));
         }
         Ok(())
     }
@@ -50,7 +82,7 @@ impl Noted {
     fn put(&mut self, at: usize, piece: &[u8]) -> io::Result<usize>
         ensures { IfOk result (λ count. count ≤ length piece.now) }
     {
-        self.note("W")?;
+        self.note_move("W ")?;
         let count = piece.len().min(self.most);
         let end = at.saturating_add(count);
         if self.bytes.len() < end {
@@ -69,6 +101,7 @@ pub struct Host {
     noted: Rc<RefCell<Noted>>,
     at: usize,
     appends: bool,
+    writes: bool,
 }
 
 fn refused<T>() -> io::Result<T> {
@@ -82,6 +115,7 @@ impl Host {
             noted,
             at: 0,
             appends: true,
+            writes: true,
         }
     }
 
@@ -93,17 +127,21 @@ impl Host {
     }
 
     /// Notes how the file is opened, and empties it where that is asked.
-    fn note_open(&self, how: &OpenOptions) -> io::Result<()> {
+    fn note_open(&self, how: &OpenOptions, path: &str) -> io::Result<()> {
         let word = match (how.asks_read(), how.asks_write(), how.asks_append()) {
             (true, false, false) => "r",
             (false, true, false) => "c",
             (false, false, true) => "a",
+            _ if how.asks_create() => "m",
             _ => "d",
         };
         let mut noted = self.noted()?;
-        noted.note(word)?;
+        noted.note(format_args!("{word}:{path} "))?;
         if how.asks_truncate() {
             noted.bytes.clear();
+        }
+        if word == "d" {
+            return Err(io::Error::from(noted.no_disk));
         }
         Ok(())
     }
@@ -113,7 +151,7 @@ impl Host {
         ensures { IfOk result (λ count. count ≤ length buf.old) }
     {
         let mut noted = self.noted()?;
-        noted.note("R")?;
+        noted.note_move("R ")?;
         let left = noted.bytes.get(self.at..).unwrap_or(&[]);
         let count = left.len().min(buf.len()).min(noted.most);
         buf[..count].copy_from_slice(&left[..count]);
@@ -124,6 +162,9 @@ impl Host {
     fn put(&self, piece: &[u8]) -> io::Result<usize>
         ensures { IfOk result (λ count. count ≤ length piece.now) }
     {
+        if !self.writes {
+            return refused();
+        }
         let mut noted = self.noted()?;
         let at = if self.appends {
             noted.bytes.len()
@@ -159,7 +200,7 @@ impl Seek for Host {
         let SeekFrom::Start(at) = to else {
             return refused();
         };
-        self.noted()?.note(format_args!("@{at}"))?;
+        self.noted()?.note(format_args!("@{at} "))?;
         self.at = at as usize;
         Ok(at)
     }
@@ -175,7 +216,7 @@ impl OpenFile for Host {
     }
 
     fn sync_all(&self) -> io::Result<()> {
-        self.noted()?.note("S")
+        self.noted()?.note("S ")
     }
 
     fn sync_data(&self) -> io::Result<()> {
@@ -188,9 +229,9 @@ impl Files for Host {
 
     type Dir = Host;
 
-    fn open_file(&self, how: &OpenOptions, _path: &str) -> io::Result<Host> {
+    fn open_file(&self, how: &OpenOptions, path: &str) -> io::Result<Host> {
         how.check()?;
-        self.note_open(how)?;
+        self.note_open(how, path)?;
         let Ok(noted) = self.noted.clone() else {
             return refused();
         };
@@ -198,6 +239,7 @@ impl Files for Host {
             noted,
             at: 0,
             appends: how.asks_append(),
+            writes: how.asks_write() || how.asks_append(),
         })
     }
 
