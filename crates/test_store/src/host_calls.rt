@@ -163,7 +163,7 @@ impl Host {
         ensures { IfOk result (λ count. count ≤ length piece.now) }
     {
         if !self.writes {
-            return refused();
+            return Err(io::Error::from(ErrorKind::Unsupported));
         }
         let mut noted = self.noted()?;
         let at = if self.appends {
