@@ -1,22 +1,26 @@
 -- What the callers of the first program do.
-use Rattle.std.specs.Prelude.{◌≡◌, ℕ, ◌+◌, ◌<◌, true, List, length, slice_index_or}
-use Rattle.report_api.specs.Terms.{is_sensor}
+use Rattle.std.specs.Prelude.{◌≡◌, ◌+◌, true, List}
+use Rattle.std.specs.List.{All}
 use Rattle.idsm_api.specs.declared.caller.Caller.{Caller}
-use Rattle.idsm_api.specs.{IsSameCaller, log_of, no_calls, IsFitCaller, caller_shares}
+use Rattle.idsm_api.specs.{AreSameCallers, IsFitCaller, IsSameCaller, log_of, may_report, no_calls}
 
--- the caller made no call yet, and a sensor reports event 0
+-- the caller made no call yet, and may report event 0
 pub record IsReady (caller : Caller) : Type 0 where
   pub fits : IsFitCaller caller
   pub none : log_of caller ≡ no_calls
-  pub known : is_sensor (caller_shares caller).terms 0 ≡ true
+  pub known : may_report caller 0 ≡ true
 
--- it made one report, which was accepted or lost
+-- its one report was accepted or lost
+abbrev pub IsCounted : Caller → Type 0
+IsCounted caller = (log_of caller).accepted + (log_of caller).lost ≡ 1
+
+-- it made one report
 pub record HasReported (old new : Caller) : Type 0 where
   pub fits : IsFitCaller new
   pub same : IsSameCaller old new
-  pub one : (log_of new).accepted + (log_of new).lost ≡ 1
+  pub one : IsCounted new
 
 -- each of them did so
 pub record HaveReported (olds news : List Caller) : Type 0 where
-  pub as_many : length news ≡ length olds
-  pub each : (i : ℕ) (d : Caller) → i < length news → HasReported (slice_index_or olds i d) (slice_index_or news i d)
+  pub same : AreSameCallers olds news
+  pub each : All IsCounted news

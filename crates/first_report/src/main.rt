@@ -4,11 +4,12 @@
 //! Layer 11, the library in use. Over `idsm_api`.
 #![tactic(auto)]
 
-ghost use Rattle.std.specs.Prelude.{◌≡◌, ◌+◌, All, IfOk, IfSome};
+ghost use Rattle.std.specs.Prelude.{◌≡◌, ◌+◌, All, IfErr, IfOk};
+ghost use Rattle.config_json.specs.declared.fault.JsonFault.TheVariants.{NoMemory};
 ghost use Rattle.first_report.specs.Reporting.{HaveReported, HasReported, IsReady};
 
-use ids_types::EventIndex;
-use idsm_api::{Answer, Caller, Manager, Totals};
+use idsm_api::{Answer, Caller, EventIndex, JsonFault, Manager, Totals};
+use std::alloc::AllocError;
 use std::thread::Threads;
 use std::{io, thread};
 
@@ -35,30 +36,47 @@ fn report_all<R: Threads + Sync>(rt: &R, callers: &mut [Caller])
     thread::for_each_mut(rt, callers, 2, &report);
 }
 
-/// Prints what a turn sends of the reports, and answers what became of them: each was taken, or lost and counted.
-fn run<R: Threads + Sync + Print + AllocGlobal>(rt: &R) -> io::Result<Option<Totals>>
-    ensures { IfOk result (λ counted. IfSome counted (λ totals. totals.entries + totals.lost_events ≡ 2)) }
+/// What was sent, and what became of the reports.
+#[derive(Drop)]
+struct Outcome {
+    sent: Vec<u8>,
+    totals: Totals,
+}
+
+/// Has both callers report, and sends what a turn and the close make of that. Each report was taken, or lost and counted.
+fn run<R: Threads + Sync + AllocGlobal>(rt: &R) -> Result<Outcome, JsonFault>
+    ensures counted { IfOk result (λ outcome. outcome.totals.entries + outcome.totals.lost_events ≡ 2) }
+    ensures fault { IfErr result (λ fault. fault ≡ NoMemory) }
 {
-    let Ok(setup) = Manager::make(rt.alloc(), CONFIG) else {
-        return Ok(None);
-    };
+    let setup = Manager::make(rt.alloc(), CONFIG)?;
     let mut manager = setup.manager;
     let mut callers = setup.callers;
     report_all(rt, &mut callers);
     let mut buffer = [0; ROOM];
+    let mut sent = Vec::new(rt.alloc());
     let turn = manager.turn(1, &mut buffer);
-    let sent = hex::encode(rt.alloc(), &buffer[..turn.told.bytes as usize])?;
-    println!(rt; "sent {sent}")?;
+    let Answer::Done = turn.answer else {
+        unreachable!()
+    };
+    sent.extend_from_slice(&buffer[..turn.told.bytes as usize])?;
     let closed = manager.close(&mut callers, 2, &mut buffer);
-    match closed.answer {
-        Answer::Done => Ok(Some(closed.totals)),
-        _ => Ok(None),
-    }
+    let Answer::Done = closed.answer else {
+        unreachable!()
+    };
+    sent.extend_from_slice(&buffer[..closed.told.bytes as usize])?;
+    Ok(Outcome {
+        sent,
+        totals: closed.totals,
+    })
 }
 
 fn main(rt: HostRuntime) -> io::Result<()> {
-    if let Some(totals) = run(&rt)? {
-        println!(rt; "taken {}, lost {}", totals.entries, totals.lost_events)?;
-    }
-    Ok(())
+    let Ok(outcome) = run(&rt) else {
+        return Err(io::Error::from(AllocError));
+    };
+    println!(rt; "sent {}", hex::encode(rt.alloc(), &outcome.sent[..])?)?;
+    println!(rt;
+        "taken {}, lost {}",
+        outcome.totals.entries, outcome.totals.lost_events
+    )
 }

@@ -3,19 +3,14 @@ use Rattle.idsm_api.proofs.Names.{common_steps, ◌≡◌, ℕ, ◌∙◌, List,
 use Rattle.law_closing.proofs.{or_at}
 use Rattle.main_function.specs.declared.rest.Totals.{Totals}
 use Rattle.report_queue.proofs.{at_map_back}
-use Rattle.idsm_api.specs.{AreAllCallers, AreCounted, IsSameCaller, passes_of, IsFitManager}
-
--- these are one by one the same callers, each between two calls
-pub record AreSameCallers (olds news : List Caller) : Type 0 where
-  pub as_many : length news ≡ length olds
-  pub each : (i : ℕ) (d : Caller) → i < length news
-      → IsFitCaller (slice_index_or news i d) × IsSameCaller (slice_index_or olds i d) (slice_index_or news i d)
+use Rattle.idsm_api.specs.declared.answer.Answer.{Answer}
+use Rattle.idsm_api.specs.declared.answer.Answer.TheVariants.{SmallBuffer, Spent, TickBack, TickTooLarge}
+use Rattle.idsm_api.specs.{AreAllCallers, AreCounted, AreSameCallers, passes_of, IsFitManager, most_bytes, MayTurn, Refuses}
 
 -- all callers of a manager are still that after calls of their own
 pub called_on : {manager : Manager} {olds news : List Caller} → AreAllCallers manager olds → AreSameCallers olds news → AreAllCallers manager news
 called_on {manager} {olds} {news} are same = record {
   all = same.as_many ∙ are.all;
-  room = omega (arith, same.as_many, are.room);
   each = λ i caller at.
       let low = at_length news i caller at in
       let was = there olds i (omega (arith, same.as_many, low)) in
@@ -52,7 +47,15 @@ counted callers totals counts = record {
 }
 
 -- the output has just the room for the messages of a turn
-pub room_is : {manager : Manager} → IsFitManager manager → (room_of manager.manager.out).sent ≡ manager.most
+pub room_is : {manager : Manager} → IsFitManager manager → (room_of manager.manager.out).sent ≡ most_bytes (manager_shares manager)
 room_is fit =
     let mine = fit.is_manager in
-    rw (mine.roomy.out_room.sent_room, mine.largest_is, mine.positions_are, mine.events_are, fit.most_is) refl
+    rw (mine.roomy.out_room.sent_room, mine.largest_is, mine.positions_are, mine.events_are) refl
+
+-- a turn that may be made is not refused
+pub never_refused : {tick room : ℕ} {manager : Manager} (answer : Answer) → MayTurn tick manager room → Refuses tick manager room answer → ⊥
+never_refused SmallBuffer may low = omega (arith, may.can.room, low)
+never_refused Spent may spent = omega (arith, may.can.few, spent.1)
+never_refused TickBack may back = omega (arith, may.later, back.1)
+never_refused TickTooLarge may large = omega (arith, may.within, large.2)
+never_refused other may none = none

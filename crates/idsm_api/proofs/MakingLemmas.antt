@@ -1,5 +1,5 @@
 -- What is made is fit.
-use Rattle.idsm_api.proofs.Names.{◌<◌, slice_index_or, ◌≡◌, ℕ, ◌≤◌, ◌∙◌, List, length, refl, sym, ap, length-map, All, Parts, Pass, Shared, Caller, Manager as IdsManager, caller_shares, chain_events, chain_kept, chain_stands, manager_shares, at_length, there, Buffer, queue_seats, sizes_of, PassMemo, at_map, vec_capacity, most_sent, IsNewManager}
+use Rattle.idsm_api.proofs.Names.{◌<◌, slice_index_or, ◌≡◌, ℕ, ◌∙◌, List, length, refl, sym, ap, length-map, All, Parts, Pass, Shared, Caller, Manager as IdsManager, caller_shares, chain_events, chain_kept, chain_stands, manager_shares, at_length, there, Buffer, queue_seats, sizes_of, PassMemo, at_map, most_sent, IsNewManager}
 use Rattle.law_closing.proofs.PlaceLemmas.{or_at}
 use Rattle.main_function.specs.declared.manager.Manager.{Manager}
 use Rattle.event_chain.specs.Chained.{Chained}
@@ -16,13 +16,15 @@ module _ {config : Parts} {shared : Shared} {passes : List Pass} {m : Manager (C
         let caller = there callers i low in
         rw (or_at callers i d caller.0 caller.1) (new.making.each i caller.0.pass (rw are at (at_map (λ (c : Caller). c.pass) callers i caller.0 caller.1)))
 
+    -- they are as many as the configuration has
+    pub as_many : length callers ≡ config.callers
+    as_many = sym (length-map callers (λ (c : Caller). c.pass)) ∙ ap length are ∙ new.making.all_made
+
     -- they are all callers of the manager
     pub all_callers : All (λ caller. caller_shares caller ≡ shared) callers → (manager : IdsManager) → manager_shares manager ≡ shared
-        → length callers ≤ vec_capacity manager.passes → AreAllCallers manager callers
-    all_callers shares manager its room = record {
-      all = sym (length-map callers (λ (c : Caller). c.pass)) ∙ ap length are ∙ new.making.all_made ∙ sym new.making.callers_are
-          ∙ ap (λ (s : Shared). queue_seats s.queue) (sym its);
-      room = room;
+        → AreAllCallers manager callers
+    all_callers shares manager its = record {
+      all = as_many ∙ sym new.making.callers_are ∙ ap (λ (s : Shared). queue_seats s.queue) (sym its);
       each = λ i caller at.
           let low = at_length callers i caller at in
           let is = or_at callers i caller caller at in

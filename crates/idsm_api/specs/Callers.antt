@@ -1,5 +1,5 @@
 -- What contracts see of a caller: which one it is, and what it did so far.
-use Rattle.std.specs.Prelude.{◌≡◌, ℕ, ◌+◌, ◌<◌, ◌≤◌, ◌^◌, false, Some, None, List, [], ◌∷◌, ◌++◌, length, sum_by, vec_capacity}
+use Rattle.std.specs.Prelude.{◌≡◌, ℕ, ◌+◌, ◌<◌, ◌^◌, Bool, false, Some, None, List, [], ◌∷◌, ◌++◌, length, slice_index_or, sum_by}
 use mathlib.Core.Option.{some}
 use lib.ListN.{get_elem?}
 use Rattle.ids_types.specs.declared.entry.Act.{Act}
@@ -20,6 +20,10 @@ use Rattle.idsm_api.specs.Roles.{IsFitCaller, caller_shares, manager_shares}
 -- which caller it is, from 0
 abbrev pub number_of : Caller → ℕ
 number_of caller = (pass_memo caller.pass).number
+
+-- whether it may report event k: one that a sensor reports
+abbrev pub may_report : Caller → ℕ → Bool
+may_report caller k = is_sensor (caller_shares caller).terms k
 
 -- what a caller did so far
 pub record CallLog : Type 0 where
@@ -66,6 +70,12 @@ pub record IsSameCaller (old new : Caller) : Type 0 where
   pub shares : caller_shares new ≡ caller_shares old
   pub number : number_of new ≡ number_of old
 
+-- these are one by one the same callers, each between two calls
+pub record AreSameCallers (olds news : List Caller) : Type 0 where
+  pub as_many : length news ≡ length olds
+  pub each : (i : ℕ) (d : Caller) → i < length news
+      → IsFitCaller (slice_index_or news i d) × IsSameCaller (slice_index_or olds i d) (slice_index_or news i d)
+
 -- the context is all of these bytes, and there is none where these are none
 abbrev pub HasAll : List ℕ → Carried (List ℕ) → Type 0
 HasAll bytes Absent = bytes ≡ []
@@ -82,7 +92,7 @@ ReportLogs given old Done new = (context : Carried (List ℕ)) × HasAll given.b
 ReportLogs given old WithoutContext new =
     (numbers : List ℕ) × (0 < length given.bytes) × (new ≡ with_missing (report_of given (Missing numbers)) (log_of old))
 ReportLogs given old LostEvent new = new ≡ with_lost (log_of old)
-ReportLogs given old UnknownEvent new = (is_sensor (caller_shares old).terms given.event.0 ≡ false) × (new ≡ log_of old)
+ReportLogs given old UnknownEvent new = (may_report old given.event.0 ≡ false) × (new ≡ log_of old)
 ReportLogs given old ZeroCount new = (given.count ≡ 0) × (new ≡ log_of old)
 ReportLogs given old Spent new = (length (log_of old).calls ≡ 2 ^ 40) × (new ≡ log_of old)
 ReportLogs given old other new = ⊥
@@ -92,10 +102,9 @@ pub record ReportDoes (given : Given) (old : Caller) (answer : Answer) (new : Ca
   pub same : IsSameCaller old new
   pub logs : ReportLogs given old answer (log_of new)
 
--- these are all callers of the manager, which has room to take them back: caller 0 first, each between two calls
+-- these are all callers of the manager: caller 0 first, each between two calls
 pub record AreAllCallers (manager : Manager) (callers : List Caller) : Type 0 where
   pub all : length callers ≡ queue_seats (manager_shares manager).queue
-  pub room : length callers ≤ vec_capacity manager.passes
   pub each : (i : ℕ) (caller : Caller) → get_elem? callers i ≡ some caller
       → IsFitCaller caller × (caller_shares caller ≡ manager_shares manager) × (number_of caller ≡ i)
 

@@ -1,5 +1,5 @@
 -- A caller and a manager with what they share, and what holds of each between two calls.
-use Rattle.std.specs.Prelude.{◌≡◌, ℕ, List, [], length, reverse}
+use Rattle.std.specs.Prelude.{◌≡◌, ℕ, ◌≤◌, List, [], length, reverse, vec_capacity}
 use Rattle.std.specs.Arc.{arc_value}
 use Rattle.ids_types.specs.Turns.{Turn}
 use Rattle.ids_config.specs.Parts.{Parts}
@@ -8,7 +8,7 @@ use Rattle.filter_chain.specs.Turning.{most_sent}
 use Rattle.filter_aggregate.specs.Account.{all_kept}
 use Rattle.event_chain.specs.Chained.{Chained}
 use Rattle.event_chain.specs.Standing.{Stands as ChainStands}
-use Rattle.report_queue.specs.Parts.{queue_positions}
+use Rattle.report_queue.specs.Parts.{queue_positions, queue_seats}
 use Rattle.report_api.specs.Passes.{IsPassOf, sizes_of}
 use Rattle.report_api.specs.declared.shared.Shared.{Shared}
 use Rattle.main_function.specs.Standing.{IsManagerOf, Stands, largest_size, last_of}
@@ -47,10 +47,12 @@ most_bytes shared = most_sent (largest_size (sizes_of shared)) (queue_positions 
 abbrev pub IsFitCaller : Caller → Type 0
 IsFitCaller caller = IsPassOf (caller_shares caller) caller.pass
 
--- the manager is the one of what it shares, between two calls, and its numbers are those of what it shares
+-- the manager is the one of what it shares, between two calls. Its numbers are those of what it shares, and it has room to
+-- take all callers back
 pub record IsFitManager (port : Manager) : Type 0 where
   pub is_manager : IsManagerOf chain_events chain_kept (manager_shares port) port.manager
   pub most_is : port.most ≡ most_bytes (manager_shares port)
   pub classes_are : port.classes ≡ length (sizes_of (manager_shares port))
   pub last_is : port.last ≡ last_of port.manager
   pub none_back : port.passes.items ≡ []
+  pub room_for_all : queue_seats (manager_shares port).queue ≤ vec_capacity port.passes

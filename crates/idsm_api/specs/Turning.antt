@@ -9,7 +9,7 @@ use Rattle.idsm_api.specs.declared.answer.Answer.{Answer}
 use Rattle.idsm_api.specs.declared.answer.Answer.TheVariants.{Done, Spent, TickBack, TickTooLarge, SmallBuffer}
 use Rattle.idsm_api.specs.declared.manager.Manager.{Manager}
 use Rattle.idsm_api.specs.declared.turning.Told.{Told}
-use Rattle.idsm_api.specs.Roles.{chain_kept, chain_stands, manager_shares}
+use Rattle.idsm_api.specs.Roles.{chain_kept, chain_stands, manager_shares, most_bytes}
 use Rattle.idsm_api.specs.Writing.{IsWritten}
 
 -- what is told where no turn was made
@@ -38,7 +38,7 @@ pub record NothingMade (old : Manager) (buffer : List ℕ) (new : Manager) (afte
 
 -- a buffer of so many bytes is large enough, and the manager may make a turn more
 pub record CanTurn (old : Manager) (bytes : ℕ) : Type 0 where
-  pub room : old.most ≤ bytes
+  pub room : most_bytes (manager_shares old) ≤ bytes
   pub few : turns_of old.manager < 2 ^ 62
 
 -- a turn of this tick may be made
@@ -49,8 +49,8 @@ pub record MayTurn (tick : ℕ) (old : Manager) (room : ℕ) : Type 0 where
 
 -- a turn of this tick is refused so, and why
 abbrev pub Refuses : ℕ → Manager → ℕ → Answer → Type 0
-Refuses tick old room SmallBuffer = room < old.most
-Refuses tick old room Spent = (old.most ≤ room) × (2 ^ 62 ≤ turns_of old.manager)
+Refuses tick old room SmallBuffer = room < most_bytes (manager_shares old)
+Refuses tick old room Spent = (most_bytes (manager_shares old) ≤ room) × (2 ^ 62 ≤ turns_of old.manager)
 Refuses tick old room TickBack = CanTurn old room × (tick < last_of old.manager)
 Refuses tick old room TickTooLarge = CanTurn old room × (last_of old.manager ≤ tick) × (2 ^ 62 < tick)
 Refuses tick old room other = ⊥

@@ -40,6 +40,7 @@ pub(crate) fn take_passes(callers: &mut Vec<Caller>, passes: &mut Vec<Pass>)
     requires room { length callers.old.items ≤ vec_capacity passes.old }
     ensures passes { passes.new.items ≡ passes_of callers.old.items }
     ensures empty { callers.new.items ≡ [] }
+    ensures room { vec_capacity passes.new ≡ vec_capacity passes.old }
 {
     while let Some(caller) = callers.pop() {
         passes.push_reserved(caller.pass);

@@ -12,6 +12,7 @@
 mod answer;
 mod caller;
 mod closing;
+mod laws;
 mod making;
 mod manager;
 mod number;
@@ -24,6 +25,10 @@ mod writing;
 pub use answer::Answer;
 pub use caller::Caller;
 pub use closing::CloseAnswer;
+pub use config_json::JsonFault;
+pub use ids_config::Config;
+pub use ids_types::{EventIndex, Mode, NoMemory, Stamp};
+pub use laws::called_on;
 pub use main_function::Totals;
 pub use making::Setup;
 pub use manager::Manager;

@@ -59,6 +59,7 @@ impl Manager {
         ensures told { TurnTells tick self.old buffer.old result.answer self.new buffer.new }
         ensures numbers { result.told ≡ told_by result.answer self.new.manager.out }
         ensures within { result.told.bytes ≤ length buffer.new }
+        ensures made { MayTurn tick self.old (length buffer.old) → result.answer ≡ Done }
         ensures callers { (callers : List CallerValue) → AreAllCallers self.old callers → AreAllCallers self.new callers }
     {
         match self.check(tick, buffer.len()) {
@@ -79,6 +80,8 @@ impl Manager {
         ensures told { CloseTells tick self.old callers.old.items buffer.old result.answer self.new callers.new.items buffer.new }
         ensures numbers { result.told ≡ told_by result.answer self.new.manager.out }
         ensures counts { CountsTell result.answer callers.old.items result.totals }
+        ensures within { result.told.bytes ≤ length buffer.new }
+        ensures made { MayTurn tick self.old (length buffer.old) → result.answer ≡ Done }
     {
         match self.check(tick, buffer.len()) {
             Ok(()) => self.finish(callers, tick, buffer),
@@ -113,6 +116,7 @@ impl Manager {
         ensures answer { result.answer ≡ Done }
         ensures told { result.told ≡ told_in self.new.manager.out }
         ensures counts { AreCounted callers.old.items result.totals }
+        ensures within { result.told.bytes ≤ length buffer.new }
     {
         self.last = tick;
         take_passes(callers, &mut self.passes);

@@ -1,4 +1,4 @@
-use Rattle.idsm_api.proofs.Names.{◌≡◌, ◌∷◌, [], arith, common_steps, ◌++◌, reverse, Caller, append_assoc, map_push, reverse-append}
+use Rattle.idsm_api.proofs.Names.{◌≡◌, ◌∙◌, ◌∷◌, [], arith, common_steps, ◌++◌, reverse, Caller, append_assoc, map_push, reverse-append}
 use Rattle.idsm_api.specs.Making.{passes_of}
 use Rattle.idsm_api.proofs.closing.take_passes.Goals as goal
 
@@ -12,4 +12,5 @@ loop-caller-preserved c =
     record {
       taken = rw (c.push_reserved.ensures.items, reverse-append before (caller.pass ∷ []), ← append_assoc (passes_of left) (caller.pass ∷ []) (reverse before)) was;
       room = grind (arith, common_steps, is, c.loop-caller.invariant.room, c.push_reserved.ensures.items);
+      kept = c.push_reserved.ensures.capacity ∙ c.loop-caller.invariant.kept;
     }

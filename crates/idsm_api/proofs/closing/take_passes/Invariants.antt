@@ -7,6 +7,7 @@ abbrev pub invariant-loop-caller : goal.invariant-loop-caller
 invariant-loop-caller l = record {
   taken : passes_of l.callers.items ++ reverse l.passes.items ≡ passes_of l.initial.callers.items;
   room : length l.passes.items + length l.callers.items ≤ vec_capacity l.passes;
+  kept : vec_capacity l.passes ≡ vec_capacity l.initial.passes;
 }
 
 abbrev pub decreases-loop-caller : goal.decreases-loop-caller

@@ -1,7 +1,10 @@
-use Rattle.idsm_api.proofs.Names.{◌+◌, length, rules, refl, sym, ap, arith, length-map, Output}
+use Rattle.idsm_api.proofs.Names.{◌+◌, ◌≤◌, length, rules, refl, sym, ap, arith, length-map, Output, manager_shares, queue_seats, vec_capacity}
 use Rattle.idsm_api.specs.{told_in}
 use Rattle.idsm_api.proofs.ClosingLemmas.{all_passes, counted, room_is}
 use Rattle.idsm_api.proofs.manager.Manager.finish.Goals as goal
+
+pub take_passes-requires-clause-room : goal.take_passes-requires-clause-room
+take_passes-requires-clause-room c = omega (arith, c.requires.callers.all, c.requires.fit.room_for_all)
 
 pub close-requires-clause-passes : goal.close-requires-clause-passes
 close-requires-clause-passes c =
@@ -15,8 +18,11 @@ hand_over-turned-requires-clause-room c =
 pub returns : goal.returns
 returns c =
     let left = rw (c.deref.ensures, c.in-Ok.is, c.take_passes.ensures.passes) at c.close.follows.holds-at-none in
+    let room : queue_seats (manager_shares c.args.self.now).queue ≤ vec_capacity c.close.new.passes =
+    omega (arith, c.requires.fit.room_for_all, c.take_passes.ensures.room, c.close.ensures.room) in
     record {
-      fit = assumption (left.0, c.requires.fit.most_is, c.requires.fit.classes_are, sym left.3.turned.last_is, c.in-Ok.ensures.ok);
+      fit = assumption (left.0, c.requires.fit.most_is, c.requires.fit.classes_are, sym left.3.turned.last_is, c.in-Ok.ensures.ok, room);
+      within = search rules;
       made = record {
         may = c.requires.may;
         closed = left.3;

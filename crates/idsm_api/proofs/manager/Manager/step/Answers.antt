@@ -10,7 +10,7 @@ pub returns : goal.returns
 returns c =
     let left = rw (c.deref.ensures, c.in-Ok.is) at c.turn.follows.holds-at-none in
     record {
-      fit = assumption (left.0, c.requires.fit.most_is, c.requires.fit.classes_are, sym left.2.last_is, c.requires.fit.none_back);
+      fit = assumption (left.0, c.requires.fit.most_is, c.requires.fit.classes_are, sym left.2.last_is, c.requires.fit.none_back, c.requires.fit.room_for_all);
       made = record { may = c.requires.may; turned = left.2; quick = left.3; same = refl; written = rw left.1 at c.hand_over.ensures.written };
       told = rw (c.hand_over.ensures.told, left.1) refl;
       within = search rules;
