@@ -1,10 +1,9 @@
 -- A step that changes one seat and leaves its ticket alone keeps what holds of a ring, where the numbers fit.
 use Rattle.ring_core.proofs.Names.{◌≡◌, ℕ, ◌+◌, ◌<◌, ◌≤◌, ◌⊎◌, true, List, length, set, arith, common_steps, length-set, count_by-le-length, LossWord, PermitWord, SeatView, seat_at, with_seat, IsRing, IsSeat, AreSeats, Holds, armed_count, calls_sum, Machine}
-use Rattle.ring_core.proofs.SeatLemmas.{one_if, live_is_made, apart_same, mark_same, sums_after, each_after, holders_stay}
+use Rattle.ring_core.proofs.SeatLemmas.{one_if, apart_same, mark_same, sums_after, each_after, holders_stay}
 
--- a live seat `old` that becomes `now` with its ticket, beside these vain claims and loss words
+-- a seat `old` that becomes `now` with its ticket, beside these vain claims and loss words
 pub record IsChange (m : Machine) (old now : SeatView) (over : ℕ) (loss0 loss1 : LossWord) : Type 0 where
-  pub live : old.live ≡ true
   pub in_order : IsSeat m.reaped m.word.claimed now
   pub ticket : now.held ≡ old.held
   pub either : (m.word.free ≡ 0) ⊎ (over ≡ 0)
@@ -27,10 +26,9 @@ module _ (m : Machine) (r : IsRing m) (i : ℕ) (now : SeatView) where
       grind (arith, length-set m.seats i now, each_after m.seats i now made (IsSeat m.reaped word.claimed) each in_order)
 
   -- the ring after it, with these vain claims and loss words
-  pub seat_sound : (over : ℕ) (loss0 loss1 : LossWord) → IsChange m (seat_at m.seats i) now over loss0 loss1
+  pub seat_sound : i < length m.seats → (over : ℕ) (loss0 loss1 : LossWord) → IsChange m (seat_at m.seats i) now over loss0 loss1
       → IsRing (record (with_seat m i now) { word = record m.word { over = over }; loss0 = loss0; loss1 = loss1 })
-  seat_sound over loss0 loss1 c =
-      let made = live_is_made m.seats i c.live in
+  seat_sound made over loss0 loss1 c =
       let sums = sums_after m.seats i now made in
       let few = count_by-le-length (λ (s : SeatView). s.armed) seats in
       let within : armed_count seats + over ≤ m.limit = grind (arith, c.within, length-set m.seats i now) in

@@ -12,7 +12,7 @@ module _ (m : Machine) (r : IsRing m) (i : ℕ) (is_armed : (seat_at m.seats i).
 
   vain_sound : m.word.free ≡ 0
       → IsRing (record (with_seat m i (record old { armed = false })) { word = record m.word { over = m.word.over + 1 } })
-  vain_sound full = seat_sound m r i (record old { armed = false }) (m.word.over + 1) m.loss0 m.loss1 (grind (arith, common_steps, r.seats.each i))
+  vain_sound full = seat_sound m r i (record old { armed = false }) made (m.word.over + 1) m.loss0 m.loss1 (grind (arith, common_steps, r.seats.each i))
 
   -- the seat gets the ticket `claimed`
   abbrev served : SeatView

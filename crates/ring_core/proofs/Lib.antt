@@ -14,7 +14,7 @@ pub mod Sizes
 pub mod Turns
 pub mod WordLemmas
 pub use Rattle.ring_core.proofs.Bounds.{small}
-pub use Rattle.ring_core.proofs.Nexts.{see_takes_next, see_waits_next, read_next, offer_takes_next, offer_misses_next, sweep_next, split_next, join_next}
+pub use Rattle.ring_core.proofs.Nexts.{see_takes_next, see_waits_next, read_next, offer_takes_next, offer_misses_next, sweep_next, split_next, join_next, resume_next}
 pub use Rattle.ring_core.proofs.Opens.{opens}
 pub use Rattle.ring_core.proofs.RingLaws.{word_packs, seen_packs, missed_field_falls, all_claimed, all_but_a_turn_reaped, armed_leaves_field, step_of_next}
 pub use Rattle.ring_core.proofs.Runs.{after_keeps, next_of_possible, next_keeps, one_more, run_stops}

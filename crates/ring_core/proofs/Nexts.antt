@@ -1,5 +1,5 @@
 -- The next state of each kind of step, from what its caller knows.
-use Rattle.ring_core.proofs.Names.{◌≡◌, ◌≢◌, ℕ, ◌+◌, ◌%◌, ◌<◌, ◌≤◌, true, false, Some, [], ◌∷◌, ◌++◌, length, refl, lt-ltb, le-leb, eq-eqb, ne_eqb, See, Read, Offer, Sweep, Split, Join, new_seat, seat_at, mark_at, loss_at, is_idle, offered_to, with_seat, with_loss, swept_clean, next, Machine}
+use Rattle.ring_core.proofs.Names.{◌≡◌, ◌≢◌, ℕ, ◌+◌, ◌%◌, ◌<◌, ◌≤◌, true, false, Some, [], ◌∷◌, ◌++◌, length, refl, lt-ltb, le-leb, eq-eqb, ne_eqb, See, Read, Offer, Sweep, Split, Join, Resume, new_seat, seat_at, mark_at, loss_at, is_idle, offered_to, with_seat, with_loss, swept_clean, next, Machine}
 use Rattle.ring_core.proofs.WordLemmas.{one_word, other_word}
 
 module _ (m : Machine) where
@@ -34,3 +34,7 @@ module _ (m : Machine) where
   pub join_next : (i : ℕ) → is_idle (seat_at m.seats i) ≡ true
       → next m (Join i) ≡ Some (with_seat m i (record (seat_at m.seats i) { live = false }))
   join_next i idle = rw idle refl
+
+  pub resume_next : (i : ℕ) → i < length m.seats → (seat_at m.seats i).live ≡ false
+      → next m (Resume i) ≡ Some (with_seat m i (record (seat_at m.seats i) { live = true }))
+  resume_next i here ended = rw (lt-ltb i (length m.seats) here, ended) refl

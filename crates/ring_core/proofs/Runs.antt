@@ -1,9 +1,9 @@
 -- What holds of a ring is kept by each step, and by each list of steps.
-use Rattle.ring_core.proofs.Names.{◌≡◌, ℕ, Bool, cond, ◌+◌, ◌<◌, true, Some, None, IfSome, is_some, List, [], ◌∷◌, ◌++◌, length, take, get_or, ◌∙◌, ap, zero, suc, arith, common_steps, take_more, Step, Look, Claim, Finish, See, Read, Offer, Mark, Sweep, Split, Join, HasSizes, possible, after, next, after_all, StopsAt, IsRing, Machine}
+use Rattle.ring_core.proofs.Names.{◌≡◌, ℕ, Bool, cond, ◌+◌, ◌<◌, true, Some, None, IfSome, is_some, List, [], ◌∷◌, ◌++◌, length, take, get_or, ◌∙◌, ap, zero, suc, arith, common_steps, take_more, Step, Look, Claim, Finish, See, Read, Offer, Mark, Sweep, Split, Join, Resume, HasSizes, possible, after, next, after_all, StopsAt, IsRing, Machine}
 use Rattle.ring_core.proofs.Claims.{claim_keeps}
 use Rattle.ring_core.proofs.Finishes.{finish_keeps}
 use Rattle.ring_core.proofs.Keeps.{see_keeps, read_keeps, offer_keeps}
-use Rattle.ring_core.proofs.Lives.{split_keeps, join_keeps, look_keeps, mark_keeps}
+use Rattle.ring_core.proofs.Lives.{split_keeps, join_keeps, resume_keeps, look_keeps, mark_keeps}
 use Rattle.ring_core.proofs.RingLaws.{step_of_next}
 
 -- each kind of step keeps what holds of a ring
@@ -19,6 +19,7 @@ after_keeps m r (Sweep zero) ok = grind (arith, common_steps)
 after_keeps m r (Sweep (suc kind)) ok = grind (arith, common_steps)
 after_keeps m r Split ok = split_keeps m r ok
 after_keeps m r (Join i) ok = join_keeps m r i ok
+after_keeps m r (Resume i) ok = resume_keeps m r i ok
 
 -- a step that is possible leads to the state after it
 pub next_of_possible : (m : Machine) (step : Step) → possible m step ≡ true → next m step ≡ Some (after m step)

@@ -1,6 +1,6 @@
 -- The ring as a machine: a state is its numbers, and each step is an equation between states.
 use Rattle.std.specs.Prelude.{◌≡◌, ℕ, Result, Ok, Err, ◌+◌, ◌-◌, ◌%◌, ◌^◌, Bool, true, false, ◌&&◌, not, is_some, is_none, nat_lt, nat_le, ◌==◌, if◌then◌else◌, List, [], ◌∷◌, ◌++◌, length, replicate, slice_index_or, slice_set, Option, Some, None, zero, suc}
-use Rattle.ring_core.specs.Names.{LossWord, SeatView, Ticket0, Step, Look, Claim, Finish, See, Read, Offer, Mark, Sweep, Split, Join, PermitWord}
+use Rattle.ring_core.specs.Names.{LossWord, SeatView, Ticket0, Step, Look, Claim, Finish, See, Read, Offer, Mark, Sweep, Split, Join, Resume, PermitWord}
 
 -- a state of the ring
 pub record Machine : Type 0 where
@@ -167,6 +167,7 @@ possible m (Mark i kind) = nat_lt kind 2 && may_mark kind (seat_at m.seats i)
 possible m (Sweep kind) = nat_lt kind 2
 possible m Split = nat_lt (length m.seats) m.limit
 possible m (Join i) = is_idle (seat_at m.seats i)
+possible m (Resume i) = nat_lt i (length m.seats) && not (seat_at m.seats i).live
 
 -- what each kind of step makes of a state
 abbrev pub after : Machine → Step → Machine
@@ -180,6 +181,7 @@ after m (Mark i kind) = with_loss (with_seat m i (marked kind (seat_at m.seats i
 after m (Sweep kind) = with_loss m kind (swept_clean (loss_at m kind))
 after m Split = record m { seats = m.seats ++ new_seat ∷ [] }
 after m (Join i) = with_seat m i (record (seat_at m.seats i) { live = false })
+after m (Resume i) = with_seat m i (record (seat_at m.seats i) { live = true })
 
 -- the state after a step, where the step is possible
 abbrev pub next : Machine → Step → Option Machine

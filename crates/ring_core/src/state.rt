@@ -105,6 +105,7 @@ impl RingState {
             Step::Sweep(kind) => self.sweep(kind),
             Step::Split => self.split(),
             Step::Join(seat) => self.join(seat),
+            Step::Resume(seat) => self.resume(seat),
         }
     }
 

@@ -13,6 +13,8 @@ pub enum Step {
     Sweep(u8),
     Split,
     Join(u8),
+    /// A seat that came back goes on.
+    Resume(u8),
 }
 
 /// The machine has no such step from its state.

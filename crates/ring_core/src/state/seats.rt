@@ -1,6 +1,6 @@
 //! The steps of those that put.
 
-ghost use Rattle.ring_core.specs.{StepAnswers, Look, Claim, Finish, Mark, Split, Join};
+ghost use Rattle.ring_core.specs.{StepAnswers, Look, Claim, Finish, Mark, Split, Join, Resume};
 
 use crate::seat::{SeatView, Ticket0};
 use crate::state::RingState;
@@ -103,6 +103,17 @@ impl RingState {
             live: false,
             ..view
         };
+        Ok(())
+    }
+
+    pub(crate) fn resume(&mut self, seat: u8) -> Result<(), NotPossible>
+        ensures { StepAnswers self.old (Resume seat) result self.new }
+    {
+        let view = self.seat(seat);
+        if self.seats.len() <= seat as usize || view.live {
+            return Err(NotPossible);
+        }
+        self.seats[seat as usize] = SeatView { live: true, ..view };
         Ok(())
     }
 }

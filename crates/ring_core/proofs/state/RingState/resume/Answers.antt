@@ -1,0 +1,6 @@
+use Rattle.ring_core.proofs.Names.{rules, Resume}
+use Rattle.ring_core.proofs.Runs.{step_sound}
+use Rattle.ring_core.proofs.state.RingState.resume.Goals as goal
+
+pub invariant_of-self : goal.invariant_of-self
+invariant_of-self c = record { ring = step_sound c.self.invariant.ring (Resume c.args.seat) (search rules); room = c.self.invariant.room }
